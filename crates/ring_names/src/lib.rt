@@ -1,0 +1,15 @@
+//! What every crate of the workspace names: the refusals, the numbers of nodes, writers and slots,
+//! and the names that are numbered in order of first sight.
+#![tactic(auto)]
+
+mod decimal;
+mod ids;
+mod listed;
+mod names;
+mod refusal;
+
+pub use decimal::push_decimal;
+pub use ids::{NodeId, Slot, WriterId};
+pub use listed::Listed;
+pub use names::Names;
+pub use refusal::Refusal;
