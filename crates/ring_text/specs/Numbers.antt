@@ -1,0 +1,19 @@
+-- Numbers in a row.
+use Rattle.std.specs.Prelude.{ℕ, Bool, true, ◌&&◌, nat_lt, List, [], ◌∷◌, if◌then◌else◌}
+use Rattle.ring_text.specs.Number.{value_from, is_number}
+
+-- what the fields in front spell, up to the first that is no number
+abbrev pub numbers_of : List (List ℕ) → List ℕ
+numbers_of [] = []
+numbers_of (field ∷ fields) = if is_number field then value_from 0 field ∷ numbers_of fields else []
+
+-- the fields from the first that is no number on
+abbrev pub beyond : List (List ℕ) → List (List ℕ)
+beyond [] = []
+beyond (field ∷ fields) = if is_number field then beyond fields else field ∷ fields
+
+-- each is less than the next
+abbrev pub ascending : List ℕ → Bool
+ascending [] = true
+ascending (x ∷ []) = true
+ascending (x ∷ y ∷ ys) = nat_lt x y && ascending (y ∷ ys)

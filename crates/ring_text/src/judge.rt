@@ -1,0 +1,35 @@
+//! Joining what was read of a line.
+
+ghost use Rattle.std.specs.Prelude.{◌≡◌};
+ghost use Rattle.ring_text.specs.Judging.{both_of, end_at, map_ok};
+
+use crate::fields::Fields;
+use ring_names::Refusal;
+
+/// Both values, or the refusal of the lesser number: of several faults in one line that one decides.
+#[tactic(auto, unfolding(crate::specs::Judging::both_of))]
+pub fn both<A: Drop, B: Drop>(
+    first: Result<A, Refusal>,
+    second: Result<B, Refusal>,
+) -> Result<(A, B), Refusal>
+    ensures { result ≡ both_of first second }
+{
+    match (first, second) {
+        (Ok(a), Ok(b)) => Ok((a, b)),
+        (Ok(_), Err(f)) => Err(f),
+        (Err(e), Ok(_)) => Err(e),
+        (Err(e), Err(f)) => Err(if f.number() < e.number() { f } else { e }),
+    }
+}
+
+/// What was read of a line, where no field is left behind it. Else that is `BadLine`.
+pub fn finish<A: Drop>(item: Result<A, Refusal>, fields: Fields, line: u32) -> Result<A, Refusal>
+    ensures { result ≡ map_ok (λ x. x.0) (both_of item (end_at line fields.entry).0) }
+{
+    let mut fields = fields;
+    let end = fields.ended(line);
+    match both(item, end) {
+        Ok((value, ())) => Ok(value),
+        Err(e) => Err(e),
+    }
+}

@@ -1,0 +1,89 @@
+//! The lines of a text, one after the other.
+
+ghost use Rattle.std.specs.Prelude.{◌≡◌, ◌<◌, Ok, IfOk, IfErr, IsTrue, ◌↔◌};
+ghost use Rattle.ring_text.specs.Parts.{lines_of};
+ghost use Rattle.ring_text.specs.Left.{next_line, is_over, over_at, begins_with};
+
+use crate::cut::cut;
+use crate::fields::Fields;
+use ring_names::Refusal;
+use std::marker::Model;
+
+/// The lines of a text that were not taken yet, and the number of the next one, from 1.
+#[derive(Drop)]
+pub struct Lines<'a> {
+    line: u32,
+    rest: &'a [u8],
+}
+
+impl<'a> Model for Lines<'a> {
+    ghost use Rattle.ring_text.specs.Left.{Left};
+    ghost use Rattle.ring_text.specs.Parts.{lines_of};
+
+    ghost Value = { Left };
+
+    ghost view = { λ a. record { line = a.line; lines = lines_of a.rest.now } };
+}
+
+impl<'a> Lines<'a> {
+    /// All lines of a text.
+    pub fn of(text: &'a [u8]) -> Lines<'a>
+        ensures { result ≡ record { line = 1; lines = lines_of text.now } }
+    {
+        Lines {
+            line: 1,
+            rest: text,
+        }
+    }
+
+    /// The number of the next line.
+    pub fn line(&self) -> u32
+        ensures { result ≡ self.now.line }
+    {
+        self.line
+    }
+
+    /// Takes a line that must come. Where there is none, or it is unfinished, that is `BadLine` at its number.
+    pub fn next(&mut self) -> Result<Fields<'a>, Refusal>
+        requires { self.old.line < 4294967295 }
+        ensures found { IfOk result (λ fields. next_line self.old ≡ Ok (fields, self.new)) }
+        ensures missing { IfErr result (λ e. next_line self.old ≡ Err e) }
+    {
+        let (line, rest) = cut(self.rest, b'\n');
+        match rest {
+            None => Err(Refusal::BadLine(self.line)),
+            Some(rest) => {
+                self.rest = rest;
+                self.line += 1;
+                Ok(Fields::of(line))
+            }
+        }
+    }
+
+    /// Whether the next line begins with the field `word`.
+    pub fn begins(&self, word: &[u8]) -> bool
+        ensures { result ≡ begins_with word.now self.now.lines }
+    {
+        let (line, _) = cut(self.rest, b'\n');
+        let (field, _) = cut(line, b' ');
+        field == word
+    }
+
+    /// Whether nothing is left.
+    pub fn is_over(&self) -> bool
+        ensures { result ≡ is_over self.now }
+    {
+        self.rest.is_empty()
+    }
+
+    /// Asks that the text is over. Else that is `BadLine` at the next line.
+    pub fn ended(&self) -> Result<(), Refusal>
+        ensures { result ≡ over_at self.now }
+    {
+        if self.is_over() {
+            Ok(())
+        } else {
+            Err(Refusal::BadLine(self.line))
+        }
+    }
+}
