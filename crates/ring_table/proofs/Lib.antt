@@ -1,0 +1,5 @@
+pub mod NodeLines
+pub mod LineLaws
+pub mod RowLaws
+pub mod NodesLaws
+pub mod RingLaws

@@ -1,0 +1,5 @@
+pub mod Value
+pub mod Valid
+pub mod Spelling
+pub mod Reading
+pub mod Kept

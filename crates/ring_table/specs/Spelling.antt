@@ -1,0 +1,46 @@
+-- The one text of each ring.
+use Rattle.std.specs.Prelude.{ℕ, ◌+◌, Bool, true, false, List, [], ◌∷◌, ◌++◌, map, codes, slice_get, Some, None}
+use Rattle.std.specs.Fmt.{decimal}
+use Rattle.ring_names.specs.declared.ids.NodeId.{NodeId}
+use Rattle.ring_text.specs.Parts.{text_of}
+use Rattle.ring_table.specs.declared.node.Node.{Node}
+use Rattle.ring_table.specs.Value.{RingValue, names_of}
+
+abbrev pub header_fields : List (List ℕ)
+header_fields = codes "ring" ∷ codes "1" ∷ []
+
+abbrev pub space_fields : ℕ → List (List ℕ)
+space_fields q = codes "space" ∷ decimal q ∷ []
+
+abbrev pub quorum_fields : ℕ → ℕ → ℕ → List (List ℕ)
+quorum_fields n r w = codes "quorum" ∷ decimal n ∷ decimal r ∷ decimal w ∷ []
+
+abbrev pub membership : Bool → List ℕ
+membership true = codes "in"
+membership false = codes "out"
+
+abbrev pub node_fields : Node → List (List ℕ)
+node_fields x = codes "node" ∷ x.name ∷ decimal x.allowance ∷ membership x.is_member ∷ []
+
+-- the name of a node, by its number
+abbrev pub name_at : List (List ℕ) → NodeId → List ℕ
+name_at names x = elim (slice_get names x.0) [ Some name ↦ name | None ↦ [] ]
+
+abbrev pub row_fields : List (List ℕ) → ℕ → List NodeId → List (List ℕ)
+row_fields names p row = codes "slots" ∷ decimal p ∷ map (name_at names) row
+
+-- the rows from partition p on
+abbrev pub rows_lines : List (List ℕ) → ℕ → List (List NodeId) → List (List (List ℕ))
+rows_lines names p [] = []
+rows_lines names p (row ∷ rows) = row_fields names p row ∷ rows_lines names (p + 1) rows
+
+abbrev pub end_fields : List (List ℕ)
+end_fields = codes "end" ∷ []
+
+-- the lines of a ring
+abbrev pub ring_lines : RingValue → List (List (List ℕ))
+ring_lines v = header_fields ∷ space_fields v.q ∷ quorum_fields v.n v.r v.w ∷ (map node_fields v.nodes ++ (rows_lines (names_of v) 0 v.owners ++ end_fields ∷ []))
+
+-- its text
+abbrev pub ring_text : RingValue → List ℕ
+ring_text v = text_of (ring_lines v)

@@ -1,0 +1,189 @@
+//! Node lines, and the nodes that were declared so far.
+
+ghost use Rattle.std.specs.Prelude.{◌≡◌, ◌<◌, ◌≤◌, ◌+◌, ◌++◌, ◌∷◌, [], length, map, OnOk, OnErr, IfErr, codes, IfOk, None, not, nat_lt};
+ghost use Rattle.ring_names.specs.declared.refusal.Refusal.TheVariants.{OutOfMemory};
+ghost use Rattle.ring_names.specs.Names.{place};
+ghost use Rattle.ring_text.specs.Judging.{map_ok, field_at, need_at};
+ghost use Rattle.ring_text.specs.Left.{Reads};
+ghost use Rattle.ring_table.specs.Reading.{judge_new, judge_allowance, judge_membership, node_at, nodes_at, nodes_from};
+
+use crate::node::Node;
+use ring_names::{Listed, Names, Refusal};
+use ring_text::{Fields, Lines, both, finish, is_name};
+use std::alloc::Global;
+use std::marker::Model;
+
+/// The nodes that were declared, and their names.
+#[derive(Drop)]
+pub struct Declared {
+    pub names: Names,
+    pub nodes: Vec<Node>,
+}
+
+impl Model for Declared {
+    ghost use Rattle.std.specs.Prelude.{◌≡◌, ◌≤◌, List, map, length};
+    ghost use Rattle.ring_table.specs.declared.node.Node.{Node};
+
+    ghost Value = { List Node };
+
+    ghost view = { λ a. a.nodes.items };
+
+    ghost invariant = { λ a. (a.names ≡ map (λ x. x.name) a.nodes.items) × (length a.nodes.items ≤ 1024) };
+}
+
+// What a node line says, its name still in the text.
+#[derive(Drop)]
+struct NodeLine<'a> {
+    name: &'a [u8],
+    allowance: u32,
+    is_member: bool,
+}
+
+// A name that is not among `names`.
+fn new_name<'a>(names: &Names, fields: &mut Fields<'a>, line: u32) -> Result<&'a [u8], Refusal>
+    ensures value { map_ok (λ name. name.now) result ≡ (field_at line (judge_new line names.now) fields.old).0 }
+    ensures rest { fields.new ≡ (field_at line (judge_new line names.now) fields.old).1 }
+{
+    let Some(name) = fields.next() else {
+        return Err(Refusal::BadLine(line));
+    };
+    if !is_name(name) {
+        return Err(Refusal::BadLine(line));
+    }
+    match names.number_of(name) {
+        Some(_) => Err(Refusal::Repeated(line)),
+        None => Ok(name),
+    }
+}
+
+// A number from 1 to 64.
+fn allowance(fields: &mut Fields, line: u32) -> Result<u32, Refusal>
+    ensures value { result ≡ (field_at line (judge_allowance line) fields.old).0 }
+    ensures rest { fields.new ≡ (field_at line (judge_allowance line) fields.old).1 }
+{
+    match fields.number(64, line) {
+        Ok(0) => Err(Refusal::BadLine(line)),
+        other => other,
+    }
+}
+
+// `in` or `out`.
+fn membership(fields: &mut Fields, line: u32) -> Result<bool, Refusal>
+    ensures value { result ≡ (field_at line (judge_membership line) fields.old).0 }
+    ensures rest { fields.new ≡ (field_at line (judge_membership line) fields.old).1 }
+{
+    let Some(field) = fields.next() else {
+        return Err(Refusal::BadLine(line));
+    };
+    if field == b"in".as_slice() {
+        Ok(true)
+    } else if field == b"out".as_slice() {
+        Ok(false)
+    } else {
+        Err(Refusal::BadLine(line))
+    }
+}
+
+fn need(room: bool, line: u32) -> Result<(), Refusal>
+    ensures { result ≡ (need_at line room []).0 }
+{
+    if room {
+        Ok(())
+    } else {
+        Err(Refusal::TooLarge(line))
+    }
+}
+
+impl Declared {
+    ghost use Rattle.ring_table.specs.Kept.{node_of};
+    ghost use Rattle.ring_table.specs.Valid.{IsNew};
+
+    pub fn new(alloc: Global) -> Declared
+        ensures { result ≡ [] }
+    {
+        Declared {
+            names: Names::new(alloc),
+            nodes: Vec::new(alloc),
+        }
+    }
+
+    fn is_empty(&self) -> bool
+        ensures { result ≡ not (nat_lt 0 (length self.now)) }
+    {
+        self.nodes.is_empty()
+    }
+
+    // What a node line behind these nodes says. Takes no memory.
+    #[tactic(auto, unfolding(crate::specs::Reading::node_at))]
+    fn judge<'a>(&self, mut fields: Fields<'a>, line: u32) -> Result<NodeLine<'a>, Refusal>
+        ensures value { map_ok node_of result ≡ node_at self.now line fields.entry }
+        ensures new { IfOk result (λ said. IsNew self.now (node_of said)) }
+    {
+        let room = need(self.nodes.len() < 1024, line);
+        let word = fields.word(b"node", line);
+        let name = new_name(&self.names, &mut fields, line);
+        let allowance = allowance(&mut fields, line);
+        let is_member = membership(&mut fields, line);
+        let item = both(both(both(both(room, word), name), allowance), is_member);
+        match finish(item, fields, line) {
+            Ok((((_, name), allowance), is_member)) => Ok(NodeLine {
+                name,
+                allowance,
+                is_member,
+            }),
+            Err(e) => Err(e),
+        }
+    }
+
+    // Adds the node of a line that was judged behind these nodes.
+    fn push(&mut self, alloc: Global, said: NodeLine) -> Result<(), Refusal>
+        requires room { length self.old < 1024 }
+        requires new { place (map (λ x. x.name) self.old) said.name.now ≡ None }
+        ensures ok { OnOk result (self.new ≡ self.old ++ node_of said.entry ∷ []) }
+        ensures memory { IfErr result (λ e. e ≡ OutOfMemory) }
+        ensures grows { length self.old ≤ length self.new }
+        ensures few { length self.new ≤ 1024 }
+    {
+        let name = Listed::from_vec(Vec::from_slice(alloc, said.name)?);
+        self.nodes.reserve(1)?;
+        self.names.add(said.name)?;
+        self.nodes.push(Node {
+            name,
+            allowance: said.allowance,
+            is_member: said.is_member,
+        })?;
+        Ok(())
+    }
+}
+
+// Reads node lines behind those declared, as long as lines begin so.
+fn read_into(alloc: Global, declared: &mut Declared, lines: &mut Lines) -> Result<(), Refusal>
+    requires start { lines.old.line ≤ 100000000 + length declared.old }
+    requires few { length declared.old ≤ 1024 }
+    ensures read { Reads (map_ok (λ _. declared.new) result) lines.new (nodes_from declared.old lines.old.line lines.old.lines) }
+    ensures line { OnOk result (lines.new.line + length declared.old ≤ lines.old.line + length declared.new) }
+    ensures few { length declared.new ≤ 1024 }
+{
+    'nodes: while lines.begins(b"node") {
+        let line = lines.line();
+        let fields = lines.next()?;
+        let said = declared.judge(fields, line)?;
+        declared.push(alloc, said)?;
+    }
+    Ok(())
+}
+
+/// Reads node lines as long as lines begin so, at least one.
+#[tactic(auto, unfolding(crate::specs::Reading::nodes_at))]
+pub fn read_nodes(alloc: Global, lines: &mut Lines) -> Result<Declared, Refusal>
+    requires { lines.old.line ≤ 100000000 }
+    ensures read { Reads result lines.new (nodes_at lines.old) }
+    ensures line { OnOk result (lines.new.line ≤ lines.old.line + 1024) }
+{
+    let mut declared = Declared::new(alloc);
+    read_into(alloc, &mut declared, lines)?;
+    if declared.is_empty() {
+        return Err(Refusal::BadLine(lines.line()));
+    }
+    Ok(declared)
+}

@@ -1,0 +1,141 @@
+//! The ring as a value that is always valid.
+
+ghost use Rattle.std.specs.Prelude.{◌≡◌, ◌<◌, Some, length, slice_get, option_map};
+ghost use Rattle.ring_names.specs.Names.{place};
+
+use crate::declared::Declared;
+use crate::head::Quorum;
+use crate::node::Node;
+use ring_names::{Listed, Names, NodeId, Slot};
+use std::marker::Model;
+
+/// A ring. Partitions are the `q` equal parts of the hash space (section 6.2 of DeCandia et al. 2007, strategy 3);
+/// each has `n` slots, and each slot one owner, a member. Of the slots `r` answer a read and `w` take a write,
+/// with `r + w > n` (section 4.5).
+#[derive(Drop)]
+pub struct Ring {
+    q: u32,
+    n: u32,
+    r: u32,
+    w: u32,
+    names: Names,
+    nodes: Vec<Node>,
+    owners: Vec<Listed<NodeId>>,
+}
+
+impl Model for Ring {
+    ghost use Rattle.ring_table.specs.Value.{RingValue};
+
+    ghost Value = { RingValue };
+
+    ghost use Rattle.ring_table.specs.Valid.{value_of, HoldsRing};
+
+    ghost view = { value_of };
+
+    ghost invariant = { HoldsRing };
+}
+
+impl Ring {
+    ghost use Rattle.ring_table.specs.declared.node.Node.{Node};
+    ghost use Rattle.ring_table.specs.Value.{RingValue, names_of, row_of, owner_of};
+    ghost use Rattle.ring_table.specs.Valid.{IsRing};
+
+    // The ring of these parts.
+    pub(crate) fn assemble(
+        q: u32,
+        quorum: Quorum,
+        declared: Declared,
+        owners: Vec<Listed<NodeId>>,
+    ) -> Ring
+        requires { IsRing (record { q = q; n = quorum.n; r = quorum.r; w = quorum.w; nodes = declared; owners = owners.items }) }
+        ensures { result ≡ record { q = q; n = quorum.n; r = quorum.r; w = quorum.w; nodes = declared; owners = owners.items } }
+    {
+        let Declared { names, nodes } = declared;
+        Ring {
+            q,
+            n: quorum.n,
+            r: quorum.r,
+            w: quorum.w,
+            names,
+            nodes,
+            owners,
+        }
+    }
+
+    /// The number of partitions, a power of two from 1 to 4,096.
+    pub fn q(&self) -> u32
+        ensures value { result ≡ self.now.q }
+        ensures valid { IsRing self.now }
+    {
+        self.q
+    }
+
+    /// The number of slots of each partition, 1 to 7.
+    pub fn n(&self) -> u32
+        ensures value { result ≡ self.now.n }
+        ensures valid { IsRing self.now }
+    {
+        self.n
+    }
+
+    /// How many slots must answer a read, 1 to `n`.
+    pub fn r(&self) -> u32
+        ensures value { result ≡ self.now.r }
+        ensures valid { IsRing self.now }
+    {
+        self.r
+    }
+
+    /// How many slots must take a write, 1 to `n`.
+    pub fn w(&self) -> u32
+        ensures value { result ≡ self.now.w }
+        ensures valid { IsRing self.now }
+    {
+        self.w
+    }
+
+    /// The nodes by number, 1 to 1,024 of them.
+    pub fn nodes(&self) -> &[Node]
+        ensures value { result.now ≡ self.now.nodes }
+        ensures valid { IsRing self.now }
+    {
+        self.nodes.as_slice()
+    }
+
+    /// The node of that name, if it is declared. Takes no memory.
+    pub fn number_of(&self, name: &[u8]) -> Option<NodeId>
+        ensures { option_map (λ x. x.0) result ≡ place (names_of self.now) name.now }
+    {
+        match self.names.number_of(name) {
+            Some(number) => Some(NodeId(number)),
+            None => None,
+        }
+    }
+
+    /// The owners of the slots of a partition, by index.
+    pub fn row(&self, partition: u32) -> &[NodeId]
+        requires { partition < self.now.q }
+        ensures value { row_of self.now partition ≡ Some result.now }
+        ensures len { length result.now ≡ self.now.n }
+    {
+        self.owners[partition as usize].as_slice()
+    }
+
+    /// The owners of the slots of each partition, by partition.
+    pub fn rows(&self) -> &[Listed<NodeId>]
+        ensures value { result.now ≡ self.now.owners }
+        ensures valid { IsRing self.now }
+    {
+        self.owners.as_slice()
+    }
+
+    /// The owner of a slot before the first step of a plan.
+    pub fn owner(&self, slot: Slot) -> NodeId
+        requires partition { slot.partition < self.now.q }
+        requires index { slot.index < self.now.n }
+        ensures { owner_of self.now slot ≡ Some result }
+    {
+        let row = self.row(slot.partition);
+        row[slot.index as usize]
+    }
+}
