@@ -1,0 +1,9 @@
+pub mod Pushed
+pub mod Searched
+pub mod NextLaws
+pub mod Fronts
+pub mod StepLaws
+pub mod PlanLaws
+pub mod SuitLaws
+pub mod TextLaws
+pub mod WriteLaws

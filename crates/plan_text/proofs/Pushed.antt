@@ -1,0 +1,140 @@
+-- A plan with one more step.
+use Rattle.std.proofs.Common.{get_or, suc, zero, ◌≡◌, ℕ, ◌+◌, ◌<◌, ◌≤◌, Bool, true, false, cond, List, [], ◌∷◌, ◌++◌, length, refl, sym, ap, ◌∙◌, arith, add-zero, length-append, Ok, Err, ◌⊎◌, inl, inr, subst}
+use Rattle.std.specs.Prelude.{Result, OnOk, not, ◌&&◌, ◌||◌, ◌==◌, nat_eq}
+use Rattle.std.proofs.lemmas.Bool.Decides.{nat_tests}
+use Rattle.std.proofs.lemmas.List.{append-nil, flat_map_more}
+use Rattle.std.proofs.lemmas.List.Sums.{sum_by_push}
+use Rattle.ring_names.specs.Lists.{has, all_different}
+use Rattle.ring_names.specs.declared.ids.Slot.{Slot}
+use Rattle.ring_names.specs.declared.ids.NodeId.{NodeId}
+use Rattle.plan_text.specs.declared.step.Step.{Step}
+use Rattle.plan_text.specs.declared.step.Step.TheVariants.{Join, Mirror, Copy, Switch, Drop, Retire}
+use Rattle.plan_text.specs.declared.step.Source.{Source}
+use Rattle.plan_text.specs.declared.index.SlotIndex.{SlotIndex}
+use Rattle.plan_text.specs.declared.index.NodeIndex.{NodeIndex}
+use Rattle.plan_text.specs.declared.index.Index.{Index}
+use Rattle.plan_text.specs.Held.{numbers_at, holds, HoldsNodes, HoldsSteps}
+use Rattle.plan_text.specs.declared.step.Planned.{Planned}
+use Rattle.plan_text.specs.Steps.{is_slot, is_on, steps_from, steps_of, joins, retires, joined, retired, dependencies}
+use Rattle.plan_text.specs.Valid.{IsPlanned, EachPlanned, IsPlan}
+
+one_more : (b c : Bool) (k n : ℕ) (t u : List ℕ) → u ≡ cond c (t ++ n ∷ []) t → cond b (k ∷ u) u ≡ cond c (cond b (k ∷ t) t ++ n ∷ []) (cond b (k ∷ t) t)
+one_more true true k n t u e = ap (λ l. k ∷ l) e
+one_more true false k n t u e = ap (λ l. k ∷ l) e
+one_more false true k n t u e = e
+one_more false false k n t u e = e
+
+pub steps_from-push : (k : ℕ) (xs : List Planned) (x : Planned) (s : Slot) → steps_from k (xs ++ x ∷ []) s ≡ cond (is_on s x.step) (steps_from k xs s ++ (k + length xs) ∷ []) (steps_from k xs s)
+steps_from-push k [] x s = rw (add-zero k) refl
+steps_from-push k (y ∷ ys) x s =
+    let e : (k + 1) + length ys ≡ k + length (y ∷ ys) = omega arith in
+    one_more (is_on s y.step) (is_on s x.step) k (k + length (y ∷ ys)) (steps_from (k + 1) ys s) (steps_from (k + 1) (ys ++ x ∷ []) s) (steps_from-push (k + 1) ys x s ∙ ap (λ (n : ℕ). cond (is_on s x.step) (steps_from (k + 1) ys s ++ n ∷ []) (steps_from (k + 1) ys s)) e)
+
+-- the slot's steps, with one more step
+pub steps_of-push : (xs : List Planned) (x : Planned) (s : Slot) → steps_of (xs ++ x ∷ []) s ≡ cond (is_on s x.step) (steps_of xs s ++ length xs ∷ []) (steps_of xs s)
+steps_of-push xs x s = steps_from-push 0 xs x s ∙ (let e : 0 + length xs ≡ length xs = omega arith in ap (λ (n : ℕ). cond (is_on s x.step) (steps_of xs s ++ n ∷ []) (steps_of xs s)) e)
+
+within : (b : Bool) (k n : ℕ) (t : List ℕ) → k < n → ((i : ℕ) → i < length t → get_or t i 0 < n) → (i : ℕ) → i < length (cond b (k ∷ t) t) → get_or (cond b (k ∷ t) t) i 0 < n
+within true k n t h each zero l = h
+within true k n t h each (suc i) l = each i (omega arith)
+within false k n t h each i l = each i l
+
+steps_from-within : (k : ℕ) (xs : List Planned) (s : Slot) (n : ℕ) → n ≡ k + length xs → (i : ℕ) → i < length (steps_from k xs s) → get_or (steps_from k xs s) i 0 < n
+steps_from-within k [] s n e i l = absurd (omega arith)
+steps_from-within k (x ∷ xs) s n e i l =
+    within (is_on s x.step) k n (steps_from (k + 1) xs s) (omega arith) (steps_from-within (k + 1) xs s n (omega arith)) i l
+
+-- the slot's steps are steps of the plan
+pub steps_of-within : (plan : List Planned) (s : Slot) (i : ℕ) → i < length (steps_of plan s) → get_or (steps_of plan s) i 0 < length plan
+steps_of-within plan s i l = steps_from-within 0 plan s (length plan) (omega arith) i l
+
+pub joined-push : (xs : List Planned) (x : Planned) → joined (xs ++ x ∷ []) ≡ joined xs ++ joins x.step
+joined-push xs x = sym (flat_map_more (λ (y : Planned). joins y.step) [] xs x)
+
+pub retired-push : (xs : List Planned) (x : Planned) → retired (xs ++ x ∷ []) ≡ retired xs ++ retires x.step
+retired-push xs x = sym (flat_map_more (λ (y : Planned). retires y.step) [] xs x)
+
+or_first : (a b c : Bool) → (a || (b || c)) ≡ (b || (a || c))
+or_first true true c = refl
+or_first true false c = refl
+or_first false true c = refl
+or_first false false c = refl
+
+pub has-push : (xs : List ℕ) (x y : ℕ) → has y (xs ++ x ∷ []) ≡ ((y == x) || has y xs)
+has-push [] x y = refl
+has-push (z ∷ zs) x y = ap (λ (b : Bool). (y == z) || b) (has-push zs x y) ∙ or_first (y == z) (y == x) (has y zs)
+
+eq_flip : (x y : ℕ) → nat_eq x y ≡ nat_eq y x
+eq_flip x y = grind (arith, nat_tests)
+
+apart : (a b c d : Bool) → (not (a || b) && (c && not d)) ≡ ((not b && c) && not (a || d))
+apart true true true d = refl
+apart true true false d = refl
+apart true false true d = refl
+apart true false false d = refl
+apart false true c d = refl
+apart false false c d = refl
+
+pub all_different-push : (xs : List ℕ) (x : ℕ) → all_different (xs ++ x ∷ []) ≡ (all_different xs && not (has x xs))
+all_different-push [] x = refl
+all_different-push (z ∷ zs) x =
+    rw (has-push zs x z, all_different-push zs x, eq_flip z x) (apart (x == z) (has z zs) (all_different zs) (has x zs))
+
+pub EachPlanned-push : (k : ℕ) (xs : List Planned) (x : Planned) → EachPlanned k xs → IsPlanned (k + length xs) x → EachPlanned k (xs ++ x ∷ [])
+EachPlanned-push k [] x each last = (rw add-zero at last, tt)
+EachPlanned-push k (y ∷ ys) x each last =
+    let e : k + length (y ∷ ys) ≡ (k + 1) + length ys = omega arith in
+    (each.0, EachPlanned-push (k + 1) ys x each.1 (rw e at last))
+
+pub IsPlan-push : (plan : List Planned) (x : Planned) → IsPlan plan → IsPlanned (length plan) x → length plan < 131072 → dependencies plan + length x.after ≤ 524288 → IsPlan (plan ++ x ∷ [])
+IsPlan-push plan x is last steps few = record {
+  each = EachPlanned-push 0 plan x is.each (let e : 0 + length plan ≡ length plan = omega arith in rw e last);
+  steps = rw length-append (omega arith);
+  dependencies = rw (sum_by_push (λ (y : Planned). length y.after) plan x) few;
+}
+
+pub HoldsNodes-none : (a : NodeIndex) (xs ys : List ℕ) → ys ≡ [] → HoldsNodes a xs → HoldsNodes a (xs ++ ys)
+HoldsNodes-none a xs ys e h = rw (e, append-nil xs) h
+
+pub HoldsNodes-push : (a b : NodeIndex) (xs ys : List ℕ) (x : ℕ) → ys ≡ x ∷ [] → ((y : ℕ) → holds b y ≡ ((y == x) || holds a y)) → b.different ≡ (a.different && not (holds a x)) → HoldsNodes a xs → HoldsNodes b (xs ++ ys)
+HoldsNodes-push a b xs ys x e more fresh h = rw e (record {
+  nodes = λ y. more y ∙ ap (λ (t : Bool). (y == x) || t) (h.nodes y) ∙ sym (has-push xs x y);
+  different = fresh ∙ rw (h.different, h.nodes x, all_different-push xs x) refl;
+})
+
+-- the step is one of the slot's
+OnSlot : Slot → Step → Type 0
+OnSlot slot t = ((s : Slot) → is_on s t ≡ is_slot s slot) × (joins t ≡ []) × (retires t ≡ [])
+
+pub on_slot : (slot : Slot) (t : Step) → ((x : NodeId) × (t ≡ Mirror slot x)) ⊎ (((f : Source) × (t ≡ Copy slot f)) ⊎ ((t ≡ Switch slot) ⊎ ((x : NodeId) × (t ≡ Drop slot x)))) → ((s : Slot) → is_on s t ≡ is_slot s slot) × (joins t ≡ []) × (retires t ≡ [])
+unfolding OnSlot
+on_slot slot t (inl (x, e)) = subst (OnSlot slot) (sym e) (λ s. refl, refl, refl)
+on_slot slot t (inr (inl (f, e))) = subst (OnSlot slot) (sym e) (λ s. refl, refl, refl)
+on_slot slot t (inr (inr (inl e))) = subst (OnSlot slot) (sym e) (λ s. refl, refl, refl)
+on_slot slot t (inr (inr (inr (x, e)))) = subst (OnSlot slot) (sym e) (λ s. refl, refl, refl)
+
+pub on_both : {T E P S Q : Type 0} (r : Result T E) → (P → S → Q) → OnOk r P → OnOk r S → OnOk r Q
+on_both (Ok x) f p s = f p s
+on_both (Err e) f p s = tt
+
+-- the index with one more step, which is the slot's, joins a node or retires one
+pub HoldsSteps-slot : (a : Index) (b : SlotIndex) (plan : List Planned) (x : Planned) (slot : Slot) (number : ℕ) → length plan ≡ number → ((s : Slot) → is_on s x.step ≡ is_slot s slot) → joins x.step ≡ [] → retires x.step ≡ [] → ((s : Slot) → numbers_at b s ≡ cond (is_slot s slot) (numbers_at a.slots s ++ number ∷ []) (numbers_at a.slots s)) → HoldsSteps a plan → HoldsSteps (record { slots = b; joins = a.joins; retirements = a.retirements }) (plan ++ x ∷ [])
+HoldsSteps-slot a b plan x slot number n on none_joined none_retired more h = record {
+  slots = λ s. more s ∙ rw (h.slots s, ← on s, ← n) (sym (steps_of-push plan x s));
+  joins = rw (joined-push plan x) (HoldsNodes-none a.joins (joined plan) (joins x.step) none_joined h.joins);
+  retirements = rw (retired-push plan x) (HoldsNodes-none a.retirements (retired plan) (retires x.step) none_retired h.retirements);
+}
+
+pub HoldsSteps-join : (a : Index) (b : NodeIndex) (plan : List Planned) (x : Planned) (y : NodeId) → x.step ≡ Join y → ((z : ℕ) → holds b z ≡ ((z == y.0) || holds a.joins z)) → b.different ≡ (a.joins.different && not (holds a.joins y.0)) → HoldsSteps a plan → HoldsSteps (record { slots = a.slots; joins = b; retirements = a.retirements }) (plan ++ x ∷ [])
+HoldsSteps-join a b plan x y e more fresh h = record {
+  slots = λ s. h.slots s ∙ sym (steps_of-push plan x s ∙ ap (λ (t : Step). cond (is_on s t) (steps_of plan s ++ length plan ∷ []) (steps_of plan s)) e);
+  joins = rw (joined-push plan x) (HoldsNodes-push a.joins b (joined plan) (joins x.step) y.0 (ap joins e) more fresh h.joins);
+  retirements = rw (retired-push plan x) (HoldsNodes-none a.retirements (retired plan) (retires x.step) (ap retires e) h.retirements);
+}
+
+pub HoldsSteps-retire : (a : Index) (b : NodeIndex) (plan : List Planned) (x : Planned) (y : NodeId) → x.step ≡ Retire y → ((z : ℕ) → holds b z ≡ ((z == y.0) || holds a.retirements z)) → b.different ≡ (a.retirements.different && not (holds a.retirements y.0)) → HoldsSteps a plan → HoldsSteps (record { slots = a.slots; joins = a.joins; retirements = b }) (plan ++ x ∷ [])
+HoldsSteps-retire a b plan x y e more fresh h = record {
+  slots = λ s. h.slots s ∙ sym (steps_of-push plan x s ∙ ap (λ (t : Step). cond (is_on s t) (steps_of plan s ++ length plan ∷ []) (steps_of plan s)) e);
+  joins = rw (joined-push plan x) (HoldsNodes-none a.joins (joined plan) (joins x.step) (ap joins e) h.joins);
+  retirements = rw (retired-push plan x) (HoldsNodes-push a.retirements b (retired plan) (retires x.step) y.0 (ap retires e) more fresh h.retirements);
+}

@@ -1,0 +1,61 @@
+-- The steps of a plan, and those of each slot.
+use Rattle.std.specs.Prelude.{ℕ, ◌+◌, Bool, false, ◌&&◌, ◌==◌, List, [], ◌∷◌, Some, None, length, slice_get, sum_by, if◌then◌else◌}
+use Rattle.std.specs.List.{flat_map}
+use Rattle.ring_names.specs.declared.ids.Slot.{Slot}
+use Rattle.ring_names.specs.Lists.{has}
+use Rattle.plan_text.specs.declared.step.Step.{Step}
+use Rattle.plan_text.specs.declared.step.Step.TheVariants.{Join, Mirror, Copy, Switch, Drop, Retire}
+use Rattle.plan_text.specs.declared.step.Planned.{Planned}
+
+abbrev pub is_slot : Slot → Slot → Bool
+is_slot s t = (s.partition == t.partition) && (s.index == t.index)
+
+-- whether the step is one of the slot's
+abbrev pub is_on : Slot → Step → Bool
+is_on s (Join x) = false
+is_on s (Mirror t x) = is_slot s t
+is_on s (Copy t from) = is_slot s t
+is_on s (Switch t) = is_slot s t
+is_on s (Drop t x) = is_slot s t
+is_on s (Retire x) = false
+
+-- the numbers of the slot's steps, in a plan whose first step has number k
+abbrev pub steps_from : ℕ → List Planned → Slot → List ℕ
+steps_from k [] s = []
+steps_from k (x ∷ xs) s = if is_on s x.step then k ∷ steps_from (k + 1) xs s else steps_from (k + 1) xs s
+
+-- the numbers of the slot's steps, ascending
+abbrev pub steps_of : List Planned → Slot → List ℕ
+steps_of plan s = steps_from 0 plan s
+
+-- whether a is a direct dependency of b
+abbrev pub depends : List Planned → ℕ → ℕ → Bool
+depends plan a b = elim (slice_get plan b) [ Some x ↦ has a x.after | None ↦ false ]
+
+-- how many dependencies the steps have together
+abbrev pub dependencies : List Planned → ℕ
+dependencies plan = sum_by (λ x. length x.after) plan
+
+-- the node that the step joins, and the one that it retires
+abbrev pub joins : Step → List ℕ
+joins (Join x) = x.0 ∷ []
+joins (Mirror s x) = []
+joins (Copy s from) = []
+joins (Switch s) = []
+joins (Drop s x) = []
+joins (Retire x) = []
+
+abbrev pub retires : Step → List ℕ
+retires (Join x) = []
+retires (Mirror s x) = []
+retires (Copy s from) = []
+retires (Switch s) = []
+retires (Drop s x) = []
+retires (Retire x) = x.0 ∷ []
+
+-- the nodes that the steps join, and those that they retire, in order
+abbrev pub joined : List Planned → List ℕ
+joined plan = flat_map (λ x. joins x.step) plan
+
+abbrev pub retired : List Planned → List ℕ
+retired plan = flat_map (λ x. retires x.step) plan

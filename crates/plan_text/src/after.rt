@@ -1,0 +1,49 @@
+//! The steps that a step waits for.
+
+ghost use Rattle.std.specs.Prelude.{◌≡◌};
+ghost use Rattle.ring_text.specs.Judging.{Does};
+ghost use Rattle.plan_text.specs.Reading.{judge_after, after_at};
+
+use crate::plan::Plan;
+use ring_names::Refusal;
+use ring_text::{CAP, Fields, NumberRow};
+
+// Steps that the next one of the plan waits for.
+fn dependencies<'a>(plan: &Plan, row: NumberRow<'a>, line: u32) -> Result<NumberRow<'a>, Refusal>
+    ensures { result ≡ judge_after plan.now line row.entry }
+{
+    if row.is_empty() {
+        return Err(Refusal::BadLine(line));
+    }
+    if !row.are_ascending() {
+        return Err(Refusal::BadLine(line));
+    }
+    if !row.is_at_most(4096) {
+        return Err(Refusal::TooLarge(line));
+    }
+    if !row.is_at_most(524288 - plan.dependencies()) {
+        return Err(Refusal::TooLarge(line));
+    }
+    if !row.are_below(CAP) {
+        return Err(Refusal::TooLarge(line));
+    }
+    if !row.are_below(u64::from(plan.len())) {
+        return Err(Refusal::LaterDependency(line));
+    }
+    Ok(row)
+}
+
+/// Nothing, or `after` and the numbers behind it. Takes no memory.
+#[tactic(auto, unfolding(crate::specs::Reading::after_at))]
+pub fn after<'a>(plan: &Plan, fields: &mut Fields<'a>, line: u32) -> Result<NumberRow<'a>, Refusal>
+    ensures { Does (after_at plan.now line) fields.old result fields.new }
+{
+    let Some(word) = fields.next() else {
+        return Ok(NumberRow::none());
+    };
+    if word == b"after".as_slice() {
+        let row = fields.numbers();
+        return dependencies(plan, row, line);
+    }
+    Err(Refusal::BadLine(line))
+}

@@ -1,0 +1,111 @@
+//! What a step is, by its line.
+
+ghost use Rattle.std.specs.Prelude.{◌≡◌};
+ghost use Rattle.ring_text.specs.Judging.{map_item, Does};
+ghost use Rattle.plan_text.specs.Reading.{judge_indexes, source_at, copy_at, kind_at};
+
+use crate::place::{joining, retiring, slot, slot_node};
+use crate::plan::Plan;
+use crate::said::{Said, SaidSource};
+use ring_names::{Refusal, Slot};
+use ring_table::Ring;
+use ring_text::{Fields, NumberRow, both};
+
+// Listed slots of a ring of n slots.
+fn indexes<'a>(n: u32, row: NumberRow<'a>, line: u32) -> Result<NumberRow<'a>, Refusal>
+    ensures { result ≡ judge_indexes n line row.entry }
+{
+    if row.is_empty() {
+        return Err(Refusal::BadLine(line));
+    }
+    if !row.is_at_most(7) {
+        return Err(Refusal::TooLarge(line));
+    }
+    if !row.are_below(u64::from(n)) {
+        return Err(Refusal::TooLarge(line));
+    }
+    Ok(row)
+}
+
+// `owner`, or `slots` and the numbers behind it.
+#[tactic(auto, unfolding(crate::specs::Reading::source_at))]
+fn source<'a>(n: u32, fields: &mut Fields<'a>, line: u32) -> Result<SaidSource<'a>, Refusal>
+    ensures { Does (source_at n line) fields.old result fields.new }
+{
+    let Some(word) = fields.next() else {
+        return Err(Refusal::BadLine(line));
+    };
+    if word == b"owner".as_slice() {
+        return Ok(SaidSource::Owner);
+    }
+    if word == b"slots".as_slice() {
+        let row = fields.numbers();
+        return match indexes(n, row, line) {
+            Ok(row) => Ok(SaidSource::Slots(row)),
+            Err(e) => Err(e),
+        };
+    }
+    Err(Refusal::BadLine(line))
+}
+
+// A slot, and where its copy reads.
+#[tactic(auto, unfolding(crate::specs::Reading::copy_at))]
+fn copy<'a>(
+    ring: &Ring,
+    fields: &mut Fields<'a>,
+    line: u32,
+) -> Result<(Slot, SaidSource<'a>), Refusal>
+    ensures { Does (copy_at ring.now line) fields.old result fields.new }
+{
+    let slot = slot(ring, fields, line);
+    let source = source(ring.n(), fields, line);
+    both(slot, source)
+}
+
+/// What the step is, behind the steps of a plan. Takes no memory.
+#[tactic(auto, unfolding(crate::specs::Reading::kind_at))]
+pub fn kind<'a>(
+    ring: &Ring,
+    plan: &Plan,
+    fields: &mut Fields<'a>,
+    line: u32,
+) -> Result<Said<'a>, Refusal>
+    ensures { Does (kind_at ring.now plan.now line) fields.old result fields.new }
+{
+    let Some(word) = fields.next() else {
+        return Err(Refusal::BadLine(line));
+    };
+    if word == b"join".as_slice() {
+        match joining(ring, plan, fields, line) {
+            Ok(node) => Ok(Said::Join(node)),
+            Err(e) => Err(e),
+        }
+    } else if word == b"mirror".as_slice() {
+        match slot_node(ring, fields, line) {
+            Ok((slot, node)) => Ok(Said::Mirror(slot, node)),
+            Err(e) => Err(e),
+        }
+    } else if word == b"copy".as_slice() {
+        match copy(ring, fields, line) {
+            Ok((slot, source)) => Ok(Said::Copy(slot, source)),
+            Err(e) => Err(e),
+        }
+    } else if word == b"switch".as_slice() {
+        match slot(ring, fields, line) {
+            Ok(slot) => Ok(Said::Switch(slot)),
+            Err(e) => Err(e),
+        }
+    } else if word == b"drop".as_slice() {
+        match slot_node(ring, fields, line) {
+            Ok((slot, node)) => Ok(Said::Drop(slot, node)),
+            Err(e) => Err(e),
+        }
+    } else if word == b"retire".as_slice() {
+        match retiring(ring, plan, fields, line) {
+            Ok(node) => Ok(Said::Retire(node)),
+            Err(e) => Err(e),
+        }
+    } else {
+        Err(Refusal::BadLine(line))
+    }
+}

@@ -1,0 +1,21 @@
+//! A plan: steps that change the ring, each with the earlier steps that it waits for.
+#![tactic(auto)]
+
+mod after;
+mod index;
+mod kind;
+mod place;
+mod plan;
+mod reading;
+mod said;
+mod step;
+mod suits;
+mod writing;
+
+pub use plan::Plan;
+pub use reading::{read_plan, read_plan_section};
+pub use step::{Planned, Source, Step};
+pub use writing::write_plan;
+
+#[cfg(test)]
+mod tests;

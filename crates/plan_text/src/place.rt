@@ -1,0 +1,87 @@
+//! The nodes and slots of a step's line.
+
+ghost use Rattle.std.specs.Prelude.{◌≡◌};
+ghost use Rattle.ring_text.specs.Judging.{field_at, Does};
+ghost use Rattle.plan_text.specs.Reading.{judge_below, slot_at, node_at, slot_node_at, joining_at, retiring_at};
+
+use crate::plan::Plan;
+use crate::suits::is_member;
+use ring_names::{NodeId, Refusal, Slot};
+use ring_table::Ring;
+use ring_text::{Fields, both, is_name, value_of};
+
+// A number below a limit.
+fn below(limit: u32, fields: &mut Fields, line: u32) -> Result<u32, Refusal>
+    ensures { Does (field_at line (judge_below line limit)) fields.old result fields.new }
+{
+    let Some(field) = fields.next() else {
+        return Err(Refusal::BadLine(line));
+    };
+    match value_of(field) {
+        None => Err(Refusal::BadLine(line)),
+        Some(value) if value < u64::from(limit) => Ok(value as u32),
+        Some(_) => Err(Refusal::TooLarge(line)),
+    }
+}
+
+/// A slot of the ring. Else that is `BadLine` or `TooLarge`.
+#[tactic(auto, unfolding(crate::specs::Reading::slot_at))]
+pub fn slot(ring: &Ring, fields: &mut Fields, line: u32) -> Result<Slot, Refusal>
+    ensures { Does (slot_at ring.now line) fields.old result fields.new }
+{
+    let partition = below(ring.q(), fields, line);
+    let index = below(ring.n(), fields, line);
+    match both(partition, index) {
+        Ok((partition, index)) => Ok(Slot { partition, index }),
+        Err(e) => Err(e),
+    }
+}
+
+/// A declared node. Else that is `BadLine` or `UnknownNode`.
+#[tactic(auto, unfolding(crate::specs::Reading::node_at))]
+pub fn node(ring: &Ring, fields: &mut Fields, line: u32) -> Result<NodeId, Refusal>
+    ensures { Does (node_at ring.now line) fields.old result fields.new }
+{
+    let Some(name) = fields.next() else {
+        return Err(Refusal::BadLine(line));
+    };
+    if !is_name(name) {
+        return Err(Refusal::BadLine(line));
+    }
+    match ring.number_of(name) {
+        Some(node) => Ok(node),
+        None => Err(Refusal::UnknownNode(line)),
+    }
+}
+
+/// A slot, and behind it a declared node.
+#[tactic(auto, unfolding(crate::specs::Reading::slot_node_at))]
+pub fn slot_node(ring: &Ring, fields: &mut Fields, line: u32) -> Result<(Slot, NodeId), Refusal>
+    ensures { Does (slot_node_at ring.now line) fields.old result fields.new }
+{
+    let slot = slot(ring, fields, line);
+    let node = node(ring, fields, line);
+    both(slot, node)
+}
+
+/// A node that was no member before the plan, and that the plan does not join yet. Else that is `Repeated`.
+#[tactic(auto, unfolding(crate::specs::Reading::joining_at))]
+pub fn joining(ring: &Ring, plan: &Plan, fields: &mut Fields, line: u32) -> Result<NodeId, Refusal>
+    ensures { Does (joining_at ring.now plan.now line) fields.old result fields.new }
+{
+    match node(ring, fields, line) {
+        Ok(node) if is_member(ring, node) || plan.is_joined(node) => Err(Refusal::Repeated(line)),
+        other => other,
+    }
+}
+
+/// A node that the plan does not retire yet. Else that is `Repeated`.
+#[tactic(auto, unfolding(crate::specs::Reading::retiring_at))]
+pub fn retiring(ring: &Ring, plan: &Plan, fields: &mut Fields, line: u32) -> Result<NodeId, Refusal>
+    ensures { Does (retiring_at ring.now plan.now line) fields.old result fields.new }
+{
+    match node(ring, fields, line) {
+        Ok(node) if plan.is_retired(node) => Err(Refusal::Repeated(line)),
+        other => other,
+    }
+}

@@ -1,0 +1,149 @@
+//! The plan as a value that is always well formed.
+
+ghost use Rattle.std.specs.Prelude.{◌≡◌, ◌+◌, ◌<◌, ◌≤◌, ◌++◌, ◌∷◌, ◌↔◌, [], Some, length, slice_get, slice_index, EachIndex, option_map, IsTrue, OnOk, IfErr, OnErr};
+ghost use Rattle.ring_names.specs.Lists.{has};
+ghost use Rattle.ring_names.specs.declared.refusal.Refusal.TheVariants.{OutOfMemory};
+
+use crate::index::Index;
+use crate::step::{Planned, Step};
+use crate::suits::all_suit;
+use ring_names::{Listed, NodeId, Refusal, Slot};
+use ring_table::Ring;
+use std::alloc::Global;
+use std::marker::Model;
+
+/// A plan. Its steps have numbers from 0, in the order written.
+#[derive(Drop)]
+pub struct Plan {
+    steps: Vec<Planned>,
+    // how many dependencies the steps have together
+    dependencies: u32,
+    index: Index,
+}
+
+impl Model for Plan {
+    ghost use Rattle.std.specs.Prelude.{List};
+    ghost use Rattle.plan_text.specs.declared.step.Planned.{Planned};
+
+    ghost Value = { List Planned };
+
+    ghost view = { λ a. a.steps.items };
+
+    ghost use Rattle.plan_text.specs.Kept.{HoldsPlan};
+
+    ghost invariant = { HoldsPlan };
+}
+
+impl Plan {
+    ghost use Rattle.plan_text.specs.Steps.{steps_of, depends, dependencies, joined, retired};
+    ghost use Rattle.plan_text.specs.Valid.{IsPlanned, IsPlan, Suits};
+
+    /// A plan of no steps.
+    pub fn new(alloc: Global) -> Plan
+        ensures { result ≡ [] }
+    {
+        Plan {
+            steps: Vec::new(alloc),
+            dependencies: 0,
+            index: Index::new(alloc),
+        }
+    }
+
+    /// Adds the next step, with the steps that it waits for.
+    pub fn push(&mut self, step: Step, after: Listed<u32>) -> Result<(), Refusal>
+        requires planned { IsPlanned (length self.old) (record { step = step; after = after }) }
+        requires steps { length self.old < 131072 }
+        requires dependencies { dependencies self.old + length after ≤ 524288 }
+        ensures ok { OnOk result (self.new ≡ self.old ++ record { step = step; after = after } ∷ []) }
+        ensures err { OnErr result (self.new ≡ self.old) }
+        ensures memory { IfErr result (λ e. e ≡ OutOfMemory) }
+    {
+        let number = self.len();
+        let more = after.as_slice().len() as u32;
+        self.steps.reserve(1)?;
+        self.index.add(&step, number)?;
+        self.dependencies += more;
+        self.steps.push(Planned { step, after })?;
+        Ok(())
+    }
+
+    /// The number of steps, at most 131,072.
+    pub fn len(&self) -> u32
+        ensures value { result ≡ length self.now }
+        ensures valid { IsPlan self.now }
+    {
+        self.steps.len() as u32
+    }
+
+    // The steps, in order.
+    pub(crate) fn steps(&self) -> &[Planned]
+        ensures { result.now ≡ self.now }
+    {
+        self.steps.as_slice()
+    }
+
+    /// The step of that number.
+    pub fn step(&self, n: u32) -> &Step
+        requires { n < length self.now }
+        ensures value { option_map (λ x. x.step) (slice_get self.now n) ≡ Some result.now }
+        ensures valid { IsPlan self.now }
+    {
+        &self.steps[n as usize].step
+    }
+
+    /// The direct dependencies of the step of that number, strictly ascending.
+    pub fn deps(&self, n: u32) -> &[u32]
+        requires { n < length self.now }
+        ensures value { option_map (λ x. x.after) (slice_get self.now n) ≡ Some result.now }
+        ensures valid { IsPlan self.now }
+    {
+        self.steps[n as usize].after.as_slice()
+    }
+
+    /// The numbers of the slot's steps, ascending.
+    pub fn slot_steps(&self, slot: Slot) -> &[u32]
+        ensures value { result.now ≡ steps_of self.now slot }
+        ensures within { EachIndex result.now (λ k. slice_index result.now k < length self.now) }
+        ensures valid { IsPlan self.now }
+    {
+        self.index.slot_numbers(slot)
+    }
+
+    /// How many dependencies the steps have together, at most 524,288.
+    pub fn dependencies(&self) -> u32
+        ensures value { result ≡ dependencies self.now }
+        ensures valid { IsPlan self.now }
+    {
+        self.dependencies
+    }
+
+    /// Whether step `a` is a direct dependency of step `b`.
+    pub fn depends(&self, a: u32, b: u32) -> bool
+        requires { b < length self.now }
+        ensures { result ≡ depends self.now a b }
+    {
+        self.deps(b).binary_search(&a).is_ok()
+    }
+
+    /// Whether some step joins the node.
+    pub fn is_joined(&self, node: NodeId) -> bool
+        ensures { result ≡ has node.0 (joined self.now) }
+    {
+        self.index.is_joined(node)
+    }
+
+    /// Whether some step retires the node.
+    pub fn is_retired(&self, node: NodeId) -> bool
+        ensures { result ≡ has node.0 (retired self.now) }
+    {
+        self.index.is_retired(node)
+    }
+
+    /// Whether the plan speaks of nodes and slots of the ring alone, joins no member, and joins and retires no node
+    /// twice. Takes no memory.
+    pub fn suits(&self, ring: &Ring) -> bool
+        ensures { IsTrue result ↔ Suits ring.now self.now }
+    {
+        self.index.all_different() && all_suit(ring, self.steps.as_slice())
+    }
+}

@@ -1,0 +1,151 @@
+//! Reading a plan.
+
+ghost use Rattle.std.specs.Prelude.{◌≡◌, ◌≤◌, ◌+◌, ◌++◌, ◌∷◌, [], length, List, ℕ, nat_lt, Ok, IfOk, IfErr, OnOk};
+ghost use Rattle.ring_names.specs.declared.refusal.Refusal.TheVariants.{OutOfMemory};
+ghost use Rattle.ring_text.specs.Left.{Reads};
+ghost use Rattle.ring_text.specs.Judging.{Gives, map_ok, need_at};
+ghost use Rattle.plan_text.specs.Said.{planned_of};
+ghost use Rattle.plan_text.specs.Fits.{IsNext};
+ghost use Rattle.plan_text.specs.Reading.{plan_header_at, said_at, steps_from, steps_at, plan_end_at, plan_at, plan_reading};
+ghost use Rattle.plan_text.specs.Spelling.{plan_text};
+ghost use Rattle.plan_text.specs.Valid.{IsPlan, Suits};
+ghost use Rattle.plan_text.specs.declared.step.Planned.{Planned};
+
+use crate::after::after;
+use crate::kind::kind;
+use crate::plan::Plan;
+use crate::said::{Said, to_step};
+use ring_names::{Listed, Refusal};
+use ring_table::Ring;
+use ring_text::{Fields, Lines, NumberRow, both, finish};
+use std::alloc::Global;
+
+// `plan 1`
+#[tactic(auto, unfolding(crate::specs::Reading::plan_header_at))]
+fn header_line(mut fields: Fields, line: u32) -> Result<(), Refusal>
+    ensures { result ≡ plan_header_at line fields.entry }
+{
+    let word = fields.word(b"plan", line);
+    let format = fields.word(b"1", line);
+    finish(both(word, format), fields, line)?;
+    Ok(())
+}
+
+// `end`
+#[tactic(auto, unfolding(crate::specs::Reading::plan_end_at))]
+fn end_line(mut fields: Fields, line: u32) -> Result<(), Refusal>
+    ensures { result ≡ plan_end_at line fields.entry }
+{
+    let word = fields.word(b"end", line);
+    finish(word, fields, line)
+}
+
+fn need(room: bool, line: u32) -> Result<(), Refusal>
+    ensures { result ≡ (need_at line room []).0 }
+{
+    if room {
+        Ok(())
+    } else {
+        Err(Refusal::TooLarge(line))
+    }
+}
+
+// What a step's line says, behind the steps of the plan. Takes no memory.
+#[tactic(auto, unfolding(crate::specs::Reading::said_at))]
+fn step_line<'a>(
+    ring: &Ring,
+    plan: &Plan,
+    mut fields: Fields<'a>,
+    line: u32,
+) -> Result<(Said<'a>, NumberRow<'a>), Refusal>
+    ensures value { result ≡ said_at ring.now plan.now line fields.entry }
+    ensures next { IfOk result (λ x. IsNext plan.now x) }
+{
+    // Listed slots are small numbers.
+    let slots = ring.n();
+    prove!(slots <= 7);
+    let room = need(plan.len() < 131072, line);
+    let said = kind(ring, plan, &mut fields, line);
+    let after = after(plan, &mut fields, line);
+    match finish(both(both(room, said), after), fields, line) {
+        Ok(((_, said), after)) => Ok((said, after)),
+        Err(e) => Err(e),
+    }
+}
+
+// Adds the step of a line that was judged behind the steps of the plan.
+fn add(alloc: Global, plan: &mut Plan, said: Said, after: NumberRow) -> Result<(), Refusal>
+    requires { IsNext plan.old (said, after) }
+    ensures ok { OnOk result (plan.new ≡ plan.old ++ planned_of (said.entry, after.entry) ∷ []) }
+    ensures memory { IfErr result (λ e. e ≡ OutOfMemory) }
+{
+    let step = to_step(alloc, said)?;
+    let after = after.to_vec(alloc)?;
+    plan.push(step, Listed::from_vec(after))
+}
+
+// Reads steps behind those of the plan, up to a line that begins with `end`.
+fn read_into(alloc: Global, ring: &Ring, plan: &mut Plan, lines: &mut Lines) -> Result<(), Refusal>
+    requires start { lines.old.line ≤ 100000000 }
+    requires none { plan.old ≡ [] }
+    ensures read { Reads (map_ok (λ _. plan.new) result) lines.new (steps_from ring.now plan.old lines.old.line lines.old.lines) }
+    ensures line { OnOk result (lines.new.line ≤ lines.old.line + 131072) }
+{
+    'steps: while !lines.begins(b"end") {
+        let line = lines.line();
+        let fields = lines.next()?;
+        let (said, after) = step_line(ring, plan, fields, line)?;
+        add(alloc, plan, said, after)?;
+    }
+    Ok(())
+}
+
+// Reads the steps of a plan.
+#[tactic(auto, unfolding(crate::specs::Reading::steps_at))]
+fn read_steps(alloc: Global, ring: &Ring, lines: &mut Lines) -> Result<Plan, Refusal>
+    requires { lines.old.line ≤ 100000000 }
+    ensures read { Reads result lines.new (steps_at ring.now lines.old) }
+    ensures line { OnOk result (lines.new.line ≤ lines.old.line + 131072) }
+{
+    let mut plan = Plan::new(alloc);
+    read_into(alloc, ring, &mut plan, lines)?;
+    Ok(plan)
+}
+
+/// Reads the lines of a plan, up to its line `end`, and leaves what follows them. Refused as `read_plan` is.
+#[tactic(auto, unfolding(crate::specs::Reading::plan_at))]
+pub fn read_plan_section(alloc: Global, ring: &Ring, lines: &mut Lines) -> Result<Plan, Refusal>
+    requires { lines.old.line ≤ 90000000 }
+    ensures read { Reads result lines.new (plan_at ring.now lines.old) }
+{
+    let line = lines.line();
+    header_line(lines.next()?, line)?;
+    let plan = read_steps(alloc, ring, lines)?;
+    let line = lines.line();
+    end_line(lines.next()?, line)?;
+    Ok(plan)
+}
+
+/// Reads a plan of the ring from its whole text. The first line at fault decides, and in it the fault of the least
+/// number: 1 `BadLine`, 2 `TooLarge`, 3 `UnknownNode`, 4 `Repeated`, 20 `LaterDependency`.
+/// `OutOfMemory` comes only where memory ran out.
+pub fn read_plan(alloc: Global, ring: &Ring, text: &[u8]) -> Result<Plan, Refusal>
+    // What is read is a plan that suits the ring, and spelled so.
+    ensures found { IfOk result (λ v. IsPlan v × Suits ring.now v × (text.now ≡ plan_text ring.now v)) }
+    // What is spelled so is read, unless memory runs out.
+    ensures only { (v : List Planned) → IsPlan v → Suits ring.now v → text.now ≡ plan_text ring.now v → Gives result (Ok v) }
+    // Which fault it is.
+    ensures exact { Gives result (plan_reading ring.now text.now) }
+{
+    // Names and numbers of a ring are plain.
+    let slots = ring.n();
+    prove!(slots <= 7);
+    let mut lines = Lines::of(text);
+    match read_plan_section(alloc, ring, &mut lines) {
+        Err(e) => Err(e),
+        Ok(plan) => match lines.ended() {
+            Err(e) => Err(e),
+            Ok(()) => Ok(plan),
+        },
+    }
+}

@@ -1,0 +1,37 @@
+//! The steps of a plan.
+
+use ring_names::{Listed, NodeId, Slot};
+
+/// One step of a plan.
+#[derive(Debug, Drop)]
+pub enum Step {
+    /// The node becomes a member.
+    Join(NodeId),
+    /// Writes to the slot go to the node too, from here on.
+    Mirror(Slot, NodeId),
+    /// The mirror is given what the source has.
+    Copy(Slot, Source),
+    /// The mirror becomes the owner of the slot.
+    Switch(Slot),
+    /// The node drops what it still has of a slot that it owned.
+    Drop(Slot, NodeId),
+    /// The node is no member any more.
+    Retire(NodeId),
+}
+
+/// Where a copy reads.
+#[derive(Debug, Drop)]
+pub enum Source {
+    /// The owner of the slot itself.
+    Owner,
+    /// Slots of the same partition by index, 1 to 7 of them, in the order written.
+    Slots(Listed<u32>),
+}
+
+/// A step, and the numbers of the steps that must be done before it.
+#[derive(Debug, Drop)]
+pub struct Planned {
+    pub step: Step,
+    /// Direct dependencies, strictly ascending.
+    pub after: Listed<u32>,
+}

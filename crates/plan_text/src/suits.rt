@@ -1,0 +1,71 @@
+//! Whether a step speaks of nodes and slots of a ring alone.
+
+ghost use Rattle.std.specs.Prelude.{◌≡◌, ◌&&◌, not, length, nat_lt};
+ghost use Rattle.std.specs.List.{list_all};
+ghost use Rattle.ring_table.specs.Value.{is_member};
+ghost use Rattle.plan_text.specs.Valid.{step_suits, source_suits, is_ring_slot, is_declared};
+
+use crate::step::{Planned, Source, Step};
+use ring_names::{NodeId, Slot};
+use ring_table::Ring;
+
+/// Whether each step suits the ring.
+pub fn all_suit(ring: &Ring, steps: &[Planned]) -> bool
+    ensures { result ≡ list_all (λ x. step_suits ring.now x.step) steps.now }
+{
+    steps.iter().all(|x| step_suits(ring, &x.step))
+}
+
+/// Whether the nodes and slots of the step are the ring's, and it joins no member.
+pub fn step_suits(ring: &Ring, step: &Step) -> bool
+    ensures { result ≡ step_suits ring.now step.now }
+{
+    match step {
+        Step::Join(node) => is_declared(ring, *node) && !is_member(ring, *node),
+        Step::Mirror(slot, node) | Step::Drop(slot, node) => {
+            is_ring_slot(ring, *slot) && is_declared(ring, *node)
+        }
+        Step::Copy(slot, source) => is_ring_slot(ring, *slot) && source_suits(ring, source),
+        Step::Switch(slot) => is_ring_slot(ring, *slot),
+        Step::Retire(node) => is_declared(ring, *node),
+    }
+}
+
+// Whether the listed slots are slots by index.
+fn source_suits(ring: &Ring, source: &Source) -> bool
+    ensures { result ≡ source_suits ring.now source.now }
+{
+    match source {
+        Source::Owner => true,
+        Source::Slots(from) => { are_below(from.as_slice(), ring.n()) }
+    }
+}
+
+// Whether each number is below the limit.
+fn are_below(numbers: &[u32], limit: u32) -> bool
+    ensures { result ≡ list_all (λ i. nat_lt i limit) numbers.now }
+{
+    numbers.iter().all(|i| *i < limit)
+}
+
+fn is_ring_slot(ring: &Ring, slot: Slot) -> bool
+    ensures { result ≡ is_ring_slot ring.now slot }
+{
+    slot.partition < ring.q() && slot.index < ring.n()
+}
+
+fn is_declared(ring: &Ring, node: NodeId) -> bool
+    ensures { result ≡ is_declared ring.now node }
+{
+    (node.0 as usize) < ring.nodes().len()
+}
+
+// Whether the node is a member before the first step.
+pub fn is_member(ring: &Ring, node: NodeId) -> bool
+    ensures { result ≡ is_member ring.now.nodes node }
+{
+    match ring.nodes().get(node.0 as usize) {
+        Some(node) => node.is_member,
+        None => false,
+    }
+}

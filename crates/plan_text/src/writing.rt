@@ -1,0 +1,138 @@
+//! Writing a plan.
+
+ghost use Rattle.std.specs.Prelude.{◌≡◌, ◌++◌, ◌∷◌, [], map, codes, IfOk, IfErr, OnOk};
+ghost use Rattle.std.specs.Fmt.{decimal};
+ghost use Rattle.std.specs.List.{join_with_byte};
+ghost use Rattle.ring_names.specs.declared.refusal.Refusal.TheVariants.{OutOfMemory};
+ghost use Rattle.ring_text.specs.Parts.{line_text, text_of};
+ghost use Rattle.ring_table.specs.Value.{names_of};
+ghost use Rattle.ring_table.specs.Spelling.{name_at};
+ghost use Rattle.plan_text.specs.Spelling.{spaced, slot_fields, source_fields, kind_fields, after_fields, step_fields, plan_text};
+ghost use Rattle.plan_text.specs.Valid.{Suits};
+
+use crate::plan::Plan;
+use crate::step::{Planned, Source, Step};
+use ring_names::{NodeId, Refusal, Slot, push_decimal};
+use ring_table::Ring;
+use std::alloc::{AllocError, Global};
+
+// The numbers, each behind a space.
+fn push_numbers(out: &mut Vec<u8>, numbers: &[u32]) -> Result<(), AllocError>
+    ensures { OnOk result (out.new.items ≡ out.old.items ++ spaced (map decimal numbers.now)) }
+{
+    for number in numbers {
+        out.push(b' ')?;
+        push_decimal(out, *number)?;
+    }
+    Ok(())
+}
+
+// `<p> <i>`, behind a space.
+fn push_slot(out: &mut Vec<u8>, slot: Slot) -> Result<(), AllocError>
+    ensures { OnOk result (out.new.items ≡ out.old.items ++ spaced (slot_fields slot)) }
+{
+    push_numbers(out, &[slot.partition, slot.index])
+}
+
+// The name of a declared node, behind a space.
+fn push_name(out: &mut Vec<u8>, ring: &Ring, node: NodeId) -> Result<(), AllocError>
+    ensures { OnOk result (out.new.items ≡ out.old.items ++ 32 ∷ name_at (names_of ring.now) node) }
+{
+    out.push(b' ')?;
+    if let Some(node) = ring.nodes().get(node.0 as usize) {
+        out.extend_from_slice(node.name.as_slice())?;
+    }
+    Ok(())
+}
+
+// Where a copy reads, behind a space.
+fn push_source(out: &mut Vec<u8>, source: &Source) -> Result<(), AllocError>
+    ensures { OnOk result (out.new.items ≡ out.old.items ++ spaced (source_fields source.now)) }
+{
+    match source {
+        Source::Owner => out.extend_from_slice(b" owner"),
+        Source::Slots(from) => {
+            out.extend_from_slice(b" slots")?;
+            push_numbers(out, from.as_slice())
+        }
+    }
+}
+
+// What the step is.
+fn push_kind(out: &mut Vec<u8>, ring: &Ring, step: &Step) -> Result<(), AllocError>
+    ensures { OnOk result (out.new.items ≡ out.old.items ++ join_with_byte 32 (kind_fields (names_of ring.now) step.now)) }
+{
+    match step {
+        Step::Join(node) => {
+            out.extend_from_slice(b"join")?;
+            push_name(out, ring, *node)
+        }
+        Step::Mirror(slot, node) => {
+            out.extend_from_slice(b"mirror")?;
+            push_slot(out, *slot)?;
+            push_name(out, ring, *node)
+        }
+        Step::Copy(slot, source) => {
+            out.extend_from_slice(b"copy")?;
+            push_slot(out, *slot)?;
+            push_source(out, source)
+        }
+        Step::Switch(slot) => {
+            out.extend_from_slice(b"switch")?;
+            push_slot(out, *slot)
+        }
+        Step::Drop(slot, node) => {
+            out.extend_from_slice(b"drop")?;
+            push_slot(out, *slot)?;
+            push_name(out, ring, *node)
+        }
+        Step::Retire(node) => {
+            out.extend_from_slice(b"retire")?;
+            push_name(out, ring, *node)
+        }
+    }
+}
+
+// The steps that a step waits for.
+fn push_after(out: &mut Vec<u8>, after: &[u32]) -> Result<(), AllocError>
+    ensures { OnOk result (out.new.items ≡ out.old.items ++ spaced (after_fields after.now)) }
+{
+    if after.is_empty() {
+        return Ok(());
+    }
+    out.extend_from_slice(b" after")?;
+    push_numbers(out, after)
+}
+
+// The line of a step.
+fn push_step(out: &mut Vec<u8>, ring: &Ring, step: &Planned) -> Result<(), AllocError>
+    ensures { OnOk result (out.new.items ≡ out.old.items ++ line_text (step_fields (names_of ring.now) step.now)) }
+{
+    push_kind(out, ring, &step.step)?;
+    push_after(out, step.after.as_slice())?;
+    out.push(b'\n')?;
+    Ok(())
+}
+
+// The lines of the steps.
+fn push_steps(out: &mut Vec<u8>, ring: &Ring, steps: &[Planned]) -> Result<(), AllocError>
+    ensures { OnOk result (out.new.items ≡ out.old.items ++ text_of (map (step_fields (names_of ring.now)) steps.now)) }
+{
+    for step in steps {
+        push_step(out, ring, step)?;
+    }
+    Ok(())
+}
+
+/// The one text of a plan that suits the ring. Its only refusal is `OutOfMemory`.
+pub fn write_plan(alloc: Global, ring: &Ring, plan: &Plan) -> Result<Vec<u8>, Refusal>
+    requires { Suits ring.now plan.now }
+    ensures text { IfOk result (λ v. v.items ≡ plan_text ring.now plan.now) }
+    ensures memory { IfErr result (λ e. e ≡ OutOfMemory) }
+{
+    let mut out = Vec::new(alloc);
+    out.extend_from_slice(b"plan 1\n")?;
+    push_steps(&mut out, ring, plan.steps())?;
+    out.extend_from_slice(b"end\n")?;
+    Ok(out)
+}
