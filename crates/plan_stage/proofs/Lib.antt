@@ -1,0 +1,3 @@
+pub mod Leftovers
+pub mod Below
+pub mod Stages

@@ -1,0 +1,120 @@
+//! A slot on its way through its steps.
+
+ghost use Rattle.std.specs.Prelude.{◌≡◌, ◌<◌, IfErr, IfOk, OnOk};
+ghost use Rattle.ring_names.specs.declared.refusal.Refusal.TheVariants.{OutOfMemory};
+ghost use Rattle.plan_stage.specs.Stage.{is_among, fits, next, switched, opening};
+ghost use Rattle.plan_stage.specs.Walk.{nodes, stage_of};
+
+use crate::stage::Stage;
+use plan_text::Step;
+use ring_names::{Listed, NodeId, Refusal, Slot};
+use ring_table::Ring;
+use std::alloc::{AllocError, Global};
+use std::collections::BTreeSet;
+
+/// A stage whose leftovers are found fast.
+#[derive(Drop)]
+pub struct Walk {
+    owner: NodeId,
+    mirror: Option<NodeId>,
+    copied: bool,
+    leftovers: BTreeSet<u32>,
+}
+
+impl Walk {
+    /// Before the first step.
+    pub fn new(alloc: Global, ring: &Ring, slot: Slot) -> Walk
+        requires partition { slot.partition < ring.now.q }
+        requires index { slot.index < ring.now.n }
+        ensures { stage_of result ≡ opening ring.now slot }
+    {
+        Walk {
+            owner: ring.owner(slot),
+            mirror: None,
+            copied: false,
+            leftovers: BTreeSet::new(alloc),
+        }
+    }
+
+    /// Whether the step may act now.
+    pub fn fits(&self, step: &Step) -> bool
+        ensures { result ≡ fits (stage_of self.now) step.now }
+    {
+        match step {
+            Step::Mirror(_, node) => {
+                self.mirror.is_none() && node.0 != self.owner.0 && !self.is_leftover(*node)
+            }
+            Step::Copy(_, _) => self.mirror.is_some() && !self.copied,
+            Step::Switch(_) => self.mirror.is_some() && self.copied,
+            Step::Drop(_, node) => self.is_leftover(*node),
+            Step::Join(_) | Step::Retire(_) => false,
+        }
+    }
+
+    // Whether the node owned the slot before, and was not dropped since.
+    #[tactic(auto, using(crate::proofs::Leftovers::leftover_steps))]
+    fn is_leftover(&self, node: NodeId) -> bool
+        ensures { result ≡ is_among node (nodes self.now.leftovers.keys) }
+    {
+        self.leftovers.contains(&node.0)
+    }
+
+    /// Lets the step act.
+    pub fn act(&mut self, step: &Step) -> Result<(), Refusal>
+        ensures ok { OnOk result (stage_of self.new ≡ next (stage_of self.old) step.now) }
+        ensures memory { IfErr result (λ e. e ≡ OutOfMemory) }
+    {
+        match step {
+            Step::Mirror(_, node) => {
+                self.mirror = Some(*node);
+                self.copied = false;
+            }
+            Step::Copy(_, _) => self.copied = true,
+            Step::Switch(_) => self.switch()?,
+            Step::Drop(_, node) => {
+                self.leftovers.remove(&node.0);
+            }
+            Step::Join(_) | Step::Retire(_) => {}
+        }
+        Ok(())
+    }
+
+    // The mirror becomes the owner, and the owner a leftover.
+    fn switch(&mut self) -> Result<(), Refusal>
+        ensures ok { OnOk result (stage_of self.new ≡ switched (stage_of self.old)) }
+        ensures memory { IfErr result (λ e. e ≡ OutOfMemory) }
+    {
+        self.leftovers.insert(self.owner.0)?;
+        self.owner = self.mirror.unwrap_or(self.owner);
+        self.mirror = None;
+        self.copied = false;
+        Ok(())
+    }
+
+    /// The stage, with its leftovers listed.
+    pub fn into_stage(self, alloc: Global) -> Result<Stage, Refusal>
+        ensures ok { IfOk result (λ stage. stage ≡ stage_of self) }
+        ensures memory { IfErr result (λ e. e ≡ OutOfMemory) }
+    {
+        let leftovers = listed(alloc, &self.leftovers)?;
+        let Walk {
+            owner,
+            mirror,
+            copied,
+            leftovers: _,
+        } = self;
+        Ok(Stage {
+            owner,
+            mirror,
+            copied,
+            leftovers: Listed::from_vec(leftovers),
+        })
+    }
+}
+
+// The nodes of a set of numbers, ascending.
+fn listed(alloc: Global, numbers: &BTreeSet<u32>) -> Result<Vec<NodeId>, AllocError>
+    ensures { IfOk result (λ list. list.items ≡ nodes numbers.now.keys) }
+{
+    numbers.iter().map(|number| NodeId(*number)).collect(alloc)
+}
