@@ -1,0 +1,64 @@
+//! A ring and a plan, before and after the check.
+
+ghost use Rattle.std.specs.Prelude.{◌≡◌};
+
+use plan_text::Plan;
+use ring_names::Refusal;
+use ring_table::Ring;
+use std::marker::Model;
+
+/// A ring with a plan that was checked against it.
+#[derive(Drop)]
+pub struct Approved {
+    ring: Ring,
+    plan: Plan,
+}
+
+impl Model for Approved {
+    ghost use Rattle.plan_check.specs.Approval.{Approval};
+
+    ghost Value = { Approval };
+
+    ghost view = { λ a. record { ring = a.ring; plan = a.plan } };
+
+    ghost use Rattle.plan_check.specs.Certified.{Certified};
+
+    ghost invariant = { λ a. Certified a.ring a.plan };
+}
+
+impl Approved {
+    ghost use Rattle.plan_check.specs.Approval.{Approval};
+    ghost use Rattle.plan_check.specs.Certified.{Certified};
+
+    /// The two together, of which what the check tests must hold.
+    pub(crate) fn new(ring: Ring, plan: Plan) -> Approved
+        requires { Certified ring plan }
+        ensures { result ≡ record { ring = ring; plan = plan } }
+    {
+        Approved { ring, plan }
+    }
+
+    /// The ring.
+    pub fn ring(&self) -> &Ring
+        ensures value { result.now ≡ self.now.ring }
+        ensures certified { Certified self.now.ring self.now.plan }
+    {
+        &self.ring
+    }
+
+    /// The plan.
+    pub fn plan(&self) -> &Plan
+        ensures value { result.now ≡ self.now.plan }
+        ensures certified { Certified self.now.ring self.now.plan }
+    {
+        &self.plan
+    }
+}
+
+/// A ring and a plan that are given back, and why.
+#[derive(Drop)]
+pub struct Turned {
+    pub ring: Ring,
+    pub plan: Plan,
+    pub refusal: Refusal,
+}
