@@ -1,0 +1,4 @@
+pub mod Streams
+pub mod Commands
+pub mod Runs
+pub mod Verdicts

@@ -1,0 +1,5 @@
+pub mod Io
+pub mod Command
+pub mod Verdict
+pub mod Answers
+pub mod Run
