@@ -110,6 +110,8 @@ fn stages(rt: HostRuntime) -> Result<(), Fail> {
     let text = bundle_of(alloc, HEAD, ROW, "")?;
     let ring = read_ring(alloc, text.as_slice())?;
     let plan = read_plan(alloc, &ring, MOVE.as_bytes())?;
+    assert!(rt; ring.q() > 0);
+    assert!(rt; ring.n() > 1);
     check_partition(alloc, &ring, &plan, 0)?;
     let slot = Slot {
         partition: 0,
