@@ -1,1 +1,21 @@
 pub mod Law
+mod Examples
+mod Verdicts
+pub mod Occupied
+pub mod Certifies
+pub mod Answered
+pub mod Quorums
+pub mod Good
+pub mod Truth
+pub mod Suited
+pub mod Firsts
+pub mod Refused
+pub mod Prefix
+pub mod Groups
+pub mod Mirrored
+pub mod Events
+pub mod Apart
+pub mod Serving
+pub mod Open
+pub mod Partakers
+pub mod Few

@@ -1,20 +1,30 @@
--- What is known of a plan that was checked.
-use Rattle.std.specs.Prelude.{Bool, List, Option}
-use Rattle.ring_names.specs.declared.refusal.Refusal.{Refusal}
+-- What a certificate says of a plan.
+use Rattle.std.specs.Prelude.{◌≡◌, ℕ, ◌<◌, Bool, true, ◌||◌, ◌==◌, List, [], ◌∷◌, length, if◌then◌else◌}
+use Rattle.std.specs.List.{list_all}
+use Rattle.ring_names.specs.declared.ids.NodeId.{NodeId}
 use Rattle.ring_table.specs.Value.{RingValue}
 use Rattle.plan_text.specs.declared.step.Planned.{Planned}
-use Rattle.plan_stage.specs.Clauses.{first_failing, below, partition_clauses, AllStaged, AllOrdered}
+use Rattle.plan_text.specs.Steps.{depends}
+use Rattle.plan_order.specs.Paths.{is_path}
+use Rattle.plan_order.specs.Facts.{some_leads}
+use Rattle.plan_cert.specs.declared.cert.Chain.{Chain}
+use Rattle.plan_cert.specs.declared.cert.Cert.{Cert}
+use Rattle.plan_stage.specs.Stage.{is_among}
+use Rattle.plan_stage.specs.Parties.{parties}
+use Rattle.plan_check.specs.Sound.{Meets, in_some}
 
-pub record Certified (ring : RingValue) (plan : List Planned) : Type 0 where
-  -- each step fits the stage that the steps before it have made of its slot
-  pub staged : AllStaged ring plan
-  -- each step is ordered after its slot's step before it
-  pub ordered : AllOrdered ring plan
+-- what a certificate proves to be in order: direct dependencies, and the ends of its facts
+abbrev pub ordered_by : List Planned → Cert → ℕ → ℕ → Bool
+ordered_by plan cert a b = depends plan a b || some_leads a b cert.facts
 
--- the clauses of the partitions, in the order of their numbers
-abbrev pub clauses : RingValue → List Planned → List (Bool × Refusal)
-clauses ring plan = below (partition_clauses ring plan) ring.q
+-- a node's chains, in the order written
+abbrev pub chains_from : ℕ → List Chain → List (List ℕ)
+chains_from x [] = []
+chains_from x (c ∷ cs) = if x == c.node.0 then c.steps ∷ chains_from x cs else chains_from x cs
 
--- the refusal of the first clause that does not hold
-abbrev pub first : RingValue → List Planned → Option Refusal
-first ring plan = first_failing (clauses ring plan)
+-- the facts are paths, the plan meets all by what they prove and by the certificate's own chains, and these have nothing but
+-- copies in which their node takes part
+pub record IsCertified (ring : RingValue) (plan : List Planned) (cert : Cert) : Type 0 where
+  pub facts : list_all (is_path plan) cert.facts ≡ true
+  pub meets : Meets ring plan (λ a b. ordered_by plan cert a b ≡ true) (λ x. chains_from x cert.chains)
+  pub entries : (x : NodeId) (n : ℕ) → x.0 < length ring.nodes → in_some n (chains_from x.0 cert.chains) ≡ true → is_among x (parties ring plan n) ≡ true

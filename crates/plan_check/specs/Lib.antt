@@ -1,2 +1,14 @@
-pub mod Certified
+pub mod InOrder
 pub mod Approval
+pub mod Words
+pub mod Replies
+pub mod World
+pub mod Succession
+pub mod Events
+pub mod Runs
+pub mod Safe
+pub mod Sound
+pub mod Certified
+pub mod Headline
+pub mod First
+pub mod Occupies

@@ -21,18 +21,18 @@ impl Model for Approved {
 
     ghost view = { λ a. record { ring = a.ring; plan = a.plan } };
 
-    ghost use Rattle.plan_check.specs.Certified.{Certified};
+    ghost use Rattle.plan_check.specs.InOrder.{InOrder};
 
-    ghost invariant = { λ a. Certified a.ring a.plan };
+    ghost invariant = { λ a. InOrder a.ring a.plan };
 }
 
 impl Approved {
     ghost use Rattle.plan_check.specs.Approval.{Approval};
-    ghost use Rattle.plan_check.specs.Certified.{Certified};
+    ghost use Rattle.plan_check.specs.InOrder.{InOrder};
 
     /// The two together, of which what the check tests must hold.
     pub(crate) fn new(ring: Ring, plan: Plan) -> Approved
-        requires { Certified ring plan }
+        requires { InOrder ring plan }
         ensures { result ≡ record { ring = ring; plan = plan } }
     {
         Approved { ring, plan }
@@ -41,7 +41,7 @@ impl Approved {
     /// The ring.
     pub fn ring(&self) -> &Ring
         ensures value { result.now ≡ self.now.ring }
-        ensures certified { Certified self.now.ring self.now.plan }
+        ensures in_order { InOrder self.now.ring self.now.plan }
     {
         &self.ring
     }
@@ -49,7 +49,7 @@ impl Approved {
     /// The plan.
     pub fn plan(&self) -> &Plan
         ensures value { result.now ≡ self.now.plan }
-        ensures certified { Certified self.now.ring self.now.plan }
+        ensures in_order { InOrder self.now.ring self.now.plan }
     {
         &self.plan
     }

@@ -1,3 +1,5 @@
 pub mod Stage
 pub mod Clauses
 pub mod Walk
+pub mod Occupancy
+pub mod Parties

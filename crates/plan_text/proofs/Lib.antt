@@ -1,7 +1,7 @@
 pub mod Pushed
 pub mod Searched
 pub mod NextLaws
-pub mod Fronts
+pub mod Below
 pub mod StepLaws
 pub mod PlanLaws
 pub mod SuitLaws

@@ -7,9 +7,10 @@ use Rattle.ring_names.specs.declared.ids.NodeId.{NodeId}
 use Rattle.ring_names.specs.declared.ids.Slot.{Slot}
 use Rattle.ring_names.specs.declared.refusal.Refusal.{Refusal}
 use Rattle.ring_names.specs.declared.refusal.Refusal.TheVariants.{BadLine, TooLarge, LaterDependency}
-use Rattle.ring_text.specs.Numbers.{numbers_of, beyond, ascending}
+use Rattle.ring_text.specs.Numbers.{numbers_of, beyond, ascending, are_small}
 use Rattle.ring_text.specs.Judging.{Item, ◌⊗◌, need_at, end_at, map_ok, map_item, whole}
 use Rattle.ring_text.proofs.Items.{both_is, map_is, ok_is, unless_is}
+use Rattle.ring_text.proofs.Fronts.{both_true}
 use Rattle.ring_table.specs.Value.{RingValue}
 use Rattle.plan_text.specs.declared.said.Said.{Said}
 use Rattle.plan_text.specs.declared.said.Said.TheVariants.{Join, Mirror, Copy, Switch, Drop, Retire}
@@ -19,7 +20,7 @@ use Rattle.plan_text.specs.declared.step.Planned.{Planned}
 use Rattle.plan_text.specs.Said.{step_of}
 use Rattle.plan_text.specs.Steps.{dependencies}
 use Rattle.plan_text.specs.Valid.{ascends, HasSources}
-use Rattle.plan_text.specs.Fits.{are_small, FitsSource, FitsSaid, IsNext}
+use Rattle.plan_text.specs.Fits.{FitsSource, FitsSaid, IsNext}
 use Rattle.plan_text.specs.Reading.{slot_at, slot_node_at, joining_at, retiring_at, judge_indexes, source_at, copy_at, kind_at, judge_after, after_at, said_at}
 
 pub not_false : (b : Bool) → not b ≡ false → b ≡ true
@@ -33,10 +34,6 @@ either_ok false x y v e = inr e
 
 below-small : (n x : ℕ) → n ≤ 7 → nat_lt x n ≡ true → nat_lt x 4294967296 ≡ true
 below-small n x le e = let h = ltb-true x n e in lt-ltb x 4294967296 (omega arith)
-
-pub both_true : (a b : Bool) → (a && b) ≡ true → (a ≡ true) × (b ≡ true)
-both_true true b e = (refl, e)
-both_true false b e = absurd cc
 
 pub small_all : (n : ℕ) (xs : List ℕ) → n ≤ 7 → list_all (λ i. nat_lt i n) xs ≡ true → are_small xs ≡ true
 small_all n [] le e = refl

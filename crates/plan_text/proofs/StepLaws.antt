@@ -18,6 +18,7 @@ use Rattle.ring_text.proofs.Items.{IsItem-⊗, IsItem-map, IsItem-as, IsItem-nee
 use Rattle.ring_table.specs.Value.{RingValue, names_of, is_member}
 use Rattle.ring_table.specs.Spelling.{name_at}
 use Rattle.ring_table.proofs.RowLaws.{AreNames, IsItem-declared}
+use Rattle.ring_table.specs.Reading.{declared_at}
 use Rattle.plan_text.specs.declared.said.Said.{Said}
 use Rattle.plan_text.specs.declared.said.Said.TheVariants.{Join, Mirror, Copy, Switch, Drop, Retire}
 use Rattle.plan_text.specs.declared.said.SaidSource.{SaidSource}
@@ -25,11 +26,12 @@ use Rattle.plan_text.specs.declared.said.SaidSource.TheVariants.{Owner, Slots}
 use Rattle.plan_text.specs.declared.step.Planned.{Planned}
 use Rattle.plan_text.specs.Said.{source_of, step_of}
 use Rattle.plan_text.specs.Steps.{dependencies, joined, retired}
-use Rattle.plan_text.specs.Fits.{are_small}
+use Rattle.ring_text.specs.Numbers.{are_small}
 use Rattle.plan_text.specs.Spelling.{slot_fields, source_fields, kind_fields, after_fields}
-use Rattle.plan_text.specs.Reading.{slot_at, node_at, slot_node_at, joining_at, retiring_at, judge_indexes, source_at, copy_at, kind_at, judge_after, after_at, said_at}
+use Rattle.plan_text.specs.Reading.{slot_at, slot_node_at, joining_at, retiring_at, judge_indexes, source_at, copy_at, kind_at, judge_after, after_at, said_at}
 use Rattle.plan_text.proofs.NextLaws.{small_all, IsSource, IsAfter, indexes-are, after-are, ascending-ascends}
-use Rattle.plan_text.proofs.Fronts.{Free, Last, IsFront, front-item, front-⊗, front-whole, front-word, item-unless, item-below, numbers-taken, numbers-given, pair_is}
+use Rattle.ring_text.proofs.Fronts.{Free, Last, IsFront, front-item, front-⊗, front-whole, front-word, item-unless, numbers-taken, numbers-given, pair_is}
+use Rattle.plan_text.proofs.Below.{item-below}
 
 -- ---- the steps that a step waits for
 
@@ -86,8 +88,8 @@ item-slot ring k q n =
     let made = IsItem-map {B = Slot} _ _ _ (λ x. record { partition = x.0; index = x.1 }) (λ s. (s.partition, s.index)) (λ a. refl) (λ b. refl) pair in
     IsItem-as _ _ _ _ _ (λ v. refl) (λ v p. p) (λ v p. p) made
 
-pub item-node : (ring : RingValue) (k : ℕ) → AreNames (names_of ring) → IsItem (node_at ring k) (λ x. name_at (names_of ring) x ∷ []) (λ x. x.0 < length (names_of ring))
-unfolding node_at
+pub item-node : (ring : RingValue) (k : ℕ) → AreNames (names_of ring) → IsItem (declared_at ring k) (λ x. name_at (names_of ring) x ∷ []) (λ x. x.0 < length (names_of ring))
+unfolding declared_at
 item-node ring k good = IsItem-declared k (names_of ring) good
 
 item-slot_node : (ring : RingValue) (k : ℕ) → ring.q ≤ 4096 → ring.n ≤ 7 → AreNames (names_of ring) → IsItem (slot_node_at ring k) (λ x. slot_fields x.0 ++ name_at (names_of ring) x.1 ∷ []) (λ x. ((x.0.partition < ring.q) × (x.0.index < ring.n)) × (x.1.0 < length (names_of ring)))
@@ -96,11 +98,11 @@ item-slot_node ring k q n good = IsItem-⊗ _ _ _ _ _ _ (item-slot ring k q n) (
 
 item-joining : (ring : RingValue) (plan : List Planned) (k : ℕ) → AreNames (names_of ring) → IsItem (joining_at ring plan k) (λ x. name_at (names_of ring) x ∷ []) (λ x. (x.0 < length (names_of ring)) × (((is_member ring.nodes x || has x.0 (joined plan)) ≡ false) × Unit {0}))
 unfolding joining_at
-item-joining ring plan k good = item-unless (node_at ring k) (λ x. name_at (names_of ring) x ∷ []) (λ x. x.0 < length (names_of ring)) (λ x. (is_member ring.nodes x || has x.0 (joined plan), Repeated k) ∷ []) (item-node ring k good)
+item-joining ring plan k good = item-unless (declared_at ring k) (λ x. name_at (names_of ring) x ∷ []) (λ x. x.0 < length (names_of ring)) (λ x. (is_member ring.nodes x || has x.0 (joined plan), Repeated k) ∷ []) (item-node ring k good)
 
 item-retiring : (ring : RingValue) (plan : List Planned) (k : ℕ) → AreNames (names_of ring) → IsItem (retiring_at ring plan k) (λ x. name_at (names_of ring) x ∷ []) (λ x. (x.0 < length (names_of ring)) × ((has x.0 (retired plan) ≡ false) × Unit {0}))
 unfolding retiring_at
-item-retiring ring plan k good = item-unless (node_at ring k) (λ x. name_at (names_of ring) x ∷ []) (λ x. x.0 < length (names_of ring)) (λ x. (has x.0 (retired plan), Repeated k) ∷ []) (item-node ring k good)
+item-retiring ring plan k good = item-unless (declared_at ring k) (λ x. name_at (names_of ring) x ∷ []) (λ x. x.0 < length (names_of ring)) (λ x. (has x.0 (retired plan), Repeated k) ∷ []) (item-node ring k good)
 
 -- ---- sources
 

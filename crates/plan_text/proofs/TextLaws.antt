@@ -1,31 +1,31 @@
 -- The whole text of a plan.
 use Rattle.std.proofs.Common.{◌≡◌, ℕ, zero, suc, ◌<◌, ◌≤◌, true, nat_lt, List, [], ◌∷◌, ◌++◌, map, codes, Some, None, Ok, Err, refl, sym, ap, ◌∙◌, arith, rules}
-use Rattle.std.specs.Prelude.{slice_get}
 use Rattle.std.specs.Fmt.{decimal}
 use Rattle.std.specs.List.{AllByRecursion}
-use Rattle.std.proofs.lemmas.Bool.{ltb-true}
 use Rattle.ring_names.specs.declared.ids.NodeId.{NodeId}
 use Rattle.ring_names.specs.declared.refusal.Refusal.{Refusal}
 use Rattle.ring_text.specs.Name.{is_name}
 use Rattle.ring_text.specs.Parts.{lines_of}
 use Rattle.ring_text.specs.Left.{Left, over_at}
 use Rattle.ring_text.specs.Laws.{IsPlain, IsPlainLine}
-use Rattle.ring_text.proofs.Wholes.{whole-takes, whole-gives, decimal-plain, name-plain}
+use Rattle.ring_text.proofs.Wholes.{whole-takes, whole-gives, decimal-plain}
+use Rattle.ring_text.proofs.Rows.{numbers-plain}
 use Rattle.ring_table.specs.Value.{RingValue, names_of}
 use Rattle.ring_table.specs.Valid.{IsRing}
 use Rattle.ring_table.specs.Spelling.{name_at}
 use Rattle.ring_table.proofs.LineLaws.{space-le}
 use Rattle.ring_table.proofs.RowLaws.{AreNames}
+use Rattle.ring_table.proofs.RingLaws.{name_at-plain}
 use Rattle.ring_table.proofs.NodesLaws.{names-of_nodes}
 use Rattle.plan_text.specs.declared.step.Step.{Step}
 use Rattle.plan_text.specs.declared.step.Step.TheVariants.{Join, Mirror, Copy, Switch, Drop, Retire}
 use Rattle.plan_text.specs.declared.step.Source.TheVariants.{Owner, Slots}
 use Rattle.plan_text.specs.declared.step.Planned.{Planned}
 use Rattle.plan_text.specs.Valid.{IsPlan, Suits}
-use Rattle.plan_text.specs.Fits.{are_small}
+use Rattle.ring_text.specs.Numbers.{are_small}
 use Rattle.plan_text.specs.Spelling.{kind_fields, after_fields, step_fields, plan_end_fields, plan_lines, plan_text}
 use Rattle.plan_text.specs.Reading.{plan_at, plan_reading}
-use Rattle.plan_text.proofs.NextLaws.{both_true, small_all}
+use Rattle.plan_text.proofs.NextLaws.{small_all}
 use Rattle.plan_text.proofs.StepLaws.{SaidSuits}
 use Rattle.plan_text.proofs.PlanLaws.{said_of, AreNext, plan-part}
 use Rattle.plan_text.proofs.SuitLaws.{plan-of-next, next-of}
@@ -37,21 +37,6 @@ names-of ring r = names-of_nodes ring.nodes (record { some_node = r.some_node; n
 
 words-plain : IsPlain (codes "plan") × IsPlain (codes "1") × IsPlain (codes "join") × IsPlain (codes "mirror") × IsPlain (codes "copy") × IsPlain (codes "switch") × IsPlain (codes "drop") × IsPlain (codes "retire") × IsPlain (codes "owner") × IsPlain (codes "slots") × IsPlain (codes "after") × IsPlain (codes "end")
 words-plain = (search rules)
-
-name_at-plain : (ns : List (List ℕ)) (x : NodeId) → AllByRecursion (λ n. is_name n ≡ true) ns → IsPlain (name_at ns x)
-name_at-plain ns x all = at ns x.0 all
-  where
-    at : (ms : List (List ℕ)) (i : ℕ) → AllByRecursion (λ n. is_name n ≡ true) ms → IsPlain (elim (slice_get ms i) [ Some name ↦ name | None ↦ [] ])
-    at [] i a = tt
-    at (m ∷ ms) zero a = name-plain m a.0
-    at (m ∷ ms) (suc i) a = at ms i a.1
-
-numbers-plain : (xs : List ℕ) → are_small xs ≡ true → AllByRecursion IsPlain (map decimal xs)
-numbers-plain [] e = tt
-numbers-plain (x ∷ xs) e =
-    let p = both_true (nat_lt x 4294967296) (are_small xs) e in
-    let lt = ltb-true x 4294967296 p.0 in
-    (decimal-plain x (omega (arith, lt)), numbers-plain xs p.1)
 
 after-plain : (xs : List ℕ) → are_small xs ≡ true → AllByRecursion IsPlain (after_fields xs)
 after-plain [] e = tt

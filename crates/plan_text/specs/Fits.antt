@@ -1,6 +1,6 @@
 -- Which lines' steps can be kept.
-use Rattle.std.specs.Prelude.{◌≡◌, ℕ, ◌+◌, ◌<◌, ◌≤◌, Bool, true, nat_lt, List, length}
-use Rattle.std.specs.List.{list_all}
+use Rattle.std.specs.Prelude.{◌≡◌, ℕ, ◌+◌, ◌<◌, ◌≤◌, true, List, length}
+use Rattle.ring_text.specs.Numbers.{are_small}
 use Rattle.plan_text.specs.declared.said.Said.{Said}
 use Rattle.plan_text.specs.declared.said.Said.TheVariants.{Join, Mirror, Copy, Switch, Drop, Retire}
 use Rattle.plan_text.specs.declared.said.SaidSource.{SaidSource}
@@ -9,10 +9,6 @@ use Rattle.plan_text.specs.declared.step.Planned.{Planned}
 use Rattle.plan_text.specs.Said.{planned_of}
 use Rattle.plan_text.specs.Steps.{dependencies}
 use Rattle.plan_text.specs.Valid.{IsPlanned}
-
--- each number is a `u32`
-abbrev pub are_small : List ℕ → Bool
-are_small xs = list_all (λ x. nat_lt x 4294967296) xs
 
 abbrev pub FitsSource : SaidSource → Type 0
 FitsSource Owner = Unit {0}

@@ -11,8 +11,8 @@ use Rattle.ring_text.specs.Number.{decimal_value}
 use Rattle.ring_text.specs.Numbers.{numbers_of, beyond, ascending}
 use Rattle.ring_text.specs.Judging.{Item, ◌⊗◌, field_at, word_at, need_at, map_ok, map_item, whole, unless}
 use Rattle.ring_text.specs.Left.{Left, ◌>>=◌, begins_with, first_line, one_line, then_part, map_part, whole_text}
-use Rattle.ring_table.specs.Value.{RingValue, names_of, is_member}
-use Rattle.ring_table.specs.Reading.{judge_declared}
+use Rattle.ring_table.specs.Value.{RingValue, is_member}
+use Rattle.ring_table.specs.Reading.{declared_at}
 use Rattle.plan_text.specs.declared.said.Said.{Said}
 use Rattle.plan_text.specs.declared.said.Said.TheVariants.{Join, Mirror, Copy, Switch, Drop, Retire}
 use Rattle.plan_text.specs.declared.said.SaidSource.{SaidSource}
@@ -33,21 +33,17 @@ judge_below k limit field = elim (decimal_value field) [ Some n ↦ if nat_lt n 
 unfoldable pub slot_at : RingValue → ℕ → Item Slot
 slot_at ring k = map_item (λ x. record { partition = x.0; index = x.1 }) (field_at k (judge_below k ring.q) ⊗ field_at k (judge_below k ring.n))
 
--- a declared node
-unfoldable pub node_at : RingValue → ℕ → Item NodeId
-node_at ring k = field_at k (judge_declared k (names_of ring))
-
 -- a slot, and a declared node
 unfoldable pub slot_node_at : RingValue → ℕ → Item (Slot × NodeId)
-slot_node_at ring k = slot_at ring k ⊗ node_at ring k
+slot_node_at ring k = slot_at ring k ⊗ declared_at ring k
 
 -- a node that was no member, and is not joined yet
 unfoldable pub joining_at : RingValue → List Planned → ℕ → Item NodeId
-joining_at ring plan k fields = (((node_at ring k fields).0 >>= λ x. unless ((is_member ring.nodes x || has x.0 (joined plan), Repeated k) ∷ []) x), (node_at ring k fields).1)
+joining_at ring plan k fields = (((declared_at ring k fields).0 >>= λ x. unless ((is_member ring.nodes x || has x.0 (joined plan), Repeated k) ∷ []) x), (declared_at ring k fields).1)
 
 -- a node that is not retired yet
 unfoldable pub retiring_at : RingValue → List Planned → ℕ → Item NodeId
-retiring_at ring plan k fields = (((node_at ring k fields).0 >>= λ x. unless ((has x.0 (retired plan), Repeated k) ∷ []) x), (node_at ring k fields).1)
+retiring_at ring plan k fields = (((declared_at ring k fields).0 >>= λ x. unless ((has x.0 (retired plan), Repeated k) ∷ []) x), (declared_at ring k fields).1)
 
 -- listed slots of a ring of n slots
 abbrev pub judge_indexes : ℕ → ℕ → List ℕ → Result (List ℕ) Refusal

@@ -1,7 +1,6 @@
 -- The one text of each plan.
 use Rattle.std.specs.Prelude.{ℕ, List, [], ◌∷◌, ◌++◌, map, codes}
 use Rattle.std.specs.Fmt.{decimal}
-use Rattle.std.specs.List.{flat_map}
 use Rattle.ring_names.specs.declared.ids.Slot.{Slot}
 use Rattle.ring_text.specs.Parts.{text_of}
 use Rattle.ring_table.specs.Value.{RingValue, names_of}
@@ -11,10 +10,6 @@ use Rattle.plan_text.specs.declared.step.Step.TheVariants.{Join, Mirror, Copy, S
 use Rattle.plan_text.specs.declared.step.Source.{Source}
 use Rattle.plan_text.specs.declared.step.Source.TheVariants.{Owner, Slots}
 use Rattle.plan_text.specs.declared.step.Planned.{Planned}
-
--- fields, each behind a space
-abbrev pub spaced : List (List ℕ) → List ℕ
-spaced fields = flat_map (λ field. 32 ∷ field) fields
 
 abbrev pub plan_header_fields : List (List ℕ)
 plan_header_fields = codes "plan" ∷ codes "1" ∷ []

@@ -2,13 +2,13 @@
 
 ghost use Rattle.std.specs.Prelude.{◌≡◌};
 ghost use Rattle.ring_text.specs.Judging.{field_at, Does};
-ghost use Rattle.plan_text.specs.Reading.{judge_below, slot_at, node_at, slot_node_at, joining_at, retiring_at};
+ghost use Rattle.plan_text.specs.Reading.{judge_below, slot_at, slot_node_at, joining_at, retiring_at};
 
 use crate::plan::Plan;
 use crate::suits::is_member;
 use ring_names::{NodeId, Refusal, Slot};
-use ring_table::Ring;
-use ring_text::{Fields, both, is_name, value_of};
+use ring_table::{Ring, node_field};
+use ring_text::{Fields, both, value_of};
 
 // A number below a limit.
 fn below(limit: u32, fields: &mut Fields, line: u32) -> Result<u32, Refusal>
@@ -37,30 +37,13 @@ pub fn slot(ring: &Ring, fields: &mut Fields, line: u32) -> Result<Slot, Refusal
     }
 }
 
-/// A declared node. Else that is `BadLine` or `UnknownNode`.
-#[tactic(auto, unfolding(crate::specs::Reading::node_at))]
-pub fn node(ring: &Ring, fields: &mut Fields, line: u32) -> Result<NodeId, Refusal>
-    ensures { Does (node_at ring.now line) fields.old result fields.new }
-{
-    let Some(name) = fields.next() else {
-        return Err(Refusal::BadLine(line));
-    };
-    if !is_name(name) {
-        return Err(Refusal::BadLine(line));
-    }
-    match ring.number_of(name) {
-        Some(node) => Ok(node),
-        None => Err(Refusal::UnknownNode(line)),
-    }
-}
-
 /// A slot, and behind it a declared node.
 #[tactic(auto, unfolding(crate::specs::Reading::slot_node_at))]
 pub fn slot_node(ring: &Ring, fields: &mut Fields, line: u32) -> Result<(Slot, NodeId), Refusal>
     ensures { Does (slot_node_at ring.now line) fields.old result fields.new }
 {
     let slot = slot(ring, fields, line);
-    let node = node(ring, fields, line);
+    let node = node_field(ring, fields, line);
     both(slot, node)
 }
 
@@ -69,7 +52,7 @@ pub fn slot_node(ring: &Ring, fields: &mut Fields, line: u32) -> Result<(Slot, N
 pub fn joining(ring: &Ring, plan: &Plan, fields: &mut Fields, line: u32) -> Result<NodeId, Refusal>
     ensures { Does (joining_at ring.now plan.now line) fields.old result fields.new }
 {
-    match node(ring, fields, line) {
+    match node_field(ring, fields, line) {
         Ok(node) if is_member(ring, node) || plan.is_joined(node) => Err(Refusal::Repeated(line)),
         other => other,
     }
@@ -80,7 +63,7 @@ pub fn joining(ring: &Ring, plan: &Plan, fields: &mut Fields, line: u32) -> Resu
 pub fn retiring(ring: &Ring, plan: &Plan, fields: &mut Fields, line: u32) -> Result<NodeId, Refusal>
     ensures { Does (retiring_at ring.now plan.now line) fields.old result fields.new }
 {
-    match node(ring, fields, line) {
+    match node_field(ring, fields, line) {
         Ok(node) if plan.is_retired(node) => Err(Refusal::Repeated(line)),
         other => other,
     }

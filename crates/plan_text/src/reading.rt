@@ -3,7 +3,7 @@
 ghost use Rattle.std.specs.Prelude.{◌≡◌, ◌≤◌, ◌+◌, ◌++◌, ◌∷◌, [], length, List, ℕ, nat_lt, Ok, IfOk, IfErr, OnOk};
 ghost use Rattle.ring_names.specs.declared.refusal.Refusal.TheVariants.{OutOfMemory};
 ghost use Rattle.ring_text.specs.Left.{Reads};
-ghost use Rattle.ring_text.specs.Judging.{Gives, map_ok, need_at};
+ghost use Rattle.ring_text.specs.Judging.{Gives, map_ok};
 ghost use Rattle.plan_text.specs.Said.{planned_of};
 ghost use Rattle.plan_text.specs.Fits.{IsNext};
 ghost use Rattle.plan_text.specs.Reading.{plan_header_at, said_at, steps_from, steps_at, plan_end_at, plan_at, plan_reading};
@@ -17,7 +17,7 @@ use crate::plan::Plan;
 use crate::said::{Said, to_step};
 use ring_names::{Listed, Refusal};
 use ring_table::Ring;
-use ring_text::{Fields, Lines, NumberRow, both, finish};
+use ring_text::{Fields, Lines, NumberRow, both, finish, need};
 use std::alloc::Global;
 
 // `plan 1`
@@ -38,16 +38,6 @@ fn end_line(mut fields: Fields, line: u32) -> Result<(), Refusal>
 {
     let word = fields.word(b"end", line);
     finish(word, fields, line)
-}
-
-fn need(room: bool, line: u32) -> Result<(), Refusal>
-    ensures { result ≡ (need_at line room []).0 }
-{
-    if room {
-        Ok(())
-    } else {
-        Err(Refusal::TooLarge(line))
-    }
 }
 
 // What a step's line says, behind the steps of the plan. Takes no memory.

@@ -1,48 +1,25 @@
 //! Writing a plan.
 
-ghost use Rattle.std.specs.Prelude.{◌≡◌, ◌++◌, ◌∷◌, [], map, codes, IfOk, IfErr, OnOk};
-ghost use Rattle.std.specs.Fmt.{decimal};
+ghost use Rattle.std.specs.Prelude.{◌≡◌, ◌++◌, ◌∷◌, [], map, IfOk, IfErr, OnOk};
 ghost use Rattle.std.specs.List.{join_with_byte};
 ghost use Rattle.ring_names.specs.declared.refusal.Refusal.TheVariants.{OutOfMemory};
-ghost use Rattle.ring_text.specs.Parts.{line_text, text_of};
+ghost use Rattle.ring_text.specs.Parts.{line_text, text_of, spaced};
 ghost use Rattle.ring_table.specs.Value.{names_of};
-ghost use Rattle.ring_table.specs.Spelling.{name_at};
-ghost use Rattle.plan_text.specs.Spelling.{spaced, slot_fields, source_fields, kind_fields, after_fields, step_fields, plan_text};
+ghost use Rattle.plan_text.specs.Spelling.{slot_fields, source_fields, kind_fields, after_fields, step_fields, plan_text};
 ghost use Rattle.plan_text.specs.Valid.{Suits};
 
 use crate::plan::Plan;
 use crate::step::{Planned, Source, Step};
-use ring_names::{NodeId, Refusal, Slot, push_decimal};
-use ring_table::Ring;
+use ring_names::{Refusal, Slot};
+use ring_table::{Ring, push_name};
+use ring_text::push_numbers;
 use std::alloc::{AllocError, Global};
-
-// The numbers, each behind a space.
-fn push_numbers(out: &mut Vec<u8>, numbers: &[u32]) -> Result<(), AllocError>
-    ensures { OnOk result (out.new.items ≡ out.old.items ++ spaced (map decimal numbers.now)) }
-{
-    for number in numbers {
-        out.push(b' ')?;
-        push_decimal(out, *number)?;
-    }
-    Ok(())
-}
 
 // `<p> <i>`, behind a space.
 fn push_slot(out: &mut Vec<u8>, slot: Slot) -> Result<(), AllocError>
     ensures { OnOk result (out.new.items ≡ out.old.items ++ spaced (slot_fields slot)) }
 {
     push_numbers(out, &[slot.partition, slot.index])
-}
-
-// The name of a declared node, behind a space.
-fn push_name(out: &mut Vec<u8>, ring: &Ring, node: NodeId) -> Result<(), AllocError>
-    ensures { OnOk result (out.new.items ≡ out.old.items ++ 32 ∷ name_at (names_of ring.now) node) }
-{
-    out.push(b' ')?;
-    if let Some(node) = ring.nodes().get(node.0 as usize) {
-        out.extend_from_slice(node.name.as_slice())?;
-    }
-    Ok(())
 }
 
 // Where a copy reads, behind a space.
@@ -65,12 +42,12 @@ fn push_kind(out: &mut Vec<u8>, ring: &Ring, step: &Step) -> Result<(), AllocErr
     match step {
         Step::Join(node) => {
             out.extend_from_slice(b"join")?;
-            push_name(out, ring, *node)
+            push_name(out, ring.nodes(), *node)
         }
         Step::Mirror(slot, node) => {
             out.extend_from_slice(b"mirror")?;
             push_slot(out, *slot)?;
-            push_name(out, ring, *node)
+            push_name(out, ring.nodes(), *node)
         }
         Step::Copy(slot, source) => {
             out.extend_from_slice(b"copy")?;
@@ -84,11 +61,11 @@ fn push_kind(out: &mut Vec<u8>, ring: &Ring, step: &Step) -> Result<(), AllocErr
         Step::Drop(slot, node) => {
             out.extend_from_slice(b"drop")?;
             push_slot(out, *slot)?;
-            push_name(out, ring, *node)
+            push_name(out, ring.nodes(), *node)
         }
         Step::Retire(node) => {
             out.extend_from_slice(b"retire")?;
-            push_name(out, ring, *node)
+            push_name(out, ring.nodes(), *node)
         }
     }
 }

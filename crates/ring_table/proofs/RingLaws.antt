@@ -114,7 +114,7 @@ nodes-plain : (xs : List Node) → AllByRecursion IsNode xs → AllByRecursion I
 nodes-plain [] p = tt
 nodes-plain (x ∷ xs) p = ((codes-plain.4, (name-plain x.name p.0.name, (decimal-plain x.allowance (omega (arith, p.0.allowance)), (membership-plain x.is_member, tt)))), nodes-plain xs p.1)
 
-name_at-plain : (ns : List (List ℕ)) (x : NodeId) → AllByRecursion (λ n. is_name n ≡ true) ns → IsPlain (name_at ns x)
+pub name_at-plain : (ns : List (List ℕ)) (x : NodeId) → AllByRecursion (λ n. is_name n ≡ true) ns → IsPlain (name_at ns x)
 name_at-plain ns x all = at ns x.0 all
   where
     at : (ms : List (List ℕ)) (i : ℕ) → AllByRecursion (λ n. is_name n ≡ true) ms → IsPlain (elim (slice_get ms i) [ Some name ↦ name | None ↦ [] ])

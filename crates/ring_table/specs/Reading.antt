@@ -14,7 +14,7 @@ use Rattle.ring_text.specs.Judging.{Item, ◌⊗◌, field_at, word_at, number_a
 use Rattle.ring_text.specs.Left.{Left, ◌>>=◌, begins_with, first_line, one_line, then_part, map_part, whole_text}
 use Rattle.ring_table.specs.declared.head.Quorum.{Quorum}
 use Rattle.ring_table.specs.declared.node.Node.{Node}
-use Rattle.ring_table.specs.Value.{RingValue, is_member}
+use Rattle.ring_table.specs.Value.{RingValue, names_of, is_member}
 use Rattle.ring_table.specs.Valid.{is_space, is_quorum}
 
 -- `ring 1`
@@ -70,6 +70,10 @@ nodes_at s = do
 -- a declared node
 abbrev pub judge_declared : ℕ → List (List ℕ) → List ℕ → Result NodeId Refusal
 judge_declared k names field = if is_name field then elim (place names field) [ Some n ↦ Ok (record { 0 = n }) | None ↦ Err (UnknownNode k) ] else Err (BadLine k)
+
+-- one of a ring
+unfoldable pub declared_at : RingValue → ℕ → Item NodeId
+declared_at ring k = field_at k (judge_declared k (names_of ring))
 
 -- so many of them
 abbrev pub owners_at : ℕ → List (List ℕ) → ℕ → Item (List NodeId)

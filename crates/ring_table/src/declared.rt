@@ -3,13 +3,13 @@
 ghost use Rattle.std.specs.Prelude.{◌≡◌, ◌<◌, ◌≤◌, ◌+◌, ◌++◌, ◌∷◌, [], length, map, OnOk, OnErr, IfErr, codes, IfOk, None, not, nat_lt};
 ghost use Rattle.ring_names.specs.declared.refusal.Refusal.TheVariants.{OutOfMemory};
 ghost use Rattle.ring_names.specs.Names.{place};
-ghost use Rattle.ring_text.specs.Judging.{map_ok, field_at, need_at};
+ghost use Rattle.ring_text.specs.Judging.{map_ok, field_at};
 ghost use Rattle.ring_text.specs.Left.{Reads};
 ghost use Rattle.ring_table.specs.Reading.{judge_new, judge_allowance, judge_membership, node_at, nodes_at, nodes_from};
 
 use crate::node::Node;
 use ring_names::{Listed, Names, Refusal};
-use ring_text::{Fields, Lines, both, finish, is_name};
+use ring_text::{Fields, Lines, both, finish, is_name, need};
 use std::alloc::Global;
 use std::marker::Model;
 
@@ -81,16 +81,6 @@ fn membership(fields: &mut Fields, line: u32) -> Result<bool, Refusal>
         Ok(false)
     } else {
         Err(Refusal::BadLine(line))
-    }
-}
-
-fn need(room: bool, line: u32) -> Result<(), Refusal>
-    ensures { result ≡ (need_at line room []).0 }
-{
-    if room {
-        Ok(())
-    } else {
-        Err(Refusal::TooLarge(line))
     }
 }
 

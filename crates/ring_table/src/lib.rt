@@ -2,6 +2,7 @@
 #![tactic(auto)]
 
 mod declared;
+mod field;
 mod head;
 mod node;
 mod reading;
@@ -9,7 +10,8 @@ mod ring;
 mod row;
 mod writing;
 
+pub use field::node_field;
 pub use node::Node;
 pub use reading::{read_ring, read_ring_section};
 pub use ring::Ring;
-pub use writing::write_ring;
+pub use writing::{push_name, write_ring};

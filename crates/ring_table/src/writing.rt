@@ -62,8 +62,8 @@ fn push_nodes(out: &mut Vec<u8>, nodes: &[Node]) -> Result<(), AllocError>
     Ok(())
 }
 
-// The name of a declared node, behind a space.
-fn push_name(out: &mut Vec<u8>, nodes: &[Node], owner: NodeId) -> Result<(), AllocError>
+/// Adds the name of a declared node behind a space.
+pub fn push_name(out: &mut Vec<u8>, nodes: &[Node], owner: NodeId) -> Result<(), AllocError>
     ensures { OnOk result (out.new.items ≡ out.old.items ++ 32 ∷ name_at (map (λ x. x.name) nodes.now) owner) }
 {
     out.push(b' ')?;

@@ -5,3 +5,7 @@ pub mod Decimals
 pub mod Texts
 pub mod Wholes
 pub mod Less
+pub mod Fronts
+pub mod Many
+pub mod Spaced
+pub mod Rows

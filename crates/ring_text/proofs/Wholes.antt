@@ -1,5 +1,5 @@
 -- A whole text is read only if it is the spelling of an allowed value, and what is plain.
-use Rattle.std.proofs.Common.{◌≡◌, ℕ, zero, suc, ◌+◌, ◌<◌, ◌≤◌, ◌^◌, Bool, true, false, cond, ◌&&◌, ◌||◌, ◌==◌, nat_le, List, [], ◌∷◌, ◌++◌, length, map, get_or, Result, Ok, Err, refl, sym, ap, subst, ◌∙◌, arith, ◌⊎◌, inl, inr, rules}
+use Rattle.std.proofs.Common.{◌≡◌, ℕ, ◌<◌, ◌^◌, Bool, true, false, cond, ◌&&◌, ◌||◌, ◌==◌, nat_le, List, [], ◌∷◌, ◌++◌, length, Result, Ok, Err, refl, sym, ap, subst, ◌∙◌, arith, ◌⊎◌, inl, inr}
 use Rattle.std.specs.List.{AllByRecursion, list_all}
 use Rattle.std.specs.Str.{all_ascii_digits}
 use Rattle.std.specs.Char.{is_ascii_digit}
@@ -10,7 +10,7 @@ use Rattle.ring_names.specs.declared.refusal.Refusal.{Refusal}
 use Rattle.ring_names.specs.declared.refusal.Refusal.TheVariants.{BadLine}
 use Rattle.ring_text.specs.Parts.{lines_of, text_of}
 use Rattle.ring_text.specs.Name.{is_name_byte, is_name}
-use Rattle.ring_text.specs.Left.{Left, ◌>>=◌, is_nil, is_nothing, is_over, over_at, whole_text}
+use Rattle.ring_text.specs.Left.{Left, ◌>>=◌, is_nil, is_nothing, over_at, whole_text}
 use Rattle.ring_text.specs.Laws.{IsPart, SomeLeft, Any, IsPlain, IsPlainLine}
 use Rattle.ring_text.proofs.Cuts.{some_line}
 use Rattle.ring_text.proofs.Items.{bind_ok, ok_is}

@@ -1,9 +1,9 @@
 -- What it means that reading takes just the spellings of the values that are allowed.
-use Rattle.std.specs.Prelude.{◌≡◌, ◌<◌, ℕ, List, [], ◌∷◌, ◌++◌, Result, Ok}
+use Rattle.std.specs.Prelude.{◌≡◌, ◌<◌, ℕ, false, List, [], ◌∷◌, ◌++◌, Result, Ok}
 use Rattle.std.specs.List.{AllByRecursion}
 use Rattle.ring_names.specs.declared.refusal.Refusal.{Refusal}
 use Rattle.ring_text.specs.Judging.{Item}
-use Rattle.ring_text.specs.Left.{Left}
+use Rattle.ring_text.specs.Left.{Left, begins_with}
 
 -- of the fields of a line the item takes the spelling of an allowed value from the front, and nothing else
 pub record IsItem {A : Type 0} (item : Item A) (spell : A → List (List ℕ)) (P : A → Type 0) : Type 0 where
@@ -23,6 +23,15 @@ SomeLeft s = (x : List (List ℕ)) × (xs : List (List (List ℕ))) × (s.lines 
 pub record IsPart {A : Type 0} (C : List (List ℕ) → Type 0) (read : Left → Result (A × Left) Refusal) (spell : A → List (List (List ℕ))) (P : A → Type 0) : Type 0 where
   pub takes : (s t : Left) (v : A) → SomeLeft s → read s ≡ Ok (v, t) → (s.lines ≡ spell v ++ t.lines) × P v × SomeLeft t
   pub gives : (k : ℕ) (v : A) (x : List (List ℕ)) (xs : List (List (List ℕ))) → P v → C x → (m : ℕ) × (read (record { line = k; lines = spell v ++ x ∷ xs }) ≡ Ok (v, record { line = m; lines = x ∷ xs }))
+
+-- each is allowed behind those in front of it
+abbrev pub EachNext : {A : Type 0} → (List A → A → Type 0) → List A → List A → Type 0
+EachNext P seen [] = Unit {0}
+EachNext P seen (x ∷ xs) = P seen x × EachNext P (seen ++ x ∷ []) xs
+
+-- the line does not begin with the word
+abbrev pub BeginsOther : List ℕ → List (List ℕ) → Type 0
+BeginsOther word line = begins_with word (line ∷ []) ≡ false
 
 -- any line may follow
 abbrev pub Any : List (List ℕ) → Type 0

@@ -1,5 +1,5 @@
 -- What is left of a text.
-use Rattle.std.specs.Prelude.{◌≡◌, ◌≢◌, ℕ, ◌+◌, Bool, true, false, List, [], ◌∷◌, Result, Ok, Err, if◌then◌else◌}
+use Rattle.std.specs.Prelude.{◌≡◌, ◌≢◌, ℕ, ◌+◌, Bool, true, false, List, [], ◌∷◌, ◌++◌, Result, Ok, Err, if◌then◌else◌}
 use Rattle.std.specs.Str.{bytes_eq}
 use Rattle.ring_text.specs.Parts.{lines_of}
 use Rattle.ring_names.specs.declared.refusal.Refusal.{Refusal}
@@ -65,6 +65,13 @@ then_part read again s = do
   x ← read s
   y ← again x.0 x.1
   Ok ((x.0, y.0), y.1)
+
+-- lines as long as they begin with a word, each read behind those seen
+abbrev pub many_from : {A : Type 0} → List ℕ → (List A → ℕ → List (List ℕ) → Result A Refusal) → List A → ℕ → List (List (List ℕ)) → Result (List A × Left) Refusal
+many_from word read seen k [] = Ok (seen, record { line = k; lines = [] })
+many_from word read seen k (line ∷ more) = if begins_with word (line ∷ more)
+    then (first_line k (line ∷ more) >>= λ _. read seen k line >>= λ x. many_from word read (seen ++ x ∷ []) (k + 1) more)
+    else Ok (seen, record { line = k; lines = line ∷ more })
 
 -- the value, made into another
 abbrev pub map_part : {A B : Type 0} → (A → B) → (Left → Result (A × Left) Refusal) → Left → Result (B × Left) Refusal

@@ -1,5 +1,6 @@
 -- Numbers in a row.
 use Rattle.std.specs.Prelude.{ℕ, Bool, true, ◌&&◌, nat_lt, List, [], ◌∷◌, if◌then◌else◌}
+use Rattle.std.specs.List.{list_all}
 use Rattle.ring_text.specs.Number.{value_from, is_number}
 
 -- what the fields in front spell, up to the first that is no number
@@ -17,3 +18,7 @@ abbrev pub ascending : List ℕ → Bool
 ascending [] = true
 ascending (x ∷ []) = true
 ascending (x ∷ y ∷ ys) = nat_lt x y && ascending (y ∷ ys)
+
+-- each number is a `u32`
+abbrev pub are_small : List ℕ → Bool
+are_small xs = list_all (λ x. nat_lt x 4294967296) xs

@@ -17,3 +17,7 @@ line_text fields = join_with_byte 32 fields ++ 10 ∷ []
 -- lines, one after the other
 abbrev pub text_of : List (List (List ℕ)) → List ℕ
 text_of lines = flat_map line_text lines
+
+-- fields, each behind a space
+abbrev pub spaced : List (List ℕ) → List ℕ
+spaced fields = flat_map (λ field. 32 ∷ field) fields

@@ -1,7 +1,7 @@
 //! Joining what was read of a line.
 
-ghost use Rattle.std.specs.Prelude.{◌≡◌};
-ghost use Rattle.ring_text.specs.Judging.{both_of, end_at, map_ok};
+ghost use Rattle.std.specs.Prelude.{◌≡◌, []};
+ghost use Rattle.ring_text.specs.Judging.{both_of, end_at, need_at, map_ok};
 
 use crate::fields::Fields;
 use ring_names::Refusal;
@@ -19,6 +19,17 @@ pub fn both<A: Drop, B: Drop>(
         (Ok(_), Err(f)) => Err(f),
         (Err(e), Ok(_)) => Err(e),
         (Err(e), Err(f)) => Err(if f.number() < e.number() { f } else { e }),
+    }
+}
+
+/// Room for what a line begins. Else that is `TooLarge`.
+pub fn need(room: bool, line: u32) -> Result<(), Refusal>
+    ensures { result ≡ (need_at line room []).0 }
+{
+    if room {
+        Ok(())
+    } else {
+        Err(Refusal::TooLarge(line))
     }
 }
 

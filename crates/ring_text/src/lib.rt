@@ -10,10 +10,12 @@ mod lines;
 mod name;
 mod number;
 mod number_row;
+mod writing;
 
 pub use fields::Fields;
-pub use judge::{both, finish};
+pub use judge::{both, finish, need};
 pub use lines::Lines;
-pub use name::is_name;
+pub use name::{are_name_bytes, is_name};
 pub use number::{CAP, value_of};
 pub use number_row::NumberRow;
+pub use writing::push_numbers;

@@ -4,7 +4,8 @@ ghost use Rattle.std.specs.Prelude.{◌≡◌};
 ghost use Rattle.std.specs.List.{list_all};
 ghost use Rattle.ring_text.specs.Name.{is_name_byte, is_name as is_spelled_name};
 
-fn are_name_bytes(field: &[u8]) -> bool
+/// Whether each byte of a field is one of `a-z0-9_.:-`, those of names and of keys.
+pub fn are_name_bytes(field: &[u8]) -> bool
     ensures { result ≡ list_all is_name_byte field.now }
 {
     field.iter().all(|byte| matches!(*byte, b'a'..=b'z' | b'0'..=b'9' | b'_' | b'.' | b':' | b'-'))

@@ -5,7 +5,7 @@ use Rattle.ring_text.specs.Left.{whole_text}
 use Rattle.ring_text.specs.Judging.{Gives}
 use Rattle.ring_table.specs.Value.{RingValue}
 use Rattle.plan_text.specs.declared.step.Planned.{Planned}
-use Rattle.plan_check.specs.Certified.{first}
+use Rattle.plan_check.specs.InOrder.{first_out_of_order}
 use Rattle.ring_text.specs.Left.{Left}
 use Rattle.ring_text.specs.Parts.{lines_of}
 use Rattle.ring_text.proofs.Cuts.{some_line}
@@ -25,7 +25,7 @@ pub verdict-bad : (bytes : List ℕ) (e : Refusal) → whole_text bundle_at byte
 unfolding verdict
 verdict-bad bytes e h = rw h refl
 
-pub verdict-good : (bytes : List ℕ) (ring : RingValue) (plan : List Planned) → whole_text bundle_at bytes ≡ Ok (ring, plan) → verdict bytes ≡ judged (first ring plan)
+pub verdict-good : (bytes : List ℕ) (ring : RingValue) (plan : List Planned) → whole_text bundle_at bytes ≡ Ok (ring, plan) → verdict bytes ≡ judged (first_out_of_order ring plan)
 unfolding verdict
 verdict-good bytes ring plan h = rw h refl
 

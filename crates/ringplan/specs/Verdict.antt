@@ -6,7 +6,7 @@ use Rattle.ring_table.specs.Value.{RingValue}
 use Rattle.ring_table.specs.Reading.{ring_at}
 use Rattle.plan_text.specs.declared.step.Planned.{Planned}
 use Rattle.plan_text.specs.Reading.{plan_at}
-use Rattle.plan_check.specs.Certified.{first}
+use Rattle.plan_check.specs.InOrder.{first_out_of_order}
 
 -- a ring, and behind it a plan of that ring
 unfoldable pub bundle_at : Left → Result ((RingValue × List Planned) × Left) Refusal
@@ -19,4 +19,4 @@ judged (Some e) = Err e
 
 -- the first fault of the text, and where there is none the checker's answer
 unfoldable pub verdict : List ℕ → Result (Unit {0}) Refusal
-verdict bytes = whole_text bundle_at bytes >>= λ b. judged (first b.0 b.1)
+verdict bytes = whole_text bundle_at bytes >>= λ b. judged (first_out_of_order b.0 b.1)

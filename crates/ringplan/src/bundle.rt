@@ -4,7 +4,7 @@ ghost use Rattle.std.specs.Prelude.{◌≡◌, IfOk};
 ghost use Rattle.ring_text.specs.Judging.{Gives};
 ghost use Rattle.ring_text.specs.Left.{whole_text};
 ghost use Rattle.plan_text.specs.Valid.{Suits};
-ghost use Rattle.plan_check.specs.Certified.{first};
+ghost use Rattle.plan_check.specs.InOrder.{first_out_of_order};
 ghost use Rattle.ringplan.specs.Verdict.{bundle_at, judged, verdict};
 
 use plan_check::check;
@@ -30,7 +30,7 @@ fn read_bundle(alloc: Global, bytes: &[u8]) -> Result<(Ring, Plan), Refusal>
 // The checker's answer to a plan of the ring.
 fn check_plan(alloc: Global, ring: Ring, plan: Plan) -> Result<(), Refusal>
     requires { Suits ring plan }
-    ensures { Gives result (judged (first ring plan)) }
+    ensures { Gives result (judged (first_out_of_order ring plan)) }
 {
     match check(alloc, ring, plan) {
         Ok(_) => Ok(()),

@@ -1,0 +1,198 @@
+-- A certificate is read only from its one text.
+use Rattle.std.proofs.Common.{◌≡◌, ℕ, ◌+◌, ◌<◌, ◌≤◌, true, nat_lt, nat_le, List, [], ◌∷◌, ◌++◌, length, map, codes, Ok, Err, refl, sym, ap, ◌∙◌, arith, rules, length-append}
+use Rattle.std.specs.List.{list_all, AllByRecursion}
+use Rattle.std.proofs.lemmas.Bool.{lt-ltb, ltb-true}
+use Rattle.std.proofs.lemmas.List.{length-map}
+use Rattle.ring_names.specs.declared.refusal.Refusal.{Refusal}
+use Rattle.ring_text.specs.Numbers.{are_small}
+use Rattle.ring_text.specs.Parts.{lines_of}
+use Rattle.ring_text.specs.Left.{Left, one_line, then_part, over_at}
+use Rattle.ring_text.specs.Laws.{IsPart, Any, IsPlain, IsPlainLine, EachNext, BeginsOther}
+use Rattle.ring_text.proofs.Items.{IsPart-line, IsPart-then, IsPart-map, IsPart-as, some_lines}
+use Rattle.ring_text.proofs.Many.{many-part}
+use Rattle.ring_text.proofs.Fronts.{both_true}
+use Rattle.ring_text.proofs.Rows.{numbers-plain}
+use Rattle.ring_text.proofs.Wholes.{whole-takes, whole-gives}
+use Rattle.ring_table.specs.declared.node.Node.{Node}
+use Rattle.ring_table.specs.Value.{RingValue, names_of}
+use Rattle.ring_table.specs.Valid.{IsRing}
+use Rattle.ring_table.proofs.RowLaws.{AreNames}
+use Rattle.ring_table.proofs.RingLaws.{name_at-plain}
+use Rattle.plan_cert.specs.declared.cert.Chain.{Chain}
+use Rattle.plan_cert.specs.declared.cert.Cert.{Cert}
+use Rattle.plan_cert.specs.Valid.{is_fact, is_chain, IsCert, Suits}
+use Rattle.plan_cert.specs.Spelling.{cert_header_fields, fact_fields, chain_fields, cert_end_fields, cert_lines, cert_text}
+use Rattle.plan_cert.specs.Reading.{cert_header_at, fact_at, chain_at, facts_at, chains_at, cert_end_at, cert_of, cert_at, cert_reading}
+use Rattle.plan_cert.proofs.CertLines.{Nothing, names-of, header-line, end-line, IsFactLine, fact-line, IsChainLine, chain-line}
+
+-- ---- facts and chains, each allowed behind those in front, are a certificate that suits the ring
+
+record AreFacts (n : ℕ) (xs : List (List ℕ)) : Type 0 where
+  pub few : n + length xs ≤ 262144
+  pub facts : list_all is_fact xs ≡ true
+  pub small : list_all are_small xs ≡ true
+
+facts-are : (seen xs : List (List ℕ)) → length seen ≤ 262144 → EachNext IsFactLine seen xs → AreFacts (length seen) xs
+facts-are seen [] le next = record { few = omega arith; facts = refl; small = refl }
+facts-are seen (x ∷ xs) le next =
+    let grown = length-append seen (x ∷ []) in
+    let room = next.0.room in
+    let rest = facts-are (seen ++ x ∷ []) xs (omega arith) next.1 in
+    let few = rest.few in
+    record { few = omega arith; facts = rw (next.0.path_is.two, next.0.path_is.few) rest.facts; small = rw next.0.path_is.small rest.small }
+
+facts-next : (seen xs : List (List ℕ)) → AreFacts (length seen) xs → EachNext IsFactLine seen xs
+facts-next seen [] p = tt
+facts-next seen (x ∷ xs) p =
+    let f = both_true (is_fact x) (list_all is_fact xs) p.facts in
+    let two = both_true (nat_le 2 (length x)) (nat_le (length x) 1024) f.0 in
+    let s = both_true (are_small x) (list_all are_small xs) p.small in
+    let grown = length-append seen (x ∷ []) in
+    let few = p.few in
+    (record { room = omega arith; path_is = record { two = two.0; few = two.1; small = s.0 } }, facts-next (seen ++ x ∷ []) xs (record { few = omega arith; facts = f.1; small = s.1 }))
+
+nodes-length : (nodes : List Node) → length (map (λ (x : Node). x.name) nodes) ≡ length nodes
+nodes-length nodes = simp length-map
+
+declared-true : (ring : RingValue) (x : ℕ) → x < length (names_of ring) → nat_lt x (length ring.nodes) ≡ true
+declared-true ring x lt = lt-ltb x (length ring.nodes) (rw nodes-length at lt)
+
+declared-below : (ring : RingValue) (x : ℕ) → nat_lt x (length ring.nodes) ≡ true → x < length (names_of ring)
+declared-below ring x e = rw nodes-length (ltb-true x (length ring.nodes) e)
+
+record AreChains (ring : RingValue) (n : ℕ) (xs : List Chain) : Type 0 where
+  pub few : n + length xs ≤ 65536
+  pub chains : list_all (is_chain ring) xs ≡ true
+  pub small : list_all (λ c. are_small c.steps) xs ≡ true
+
+chains-are : (ring : RingValue) (seen xs : List Chain) → length seen ≤ 65536 → EachNext (IsChainLine ring) seen xs → AreChains ring (length seen) xs
+chains-are ring seen [] le next = record { few = omega arith; chains = refl; small = refl }
+chains-are ring seen (x ∷ xs) le next =
+    let grown = length-append seen (x ∷ []) in
+    let room = next.0.room in
+    let rest = chains-are ring (seen ++ x ∷ []) xs (omega arith) next.1 in
+    let few = rest.few in
+    let node = declared-true ring x.node.0 next.0.node_is in
+    record { few = omega arith; chains = rw (node, next.0.steps_are.one) rest.chains; small = rw next.0.steps_are.small rest.small }
+
+chains-next : (ring : RingValue) (seen xs : List Chain) → AreChains ring (length seen) xs → EachNext (IsChainLine ring) seen xs
+chains-next ring seen [] p = tt
+chains-next ring seen (x ∷ xs) p =
+    let f = both_true (is_chain ring x) (list_all (is_chain ring) xs) p.chains in
+    let one = both_true (nat_lt x.node.0 (length ring.nodes)) (nat_le 1 (length x.steps)) f.0 in
+    let s = both_true (are_small x.steps) (list_all (λ c. are_small c.steps) xs) p.small in
+    let grown = length-append seen (x ∷ []) in
+    let few = p.few in
+    (record { room = omega arith; node_is = declared-below ring x.node.0 one.0; steps_are = record { one = one.1; small = s.0 } }, chains-next ring (seen ++ x ∷ []) xs (record { few = omega arith; chains = f.1; small = s.1 }))
+
+-- ---- the lines
+
+words-plain : IsPlain (codes "cert") × IsPlain (codes "1") × IsPlain (codes "fact") × IsPlain (codes "chain") × IsPlain (codes "end")
+words-plain = (search rules)
+
+both-all : (xs ys : List (List (List ℕ))) → AllByRecursion IsPlainLine xs → AllByRecursion IsPlainLine ys → AllByRecursion IsPlainLine (xs ++ ys)
+both-all [] ys a b = b
+both-all (x ∷ xs) ys a b = (a.0, both-all xs ys a.1 b)
+
+facts-plain : (seen xs : List (List ℕ)) → EachNext IsFactLine seen xs → AllByRecursion IsPlainLine (map fact_fields xs)
+facts-plain seen [] next = tt
+facts-plain seen (x ∷ xs) next = ((words-plain.2, numbers-plain x next.0.path_is.small), facts-plain (seen ++ x ∷ []) xs next.1)
+
+module _ (ring : RingValue) (good : AreNames (names_of ring)) where
+  chains-plain : (seen xs : List Chain) → EachNext (IsChainLine ring) seen xs → AllByRecursion IsPlainLine (map (chain_fields (names_of ring)) xs)
+  chains-plain seen [] next = tt
+  chains-plain seen (x ∷ xs) next = ((words-plain.3, (name_at-plain (names_of ring) x.node good.each, numbers-plain x.steps next.0.steps_are.small)), chains-plain (seen ++ x ∷ []) xs next.1)
+
+  abbrev Parts : Cert → Type 0
+  Parts v = EachNext IsFactLine [] v.facts × EachNext (IsChainLine ring) [] v.chains
+
+  lines-plain : (v : Cert) → Parts v → AllByRecursion IsPlainLine (cert_lines ring v)
+  lines-plain v p = (
+    (words-plain.0, (words-plain.1, tt)),
+    both-all (map fact_fields v.facts) (map (chain_fields (names_of ring)) v.chains ++ cert_end_fields ∷ []) (facts-plain [] v.facts p.0)
+        (both-all (map (chain_fields (names_of ring)) v.chains) (cert_end_fields ∷ []) (chains-plain [] v.chains p.1) ((words-plain.4, tt), tt)),
+  )
+
+  facts-part : IsPart (BeginsOther (codes "fact")) facts_at (λ xs. map fact_fields xs) (EachNext IsFactLine [])
+  facts-part = many-part (codes "fact") fact_at fact_fields IsFactLine fact-line (λ x more. refl)
+
+  chains-part : IsPart (BeginsOther (codes "chain")) (chains_at ring) (λ xs. map (chain_fields (names_of ring)) xs) (EachNext (IsChainLine ring) [])
+  chains-part = many-part (codes "chain") (chain_at ring) (chain_fields (names_of ring)) (IsChainLine ring) (chain-line ring good) (λ x more. refl)
+
+  abbrev Tail : Type 0
+  Tail = List Chain × Unit {0}
+
+  abbrev tail_lines : Tail → List (List (List ℕ))
+  tail_lines t = map (chain_fields (names_of ring)) t.0 ++ cert_end_fields ∷ []
+
+  abbrev TailIs : Tail → Type 0
+  TailIs t = EachNext (IsChainLine ring) [] t.0 × Unit {0}
+
+  tail-part : IsPart {A = Tail} Any (then_part (chains_at ring) (λ _. one_line cert_end_at)) tail_lines TailIs
+  tail-part = IsPart-then (BeginsOther (codes "chain")) Any (chains_at ring) (λ _. one_line cert_end_at) (λ xs. map (chain_fields (names_of ring)) xs) (λ _ x. cert_end_fields ∷ []) (EachNext (IsChainLine ring) []) (λ _ x. Unit {0})
+      chains-part (λ a p. IsPart-line cert_end_at (λ x. cert_end_fields) Nothing end-line) (λ a b x xs p p2 d. refl)
+
+  no-fact : (t : Tail) (x : List (List ℕ)) (xs : List (List (List ℕ))) → BeginsOther (codes "fact") (some_lines (tail_lines t) x xs).0
+  no-fact ([], e) x xs = refl
+  no-fact (c ∷ cs, e) x xs = refl
+
+  abbrev Body : Type 0
+  Body = List (List ℕ) × Tail
+
+  body-part : IsPart {A = Body} Any (then_part facts_at (λ _. then_part (chains_at ring) (λ _. one_line cert_end_at))) (λ b. map fact_fields b.0 ++ tail_lines b.1) (λ b. EachNext IsFactLine [] b.0 × TailIs b.1)
+  body-part = IsPart-then (BeginsOther (codes "fact")) Any facts_at (λ _. then_part (chains_at ring) (λ _. one_line cert_end_at)) (λ xs. map fact_fields xs) (λ _ t. tail_lines t) (EachNext IsFactLine []) (λ _ t. TailIs t)
+      facts-part (λ a p. tail-part) (λ a t x xs p p2 d. no-fact t x xs)
+
+  pub cert-part : IsPart Any (cert_at ring) (cert_lines ring) Parts
+  unfolding cert_at
+  cert-part =
+      let all = IsPart-then {A = Unit {0}} {B = Body} Any Any (one_line cert_header_at) _ (λ x. cert_header_fields ∷ []) _ Nothing _ (IsPart-line cert_header_at (λ x. cert_header_fields) Nothing header-line) (λ x p. body-part) (λ a b x xs p p2 d. tt) in
+      let made = IsPart-map {A = Unit {0} × Body} {B = Cert} Any _ _ _ cert_of (λ v. (tt, (v.facts, (v.chains, tt)))) (λ a. refl) (λ b. refl) all in
+      IsPart-as Any _ _ _ _ _ (λ v. refl) (λ v p. (p.1.0, p.1.1.0)) (λ v p. (tt, (p.0, (p.1, tt)))) made
+
+  parts-suit : (v : Cert) → Parts v → IsCert v × Suits ring v
+  parts-suit v p =
+      let f = facts-are [] v.facts (omega arith) p.0 in
+      let c = chains-are ring [] v.chains (omega arith) p.1 in
+      let ff = f.few in
+      let cf = c.few in
+      (record { facts = f.small; chains = c.small }, record { few_facts = omega arith; facts = f.facts; few_chains = omega arith; chains = c.chains })
+
+  suits-parts : (v : Cert) → IsCert v → Suits ring v → Parts v
+  suits-parts v is suits =
+      let ff = suits.few_facts in
+      let cf = suits.few_chains in (
+        facts-next [] v.facts (record { few = omega arith; facts = suits.facts; small = is.facts }),
+        chains-next ring [] v.chains (record { few = omega arith; chains = suits.chains; small = is.chains }),
+      )
+
+pub read-found : (ring : RingValue) (text : List ℕ) (v : Cert) → IsRing ring → cert_reading ring text ≡ Ok v → IsCert v × Suits ring v × (text ≡ cert_text ring v)
+read-found ring text v r e =
+    let good = names-of ring r in
+    let h = whole-takes (cert_at ring) (cert_lines ring) (Parts ring good) (cert-part ring good) text v e in
+    let p = parts-suit ring good v h.0 in
+    (p.0, p.1, h.1)
+
+pub read-only : (ring : RingValue) (text : List ℕ) (v : Cert) → IsRing ring → IsCert v → Suits ring v → text ≡ cert_text ring v → cert_reading ring text ≡ Ok v
+read-only ring text v r is suits e =
+    let good = names-of ring r in
+    let p = suits-parts ring good v is suits in
+    whole-gives (cert_at ring) (cert_lines ring) (Parts ring good) (cert-part ring good) text v p (lines-plain ring good v p) e
+
+-- ---- a whole text, as the code reads
+
+module _ (ring : RingValue) (text : List ℕ) (s : Left) (start : s ≡ record { line = 1; lines = lines_of text }) where
+  pub reading-bad : (e : Refusal) → cert_at ring s ≡ Err e → cert_reading ring text ≡ Err e
+  reading-bad e f =
+      let at : cert_at ring (record { line = 1; lines = lines_of text }) ≡ Err e = ap (cert_at ring) (sym start) ∙ f in
+      rw at refl
+
+  pub reading-over : (t : Left) (v : Cert) (e : Refusal) → cert_at ring s ≡ Ok (v, t) → over_at t ≡ Err e → cert_reading ring text ≡ Err e
+  reading-over t v e f g =
+      let at : cert_at ring (record { line = 1; lines = lines_of text }) ≡ Ok (v, t) = ap (cert_at ring) (sym start) ∙ f in
+      rw (at, g) refl
+
+  pub reading-good : (t : Left) (v : Cert) (u : Unit {0}) → cert_at ring s ≡ Ok (v, t) → over_at t ≡ Ok u → cert_reading ring text ≡ Ok v
+  reading-good t v u f g =
+      let at : cert_at ring (record { line = 1; lines = lines_of text }) ≡ Ok (v, t) = ap (cert_at ring) (sym start) ∙ f in
+      rw (at, g) refl

@@ -1,0 +1,156 @@
+-- The lines of a certificate are read only if they are spelled so.
+use Rattle.std.proofs.Common.{◌≡◌, ℕ, ◌<◌, ◌≤◌, Bool, true, false, not, nat_lt, nat_le, List, [], ◌∷◌, ◌++◌, length, map, codes, Result, Ok, Err, refl, sym, ap, subst, ◌∙◌, arith}
+use Rattle.std.specs.Prelude.{IfOk, OnOk}
+use Rattle.std.specs.Fmt.{decimal}
+use Rattle.std.proofs.lemmas.Bool.{lt-ltb, ltb-true}
+use Rattle.std.proofs.lemmas.Bool.Decides.{nat_tests}
+use Rattle.ring_names.specs.declared.refusal.Refusal.{Refusal}
+use Rattle.ring_names.specs.declared.refusal.Refusal.TheVariants.{BadLine, TooLarge}
+use Rattle.ring_text.specs.Numbers.{numbers_of, beyond, are_small}
+use Rattle.ring_text.specs.Judging.{Item, word_at, need_at, map_ok}
+use Rattle.ring_text.specs.Laws.{IsItem, IsLine}
+use Rattle.ring_text.proofs.Items.{IsItem-⊗, IsItem-word, IsItem-need, IsLine-map, IsLine-as, IsLine-whole, unless_is, unless_ok}
+use Rattle.ring_text.proofs.Fronts.{Free, Last, IsFront, front-item, front-⊗, front-whole, numbers-taken, numbers-given, pair_is}
+use Rattle.ring_table.specs.Value.{RingValue, names_of}
+use Rattle.ring_table.specs.Valid.{IsRing}
+use Rattle.ring_table.proofs.NodesLaws.{names-of_nodes}
+use Rattle.ring_table.specs.Spelling.{name_at}
+use Rattle.ring_table.specs.Reading.{declared_at}
+use Rattle.ring_table.proofs.RowLaws.{AreNames, IsItem-declared}
+use Rattle.plan_cert.specs.declared.cert.Chain.{Chain}
+use Rattle.plan_cert.specs.declared.lines.ChainLine.{ChainLine}
+use Rattle.plan_cert.specs.Said.{chain_of}
+use Rattle.plan_cert.specs.Spelling.{cert_header_fields, fact_fields, chain_fields, cert_end_fields}
+use Rattle.plan_cert.specs.Reading.{cert_header_at, judge_path, path_at, judge_steps, steps_at, fact_at, chain_at, cert_end_at}
+
+pub names-of : (ring : RingValue) → IsRing ring → AreNames (names_of ring)
+names-of ring r = names-of_nodes ring.nodes (record { some_node = r.some_node; nodes = r.nodes; each_node = r.each_node; names = r.names })
+
+abbrev pub Nothing : Unit {0} → Type 0
+Nothing x = Unit {0}
+
+pub header-line : (k : ℕ) → IsLine (cert_header_at k) (λ x. cert_header_fields) Nothing
+unfolding cert_header_at
+header-line k =
+    let pair = IsItem-⊗ (word_at k (codes "cert")) (word_at k (codes "1")) (λ x. codes "cert" ∷ []) (λ x. codes "1" ∷ []) Nothing Nothing (IsItem-word k (codes "cert")) (IsItem-word k (codes "1")) in
+    let line = IsLine-map _ _ _ (λ x. tt {0}) (λ x. (tt, tt)) (λ a. refl) (λ b. refl) (IsLine-whole k _ _ _ pair) in
+    IsLine-as _ _ _ _ _ (λ v. refl) (λ v p. tt) (λ v p. (tt, tt)) line
+
+pub end-line : (k : ℕ) → IsLine (cert_end_at k) (λ x. cert_end_fields) Nothing
+unfolding cert_end_at
+end-line k = IsLine-map _ _ _ (λ x. tt {0}) (λ x. tt) (λ a. refl) (λ b. refl) (IsLine-whole k _ _ _ (IsItem-word k (codes "end")))
+
+-- ---- numbers in a row
+
+le-leb : (a b : ℕ) → a ≤ b → nat_le a b ≡ true
+le-leb a b le = grind (arith, nat_tests)
+
+not_false : (b : Bool) → not b ≡ false → b ≡ true
+not_false true e = refl
+not_false false e = absurd cc
+
+pub record IsPath (xs : List ℕ) : Type 0 where
+  pub two : nat_le 2 (length xs) ≡ true
+  pub few : nat_le (length xs) 1024 ≡ true
+  pub small : are_small xs ≡ true
+
+pub record AreSteps (xs : List ℕ) : Type 0 where
+  pub one : nat_le 1 (length xs) ≡ true
+  pub small : are_small xs ≡ true
+
+path-are : (k : ℕ) (xs v : List ℕ) → judge_path k xs ≡ Ok v → (xs ≡ v) × IsPath v
+path-are k xs v e =
+    let u = unless_is ((not (nat_le 2 (length xs)), BadLine k) ∷ (not (nat_le (length xs) 1024), TooLarge k) ∷ (not (are_small xs), TooLarge k) ∷ []) xs v e in
+    let mine : IsPath xs = record { two = not_false (nat_le 2 (length xs)) u.1.0; few = not_false (nat_le (length xs) 1024) u.1.1.0; small = not_false (are_small xs) u.1.1.1.0 } in
+    (u.0, subst IsPath u.0 mine)
+
+path-judged : (k : ℕ) (xs : List ℕ) → IsPath xs → judge_path k xs ≡ Ok xs
+path-judged k xs p = unless_ok ((not (nat_le 2 (length xs)), BadLine k) ∷ (not (nat_le (length xs) 1024), TooLarge k) ∷ (not (are_small xs), TooLarge k) ∷ []) xs
+    (ap not p.two, (ap not p.few, (ap not p.small, tt)))
+
+steps-are : (k : ℕ) (xs v : List ℕ) → judge_steps k xs ≡ Ok v → (xs ≡ v) × AreSteps v
+steps-are k xs v e =
+    let u = unless_is ((not (nat_le 1 (length xs)), BadLine k) ∷ (not (are_small xs), TooLarge k) ∷ []) xs v e in
+    let mine : AreSteps xs = record { one = not_false (nat_le 1 (length xs)) u.1.0; small = not_false (are_small xs) u.1.1.0 } in
+    (u.0, subst AreSteps u.0 mine)
+
+steps-judged : (k : ℕ) (xs : List ℕ) → AreSteps xs → judge_steps k xs ≡ Ok xs
+steps-judged k xs p = unless_ok ((not (nat_le 1 (length xs)), BadLine k) ∷ (not (are_small xs), TooLarge k) ∷ []) xs (ap not p.one, (ap not p.small, tt))
+
+-- all numbers in front, judged
+abbrev row_at : (List ℕ → Result (List ℕ) Refusal) → Item (List ℕ)
+row_at judge fields = (judge (numbers_of fields), beyond fields)
+
+front-row : (judge : List ℕ → Result (List ℕ) Refusal) (P : List ℕ → Type 0) → ((xs v : List ℕ) → judge xs ≡ Ok v → (xs ≡ v) × P v) → ((xs : List ℕ) → P xs → judge xs ≡ Ok xs) → ((xs : List ℕ) → P xs → are_small xs ≡ true) → IsFront Last (row_at judge) (map decimal) P
+front-row judge P are judged small = record { takes = take; gives = give }
+  where
+    take : (fields rest : List (List ℕ)) (v : List ℕ) → row_at judge fields ≡ (Ok v, rest) → (fields ≡ map decimal v ++ rest) × P v
+    take fields rest v e =
+        let h = pair_is (row_at judge fields) (Ok v) rest e in
+        let a = are (numbers_of fields) v h.0 in
+        let fits : are_small (numbers_of fields) ≡ true = ap are_small a.0 ∙ small v a.1 in
+        (numbers-taken fields fits ∙ ap (λ (xs : List ℕ). map decimal xs ++ beyond fields) a.0 ∙ ap (λ (r : List (List ℕ)). map decimal v ++ r) h.1, a.1)
+
+    give : (v : List ℕ) (rest : List (List ℕ)) → P v → Last rest → row_at judge (map decimal v ++ rest) ≡ (Ok v, rest)
+    give v rest p last =
+        let free : Free rest = rw last (refl, refl) in
+        let n = numbers-given v rest (small v p) free in
+        rw (n.0, n.1) (ap (λ (r : Result (List ℕ) Refusal). (r, rest)) (judged v p))
+
+front-path : (k : ℕ) → IsFront Last (path_at k) (map decimal) IsPath
+unfolding path_at
+front-path k = front-row (judge_path k) IsPath (path-are k) (path-judged k) (λ xs p. p.small)
+
+front-steps : (k : ℕ) → IsFront Last (steps_at k) (map decimal) AreSteps
+unfolding steps_at
+front-steps k = front-row (judge_steps k) AreSteps (steps-are k) (steps-judged k) (λ xs p. p.small)
+
+-- ---- whole lines
+
+pub record IsFactLine (seen : List (List ℕ)) (path : List ℕ) : Type 0 where
+  pub room : length seen < 262144
+  pub path_is : IsPath path
+
+pub fact-line : (seen : List (List ℕ)) (k : ℕ) → IsLine (fact_at seen k) fact_fields (IsFactLine seen)
+unfolding fact_at
+fact-line seen k =
+    let room = nat_lt (length seen) 262144 in
+    let p1 = IsItem-⊗ (need_at k room) (word_at k (codes "fact")) (λ x. []) (λ x. codes "fact" ∷ []) (λ x. room ≡ true) Nothing (IsItem-need k room) (IsItem-word k (codes "fact")) in
+    let p2 = front-⊗ (λ _. Unit {0}) Last _ (path_at k) _ (map decimal) _ IsPath (front-item (λ _. Unit {0}) _ _ _ p1) (front-path k) (λ y rest d. tt) in
+    let line = IsLine-map {B = List ℕ} _ _ _ (λ x. x.1) (λ v. ((tt {0}, tt {0}), v)) (λ a. refl) (λ b. refl) (front-whole Last k _ _ _ refl p2) in
+    IsLine-as _ _ _ _ _ (λ v. refl)
+    (λ v p. record { room = ltb-true (length seen) 262144 p.0.0; path_is = p.1 })
+    (λ v p. ((lt-ltb (length seen) 262144 p.room, tt), p.path_is))
+    line
+
+pub record IsChainLine (ring : RingValue) (seen : List Chain) (x : Chain) : Type 0 where
+  pub room : length seen < 65536
+  pub node_is : x.node.0 < length (names_of ring)
+  pub steps_are : AreSteps x.steps
+
+item-node : (ring : RingValue) (k : ℕ) → AreNames (names_of ring) → IsItem (declared_at ring k) (λ x. name_at (names_of ring) x ∷ []) (λ x. x.0 < length (names_of ring))
+unfolding declared_at
+item-node ring k good = IsItem-declared k (names_of ring) good
+
+pub chain-line : (ring : RingValue) → AreNames (names_of ring) → (seen : List Chain) (k : ℕ) → IsLine (chain_at ring seen k) (chain_fields (names_of ring)) (IsChainLine ring seen)
+unfolding chain_at
+chain-line ring good seen k =
+    let room = nat_lt (length seen) 65536 in
+    let p0 = IsItem-⊗ (need_at k room) (word_at k (codes "chain")) (λ x. []) (λ x. codes "chain" ∷ []) (λ x. room ≡ true) Nothing (IsItem-need k room) (IsItem-word k (codes "chain")) in
+    let p1 = IsItem-⊗ _ (declared_at ring k) _ _ _ _ p0 (item-node ring k good) in
+    let p2 = front-⊗ (λ _. Unit {0}) Last _ (steps_at k) _ (map decimal) _ AreSteps (front-item (λ _. Unit {0}) _ _ _ p1) (front-steps k) (λ y rest d. tt) in
+    let line = IsLine-map {B = Chain} _ _ _ (λ x. record { node = x.0.1; steps = x.1 }) (λ c. (((tt {0}, tt {0}), c.node), c.steps)) (λ a. refl) (λ b. refl) (front-whole Last k _ _ _ refl p2) in
+    IsLine-as _ _ _ _ _ (λ v. refl)
+    (λ v p. record { room = ltb-true (length seen) 65536 p.0.0.0; node_is = p.0.1; steps_are = p.1 })
+    (λ v p. (((lt-ltb (length seen) 65536 p.room, tt), p.node_is), p.steps_are))
+    line
+
+-- ---- what the code keeps of a line
+
+pub fact-said : (seen : List (List ℕ)) (k : ℕ) (fields : List (List ℕ)) (r : Result (List ℕ) Refusal) → r ≡ fact_at seen k fields → IfOk r (λ path. are_small path ≡ true) × OnOk r (length seen < 262144)
+fact-said seen k fields (Ok v) e = let p = ((fact-line seen k).takes fields v (sym e)).1 in (p.path_is.small, p.room)
+fact-said seen k fields (Err f) e = (tt, tt)
+
+pub chain-said : (ring : RingValue) → AreNames (names_of ring) → (seen : List Chain) (k : ℕ) (fields : List (List ℕ)) (r : Result ChainLine Refusal) → map_ok chain_of r ≡ chain_at ring seen k fields → IfOk r (λ said. are_small said.steps ≡ true) × OnOk r (length seen < 65536)
+chain-said ring good seen k fields (Ok v) e = let p = ((chain-line ring good seen k).takes fields (chain_of v) (sym e)).1 in (p.steps_are.small, p.room)
+chain-said ring good seen k fields (Err f) e = (tt, tt)

@@ -1,0 +1,4 @@
+pub mod Valid
+pub mod Spelling
+pub mod Reading
+pub mod Said

@@ -1,0 +1,6 @@
+-- The chain that a line says.
+use Rattle.plan_cert.specs.declared.lines.ChainLine.{ChainLine}
+use Rattle.plan_cert.specs.declared.cert.Chain.{Chain}
+
+abbrev pub chain_of : ChainLine → Chain
+chain_of x = record { node = x.node; steps = x.steps }

@@ -1,0 +1,13 @@
+//! Certificates: what an untrusted planner says of a plan, for the checker to verify.
+#![tactic(auto)]
+
+mod cert;
+mod lines;
+mod reading;
+#[cfg(test)]
+mod tests;
+mod writing;
+
+pub use cert::{Cert, Chain};
+pub use reading::{read_cert, read_cert_section};
+pub use writing::write_cert;

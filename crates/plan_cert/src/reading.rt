@@ -1,0 +1,126 @@
+//! Reading a certificate.
+
+ghost use Rattle.std.specs.Prelude.{◌≡◌, ◌≤◌, ◌+◌, ◌<◌, ◌++◌, ◌∷◌, [], length, codes, true, Ok, IfOk, IfErr, OnOk};
+ghost use Rattle.ring_names.specs.declared.refusal.Refusal.TheVariants.{OutOfMemory};
+ghost use Rattle.ring_text.specs.Left.{Reads, many_from};
+ghost use Rattle.ring_text.specs.Judging.{Gives, map_ok};
+ghost use Rattle.ring_text.specs.Numbers.{are_small};
+ghost use Rattle.plan_cert.specs.Reading.{fact_at, chain_at, cert_at, cert_reading};
+ghost use Rattle.plan_cert.specs.Said.{chain_of};
+ghost use Rattle.plan_cert.specs.Spelling.{cert_text};
+ghost use Rattle.plan_cert.specs.Valid.{IsCert, Suits};
+ghost use Rattle.plan_cert.specs.declared.cert.Cert.{Cert};
+
+use crate::cert::{Cert, Chain};
+use crate::lines::{ChainLine, chain_line, end_line, fact_line, header_line};
+use ring_names::{Listed, Refusal};
+use ring_table::Ring;
+use ring_text::{Lines, NumberRow};
+use std::alloc::Global;
+
+// Adds the fact of a line that was judged.
+fn add_fact(alloc: Global, facts: &mut Vec<Listed<u32>>, path: NumberRow) -> Result<(), Refusal>
+    requires { are_small path ≡ true }
+    ensures ok { OnOk result (facts.new.items ≡ facts.old.items ++ path.entry ∷ []) }
+    ensures grows { OnOk result (length facts.new.items ≡ length facts.old.items + 1) }
+    ensures memory { IfErr result (λ e. e ≡ OutOfMemory) }
+{
+    let steps = path.to_vec(alloc)?;
+    facts.push(Listed::from_vec(steps))?;
+    Ok(())
+}
+
+// Adds the chain of a line that was judged.
+fn add_chain(alloc: Global, chains: &mut Vec<Chain>, said: ChainLine) -> Result<(), Refusal>
+    requires { are_small said.steps ≡ true }
+    ensures ok { OnOk result (chains.new.items ≡ chains.old.items ++ chain_of said.entry ∷ []) }
+    ensures grows { OnOk result (length chains.new.items ≡ length chains.old.items + 1) }
+    ensures memory { IfErr result (λ e. e ≡ OutOfMemory) }
+{
+    let steps = said.steps.to_vec(alloc)?;
+    chains.push(Chain {
+        node: said.node,
+        steps: Listed::from_vec(steps),
+    })?;
+    Ok(())
+}
+
+// Reads facts behind those seen, as long as lines begin so.
+fn read_facts(alloc: Global, facts: &mut Vec<Listed<u32>>, lines: &mut Lines) -> Result<(), Refusal>
+    requires start { lines.old.line ≤ 300000000 }
+    requires none { facts.old.items ≡ [] }
+    ensures read { Reads (map_ok (λ _. facts.new.items) result) lines.new (many_from (codes "fact") fact_at facts.old.items lines.old.line lines.old.lines) }
+    ensures line { OnOk result (lines.new.line ≤ lines.old.line + 262144) }
+{
+    'facts: while lines.begins(b"fact") {
+        let line = lines.line();
+        let fields = lines.next()?;
+        let path = fact_line(facts.as_slice(), fields, line)?;
+        add_fact(alloc, facts, path)?;
+    }
+    Ok(())
+}
+
+// Reads chains behind those seen, as long as lines begin so.
+fn read_chains(
+    alloc: Global,
+    ring: &Ring,
+    chains: &mut Vec<Chain>,
+    lines: &mut Lines,
+) -> Result<(), Refusal>
+    requires start { lines.old.line ≤ 400000000 }
+    requires none { chains.old.items ≡ [] }
+    ensures read { Reads (map_ok (λ _. chains.new.items) result) lines.new (many_from (codes "chain") (chain_at ring.now) chains.old.items lines.old.line lines.old.lines) }
+    ensures line { OnOk result (lines.new.line ≤ lines.old.line + 65536) }
+{
+    'chains: while lines.begins(b"chain") {
+        let line = lines.line();
+        let fields = lines.next()?;
+        let said = chain_line(ring, chains.as_slice(), fields, line)?;
+        add_chain(alloc, chains, said)?;
+    }
+    Ok(())
+}
+
+/// Reads the lines of a certificate, up to its line `end`, and leaves what follows them. Refused as `read_cert` is.
+#[tactic(auto, unfolding(crate::specs::Reading::cert_at))]
+pub fn read_cert_section(alloc: Global, ring: &Ring, lines: &mut Lines) -> Result<Cert, Refusal>
+    requires { lines.old.line ≤ 200000000 }
+    ensures read { Reads result lines.new (cert_at ring.now lines.old) }
+{
+    let line = lines.line();
+    header_line(lines.next()?, line)?;
+    let mut facts = Vec::new(alloc);
+    read_facts(alloc, &mut facts, lines)?;
+    let mut chains = Vec::new(alloc);
+    read_chains(alloc, ring, &mut chains, lines)?;
+    let line = lines.line();
+    end_line(lines.next()?, line)?;
+    Ok(Cert {
+        facts: Listed::from_vec(facts),
+        chains: Listed::from_vec(chains),
+    })
+}
+
+/// Reads a certificate over the ring from its whole text. The first line at fault decides, and in it the fault of the least
+/// number: 1 `BadLine`, 2 `TooLarge`, 3 `UnknownNode`. `OutOfMemory` comes only where memory ran out.
+pub fn read_cert(alloc: Global, ring: &Ring, text: &[u8]) -> Result<Cert, Refusal>
+    // What is read suits the ring, and is spelled so.
+    ensures found { IfOk result (λ v. IsCert v × Suits ring.now v × (text.now ≡ cert_text ring.now v)) }
+    // What is spelled so is read, unless memory runs out.
+    ensures only { (v : Cert) → IsCert v → Suits ring.now v → text.now ≡ cert_text ring.now v → Gives result (Ok v) }
+    // Which fault it is.
+    ensures exact { Gives result (cert_reading ring.now text.now) }
+{
+    // Names of a ring are plain.
+    let slots = ring.n();
+    prove!(slots <= 7);
+    let mut lines = Lines::of(text);
+    match read_cert_section(alloc, ring, &mut lines) {
+        Err(e) => Err(e),
+        Ok(cert) => match lines.ended() {
+            Err(e) => Err(e),
+            Ok(()) => Ok(cert),
+        },
+    }
+}

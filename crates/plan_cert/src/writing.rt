@@ -1,0 +1,69 @@
+//! Writing a certificate.
+
+ghost use Rattle.std.specs.Prelude.{◌≡◌, ◌++◌, map, IfOk, IfErr, OnOk};
+ghost use Rattle.ring_names.specs.declared.refusal.Refusal.TheVariants.{OutOfMemory};
+ghost use Rattle.ring_text.specs.Parts.{line_text, text_of};
+ghost use Rattle.ring_table.specs.Value.{names_of};
+ghost use Rattle.plan_cert.specs.Spelling.{fact_fields, chain_fields, cert_text};
+ghost use Rattle.plan_cert.specs.Valid.{Suits};
+
+use crate::cert::{Cert, Chain};
+use ring_names::{Listed, Refusal};
+use ring_table::{Ring, push_name};
+use ring_text::push_numbers;
+use std::alloc::{AllocError, Global};
+
+// The line of a fact.
+fn push_fact(out: &mut Vec<u8>, path: &Listed<u32>) -> Result<(), AllocError>
+    ensures { OnOk result (out.new.items ≡ out.old.items ++ line_text (fact_fields path.now)) }
+{
+    out.extend_from_slice(b"fact")?;
+    push_numbers(out, path.as_slice())?;
+    out.push(b'\n')?;
+    Ok(())
+}
+
+// The line of a chain.
+fn push_chain(out: &mut Vec<u8>, ring: &Ring, chain: &Chain) -> Result<(), AllocError>
+    ensures { OnOk result (out.new.items ≡ out.old.items ++ line_text (chain_fields (names_of ring.now) chain.now)) }
+{
+    out.extend_from_slice(b"chain")?;
+    push_name(out, ring.nodes(), chain.node)?;
+    push_numbers(out, chain.steps.as_slice())?;
+    out.push(b'\n')?;
+    Ok(())
+}
+
+// The lines of the facts.
+fn push_facts(out: &mut Vec<u8>, facts: &[Listed<u32>]) -> Result<(), AllocError>
+    ensures { OnOk result (out.new.items ≡ out.old.items ++ text_of (map fact_fields facts.now)) }
+{
+    for path in facts {
+        push_fact(out, path)?;
+    }
+    Ok(())
+}
+
+// The lines of the chains.
+fn push_chains(out: &mut Vec<u8>, ring: &Ring, chains: &[Chain]) -> Result<(), AllocError>
+    ensures { OnOk result (out.new.items ≡ out.old.items ++ text_of (map (chain_fields (names_of ring.now)) chains.now)) }
+{
+    for chain in chains {
+        push_chain(out, ring, chain)?;
+    }
+    Ok(())
+}
+
+/// The one text of a certificate that suits the ring. Its only refusal is `OutOfMemory`.
+pub fn write_cert(alloc: Global, ring: &Ring, cert: &Cert) -> Result<Vec<u8>, Refusal>
+    requires { Suits ring.now cert.now }
+    ensures text { IfOk result (λ v. v.items ≡ cert_text ring.now cert.now) }
+    ensures memory { IfErr result (λ e. e ≡ OutOfMemory) }
+{
+    let mut out = Vec::new(alloc);
+    out.extend_from_slice(b"cert 1\n")?;
+    push_facts(&mut out, cert.facts.as_slice())?;
+    push_chains(&mut out, ring, cert.chains.as_slice())?;
+    out.extend_from_slice(b"end\n")?;
+    Ok(out)
+}

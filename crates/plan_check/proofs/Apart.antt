@@ -1,0 +1,194 @@
+-- In every run of a sound plan no two slots of a partition share a node.
+use Rattle.std.proofs.Common.{◌≡◌, inl, inr, ◌∙◌, ℕ, zero, suc, ◌<◌, Bool, true, false, not, List, [], ◌∷◌, length, map, get_or, refl, sym, ap, subst, arith, length-append, ltb-true, eq-eqb}
+use Rattle.std.specs.Prelude.{◌&&◌, ◌==◌, nat_lt, Option, Some, None, Result, Ok, Err, slice_get, option_and_then, unwrap_or}
+use Rattle.std.specs.List.{AllByRecursion}
+use Rattle.std.proofs.lemmas.Option.{slice_get-get_or}
+use Rattle.ring_names.specs.Lists.{has, all_different}
+use Rattle.ring_names.specs.declared.ids.NodeId.{NodeId}
+use Rattle.ring_names.specs.declared.ids.Slot.{Slot}
+use Rattle.ring_names.specs.declared.refusal.Refusal.{Refusal}
+use Rattle.ring_table.specs.Value.{RingValue, owner_of}
+use Rattle.ring_table.specs.Valid.{IsRing, IsRow}
+use Rattle.ring_text.proofs.Fronts.{both_true}
+use Rattle.plan_text.specs.declared.step.Step.{Step}
+use Rattle.plan_text.specs.declared.step.Step.TheVariants.{Join, Mirror, Copy, Switch, Drop, Retire}
+use Rattle.plan_text.specs.declared.step.Planned.{Planned}
+use Rattle.plan_text.specs.Steps.{steps_of}
+use Rattle.plan_stage.specs.Stage.{opening, stage}
+use Rattle.plan_stage.specs.Clauses.{first_failing}
+use Rattle.plan_check.specs.declared.event.Event.{Event}
+use Rattle.plan_check.specs.declared.event.Event.TheVariants.{Do, OpenCopy, ChunkCopy, CloseCopy, AbortCopy, StartPut, Write, Hint, Ack, StartGet, Read, EndGet, Down, Up, Handoff}
+use Rattle.plan_check.specs.declared.event.Reply.{Reply}
+use Rattle.plan_check.specs.World.{PutRecord, World, opening_world, count, keeps_other}
+use Rattle.plan_check.specs.Events.{step_at, is_copy, put_slot, serves, do_guards, guards, effect, reply_to, with_number, without_number, with_ticket, served_puts, without_puts, done_step, changed}
+use Rattle.plan_check.specs.Runs.{Entry, Leads}
+use Rattle.plan_check.specs.Headline.{AreApartAlways, AreFinishedFirst}
+use Rattle.plan_check.proofs.Prefix.{order, passed, prefix}
+use Rattle.plan_check.proofs.Groups.{Served, InGroup, in_group}
+use Rattle.plan_check.proofs.Mirrored.{Known, Ready, down}
+use Rattle.plan_check.proofs.Events.{Apart, Inv, AllMet, all_met, ready, MayMirror, done_inv, less_inv, hint_inv, length_changed}
+use Rattle.plan_check.proofs.Truth.{second_of_two, not_is}
+
+-- ---- steps
+
+may_do : (ring : RingValue) (w : World) (m : Option Step) (s : Slot) (x : NodeId) → m ≡ Some (Mirror s x) → AllMet (elim m [ Some t ↦ do_guards ring w t | None ↦ [] ]) → keeps_other ring w x.0 s ≡ false
+may_do ring w m s x e g =
+    let h : AllMet (do_guards ring w (Mirror s x)) = subst (λ (o : Option Step). AllMet (elim o [ Some t ↦ do_guards ring w t | None ↦ [] ])) e g in
+    not_is (keeps_other ring w x.0 s) h.1.0
+
+do_inv : (ring : RingValue) (plan : List Planned) → Known ring plan → (w : World) (n : ℕ) (m : Option Step) → Inv ring plan w → Ready plan w.done n → MayMirror ring plan w n
+    → Inv ring plan (elim m [ Some s ↦ done_step (record w { done = with_number w.done n }) s | None ↦ w ])
+do_inv ring plan k w n None i y may = i
+do_inv ring plan k w n (Some (Join x)) i y may = done_inv ring plan k w n w.is_open (with_number w.up x.0) w.stored i y may (λ m e. e)
+do_inv ring plan k w n (Some (Mirror s x)) i y may = done_inv ring plan k w n w.is_open w.up w.stored i y may (λ m e. e)
+do_inv ring plan k w n (Some (Copy s from)) i y may = done_inv ring plan k w n w.is_open w.up w.stored i y may (λ m e. e)
+do_inv ring plan k w n (Some (Switch s)) i y may = done_inv ring plan k w n w.is_open w.up w.stored i y may (λ m e. e)
+do_inv ring plan k w n (Some (Drop s x)) i y may = done_inv ring plan k w n w.is_open w.up (without_puts w.stored x s) i y may (λ m e. e)
+do_inv ring plan k w n (Some (Retire x)) i y may = done_inv ring plan k w n w.is_open w.up w.stored i y may (λ m e. e)
+
+no_mirror : (m : Option Step) (s : Slot) (x : NodeId) → (elim m [ Some t ↦ is_copy t | None ↦ false ]) ≡ true → m ≡ Some (Mirror s x) → ⊥
+no_mirror m s x c e =
+    let h : is_copy (Mirror s x) ≡ true = subst (λ (o : Option Step). (elim o [ Some t ↦ is_copy t | None ↦ false ]) ≡ true) e c in
+    absurd cc
+
+pub without_was : (D : ℕ → Bool) (n m : ℕ) → without_number D n m ≡ true → D m ≡ true
+without_was D n m e = (both_true (not (m == n)) (D m) e).1
+
+-- ---- one event
+
+event_inv : (ring : RingValue) (plan : List Planned) → Known ring plan → (w : World) → Inv ring plan w → (e : Event) → AllMet (guards ring plan w e) → Inv ring plan (effect ring plan w e)
+event_inv ring plan k w i (Do n) g =
+    do_inv ring plan k w n (step_at plan n) i (ready plan w n g.1.1.0) (λ s x at. (not_is (w.done n) g.1.0, may_do ring w (step_at plan n) s x at g.1.1.1))
+event_inv ring plan k w i (OpenCopy n) g = record {
+  closed = i.closed;
+  opened = λ m e. elim (passed w.is_open n m e) [
+    | inl f ↦ subst (λ (z : ℕ). Ready plan w.done z) (sym f) (ready plan w n g.1.1.0)
+    | inr f ↦ i.opened m f
+  ];
+  fresh = i.fresh;
+  apart = i.apart;
+}
+event_inv ring plan k w i (ChunkCopy n c) g = record { closed = i.closed; opened = i.opened; fresh = i.fresh; apart = i.apart }
+event_inv ring plan k w i (CloseCopy n) g =
+    done_inv ring plan k w n (without_number w.is_open n) w.up w.stored i (i.opened n g.1.0) (λ s x at. absurd (no_mirror (step_at plan n) s x g.0 at)) (without_was w.is_open n)
+event_inv ring plan k w i (AbortCopy n) g = record {
+  closed = i.closed;
+  opened = λ m e. i.opened m (without_was w.is_open n m e);
+  fresh = i.fresh;
+  apart = i.apart;
+}
+event_inv ring plan k w i (StartPut writer key value seen) g =
+    let p : PutRecord = record { writer = writer.0; key = key; value = value; seen = seen; ticket = λ (j : ℕ). None; acked = false } in
+    less_inv ring plan w _ w.stored w.hinted i (let l = length-append w.puts (p ∷ []) in omega arith) (λ x s v e. e)
+event_inv ring plan k w i (Write v j) g =
+    less_inv ring plan w (with_ticket ring plan w v j) (served_puts ring plan w (put_slot ring w v j) (λ u. u == v)) w.hinted i (let l : length (with_ticket ring plan w v j) ≡ length w.puts = length_changed w.puts v _ in omega arith) (λ x s u e. e)
+event_inv ring plan k w i (Hint v j x) g =
+    let e = both_true (nat_lt v (length w.puts)) (nat_lt j ring.n) g.0 in
+    hint_inv ring plan w v (put_slot ring w v j) x (with_ticket ring plan w v j) i (ltb-true v (length w.puts) e.0) (length_changed w.puts v _) (not_is (serves ring plan w (put_slot ring w v j).partition x.0) g.1.1.1.0) (not_is (keeps_other ring w x.0 (put_slot ring w v j)) g.1.1.1.1.0)
+event_inv ring plan k w i (Ack v) g =
+    less_inv ring plan w (changed w.puts v (λ x. record x { acked = true })) w.stored w.hinted i (let l : length (changed w.puts v (λ x. record x { acked = true })) ≡ length w.puts = length_changed w.puts v _ in omega arith) (λ x s u e. e)
+event_inv ring plan k w i (StartGet key) g = record { closed = i.closed; opened = i.opened; fresh = i.fresh; apart = i.apart }
+event_inv ring plan k w i (Read h j) g = record { closed = i.closed; opened = i.opened; fresh = i.fresh; apart = i.apart }
+event_inv ring plan k w i (EndGet h) g = record { closed = i.closed; opened = i.opened; fresh = i.fresh; apart = i.apart }
+event_inv ring plan k w i (Down x) g = record { closed = i.closed; opened = i.opened; fresh = i.fresh; apart = i.apart }
+event_inv ring plan k w i (Up x) g = record { closed = i.closed; opened = i.opened; fresh = i.fresh; apart = i.apart }
+event_inv ring plan k w i (Handoff x s) g =
+    less_inv ring plan w w.puts (served_puts ring plan w s (w.hinted x.0 s)) (without_puts w.hinted x s) i (omega arith) (λ y t u e. (both_true (not ((y == x.0) && _)) (w.hinted y t u) e).1)
+
+-- ---- a run
+
+pub answered : (o : Option Refusal) (v u : World) (s r : Reply) → ◌≡◌ {A = Result (World × Reply) Refusal} (elim o [ Some f ↦ Err f | None ↦ Ok (v, s) ]) (Ok (u, r)) → (o ≡ None) × (v ≡ u)
+answered (Some f) v u s r e = absurd cc
+answered None v u s r e = (refl, (let p : (v, s) ≡ (u, r) = cc in ap (λ (q : World × Reply). q.0) p))
+
+pub run_inv : (ring : RingValue) (plan : List Planned) → Known ring plan → (run : List Entry) (w v : World) → Inv ring plan w → Leads ring plan w run v → Inv ring plan v
+run_inv ring plan k [] w v i l = subst (λ (u : World). Inv ring plan u) (sym l) i
+run_inv ring plan k (x ∷ xs) w v i l =
+    let a = answered (first_failing (guards ring plan w x.0)) (effect ring plan w x.0) l.0 (reply_to ring plan w x.0) x.1 l.1 in
+    let j : Inv ring plan l.0 = subst (λ (u : World). Inv ring plan u) a.1 (event_inv ring plan k w i x.0 (all_met (guards ring plan w x.0) a.0)) in
+    run_inv ring plan k xs l.0 v j l.2
+
+-- ---- the start
+
+none_done : (ss : List ℕ) → count (λ n. false) ss ≡ 0
+none_done [] = refl
+none_done (s ∷ ss) = none_done ss
+
+row_at : {A : Type 0} (P : A → Type 0) (xs : List A) (i : ℕ) (x : A) → AllByRecursion P xs → slice_get xs i ≡ Some x → P x
+row_at P [] i x a e = absurd cc
+row_at P (y ∷ ys) zero x a e = (let f : y ≡ x = cc in subst P f a.0)
+row_at P (y ∷ ys) (suc i) x a e = row_at P ys i x a.1 e
+
+has_at : (xs : List NodeId) (i : ℕ) (x : NodeId) → slice_get xs i ≡ Some x → has x.0 (map (λ y. y.0) xs) ≡ true
+has_at [] i x e = absurd cc
+has_at (y ∷ ys) zero x e = (let f : y ≡ x = cc in rw (eq-eqb x.0 y.0 (sym (ap (λ (z : NodeId). z.0) f))) refl)
+has_at (y ∷ ys) (suc i) x e = second_of_two (x.0 == y.0) (has x.0 (map (λ z. z.0) ys)) (has_at ys i x e)
+
+-- a row has no node twice
+first_again : (y : NodeId) (ys : List NodeId) (j : ℕ) (x : NodeId) → all_different (map (λ z. z.0) (y ∷ ys)) ≡ true → y ≡ x → slice_get ys j ≡ Some x → ⊥
+first_again y ys j x d g f =
+    let p = both_true (not (has y.0 (map (λ z. z.0) ys))) (all_different (map (λ z. z.0) ys)) d in
+    let h = has_at ys j x f in
+    let n = not_is (has y.0 (map (λ z. z.0) ys)) p.0 in
+    let m : has y.0 (map (λ z. z.0) ys) ≡ true = ap (λ (z : NodeId). has z.0 (map (λ v. v.0) ys)) g ∙ h in
+    absurd cc
+
+once : (xs : List NodeId) (i j : ℕ) (x : NodeId) → all_different (map (λ y. y.0) xs) ≡ true → slice_get xs i ≡ Some x → slice_get xs j ≡ Some x → i ≡ j
+once [] i j x d e f = absurd cc
+once (y ∷ ys) zero zero x d e f = refl
+once (y ∷ ys) zero (suc j) x d e f = absurd (first_again y ys j x d (let g : y ≡ x = cc in g) f)
+once (y ∷ ys) (suc i) zero x d e f = absurd (first_again y ys i x d (let g : y ≡ x = cc in g) e)
+once (y ∷ ys) (suc i) (suc j) x d e f =
+    let p = both_true (not (has y.0 (map (λ z. z.0) ys))) (all_different (map (λ z. z.0) ys)) d in
+    ap suc (once ys i j x p.1 e f)
+
+-- who is in a group at the start owns the slot
+at_start : (ring : RingValue) (plan : List Planned) (s : Slot) (x : ℕ) → InGroup ring plan (opening_world ring) s x → x ≡ (opening ring s).owner.0
+at_start ring plan s x g = elim g [
+  | inl h ↦ elim (subst (λ (n : ℕ). Served (stage ring plan s n) x) (none_done (steps_of plan s)) h) [
+    | inl e ↦ e
+    | inr e ↦ absurd cc
+  ]
+  | inr h ↦ absurd (let l = h.2 in cc)
+]
+
+start_apart : (ring : RingValue) (plan : List Planned) → IsRing ring → Apart ring plan (opening_world ring)
+start_apart ring plan r p i j x l m n ne g h =
+    let row = get_or ring.owners p [] in
+    let here : slice_get ring.owners p ≡ Some row = slice_get-get_or ring.owners p [] (let z = r.partitions in omega arith) in
+    let is : IsRow ring.n ring.nodes row = row_at (IsRow ring.n ring.nodes) ring.owners p row r.rows here in
+    let e = at_start ring plan (record { partition = p; index = i }) x g in
+    let f = at_start ring plan (record { partition = p; index = j }) x h in
+    ne (once row i j (record { 0 = x }) is.different (owned row i is.slots here m e) (owned row j is.slots here n f))
+  where
+    owned : (row : List NodeId) (b : ℕ) → length row ≡ ring.n → slice_get ring.owners p ≡ Some row → b < ring.n → x ≡ (opening ring (record { partition = p; index = b })).owner.0 → slice_get row b ≡ Some (record { 0 = x })
+    owned row b z here c e =
+        let at : slice_get row b ≡ Some (get_or row b (record { 0 = 0 })) = slice_get-get_or row b (record { 0 = 0 }) (omega arith) in
+        let owner : owner_of ring (record { partition = p; index = b }) ≡ slice_get row b = ap (λ (o : Option (List NodeId)). option_and_then (λ v. slice_get v b) o) here in
+        let q : x ≡ (unwrap_or (owner_of ring (record { partition = p; index = b })) (record { 0 = 0 })).0 = e in
+        let s : x ≡ (get_or row b (record { 0 = 0 })).0 = q ∙ ap (λ (o : Option NodeId). (unwrap_or o (record { 0 = 0 })).0) (owner ∙ at) in
+        at ∙ ap (λ (v : ℕ). Some (record { 0 = v })) (sym s)
+
+pub start_inv : (ring : RingValue) (plan : List Planned) → IsRing ring → Inv ring plan (opening_world ring)
+start_inv ring plan r = record {
+  closed = λ a n e d. absurd cc;
+  opened = λ n e a d. absurd cc;
+  fresh = λ x s v e. absurd cc;
+  apart = start_apart ring plan r;
+}
+
+pub apart_always : (ring : RingValue) (plan : List Planned) → Known ring plan → AreApartAlways ring plan
+apart_always ring plan k run w is p i j x l m n ne g h =
+    let v = run_inv ring plan k run (opening_world ring) w (start_inv ring plan k.is_ring) is in
+    v.apart p i j x l m n ne (in_group ring plan w (record { partition = p; index = i }) x g) (in_group ring plan w (record { partition = p; index = j }) x h)
+
+pub finished_first : (ring : RingValue) (plan : List Planned) → Known ring plan → AreFinishedFirst ring plan
+finished_first ring plan k run w is slot i l =
+    let v = run_inv ring plan k run (opening_world ring) w (start_inv ring plan k.is_ring) is in
+    let p = prefix w.done (steps_of plan slot) (down ring plan k w.done v.closed slot) in (
+      λ d. elim (order i (count w.done (steps_of plan slot))) [
+        | inl h ↦ h
+        | inr h ↦ absurd (let off = p.above i h l in cc)
+      ],
+      λ h. p.below i h,
+    )

@@ -1,0 +1,66 @@
+-- What a certificate proves in order is before.
+use Rattle.std.proofs.Common.{◌≡◌, inl, inr, ℕ, true, List, [], ◌∷◌, Option, Some, None}
+use Rattle.std.specs.List.{list_all}
+use Rattle.ring_text.proofs.Fronts.{both_true}
+use Rattle.ring_table.specs.Value.{RingValue}
+use Rattle.plan_text.specs.declared.step.Planned.{Planned}
+use Rattle.plan_text.specs.Steps.{depends}
+use Rattle.plan_order.specs.Before.{Before, direct}
+use Rattle.plan_order.specs.Paths.{is_path}
+use Rattle.plan_order.specs.Facts.{leads, some_leads}
+use Rattle.plan_order.proofs.Reaching.{path_before}
+use Rattle.plan_cert.specs.declared.cert.Cert.{Cert}
+use Rattle.plan_check.specs.Sound.{Order, EndsBefore, IsChain, AreChains, Meets, Sound}
+use Rattle.plan_check.specs.Certified.{ordered_by, chains_from, IsCertified}
+use Rattle.plan_check.proofs.Truth.{either}
+
+paths_before : (plan : List Planned) (a b : ℕ) (paths : List (List ℕ)) → list_all (is_path plan) paths ≡ true → some_leads a b paths ≡ true → Before plan a b
+paths_before plan a b [] all h = absurd cc
+paths_before plan a b (p ∷ ps) all h =
+    let each = both_true (is_path plan p) (list_all (is_path plan) ps) all in
+    elim (either (leads a b p) (some_leads a b ps) h) [
+      | inl this ↦ path_before plan a b p each.0 this
+      | inr later ↦ paths_before plan a b ps each.1 later
+    ]
+
+ordered_before : (plan : List Planned) (cert : Cert) (a b : ℕ) → list_all (is_path plan) cert.facts ≡ true → ordered_by plan cert a b ≡ true → Before plan a b
+ordered_before plan cert a b all h = elim (either (depends plan a b) (some_leads a b cert.facts) h) [
+  | inl d ↦ direct a b d
+  | inr f ↦ paths_before plan a b cert.facts all f
+]
+
+-- ---- what is met by one order is met by a wider one
+
+module _ (O W : Order) (wider : (a b : ℕ) → O a b → W a b) where
+  ends : (o : Option ℕ) (t : ℕ) → EndsBefore O o t → EndsBefore W o t
+  ends None t h = h
+  ends (Some e) t h = wider e t h
+
+  chain : (c : List ℕ) → IsChain O c → IsChain W c
+  chain [] h = tt
+  chain (a ∷ []) h = tt
+  chain (a ∷ b ∷ rest) h = (wider a b h.0, chain (b ∷ rest) h.1)
+
+  chains_are : (cs : List (List ℕ)) → AreChains O cs → AreChains W cs
+  chains_are [] h = tt
+  chains_are (c ∷ cs) h = (chain c h.0, chains_are cs h.1)
+
+  pub meets_wider : (ring : RingValue) (plan : List Planned) (chains : ℕ → List (List ℕ)) → Meets ring plan O chains → Meets ring plan W chains
+  meets_wider ring plan chains m = record {
+    staged = m.staged;
+    in_order = λ slot k h. wider _ _ (m.in_order slot k h);
+    sources = m.sources;
+    settled = λ n k j slot from h here s. elim (m.settled n k j slot from h here s) [ inl x ↦ inl (wider k n x) | inr x ↦ inr (wider n k x) ];
+    left_first = λ t j slot x h l apart o. ends _ t (m.left_first t j slot x h l apart o);
+    left_later = λ t b j slot x h apart l s. ends _ t (m.left_later t b j slot x h apart l s);
+    joined = λ t x out h. (let r = m.joined t x out h in (r.0, r.1, wider r.0 t r.2));
+    dropped_first = λ t slot x h o. ends _ t (m.dropped_first t slot x h o);
+    dropped_later = λ t b slot x h s. ends _ t (m.dropped_later t b slot x h s);
+    few = m.few;
+    linked = λ x l. chains_are (chains x) (m.linked x l);
+    covered = m.covered;
+  }
+
+pub certified-sound : (ring : RingValue) (plan : List Planned) (cert : Cert) → IsCertified ring plan cert → Sound ring plan
+certified-sound ring plan cert c =
+    (λ x. chains_from x cert.chains, meets_wider (λ a b. ordered_by plan cert a b ≡ true) (Before plan) (λ a b h. ordered_before plan cert a b c.facts h) ring plan (λ x. chains_from x cert.chains) c.meets)

@@ -1,0 +1,125 @@
+-- Worked examples: what events are answered, one after the other.
+use Rattle.std.proofs.Common.{◌≡◌, ℕ, List, [], ◌∷◌, codes, Result, Ok, Err, refl, true, false, Bool}
+use Rattle.ring_names.specs.declared.ids.NodeId.{NodeId}
+use Rattle.ring_names.specs.declared.ids.Slot.{Slot}
+use Rattle.ring_names.specs.declared.refusal.Refusal.{Refusal}
+use Rattle.ring_names.specs.declared.refusal.Refusal.TheVariants.{AlreadyDone, NodeDown, KeeperTaken, KeeperInPartition, StaleTickets, TooFewSlots, UnknownNumber, HintsLeft, NotOpen, ChunksLeft}
+use Rattle.md5.specs.Md5.{block_words, rounds, compress, hash_after, digest_bytes, md5}
+use Rattle.ring_space.specs.Place.{log2, place_of}
+use Rattle.ring_table.specs.Value.{RingValue}
+use Rattle.ring_table.specs.declared.node.Node.{Node}
+use Rattle.plan_text.specs.declared.step.Source.TheVariants.{Owner}
+use Rattle.plan_text.specs.declared.step.Step.{Step}
+use Rattle.plan_text.specs.declared.step.Step.TheVariants.{Join, Mirror, Copy, Switch, Drop}
+use Rattle.plan_text.specs.declared.step.Planned.{Planned}
+use Rattle.plan_check.specs.declared.event.Event.{Event}
+use Rattle.plan_check.specs.declared.event.Event.TheVariants.{Do, OpenCopy, ChunkCopy, CloseCopy, AbortCopy, StartPut, Write, Hint, Ack, StartGet, Read, EndGet, Down, Up, Handoff}
+use Rattle.plan_check.specs.declared.event.Reply.{Reply}
+use Rattle.plan_check.specs.declared.event.Reply.TheVariants as reply
+use Rattle.plan_check.specs.World.{World, opening_world}
+use Rattle.plan_check.specs.Events.{answer}
+
+-- what each event is answered, where a refused one changes nothing
+abbrev replies : RingValue → List Planned → World → List Event → List (Result Reply Refusal)
+replies ring plan w [] = []
+replies ring plan w (e ∷ es) = elim (answer ring plan w e) [ Ok x ↦ Ok x.1 ∷ replies ring plan x.0 es | Err r ↦ Err r ∷ replies ring plan w es ]
+
+abbrev pub node : List ℕ → ℕ → Bool → Node
+node name allowance is_member = record { name = name; allowance = allowance; is_member = is_member }
+
+abbrev pub the : ℕ → NodeId
+the x = record { 0 = x }
+
+abbrev pub at : ℕ → ℕ → Slot
+at p i = record { partition = p; index = i }
+
+abbrev pub step : Step → List ℕ → Planned
+step s after = record { step = s; after = after }
+
+-- four nodes, of which d is a member or not
+abbrev pub ring_of_four : Bool → RingValue
+ring_of_four d = record {
+  q = 4;
+  n = 3;
+  r = 2;
+  w = 2;
+  nodes = node (codes "a") 4 true ∷ node (codes "b") 4 true ∷ node (codes "c") 4 true ∷ node (codes "d") 4 d ∷ [];
+  owners = (the 0 ∷ the 1 ∷ the 2 ∷ []) ∷ (the 0 ∷ the 1 ∷ the 2 ∷ []) ∷ (the 0 ∷ the 1 ∷ the 2 ∷ []) ∷ (the 0 ∷ the 1 ∷ the 2 ∷ []) ∷ [];
+}
+
+digest_of_a : md5 (97 ∷ []) ≡ 12 ∷ 193 ∷ 117 ∷ 185 ∷ 192 ∷ 241 ∷ 182 ∷ 168 ∷ 49 ∷ 195 ∷ 153 ∷ 226 ∷ 105 ∷ 119 ∷ 38 ∷ 97 ∷ []
+unfolding block_words rounds compress hash_after digest_bytes md5
+digest_of_a = refl
+
+place_of_a : place_of 4 (97 ∷ []) ≡ record { partition = 0; chunk = 3 }
+unfolding log2
+place_of_a = rw digest_of_a refl
+
+-- slot 1 of partition 0 moves from b to d
+abbrev moves_to_d : List Planned
+moves_to_d = step (Join (the 3)) [] ∷ step (Mirror (at 0 1) (the 3)) (0 ∷ []) ∷ step (Copy (at 0 1) Owner) (1 ∷ []) ∷ step (Switch (at 0 1)) (2 ∷ []) ∷ step (Drop (at 0 1) (the 1)) (3 ∷ []) ∷ []
+
+abbrev to_third_slot : List Planned
+to_third_slot = step (Mirror (at 0 2) (the 3)) [] ∷ step (Copy (at 0 2) Owner) (0 ∷ []) ∷ step (Switch (at 0 2)) (1 ∷ []) ∷ []
+
+-- a node that keeps a hint for a slot may not serve another slot of the partition, nor a node that serves one keep a hint for another
+keeper_in_the_way : replies (ring_of_four true) to_third_slot (opening_world (ring_of_four true))
+    (StartPut (record { 0 = 0 }) (codes "a") (49 ∷ []) ([]) ∷ Hint 0 1 (the 3) ∷ Hint 0 2 (the 3) ∷ Do 0 ∷ Handoff (the 3) (at 0 1) ∷ Do 0 ∷ Hint 0 1 (the 3) ∷ [])
+    ≡ Ok (reply.Put 0) ∷ Ok (reply.Ticket (at 0 1) 0) ∷ Err KeeperTaken ∷ Err HintsLeft ∷ Ok reply.Plain ∷ Ok reply.Plain ∷ Err KeeperInPartition ∷ []
+unfolding log2 block_words rounds compress hash_after digest_bytes md5
+keeper_in_the_way = refl
+
+-- a ticket from before the mirror began does not count for an acknowledgement
+stale_ticket : replies (ring_of_four false) moves_to_d (opening_world (ring_of_four false))
+    (StartPut (record { 0 = 0 }) (codes "a") (49 ∷ []) ([]) ∷ Write 0 0 ∷ Write 0 1 ∷ Do 0 ∷ Do 1 ∷ Ack 0 ∷ Write 0 1 ∷ Ack 0 ∷ [])
+    ≡ Ok (reply.Put 0) ∷ Ok (reply.Ticket (at 0 0) 0) ∷ Ok (reply.Ticket (at 0 1) 0) ∷ Ok reply.Plain ∷ Ok reply.Plain ∷ Err (StaleTickets 1) ∷ Ok (reply.Ticket (at 0 1) 1) ∷ Ok reply.Plain ∷ []
+unfolding log2 block_words rounds compress hash_after digest_bytes md5
+stale_ticket = refl
+
+-- marks stay when a copy is broken off
+aborted_copy : replies (ring_of_four false) moves_to_d (opening_world (ring_of_four false))
+    (Do 0 ∷ Do 1 ∷ OpenCopy 2 ∷ ChunkCopy 2 0 ∷ ChunkCopy 2 1 ∷ ChunkCopy 2 2 ∷ ChunkCopy 2 3 ∷ ChunkCopy 2 4 ∷ ChunkCopy 2 5 ∷ ChunkCopy 2 6 ∷ AbortCopy 2 ∷ OpenCopy 2 ∷ ChunkCopy 2 6 ∷ CloseCopy 2 ∷ ChunkCopy 2 7 ∷ ChunkCopy 2 8 ∷ ChunkCopy 2 9 ∷ ChunkCopy 2 10 ∷ ChunkCopy 2 11 ∷ ChunkCopy 2 12 ∷ ChunkCopy 2 13 ∷ ChunkCopy 2 14 ∷ ChunkCopy 2 15 ∷ CloseCopy 2 ∷ AbortCopy 2 ∷ OpenCopy 2 ∷ [])
+    ≡ Ok reply.Plain ∷ Ok reply.Plain ∷ Ok reply.Plain ∷ Ok reply.Plain ∷ Ok reply.Plain ∷ Ok reply.Plain ∷ Ok reply.Plain ∷ Ok reply.Plain ∷ Ok reply.Plain ∷ Ok reply.Plain ∷ Ok reply.Plain ∷ Ok reply.Plain ∷ Err AlreadyDone ∷ Err (ChunksLeft 9) ∷ Ok reply.Plain ∷ Ok reply.Plain ∷ Ok reply.Plain ∷ Ok reply.Plain ∷ Ok reply.Plain ∷ Ok reply.Plain ∷ Ok reply.Plain ∷ Ok reply.Plain ∷ Ok reply.Plain ∷ Ok reply.Plain ∷ Err NotOpen ∷ Err AlreadyDone ∷ []
+unfolding log2 block_words rounds compress hash_after digest_bytes md5
+aborted_copy = refl
+
+abbrev ring_of_five : RingValue
+ring_of_five = record {
+  q = 4;
+  n = 3;
+  r = 2;
+  w = 2;
+  nodes = node (codes "a") 4 true ∷ node (codes "b") 4 true ∷ node (codes "c") 4 true ∷ node (codes "d") 4 true ∷ node (codes "e") 4 false ∷ [];
+  owners = (the 0 ∷ the 1 ∷ the 2 ∷ []) ∷ (the 0 ∷ the 1 ∷ the 2 ∷ []) ∷ (the 0 ∷ the 1 ∷ the 2 ∷ []) ∷ (the 0 ∷ the 1 ∷ the 2 ∷ []) ∷ [];
+}
+
+abbrev moves_to_e : List Planned
+moves_to_e = step (Join (the 4)) [] ∷ step (Mirror (at 0 1) (the 4)) (0 ∷ []) ∷ step (Copy (at 0 1) Owner) (1 ∷ []) ∷ step (Switch (at 0 1)) (2 ∷ []) ∷ step (Drop (at 0 1) (the 1)) (3 ∷ []) ∷ []
+
+-- a hint is handed to whoever owns its slot by then, and the put is found there
+hint_follows_its_slot : replies ring_of_five moves_to_e (opening_world ring_of_five)
+    (Down (the 1) ∷ StartPut (record { 0 = 0 }) (codes "a") (49 ∷ []) ([]) ∷ Write 0 0 ∷ Write 0 1 ∷ Hint 0 1 (the 3) ∷ Ack 0 ∷ Up (the 1) ∷ Do 0 ∷ Do 1 ∷ OpenCopy 2 ∷ ChunkCopy 2 0 ∷ ChunkCopy 2 1 ∷ ChunkCopy 2 2 ∷ ChunkCopy 2 3 ∷ ChunkCopy 2 4 ∷ ChunkCopy 2 5 ∷ ChunkCopy 2 6 ∷ ChunkCopy 2 7 ∷ ChunkCopy 2 8 ∷ ChunkCopy 2 9 ∷ ChunkCopy 2 10 ∷ ChunkCopy 2 11 ∷ ChunkCopy 2 12 ∷ ChunkCopy 2 13 ∷ ChunkCopy 2 14 ∷ ChunkCopy 2 15 ∷ CloseCopy 2 ∷ Do 3 ∷ Handoff (the 3) (at 0 1) ∷ Down (the 3) ∷ StartGet (codes "a") ∷ Read 0 1 ∷ Read 0 2 ∷ EndGet 0 ∷ [])
+    ≡ Ok reply.Plain ∷ Ok (reply.Put 0) ∷ Ok (reply.Ticket (at 0 0) 0) ∷ Err (NodeDown 1) ∷ Ok (reply.Ticket (at 0 1) 0) ∷ Ok reply.Plain ∷ Ok reply.Plain ∷ Ok reply.Plain ∷ Ok reply.Plain ∷ Ok reply.Plain ∷ Ok reply.Plain ∷ Ok reply.Plain ∷ Ok reply.Plain ∷ Ok reply.Plain ∷ Ok reply.Plain ∷ Ok reply.Plain ∷ Ok reply.Plain ∷ Ok reply.Plain ∷ Ok reply.Plain ∷ Ok reply.Plain ∷ Ok reply.Plain ∷ Ok reply.Plain ∷ Ok reply.Plain ∷ Ok reply.Plain ∷ Ok reply.Plain ∷ Ok reply.Plain ∷ Ok reply.Plain ∷ Ok reply.Plain ∷ Ok reply.Plain ∷ Ok reply.Plain ∷ Ok (reply.Get 0) ∷ Ok (reply.Found (0 ∷ [])) ∷ Ok (reply.Found ([])) ∷ Ok (reply.Answer (0 ∷ [])) ∷ []
+unfolding log2 block_words rounds compress hash_after digest_bytes md5
+hint_follows_its_slot = refl
+
+-- a hint is handed to the mirror too, whose copy may have its chunk behind it already
+hint_reaches_the_mirror : replies ring_of_five moves_to_e (opening_world ring_of_five)
+    (Down (the 1) ∷ StartPut (record { 0 = 0 }) (codes "a") (49 ∷ []) ([]) ∷ Write 0 0 ∷ Hint 0 1 (the 3) ∷ Ack 0 ∷ Up (the 1) ∷ Do 0 ∷ Do 1 ∷ OpenCopy 2 ∷ ChunkCopy 2 0 ∷ ChunkCopy 2 1 ∷ ChunkCopy 2 2 ∷ ChunkCopy 2 3 ∷ ChunkCopy 2 4 ∷ ChunkCopy 2 5 ∷ ChunkCopy 2 6 ∷ ChunkCopy 2 7 ∷ ChunkCopy 2 8 ∷ ChunkCopy 2 9 ∷ ChunkCopy 2 10 ∷ ChunkCopy 2 11 ∷ ChunkCopy 2 12 ∷ ChunkCopy 2 13 ∷ ChunkCopy 2 14 ∷ ChunkCopy 2 15 ∷ Handoff (the 3) (at 0 1) ∷ Handoff (the 3) (at 0 1) ∷ CloseCopy 2 ∷ Do 3 ∷ StartGet (codes "a") ∷ Read 0 1 ∷ Read 0 2 ∷ EndGet 0 ∷ [])
+    ≡ Ok reply.Plain ∷ Ok (reply.Put 0) ∷ Ok (reply.Ticket (at 0 0) 0) ∷ Ok (reply.Ticket (at 0 1) 0) ∷ Ok reply.Plain ∷ Ok reply.Plain ∷ Ok reply.Plain ∷ Ok reply.Plain ∷ Ok reply.Plain ∷ Ok reply.Plain ∷ Ok reply.Plain ∷ Ok reply.Plain ∷ Ok reply.Plain ∷ Ok reply.Plain ∷ Ok reply.Plain ∷ Ok reply.Plain ∷ Ok reply.Plain ∷ Ok reply.Plain ∷ Ok reply.Plain ∷ Ok reply.Plain ∷ Ok reply.Plain ∷ Ok reply.Plain ∷ Ok reply.Plain ∷ Ok reply.Plain ∷ Ok reply.Plain ∷ Ok reply.Plain ∷ Err AlreadyDone ∷ Ok reply.Plain ∷ Ok reply.Plain ∷ Ok (reply.Get 0) ∷ Ok (reply.Found (0 ∷ [])) ∷ Ok (reply.Found ([])) ∷ Ok (reply.Answer (0 ∷ [])) ∷ []
+unfolding log2 block_words rounds compress hash_after digest_bytes md5
+hint_reaches_the_mirror = refl
+
+-- puts that know nothing of one another are both answered, and one that has seen both hides them
+two_writers : replies (ring_of_four false) [] (opening_world (ring_of_four false))
+    (StartPut (record { 0 = 0 }) (codes "abc") (49 ∷ []) ([]) ∷ StartPut (record { 0 = 1 }) (codes "abc") (50 ∷ []) ([]) ∷ Write 0 0 ∷ Write 0 1 ∷ Write 1 0 ∷ Write 1 1 ∷ Ack 0 ∷ Ack 1 ∷ StartGet (codes "abc") ∷ Read 0 1 ∷ Read 0 2 ∷ EndGet 0 ∷ StartPut (record { 0 = 0 }) (codes "abc") (51 ∷ []) (0 ∷ []) ∷ Write 2 0 ∷ Write 2 2 ∷ Ack 2 ∷ StartGet (codes "abc") ∷ Read 1 0 ∷ Read 1 1 ∷ EndGet 1 ∷ [])
+    ≡ Ok (reply.Put 0) ∷ Ok (reply.Put 1) ∷ Ok (reply.Ticket (at 2 0) 0) ∷ Ok (reply.Ticket (at 2 1) 0) ∷ Ok (reply.Ticket (at 2 0) 0) ∷ Ok (reply.Ticket (at 2 1) 0) ∷ Ok reply.Plain ∷ Ok reply.Plain ∷ Ok (reply.Get 0) ∷ Ok (reply.Found (0 ∷ 1 ∷ [])) ∷ Ok (reply.Found ([])) ∷ Ok (reply.Answer (0 ∷ 1 ∷ [])) ∷ Ok (reply.Put 2) ∷ Ok (reply.Ticket (at 2 0) 0) ∷ Ok (reply.Ticket (at 2 2) 0) ∷ Ok reply.Plain ∷ Ok (reply.Get 1) ∷ Ok (reply.Found (2 ∷ [])) ∷ Ok (reply.Found (0 ∷ 1 ∷ [])) ∷ Ok (reply.Answer (2 ∷ [])) ∷ []
+unfolding log2 block_words rounds compress hash_after digest_bytes md5
+two_writers = refl
+
+-- a get ends only when R slots were read
+too_few_slots : replies (ring_of_four false) [] (opening_world (ring_of_four false))
+    (StartGet (codes "a") ∷ Read 0 1 ∷ Read 0 1 ∷ EndGet 0 ∷ Read 0 3 ∷ Read 0 2 ∷ EndGet 0 ∷ EndGet 0 ∷ [])
+    ≡ Ok (reply.Get 0) ∷ Ok (reply.Found ([])) ∷ Err AlreadyDone ∷ Err (TooFewSlots 1) ∷ Err UnknownNumber ∷ Ok (reply.Found ([])) ∷ Ok (reply.Answer ([])) ∷ Err AlreadyDone ∷ []
+unfolding log2 block_words rounds compress hash_after digest_bytes md5
+too_few_slots = refl

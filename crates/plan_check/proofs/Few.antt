@@ -1,0 +1,160 @@
+-- In every run of a sound plan no node takes part in more open copies than its allowance.
+use Rattle.std.proofs.Common.{◌≡◌, ◌≢◌, ◌⊎◌, inl, inr, ◌∙◌, ℕ, zero, suc, ◌+◌, ◌<◌, ◌≤◌, Bool, true, false, cond, List, [], ◌∷◌, length, refl, sym, ap, subst, arith, eqb-true, eq-eqb}
+use Rattle.std.specs.Prelude.{◌&&◌, ◌==◌, Some, None, slice_get}
+use Rattle.ring_names.specs.Lists.{has, all_different}
+use Rattle.ring_table.specs.Value.{RingValue}
+use Rattle.ring_text.proofs.Fronts.{both_true}
+use Rattle.plan_text.specs.declared.step.Planned.{Planned}
+use Rattle.plan_order.specs.Before.{Before}
+use Rattle.plan_order.proofs.Reaching.{join}
+use Rattle.plan_check.specs.World.{opening_world, passing_from, passing_below}
+use Rattle.plan_check.specs.Events.{step_at}
+use Rattle.plan_check.specs.Safe.{takes_part, allowance_of}
+use Rattle.plan_check.specs.Sound.{IsChain, AreChains, in_some}
+use Rattle.plan_check.specs.Headline.{AreFewAlways}
+use Rattle.plan_check.proofs.Quorums.{without, kept-in, different-without, one-taken, by_equal}
+use Rattle.plan_check.proofs.Mirrored.{Known, before_ready}
+use Rattle.plan_check.proofs.Events.{Inv}
+use Rattle.plan_check.proofs.Apart.{run_inv, start_inv}
+use Rattle.plan_check.proofs.Open.{Pending, run_pending, start_pending}
+use Rattle.plan_check.proofs.Partakers.{party}
+use Rattle.plan_check.proofs.Truth.{either, second_of_two}
+
+-- ---- the numbers that pass a test
+
+passes : (k n : ℕ) (test : ℕ → Bool) (m : ℕ) → has m (passing_from k n test) ≡ true → (k ≤ m) × (test m ≡ true)
+passes k zero test m h = absurd cc
+passes k (suc n) test m h = by (test k) refl h (λ g. (let r = passes (k + 1) n test m g in let l = r.0 in (omega arith, r.1)))
+  where
+    by : (b : Bool) → test k ≡ b → has m (cond b (k ∷ passing_from (k + 1) n test) (passing_from (k + 1) n test)) ≡ true → (has m (passing_from (k + 1) n test) ≡ true → (k ≤ m) × (test m ≡ true)) → (k ≤ m) × (test m ≡ true)
+    by false e g later = later g
+    by true e g later = elim (either (m == k) (has m (passing_from (k + 1) n test)) g) [
+      | inl f ↦ (let s = eqb-true m k f in (omega arith, ap test s ∙ e))
+      | inr f ↦ later f
+    ]
+
+none_twice : (k n : ℕ) (test : ℕ → Bool) → all_different (passing_from k n test) ≡ true
+none_twice k zero test = refl
+none_twice k (suc n) test = by (test k) (has k (passing_from (k + 1) n test)) refl (none_twice (k + 1) n test)
+  where
+    by : (b c : Bool) → has k (passing_from (k + 1) n test) ≡ c → all_different (passing_from (k + 1) n test) ≡ true → all_different (cond b (k ∷ passing_from (k + 1) n test) (passing_from (k + 1) n test)) ≡ true
+    by false c e r = r
+    by true true e r = absurd (let l = (passes (k + 1) n test k e).0 in omega arith)
+    by true false e r = rw (e, r) refl
+
+-- ---- chains
+
+tail : (plan : List Planned) (a : ℕ) (rest : List ℕ) → IsChain (Before plan) (a ∷ rest) → IsChain (Before plan) rest
+tail plan a [] h = tt
+tail plan a (b ∷ rest) h = h.1
+
+first_before : (plan : List Planned) (a m : ℕ) (rest : List ℕ) → IsChain (Before plan) (a ∷ rest) → has m rest ≡ true → Before plan a m
+first_before plan a m [] h e = absurd cc
+first_before plan a m (b ∷ rest) h e = elim (either (m == b) (has m rest) e) [
+  | inl f ↦ subst (λ (z : ℕ). Before plan a z) (sym (eqb-true m b f)) h.0
+  | inr f ↦ join plan a b m h.0 (first_before plan b m rest h.1 f)
+]
+
+-- of two numbers in a chain one comes before the other
+one_before : (plan : List Planned) (n m : ℕ) (c : List ℕ) → IsChain (Before plan) c → has n c ≡ true → has m c ≡ true → n ≢ m → Before plan n m ⊎ Before plan m n
+one_before plan n m [] h e f ne = absurd cc
+one_before plan n m (a ∷ rest) h e f ne = elim (either (n == a) (has n rest) e) [
+  | inl i ↦ elim (either (m == a) (has m rest) f) [
+    | inl j ↦ absurd (ne (eqb-true n a i ∙ sym (eqb-true m a j)))
+    | inr j ↦ inl (subst (λ (z : ℕ). Before plan z m) (sym (eqb-true n a i)) (first_before plan a m rest h j))
+  ]
+  | inr i ↦ elim (either (m == a) (has m rest) f) [
+    | inl j ↦ inr (subst (λ (z : ℕ). Before plan z n) (sym (eqb-true m a j)) (first_before plan a n rest h i))
+    | inr j ↦ one_before plan n m rest (tail plan a rest h) i j ne
+  ]
+]
+
+-- ---- as many numbers as chains
+
+taken_out : (n m : ℕ) (xs : List ℕ) → has m (without n xs) ≡ true → m ≢ n
+taken_out n m [] h = absurd cc
+taken_out n m (x ∷ xs) h = by_equal n x (λ b. has m (cond b (without n xs) (x ∷ without n xs)) ≡ true → m ≢ n)
+    (λ e g. taken_out n m xs g)
+    (λ e g. elim (either (m == x) (has m (without n xs)) g) [
+      | inl f ↦ (λ i. e (sym i ∙ eqb-true m x f))
+      | inr f ↦ taken_out n m xs f
+    ]) h
+
+-- one of the numbers is in the chain, or none is
+in_chain : (c xs : List ℕ) → ((n : ℕ) × (has n xs ≡ true) × (has n c ≡ true)) ⊎ ((n : ℕ) → has n xs ≡ true → has n c ≡ false)
+in_chain c [] = inr (λ n h. absurd cc)
+in_chain c (x ∷ xs) = by (has x c) refl (in_chain c xs)
+  where
+    by : (b : Bool) → has x c ≡ b → ((n : ℕ) × (has n xs ≡ true) × (has n c ≡ true)) ⊎ ((n : ℕ) → has n xs ≡ true → has n c ≡ false)
+        → ((n : ℕ) × (has n (x ∷ xs) ≡ true) × (has n c ≡ true)) ⊎ ((n : ℕ) → has n (x ∷ xs) ≡ true → has n c ≡ false)
+    by true e r = inl (x, rw (eq-eqb x x refl) refl, e)
+    by false e (inl r) = inl (r.0, second_of_two (r.0 == x) (has r.0 xs) r.1, r.2)
+    by false e (inr r) = inr (λ n h. elim (either (n == x) (has n xs) h) [
+      | inl f ↦ ap (λ (z : ℕ). has z c) (eqb-true n x f) ∙ e
+      | inr f ↦ r n f
+    ])
+
+in_rest : (n : ℕ) (c : List ℕ) (cs : List (List ℕ)) → has n c ≡ false → in_some n (c ∷ cs) ≡ true → in_some n cs ≡ true
+in_rest n c cs e h = elim (either (has n c) (in_some n cs) h) [ inl f ↦ absurd cc | inr f ↦ f ]
+
+-- where no chain has two of the numbers there are no more numbers than chains
+no_more : (plan : List Planned) (test : ℕ → Bool) → ((n m : ℕ) → test n ≡ true → test m ≡ true → Before plan n m → ⊥) → (cs : List (List ℕ)) (xs : List ℕ) → AreChains (Before plan) cs → all_different xs ≡ true
+    → ((n : ℕ) → has n xs ≡ true → test n ≡ true) → ((n : ℕ) → has n xs ≡ true → in_some n cs ≡ true) → length xs ≤ length cs
+no_more plan test apart [] [] are d t h = omega arith
+no_more plan test apart [] (x ∷ xs) are d t h = absurd (let e = h x (rw (eq-eqb x x refl) refl) in cc)
+no_more plan test apart (c ∷ cs) xs are d t h = elim (in_chain c xs) [
+  | inl f ↦ (
+      let n = f.0 in
+      let one = one-taken n xs d in
+      let rest = no_more plan test apart cs (without n xs) are.1 (different-without n xs d) (λ m e. t m (kept-in n m xs e)) (λ m e. in_rest m c cs (alone n m f.1 f.2 (kept-in n m xs e) (taken_out n m xs e)) (h m (kept-in n m xs e))) in
+      omega arith)
+  | inr f ↦ (let rest = no_more plan test apart cs xs are.1 d t (λ m e. in_rest m c cs (f m e) (h m e)) in omega arith)
+]
+  where
+    alone : (n m : ℕ) → has n xs ≡ true → has n c ≡ true → has m xs ≡ true → m ≢ n → has m c ≡ false
+    alone n m i j e ne = by (has m c) refl
+      where
+        by : (b : Bool) → has m c ≡ b → b ≡ false
+        by false f = refl
+        by true f = absurd (elim (one_before plan m n c are.0 f j ne) [ inl b ↦ apart m n (t m e) (t n i) b | inr b ↦ apart n m (t n i) (t m e) b ])
+
+-- ---- the law
+
+declared : {A : Type 0} (xs : List A) (i : ℕ) → (slice_get xs i ≡ None → ⊥) → i < length xs
+declared [] i h = absurd (h refl)
+declared (x ∷ xs) zero h = omega arith
+declared (x ∷ xs) (suc i) h = (let l = declared xs i h in omega arith)
+
+pub few_always : (ring : RingValue) (plan : List Planned) → Known ring plan → AreFewAlways ring plan
+few_always ring plan k run w is x a al =
+    let rest = no_more plan test apart (k.chains x) (passing_below (length plan) test) (k.meets.linked x named) (none_twice 0 (length plan) test) (λ n e. (passes 0 (length plan) test n e).1) (λ n e. covered n (passes 0 (length plan) test n e).1) in
+    let few = k.meets.few x a al in
+    omega arith
+  where
+    i : Inv ring plan w
+    i = run_inv ring plan k run (opening_world ring) w (start_inv ring plan k.is_ring) is
+
+    o : Pending plan w
+    o = run_pending ring plan run (opening_world ring) w (start_pending ring plan) is
+
+    part : ℕ → Bool
+    part n = elim (step_at plan n) [ Some s ↦ takes_part ring plan w x s | None ↦ false ]
+
+    test : ℕ → Bool
+    test n = w.is_open n && part n
+
+    named : x < length ring.nodes
+    named = declared ring.nodes x (λ e. (let f = rw (e, allowance_of) at al in absurd cc))
+
+    open_one : (n : ℕ) → test n ≡ true → w.is_open n ≡ true
+    open_one n e = (both_true (w.is_open n) (part n) e).0
+
+    -- an open copy comes before no other
+    apart : (n m : ℕ) → test n ≡ true → test m ≡ true → Before plan n m → ⊥
+    apart n m e f b =
+        let done = before_ready plan w.done n m i.closed (i.opened m (open_one m f)) b in
+        let off = o.undone n (open_one n e) in
+        absurd cc
+
+    covered : (n : ℕ) → test n ≡ true → in_some n (k.chains x) ≡ true
+    covered n e = k.meets.covered (record { 0 = x }) n named (party ring plan k w n x i.closed (i.opened n (open_one n e)) (o.undone n (open_one n e)) (both_true (w.is_open n) (part n) e).1)

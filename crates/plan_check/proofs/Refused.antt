@@ -1,0 +1,256 @@
+-- No clause of the checker fails exactly where the certificate certifies the plan.
+use Rattle.std.proofs.Common.{◌≡◌, inl, inr, ℕ, suc, ◌-◌, ◌<◌, Bool, true, List, [], ◌∷◌, ◌++◌, length, get_or, refl, arith, Some, None}
+use Rattle.std.specs.Prelude.{◌&&◌, ◌||◌, ◌==◌, nat_le, slice_index}
+use Rattle.std.proofs.lemmas.Bool.{leb-true, le-leb}
+use Rattle.ring_names.specs.Lists.{all_different}
+use Rattle.ring_names.specs.declared.ids.NodeId.{NodeId}
+use Rattle.ring_names.specs.declared.ids.Slot.{Slot}
+use Rattle.ring_names.specs.declared.refusal.Refusal.TheVariants.{BadSource, MovingSource, SharedInPlan, NotJoined, RetiredInUse, CoverMissing, TooManyChains}
+use Rattle.ring_table.specs.Value.{RingValue}
+use Rattle.ring_table.specs.Valid.{IsRing}
+use Rattle.plan_text.specs.declared.step.Source.TheVariants.{Owner, Slots}
+use Rattle.plan_text.specs.declared.step.Step.{Step}
+use Rattle.plan_text.specs.declared.step.Step.TheVariants.{Join, Mirror, Copy, Switch, Drop, Retire}
+use Rattle.plan_text.specs.declared.step.Planned.{Planned}
+use Rattle.plan_text.specs.Steps.{steps_of}
+use Rattle.plan_text.specs.Valid.{Suits}
+use Rattle.plan_cert.specs.declared.cert.Cert.{Cert}
+use Rattle.plan_stage.specs.Stage.{stage, is_among}
+use Rattle.plan_stage.specs.Clauses.{first_failing, below, is_staged, AllStaged}
+use Rattle.plan_stage.specs.Parties.{parties}
+use Rattle.plan_stage.proofs.Below.{met, below-met, below-all}
+use Rattle.plan_check.specs.World.{is_retire_of}
+use Rattle.plan_check.specs.Events.{Guard, step_at}
+use Rattle.plan_check.specs.Sound.{Meets, in_some, sibling}
+use Rattle.plan_check.specs.Certified.{IsCertified, ordered_by, chains_from}
+use Rattle.plan_check.specs.First.{Test, is_settled, has_left, has_joined, has_dropped, chains_clauses, is_few, fact_clauses, step_clauses, steps_clauses, slot_step_clauses, slot_clauses, partition_clauses, retire_clauses, cover_clauses, node_clauses, first_refusal}
+use Rattle.plan_check.proofs.Truth.{all_of, push, two-met, two-all, parted, together, asked-met, asked-all, clauses-met, clauses-all, same, slot-same}
+use Rattle.plan_check.proofs.Suited.{step-within, slot-within, retires-within, owner-within, allowance-within}
+use Rattle.plan_check.proofs.Firsts.{holds, facts-met, facts-all, order-met, order-all, retire-is, settled-met, settled-all, left_first-met, left_later-met, left-all, joined-met, joined-all, dropped_first-met, dropped_later-met, dropped-all, AreGood, chains-met, chains-all, party-step, few-met, few-all}
+use Rattle.ring_text.proofs.Fronts.{both_true}
+
+-- ---- the clauses, one by one
+
+-- the order of the k-th of the slot's steps
+abbrev orders : List Planned → Test → Slot → ℕ → Bool
+orders plan O slot k = (k == 0) || O (slice_index (steps_of plan slot) (k - 1)) (slice_index (steps_of plan slot) k)
+
+record Parts (ring : RingValue) (plan : List Planned) (O : Test) : Type 0 where
+  staged : AllStaged ring plan
+  ordered : (slot : Slot) → slot.partition < ring.q → slot.index < ring.n → (k : ℕ) → k < length (steps_of plan slot) → orders plan O slot k ≡ true
+  steps : (p : ℕ) → p < ring.q → (n : ℕ) (s : Step) → step_at plan n ≡ Some s → first_failing (step_clauses ring plan O p n s) ≡ None
+
+record Nodes (ring : RingValue) (plan : List Planned) (cert : Cert) (O : Test) : Type 0 where
+  retired : (x : NodeId) → x.0 < length ring.nodes → (n : ℕ) (s : Step) → step_at plan n ≡ Some s → first_failing (retire_clauses ring plan O x n s) ≡ None
+  chains : (x : NodeId) → x.0 < length ring.nodes → first_failing (chains_clauses ring plan O x 0 cert.chains) ≡ None
+  cover : (x : NodeId) → x.0 < length ring.nodes → (n : ℕ) (s : Step) → step_at plan n ≡ Some s → first_failing (cover_clauses ring plan (chains_from x.0 cert.chains) x n s) ≡ None
+  few : (x : NodeId) → x.0 < length ring.nodes → is_few ring x (length (chains_from x.0 cert.chains)) ≡ true
+
+slot-met : (ring : RingValue) (plan : List Planned) (O : Test) (slot : Slot) → first_failing (slot_clauses ring plan O slot) ≡ None → (k : ℕ) → k < length (steps_of plan slot) → (is_staged plan (stage ring plan slot k) (steps_of plan slot) k ≡ true) × (orders plan O slot k ≡ true)
+slot-met ring plan O slot h k l =
+    two-met (is_staged plan (stage ring plan slot k) (steps_of plan slot) k) (orders plan O slot k) _ _ (below-met (slot_step_clauses ring plan O slot) (length (steps_of plan slot)) h k l)
+
+abbrev slots_of : RingValue → List Planned → Test → ℕ → List Guard
+slots_of ring plan O p = below (λ i. slot_clauses ring plan O (record { partition = p; index = i })) ring.n
+
+part-met : (ring : RingValue) (plan : List Planned) (O : Test) → first_failing (below (partition_clauses ring plan O) ring.q) ≡ None → (p : ℕ) → p < ring.q → (first_failing (slots_of ring plan O p) ≡ None) × (first_failing (steps_clauses (step_clauses ring plan O p) 0 plan) ≡ None)
+part-met ring plan O h p l = parted (slots_of ring plan O p) (steps_clauses (step_clauses ring plan O p) 0 plan) (below-met (partition_clauses ring plan O) ring.q h p l)
+
+one-met : (ring : RingValue) (plan : List Planned) (O : Test) → first_failing (below (partition_clauses ring plan O) ring.q) ≡ None → (slot : Slot) → slot.partition < ring.q → slot.index < ring.n → first_failing (slot_clauses ring plan O slot) ≡ None
+one-met ring plan O h slot p i = below-met (λ (i : ℕ). slot_clauses ring plan O (record { partition = slot.partition; index = i })) ring.n (part-met ring plan O h slot.partition p).0 slot.index i
+
+parts-met : (ring : RingValue) (plan : List Planned) (O : Test) → first_failing (below (partition_clauses ring plan O) ring.q) ≡ None → Parts ring plan O
+parts-met ring plan O h = record {
+  staged = λ slot p i k l. (slot-met ring plan O slot (one-met ring plan O h slot p i) k l).0;
+  ordered = λ slot p i k l. (slot-met ring plan O slot (one-met ring plan O h slot p i) k l).1;
+  steps = λ p l n s at. clauses-met (step_clauses ring plan O p) plan (part-met ring plan O h p l).1 n s at;
+}
+
+parts-all : (ring : RingValue) (plan : List Planned) (O : Test) → Parts ring plan O → first_failing (below (partition_clauses ring plan O) ring.q) ≡ None
+parts-all ring plan O h =
+    below-all (partition_clauses ring plan O) ring.q (λ p lp.
+    together (slots_of ring plan O p) (steps_clauses (step_clauses ring plan O p) 0 plan)
+    (below-all (λ (i : ℕ). slot_clauses ring plan O (record { partition = p; index = i })) ring.n (λ i li.
+    let slot : Slot = record { partition = p; index = i } in
+    below-all (slot_step_clauses ring plan O slot) (length (steps_of plan slot)) (λ k lk.
+    two-all (is_staged plan (stage ring plan slot k) (steps_of plan slot) k) (orders plan O slot k) _ _ (h.staged slot lp li k lk) (h.ordered slot lp li k lk))))
+    (clauses-all (step_clauses ring plan O p) plan (h.steps p lp)))
+
+abbrev node_at : RingValue → List Planned → Cert → Test → ℕ → List Guard
+node_at ring plan cert O x = node_clauses ring plan cert O (record { 0 = x })
+
+abbrev covers : RingValue → List Planned → Cert → NodeId → List Guard
+covers ring plan cert x = steps_clauses (cover_clauses ring plan (chains_from x.0 cert.chains) x) 0 plan
+
+abbrev fews : RingValue → Cert → NodeId → List Guard
+fews ring cert x = (is_few ring x (length (chains_from x.0 cert.chains)), TooManyChains x.0) ∷ []
+
+node-met : (ring : RingValue) (plan : List Planned) (cert : Cert) (O : Test) → first_failing (below (node_at ring plan cert O) (length ring.nodes)) ≡ None → (x : NodeId) → x.0 < length ring.nodes
+    → (first_failing (steps_clauses (retire_clauses ring plan O x) 0 plan) ≡ None) × (first_failing (chains_clauses ring plan O x 0 cert.chains) ≡ None) × (first_failing (covers ring plan cert x) ≡ None) × (is_few ring x (length (chains_from x.0 cert.chains)) ≡ true)
+node-met ring plan cert O h x l =
+    let few = is_few ring x (length (chains_from x.0 cert.chains)) in
+    let a = parted (steps_clauses (retire_clauses ring plan O x) 0 plan) (chains_clauses ring plan O x 0 cert.chains ++ (covers ring plan cert x ++ fews ring cert x)) (below-met (node_at ring plan cert O) (length ring.nodes) h x.0 l) in
+    let b = parted (chains_clauses ring plan O x 0 cert.chains) (covers ring plan cert x ++ fews ring cert x) a.1 in
+    let c = parted (covers ring plan cert x) (fews ring cert x) b.1 in
+    (a.0, b.0, c.0, (met few (TooManyChains x.0) None c.1).0)
+
+nodes-met : (ring : RingValue) (plan : List Planned) (cert : Cert) (O : Test) → first_failing (below (node_at ring plan cert O) (length ring.nodes)) ≡ None → Nodes ring plan cert O
+nodes-met ring plan cert O h = record {
+  retired = λ x l n s at. clauses-met (retire_clauses ring plan O x) plan (node-met ring plan cert O h x l).0 n s at;
+  chains = λ x l. (node-met ring plan cert O h x l).1;
+  cover = λ x l n s at. clauses-met (cover_clauses ring plan (chains_from x.0 cert.chains) x) plan (node-met ring plan cert O h x l).2 n s at;
+  few = λ x l. (node-met ring plan cert O h x l).3;
+}
+
+nodes-all : (ring : RingValue) (plan : List Planned) (cert : Cert) (O : Test) → Nodes ring plan cert O → first_failing (below (node_at ring plan cert O) (length ring.nodes)) ≡ None
+nodes-all ring plan cert O h =
+    below-all (node_at ring plan cert O) (length ring.nodes) (λ k l.
+    let x : NodeId = record { 0 = k } in
+    together (steps_clauses (retire_clauses ring plan O x) 0 plan) (chains_clauses ring plan O x 0 cert.chains ++ (covers ring plan cert x ++ fews ring cert x))
+    (clauses-all (retire_clauses ring plan O x) plan (h.retired x l))
+    (together (chains_clauses ring plan O x 0 cert.chains) (covers ring plan cert x ++ fews ring cert x) (h.chains x l)
+    (together (covers ring plan cert x) (fews ring cert x)
+    (clauses-all (cover_clauses ring plan (chains_from x.0 cert.chains) x) plan (h.cover x l))
+    (push (is_few ring x (length (chains_from x.0 cert.chains))) (TooManyChains x.0) None (h.few x l) refl))))
+
+-- ---- a step's own clauses
+
+mirror-met : (ring : RingValue) (plan : List Planned) (O : Test) → Suits ring plan → Parts ring plan O → (n : ℕ) (slot : Slot) (x : NodeId) → step_at plan n ≡ Some (Mirror slot x) → (has_left ring plan O n slot x ≡ true) × (has_joined ring plan O n x ≡ true)
+mirror-met ring plan O suits h n slot x at =
+    let w = step-within ring plan suits slot n (Mirror slot x) at (slot-same slot) in
+    two-met (has_left ring plan O n slot x) (has_joined ring plan O n x) (SharedInPlan n) (NotJoined n)
+    (asked-met (slot.partition == slot.partition) ((has_left ring plan O n slot x, SharedInPlan n) ∷ (has_joined ring plan O n x, NotJoined n) ∷ []) (h.steps slot.partition w.0 n (Mirror slot x) at) (same slot.partition))
+
+abbrev reads_enough : RingValue → List ℕ → Bool
+reads_enough ring from = all_different from && nat_le ring.r (length from)
+
+copy-met : (ring : RingValue) (plan : List Planned) (O : Test) → Suits ring plan → Parts ring plan O → (n : ℕ) (slot : Slot) (from : List ℕ) → step_at plan n ≡ Some (Copy slot (Slots from)) → (reads_enough ring from ≡ true) × (is_settled plan O n slot from ≡ true)
+copy-met ring plan O suits h n slot from at =
+    let w = step-within ring plan suits slot n (Copy slot (Slots from)) at (slot-same slot) in
+    two-met (reads_enough ring from) (is_settled plan O n slot from) (BadSource n) (MovingSource n)
+    (asked-met (slot.partition == slot.partition) ((reads_enough ring from, BadSource n) ∷ (is_settled plan O n slot from, MovingSource n) ∷ []) (h.steps slot.partition w.0 n (Copy slot (Slots from)) at) (same slot.partition))
+
+retire-met : (ring : RingValue) (plan : List Planned) (O : Test) → Parts ring plan O → (n : ℕ) (x : NodeId) (p : ℕ) → p < ring.q → step_at plan n ≡ Some (Retire x) → has_dropped ring plan O p n x ≡ true
+retire-met ring plan O h n x p l at = (met (has_dropped ring plan O p n x) (RetiredInUse n) None (h.steps p l n (Retire x) at)).0
+
+leaves-joined : (ring : RingValue) (plan : List Planned) (cert : Cert) (O : Test) → Suits ring plan → Nodes ring plan cert O → (n : ℕ) (x : NodeId) → step_at plan n ≡ Some (Retire x) → has_joined ring plan O n x ≡ true
+leaves-joined ring plan cert O suits h n x at =
+    let none = asked-met (x.0 == x.0) ((has_joined ring plan O n x, NotJoined n) ∷ []) (h.retired x (retires-within ring plan suits n x at) n (Retire x) at) (same x.0) in
+    (met (has_joined ring plan O n x) (NotJoined n) None none).0
+
+-- ---- where no clause fails
+
+chains-good : (ring : RingValue) (plan : List Planned) (cert : Cert) (O : Test) → Nodes ring plan cert O → (x : NodeId) → x.0 < length ring.nodes → AreGood ring plan O x (chains_from x.0 cert.chains)
+chains-good ring plan cert O h x l = chains-met ring plan O x 0 cert.chains (h.chains x l)
+
+covered-met : (ring : RingValue) (plan : List Planned) (cert : Cert) (O : Test) → Nodes ring plan cert O → (x : NodeId) (n : ℕ) → x.0 < length ring.nodes → is_among x (parties ring plan n) ≡ true → in_some n (chains_from x.0 cert.chains) ≡ true
+covered-met ring plan cert O h x n l among =
+    let s = party-step ring plan n x among in
+    let none = asked-met (is_among x (parties ring plan n)) ((in_some n (chains_from x.0 cert.chains), CoverMissing x.0 n) ∷ []) (h.cover x l n s.0 s.1) among in
+    (met (in_some n (chains_from x.0 cert.chains)) (CoverMissing x.0 n) None none).0
+
+in_order-met : (ring : RingValue) (plan : List Planned) (O : Test) → Suits ring plan → Parts ring plan O → (slot : Slot) (k : ℕ) → suc k < length (steps_of plan slot) → O (get_or (steps_of plan slot) k 0) (get_or (steps_of plan slot) (suc k) 0) ≡ true
+in_order-met ring plan O suits h slot k l =
+    let w = slot-within ring plan suits slot (omega arith) in
+    order-met (λ (i : ℕ). slice_index (steps_of plan slot) i) O k (h.ordered slot w.0 w.1 (suc k) l)
+
+meets-met : (ring : RingValue) (plan : List Planned) (cert : Cert) (O : Test) → IsRing ring → Suits ring plan → Parts ring plan O → Nodes ring plan cert O → Meets ring plan (holds O) (λ x. chains_from x cert.chains)
+meets-met ring plan cert O is suits h g = record {
+  staged = h.staged;
+  in_order = in_order-met ring plan O suits h;
+  sources = λ n slot from at.
+      let b = both_true (all_different from) (nat_le ring.r (length from)) (copy-met ring plan O suits h n slot from at).0 in
+      (b.0, leb-true ring.r (length from) b.1);
+  settled = λ n m j slot from at. settled-met plan O n slot from (copy-met ring plan O suits h n slot from at).1 m j;
+  left_first = λ t j slot x at l ne. left_first-met ring plan O t slot x (mirror-met ring plan O suits h t slot x at).0 j l ne;
+  left_later = λ t b j slot x at ne lt before.
+      let w = step-within ring plan suits (sibling slot j) b (Mirror (sibling slot j) x) before (slot-same (sibling slot j)) in
+      left_later-met ring plan O t slot x (mirror-met ring plan O suits h t slot x at).0 j w.1 ne b lt before;
+  joined = λ t x out kind. elim kind [
+    | inl m ↦ joined-met ring plan O t x (mirror-met ring plan O suits h t m.0 x m.1).1 out
+    | inr at ↦ joined-met ring plan O t x (leaves-joined ring plan cert O suits g t x at) out
+  ];
+  dropped_first = λ t slot x at owns.
+      let w = owner-within ring is slot x owns in
+      dropped_first-met ring plan O t slot x (retire-met ring plan O h t x slot.partition w.0 at) w.1 owns;
+  dropped_later = λ t b slot x at before.
+      let w = step-within ring plan suits slot b (Mirror slot x) before (slot-same slot) in
+      dropped_later-met ring plan O t slot x (retire-met ring plan O h t x slot.partition w.0 at) w.1 b before;
+  few = λ x a e. few-met ring (record { 0 = x }) (length (chains_from x cert.chains)) a (g.few (record { 0 = x }) (allowance-within ring x a e)) e;
+  linked = λ x l. (chains-good ring plan cert O g (record { 0 = x }) l).0;
+  covered = covered-met ring plan cert O g;
+}
+
+-- ---- where the plan is certified
+
+step-all : (ring : RingValue) (plan : List Planned) (O : Test) (chains : ℕ → List (List ℕ)) → Suits ring plan → Meets ring plan (holds O) chains → (p n : ℕ) (s : Step) → step_at plan n ≡ Some s → first_failing (step_clauses ring plan O p n s) ≡ None
+step-all ring plan O chains suits h p n (Join x) at = refl
+step-all ring plan O chains suits h p n (Mirror slot x) at =
+    asked-all (slot.partition == p) ((has_left ring plan O n slot x, SharedInPlan n) ∷ (has_joined ring plan O n x, NotJoined n) ∷ []) (λ _.
+    two-all (has_left ring plan O n slot x) (has_joined ring plan O n x) (SharedInPlan n) (NotJoined n)
+    (left-all ring plan O n slot x (λ j l ne owns. h.left_first n j slot x at l ne owns) (λ j l ne b lt before. h.left_later n b j slot x at ne lt before))
+    (joined-all ring plan O n x (λ out. h.joined n x out (inl (slot, at)))))
+step-all ring plan O chains suits h p n (Copy slot Owner) at = refl
+step-all ring plan O chains suits h p n (Copy slot (Slots from)) at =
+    asked-all (slot.partition == p) ((reads_enough ring from, BadSource n) ∷ (is_settled plan O n slot from, MovingSource n) ∷ []) (λ _.
+    let s = h.sources n slot from at in
+    two-all (reads_enough ring from) (is_settled plan O n slot from) (BadSource n) (MovingSource n)
+    (all_of (all_different from) (nat_le ring.r (length from)) s.0 (le-leb ring.r (length from) s.1))
+    (settled-all plan O n slot from (λ m j some switch. h.settled n m j slot from at some switch)))
+step-all ring plan O chains suits h p n (Switch slot) at = refl
+step-all ring plan O chains suits h p n (Drop slot x) at = refl
+step-all ring plan O chains suits h p n (Retire x) at =
+    push (has_dropped ring plan O p n x) (RetiredInUse n) None
+    (dropped-all ring plan O p n x (λ s owns. h.dropped_first n s x at owns) (λ b s before. h.dropped_later n b s x at before)) refl
+
+parts-from : (ring : RingValue) (plan : List Planned) (O : Test) (chains : ℕ → List (List ℕ)) → Suits ring plan → Meets ring plan (holds O) chains → Parts ring plan O
+parts-from ring plan O chains suits h = record {
+  staged = h.staged;
+  ordered = λ slot p i k l. order-all (λ (i : ℕ). slice_index (steps_of plan slot) i) O k (λ j e.
+      let m : suc j < length (steps_of plan slot) = omega arith in
+      rw (← e) (h.in_order slot j m));
+  steps = λ p l n s at. step-all ring plan O chains suits h p n s at;
+}
+
+retired-all : (ring : RingValue) (plan : List Planned) (O : Test) (chains : ℕ → List (List ℕ)) → Meets ring plan (holds O) chains → (x : NodeId) (n : ℕ) (s : Step) → step_at plan n ≡ Some s → first_failing (retire_clauses ring plan O x n s) ≡ None
+retired-all ring plan O chains h x n s at =
+    asked-all (is_retire_of x.0 s) ((has_joined ring plan O n x, NotJoined n) ∷ []) (λ retires.
+    let e : s ≡ Retire x = retire-is x s retires in
+    let here : step_at plan n ≡ Some (Retire x) = rw e at at in
+    push (has_joined ring plan O n x) (NotJoined n) None (joined-all ring plan O n x (λ out. h.joined n x out (inr here))) refl)
+
+nodes-from : (ring : RingValue) (plan : List Planned) (cert : Cert) → IsCertified ring plan cert → Nodes ring plan cert (ordered_by plan cert)
+nodes-from ring plan cert h = record {
+  retired = λ x l n s at. retired-all ring plan (ordered_by plan cert) (λ x. chains_from x cert.chains) h.meets x n s at;
+  chains = λ x l. chains-all ring plan (ordered_by plan cert) x 0 cert.chains (h.meets.linked x.0 l, λ n some. h.entries x n l some);
+  cover = λ x l n s at. asked-all (is_among x (parties ring plan n)) ((in_some n (chains_from x.0 cert.chains), CoverMissing x.0 n) ∷ []) (λ among.
+      push (in_some n (chains_from x.0 cert.chains)) (CoverMissing x.0 n) None (h.meets.covered x n l among) refl);
+  few = λ x l. few-all ring x (length (chains_from x.0 cert.chains)) (λ a e. h.meets.few x.0 a e);
+}
+
+-- ---- both_true ways
+
+abbrev parts_of : RingValue → List Planned → Cert → List Guard
+parts_of ring plan cert = below (partition_clauses ring plan (ordered_by plan cert)) ring.q
+
+abbrev nodes_of : RingValue → List Planned → Cert → List Guard
+nodes_of ring plan cert = below (node_at ring plan cert (ordered_by plan cert)) (length ring.nodes)
+
+pub certified-from : (ring : RingValue) (plan : List Planned) (cert : Cert) → IsRing ring → Suits ring plan → first_refusal ring plan cert ≡ None → IsCertified ring plan cert
+certified-from ring plan cert is suits none =
+    let a = parted (fact_clauses plan 0 cert.facts) (parts_of ring plan cert ++ nodes_of ring plan cert) none in
+    let b = parted (parts_of ring plan cert) (nodes_of ring plan cert) a.1 in
+    let p = parts-met ring plan (ordered_by plan cert) b.0 in
+    let g = nodes-met ring plan cert (ordered_by plan cert) b.1 in
+    record {
+      facts = facts-met plan 0 cert.facts a.0;
+      meets = meets-met ring plan cert (ordered_by plan cert) is suits p g;
+      entries = λ x n l some. (chains-good ring plan cert (ordered_by plan cert) g x l).1 n some;
+    }
+
+pub none-from : (ring : RingValue) (plan : List Planned) (cert : Cert) → Suits ring plan → IsCertified ring plan cert → first_refusal ring plan cert ≡ None
+none-from ring plan cert suits h =
+    together (fact_clauses plan 0 cert.facts) (parts_of ring plan cert ++ nodes_of ring plan cert) (facts-all plan 0 cert.facts h.facts)
+    (together (parts_of ring plan cert) (nodes_of ring plan cert)
+    (parts-all ring plan (ordered_by plan cert) (parts-from ring plan (ordered_by plan cert) (λ x. chains_from x cert.chains) suits h.meets))
+    (nodes-all ring plan cert (ordered_by plan cert) (nodes-from ring plan cert h)))

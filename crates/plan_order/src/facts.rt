@@ -1,0 +1,107 @@
+//! Facts of order: the ends of verified paths.
+
+ghost use Rattle.std.specs.Prelude.{◌≡◌, ◌||◌, ℕ, IsTrue, IfOk, IfErr, OnOk, None, Some, Err, option_map};
+ghost use Rattle.ring_names.specs.declared.refusal.Refusal.{Refusal as TheRefusal};
+ghost use Rattle.ring_names.specs.declared.refusal.Refusal.TheVariants.{BadPath, OutOfMemory};
+ghost use Rattle.plan_order.specs.Before.{Before};
+ghost use Rattle.plan_order.specs.Paths.{first_bad};
+ghost use Rattle.plan_order.specs.Facts.{AreFactsOf, is_ordered, has_ends, leads, some_leads};
+
+use crate::path::{is_link, verify_fact};
+use indexmap::IndexSet;
+use plan_text::Plan;
+use ring_names::{Listed, Refusal};
+use std::alloc::Global;
+use std::marker::Model;
+
+/// The first and the last step of a path.
+#[derive(Clone, Copy, Debug, PartialEq, Eq, Hash)]
+pub struct Ends {
+    pub first: u32,
+    pub last: u32,
+}
+
+/// What the paths of a certificate say, once each was verified: its first step is before its last.
+#[derive(Drop)]
+pub struct Facts {
+    ends: IndexSet<Ends>,
+}
+
+impl Model for Facts {
+    ghost use Rattle.std.specs.Prelude.{List};
+    ghost use Rattle.plan_order.specs.declared.facts.Ends.{Ends};
+
+    ghost Value = { List Ends };
+
+    ghost view = { λ a. a.ends.keys };
+}
+
+// The number of the first path that is none. The numbers that no `u32` has are all the greatest.
+fn first_bad_path(plan: &Plan, paths: &[Listed<u32>]) -> Option<u32>
+    ensures { first_bad plan.now 0 paths.now ≡ option_map (λ n. BadPath n) result }
+{
+    let mut number: u32 = 0;
+    let mut rest = paths;
+    'paths: while let Some((path, later)) = rest.split_first() {
+        if !verify_fact(plan, path.as_slice()) {
+            return Some(number);
+        }
+        number = number.saturating_add(1);
+        rest = later;
+    }
+    None
+}
+
+// Adds the ends of a path; one without steps has none.
+fn add_ends(ends: &mut IndexSet<Ends>, path: &[u32]) -> Result<(), Refusal>
+    ensures ok { OnOk result ((a b : ℕ) → has_ends a b ends.new.keys ≡ (leads a b path.now || has_ends a b ends.old.keys)) }
+    ensures memory { IfErr result (λ e. e ≡ OutOfMemory) }
+{
+    if let (Some(first), Some(last)) = (path.first(), path.last()) {
+        ends.insert(Ends {
+            first: *first,
+            last: *last,
+        })?;
+    }
+    Ok(())
+}
+
+// Adds the ends of each path.
+fn add_all_ends(ends: &mut IndexSet<Ends>, paths: &[Listed<u32>]) -> Result<(), Refusal>
+    ensures ok { OnOk result ((a b : ℕ) → has_ends a b ends.new.keys ≡ (some_leads a b paths.now || has_ends a b ends.old.keys)) }
+    ensures memory { IfErr result (λ e. e ≡ OutOfMemory) }
+{
+    let mut rest = paths;
+    'paths: while let Some((path, later)) = rest.split_first() {
+        add_ends(ends, path.as_slice())?;
+        rest = later;
+    }
+    Ok(())
+}
+
+impl Facts {
+    /// Verifies paths of the plan. The first that is none is `BadPath` with its number, from 0. Costs a binary search for each link.
+    pub fn verify(alloc: Global, plan: &Plan, paths: &[Listed<u32>]) -> Result<Facts, Refusal>
+        ensures bad { (e : TheRefusal) → first_bad plan.now 0 paths.now ≡ Some e → result ≡ Err e }
+        ensures good { IfErr result (λ e. first_bad plan.now 0 paths.now ≡ None → e ≡ OutOfMemory) }
+        ensures ends { IfOk result (λ f. (a b : ℕ) → has_ends a b f ≡ some_leads a b paths.now) }
+        ensures facts { IfOk result (λ f. AreFactsOf plan.now f) }
+    {
+        if let Some(number) = first_bad_path(plan, paths) {
+            return Err(Refusal::BadPath(number));
+        }
+        let mut ends = IndexSet::new(alloc);
+        add_all_ends(&mut ends, paths)?;
+        Ok(Facts { ends })
+    }
+
+    /// Whether step `a` is a direct dependency of step `b`, or some verified path begins with `a` and ends with `b`. Takes no memory,
+    /// and costs one binary search and one look-up.
+    pub fn ordered(&self, plan: &Plan, a: u32, b: u32) -> bool
+        requires { AreFactsOf plan.now self.now }
+        ensures value { result ≡ is_ordered plan.now self.now a b }
+        ensures before { IsTrue result → Before plan.now a b }
+    {
+        is_link(plan, a, b) || self.ends.contains(&Ends { first: a, last: b })
+    }
+}

@@ -1,0 +1,12 @@
+//! Which step must be done before which: direct dependencies, and paths of them that a certificate names.
+#![tactic(auto)]
+
+mod before;
+mod facts;
+mod path;
+#[cfg(test)]
+mod tests;
+
+pub use before::before_is_an_order;
+pub use facts::{Ends, Facts};
+pub use path::verify_fact;

@@ -1,0 +1,57 @@
+-- The nodes that take part in a copy.
+use Rattle.std.specs.Prelude.{ℕ, Bool, ◌+◌, nat_lt, List, [], ◌∷◌, map, Option, Some, None, slice_get, if◌then◌else◌}
+use Rattle.ring_names.specs.declared.ids.NodeId.{NodeId}
+use Rattle.ring_names.specs.declared.ids.Slot.{Slot}
+use Rattle.ring_table.specs.Value.{RingValue}
+use Rattle.plan_text.specs.declared.step.Source.{Source}
+use Rattle.plan_text.specs.declared.step.Source.TheVariants.{Owner, Slots}
+use Rattle.plan_text.specs.declared.step.Step.{Step}
+use Rattle.plan_text.specs.declared.step.Step.TheVariants.{Join, Mirror, Copy, Switch, Drop, Retire}
+use Rattle.plan_text.specs.declared.step.Planned.{Planned}
+use Rattle.plan_text.specs.Steps.{steps_of}
+use Rattle.plan_stage.specs.declared.stage.Stage.{Stage}
+use Rattle.plan_stage.specs.Stage.{stage, with_node}
+
+-- how many of these numbers are below n
+abbrev pub count_below : ℕ → List ℕ → ℕ
+count_below n [] = 0
+count_below n (s ∷ ss) = if nat_lt s n then count_below n ss + 1 else count_below n ss
+
+-- the stage of the slot after its steps of smaller number than step n
+abbrev pub stage_before : RingValue → List Planned → Slot → ℕ → Stage
+stage_before ring plan slot n = stage ring plan slot (count_below n (steps_of plan slot))
+
+-- the slots from which a copy of the slot reads
+abbrev pub source_slots : Slot → Source → List Slot
+source_slots slot Owner = slot ∷ []
+source_slots slot (Slots from) = map (λ i. record { partition = slot.partition; index = i }) from
+
+-- the owners of these slots before step n, each once, by number
+abbrev pub owners_before : RingValue → List Planned → ℕ → List Slot → List NodeId
+owners_before ring plan n [] = []
+owners_before ring plan n (slot ∷ slots) = with_node (stage_before ring plan slot n).owner (owners_before ring plan n slots)
+
+-- the owners of the source slots of step n, and with them the mirror that it copies to; none where it is no copy
+abbrev pub sources_of : RingValue → List Planned → ℕ → Step → List NodeId
+sources_of ring plan n (Join x) = []
+sources_of ring plan n (Mirror slot x) = []
+sources_of ring plan n (Copy slot from) = owners_before ring plan n (source_slots slot from)
+sources_of ring plan n (Switch slot) = []
+sources_of ring plan n (Drop slot x) = []
+sources_of ring plan n (Retire x) = []
+
+abbrev pub target_of : RingValue → List Planned → ℕ → Step → Option NodeId
+target_of ring plan n (Join x) = None
+target_of ring plan n (Mirror slot x) = None
+target_of ring plan n (Copy slot from) = (stage_before ring plan slot n).mirror
+target_of ring plan n (Switch slot) = None
+target_of ring plan n (Drop slot x) = None
+target_of ring plan n (Retire x) = None
+
+abbrev pub with_target : Option NodeId → List NodeId → List NodeId
+with_target None xs = xs
+with_target (Some x) xs = with_node x xs
+
+-- the nodes of step n, by number
+abbrev pub parties : RingValue → List Planned → ℕ → List NodeId
+parties ring plan n = elim (slice_get plan n) [ Some step ↦ with_target (target_of ring plan n step.step) (sources_of ring plan n step.step) | None ↦ [] ]

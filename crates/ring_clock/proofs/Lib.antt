@@ -1,0 +1,5 @@
+pub mod Entries
+pub mod Merging
+pub mod Causing
+pub mod Making
+pub mod Order

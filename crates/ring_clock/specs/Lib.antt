@@ -1,0 +1,4 @@
+pub mod Clock
+pub mod Merge
+pub mod Causes
+pub mod Built

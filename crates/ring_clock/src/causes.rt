@@ -1,0 +1,153 @@
+//! The clocks of the puts of one key.
+
+ghost use Rattle.std.specs.Prelude.{◌≡◌, ◌<◌, ◌≤◌, ◌==◌, [], ℕ, length, get_or, true, max, Some, None, if◌then◌else◌, IfOk, IfErr, OnOk, IfSome};
+ghost use Rattle.ring_names.specs.Lists.{has};
+ghost use Rattle.ring_names.specs.declared.refusal.Refusal.TheVariants.{OutOfMemory};
+ghost use Rattle.ring_clock.specs.Clock.{counter};
+ghost use Rattle.ring_clock.specs.Causes.{IsEarlier, IsSuccession};
+ghost use Rattle.ring_clock.specs.Built.{Collects, IsInput, IsNext, IsClockOf, last_of};
+
+use crate::clock::Clock;
+use ring_names::{Refusal, WriterId};
+use std::alloc::Global;
+use std::collections::HashMap;
+
+/// What a put knows of the puts of its key before it: its writer, who knows its own, and the numbers of those that it has seen.
+#[derive(Debug, Drop)]
+pub struct Cause {
+    pub writer: WriterId,
+    pub seen: Vec<u32>,
+}
+
+// Raises a clock to one of the clocks.
+fn raise(clock: &mut Clock, other: &Clock) -> Result<(), Refusal>
+    ensures ok { OnOk result ((w : ℕ) → counter clock.new w ≡ max (counter clock.old w) (counter other.now w)) }
+    ensures memory { IfErr result (λ e. e ≡ OutOfMemory) }
+{
+    *clock = clock.join(other)?;
+    Ok(())
+}
+
+// Raises a clock to the clocks of the puts that were seen.
+fn raise_to_seen(clock: &mut Clock, clocks: &[Clock], seen: &[u32]) -> Result<(), Refusal>
+    requires none { clock.old ≡ [] }
+    requires earlier { (v : ℕ) → has v seen.now ≡ true → v < length clocks.now }
+    ensures ok { OnOk result (Collects clocks.now (λ v. has v seen.now ≡ true) clock.new) }
+    ensures memory { IfErr result (λ e. e ≡ OutOfMemory) }
+{
+    let mut rest = seen;
+    'seen: while let Some((put, later)) = rest.split_first() {
+        raise(clock, &clocks[*put as usize])?;
+        rest = later;
+    }
+    Ok(())
+}
+
+// Raises a clock to those of the puts that were seen, and of the writer's last.
+fn raise_to_inputs(
+    clock: &mut Clock,
+    cause: &Cause,
+    last: Option<usize>,
+    clocks: &[Clock],
+) -> Result<(), Refusal>
+    requires none { clock.old ≡ [] }
+    requires seen { (v : ℕ) → has v cause.now.seen.items ≡ true → v < length clocks.now }
+    requires last { IfSome last (λ v. v < length clocks.now) }
+    ensures ok { OnOk result (Collects clocks.now (IsInput cause.now last) clock.new) }
+    ensures memory { IfErr result (λ e. e ≡ OutOfMemory) }
+{
+    raise_to_seen(clock, clocks, cause.seen.as_slice())?;
+    if let Some(put) = last {
+        raise(clock, &clocks[put])?;
+    }
+    Ok(())
+}
+
+// The clock of a put behind others, of which `last` is the writer's last.
+fn next_clock(
+    alloc: Global,
+    cause: &Cause,
+    last: Option<usize>,
+    clocks: &[Clock],
+) -> Result<Clock, Refusal>
+    requires seen { (v : ℕ) → has v cause.now.seen.items ≡ true → v < length clocks.now }
+    requires last { IfSome last (λ v. v < length clocks.now) }
+    requires few { (v w : ℕ) → counter (get_or clocks.now v []) w ≤ length clocks.now }
+    requires room { length clocks.now < 18446744073709551615 }
+    ensures ok { IfOk result (λ c. IsNext clocks.now (IsInput cause.now last) cause.now.writer.0 c) }
+    ensures memory { IfErr result (λ e. e ≡ OutOfMemory) }
+{
+    let mut clock = Clock::new(alloc);
+    raise_to_inputs(&mut clock, cause, last, clocks)?;
+    clock.bump(cause.writer)
+}
+
+// The last put of each writer.
+#[derive(Drop)]
+struct LastPuts {
+    places: HashMap<u32, usize>,
+}
+
+impl LastPuts {
+    fn new(alloc: Global) -> LastPuts
+        ensures { (w : ℕ) → last_of result w ≡ None }
+    {
+        LastPuts {
+            places: HashMap::new(alloc),
+        }
+    }
+
+    fn of(&self, writer: WriterId) -> Option<usize>
+        ensures { result ≡ last_of self.now writer.0 }
+    {
+        match self.places.get(&writer.0) {
+            Some(place) => Some(*place),
+            None => None,
+        }
+    }
+
+    fn set(&mut self, writer: WriterId, place: usize) -> Result<(), Refusal>
+        ensures ok { OnOk result ((w : ℕ) → last_of self.new w ≡ (if w == writer.0 then Some place else last_of self.old w)) }
+        ensures memory { IfErr result (λ e. e ≡ OutOfMemory) }
+    {
+        self.places.insert(writer.0, place)?;
+        Ok(())
+    }
+}
+
+// Adds the clocks of the puts in order.
+fn push_clocks(
+    alloc: Global,
+    out: &mut Vec<Clock>,
+    last: &mut LastPuts,
+    causes: &[Cause],
+) -> Result<(), Refusal>
+    requires earlier { IsEarlier causes.now }
+    requires empty { out.old.items ≡ [] }
+    requires none { (w : ℕ) → last_of last.old w ≡ None }
+    ensures each { OnOk result (length out.new.items ≡ length causes.now) }
+    ensures clocks { OnOk result ((k : ℕ) → k < length causes.now → IsClockOf causes.now out.new.items k) }
+    ensures memory { IfErr result (λ e. e ≡ OutOfMemory) }
+{
+    for place in 0..causes.len() {
+        let cause = &causes[place];
+        let clock = next_clock(alloc, cause, last.of(cause.writer), out.as_slice())?;
+        out.push(clock)?;
+        last.set(cause.writer, place)?;
+    }
+    Ok(())
+}
+
+/// The clocks of puts of one key, in order of their start: each the join of those that it has seen and of its writer's put before
+/// it, raised by one for its writer (DeCandia et al. 2007, section 4.4). Costs what each put joins.
+pub fn clocks(alloc: Global, causes: &[Cause]) -> Result<Vec<Clock>, Refusal>
+    requires { IsEarlier causes.now }
+    ensures each { IfOk result (λ clocks. length clocks.items ≡ length causes.now) }
+    ensures succession { IfOk result (λ clocks. IsSuccession causes.now clocks.items) }
+    ensures memory { IfErr result (λ e. e ≡ OutOfMemory) }
+{
+    let mut out = Vec::new(alloc);
+    let mut last = LastPuts::new(alloc);
+    push_clocks(alloc, &mut out, &mut last, causes)?;
+    Ok(out)
+}

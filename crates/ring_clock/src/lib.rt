@@ -1,0 +1,13 @@
+//! Vector clocks of versions (DeCandia et al. 2007, section 4.4), whose actors are writers.
+#![tactic(auto)]
+
+mod causes;
+mod clock;
+mod entry;
+mod merge;
+#[cfg(test)]
+mod tests;
+
+pub use causes::{Cause, clocks};
+pub use clock::Clock;
+pub use entry::Entry;

@@ -1,0 +1,98 @@
+//! Two lists of entries, gone through side by side.
+
+ghost use Rattle.std.specs.Prelude.{◌≡◌, ◌↔◌, ◌+◌, ◌<◌, ◌∷◌, [], ℕ, IsTrue, IfOk, IfNone, IfSome, OnOk, length, max};
+ghost use Rattle.ring_clock.specs.Clock.{IsClock, IsAtMost, counter};
+ghost use Rattle.ring_clock.specs.Merge.{StandFor};
+
+use crate::entry::Entry;
+use std::alloc::{AllocError, Global};
+
+/// Whether each writer's counter in the first is at most that in the second.
+pub fn is_at_most(first: &[Entry], second: &[Entry]) -> bool
+    requires first { IsClock first.now }
+    requires second { IsClock second.now }
+    ensures { IsTrue result ↔ IsAtMost first.now second.now }
+{
+    let mut rest = first;
+    let mut others = second;
+    'entries: while let Some((entry, later)) = rest.split_first() {
+        let Some((other, later_others)) = others.split_first() else {
+            return false;
+        };
+        if entry.writer.0 < other.writer.0 {
+            return false;
+        }
+        if entry.writer.0 == other.writer.0 {
+            if other.counter < entry.counter {
+                return false;
+            }
+            rest = later;
+        }
+        others = later_others;
+    }
+    true
+}
+
+// Takes the entry of the least writer in front, the one of the greater counter where both lists have that writer.
+fn take_least<'a>(first: &mut &'a [Entry], second: &mut &'a [Entry]) -> Option<Entry>
+    requires first { IsClock first.old.now }
+    requires second { IsClock second.old.now }
+    ensures none { IfNone result ((first.old.now ≡ []) × (second.old.now ≡ [])) }
+    ensures some { IfSome result (λ e. StandFor first.old.now second.old.now (e ∷ first.new.now) (e ∷ second.new.now)) }
+    ensures shorter { IfSome result (λ e. length first.new.now + length second.new.now < length first.old.now + length second.old.now) }
+{
+    match (first.split_first(), second.split_first()) {
+        (None, None) => None,
+        (Some((entry, later)), None) => {
+            *first = later;
+            Some(*entry)
+        }
+        (None, Some((entry, later))) => {
+            *second = later;
+            Some(*entry)
+        }
+        (Some((entry, later)), Some((other, later_others))) => {
+            if entry.writer.0 < other.writer.0 {
+                *first = later;
+                return Some(*entry);
+            }
+            *second = later_others;
+            if other.writer.0 < entry.writer.0 {
+                return Some(*other);
+            }
+            *first = later;
+            if entry.counter < other.counter {
+                return Some(*other);
+            }
+            Some(*entry)
+        }
+    }
+}
+
+// Adds the entries of both lists.
+fn merge_into(out: &mut Vec<Entry>, first: &[Entry], second: &[Entry]) -> Result<(), AllocError>
+    requires empty { out.old.items ≡ [] }
+    requires first { IsClock first.now }
+    requires second { IsClock second.now }
+    ensures clock { OnOk result (IsClock out.new.items) }
+    ensures counters { OnOk result ((w : ℕ) → counter out.new.items w ≡ max (counter first.now w) (counter second.now w)) }
+{
+    let mut rest = first;
+    let mut others = second;
+    'entries: while let Some(entry) = take_least(&mut rest, &mut others) {
+        out.push(entry)?;
+    }
+    Ok(())
+}
+
+/// Each writer's greater counter of two clocks.
+pub fn merged(alloc: Global, first: &[Entry], second: &[Entry]) -> Result<Vec<Entry>, AllocError>
+    requires first { IsClock first.now }
+    requires second { IsClock second.now }
+    ensures clock { IfOk result (λ v. IsClock v.items) }
+    ensures counters { IfOk result (λ v. (w : ℕ) → counter v.items w ≡ max (counter first.now w) (counter second.now w)) }
+{
+    let mut out = Vec::new(alloc);
+    merge_into(&mut out, first, second)?;
+    Ok(out)
+}

@@ -1,0 +1,8 @@
+//! Where a key lies.
+
+/// Where a key lies: its partition, from 0 to q-1, and its chunk of that partition, from 0 to 15.
+#[derive(Clone, Copy, Debug, PartialEq, Eq)]
+pub struct Place {
+    pub partition: u32,
+    pub chunk: u32,
+}

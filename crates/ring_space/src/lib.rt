@@ -1,0 +1,10 @@
+//! Where the keys of a store lie: each key's partition of the hash space, and its chunk of the partition.
+#![tactic(auto)]
+
+mod found;
+mod space;
+#[cfg(test)]
+mod tests;
+
+pub use found::Place;
+pub use space::place;

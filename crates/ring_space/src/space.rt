@@ -1,0 +1,35 @@
+//! The hash space.
+
+ghost use Rattle.std.specs.Prelude.{◌≡◌, ◌<◌, true};
+ghost use Rattle.ring_space.specs.Place.{is_space, place_of, place_at, log2};
+
+use crate::found::Place;
+use md5::{Digest, Md5};
+
+// The place of a key of this digest.
+fn place_by(q: u32, digest: [u8; 16]) -> Place
+    requires { is_space q ≡ true }
+    ensures place { result ≡ place_at (log2 12 q) digest }
+    ensures partition { result.partition < q }
+    ensures chunk { result.chunk < 16 }
+{
+    // So many digests share a chunk.
+    let width = (1 << 124) / u128::from(q);
+    let chunks = (u128::from_be_bytes(digest) / width) as u32;
+    Place {
+        partition: chunks / 16,
+        chunk: chunks % 16,
+    }
+}
+
+/// The place of a key in a space of q partitions, q a power of two from 1 to 4,096, by its MD5 digest (RFC 1321) read
+/// big-endian: the partition is the digest's first log2 q bits, the chunk the next four (DeCandia et al. 2007, sections 4.1
+/// and 6.2). Takes no memory.
+pub fn place(q: u32, key: &[u8]) -> Place
+    requires { is_space q ≡ true }
+    ensures place { result ≡ place_of q key.now }
+    ensures partition { result.partition < q }
+    ensures chunk { result.chunk < 16 }
+{
+    place_by(q, Md5::digest(key))
+}

@@ -1,0 +1,11 @@
+//! Versions of a key's value, of which none is an ancestor of another (DeCandia et al. 2007, section 4.4).
+#![tactic(auto)]
+
+mod merge;
+#[cfg(test)]
+mod tests;
+mod version;
+mod versions;
+
+pub use version::Version;
+pub use versions::Versions;
