@@ -30,8 +30,9 @@ is_drop_of x slot (Retire y) = false
 abbrev pub dropping : List Planned → NodeId → Slot → List ℕ → Option ℕ
 dropping plan x slot [] = None
 dropping plan x slot (s ∷ ss) = elim (slice_get plan s) [
-    Some step ↦ if is_drop_of x slot step.step then Some s else dropping plan x slot ss
-  | None ↦ dropping plan x slot ss ]
+  | Some step ↦ if is_drop_of x slot step.step then Some s else dropping plan x slot ss
+  | None ↦ dropping plan x slot ss
+]
 
 -- the occupancy of the first owner ends at such a step, and that of the node which the slot's k-th step mirrors
 abbrev pub first_end : RingValue → List Planned → Slot → Option ℕ
