@@ -20,14 +20,15 @@ use Rattle.plan_check.specs.declared.event.Event.{Event}
 use Rattle.plan_check.specs.declared.event.Event.TheVariants.{Do, OpenCopy, ChunkCopy, CloseCopy, AbortCopy, StartPut, Write, Hint, Ack, StartGet, Read, EndGet, Down, Up, Handoff}
 use Rattle.plan_check.specs.declared.event.Reply.{Reply}
 use Rattle.plan_check.specs.World.{PutRecord, World, opening_world, count, keeps_other}
-use Rattle.plan_check.specs.Events.{step_at, is_copy, put_slot, serves, do_guards, guards, effect, reply_to, with_number, without_number, with_ticket, served_puts, without_puts, done_step, changed}
+use Rattle.plan_check.specs.Events.{is_copy, put_slot, serves, do_guards, guards, effect, reply_to, with_number, without_number, with_ticket, served_puts, without_puts, done_step, changed}
+use Rattle.plan_stage.specs.Each.{step_at}
 use Rattle.plan_check.specs.Runs.{Entry, Leads}
 use Rattle.plan_check.specs.Headline.{AreApartAlways, AreFinishedFirst}
 use Rattle.plan_check.proofs.Prefix.{order, passed, prefix}
 use Rattle.plan_check.proofs.Groups.{Served, InGroup, in_group}
 use Rattle.plan_check.proofs.Mirrored.{Known, Ready, down}
 use Rattle.plan_check.proofs.Events.{Apart, Inv, AllMet, all_met, ready, MayMirror, done_inv, less_inv, hint_inv, length_changed}
-use Rattle.plan_check.proofs.Truth.{second_of_two, not_is}
+use Rattle.plan_stage.proofs.Truth.{second_of_two, not_is}
 
 -- ---- steps
 

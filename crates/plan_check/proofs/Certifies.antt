@@ -11,8 +11,9 @@ use Rattle.plan_order.specs.Facts.{leads, some_leads}
 use Rattle.plan_order.proofs.Reaching.{path_before}
 use Rattle.plan_cert.specs.declared.cert.Cert.{Cert}
 use Rattle.plan_check.specs.Sound.{Order, EndsBefore, IsChain, AreChains, Meets, Sound}
-use Rattle.plan_check.specs.Certified.{ordered_by, chains_from, IsCertified}
-use Rattle.plan_check.proofs.Truth.{either}
+use Rattle.plan_check.specs.Certified.{ordered_by, IsCertified}
+use Rattle.plan_cover.specs.Clauses.{chains_from}
+use Rattle.plan_stage.proofs.Truth.{either}
 
 paths_before : (plan : List Planned) (a b : ℕ) (paths : List (List ℕ)) → list_all (is_path plan) paths ≡ true → some_leads a b paths ≡ true → Before plan a b
 paths_before plan a b [] all h = absurd cc

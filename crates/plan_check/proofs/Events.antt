@@ -12,14 +12,14 @@ use Rattle.plan_text.specs.declared.step.Step.{Step}
 use Rattle.plan_text.specs.declared.step.Step.TheVariants.{Join, Mirror, Copy, Switch, Drop, Retire}
 use Rattle.plan_text.specs.declared.step.Planned.{Planned}
 use Rattle.plan_text.specs.Steps.{is_slot}
-use Rattle.plan_stage.specs.Clauses.{first_failing}
+use Rattle.plan_stage.specs.Clauses.{first_failing, Guard}
 use Rattle.plan_stage.proofs.Below.{met}
 use Rattle.plan_check.specs.World.{PutRecord, World, stage_now, keeps, keeps_other}
-use Rattle.plan_check.specs.Events.{Guard, step_at, is_ready, serves, with_number, with_puts, changed}
-use Rattle.plan_check.specs.Sound.{sibling}
+use Rattle.plan_check.specs.Events.{is_ready, serves, with_number, with_puts, changed}
+use Rattle.plan_stage.specs.Each.{step_at, sibling}
 use Rattle.plan_check.proofs.Groups.{Served, Keeps, InGroup, some_is, moved}
 use Rattle.plan_check.proofs.Mirrored.{Known, Closed, Ready, still_passes, closed_with, rises, down, mirrored_alone}
-use Rattle.plan_check.proofs.Truth.{either, second_of_two, slot-is}
+use Rattle.plan_stage.proofs.Truth.{either, second_of_two, slot-is}
 
 -- two slots of a partition share no node
 abbrev pub Apart : RingValue → List Planned → World → Type 0

@@ -8,9 +8,10 @@ use Rattle.plan_text.specs.declared.step.Planned.{Planned}
 use Rattle.plan_order.specs.Before.{Before}
 use Rattle.plan_order.proofs.Reaching.{join}
 use Rattle.plan_check.specs.World.{opening_world, passing_from, passing_below}
-use Rattle.plan_check.specs.Events.{step_at}
-use Rattle.plan_check.specs.Safe.{takes_part, allowance_of}
-use Rattle.plan_check.specs.Sound.{IsChain, AreChains, in_some}
+use Rattle.plan_stage.specs.Each.{step_at}
+use Rattle.plan_check.specs.Safe.{takes_part}
+use Rattle.plan_cover.specs.Clauses.{allowance_of, in_some}
+use Rattle.plan_check.specs.Sound.{IsChain, AreChains}
 use Rattle.plan_check.specs.Headline.{AreFewAlways}
 use Rattle.plan_check.proofs.Quorums.{without, kept-in, different-without, one-taken, by_equal}
 use Rattle.plan_check.proofs.Mirrored.{Known, before_ready}
@@ -18,7 +19,7 @@ use Rattle.plan_check.proofs.Events.{Inv}
 use Rattle.plan_check.proofs.Apart.{run_inv, start_inv}
 use Rattle.plan_check.proofs.Open.{Pending, run_pending, start_pending}
 use Rattle.plan_check.proofs.Partakers.{party}
-use Rattle.plan_check.proofs.Truth.{either, second_of_two}
+use Rattle.plan_stage.proofs.Truth.{either, second_of_two}
 
 -- ---- the numbers that pass a test
 

@@ -1,6 +1,6 @@
 -- What the checker's clauses say, one by one, and what they follow from.
 use Rattle.std.proofs.Common.{◌≡◌, ◌≢◌, ◌⊎◌, inl, inr, ℕ, suc, zero, ◌+◌, ◌-◌, ◌<◌, ◌≤◌, Bool, true, false, not, cond, List, [], ◌∷◌, refl, sym, ap, arith, Option, Some, None}
-use Rattle.std.specs.Prelude.{◌&&◌, ◌||◌, ◌==◌, nat_lt, nat_le, slice_get}
+use Rattle.std.specs.Prelude.{◌&&◌, ◌||◌, ◌==◌, min, nat_lt, nat_le, slice_get}
 use Rattle.std.specs.List.{list_all}
 use Rattle.std.proofs.lemmas.Bool.{eqb-true, ltb-true, lt-ltb, leb-true, le-leb}
 use Rattle.std.proofs.lemmas.Bool.Decides.{eqb_tells}
@@ -12,7 +12,7 @@ use Rattle.ring_table.specs.Value.{RingValue, is_member, owner_of}
 use Rattle.plan_text.specs.declared.step.Step.{Step}
 use Rattle.plan_text.specs.declared.step.Step.TheVariants.{Join, Mirror, Copy, Switch, Drop, Retire}
 use Rattle.plan_text.specs.declared.step.Planned.{Planned}
-use Rattle.plan_text.specs.Steps.{is_slot}
+use Rattle.plan_text.specs.Steps.{is_slot, is_join_of, is_retire_of}
 use Rattle.plan_order.specs.Paths.{is_path}
 use Rattle.plan_cert.specs.declared.cert.Chain.{Chain}
 use Rattle.plan_stage.specs.Stage.{is_among}
@@ -20,13 +20,12 @@ use Rattle.plan_stage.specs.Clauses.{first_failing}
 use Rattle.plan_stage.specs.Occupancy.{is_node, first_end, mirror_end, first_drop, mirror_drop}
 use Rattle.plan_stage.specs.Parties.{parties, target_of, sources_of, with_target}
 use Rattle.plan_stage.proofs.Below.{met}
-use Rattle.plan_check.specs.World.{is_join_of, is_retire_of, some_step}
-use Rattle.plan_check.specs.Events.{step_at}
-use Rattle.plan_check.specs.Safe.{allowance_of}
-use Rattle.plan_check.specs.Sound.{Order, EndsBefore, IsChain, AreChains, in_some, place_in, sibling}
-use Rattle.plan_check.specs.Certified.{chains_from}
-use Rattle.plan_check.specs.First.{Test, each_step, is_switch_of, is_mirror_of, owns_first, ends_before, is_settled, has_left, has_joined, has_dropped, is_good_chain, chains_clauses, is_few, fact_clauses}
-use Rattle.plan_check.proofs.Truth.{all_of, either, first_of_two, second_of_two, where_asked, if_asked, push, each-met, each-all, some-met, some-all, each_below-met, each_below-all, list_all-met, list_all-all, same, slot-is, slot-same, node-is, node-same}
+use Rattle.plan_stage.specs.Each.{some_step, step_at, place_in, sibling, each_step, is_switch_of, is_mirror_of, owns_first}
+use Rattle.plan_cover.specs.Clauses.{allowance_of, in_some, chains_from, is_good_chain, chains_clauses, is_few}
+use Rattle.plan_check.specs.Sound.{Order, EndsBefore, IsChain, AreChains}
+use Rattle.plan_check.specs.First.{fact_clauses}
+use Rattle.plan_stage.specs.Partition.{Test, ends_before, is_settled, has_left, has_joined, has_dropped}
+use Rattle.plan_stage.proofs.Truth.{all_of, either, first_of_two, second_of_two, where_asked, if_asked, push, each-met, each-all, some-met, some-all, each_below-met, each_below-all, list_all-met, list_all-all, same, slot-is, slot-same, node-is, node-same}
 use Rattle.ring_text.proofs.Fronts.{both_true}
 
 -- the order of which a test tells
@@ -325,14 +324,14 @@ chain-all ring plan O x false c cs g = (refl, g)
 pub chains-met : (ring : RingValue) (plan : List Planned) (O : Test) (x : NodeId) (k : ℕ) (cs : List Chain) → first_failing (chains_clauses ring plan O x k cs) ≡ None → AreGood ring plan O x (chains_from x.0 cs)
 chains-met ring plan O x k [] h = (tt, λ n is. absurd cc)
 chains-met ring plan O x k (c ∷ cs) h =
-    let m = met (not (is_node x c.node) || is_good_chain ring plan O x c.steps) (ChainBroken k) (first_failing (chains_clauses ring plan O x (k + 1) cs)) h in
+    let m = met (not (is_node x c.node) || is_good_chain ring plan O x c.steps) (ChainBroken (min k 4294967295)) (first_failing (chains_clauses ring plan O x (k + 1) cs)) h in
     chain-met ring plan O x (is_node x c.node) c.steps (chains_from x.0 cs) m.0 (chains-met ring plan O x (k + 1) cs m.1)
 
 pub chains-all : (ring : RingValue) (plan : List Planned) (O : Test) (x : NodeId) (k : ℕ) (cs : List Chain) → AreGood ring plan O x (chains_from x.0 cs) → first_failing (chains_clauses ring plan O x k cs) ≡ None
 chains-all ring plan O x k [] g = refl
 chains-all ring plan O x k (c ∷ cs) g =
     let a = chain-all ring plan O x (is_node x c.node) c.steps (chains_from x.0 cs) g in
-    push (not (is_node x c.node) || is_good_chain ring plan O x c.steps) (ChainBroken k) (first_failing (chains_clauses ring plan O x (k + 1) cs)) a.0 (chains-all ring plan O x (k + 1) cs a.1)
+    push (not (is_node x c.node) || is_good_chain ring plan O x c.steps) (ChainBroken (min k 4294967295)) (first_failing (chains_clauses ring plan O x (k + 1) cs)) a.0 (chains-all ring plan O x (k + 1) cs a.1)
 
 -- ---- the copies of a node, and its allowance
 

@@ -15,7 +15,7 @@ use Rattle.plan_stage.specs.Clauses.{AllStaged}
 use Rattle.plan_stage.proofs.Stages.{after-next, fits_at-fits, stage-more}
 use Rattle.plan_check.specs.Occupies.{IsGoodMirror, IsGoodStage}
 use Rattle.plan_check.proofs.Occupied.{steps_on}
-use Rattle.plan_check.proofs.Truth.{not_is}
+use Rattle.plan_stage.proofs.Truth.{not_is}
 
 -- who is among leftovers once a node is put among them, or is taken out
 among-with : (x y : NodeId) (ys : List NodeId) → (x.0 == y.0) ≡ false → is_among x ys ≡ false → is_among x (with_node y ys) ≡ false

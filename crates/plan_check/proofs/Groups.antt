@@ -15,9 +15,10 @@ use Rattle.plan_stage.specs.Stage.{stage, after, next}
 use Rattle.plan_stage.proofs.Stages.{stage-more}
 use Rattle.plan_check.specs.World.{World, stage_now, keeps, some_below, count}
 use Rattle.plan_check.specs.Safe.{is_in_group}
-use Rattle.plan_check.specs.Events.{step_at, with_number}
+use Rattle.plan_check.specs.Events.{with_number}
+use Rattle.plan_stage.specs.Each.{step_at}
 use Rattle.plan_check.proofs.Prefix.{found, Rises, Down, one_more, count_same}
-use Rattle.plan_check.proofs.Truth.{either, second_of_two, slot-is}
+use Rattle.plan_stage.proofs.Truth.{either, second_of_two, slot-is}
 
 -- ---- numbers below n
 

@@ -1,4 +1,3 @@
-pub mod Law
 mod Examples
 mod Verdicts
 pub mod Occupied
@@ -6,7 +5,6 @@ pub mod Certifies
 pub mod Answered
 pub mod Quorums
 pub mod Good
-pub mod Truth
 pub mod Suited
 pub mod Firsts
 pub mod Refused
@@ -19,3 +17,4 @@ pub mod Serving
 pub mod Open
 pub mod Partakers
 pub mod Few
+pub mod Checked

@@ -16,13 +16,14 @@ use Rattle.plan_stage.specs.declared.stage.Stage.{Stage}
 use Rattle.plan_stage.specs.Stage.{stage, after}
 use Rattle.plan_stage.specs.Occupancy.{is_node, leaving, mirror_end}
 use Rattle.plan_check.specs.World.{count}
-use Rattle.plan_check.specs.Events.{step_at, with_number}
-use Rattle.plan_check.specs.Sound.{Meets, EndsBefore, sibling, place_in}
+use Rattle.plan_check.specs.Events.{with_number}
+use Rattle.plan_stage.specs.Each.{step_at, sibling, place_in}
+use Rattle.plan_check.specs.Sound.{Meets, EndsBefore}
 use Rattle.plan_check.proofs.Prefix.{order, passed, found, found_later, Rises, Down, prefix, place}
 use Rattle.plan_check.proofs.Groups.{on_steps}
 use Rattle.plan_check.specs.Occupies.{FromStart, FromMirror, Serves}
 use Rattle.plan_check.proofs.Occupied.{occupied, ends_later, mirror_ends_later}
-use Rattle.plan_check.proofs.Truth.{second_of_two, slot-same}
+use Rattle.plan_stage.proofs.Truth.{second_of_two, slot-same}
 
 -- what is known of the ring and the plan
 pub record Known (ring : RingValue) (plan : List Planned) : Type 0 where

@@ -17,9 +17,9 @@ use Rattle.plan_stage.specs.declared.stage.Stage.{Stage}
 use Rattle.plan_stage.specs.Stage.{opening, stage, after, next}
 use Rattle.plan_stage.proofs.Stages.{after-next, stage-more}
 use Rattle.plan_stage.specs.Occupancy.{is_node, leaving, first_end, mirror_end}
-use Rattle.plan_check.specs.Events.{step_at}
+use Rattle.plan_stage.specs.Each.{step_at}
 use Rattle.plan_check.specs.Occupies.{FromStart, FromMirror, Serves}
-use Rattle.plan_check.proofs.Truth.{slot-is}
+use Rattle.plan_stage.proofs.Truth.{slot-is}
 
 -- ---- the steps of a slot are its own
 

@@ -11,12 +11,13 @@ use Rattle.plan_stage.specs.Clauses.{first_failing}
 use Rattle.plan_check.specs.declared.event.Event.{Event}
 use Rattle.plan_check.specs.declared.event.Event.TheVariants.{Do, OpenCopy, ChunkCopy, CloseCopy, AbortCopy, StartPut, Write, Hint, Ack, StartGet, Read, EndGet, Down, Up, Handoff}
 use Rattle.plan_check.specs.World.{World, opening_world}
-use Rattle.plan_check.specs.Events.{step_at, is_copy, has_copy, guards, effect, reply_to, with_number, done_step}
+use Rattle.plan_check.specs.Events.{is_copy, has_copy, guards, effect, reply_to, with_number, done_step}
+use Rattle.plan_stage.specs.Each.{step_at}
 use Rattle.plan_check.specs.Runs.{Entry, Leads}
 use Rattle.plan_check.proofs.Prefix.{passed}
 use Rattle.plan_check.proofs.Events.{AllMet, all_met}
 use Rattle.plan_check.proofs.Apart.{answered, without_was}
-use Rattle.plan_check.proofs.Truth.{not_is}
+use Rattle.plan_stage.proofs.Truth.{not_is}
 
 pub record Pending (plan : List Planned) (w : World) : Type 0 where
   pub copies : (n : ℕ) → w.is_open n ≡ true → has_copy plan n ≡ true

@@ -18,14 +18,14 @@ use Rattle.plan_stage.specs.Stage.{stage, after, next, is_among, with_node}
 use Rattle.plan_stage.specs.Parties.{count_below, stage_before, source_slots, owners_before, sources_of, target_of, with_target, parties}
 use Rattle.plan_stage.proofs.Stages.{after-next, stage-more}
 use Rattle.plan_check.specs.World.{World, stage_now, count}
-use Rattle.plan_check.specs.Events.{step_at, is_in_slots}
+use Rattle.plan_check.specs.Events.{is_in_slots}
+use Rattle.plan_stage.specs.Each.{step_at, sibling}
 use Rattle.plan_check.specs.Safe.{takes_part}
-use Rattle.plan_check.specs.Sound.{sibling}
 use Rattle.plan_check.proofs.Prefix.{order, found, Rises, IsPrefix, prefix, count_below_is, place}
 use Rattle.plan_check.proofs.Mirrored.{Known, Closed, Ready, before_done, before_ready, rises, down}
 use Rattle.plan_check.proofs.Groups.{on_steps}
 use Rattle.plan_check.proofs.Occupied.{steps_on}
-use Rattle.plan_check.proofs.Truth.{either, second_of_two, slot-is, slot-same}
+use Rattle.plan_stage.proofs.Truth.{either, second_of_two, slot-is, slot-same}
 
 -- ---- steps of smaller number
 

@@ -12,19 +12,20 @@ use Rattle.plan_text.specs.declared.step.Source.TheVariants.{Owner, Slots}
 use Rattle.plan_text.specs.declared.step.Step.{Step}
 use Rattle.plan_text.specs.declared.step.Step.TheVariants.{Join, Mirror, Copy, Switch, Drop, Retire}
 use Rattle.plan_text.specs.declared.step.Planned.{Planned}
-use Rattle.plan_text.specs.Steps.{steps_of}
+use Rattle.plan_text.specs.Steps.{steps_of, is_retire_of}
 use Rattle.plan_text.specs.Valid.{Suits}
 use Rattle.plan_cert.specs.declared.cert.Cert.{Cert}
 use Rattle.plan_stage.specs.Stage.{stage, is_among}
-use Rattle.plan_stage.specs.Clauses.{first_failing, below, is_staged, AllStaged}
+use Rattle.plan_stage.specs.Clauses.{first_failing, below, is_staged, AllStaged, Guard}
 use Rattle.plan_stage.specs.Parties.{parties}
 use Rattle.plan_stage.proofs.Below.{met, below-met, below-all}
-use Rattle.plan_check.specs.World.{is_retire_of}
-use Rattle.plan_check.specs.Events.{Guard, step_at}
-use Rattle.plan_check.specs.Sound.{Meets, in_some, sibling}
-use Rattle.plan_check.specs.Certified.{IsCertified, ordered_by, chains_from}
-use Rattle.plan_check.specs.First.{Test, is_settled, has_left, has_joined, has_dropped, chains_clauses, is_few, fact_clauses, step_clauses, steps_clauses, slot_step_clauses, slot_clauses, partition_clauses, retire_clauses, cover_clauses, node_clauses, first_refusal}
-use Rattle.plan_check.proofs.Truth.{all_of, push, two-met, two-all, parted, together, asked-met, asked-all, clauses-met, clauses-all, same, slot-same}
+use Rattle.plan_stage.specs.Each.{step_at, sibling}
+use Rattle.plan_check.specs.Sound.{Meets}
+use Rattle.plan_cover.specs.Clauses.{in_some, chains_from, chains_clauses, is_few, retire_clauses, cover_clauses, node_clauses}
+use Rattle.plan_check.specs.Certified.{IsCertified, ordered_by}
+use Rattle.plan_check.specs.First.{fact_clauses, first_refusal}
+use Rattle.plan_stage.specs.Partition.{Test, is_settled, has_left, has_joined, has_dropped, step_clauses, steps_clauses, slot_step_clauses, slot_clauses, partition_clauses}
+use Rattle.plan_stage.proofs.Truth.{all_of, push, two-met, two-all, parted, together, asked-met, asked-all, clauses-met, clauses-all, same, slot-same}
 use Rattle.plan_check.proofs.Suited.{step-within, slot-within, retires-within, owner-within, allowance-within}
 use Rattle.plan_check.proofs.Firsts.{holds, facts-met, facts-all, order-met, order-all, retire-is, settled-met, settled-all, left_first-met, left_later-met, left-all, joined-met, joined-all, dropped_first-met, dropped_later-met, dropped-all, AreGood, chains-met, chains-all, party-step, few-met, few-all}
 use Rattle.ring_text.proofs.Fronts.{both_true}

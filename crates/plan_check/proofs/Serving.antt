@@ -18,7 +18,7 @@ use Rattle.plan_stage.proofs.Stages.{after-next, fits_at-fits, stage-more}
 use Rattle.plan_check.specs.Occupies.{FromStart, FromMirror, Serves}
 use Rattle.plan_check.proofs.Prefix.{order}
 use Rattle.plan_check.proofs.Occupied.{node_same, ends_at, InStage, steps_on, drop_push, fold_cut}
-use Rattle.plan_check.proofs.Truth.{node-is}
+use Rattle.plan_stage.proofs.Truth.{node-is}
 
 leaving_parts : (plan : List Planned) (x : NodeId) (a : Stage) (ss ts : List ℕ) → leaving plan x a (ss ++ ts) ≡ None → (leaving plan x a ss ≡ None) × (leaving plan x (fold (after plan) a ss) ts ≡ None)
 leaving_parts plan x a [] ts h = (refl, h)

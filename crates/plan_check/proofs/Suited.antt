@@ -14,9 +14,9 @@ use Rattle.plan_text.specs.declared.step.Step.TheVariants.{Join, Mirror, Copy, S
 use Rattle.plan_text.specs.declared.step.Planned.{Planned}
 use Rattle.plan_text.specs.Steps.{is_on, steps_from, steps_of}
 use Rattle.plan_text.specs.Valid.{Suits, step_suits, source_suits, is_ring_slot, is_declared}
-use Rattle.plan_check.specs.Events.{step_at}
-use Rattle.plan_check.specs.Safe.{allowance_of}
-use Rattle.plan_check.proofs.Truth.{slot-is}
+use Rattle.plan_stage.specs.Each.{step_at}
+use Rattle.plan_cover.specs.Clauses.{allowance_of}
+use Rattle.plan_stage.proofs.Truth.{slot-is}
 use Rattle.ring_text.proofs.Fronts.{both_true}
 
 -- ---- a step, and the slot of a step

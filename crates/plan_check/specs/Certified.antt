@@ -1,5 +1,5 @@
 -- What a certificate says of a plan.
-use Rattle.std.specs.Prelude.{◌≡◌, ℕ, ◌<◌, Bool, true, ◌||◌, ◌==◌, List, [], ◌∷◌, length, if◌then◌else◌}
+use Rattle.std.specs.Prelude.{◌≡◌, ℕ, ◌<◌, Bool, true, ◌||◌, List, length}
 use Rattle.std.specs.List.{list_all}
 use Rattle.ring_names.specs.declared.ids.NodeId.{NodeId}
 use Rattle.ring_table.specs.Value.{RingValue}
@@ -7,20 +7,16 @@ use Rattle.plan_text.specs.declared.step.Planned.{Planned}
 use Rattle.plan_text.specs.Steps.{depends}
 use Rattle.plan_order.specs.Paths.{is_path}
 use Rattle.plan_order.specs.Facts.{some_leads}
-use Rattle.plan_cert.specs.declared.cert.Chain.{Chain}
 use Rattle.plan_cert.specs.declared.cert.Cert.{Cert}
 use Rattle.plan_stage.specs.Stage.{is_among}
 use Rattle.plan_stage.specs.Parties.{parties}
-use Rattle.plan_check.specs.Sound.{Meets, in_some}
+use Rattle.plan_check.specs.Sound.{Meets}
+use Rattle.plan_cover.specs.Clauses.{in_some}
+use Rattle.plan_cover.specs.Clauses.{chains_from}
 
 -- what a certificate proves to be in order: direct dependencies, and the ends of its facts
 abbrev pub ordered_by : List Planned → Cert → ℕ → ℕ → Bool
 ordered_by plan cert a b = depends plan a b || some_leads a b cert.facts
-
--- a node's chains, in the order written
-abbrev pub chains_from : ℕ → List Chain → List (List ℕ)
-chains_from x [] = []
-chains_from x (c ∷ cs) = if x == c.node.0 then c.steps ∷ chains_from x cs else chains_from x cs
 
 -- the facts are paths, the plan meets all by what they prove and by the certificate's own chains, and these have nothing but
 -- copies in which their node takes part

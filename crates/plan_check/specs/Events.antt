@@ -23,15 +23,10 @@ use Rattle.plan_check.specs.declared.event.Reply.{Reply}
 use Rattle.plan_check.specs.declared.event.Reply.TheVariants as reply
 use Rattle.plan_check.specs.World.{PutRecord, World, some_below, passing_below, stage_now, generation, is_member_now, slot_of, keeps, keeps_other, keeps_any}
 use Rattle.plan_check.specs.Succession.{latest}
-
--- a test, and the refusal where it fails
-abbrev pub Guard : Type 0
-Guard = Bool × Refusal
+use Rattle.plan_stage.specs.Clauses.{Guard}
+use Rattle.plan_stage.specs.Each.{step_at}
 
 -- ---- what is named
-
-abbrev pub step_at : List Planned → ℕ → Option Step
-step_at plan n = elim (slice_get plan n) [ Some x ↦ Some x.step | None ↦ None ]
 
 abbrev pub is_copy : Step → Bool
 is_copy (step.Join x) = false

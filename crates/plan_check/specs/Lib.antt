@@ -1,4 +1,3 @@
-pub mod InOrder
 pub mod Approval
 pub mod Words
 pub mod Replies

@@ -10,7 +10,7 @@ use Rattle.plan_text.specs.Steps.{steps_of}
 use Rattle.plan_stage.specs.declared.stage.Stage.{Stage}
 use Rattle.plan_stage.specs.Stage.{opening, stage, is_among}
 use Rattle.plan_stage.specs.Occupancy.{is_node, leaving, first_end, mirror_end}
-use Rattle.plan_check.specs.Events.{step_at}
+use Rattle.plan_stage.specs.Each.{step_at}
 
 -- the node owned the slot at the start, and has not left it in its first k steps
 abbrev pub FromStart : RingValue → List Planned → Slot → NodeId → ℕ → Type 0

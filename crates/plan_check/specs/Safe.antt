@@ -1,5 +1,5 @@
 -- What is promised of a store at every moment.
-use Rattle.std.specs.Prelude.{◌≡◌, ◌≢◌, ℕ, ◌<◌, ◌≤◌, Bool, true, false, ◌&&◌, ◌||◌, ◌==◌, nat_lt, List, length, Option, Some, None, slice_get}
+use Rattle.std.specs.Prelude.{◌≡◌, ◌≢◌, ℕ, ◌<◌, ◌≤◌, Bool, true, false, ◌&&◌, ◌||◌, ◌==◌, nat_lt, List, length, Option, Some, None}
 use Rattle.std.specs.List.{list_all}
 use Rattle.ring_names.specs.Lists.{has, all_different}
 use Rattle.ring_names.specs.declared.ids.NodeId.{NodeId}
@@ -11,7 +11,9 @@ use Rattle.plan_text.specs.declared.step.Planned.{Planned}
 use Rattle.plan_stage.specs.Parties.{source_slots}
 use Rattle.plan_check.specs.World.{World, stage_now, keeps, passing_below}
 use Rattle.plan_check.specs.Succession.{Succeeds}
-use Rattle.plan_check.specs.Events.{step_at, put_slot, is_acked, slot_has, is_in_slots}
+use Rattle.plan_check.specs.Events.{put_slot, is_acked, slot_has, is_in_slots}
+use Rattle.plan_stage.specs.Each.{step_at}
+use Rattle.plan_cover.specs.Clauses.{allowance_of}
 
 -- the put or one that succeeds it is at the slot's owner, or is kept for the slot as a hint
 abbrev pub IsHeld : RingValue → List Planned → World → ℕ → Slot → Type 0
@@ -37,9 +39,6 @@ takes_part ring plan w x (Copy s from) = is_mirror_now (stage_now ring plan w s)
 takes_part ring plan w x (Switch s) = false
 takes_part ring plan w x (Drop s y) = false
 takes_part ring plan w x (Retire y) = false
-
-abbrev pub allowance_of : RingValue → ℕ → Option ℕ
-allowance_of ring x = elim (slice_get ring.nodes x) [ Some node ↦ Some node.allowance | None ↦ None ]
 
 -- how many open copies the node takes part in
 abbrev pub open_transfers : RingValue → List Planned → World → ℕ → ℕ

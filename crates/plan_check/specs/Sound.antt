@@ -1,5 +1,5 @@
 -- Which plans are sound.
-use Rattle.std.specs.Prelude.{◌≡◌, ◌≢◌, ◌⊎◌, ℕ, suc, ◌<◌, ◌≤◌, Bool, true, false, ◌||◌, List, [], ◌∷◌, length, get_or, Option, Some, None}
+use Rattle.std.specs.Prelude.{◌≡◌, ◌≢◌, ◌⊎◌, ℕ, suc, ◌<◌, ◌≤◌, true, false, List, [], ◌∷◌, length, get_or, Option, Some, None}
 use Rattle.ring_names.specs.Lists.{has, all_different}
 use Rattle.ring_names.specs.declared.ids.NodeId.{NodeId}
 use Rattle.ring_names.specs.declared.ids.Slot.{Slot}
@@ -12,9 +12,11 @@ use Rattle.plan_order.specs.Before.{Before}
 use Rattle.plan_stage.specs.Stage.{is_among}
 use Rattle.plan_stage.specs.Clauses.{AllStaged}
 use Rattle.plan_stage.specs.Occupancy.{first_end, mirror_end, first_drop, mirror_drop}
-use Rattle.plan_stage.specs.Parties.{count_below, parties}
-use Rattle.plan_check.specs.Events.{step_at}
-use Rattle.plan_check.specs.Safe.{allowance_of}
+use Rattle.plan_stage.specs.Parties.{parties}
+use Rattle.plan_stage.specs.Each.{step_at}
+use Rattle.plan_cover.specs.Clauses.{allowance_of}
+use Rattle.plan_cover.specs.Clauses.{in_some}
+use Rattle.plan_stage.specs.Each.{sibling, place_in}
 
 -- an order of steps
 abbrev pub Order : Type 1
@@ -34,17 +36,6 @@ IsChain O (a ∷ b ∷ rest) = O a b × IsChain O (b ∷ rest)
 abbrev pub AreChains : Order → List (List ℕ) → Type 0
 AreChains O [] = Unit {0}
 AreChains O (c ∷ cs) = IsChain O c × AreChains O cs
-
-abbrev pub in_some : ℕ → List (List ℕ) → Bool
-in_some n [] = false
-in_some n (c ∷ cs) = has n c || in_some n cs
-
--- the place of a step among those of its slot
-abbrev pub place_in : List Planned → Slot → ℕ → ℕ
-place_in plan slot n = count_below n (steps_of plan slot)
-
-abbrev pub sibling : Slot → ℕ → Slot
-sibling slot j = record { partition = slot.partition; index = j }
 
 -- what a plan must meet, by an order of its steps and chains for each node
 pub record Meets (ring : RingValue) (plan : List Planned) (O : Order) (chains : ℕ → List (List ℕ)) : Type 0 where

@@ -9,6 +9,8 @@ use Rattle.plan_text.specs.declared.step.Planned.{Planned}
 use Rattle.plan_text.specs.Steps.{steps_of}
 use Rattle.plan_stage.specs.declared.stage.Stage.{Stage}
 use Rattle.plan_stage.specs.Stage.{stage}
+use Rattle.plan_stage.specs.Each.{some_step}
+use Rattle.plan_text.specs.Steps.{is_join_of, is_retire_of}
 
 -- a put: of each slot of its key's partition the generation at which it was last written or hinted there, if it was
 pub record PutRecord : Type 0 where
@@ -66,27 +68,6 @@ abbrev pub passing_below : ℕ → (ℕ → Bool) → List ℕ
 passing_below n test = passing_from 0 n test
 
 -- ---- steps
-
--- whether a step, counted from n, passes the test
-abbrev pub some_step : (ℕ → Step → Bool) → ℕ → List Planned → Bool
-some_step test n [] = false
-some_step test n (x ∷ xs) = test n x.step || some_step test (n + 1) xs
-
-abbrev pub is_join_of : ℕ → Step → Bool
-is_join_of x (Join y) = x == y.0
-is_join_of x (Mirror s y) = false
-is_join_of x (Copy s from) = false
-is_join_of x (Switch s) = false
-is_join_of x (Drop s y) = false
-is_join_of x (Retire y) = false
-
-abbrev pub is_retire_of : ℕ → Step → Bool
-is_retire_of x (Join y) = false
-is_retire_of x (Mirror s y) = false
-is_retire_of x (Copy s from) = false
-is_retire_of x (Switch s) = false
-is_retire_of x (Drop s y) = false
-is_retire_of x (Retire y) = x == y.0
 
 abbrev pub is_mirror : Step → Bool
 is_mirror (Join y) = false

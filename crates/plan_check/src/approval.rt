@@ -7,7 +7,8 @@ use ring_names::Refusal;
 use ring_table::Ring;
 use std::marker::Model;
 
-/// A ring with a plan that was checked against it.
+/// A ring with a plan that the checker accepted: the plan is sound, so that in every run of it two slots of a partition share
+/// no node, and no node takes part in more open copies than its allowance. Only the checker makes one.
 #[derive(Drop)]
 pub struct Approved {
     ring: Ring,
@@ -15,24 +16,24 @@ pub struct Approved {
 }
 
 impl Model for Approved {
-    ghost use Rattle.plan_check.specs.Approval.{Approval};
+    ghost use Rattle.plan_check.specs.Approval.{Approval, IsApproved};
 
     ghost Value = { Approval };
 
     ghost view = { λ a. record { ring = a.ring; plan = a.plan } };
 
-    ghost use Rattle.plan_check.specs.InOrder.{InOrder};
-
-    ghost invariant = { λ a. InOrder a.ring a.plan };
+    ghost invariant = { λ a. IsApproved a.ring a.plan };
 }
 
 impl Approved {
-    ghost use Rattle.plan_check.specs.Approval.{Approval};
-    ghost use Rattle.plan_check.specs.InOrder.{InOrder};
+    ghost use Rattle.plan_text.specs.Valid.{Suits};
+    ghost use Rattle.plan_check.specs.Approval.{Approval, IsApproved};
+    ghost use Rattle.plan_check.specs.Sound.{Sound};
+    ghost use Rattle.plan_check.specs.Headline.{AreApartAlways, AreFewAlways};
 
-    /// The two together, of which what the check tests must hold.
+    /// The two together.
     pub(crate) fn new(ring: Ring, plan: Plan) -> Approved
-        requires { InOrder ring plan }
+        requires { IsApproved ring plan }
         ensures { result ≡ record { ring = ring; plan = plan } }
     {
         Approved { ring, plan }
@@ -41,7 +42,10 @@ impl Approved {
     /// The ring.
     pub fn ring(&self) -> &Ring
         ensures value { result.now ≡ self.now.ring }
-        ensures in_order { InOrder self.now.ring self.now.plan }
+        ensures suits { Suits self.now.ring self.now.plan }
+        ensures sound { Sound self.now.ring self.now.plan }
+        ensures apart { AreApartAlways self.now.ring self.now.plan }
+        ensures few { AreFewAlways self.now.ring self.now.plan }
     {
         &self.ring
     }
@@ -49,7 +53,10 @@ impl Approved {
     /// The plan.
     pub fn plan(&self) -> &Plan
         ensures value { result.now ≡ self.now.plan }
-        ensures in_order { InOrder self.now.ring self.now.plan }
+        ensures suits { Suits self.now.ring self.now.plan }
+        ensures sound { Sound self.now.ring self.now.plan }
+        ensures apart { AreApartAlways self.now.ring self.now.plan }
+        ensures few { AreFewAlways self.now.ring self.now.plan }
     {
         &self.plan
     }

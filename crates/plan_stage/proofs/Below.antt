@@ -7,7 +7,7 @@ pub met : (b : Bool) (e : Refusal) (o : Option Refusal) → cond b o (Some e) �
 met true e o h = (refl, h)
 met false e o h = absurd cc
 
-first-then : (cs ds : List (Bool × Refusal)) → first_failing cs ≡ None → first_failing (cs ++ ds) ≡ first_failing ds
+pub first-then : (cs ds : List (Bool × Refusal)) → first_failing cs ≡ None → first_failing (cs ++ ds) ≡ first_failing ds
 first-then [] ds h = refl
 first-then (c ∷ cs) ds h =
     let m = met c.0 c.1 (first_failing cs) h in
@@ -17,7 +17,7 @@ kept : (b : Bool) (e f : Refusal) (o p : Option Refusal) → cond b o (Some e) �
 kept true e f o p h k = k h
 kept false e f o p h k = h
 
-first-kept : (cs ds : List (Bool × Refusal)) (f : Refusal) → first_failing cs ≡ Some f → first_failing (cs ++ ds) ≡ Some f
+pub first-kept : (cs ds : List (Bool × Refusal)) (f : Refusal) → first_failing cs ≡ Some f → first_failing (cs ++ ds) ≡ Some f
 first-kept [] ds f h = absurd cc
 first-kept (c ∷ cs) ds f h = kept c.0 c.1 f (first_failing cs) (first_failing (cs ++ ds)) h (first-kept cs ds f)
 

@@ -9,7 +9,8 @@ use Rattle.plan_text.specs.declared.step.Step.{Step}
 use Rattle.plan_text.specs.declared.step.Planned.{Planned}
 use Rattle.plan_text.specs.Steps.{steps_of}
 use Rattle.plan_stage.specs.declared.stage.Stage.{Stage}
-use Rattle.plan_stage.specs.Clauses.{first_failing, clauses_at, step_clauses}
+use Rattle.plan_stage.specs.Clauses.{first_failing}
+use Rattle.plan_stage.specs.Partition.{Test, met_clauses, slot_step_clauses}
 use Rattle.plan_stage.specs.Stage.{next, fits, after, fits_at, opening, stage}
 
 of_step : (o : Option Planned) (a : Stage) (t : Step) → option_map (λ (x : Planned). x.step) o ≡ Some t → (elim o [ Some x ↦ next a x.step | None ↦ a ]) ≡ next a t
@@ -37,6 +38,6 @@ stage-next ring plan slot k a b t h e at is =
     is ∙ ap (λ (c : Stage). next c t) e ∙ sym (after-next plan (stage ring plan slot k) (get_or (steps_of plan slot) k 0) t at) ∙ sym (stage-more ring plan slot k h)
 
 -- the clauses of a step, as a walk meets them
-pub clauses_at-step : (ring : RingValue) (plan : List Planned) (slot : Slot) (k : ℕ) (a : Stage) (numbers : List ℕ) → a ≡ stage ring plan slot k → numbers ≡ steps_of plan slot → first_failing (clauses_at plan a numbers k) ≡ first_failing (step_clauses ring plan slot k)
-clauses_at-step ring plan slot k a numbers e f =
-    ap (λ (b : Stage). first_failing (clauses_at plan b numbers k)) e ∙ ap (λ (ns : List ℕ). first_failing (clauses_at plan (stage ring plan slot k) ns k)) f
+pub met-step : (ring : RingValue) (plan : List Planned) (O : Test) (slot : Slot) (k : ℕ) (a : Stage) (numbers : List ℕ) → a ≡ stage ring plan slot k → numbers ≡ steps_of plan slot → first_failing (met_clauses plan O a numbers k) ≡ first_failing (slot_step_clauses ring plan O slot k)
+met-step ring plan O slot k a numbers e f =
+    ap (λ (b : Stage). first_failing (met_clauses plan O b numbers k)) e ∙ ap (λ (ns : List ℕ). first_failing (met_clauses plan O (stage ring plan slot k) ns k)) f

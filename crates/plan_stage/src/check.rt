@@ -1,62 +1,148 @@
-//! Whether the steps of a partition's slots act in order, and the stage of a slot.
+//! Whether a partition meets what a sound plan must, and the stage of a slot.
 
-ghost use Rattle.std.specs.Prelude.{◌≡◌, ◌<◌, IfOk, IfErr, length, slice_index, EachIndex};
+ghost use Rattle.std.specs.Prelude.{◌≡◌, ◌<◌, IfOk, IfErr, true, length, nat_lt, slice_index, EachIndex};
+ghost use Rattle.std.specs.List.{list_all};
 ghost use Rattle.ring_names.specs.declared.refusal.Refusal.TheVariants.{OutOfMemory};
-ghost use Rattle.plan_text.specs.Steps.{steps_of};
+ghost use Rattle.plan_text.specs.Valid.{Suits};
+ghost use Rattle.plan_order.specs.Facts.{AreFactsOf, is_ordered};
 ghost use Rattle.plan_stage.specs.Stage.{stage};
-ghost use Rattle.plan_stage.specs.Clauses.{Gives, clauses_at, slot_clauses, partition_clauses};
+ghost use Rattle.plan_stage.specs.Clauses.{Gives, below, IsStagedIn};
+ghost use Rattle.plan_stage.specs.Partition.{met_clauses, slot_clauses, step_clauses, steps_clauses, partition_clauses};
+ghost use Rattle.plan_stage.specs.Looked.{clauses_of};
+ghost use Rattle.plan_stage.specs.Held.{AreHeld};
 ghost use Rattle.plan_stage.specs.Walk.{stage_of};
 
+use crate::clauses::check_step;
+use crate::concerned::concerned;
+use crate::holding::Holdings;
 use crate::stage::Stage;
 use crate::walk::Walk;
+use plan_order::Facts;
 use plan_text::Plan;
 use ring_names::{Refusal, Slot};
 use ring_table::Ring;
 use std::alloc::Global;
 
-/// Tests the clauses of a partition's slots, and answers with the first refusal. It reads the partition's steps alone.
+/// Tests what a partition must meet, and answers with the first refusal: each of its slots by index and the slot's steps by
+/// number, then the plan's steps by number. It reads the partition's steps alone, and the retirements of the nodes that hold
+/// its slots, and costs a look-up for each pair of steps that it compares.
 pub fn check_partition(
     alloc: Global,
     ring: &Ring,
     plan: &Plan,
+    facts: &Facts,
     partition: u32,
 ) -> Result<(), Refusal>
-    requires { partition < ring.now.q }
-    ensures { Gives result (partition_clauses ring.now plan.now partition) }
+    requires partition { partition < ring.now.q }
+    requires suits { Suits ring.now plan.now }
+    requires facts { AreFactsOf plan.now facts.now }
+    ensures { Gives result (partition_clauses ring.now plan.now (is_ordered plan.now facts.now) partition) }
+{
+    check_slots(alloc, ring, plan, facts, partition)?;
+    check_steps(alloc, ring, plan, facts, partition)
+}
+
+// Tests whether the steps of each slot act in order.
+fn check_slots(
+    alloc: Global,
+    ring: &Ring,
+    plan: &Plan,
+    facts: &Facts,
+    partition: u32,
+) -> Result<(), Refusal>
+    requires partition { partition < ring.now.q }
+    requires facts { AreFactsOf plan.now facts.now }
+    ensures { Gives result (below (λ i. slot_clauses ring.now plan.now (is_ordered plan.now facts.now) (record { partition = partition; index = i })) ring.now.n) }
 {
     for index in 0..ring.n() {
-        check_slot(alloc, ring, plan, Slot { partition, index })?;
+        check_slot(alloc, ring, plan, facts, Slot { partition, index })?;
     }
     Ok(())
 }
 
-// Tests the clauses of one slot.
-fn check_slot(alloc: Global, ring: &Ring, plan: &Plan, slot: Slot) -> Result<(), Refusal>
+// Tests whether the steps of one slot act in order.
+fn check_slot(
+    alloc: Global,
+    ring: &Ring,
+    plan: &Plan,
+    facts: &Facts,
+    slot: Slot,
+) -> Result<(), Refusal>
     requires partition { slot.partition < ring.now.q }
     requires index { slot.index < ring.now.n }
-    ensures { Gives result (slot_clauses ring.now plan.now slot) }
+    requires facts { AreFactsOf plan.now facts.now }
+    ensures { Gives result (slot_clauses ring.now plan.now (is_ordered plan.now facts.now) slot) }
 {
     let mut walk = Walk::new(alloc, ring, slot);
     let numbers = plan.slot_steps(slot);
     for k in 0..numbers.len() {
-        check_step(&walk, plan, numbers, k)?;
+        check_place(&walk, plan, facts, numbers, k)?;
         walk.act(plan.step(numbers[k]))?;
     }
     Ok(())
 }
 
-// Tests the clauses of the slot's k-th step, before it acts.
-fn check_step(walk: &Walk, plan: &Plan, numbers: &[u32], k: usize) -> Result<(), Refusal>
+// Tests the slot's k-th step, before it acts.
+fn check_place(
+    walk: &Walk,
+    plan: &Plan,
+    facts: &Facts,
+    numbers: &[u32],
+    k: usize,
+) -> Result<(), Refusal>
     requires k { k < length numbers.now }
     requires within { EachIndex numbers.now (λ i. slice_index numbers.now i < length plan.now) }
-    ensures { Gives result (clauses_at plan.now (stage_of walk.now) numbers.now k) }
+    requires facts { AreFactsOf plan.now facts.now }
+    ensures { Gives result (met_clauses plan.now (is_ordered plan.now facts.now) (stage_of walk.now) numbers.now k) }
 {
     let number = numbers[k];
     if !walk.fits(plan.step(number)) {
         return Err(Refusal::WrongStage(number));
     }
-    if k > 0 && !plan.depends(numbers[k - 1], number) {
+    if k > 0 && !facts.ordered(plan, numbers[k - 1], number) {
         return Err(Refusal::UnorderedSlot(number));
+    }
+    Ok(())
+}
+
+// Tests each step of the plan that the partition has to look at.
+fn check_steps(
+    alloc: Global,
+    ring: &Ring,
+    plan: &Plan,
+    facts: &Facts,
+    partition: u32,
+) -> Result<(), Refusal>
+    requires partition { partition < ring.now.q }
+    requires staged { IsStagedIn ring.now plan.now partition }
+    requires suits { Suits ring.now plan.now }
+    requires facts { AreFactsOf plan.now facts.now }
+    ensures { Gives result (steps_clauses (step_clauses ring.now plan.now (is_ordered plan.now facts.now) partition) 0 plan.now) }
+{
+    let holdings = Holdings::of(alloc, ring, plan, partition)?;
+    let numbers = concerned(alloc, ring, plan, partition)?;
+    check_numbers(ring, plan, facts, &holdings, partition, numbers.as_slice())
+}
+
+// Tests the steps of these numbers.
+fn check_numbers(
+    ring: &Ring,
+    plan: &Plan,
+    facts: &Facts,
+    holdings: &Holdings,
+    partition: u32,
+    numbers: &[u32],
+) -> Result<(), Refusal>
+    requires within { list_all (λ n. nat_lt n (length plan.now)) numbers.now ≡ true }
+    requires suits { Suits ring.now plan.now }
+    requires facts { AreFactsOf plan.now facts.now }
+    requires held { AreHeld ring.now plan.now partition holdings.now }
+    ensures { Gives result (clauses_of (step_clauses ring.now plan.now (is_ordered plan.now facts.now) partition) plan.now numbers.now) }
+{
+    let mut rest = numbers;
+    'numbers: while let Some((number, later)) = rest.split_first() {
+        check_step(ring, plan, facts, holdings, partition, *number)?;
+        rest = later;
     }
     Ok(())
 }

@@ -112,8 +112,8 @@ impl Walk {
     }
 }
 
-// The nodes of a set of numbers, ascending.
-fn listed(alloc: Global, numbers: &BTreeSet<u32>) -> Result<Vec<NodeId>, AllocError>
+/// The nodes of a set of numbers, ascending.
+pub fn listed(alloc: Global, numbers: &BTreeSet<u32>) -> Result<Vec<NodeId>, AllocError>
     ensures { IfOk result (λ list. list.items ≡ nodes numbers.now.keys) }
 {
     numbers.iter().map(|number| NodeId(*number)).collect(alloc)

@@ -1,4 +1,5 @@
 pub mod Pushed
+pub mod Indexed
 pub mod Searched
 pub mod NextLaws
 pub mod Below

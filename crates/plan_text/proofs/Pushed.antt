@@ -1,21 +1,13 @@
 -- A plan with one more step.
-use Rattle.std.proofs.Common.{get_or, suc, zero, ◌≡◌, ℕ, ◌+◌, ◌<◌, ◌≤◌, Bool, true, false, cond, List, [], ◌∷◌, ◌++◌, length, refl, sym, ap, ◌∙◌, arith, add-zero, length-append, Ok, Err, ◌⊎◌, inl, inr, subst}
+use Rattle.std.proofs.Common.{get_or, suc, zero, ◌≡◌, ℕ, ◌+◌, ◌<◌, ◌≤◌, Bool, true, false, cond, List, [], ◌∷◌, ◌++◌, length, refl, sym, ap, ◌∙◌, arith, add-zero, length-append, Ok, Err}
 use Rattle.std.specs.Prelude.{Result, OnOk, not, ◌&&◌, ◌||◌, ◌==◌, nat_eq}
 use Rattle.std.proofs.lemmas.Bool.Decides.{nat_tests}
-use Rattle.std.proofs.lemmas.List.{append-nil, flat_map_more}
+use Rattle.std.proofs.lemmas.List.{flat_map_more}
 use Rattle.std.proofs.lemmas.List.Sums.{sum_by_push}
 use Rattle.ring_names.specs.Lists.{has, all_different}
 use Rattle.ring_names.specs.declared.ids.Slot.{Slot}
-use Rattle.ring_names.specs.declared.ids.NodeId.{NodeId}
-use Rattle.plan_text.specs.declared.step.Step.{Step}
-use Rattle.plan_text.specs.declared.step.Step.TheVariants.{Join, Mirror, Copy, Switch, Drop, Retire}
-use Rattle.plan_text.specs.declared.step.Source.{Source}
-use Rattle.plan_text.specs.declared.index.SlotIndex.{SlotIndex}
-use Rattle.plan_text.specs.declared.index.NodeIndex.{NodeIndex}
-use Rattle.plan_text.specs.declared.index.Index.{Index}
-use Rattle.plan_text.specs.Held.{numbers_at, holds, HoldsNodes, HoldsSteps}
 use Rattle.plan_text.specs.declared.step.Planned.{Planned}
-use Rattle.plan_text.specs.Steps.{is_slot, is_on, steps_from, steps_of, joins, retires, joined, retired, dependencies}
+use Rattle.plan_text.specs.Steps.{is_on, steps_from, steps_of, joins, retires, joined, retired, dependencies}
 use Rattle.plan_text.specs.Valid.{IsPlanned, EachPlanned, IsPlan}
 
 one_more : (b c : Bool) (k n : ℕ) (t u : List ℕ) → u ≡ cond c (t ++ n ∷ []) t → cond b (k ∷ u) u ≡ cond c (cond b (k ∷ t) t ++ n ∷ []) (cond b (k ∷ t) t)
@@ -93,48 +85,6 @@ IsPlan-push plan x is last steps few = record {
   dependencies = rw (sum_by_push (λ (y : Planned). length y.after) plan x) few;
 }
 
-pub HoldsNodes-none : (a : NodeIndex) (xs ys : List ℕ) → ys ≡ [] → HoldsNodes a xs → HoldsNodes a (xs ++ ys)
-HoldsNodes-none a xs ys e h = rw (e, append-nil xs) h
-
-pub HoldsNodes-push : (a b : NodeIndex) (xs ys : List ℕ) (x : ℕ) → ys ≡ x ∷ [] → ((y : ℕ) → holds b y ≡ ((y == x) || holds a y)) → b.different ≡ (a.different && not (holds a x)) → HoldsNodes a xs → HoldsNodes b (xs ++ ys)
-HoldsNodes-push a b xs ys x e more fresh h = rw e (record {
-  nodes = λ y. more y ∙ ap (λ (t : Bool). (y == x) || t) (h.nodes y) ∙ sym (has-push xs x y);
-  different = fresh ∙ rw (h.different, h.nodes x, all_different-push xs x) refl;
-})
-
--- the step is one of the slot's
-OnSlot : Slot → Step → Type 0
-OnSlot slot t = ((s : Slot) → is_on s t ≡ is_slot s slot) × (joins t ≡ []) × (retires t ≡ [])
-
-pub on_slot : (slot : Slot) (t : Step) → ((x : NodeId) × (t ≡ Mirror slot x)) ⊎ (((f : Source) × (t ≡ Copy slot f)) ⊎ ((t ≡ Switch slot) ⊎ ((x : NodeId) × (t ≡ Drop slot x)))) → ((s : Slot) → is_on s t ≡ is_slot s slot) × (joins t ≡ []) × (retires t ≡ [])
-unfolding OnSlot
-on_slot slot t (inl (x, e)) = subst (OnSlot slot) (sym e) (λ s. refl, refl, refl)
-on_slot slot t (inr (inl (f, e))) = subst (OnSlot slot) (sym e) (λ s. refl, refl, refl)
-on_slot slot t (inr (inr (inl e))) = subst (OnSlot slot) (sym e) (λ s. refl, refl, refl)
-on_slot slot t (inr (inr (inr (x, e)))) = subst (OnSlot slot) (sym e) (λ s. refl, refl, refl)
-
 pub on_both : {T E P S Q : Type 0} (r : Result T E) → (P → S → Q) → OnOk r P → OnOk r S → OnOk r Q
 on_both (Ok x) f p s = f p s
 on_both (Err e) f p s = tt
-
--- the index with one more step, which is the slot's, joins a node or retires one
-pub HoldsSteps-slot : (a : Index) (b : SlotIndex) (plan : List Planned) (x : Planned) (slot : Slot) (number : ℕ) → length plan ≡ number → ((s : Slot) → is_on s x.step ≡ is_slot s slot) → joins x.step ≡ [] → retires x.step ≡ [] → ((s : Slot) → numbers_at b s ≡ cond (is_slot s slot) (numbers_at a.slots s ++ number ∷ []) (numbers_at a.slots s)) → HoldsSteps a plan → HoldsSteps (record { slots = b; joins = a.joins; retirements = a.retirements }) (plan ++ x ∷ [])
-HoldsSteps-slot a b plan x slot number n on none_joined none_retired more h = record {
-  slots = λ s. more s ∙ rw (h.slots s, ← on s, ← n) (sym (steps_of-push plan x s));
-  joins = rw (joined-push plan x) (HoldsNodes-none a.joins (joined plan) (joins x.step) none_joined h.joins);
-  retirements = rw (retired-push plan x) (HoldsNodes-none a.retirements (retired plan) (retires x.step) none_retired h.retirements);
-}
-
-pub HoldsSteps-join : (a : Index) (b : NodeIndex) (plan : List Planned) (x : Planned) (y : NodeId) → x.step ≡ Join y → ((z : ℕ) → holds b z ≡ ((z == y.0) || holds a.joins z)) → b.different ≡ (a.joins.different && not (holds a.joins y.0)) → HoldsSteps a plan → HoldsSteps (record { slots = a.slots; joins = b; retirements = a.retirements }) (plan ++ x ∷ [])
-HoldsSteps-join a b plan x y e more fresh h = record {
-  slots = λ s. h.slots s ∙ sym (steps_of-push plan x s ∙ ap (λ (t : Step). cond (is_on s t) (steps_of plan s ++ length plan ∷ []) (steps_of plan s)) e);
-  joins = rw (joined-push plan x) (HoldsNodes-push a.joins b (joined plan) (joins x.step) y.0 (ap joins e) more fresh h.joins);
-  retirements = rw (retired-push plan x) (HoldsNodes-none a.retirements (retired plan) (retires x.step) (ap retires e) h.retirements);
-}
-
-pub HoldsSteps-retire : (a : Index) (b : NodeIndex) (plan : List Planned) (x : Planned) (y : NodeId) → x.step ≡ Retire y → ((z : ℕ) → holds b z ≡ ((z == y.0) || holds a.retirements z)) → b.different ≡ (a.retirements.different && not (holds a.retirements y.0)) → HoldsSteps a plan → HoldsSteps (record { slots = a.slots; joins = a.joins; retirements = b }) (plan ++ x ∷ [])
-HoldsSteps-retire a b plan x y e more fresh h = record {
-  slots = λ s. h.slots s ∙ sym (steps_of-push plan x s ∙ ap (λ (t : Step). cond (is_on s t) (steps_of plan s ++ length plan ∷ []) (steps_of plan s)) e);
-  joins = rw (joined-push plan x) (HoldsNodes-none a.joins (joined plan) (joins x.step) (ap joins e) h.joins);
-  retirements = rw (retired-push plan x) (HoldsNodes-push a.retirements b (retired plan) (retires x.step) y.0 (ap retires e) more fresh h.retirements);
-}

@@ -1,5 +1,5 @@
 -- The steps of a plan, and those of each slot.
-use Rattle.std.specs.Prelude.{ℕ, ◌+◌, Bool, false, ◌&&◌, ◌==◌, List, [], ◌∷◌, Some, None, length, slice_get, sum_by, if◌then◌else◌}
+use Rattle.std.specs.Prelude.{ℕ, ◌+◌, Bool, false, ◌&&◌, ◌==◌, List, [], ◌∷◌, Option, Some, None, length, slice_get, sum_by, if◌then◌else◌}
 use Rattle.std.specs.List.{flat_map}
 use Rattle.ring_names.specs.declared.ids.Slot.{Slot}
 use Rattle.ring_names.specs.Lists.{has}
@@ -59,3 +59,32 @@ joined plan = flat_map (λ x. joins x.step) plan
 
 abbrev pub retired : List Planned → List ℕ
 retired plan = flat_map (λ x. retires x.step) plan
+
+-- whether the step joins the node, whether it retires it
+abbrev pub is_join_of : ℕ → Step → Bool
+is_join_of x (Join y) = x == y.0
+is_join_of x (Mirror s y) = false
+is_join_of x (Copy s from) = false
+is_join_of x (Switch s) = false
+is_join_of x (Drop s y) = false
+is_join_of x (Retire y) = false
+
+abbrev pub is_retire_of : ℕ → Step → Bool
+is_retire_of x (Join y) = false
+is_retire_of x (Mirror s y) = false
+is_retire_of x (Copy s from) = false
+is_retire_of x (Switch s) = false
+is_retire_of x (Drop s y) = false
+is_retire_of x (Retire y) = x == y.0
+
+-- the number of the first step that passes the test, in a plan whose first step has number k
+abbrev pub first_step : (Step → Bool) → ℕ → List Planned → Option ℕ
+first_step test k [] = None
+first_step test k (x ∷ xs) = if test x.step then Some k else first_step test (k + 1) xs
+
+-- the step that joins the node, and the one that retires it
+abbrev pub join_of : List Planned → ℕ → Option ℕ
+join_of plan x = first_step (is_join_of x) 0 plan
+
+abbrev pub retirement_of : List Planned → ℕ → Option ℕ
+retirement_of plan x = first_step (is_retire_of x) 0 plan

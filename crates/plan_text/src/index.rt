@@ -1,16 +1,17 @@
 //! What a plan keeps besides its steps, so that nothing has to be looked for in them.
 
-ghost use Rattle.std.specs.Prelude.{◌≡◌, ℕ, length, ◌++◌, ◌∷◌, [], ◌||◌, ◌==◌, ◌&&◌, not, List, IfErr, IfOk, OnOk, OnErr, MatchResult, if◌then◌else◌, true, false};
+ghost use Rattle.std.specs.Prelude.{◌≡◌, ℕ, length, ◌++◌, ◌∷◌, [], ◌==◌, ◌&&◌, not, List, Some, None, IfErr, OnOk, OnErr, if◌then◌else◌, true};
 ghost use Rattle.ring_names.specs.declared.ids.Slot.{Slot};
 ghost use Rattle.ring_names.specs.declared.refusal.Refusal.TheVariants.{OutOfMemory};
 ghost use Rattle.plan_text.specs.Steps.{is_slot};
 ghost use Rattle.plan_text.specs.declared.step.Planned.{Planned};
-ghost use Rattle.plan_text.specs.Held.{holds, numbers_at, HoldsSteps};
+ghost use Rattle.std.specs.Option.{option_or};
+ghost use Rattle.plan_text.specs.Held.{first_of, holds, numbers_at, HoldsSteps};
 
 use crate::step::Step;
 use ring_names::{NodeId, Refusal, Slot};
 use std::alloc::Global;
-use std::collections::{HashMap, HashSet};
+use std::collections::HashMap;
 
 /// The steps of each slot.
 #[derive(Drop)]
@@ -60,30 +61,37 @@ impl SlotIndex {
     }
 }
 
-/// Nodes of which some step speaks, and whether each was met once only.
+/// The first step that speaks of each node, and whether each was met once only.
 #[derive(Drop)]
 pub struct NodeIndex {
-    nodes: HashSet<u32>,
+    firsts: HashMap<u32, u32>,
     different: bool,
 }
 
 impl NodeIndex {
     /// No node was met.
     pub fn new(alloc: Global) -> NodeIndex
-        ensures nodes { (x : ℕ) → holds result x ≡ false }
+        ensures firsts { (x : ℕ) → first_of result x ≡ None }
         ensures different { result.different ≡ true }
     {
         NodeIndex {
-            nodes: HashSet::new(alloc),
+            firsts: HashMap::new(alloc),
             different: true,
         }
+    }
+
+    /// The number of the first step that met the node.
+    pub fn first(&self, node: NodeId) -> Option<u32>
+        ensures { result ≡ first_of self.now node.0 }
+    {
+        self.firsts.get(&node.0).copied()
     }
 
     /// Whether the node was met.
     pub fn holds(&self, node: NodeId) -> bool
         ensures { result ≡ holds self.now node.0 }
     {
-        self.nodes.contains(&node.0)
+        self.first(node).is_some()
     }
 
     /// Whether each node was met once only.
@@ -93,16 +101,19 @@ impl NodeIndex {
         self.different
     }
 
-    /// Meets one more node.
-    pub fn add(&mut self, node: NodeId) -> Result<(), Refusal>
-        ensures nodes { OnOk result ((x : ℕ) → holds self.new x ≡ ((x == node.0) || holds self.old x)) }
+    /// Meets one more node, in the step of that number.
+    pub fn add(&mut self, node: NodeId, number: u32) -> Result<(), Refusal>
+        ensures firsts { OnOk result ((x : ℕ) → first_of self.new x ≡ option_or (first_of self.old x) (if x == node.0 then Some number else None)) }
         ensures different { OnOk result (self.new.different ≡ (self.old.different && not (holds self.old node.0))) }
-        ensures err { OnErr result ((x : ℕ) → holds self.new x ≡ holds self.old x) }
+        ensures err { OnErr result ((x : ℕ) → first_of self.new x ≡ first_of self.old x) }
         ensures same { OnErr result (self.new.different ≡ self.old.different) }
         ensures memory { IfErr result (λ e. e ≡ OutOfMemory) }
     {
-        let is_new = self.nodes.insert(node.0)?;
-        self.different = self.different && is_new;
+        if self.holds(node) {
+            self.different = false;
+        } else {
+            self.firsts.insert(node.0, number)?;
+        }
         Ok(())
     }
 }
@@ -134,8 +145,8 @@ impl Index {
         ensures memory { IfErr result (λ e. e ≡ OutOfMemory) }
     {
         match step {
-            Step::Join(node) => self.joins.add(*node),
-            Step::Retire(node) => self.retirements.add(*node),
+            Step::Join(node) => self.joins.add(*node, number),
+            Step::Retire(node) => self.retirements.add(*node, number),
             Step::Mirror(slot, _)
             | Step::Copy(slot, _)
             | Step::Switch(slot)
@@ -148,6 +159,20 @@ impl Index {
         ensures { result.now ≡ numbers_at self.now.slots slot }
     {
         self.slots.numbers(slot)
+    }
+
+    /// The first step that joins the node.
+    pub fn join_of(&self, node: NodeId) -> Option<u32>
+        ensures { result ≡ first_of self.now.joins node.0 }
+    {
+        self.joins.first(node)
+    }
+
+    /// The first step that retires the node.
+    pub fn retirement_of(&self, node: NodeId) -> Option<u32>
+        ensures { result ≡ first_of self.now.retirements node.0 }
+    {
+        self.retirements.first(node)
     }
 
     /// Whether some step joins the node.

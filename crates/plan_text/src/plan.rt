@@ -1,6 +1,6 @@
 //! The plan as a value that is always well formed.
 
-ghost use Rattle.std.specs.Prelude.{◌≡◌, ◌+◌, ◌<◌, ◌≤◌, ◌++◌, ◌∷◌, ◌↔◌, [], Some, length, slice_get, slice_index, EachIndex, option_map, IsTrue, OnOk, IfErr, OnErr};
+ghost use Rattle.std.specs.Prelude.{◌≡◌, ◌+◌, ◌<◌, ◌≤◌, ◌++◌, ◌∷◌, ◌↔◌, [], Some, length, slice_get, slice_index, EachIndex, option_map, IsTrue, OnOk, IfErr, IfSome, OnErr};
 ghost use Rattle.ring_names.specs.Lists.{has};
 ghost use Rattle.ring_names.specs.declared.refusal.Refusal.TheVariants.{OutOfMemory};
 
@@ -35,7 +35,7 @@ impl Model for Plan {
 }
 
 impl Plan {
-    ghost use Rattle.plan_text.specs.Steps.{steps_of, depends, dependencies, joined, retired};
+    ghost use Rattle.plan_text.specs.Steps.{steps_of, depends, dependencies, joined, retired, join_of, retirement_of};
     ghost use Rattle.plan_text.specs.Valid.{IsPlanned, IsPlan, Suits};
 
     /// A plan of no steps.
@@ -123,6 +123,22 @@ impl Plan {
         ensures { result ≡ depends self.now a b }
     {
         self.deps(b).binary_search(&a).is_ok()
+    }
+
+    /// The step that joins the node, if there is one.
+    pub fn join_of(&self, node: NodeId) -> Option<u32>
+        ensures value { result ≡ join_of self.now node.0 }
+        ensures within { IfSome result (λ j. j < length self.now) }
+    {
+        self.index.join_of(node)
+    }
+
+    /// The step that retires the node, if there is one.
+    pub fn retirement_of(&self, node: NodeId) -> Option<u32>
+        ensures value { result ≡ retirement_of self.now node.0 }
+        ensures within { IfSome result (λ j. j < length self.now) }
+    {
+        self.index.retirement_of(node)
     }
 
     /// Whether some step joins the node.

@@ -107,6 +107,7 @@ fn read_steps(alloc: Global, ring: &Ring, lines: &mut Lines) -> Result<Plan, Ref
 pub fn read_plan_section(alloc: Global, ring: &Ring, lines: &mut Lines) -> Result<Plan, Refusal>
     requires { lines.old.line ≤ 90000000 }
     ensures read { Reads result lines.new (plan_at ring.now lines.old) }
+    ensures line { OnOk result (lines.new.line ≤ lines.old.line + 131074) }
 {
     let line = lines.line();
     header_line(lines.next()?, line)?;

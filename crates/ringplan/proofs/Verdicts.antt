@@ -1,16 +1,14 @@
 -- The verdict on a bundle, by its parts.
-use Rattle.std.proofs.Common.{◌≡◌, ℕ, List, Option, Some, None, Result, Ok, Err, refl, ap, sym, ◌∙◌}
+use Rattle.std.proofs.Common.{◌≡◌, ℕ, List, Ok, Err, refl, ap, sym, ◌∙◌}
 use Rattle.ring_names.specs.declared.refusal.Refusal.{Refusal}
 use Rattle.ring_text.specs.Left.{whole_text}
-use Rattle.ring_text.specs.Judging.{Gives}
 use Rattle.ring_table.specs.Value.{RingValue}
 use Rattle.plan_text.specs.declared.step.Planned.{Planned}
-use Rattle.plan_check.specs.InOrder.{first_out_of_order}
+use Rattle.plan_check.specs.First.{first_refusal}
 use Rattle.ring_text.specs.Left.{Left}
 use Rattle.ring_text.specs.Parts.{lines_of}
 use Rattle.ring_text.proofs.Cuts.{some_line}
 use Rattle.ring_table.specs.Reading.{ring_at}
-use Rattle.ring_table.specs.Spelling.{ring_lines}
 use Rattle.ring_table.specs.Valid.{IsRing}
 use Rattle.ring_table.proofs.LineLaws.{space-le}
 use Rattle.ring_table.proofs.RingLaws.{ring-part}
@@ -19,15 +17,16 @@ use Rattle.plan_text.specs.Reading.{plan_at}
 use Rattle.plan_text.proofs.PlanLaws.{plan-part}
 use Rattle.plan_text.proofs.SuitLaws.{plan-of-next}
 use Rattle.plan_text.proofs.TextLaws.{names-of}
+use Rattle.ringplan.specs.declared.bundle.Bundle.{Bundle}
 use Rattle.ringplan.specs.Verdict.{bundle_at, judged, verdict}
 
 pub verdict-bad : (bytes : List ℕ) (e : Refusal) → whole_text bundle_at bytes ≡ Err e → verdict bytes ≡ Err e
 unfolding verdict
 verdict-bad bytes e h = rw h refl
 
-pub verdict-good : (bytes : List ℕ) (ring : RingValue) (plan : List Planned) → whole_text bundle_at bytes ≡ Ok (ring, plan) → verdict bytes ≡ judged (first_out_of_order ring plan)
+pub verdict-good : (bytes : List ℕ) (b : Bundle) → whole_text bundle_at bytes ≡ Ok b → verdict bytes ≡ judged (first_refusal b.ring b.plan b.cert)
 unfolding verdict
-verdict-good bytes ring plan h = rw h refl
+verdict-good bytes b h = rw h refl
 
 -- a plan that was read behind its ring suits it
 pub bundle-suits : (bytes : List ℕ) (s t u : Left) (ring : RingValue) (plan : List Planned) → s ≡ record { line = 1; lines = lines_of bytes } → ring_at s ≡ Ok (ring, t) → plan_at ring t ≡ Ok (plan, u) → Suits ring plan

@@ -1,7 +1,6 @@
 -- The answer that the program gives to a verdict.
-use Rattle.std.specs.Prelude.{◌≡◌, ◌≢◌, ℕ, List, [], ◌∷◌, ◌++◌, ◌&&◌, Result, Ok, Err, codes, if◌then◌else◌, nat_le}
+use Rattle.std.specs.Prelude.{ℕ, List, [], ◌∷◌, ◌++◌, ◌&&◌, Result, Ok, Err, codes, if◌then◌else◌, nat_le}
 use Rattle.ring_names.specs.declared.refusal.Refusal.{Refusal}
-use Rattle.ring_names.specs.declared.refusal.Refusal.TheVariants.{OutOfMemory}
 use Rattle.ring_names.specs.Refusals.{line_of, number_of}
 
 -- `yes` and the byte 0A, or the refusal's line

@@ -14,7 +14,7 @@ const ABOUT: &str = "Checks a plan that moves the keys of a ring";
 const CHECK: &str = "Checks the bundle on standard input";
 
 const STREAMS: &str = "\
-Standard input: a bundle, which is the text of a ring and then the text of a plan.
+Standard input: a bundle, which is the text of a ring, then that of a plan, then that of its certificate.
 Standard output: `yes`, or one line of `no`, the refusal's number and its values.
 
 Exit status:

@@ -4,42 +4,80 @@ mod bundles;
 mod memory;
 
 use crate::run::run;
-use bundles::{CASES, HEAD, MOVE, ROW, TAIL};
+use bundles::{CHAINS, CHANGES, EMPTY, HEAD, MOVE, NODES, PARTITIONS, ROW, TAIL, TEXTS};
 use memory::{Endless, MemoryReader, MemoryWriter};
+use plan_cert::read_cert;
+use plan_order::Facts;
 use plan_stage::{check_partition, stage_at};
 use plan_text::{read_plan, write_plan};
 use ring_names::{Names, NodeId, Refusal, Slot};
 use ring_table::{read_ring, write_ring};
 use std::alloc::{AllocError, Global};
+use std::process::Abort;
 use std::str;
 use std::test::Fail;
 
 const CHECK: [&str; 2] = ["ringplan", "check"];
 
-fn bundle_of(alloc: Global, head: &str, row: &str, plan: &str) -> Result<Vec<u8>, AllocError> {
-    let mut bundle = Vec::from_slice(alloc, head.as_bytes())?;
-    bundle.extend_from_slice(row.as_bytes())?;
-    bundle.extend_from_slice(TAIL.as_bytes())?;
-    bundle.extend_from_slice(plan.as_bytes())?;
+fn bundle_of(alloc: Global, parts: &[&str]) -> Result<Vec<u8>, AllocError> {
+    let mut bundle = Vec::new(alloc);
+    for part in parts {
+        bundle.extend_from_slice(part.as_bytes())?;
+    }
     Ok(bundle)
 }
 
+// The program gives this answer to the bundle, however much of it a read gives.
+fn judge<RT: AllocGlobal + Abort>(
+    rt: &RT,
+    parts: &[&str],
+    text: &str,
+    status: u8,
+) -> Result<(), Fail> {
+    let bundle = bundle_of(rt.alloc(), parts)?;
+    for step in [1, 4096] {
+        let mut input = MemoryReader {
+            rest: bundle.as_slice(),
+            step,
+            calls: 4096,
+        };
+        let mut output = MemoryWriter::new(rt.alloc(), step, 64);
+        let ended = run(rt, CHECK.as_slice(), &mut input, &mut output);
+        let shown = str::from_utf8(output.bytes.as_slice())?;
+        assert_eq!(rt; shown, text, "at {parts:?}");
+        assert_eq!(rt; ended, status, "at {parts:?}");
+    }
+    Ok(())
+}
+
 #[test]
-fn verdicts(rt: HostRuntime) -> Result<(), Fail> {
-    for (head, row, plan, text, status) in CASES {
-        let bundle = bundle_of(rt.alloc(), head, row, plan)?;
-        for step in [1, 4096] {
-            let mut input = MemoryReader {
-                rest: bundle.as_slice(),
-                step,
-                calls: 4096,
-            };
-            let mut output = MemoryWriter::new(rt.alloc(), step, 64);
-            let ended = run(&rt, CHECK.as_slice(), &mut input, &mut output);
-            let shown = str::from_utf8(output.bytes.as_slice())?;
-            assert_eq!(rt; shown, text, "at {row:?} {plan:?}");
-            assert_eq!(rt; ended, status, "at {row:?} {plan:?}");
-        }
+fn texts_judged(rt: HostRuntime) -> Result<(), Fail> {
+    for (parts, text, status) in TEXTS {
+        judge(&rt, parts.as_slice(), text, status)?;
+    }
+    Ok(())
+}
+
+#[test]
+fn partitions_judged(rt: HostRuntime) -> Result<(), Fail> {
+    for (parts, text, status) in PARTITIONS {
+        judge(&rt, parts.as_slice(), text, status)?;
+    }
+    Ok(())
+}
+
+#[test]
+fn nodes_judged(rt: HostRuntime) -> Result<(), Fail> {
+    for (parts, text, status) in NODES {
+        judge(&rt, parts.as_slice(), text, status)?;
+    }
+    Ok(())
+}
+
+#[test]
+fn certificates_judged(rt: HostRuntime) -> Result<(), Fail> {
+    for (parts, text, status) in CHANGES {
+        judge(&rt, parts.as_slice(), text, status)?;
     }
     Ok(())
 }
@@ -47,7 +85,7 @@ fn verdicts(rt: HostRuntime) -> Result<(), Fail> {
 // No text that stops early is accepted.
 #[test]
 fn prefixes(rt: HostRuntime) -> Result<(), Fail> {
-    let bundle = bundle_of(rt.alloc(), HEAD, ROW, MOVE)?;
+    let bundle = bundle_of(rt.alloc(), [HEAD, ROW, TAIL, MOVE, CHAINS].as_slice())?;
     for len in 0..bundle.len() {
         let mut input = MemoryReader {
             rest: &bundle[..len],
@@ -75,7 +113,7 @@ fn plan_of_switches(alloc: Global, steps: u32) -> Result<Vec<u8>, AllocError> {
 #[test]
 fn longest_plans(rt: HostRuntime) -> Result<(), Fail> {
     let alloc = rt.alloc();
-    let ring = bundle_of(alloc, HEAD, ROW, "")?;
+    let ring = bundle_of(alloc, [HEAD, ROW, TAIL].as_slice())?;
     let ring = read_ring(alloc, ring.as_slice())?;
     let text = plan_of_switches(alloc, 131_072)?;
     let plan = read_plan(alloc, &ring, text.as_slice())?;
@@ -92,7 +130,7 @@ fn longest_plans(rt: HostRuntime) -> Result<(), Fail> {
 #[test]
 fn texts_written(rt: HostRuntime) -> Result<(), Fail> {
     let alloc = rt.alloc();
-    let text = bundle_of(alloc, HEAD, ROW, "")?;
+    let text = bundle_of(alloc, [HEAD, ROW, TAIL].as_slice())?;
     let ring = read_ring(alloc, text.as_slice())?;
     assert_eq!(rt; write_ring(alloc, &ring)?.as_slice(), text.as_slice());
     let plan = read_plan(alloc, &ring, MOVE.as_bytes())?;
@@ -107,12 +145,14 @@ fn texts_written(rt: HostRuntime) -> Result<(), Fail> {
 #[test]
 fn stages(rt: HostRuntime) -> Result<(), Fail> {
     let alloc = rt.alloc();
-    let text = bundle_of(alloc, HEAD, ROW, "")?;
+    let text = bundle_of(alloc, [HEAD, ROW, TAIL].as_slice())?;
     let ring = read_ring(alloc, text.as_slice())?;
     let plan = read_plan(alloc, &ring, MOVE.as_bytes())?;
     assert!(rt; ring.q() > 0);
     assert!(rt; ring.n() > 1);
-    check_partition(alloc, &ring, &plan, 0)?;
+    let cert = read_cert(alloc, &ring, EMPTY.as_bytes())?;
+    let facts = Facts::verify(alloc, &plan, cert.facts.as_slice())?;
+    check_partition(alloc, &ring, &plan, &facts, 0)?;
     let slot = Slot {
         partition: 0,
         index: 1,
@@ -188,7 +228,7 @@ fn failed_reads(rt: HostRuntime) -> Result<(), Fail> {
 
 #[test]
 fn failed_writes(rt: HostRuntime) -> Result<(), Fail> {
-    let bundle = bundle_of(rt.alloc(), HEAD, ROW, MOVE)?;
+    let bundle = bundle_of(rt.alloc(), [HEAD, ROW, TAIL, MOVE, CHAINS].as_slice())?;
     for calls in 0..5 {
         let mut input = MemoryReader {
             rest: bundle.as_slice(),

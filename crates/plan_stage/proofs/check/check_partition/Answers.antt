@@ -1,26 +1,27 @@
-use Rattle.std.proofs.Common.{◌≡◌, ℕ, ◌<◌, ◌∙◌, subst, arith, None, List, Bool}
+use Rattle.std.proofs.Common.{List}
 use Rattle.std.proofs.lemmas.Result.{err_from_is_err_and}
-use Rattle.ring_names.specs.declared.refusal.Refusal.{Refusal}
-use Rattle.plan_stage.specs.Clauses.{first_failing, below, slot_clauses}
-use Rattle.plan_stage.proofs.Below.{below-none, below-then, below-at}
+use Rattle.plan_order.specs.Facts.{is_ordered}
+use Rattle.plan_stage.specs.Clauses.{Guard, below}
+use Rattle.plan_stage.specs.Partition.{slot_clauses, step_clauses, steps_clauses}
+use Rattle.plan_stage.proofs.Partitions.{staged-from, gives-behind, gives-front}
 use Rattle.plan_stage.proofs.check.check_partition.Goals as goal
 
-pub loop-index-init : goal.loop-index-init
-loop-index-init c = below-none (λ i. slot_clauses c.args.ring.now c.args.plan.now (record { partition = c.args.partition; index = i }))
-
-pub loop-index-preserved : goal.loop-index-preserved
-loop-index-preserved c =
-    below-then (λ i. slot_clauses c.args.ring.now c.args.plan.now (record { partition = c.args.partition; index = i })) c.loop-index.index c.loop-index.invariant ∙ c.in_ok-check_slot.ensures
-
-pub returns-in_err-check_slot : goal.returns-in_err-check_slot
-returns-in_err-check_slot c =
-    let clauses : ℕ → List (Bool × Refusal) = λ i. slot_clauses c.args.ring.now c.args.plan.now (record { partition = c.args.partition; index = i }) in
+pub returns-in_err-check_slots : goal.returns-in_err-check_slots
+returns-in_err-check_slots c =
+    let ring = c.args.ring.now in
+    let plan = c.args.plan.now in
+    let O = is_ordered plan c.args.facts.now in
+    let slots : List Guard = below (λ i. slot_clauses ring plan O (record { partition = c.args.partition; index = i })) ring.n in
     let p = err_from_is_err_and c.from_residual.result c.from_residual.ensures.1 in
-    let l : c.loop-index.index < c.args.ring.now.n = omega arith in
-    rw (p.1, p.2) (λ ne. below-at clauses c.in_err-check_slot.field-0.0 c.loop-index.index c.args.ring.now.n c.loop-index.invariant l (c.in_err-check_slot.ensures ne))
+    rw (p.1, p.2) (gives-front c.in_err-check_slots.field-0.0 slots (steps_clauses (step_clauses ring plan O c.args.partition) 0 plan) c.in_err-check_slots.ensures)
+
+pub check_steps-requires-clause-staged : goal.check_steps-requires-clause-staged
+check_steps-requires-clause-staged c = staged-from c.args.ring.now c.args.plan.now (is_ordered c.args.plan.now c.args.facts.now) c.args.partition c.in_ok-check_slots.ensures
 
 pub returns : goal.returns
 returns c =
-    let clauses : ℕ → List (Bool × Refusal) = λ i. slot_clauses c.args.ring.now c.args.plan.now (record { partition = c.args.partition; index = i }) in
-    let end : c.loop-index.index ≡ c.args.ring.now.n = omega arith in
-    subst (λ (n : ℕ). first_failing (below clauses n) ≡ None) end c.loop-index.invariant
+    let ring = c.args.ring.now in
+    let plan = c.args.plan.now in
+    let O = is_ordered plan c.args.facts.now in
+    let slots : List Guard = below (λ i. slot_clauses ring plan O (record { partition = c.args.partition; index = i })) ring.n in
+    gives-behind c.check_steps.result slots (steps_clauses (step_clauses ring plan O c.args.partition) 0 plan) c.in_ok-check_slots.ensures c.check_steps.ensures

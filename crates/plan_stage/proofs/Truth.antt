@@ -10,12 +10,11 @@ use Rattle.ring_names.specs.declared.refusal.Refusal.{Refusal}
 use Rattle.plan_text.specs.declared.step.Step.{Step}
 use Rattle.plan_text.specs.declared.step.Planned.{Planned}
 use Rattle.plan_text.specs.Steps.{is_slot}
-use Rattle.plan_stage.specs.Clauses.{first_failing}
+use Rattle.plan_stage.specs.Clauses.{first_failing, Guard}
 use Rattle.plan_stage.specs.Occupancy.{is_node}
 use Rattle.plan_stage.proofs.Below.{met}
-use Rattle.plan_check.specs.World.{some_step}
-use Rattle.plan_check.specs.Events.{Guard, step_at}
-use Rattle.plan_check.specs.First.{each_step, each_below, steps_clauses}
+use Rattle.plan_stage.specs.Each.{some_step, step_at, each_step, each_below}
+use Rattle.plan_stage.specs.Partition.{steps_clauses}
 use Rattle.ring_text.proofs.Fronts.{both_true}
 
 -- ---- truth values

@@ -1,0 +1,64 @@
+-- What the parts of the check find, put together.
+use Rattle.std.proofs.Common.{◌≡◌, ◌⊎◌, inl, inr, ℕ, ◌+◌, Bool, cond, List, [], ◌∷◌, length, refl, sym, ap, ◌∙◌, Option, Some, None, Result, Ok, Err}
+use Rattle.std.specs.Prelude.{◌||◌, min}
+use Rattle.ring_names.specs.declared.refusal.Refusal.{Refusal}
+use Rattle.ring_names.specs.declared.refusal.Refusal.TheVariants.{BadPath, OutOfMemory}
+use Rattle.ring_table.specs.Value.{RingValue}
+use Rattle.plan_text.specs.declared.step.Planned.{Planned}
+use Rattle.plan_text.specs.Steps.{depends}
+use Rattle.plan_order.specs.Paths.{is_path, first_bad}
+use Rattle.plan_order.specs.declared.facts.Ends.{Ends}
+use Rattle.plan_order.specs.Facts.{has_ends, some_leads, is_ordered}
+use Rattle.plan_cert.specs.declared.cert.Cert.{Cert}
+use Rattle.plan_stage.specs.Clauses.{Guard, first_failing, below}
+use Rattle.plan_stage.specs.Partition.{partition_clauses}
+use Rattle.plan_cover.specs.Clauses.{node_clauses}
+use Rattle.plan_stage.proofs.Alike.{parts-alike, partition-alike, below-alike}
+use Rattle.plan_cover.proofs.Alike.{node-alike}
+use Rattle.plan_check.specs.Certified.{ordered_by}
+use Rattle.plan_check.specs.First.{fact_clauses, rest_clauses}
+
+-- ---- facts
+
+pub facts-first : (plan : List Planned) (n : ℕ) (fs : List (List ℕ)) → first_failing (fact_clauses plan n fs) ≡ first_bad plan n fs
+facts-first plan n [] = refl
+facts-first plan n (f ∷ fs) = ap (λ (o : Option Refusal). cond (is_path plan f) o (Some (BadPath (min n 4294967295)))) (facts-first plan (n + 1) fs)
+
+-- ---- what facts tell is what the certificate proves to be in order
+
+pub order-alike : (plan : List Planned) (facts : List Ends) (cert : Cert) → ((a b : ℕ) → has_ends a b facts ≡ some_leads a b cert.facts) → (a b : ℕ) → is_ordered plan facts a b ≡ ordered_by plan cert a b
+order-alike plan facts cert ends a b = ap (λ (t : Bool). depends plan a b || t) (ends a b)
+
+pub rest-alike : (ring : RingValue) (plan : List Planned) (facts : List Ends) (cert : Cert) → ((a b : ℕ) → has_ends a b facts ≡ some_leads a b cert.facts)
+    → first_failing (rest_clauses ring plan cert (is_ordered plan facts)) ≡ first_failing (rest_clauses ring plan cert (ordered_by plan cert))
+rest-alike ring plan facts cert ends =
+    let O = is_ordered plan facts in
+    let P = ordered_by plan cert in
+    let same = order-alike plan facts cert ends in
+    let nodes : (ℕ → ℕ → Bool) → ℕ → List Guard = λ Q x. node_clauses ring plan cert Q (record { 0 = x }) in
+    parts-alike (below (partition_clauses ring plan O) ring.q) (below (partition_clauses ring plan P) ring.q) (below (nodes O) (length ring.nodes)) (below (nodes P) (length ring.nodes))
+    (below-alike (partition_clauses ring plan O) (partition_clauses ring plan P) (λ p. partition-alike ring plan O P same p) ring.q)
+    (below-alike (nodes O) (nodes P) (λ x. node-alike ring plan cert O P same (record { 0 = x })) (length ring.nodes))
+
+-- ---- memory
+
+pub is_memory : (e : Refusal) → (e ≡ OutOfMemory) ⊎ (e ≡ OutOfMemory → ⊥)
+is_memory OutOfMemory = inl refl
+is_memory e = inr (λ h. absurd cc)
+
+-- where no clause fails, memory alone is refused
+pub only_memory : (e : Refusal) (o : Option Refusal) → ((e ≡ OutOfMemory → ⊥) → o ≡ Some e) → o ≡ None → e ≡ OutOfMemory
+only_memory e o h none = elim (is_memory e) [ inl is ↦ is | inr not_memory ↦ (let f = h not_memory in absurd cc) ]
+
+-- ---- what verifying facts found
+
+pub facts-good : {X : Type 0} → (o : Option Refusal) (r : Result X Refusal) (f : X) → ((e : Refusal) → o ≡ Some e → r ≡ Err e) → r ≡ Ok f → o ≡ None
+facts-good None r f bad ok = refl
+facts-good (Some e) r f bad ok = (let h : Ok f ≡ Err e = sym ok ∙ bad e refl in absurd cc)
+
+abbrev err : (X : Type 0) → Refusal → Result X Refusal
+err X e = Err e
+
+pub facts-bad : {X : Type 0} → (o : Option Refusal) (r : Result X Refusal) (d : Refusal) → ((e : Refusal) → o ≡ Some e → r ≡ Err e) → (o ≡ None → d ≡ OutOfMemory) → r ≡ Err d → (d ≡ OutOfMemory → ⊥) → o ≡ Some d
+facts-bad None r d bad good is ne = absurd (ne (good refl))
+facts-bad {X} (Some e) r d bad good is ne = (let h : err X e ≡ err X d = sym (bad e refl) ∙ is in cc)

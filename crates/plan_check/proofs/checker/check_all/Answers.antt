@@ -1,0 +1,31 @@
+use Rattle.std.proofs.Common.{◌≡◌, ℕ, ◌∙◌, sym, ap}
+use Rattle.std.proofs.lemmas.Result.{err_from_is_err_and}
+use Rattle.plan_order.specs.Paths.{first_bad}
+use Rattle.plan_order.specs.Facts.{has_ends, some_leads, is_ordered}
+use Rattle.plan_stage.specs.Clauses.{first_failing}
+use Rattle.plan_check.specs.Certified.{ordered_by}
+use Rattle.plan_check.specs.First.{fact_clauses, rest_clauses}
+use Rattle.plan_stage.proofs.Partitions.{gives-behind, gives-front, gives-same}
+use Rattle.plan_check.proofs.Checked.{facts-first, facts-good, facts-bad, rest-alike}
+use Rattle.plan_check.proofs.checker.check_all.Goals as goal
+
+pub returns-in_err-facts : goal.returns-in_err-facts
+returns-in_err-facts c =
+    let ring = c.args.ring.now in
+    let plan = c.args.plan.now in
+    let cert = c.args.cert.now in
+    let p = err_from_is_err_and c.from_residual.result c.from_residual.ensures.1 in
+    let same : first_failing (fact_clauses plan 0 cert.facts) ≡ first_bad plan 0 c.as_slice.result.now = facts-first plan 0 cert.facts ∙ ap (first_bad plan 0) (sym c.as_slice.ensures) in
+    rw (p.1, p.2) (gives-front c.in_err-facts.field-0.0 (fact_clauses plan 0 cert.facts) (rest_clauses ring plan cert (ordered_by plan cert)) (λ ne. same ∙ facts-bad (first_bad plan 0 c.as_slice.result.now) c.verify.result c.in_err-facts.field-0.0 c.verify.ensures.bad c.in_err-facts.ensures.good c.in_err-facts.was ne))
+
+pub returns : goal.returns
+returns c =
+    let ring = c.args.ring.now in
+    let plan = c.args.plan.now in
+    let cert = c.args.cert.now in
+    let facts = c.in_ok-facts.facts in
+    let none = facts-good (first_bad plan 0 c.as_slice.result.now) c.verify.result facts c.verify.ensures.bad c.in_ok-facts.was in
+    let good = facts-first plan 0 cert.facts ∙ ap (first_bad plan 0) (sym c.as_slice.ensures) ∙ none in
+    let ends : (a b : ℕ) → has_ends a b facts ≡ some_leads a b cert.facts = λ a b. c.in_ok-facts.ensures.ends a b ∙ ap (some_leads a b) c.as_slice.ensures in
+    gives-behind c.check_rest.result (fact_clauses plan 0 cert.facts) (rest_clauses ring plan cert (ordered_by plan cert)) good
+    (gives-same c.check_rest.result (rest_clauses ring plan cert (is_ordered plan facts)) (rest_clauses ring plan cert (ordered_by plan cert)) (rest-alike ring plan facts cert ends) c.check_rest.ensures)

@@ -1,0 +1,5 @@
+pub mod Counting
+pub mod Served
+pub mod Retiring
+pub mod Guarded
+pub mod Alike

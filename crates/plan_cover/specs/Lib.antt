@@ -1,0 +1,4 @@
+pub mod Clauses
+pub mod Numbers
+pub mod Serving
+pub mod Guards

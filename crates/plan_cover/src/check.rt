@@ -1,0 +1,119 @@
+//! The check of each node.
+
+ghost use Rattle.std.specs.Prelude.{◌≡◌, ◌<◌, ◌∷◌, [], ℕ, length};
+ghost use Rattle.ring_names.specs.declared.refusal.Refusal.TheVariants.{TooManyChains};
+ghost use Rattle.plan_text.specs.Steps.{retirement_of};
+ghost use Rattle.plan_text.specs.Valid.{Suits};
+ghost use Rattle.plan_order.specs.Facts.{is_ordered, AreFactsOf};
+ghost use Rattle.plan_stage.specs.Clauses.{Gives, below};
+ghost use Rattle.plan_cover.specs.Clauses.{is_few, node_clauses};
+ghost use Rattle.plan_cover.specs.Numbers.{IsCover};
+ghost use Rattle.plan_cover.specs.Guards.{retirement_guards};
+
+use crate::cover::Cover;
+use crate::covered::check_copies;
+use crate::linked::check_chains;
+use plan_cert::Cert;
+use plan_order::Facts;
+use plan_stage::has_joined;
+use plan_text::Plan;
+use ring_names::{NodeId, Refusal};
+use ring_table::Ring;
+use std::alloc::Global;
+
+/// Tests the clauses of one node, and answers with the first refusal. Costs one pass over the plan and one over the chains.
+pub fn check_node(
+    alloc: Global,
+    ring: &Ring,
+    plan: &Plan,
+    facts: &Facts,
+    cert: &Cert,
+    node: NodeId,
+) -> Result<(), Refusal>
+    requires node { node.0 < length ring.now.nodes }
+    requires suits { Suits ring.now plan.now }
+    requires facts { AreFactsOf plan.now facts.now }
+    ensures { Gives result (node_clauses ring.now plan.now cert.now (is_ordered plan.now facts.now) node) }
+{
+    let cover = Cover::of(alloc, ring, plan, cert)?;
+    check_with(alloc, &cover, ring, plan, facts, cert, node)
+}
+
+/// Tests the clauses of each node, by number, and answers with the first refusal. Costs one pass over the plan and one over
+/// the chains, and then looks at what each node has of them.
+pub fn check_nodes(
+    alloc: Global,
+    ring: &Ring,
+    plan: &Plan,
+    facts: &Facts,
+    cert: &Cert,
+) -> Result<(), Refusal>
+    requires suits { Suits ring.now plan.now }
+    requires facts { AreFactsOf plan.now facts.now }
+    ensures { Gives result (below (λ x. node_clauses ring.now plan.now cert.now (is_ordered plan.now facts.now) (record { 0 = x })) (length ring.now.nodes)) }
+{
+    let cover = Cover::of(alloc, ring, plan, cert)?;
+    let nodes = ring.nodes().len() as u32;
+    for x in 0..nodes {
+        check_with(alloc, &cover, ring, plan, facts, cert, NodeId(x))?;
+    }
+    Ok(())
+}
+
+// Tests the clauses of one node.
+fn check_with(
+    alloc: Global,
+    cover: &Cover,
+    ring: &Ring,
+    plan: &Plan,
+    facts: &Facts,
+    cert: &Cert,
+    node: NodeId,
+) -> Result<(), Refusal>
+    requires suits { Suits ring.now plan.now }
+    requires facts { AreFactsOf plan.now facts.now }
+    requires cover { IsCover ring.now plan.now cert.now cover.now }
+    ensures { Gives result (node_clauses ring.now plan.now cert.now (is_ordered plan.now facts.now) node) }
+{
+    let chains = cert.chains.as_slice();
+    let numbers = cover.chains.numbers(node);
+    let copies = cover.copies.numbers(node);
+    check_retirement(ring, plan, facts, node)?;
+    check_chains(plan, facts, chains, numbers, copies)?;
+    check_copies(alloc, chains, numbers, copies, node)?;
+    check_count(ring, node, numbers.len())
+}
+
+// Tests the step that retires the node.
+fn check_retirement(ring: &Ring, plan: &Plan, facts: &Facts, node: NodeId) -> Result<(), Refusal>
+    requires suits { Suits ring.now plan.now }
+    requires facts { AreFactsOf plan.now facts.now }
+    ensures { Gives result (retirement_guards ring.now plan.now (is_ordered plan.now facts.now) node (retirement_of plan.now node.0)) }
+{
+    if let Some(step) = plan.retirement_of(node) {
+        if !has_joined(ring, plan, facts, step, node) {
+            return Err(Refusal::NotJoined(step));
+        }
+    }
+    Ok(())
+}
+
+// Tests the number of the node's chains.
+fn check_count(ring: &Ring, node: NodeId, count: usize) -> Result<(), Refusal>
+    ensures { Gives result ((is_few ring.now node count, TooManyChains node.0) ∷ []) }
+{
+    if is_few(ring, node, count) {
+        Ok(())
+    } else {
+        Err(Refusal::TooManyChains(node.0))
+    }
+}
+
+fn is_few(ring: &Ring, node: NodeId, count: usize) -> bool
+    ensures { result ≡ is_few ring.now node count }
+{
+    match ring.nodes().get(node.0 as usize) {
+        Some(node) => count <= node.allowance as usize,
+        None => true,
+    }
+}

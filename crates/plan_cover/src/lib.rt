@@ -1,0 +1,15 @@
+//! The transfers of a node, and the chains of a certificate that cover them.
+#![tactic(auto)]
+
+mod chains;
+mod check;
+mod copies;
+mod cover;
+mod covered;
+mod linked;
+mod present;
+
+pub use check::{check_node, check_nodes};
+
+#[cfg(test)]
+mod tests;

@@ -1,0 +1,174 @@
+-- Sets of step numbers as they grow.
+use Rattle.std.proofs.Common.{◌≡◌, ◌⊎◌, inl, inr, ◌∙◌, ℕ, suc, ◌+◌, ◌<◌, Bool, true, false, cond, List, [], ◌∷◌, length, refl, sym, ap, arith, below_more, Option, Some, None}
+use Rattle.std.specs.Prelude.{◌||◌, ◌==◌, nat_lt, slice_get, option_map}
+use Rattle.std.specs.List.{list_all}
+use Rattle.std.specs.declared.cmp.Ordering.TheVariants.{Less, Equal, Greater}
+use Rattle.std.specs.List.Sorted.{IsStrictlySortedBy}
+use Rattle.plan_text.specs.Valid.{ascends}
+use Rattle.std.specs.Ordering.{nat_cmp, match_ordering}
+use Rattle.std.specs.BTreeSet.{insert_key}
+use Rattle.std.proofs.lemmas.Bool.{eqb-true, lt-ltb}
+use Rattle.ring_names.specs.Lists.{has}
+use Rattle.ring_names.specs.declared.ids.NodeId.{NodeId}
+use Rattle.ring_names.specs.declared.ids.Slot.{Slot}
+use Rattle.ring_table.specs.Value.{RingValue}
+use Rattle.plan_text.specs.declared.step.Step.{Step}
+use Rattle.plan_text.specs.declared.step.Planned.{Planned}
+use Rattle.plan_text.specs.Steps.{is_on, steps_from, steps_of, is_retire_of, first_step, retirement_of}
+use Rattle.plan_stage.specs.Gathered.{mirrored_node, are_steps, Grows, HasRetirement, HasStep, HasSlot}
+use Rattle.plan_stage.proofs.Truth.{all_of, either, first_of_two, second_of_two, same, list_all-met, list_all-all}
+
+-- ---- one more number
+
+inserted : (b e h : Bool) (k y x : ℕ) (ys new : List ℕ) → e ≡ (k == y) → has x new ≡ ((x == k) || has x ys) → has x (match_ordering (cond b Less (cond e Equal Greater)) (k ∷ y ∷ ys) (y ∷ ys) (y ∷ new)) ≡ ((x == k) || has x (y ∷ ys))
+inserted true e h k y x ys new is there = refl
+inserted false true h k y x ys new is there =
+    let same_key : k ≡ y = eqb-true k y (sym is) in
+    rw same_key (twice (x == y) (has x ys))
+  where
+    twice : (a b : Bool) → (a || b) ≡ (a || (a || b))
+    twice true b = refl
+    twice false b = refl
+inserted false false h k y x ys new is there = rw there (swapped (x == y) (x == k) (has x ys))
+  where
+    swapped : (a b c : Bool) → (a || (b || c)) ≡ (b || (a || c))
+    swapped true true c = refl
+    swapped true false c = refl
+    swapped false b c = refl
+
+pub has-insert : (x k : ℕ) (ks : List ℕ) → has x (insert_key nat_cmp ks k) ≡ ((x == k) || has x ks)
+has-insert x k [] = refl
+has-insert x k (y ∷ ys) = inserted (nat_lt k y) (k == y) true k y x ys (insert_key nat_cmp ys k) refl (has-insert x k ys)
+
+pub insert-has : (k : ℕ) (old new : List ℕ) → new ≡ insert_key nat_cmp old k → has k new ≡ true
+insert-has k old new e = rw (e, has-insert k k old) (first_of_two (k == k) (has k old) (same k))
+
+pub insert-grows : (plan : List Planned) (k : ℕ) (old new : List ℕ) → k < length plan → new ≡ insert_key nat_cmp old k → Grows plan old new
+insert-grows plan k old new l e = record {
+  stay = λ n h. rw (e, has-insert n k old) (second_of_two (n == k) (has n old) h);
+  steps = λ h. list_all-all (λ (n : ℕ). nat_lt n (length plan)) new (λ n is. by n h (either (n == k) (has n old) (let g : ((n == k) || has n old) ≡ true = sym (has-insert n k old) ∙ ap (has n) (sym e) ∙ is in g)));
+}
+  where
+    by : (n : ℕ) → are_steps plan old ≡ true → ((n == k) ≡ true) ⊎ (has n old ≡ true) → nat_lt n (length plan) ≡ true
+    by n h (inl here) = (let is : n ≡ k = eqb-true n k here in rw is (lt-ltb k (length plan) l))
+    by n h (inr there) = list_all-met (λ (n : ℕ). nat_lt n (length plan)) old h n there
+
+-- ---- growing
+
+pub grows-same : (plan : List Planned) (old : List ℕ) → Grows plan old old
+grows-same plan old = record { stay = λ n h. h; steps = λ h. h }
+
+pub grows-more : (plan : List Planned) (a b c : List ℕ) → Grows plan a b → Grows plan b c → Grows plan a c
+grows-more plan a b c g h = record { stay = λ n is. h.stay n (g.stay n is); steps = λ is. h.steps (g.steps is) }
+
+pub retirement-stays : (plan : List Planned) (x : NodeId) (old new : List ℕ) → Grows plan old new → HasRetirement plan x old → HasRetirement plan x new
+retirement-stays plan x old new g h = λ n is. g.stay n (h n is)
+
+pub step-stays : (plan : List Planned) (n : ℕ) (old new : List ℕ) → Grows plan old new → HasStep plan n old → HasStep plan n new
+step-stays plan n old new g h = record { here = g.stay n h.here; mirrored = λ s x at is. retirement-stays plan x old new g (h.mirrored s x at is) }
+
+-- ---- the numbers of steps
+
+next_number : (k n : ℕ) → k + 1 + n ≡ k + suc n
+next_number k n = omega arith
+
+found-within : (b : Bool) (k m n : ℕ) (o : Option ℕ) → cond b (Some k) o ≡ Some n → k < m → (o ≡ Some n → n < m) → n < m
+found-within true k m n o h l there = (let e : k ≡ n = cc in omega arith)
+found-within false k m n o h l there = there h
+
+first_step-within : (test : Step → Bool) (k n : ℕ) (plan : List Planned) → first_step test k plan ≡ Some n → n < k + length plan
+first_step-within test k n [] h = absurd cc
+first_step-within test k n (x ∷ xs) h =
+    let s : k + 1 + length xs ≡ k + length (x ∷ xs) = omega arith in
+    found-within (test x.step) k (k + length (x ∷ xs)) n (first_step test (k + 1) xs) h (omega arith) (λ there. rw (← s) (first_step-within test (k + 1) n xs there))
+
+-- a retirement is a step
+pub retirement-within : (plan : List Planned) (x n : ℕ) → retirement_of plan x ≡ Some n → n < length plan
+retirement-within plan x n h =
+    let z : 0 + length plan ≡ length plan = omega arith in
+    rw z at (first_step-within (is_retire_of x) 0 n plan h)
+
+listed-within : (b : Bool) (k m : ℕ) (ks : List ℕ) → nat_lt k m ≡ true → list_all (λ n. nat_lt n m) ks ≡ true → list_all (λ n. nat_lt n m) (cond b (k ∷ ks) ks) ≡ true
+listed-within true k m ks l h = all_of (nat_lt k m) (list_all (λ n. nat_lt n m) ks) l h
+listed-within false k m ks l h = h
+
+steps_from-within : (k m : ℕ) (plan : List Planned) (slot : Slot) → k + length plan ≡ m → list_all (λ n. nat_lt n m) (steps_from k plan slot) ≡ true
+steps_from-within k m [] slot e = refl
+steps_from-within k m (x ∷ xs) slot e =
+    listed-within (is_on slot x.step) k m (steps_from (k + 1) xs slot) (lt-ltb k m (omega arith)) (steps_from-within (k + 1) m xs slot (omega arith))
+
+-- the slot's steps are steps
+pub slot-within : (plan : List Planned) (slot : Slot) → are_steps plan (steps_of plan slot) ≡ true
+slot-within plan slot = steps_from-within 0 (length plan) plan slot (omega arith)
+
+-- ---- what a step adds
+
+same_step : (o : Option Planned) (s t : Step) → option_map (λ x. x.step) o ≡ Some t → (elim o [ Some x ↦ Some x.step | None ↦ None ]) ≡ Some s → s ≡ t
+same_step None s t e at = absurd cc
+same_step (Some x) s t e at = (let f : x.step ≡ t = cc in let g : x.step ≡ s = cc in cc)
+
+-- a step that mirrors a slot to the node has what it needs
+pub step-mirrors : (plan : List Planned) (n : ℕ) (t : Step) (x : NodeId) (old new : List ℕ) → option_map (λ y. y.step) (slice_get plan n) ≡ Some t → mirrored_node t ≡ Some x → has n old ≡ true → Grows plan old new → HasRetirement plan x new → HasStep plan n new
+step-mirrors plan n t x old new e is here g r = record {
+  here = g.stay n here;
+  mirrored = λ s y at same m k. (
+      let st : s ≡ t = same_step (slice_get plan n) s t e at in
+      let xy : y ≡ x = cc in
+      r m (rw xy at k));
+}
+
+-- ---- what a slot adds
+
+-- the numbers that are left, or were taken
+abbrev pub TakenOr : List Planned → List ℕ → List ℕ → List ℕ → Type 0
+TakenOr plan all rest numbers = (n : ℕ) → has n all ≡ true → (has n rest ≡ true) ⊎ HasStep plan n numbers
+
+pub none-taken : (plan : List Planned) (all rest numbers : List ℕ) → rest ≡ all → TakenOr plan all rest numbers
+none-taken plan all rest numbers e = λ n is. inl (rw e is)
+
+pub one-taken : (plan : List Planned) (all later old new : List ℕ) (k : ℕ) → TakenOr plan all (k ∷ later) old → Grows plan old new → HasStep plan k new → TakenOr plan all later new
+one-taken plan all later old new k t g here = λ n is. by n (t n is)
+  where
+    first : (n : ℕ) → ((n == k) ≡ true) ⊎ (has n later ≡ true) → (has n later ≡ true) ⊎ HasStep plan n new
+    first n (inl at) = (let e : n ≡ k = eqb-true n k at in inr (rw e here))
+    first n (inr there) = inl there
+
+    by : (n : ℕ) → (has n (k ∷ later) ≡ true) ⊎ HasStep plan n old → (has n later ≡ true) ⊎ HasStep plan n new
+    by n (inl left) = first n (either (n == k) (has n later) left)
+    by n (inr done) = inr (step-stays plan n old new g done)
+
+pub all-taken : (plan : List Planned) (all rest numbers : List ℕ) → TakenOr plan all rest numbers → rest ≡ [] → (n : ℕ) → has n all ≡ true → HasStep plan n numbers
+all-taken plan all rest numbers t e n is = by rest e (t n is)
+  where
+    by : (rest : List ℕ) → rest ≡ [] → (has n rest ≡ true) ⊎ HasStep plan n numbers → HasStep plan n numbers
+    by rest e (inl left) = absurd (let f : has n rest ≡ false = ap (has n) e in cc)
+    by rest e (inr done) = done
+
+pub slot-stays : (ring : RingValue) (plan : List Planned) (slot : Slot) (old new : List ℕ) → Grows plan old new → HasSlot ring plan slot old → HasSlot ring plan slot new
+slot-stays ring plan slot old new g h = record {
+  owner = λ x is. retirement-stays plan x old new g (h.owner x is);
+  steps = λ n is. step-stays plan n old new g (h.steps n is);
+}
+
+-- the retirement of the slot's first owner is there, whoever that is
+pub owner-has : (plan : List Planned) (o : Option NodeId) (y x : NodeId) (numbers : List ℕ) → o ≡ Some y → o ≡ Some x → HasRetirement plan y numbers → HasRetirement plan x numbers
+owner-has plan o y x numbers e f h = (let same_node : x ≡ y = cc in rw same_node h)
+
+-- ---- in order
+
+ordered : (b c : Bool) → cond b Less (cond c Equal Greater) ≡ Less → b ≡ true
+ordered true c h = refl
+ordered false true h = absurd cc
+ordered false false h = absurd cc
+
+-- what a set keeps ascends
+pub sorted-ascends : (xs : List ℕ) → IsStrictlySortedBy nat_cmp xs → ascends xs ≡ true
+unfolding IsStrictlySortedBy
+sorted-ascends [] h = refl
+sorted-ascends (x ∷ []) h = refl
+sorted-ascends (x ∷ y ∷ ys) h = all_of (nat_lt x y) (ascends (y ∷ ys)) (ordered (nat_lt x y) (x == y) h.0.0) (sorted-ascends (y ∷ ys) h.1)
+
+-- the slots below a number, and the slot of that number
+pub slots-more : (ring : RingValue) (plan : List Planned) (p k : ℕ) (old new : List ℕ) → Grows plan old new → ((i : ℕ) → i < k → HasSlot ring plan (record { partition = p; index = i }) old) → HasSlot ring plan (record { partition = p; index = k }) new → (i : ℕ) → i < k + 1 → HasSlot ring plan (record { partition = p; index = i }) new
+slots-more ring plan p k old new g front here i l =
+    below_more (λ (i : ℕ). HasSlot ring plan (record { partition = p; index = i }) new) k (λ i l. slot-stays ring plan (record { partition = p; index = i }) old new g (front i l)) here i l

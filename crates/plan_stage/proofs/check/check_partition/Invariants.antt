@@ -1,6 +1,0 @@
-use Rattle.std.proofs.Common.{◌≡◌, None}
-use Rattle.plan_stage.specs.Clauses.{first_failing, below, slot_clauses}
-use Rattle.plan_stage.proofs.check.check_partition.Given as goal
-
-abbrev pub invariant-loop-index : goal.invariant-loop-index
-invariant-loop-index l = first_failing (below (λ i. slot_clauses l.ring l.plan (record { partition = l.partition; index = i })) l.index) ≡ None

@@ -1,0 +1,174 @@
+//! The nodes that take part in a copy.
+
+ghost use Rattle.std.specs.Prelude.{◌≡◌, ◌<◌, true, nat_lt, count_by, map, IfErr, IfOk, OnOk};
+ghost use Rattle.std.specs.List.{list_all};
+ghost use Rattle.ring_names.specs.declared.refusal.Refusal.TheVariants.{OutOfMemory};
+ghost use Rattle.plan_text.specs.Steps.{steps_of};
+ghost use Rattle.plan_text.specs.Valid.{Suits, source_suits};
+ghost use Rattle.plan_stage.specs.Parties.{count_below, stage_before, source_slots, owners_before, with_target, parties};
+ghost use Rattle.plan_stage.specs.Stage.{with_node};
+ghost use Rattle.plan_stage.specs.Walk.{nodes};
+
+use crate::check::stage_at;
+use crate::stage::Stage;
+use crate::walk::listed;
+use plan_text::{Plan, Source, Step};
+use ring_names::{Listed, NodeId, Refusal, Slot};
+use ring_table::Ring;
+use std::alloc::Global;
+use std::collections::BTreeSet;
+
+/// The nodes that take part in a copy, by number: its mirror, and the owners of its source slots just before it. None
+/// where the step is no copy.
+pub fn parties(
+    alloc: Global,
+    ring: &Ring,
+    plan: &Plan,
+    step: u32,
+) -> Result<Listed<NodeId>, Refusal>
+    requires suits { Suits ring.now plan.now }
+    ensures ok { IfOk result (λ list. list ≡ parties ring.now plan.now step) }
+    ensures memory { IfErr result (λ e. e ≡ OutOfMemory) }
+{
+    let no_one = Listed::from_vec(Vec::new(alloc));
+    if step >= plan.len() {
+        return Ok(no_one);
+    }
+    match plan.step(step) {
+        Step::Copy(slot, source) => copy_parties(alloc, ring, plan, step, *slot, source),
+        Step::Join(_) | Step::Mirror(_, _) | Step::Switch(_) | Step::Drop(_, _) | Step::Retire(_) =>
+            Ok(no_one),
+    }
+}
+
+// The owners of the source slots of the step that copies the slot, and the slot's mirror.
+fn copy_parties(
+    alloc: Global,
+    ring: &Ring,
+    plan: &Plan,
+    step: u32,
+    slot: Slot,
+    source: &Source,
+) -> Result<Listed<NodeId>, Refusal>
+    requires partition { slot.partition < ring.now.q }
+    requires index { slot.index < ring.now.n }
+    requires suits { source_suits ring.now source.now ≡ true }
+    ensures ok { IfOk result (λ list. list ≡ with_target (stage_before ring.now plan.now slot step).mirror (owners_before ring.now plan.now step (source_slots slot source.now))) }
+    ensures memory { IfErr result (λ e. e ≡ OutOfMemory) }
+{
+    let mut party = owners_before(alloc, ring, plan, step, slot, source)?;
+    let stage = stage_before(alloc, ring, plan, step, slot)?;
+    if let Some(target) = stage.mirror {
+        add_node(&mut party, target)?;
+    }
+    Ok(Listed::from_vec(listed(alloc, &party)?))
+}
+
+// The owners of the slots from which the step copies, just before it.
+fn owners_before(
+    alloc: Global,
+    ring: &Ring,
+    plan: &Plan,
+    step: u32,
+    slot: Slot,
+    source: &Source,
+) -> Result<BTreeSet<u32>, Refusal>
+    requires partition { slot.partition < ring.now.q }
+    requires index { slot.index < ring.now.n }
+    requires suits { source_suits ring.now source.now ≡ true }
+    ensures ok { IfOk result (λ party. nodes party.keys ≡ owners_before ring.now plan.now step (source_slots slot source.now)) }
+    ensures memory { IfErr result (λ e. e ≡ OutOfMemory) }
+{
+    match source {
+        Source::Owner => {
+            let mut party = BTreeSet::new(alloc);
+            add_owner(alloc, ring, plan, step, slot, &mut party)?;
+            Ok(party)
+        }
+        Source::Slots(from) => {
+            listed_owners(alloc, ring, plan, step, slot.partition, from.as_slice())
+        }
+    }
+}
+
+// The owners of the listed slots of a partition, just before the step.
+fn listed_owners(
+    alloc: Global,
+    ring: &Ring,
+    plan: &Plan,
+    step: u32,
+    partition: u32,
+    from: &[u32],
+) -> Result<BTreeSet<u32>, Refusal>
+    requires partition { partition < ring.now.q }
+    requires indexes { list_all (λ i. nat_lt i ring.now.n) from.now ≡ true }
+    ensures ok { IfOk result (λ party. nodes party.keys ≡ owners_before ring.now plan.now step (map (λ i. record { partition = partition; index = i }) from.now)) }
+    ensures memory { IfErr result (λ e. e ≡ OutOfMemory) }
+{
+    let mut party = BTreeSet::new(alloc);
+    for k in (0..from.len()).rev() {
+        let slot = Slot {
+            partition,
+            index: from[k],
+        };
+        add_owner(alloc, ring, plan, step, slot, &mut party)?;
+    }
+    Ok(party)
+}
+
+// Puts the owner of the slot, just before the step, among the others.
+fn add_owner(
+    alloc: Global,
+    ring: &Ring,
+    plan: &Plan,
+    step: u32,
+    slot: Slot,
+    party: &mut BTreeSet<u32>,
+) -> Result<(), Refusal>
+    requires partition { slot.partition < ring.now.q }
+    requires index { slot.index < ring.now.n }
+    ensures ok { OnOk result (nodes party.new.keys ≡ with_node (stage_before ring.now plan.now slot step).owner (nodes party.old.keys)) }
+    ensures memory { IfErr result (λ e. e ≡ OutOfMemory) }
+{
+    let stage = stage_before(alloc, ring, plan, step, slot)?;
+    add_node(party, stage.owner)
+}
+
+// Puts one more node among the others.
+fn add_node(party: &mut BTreeSet<u32>, node: NodeId) -> Result<(), Refusal>
+    ensures ok { OnOk result (nodes party.new.keys ≡ with_node node (nodes party.old.keys)) }
+    ensures memory { IfErr result (λ e. e ≡ OutOfMemory) }
+{
+    party.insert(node.0)?;
+    Ok(())
+}
+
+// The stage of the slot just before the step.
+fn stage_before(
+    alloc: Global,
+    ring: &Ring,
+    plan: &Plan,
+    step: u32,
+    slot: Slot,
+) -> Result<Stage, Refusal>
+    requires partition { slot.partition < ring.now.q }
+    requires index { slot.index < ring.now.n }
+    ensures ok { IfOk result (λ stage. stage ≡ stage_before ring.now plan.now slot step) }
+    ensures memory { IfErr result (λ e. e ≡ OutOfMemory) }
+{
+    stage_at(alloc, ring, plan, slot, count_before(plan, step, slot))
+}
+
+// How many of the slot's steps stand before the step.
+fn count_before(plan: &Plan, step: u32, slot: Slot) -> u32
+    ensures { result ≡ count_below step (steps_of plan.now slot) }
+{
+    count_less(plan.slot_steps(slot), step) as u32
+}
+
+// How many of the numbers are less than the limit.
+fn count_less(numbers: &[u32], limit: u32) -> usize
+    ensures { result ≡ count_by (λ number. nat_lt number limit) numbers.now }
+{
+    numbers.iter().filter(|number| **number < limit).count()
+}

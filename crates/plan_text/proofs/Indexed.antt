@@ -1,0 +1,135 @@
+-- The index of a plan with one more step.
+use Rattle.std.proofs.Common.{◌≡◌, ℕ, ◌+◌, ◌<◌, Bool, true, false, cond, List, [], ◌∷◌, ◌++◌, length, Option, Some, None, refl, sym, ap, ◌∙◌, subst, arith, add-zero, ◌⊎◌, inl, inr}
+use Rattle.std.specs.Prelude.{not, ◌&&◌, ◌||◌, ◌==◌, is_some, IfSome}
+use Rattle.std.specs.Option.{option_or}
+use Rattle.std.proofs.lemmas.List.{append-nil}
+use Rattle.ring_names.specs.declared.ids.Slot.{Slot}
+use Rattle.ring_names.specs.declared.ids.NodeId.{NodeId}
+use Rattle.plan_text.specs.declared.step.Step.{Step}
+use Rattle.plan_text.specs.declared.step.Step.TheVariants.{Join, Mirror, Copy, Switch, Drop, Retire}
+use Rattle.plan_text.specs.declared.step.Source.{Source}
+use Rattle.plan_text.specs.declared.step.Planned.{Planned}
+use Rattle.plan_text.specs.declared.index.SlotIndex.{SlotIndex}
+use Rattle.plan_text.specs.declared.index.NodeIndex.{NodeIndex}
+use Rattle.plan_text.specs.declared.index.Index.{Index}
+use Rattle.plan_text.specs.Held.{numbers_at, first_of, holds, HoldsNodes, HoldsSteps}
+use Rattle.plan_text.specs.Steps.{is_slot, is_on, steps_of, joins, retires, joined, retired, is_join_of, is_retire_of, first_step, join_of, retirement_of}
+use Rattle.plan_text.proofs.Pushed.{steps_of-push, joined-push, retired-push, has-push, all_different-push}
+
+-- ---- the first step that passes a test
+
+-- what was found first, or the last step's number where that passes
+abbrev pub or_last : Option ℕ → Bool → ℕ → Option ℕ
+or_last o b n = option_or o (cond b (Some n) None)
+
+or_none : (o : Option ℕ) (n : ℕ) → or_last o false n ≡ o
+or_none None n = refl
+or_none (Some k) n = refl
+
+some_or : (o : Option ℕ) (b : Bool) (n : ℕ) → is_some (or_last o b n) ≡ (b || is_some o)
+some_or None true n = refl
+some_or None false n = refl
+some_or (Some k) true n = refl
+some_or (Some k) false n = refl
+
+one_before : (b : Bool) (k : ℕ) (o p : Option ℕ) (last : Bool) (n m : ℕ) → p ≡ or_last o last n → n ≡ m → cond b (Some k) p ≡ or_last (cond b (Some k) o) last m
+one_before true k o p last n m is e = refl
+one_before false k o p last n m is e = is ∙ ap (or_last o last) e
+
+first_step-push : (test : Step → Bool) (k : ℕ) (xs : List Planned) (x : Planned) → first_step test k (xs ++ x ∷ []) ≡ or_last (first_step test k xs) (test x.step) (k + length xs)
+first_step-push test k [] x = rw (add-zero k) refl
+first_step-push test k (y ∷ ys) x =
+    one_before (test y.step) k (first_step test (k + 1) ys) (first_step test (k + 1) (ys ++ x ∷ [])) (test x.step) ((k + 1) + length ys) (k + length (y ∷ ys)) (first_step-push test (k + 1) ys x) (omega arith)
+
+first-push : (test : Step → Bool) (plan : List Planned) (x : Planned) (b : Bool) → test x.step ≡ b → first_step test 0 (plan ++ x ∷ []) ≡ or_last (first_step test 0 plan) b (length plan)
+first-push test plan x b is =
+    let e : 0 + length plan ≡ length plan = omega arith in
+    first_step-push test 0 plan x ∙ ap (λ (n : ℕ). or_last (first_step test 0 plan) (test x.step) n) e ∙ ap (λ (c : Bool). or_last (first_step test 0 plan) c (length plan)) is
+
+first-same : (test : Step → Bool) (plan : List Planned) (x : Planned) → test x.step ≡ false → first_step test 0 plan ≡ first_step test 0 (plan ++ x ∷ [])
+first-same test plan x is = sym (first-push test plan x false is ∙ or_none (first_step test 0 plan) (length plan))
+
+-- ---- the nodes of which some step speaks
+
+HoldsNodes-none : (a : NodeIndex) (xs ys : List ℕ) (f g : ℕ → Option ℕ) → ys ≡ [] → ((y : ℕ) → f y ≡ g y) → HoldsNodes a xs f → HoldsNodes a (xs ++ ys) g
+HoldsNodes-none a xs ys f g e same h = rw (e, append-nil xs) (record {
+  nodes = h.nodes;
+  firsts = λ y. h.firsts y ∙ same y;
+  different = h.different;
+})
+
+HoldsNodes-push : (a b : NodeIndex) (xs ys : List ℕ) (f g : ℕ → Option ℕ) (x n : ℕ) → ys ≡ x ∷ [] → ((y : ℕ) → g y ≡ or_last (f y) (y == x) n) → ((y : ℕ) → first_of b y ≡ or_last (first_of a y) (y == x) n) → b.different ≡ (a.different && not (holds a x)) → HoldsNodes a xs f → HoldsNodes b (xs ++ ys) g
+HoldsNodes-push a b xs ys f g x n e last more fresh h = rw e (record {
+  nodes = λ y. ap (λ (o : Option ℕ). is_some o) (more y) ∙ some_or (first_of a y) (y == x) n ∙ ap (λ (t : Bool). (y == x) || t) (h.nodes y) ∙ sym (has-push xs x y);
+  firsts = λ y. more y ∙ ap (λ (o : Option ℕ). or_last o (y == x) n) (h.firsts y) ∙ sym (last y);
+  different = fresh ∙ rw (h.different, h.nodes x, all_different-push xs x) refl;
+})
+
+-- ---- which nodes a step names
+
+-- the step joins no node, and retires none
+abbrev pub JoinsNone : Step → Type 0
+JoinsNone t = (joins t ≡ []) × ((y : ℕ) → is_join_of y t ≡ false)
+
+abbrev pub RetiresNone : Step → Type 0
+RetiresNone t = (retires t ≡ []) × ((y : ℕ) → is_retire_of y t ≡ false)
+
+-- the step is one of the slot's
+abbrev pub OnSlot : Slot → Step → Type 0
+OnSlot slot t = ((s : Slot) → is_on s t ≡ is_slot s slot) × JoinsNone t × RetiresNone t
+
+pub on_slot : (slot : Slot) (t : Step) → ((x : NodeId) × (t ≡ Mirror slot x)) ⊎ (((f : Source) × (t ≡ Copy slot f)) ⊎ ((t ≡ Switch slot) ⊎ ((x : NodeId) × (t ≡ Drop slot x)))) → OnSlot slot t
+on_slot slot t (inl (x, e)) = subst (OnSlot slot) (sym e) (λ s. refl, (refl, λ y. refl), (refl, λ y. refl))
+on_slot slot t (inr (inl (f, e))) = subst (OnSlot slot) (sym e) (λ s. refl, (refl, λ y. refl), (refl, λ y. refl))
+on_slot slot t (inr (inr (inl e))) = subst (OnSlot slot) (sym e) (λ s. refl, (refl, λ y. refl), (refl, λ y. refl))
+on_slot slot t (inr (inr (inr (x, e)))) = subst (OnSlot slot) (sym e) (λ s. refl, (refl, λ y. refl), (refl, λ y. refl))
+
+joins-none : (a : NodeIndex) (plan : List Planned) (x : Planned) → JoinsNone x.step → HoldsNodes a (joined plan) (join_of plan) → HoldsNodes a (joined (plan ++ x ∷ [])) (join_of (plan ++ x ∷ []))
+joins-none a plan x none h =
+    rw (joined-push plan x) (HoldsNodes-none a (joined plan) (joins x.step) (join_of plan) (join_of (plan ++ x ∷ [])) none.0 (λ y. first-same (is_join_of y) plan x (none.1 y)) h)
+
+retires-none : (a : NodeIndex) (plan : List Planned) (x : Planned) → RetiresNone x.step → HoldsNodes a (retired plan) (retirement_of plan) → HoldsNodes a (retired (plan ++ x ∷ [])) (retirement_of (plan ++ x ∷ []))
+retires-none a plan x none h =
+    rw (retired-push plan x) (HoldsNodes-none a (retired plan) (retires x.step) (retirement_of plan) (retirement_of (plan ++ x ∷ [])) none.0 (λ y. first-same (is_retire_of y) plan x (none.1 y)) h)
+
+-- ---- the index with one more step, which is the slot's, joins a node or retires one
+
+pub HoldsSteps-slot : (a : Index) (b : SlotIndex) (plan : List Planned) (x : Planned) (slot : Slot) (number : ℕ) → length plan ≡ number → OnSlot slot x.step → ((s : Slot) → numbers_at b s ≡ cond (is_slot s slot) (numbers_at a.slots s ++ number ∷ []) (numbers_at a.slots s)) → HoldsSteps a plan → HoldsSteps (record { slots = b; joins = a.joins; retirements = a.retirements }) (plan ++ x ∷ [])
+HoldsSteps-slot a b plan x slot number n on more h = record {
+  slots = λ s. more s ∙ rw (h.slots s, ← on.0 s, ← n) (sym (steps_of-push plan x s));
+  joins = joins-none a.joins plan x on.1 h.joins;
+  retirements = retires-none a.retirements plan x on.2 h.retirements;
+}
+
+-- a step that is no slot's
+off_slot : (a : SlotIndex) (plan : List Planned) (x : Planned) (t : Step) → x.step ≡ t → ((s : Slot) → is_on s t ≡ false) → ((s : Slot) → numbers_at a s ≡ steps_of plan s) → (s : Slot) → numbers_at a s ≡ steps_of (plan ++ x ∷ []) s
+off_slot a plan x t e off h s =
+    h s ∙ sym (steps_of-push plan x s ∙ ap (λ (b : Bool). cond b (steps_of plan s ++ length plan ∷ []) (steps_of plan s)) (ap (is_on s) e ∙ off s))
+
+pub HoldsSteps-join : (a : Index) (b : NodeIndex) (plan : List Planned) (x : Planned) (y : NodeId) (number : ℕ) → length plan ≡ number → x.step ≡ Join y → ((z : ℕ) → first_of b z ≡ or_last (first_of a.joins z) (z == y.0) number) → b.different ≡ (a.joins.different && not (holds a.joins y.0)) → HoldsSteps a plan → HoldsSteps (record { slots = a.slots; joins = b; retirements = a.retirements }) (plan ++ x ∷ [])
+HoldsSteps-join a b plan x y number n e more fresh h = record {
+  slots = off_slot a.slots plan x (Join y) e (λ s. refl) h.slots;
+  joins = rw (joined-push plan x) (HoldsNodes-push a.joins b (joined plan) (joins x.step) (join_of plan) (join_of (plan ++ x ∷ [])) y.0 (length plan) (ap joins e) (λ z. first-push (is_join_of z) plan x (z == y.0) (ap (is_join_of z) e)) (λ z. more z ∙ ap (λ (k : ℕ). or_last (first_of a.joins z) (z == y.0) k) (sym n)) fresh h.joins);
+  retirements = retires-none a.retirements plan x (subst RetiresNone (sym e) (refl, λ z. refl)) h.retirements;
+}
+
+pub HoldsSteps-retire : (a : Index) (b : NodeIndex) (plan : List Planned) (x : Planned) (y : NodeId) (number : ℕ) → length plan ≡ number → x.step ≡ Retire y → ((z : ℕ) → first_of b z ≡ or_last (first_of a.retirements z) (z == y.0) number) → b.different ≡ (a.retirements.different && not (holds a.retirements y.0)) → HoldsSteps a plan → HoldsSteps (record { slots = a.slots; joins = a.joins; retirements = b }) (plan ++ x ∷ [])
+HoldsSteps-retire a b plan x y number n e more fresh h = record {
+  slots = off_slot a.slots plan x (Retire y) e (λ s. refl) h.slots;
+  joins = joins-none a.joins plan x (subst JoinsNone (sym e) (refl, λ z. refl)) h.joins;
+  retirements = rw (retired-push plan x) (HoldsNodes-push a.retirements b (retired plan) (retires x.step) (retirement_of plan) (retirement_of (plan ++ x ∷ [])) y.0 (length plan) (ap retires e) (λ z. first-push (is_retire_of z) plan x (z == y.0) (ap (is_retire_of z) e)) (λ z. more z ∙ ap (λ (k : ℕ). or_last (first_of a.retirements z) (z == y.0) k) (sym n)) fresh h.retirements);
+}
+
+-- what is found first is a step of the plan
+one_within : (b : Bool) (k n j : ℕ) (o : Option ℕ) → k < n → (o ≡ Some j → j < n) → cond b (Some k) o ≡ Some j → j < n
+one_within true k n j o l later e = (let s : k ≡ j = cc in omega arith)
+one_within false k n j o l later e = later e
+
+first_step-within : (test : Step → Bool) (k n : ℕ) (xs : List Planned) (j : ℕ) → n ≡ k + length xs → first_step test k xs ≡ Some j → j < n
+first_step-within test k n [] j e h = absurd cc
+first_step-within test k n (x ∷ xs) j e h =
+    one_within (test x.step) k n j (first_step test (k + 1) xs) (omega arith) (first_step-within test (k + 1) n xs j (omega arith)) h
+
+pub first-within : (test : Step → Bool) (plan : List Planned) (o : Option ℕ) → o ≡ first_step test 0 plan → IfSome o (λ j. j < length plan)
+first-within test plan None e = tt
+first-within test plan (Some j) e = first_step-within test 0 (length plan) plan j (omega arith) (sym e)
