@@ -14,7 +14,7 @@ use Rattle.plan_stage.specs.Stage.{stage, next, fits, is_among, with_node, witho
 use Rattle.plan_stage.specs.Clauses.{AllStaged}
 use Rattle.plan_stage.proofs.Stages.{after-next, fits_at-fits, stage-more}
 use Rattle.plan_check.specs.Occupies.{IsGoodMirror, IsGoodStage}
-use Rattle.plan_check.proofs.Occupied.{steps_on}
+use Rattle.plan_stage.proofs.Places.{placed}
 use Rattle.plan_stage.proofs.Truth.{not_is}
 
 -- who is among leftovers once a node is put among them, or is taken out
@@ -83,7 +83,7 @@ good-stages ring plan slot staged p i zero le = (refl, tt)
 good-stages ring plan slot staged p i (suc k) le =
     let n = get_or (steps_of plan slot) k 0 in
     let within : k < length (steps_of plan slot) = omega arith in
-    let on = steps_on plan slot k within in
+    let on = placed plan slot k within in
     let at : option_map (λ (z : Planned). z.step) (slice_get plan n) ≡ Some on.0.step = ap (λ (o : Option Planned). option_map (λ (z : Planned). z.step) o) on.1 in
     let fit : fits (stage ring plan slot k) on.0.step ≡ true = sym (fits_at-fits plan (stage ring plan slot k) n on.0.step at) ∙ staged slot p i k within in
     let plus : suc k ≡ k + 1 = omega arith in

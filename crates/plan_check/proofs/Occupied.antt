@@ -12,33 +12,15 @@ use Rattle.ring_table.specs.Valid.{IsRing, IsRow}
 use Rattle.plan_text.specs.declared.step.Step.{Step}
 use Rattle.plan_text.specs.declared.step.Step.TheVariants.{Join, Mirror, Copy, Switch, Drop, Retire}
 use Rattle.plan_text.specs.declared.step.Planned.{Planned}
-use Rattle.plan_text.specs.Steps.{steps_of, steps_from, is_on}
+use Rattle.plan_text.specs.Steps.{steps_of, is_on}
 use Rattle.plan_stage.specs.declared.stage.Stage.{Stage}
 use Rattle.plan_stage.specs.Stage.{opening, stage, after, next}
 use Rattle.plan_stage.proofs.Stages.{after-next, stage-more}
+use Rattle.plan_stage.proofs.Places.{placed}
 use Rattle.plan_stage.specs.Occupancy.{is_node, leaving, first_end, mirror_end}
 use Rattle.plan_stage.specs.Each.{step_at}
 use Rattle.plan_check.specs.Occupies.{FromStart, FromMirror, Serves}
 use Rattle.plan_stage.proofs.Truth.{slot-is}
-
--- ---- the steps of a slot are its own
-
-on_at : (n : ℕ) (xs : List Planned) (slot : Slot) (i : ℕ) → i < length (steps_from n xs slot) → (m : ℕ) × (get_or (steps_from n xs slot) i 0 ≡ n + m) × ((x : Planned) × (slice_get xs m ≡ Some x) × (is_on slot x.step ≡ true))
-on_at n [] slot i h = absurd (omega arith)
-on_at n (y ∷ ys) slot i h = by (is_on slot y.step) refl i h (λ j l. on_at (n + 1) ys slot j l)
-  where
-    by : (b : Bool) → is_on slot y.step ≡ b → (i : ℕ) → i < length (cond b (n ∷ steps_from (n + 1) ys slot) (steps_from (n + 1) ys slot))
-        → ((j : ℕ) → j < length (steps_from (n + 1) ys slot) → (m : ℕ) × (get_or (steps_from (n + 1) ys slot) j 0 ≡ (n + 1) + m) × ((x : Planned) × (slice_get ys m ≡ Some x) × (is_on slot x.step ≡ true)))
-        → (m : ℕ) × (get_or (cond b (n ∷ steps_from (n + 1) ys slot) (steps_from (n + 1) ys slot)) i 0 ≡ n + m) × ((x : Planned) × (slice_get (y ∷ ys) m ≡ Some x) × (is_on slot x.step ≡ true))
-    by true e zero l more = (0, omega arith, (y, refl, e))
-    by true e (suc j) l more = let r = more j (omega arith) in let at = r.1 in (suc r.0, omega arith, (r.2.0, r.2.1, r.2.2))
-    by false e j l more = let r = more j l in let at = r.1 in (suc r.0, omega arith, (r.2.0, r.2.1, r.2.2))
-
-pub steps_on : (plan : List Planned) (slot : Slot) (i : ℕ) → i < length (steps_of plan slot) → (x : Planned) × (slice_get plan (get_or (steps_of plan slot) i 0) ≡ Some x) × (is_on slot x.step ≡ true)
-steps_on plan slot i h =
-    let r = on_at 0 plan slot i h in
-    let number : get_or (steps_of plan slot) i 0 ≡ r.0 = (let at = r.1 in omega arith) in
-    (r.2.0, subst (λ (m : ℕ). slice_get plan m ≡ Some r.2.0) (sym number) r.2.1, r.2.2)
 
 -- ---- leaving, step by step
 
@@ -169,7 +151,7 @@ occupied ring plan slot x (suc k) r p i le s =
     let steps = steps_of plan slot in
     let n = get_or steps k 0 in
     let within : k < length steps = omega arith in
-    let on = steps_on plan slot k within in
+    let on = placed plan slot k within in
     let plus : suc k ≡ k + 1 = omega arith in
     let more : stage ring plan slot (suc k) ≡ after plan (stage ring plan slot k) n = ap (stage ring plan slot) plus ∙ stage-more ring plan slot k within in
     let taken : take (suc k) steps ≡ take k steps ++ n ∷ [] = ap (λ (m : ℕ). take m steps) plus ∙ take_more steps k 0 within in

@@ -24,7 +24,7 @@ use Rattle.plan_check.specs.Safe.{takes_part}
 use Rattle.plan_check.proofs.Prefix.{order, found, Rises, IsPrefix, prefix, count_below_is, place}
 use Rattle.plan_check.proofs.Mirrored.{Known, Closed, Ready, before_done, before_ready, rises, down}
 use Rattle.plan_check.proofs.Groups.{on_steps}
-use Rattle.plan_check.proofs.Occupied.{steps_on}
+use Rattle.plan_stage.proofs.Places.{placed}
 use Rattle.plan_stage.proofs.Truth.{either, second_of_two, slot-is, slot-same}
 
 -- ---- steps of smaller number
@@ -96,7 +96,7 @@ owner_kept ring plan slot a (suc b) l m never = elim (order b a) [
   | inl h ↦ (let e : suc b ≡ a = omega arith in ap (λ (z : ℕ). (stage ring plan slot z).owner) e)
   | inr h ↦ (
       let n = get_or (steps_of plan slot) b 0 in
-      let on = steps_on plan slot b (omega arith) in
+      let on = placed plan slot b (omega arith) in
       let more : stage ring plan slot (suc b) ≡ after plan (stage ring plan slot b) n = ap (stage ring plan slot) (sym (add-one b)) ∙ stage-more ring plan slot b (omega arith) in
       let step : step_at plan n ≡ Some on.0.step = ap (λ (o : Option Planned). elim o as (λ _. Option Step) [ Some z ↦ Some z.step | None ↦ None ]) on.1 in
       let is : after plan (stage ring plan slot b) n ≡ next (stage ring plan slot b) on.0.step = after-next plan (stage ring plan slot b) n on.0.step (ap (λ (o : Option Planned). option_map (λ (z : Planned). z.step) o) on.1) in

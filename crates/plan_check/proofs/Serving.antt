@@ -17,7 +17,8 @@ use Rattle.plan_stage.specs.Occupancy.{is_node, leaving}
 use Rattle.plan_stage.proofs.Stages.{after-next, fits_at-fits, stage-more}
 use Rattle.plan_check.specs.Occupies.{FromStart, FromMirror, Serves}
 use Rattle.plan_check.proofs.Prefix.{order}
-use Rattle.plan_check.proofs.Occupied.{node_same, ends_at, InStage, steps_on, drop_push, fold_cut}
+use Rattle.plan_check.proofs.Occupied.{node_same, ends_at, InStage, drop_push, fold_cut}
+use Rattle.plan_stage.proofs.Places.{placed}
 use Rattle.plan_stage.proofs.Truth.{node-is}
 
 leaving_parts : (plan : List Planned) (x : NodeId) (a : Stage) (ss ts : List ℕ) → leaving plan x a (ss ++ ts) ≡ None → (leaving plan x a ss ≡ None) × (leaving plan x (fold (after plan) a ss) ts ≡ None)
@@ -68,7 +69,7 @@ keeps_on ring plan slot x staged p i m (suc k) l le s none = elim (order m (suc 
       let steps = steps_of plan slot in
       let n = get_or steps k 0 in
       let within : k < length steps = omega arith in
-      let on = steps_on plan slot k within in
+      let on = placed plan slot k within in
       let plus : suc k ≡ k + 1 = omega arith in
       let at : option_map (λ (z : Planned). z.step) (slice_get plan n) ≡ Some on.0.step = ap (λ (o : Option Planned). option_map (λ (z : Planned). z.step) o) on.1 in
       let fit : fits (stage ring plan slot k) on.0.step ≡ true = sym (fits_at-fits plan (stage ring plan slot k) n on.0.step at) ∙ staged slot p i k within in

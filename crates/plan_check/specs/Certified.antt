@@ -11,8 +11,7 @@ use Rattle.plan_cert.specs.declared.cert.Cert.{Cert}
 use Rattle.plan_stage.specs.Stage.{is_among}
 use Rattle.plan_stage.specs.Parties.{parties}
 use Rattle.plan_check.specs.Sound.{Meets}
-use Rattle.plan_cover.specs.Clauses.{in_some}
-use Rattle.plan_cover.specs.Clauses.{chains_from}
+use Rattle.plan_cover.specs.Clauses.{in_some, chains_from}
 
 -- what a certificate proves to be in order: direct dependencies, and the ends of its facts
 abbrev pub ordered_by : List Planned → Cert → ℕ → ℕ → Bool

@@ -16,14 +16,13 @@ use Rattle.plan_text.specs.declared.step.Step.TheVariants as step
 use Rattle.plan_text.specs.declared.step.Planned.{Planned}
 use Rattle.plan_text.specs.Steps.{is_slot}
 use Rattle.plan_stage.specs.Parties.{parties, source_slots}
-use Rattle.plan_stage.specs.Clauses.{first_failing}
+use Rattle.plan_stage.specs.Clauses.{first_failing, Guard}
 use Rattle.plan_check.specs.declared.event.Event.{Event}
 use Rattle.plan_check.specs.declared.event.Event.TheVariants.{Do, OpenCopy, ChunkCopy, CloseCopy, AbortCopy, StartPut, Write, Hint, Ack, StartGet, Read, EndGet, Down, Up, Handoff}
 use Rattle.plan_check.specs.declared.event.Reply.{Reply}
 use Rattle.plan_check.specs.declared.event.Reply.TheVariants as reply
 use Rattle.plan_check.specs.World.{PutRecord, World, some_below, passing_below, stage_now, generation, is_member_now, slot_of, keeps, keeps_other, keeps_any}
 use Rattle.plan_check.specs.Succession.{latest}
-use Rattle.plan_stage.specs.Clauses.{Guard}
 use Rattle.plan_stage.specs.Each.{step_at}
 
 -- ---- what is named

@@ -13,10 +13,8 @@ use Rattle.plan_stage.specs.Stage.{is_among}
 use Rattle.plan_stage.specs.Clauses.{AllStaged}
 use Rattle.plan_stage.specs.Occupancy.{first_end, mirror_end, first_drop, mirror_drop}
 use Rattle.plan_stage.specs.Parties.{parties}
-use Rattle.plan_stage.specs.Each.{step_at}
-use Rattle.plan_cover.specs.Clauses.{allowance_of}
-use Rattle.plan_cover.specs.Clauses.{in_some}
-use Rattle.plan_stage.specs.Each.{sibling, place_in}
+use Rattle.plan_stage.specs.Each.{step_at, sibling, place_in}
+use Rattle.plan_cover.specs.Clauses.{allowance_of, in_some}
 
 -- an order of steps
 abbrev pub Order : Type 1

@@ -6,11 +6,10 @@ use Rattle.ring_table.specs.Value.{RingValue, is_member}
 use Rattle.plan_text.specs.declared.step.Step.{Step}
 use Rattle.plan_text.specs.declared.step.Step.TheVariants.{Join, Mirror, Copy, Switch, Drop, Retire}
 use Rattle.plan_text.specs.declared.step.Planned.{Planned}
-use Rattle.plan_text.specs.Steps.{steps_of}
+use Rattle.plan_text.specs.Steps.{steps_of, is_join_of, is_retire_of}
 use Rattle.plan_stage.specs.declared.stage.Stage.{Stage}
 use Rattle.plan_stage.specs.Stage.{stage}
 use Rattle.plan_stage.specs.Each.{some_step}
-use Rattle.plan_text.specs.Steps.{is_join_of, is_retire_of}
 
 -- a put: of each slot of its key's partition the generation at which it was last written or hinted there, if it was
 pub record PutRecord : Type 0 where

@@ -1,4 +1,4 @@
-//! The transfers of a node, and the chains of a certificate that cover them.
+//! The clauses of a node: its retirement, its transfers, and the chains of a certificate that cover them.
 #![tactic(auto)]
 
 mod chains;

@@ -12,14 +12,11 @@ use Rattle.plan_text.specs.declared.step.Planned.{Planned}
 use Rattle.plan_stage.specs.Clauses.{Guard}
 use Rattle.plan_stage.specs.Each.{step_at}
 use Rattle.plan_stage.specs.Partition.{Test, mirror_clauses, copy_clauses, step_clauses}
+use Rattle.plan_stage.proofs.Places.{step_at-is}
 use Rattle.plan_stage.specs.Looked.{clauses_at}
 
-of_option : (o : Option Planned) (s t : Step) → option_map (λ (x : Planned). x.step) o ≡ Some t → t ≡ s → (elim o [ Some x ↦ Some x.step | None ↦ None ]) ≡ Some s
-of_option None s t e is = absurd cc
-of_option (Some x) s t e is = e ∙ ap (λ (u : Step). Some u) is
-
 pub step-is : (plan : List Planned) (n : ℕ) (s t : Step) → option_map (λ (x : Planned). x.step) (slice_get plan n) ≡ Some t → t ≡ s → step_at plan n ≡ Some s
-step-is plan n s t e is = of_option (slice_get plan n) s t e is
+step-is plan n s t e is = step_at-is plan n t e ∙ ap (λ (u : Step). Some u) is
 
 at-step : (f : ℕ → Step → List Guard) (plan : List Planned) (n : ℕ) (s : Step) → step_at plan n ≡ Some s → clauses_at f plan n ≡ f n s
 at-step f plan n s at = ap (λ (o : Option Step). elim o [ Some t ↦ f n t | None ↦ [] ]) at

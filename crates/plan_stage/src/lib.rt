@@ -1,4 +1,6 @@
-//! The stages through which a plan's steps take each slot, and whether those steps act in order.
+//! The stages through which a plan's steps take each slot, whether those steps act in order, and whether each step of a
+//! partition meets what a sound plan asks of it besides: its mirrors, its copies and the retirements of its nodes. Also who
+//! takes part in a copy.
 #![tactic(auto)]
 
 mod behind;

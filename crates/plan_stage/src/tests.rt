@@ -1,6 +1,7 @@
 use super::*;
+use plan_order::Facts;
 use plan_text::read_plan;
-use ring_names::NodeId;
+use ring_names::{Listed, NodeId, Refusal, Slot};
 use ring_table::read_ring;
 use std::test::Fail;
 
@@ -25,5 +26,67 @@ fn parties_of_copies(rt: HostRuntime) -> Result<(), Fail> {
     );
     assert!(rt; parties(alloc, &ring, &plan, 3)?.as_slice().is_empty());
     assert!(rt; parties(alloc, &ring, &plan, 6)?.as_slice().is_empty());
+    Ok(())
+}
+
+// The copy from slot 1 needs the path from the switch of that slot.
+#[test]
+fn partitions_pass(rt: HostRuntime) -> Result<(), Fail> {
+    let alloc = rt.alloc();
+    let ring = read_ring(alloc, RING.as_bytes())?;
+    let plan = read_plan(alloc, &ring, TWO_MOVES.as_bytes())?;
+    let path = Listed::from_vec(Vec::from_slice(alloc, &[3, 4, 5])?);
+    let paths = vec![in alloc; path]?;
+    let facts = Facts::verify(alloc, &plan, paths.as_slice())?;
+    assert!(rt; ring.q() == 4);
+    for partition in 0..4 {
+        assert_eq!(rt;
+            check_partition(alloc, &ring, &plan, &facts, partition),
+            Ok(())
+        );
+    }
+    let no_path = Vec::new(alloc);
+    let none = Facts::verify(alloc, &plan, no_path.as_slice())?;
+    let refused = check_partition(alloc, &ring, &plan, &none, 0);
+    assert_eq!(rt; refused, Err(Refusal::MovingSource(5)));
+    Ok(())
+}
+
+#[test]
+fn stages_of_slots(rt: HostRuntime) -> Result<(), Fail> {
+    let alloc = rt.alloc();
+    let ring = read_ring(alloc, RING.as_bytes())?;
+    let plan = read_plan(alloc, &ring, TWO_MOVES.as_bytes())?;
+    assert!(rt; ring.q() == 4);
+    assert!(rt; ring.n() == 3);
+    let partition = 0;
+    let moved = stage_at(
+        alloc,
+        &ring,
+        &plan,
+        Slot {
+            partition,
+            index: 1,
+        },
+        3,
+    )?;
+    assert_eq!(rt; moved.owner, NodeId(3));
+    assert_eq!(rt; moved.mirror, None);
+    assert!(rt; !moved.copied);
+    assert_eq!(rt; moved.leftovers.as_slice(), [NodeId(1)].as_slice());
+    let copied = stage_at(
+        alloc,
+        &ring,
+        &plan,
+        Slot {
+            partition,
+            index: 2,
+        },
+        9,
+    )?;
+    assert_eq!(rt; copied.owner, NodeId(2));
+    assert_eq!(rt; copied.mirror, Some(NodeId(1)));
+    assert!(rt; copied.copied);
+    assert!(rt; copied.leftovers.as_slice().is_empty());
     Ok(())
 }

@@ -11,7 +11,7 @@ use Rattle.ring_names.specs.declared.ids.NodeId.{NodeId}
 use Rattle.ring_names.specs.declared.ids.Slot.{Slot}
 use Rattle.ring_names.specs.declared.refusal.Refusal.{Refusal}
 use Rattle.ring_names.specs.declared.refusal.Refusal.TheVariants.{BadLine, TooLarge, Repeated, LaterDependency}
-use Rattle.ring_text.specs.Numbers.{numbers_of, beyond, ascending}
+use Rattle.ring_text.specs.Numbers.{numbers_of, beyond, ascending, are_small}
 use Rattle.ring_text.specs.Judging.{Item, need_at, map_ok, map_item}
 use Rattle.ring_text.specs.Laws.{IsItem, IsLine}
 use Rattle.ring_text.proofs.Items.{IsItem-⊗, IsItem-map, IsItem-as, IsItem-need, IsLine-map, IsLine-as, map_is, ok_is, unless_ok}
@@ -26,7 +26,6 @@ use Rattle.plan_text.specs.declared.said.SaidSource.TheVariants.{Owner, Slots}
 use Rattle.plan_text.specs.declared.step.Planned.{Planned}
 use Rattle.plan_text.specs.Said.{source_of, step_of}
 use Rattle.plan_text.specs.Steps.{dependencies, joined, retired}
-use Rattle.ring_text.specs.Numbers.{are_small}
 use Rattle.plan_text.specs.Spelling.{slot_fields, source_fields, kind_fields, after_fields}
 use Rattle.plan_text.specs.Reading.{slot_at, slot_node_at, joining_at, retiring_at, judge_indexes, source_at, copy_at, kind_at, judge_after, after_at, said_at}
 use Rattle.plan_text.proofs.NextLaws.{small_all, IsSource, IsAfter, indexes-are, after-are, ascending-ascends}

@@ -60,7 +60,7 @@ fn is_declared(ring: &Ring, node: NodeId) -> bool
     (node.0 as usize) < ring.nodes().len()
 }
 
-// Whether the node is a member before the first step.
+/// Whether the node is a member before the first step.
 pub fn is_member(ring: &Ring, node: NodeId) -> bool
     ensures { result ≡ is_member ring.now.nodes node }
 {

@@ -1,8 +1,7 @@
 -- The number, the values and the line of each refusal.
-use Rattle.std.specs.Prelude.{ℕ, List, [], ◌∷◌, ◌++◌}
+use Rattle.std.specs.Prelude.{ℕ, List, [], ◌∷◌, ◌++◌, codes}
 use Rattle.std.specs.List.{flat_map}
 use Rattle.std.specs.Fmt.{decimal}
-use Rattle.std.specs.Prelude.{codes}
 use Rattle.ring_names.specs.declared.refusal.Refusal.{Refusal}
 use Rattle.ring_names.specs.declared.refusal.Refusal.TheVariants.{BadLine, TooLarge, UnknownNode, Repeated, QuorumTooSmall, SharedNode, NotMember, LaterDependency, WrongStage, UnorderedSlot, BadSource, MovingSource, SharedInPlan, NotJoined, RetiredInUse, NoPlan, BadPath, CoverMissing, ChainBroken, TooManyChains, NotReady, AlreadyDone, NodeDown, KeeperTaken, KeeperInPartition, StaleTickets, TooFewSlots, UnknownNumber, HintsLeft, NotOpen, ChunksLeft, HistoryFull, OutOfMemory, ReadFailed, WriteFailed, Mismatch, Disagree, TurnsSpent}
 

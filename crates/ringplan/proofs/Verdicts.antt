@@ -1,11 +1,10 @@
 -- The verdict on a bundle, by its parts.
 use Rattle.std.proofs.Common.{◌≡◌, ℕ, List, Ok, Err, refl, ap, sym, ◌∙◌}
 use Rattle.ring_names.specs.declared.refusal.Refusal.{Refusal}
-use Rattle.ring_text.specs.Left.{whole_text}
+use Rattle.ring_text.specs.Left.{whole_text, Left}
 use Rattle.ring_table.specs.Value.{RingValue}
 use Rattle.plan_text.specs.declared.step.Planned.{Planned}
 use Rattle.plan_check.specs.First.{first_refusal}
-use Rattle.ring_text.specs.Left.{Left}
 use Rattle.ring_text.specs.Parts.{lines_of}
 use Rattle.ring_text.proofs.Cuts.{some_line}
 use Rattle.ring_table.specs.Reading.{ring_at}
