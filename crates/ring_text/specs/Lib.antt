@@ -6,3 +6,4 @@ pub mod Laws
 pub mod Number
 pub mod Numbers
 pub mod Judging
+pub mod KeptRow

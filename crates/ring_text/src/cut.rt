@@ -16,3 +16,17 @@ pub fn cut(bytes: &[u8], separator: u8) -> (&[u8], Option<&[u8]>)
         Some(at) => (&bytes[..at], Some(&bytes[at + 1..])),
     }
 }
+
+// The same, for a separator that is near: a walk from byte to byte, which is faster than a search over few bytes.
+pub fn cut_near(bytes: &[u8], separator: u8) -> (&[u8], Option<&[u8]>)
+    ensures { MatchOption result.1
+        (slice_split (λ b. b == separator) bytes.now ≡ result.0.now ∷ [])
+        (λ rest. slice_split (λ b. b == separator) bytes.now ≡ result.0.now ∷ slice_split (λ b. b == separator) rest.now) }
+{
+    for at in 0..bytes.len() {
+        if bytes[at] == separator {
+            return (&bytes[..at], Some(&bytes[at + 1..]));
+        }
+    }
+    (bytes, None)
+}

@@ -4,7 +4,7 @@ ghost use Rattle.std.specs.Prelude.{◌≡◌, ◌∷◌, [], MatchOption, ◌�
 ghost use Rattle.ring_text.specs.Parts.{fields_of};
 ghost use Rattle.ring_text.specs.Judging.{Does, word_at, number_at, end_at};
 
-use crate::cut::cut;
+use crate::cut::cut_near;
 use crate::number::value_of;
 use ring_names::Refusal;
 use std::marker::Model;
@@ -37,7 +37,7 @@ impl<'a> Fields<'a> {
         ensures { MatchOption result ((self.old ≡ []) × (self.new ≡ [])) (λ field. self.old ≡ field.now ∷ self.new) }
     {
         let rest = self.rest?;
-        let (field, rest) = cut(rest, b' ');
+        let (field, rest) = cut_near(rest, b' ');
         self.rest = rest;
         Some(field)
     }

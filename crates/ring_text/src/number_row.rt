@@ -1,9 +1,9 @@
 //! Numbers in a row.
 
-ghost use Rattle.std.specs.Prelude.{◌≡◌, ◌∷◌, ◌≤◌, ◌==◌, ◌++◌, [], true, nat_lt, nat_le, length, MatchOption, OnOk, IfOk, IfErr};
+ghost use Rattle.std.specs.Prelude.{◌≡◌, ◌∷◌, ◌≤◌, ◌==◌, ◌++◌, [], true, nat_lt, nat_le, length, ⊤, MatchOption, OnOk, IfOk, IfErr};
 ghost use Rattle.std.specs.List.{list_all};
 ghost use Rattle.ring_names.specs.declared.refusal.Refusal.TheVariants.{OutOfMemory};
-ghost use Rattle.ring_text.specs.Number.{value_from, is_number};
+ghost use Rattle.ring_text.specs.Number.{value_from, is_number, capped};
 ghost use Rattle.ring_text.specs.Numbers.{numbers_of, beyond, ascending};
 
 use crate::compare::is_less;
@@ -17,6 +17,10 @@ use std::marker::Model;
 #[derive(Drop)]
 pub struct NumberRow<'a> {
     rest: Fields<'a>,
+    // how many there are
+    count: u64,
+    // one more than the greatest of them, those from `CAP` on taken for `CAP`; 0 where there are none
+    bound: u64,
 }
 
 impl<'a> Model for NumberRow<'a> {
@@ -26,6 +30,10 @@ impl<'a> Model for NumberRow<'a> {
     ghost Value = { List ℕ };
 
     ghost view = { λ a. numbers_of a.rest };
+
+    ghost use Rattle.ring_text.specs.KeptRow.{HoldsRow};
+
+    ghost invariant = { λ a. HoldsRow a.rest a.count a.bound };
 }
 
 impl<'a> Fields<'a> {
@@ -36,16 +44,17 @@ impl<'a> Fields<'a> {
         Fields { rest: self.rest }
     }
 
-    /// Takes the next field if it is a number.
-    pub fn next_number(&mut self) -> Option<&'a [u8]>
-        ensures number { MatchOption result (numbers_of self.old ≡ []) (λ field. (is_number field.now ≡ true) × (numbers_of self.old ≡ value_from 0 field.now ∷ numbers_of self.new)) }
-        ensures rest { MatchOption result ((beyond self.old ≡ self.old) × (self.new ≡ self.old)) (λ field. beyond self.old ≡ beyond self.new) }
+    // Takes the next field if it is a number, and tells its value, at most `CAP`.
+    fn next_number(&mut self) -> Option<(&'a [u8], u64)>
+        ensures number { MatchOption result (numbers_of self.old ≡ []) (λ n. (is_number n.0.now ≡ true) × (numbers_of self.old ≡ value_from 0 n.0.now ∷ numbers_of self.new)) }
+        ensures value { MatchOption result ⊤ (λ n. n.1 ≡ capped (value_from 0 n.0.now)) }
+        ensures rest { MatchOption result ((beyond self.old ≡ self.old) × (self.new ≡ self.old)) (λ n. beyond self.old ≡ beyond self.new) }
     {
         let mut rest = self.again();
         let field = rest.next()?;
-        value_of(field)?;
+        let value = value_of(field)?;
         self.rest = rest.rest;
-        Some(field)
+        Some((field, value))
     }
 
     /// Takes the numbers that stand in front.
@@ -54,8 +63,25 @@ impl<'a> Fields<'a> {
         ensures rest { self.new ≡ beyond self.old }
     {
         let rest = self.again();
-        'numbers: while self.next_number().is_some() {}
-        NumberRow { rest }
+        let mut count = 0u64;
+        let mut bound = 0u64;
+        'numbers: while let Some((_, value)) = self.next_number() {
+            count = count.saturating_add(1);
+            bound = bound.max(value + 1);
+        }
+        NumberRow { rest, count, bound }
+    }
+
+    // Adds the numbers that stand in front.
+    fn push_numbers(&mut self, out: &mut Vec<u32>) -> Result<(), Refusal>
+        requires { list_all (λ x. nat_lt x 4294967296) (numbers_of self.old) ≡ true }
+        ensures ok { OnOk result (out.new.items ≡ out.old.items ++ numbers_of self.old) }
+        ensures memory { IfErr result (λ e. e ≡ OutOfMemory) }
+    {
+        'numbers: while let Some((_, value)) = self.next_number() {
+            out.push(value as u32)?;
+        }
+        Ok(())
     }
 }
 
@@ -66,6 +92,8 @@ impl<'a> NumberRow<'a> {
     {
         NumberRow {
             rest: Fields { rest: None },
+            count: 0,
+            bound: 0,
         }
     }
 
@@ -75,35 +103,23 @@ impl<'a> NumberRow<'a> {
     {
         NumberRow {
             rest: self.rest.again(),
+            count: self.count,
+            bound: self.bound,
         }
-    }
-
-    // Takes the next number, as it is spelled.
-    fn next(&mut self) -> Option<&'a [u8]>
-        ensures { MatchOption result (self.old ≡ []) (λ field. (is_number field.now ≡ true) × (self.old ≡ value_from 0 field.now ∷ self.new)) }
-    {
-        self.rest.next_number()
     }
 
     /// Whether there are none.
     pub fn is_empty(&self) -> bool
         ensures { result ≡ (length self.now == 0) }
     {
-        let mut numbers = self.again();
-        numbers.next().is_none()
+        self.count == 0
     }
 
     /// Whether there are at most so many.
     pub fn is_at_most(&self, limit: u32) -> bool
         ensures { result ≡ nat_le (length self.now) limit }
     {
-        let mut numbers = self.again();
-        for seen in 0..limit {
-            if numbers.next().is_none() {
-                return true;
-            }
-        }
-        numbers.is_empty()
+        self.count <= u64::from(limit)
     }
 
     /// Whether each is below the limit.
@@ -111,48 +127,24 @@ impl<'a> NumberRow<'a> {
         requires { limit ≤ 4294967296 }
         ensures { result ≡ list_all (λ x. nat_lt x limit) self.now }
     {
-        let mut numbers = self.again();
-        'numbers: while let Some(field) = numbers.next() {
-            let Some(value) = value_of(field) else {
-                return false;
-            };
-            if value >= limit {
-                return false;
-            }
-        }
-        true
+        self.bound <= limit
     }
 
     /// Whether each is less than the next.
     pub fn are_ascending(&self) -> bool
         ensures { result ≡ ascending self.now }
     {
-        let mut numbers = self.again();
-        let Some(mut last) = numbers.next() else {
+        let mut numbers = self.rest.again();
+        let Some((mut last, _)) = numbers.next_number() else {
             return true;
         };
-        'numbers: while let Some(field) = numbers.next() {
+        'numbers: while let Some((field, _)) = numbers.next_number() {
             if !is_less(last, field) {
                 return false;
             }
             last = field;
         }
         true
-    }
-
-    // Adds the numbers.
-    fn push_into(&mut self, out: &mut Vec<u32>) -> Result<(), Refusal>
-        requires { list_all (λ x. nat_lt x 4294967296) self.old ≡ true }
-        ensures ok { OnOk result (out.new.items ≡ out.old.items ++ self.old) }
-        ensures memory { IfErr result (λ e. e ≡ OutOfMemory) }
-    {
-        'numbers: while let Some(field) = self.next() {
-            let Some(value) = value_of(field) else {
-                return Ok(());
-            };
-            out.push(value as u32)?;
-        }
-        Ok(())
     }
 
     /// The numbers in a vector.
@@ -162,8 +154,8 @@ impl<'a> NumberRow<'a> {
         ensures memory { IfErr result (λ e. e ≡ OutOfMemory) }
     {
         let mut out = Vec::new(alloc);
-        let mut numbers = self.again();
-        numbers.push_into(&mut out)?;
+        let mut numbers = self.rest.again();
+        numbers.push_numbers(&mut out)?;
         Ok(out)
     }
 }
