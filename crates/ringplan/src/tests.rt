@@ -1,10 +1,12 @@
 //! What no clause says: the texts, and runs whose input or output fails.
 
 mod bundles;
+mod changes;
 mod memory;
 
 use crate::run::run;
-use bundles::{CHAINS, CHANGES, EMPTY, HEAD, MOVE, NODES, PARTITIONS, ROW, TAIL, TEXTS};
+use bundles::{CHAINS, EMPTY, HEAD, MOVE, NODES, PARTITIONS, ROW, TAIL, TEXTS};
+use changes::CHANGES;
 use memory::{Endless, MemoryReader, MemoryWriter};
 use plan_cert::read_cert;
 use plan_order::Facts;
