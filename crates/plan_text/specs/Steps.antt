@@ -1,8 +1,10 @@
 -- The steps of a plan, and those of each slot.
 use Rattle.std.specs.Prelude.{ℕ, ◌+◌, Bool, false, ◌&&◌, ◌==◌, List, [], ◌∷◌, Option, Some, None, length, slice_get, sum_by, if◌then◌else◌}
 use Rattle.std.specs.List.{flat_map}
+use Rattle.ring_names.specs.declared.ids.NodeId.{NodeId}
 use Rattle.ring_names.specs.declared.ids.Slot.{Slot}
 use Rattle.ring_names.specs.Lists.{has}
+use Rattle.plan_text.specs.declared.step.Source.{Source}
 use Rattle.plan_text.specs.declared.step.Step.{Step}
 use Rattle.plan_text.specs.declared.step.Step.TheVariants.{Join, Mirror, Copy, Switch, Drop, Retire}
 use Rattle.plan_text.specs.declared.step.Planned.{Planned}
@@ -18,6 +20,33 @@ is_on s (Copy t from) = is_slot s t
 is_on s (Switch t) = is_slot s t
 is_on s (Drop t x) = is_slot s t
 is_on s (Retire x) = false
+
+-- the copy that the step is: the slot that it gives to the slot's mirror, and where it reads
+abbrev pub copy_of : Step → Option (Slot × Source)
+copy_of (Copy s from) = Some (s, from)
+copy_of (Join x) = None
+copy_of (Mirror s x) = None
+copy_of (Switch s) = None
+copy_of (Drop s x) = None
+copy_of (Retire x) = None
+
+-- the mirror that the step sets: the slot, and the node that takes its writes too
+abbrev pub mirror_of : Step → Option (Slot × NodeId)
+mirror_of (Mirror s x) = Some (s, x)
+mirror_of (Join x) = None
+mirror_of (Copy s from) = None
+mirror_of (Switch s) = None
+mirror_of (Drop s x) = None
+mirror_of (Retire x) = None
+
+-- the slot that the step switches
+abbrev pub switch_of : Step → Option Slot
+switch_of (Switch s) = Some s
+switch_of (Join x) = None
+switch_of (Mirror s x) = None
+switch_of (Copy s from) = None
+switch_of (Drop s x) = None
+switch_of (Retire x) = None
 
 -- the numbers of the slot's steps, in a plan whose first step has number k
 abbrev pub steps_from : ℕ → List Planned → Slot → List ℕ
