@@ -5,8 +5,6 @@ mod causes;
 mod clock;
 mod entry;
 mod merge;
-#[cfg(test)]
-mod tests;
 
 pub use causes::{Cause, clocks};
 pub use clock::Clock;

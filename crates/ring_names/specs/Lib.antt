@@ -2,3 +2,4 @@ pub mod Lists
 pub mod Names
 pub mod Refusals
 pub mod Space
+pub mod Values

@@ -7,9 +7,11 @@ mod ids;
 mod listed;
 mod names;
 mod refusal;
+mod value;
 
 pub use decimal::push_decimal;
 pub use ids::{NodeId, Slot, WriterId};
 pub use listed::Listed;
 pub use names::Names;
 pub use refusal::Refusal;
+pub use value::Value;
