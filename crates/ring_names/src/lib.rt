@@ -5,11 +5,13 @@
 mod decimal;
 mod ids;
 mod listed;
+mod lists;
 mod names;
 mod refusal;
 
 pub use decimal::push_decimal;
 pub use ids::{NodeId, Slot, WriterId};
 pub use listed::Listed;
+pub use lists::Lists;
 pub use names::Names;
 pub use refusal::Refusal;
