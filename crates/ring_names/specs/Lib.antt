@@ -1,3 +1,4 @@
+pub mod ByKey
 pub mod Lists
 pub mod Names
 pub mod Refusals

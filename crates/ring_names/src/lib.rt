@@ -5,6 +5,7 @@
 mod decimal;
 mod ids;
 mod listed;
+mod lists;
 mod names;
 mod refusal;
 mod value;
@@ -12,6 +13,7 @@ mod value;
 pub use decimal::push_decimal;
 pub use ids::{NodeId, Slot, WriterId};
 pub use listed::Listed;
+pub use lists::Lists;
 pub use names::Names;
 pub use refusal::Refusal;
 pub use value::Value;
