@@ -4,3 +4,4 @@ pub mod Names
 pub mod Refusals
 pub mod Space
 pub mod Values
+pub mod Rows

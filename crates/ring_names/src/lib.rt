@@ -8,6 +8,7 @@ mod listed;
 mod lists;
 mod names;
 mod refusal;
+mod rows;
 mod value;
 
 pub use decimal::push_decimal;
@@ -16,4 +17,5 @@ pub use listed::Listed;
 pub use lists::Lists;
 pub use names::Names;
 pub use refusal::Refusal;
+pub use rows::Rows;
 pub use value::Value;
