@@ -41,4 +41,4 @@ IsStagedIn ring plan p = (i : ℕ) → i < ring.n → IsStagedSlot ring plan (re
 
 -- each step of each of the ring's slots fits the stage after the slot's steps before it
 abbrev pub AllStaged : RingValue → List Planned → Type 0
-AllStaged ring plan = (slot : Slot) → slot.partition < ring.q → slot.index < ring.n → (k : ℕ) → k < length (steps_of plan slot) → is_staged plan (stage ring plan slot k) (steps_of plan slot) k ≡ true
+AllStaged ring plan = (slot : Slot) → slot.partition < ring.q → slot.index < ring.n → IsStagedSlot ring plan slot

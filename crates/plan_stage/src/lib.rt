@@ -16,6 +16,6 @@ mod tests;
 mod walk;
 
 pub use check::{check_partition, stage_at};
-pub use joined::has_joined;
+pub use joined::{has_joined, has_joined_by};
 pub use party::parties;
 pub use stage::Stage;
