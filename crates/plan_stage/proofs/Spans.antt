@@ -18,9 +18,9 @@ use Rattle.plan_stage.specs.Stage.{after, next, opening}
 use Rattle.plan_stage.specs.Occupancy.{is_node, leaving, dropping}
 use Rattle.plan_stage.specs.Holdings.{holdings_from, holdings, first_holding}
 use Rattle.plan_stage.specs.Looking.Held.{held_of, IsHeld}
-use Rattle.plan_stage.specs.Each.{is_mirror_of, owns_first}
+use Rattle.plan_stage.specs.Each.{is_mirror_of, owns_first, passes}
 use Rattle.plan_stage.specs.Clauses.{IsStagedSlot}
-use Rattle.plan_stage.specs.Looking.Switches.{passes, next_switch, second_switch, spans, drop_of, IsBehind, GoesBehind}
+use Rattle.plan_stage.specs.Looking.Switches.{next_switch, second_switch, spans, drop_of, IsBehind, GoesBehind}
 use Rattle.plan_stage.proofs.Places.{Acts, acts, placed, step_at-is}
 use Rattle.plan_stage.proofs.Leavings.{IsApart, apart-next, passes-is, after-is, leaving-owner, leaving-mirror}
 use Rattle.plan_stage.proofs.Truth.{node-is}

@@ -13,6 +13,10 @@ use Rattle.plan_stage.specs.Parties.{count_below}
 abbrev pub step_at : List Planned → ℕ → Option Step
 step_at plan n = elim (slice_get plan n) [ Some x ↦ Some x.step | None ↦ None ]
 
+-- the step of that number passes the test
+abbrev pub passes : (Step → Bool) → List Planned → ℕ → Bool
+passes test plan n = elim (step_at plan n) [ Some s ↦ test s | None ↦ false ]
+
 -- whether a step, counted from n, passes the test
 abbrev pub some_step : (ℕ → Step → Bool) → ℕ → List Planned → Bool
 some_step test n [] = false

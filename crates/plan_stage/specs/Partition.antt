@@ -1,5 +1,6 @@
 -- The clauses that a partition must meet, by a test of the order of two steps.
-use Rattle.std.specs.Prelude.{ℕ, ◌+◌, ◌-◌, Bool, false, not, ◌&&◌, ◌||◌, ◌==◌, nat_lt, nat_le, List, [], ◌∷◌, ◌++◌, length, Option, Some, None, slice_index, if◌then◌else◌}
+use Rattle.std.specs.Prelude.{ℕ, ◌+◌, ◌-◌, Bool, false, not, ◌&&◌, ◌||◌, ◌==◌, nat_lt}
+use Rattle.std.specs.Prelude.{nat_le, List, [], ◌∷◌, ◌++◌, length, Option, Some, None, slice_index, if◌then◌else◌}
 use Rattle.std.specs.List.{list_all}
 use Rattle.ring_names.specs.Lists.{all_different}
 use Rattle.ring_names.specs.declared.ids.NodeId.{NodeId}

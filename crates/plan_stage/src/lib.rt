@@ -11,8 +11,6 @@ mod holding;
 mod joined;
 mod party;
 mod stage;
-#[cfg(test)]
-mod tests;
 mod walk;
 
 pub use check::{check_partition, stage_at};

@@ -1,15 +1,15 @@
 -- How the checker looks at a clause: what is asked of one step of a slot, and of the holdings of a node.
-use Rattle.std.specs.Prelude.{ℕ, Bool, true, false, not, ◌||◌, nat_lt, List, Some, None, is_some}
+use Rattle.std.specs.Prelude.{ℕ, Bool, true, not, ◌||◌, nat_lt, List, Some, None, is_some}
 use Rattle.std.specs.List.{list_all, take_while}
 use Rattle.plan_text.specs.declared.step.Planned.{Planned}
 use Rattle.plan_text.specs.Steps.{switch_of}
 use Rattle.plan_stage.specs.declared.holding.Holding.{Holding}
-use Rattle.plan_stage.specs.Each.{step_at}
+use Rattle.plan_stage.specs.Each.{passes}
 use Rattle.plan_stage.specs.Partition.{Test, ends_before}
 
 -- whether step m is a switch
 abbrev pub switches : List Planned → ℕ → Bool
-switches plan m = elim (step_at plan m) [ Some s ↦ is_some (switch_of s) | None ↦ false ]
+switches plan m = passes (λ s. is_some (switch_of s)) plan m
 
 -- step m is no switch, or comes before or after step n
 abbrev pub is_settling : List Planned → Test → ℕ → ℕ → Bool

@@ -1,5 +1,5 @@
 -- How the checker looks at a clause: what the later steps of a slot say of a holding, where each step fits the stage before it.
-use Rattle.std.specs.Prelude.{◌≡◌, ℕ, Bool, true, false, List, [], ◌∷◌, Option, Some, None, reverse, if◌then◌else◌}
+use Rattle.std.specs.Prelude.{◌≡◌, ℕ, true, List, [], ◌∷◌, Option, Some, None, reverse, if◌then◌else◌}
 use Rattle.std.specs.HashMap as map
 use Rattle.ring_names.specs.contracts.ids.NodeIdPartialEq.TheImpl as node_eq
 use Rattle.ring_names.specs.declared.ids.NodeId.{NodeId}
@@ -9,13 +9,9 @@ use Rattle.plan_text.specs.declared.step.Planned.{Planned}
 use Rattle.plan_text.specs.Steps.{is_on}
 use Rattle.plan_stage.specs.declared.holding.Holding.{Holding}
 use Rattle.plan_stage.specs.declared.behind.Behind.{Behind}
-use Rattle.plan_stage.specs.Each.{step_at, is_switch_of, is_mirror_of}
+use Rattle.plan_stage.specs.Each.{step_at, passes, is_switch_of, is_mirror_of}
 use Rattle.plan_stage.specs.Occupancy.{dropping}
 use Rattle.plan_stage.specs.Looking.Held.{held_of}
-
--- the step of that number passes the test
-abbrev pub passes : (Step → Bool) → List Planned → ℕ → Bool
-passes test plan b = elim (step_at plan b) [ Some s ↦ test s | None ↦ false ]
 
 -- the first switch among these steps
 abbrev pub next_switch : List Planned → Slot → List ℕ → Option ℕ
@@ -47,4 +43,5 @@ pub record IsBehind (plan : List Planned) (slot : Slot) (a : Behind) (bs : List 
 
 -- what was kept of the steps behind is now kept of the step of that number too
 abbrev pub GoesBehind : Behind → Behind → Step → ℕ → Type 0
-GoesBehind old new step number = (plan : List Planned) (slot : Slot) (bs : List ℕ) → step_at plan number ≡ Some step → is_on slot step ≡ true → IsBehind plan slot old bs → IsBehind plan slot new (number ∷ bs)
+GoesBehind old new step number = (plan : List Planned) (slot : Slot) (bs : List ℕ) → step_at plan number ≡ Some step → is_on slot step ≡ true
+    → IsBehind plan slot old bs → IsBehind plan slot new (number ∷ bs)
