@@ -1,4 +1,4 @@
--- The clauses of the steps that are looked at.
+-- How the checker looks at a clause: the clauses of the steps that are looked at.
 use Rattle.std.specs.Prelude.{ℕ, List, [], ◌∷◌, ◌++◌, Some, None}
 use Rattle.plan_text.specs.declared.step.Step.{Step}
 use Rattle.plan_text.specs.declared.step.Planned.{Planned}

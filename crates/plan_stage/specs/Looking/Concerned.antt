@@ -1,4 +1,4 @@
--- The steps that a partition has to look at.
+-- How the checker looks at a clause: the steps that a partition has to look at.
 use Rattle.std.specs.Prelude.{◌≡◌, ℕ, Bool, true, false, ◌==◌, nat_lt, List, length, Some}
 use Rattle.std.specs.List.{list_all}
 use Rattle.ring_names.specs.Lists.{has}

@@ -1,24 +1,18 @@
--- Sets of step numbers that grow by what the slots of a partition have to look at.
-use Rattle.std.specs.Prelude.{◌≡◌, ℕ, ◌<◌, Bool, true, List, length, nat_lt, Option, Some, None}
+-- How the checker looks at a clause: sets of step numbers that grow by what the slots of a partition have to look at.
+use Rattle.std.specs.Prelude.{◌≡◌, ℕ, ◌<◌, Bool, true, List, length, nat_lt, Option, Some, option_map}
 use Rattle.std.specs.List.{list_all}
 use Rattle.ring_names.specs.Lists.{has}
 use Rattle.ring_names.specs.declared.ids.NodeId.{NodeId}
 use Rattle.ring_names.specs.declared.ids.Slot.{Slot}
 use Rattle.ring_table.specs.Value.{RingValue, owner_of}
 use Rattle.plan_text.specs.declared.step.Step.{Step}
-use Rattle.plan_text.specs.declared.step.Step.TheVariants.{Join, Mirror, Copy, Switch, Drop, Retire}
 use Rattle.plan_text.specs.declared.step.Planned.{Planned}
-use Rattle.plan_text.specs.Steps.{steps_of, retirement_of}
-use Rattle.plan_stage.specs.Each.{step_at}
+use Rattle.plan_text.specs.Steps.{steps_of, retirement_of, mirror_of}
+use Rattle.plan_stage.specs.Each.{step_at, slot_at}
 
 -- the node that the step mirrors a slot to
 abbrev pub mirrored_node : Step → Option NodeId
-mirrored_node (Join x) = None
-mirrored_node (Mirror slot x) = Some x
-mirrored_node (Copy slot from) = None
-mirrored_node (Switch slot) = None
-mirrored_node (Drop slot x) = None
-mirrored_node (Retire x) = None
+mirrored_node s = option_map (λ m. m.1) (mirror_of s)
 
 -- each is the number of a step
 abbrev pub are_steps : List Planned → List ℕ → Bool
@@ -46,4 +40,4 @@ pub record HasSlot (ring : RingValue) (plan : List Planned) (slot : Slot) (numbe
 -- they are steps, and have what belongs to the ring's slots in the partition
 pub record IsGathered (ring : RingValue) (plan : List Planned) (p : ℕ) (numbers : List ℕ) : Type 0 where
   pub within : are_steps plan numbers ≡ true
-  pub slots : (i : ℕ) → i < ring.n → HasSlot ring plan (record { partition = p; index = i }) numbers
+  pub slots : (i : ℕ) → i < ring.n → HasSlot ring plan (slot_at p i) numbers
