@@ -2,7 +2,7 @@ use Rattle.std.proofs.Common.{◌≡◌, ◌+◌, Bool, true, false, length, ref
 use Rattle.std.specs.Prelude.{◌&&◌, min, nat_le, nat_lt}
 use Rattle.std.specs.List.{list_all}
 use Rattle.ring_text.specs.Numbers.{numbers_of}
-use Rattle.ring_text.proofs.fields.Fields.numbers.Goals as goal
+use Rattle.ring_text.proofs.cursor.Cursor.numbers.Goals as goal
 
 with_true : (a : Bool) → (a && true) ≡ a
 with_true true = refl

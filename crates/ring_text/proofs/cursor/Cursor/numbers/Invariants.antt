@@ -2,7 +2,7 @@ use Rattle.std.proofs.Common.{◌≡◌, ℕ, ◌+◌, ◌≤◌, length}
 use Rattle.std.specs.Prelude.{◌&&◌, min, nat_le, nat_lt}
 use Rattle.std.specs.List.{list_all}
 use Rattle.ring_text.specs.Numbers.{numbers_of, beyond}
-use Rattle.ring_text.proofs.fields.Fields.numbers.Given as goal
+use Rattle.ring_text.proofs.cursor.Cursor.numbers.Given as goal
 
 abbrev pub invariant-numbers : goal.invariant-numbers
 invariant-numbers l = record {

@@ -1,7 +1,7 @@
 use Rattle.std.proofs.Common.{◌≡◌, ◌++◌, length, nat_lt, true}
 use Rattle.std.specs.List.{list_all}
 use Rattle.ring_text.specs.Numbers.{numbers_of}
-use Rattle.ring_text.proofs.fields.Fields.push_numbers.Given as goal
+use Rattle.ring_text.proofs.cursor.Cursor.push_numbers.Given as goal
 
 abbrev pub invariant-numbers : goal.invariant-numbers
 invariant-numbers l = record {
