@@ -6,125 +6,89 @@ ghost use Rattle.ring_names.specs.Refusals.{number_of, values_of, line_of};
 
 use crate::decimal::push_decimal;
 use std::alloc::{AllocError, AllocFailed};
+use std::fmt;
 use thiserror::Error;
 
 /// Why a text, a plan, an event or a run was refused. Each has a number and up to two values:
 /// lines count from 1, steps, facts, chains, nodes and entries from 0.
-#[derive(Clone, Copy, Debug, PartialEq, Eq, Error)]
+#[derive(Clone, Copy, PartialEq, Eq, Error)]
+#[error("{text}", text = self.message())]
 pub enum Refusal {
     /// 1 (line): the line is not in the grammar.
-    #[error("line {0} is not in the grammar")]
     BadLine(u32),
     /// 2 (line): a limit is passed.
-    #[error("line {0} passes a limit")]
     TooLarge(u32),
     /// 3 (line): the name is not declared.
-    #[error("line {0} names a node that is not declared")]
     UnknownNode(u32),
     /// 4 (line): declared, joined, retired or named twice.
-    #[error("line {0} repeats what may stand once")]
     Repeated(u32),
     /// 10 (line): not 1 <= R <= N, 1 <= W <= N and R + W > N.
-    #[error("line {0} gives quorums that need not meet")]
     QuorumTooSmall(u32),
     /// 11 (line): one owner twice in a partition.
-    #[error("line {0} names one owner twice")]
     SharedNode(u32),
     /// 12 (line, or node for events): the node is not a member.
-    #[error("a node that is no member is named ({0})")]
     NotMember(u32),
     /// 20 (line): the dependency is not an earlier step.
-    #[error("line {0} depends on a step that is not earlier")]
     LaterDependency(u32),
     /// 21 (step): the step does not fit the slot's stage.
-    #[error("step {0} does not fit the stage of its slot")]
     WrongStage(u32),
     /// 22 (step): not ordered after the slot's step before it.
-    #[error("step {0} is not ordered after the step of its slot before it")]
     UnorderedSlot(u32),
     /// 23 (step): a listed slot twice, or fewer than R listed.
-    #[error("step {0} lists a source twice, or too few")]
     BadSource(u32),
     /// 24 (step): a switch of a listed slot neither before nor after the copy.
-    #[error("step {0} copies from a slot that may switch meanwhile")]
     MovingSource(u32),
     /// 25 (step): the target may still occupy another slot of the partition.
-    #[error("step {0} mirrors to a node that may still serve another slot of the partition")]
     SharedInPlan(u32),
     /// 26 (step): a node that is `out` has no join ordered before the step.
-    #[error("step {0} is not ordered after a join of its node")]
     NotJoined(u32),
     /// 27 (step): a holding of the node has no drop ordered before its retirement.
-    #[error("step {0} retires a node that may still hold versions")]
     RetiredInUse(u32),
     /// 28: the planner found none.
-    #[error("no plan was found")]
     NoPlan,
     /// 30 (fact): fewer than two steps, or a link is not a direct dependency.
-    #[error("fact {0} is no path of dependencies")]
     BadPath(u32),
     /// 32 (node, step): the copy is in none of the node's chains.
-    #[error("no chain of node {0} has step {1}")]
     CoverMissing(u32, u32),
     /// 33 (chain): a link is not ordered, or an entry is no copy to which the node is party.
-    #[error("chain {0} is broken")]
     ChainBroken(u32),
     /// 34 (node): more chains than the allowance.
-    #[error("node {0} has more chains than its allowance")]
     TooManyChains(u32),
     /// 40: a dependency is not done, or a named get has not ended.
-    #[error("not ready")]
     NotReady,
     /// 41: it is so already.
-    #[error("already done")]
     AlreadyDone,
     /// 42 (node): that node must be up.
-    #[error("node {0} is down")]
     NodeDown(u32),
     /// 43: the keeper has a hint for another slot of the partition.
-    #[error("the keeper has a hint for another slot of the partition")]
     KeeperTaken,
     /// 44: the keeper owns or mirrors a slot of the partition.
-    #[error("the keeper serves a slot of the partition")]
     KeeperInPartition,
     /// 45 (current): fewer than W slots have a current ticket.
-    #[error("only {0} tickets are current")]
     StaleTickets(u32),
     /// 46 (read): fewer than R slots were read.
-    #[error("only {0} slots were read")]
     TooFewSlots(u32),
     /// 47: no such step of that kind, put, get, partition, slot or chunk.
-    #[error("no such number")]
     UnknownNumber,
     /// 48: hints that must be handed off first.
-    #[error("hints must be handed off first")]
     HintsLeft,
     /// 49: the copy is not open.
-    #[error("the copy is not open")]
     NotOpen,
     /// 50 (left): that many chunks are not marked.
-    #[error("{0} chunks are not marked")]
     ChunksLeft(u32),
     /// 51: the history has 1,000,000 entries.
-    #[error("the history is full")]
     HistoryFull,
     /// 60: a growth was refused.
-    #[error("out of memory")]
     OutOfMemory,
     /// 61: the input failed.
-    #[error("the input could not be read")]
     ReadFailed,
     /// 62: the output failed.
-    #[error("the output could not be written")]
     WriteFailed,
     /// 70 (index, code): the first entry whose event is refused (code is that refusal's number) or has another reply (code 0).
-    #[error("entry {0} does not replay (code {1})")]
     Mismatch(u32, u32),
     /// 70: the records of a run disagree.
-    #[error("the records disagree")]
     Disagree,
     /// 71: a stated limit of turns was used up.
-    #[error("a limit of turns was used up")]
     TurnsSpent,
 }
 
@@ -194,6 +158,58 @@ impl Refusal {
 }
 
 impl Refusal {
+    // What the refusal says, without its values.
+    fn message(&self) -> &'static str {
+        match self {
+            Refusal::BadLine(_) => "a line is not in the grammar",
+            Refusal::TooLarge(_) => "a line passes a limit",
+            Refusal::UnknownNode(_) => "a line names a node that is not declared",
+            Refusal::Repeated(_) => "a line repeats what may stand once",
+            Refusal::QuorumTooSmall(_) => "the quorums need not meet",
+            Refusal::SharedNode(_) => "one node owns two slots of a partition",
+            Refusal::NotMember(_) => "the node is no member",
+            Refusal::LaterDependency(_) => "a step waits for one that is not earlier",
+            Refusal::WrongStage(_) => "the step does not fit the stage of its slot",
+            Refusal::UnorderedSlot(_) => {
+                "the step is not ordered after the step of its slot before it"
+            }
+            Refusal::BadSource(_) => "the copy lists a source twice, or too few",
+            Refusal::MovingSource(_) => "the copy reads a slot that may be switched meanwhile",
+            Refusal::SharedInPlan(_) => {
+                "the mirrored node may still serve another slot of the partition"
+            }
+            Refusal::NotJoined(_) => "the step is not ordered after a join of its node",
+            Refusal::RetiredInUse(_) => "the retired node may still hold versions",
+            Refusal::NoPlan => "no plan was found",
+            Refusal::BadPath(_) => "the fact is no path of dependencies",
+            Refusal::CoverMissing(_, _) => {
+                "the copy is in no chain of a node that takes part in it"
+            }
+            Refusal::ChainBroken(_) => {
+                "the chain has a step that is no copy of its node, or not ordered after the step before it"
+            }
+            Refusal::TooManyChains(_) => "the node has more chains than its allowance",
+            Refusal::NotReady => "what must come first has not come",
+            Refusal::AlreadyDone => "it is so already",
+            Refusal::NodeDown(_) => "a node that must be up is down",
+            Refusal::KeeperTaken => "the keeper has a hint for another slot of the partition",
+            Refusal::KeeperInPartition => "the keeper serves a slot of the partition",
+            Refusal::StaleTickets(_) => "too few slots have a current ticket",
+            Refusal::TooFewSlots(_) => "too few slots were read",
+            Refusal::UnknownNumber => "there is no such number",
+            Refusal::HintsLeft => "hints must be handed off first",
+            Refusal::NotOpen => "the copy is not open",
+            Refusal::ChunksLeft(_) => "chunks of the copy are not marked",
+            Refusal::HistoryFull => "the history is full",
+            Refusal::OutOfMemory => "out of memory",
+            Refusal::ReadFailed => "the input could not be read",
+            Refusal::WriteFailed => "the output could not be written",
+            Refusal::Mismatch(_, _) => "an entry does not replay",
+            Refusal::Disagree => "the records disagree",
+            Refusal::TurnsSpent => "a limit of turns was used up",
+        }
+    }
+
     // The values that the line has, in order.
     fn values(&self) -> (Option<u32>, Option<u32>)
         ensures { option_to_list result.0 ++ option_to_list result.1 ≡ values_of self.now }
@@ -237,6 +253,15 @@ impl Refusal {
             | Refusal::Disagree
             | Refusal::TurnsSpent => (None, None),
         }
+    }
+}
+
+impl fmt::Debug for Refusal {
+    fn fmt<W: fmt::Write>(&self, f: &mut fmt::Formatter<W>) -> fmt::Result {
+        let number = self.number();
+        let (first, second) = self.values();
+        let text = self.message();
+        write!(f, "no {number} {first:?} {second:?}: {text}")
     }
 }
 
