@@ -1,16 +1,16 @@
 -- Reading does not go back, and each of its faults is at a line that was reached.
 use Rattle.std.proofs.Common.{◌≡◌, ℕ, zero, suc, ◌+◌, ◌<◌, ◌≤◌, Bool, true, false, cond, nat_lt, List, [], ◌∷◌, ◌++◌, Option, Some, None, Result, Ok, Err, refl, sym, ap, subst, ◌∙◌, arith}
-use Rattle.std.specs.Prelude.{IfErr}
+use Rattle.std.specs.Prelude.{IfErr, IsErrAnd, ◌≢◌}
 use Rattle.std.specs.Str.{bytes_eq}
 use Rattle.std.proofs.lemmas.Bool.{ltb-true, ltb-false}
 use Rattle.ring_names.specs.declared.refusal.Refusal.{Refusal}
-use Rattle.ring_names.specs.declared.refusal.Refusal.TheVariants.{BadLine, TooLarge}
-use Rattle.ring_names.specs.Refusals.{number_of}
+use Rattle.ring_names.specs.declared.refusal.Refusal.TheVariants.{BadLine, TooLarge, OutOfMemory}
+use Rattle.ring_names.specs.Refusals.{number_of, values_of}
 use Rattle.ring_text.specs.Number.{decimal_value}
 use Rattle.ring_text.specs.Judging.{both_of, Item, ◌⊗◌, field_at, word_at, limited, number_at, end_at, need_at, map_ok, map_item, whole, unless}
 use Rattle.ring_text.specs.Parts.{lines_of}
-use Rattle.ring_text.specs.Left.{Left, ◌>>=◌, next_number, begins_with, first_line, next_line, is_nothing, over_at, one_line, then_part, many_from, map_part, whole_text}
-use Rattle.ring_text.specs.Late.{IsAt, NoFaultBefore, ReadsTo}
+use Rattle.ring_text.specs.Left.{Left, ◌>>=◌, next_number, lines_on, begins_with, first_line, next_line, is_nothing, over_at, one_line, then_part, many_from, map_part, whole_text}
+use Rattle.ring_text.specs.Late.{IsAt, NoFaultBefore, ReadsTo, Late}
 use Rattle.ring_text.proofs.Items.{ok_is}
 use Rattle.ring_text.proofs.Many.{many-step}
 
@@ -210,3 +210,45 @@ whole-before {A} read text n k le p = by (read (record { line = 1; lines = lines
     by : (r : Result (A × Left) Refusal) → ReadsTo k r → NoFaultBefore n (◌>>=◌ {B = A} r (λ x. over_at x.1 >>= λ _. Ok x.0))
     by (Ok x) q = over x.1 x.0 (is_nothing x.1.lines) (omega arith)
     by (Err e) q = (q.0, omega (arith, q.1), q.2)
+
+-- ---- a fault that was read
+
+pub at-is : {A : Type 0} (k : ℕ) (e : Refusal) (r : Result A Refusal) → r ≡ Err e → At k r → IsAt k e
+at-is k e r h p = rw h at p
+
+pub not-memory : (k : ℕ) (e : Refusal) → IsAt k e → e ≢ OutOfMemory
+not-memory k e p h = let none : [] ≡ k ∷ [] = ap values_of (sym h) ∙ p in absurd cc
+
+-- a refusal that was handed on is of line k, so memory did not run out
+pub residual-at : {A : Type 0} (k : ℕ) (r : Result A Refusal) (e : Refusal) → IsErrAnd r (λ x. x ≡ e) → IsAt k e → IfErr r (λ x. x ≢ OutOfMemory)
+residual-at k (Ok x) e h p = absurd h
+residual-at k (Err y) e h p = rw h (not-memory k e p)
+
+-- memory was asked for in front of line `new`
+pub late-here : {A B : Type 0} (n : ℕ) (r : Result A Refusal) (old new : Left) (read : Result (B × Left) Refusal) → (lines_on n old.line ≤ new.line) × ReadsTo new.line read → Late n r old new read
+late-here n (Ok x) old new read p = tt
+late-here n (Err e) old new read p = λ _. p
+
+-- a part ran out of memory
+pub late-part : {A B : Type 0} {P : Type 0} (n : ℕ) (r : Result A Refusal) (e : Refusal) (old new : Left) (read : Result (B × Left) Refusal) → IsErrAnd r (λ x. x ≡ e) → (e ≡ OutOfMemory → P) → (P → (lines_on n old.line ≤ new.line) × ReadsTo new.line read) → Late n r old new read
+late-part n (Ok x) e old new read h p f = absurd h
+late-part n (Err y) e old new read h p f = λ m. f (p (sym h ∙ m))
+
+-- behind the first two lines of a text, and behind the first four
+pub two-lines : lines_on 2 1 ≡ 3
+unfolding next_number
+two-lines = refl
+
+pub four-lines : lines_on 4 1 ≡ 5
+unfolding next_number
+four-lines = refl
+
+-- a whole text ran out of memory in its one part
+pub late-whole : {A B : Type 0} (n m : ℕ) (r : Result A Refusal) (e : Refusal) (text : List ℕ) (s new : Left) (read : Left → Result (B × Left) Refusal) → lines_on n 1 ≡ m → IsErrAnd r (λ x. x ≡ e) → s ≡ record { line = 1; lines = lines_of text }
+    → (e ≡ OutOfMemory → (lines_on n s.line ≤ new.line) × ReadsTo new.line (read s)) → IfErr r (λ x. x ≡ OutOfMemory → NoFaultBefore m (whole_text read text))
+late-whole n m (Ok x) e text s new read is h start late = tt
+late-whole {A} {B} n m (Err y) e text s new read is h start late = λ memory.
+    let P : Left → Type 0 = λ z. (lines_on n z.line ≤ new.line) × ReadsTo new.line (read z) in
+    let p = subst P start (late (sym h ∙ memory)) in
+    let far = p.0 in
+    whole-before read text m new.line (omega (arith, is, far)) p.1

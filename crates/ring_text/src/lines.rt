@@ -1,6 +1,6 @@
 //! The lines of a text, one after the other.
 
-ghost use Rattle.std.specs.Prelude.{◌≡◌, ◌<◌, Ok, IfOk, IfErr, IsTrue, ◌↔◌};
+ghost use Rattle.std.specs.Prelude.{◌≡◌, ◌≤◌, Ok, IfOk, IfErr, IsTrue, ◌↔◌};
 ghost use Rattle.ring_text.specs.Parts.{lines_of};
 ghost use Rattle.ring_text.specs.Late.{IsAt};
 ghost use Rattle.ring_text.specs.Left.{next_line, next_number, is_over, over_at, begins_with};
@@ -13,7 +13,8 @@ use std::marker::Model;
 // The number of the next line.
 #[tactic(auto, unfolding(crate::specs::Left::next_number))]
 fn behind(line: u32) -> u32
-    ensures { result ≡ next_number line }
+    ensures value { result ≡ next_number line }
+    ensures forward { line ≤ result }
 {
     if line < u32::MAX { line + 1 } else { line }
 }
@@ -58,6 +59,7 @@ impl<'a> Lines<'a> {
         ensures found { IfOk result (λ x. (x.number ≡ self.old.line) × (next_line self.old ≡ Ok (x.fields, self.new))) }
         ensures missing { IfErr result (λ e. next_line self.old ≡ Err e) }
         ensures at { IfErr result (λ e. IsAt self.old.line e) }
+        ensures forward { self.old.line ≤ self.new.line }
     {
         let (line, rest) = cut(self.rest, b'\n');
         match rest {
