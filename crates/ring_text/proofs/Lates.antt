@@ -252,3 +252,8 @@ late-whole {A} {B} n m (Err y) e text s new read is h start late = λ memory.
     let p = subst P start (late (sym h ∙ memory)) in
     let far = p.0 in
     whole-before read text m new.line (omega (arith, is, far)) p.1
+
+-- what is mapped to a line's reading has its fault
+pub at-mapped : {A B : Type 0} (k : ℕ) (f : A → B) (r : Result A Refusal) (read : Result B Refusal) → map_ok f r ≡ read → At k read → At k r
+at-mapped k f (Ok x) read e p = tt
+at-mapped k f (Err d) read e p = rw (sym e) at p

@@ -12,7 +12,7 @@ use Rattle.std.specs.Prelude.{IfOk}
 use Rattle.ring_text.specs.Judging.{Gives}
 use Rattle.ring_text.specs.Parts.{lines_of, text_of}
 use Rattle.ring_text.specs.Name.{is_name_byte, is_name}
-use Rattle.ring_text.specs.Left.{Left, ◌>>=◌, is_nil, is_nothing, over_at, whole_text}
+use Rattle.ring_text.specs.Left.{Left, ◌>>=◌, Reads, is_nil, is_nothing, over_at, whole_text}
 use Rattle.ring_text.specs.Laws.{IsPart, SomeLeft, Any, IsPlain, IsPlainLine}
 use Rattle.ring_text.proofs.Cuts.{some_line}
 use Rattle.ring_text.proofs.Items.{bind_ok, ok_is}
@@ -58,6 +58,10 @@ whole-gives read s P part text v p plain e =
 pub gives-found : {A : Type 0} (r read : Result A Refusal) (P : A → Type 0) → Gives r read → ((v : A) → read ≡ Ok v → P v) → IfOk r P
 gives-found (Ok v) read P g p = p v g
 gives-found (Err e) read P g p = tt
+
+pub reads-found : {A : Type 0} (r : Result A Refusal) (new : Left) (read : Result (A × Left) Refusal) (P : A → Type 0) → Reads r new read → ((v : A) (t : Left) → read ≡ Ok (v, t) → P v) → IfOk r P
+reads-found (Ok v) new read P g p = p v new g
+reads-found (Err e) new read P g p = tt
 
 -- ---- plain fields
 
