@@ -1,11 +1,21 @@
 -- Which ends are kept.
-use Rattle.std.proofs.Common.{◌≡◌, ◌≢◌, inl, inr, ◌∙◌, ℕ, ◌-◌, Bool, true, false, cond, List, [], ◌∷◌, ◌++◌, length, refl, sym, ap, subst, arith}
+use Rattle.std.proofs.Common.{◌≡◌, ◌≢◌, inl, inr, ◌∙◌, ℕ, ◌-◌, Bool, true, false, List, [], ◌∷◌, length, refl, sym, ap, subst, arith}
 use Rattle.std.specs.Prelude.{◌&&◌, ◌||◌, ◌==◌, slice_get, Some}
 use Rattle.std.specs.List.{list_any}
+use Rattle.std.specs.declared.cmp.Ordering.{Ordering}
+use Rattle.std.specs.declared.cmp.Ordering.TheVariants.{Less, Equal, Greater}
+use Rattle.std.specs.Ordering.{nat_cmp, ordering_then, match_ordering, is_eq}
+use Rattle.std.specs.Cmp.{unsigned_ties, tied_then}
+use Rattle.std.specs.BTreeMap.{is_at}
+use Rattle.std.specs.BTreeSet.{insert_key}
 use Rattle.std.proofs.lemmas.Bool.Decides.{eqb_tells, nat_tests}
 use Rattle.ring_text.proofs.Fronts.{both_true}
 use Rattle.plan_order.specs.declared.facts.Ends.{Ends}
 use Rattle.plan_order.specs.Facts.{ends_with, leads, has_ends}
+
+-- the order of the first steps, and where they are the same that of the last
+abbrev pub by_ends : Ends → Ends → Ordering
+by_ends x y = ordering_then (nat_cmp x.first y.first) (nat_cmp x.last y.last)
 
 abbrev pub is_same : Ends → Ends → Bool
 is_same x y = (x.first == y.first) && (x.last == y.last)
@@ -19,42 +29,49 @@ differ x y e = grind (arith, nat_tests)
 turned : (x y : ℕ) → (x == y) ≡ (y == x)
 turned x y = elim (eqb_tells x y) [ inl t ↦ t.0 ∙ sym (same y x (sym t.1)) | inr t ↦ t.0 ∙ sym (differ y x (λ e. t.1 (sym e))) ]
 
-pub looked_up : (e : Ends) (es : List Ends) → list_any (is_same e) es ≡ has_ends e.first e.last es
+-- the ends that compare as equal are the same
+tie_is_same : (x y : Ends) → is_at (by_ends x) y ≡ is_same y x
+tie_is_same x y =
+    sym (tied_then (nat_cmp x.first y.first) (nat_cmp x.last y.last)) ∙ rw (← unsigned_ties x.first y.first, ← unsigned_ties x.last y.last, turned x.first y.first, turned x.last y.last) refl
+
+pub looked_up : (e : Ends) (es : List Ends) → list_any (is_at (by_ends e)) es ≡ has_ends e.first e.last es
 looked_up e [] = refl
-looked_up e (x ∷ es) = rw (turned e.first x.first, turned e.last x.last, looked_up e es) refl
+looked_up e (x ∷ es) = rw (tie_is_same e x, looked_up e es) refl
 
 -- ---- one more pair of ends
 
-is_at : (e : Ends) (a b : ℕ) → ((e.first == a) && (e.last == b)) ≡ true → (e.first ≡ a) × (e.last ≡ b)
-is_at e a b h =
+is_at_ends : (e : Ends) (a b : ℕ) → ((e.first == a) && (e.last == b)) ≡ true → (e.first ≡ a) × (e.last ≡ b)
+is_at_ends e a b h =
     let p = both_true (e.first == a) (e.last == b) h in (
       elim (eqb_tells e.first a) [ inl t ↦ t.1 | inr t ↦ absurd cc ],
       elim (eqb_tells e.last b) [ inl t ↦ t.1 | inr t ↦ absurd cc ],
     )
 
-behind : (e : Ends) (es : List Ends) (a b : ℕ) → has_ends a b (es ++ e ∷ []) ≡ (((e.first == a) && (e.last == b)) || has_ends a b es)
-behind e [] a b = refl
-behind e (x ∷ es) a b = rw (behind e es a b) (crossed ((x.first == a) && (x.last == b)) ((e.first == a) && (e.last == b)) (has_ends a b es))
-  where
-    crossed : (s t u : Bool) → (s || (t || u)) ≡ (t || (s || u))
-    crossed true true u = refl
-    crossed true false u = refl
-    crossed false true u = refl
-    crossed false false u = refl
+crossed : (s t u : Bool) → (s || (t || u)) ≡ (t || (s || u))
+crossed true true u = refl
+crossed true false u = refl
+crossed false true u = refl
+crossed false false u = refl
+
+again : (t u : Bool) → (t || u) ≡ (t || (t || u))
+again true u = refl
+again false u = refl
+
+-- the ends that are asked for, where the new ones go in front of these, on them, or behind them
+put : (o : Ordering) (e x : Ends) (es rest : List Ends) (a b : ℕ) → (is_eq o ≡ true → is_same x e ≡ true) → has_ends a b rest ≡ (is_same e (record { first = a; last = b }) || has_ends a b es)
+    → has_ends a b (match_ordering o (e ∷ x ∷ es) (x ∷ es) (x ∷ rest)) ≡ (is_same e (record { first = a; last = b }) || has_ends a b (x ∷ es))
+put Less e x es rest a b alike later = refl
+put Equal e x es rest a b alike later =
+    let p = is_at_ends x e.first e.last (alike refl) in
+    let same : is_same e (record { first = a; last = b }) ≡ is_same x (record { first = a; last = b }) = ap (λ y. (y == a) && (e.last == b)) (sym p.0) ∙ ap (λ y. (x.first == a) && (y == b)) (sym p.1) in
+    again (is_same x (record { first = a; last = b })) (has_ends a b es) ∙ ap (λ (t : Bool). t || has_ends a b (x ∷ es)) (sym same)
+put Greater e x es rest a b alike later =
+    ap (λ (t : Bool). is_same x (record { first = a; last = b }) || t) later ∙ crossed (is_same x (record { first = a; last = b })) (is_same e (record { first = a; last = b })) (has_ends a b es)
 
 -- the ends that are asked for once some were added
-pub added : (e : Ends) (es new : List Ends) → new ≡ cond (list_any (is_same e) es) es (es ++ e ∷ []) → (a b : ℕ) → has_ends a b new ≡ (((e.first == a) && (e.last == b)) || has_ends a b es)
-added e es new is a b = by (list_any (is_same e) es) refl is
-  where
-    by : (s : Bool) → list_any (is_same e) es ≡ s → new ≡ cond s es (es ++ e ∷ []) → has_ends a b new ≡ (((e.first == a) && (e.last == b)) || has_ends a b es)
-    by false none at = ap (has_ends a b) at ∙ behind e es a b
-    by true some at = ap (has_ends a b) at ∙ there ((e.first == a) && (e.last == b)) refl
-      where
-        there : (t : Bool) → ((e.first == a) && (e.last == b)) ≡ t → has_ends a b es ≡ (t || has_ends a b es)
-        there false off = refl
-        there true on =
-            let p = is_at e a b on in
-            subst (λ x. has_ends x b es ≡ true) p.0 (subst (λ y. has_ends e.first y es ≡ true) p.1 (sym (looked_up e es) ∙ some))
+pub added : (e : Ends) (es : List Ends) (a b : ℕ) → has_ends a b (insert_key by_ends es e) ≡ (((e.first == a) && (e.last == b)) || has_ends a b es)
+added e [] a b = refl
+added e (x ∷ es) a b = put (by_ends e x) e x es (insert_key by_ends es e) a b (λ t. sym (tie_is_same e x) ∙ t) (added e es a b)
 
 -- what is kept behind nothing
 pub only : (a b : ℕ) (es new : List Ends) (t : Bool) → es ≡ [] → has_ends a b new ≡ (t || has_ends a b es) → has_ends a b new ≡ true → t ≡ true

@@ -12,7 +12,9 @@ use Rattle.plan_text.specs.Valid.{IsPlan, EachPlanned}
 use Rattle.ring_text.proofs.Fronts.{both_true}
 use Rattle.plan_order.specs.Before.{Before, direct, through}
 use Rattle.plan_order.specs.Paths.{are_links, is_path, first_bad}
-use Rattle.plan_order.specs.Facts.{ends_with, leads, some_leads}
+use Rattle.std.proofs.lemmas.Bool.{or_cases}
+use Rattle.plan_order.specs.declared.facts.Ends.{Ends}
+use Rattle.plan_order.specs.Facts.{ends_with, leads, some_leads, has_ends, is_ordered, AreFactsOf}
 
 -- ---- the order
 
@@ -76,3 +78,10 @@ found plan n a b (path ∷ paths) e h = by (is_path plan path) (leads a b path) 
     by true true i l f g later = (path, i, l)
     by true false i l f g later = later f g
     by false t i l f g later = absurd cc
+
+-- what the facts say to come before
+pub ordered_before : (plan : List Planned) (facts : List Ends) (a b : ℕ) → AreFactsOf plan facts → is_ordered plan facts a b ≡ true → Before plan a b
+ordered_before plan facts a b are h = elim (or_cases (depends plan a b) (has_ends a b facts) h) [
+  | inl d ↦ direct a b d
+  | inr e ↦ (let path = are a b e in path_before plan a b path.0 path.1 path.2)
+]

@@ -1,3 +1,4 @@
 pub mod Before
 pub mod Paths
 pub mod Facts
+pub mod Order

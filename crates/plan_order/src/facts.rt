@@ -8,14 +8,14 @@ ghost use Rattle.plan_order.specs.Paths.{first_bad};
 ghost use Rattle.plan_order.specs.Facts.{AreFactsOf, is_ordered, has_ends, leads, some_leads};
 
 use crate::path::{is_link, verify_fact};
-use indexmap::IndexSet;
 use plan_text::Plan;
 use ring_names::{Listed, Refusal};
 use std::alloc::Global;
+use std::collections::BTreeSet;
 use std::marker::Model;
 
 /// The first and the last step of a path.
-#[derive(Clone, Copy, Debug, PartialEq, Eq, Hash)]
+#[derive(Clone, Copy, Debug, PartialEq, Eq, PartialOrd, Ord)]
 pub struct Ends {
     pub first: u32,
     pub last: u32,
@@ -24,7 +24,7 @@ pub struct Ends {
 /// What the paths of a certificate say, once each was verified: its first step is before its last.
 #[derive(Drop)]
 pub struct Facts {
-    ends: IndexSet<Ends>,
+    ends: BTreeSet<Ends>,
 }
 
 impl Model for Facts {
@@ -53,7 +53,7 @@ fn first_bad_path(plan: &Plan, paths: &[Listed<u32>]) -> Option<u32>
 }
 
 // Adds the ends of a path; one without steps has none.
-fn add_ends(ends: &mut IndexSet<Ends>, path: &[u32]) -> Result<(), Refusal>
+fn add_ends(ends: &mut BTreeSet<Ends>, path: &[u32]) -> Result<(), Refusal>
     ensures ok { OnOk result ((a b : ℕ) → has_ends a b ends.new.keys ≡ (leads a b path.now || has_ends a b ends.old.keys)) }
     ensures memory { IfErr result (λ e. e ≡ OutOfMemory) }
 {
@@ -67,7 +67,7 @@ fn add_ends(ends: &mut IndexSet<Ends>, path: &[u32]) -> Result<(), Refusal>
 }
 
 // Adds the ends of each path.
-fn add_all_ends(ends: &mut IndexSet<Ends>, paths: &[Listed<u32>]) -> Result<(), Refusal>
+fn add_all_ends(ends: &mut BTreeSet<Ends>, paths: &[Listed<u32>]) -> Result<(), Refusal>
     ensures ok { OnOk result ((a b : ℕ) → has_ends a b ends.new.keys ≡ (some_leads a b paths.now || has_ends a b ends.old.keys)) }
     ensures memory { IfErr result (λ e. e ≡ OutOfMemory) }
 {
@@ -84,24 +84,39 @@ impl Facts {
     pub fn verify(alloc: Global, plan: &Plan, paths: &[Listed<u32>]) -> Result<Facts, Refusal>
         ensures bad { (e : TheRefusal) → first_bad plan.now 0 paths.now ≡ Some e → result ≡ Err e }
         ensures good { IfErr result (λ e. first_bad plan.now 0 paths.now ≡ None → e ≡ OutOfMemory) }
+        ensures late { IfErr result (λ e. e ≡ OutOfMemory → first_bad plan.now 0 paths.now ≡ None) }
         ensures ends { IfOk result (λ f. (a b : ℕ) → has_ends a b f ≡ some_leads a b paths.now) }
         ensures facts { IfOk result (λ f. AreFactsOf plan.now f) }
     {
         if let Some(number) = first_bad_path(plan, paths) {
             return Err(Refusal::BadPath(number));
         }
-        let mut ends = IndexSet::new(alloc);
+        let mut ends = BTreeSet::new(alloc);
         add_all_ends(&mut ends, paths)?;
         Ok(Facts { ends })
     }
 
     /// Whether step `a` is a direct dependency of step `b`, or some verified path begins with `a` and ends with `b`. Takes no memory,
-    /// and costs one binary search and one look-up.
+    /// and costs two searches.
     pub fn ordered(&self, plan: &Plan, a: u32, b: u32) -> bool
         requires { AreFactsOf plan.now self.now }
         ensures value { result ≡ is_ordered plan.now self.now a b }
         ensures before { IsTrue result → Before plan.now a b }
     {
-        is_link(plan, a, b) || self.ends.contains(&Ends { first: a, last: b })
+        self.tells(plan, a, b)
+    }
+
+    // The same of facts whose plan is not known.
+    pub(crate) fn tells(&self, plan: &Plan, a: u32, b: u32) -> bool
+        ensures { result ≡ is_ordered plan.now self.now a b }
+    {
+        is_link(plan, a, b) || self.has(a, b)
+    }
+
+    // Whether some path begins with `a` and ends with `b`.
+    fn has(&self, a: u32, b: u32) -> bool
+        ensures { result ≡ has_ends a b self.now }
+    {
+        self.ends.contains(&Ends { first: a, last: b })
     }
 }

@@ -2,11 +2,13 @@
 #![tactic(auto)]
 
 mod before;
+mod context;
 mod facts;
 mod path;
 #[cfg(test)]
 mod tests;
 
 pub use before::before_is_an_order;
+pub use context::Context;
 pub use facts::{Ends, Facts};
 pub use path::verify_fact;

@@ -1,5 +1,5 @@
 -- Which puts of one key succeed which.
-use Rattle.std.specs.Prelude.{◌≡◌, ◌↔◌, ◌⊎◌, ℕ, zero, suc, ◌<◌, true, List, [], ◌∷◌, length, get_or}
+use Rattle.std.specs.Prelude.{◌≡◌, ◌↔◌, ◌⊎◌, ℕ, zero, suc, ◌<◌, true, List, [], ◌∷◌, length}
 use Rattle.ring_names.specs.Lists.{has}
 use Rattle.ring_clock.specs.declared.entry.Entry.{Entry}
 use Rattle.ring_clock.specs.declared.causes.Cause.{Cause}
@@ -31,5 +31,5 @@ pub data Succeeds (causes : List Cause) : ℕ → ℕ → Type 0 where
   by : (k j v : ℕ) → IsDirect causes k j → Succeeds causes j v → Succeeds causes k v
 
 -- of two puts the first one's clock is at most the second's exactly where the second succeeds the first
-abbrev pub IsSuccession : List Cause → List (List Entry) → Type 0
-IsSuccession causes clocks = (v k : ℕ) → v < length causes → k < length causes → IsAtMost (get_or clocks v []) (get_or clocks k []) ↔ Succeeds causes k v
+abbrev pub IsSuccession : List Cause → (ℕ → List Entry) → Type 0
+IsSuccession causes clock = (v k : ℕ) → v < length causes → k < length causes → IsAtMost (clock v) (clock k) ↔ Succeeds causes k v

@@ -1,11 +1,11 @@
 //! The clocks of the puts of one key.
 
-ghost use Rattle.std.specs.Prelude.{◌≡◌, ◌<◌, ◌≤◌, ◌==◌, [], ℕ, length, get_or, true, max, Some, None, if◌then◌else◌, IfOk, IfErr, OnOk, IfSome};
+ghost use Rattle.std.specs.Prelude.{◌≡◌, ◌+◌, ◌<◌, ◌≤◌, ◌==◌, [], ℕ, length, get_or, true, max, Some, None, if◌then◌else◌, IfOk, IfErr, OnOk, IfSome};
 ghost use Rattle.ring_names.specs.Lists.{has};
 ghost use Rattle.ring_names.specs.declared.refusal.Refusal.TheVariants.{OutOfMemory};
 ghost use Rattle.ring_clock.specs.Clock.{counter};
 ghost use Rattle.ring_clock.specs.Causes.{IsEarlier, IsSuccession};
-ghost use Rattle.ring_clock.specs.Built.{Collects, IsInput, IsNext, IsClockOf, last_of};
+ghost use Rattle.ring_clock.specs.Built.{IsJoinOf, IsInput, IsNext, AreClocks, last_of};
 
 use crate::clock::Clock;
 use ring_names::{Refusal, WriterId};
@@ -32,7 +32,7 @@ fn raise(clock: &mut Clock, other: &Clock) -> Result<(), Refusal>
 fn raise_to_seen(clock: &mut Clock, clocks: &[Clock], seen: &[u32]) -> Result<(), Refusal>
     requires none { clock.old ≡ [] }
     requires earlier { (v : ℕ) → has v seen.now ≡ true → v < length clocks.now }
-    ensures ok { OnOk result (Collects clocks.now (λ v. has v seen.now ≡ true) clock.new) }
+    ensures ok { OnOk result (IsJoinOf (λ v. get_or clocks.now v []) (λ v. has v seen.now ≡ true) clock.new) }
     ensures memory { IfErr result (λ e. e ≡ OutOfMemory) }
 {
     let mut rest = seen;
@@ -53,7 +53,7 @@ fn raise_to_inputs(
     requires none { clock.old ≡ [] }
     requires seen { (v : ℕ) → has v cause.now.seen.items ≡ true → v < length clocks.now }
     requires last { IfSome last (λ v. v < length clocks.now) }
-    ensures ok { OnOk result (Collects clocks.now (IsInput cause.now last) clock.new) }
+    ensures ok { OnOk result (IsJoinOf (λ v. get_or clocks.now v []) (IsInput cause.now last) clock.new) }
     ensures memory { IfErr result (λ e. e ≡ OutOfMemory) }
 {
     raise_to_seen(clock, clocks, cause.seen.as_slice())?;
@@ -74,7 +74,8 @@ fn next_clock(
     requires last { IfSome last (λ v. v < length clocks.now) }
     requires few { (v w : ℕ) → counter (get_or clocks.now v []) w ≤ length clocks.now }
     requires room { length clocks.now < 18446744073709551615 }
-    ensures ok { IfOk result (λ c. IsNext clocks.now (IsInput cause.now last) cause.now.writer.0 c) }
+    ensures ok { IfOk result (λ c. IsNext (λ v. get_or clocks.now v []) (IsInput cause.now last) cause.now.writer.0 c) }
+    ensures few { IfOk result (λ c. (w : ℕ) → counter c w ≤ length clocks.now + 1) }
     ensures memory { IfErr result (λ e. e ≡ OutOfMemory) }
 {
     let mut clock = Clock::new(alloc);
@@ -126,7 +127,7 @@ fn push_clocks(
     requires empty { out.old.items ≡ [] }
     requires none { (w : ℕ) → last_of last.old w ≡ None }
     ensures each { OnOk result (length out.new.items ≡ length causes.now) }
-    ensures clocks { OnOk result ((k : ℕ) → k < length causes.now → IsClockOf causes.now out.new.items k) }
+    ensures clocks { OnOk result (AreClocks causes.now (λ v. get_or out.new.items v [])) }
     ensures memory { IfErr result (λ e. e ≡ OutOfMemory) }
 {
     for place in 0..causes.len() {
@@ -139,11 +140,12 @@ fn push_clocks(
 }
 
 /// The clocks of puts of one key, in order of their start: each the join of those that it has seen and of its writer's put before
-/// it, raised by one for its writer (DeCandia et al. 2007, section 4.4). Costs what each put joins.
+/// it, with one more for its writer (DeCandia et al. 2007, section 4.4). Costs what each put joins.
 pub fn clocks(alloc: Global, causes: &[Cause]) -> Result<Vec<Clock>, Refusal>
     requires { IsEarlier causes.now }
     ensures each { IfOk result (λ clocks. length clocks.items ≡ length causes.now) }
-    ensures succession { IfOk result (λ clocks. IsSuccession causes.now clocks.items) }
+    ensures clocks { IfOk result (λ clocks. AreClocks causes.now (λ v. get_or clocks.items v [])) }
+    ensures succession { IfOk result (λ clocks. IsSuccession causes.now (λ v. get_or clocks.items v [])) }
     ensures memory { IfErr result (λ e. e ≡ OutOfMemory) }
 {
     let mut out = Vec::new(alloc);

@@ -4,10 +4,10 @@
 mod causes;
 mod clock;
 mod entry;
+mod laws;
 mod merge;
-#[cfg(test)]
-mod tests;
 
 pub use causes::{Cause, clocks};
 pub use clock::Clock;
 pub use entry::Entry;
+pub use laws::{clocks_are_in_order, clocks_grow};

@@ -1,5 +1,5 @@
 -- Lists of numbers and of names: what is in them, and what repeats.
-use Rattle.std.specs.Prelude.{◌≡◌, ℕ, suc, Bool, true, false, not, ◌&&◌, ◌||◌, ◌==◌, List, [], ◌∷◌, ◌++◌, Option, Some, None}
+use Rattle.std.specs.Prelude.{◌≡◌, ℕ, Bool, true, false, not, ◌&&◌, ◌||◌, ◌==◌, List, [], ◌∷◌, ◌++◌, None}
 use Rattle.ring_names.specs.Names.{place}
 
 -- whether x is one of the numbers

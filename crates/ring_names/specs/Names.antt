@@ -1,5 +1,5 @@
 -- Names in order of first sight, and the number of each.
-use Rattle.std.specs.Prelude.{ℕ, suc, Bool, true, false, not, ◌&&◌, List, [], ◌∷◌, ◌++◌, Option, Some, None, option_map, if◌then◌else◌, is_some, IsTrue}
+use Rattle.std.specs.Prelude.{ℕ, suc, List, [], ◌∷◌, ◌++◌, Option, Some, None, option_map, if◌then◌else◌, is_some}
 use Rattle.std.specs.Str.{bytes_eq}
 
 -- the number of a name: its place, from 0

@@ -1,7 +1,7 @@
 //! Numbers that are told apart by their types.
 
 /// A node, by its place among the node lines of its ring, from 0.
-#[derive(Clone, Copy, Debug, PartialEq, Eq)]
+#[derive(Clone, Copy, Debug, PartialEq, Eq, PartialOrd, Ord, Hash)]
 pub struct NodeId(pub u32);
 
 /// A writer, by the order of first sight in its bundle, from 0.
@@ -9,7 +9,7 @@ pub struct NodeId(pub u32);
 pub struct WriterId(pub u32);
 
 /// One of the places that keep a partition's keys: slot `index` of partition `partition`, both from 0.
-#[derive(Clone, Copy, Debug, PartialEq, Eq, Hash)]
+#[derive(Clone, Copy, Debug, PartialEq, Eq, PartialOrd, Ord, Hash)]
 pub struct Slot {
     pub partition: u32,
     pub index: u32,

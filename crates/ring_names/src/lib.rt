@@ -5,11 +5,17 @@
 mod decimal;
 mod ids;
 mod listed;
+mod lists;
 mod names;
 mod refusal;
+mod rows;
+mod value;
 
 pub use decimal::push_decimal;
 pub use ids::{NodeId, Slot, WriterId};
 pub use listed::Listed;
+pub use lists::Lists;
 pub use names::Names;
 pub use refusal::Refusal;
+pub use rows::Rows;
+pub use value::Value;

@@ -1,11 +1,15 @@
 -- The number of bits that tell partitions apart, and shares of a number of 128 bits.
-use Rattle.std.proofs.Common.{◌≡◌, ℕ, zero, suc, ◌+◌, ◌-◌, ◌*◌, ◌/◌, ◌^◌, ◌<◌, ◌≤◌, Bool, true, false, sym, subst, arith}
-use Rattle.std.specs.Prelude.{◌==◌, if◌then◌else◌}
-use Rattle.std.proofs.lemmas.Bool.Decides.{nat_tests}
+use Rattle.std.proofs.Common.{◌≡◌, ◌≢◌, inl, inr, ℕ, zero, suc, ◌+◌, ◌-◌, ◌*◌, ◌/◌, ◌^◌, ◌<◌, ◌≤◌, Bool, true, false, List, [], ◌∷◌, refl, sym, subst, arith}
+use Rattle.std.specs.Prelude.{◌==◌, ◌||◌, if◌then◌else◌}
+use Rattle.std.specs.List.{list_all}
+use Rattle.std.proofs.lemmas.Bool.{and_parts}
+use Rattle.std.proofs.lemmas.Bool.Decides.{eqb_tells, nat_tests}
 use Rattle.std.proofs.lemmas.Nat.{pow-add}
 use Rattle.std.proofs.lemmas.Grind.{pow_more}
 use Rattle.std.proofs.Math.Nat.{div-div-eq-div-mul, mul-div_cancel, div-lt_iff_lt-mul}
-use Rattle.ring_space.specs.Place.{log2, is_space}
+use Rattle.ring_names.specs.Lists.{has}
+use Rattle.ring_names.specs.Space.{spaces, is_space}
+use Rattle.ring_space.specs.Place.{log2}
 
 least : (b : Bool) (m n : ℕ) → m ≤ n → (if b then suc n else m) ≤ suc n
 least true m n h = omega arith
@@ -19,9 +23,31 @@ log2-most (suc n) q = least (q == 2 ^ suc n) (log2 n q) n (log2-most n q)
 pub bits-most : (q : ℕ) → log2 12 q ≤ 12
 bits-most q = log2-most 12 q
 
+-- whether the number is the power of two of its bits
+is_power : ℕ → Bool
+is_power q = q == 2 ^ log2 12 q
+
+differ : (x y : ℕ) → x ≢ y → (x == y) ≡ false
+differ x y e = grind (arith, nat_tests)
+
+power_among : (q : ℕ) (xs : List ℕ) → has q xs ≡ true → list_all is_power xs ≡ true → is_power q ≡ true
+power_among q [] h e = absurd cc
+power_among q (x ∷ xs) h e = elim (eqb_tells q x) [
+  | inl t ↦ rw t.1 (and_parts (is_power x) (list_all is_power xs) e).0
+  | inr t ↦ power_among q xs (subst (λ b. (b || has q xs) ≡ true) (differ q x t.1) h) (and_parts (is_power x) (list_all is_power xs) e).1
+]
+
+powers : list_all is_power spaces ≡ true
+unfolding is_power log2
+powers = refl
+
+power-is : (q : ℕ) → is_power q ≡ true → q ≡ 2 ^ log2 12 q
+unfolding is_power
+power-is q e = grind (arith, nat_tests)
+
 pub space-is : (q : ℕ) → is_space q ≡ true → q ≡ 2 ^ log2 12 q
 unfolding is_space
-space-is q e = grind (arith, nat_tests)
+space-is q e = power-is q (power_among q spaces e powers)
 
 pub power-some : (b : ℕ) → 0 < 2 ^ b
 power-some zero = omega arith

@@ -1,5 +1,5 @@
 -- Where a key lies, by its digest.
-use Rattle.std.specs.Prelude.{ℕ, zero, suc, ◌+◌, ◌-◌, ◌/◌, ◌%◌, ◌^◌, ◌==◌, Bool, List, if◌then◌else◌}
+use Rattle.std.specs.Prelude.{ℕ, zero, suc, ◌+◌, ◌-◌, ◌/◌, ◌%◌, ◌^◌, ◌==◌, List, if◌then◌else◌}
 use Rattle.std.specs.Int.{w128, from_be_bytes}
 use Rattle.md5.specs.Md5.{md5}
 use Rattle.ring_space.specs.declared.found.Place.{Place}
@@ -16,10 +16,6 @@ place_at b digest = record { partition = first_bits b digest; chunk = first_bits
 unfoldable pub log2 : ℕ → ℕ → ℕ
 log2 zero q = 0
 log2 (suc n) q = if q == 2 ^ suc n then suc n else log2 n q
-
--- a power of two from 1 to 4,096
-unfoldable pub is_space : ℕ → Bool
-is_space q = q == 2 ^ log2 12 q
 
 -- the place of a key among q partitions
 abbrev pub place_of : ℕ → List ℕ → Place

@@ -3,8 +3,6 @@
 
 mod found;
 mod space;
-#[cfg(test)]
-mod tests;
 
 pub use found::Place;
 pub use space::place;

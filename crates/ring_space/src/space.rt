@@ -1,7 +1,8 @@
 //! The hash space.
 
 ghost use Rattle.std.specs.Prelude.{◌≡◌, ◌<◌, true};
-ghost use Rattle.ring_space.specs.Place.{is_space, place_of, place_at, log2};
+ghost use Rattle.ring_names.specs.Space.{is_space};
+ghost use Rattle.ring_space.specs.Place.{place_of, place_at, log2};
 
 use crate::found::Place;
 use md5::{Digest, Md5};

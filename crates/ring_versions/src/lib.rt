@@ -2,8 +2,6 @@
 #![tactic(auto)]
 
 mod merge;
-#[cfg(test)]
-mod tests;
 mod version;
 mod versions;
 

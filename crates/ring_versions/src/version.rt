@@ -4,15 +4,15 @@ ghost use Rattle.std.specs.Prelude.{◌≡◌, IfOk, IfErr};
 ghost use Rattle.ring_names.specs.declared.refusal.Refusal.TheVariants.{OutOfMemory};
 
 use ring_clock::Clock;
-use ring_names::{Listed, Refusal};
+use ring_names::{Refusal, Value};
 use std::alloc::Global;
 
-/// What a put stored: its number, its clock, and a value of 0 to 1,024 bytes.
+/// What a put stored: its number, its clock, and its value.
 #[derive(Drop)]
 pub struct Version {
     pub put: u32,
     pub clock: Clock,
-    pub value: Listed<u8>,
+    pub value: Value,
 }
 
 impl Version {
@@ -22,11 +22,11 @@ impl Version {
         ensures memory { IfErr result (λ e. e ≡ OutOfMemory) }
     {
         let clock = self.clock.try_copy()?;
-        let value = Vec::from_slice(alloc, self.value.as_slice())?;
+        let value = self.value.try_copy(alloc)?;
         Ok(Version {
             put: self.put,
             clock,
-            value: Listed::from_vec(value),
+            value,
         })
     }
 }

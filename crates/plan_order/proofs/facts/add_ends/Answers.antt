@@ -6,6 +6,6 @@ use Rattle.plan_order.proofs.facts.add_ends.Goals as goal
 
 pub returns-in_ok-insert-clause-ok : goal.returns-in_ok-insert-clause-ok
 returns-in_ok-insert-clause-ok c = λ a b.
-    let put = added (record { first = c.in-Some-Some.first.now; last = c.in-Some-Some.last.now }) c.args.ends.now.keys c.insert.new.self.keys c.in_ok-insert.ensures.keys a b in
+    let put = ap (has_ends a b) c.in_ok-insert.ensures.keys ∙ added (record { first = c.in-Some-Some.first.now; last = c.in-Some-Some.last.now }) c.args.ends.now.keys a b in
     let path = ends_of c.args.path.now c.in-Some-Some.first.now c.in-Some-Some.last.now (c.in-Some-Some.ensures).value (c.in-Some-Some.ensures').value a b in
     put ∙ ap (λ t. t || has_ends a b c.args.ends.now.keys) (sym path)

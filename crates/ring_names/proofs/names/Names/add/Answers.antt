@@ -1,5 +1,5 @@
-use Rattle.std.proofs.Common.{◌≡◌, ◌++◌, ◌∷◌, [], sym, ◌∙◌, ap, rules, None, refl}
-use Rattle.ring_names.specs.Names.{place, with_name}
+use Rattle.std.proofs.Common.{◌≡◌, ◌∙◌, ap, rules, None, refl}
+use Rattle.ring_names.specs.Names.{place}
 use Rattle.ring_names.proofs.Places.{new-names, place-push}
 use Rattle.ring_names.proofs.names.Names.add.Goals as goal
 

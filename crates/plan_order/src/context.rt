@@ -1,0 +1,27 @@
+//! What the tests of a plan have at hand.
+
+ghost use Rattle.std.specs.Prelude.{◌≡◌};
+ghost use Rattle.plan_text.specs.Valid.{Suits};
+ghost use Rattle.plan_order.specs.Facts.{is_ordered};
+
+use crate::facts::Facts;
+use plan_text::Plan;
+use ring_table::Ring;
+
+/// A ring, a plan that suits it, and facts of order in the plan.
+pub struct Context<'a> {
+    pub ring: &'a Ring,
+    pub plan: &'a Plan,
+    pub facts: &'a Facts,
+    ghost suits: { Suits ring.now plan.now },
+}
+
+impl<'a> Context<'a> {
+    /// Whether step `a` is a direct dependency of step `b`, or one of the facts says that `a` comes before `b`. Takes no memory, and
+    /// costs two searches.
+    pub fn ordered(&self, a: u32, b: u32) -> bool
+        ensures { result ≡ is_ordered self.now.plan.now self.now.facts.now a b }
+    {
+        self.facts.tells(self.plan, a, b)
+    }
+}
