@@ -7,7 +7,9 @@ use Rattle.ring_names.specs.declared.refusal.Refusal.{Refusal}
 use Rattle.ring_text.specs.Numbers.{are_small}
 use Rattle.ring_text.specs.Parts.{lines_of}
 use Rattle.ring_text.specs.Left.{Left, one_line, then_part, over_at}
-use Rattle.ring_text.specs.Laws.{IsPart, Any, IsPlain, IsPlainLine, EachNext, BeginsOther}
+use Rattle.ring_text.specs.Frames.{header_fields, header_at, end_fields, end_line_at}
+use Rattle.ring_text.proofs.FrameLaws.{Nothing, header-line, end-line}
+use Rattle.ring_text.specs.Laws.{IsPart, SomeLeft, Any, IsPlain, IsPlainLine, EachNext, BeginsOther}
 use Rattle.ring_text.proofs.Items.{IsPart-line, IsPart-then, IsPart-map, IsPart-as, some_lines}
 use Rattle.ring_text.proofs.Many.{many-part}
 use Rattle.ring_text.proofs.Fronts.{both_true}
@@ -21,9 +23,9 @@ use Rattle.ring_table.proofs.RingLaws.{name_at-plain}
 use Rattle.plan_cert.specs.declared.cert.Chain.{Chain}
 use Rattle.plan_cert.specs.declared.cert.Cert.{Cert}
 use Rattle.plan_cert.specs.Valid.{is_fact, is_chain, IsCert, Suits}
-use Rattle.plan_cert.specs.Spelling.{cert_header_fields, fact_fields, chain_fields, cert_end_fields, cert_lines, cert_text}
-use Rattle.plan_cert.specs.Reading.{cert_header_at, fact_at, chain_at, facts_at, chains_at, cert_end_at, cert_of, cert_at, cert_reading}
-use Rattle.plan_cert.proofs.CertLines.{Nothing, names-of, header-line, end-line, IsFactLine, fact-line, IsChainLine, chain-line}
+use Rattle.plan_cert.specs.Spelling.{fact_fields, chain_fields, cert_lines, cert_text}
+use Rattle.plan_cert.specs.Reading.{fact_at, chain_at, facts_at, chains_at, cert_of, cert_at, cert_reading}
+use Rattle.plan_cert.proofs.CertLines.{names-of, IsFactLine, fact-line, IsChainLine, chain-line}
 
 -- ---- facts and chains, each allowed behind those in front, are a certificate that suits the ring
 
@@ -109,8 +111,8 @@ module _ (ring : RingValue) (good : AreNames (names_of ring)) where
   lines-plain : (v : Cert) → Parts v → AllByRecursion IsPlainLine (cert_lines ring v)
   lines-plain v p = (
     (words-plain.0, (words-plain.1, tt)),
-    both-all (map fact_fields v.facts) (map (chain_fields (names_of ring)) v.chains ++ cert_end_fields ∷ []) (facts-plain [] v.facts p.0)
-        (both-all (map (chain_fields (names_of ring)) v.chains) (cert_end_fields ∷ []) (chains-plain [] v.chains p.1) ((words-plain.4, tt), tt)),
+    both-all (map fact_fields v.facts) (map (chain_fields (names_of ring)) v.chains ++ end_fields ∷ []) (facts-plain [] v.facts p.0)
+        (both-all (map (chain_fields (names_of ring)) v.chains) (end_fields ∷ []) (chains-plain [] v.chains p.1) ((words-plain.4, tt), tt)),
   )
 
   facts-part : IsPart (BeginsOther (codes "fact")) facts_at (λ xs. map fact_fields xs) (EachNext IsFactLine [])
@@ -123,14 +125,14 @@ module _ (ring : RingValue) (good : AreNames (names_of ring)) where
   Tail = List Chain × Unit {0}
 
   abbrev tail_lines : Tail → List (List (List ℕ))
-  tail_lines t = map (chain_fields (names_of ring)) t.0 ++ cert_end_fields ∷ []
+  tail_lines t = map (chain_fields (names_of ring)) t.0 ++ end_fields ∷ []
 
   abbrev TailIs : Tail → Type 0
   TailIs t = EachNext (IsChainLine ring) [] t.0 × Unit {0}
 
-  tail-part : IsPart {A = Tail} Any (then_part (chains_at ring) (λ _. one_line cert_end_at)) tail_lines TailIs
-  tail-part = IsPart-then (BeginsOther (codes "chain")) Any (chains_at ring) (λ _. one_line cert_end_at) (λ xs. map (chain_fields (names_of ring)) xs) (λ _ x. cert_end_fields ∷ []) (EachNext (IsChainLine ring) []) (λ _ x. Unit {0})
-      chains-part (λ a p. IsPart-line cert_end_at (λ x. cert_end_fields) Nothing end-line) (λ a b x xs p p2 d. refl)
+  tail-part : IsPart {A = Tail} Any (then_part (chains_at ring) (λ _. one_line end_line_at)) tail_lines TailIs
+  tail-part = IsPart-then (BeginsOther (codes "chain")) Any (chains_at ring) (λ _. one_line end_line_at) (λ xs. map (chain_fields (names_of ring)) xs) (λ _ x. end_fields ∷ []) (EachNext (IsChainLine ring) []) (λ _ x. Unit {0})
+      chains-part (λ a p. IsPart-line end_line_at (λ x. end_fields) Nothing end-line) (λ a b x xs p p2 d. refl)
 
   no-fact : (t : Tail) (x : List (List ℕ)) (xs : List (List (List ℕ))) → BeginsOther (codes "fact") (some_lines (tail_lines t) x xs).0
   no-fact ([], e) x xs = refl
@@ -139,14 +141,14 @@ module _ (ring : RingValue) (good : AreNames (names_of ring)) where
   abbrev Body : Type 0
   Body = List (List ℕ) × Tail
 
-  body-part : IsPart {A = Body} Any (then_part facts_at (λ _. then_part (chains_at ring) (λ _. one_line cert_end_at))) (λ b. map fact_fields b.0 ++ tail_lines b.1) (λ b. EachNext IsFactLine [] b.0 × TailIs b.1)
-  body-part = IsPart-then (BeginsOther (codes "fact")) Any facts_at (λ _. then_part (chains_at ring) (λ _. one_line cert_end_at)) (λ xs. map fact_fields xs) (λ _ t. tail_lines t) (EachNext IsFactLine []) (λ _ t. TailIs t)
+  body-part : IsPart {A = Body} Any (then_part facts_at (λ _. then_part (chains_at ring) (λ _. one_line end_line_at))) (λ b. map fact_fields b.0 ++ tail_lines b.1) (λ b. EachNext IsFactLine [] b.0 × TailIs b.1)
+  body-part = IsPart-then (BeginsOther (codes "fact")) Any facts_at (λ _. then_part (chains_at ring) (λ _. one_line end_line_at)) (λ xs. map fact_fields xs) (λ _ t. tail_lines t) (EachNext IsFactLine []) (λ _ t. TailIs t)
       facts-part (λ a p. tail-part) (λ a t x xs p p2 d. no-fact t x xs)
 
   pub cert-part : IsPart Any (cert_at ring) (cert_lines ring) Parts
   unfolding cert_at
   cert-part =
-      let all = IsPart-then {A = Unit {0}} {B = Body} Any Any (one_line cert_header_at) _ (λ x. cert_header_fields ∷ []) _ Nothing _ (IsPart-line cert_header_at (λ x. cert_header_fields) Nothing header-line) (λ x p. body-part) (λ a b x xs p p2 d. tt) in
+      let all = IsPart-then {A = Unit {0}} {B = Body} Any Any (one_line (header_at (codes "cert"))) _ (λ x. header_fields (codes "cert") ∷ []) _ Nothing _ (IsPart-line (header_at (codes "cert")) (λ x. header_fields (codes "cert")) Nothing (header-line (codes "cert"))) (λ x p. body-part) (λ a b x xs p p2 d. tt) in
       let made = IsPart-map {A = Unit {0} × Body} {B = Cert} Any _ _ _ cert_of (λ v. (tt, (v.facts, (v.chains, tt)))) (λ a. refl) (λ b. refl) all in
       IsPart-as Any _ _ _ _ _ (λ v. refl) (λ v p. (p.1.0, p.1.1.0)) (λ v p. (tt, (p.0, (p.1, tt)))) made
 
@@ -179,20 +181,17 @@ read-only ring text v r is suits e =
     let p = suits-parts ring good v is suits in
     whole-gives (cert_at ring) (cert_lines ring) (Parts ring good) (cert-part ring good) text v p (lines-plain ring good v p) e
 
--- ---- a whole text, as the code reads
+-- ---- a section
 
-module _ (ring : RingValue) (text : List ℕ) (s : Left) (start : s ≡ record { line = 1; lines = lines_of text }) where
-  pub reading-bad : (e : Refusal) → cert_at ring s ≡ Err e → cert_reading ring text ≡ Err e
-  reading-bad e f =
-      let at : cert_at ring (record { line = 1; lines = lines_of text }) ≡ Err e = ap (cert_at ring) (sym start) ∙ f in
-      rw at refl
+some-line : (ring : RingValue) (s t : Left) (v : Cert) → cert_at ring s ≡ Ok (v, t) → SomeLeft s
+unfolding cert_at
+some-line ring s t v e = by s.lines e
+  where
+    by : (lines : List (List (List ℕ))) → cert_at ring (record { line = s.line; lines = lines }) ≡ Ok (v, t) → (x : List (List ℕ)) × (xs : List (List (List ℕ))) × (lines ≡ x ∷ xs)
+    by [] f = absurd cc
+    by (x ∷ xs) f = (x, xs, refl)
 
-  pub reading-over : (t : Left) (v : Cert) (e : Refusal) → cert_at ring s ≡ Ok (v, t) → over_at t ≡ Err e → cert_reading ring text ≡ Err e
-  reading-over t v e f g =
-      let at : cert_at ring (record { line = 1; lines = lines_of text }) ≡ Ok (v, t) = ap (cert_at ring) (sym start) ∙ f in
-      rw (at, g) refl
-
-  pub reading-good : (t : Left) (v : Cert) (u : Unit {0}) → cert_at ring s ≡ Ok (v, t) → over_at t ≡ Ok u → cert_reading ring text ≡ Ok v
-  reading-good t v u f g =
-      let at : cert_at ring (record { line = 1; lines = lines_of text }) ≡ Ok (v, t) = ap (cert_at ring) (sym start) ∙ f in
-      rw (at, g) refl
+pub section-found : (ring : RingValue) (s : Left) → IsRing ring → (v : Cert) (t : Left) → cert_at ring s ≡ Ok (v, t) → IsCert v × Suits ring v
+section-found ring s r v t e =
+    let good = names-of ring r in
+    parts-suit ring good v ((cert-part ring good).takes s t v (some-line ring s t v e) e).1

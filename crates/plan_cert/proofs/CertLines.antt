@@ -9,6 +9,7 @@ use Rattle.ring_names.specs.declared.refusal.Refusal.TheVariants.{BadLine, TooLa
 use Rattle.ring_text.specs.Numbers.{numbers_of, beyond, are_small}
 use Rattle.ring_text.specs.Judging.{Item, word_at, need_at, map_ok}
 use Rattle.ring_text.specs.Laws.{IsItem, IsLine}
+use Rattle.ring_text.proofs.FrameLaws.{Nothing}
 use Rattle.ring_text.proofs.Items.{IsItem-⊗, IsItem-word, IsItem-need, IsLine-map, IsLine-as, IsLine-whole, unless_is, unless_ok}
 use Rattle.ring_text.proofs.Fronts.{Free, Last, IsFront, front-item, front-⊗, front-whole, numbers-taken, numbers-given, pair_is}
 use Rattle.ring_table.specs.Value.{RingValue, names_of}
@@ -20,25 +21,11 @@ use Rattle.ring_table.proofs.RowLaws.{AreNames, IsItem-declared}
 use Rattle.plan_cert.specs.declared.cert.Chain.{Chain}
 use Rattle.plan_cert.specs.declared.lines.ChainLine.{ChainLine}
 use Rattle.plan_cert.specs.Said.{chain_of}
-use Rattle.plan_cert.specs.Spelling.{cert_header_fields, fact_fields, chain_fields, cert_end_fields}
-use Rattle.plan_cert.specs.Reading.{cert_header_at, judge_path, path_at, judge_steps, steps_at, fact_at, chain_at, cert_end_at}
+use Rattle.plan_cert.specs.Spelling.{fact_fields, chain_fields}
+use Rattle.plan_cert.specs.Reading.{judge_path, path_at, judge_steps, steps_at, fact_at, chain_at}
 
 pub names-of : (ring : RingValue) → IsRing ring → AreNames (names_of ring)
 names-of ring r = names-of_nodes ring.nodes (record { some_node = r.some_node; nodes = r.nodes; each_node = r.each_node; names = r.names })
-
-abbrev pub Nothing : Unit {0} → Type 0
-Nothing x = Unit {0}
-
-pub header-line : (k : ℕ) → IsLine (cert_header_at k) (λ x. cert_header_fields) Nothing
-unfolding cert_header_at
-header-line k =
-    let pair = IsItem-⊗ (word_at k (codes "cert")) (word_at k (codes "1")) (λ x. codes "cert" ∷ []) (λ x. codes "1" ∷ []) Nothing Nothing (IsItem-word k (codes "cert")) (IsItem-word k (codes "1")) in
-    let line = IsLine-map _ _ _ (λ x. tt {0}) (λ x. (tt, tt)) (λ a. refl) (λ b. refl) (IsLine-whole k _ _ _ pair) in
-    IsLine-as _ _ _ _ _ (λ v. refl) (λ v p. tt) (λ v p. (tt, tt)) line
-
-pub end-line : (k : ℕ) → IsLine (cert_end_at k) (λ x. cert_end_fields) Nothing
-unfolding cert_end_at
-end-line k = IsLine-map _ _ _ (λ x. tt {0}) (λ x. tt) (λ a. refl) (λ b. refl) (IsLine-whole k _ _ _ (IsItem-word k (codes "end")))
 
 -- ---- numbers in a row
 

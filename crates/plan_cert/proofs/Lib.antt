@@ -1,3 +1,4 @@
 pub mod Written
 pub mod CertLines
 pub mod CertLaws
+pub mod CertLates

@@ -5,14 +5,11 @@ use Rattle.ring_names.specs.declared.refusal.Refusal.TheVariants.{BadLine, TooLa
 use Rattle.ring_text.specs.Numbers.{numbers_of, beyond, are_small}
 use Rattle.ring_text.specs.Judging.{Item, ◌⊗◌, word_at, need_at, map_ok, whole, unless}
 use Rattle.ring_text.specs.Left.{Left, one_line, many_from, then_part, map_part, whole_text}
+use Rattle.ring_text.specs.Frames.{header_at, end_line_at}
 use Rattle.ring_table.specs.Value.{RingValue}
 use Rattle.ring_table.specs.Reading.{declared_at}
 use Rattle.plan_cert.specs.declared.cert.Chain.{Chain}
 use Rattle.plan_cert.specs.declared.cert.Cert.{Cert}
-
--- `cert 1`
-unfoldable pub cert_header_at : ℕ → List (List ℕ) → Result (Unit {0}) Refusal
-cert_header_at k fields = map_ok (λ x. tt) (whole k (word_at k (codes "cert") ⊗ word_at k (codes "1")) fields)
 
 -- the steps of a fact
 abbrev pub judge_path : ℕ → List ℕ → Result (List ℕ) Refusal
@@ -42,7 +39,8 @@ fact_at seen k fields = map_ok (λ x. x.1) (whole k (need_at k (nat_lt (length s
 
 -- `chain <node>` and its steps, behind the chains seen
 unfoldable pub chain_at : RingValue → List Chain → ℕ → List (List ℕ) → Result Chain Refusal
-chain_at ring seen k fields = map_ok (λ x. record { node = x.0.1; steps = x.1 }) (whole k (need_at k (nat_lt (length seen) 65536) ⊗ word_at k (codes "chain") ⊗ declared_at ring k ⊗ steps_at k) fields)
+chain_at ring seen k fields = map_ok (λ x. record { node = x.0.1; steps = x.1 })
+    (whole k (need_at k (nat_lt (length seen) 65536) ⊗ word_at k (codes "chain") ⊗ declared_at ring k ⊗ steps_at k) fields)
 
 -- the facts, and the chains: lines as long as they begin so
 abbrev pub facts_at : Left → Result (List (List ℕ) × Left) Refusal
@@ -51,10 +49,6 @@ facts_at s = many_from (codes "fact") fact_at [] s.line s.lines
 abbrev pub chains_at : RingValue → Left → Result (List Chain × Left) Refusal
 chains_at ring s = many_from (codes "chain") (chain_at ring) [] s.line s.lines
 
--- `end`
-unfoldable pub cert_end_at : ℕ → List (List ℕ) → Result (Unit {0}) Refusal
-cert_end_at k fields = map_ok (λ x. tt) (whole k (word_at k (codes "end")) fields)
-
 -- what the parts of a certificate say together
 abbrev pub cert_of : Unit {0} × (List (List ℕ) × (List Chain × Unit {0})) → Cert
 cert_of x = record { facts = x.1.0; chains = x.1.1.0 }
@@ -62,10 +56,10 @@ cert_of x = record { facts = x.1.0; chains = x.1.1.0 }
 -- the lines of a certificate, one part behind the other
 unfoldable pub cert_at : RingValue → Left → Result (Cert × Left) Refusal
 cert_at ring = map_part cert_of
-    (then_part (one_line cert_header_at) (λ _.
+    (then_part (one_line (header_at (codes "cert"))) (λ _.
     then_part facts_at (λ _.
     then_part (chains_at ring) (λ _.
-    one_line cert_end_at))))
+    one_line end_line_at))))
 
 -- a whole text
 abbrev pub cert_reading : RingValue → List ℕ → Result Cert Refusal

@@ -2,13 +2,11 @@
 use Rattle.std.specs.Prelude.{ℕ, List, [], ◌∷◌, ◌++◌, map, codes}
 use Rattle.std.specs.Fmt.{decimal}
 use Rattle.ring_text.specs.Parts.{text_of}
+use Rattle.ring_text.specs.Frames.{header_fields, end_fields}
 use Rattle.ring_table.specs.Value.{RingValue, names_of}
 use Rattle.ring_table.specs.Spelling.{name_at}
 use Rattle.plan_cert.specs.declared.cert.Chain.{Chain}
 use Rattle.plan_cert.specs.declared.cert.Cert.{Cert}
-
-abbrev pub cert_header_fields : List (List ℕ)
-cert_header_fields = codes "cert" ∷ codes "1" ∷ []
 
 abbrev pub fact_fields : List ℕ → List (List ℕ)
 fact_fields path = codes "fact" ∷ map decimal path
@@ -16,12 +14,9 @@ fact_fields path = codes "fact" ∷ map decimal path
 abbrev pub chain_fields : List (List ℕ) → Chain → List (List ℕ)
 chain_fields names c = codes "chain" ∷ name_at names c.node ∷ map decimal c.steps
 
-abbrev pub cert_end_fields : List (List ℕ)
-cert_end_fields = codes "end" ∷ []
-
 -- the lines of a certificate
 abbrev pub cert_lines : RingValue → Cert → List (List (List ℕ))
-cert_lines ring v = cert_header_fields ∷ (map fact_fields v.facts ++ (map (chain_fields (names_of ring)) v.chains ++ cert_end_fields ∷ []))
+cert_lines ring v = header_fields (codes "cert") ∷ (map fact_fields v.facts ++ (map (chain_fields (names_of ring)) v.chains ++ end_fields ∷ []))
 
 -- its text
 abbrev pub cert_text : RingValue → Cert → List ℕ

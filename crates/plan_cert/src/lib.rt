@@ -4,8 +4,6 @@
 mod cert;
 mod lines;
 mod reading;
-#[cfg(test)]
-mod tests;
 mod writing;
 
 pub use cert::{Cert, Chain};

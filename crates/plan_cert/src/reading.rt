@@ -3,6 +3,7 @@
 ghost use Rattle.std.specs.Prelude.{◌≡◌, ◌≤◌, ◌+◌, ◌<◌, ◌++◌, ◌∷◌, [], length, codes, true, Ok, IfOk, IfErr, OnOk};
 ghost use Rattle.ring_names.specs.declared.refusal.Refusal.TheVariants.{OutOfMemory};
 ghost use Rattle.ring_text.specs.Left.{Reads, many_from};
+ghost use Rattle.ring_text.specs.Late.{Late, NoFaultBefore};
 ghost use Rattle.ring_text.specs.Judging.{Gives, map_ok};
 ghost use Rattle.ring_text.specs.Numbers.{are_small};
 ghost use Rattle.plan_cert.specs.Reading.{fact_at, chain_at, cert_at, cert_reading};
@@ -12,10 +13,10 @@ ghost use Rattle.plan_cert.specs.Valid.{IsCert, Suits};
 ghost use Rattle.plan_cert.specs.declared.cert.Cert.{Cert};
 
 use crate::cert::{Cert, Chain};
-use crate::lines::{ChainLine, chain_line, end_line, fact_line, header_line};
+use crate::lines::{ChainLine, chain_line, fact_line};
 use ring_names::{Listed, Refusal};
 use ring_table::Ring;
-use ring_text::{Lines, NumberRow};
+use ring_text::{Lines, NumberRow, end, header};
 use std::alloc::Global;
 
 // Adds the fact of a line that was judged.
@@ -47,15 +48,13 @@ fn add_chain(alloc: Global, chains: &mut Vec<Chain>, said: ChainLine) -> Result<
 
 // Reads facts behind those seen, as long as lines begin so.
 fn read_facts(alloc: Global, facts: &mut Vec<Listed<u32>>, lines: &mut Lines) -> Result<(), Refusal>
-    requires start { lines.old.line ≤ 300000000 }
     requires none { facts.old.items ≡ [] }
     ensures read { Reads (map_ok (λ _. facts.new.items) result) lines.new (many_from (codes "fact") fact_at facts.old.items lines.old.line lines.old.lines) }
-    ensures line { OnOk result (lines.new.line ≤ lines.old.line + 262144) }
+    ensures late { Late 1 result lines.old lines.new (many_from (codes "fact") fact_at facts.old.items lines.old.line lines.old.lines) }
 {
     'facts: while lines.begins(b"fact") {
-        let line = lines.line();
         let fields = lines.next()?;
-        let path = fact_line(facts.as_slice(), fields, line)?;
+        let path = fact_line(facts.as_slice(), fields)?;
         add_fact(alloc, facts, path)?;
     }
     Ok(())
@@ -68,42 +67,64 @@ fn read_chains(
     chains: &mut Vec<Chain>,
     lines: &mut Lines,
 ) -> Result<(), Refusal>
-    requires start { lines.old.line ≤ 400000000 }
     requires none { chains.old.items ≡ [] }
     ensures read { Reads (map_ok (λ _. chains.new.items) result) lines.new (many_from (codes "chain") (chain_at ring.now) chains.old.items lines.old.line lines.old.lines) }
-    ensures line { OnOk result (lines.new.line ≤ lines.old.line + 65536) }
+    ensures late { Late 1 result lines.old lines.new (many_from (codes "chain") (chain_at ring.now) chains.old.items lines.old.line lines.old.lines) }
 {
     'chains: while lines.begins(b"chain") {
-        let line = lines.line();
         let fields = lines.next()?;
-        let said = chain_line(ring, chains.as_slice(), fields, line)?;
+        let said = chain_line(ring, chains.as_slice(), fields)?;
         add_chain(alloc, chains, said)?;
     }
     Ok(())
 }
 
-/// Reads the lines of a certificate, up to its line `end`, and leaves what follows them. Refused as `read_cert` is.
+// Reads the lines of a certificate.
 #[tactic(auto, unfolding(crate::specs::Reading::cert_at))]
-pub fn read_cert_section(alloc: Global, ring: &Ring, lines: &mut Lines) -> Result<Cert, Refusal>
-    requires { lines.old.line ≤ 200000000 }
+fn read_parts(alloc: Global, ring: &Ring, lines: &mut Lines) -> Result<Cert, Refusal>
     ensures read { Reads result lines.new (cert_at ring.now lines.old) }
+    ensures late { Late 2 result lines.old lines.new (cert_at ring.now lines.old) }
 {
-    let line = lines.line();
-    header_line(lines.next()?, line)?;
+    header(lines, b"cert")?;
     let mut facts = Vec::new(alloc);
     read_facts(alloc, &mut facts, lines)?;
     let mut chains = Vec::new(alloc);
     read_chains(alloc, ring, &mut chains, lines)?;
-    let line = lines.line();
-    end_line(lines.next()?, line)?;
+    end(lines)?;
     Ok(Cert {
         facts: Listed::from_vec(facts),
         chains: Listed::from_vec(chains),
     })
 }
 
+/// Reads the lines of a certificate, up to its line `end`, and leaves what follows them. Refused as `read_cert` is.
+pub fn read_cert_section(alloc: Global, ring: &Ring, lines: &mut Lines) -> Result<Cert, Refusal>
+    ensures read { Reads result lines.new (cert_at ring.now lines.old) }
+    // What is read is a certificate that suits the ring.
+    ensures found { IfOk result (λ v. IsCert v × Suits ring.now v) }
+    // Memory may run out behind its first two lines, if these have no fault, and later only behind lines that have none.
+    ensures late { Late 2 result lines.old lines.new (cert_at ring.now lines.old) }
+{
+    // Names of a ring are names.
+    let slots = ring.n();
+    prove!(slots <= 7);
+    read_parts(alloc, ring, lines)
+}
+
+// Reads a certificate from its whole text.
+fn read_whole(alloc: Global, ring: &Ring, text: &[u8]) -> Result<Cert, Refusal>
+    ensures exact { Gives result (cert_reading ring.now text.now) }
+    ensures late { IfErr result (λ e. e ≡ OutOfMemory → NoFaultBefore 3 (cert_reading ring.now text.now)) }
+{
+    let mut lines = Lines::of(text);
+    let cert = read_cert_section(alloc, ring, &mut lines)?;
+    lines.ended()?;
+    Ok(cert)
+}
+
 /// Reads a certificate over the ring from its whole text. The first line at fault decides, and in it the fault of the least
-/// number: 1 `BadLine`, 2 `TooLarge`, 3 `UnknownNode`. `OutOfMemory` comes only where memory ran out.
+/// number: 1 `BadLine`, 2 `TooLarge`, 3 `UnknownNode`. `OutOfMemory` comes only where memory ran out, behind lines that have
+/// no fault.
 pub fn read_cert(alloc: Global, ring: &Ring, text: &[u8]) -> Result<Cert, Refusal>
     // What is read suits the ring, and is spelled so.
     ensures found { IfOk result (λ v. IsCert v × Suits ring.now v × (text.now ≡ cert_text ring.now v)) }
@@ -111,16 +132,11 @@ pub fn read_cert(alloc: Global, ring: &Ring, text: &[u8]) -> Result<Cert, Refusa
     ensures only { (v : Cert) → IsCert v → Suits ring.now v → text.now ≡ cert_text ring.now v → Gives result (Ok v) }
     // Which fault it is.
     ensures exact { Gives result (cert_reading ring.now text.now) }
+    // Memory may run out only if the first two lines have no fault.
+    ensures late { IfErr result (λ e. e ≡ OutOfMemory → NoFaultBefore 3 (cert_reading ring.now text.now)) }
 {
     // Names of a ring are plain.
     let slots = ring.n();
     prove!(slots <= 7);
-    let mut lines = Lines::of(text);
-    match read_cert_section(alloc, ring, &mut lines) {
-        Err(e) => Err(e),
-        Ok(cert) => match lines.ended() {
-            Err(e) => Err(e),
-            Ok(()) => Ok(cert),
-        },
-    }
+    read_whole(alloc, ring, text)
 }

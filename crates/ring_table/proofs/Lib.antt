@@ -3,3 +3,4 @@ pub mod LineLaws
 pub mod RowLaws
 pub mod NodesLaws
 pub mod RingLaws
+pub mod RingLates

@@ -14,26 +14,14 @@ use Rattle.ring_text.specs.Number.{decimal_value}
 use Rattle.ring_text.specs.Judging.{field_at, word_at, number_at, need_at, limited}
 use Rattle.ring_text.specs.Laws.{IsItem, IsLine}
 use Rattle.ring_text.proofs.Items.{IsItem-⊗, IsItem-word, IsItem-field, IsItem-need, IsLine-whole, IsLine-map, IsLine-judged, IsLine-as, ok_is, bind_ok}
+use Rattle.ring_text.proofs.FrameLaws.{Nothing}
 use Rattle.ring_text.proofs.Decimals.{IsItem-number, decimal-value, value-decimal, limited_is, and_is}
 use Rattle.ring_table.specs.declared.head.Quorum.{Quorum}
 use Rattle.ring_table.specs.declared.node.Node.{Node}
-use Rattle.ring_table.specs.Valid.{is_space, is_quorum, IsNew}
-use Rattle.ring_table.specs.Spelling.{header_fields, space_fields, quorum_fields, membership, node_fields, end_fields}
-use Rattle.ring_table.specs.Reading.{header_at, space_at, quorum_at, judge_new, above_zero, judge_allowance, judge_membership, node_at, end_line_at}
-
-abbrev Nothing : Unit {0} → Type 0
-Nothing x = Unit {0}
-
-pub header-line : (k : ℕ) → IsLine (header_at k) (λ x. header_fields) Nothing
-unfolding header_at
-header-line k =
-    let pair = IsItem-⊗ (word_at k (codes "ring")) (word_at k (codes "1")) (λ x. codes "ring" ∷ []) (λ x. codes "1" ∷ []) Nothing Nothing (IsItem-word k (codes "ring")) (IsItem-word k (codes "1")) in
-    let line = IsLine-map _ _ _ (λ x. tt {0}) (λ x. (tt, tt)) (λ a. refl) (λ b. refl) (IsLine-whole k _ _ _ pair) in
-    IsLine-as _ _ _ _ _ (λ v. refl) (λ v p. tt) (λ v p. (tt, tt)) line
-
-pub end-line : (k : ℕ) → IsLine (end_line_at k) (λ x. end_fields) Nothing
-unfolding end_line_at
-end-line k = IsLine-map _ _ _ (λ x. tt {0}) (λ x. tt) (λ a. refl) (λ b. refl) (IsLine-whole k _ _ _ (IsItem-word k (codes "end")))
+use Rattle.ring_names.specs.Space.{is_space}
+use Rattle.ring_table.specs.Valid.{is_quorum, IsNew}
+use Rattle.ring_table.specs.Spelling.{space_fields, quorum_fields, membership, node_fields}
+use Rattle.ring_table.specs.Reading.{space_at, quorum_at, judge_new, above_zero, judge_allowance, judge_membership, node_at}
 
 pub not_is : (b : Bool) → not b ≡ false → b ≡ true
 not_is true e = refl

@@ -3,26 +3,27 @@ use Rattle.std.proofs.Common.{◌≡◌, ℕ, zero, suc, ◌+◌, ◌≤◌, Boo
 use Rattle.std.specs.Prelude.{slice_get}
 use Rattle.std.specs.List.{AllByRecursion}
 use Rattle.std.proofs.lemmas.List.Concat.{flat_map-append}
-use Rattle.ring_text.specs.Left.{Left, next_line, one_line, then_part, over_at}
-use Rattle.ring_text.specs.Laws.{IsPart, Any, IsPlain, IsPlainLine}
+use Rattle.ring_text.specs.Left.{Left, one_line, then_part}
+use Rattle.ring_text.specs.Frames.{header_fields, header_at, end_fields, end_line_at}
+use Rattle.ring_text.specs.Laws.{IsPart, SomeLeft, Any, IsPlain, IsPlainLine}
+use Rattle.ring_text.proofs.FrameLaws.{Nothing, header-line, end-line}
 use Rattle.ring_text.specs.Name.{is_name}
 use Rattle.ring_text.proofs.Wholes.{decimal-plain, name-plain, whole-takes, whole-gives}
 use Rattle.ring_text.specs.Parts.{lines_of, line_text, text_of}
 use Rattle.ring_names.specs.declared.refusal.Refusal.{Refusal}
-use Rattle.ring_text.proofs.Items.{IsPart-line, IsPart-then, IsPart-map, IsPart-as, some_lines, first_is}
+use Rattle.ring_text.proofs.Items.{IsPart-line, IsPart-then, IsPart-map, IsPart-as, some_lines}
 use Rattle.ring_names.specs.declared.ids.NodeId.{NodeId}
 use Rattle.ring_table.specs.declared.head.Quorum.{Quorum}
+use Rattle.ring_table.specs.declared.head.Head.{Head}
 use Rattle.ring_table.specs.declared.node.Node.{Node}
 use Rattle.ring_table.specs.Value.{RingValue, names_of}
-use Rattle.ring_table.specs.Valid.{is_space, is_quorum, IsNode, IsRow, IsRing}
-use Rattle.ring_table.specs.Spelling.{header_fields, space_fields, quorum_fields, node_fields, rows_lines, end_fields, ring_lines, ring_text, membership, name_at}
-use Rattle.ring_table.specs.Reading.{header_at, space_at, quorum_at, nodes_at, rows_at, end_line_at, ring_of, ring_at, ring_reading}
-use Rattle.ring_table.proofs.LineLaws.{header-line, space-line, quorum-line, end-line, space-le, quorum-parts}
+use Rattle.ring_names.specs.Space.{is_space}
+use Rattle.ring_table.specs.Valid.{is_quorum, IsHead, IsNode, IsRow, IsRing}
+use Rattle.ring_table.specs.Spelling.{space_fields, quorum_fields, node_fields, rows_lines, ring_lines, ring_text, membership, name_at}
+use Rattle.ring_table.specs.Reading.{space_at, quorum_at, nodes_at, rows_at, head_at, body_at, ring_of, ring_at, ring_reading}
+use Rattle.ring_table.proofs.LineLaws.{space-line, quorum-line, space-le, quorum-parts}
 use Rattle.ring_table.proofs.RowLaws.{rows-part}
 use Rattle.ring_table.proofs.NodesLaws.{AreNodes, IsOther, nodes-part, names-of_nodes}
-
-abbrev Nothing : Unit {0} → Type 0
-Nothing x = Unit {0}
 
 abbrev names : List Node → List (List ℕ)
 names nodes = map (λ x. x.name) nodes
@@ -52,54 +53,80 @@ body-part : (n q : ℕ) → IsPart {A = Body} Any (then_part nodes_at (λ nodes.
 body-part n q = IsPart-then IsOther Any nodes_at (λ nodes. then_part (rows_at nodes n 0 q) (λ _. one_line end_line_at)) (λ nodes. map node_fields nodes) tail_lines AreNodes (TailIs n q)
     nodes-part (λ nodes good. tail-part n q nodes good) (λ nodes t x xs p p2 d. rows-other nodes t x xs)
 
-quorum-part : (q : ℕ) → IsPart {A = Quorum × Body} Any (then_part (one_line quorum_at) (λ quorum. then_part nodes_at (λ nodes. then_part (rows_at nodes quorum.n 0 q) (λ _. one_line end_line_at))))
-    (λ v. (quorum_fields v.0.n v.0.r v.0.w ∷ []) ++ (map node_fields v.1.0 ++ tail_lines v.1.0 v.1.1)) (λ v. ((v.0.n ≤ 7) × (is_quorum v.0.n v.0.r v.0.w ≡ true)) × (AreNodes v.1.0 × TailIs v.0.n q v.1.0 v.1.1))
-quorum-part q = IsPart-then Any Any (one_line quorum_at) (λ quorum. then_part nodes_at (λ nodes. then_part (rows_at nodes quorum.n 0 q) (λ _. one_line end_line_at)))
-    (λ x. quorum_fields x.n x.r x.w ∷ []) (λ _ b. map node_fields b.0 ++ tail_lines b.0 b.1) (λ x. (x.n ≤ 7) × (is_quorum x.n x.r x.w ≡ true)) (λ x b. AreNodes b.0 × TailIs x.n q b.0 b.1)
-    (IsPart-line quorum_at (λ x. quorum_fields x.n x.r x.w) _ quorum-line) (λ x p. body-part x.n q) (λ a b x xs p p2 d. tt)
+-- the nodes and the owners of a ring
+abbrev Behind : Type 0
+Behind = List Node × List (List NodeId)
 
-space-part : IsPart {A = ℕ × (Quorum × Body)} Any (then_part (one_line space_at) (λ q. then_part (one_line quorum_at) (λ quorum. then_part nodes_at (λ nodes. then_part (rows_at nodes quorum.n 0 q) (λ _. one_line end_line_at)))))
-    (λ v. (space_fields v.0 ∷ []) ++ ((quorum_fields v.1.0.n v.1.0.r v.1.0.w ∷ []) ++ (map node_fields v.1.1.0 ++ tail_lines v.1.1.0 v.1.1.1)))
-    (λ v. (is_space v.0 ≡ true) × (((v.1.0.n ≤ 7) × (is_quorum v.1.0.n v.1.0.r v.1.0.w ≡ true)) × (AreNodes v.1.1.0 × TailIs v.1.0.n v.0 v.1.1.0 v.1.1.1)))
-space-part = IsPart-then Any Any (one_line space_at) (λ q. then_part (one_line quorum_at) (λ quorum. then_part nodes_at (λ nodes. then_part (rows_at nodes quorum.n 0 q) (λ _. one_line end_line_at))))
-    (λ q. space_fields q ∷ []) (λ _ v. (quorum_fields v.0.n v.0.r v.0.w ∷ []) ++ (map node_fields v.1.0 ++ tail_lines v.1.0 v.1.1)) (λ q. is_space q ≡ true) (λ q v. ((v.0.n ≤ 7) × (is_quorum v.0.n v.0.r v.0.w ≡ true)) × (AreNodes v.1.0 × TailIs v.0.n q v.1.0 v.1.1))
-    (IsPart-line space_at space_fields _ space-line) (λ q p. quorum-part q) (λ a b x xs p p2 d. tt)
+abbrev behind_lines : Behind → List (List (List ℕ))
+behind_lines b = map node_fields b.0 ++ (rows_lines (names b.0) 0 b.1 ++ end_fields ∷ [])
 
-abbrev Whole : Type 0
-Whole = Unit {0} × (ℕ × (Quorum × Body))
+abbrev BehindIs : Head → Behind → Type 0
+BehindIs head b = AreNodes b.0 × ((length b.1 ≡ head.q) × AllByRecursion (IsRow head.quorum.n b.0) b.1)
 
--- the parts of a ring
-abbrev parts_of : RingValue → Whole
-parts_of v = (tt, (v.q, (record { n = v.n; r = v.r; w = v.w }, (v.nodes, (v.owners, tt)))))
+behind-part : (head : Head) → IsPart Any (body_at head) behind_lines (BehindIs head)
+unfolding body_at
+behind-part head =
+    let made = IsPart-map {A = Body} {B = Behind} Any _ _ _ (λ x. (x.0, x.1.0)) (λ b. (b.0, (b.1, tt))) (λ a. refl) (λ b. refl) (body-part head.quorum.n head.q) in
+    IsPart-as Any _ _ _ _ _ (λ v. refl) (λ v p. (p.0, p.1.0)) (λ v p. (p.0, (p.1, tt))) made
+
+abbrev head_lines : Head → List (List (List ℕ))
+head_lines h = header_fields (codes "ring") ∷ space_fields h.q ∷ quorum_fields h.quorum.n h.quorum.r h.quorum.w ∷ []
+
+head-part : IsPart Any head_at head_lines IsHead
+unfolding head_at
+head-part =
+    let quorum = IsPart-line quorum_at (λ x. quorum_fields x.n x.r x.w) _ quorum-line in
+    let two = IsPart-then {A = ℕ} {B = Quorum} Any Any (one_line space_at) (λ _. one_line quorum_at) (λ q. space_fields q ∷ []) (λ _ x. quorum_fields x.n x.r x.w ∷ []) (λ q. is_space q ≡ true) (λ _ x. (x.n ≤ 7) × (is_quorum x.n x.r x.w ≡ true))
+    (IsPart-line space_at space_fields _ space-line) (λ q p. quorum) (λ a b x xs p p2 d. tt) in
+    let all = IsPart-then {A = Unit {0}} {B = ℕ × Quorum} Any Any (one_line (header_at (codes "ring"))) _ (λ x. header_fields (codes "ring") ∷ []) _ Nothing _ (IsPart-line (header_at (codes "ring")) (λ x. header_fields (codes "ring")) Nothing (header-line (codes "ring"))) (λ x p. two) (λ a b x xs p p2 d. tt) in
+    let made = IsPart-map {A = Unit {0} × (ℕ × Quorum)} {B = Head} Any _ _ _ (λ x. record { q = x.1.0; quorum = x.1.1 }) (λ h. (tt, (h.q, h.quorum))) (λ a. refl) (λ b. refl) all in
+    IsPart-as Any _ _ _ _ _ (λ v. refl) (λ v p. record { space = p.1.0; slots = p.1.1.0; quorum = p.1.1.1 }) (λ v h. (tt, (h.space, (h.slots, h.quorum)))) made
+
+-- head and body of a ring
+abbrev head_of : RingValue → Head
+head_of v = record { q = v.q; quorum = record { n = v.n; r = v.r; w = v.w } }
+
+is-ring : (h : Head) (b : Behind) → IsHead h → BehindIs h b → IsRing (ring_of h b)
+is-ring h b p q = record {
+  space = p.space;
+  slots = p.slots;
+  quorum = p.quorum;
+  some_node = q.0.some_node;
+  nodes = q.0.nodes;
+  each_node = q.0.each_node;
+  names = q.0.names;
+  partitions = q.1.0;
+  rows = q.1.1;
+}
 
 pub ring-part : IsPart Any ring_at ring_lines IsRing
 unfolding ring_at
 ring-part =
-    let all = IsPart-then {A = Unit {0}} {B = ℕ × (Quorum × Body)} Any Any (one_line header_at) _ (λ x. header_fields ∷ []) _ Nothing _ (IsPart-line header_at (λ x. header_fields) Nothing header-line) (λ x p. space-part) (λ a b x xs p p2 d. tt) in
-    let made = IsPart-map {A = Whole} {B = RingValue} Any _ _ _ ring_of parts_of (λ a. refl) (λ b. refl) all in
-    IsPart-as Any _ _ _ _ _ (λ v. refl)
-    (λ v p. record { space = p.1.0; slots = p.1.1.0.0; quorum = p.1.1.0.1; some_node = p.1.1.1.0.some_node; nodes = p.1.1.1.0.nodes; each_node = p.1.1.1.0.each_node; names = p.1.1.1.0.names; partitions = p.1.1.1.1.0.0; rows = p.1.1.1.1.0.1 })
-    (λ v r. (tt, (r.space, ((r.slots, r.quorum), (record { some_node = r.some_node; nodes = r.nodes; each_node = r.each_node; names = r.names }, ((r.partitions, r.rows), tt))))))
+    let all = IsPart-then {A = Head} {B = Behind} Any Any head_at body_at head_lines (λ _ b. behind_lines b) IsHead BehindIs head-part (λ h p. behind-part h) (λ a b x xs p p2 d. tt) in
+    let made = IsPart-map {A = Head × Behind} {B = RingValue} Any _ _ _ (λ x. ring_of x.0 x.1) (λ v. (head_of v, (v.nodes, v.owners))) (λ a. refl) (λ b. refl) all in
+    IsPart-as Any _ _ _ _ _ (λ v. refl) (λ v p. is-ring (head_of v) (v.nodes, v.owners) p.0 p.1)
+    (λ v r. (record { space = r.space; slots = r.slots; quorum = r.quorum }, (record { some_node = r.some_node; nodes = r.nodes; each_node = r.each_node; names = r.names }, (r.partitions, r.rows))))
     made
 
--- ---- line by line, as the code reads
+-- ---- head and body, as the code reads them
 
-pub ring-read : (s s1 s2 s3 s4 s5 s6 : Left) (l1 l2 l3 l6 : List (List ℕ)) (a b : Unit {0}) (q : ℕ) (quorum : Quorum) (nodes : List Node) (rows : List (List NodeId))
-    → next_line s ≡ Ok (l1, s1) → header_at s.line l1 ≡ Ok a → next_line s1 ≡ Ok (l2, s2) → space_at s1.line l2 ≡ Ok q → next_line s2 ≡ Ok (l3, s3) → quorum_at s2.line l3 ≡ Ok quorum
-    → nodes_at s3 ≡ Ok (nodes, s4) → rows_at nodes quorum.n 0 q s4 ≡ Ok (rows, s5) → next_line s5 ≡ Ok (l6, s6) → end_line_at s5.line l6 ≡ Ok b
-    → ring_at s ≡ Ok (record { q = q; n = quorum.n; r = quorum.r; w = quorum.w; nodes = nodes; owners = rows }, s6)
-unfolding ring_at
-ring-read s s1 s2 s3 s4 s5 s6 l1 l2 l3 l6 a b q quorum nodes rows e1 e2 e3 e4 e5 e6 e7 e8 e9 e10 = rw (e1, e2, e3, e4, e5, e6, e7, e8, e9, e10) refl
+-- a head is read from some line
+some-head : (s t : Left) (h : Head) → head_at s ≡ Ok (h, t) → SomeLeft s
+unfolding head_at
+some-head s t h e = by s.lines e
+  where
+    by : (lines : List (List (List ℕ))) → head_at (record { line = s.line; lines = lines }) ≡ Ok (h, t) → (x : List (List ℕ)) × (xs : List (List (List ℕ))) × (lines ≡ x ∷ xs)
+    by [] f = absurd cc
+    by (x ∷ xs) f = (x, xs, refl)
 
--- a ring that was read is valid
-pub ring-valid : (s t : Left) (l : List (List ℕ)) (u : Left) (v : RingValue) → next_line s ≡ Ok (l, u) → ring_at s ≡ Ok (v, t) → IsRing v
-ring-valid s t l u v e f = (ring-part.takes s t v (l, u.lines, (first_is s.line s.lines l u e).0) f).1
+-- what was read as a head is one
+pub head-valid : (s t : Left) (h : Head) → head_at s ≡ Ok (h, t) → IsHead h
+head-valid s t h e = (head-part.takes s t h (some-head s t h e) e).1
 
-pub quorum-slots : (k : ℕ) (fields : List (List ℕ)) (x : Quorum) → quorum_at k fields ≡ Ok x → x.n ≤ 7
-quorum-slots k fields x e = ((quorum-line k).takes fields x e).1.0
-
-pub space-small : (k : ℕ) (fields : List (List ℕ)) (q : ℕ) → space_at k fields ≡ Ok q → q ≤ 4096
-space-small k fields q e = space-le q ((space-line k).takes fields q e).1
+pub ring-valid : (s t u : Left) (h : Head) (b : Behind) → head_at s ≡ Ok (h, t) → body_at h t ≡ Ok (b, u) → IsRing (ring_of h b)
+ring-valid s t u h b e f =
+    let front = head-part.takes s t h (some-head s t h e) e in
+    is-ring h b front.1 ((behind-part h).takes t u b front.2 f).1
 
 -- ---- the lines of a ring are plain
 
@@ -151,22 +178,6 @@ ring-plain v r =
     )
 
 -- ---- a whole text
-
-module _ (text : List ℕ) (s : Left) (start : s ≡ record { line = 1; lines = lines_of text }) where
-  pub reading-bad : (e : Refusal) → ring_at s ≡ Err e → ring_reading text ≡ Err e
-  reading-bad e f =
-      let at : ring_at (record { line = 1; lines = lines_of text }) ≡ Err e = ap ring_at (sym start) ∙ f in
-      rw at refl
-
-  pub reading-over : (t : Left) (v : RingValue) (e : Refusal) → ring_at s ≡ Ok (v, t) → over_at t ≡ Err e → ring_reading text ≡ Err e
-  reading-over t v e f g =
-      let at : ring_at (record { line = 1; lines = lines_of text }) ≡ Ok (v, t) = ap ring_at (sym start) ∙ f in
-      rw (at, g) refl
-
-  pub reading-good : (t : Left) (v : RingValue) (u : Unit {0}) → ring_at s ≡ Ok (v, t) → over_at t ≡ Ok u → ring_reading text ≡ Ok v
-  reading-good t v u f g =
-      let at : ring_at (record { line = 1; lines = lines_of text }) ≡ Ok (v, t) = ap ring_at (sym start) ∙ f in
-      rw (at, g) refl
 
 pub reading-found : (text : List ℕ) (v : RingValue) → ring_reading text ≡ Ok v → IsRing v × (text ≡ ring_text v)
 reading-found text v e = whole-takes ring_at ring_lines IsRing ring-part text v e

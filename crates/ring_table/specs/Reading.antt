@@ -11,15 +11,14 @@ use Rattle.ring_names.specs.declared.refusal.Refusal.TheVariants.{BadLine, Unkno
 use Rattle.ring_text.specs.Name.{is_name}
 use Rattle.ring_text.specs.Number.{decimal_value}
 use Rattle.ring_text.specs.Judging.{Item, ◌⊗◌, field_at, word_at, number_at, need_at, limited, map_ok, map_item, whole, unless}
-use Rattle.ring_text.specs.Left.{Left, ◌>>=◌, begins_with, first_line, one_line, then_part, map_part, whole_text}
+use Rattle.ring_text.specs.Left.{Left, ◌>>=◌, one_line, then_part, many_from, map_part, whole_text}
+use Rattle.ring_text.specs.Frames.{header_at, end_line_at}
 use Rattle.ring_table.specs.declared.head.Quorum.{Quorum}
+use Rattle.ring_table.specs.declared.head.Head.{Head}
 use Rattle.ring_table.specs.declared.node.Node.{Node}
 use Rattle.ring_table.specs.Value.{RingValue, names_of, is_member}
-use Rattle.ring_table.specs.Valid.{is_space, is_quorum}
-
--- `ring 1`
-unfoldable pub header_at : ℕ → List (List ℕ) → Result (Unit {0}) Refusal
-header_at k fields = map_ok (λ x. tt) (whole k (word_at k (codes "ring") ⊗ word_at k (codes "1")) fields)
+use Rattle.ring_names.specs.Space.{is_space}
+use Rattle.ring_table.specs.Valid.{is_quorum}
 
 -- `space <q>`
 unfoldable pub space_at : ℕ → List (List ℕ) → Result ℕ Refusal
@@ -54,17 +53,10 @@ unfoldable pub node_at : List Node → ℕ → List (List ℕ) → Result Node R
 node_at seen k fields = map_ok (λ x. record { name = x.0.0.1; allowance = x.0.1; is_member = x.1 })
     (whole k (need_at k (nat_lt (length seen) 1024) ⊗ word_at k (codes "node") ⊗ field_at k (judge_new k (map (λ y. y.name) seen)) ⊗ field_at k (judge_allowance k) ⊗ field_at k (judge_membership k)) fields)
 
--- node lines, as long as lines begin so
-abbrev pub nodes_from : List Node → ℕ → List (List (List ℕ)) → Result (List Node × Left) Refusal
-nodes_from seen k [] = Ok (seen, record { line = k; lines = [] })
-nodes_from seen k (line ∷ more) = if begins_with (codes "node") (line ∷ more)
-    then (first_line k (line ∷ more) >>= λ _. node_at seen k line >>= λ x. nodes_from (seen ++ x ∷ []) (k + 1) more)
-    else Ok (seen, record { line = k; lines = line ∷ more })
-
--- one or more of them
+-- one or more of them: lines as long as they begin so
 unfoldable pub nodes_at : Left → Result (List Node × Left) Refusal
 nodes_at s = do
-  x ← nodes_from [] s.line s.lines
+  x ← many_from (codes "node") node_at [] s.line s.lines
   unless ((not (nat_lt 0 (length x.0)), BadLine x.1.line) ∷ []) x
 
 -- a declared node
@@ -91,23 +83,27 @@ unfoldable pub rows_at : List Node → ℕ → ℕ → ℕ → Left → Result (
 rows_at nodes n p zero s = Ok ([], s)
 rows_at nodes n p (suc c) s = map_part (λ x. x.0 ∷ x.1) (then_part (one_line (row_at nodes n p)) (λ _. rows_at nodes n (p + 1) c)) s
 
--- `end`
-unfoldable pub end_line_at : ℕ → List (List ℕ) → Result (Unit {0}) Refusal
-end_line_at k fields = map_ok (λ x. tt) (whole k (word_at k (codes "end")) fields)
+-- the first lines: `ring 1`, the partitions and the quorum
+unfoldable pub head_at : Left → Result (Head × Left) Refusal
+head_at = map_part (λ (x : Unit {0} × (ℕ × Quorum)). record { q = x.1.0; quorum = x.1.1 })
+    (then_part (one_line (header_at (codes "ring"))) (λ _.
+    then_part (one_line space_at) (λ _.
+    one_line quorum_at)))
 
--- what the parts of a ring say together
-abbrev pub ring_of : Unit {0} × (ℕ × (Quorum × (List Node × (List (List NodeId) × Unit {0})))) → RingValue
-ring_of x = record { q = x.1.0; n = x.1.1.0.n; r = x.1.1.0.r; w = x.1.1.0.w; nodes = x.1.1.1.0; owners = x.1.1.1.1.0 }
+-- the nodes and the owners of a ring with this head, and `end`
+unfoldable pub body_at : Head → Left → Result ((List Node × List (List NodeId)) × Left) Refusal
+body_at head = map_part (λ (x : List Node × (List (List NodeId) × Unit {0})). (x.0, x.1.0))
+    (then_part nodes_at (λ nodes.
+    then_part (rows_at nodes head.quorum.n 0 head.q) (λ _.
+    one_line end_line_at)))
+
+-- what head and body of a ring say together
+abbrev pub ring_of : Head → List Node × List (List NodeId) → RingValue
+ring_of head body = record { q = head.q; n = head.quorum.n; r = head.quorum.r; w = head.quorum.w; nodes = body.0; owners = body.1 }
 
 -- the lines of a ring, one part behind the other
 unfoldable pub ring_at : Left → Result (RingValue × Left) Refusal
-ring_at = map_part ring_of
-    (then_part (one_line header_at) (λ _.
-    then_part (one_line space_at) (λ q.
-    then_part (one_line quorum_at) (λ quorum.
-    then_part nodes_at (λ nodes.
-    then_part (rows_at nodes quorum.n 0 q) (λ _.
-    one_line end_line_at))))))
+ring_at = map_part (λ x. ring_of x.0 x.1) (then_part head_at body_at)
 
 -- a whole text
 abbrev pub ring_reading : List ℕ → Result RingValue Refusal

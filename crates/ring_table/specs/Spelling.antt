@@ -3,11 +3,9 @@ use Rattle.std.specs.Prelude.{ℕ, ◌+◌, Bool, true, false, List, [], ◌∷�
 use Rattle.std.specs.Fmt.{decimal}
 use Rattle.ring_names.specs.declared.ids.NodeId.{NodeId}
 use Rattle.ring_text.specs.Parts.{text_of}
+use Rattle.ring_text.specs.Frames.{header_fields, end_fields}
 use Rattle.ring_table.specs.declared.node.Node.{Node}
 use Rattle.ring_table.specs.Value.{RingValue, names_of}
-
-abbrev pub header_fields : List (List ℕ)
-header_fields = codes "ring" ∷ codes "1" ∷ []
 
 abbrev pub space_fields : ℕ → List (List ℕ)
 space_fields q = codes "space" ∷ decimal q ∷ []
@@ -34,12 +32,9 @@ abbrev pub rows_lines : List (List ℕ) → ℕ → List (List NodeId) → List 
 rows_lines names p [] = []
 rows_lines names p (row ∷ rows) = row_fields names p row ∷ rows_lines names (p + 1) rows
 
-abbrev pub end_fields : List (List ℕ)
-end_fields = codes "end" ∷ []
-
 -- the lines of a ring
 abbrev pub ring_lines : RingValue → List (List (List ℕ))
-ring_lines v = header_fields ∷ space_fields v.q ∷ quorum_fields v.n v.r v.w ∷ (map node_fields v.nodes ++ (rows_lines (names_of v) 0 v.owners ++ end_fields ∷ []))
+ring_lines v = header_fields (codes "ring") ∷ space_fields v.q ∷ quorum_fields v.n v.r v.w ∷ (map node_fields v.nodes ++ (rows_lines (names_of v) 0 v.owners ++ end_fields ∷ []))
 
 -- its text
 abbrev pub ring_text : RingValue → List ℕ

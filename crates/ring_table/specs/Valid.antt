@@ -2,20 +2,24 @@
 use Rattle.std.specs.Prelude.{◌≡◌, ℕ, ◌+◌, ◌<◌, ◌≤◌, ◌&&◌, Bool, true, nat_le, nat_lt, List, [], ◌∷◌, length, map, None}
 use Rattle.std.specs.List.{AllByRecursion, list_all}
 use Rattle.ring_text.specs.Name.{is_name}
-use Rattle.ring_names.specs.Lists.{has, all_different, AllNew}
+use Rattle.ring_names.specs.Lists.{all_different, AllNew}
 use Rattle.ring_names.specs.Names.{place}
+use Rattle.ring_names.specs.Space.{is_space}
 use Rattle.ring_names.specs.declared.ids.NodeId.{NodeId}
+use Rattle.ring_table.specs.declared.head.Head.{Head}
 use Rattle.ring_table.specs.declared.node.Node.{Node}
 use Rattle.ring_table.specs.declared.ring.Ring.TheInside.{Inside}
 use Rattle.ring_table.specs.Value.{RingValue, names_of, is_member}
 
--- a power of two from 1 to 4,096
-unfoldable pub is_space : ℕ → Bool
-is_space q = has q (1 ∷ 2 ∷ 4 ∷ 8 ∷ 16 ∷ 32 ∷ 64 ∷ 128 ∷ 256 ∷ 512 ∷ 1024 ∷ 2048 ∷ 4096 ∷ [])
-
 -- each of 1 to N slots, and every read meets every write
 unfoldable pub is_quorum : ℕ → ℕ → ℕ → Bool
 is_quorum n r w = nat_le 1 r && nat_le r n && nat_le 1 w && nat_le w n && nat_lt n (r + w)
+
+-- what the lines in front of the nodes may say
+pub record IsHead (head : Head) : Type 0 where
+  pub space : is_space head.q ≡ true
+  pub slots : head.quorum.n ≤ 7
+  pub quorum : is_quorum head.quorum.n head.quorum.r head.quorum.w ≡ true
 
 pub record IsNode (x : Node) : Type 0 where
   pub name : is_name x.name ≡ true

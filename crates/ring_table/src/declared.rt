@@ -3,9 +3,10 @@
 ghost use Rattle.std.specs.Prelude.{◌≡◌, ◌<◌, ◌≤◌, ◌+◌, ◌++◌, ◌∷◌, [], length, map, OnOk, OnErr, IfErr, codes, IfOk, None, not, nat_lt};
 ghost use Rattle.ring_names.specs.declared.refusal.Refusal.TheVariants.{OutOfMemory};
 ghost use Rattle.ring_names.specs.Names.{place};
-ghost use Rattle.ring_text.specs.Judging.{map_ok, field_at};
-ghost use Rattle.ring_text.specs.Left.{Reads};
-ghost use Rattle.ring_table.specs.Reading.{judge_new, judge_allowance, judge_membership, node_at, nodes_at, nodes_from};
+ghost use Rattle.ring_text.specs.Judging.{Does, map_ok, field_at};
+ghost use Rattle.ring_text.specs.Left.{Reads, many_from};
+ghost use Rattle.ring_text.specs.Late.{IsAt, Late};
+ghost use Rattle.ring_table.specs.Reading.{judge_new, judge_allowance, judge_membership, node_at, nodes_at};
 
 use crate::node::Node;
 use ring_names::{Listed, Names, Refusal};
@@ -40,10 +41,10 @@ struct NodeLine<'a> {
 }
 
 // A name that is not among `names`.
-fn new_name<'a>(names: &Names, fields: &mut Fields<'a>, line: u32) -> Result<&'a [u8], Refusal>
-    ensures value { map_ok (λ name. name.now) result ≡ (field_at line (judge_new line names.now) fields.old).0 }
-    ensures rest { fields.new ≡ (field_at line (judge_new line names.now) fields.old).1 }
+fn new_name<'a>(names: &Names, fields: &mut Fields<'a>) -> Result<&'a [u8], Refusal>
+    ensures { Does (λ k. field_at k (judge_new k names.now)) fields.old (map_ok (λ name. name.now) result) fields.new }
 {
+    let line = fields.line();
     let Some(name) = fields.next() else {
         return Err(Refusal::BadLine(line));
     };
@@ -57,21 +58,20 @@ fn new_name<'a>(names: &Names, fields: &mut Fields<'a>, line: u32) -> Result<&'a
 }
 
 // A number from 1 to 64.
-fn allowance(fields: &mut Fields, line: u32) -> Result<u32, Refusal>
-    ensures value { result ≡ (field_at line (judge_allowance line) fields.old).0 }
-    ensures rest { fields.new ≡ (field_at line (judge_allowance line) fields.old).1 }
+fn allowance(fields: &mut Fields) -> Result<u32, Refusal>
+    ensures { Does (λ k. field_at k (judge_allowance k)) fields.old result fields.new }
 {
-    match fields.number(64, line) {
-        Ok(0) => Err(Refusal::BadLine(line)),
+    match fields.number(64) {
+        Ok(0) => Err(Refusal::BadLine(fields.line())),
         other => other,
     }
 }
 
 // `in` or `out`.
-fn membership(fields: &mut Fields, line: u32) -> Result<bool, Refusal>
-    ensures value { result ≡ (field_at line (judge_membership line) fields.old).0 }
-    ensures rest { fields.new ≡ (field_at line (judge_membership line) fields.old).1 }
+fn membership(fields: &mut Fields) -> Result<bool, Refusal>
+    ensures { Does (λ k. field_at k (judge_membership k)) fields.old result fields.new }
 {
+    let line = fields.line();
     let Some(field) = fields.next() else {
         return Err(Refusal::BadLine(line));
     };
@@ -105,17 +105,18 @@ impl Declared {
 
     // What a node line behind these nodes says. Takes no memory.
     #[tactic(auto, unfolding(crate::specs::Reading::node_at))]
-    fn judge<'a>(&self, mut fields: Fields<'a>, line: u32) -> Result<NodeLine<'a>, Refusal>
-        ensures value { map_ok node_of result ≡ node_at self.now line fields.entry }
+    fn judge<'a>(&self, mut fields: Fields<'a>) -> Result<NodeLine<'a>, Refusal>
+        ensures value { map_ok node_of result ≡ node_at self.now fields.entry.number fields.entry.fields }
         ensures new { IfOk result (λ said. IsNew self.now (node_of said)) }
+        ensures at { IfErr result (λ e. IsAt fields.entry.number e) }
     {
-        let room = need(self.nodes.len() < 1024, line);
-        let word = fields.word(b"node", line);
-        let name = new_name(&self.names, &mut fields, line);
-        let allowance = allowance(&mut fields, line);
-        let is_member = membership(&mut fields, line);
+        let room = need(self.nodes.len() < 1024, &fields);
+        let word = fields.word(b"node");
+        let name = new_name(&self.names, &mut fields);
+        let allowance = allowance(&mut fields);
+        let is_member = membership(&mut fields);
         let item = both(both(both(both(room, word), name), allowance), is_member);
-        match finish(item, fields, line) {
+        match finish(item, fields) {
             Ok((((_, name), allowance), is_member)) => Ok(NodeLine {
                 name,
                 allowance,
@@ -148,16 +149,13 @@ impl Declared {
 
 // Reads node lines behind those declared, as long as lines begin so.
 fn read_into(alloc: Global, declared: &mut Declared, lines: &mut Lines) -> Result<(), Refusal>
-    requires start { lines.old.line ≤ 100000000 + length declared.old }
     requires few { length declared.old ≤ 1024 }
-    ensures read { Reads (map_ok (λ _. declared.new) result) lines.new (nodes_from declared.old lines.old.line lines.old.lines) }
-    ensures line { OnOk result (lines.new.line + length declared.old ≤ lines.old.line + length declared.new) }
-    ensures few { length declared.new ≤ 1024 }
+    ensures read { Reads (map_ok (λ _. declared.new) result) lines.new (many_from (codes "node") node_at declared.old lines.old.line lines.old.lines) }
+    ensures late { Late 1 result lines.old lines.new (many_from (codes "node") node_at declared.old lines.old.line lines.old.lines) }
 {
     'nodes: while lines.begins(b"node") {
-        let line = lines.line();
         let fields = lines.next()?;
-        let said = declared.judge(fields, line)?;
+        let said = declared.judge(fields)?;
         declared.push(alloc, said)?;
     }
     Ok(())
@@ -166,9 +164,8 @@ fn read_into(alloc: Global, declared: &mut Declared, lines: &mut Lines) -> Resul
 /// Reads node lines as long as lines begin so, at least one.
 #[tactic(auto, unfolding(crate::specs::Reading::nodes_at))]
 pub fn read_nodes(alloc: Global, lines: &mut Lines) -> Result<Declared, Refusal>
-    requires { lines.old.line ≤ 100000000 }
     ensures read { Reads result lines.new (nodes_at lines.old) }
-    ensures line { OnOk result (lines.new.line ≤ lines.old.line + 1024) }
+    ensures late { Late 1 result lines.old lines.new (nodes_at lines.old) }
 {
     let mut declared = Declared::new(alloc);
     read_into(alloc, &mut declared, lines)?;

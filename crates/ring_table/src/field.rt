@@ -9,9 +9,10 @@ use ring_text::{Fields, is_name};
 
 /// Takes a field that must name a node of the ring. Else that is `BadLine` or `UnknownNode`.
 #[tactic(auto, unfolding(crate::specs::Reading::declared_at))]
-pub fn node_field(ring: &Ring, fields: &mut Fields, line: u32) -> Result<NodeId, Refusal>
-    ensures { Does (declared_at ring.now line) fields.old result fields.new }
+pub fn node_field(ring: &Ring, fields: &mut Fields) -> Result<NodeId, Refusal>
+    ensures { Does (declared_at ring.now) fields.old result fields.new }
 {
+    let line = fields.line();
     let Some(name) = fields.next() else {
         return Err(Refusal::BadLine(line));
     };

@@ -1,11 +1,15 @@
-//! The lines in front of the nodes, and the last one.
+//! The lines in front of the nodes.
 
-ghost use Rattle.std.specs.Prelude.{◌≡◌};
-ghost use Rattle.ring_table.specs.Valid.{is_space as is_valid_space, is_quorum as is_valid_quorum};
-ghost use Rattle.ring_table.specs.Reading.{header_at, space_at, quorum_at, end_line_at};
+ghost use Rattle.std.specs.Prelude.{◌≡◌, ◌≢◌, OnOk, IfOk, IfErr};
+ghost use Rattle.ring_names.specs.Space.{is_space as is_valid_space};
+ghost use Rattle.ring_names.specs.declared.refusal.Refusal.TheVariants.{OutOfMemory};
+ghost use Rattle.ring_text.specs.Left.{Answers, lines_on};
+ghost use Rattle.ring_text.specs.Late.{IsAt};
+ghost use Rattle.ring_table.specs.Valid.{is_quorum as is_valid_quorum, IsHead};
+ghost use Rattle.ring_table.specs.Reading.{space_at, quorum_at, head_at};
 
 use ring_names::Refusal;
-use ring_text::{Fields, both, finish};
+use ring_text::{Fields, Lines, both, finish, header};
 
 /// How many slots a partition has, and how many of them answer a read and a write.
 #[derive(Clone, Copy)]
@@ -15,18 +19,14 @@ pub struct Quorum {
     pub w: u32,
 }
 
-// `ring 1`
-#[tactic(auto, unfolding(crate::specs::Reading::header_at))]
-pub fn header_line(mut fields: Fields, line: u32) -> Result<(), Refusal>
-    ensures { result ≡ header_at line fields.entry }
-{
-    let word = fields.word(b"ring", line);
-    let format = fields.word(b"1", line);
-    finish(both(word, format), fields, line)?;
-    Ok(())
+/// What the lines in front of the nodes say: the number of partitions, and the quorum.
+#[derive(Clone, Copy)]
+pub struct Head {
+    pub q: u32,
+    pub quorum: Quorum,
 }
 
-#[tactic(auto, unfolding(crate::specs::Valid::is_space))]
+#[tactic(auto, unfolding(ring_names::specs::Space::is_space))]
 fn is_space(q: u32) -> bool
     ensures { result ≡ is_valid_space q }
 {
@@ -38,12 +38,13 @@ fn is_space(q: u32) -> bool
 
 // `space <q>`
 #[tactic(auto, unfolding(crate::specs::Reading::space_at))]
-pub fn space_line(mut fields: Fields, line: u32) -> Result<u32, Refusal>
-    ensures { result ≡ space_at line fields.entry }
+fn space_line(mut fields: Fields) -> Result<u32, Refusal>
+    ensures { result ≡ space_at fields.entry.number fields.entry.fields }
 {
-    let word = fields.word(b"space", line);
-    let q = fields.number(4096, line);
-    let (_, q) = finish(both(word, q), fields, line)?;
+    let line = fields.line();
+    let word = fields.word(b"space");
+    let q = fields.number(4096);
+    let (_, q) = finish(both(word, q), fields)?;
     if !is_space(q) {
         return Err(Refusal::BadLine(line));
     }
@@ -59,25 +60,31 @@ fn is_quorum(n: u32, r: u32, w: u32) -> bool
 
 // `quorum <n> <r> <w>`
 #[tactic(auto, unfolding(crate::specs::Reading::quorum_at))]
-pub fn quorum_line(mut fields: Fields, line: u32) -> Result<Quorum, Refusal>
-    ensures { result ≡ quorum_at line fields.entry }
+fn quorum_line(mut fields: Fields) -> Result<Quorum, Refusal>
+    ensures { result ≡ quorum_at fields.entry.number fields.entry.fields }
 {
-    let word = fields.word(b"quorum", line);
-    let n = fields.number(7, line);
-    let r = fields.number(7, line);
-    let w = fields.number(7, line);
-    let (((_, n), r), w) = finish(both(both(both(word, n), r), w), fields, line)?;
+    let line = fields.line();
+    let word = fields.word(b"quorum");
+    let n = fields.number(7);
+    let r = fields.number(7);
+    let w = fields.number(7);
+    let (((_, n), r), w) = finish(both(both(both(word, n), r), w), fields)?;
     if !is_quorum(n, r, w) {
         return Err(Refusal::QuorumTooSmall(line));
     }
     Ok(Quorum { n, r, w })
 }
 
-// `end`
-#[tactic(auto, unfolding(crate::specs::Reading::end_line_at))]
-pub fn end_line(mut fields: Fields, line: u32) -> Result<(), Refusal>
-    ensures { result ≡ end_line_at line fields.entry }
+/// Reads the lines in front of the nodes. Takes no memory.
+#[tactic(auto, unfolding(crate::specs::Reading::head_at))]
+pub fn read_head(lines: &mut Lines) -> Result<Head, Refusal>
+    ensures read { Answers result lines.new (head_at lines.old) }
+    ensures valid { IfOk result (λ head. IsHead head) }
+    ensures line { OnOk result (lines.new.line ≡ lines_on 3 lines.old.line) }
+    ensures memory { IfErr result (λ e. e ≢ OutOfMemory) }
 {
-    let word = fields.word(b"end", line);
-    finish(word, fields, line)
+    header(lines, b"ring")?;
+    let q = space_line(lines.next()?)?;
+    let quorum = quorum_line(lines.next()?)?;
+    Ok(Head { q, quorum })
 }

@@ -14,4 +14,4 @@ pub use field::node_field;
 pub use node::Node;
 pub use reading::{read_ring, read_ring_section};
 pub use ring::Ring;
-pub use writing::{push_name, write_ring};
+pub use writing::{push_name, push_row, write_ring};

@@ -1,6 +1,9 @@
 //! A node as its ring declares it.
 
-use ring_names::Listed;
+ghost use Rattle.std.specs.Prelude.{◌≡◌};
+ghost use Rattle.ring_table.specs.Value.{is_member};
+
+use ring_names::{Listed, NodeId};
 
 /// A node of the ring.
 #[derive(Debug, Drop)]
@@ -11,4 +14,14 @@ pub struct Node {
     pub allowance: u32,
     /// Whether it is a member before the first step of a plan (`in`), or not yet (`out`).
     pub is_member: bool,
+}
+
+// Whether the node of that number is a member before the first step of a plan.
+pub(crate) fn is_member(nodes: &[Node], node: NodeId) -> bool
+    ensures { result ≡ is_member nodes.now node }
+{
+    match nodes.get(node.0 as usize) {
+        Some(node) => node.is_member,
+        None => false,
+    }
 }

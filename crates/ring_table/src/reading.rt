@@ -1,44 +1,72 @@
 //! Reading a ring.
 
-ghost use Rattle.std.specs.Prelude.{◌≡◌, ◌≤◌, ◌+◌, length, List, ℕ, Ok, IfOk, OnOk};
+ghost use Rattle.std.specs.Prelude.{◌≡◌, ◌≤◌, Ok, IfOk, IfErr};
+ghost use Rattle.ring_names.specs.declared.refusal.Refusal.TheVariants.{OutOfMemory};
 ghost use Rattle.ring_text.specs.Left.{Reads};
-ghost use Rattle.ring_text.specs.Judging.{Gives};
+ghost use Rattle.ring_text.specs.Late.{Late, NoFaultBefore};
+ghost use Rattle.ring_text.specs.Judging.{Gives, map_ok};
 ghost use Rattle.ring_table.specs.Value.{RingValue};
 ghost use Rattle.ring_table.specs.Valid.{IsRing};
 ghost use Rattle.ring_table.specs.Spelling.{ring_text};
-ghost use Rattle.ring_table.specs.Reading.{ring_at, ring_reading};
+ghost use Rattle.ring_table.specs.Kept.{body_of};
+ghost use Rattle.ring_table.specs.Reading.{body_at, ring_at, ring_reading};
 
-use crate::declared::read_nodes;
-use crate::head::{Quorum, end_line, header_line, quorum_line, space_line};
+use crate::declared::{Declared, read_nodes};
+use crate::head::{Head, read_head};
 use crate::ring::Ring;
 use crate::row::read_rows;
-use ring_names::Refusal;
-use ring_text::Lines;
+use ring_names::{Listed, NodeId, Refusal};
+use ring_text::{Lines, end};
 use std::alloc::Global;
+
+// The nodes of a ring, and the owners of the slots of each partition.
+#[derive(Drop)]
+struct Body {
+    declared: Declared,
+    owners: Vec<Listed<NodeId>>,
+}
+
+// Reads the nodes and the owners of a ring with this head, and its line `end`.
+#[tactic(auto, unfolding(crate::specs::Reading::body_at))]
+fn read_body(alloc: Global, head: Head, lines: &mut Lines) -> Result<Body, Refusal>
+    requires { head.quorum.n ≤ 7 }
+    ensures read { Reads (map_ok body_of result) lines.new (body_at head lines.old) }
+    ensures late { Late 1 result lines.old lines.new (body_at head lines.old) }
+{
+    let declared = read_nodes(alloc, lines)?;
+    let owners = read_rows(alloc, &declared, head.quorum.n, head.q, lines)?;
+    end(lines)?;
+    Ok(Body { declared, owners })
+}
 
 /// Reads the lines of a ring, up to its line `end`, and leaves what follows them. Refused as `read_ring` is.
 #[tactic(auto, unfolding(crate::specs::Reading::ring_at))]
 pub fn read_ring_section(alloc: Global, lines: &mut Lines) -> Result<Ring, Refusal>
-    requires { lines.old.line ≤ 90000000 }
     ensures read { Reads result lines.new (ring_at lines.old) }
-    ensures line { OnOk result (lines.new.line ≤ lines.old.line + 5124) }
+    // What is read is a ring.
+    ensures found { IfOk result (λ v. IsRing v) }
+    // Memory may run out behind its first four lines, if these have no fault, and later only behind lines that have none.
+    ensures late { Late 4 result lines.old lines.new (ring_at lines.old) }
 {
-    let line = lines.line();
-    header_line(lines.next()?, line)?;
-    let line = lines.line();
-    let q = space_line(lines.next()?, line)?;
-    let line = lines.line();
-    let Quorum { n, r, w } = quorum_line(lines.next()?, line)?;
-    let declared = read_nodes(alloc, lines)?;
-    let owners = read_rows(alloc, &declared, n, q, lines)?;
-    let line = lines.line();
-    end_line(lines.next()?, line)?;
-    Ok(Ring::assemble(q, Quorum { n, r, w }, declared, owners))
+    let head = read_head(lines)?;
+    let Body { declared, owners } = read_body(alloc, head, lines)?;
+    Ok(Ring::assemble(head, declared, owners))
+}
+
+// Reads a ring from its whole text.
+fn read_whole(alloc: Global, text: &[u8]) -> Result<Ring, Refusal>
+    ensures exact { Gives result (ring_reading text.now) }
+    ensures late { IfErr result (λ e. e ≡ OutOfMemory → NoFaultBefore 5 (ring_reading text.now)) }
+{
+    let mut lines = Lines::of(text);
+    let ring = read_ring_section(alloc, &mut lines)?;
+    lines.ended()?;
+    Ok(ring)
 }
 
 /// Reads a ring from its whole text. The first line at fault decides, and in it the fault of the least number:
 /// 1 `BadLine`, 2 `TooLarge`, 3 `UnknownNode`, 4 `Repeated`, 10 `QuorumTooSmall`, 11 `SharedNode`, 12 `NotMember`.
-/// `OutOfMemory` comes only where memory ran out.
+/// `OutOfMemory` comes only where memory ran out, behind lines that have no fault.
 pub fn read_ring(alloc: Global, text: &[u8]) -> Result<Ring, Refusal>
     // What is read is a ring, and spelled so.
     ensures found { IfOk result (λ v. IsRing v × (text.now ≡ ring_text v)) }
@@ -46,13 +74,8 @@ pub fn read_ring(alloc: Global, text: &[u8]) -> Result<Ring, Refusal>
     ensures only { (v : RingValue) → IsRing v → text.now ≡ ring_text v → Gives result (Ok v) }
     // Which fault it is.
     ensures exact { Gives result (ring_reading text.now) }
+    // Memory may run out only if the first four lines have no fault.
+    ensures late { IfErr result (λ e. e ≡ OutOfMemory → NoFaultBefore 5 (ring_reading text.now)) }
 {
-    let mut lines = Lines::of(text);
-    match read_ring_section(alloc, &mut lines) {
-        Err(e) => Err(e),
-        Ok(ring) => match lines.ended() {
-            Err(e) => Err(e),
-            Ok(()) => Ok(ring),
-        },
-    }
+    read_whole(alloc, text)
 }

@@ -1,11 +1,11 @@
 //! The ring as a value that is always valid.
 
-ghost use Rattle.std.specs.Prelude.{◌≡◌, ◌<◌, Some, length, slice_get, option_map};
+ghost use Rattle.std.specs.Prelude.{◌≡◌, ◌<◌, true, Some, length, slice_get, option_map};
 ghost use Rattle.ring_names.specs.Names.{place};
 
 use crate::declared::Declared;
-use crate::head::Quorum;
-use crate::node::Node;
+use crate::head::Head;
+use crate::node::{Node, is_member};
 use ring_names::{Listed, Names, NodeId, Slot};
 use std::marker::Model;
 
@@ -37,25 +37,22 @@ impl Model for Ring {
 
 impl Ring {
     ghost use Rattle.ring_table.specs.declared.node.Node.{Node};
-    ghost use Rattle.ring_table.specs.Value.{RingValue, names_of, row_of, owner_of};
+    ghost use Rattle.ring_table.specs.Value.{RingValue, names_of, is_member, row_of, owner_of};
+    ghost use Rattle.ring_table.specs.Reading.{ring_of};
+    ghost use Rattle.ring_names.specs.Space.{is_space};
     ghost use Rattle.ring_table.specs.Valid.{IsRing};
 
     // The ring of these parts.
-    pub(crate) fn assemble(
-        q: u32,
-        quorum: Quorum,
-        declared: Declared,
-        owners: Vec<Listed<NodeId>>,
-    ) -> Ring
-        requires { IsRing (record { q = q; n = quorum.n; r = quorum.r; w = quorum.w; nodes = declared; owners = owners.items }) }
-        ensures { result ≡ record { q = q; n = quorum.n; r = quorum.r; w = quorum.w; nodes = declared; owners = owners.items } }
+    pub(crate) fn assemble(head: Head, declared: Declared, owners: Vec<Listed<NodeId>>) -> Ring
+        requires { IsRing (ring_of head (declared, owners.items)) }
+        ensures { result ≡ ring_of head (declared, owners.items) }
     {
         let Declared { names, nodes } = declared;
         Ring {
-            q,
-            n: quorum.n,
-            r: quorum.r,
-            w: quorum.w,
+            q: head.q,
+            n: head.quorum.n,
+            r: head.quorum.r,
+            w: head.quorum.w,
             names,
             nodes,
             owners,
@@ -65,6 +62,7 @@ impl Ring {
     /// The number of partitions, a power of two from 1 to 4,096.
     pub fn q(&self) -> u32
         ensures value { result ≡ self.now.q }
+        ensures space { is_space result ≡ true }
         ensures valid { IsRing self.now }
     {
         self.q
@@ -110,6 +108,13 @@ impl Ring {
             Some(number) => Some(NodeId(number)),
             None => None,
         }
+    }
+
+    /// Whether the node is a member before the first step of a plan.
+    pub fn is_member(&self, node: NodeId) -> bool
+        ensures { result ≡ is_member self.now.nodes node }
+    {
+        is_member(self.nodes.as_slice(), node)
     }
 
     /// The owners of the slots of a partition, by index.

@@ -1,15 +1,16 @@
 //! The rows of owners.
 
-ghost use Rattle.std.specs.Prelude.{◌≡◌, ◌<◌, ◌≤◌, ◌+◌, ◌++◌, ◌∷◌, [], length, map, OnOk, IfOk, not, ◌==◌};
+ghost use Rattle.std.specs.Prelude.{◌≡◌, ◌<◌, ◌≤◌, ◌∷◌, [], length, map, IfOk, IfErr, ◌==◌};
 ghost use Rattle.std.specs.List.{list_all, list_any};
 ghost use Rattle.ring_names.specs.Lists.{all_different as differ};
-ghost use Rattle.ring_text.specs.Judging.{field_at, map_ok};
+ghost use Rattle.ring_text.specs.Judging.{Does, field_at, map_ok};
 ghost use Rattle.ring_text.specs.Left.{Reads, map_part};
-ghost use Rattle.ring_table.specs.Value.{is_member};
+ghost use Rattle.ring_text.specs.Late.{IsAt, Late};
+ghost use Rattle.ring_table.specs.Value.{is_member as is_member_of};
 ghost use Rattle.ring_table.specs.Reading.{judge_declared, owners_at, row_at, rows_at};
 
 use crate::declared::Declared;
-use crate::node::Node;
+use crate::node::{Node, is_member};
 use itoa::Buffer;
 use ring_names::{Listed, Names, NodeId, Refusal};
 use ring_text::{Fields, Lines, both, finish, is_name};
@@ -61,10 +62,10 @@ impl Row {
 }
 
 // A declared node.
-fn declared_node(names: &Names, fields: &mut Fields, line: u32) -> Result<NodeId, Refusal>
-    ensures value { result ≡ (field_at line (judge_declared line names.now) fields.old).0 }
-    ensures rest { fields.new ≡ (field_at line (judge_declared line names.now) fields.old).1 }
+fn declared_node(names: &Names, fields: &mut Fields) -> Result<NodeId, Refusal>
+    ensures { Does (λ k. field_at k (judge_declared k names.now)) fields.old result fields.new }
 {
+    let line = fields.line();
     let Some(name) = fields.next() else {
         return Err(Refusal::BadLine(line));
     };
@@ -78,36 +79,26 @@ fn declared_node(names: &Names, fields: &mut Fields, line: u32) -> Result<NodeId
 }
 
 // So many owners, at most 7.
-fn owners(names: &Names, count: u32, fields: &mut Fields, line: u32) -> Result<Row, Refusal>
+fn owners(names: &Names, count: u32, fields: &mut Fields) -> Result<Row, Refusal>
     requires { count ≤ 7 }
-    ensures value { result ≡ (owners_at line names.now count fields.old).0 }
-    ensures rest { fields.new ≡ (owners_at line names.now count fields.old).1 }
+    ensures does { Does (λ k. owners_at k names.now count) fields.old result fields.new }
     ensures len { IfOk result (λ row. length row ≡ count) }
 {
     if count == 0 {
         return Ok(Row::new());
     }
-    let first = declared_node(names, fields, line);
-    let others = owners(names, count - 1, fields, line);
+    let first = declared_node(names, fields);
+    let others = owners(names, count - 1, fields);
     match both(first, others) {
         Ok((owner, row)) => Ok(row.push_front(owner)),
         Err(e) => Err(e),
     }
 }
 
-fn is_member_of(nodes: &[Node], owner: NodeId) -> bool
-    ensures { result ≡ is_member nodes.now owner }
-{
-    match nodes.get(owner.0 as usize) {
-        Some(node) => node.is_member,
-        None => false,
-    }
-}
-
 fn are_members(nodes: &[Node], row: &[NodeId]) -> bool
-    ensures { result ≡ list_all (is_member nodes.now) row.now }
+    ensures { result ≡ list_all (is_member_of nodes.now) row.now }
 {
-    row.iter().all(|owner| is_member_of(nodes, *owner))
+    row.iter().all(|owner| is_member(nodes, *owner))
 }
 
 fn is_among(owner: NodeId, row: &[NodeId]) -> bool
@@ -128,23 +119,23 @@ fn are_different(row: &[NodeId]) -> bool
     new && different
 }
 
-// `slots <p>` and the owners of the partition's slots. Takes no memory.
+// What `slots <p>` and the owners of the partition's slots say.
 #[tactic(auto, unfolding(crate::specs::Reading::row_at))]
-fn row_line(
+fn judge(
     declared: &Declared,
     slots: u32,
     partition: u32,
     mut fields: Fields,
-    line: u32,
 ) -> Result<Row, Refusal>
     requires { slots ≤ 7 }
-    ensures { result ≡ row_at declared.now slots partition line fields.entry }
+    ensures { result ≡ row_at declared.now slots partition fields.entry.number fields.entry.fields }
 {
+    let line = fields.line();
     let mut buffer = Buffer::new();
-    let word = fields.word(b"slots", line);
-    let number = fields.word(buffer.format(partition).as_bytes(), line);
-    let row = owners(&declared.names, slots, &mut fields, line);
-    let (_, row) = finish(both(both(word, number), row), fields, line)?;
+    let word = fields.word(b"slots");
+    let number = fields.word(buffer.format(partition).as_bytes());
+    let row = owners(&declared.names, slots, &mut fields);
+    let (_, row) = finish(both(both(word, number), row), fields)?;
     if !are_different(row.as_slice()) {
         return Err(Refusal::SharedNode(line));
     }
@@ -152,6 +143,15 @@ fn row_line(
         return Err(Refusal::NotMember(line));
     }
     Ok(row)
+}
+
+// `slots <p>` and the owners of the partition's slots. Takes no memory.
+fn row_line(declared: &Declared, slots: u32, partition: u32, fields: Fields) -> Result<Row, Refusal>
+    requires { slots ≤ 7 }
+    ensures value { result ≡ row_at declared.now slots partition fields.entry.number fields.entry.fields }
+    ensures at { IfErr result (λ e. IsAt fields.entry.number e) }
+{
+    judge(declared, slots, partition, fields)
 }
 
 /// Reads one row for each partition.
@@ -164,15 +164,13 @@ fn read_into(
     lines: &mut Lines,
 ) -> Result<(), Refusal>
     requires slots { slots ≤ 7 }
-    requires start { lines.old.line + partitions < 200000000 }
     requires none { rows.old.items ≡ [] }
     ensures read { Reads (map_ok (λ _. rows.new.items) result) lines.new (rows_at declared.now slots 0 partitions lines.old) }
-    ensures line { OnOk result (lines.new.line ≤ lines.old.line + partitions) }
+    ensures late { Late 1 result lines.old lines.new (rows_at declared.now slots 0 partitions lines.old) }
 {
     for partition in 0..partitions {
-        let line = lines.line();
         let fields = lines.next()?;
-        let row = row_line(declared, slots, partition, fields, line)?;
+        let row = row_line(declared, slots, partition, fields)?;
         let row = Vec::from_slice(alloc, row.as_slice())?;
         rows.push(Listed::from_vec(row))?;
     }
@@ -188,9 +186,8 @@ pub fn read_rows(
     lines: &mut Lines,
 ) -> Result<Vec<Listed<NodeId>>, Refusal>
     requires slots { slots ≤ 7 }
-    requires start { lines.old.line + partitions < 200000000 }
     ensures read { Reads (map_ok (λ rows. rows.items) result) lines.new (rows_at declared.now slots 0 partitions lines.old) }
-    ensures line { OnOk result (lines.new.line ≤ lines.old.line + partitions) }
+    ensures late { Late 1 result lines.old lines.new (rows_at declared.now slots 0 partitions lines.old) }
 {
     let mut rows = Vec::new(alloc);
     read_into(alloc, declared, slots, partitions, &mut rows, lines)?;

@@ -4,7 +4,7 @@ ghost use Rattle.std.specs.Prelude.{◌≡◌, ◌++◌, ◌∷◌, [], ◌<◌,
 ghost use Rattle.ring_names.specs.declared.refusal.Refusal.TheVariants.{OutOfMemory};
 ghost use Rattle.std.specs.List.{flat_map};
 ghost use Rattle.ring_text.specs.Parts.{line_text, text_of};
-ghost use Rattle.ring_table.specs.Spelling.{ring_text, header_fields, space_fields, quorum_fields, node_fields, name_at, row_fields, rows_lines};
+ghost use Rattle.ring_table.specs.Spelling.{ring_text, space_fields, quorum_fields, node_fields, name_at, row_fields, rows_lines};
 ghost use Rattle.ring_table.specs.Value.{names_of};
 
 use crate::node::Node;
@@ -83,8 +83,8 @@ fn push_owners(out: &mut Vec<u8>, nodes: &[Node], row: &[NodeId]) -> Result<(), 
     Ok(())
 }
 
-// `slots <p>` and the owners of the slots of partition p.
-fn push_row(
+/// Adds the line of a partition's owners: `slots`, the number of the partition, and the name of each owner.
+pub fn push_row(
     out: &mut Vec<u8>,
     nodes: &[Node],
     partition: u32,

@@ -7,7 +7,7 @@ use Rattle.std.proofs.lemmas.List.Splits.{slice_split_none, slice_split_first}
 use Rattle.std.proofs.lemmas.List.Sums.{position_or_len_is}
 use Rattle.ring_names.specs.declared.refusal.Refusal.TheVariants.{BadLine}
 use Rattle.ring_text.specs.Parts.{fields_of, lines_of}
-use Rattle.ring_text.specs.Left.{first_line, is_nothing}
+use Rattle.ring_text.specs.Left.{first_line, next_number, is_nothing}
 
 Parts : List (List ℕ) → Type 0
 Parts ps = (x : List ℕ) × (xs : List (List ℕ)) × (ps ≡ x ∷ xs)
@@ -24,7 +24,7 @@ shape p [] = ([], [], refl)
 shape p (b ∷ bs) = shape-by (p b) b (slice_split p bs) (shape p bs)
 
 -- a line that another part follows
-pub first-ended : (k : ℕ) (whole line rest : List ℕ) → slice_split (λ b. eqb b 10) whole ≡ line ∷ slice_split (λ b. eqb b 10) rest → first_line k (lines_of whole) ≡ Ok (fields_of line, record { line = k + 1; lines = lines_of rest })
+pub first-ended : (k : ℕ) (whole line rest : List ℕ) → slice_split (λ b. eqb b 10) whole ≡ line ∷ slice_split (λ b. eqb b 10) rest → first_line k (lines_of whole) ≡ Ok (fields_of line, record { line = next_number k; lines = lines_of rest })
 unfolding Parts
 first-ended k whole line rest e =
     let s = shape (λ b. eqb b 10) rest in

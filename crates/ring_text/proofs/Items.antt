@@ -7,7 +7,7 @@ use Rattle.std.proofs.lemmas.Slice.Eq.{bytes_eq-Decides}
 use Rattle.ring_names.specs.declared.refusal.Refusal.{Refusal}
 use Rattle.ring_names.specs.declared.refusal.Refusal.TheVariants.{BadLine, TooLarge}
 use Rattle.ring_text.specs.Judging.{both_of, Item, ◌⊗◌, field_at, word_at, end_at, need_at, map_ok, map_item, whole, unless}
-use Rattle.ring_text.specs.Left.{Left, ◌>>=◌, first_line, next_line, one_line, then_part, map_part}
+use Rattle.ring_text.specs.Left.{Left, ◌>>=◌, next_number, first_line, next_line, one_line, then_part, map_part}
 use Rattle.ring_text.specs.Laws.{IsItem, IsLine, IsPart, SomeLeft, Any}
 
 abbrev done : {A : Type 0} → A → Result A Refusal
@@ -161,12 +161,12 @@ pub first_is : (k : ℕ) (lines : List (List (List ℕ))) (l : List (List ℕ)) 
 first_is k [] l t e = absurd cc
 first_is k (a ∷ []) l t e = absurd cc
 first_is k (a ∷ b ∷ more) l t e =
-    let h = pair_is (a, record { line = k + 1; lines = b ∷ more }) l t (ok_is _ _ e) in
+    let h = pair_is (a, record { line = next_number k; lines = b ∷ more }) l t (ok_is _ _ e) in
     (ap (λ x. x ∷ b ∷ more) h.0 ∙ ap (λ (s : Left). l ∷ s.lines) h.1, (b, more, sym (ap (λ (s : Left). s.lines) h.1)))
 
 -- a line that must come
 pub IsPart-line : {A : Type 0} (read : ℕ → List (List ℕ) → Result A Refusal) (s : A → List (List ℕ)) (P : A → Type 0) → ((k : ℕ) → IsLine (read k) s P) → IsPart Any (one_line read) (λ v. s v ∷ []) P
-IsPart-line {A} read s P il = record { takes = take; gives = λ k v x xs p any. (k + 1, rw ((il k).gives v p) refl) }
+IsPart-line {A} read s P il = record { takes = take; gives = λ k v x xs p any. (next_number k, rw ((il k).gives v p) refl) }
   where
     take : (a t : Left) (v : A) → SomeLeft a → one_line read a ≡ Ok (v, t) → (a.lines ≡ (s v ∷ []) ++ t.lines) × P v × SomeLeft t
     take a t v some e =

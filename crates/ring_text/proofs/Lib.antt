@@ -9,3 +9,5 @@ pub mod Fronts
 pub mod Many
 pub mod Spaced
 pub mod Rows
+pub mod Lates
+pub mod FrameLaws

@@ -2,7 +2,7 @@
 use Rattle.std.proofs.Common.{◌≡◌, ℕ, ◌+◌, Bool, true, false, cond, List, [], ◌∷◌, ◌++◌, map, Result, Ok, refl, sym, ap, subst, ◌∙◌, append_assoc}
 use Rattle.std.proofs.lemmas.List.{append-nil}
 use Rattle.ring_names.specs.declared.refusal.Refusal.{Refusal}
-use Rattle.ring_text.specs.Left.{Left, ◌>>=◌, first_line, begins_with, many_from}
+use Rattle.ring_text.specs.Left.{Left, ◌>>=◌, next_number, first_line, begins_with, many_from}
 use Rattle.ring_text.specs.Laws.{IsLine, IsPart, SomeLeft, EachNext, BeginsOther}
 use Rattle.ring_text.proofs.Items.{ok_is, bind_ok, first_is, some_lines}
 
@@ -13,7 +13,7 @@ other-any word (f ∷ fs) more h = h
 tail_is : (a b : List (List ℕ)) (xs ys : List (List (List ℕ))) → a ∷ xs ≡ b ∷ ys → xs ≡ ys
 tail_is a b xs ys h = cc
 
-first-ok : (k : ℕ) (l : List (List ℕ)) (rest : List (List (List ℕ))) (z : List (List ℕ)) (zs : List (List (List ℕ))) → rest ≡ z ∷ zs → first_line k (l ∷ rest) ≡ Ok (l, record { line = k + 1; lines = rest })
+first-ok : (k : ℕ) (l : List (List ℕ)) (rest : List (List (List ℕ))) (z : List (List ℕ)) (zs : List (List (List ℕ))) → rest ≡ z ∷ zs → first_line k (l ∷ rest) ≡ Ok (l, record { line = next_number k; lines = rest })
 first-ok k l rest z zs e = rw e refl
 
 record Found {A : Type 0} (spell : A → List (List ℕ)) (P : List A → A → Type 0) (seen xs : List A) (lines : List (List (List ℕ))) (t : Left) : Type 0 where
@@ -26,15 +26,15 @@ record Found {A : Type 0} (spell : A → List (List ℕ)) (P : List A → A → 
 module _ {A : Type 0} (word : List ℕ) (read : List A → ℕ → List (List ℕ) → Result A Refusal) (spell : A → List (List ℕ)) (P : List A → A → Type 0)
     (line-law : (seen : List A) (k : ℕ) → IsLine (read seen k) spell (P seen)) (begins : (x : A) (more : List (List (List ℕ))) → begins_with word (spell x ∷ more) ≡ true) where
   found-by : (b : Bool) (seen xs : List A) (k : ℕ) (line : List (List ℕ)) (more : List (List (List ℕ))) (t : Left)
-      → ((ys : List A) (u : Left) → many_from word read ys (k + 1) more ≡ Ok (xs, u) → (x : List (List ℕ)) × (zs : List (List (List ℕ))) × (more ≡ x ∷ zs) → Found spell P ys xs more u)
-      → ◌≡◌ {A = Result (List A × Left) Refusal} (cond b (first_line k (line ∷ more) >>= λ _. read seen k line >>= λ x. many_from word read (seen ++ x ∷ []) (k + 1) more) (Ok (seen, record { line = k; lines = line ∷ more }))) (Ok (xs, t)) → Found spell P seen xs (line ∷ more) t
+      → ((ys : List A) (u : Left) → many_from word read ys (next_number k) more ≡ Ok (xs, u) → (x : List (List ℕ)) × (zs : List (List (List ℕ))) × (more ≡ x ∷ zs) → Found spell P ys xs more u)
+      → ◌≡◌ {A = Result (List A × Left) Refusal} (cond b (first_line k (line ∷ more) >>= λ _. read seen k line >>= λ x. many_from word read (seen ++ x ∷ []) (next_number k) more) (Ok (seen, record { line = k; lines = line ∷ more }))) (Ok (xs, t)) → Found spell P seen xs (line ∷ more) t
   found-by false seen xs k line more t later e =
       let G : List A × Left → Type 0 = λ w. Found spell P seen w.0 (line ∷ more) w.1 in
       let start : G (seen, record { line = k; lines = line ∷ more }) = record { items = []; all = sym (append-nil seen); parts = refl; next = tt; some = (line, more, refl) } in
       subst G (ok_is _ (xs, t) e) start
   found-by true seen xs k line more t later e =
-      let b = bind_ok (first_line k (line ∷ more)) (λ _. read seen k line >>= λ x. many_from word read (seen ++ x ∷ []) (k + 1) more) (xs, t) e in
-      let c = bind_ok (read seen k line) (λ x. many_from word read (seen ++ x ∷ []) (k + 1) more) (xs, t) b.2 in
+      let b = bind_ok (first_line k (line ∷ more)) (λ _. read seen k line >>= λ x. many_from word read (seen ++ x ∷ []) (next_number k) more) (xs, t) e in
+      let c = bind_ok (read seen k line) (λ x. many_from word read (seen ++ x ∷ []) (next_number k) more) (xs, t) b.2 in
       let f = first_is k (line ∷ more) b.0.0 b.0.1 b.1 in
       let law = (line-law seen k).takes line c.0 c.1 in
       let some : (x : List (List ℕ)) × (zs : List (List (List ℕ))) × (more ≡ x ∷ zs) = (f.1.0, f.1.1, tail_is line b.0.0 more b.0.1.lines f.0 ∙ f.1.2) in
@@ -49,12 +49,12 @@ module _ {A : Type 0} (word : List ℕ) (read : List A → ℕ → List (List �
 
   found : (seen xs : List A) (k : ℕ) (lines : List (List (List ℕ))) (t : Left) → (x : List (List ℕ)) × (zs : List (List (List ℕ))) × (lines ≡ x ∷ zs) → many_from word read seen k lines ≡ Ok (xs, t) → Found spell P seen xs lines t
   found seen xs k [] t some e = absurd cc
-  found seen xs k (line ∷ more) t some e = found-by (begins_with word (line ∷ more)) seen xs k line more t (λ ys u h s. found ys xs (k + 1) more u s h) e
+  found seen xs k (line ∷ more) t some e = found-by (begins_with word (line ∷ more)) seen xs k line more t (λ ys u h s. found ys xs (next_number k) more u s h) e
 
   given : (ys seen : List A) (k : ℕ) (x : List (List ℕ)) (xs : List (List (List ℕ))) → EachNext P seen ys → BeginsOther word x → (m : ℕ) × (many_from word read seen k (map spell ys ++ x ∷ xs) ≡ Ok (seen ++ ys, record { line = m; lines = x ∷ xs }))
   given [] seen k x xs next other = (k, rw (other-any word x xs other, append-nil seen) refl)
   given (y ∷ ys) seen k x xs next other =
-      let rest = given ys (seen ++ y ∷ []) (k + 1) x xs next.1 other in
+      let rest = given ys (seen ++ y ∷ []) (next_number k) x xs next.1 other in
       let line = (line-law seen k).gives y next.0 in
       let sh = some_lines (map spell ys) x xs in
       let first = first-ok k (spell y) (map spell ys ++ x ∷ xs) sh.0 sh.1 sh.2 in

@@ -8,9 +8,11 @@ use Rattle.std.proofs.lemmas.Bool.{leb-true, eqb-true}
 use Rattle.std.proofs.lemmas.Fmt.{digits_decimal}
 use Rattle.ring_names.specs.declared.refusal.Refusal.{Refusal}
 use Rattle.ring_names.specs.declared.refusal.Refusal.TheVariants.{BadLine}
+use Rattle.std.specs.Prelude.{IfOk}
+use Rattle.ring_text.specs.Judging.{Gives}
 use Rattle.ring_text.specs.Parts.{lines_of, text_of}
 use Rattle.ring_text.specs.Name.{is_name_byte, is_name}
-use Rattle.ring_text.specs.Left.{Left, ◌>>=◌, is_nil, is_nothing, over_at, whole_text}
+use Rattle.ring_text.specs.Left.{Left, ◌>>=◌, Reads, is_nil, is_nothing, over_at, whole_text}
 use Rattle.ring_text.specs.Laws.{IsPart, SomeLeft, Any, IsPlain, IsPlainLine}
 use Rattle.ring_text.proofs.Cuts.{some_line}
 use Rattle.ring_text.proofs.Items.{bind_ok, ok_is}
@@ -51,6 +53,15 @@ whole-gives read s P part text v p plain e =
     let g = part.gives 1 v ([] ∷ []) [] p tt in
     let lines : lines_of text ≡ s v ++ ([] ∷ []) ∷ [] = ap lines_of e ∙ lines-text (s v) plain in
     rw (lines, g.1) refl
+
+-- what is known of all that reading gives is known of what was returned
+pub gives-found : {A : Type 0} (r read : Result A Refusal) (P : A → Type 0) → Gives r read → ((v : A) → read ≡ Ok v → P v) → IfOk r P
+gives-found (Ok v) read P g p = p v g
+gives-found (Err e) read P g p = tt
+
+pub reads-found : {A : Type 0} (r : Result A Refusal) (new : Left) (read : Result (A × Left) Refusal) (P : A → Type 0) → Reads r new read → ((v : A) (t : Left) → read ≡ Ok (v, t) → P v) → IfOk r P
+reads-found (Ok v) new read P g p = p v new g
+reads-found (Err e) new read P g p = tt
 
 -- ---- plain fields
 

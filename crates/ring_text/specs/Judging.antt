@@ -48,9 +48,14 @@ end_at k (field ∷ fields) = (Err (BadLine k), fields)
 abbrev pub need_at : ℕ → Bool → Item (Unit {0})
 need_at k room fields = (if room then Ok tt else Err (TooLarge k), fields)
 
--- what was returned and left is what the item says
-abbrev pub Does : {A : Type 0} → Item A → List (List ℕ) → Result A Refusal → List (List ℕ) → Type 0
-Does item old result new = (result ≡ (item old).0) × (new ≡ (item old).1)
+-- a line: its number, and the fields that are left of it
+pub record Line : Type 0 where
+  pub number : ℕ
+  pub fields : List (List ℕ)
+
+-- what was returned and left of a line is what the item of its number says
+abbrev pub Does : {A : Type 0} → (ℕ → Item A) → Line → Result A Refusal → Line → Type 0
+Does item old result new = (result ≡ (item old.number old.fields).0) × (new ≡ record { number = old.number; fields = (item old.number old.fields).1 })
 
 -- the value, made into another
 abbrev pub map_ok : {A B : Type 0} → (A → B) → Result A Refusal → Result B Refusal

@@ -1,5 +1,5 @@
 -- What is left of a text.
-use Rattle.std.specs.Prelude.{◌≡◌, ◌≢◌, ℕ, ◌+◌, Bool, true, false, List, [], ◌∷◌, ◌++◌, Result, Ok, Err, if◌then◌else◌}
+use Rattle.std.specs.Prelude.{◌≡◌, ◌≢◌, ℕ, zero, suc, ◌+◌, nat_lt, Bool, true, false, List, [], ◌∷◌, ◌++◌, Result, Ok, Err, if◌then◌else◌}
 use Rattle.std.specs.Str.{bytes_eq}
 use Rattle.ring_text.specs.Parts.{lines_of}
 use Rattle.ring_names.specs.declared.refusal.Refusal.{Refusal}
@@ -14,6 +14,15 @@ is_nil (x ∷ xs) = false
 pub record Left : Type 0 where
   pub line : ℕ
   pub lines : List (List (List ℕ))
+
+-- the number of the line behind line k: lines from 2 ^ 32 - 1 on all have that number
+unfoldable pub next_number : ℕ → ℕ
+next_number k = if nat_lt k 4294967295 then k + 1 else k
+
+-- the same, n lines on
+abbrev pub lines_on : ℕ → ℕ → ℕ
+lines_on zero k = k
+lines_on (suc n) k = lines_on n (next_number k)
 
 infixl 10 ◌>>=◌
 abbrev pub ◌>>=◌ : {A B : Type 0} → Result A Refusal → (A → Result B Refusal) → Result B Refusal
@@ -30,7 +39,7 @@ begins_with word ((field ∷ fields) ∷ lines) = bytes_eq field word
 abbrev pub first_line : ℕ → List (List (List ℕ)) → Result (List (List ℕ) × Left) Refusal
 first_line k [] = Err (BadLine k)
 first_line k (line ∷ []) = Err (BadLine k)
-first_line k (line ∷ next ∷ more) = Ok (line, record { line = k + 1; lines = next ∷ more })
+first_line k (line ∷ next ∷ more) = Ok (line, record { line = next_number k; lines = next ∷ more })
 
 abbrev pub next_line : Left → Result (List (List ℕ) × Left) Refusal
 next_line s = first_line s.line s.lines
@@ -59,6 +68,11 @@ abbrev pub Reads : {A : Type 0} → Result A Refusal → Left → Result (A × L
 Reads (Ok x) new read = read ≡ Ok (x, new)
 Reads (Err e) new read = e ≢ OutOfMemory → read ≡ Err e
 
+-- the same, of what takes no memory
+abbrev pub Answers : {A : Type 0} → Result A Refusal → Left → Result (A × Left) Refusal → Type 0
+Answers (Ok x) new read = read ≡ Ok (x, new)
+Answers (Err e) new read = read ≡ Err e
+
 -- one part of a text, and behind it another, which may depend on it
 abbrev pub then_part : {A B : Type 0} → (Left → Result (A × Left) Refusal) → (A → Left → Result (B × Left) Refusal) → Left → Result ((A × B) × Left) Refusal
 then_part read again s = do
@@ -70,7 +84,7 @@ then_part read again s = do
 abbrev pub many_from : {A : Type 0} → List ℕ → (List A → ℕ → List (List ℕ) → Result A Refusal) → List A → ℕ → List (List (List ℕ)) → Result (List A × Left) Refusal
 many_from word read seen k [] = Ok (seen, record { line = k; lines = [] })
 many_from word read seen k (line ∷ more) = if begins_with word (line ∷ more)
-    then (first_line k (line ∷ more) >>= λ _. read seen k line >>= λ x. many_from word read (seen ++ x ∷ []) (k + 1) more)
+    then (first_line k (line ∷ more) >>= λ _. read seen k line >>= λ x. many_from word read (seen ++ x ∷ []) (next_number k) more)
     else Ok (seen, record { line = k; lines = line ∷ more })
 
 -- the value, made into another

@@ -7,3 +7,5 @@ pub mod Number
 pub mod Numbers
 pub mod Judging
 pub mod KeptRow
+pub mod Late
+pub mod Frames

@@ -1,78 +1,96 @@
 //! The fields of a line, one after the other.
 
-ghost use Rattle.std.specs.Prelude.{◌≡◌, ◌∷◌, [], MatchOption, ◌↔◌, IsTrue};
+ghost use Rattle.std.specs.Prelude.{◌≡◌, ◌∷◌, [], MatchOption};
 ghost use Rattle.ring_text.specs.Parts.{fields_of};
 ghost use Rattle.ring_text.specs.Judging.{Does, word_at, number_at, end_at};
+ghost use Rattle.ring_text.specs.Numbers.{numbers_of, beyond};
 
-use crate::cut::cut_near;
+use crate::cursor::Cursor;
 use crate::number::value_of;
+use crate::number_row::NumberRow;
 use ring_names::Refusal;
 use std::marker::Model;
 
-/// The fields of a line that were not taken yet: the parts between single spaces.
+/// The fields of a line that were not taken yet, and the number of the line.
 #[derive(Drop)]
 pub struct Fields<'a> {
-    pub(crate) rest: Option<&'a [u8]>,
+    line: u32,
+    rest: Cursor<'a>,
 }
 
 impl<'a> Model for Fields<'a> {
-    ghost use Rattle.std.specs.Prelude.{List, ℕ};
-    ghost use Rattle.ring_text.specs.Kept.{fields_left};
+    ghost use Rattle.ring_text.specs.Judging.{Line};
 
-    ghost Value = { List (List ℕ) };
+    ghost Value = { Line };
 
-    ghost view = { λ a. fields_left a.rest };
+    ghost view = { λ a. record { number = a.line; fields = a.rest } };
 }
 
 impl<'a> Fields<'a> {
     /// All fields of a line, given without its last byte 0A.
-    pub fn of(line: &'a [u8]) -> Fields<'a>
-        ensures { result ≡ fields_of line.now }
+    pub fn of(line: u32, text: &'a [u8]) -> Fields<'a>
+        ensures { result ≡ record { number = line; fields = fields_of text.now } }
     {
-        Fields { rest: Some(line) }
+        Fields {
+            line,
+            rest: Cursor::of(text),
+        }
+    }
+
+    /// The number of the line.
+    pub fn line(&self) -> u32
+        ensures { result ≡ self.now.number }
+    {
+        self.line
     }
 
     /// Takes the next field, if there is one.
     pub fn next(&mut self) -> Option<&'a [u8]>
-        ensures { MatchOption result ((self.old ≡ []) × (self.new ≡ [])) (λ field. self.old ≡ field.now ∷ self.new) }
+        ensures field { MatchOption result ((self.old.fields ≡ []) × (self.new.fields ≡ [])) (λ field. self.old.fields ≡ field.now ∷ self.new.fields) }
+        ensures line { self.new.number ≡ self.old.number }
     {
-        let rest = self.rest?;
-        let (field, rest) = cut_near(rest, b' ');
-        self.rest = rest;
-        Some(field)
+        self.rest.next()
     }
 
     /// Takes a field that must be this word. Else that is `BadLine`.
-    pub fn word(&mut self, word: &[u8], line: u32) -> Result<(), Refusal>
-        ensures { Does (word_at line word.now) self.old result self.new }
+    pub fn word(&mut self, word: &[u8]) -> Result<(), Refusal>
+        ensures { Does (λ k. word_at k word.now) self.old result self.new }
     {
         match self.next() {
             Some(field) if field == word => Ok(()),
-            _ => Err(Refusal::BadLine(line)),
+            _ => Err(Refusal::BadLine(self.line)),
         }
     }
 
     /// Takes a field that must be a number. Another field is `BadLine`, a number above the limit `TooLarge`.
-    pub fn number(&mut self, limit: u32, line: u32) -> Result<u32, Refusal>
-        ensures { Does (number_at line limit) self.old result self.new }
+    pub fn number(&mut self, limit: u32) -> Result<u32, Refusal>
+        ensures { Does (λ k. number_at k limit) self.old result self.new }
     {
         let Some(field) = self.next() else {
-            return Err(Refusal::BadLine(line));
+            return Err(Refusal::BadLine(self.line));
         };
         match value_of(field) {
-            None => Err(Refusal::BadLine(line)),
-            Some(value) if value > u64::from(limit) => Err(Refusal::TooLarge(line)),
+            None => Err(Refusal::BadLine(self.line)),
+            Some(value) if value > u64::from(limit) => Err(Refusal::TooLarge(self.line)),
             Some(value) => Ok(value as u32),
         }
     }
 
+    /// Takes the numbers that stand in front.
+    pub fn numbers(&mut self) -> NumberRow<'a>
+        ensures numbers { result ≡ numbers_of self.old.fields }
+        ensures rest { self.new ≡ record { number = self.old.number; fields = beyond self.old.fields } }
+    {
+        self.rest.numbers()
+    }
+
     /// Asks that no field is left. Else that is `BadLine`.
-    pub fn ended(&mut self, line: u32) -> Result<(), Refusal>
-        ensures { Does (end_at line) self.old result self.new }
+    pub fn ended(&mut self) -> Result<(), Refusal>
+        ensures { Does (λ k. end_at k) self.old result self.new }
     {
         match self.next() {
             None => Ok(()),
-            Some(_) => Err(Refusal::BadLine(line)),
+            Some(_) => Err(Refusal::BadLine(self.line)),
         }
     }
 }

@@ -23,22 +23,22 @@ pub fn both<A: Drop, B: Drop>(
 }
 
 /// Room for what a line begins. Else that is `TooLarge`.
-pub fn need(room: bool, line: u32) -> Result<(), Refusal>
-    ensures { result ≡ (need_at line room []).0 }
+pub fn need(room: bool, fields: &Fields) -> Result<(), Refusal>
+    ensures { result ≡ (need_at fields.now.number room []).0 }
 {
     if room {
         Ok(())
     } else {
-        Err(Refusal::TooLarge(line))
+        Err(Refusal::TooLarge(fields.line()))
     }
 }
 
 /// What was read of a line, where no field is left behind it. Else that is `BadLine`.
-pub fn finish<A: Drop>(item: Result<A, Refusal>, fields: Fields, line: u32) -> Result<A, Refusal>
-    ensures { result ≡ map_ok (λ x. x.0) (both_of item (end_at line fields.entry).0) }
+pub fn finish<A: Drop>(item: Result<A, Refusal>, fields: Fields) -> Result<A, Refusal>
+    ensures { result ≡ map_ok (λ x. x.0) (both_of item (end_at fields.entry.number fields.entry.fields).0) }
 {
     let mut fields = fields;
-    let end = fields.ended(line);
+    let end = fields.ended();
     match both(item, end) {
         Ok((value, ())) => Ok(value),
         Err(e) => Err(e),

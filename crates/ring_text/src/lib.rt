@@ -3,8 +3,10 @@
 #![tactic(auto)]
 
 mod compare;
+mod cursor;
 mod cut;
 mod fields;
+mod frame;
 mod judge;
 mod lines;
 mod name;
@@ -13,6 +15,7 @@ mod number_row;
 mod writing;
 
 pub use fields::Fields;
+pub use frame::{end, header};
 pub use judge::{both, finish, need};
 pub use lines::Lines;
 pub use name::{are_name_bytes, is_name};

@@ -1,15 +1,26 @@
 //! The lines of a text, one after the other.
 
-ghost use Rattle.std.specs.Prelude.{◌≡◌, ◌<◌, Ok, IfOk, IfErr, IsTrue, ◌↔◌};
+ghost use Rattle.std.specs.Prelude.{◌≡◌, ◌≤◌, Ok, IfOk, IfErr, IsTrue, ◌↔◌};
 ghost use Rattle.ring_text.specs.Parts.{lines_of};
-ghost use Rattle.ring_text.specs.Left.{next_line, is_over, over_at, begins_with};
+ghost use Rattle.ring_text.specs.Late.{IsAt};
+ghost use Rattle.ring_text.specs.Left.{next_line, next_number, is_over, over_at, begins_with};
 
 use crate::cut::cut;
 use crate::fields::Fields;
 use ring_names::Refusal;
 use std::marker::Model;
 
-/// The lines of a text that were not taken yet, and the number of the next one, from 1.
+// The number of the next line.
+#[tactic(auto, unfolding(crate::specs::Left::next_number))]
+fn behind(line: u32) -> u32
+    ensures value { result ≡ next_number line }
+    ensures forward { line ≤ result }
+{
+    if line < u32::MAX { line + 1 } else { line }
+}
+
+/// The lines of a text that were not taken yet, and the number of the next one, from 1. Lines from 2^32 - 1 on all have
+/// that number.
 #[derive(Drop)]
 pub struct Lines<'a> {
     line: u32,
@@ -45,17 +56,19 @@ impl<'a> Lines<'a> {
 
     /// Takes a line that must come. Where there is none, or it is unfinished, that is `BadLine` at its number.
     pub fn next(&mut self) -> Result<Fields<'a>, Refusal>
-        requires { self.old.line < 4294967295 }
-        ensures found { IfOk result (λ fields. next_line self.old ≡ Ok (fields, self.new)) }
+        ensures found { IfOk result (λ x. (x.number ≡ self.old.line) × (next_line self.old ≡ Ok (x.fields, self.new))) }
         ensures missing { IfErr result (λ e. next_line self.old ≡ Err e) }
+        ensures at { IfErr result (λ e. IsAt self.old.line e) }
+        ensures forward { self.old.line ≤ self.new.line }
     {
         let (line, rest) = cut(self.rest, b'\n');
         match rest {
             None => Err(Refusal::BadLine(self.line)),
             Some(rest) => {
+                let fields = Fields::of(self.line, line);
                 self.rest = rest;
-                self.line += 1;
-                Ok(Fields::of(line))
+                self.line = behind(self.line);
+                Ok(fields)
             }
         }
     }

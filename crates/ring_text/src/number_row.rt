@@ -7,7 +7,7 @@ ghost use Rattle.ring_text.specs.Number.{value_from, is_number, capped};
 ghost use Rattle.ring_text.specs.Numbers.{numbers_of, beyond, ascending};
 
 use crate::compare::is_less;
-use crate::fields::Fields;
+use crate::cursor::Cursor;
 use crate::number::value_of;
 use ring_names::Refusal;
 use std::alloc::Global;
@@ -16,7 +16,7 @@ use std::marker::Model;
 /// Numbers of any length that stand in a row, still as they are spelled.
 #[derive(Drop)]
 pub struct NumberRow<'a> {
-    rest: Fields<'a>,
+    rest: Cursor<'a>,
     // how many there are
     count: u64,
     // one more than the greatest of them, those from `CAP` on taken for `CAP`; 0 where there are none
@@ -36,15 +36,15 @@ impl<'a> Model for NumberRow<'a> {
     ghost invariant = { λ a. HoldsRow a.rest a.count a.bound };
 }
 
-impl<'a> Fields<'a> {
-    // The same fields.
-    fn again(&self) -> Fields<'a>
+impl<'a> Cursor<'a> {
+    // The same parts.
+    fn again(&self) -> Cursor<'a>
         ensures { result ≡ self.now }
     {
-        Fields { rest: self.rest }
+        Cursor { rest: self.rest }
     }
 
-    // Takes the next field if it is a number, and tells its value, at most `CAP`.
+    // Takes the next part if it is a number, and tells its value, at most `CAP`.
     fn next_number(&mut self) -> Option<(&'a [u8], u64)>
         ensures number { MatchOption result (numbers_of self.old ≡ []) (λ n. (is_number n.0.now ≡ true) × (numbers_of self.old ≡ value_from 0 n.0.now ∷ numbers_of self.new)) }
         ensures value { MatchOption result ⊤ (λ n. n.1 ≡ capped (value_from 0 n.0.now)) }
@@ -91,7 +91,7 @@ impl<'a> NumberRow<'a> {
         ensures { result ≡ [] }
     {
         NumberRow {
-            rest: Fields { rest: None },
+            rest: Cursor { rest: None },
             count: 0,
             bound: 0,
         }

@@ -1,4 +1,4 @@
-use Rattle.std.proofs.Common.{◌≡◌, ◌-◌, ◌+◌, ◌≤◌, length, codes}
+use Rattle.std.proofs.Common.{◌≡◌, ◌-◌, ◌≤◌, length, codes}
 use Rattle.ring_text.specs.Left.{many_from}
 use Rattle.plan_cert.specs.Reading.{chain_at}
 use Rattle.plan_cert.proofs.reading.read_chains.Given as goal
@@ -6,7 +6,7 @@ use Rattle.plan_cert.proofs.reading.read_chains.Given as goal
 abbrev pub invariant-chains : goal.invariant-chains
 invariant-chains l = record {
   rest : many_from (codes "chain") (chain_at l.ring) l.chains.items l.lines.line l.lines.lines ≡ many_from (codes "chain") (chain_at l.fn.ring) l.fn.chains.items l.fn.lines.line l.fn.lines.lines;
-  line : l.lines.line ≡ l.fn.lines.line + length l.chains.items;
+  forward : l.fn.lines.line ≤ l.lines.line;
   few : length l.chains.items ≤ 65536;
 }
 

@@ -1,4 +1,4 @@
-use Rattle.std.proofs.Common.{◌≡◌, ◌-◌, ◌+◌, ◌≤◌, length, codes}
+use Rattle.std.proofs.Common.{◌≡◌, ◌-◌, ◌≤◌, length, codes}
 use Rattle.ring_text.specs.Left.{many_from}
 use Rattle.plan_cert.specs.Reading.{fact_at}
 use Rattle.plan_cert.proofs.reading.read_facts.Given as goal
@@ -6,7 +6,7 @@ use Rattle.plan_cert.proofs.reading.read_facts.Given as goal
 abbrev pub invariant-facts : goal.invariant-facts
 invariant-facts l = record {
   rest : many_from (codes "fact") fact_at l.facts.items l.lines.line l.lines.lines ≡ many_from (codes "fact") fact_at l.fn.facts.items l.fn.lines.line l.fn.lines.lines;
-  line : l.lines.line ≡ l.fn.lines.line + length l.facts.items;
+  forward : l.fn.lines.line ≤ l.lines.line;
   few : length l.facts.items ≤ 262144;
 }
 

@@ -1,11 +1,12 @@
-use Rattle.std.proofs.Common.{◌≡◌, ◌-◌, ◌+◌, ◌≤◌, length}
-use Rattle.ring_table.specs.Reading.{nodes_from}
+use Rattle.std.proofs.Common.{◌≡◌, ◌-◌, ◌≤◌, length, codes}
+use Rattle.ring_text.specs.Left.{many_from}
+use Rattle.ring_table.specs.Reading.{node_at}
 use Rattle.ring_table.proofs.declared.read_into.Given as goal
 
 abbrev pub invariant-nodes : goal.invariant-nodes
 invariant-nodes l = record {
-  rest : nodes_from l.declared l.lines.line l.lines.lines ≡ nodes_from l.fn.declared l.fn.lines.line l.fn.lines.lines;
-  line : l.lines.line + length l.fn.declared ≡ l.fn.lines.line + length l.declared;
+  rest : many_from (codes "node") node_at l.declared l.lines.line l.lines.lines ≡ many_from (codes "node") node_at l.fn.declared l.fn.lines.line l.fn.lines.lines;
+  forward : l.fn.lines.line ≤ l.lines.line;
   few : length l.declared ≤ 1024;
 }
 

@@ -1,15 +1,15 @@
-use Rattle.std.proofs.Common.{sym, ◌∙◌}
-use Rattle.ring_table.proofs.RingLaws.{reading-bad, reading-over, reading-good, reading-found, reading-only}
+use Rattle.std.proofs.Common.{◌≡◌, subst}
+use Rattle.ring_text.specs.Judging.{Gives}
+use Rattle.ring_text.proofs.Wholes.{gives-found}
+use Rattle.ring_table.specs.Value.{RingValue}
+use Rattle.ring_table.specs.Valid.{IsRing}
+use Rattle.ring_table.specs.Spelling.{ring_text}
+use Rattle.ring_table.specs.Reading.{ring_reading}
+use Rattle.ring_table.proofs.RingLaws.{reading-found, reading-only}
 use Rattle.ring_table.proofs.reading.read_ring.Goals as goal
 
-pub returns-in-Err-clause-only : goal.returns-in-Err-clause-only
-returns-in-Err-clause-only c = λ v p e ne. sym (reading-only c.args.text.now v p e) ∙ reading-bad c.args.text.now c.of-lines.result c.of-lines.ensures c.in-Err.e (c.in-Err.ensures.read ne)
+pub returns-clause-found : goal.returns-clause-found
+returns-clause-found c = gives-found c.read_whole.result (ring_reading c.args.text.now) (λ v. IsRing v × (c.args.text.now ≡ ring_text v)) c.read_whole.ensures.exact (reading-found c.args.text.now)
 
-pub returns-in-Err-ended-clause-only : goal.returns-in-Err-ended-clause-only
-returns-in-Err-ended-clause-only c = λ v p e ne. sym (reading-only c.args.text.now v p e) ∙ reading-over c.args.text.now c.of-lines.result c.of-lines.ensures c.read_ring_section.new.lines c.in-Ok.ring c.in-Err-ended.e c.in-Ok.ensures.read (sym c.ended.ensures ∙ c.in-Err-ended.is)
-
-pub returns-in-Ok-ended-clause-found : goal.returns-in-Ok-ended-clause-found
-returns-in-Ok-ended-clause-found c = reading-found c.args.text.now c.in-Ok.ring (reading-good c.args.text.now c.of-lines.result c.of-lines.ensures c.read_ring_section.new.lines c.in-Ok.ring c.in-Ok-ended.field-0 c.in-Ok.ensures.read (sym c.ended.ensures ∙ c.in-Ok-ended.is))
-
-pub returns-in-Ok-ended-clause-only : goal.returns-in-Ok-ended-clause-only
-returns-in-Ok-ended-clause-only c = λ v p e. sym (reading-only c.args.text.now v p e) ∙ reading-good c.args.text.now c.of-lines.result c.of-lines.ensures c.read_ring_section.new.lines c.in-Ok.ring c.in-Ok-ended.field-0 c.in-Ok.ensures.read (sym c.ended.ensures ∙ c.in-Ok-ended.is)
+pub returns-clause-only : goal.returns-clause-only
+returns-clause-only c = λ v is e. subst (Gives c.read_whole.result) (reading-only c.args.text.now v is e) c.read_whole.ensures.exact

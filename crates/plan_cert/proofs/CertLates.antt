@@ -1,0 +1,80 @@
+-- Reading a certificate does not go back, and each of its faults is at a line that was reached.
+use Rattle.std.proofs.Common.{arith, ◌≡◌, ℕ, ◌≤◌, not, nat_lt, nat_le, List, [], ◌∷◌, length, codes, Result, Ok, refl}
+use Rattle.ring_names.specs.declared.refusal.Refusal.{Refusal}
+use Rattle.ring_names.specs.declared.refusal.Refusal.TheVariants.{BadLine, TooLarge}
+use Rattle.ring_text.specs.Numbers.{numbers_of, are_small}
+use Rattle.ring_text.specs.Left.{Left, next_number, one_line, then_part}
+use Rattle.ring_text.specs.Frames.{header_at, end_line_at}
+use Rattle.ring_text.specs.Late.{ReadsTo}
+use Rattle.ring_text.proofs.Lates.{At, at-map, at-unless, at-whole, Judges, judges-⊗, judges-word, judges-need, Advances, advances-line, advances-then, to-first, to-second, to-map, many-on, next-monotone}
+use Rattle.ring_text.proofs.FrameLaws.{end-at}
+use Rattle.ring_table.specs.Value.{RingValue}
+use Rattle.ring_table.proofs.RingLates.{judges-declared}
+use Rattle.plan_cert.specs.declared.cert.Chain.{Chain}
+use Rattle.plan_cert.specs.declared.cert.Cert.{Cert}
+use Rattle.plan_cert.specs.Reading.{path_at, steps_at, fact_at, chain_at, facts_at, chains_at, cert_of, cert_at}
+
+judges-path : (k : ℕ) → Judges k (path_at k)
+unfolding path_at
+judges-path k = record {
+  at = λ fields.
+      let xs = numbers_of fields in
+      at-unless k ((not (nat_le 2 (length xs)), BadLine k) ∷ (not (nat_le (length xs) 1024), TooLarge k) ∷ (not (are_small xs), TooLarge k) ∷ []) xs (refl, (refl, (refl, tt)));
+}
+
+judges-steps : (k : ℕ) → Judges k (steps_at k)
+unfolding steps_at
+judges-steps k = record {
+  at = λ fields.
+      let xs = numbers_of fields in
+      at-unless k ((not (nat_le 1 (length xs)), BadLine k) ∷ (not (are_small xs), TooLarge k) ∷ []) xs (refl, (refl, tt));
+}
+
+pub fact-at : (seen : List (List ℕ)) (k : ℕ) (fields : List (List ℕ)) → At k (fact_at seen k fields)
+unfolding fact_at
+fact-at seen k fields = at-map k _ _ (at-whole k _ (judges-⊗ k _ _ (judges-⊗ k _ _ (judges-need k (nat_lt (length seen) 262144)) (judges-word k (codes "fact"))) (judges-path k)) fields)
+
+pub chain-at : (ring : RingValue) (seen : List Chain) (k : ℕ) (fields : List (List ℕ)) → At k (chain_at ring seen k fields)
+unfolding chain_at
+chain-at ring seen k fields =
+    let front = judges-⊗ k _ _ (judges-⊗ k _ _ (judges-need k (nat_lt (length seen) 65536)) (judges-word k (codes "chain"))) (judges-declared ring k) in
+    at-map k _ _ (at-whole k _ (judges-⊗ k _ _ front (judges-steps k)) fields)
+
+module _ (ring : RingValue) where
+  facts-on : Advances facts_at
+  facts-on = record { on = λ s. many-on (codes "fact") fact_at fact-at [] s.line s.lines }
+
+  chains-on : Advances (chains_at ring)
+  chains-on = record { on = λ s. many-on (codes "chain") (chain_at ring) (chain-at ring) [] s.line s.lines }
+
+  abbrev last : List Chain → Left → Result (Unit {0} × Left) Refusal
+  last chains = one_line end_line_at
+
+  abbrev chains_on : List (List ℕ) → Left → Result ((List Chain × Unit {0}) × Left) Refusal
+  chains_on facts = then_part (chains_at ring) last
+
+  abbrev facts_on : Unit {0} → Left → Result ((List (List ℕ) × (List Chain × Unit {0})) × Left) Refusal
+  facts_on u = then_part facts_at chains_on
+
+  last-on : (chains : List Chain) → Advances (last chains)
+  last-on chains = advances-line end_line_at end-at
+
+  -- behind the first line: a place among the facts, or among the chains
+  module _ (s t : Left) (u : Unit {0}) (start : one_line (header_at (codes "cert")) s ≡ Ok (u, t)) where
+    whole-to : (k : ℕ) → ReadsTo k (facts_on u t) → ReadsTo k (cert_at ring s)
+    unfolding cert_at
+    whole-to k p = to-map cert_of (then_part (one_line (header_at (codes "cert"))) facts_on) k s (to-second (one_line (header_at (codes "cert"))) facts_on k s t u start p)
+
+    pub cert-facts : (k : ℕ) → ReadsTo k (facts_at t) → ReadsTo k (cert_at ring s)
+    cert-facts k p = whole-to k (to-first facts_at chains_on k t (λ facts. advances-then (chains_at ring) last chains-on last-on) p)
+
+    pub cert-chains : (k : ℕ) (x : Left) (facts : List (List ℕ)) → facts_at t ≡ Ok (facts, x) → ReadsTo k (chains_at ring x) → ReadsTo k (cert_at ring s)
+    cert-chains k x facts e p = whole-to k (to-second facts_at chains_on k t x facts e (to-first (chains_at ring) last k x last-on p))
+
+    -- facts do not go back
+    pub behind-facts : (k : ℕ) (x : Left) (facts : List (List ℕ)) → facts_at t ≡ Ok (facts, x) → next_number x.line ≤ k → next_number t.line ≤ k
+    behind-facts k x facts e le =
+        let on : ReadsTo t.line (facts_at t) = facts-on.on t in
+        let forward : t.line ≤ x.line = rw e at on in
+        let more = next-monotone t.line x.line forward in
+        omega arith
