@@ -8,3 +8,4 @@ pub mod PlanLaws
 pub mod SuitLaws
 pub mod TextLaws
 pub mod WriteLaws
+pub mod PlanLates

@@ -16,6 +16,3 @@ pub use plan::Plan;
 pub use reading::{read_plan, read_plan_section};
 pub use step::{Planned, Source, Step};
 pub use writing::write_plan;
-
-#[cfg(test)]
-mod tests;
