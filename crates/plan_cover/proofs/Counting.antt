@@ -4,7 +4,7 @@ use Rattle.std.specs.Prelude.{◌||◌, ◌==◌, slice_get}
 use Rattle.std.proofs.lemmas.Bool.{lt-ltb, eq-eqb}
 use Rattle.std.proofs.lemmas.Bool.Decides.{nat_tests}
 use Rattle.plan_text.specs.Valid.{ascends}
-use Rattle.plan_cover.specs.Numbers.{numbers_from, is_last, with_last, with_last_if}
+use Rattle.plan_cover.specs.Looking.Numbers.{numbers_from, is_last, with_last, with_last_if}
 
 -- ---- one more entry
 

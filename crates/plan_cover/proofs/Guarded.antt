@@ -1,6 +1,6 @@
 -- The clauses of a node, and what is tested of what a cover keeps.
 use Rattle.std.proofs.Common.{◌≡◌, inl, inr, ℕ, suc, ◌+◌, ◌<◌, ◌≤◌, Bool, true, false, cond, List, [], ◌∷◌, ◌++◌, length, map, Option, Some, None, Result, Ok, Err, refl, sym, ap, ◌∙◌, arith}
-use Rattle.std.specs.Prelude.{not, ◌&&◌, ◌||◌, ◌==◌, slice_get, min}
+use Rattle.std.specs.Prelude.{not, ◌||◌, ◌==◌, slice_get, min}
 use Rattle.std.specs.Option.{option_or}
 use Rattle.std.proofs.lemmas.Bool.{eq-eqb}
 use Rattle.std.proofs.lemmas.Bool.Decides.{eqb_tells, nat_tests}
@@ -15,12 +15,13 @@ use Rattle.plan_text.specs.Steps.{retired, retirement_of}
 use Rattle.plan_cert.specs.declared.cert.Chain.{Chain}
 use Rattle.plan_cert.specs.declared.cert.Cert.{Cert}
 use Rattle.plan_stage.specs.Stage.{is_among}
+use Rattle.plan_stage.specs.Occupancy.{is_node}
 use Rattle.plan_stage.specs.Parties.{parties, target_of, sources_of, with_target}
 use Rattle.plan_stage.specs.Clauses.{Guard, first_failing, Gives}
 use Rattle.plan_stage.specs.Partition.{Test, steps_clauses}
-use Rattle.plan_cover.specs.Clauses.{in_some, chains_from, retire_clauses, is_good_chain, chains_clauses, cover_clauses, is_few, node_clauses}
-use Rattle.plan_cover.specs.Numbers.{numbers_from, takes_part, is_chain_of, copies_of, chain_numbers}
-use Rattle.plan_cover.specs.Guards.{retirement_guards, is_linked, is_linked_at, chain_guard, is_in, in_chains, copy_guard}
+use Rattle.plan_cover.specs.Clauses.{in_some, chains_from, retire_clauses, is_linked, is_good_chain, chains_clauses, cover_clauses, is_few, node_clauses}
+use Rattle.plan_cover.specs.Looking.Numbers.{numbers_from, takes_part, is_chain_of, copies_of, chain_numbers}
+use Rattle.plan_cover.specs.Looking.Guards.{retirement_guards, is_linked_in, steps_at, chains_at, chain_guard, copy_guard}
 use Rattle.plan_cover.proofs.Counting.{AreBetween, numbers-between}
 use Rattle.plan_cover.proofs.Retiring.{retirement-asked}
 
@@ -74,7 +75,7 @@ no_party : (ring : RingValue) (plan : List Planned) (x : NodeId) (n : ℕ) → l
 unfolding parties_in
 no_party ring plan x n l = ap (λ (o : Option Planned). is_among x (parties_in ring plan n o)) (slice_get_past plan n l)
 
-pub has-copies : (ring : RingValue) (plan : List Planned) (x : NodeId) (n : ℕ) → has n (copies_of ring plan x.0) ≡ is_among x (parties ring plan n)
+pub has-copies : (ring : RingValue) (plan : List Planned) (x : NodeId) (n : ℕ) → has n (copies_of ring plan x) ≡ is_among x (parties ring plan n)
 has-copies ring plan x n = has-numbers (λ m. is_among x (parties ring plan m)) n 0 plan (omega arith) (λ l. no_party ring plan x n (omega arith))
 
 -- ---- the chains
@@ -92,45 +93,38 @@ first_at k c cs all from = (let z : k + 0 ≡ k = omega arith in rw z at (from 0
 from_later : (k : ℕ) (c : Chain) (cs all : List Chain) → AreFrom k (c ∷ cs) all → AreFrom (k + 1) cs all
 from_later k c cs all from j d e = (let s : (k + 1) + j ≡ k + suc j = omega arith in rw s (from (suc j) d e))
 
-linked-good : (ring : RingValue) (plan : List Planned) (O : Test) (x : NodeId) (copies steps : List ℕ) → ((n : ℕ) → has n copies ≡ is_among x (parties ring plan n)) → is_linked copies O steps ≡ is_good_chain ring plan O x steps
-linked-good ring plan O x copies [] same = refl
-linked-good ring plan O x copies (a ∷ []) same = alone (has a copies) ∙ same a
-  where
-    alone : (b : Bool) → ((b && true) && true) ≡ b
-    alone true = refl
-    alone false = refl
-linked-good ring plan O x copies (a ∷ b ∷ rest) same = rw (linked-good ring plan O x copies (b ∷ rest) same, same a) refl
+linked-same : (f g : ℕ → Bool) (O : Test) (steps : List ℕ) → ((n : ℕ) → f n ≡ g n) → is_linked f O steps ≡ is_linked g O steps
+linked-same f g O [] same = refl
+linked-same f g O (a ∷ []) same = same a
+linked-same f g O (a ∷ b ∷ rest) same = rw (linked-same f g O (b ∷ rest) same, same a) refl
 
 chain_by : (b g : Bool) (k : ℕ) (guard : ℕ → Guard) (e : Refusal) (o : Option Refusal) (ks : List ℕ) → guard k ≡ (g, e) → o ≡ first_failing (map guard ks) → cond (not b || g) o (Some e) ≡ first_failing (map guard (cond b (k ∷ ks) ks))
 chain_by true g k guard e o ks is h = ap (λ (p : Option Refusal). cond g p (Some e)) h ∙ ap (λ (c : Guard). cond c.0 (first_failing (map guard ks)) (Some c.1)) (sym is)
 chain_by false g k guard e o ks is h = h
 
-chains-guarded : (ring : RingValue) (plan : List Planned) (O : Test) (x : NodeId) (copies : List ℕ) (all : List Chain) (k : ℕ) (cs : List Chain) → ((n : ℕ) → has n copies ≡ is_among x (parties ring plan n)) → AreFrom k cs all → first_failing (chains_clauses ring plan O x k cs) ≡ first_failing (map (chain_guard copies O all) (numbers_from (is_chain_of x.0) k cs))
+chains-guarded : (ring : RingValue) (plan : List Planned) (O : Test) (x : NodeId) (copies : List ℕ) (all : List Chain) (k : ℕ) (cs : List Chain) → ((n : ℕ) → has n copies ≡ is_among x (parties ring plan n)) → AreFrom k cs all → first_failing (chains_clauses ring plan O x k cs) ≡ first_failing (map (chain_guard copies O all) (numbers_from (is_chain_of x) k cs))
 chains-guarded ring plan O x copies all k [] same from = refl
 chains-guarded ring plan O x copies all k (c ∷ cs) same from =
     let e : Refusal = ChainBroken (min k 4294967295) in
-    let is : is_linked_at copies O all k ≡ is_good_chain ring plan O x c.steps = ap (λ (o : Option Chain). elim o [ Some d ↦ is_linked copies O d.steps | None ↦ true ]) (first_at k c cs all from) ∙ linked-good ring plan O x copies c.steps same in
-    chain_by (x.0 == c.node.0) (is_good_chain ring plan O x c.steps) k (chain_guard copies O all) e (first_failing (chains_clauses ring plan O x (k + 1) cs)) (numbers_from (is_chain_of x.0) (k + 1) cs)
+    let is : is_linked_in copies O (steps_at all k) ≡ is_good_chain ring plan O x c.steps = ap (λ (o : Option Chain). is_linked_in copies O (elim o [ Some d ↦ d.steps | None ↦ [] ])) (first_at k c cs all from) ∙ linked-same (λ n. has n copies) (λ n. is_among x (parties ring plan n)) O c.steps same in
+    chain_by (x.0 == c.node.0) (is_good_chain ring plan O x c.steps) k (chain_guard copies O all) e (first_failing (chains_clauses ring plan O x (k + 1) cs)) (numbers_from (is_chain_of x) (k + 1) cs)
     (ap (λ (b : Bool). (b, e)) is) (chains-guarded ring plan O x copies all (k + 1) cs same (from_later k c cs all from))
 
-in_by : (b h : Bool) (n k : ℕ) (all : List Chain) (steps : List ℕ) (ls : List (List ℕ)) (ks : List ℕ) → is_in n all k ≡ has n steps → in_some n ls ≡ in_chains n all ks → in_some n (cond b (steps ∷ ls) ls) ≡ in_chains n all (cond b (k ∷ ks) ks)
-in_by true h n k all steps ls ks is rest = rw (is, rest) refl
-in_by false h n k all steps ls ks is rest = rest
+pick_by : (b : Bool) (k : ℕ) (all : List Chain) (steps : List ℕ) (ls : List (List ℕ)) (ks : List ℕ) → steps_at all k ≡ steps → ls ≡ chains_at all ks → cond b (steps ∷ ls) ls ≡ chains_at all (cond b (k ∷ ks) ks)
+pick_by true k all steps ls ks is rest = ap (λ (s : List ℕ). s ∷ ls) (sym is) ∙ ap (λ (l : List (List ℕ)). steps_at all k ∷ l) rest
+pick_by false k all steps ls ks is rest = rest
 
-in_some-chains : (x n k : ℕ) (cs all : List Chain) → AreFrom k cs all → in_some n (chains_from x cs) ≡ in_chains n all (numbers_from (is_chain_of x) k cs)
-in_some-chains x n k [] all from = refl
-in_some-chains x n k (c ∷ cs) all from =
-    in_by (x == c.node.0) true n k all c.steps (chains_from x cs) (numbers_from (is_chain_of x) (k + 1) cs)
-    (ap (λ (o : Option Chain). elim o [ Some d ↦ has n d.steps | None ↦ false ]) (first_at k c cs all from))
-    (in_some-chains x n (k + 1) cs all (from_later k c cs all from))
+-- the node's chains are those of its numbers
+picked : (x : NodeId) (k : ℕ) (cs all : List Chain) → AreFrom k cs all → chains_from x.0 cs ≡ chains_at all (numbers_from (is_chain_of x) k cs)
+picked x k [] all from = refl
+picked x k (c ∷ cs) all from =
+    pick_by (is_node x c.node) k all c.steps (chains_from x.0 cs) (numbers_from (is_chain_of x) (k + 1) cs)
+    (ap (λ (o : Option Chain). elim o [ Some d ↦ d.steps | None ↦ [] ]) (first_at k c cs all from))
+    (picked x (k + 1) cs all (from_later k c cs all from))
 
-long_by : (b : Bool) (k : ℕ) (steps : List ℕ) (ls : List (List ℕ)) (ks : List ℕ) → length ls ≡ length ks → length (cond b (steps ∷ ls) ls) ≡ length (cond b (k ∷ ks) ks)
-long_by true k steps ls ks e = ap (λ n. suc n) e
-long_by false k steps ls ks e = e
-
-as_many : (x k : ℕ) (cs : List Chain) → length (chains_from x cs) ≡ length (numbers_from (is_chain_of x) k cs)
-as_many x k [] = refl
-as_many x k (c ∷ cs) = long_by (x == c.node.0) k c.steps (chains_from x cs) (numbers_from (is_chain_of x) (k + 1) cs) (as_many x (k + 1) cs)
+as_many : (all : List Chain) (ks : List ℕ) → length (chains_at all ks) ≡ length ks
+as_many all [] = refl
+as_many all (k ∷ ks) = ap (λ n. suc n) (as_many all ks)
 
 -- ---- the copies
 
@@ -138,11 +132,11 @@ cover_by : (b : Bool) (k : ℕ) (guard : ℕ → Guard) (g : Guard) (gs : List G
 cover_by true k guard g gs ks is rest = rw (is, rest) refl
 cover_by false k guard g gs ks is rest = rest
 
-copies-guarded : (ring : RingValue) (plan : List Planned) (x : NodeId) (chains : List (List ℕ)) (all : List Chain) (numbers : List ℕ) (k : ℕ) (ps : List Planned) → ((n : ℕ) → in_some n chains ≡ in_chains n all numbers) → steps_clauses (cover_clauses ring plan chains x) k ps ≡ map (copy_guard all numbers x.0) (numbers_from (takes_part ring plan x.0) k ps)
-copies-guarded ring plan x chains all numbers k [] same = refl
-copies-guarded ring plan x chains all numbers k (p ∷ ps) same =
-    cover_by (is_among x (parties ring plan k)) k (copy_guard all numbers x.0) (in_some k chains, CoverMissing x.0 k) (steps_clauses (cover_clauses ring plan chains x) (k + 1) ps) (numbers_from (takes_part ring plan x.0) (k + 1) ps)
-    (ap (λ (b : Bool). (b, CoverMissing x.0 k)) (same k)) (copies-guarded ring plan x chains all numbers (k + 1) ps same)
+copies-guarded : (ring : RingValue) (plan : List Planned) (x : NodeId) (chains : List (List ℕ)) (k : ℕ) (ps : List Planned) → steps_clauses (cover_clauses ring plan chains x) k ps ≡ map (copy_guard chains x) (numbers_from (takes_part ring plan x) k ps)
+copies-guarded ring plan x chains k [] = refl
+copies-guarded ring plan x chains k (p ∷ ps) =
+    cover_by (is_among x (parties ring plan k)) k (copy_guard chains x) (in_some k chains, CoverMissing x.0 k) (steps_clauses (cover_clauses ring plan chains x) (k + 1) ps) (numbers_from (takes_part ring plan x) (k + 1) ps)
+    refl (copies-guarded ring plan x chains (k + 1) ps)
 
 -- ---- the clauses of a node
 
@@ -150,10 +144,10 @@ copies-guarded ring plan x chains all numbers k (p ∷ ps) same =
 abbrev pub tested : RingValue → List Planned → Test → NodeId → List Chain → List ℕ → List ℕ → Option Refusal
 tested ring plan O x chains numbers copies = option_or (first_failing (retirement_guards ring plan O x (retirement_of plan x.0)))
     (option_or (first_failing (map (chain_guard copies O chains) numbers))
-    (option_or (first_failing (map (copy_guard chains numbers x.0) copies))
+    (option_or (first_failing (map (copy_guard (chains_at chains numbers) x) copies))
     (first_failing ((is_few ring x (length numbers), TooManyChains x.0) ∷ []))))
 
-whole : (ring : RingValue) (plan : List Planned) (cert : Cert) (O : Test) (x : NodeId) → all_different (retired plan) ≡ true → first_failing (node_clauses ring plan cert O x) ≡ tested ring plan O x cert.chains (chain_numbers cert.chains x.0) (copies_of ring plan x.0)
+whole : (ring : RingValue) (plan : List Planned) (cert : Cert) (O : Test) (x : NodeId) → all_different (retired plan) ≡ true → first_failing (node_clauses ring plan cert O x) ≡ tested ring plan O x cert.chains (chain_numbers cert.chains x) (copies_of ring plan x)
 whole ring plan cert O x once =
     let few : Guard = (is_few ring x (length (chains_from x.0 cert.chains)), TooManyChains x.0) in
     let cover : List Guard = steps_clauses (cover_clauses ring plan (chains_from x.0 cert.chains) x) 0 plan in
@@ -161,10 +155,10 @@ whole ring plan cert O x once =
     let retire : List Guard = steps_clauses (retire_clauses ring plan O x) 0 plan in
     first-append retire (chains ++ (cover ++ (few ∷ [])))
     ∙ ap (λ (o : Option Refusal). option_or (first_failing retire) o) (first-append chains (cover ++ (few ∷ [])) ∙ ap (λ (o : Option Refusal). option_or (first_failing chains) o) (first-append cover (few ∷ [])))
-    ∙ rw (retirement-asked ring plan O x once, chains-guarded ring plan O x (copies_of ring plan x.0) cert.chains 0 cert.chains (has-copies ring plan x) (from_start cert.chains), copies-guarded ring plan x (chains_from x.0 cert.chains) cert.chains (chain_numbers cert.chains x.0) 0 plan (λ n. in_some-chains x.0 n 0 cert.chains cert.chains (from_start cert.chains)), as_many x.0 0 cert.chains) refl
+    ∙ rw (retirement-asked ring plan O x once, chains-guarded ring plan O x (copies_of ring plan x) cert.chains 0 cert.chains (has-copies ring plan x) (from_start cert.chains), copies-guarded ring plan x (chains_from x.0 cert.chains) 0 plan, picked x 0 cert.chains cert.chains (from_start cert.chains), as_many cert.chains (chain_numbers cert.chains x)) refl
 
 -- the clauses of a node are those that are tested
-pub node-tested : (ring : RingValue) (plan : List Planned) (cert : Cert) (O : Test) (x : NodeId) (chains : List Chain) (numbers copies : List ℕ) → all_different (retired plan) ≡ true → chains ≡ cert.chains → numbers ≡ chain_numbers cert.chains x.0 → copies ≡ copies_of ring plan x.0 → first_failing (node_clauses ring plan cert O x) ≡ tested ring plan O x chains numbers copies
+pub node-tested : (ring : RingValue) (plan : List Planned) (cert : Cert) (O : Test) (x : NodeId) (chains : List Chain) (numbers copies : List ℕ) → all_different (retired plan) ≡ true → chains ≡ cert.chains → numbers ≡ chain_numbers cert.chains x → copies ≡ copies_of ring plan x → first_failing (node_clauses ring plan cert O x) ≡ tested ring plan O x chains numbers copies
 node-tested ring plan cert O x chains numbers copies once all ns cs = rw (all, ns, cs) (whole ring plan cert O x once)
 
 -- the first refusal is the answer, and what passes leaves the answer to the rest

@@ -14,7 +14,7 @@ use Rattle.plan_stage.specs.Clauses.{Guard}
 use Rattle.plan_stage.specs.Partition.{Test, steps_clauses}
 use Rattle.plan_stage.proofs.Truth.{not_is}
 use Rattle.plan_cover.specs.Clauses.{retire_clauses}
-use Rattle.plan_cover.specs.Guards.{retirement_guards}
+use Rattle.plan_cover.specs.Looking.Guards.{retirement_guards}
 
 -- whether one retires the node is asked of its step, and of those behind it
 in_front : (x : ℕ) (s : Step) (rest : List ℕ) → has x (retires s ++ rest) ≡ (is_retire_of x s || has x rest)

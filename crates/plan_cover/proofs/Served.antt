@@ -19,8 +19,9 @@ use Rattle.plan_stage.specs.Stage.{is_among, with_node, next, after, opening}
 use Rattle.plan_stage.specs.Parties.{count_below, stage_before, source_slots, owners_before, sources_of, target_of, with_target}
 use Rattle.plan_stage.proofs.Stages.{after-next}
 use Rattle.plan_cover.specs.declared.present.Serving.{Serving}
-use Rattle.plan_cover.specs.Serving.{serving_of, after_step, is_mirror, owns_some, is_party}
-use Rattle.plan_cover.specs.Numbers.{numbers_from, takes_part, is_last, with_last_if}
+use Rattle.plan_cover.specs.Looking.Serving.{serving_of, after_step, is_the_mirror, owns_some, is_party}
+use Rattle.plan_stage.specs.Occupancy.{is_node}
+use Rattle.plan_cover.specs.Looking.Numbers.{numbers_from, takes_part, is_last, with_last_if}
 use Rattle.plan_cover.proofs.Counting.{take-step, take-length, numbers-take, numbers-between, not_last}
 
 -- ---- the steps of a slot among the first of a plan
@@ -111,21 +112,21 @@ among-with : (x y : NodeId) (zs : List NodeId) → is_among x (with_node y zs) �
 among-with x y [] = refl
 among-with x y (z ∷ zs) = among_by (nat_lt y.0 z.0) (y.0 == z.0) x y z zs (is_among x zs) refl (among-with x y zs) refl (equal x.0 y.0 z.0)
 
-among-target : (o : Option NodeId) (x : NodeId) (zs : List NodeId) → is_among x (with_target o zs) ≡ (is_mirror o x.0 || is_among x zs)
+among-target : (o : Option NodeId) (x : NodeId) (zs : List NodeId) → is_among x (with_target o zs) ≡ (is_the_mirror o x || is_among x zs)
 among-target None x zs = refl
 among-target (Some y) x zs = among-with x y zs
 
-among-owners : (ring : RingValue) (plan : List Planned) (n : ℕ) (serve : Slot → Serving) (x : NodeId) (ss : List Slot) → ((s : Slot) → serve s ≡ serving_of (stage_before ring plan s n)) → is_among x (owners_before ring plan n ss) ≡ owns_some serve ss x.0
+among-owners : (ring : RingValue) (plan : List Planned) (n : ℕ) (serve : Slot → Serving) (x : NodeId) (ss : List Slot) → ((s : Slot) → serve s ≡ serving_of (stage_before ring plan s n)) → is_among x (owners_before ring plan n ss) ≡ owns_some serve ss x
 among-owners ring plan n serve x [] same = refl
 among-owners ring plan n serve x (s ∷ ss) same =
-    among-with x (stage_before ring plan s n).owner (owners_before ring plan n ss) ∙ rw (among-owners ring plan n serve x ss same, ap (λ (v : Serving). x.0 == v.owner.0) (same s)) refl
+    among-with x (stage_before ring plan s n).owner (owners_before ring plan n ss) ∙ rw (among-owners ring plan n serve x ss same, ap (λ (v : Serving). is_node x v.owner) (same s)) refl
 
-party : (ring : RingValue) (plan : List Planned) (n : ℕ) (serve : Slot → Serving) (x : NodeId) (t : Step) → ((s : Slot) → serve s ≡ serving_of (stage_before ring plan s n)) → is_among x (with_target (target_of ring plan n t) (sources_of ring plan n t)) ≡ is_party serve t x.0
+party : (ring : RingValue) (plan : List Planned) (n : ℕ) (serve : Slot → Serving) (x : NodeId) (t : Step) → ((s : Slot) → serve s ≡ serving_of (stage_before ring plan s n)) → is_among x (with_target (target_of ring plan n t) (sources_of ring plan n t)) ≡ is_party serve t x
 party ring plan n serve x (Join y) same = refl
 party ring plan n serve x (Mirror s y) same = refl
 party ring plan n serve x (Copy s from) same =
     among-target (stage_before ring plan s n).mirror x (owners_before ring plan n (source_slots s from))
-    ∙ rw (among-owners ring plan n serve x (source_slots s from) same, ap (λ (v : Serving). is_mirror v.mirror x.0) (same s)) refl
+    ∙ rw (among-owners ring plan n serve x (source_slots s from) same, ap (λ (v : Serving). is_the_mirror v.mirror x) (same s)) refl
 party ring plan n serve x (Switch s) same = refl
 party ring plan n serve x (Drop s y) same = refl
 party ring plan n serve x (Retire y) same = refl
@@ -133,8 +134,8 @@ party ring plan n serve x (Retire y) same = refl
 abbrev parties_in : RingValue → List Planned → ℕ → Option Planned → List NodeId
 parties_in ring plan n o = elim o [ Some step ↦ with_target (target_of ring plan n step.step) (sources_of ring plan n step.step) | None ↦ [] ]
 
-pub takes_part-party : (ring : RingValue) (plan : List Planned) (n : ℕ) (serve : Slot → Serving) (x : ℕ) (p : Planned) → slice_get plan n ≡ Some p → ((s : Slot) → serve s ≡ serving_of (stage_before ring plan s n)) → takes_part ring plan x n p ≡ is_party serve p.step x
-takes_part-party ring plan n serve x p e same = ap (λ (o : Option Planned). is_among (record { 0 = x }) (parties_in ring plan n o)) e ∙ party ring plan n serve (record { 0 = x }) p.step same
+pub takes_part-party : (ring : RingValue) (plan : List Planned) (n : ℕ) (serve : Slot → Serving) (x : NodeId) (p : Planned) → slice_get plan n ≡ Some p → ((s : Slot) → serve s ≡ serving_of (stage_before ring plan s n)) → takes_part ring plan x n p ≡ is_party serve p.step x
+takes_part-party ring plan n serve x p e same = ap (λ (o : Option Planned). is_among x (parties_in ring plan n o)) e ∙ party ring plan n serve x p.step same
 
 -- ---- what holds of each step holds of one
 
@@ -159,7 +160,7 @@ put_last true n xs e = rw e refl
 put_last false n xs e = refl
 
 -- the node's copies among one step more
-pub copies-next : (ring : RingValue) (plan : List Planned) (n : ℕ) (serve : Slot → Serving) (x : ℕ) (t : Step) (old new : List ℕ) → option_map (λ (p : Planned). p.step) (slice_get plan n) ≡ Some t → ((s : Slot) → serve s ≡ serving_of (stage_before ring plan s n)) → old ≡ numbers_from (takes_part ring plan x) 0 (take n plan) → new ≡ with_last_if (is_party serve t x) n old → new ≡ numbers_from (takes_part ring plan x) 0 (take (n + 1) plan)
+pub copies-next : (ring : RingValue) (plan : List Planned) (n : ℕ) (serve : Slot → Serving) (x : NodeId) (t : Step) (old new : List ℕ) → option_map (λ (p : Planned). p.step) (slice_get plan n) ≡ Some t → ((s : Slot) → serve s ≡ serving_of (stage_before ring plan s n)) → old ≡ numbers_from (takes_part ring plan x) 0 (take n plan) → new ≡ with_last_if (is_party serve t x) n old → new ≡ numbers_from (takes_part ring plan x) 0 (take (n + 1) plan)
 copies-next ring plan n serve x t old new e same before is =
     let w = whole (slice_get plan n) t e in
     let front : List ℕ = numbers_from (takes_part ring plan x) 0 (take n plan) in

@@ -1,4 +1,2 @@
 pub mod Clauses
-pub mod Numbers
-pub mod Serving
-pub mod Guards
+pub mod Looking

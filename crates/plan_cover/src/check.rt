@@ -5,17 +5,18 @@ ghost use Rattle.ring_names.specs.declared.refusal.Refusal.TheVariants.{TooManyC
 ghost use Rattle.plan_text.specs.Steps.{retirement_of};
 ghost use Rattle.plan_text.specs.Valid.{Suits};
 ghost use Rattle.plan_order.specs.Facts.{is_ordered, AreFactsOf};
+ghost use Rattle.plan_order.specs.Order.{order};
 ghost use Rattle.plan_stage.specs.Clauses.{Gives, below};
 ghost use Rattle.plan_cover.specs.Clauses.{is_few, node_clauses};
-ghost use Rattle.plan_cover.specs.Numbers.{IsCover};
-ghost use Rattle.plan_cover.specs.Guards.{retirement_guards};
+ghost use Rattle.plan_cover.specs.Looking.Numbers.{IsCover};
+ghost use Rattle.plan_cover.specs.Looking.Guards.{retirement_guards};
 
 use crate::cover::Cover;
 use crate::covered::check_copies;
 use crate::linked::check_chains;
 use plan_cert::Cert;
-use plan_order::Facts;
-use plan_stage::has_joined;
+use plan_order::{Context, Facts};
+use plan_stage::has_joined_by;
 use plan_text::Plan;
 use ring_names::{NodeId, Refusal};
 use ring_table::Ring;
@@ -36,7 +37,7 @@ pub fn check_node(
     ensures { Gives result (node_clauses ring.now plan.now cert.now (is_ordered plan.now facts.now) node) }
 {
     let cover = Cover::of(alloc, ring, plan, cert)?;
-    check_with(alloc, &cover, ring, plan, facts, cert, node)
+    check_with(alloc, &cover, &Context { ring, plan, facts }, cert, node)
 }
 
 /// Tests the clauses of each node, by number, and answers with the first refusal. Costs one pass over the plan and one over
@@ -53,9 +54,17 @@ pub fn check_nodes(
     ensures { Gives result (below (λ x. node_clauses ring.now plan.now cert.now (is_ordered plan.now facts.now) (record { 0 = x })) (length ring.now.nodes)) }
 {
     let cover = Cover::of(alloc, ring, plan, cert)?;
-    let nodes = ring.nodes().len() as u32;
+    check_each(alloc, &cover, &Context { ring, plan, facts }, cert)
+}
+
+// Tests the clauses of each node, by number.
+fn check_each(alloc: Global, cover: &Cover, context: &Context, cert: &Cert) -> Result<(), Refusal>
+    requires { IsCover context.now.ring.now context.now.plan.now cert.now cover.now }
+    ensures { Gives result (below (λ x. node_clauses context.now.ring.now context.now.plan.now cert.now (order context.now) (record { 0 = x })) (length context.now.ring.now.nodes)) }
+{
+    let nodes = context.ring.nodes().len() as u32;
     for x in 0..nodes {
-        check_with(alloc, &cover, ring, plan, facts, cert, NodeId(x))?;
+        check_with(alloc, cover, context, cert, NodeId(x))?;
     }
     Ok(())
 }
@@ -64,34 +73,28 @@ pub fn check_nodes(
 fn check_with(
     alloc: Global,
     cover: &Cover,
-    ring: &Ring,
-    plan: &Plan,
-    facts: &Facts,
+    context: &Context,
     cert: &Cert,
     node: NodeId,
 ) -> Result<(), Refusal>
-    requires suits { Suits ring.now plan.now }
-    requires facts { AreFactsOf plan.now facts.now }
-    requires cover { IsCover ring.now plan.now cert.now cover.now }
-    ensures { Gives result (node_clauses ring.now plan.now cert.now (is_ordered plan.now facts.now) node) }
+    requires { IsCover context.now.ring.now context.now.plan.now cert.now cover.now }
+    ensures { Gives result (node_clauses context.now.ring.now context.now.plan.now cert.now (order context.now) node) }
 {
     let chains = cert.chains.as_slice();
-    let numbers = cover.chains.numbers(node);
-    let copies = cover.copies.numbers(node);
-    check_retirement(ring, plan, facts, node)?;
-    check_chains(plan, facts, chains, numbers, copies)?;
+    let numbers = cover.chains.items(&node);
+    let copies = cover.copies.items(&node);
+    check_retirement(context, node)?;
+    check_chains(context, chains, numbers, copies)?;
     check_copies(alloc, chains, numbers, copies, node)?;
-    check_count(ring, node, numbers.len())
+    check_count(context.ring, node, numbers.len())
 }
 
 // Tests the step that retires the node.
-fn check_retirement(ring: &Ring, plan: &Plan, facts: &Facts, node: NodeId) -> Result<(), Refusal>
-    requires suits { Suits ring.now plan.now }
-    requires facts { AreFactsOf plan.now facts.now }
-    ensures { Gives result (retirement_guards ring.now plan.now (is_ordered plan.now facts.now) node (retirement_of plan.now node.0)) }
+fn check_retirement(context: &Context, node: NodeId) -> Result<(), Refusal>
+    ensures { Gives result (retirement_guards context.now.ring.now context.now.plan.now (order context.now) node (retirement_of context.now.plan.now node.0)) }
 {
-    if let Some(step) = plan.retirement_of(node) {
-        if !has_joined(ring, plan, facts, step, node) {
+    if let Some(step) = context.plan.retirement_of(node) {
+        if !has_joined_by(context, step, node) {
             return Err(Refusal::NotJoined(step));
         }
     }

@@ -1,18 +1,21 @@
 //! Whether the chains of a node cover its copies.
 
-ghost use Rattle.std.specs.Prelude.{◌≡◌, ◌||◌, ℕ, map, nat_eq, IfErr, IfOk, OnOk};
-ghost use Rattle.std.specs.HashSet.{contains};
+ghost use Rattle.std.specs.Prelude.{◌≡◌, ◌||◌, ℕ, map, IfErr, IfOk, OnOk};
+ghost use Rattle.std.specs.BTreeSet.{contains};
+ghost use Rattle.std.specs.Ordering.{nat_cmp};
 ghost use Rattle.ring_names.specs.Lists.{has};
 ghost use Rattle.ring_names.specs.declared.refusal.Refusal.TheVariants.{CoverMissing, OutOfMemory};
 ghost use Rattle.plan_stage.specs.Clauses.{Gives};
-ghost use Rattle.plan_cover.specs.Guards.{is_in, in_chains, copy_guard};
+ghost use Rattle.plan_cover.specs.Clauses.{in_some};
+ghost use Rattle.plan_cover.specs.Looking.Guards.{steps_at, chains_at, copy_guard};
 
 use plan_cert::Chain;
 use ring_names::{NodeId, Refusal};
 use std::alloc::Global;
-use std::collections::HashSet;
+use std::collections::BTreeSet;
 
-/// Tests the copies of a node: each must be in one of its chains, which have these numbers.
+/// Tests the copies of a node: each must be in one of its chains, which have these numbers. The author of a certificate chooses
+/// the steps, so they are kept in order and not by a hash.
 pub fn check_copies(
     alloc: Global,
     chains: &[Chain],
@@ -20,18 +23,18 @@ pub fn check_copies(
     copies: &[u32],
     node: NodeId,
 ) -> Result<(), Refusal>
-    ensures { Gives result (map (copy_guard chains.now numbers.now node.0) copies.now) }
+    ensures { Gives result (map (copy_guard (chains_at chains.now numbers.now) node) copies.now) }
 {
     let covered = steps_of(alloc, chains, numbers)?;
     check_covered(&covered, copies, node)
 }
 
 // The steps of the chains of these numbers.
-fn steps_of(alloc: Global, chains: &[Chain], numbers: &[usize]) -> Result<HashSet<u32>, Refusal>
-    ensures ok { IfOk result (λ s. (n : ℕ) → contains nat_eq s n ≡ in_chains n chains.now numbers.now) }
+fn steps_of(alloc: Global, chains: &[Chain], numbers: &[usize]) -> Result<BTreeSet<u32>, Refusal>
+    ensures ok { IfOk result (λ s. (n : ℕ) → contains nat_cmp s n ≡ in_some n (chains_at chains.now numbers.now)) }
     ensures memory { IfErr result (λ e. e ≡ OutOfMemory) }
 {
-    let mut covered = HashSet::new(alloc);
+    let mut covered = BTreeSet::new(alloc);
     let mut rest = numbers;
     'chains: while let Some((first, later)) = rest.split_first() {
         add_chain(&mut covered, chains, *first)?;
@@ -40,8 +43,8 @@ fn steps_of(alloc: Global, chains: &[Chain], numbers: &[usize]) -> Result<HashSe
     Ok(covered)
 }
 
-fn add_chain(covered: &mut HashSet<u32>, chains: &[Chain], number: usize) -> Result<(), Refusal>
-    ensures ok { OnOk result ((n : ℕ) → contains nat_eq covered.new n ≡ (is_in n chains.now number || contains nat_eq covered.old n)) }
+fn add_chain(covered: &mut BTreeSet<u32>, chains: &[Chain], number: usize) -> Result<(), Refusal>
+    ensures ok { OnOk result ((n : ℕ) → contains nat_cmp covered.new n ≡ (has n (steps_at chains.now number) || contains nat_cmp covered.old n)) }
     ensures memory { IfErr result (λ e. e ≡ OutOfMemory) }
 {
     match chains.get(number) {
@@ -50,8 +53,8 @@ fn add_chain(covered: &mut HashSet<u32>, chains: &[Chain], number: usize) -> Res
     }
 }
 
-fn add_steps(covered: &mut HashSet<u32>, steps: &[u32]) -> Result<(), Refusal>
-    ensures ok { OnOk result ((n : ℕ) → contains nat_eq covered.new n ≡ (has n steps.now || contains nat_eq covered.old n)) }
+fn add_steps(covered: &mut BTreeSet<u32>, steps: &[u32]) -> Result<(), Refusal>
+    ensures ok { OnOk result ((n : ℕ) → contains nat_cmp covered.new n ≡ (has n steps.now || contains nat_cmp covered.old n)) }
     ensures memory { IfErr result (λ e. e ≡ OutOfMemory) }
 {
     let mut rest = steps;
@@ -62,8 +65,8 @@ fn add_steps(covered: &mut HashSet<u32>, steps: &[u32]) -> Result<(), Refusal>
     Ok(())
 }
 
-fn check_covered(covered: &HashSet<u32>, copies: &[u32], node: NodeId) -> Result<(), Refusal>
-    ensures { Gives result (map (λ n. (contains nat_eq covered.now n, CoverMissing node.0 n)) copies.now) }
+fn check_covered(covered: &BTreeSet<u32>, copies: &[u32], node: NodeId) -> Result<(), Refusal>
+    ensures { Gives result (map (λ n. (contains nat_cmp covered.now n, CoverMissing node.0 n)) copies.now) }
 {
     let mut rest = copies;
     'copies: while let Some((first, later)) = rest.split_first() {

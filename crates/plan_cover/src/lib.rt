@@ -10,6 +10,3 @@ mod linked;
 mod present;
 
 pub use check::{check_node, check_nodes};
-
-#[cfg(test)]
-mod tests;

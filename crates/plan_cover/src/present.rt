@@ -6,7 +6,7 @@ ghost use Rattle.ring_names.specs.declared.refusal.Refusal.TheVariants.{OutOfMem
 ghost use Rattle.ring_table.specs.Value.{RingValue, owner_of};
 ghost use Rattle.plan_text.specs.Steps.{is_slot, is_on};
 ghost use Rattle.plan_text.specs.Valid.{step_suits};
-ghost use Rattle.plan_cover.specs.Serving.{serving_at, after_step};
+ghost use Rattle.plan_cover.specs.Looking.Serving.{serving_at, after_step};
 
 use plan_text::Step;
 use ring_names::{NodeId, Refusal, Slot};

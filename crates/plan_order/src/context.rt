@@ -9,6 +9,7 @@ use plan_text::Plan;
 use ring_table::Ring;
 
 /// A ring, a plan that suits it, and facts of order in the plan.
+#[derive(Clone, Copy)]
 pub struct Context<'a> {
     pub ring: &'a Ring,
     pub plan: &'a Plan,

@@ -5,8 +5,6 @@ mod before;
 mod context;
 mod facts;
 mod path;
-#[cfg(test)]
-mod tests;
 
 pub use before::before_is_an_order;
 pub use context::Context;

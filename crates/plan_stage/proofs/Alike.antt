@@ -15,8 +15,7 @@ use Rattle.plan_stage.specs.Stage.{stage}
 use Rattle.plan_stage.specs.Clauses.{Guard, first_failing, below}
 use Rattle.plan_stage.specs.Occupancy.{first_end, mirror_end, first_drop, mirror_drop}
 use Rattle.plan_stage.specs.Each.{some_step, each_step, each_below, is_switch_of, is_mirror_of, owns_first, sibling, place_in}
-use Rattle.plan_stage.specs.Asked.{has_left_slot, has_dropped_slot}
-use Rattle.plan_stage.specs.Partition.{Test, ends_before, is_settled, has_left, has_joined, has_dropped, mirror_clauses, copy_clauses, step_clauses, steps_clauses, met_clauses, slot_step_clauses, slot_clauses, partition_clauses}
+use Rattle.plan_stage.specs.Partition.{Test, ends_before, is_settled, has_left_slot, has_left, has_joined, has_dropped_slot, has_dropped, mirror_clauses, copy_clauses, step_clauses, steps_clauses, met_clauses, slot_step_clauses, slot_clauses, partition_clauses}
 use Rattle.plan_stage.proofs.Asking.{all-same}
 
 -- ---- clauses that fail first alike

@@ -1,8 +1,8 @@
 -- What is asked of a node's holdings is what is asked of the steps that begin them.
 use Rattle.std.proofs.Common.{◌≡◌, ℕ, zero, suc, ◌+◌, ◌<◌, ◌≤◌, Bool, true, false, not, cond, List, [], ◌∷◌, ◌++◌, length, get_or, drop, Option, Some, None, refl, sym, ap, ◌∙◌, arith, add-one}
-use Rattle.std.specs.Prelude.{◌&&◌, ◌||◌, nat_lt, reverse}
+use Rattle.std.specs.Prelude.{◌&&◌, ◌||◌, nat_lt, reverse, is_some}
 use Rattle.std.specs.List.{list_all}
-use Rattle.std.proofs.lemmas.List.{drop_more, drop_all, reverse-append}
+use Rattle.std.proofs.lemmas.List.{drop_more, drop_all, reverse-append, reverse-reverse}
 use Rattle.std.proofs.lemmas.List.Folds.{list_all-append}
 use Rattle.ring_names.specs.declared.ids.NodeId.{NodeId}
 use Rattle.ring_names.specs.declared.ids.Slot.{Slot}
@@ -10,18 +10,19 @@ use Rattle.ring_table.specs.Value.{RingValue}
 use Rattle.plan_text.specs.declared.step.Step.{Step}
 use Rattle.plan_text.specs.declared.step.Step.TheVariants.{Join, Mirror, Copy, Switch, Drop, Retire}
 use Rattle.plan_text.specs.declared.step.Planned.{Planned}
-use Rattle.plan_text.specs.Steps.{steps_of, is_on}
+use Rattle.plan_text.specs.Steps.{steps_of, is_on, switch_of}
 use Rattle.plan_stage.specs.declared.holding.Holding.{Holding}
 use Rattle.plan_stage.specs.declared.holding.Holdings.{Holdings}
 use Rattle.plan_stage.specs.Stage.{opening, stage, after}
 use Rattle.plan_stage.specs.Occupancy.{leaving, dropping, mirror_end, mirror_drop, first_end, first_drop}
 use Rattle.plan_stage.specs.Each.{step_at, each_step, each_below, is_mirror_of, is_switch_of, owns_first, place_in}
-use Rattle.plan_stage.specs.Partition.{Test, ends_before}
+use Rattle.plan_stage.specs.Partition.{Test, ends_before, has_left_slot, has_dropped_slot}
 use Rattle.plan_stage.specs.Holdings.{holdings_from, first_holding, holdings}
-use Rattle.plan_stage.specs.Held.{held_at, AreHeld}
-use Rattle.plan_stage.specs.Asked.{is_switch, switches, is_settling, is_left_before, is_dropped_before, has_left_slot, has_dropped_slot}
+use Rattle.plan_stage.specs.Looking.Held.{held_at, AreHeld}
+use Rattle.plan_stage.specs.Looking.Asked.{switches, is_settling, begins_before, is_ended_before, are_left, is_dropped_before}
 use Rattle.plan_stage.proofs.Stages.{stage-more}
 use Rattle.plan_stage.proofs.Slots.{place, own_steps}
+use Rattle.plan_stage.proofs.Rising.{all-until, holdings-rise}
 
 -- ---- numbers below n
 
@@ -93,12 +94,12 @@ first-part : (b : Bool) (f : Holding → Bool) (h : Holding) → list_all f (con
 first-part true f h = and-true (f h)
 first-part false f h = refl
 
-asked-all : (ring : RingValue) (plan : List Planned) (slot : Slot) (x : NodeId) (f : Holding → Bool) → list_all f (reverse (holdings ring plan slot x)) ≡ ((not (owns_first ring slot x) || f (first_holding ring plan slot)) && list_all (asked ring plan slot x f) (steps_of plan slot))
+asked-all : (ring : RingValue) (plan : List Planned) (slot : Slot) (x : NodeId) (f : Holding → Bool) → list_all f (holdings ring plan slot x) ≡ ((not (owns_first ring slot x) || f (first_holding ring plan slot)) && list_all (asked ring plan slot x f) (steps_of plan slot))
 asked-all ring plan slot x f =
     let ss = steps_of plan slot in
     let first = cond (owns_first ring slot x) (first_holding ring plan slot ∷ []) [] in
     let z : length ss + 0 ≡ length ss = omega arith in
-    all-reverse f (holdings ring plan slot x) ∙ list_all-append f first (holdings_from plan slot x (opening ring slot) ss)
+    list_all-append f first (holdings_from plan slot x (opening ring slot) ss)
     ∙ ap (λ (b : Bool). b && list_all f (holdings_from plan slot x (opening ring slot) ss)) (first-part (owns_first ring slot x) f (first_holding ring plan slot))
     ∙ ap (λ (b : Bool). (not (owns_first ring slot x) || f (first_holding ring plan slot)) && b) (begun ring plan slot x f (length ss) 0 z)
 
@@ -123,23 +124,29 @@ two-tests false false c = refl
 no-mirror : (a b c : Bool) → b ≡ false → (not (a && b) || c) ≡ true
 no-mirror a b c e = rw (e, both-fail a) refl
 
-pub left-is : (ring : RingValue) (plan : List Planned) (O : Test) (t p i : ℕ) (x : NodeId) (h : Holdings) → AreHeld ring plan p h → i < ring.n → list_all (is_left_before O t) (held_at h i x.0) ≡ has_left_slot ring plan O t (record { partition = p; index = i }) x
+-- where the holding begins before step t, the node no longer owns the slot by then
+abbrev is_left_before : Test → ℕ → Holding → Bool
+is_left_before O t h = not (begins_before t h) || is_ended_before O t h
+
+pub left-is : (ring : RingValue) (plan : List Planned) (O : Test) (t p i : ℕ) (x : NodeId) (h : Holdings) → AreHeld ring plan p h → i < ring.n → are_left O t (reverse (held_at h i x)) ≡ has_left_slot ring plan O t (record { partition = p; index = i }) x
 left-is ring plan O t p i x h held l =
     let slot : Slot = record { partition = p; index = i } in
     let f = is_left_before O t in
     let steps = own_steps plan slot (λ b s. not (nat_lt b t && is_mirror_of slot x s) || ends_before O (mirror_end ring plan slot (place_in plan slot b) x) t) (asked ring plan slot x f)
     (λ b s off. no-mirror (nat_lt b t) (is_mirror_of slot x s) (ends_before O (mirror_end ring plan slot (place_in plan slot b) x) t) (other-mirror slot x s off))
     (λ b s at on. two-tests (nat_lt b t) (is_mirror_of slot x s) (ends_before O (mirror_end ring plan slot (place_in plan slot b) x) t) ∙ asked-at ring plan slot x f b s at) in
-    ap (list_all f) (held i l x) ∙ asked-all ring plan slot x f ∙ ap (λ (b : Bool). (not (owns_first ring slot x) || ends_before O (first_end ring plan slot) t) && b) (sym steps)
+    let turned : reverse (held_at h i x) ≡ holdings ring plan slot x = ap (λ (hs : List Holding). reverse hs) (held i l x) ∙ reverse-reverse (holdings ring plan slot x) in
+    ap (are_left O t) turned ∙ all-until (begins_before t) (is_ended_before O t) (holdings ring plan slot x) (holdings-rise ring plan slot x t)
+    ∙ asked-all ring plan slot x f ∙ ap (λ (b : Bool). (not (owns_first ring slot x) || ends_before O (first_end ring plan slot) t) && b) (sym steps)
 
-pub dropped-is : (ring : RingValue) (plan : List Planned) (O : Test) (t p i : ℕ) (x : NodeId) (h : Holdings) → AreHeld ring plan p h → i < ring.n → list_all (is_dropped_before O t) (held_at h i x.0) ≡ has_dropped_slot ring plan O t (record { partition = p; index = i }) x
+pub dropped-is : (ring : RingValue) (plan : List Planned) (O : Test) (t p i : ℕ) (x : NodeId) (h : Holdings) → AreHeld ring plan p h → i < ring.n → list_all (is_dropped_before O t) (held_at h i x) ≡ has_dropped_slot ring plan O t (record { partition = p; index = i }) x
 dropped-is ring plan O t p i x h held l =
     let slot : Slot = record { partition = p; index = i } in
     let f = is_dropped_before O t in
     let steps = own_steps plan slot (λ b s. not (is_mirror_of slot x s) || ends_before O (mirror_drop plan slot (place_in plan slot b) x) t) (asked ring plan slot x f)
     (λ b s off. no-mirror true (is_mirror_of slot x s) (ends_before O (mirror_drop plan slot (place_in plan slot b) x) t) (other-mirror slot x s off))
     (λ b s at on. asked-at ring plan slot x f b s at) in
-    ap (list_all f) (held i l x) ∙ asked-all ring plan slot x f ∙ ap (λ (b : Bool). (not (owns_first ring slot x) || ends_before O (first_drop ring plan slot) t) && b) (sym steps)
+    ap (list_all f) (held i l x) ∙ all-reverse f (holdings ring plan slot x) ∙ asked-all ring plan slot x f ∙ ap (λ (b : Bool). (not (owns_first ring slot x) || ends_before O (first_drop ring plan slot) t) && b) (sym steps)
 
 -- ---- switches of listed slots
 
@@ -151,7 +158,7 @@ other-switch slot (Switch t) e = e
 other-switch slot (Drop t y) e = refl
 other-switch slot (Retire y) e = refl
 
-own-switch : (slot : Slot) (s : Step) → is_on slot s ≡ true → is_switch_of slot s ≡ is_switch s
+own-switch : (slot : Slot) (s : Step) → is_on slot s ≡ true → is_switch_of slot s ≡ is_some (switch_of s)
 own-switch slot (Join y) e = refl
 own-switch slot (Mirror t y) e = refl
 own-switch slot (Copy t from) e = refl
@@ -161,7 +168,7 @@ own-switch slot (Retire y) e = refl
 
 settling-at : (plan : List Planned) (O : Test) (n m : ℕ) (slot : Slot) (s : Step) → step_at plan m ≡ Some s → is_on slot s ≡ true → (not (is_switch_of slot s) || (O m n || O n m)) ≡ is_settling plan O n m
 settling-at plan O n m slot s at on =
-    let e : is_switch_of slot s ≡ switches plan m = own-switch slot s on ∙ sym (ap (λ (o : Option Step). elim o [ Some t ↦ is_switch t | None ↦ false ]) at) in
+    let e : is_switch_of slot s ≡ switches plan m = own-switch slot s on ∙ sym (ap (λ (o : Option Step). elim o [ Some t ↦ is_some (switch_of t) | None ↦ false ]) at) in
     ap (λ (b : Bool). not b || (O m n || O n m)) e
 
 pub settled-is : (plan : List Planned) (O : Test) (n : ℕ) (slot : Slot) → list_all (is_settling plan O n) (steps_of plan slot) ≡ each_step (λ m s. not (is_switch_of slot s) || (O m n || O n m)) 0 plan

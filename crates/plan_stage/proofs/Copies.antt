@@ -17,7 +17,6 @@ use Rattle.plan_text.specs.Steps.{is_on, steps_from, steps_of}
 use Rattle.plan_text.specs.Valid.{Suits, step_suits, source_suits, is_ring_slot}
 use Rattle.plan_stage.specs.Parties.{count_below, stage_before, owners_before}
 use Rattle.plan_stage.specs.Stage.{with_node}
-use Rattle.plan_stage.specs.Walk.{nodes}
 
 -- ---- how many steps stand before one
 
@@ -67,10 +66,10 @@ below_at n from k all l = ltb-true (get_or from k 0) n (all_at (λ (i : ℕ). na
 
 -- ---- the owners of one more slot
 
-pub owners_more : (ring : RingValue) (plan : List Planned) (n p : ℕ) (from : List ℕ) (k : ℕ) (xs ys : List ℕ) → 0 < k → k ≤ length from
-    → nodes ys ≡ with_node (stage_before ring plan (record { partition = p; index = get_or from (k - 1) 0 }) n).owner (nodes xs)
-    → nodes xs ≡ owners_before ring plan n (map (λ i. record { partition = p; index = i }) (drop k from))
-    → nodes ys ≡ owners_before ring plan n (map (λ i. record { partition = p; index = i }) (drop (k - 1) from))
+pub owners_more : (ring : RingValue) (plan : List Planned) (n p : ℕ) (from : List ℕ) (k : ℕ) (xs ys : List NodeId) → 0 < k → k ≤ length from
+    → ys ≡ with_node (stage_before ring plan (record { partition = p; index = get_or from (k - 1) 0 }) n).owner xs
+    → xs ≡ owners_before ring plan n (map (λ i. record { partition = p; index = i }) (drop k from))
+    → ys ≡ owners_before ring plan n (map (λ i. record { partition = p; index = i }) (drop (k - 1) from))
 owners_more ring plan n p from k xs ys some le put before =
     let plus : k - 1 + 1 ≡ k = omega arith in
     let l : k - 1 < length from = omega arith in

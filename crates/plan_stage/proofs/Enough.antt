@@ -16,8 +16,8 @@ use Rattle.plan_text.specs.Valid.{ascends, Suits, step_suits, source_suits, is_r
 use Rattle.plan_stage.specs.Each.{step_at}
 use Rattle.plan_stage.specs.Occupancy.{is_node}
 use Rattle.plan_stage.specs.Holdings.{holdings, is_none}
-use Rattle.plan_stage.specs.Concerned.{is_concerned, AreConcerned}
-use Rattle.plan_stage.specs.Gathered.{IsGathered, HasSlot, HasRetirement}
+use Rattle.plan_stage.specs.Looking.Concerned.{is_concerned, AreConcerned}
+use Rattle.plan_stage.specs.Looking.Gathered.{IsGathered, HasSlot, HasRetirement}
 use Rattle.plan_stage.proofs.Truth.{first_of_two, second_of_two, same, not_is, node-is, slot-same}
 use Rattle.plan_stage.proofs.Holders.{has-step, mirror-node, held-by, holder-slot, told}
 

@@ -15,7 +15,7 @@ use Rattle.ring_table.specs.Value.{RingValue}
 use Rattle.plan_text.specs.declared.step.Step.{Step}
 use Rattle.plan_text.specs.declared.step.Planned.{Planned}
 use Rattle.plan_text.specs.Steps.{is_on, steps_from, steps_of, is_retire_of, first_step, retirement_of}
-use Rattle.plan_stage.specs.Gathered.{mirrored_node, are_steps, Grows, HasRetirement, HasStep, HasSlot}
+use Rattle.plan_stage.specs.Looking.Gathered.{mirrored_node, are_steps, Grows, HasRetirement, HasStep, HasSlot}
 use Rattle.plan_stage.proofs.Truth.{all_of, either, first_of_two, second_of_two, same, list_all-met, list_all-all}
 
 -- ---- one more number

@@ -17,7 +17,7 @@ use Rattle.plan_stage.specs.Stage.{opening, after}
 use Rattle.plan_stage.specs.Occupancy.{is_node}
 use Rattle.plan_stage.specs.Each.{step_at, each_below, is_mirror_of, owns_first}
 use Rattle.plan_stage.specs.Holdings.{holdings_from, first_holding, holdings, is_none, is_holder}
-use Rattle.plan_stage.specs.Gathered.{mirrored_node}
+use Rattle.plan_stage.specs.Looking.Gathered.{mirrored_node}
 use Rattle.plan_stage.proofs.Truth.{either, first_of_two, second_of_two, same, each_below-met, node-is}
 
 pub told : (b : Bool) → (b ≡ true) ⊎ (b ≡ false)

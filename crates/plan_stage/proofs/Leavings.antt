@@ -11,8 +11,8 @@ use Rattle.plan_text.specs.Steps.{is_on}
 use Rattle.plan_stage.specs.declared.stage.Stage.{Stage}
 use Rattle.plan_stage.specs.Stage.{after, next, fits, is_among}
 use Rattle.plan_stage.specs.Occupancy.{is_node, leaving}
-use Rattle.plan_stage.specs.Each.{is_switch_of}
-use Rattle.plan_stage.specs.Switches.{passes, next_switch, second_switch}
+use Rattle.plan_stage.specs.Each.{is_switch_of, passes}
+use Rattle.plan_stage.specs.Looking.Switches.{next_switch, second_switch}
 use Rattle.plan_stage.proofs.Places.{Acts, step_at-is}
 use Rattle.plan_stage.proofs.Stages.{after-next}
 use Rattle.plan_stage.proofs.Truth.{not_is, node-is, node-same}

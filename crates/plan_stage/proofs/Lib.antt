@@ -3,6 +3,7 @@ pub mod Below
 pub mod Stages
 pub mod Truth
 pub mod Slots
+pub mod Rising
 pub mod Asking
 pub mod Places
 pub mod Leavings

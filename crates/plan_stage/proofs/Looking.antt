@@ -19,8 +19,8 @@ use Rattle.plan_stage.specs.Occupancy.{first_drop, mirror_drop}
 use Rattle.plan_stage.specs.Each.{step_at, each_step, is_mirror_of, owns_first, place_in}
 use Rattle.plan_stage.specs.Partition.{Test, ends_before, has_dropped, step_clauses, steps_clauses}
 use Rattle.plan_stage.specs.Holdings.{is_holder}
-use Rattle.plan_stage.specs.Concerned.{is_concerned, AreConcerned}
-use Rattle.plan_stage.specs.Looked.{clauses_at, clauses_of}
+use Rattle.plan_stage.specs.Looking.Concerned.{is_concerned, AreConcerned}
+use Rattle.plan_stage.specs.Looking.Looked.{clauses_at, clauses_of}
 use Rattle.plan_stage.proofs.Below.{first-then, first-kept}
 use Rattle.plan_stage.proofs.Truth.{all_of, either, first_of_two, second_of_two, same, if_asked, each-all, each_below-all, list_all-met}
 use Rattle.plan_stage.proofs.Holders.{told, IsFree, no-holder}

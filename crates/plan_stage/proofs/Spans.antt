@@ -10,16 +10,17 @@ use Rattle.plan_text.specs.declared.step.Step.{Step}
 use Rattle.plan_text.specs.declared.step.Step.TheVariants.{Join, Mirror, Copy, Switch, Drop, Retire}
 use Rattle.plan_text.specs.declared.step.Planned.{Planned}
 use Rattle.plan_text.specs.Steps.{is_on, steps_of, is_slot}
-use Rattle.plan_stage.specs.declared.holding.SlotHoldings.{SlotHoldings}
+use Rattle.ring_names.specs.declared.lists.Lists.{Lists}
+use Rattle.plan_stage.specs.declared.holding.Holding.{Holding}
 use Rattle.plan_stage.specs.declared.behind.Behind.{Behind}
 use Rattle.plan_stage.specs.declared.stage.Stage.{Stage}
 use Rattle.plan_stage.specs.Stage.{after, next, opening}
 use Rattle.plan_stage.specs.Occupancy.{is_node, leaving, dropping}
 use Rattle.plan_stage.specs.Holdings.{holdings_from, holdings, first_holding}
-use Rattle.plan_stage.specs.Held.{held_of, IsHeld}
-use Rattle.plan_stage.specs.Each.{is_mirror_of, owns_first}
+use Rattle.plan_stage.specs.Looking.Held.{held_of, IsHeld}
+use Rattle.plan_stage.specs.Each.{is_mirror_of, owns_first, passes}
 use Rattle.plan_stage.specs.Clauses.{IsStagedSlot}
-use Rattle.plan_stage.specs.Switches.{passes, next_switch, second_switch, spans, drop_of, IsBehind, GoesBehind}
+use Rattle.plan_stage.specs.Looking.Switches.{next_switch, second_switch, spans, drop_of, IsBehind, GoesBehind}
 use Rattle.plan_stage.proofs.Places.{Acts, acts, placed, step_at-is}
 use Rattle.plan_stage.proofs.Leavings.{IsApart, apart-next, passes-is, after-is, leaving-owner, leaving-mirror}
 use Rattle.plan_stage.proofs.Truth.{node-is}
@@ -97,8 +98,8 @@ goes_back plan slot numbers k old new t e some le at goes h =
     rw e (back plan slot (k - 1) old new t (rw e at l) (rw e at at) (rw e at goes) (rw (before, ← e) h))
 
 -- the holding of the first owner, put last
-pub is_held : (ring : RingValue) (plan : List Planned) (slot : Slot) (y : NodeId) (old : Behind) (new : SlotHoldings) → owner_of ring slot ≡ Some y → IsStagedSlot ring plan slot → IsBehind plan slot old (steps_of plan slot)
-    → ((x : ℕ) → held_of new x ≡ cond (x == y.0) (held_of old.held x ++ record { begin = None; end = old.next_switch; drop = drop_of old y.0 } ∷ []) (held_of old.held x))
-    → IsHeld ring plan slot new
+pub is_held : (ring : RingValue) (plan : List Planned) (slot : Slot) (y : NodeId) (old : Behind) (new : Lists NodeId Holding) → owner_of ring slot ≡ Some y → IsStagedSlot ring plan slot → IsBehind plan slot old (steps_of plan slot)
+    → ((x : NodeId) → held_of new x ≡ cond (is_node x y) (held_of old.held x ++ record { begin = None; end = old.next_switch; drop = drop_of old y } ∷ []) (held_of old.held x))
+    → IsHeld ring plan slot (held_of new)
 is_held ring plan slot y old new own staged h more = λ x.
-    more x.0 ∙ rw (h.held x, h.next, h.drops y) (holdings-spans ring plan slot y x own staged)
+    more x ∙ rw (h.held x, h.next, h.drops y) (holdings-spans ring plan slot y x own staged)

@@ -13,7 +13,7 @@ use Rattle.plan_stage.specs.Clauses.{Guard}
 use Rattle.plan_stage.specs.Each.{step_at}
 use Rattle.plan_stage.specs.Partition.{Test, mirror_clauses, copy_clauses, step_clauses}
 use Rattle.plan_stage.proofs.Places.{step_at-is}
-use Rattle.plan_stage.specs.Looked.{clauses_at}
+use Rattle.plan_stage.specs.Looking.Looked.{clauses_at}
 
 pub step-is : (plan : List Planned) (n : ℕ) (s t : Step) → option_map (λ (x : Planned). x.step) (slice_get plan n) ≡ Some t → t ≡ s → step_at plan n ≡ Some s
 step-is plan n s t e is = step_at-is plan n t e ∙ ap (λ (u : Step). Some u) is

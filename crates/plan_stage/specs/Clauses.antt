@@ -1,5 +1,6 @@
 -- The clauses that the steps of a slot must meet, each with its refusal, in the order in which they are tested.
-use Rattle.std.specs.Prelude.{◌≡◌, ℕ, suc, zero, ◌<◌, Bool, true, List, [], ◌∷◌, ◌++◌, Option, Some, None, Result, MatchResult, length, slice_index, if◌then◌else◌}
+use Rattle.std.specs.Prelude.{◌≡◌, ℕ, suc, zero, ◌<◌, Bool, true, List, []}
+use Rattle.std.specs.Prelude.{◌∷◌, ◌++◌, Option, Some, None, Result, MatchResult, length, slice_index, if◌then◌else◌}
 use Rattle.ring_names.specs.declared.ids.Slot.{Slot}
 use Rattle.ring_names.specs.declared.refusal.Refusal.{Refusal}
 use Rattle.ring_names.specs.declared.refusal.Refusal.TheVariants.{OutOfMemory}
@@ -41,4 +42,4 @@ IsStagedIn ring plan p = (i : ℕ) → i < ring.n → IsStagedSlot ring plan (re
 
 -- each step of each of the ring's slots fits the stage after the slot's steps before it
 abbrev pub AllStaged : RingValue → List Planned → Type 0
-AllStaged ring plan = (slot : Slot) → slot.partition < ring.q → slot.index < ring.n → (k : ℕ) → k < length (steps_of plan slot) → is_staged plan (stage ring plan slot k) (steps_of plan slot) k ≡ true
+AllStaged ring plan = (slot : Slot) → slot.partition < ring.q → slot.index < ring.n → IsStagedSlot ring plan slot

@@ -9,12 +9,12 @@ use Rattle.plan_stage.specs.declared.holding.Holding.{Holding}
 use Rattle.plan_stage.specs.declared.stage.Stage.{Stage}
 use Rattle.plan_stage.specs.Stage.{opening, after}
 use Rattle.plan_stage.specs.Occupancy.{leaving, dropping, first_end, first_drop}
-use Rattle.plan_stage.specs.Each.{step_at, each_below, is_mirror_of, owns_first}
+use Rattle.plan_stage.specs.Each.{passes, each_below, is_mirror_of, owns_first, slot_at}
 
 -- the holdings of the node that these steps begin, which act on the slot from the stage on
 abbrev pub holdings_from : List Planned → Slot → NodeId → Stage → List ℕ → List Holding
 holdings_from plan slot x a [] = []
-holdings_from plan slot x a (b ∷ bs) = if elim (step_at plan b) [ Some s ↦ is_mirror_of slot x s | None ↦ false ]
+holdings_from plan slot x a (b ∷ bs) = if passes (is_mirror_of slot x) plan b
     then record { begin = Some b; end = leaving plan x (after plan a b) bs; drop = dropping plan x slot bs } ∷ holdings_from plan slot x (after plan a b) bs
     else holdings_from plan slot x (after plan a b) bs
 
@@ -24,12 +24,14 @@ first_holding ring plan slot = record { begin = None; end = first_end ring plan 
 
 -- the node's holdings of the slot, in the order in which they begin
 abbrev pub holdings : RingValue → List Planned → Slot → NodeId → List Holding
-holdings ring plan slot x = (if owns_first ring slot x then first_holding ring plan slot ∷ [] else []) ++ holdings_from plan slot x (opening ring slot) (steps_of plan slot)
+holdings ring plan slot x = (if owns_first ring slot x then first_holding ring plan slot ∷ [] else [])
+    ++ holdings_from plan slot x (opening ring slot) (steps_of plan slot)
 
+-- whether there are no holdings
 abbrev pub is_none : List Holding → Bool
 is_none [] = true
 is_none (h ∷ hs) = false
 
 -- the node holds some slot of the partition for some time
 abbrev pub is_holder : RingValue → List Planned → ℕ → NodeId → Bool
-is_holder ring plan p x = not (each_below ring.n (λ i. is_none (holdings ring plan (record { partition = p; index = i }) x)))
+is_holder ring plan p x = not (each_below ring.n (λ i. is_none (holdings ring plan (slot_at p i) x)))

@@ -1,14 +1,8 @@
 pub mod Stage
 pub mod Clauses
-pub mod Walk
 pub mod Occupancy
 pub mod Parties
 pub mod Each
 pub mod Partition
 pub mod Holdings
-pub mod Concerned
-pub mod Gathered
-pub mod Looked
-pub mod Held
-pub mod Asked
-pub mod Switches
+pub mod Looking

@@ -10,6 +10,7 @@ use Rattle.plan_text.specs.Steps.{steps_of, is_slot}
 use Rattle.plan_stage.specs.declared.stage.Stage.{Stage}
 use Rattle.plan_stage.specs.Stage.{opening, stage, after}
 
+-- whether it is the same node
 abbrev pub is_node : NodeId → NodeId → Bool
 is_node x y = x.0 == y.0
 
@@ -18,6 +19,7 @@ abbrev pub leaving : List Planned → NodeId → Stage → List ℕ → Option �
 leaving plan x a [] = None
 leaving plan x a (s ∷ ss) = if is_node x a.owner && not (is_node x (after plan a s).owner) then Some s else leaving plan x (after plan a s) ss
 
+-- whether the step drops what the node has of the slot
 abbrev pub is_drop_of : NodeId → Slot → Step → Bool
 is_drop_of x slot (Join y) = false
 is_drop_of x slot (Mirror t y) = false
@@ -34,16 +36,18 @@ dropping plan x slot (s ∷ ss) = elim (slice_get plan s) [
   | None ↦ dropping plan x slot ss
 ]
 
--- the occupancy of the first owner ends at such a step, and that of the node which the slot's k-th step mirrors
+-- the step at which the occupancy of the first owner ends
 abbrev pub first_end : RingValue → List Planned → Slot → Option ℕ
 first_end ring plan slot = leaving plan (opening ring slot).owner (opening ring slot) (steps_of plan slot)
 
+-- the step at which that of the node ends which the slot's k-th step mirrors
 abbrev pub mirror_end : RingValue → List Planned → Slot → ℕ → NodeId → Option ℕ
 mirror_end ring plan slot k x = leaving plan x (stage ring plan slot (suc k)) (drop (suc k) (steps_of plan slot))
 
--- and their holdings
+-- the step at which the holding of the first owner ends
 abbrev pub first_drop : RingValue → List Planned → Slot → Option ℕ
 first_drop ring plan slot = dropping plan (opening ring slot).owner slot (steps_of plan slot)
 
+-- the step at which that of the node ends which the slot's k-th step mirrors
 abbrev pub mirror_drop : List Planned → Slot → ℕ → NodeId → Option ℕ
 mirror_drop plan slot k x = dropping plan x slot (drop (suc k) (steps_of plan slot))

@@ -6,9 +6,8 @@ use Rattle.ring_table.specs.Value.{RingValue}
 use Rattle.plan_text.specs.declared.step.Source.{Source}
 use Rattle.plan_text.specs.declared.step.Source.TheVariants.{Owner, Slots}
 use Rattle.plan_text.specs.declared.step.Step.{Step}
-use Rattle.plan_text.specs.declared.step.Step.TheVariants.{Join, Mirror, Copy, Switch, Drop, Retire}
 use Rattle.plan_text.specs.declared.step.Planned.{Planned}
-use Rattle.plan_text.specs.Steps.{steps_of}
+use Rattle.plan_text.specs.Steps.{steps_of, copy_of}
 use Rattle.plan_stage.specs.declared.stage.Stage.{Stage}
 use Rattle.plan_stage.specs.Stage.{stage, with_node}
 
@@ -31,27 +30,22 @@ abbrev pub owners_before : RingValue → List Planned → ℕ → List Slot → 
 owners_before ring plan n [] = []
 owners_before ring plan n (slot ∷ slots) = with_node (stage_before ring plan slot n).owner (owners_before ring plan n slots)
 
--- the owners of the source slots of step n, and with them the mirror that it copies to; none where it is no copy
+-- the owners of the source slots of step n; none where it is no copy
 abbrev pub sources_of : RingValue → List Planned → ℕ → Step → List NodeId
-sources_of ring plan n (Join x) = []
-sources_of ring plan n (Mirror slot x) = []
-sources_of ring plan n (Copy slot from) = owners_before ring plan n (source_slots slot from)
-sources_of ring plan n (Switch slot) = []
-sources_of ring plan n (Drop slot x) = []
-sources_of ring plan n (Retire x) = []
+sources_of ring plan n s = elim (copy_of s) [ Some c ↦ owners_before ring plan n (source_slots c.0 c.1) | None ↦ [] ]
 
+-- the mirror to which step n copies
 abbrev pub target_of : RingValue → List Planned → ℕ → Step → Option NodeId
-target_of ring plan n (Join x) = None
-target_of ring plan n (Mirror slot x) = None
-target_of ring plan n (Copy slot from) = (stage_before ring plan slot n).mirror
-target_of ring plan n (Switch slot) = None
-target_of ring plan n (Drop slot x) = None
-target_of ring plan n (Retire x) = None
+target_of ring plan n s = elim (copy_of s) [ Some c ↦ (stage_before ring plan c.0 n).mirror | None ↦ None ]
 
+-- these nodes, and the mirror with them
 abbrev pub with_target : Option NodeId → List NodeId → List NodeId
 with_target None xs = xs
 with_target (Some x) xs = with_node x xs
 
 -- the nodes of step n, by number
 abbrev pub parties : RingValue → List Planned → ℕ → List NodeId
-parties ring plan n = elim (slice_get plan n) [ Some step ↦ with_target (target_of ring plan n step.step) (sources_of ring plan n step.step) | None ↦ [] ]
+parties ring plan n = elim (slice_get plan n) [
+  | Some step ↦ with_target (target_of ring plan n step.step) (sources_of ring plan n step.step)
+  | None ↦ []
+]

@@ -1,13 +1,15 @@
 //! What a pass over a slot's steps, the last one first, knows of the steps behind it.
 
-ghost use Rattle.std.specs.Prelude.{◌≡◌, ℕ, ◌==◌, ◌++◌, ◌∷◌, [], None, IfErr, OnOk, if◌then◌else◌};
+ghost use Rattle.std.specs.Prelude.{◌≡◌, ◌++◌, ◌∷◌, [], None, IfErr, OnOk, if◌then◌else◌};
+ghost use Rattle.ring_names.specs.declared.ids.NodeId.{NodeId as TheNode};
 ghost use Rattle.ring_names.specs.declared.refusal.Refusal.TheVariants.{OutOfMemory};
-ghost use Rattle.plan_stage.specs.Held.{held_of};
-ghost use Rattle.plan_stage.specs.Switches.{drop_of, GoesBehind};
+ghost use Rattle.plan_stage.specs.Occupancy.{is_node};
+ghost use Rattle.plan_stage.specs.Looking.Held.{held_of};
+ghost use Rattle.plan_stage.specs.Looking.Switches.{drop_of, GoesBehind};
 
-use crate::holding::{Holding, SlotHoldings};
+use crate::holding::Holding;
 use plan_text::Step;
-use ring_names::{NodeId, Refusal};
+use ring_names::{Lists, NodeId, Refusal};
 use std::alloc::Global;
 use std::collections::HashMap;
 
@@ -17,8 +19,8 @@ pub struct Behind {
     /// The first switch behind, if there is one.
     pub next_switch: Option<u32>,
     second_switch: Option<u32>,
-    drops: HashMap<u32, u32>,
-    held: SlotHoldings,
+    drops: HashMap<NodeId, u32>,
+    held: Lists<NodeId, Holding>,
 }
 
 impl Behind {
@@ -26,33 +28,33 @@ impl Behind {
     pub fn new(alloc: Global) -> Behind
         ensures next { result.next_switch ≡ None }
         ensures second { result.second_switch ≡ None }
-        ensures drops { (x : ℕ) → drop_of result x ≡ None }
-        ensures held { (x : ℕ) → held_of result.held x ≡ [] }
+        ensures drops { (x : TheNode) → drop_of result x ≡ None }
+        ensures held { (x : TheNode) → held_of result.held x ≡ [] }
     {
         Behind {
             next_switch: None,
             second_switch: None,
             drops: HashMap::new(alloc),
-            held: SlotHoldings::new(alloc),
+            held: Lists::new(alloc),
         }
     }
 
     /// Goes back over one step of the slot.
-    pub fn add(&mut self, alloc: Global, step: &Step, number: u32) -> Result<(), Refusal>
+    pub fn add(&mut self, step: &Step, number: u32) -> Result<(), Refusal>
         ensures ok { OnOk result (GoesBehind self.old self.new step.now number) }
         ensures memory { IfErr result (λ e. e ≡ OutOfMemory) }
     {
         match step {
             Step::Mirror(_, node) => {
                 let end = self.second_switch;
-                self.begin(alloc, *node, Some(number), end)?;
+                self.begin(*node, Some(number), end)?;
             }
             Step::Switch(_) => {
                 self.second_switch = self.next_switch;
                 self.next_switch = Some(number);
             }
             Step::Drop(_, node) => {
-                self.drops.insert(node.0, number)?;
+                self.drops.insert(*node, number)?;
             }
             Step::Copy(_, _) | Step::Join(_) | Step::Retire(_) => {}
         }
@@ -62,23 +64,22 @@ impl Behind {
     /// The node begins to hold the slot, until it drops it.
     pub fn begin(
         &mut self,
-        alloc: Global,
         node: NodeId,
         begin: Option<u32>,
         end: Option<u32>,
     ) -> Result<(), Refusal>
         ensures next { self.new.next_switch ≡ self.old.next_switch }
         ensures second { self.new.second_switch ≡ self.old.second_switch }
-        ensures drops { (x : ℕ) → drop_of self.new x ≡ drop_of self.old x }
-        ensures held { OnOk result ((x : ℕ) → held_of self.new.held x ≡ (if x == node.0 then held_of self.old.held x ++ record { begin = begin; end = end; drop = drop_of self.old node.0 } ∷ [] else held_of self.old.held x)) }
+        ensures drops { (x : TheNode) → drop_of self.new x ≡ drop_of self.old x }
+        ensures held { OnOk result ((x : TheNode) → held_of self.new.held x ≡ (if is_node x node then held_of self.old.held x ++ record { begin = begin; end = end; drop = drop_of self.old node } ∷ [] else held_of self.old.held x)) }
         ensures memory { IfErr result (λ e. e ≡ OutOfMemory) }
     {
-        let drop = self.drops.get(&node.0).copied();
-        self.held.push(alloc, node, Holding { begin, end, drop })
+        let drop = self.drops.get(&node).copied();
+        self.held.add(node, Holding { begin, end, drop })
     }
 
     /// What the nodes hold.
-    pub fn into_held(self) -> SlotHoldings
+    pub fn into_held(self) -> Lists<NodeId, Holding>
         ensures { result ≡ self.held }
     {
         let Behind {

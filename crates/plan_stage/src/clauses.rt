@@ -1,24 +1,22 @@
 //! What one step of a partition must meet.
 
-ghost use Rattle.std.specs.Prelude.{◌≡◌, ◌<◌, ◌||◌, ◌&&◌, ◌==◌, not, true, length, slice_get, option_map, Some, nat_lt, nat_le, EachIndex, slice_index};
+ghost use Rattle.std.specs.Prelude.{◌≡◌, ◌<◌, ◌||◌, ◌&&◌, ◌==◌, not, true, length, slice_get, option_map, Some, nat_lt, nat_le, EachIndex, slice_index, reverse};
 ghost use Rattle.std.specs.List.{list_all, list_any};
 ghost use Rattle.ring_names.specs.Lists.{all_different};
 ghost use Rattle.plan_text.specs.declared.step.Step.TheVariants.{Copy};
-ghost use Rattle.plan_text.specs.Valid.{Suits};
-ghost use Rattle.plan_order.specs.Facts.{AreFactsOf, is_ordered};
+ghost use Rattle.plan_order.specs.Order.{order};
 ghost use Rattle.plan_stage.specs.Clauses.{Gives};
 ghost use Rattle.plan_stage.specs.Partition.{ends_before, is_settled, has_left, has_dropped, mirror_clauses, copy_clauses, step_clauses};
 ghost use Rattle.plan_stage.specs.Each.{each_step, each_below, is_switch_of, sibling};
-ghost use Rattle.plan_stage.specs.Held.{AreHeld, held_at};
-ghost use Rattle.plan_stage.specs.Looked.{clauses_at};
-ghost use Rattle.plan_stage.specs.Asked.{switches, is_settling, begins_before, is_left_before, is_dropped_before};
+ghost use Rattle.plan_stage.specs.Looking.Held.{AreHeld, held_at};
+ghost use Rattle.plan_stage.specs.Looking.Looked.{clauses_at};
+ghost use Rattle.plan_stage.specs.Looking.Asked.{switches, is_settling, begins_before, are_left, is_dropped_before};
 
 use crate::holding::{Holding, Holdings};
-use crate::joined::has_joined;
-use plan_order::Facts;
+use crate::joined::has_joined_by;
+use plan_order::Context;
 use plan_text::{Plan, Source, Step};
 use ring_names::{NodeId, Refusal, Slot};
-use ring_table::Ring;
 
 // Whether the number is one of these.
 fn is_among(number: u32, numbers: &[u32]) -> bool
@@ -41,12 +39,11 @@ fn are_different(numbers: &[u32]) -> bool
 }
 
 // Whether there is such a step, and it comes before the other.
-fn ends_before(plan: &Plan, facts: &Facts, end: Option<u32>, number: u32) -> bool
-    requires { AreFactsOf plan.now facts.now }
-    ensures { result ≡ ends_before (is_ordered plan.now facts.now) end number }
+fn ends_before(context: &Context, end: Option<u32>, number: u32) -> bool
+    ensures { result ≡ ends_before (order context.now) end number }
 {
     match end {
-        Some(end) => facts.ordered(plan, end, number),
+        Some(end) => context.ordered(end, number),
         None => false,
     }
 }
@@ -59,115 +56,91 @@ fn switches(plan: &Plan, number: u32) -> bool
 }
 
 // Whether the step of a slot is no switch of it, or comes before or after the other step.
-fn settles(plan: &Plan, facts: &Facts, number: u32, other: u32) -> bool
-    requires { AreFactsOf plan.now facts.now }
-    ensures { result ≡ is_settling plan.now (is_ordered plan.now facts.now) number other }
+fn settles(context: &Context, number: u32, other: u32) -> bool
+    ensures { result ≡ is_settling context.now.plan.now (order context.now) number other }
 {
-    !switches(plan, other)
-        || facts.ordered(plan, other, number)
-        || facts.ordered(plan, number, other)
+    !switches(context.plan, other)
+        || context.ordered(other, number)
+        || context.ordered(number, other)
 }
 
 // Whether each switch among these steps comes before or after the step.
-fn are_settled(plan: &Plan, facts: &Facts, number: u32, others: &[u32]) -> bool
-    requires { AreFactsOf plan.now facts.now }
-    ensures { result ≡ list_all (is_settling plan.now (is_ordered plan.now facts.now) number) others.now }
+fn are_settled(context: &Context, number: u32, others: &[u32]) -> bool
+    ensures { result ≡ list_all (is_settling context.now.plan.now (order context.now) number) others.now }
 {
-    others
-        .iter()
-        .all(|other| settles(plan, facts, number, *other))
+    others.iter().all(|other| settles(context, number, *other))
 }
 
 // Whether each switch of the slot comes before or after the step.
-fn is_settled_slot(plan: &Plan, facts: &Facts, number: u32, slot: Slot) -> bool
-    requires { AreFactsOf plan.now facts.now }
-    ensures { result ≡ each_step (λ m s. not (is_switch_of slot s) || (is_ordered plan.now facts.now m number || is_ordered plan.now facts.now number m)) 0 plan.now }
+fn is_settled_slot(context: &Context, number: u32, slot: Slot) -> bool
+    ensures { result ≡ each_step (λ m s. not (is_switch_of slot s) || (order context.now m number || order context.now number m)) 0 context.now.plan.now }
 {
-    are_settled(plan, facts, number, plan.slot_steps(slot))
+    are_settled(context, number, context.plan.slot_steps(slot))
 }
 
 // Whether each switch of a listed slot comes before or after the step.
-fn is_settled(plan: &Plan, facts: &Facts, number: u32, slot: Slot, from: &[u32]) -> bool
-    requires { AreFactsOf plan.now facts.now }
-    ensures { result ≡ is_settled plan.now (is_ordered plan.now facts.now) number slot from.now }
+fn is_settled(context: &Context, number: u32, slot: Slot, from: &[u32]) -> bool
+    ensures { result ≡ is_settled context.now.plan.now (order context.now) number slot from.now }
 {
     from.iter().all(|index| {
         let listed = Slot {
             partition: slot.partition,
             index: *index,
         };
-        is_settled_slot(plan, facts, number, listed)
+        is_settled_slot(context, number, listed)
     })
 }
 
 // Whether the holding begins at the start or before the step.
-fn begins_before(begin: Option<u32>, number: u32) -> bool
-    ensures { result ≡ begins_before begin number }
+fn begins_before(holding: &Holding, number: u32) -> bool
+    ensures { result ≡ begins_before number holding.now }
 {
-    match begin {
+    match holding.begin {
         Some(begin) => begin < number,
         None => true,
     }
 }
 
-// Whether the node no longer owns the slot by the step, if it served the slot before that.
-fn is_left(plan: &Plan, facts: &Facts, number: u32, holding: &Holding) -> bool
-    requires { AreFactsOf plan.now facts.now }
-    ensures { result ≡ is_left_before (is_ordered plan.now facts.now) number holding.now }
-{
-    !begins_before(holding.begin, number) || ends_before(plan, facts, holding.end, number)
-}
-
-// Whether all these holdings are left by the step.
-fn are_left(plan: &Plan, facts: &Facts, number: u32, held: &[Holding]) -> bool
-    requires { AreFactsOf plan.now facts.now }
-    ensures { result ≡ list_all (is_left_before (is_ordered plan.now facts.now) number) held.now }
+// Whether those of these holdings that begin before the step, from the last on, are ended by then. It stops at the first that
+// begins later.
+fn are_left(context: &Context, number: u32, held: &[Holding]) -> bool
+    ensures { result ≡ are_left (order context.now) number (reverse held.now) }
 {
     held.iter()
-        .all(|holding| is_left(plan, facts, number, holding))
+        .rev()
+        .take_while(|holding| begins_before(holding, number))
+        .all(|holding| ends_before(context, holding.end, number))
 }
 
 // Whether what all these holdings held is dropped by the step.
-fn are_dropped(plan: &Plan, facts: &Facts, number: u32, held: &[Holding]) -> bool
-    requires { AreFactsOf plan.now facts.now }
-    ensures { result ≡ list_all (is_dropped_before (is_ordered plan.now facts.now) number) held.now }
+fn are_dropped(context: &Context, number: u32, held: &[Holding]) -> bool
+    ensures { result ≡ list_all (is_dropped_before (order context.now) number) held.now }
 {
     held.iter()
-        .all(|holding| ends_before(plan, facts, holding.drop, number))
+        .all(|holding| ends_before(context, holding.drop, number))
 }
 
 // Whether the slot of that index is the step's own, or the node has left it by the step.
 fn is_left_at(
-    plan: &Plan,
-    facts: &Facts,
+    context: &Context,
     holdings: &Holdings,
     number: u32,
     slot: Slot,
     node: NodeId,
     index: u32,
 ) -> bool
-    requires { AreFactsOf plan.now facts.now }
-    ensures { result ≡ ((index == slot.index) || list_all (is_left_before (is_ordered plan.now facts.now) number) (held_at holdings.now index node.0)) }
+    ensures { result ≡ ((index == slot.index) || are_left (order context.now) number (reverse (held_at holdings.now index node))) }
 {
-    index == slot.index || are_left(plan, facts, number, holdings.held(index, node))
+    index == slot.index || are_left(context, number, holdings.held(index, node))
 }
 
 // Whether the node has left each other slot of the partition that it served from the start or from an earlier step on.
-fn has_left(
-    ring: &Ring,
-    plan: &Plan,
-    facts: &Facts,
-    holdings: &Holdings,
-    number: u32,
-    slot: Slot,
-    node: NodeId,
-) -> bool
-    requires facts { AreFactsOf plan.now facts.now }
-    requires held { AreHeld ring.now plan.now slot.partition holdings.now }
-    ensures { result ≡ has_left ring.now plan.now (is_ordered plan.now facts.now) number slot node }
+fn has_left(context: &Context, holdings: &Holdings, number: u32, slot: Slot, node: NodeId) -> bool
+    requires { AreHeld context.now.ring.now context.now.plan.now slot.partition holdings.now }
+    ensures { result ≡ has_left context.now.ring.now context.now.plan.now (order context.now) number slot node }
 {
-    for index in 0..ring.n() {
-        if !is_left_at(plan, facts, holdings, number, slot, node, index) {
+    for index in 0..context.ring.n() {
+        if !is_left_at(context, holdings, number, slot, node, index) {
             return false;
         }
     }
@@ -176,20 +149,17 @@ fn has_left(
 
 // Whether the node has dropped all that it held of the partition.
 fn has_dropped(
-    ring: &Ring,
-    plan: &Plan,
-    facts: &Facts,
+    context: &Context,
     holdings: &Holdings,
     partition: u32,
     number: u32,
     node: NodeId,
 ) -> bool
-    requires facts { AreFactsOf plan.now facts.now }
-    requires held { AreHeld ring.now plan.now partition holdings.now }
-    ensures { result ≡ has_dropped ring.now plan.now (is_ordered plan.now facts.now) partition number node }
+    requires { AreHeld context.now.ring.now context.now.plan.now partition holdings.now }
+    ensures { result ≡ has_dropped context.now.ring.now context.now.plan.now (order context.now) partition number node }
 {
-    for index in 0..ring.n() {
-        if !are_dropped(plan, facts, number, holdings.held(index, node)) {
+    for index in 0..context.ring.n() {
+        if !are_dropped(context, number, holdings.held(index, node)) {
             return false;
         }
     }
@@ -198,91 +168,67 @@ fn has_dropped(
 
 // Tests a step that mirrors a slot to a node.
 fn check_mirror(
-    ring: &Ring,
-    plan: &Plan,
-    facts: &Facts,
+    context: &Context,
     holdings: &Holdings,
     number: u32,
     slot: Slot,
     node: NodeId,
 ) -> Result<(), Refusal>
-    requires suits { Suits ring.now plan.now }
-    requires facts { AreFactsOf plan.now facts.now }
-    requires held { AreHeld ring.now plan.now slot.partition holdings.now }
-    ensures { Gives result (mirror_clauses ring.now plan.now (is_ordered plan.now facts.now) number slot node) }
+    requires { AreHeld context.now.ring.now context.now.plan.now slot.partition holdings.now }
+    ensures { Gives result (mirror_clauses context.now.ring.now context.now.plan.now (order context.now) number slot node) }
 {
-    if !has_left(ring, plan, facts, holdings, number, slot, node) {
+    if !has_left(context, holdings, number, slot, node) {
         return Err(Refusal::SharedInPlan(number));
     }
-    if !has_joined(ring, plan, facts, number, node) {
+    if !has_joined_by(context, number, node) {
         return Err(Refusal::NotJoined(number));
     }
     Ok(())
 }
 
 // Tests a step that copies from listed slots.
-fn check_listed(
-    ring: &Ring,
-    plan: &Plan,
-    facts: &Facts,
-    number: u32,
-    slot: Slot,
-    from: &[u32],
-) -> Result<(), Refusal>
-    requires facts { AreFactsOf plan.now facts.now }
-    ensures { Gives result (copy_clauses ring.now plan.now (is_ordered plan.now facts.now) number slot from.now) }
+fn check_listed(context: &Context, number: u32, slot: Slot, from: &[u32]) -> Result<(), Refusal>
+    ensures { Gives result (copy_clauses context.now.ring.now context.now.plan.now (order context.now) number slot from.now) }
 {
-    if !are_different(from) || from.len() < ring.r() as usize {
+    if !are_different(from) || from.len() < context.ring.r() as usize {
         return Err(Refusal::BadSource(number));
     }
-    if !is_settled(plan, facts, number, slot, from) {
+    if !is_settled(context, number, slot, from) {
         return Err(Refusal::MovingSource(number));
     }
     Ok(())
 }
 
 // Tests a step that copies to the slot's mirror.
-fn check_copy(
-    ring: &Ring,
-    plan: &Plan,
-    facts: &Facts,
-    number: u32,
-    slot: Slot,
-    source: &Source,
-) -> Result<(), Refusal>
-    requires facts { AreFactsOf plan.now facts.now }
-    ensures { Gives result (step_clauses ring.now plan.now (is_ordered plan.now facts.now) slot.partition number (Copy slot source.now)) }
+fn check_copy(context: &Context, number: u32, slot: Slot, source: &Source) -> Result<(), Refusal>
+    ensures { Gives result (step_clauses context.now.ring.now context.now.plan.now (order context.now) slot.partition number (Copy slot source.now)) }
 {
     match source {
         Source::Owner => Ok(()),
-        Source::Slots(from) => check_listed(ring, plan, facts, number, slot, from.as_slice()),
+        Source::Slots(from) => check_listed(context, number, slot, from.as_slice()),
     }
 }
 
 /// Tests what the step of that number must meet in the partition. Costs a look-up for each pair of steps that it compares.
 pub fn check_step(
-    ring: &Ring,
-    plan: &Plan,
-    facts: &Facts,
+    context: &Context,
     holdings: &Holdings,
     partition: u32,
     number: u32,
 ) -> Result<(), Refusal>
-    requires number { number < length plan.now }
-    requires suits { Suits ring.now plan.now }
-    requires facts { AreFactsOf plan.now facts.now }
-    requires held { AreHeld ring.now plan.now partition holdings.now }
-    ensures { Gives result (clauses_at (step_clauses ring.now plan.now (is_ordered plan.now facts.now) partition) plan.now number) }
+    requires number { number < length context.now.plan.now }
+    requires held { AreHeld context.now.ring.now context.now.plan.now partition holdings.now }
+    ensures { Gives result (clauses_at (step_clauses context.now.ring.now context.now.plan.now (order context.now) partition) context.now.plan.now number) }
 {
-    match plan.step(number) {
+    match context.plan.step(number) {
         Step::Mirror(slot, node) if slot.partition == partition => {
-            check_mirror(ring, plan, facts, holdings, number, *slot, *node)
+            check_mirror(context, holdings, number, *slot, *node)
         }
         Step::Copy(slot, source) if slot.partition == partition => {
-            check_copy(ring, plan, facts, number, *slot, source)
+            check_copy(context, number, *slot, source)
         }
         Step::Retire(node) => {
-            if has_dropped(ring, plan, facts, holdings, partition, number, *node) {
+            if has_dropped(context, holdings, partition, number, *node) {
                 Ok(())
             } else {
                 Err(Refusal::RetiredInUse(number))

@@ -4,8 +4,8 @@ ghost use Rattle.std.specs.Prelude.{◌≡◌, ◌<◌, IfOk, IfErr, OnOk, lengt
 ghost use Rattle.ring_names.specs.Lists.{has};
 ghost use Rattle.ring_names.specs.declared.refusal.Refusal.TheVariants.{OutOfMemory};
 ghost use Rattle.plan_text.specs.Valid.{Suits, ascends};
-ghost use Rattle.plan_stage.specs.Concerned.{AreConcerned};
-ghost use Rattle.plan_stage.specs.Gathered.{mirrored_node, Grows, HasRetirement, HasStep, HasSlot, IsGathered};
+ghost use Rattle.plan_stage.specs.Looking.Concerned.{AreConcerned};
+ghost use Rattle.plan_stage.specs.Looking.Gathered.{mirrored_node, Grows, HasRetirement, HasStep, HasSlot, IsGathered};
 
 use plan_text::{Plan, Step};
 use ring_names::{NodeId, Refusal, Slot};

@@ -1,16 +1,15 @@
 //! How long nodes hold versions of the slots of a partition.
 
-ghost use Rattle.std.specs.Prelude.{◌≡◌, ◌<◌, ℕ, ◌==◌, ◌++◌, ◌∷◌, [], IfOk, IfErr, OnOk, if◌then◌else◌};
+ghost use Rattle.std.specs.Prelude.{◌≡◌, ◌<◌, IfOk, IfErr};
 ghost use Rattle.ring_names.specs.declared.refusal.Refusal.TheVariants.{OutOfMemory};
 ghost use Rattle.plan_stage.specs.Clauses.{IsStagedSlot, IsStagedIn};
-ghost use Rattle.plan_stage.specs.Held.{held_of, held_at, IsHeld, AreHeld};
+ghost use Rattle.plan_stage.specs.Looking.Held.{held_of, held_at, IsHeld, AreHeld};
 
 use crate::behind::Behind;
 use plan_text::Plan;
-use ring_names::{NodeId, Refusal, Slot};
+use ring_names::{Lists, NodeId, Refusal, Slot};
 use ring_table::Ring;
 use std::alloc::Global;
-use std::collections::HashMap;
 
 /// One time for which a node holds versions of a slot. Steps are told by their numbers.
 #[derive(Clone, Copy, Debug)]
@@ -23,78 +22,33 @@ pub struct Holding {
     pub drop: Option<u32>,
 }
 
-/// What each node holds of one slot, the last holding first.
-#[derive(Drop)]
-pub struct SlotHoldings {
-    lists: HashMap<u32, Vec<Holding>>,
-}
-
-impl SlotHoldings {
-    /// The holdings of one slot. Costs one pass over the slot's steps.
-    pub fn of(alloc: Global, ring: &Ring, plan: &Plan, slot: Slot) -> Result<SlotHoldings, Refusal>
-        requires partition { slot.partition < ring.now.q }
-        requires index { slot.index < ring.now.n }
-        requires staged { IsStagedSlot ring.now plan.now slot }
-        ensures ok { IfOk result (λ a. IsHeld ring.now plan.now slot a) }
-        ensures memory { IfErr result (λ e. e ≡ OutOfMemory) }
-    {
-        let mut behind = Behind::new(alloc);
-        let numbers = plan.slot_steps(slot);
-        for k in (0..numbers.len()).rev() {
-            behind.add(alloc, plan.step(numbers[k]), numbers[k])?;
-        }
-        let end = behind.next_switch;
-        behind.begin(alloc, ring.owner(slot), None, end)?;
-        Ok(behind.into_held())
+// What each node holds of one slot, the last holding first. Costs one pass over the slot's steps.
+fn slot_holdings(
+    alloc: Global,
+    ring: &Ring,
+    plan: &Plan,
+    slot: Slot,
+) -> Result<Lists<NodeId, Holding>, Refusal>
+    requires partition { slot.partition < ring.now.q }
+    requires index { slot.index < ring.now.n }
+    requires staged { IsStagedSlot ring.now plan.now slot }
+    ensures ok { IfOk result (λ a. IsHeld ring.now plan.now slot (held_of a)) }
+    ensures memory { IfErr result (λ e. e ≡ OutOfMemory) }
+{
+    let mut behind = Behind::new(alloc);
+    let numbers = plan.slot_steps(slot);
+    for k in (0..numbers.len()).rev() {
+        behind.add(plan.step(numbers[k]), numbers[k])?;
     }
-
-    /// No node holds the slot.
-    pub(crate) fn new(alloc: Global) -> SlotHoldings
-        ensures { (x : ℕ) → held_of result x ≡ [] }
-    {
-        SlotHoldings {
-            lists: HashMap::new(alloc),
-        }
-    }
-
-    /// Puts a holding last among those of its node.
-    pub(crate) fn push(
-        &mut self,
-        alloc: Global,
-        node: NodeId,
-        holding: Holding,
-    ) -> Result<(), Refusal>
-        ensures ok { OnOk result ((x : ℕ) → held_of self.new x ≡ (if x == node.0 then held_of self.old x ++ holding ∷ [] else held_of self.old x)) }
-        ensures memory { IfErr result (λ e. e ≡ OutOfMemory) }
-    {
-        match self.lists.get_mut(&node.0) {
-            Some(list) => {
-                list.push(holding)?;
-            }
-            None => {
-                let mut list = Vec::new(alloc);
-                list.push(holding)?;
-                self.lists.insert(node.0, list)?;
-            }
-        }
-        Ok(())
-    }
-
-    /// What the node holds of the slot.
-    pub fn held(&self, node: NodeId) -> &[Holding]
-        ensures { result.now ≡ held_of self.now node.0 }
-    {
-        match self.lists.get(&node.0) {
-            Some(list) => list.as_slice(),
-            None => &[],
-        }
-    }
+    let end = behind.next_switch;
+    behind.begin(ring.owner(slot), None, end)?;
+    Ok(behind.into_held())
 }
 
 /// What each node holds of the slots of a partition, by index.
 #[derive(Drop)]
 pub struct Holdings {
-    slots: Vec<SlotHoldings>,
+    slots: Vec<Lists<NodeId, Holding>>,
 }
 
 impl Holdings {
@@ -107,17 +61,17 @@ impl Holdings {
     {
         let mut slots = Vec::new(alloc);
         for index in 0..ring.n() {
-            slots.push(SlotHoldings::of(alloc, ring, plan, Slot { partition, index })?)?;
+            slots.push(slot_holdings(alloc, ring, plan, Slot { partition, index })?)?;
         }
         Ok(Holdings { slots })
     }
 
-    /// What the node holds of the slot of that index.
+    /// What the node holds of the slot of that index, the last holding first.
     pub fn held(&self, index: u32, node: NodeId) -> &[Holding]
-        ensures { result.now ≡ held_at self.now index node.0 }
+        ensures { result.now ≡ held_at self.now index node }
     {
         match self.slots.get(index as usize) {
-            Some(slot) => slot.held(node),
+            Some(slot) => slot.items(&node),
             None => &[],
         }
     }

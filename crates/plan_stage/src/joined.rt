@@ -1,15 +1,15 @@
 //! Whether a node is on the ring before a step.
 
-ghost use Rattle.std.specs.Prelude.{◌≡◌, true, ◌&&◌};
-ghost use Rattle.ring_names.specs.Lists.{all_different};
+ghost use Rattle.std.specs.Prelude.{◌≡◌, ◌&&◌};
 ghost use Rattle.ring_table.specs.Value.{is_member};
-ghost use Rattle.plan_text.specs.Steps.{joined, is_join_of};
+ghost use Rattle.plan_text.specs.Steps.{is_join_of};
 ghost use Rattle.plan_text.specs.Valid.{Suits};
 ghost use Rattle.plan_order.specs.Facts.{is_ordered, AreFactsOf};
+ghost use Rattle.plan_order.specs.Order.{order};
 ghost use Rattle.plan_stage.specs.Each.{some_step};
 ghost use Rattle.plan_stage.specs.Partition.{has_joined};
 
-use plan_order::Facts;
+use plan_order::{Context, Facts};
 use plan_text::Plan;
 use ring_names::NodeId;
 use ring_table::Ring;
@@ -20,7 +20,15 @@ pub fn has_joined(ring: &Ring, plan: &Plan, facts: &Facts, step: u32, node: Node
     requires facts { AreFactsOf plan.now facts.now }
     ensures { result ≡ has_joined ring.now plan.now (is_ordered plan.now facts.now) step node }
 {
-    is_member(ring, node) || joins_before(plan, facts, step, node)
+    let context = Context { ring, plan, facts };
+    has_joined_by(&context, step, node)
+}
+
+/// The same, in a context.
+pub fn has_joined_by(context: &Context, step: u32, node: NodeId) -> bool
+    ensures { result ≡ has_joined context.now.ring.now context.now.plan.now (order context.now) step node }
+{
+    is_member(context.ring, node) || joins_before(context, step, node)
 }
 
 // Whether the node is a member before the first step.
@@ -34,13 +42,11 @@ fn is_member(ring: &Ring, node: NodeId) -> bool
 }
 
 // Whether the step that joins the node comes before the step.
-fn joins_before(plan: &Plan, facts: &Facts, step: u32, node: NodeId) -> bool
-    requires joins { all_different (joined plan.now) ≡ true }
-    requires facts { AreFactsOf plan.now facts.now }
-    ensures { result ≡ some_step (λ j s. is_join_of node.0 s && is_ordered plan.now facts.now j step) 0 plan.now }
+fn joins_before(context: &Context, step: u32, node: NodeId) -> bool
+    ensures { result ≡ some_step (λ j s. is_join_of node.0 s && order context.now j step) 0 context.now.plan.now }
 {
-    match plan.join_of(node) {
-        Some(join) => facts.ordered(plan, join, step),
+    match context.plan.join_of(node) {
+        Some(join) => context.ordered(join, step),
         None => false,
     }
 }

@@ -11,11 +11,9 @@ mod holding;
 mod joined;
 mod party;
 mod stage;
-#[cfg(test)]
-mod tests;
 mod walk;
 
 pub use check::{check_partition, stage_at};
-pub use joined::has_joined;
+pub use joined::{has_joined, has_joined_by};
 pub use party::parties;
 pub use stage::Stage;

@@ -7,7 +7,6 @@ ghost use Rattle.plan_text.specs.Steps.{steps_of};
 ghost use Rattle.plan_text.specs.Valid.{Suits, source_suits};
 ghost use Rattle.plan_stage.specs.Parties.{count_below, stage_before, source_slots, owners_before, with_target, parties};
 ghost use Rattle.plan_stage.specs.Stage.{with_node};
-ghost use Rattle.plan_stage.specs.Walk.{nodes};
 
 use crate::check::stage_at;
 use crate::stage::Stage;
@@ -72,11 +71,11 @@ fn owners_before(
     step: u32,
     slot: Slot,
     source: &Source,
-) -> Result<BTreeSet<u32>, Refusal>
+) -> Result<BTreeSet<NodeId>, Refusal>
     requires partition { slot.partition < ring.now.q }
     requires index { slot.index < ring.now.n }
     requires suits { source_suits ring.now source.now ≡ true }
-    ensures ok { IfOk result (λ party. nodes party.keys ≡ owners_before ring.now plan.now step (source_slots slot source.now)) }
+    ensures ok { IfOk result (λ party. party.keys ≡ owners_before ring.now plan.now step (source_slots slot source.now)) }
     ensures memory { IfErr result (λ e. e ≡ OutOfMemory) }
 {
     match source {
@@ -99,10 +98,10 @@ fn listed_owners(
     step: u32,
     partition: u32,
     from: &[u32],
-) -> Result<BTreeSet<u32>, Refusal>
+) -> Result<BTreeSet<NodeId>, Refusal>
     requires partition { partition < ring.now.q }
     requires indexes { list_all (λ i. nat_lt i ring.now.n) from.now ≡ true }
-    ensures ok { IfOk result (λ party. nodes party.keys ≡ owners_before ring.now plan.now step (map (λ i. record { partition = partition; index = i }) from.now)) }
+    ensures ok { IfOk result (λ party. party.keys ≡ owners_before ring.now plan.now step (map (λ i. record { partition = partition; index = i }) from.now)) }
     ensures memory { IfErr result (λ e. e ≡ OutOfMemory) }
 {
     let mut party = BTreeSet::new(alloc);
@@ -123,11 +122,11 @@ fn add_owner(
     plan: &Plan,
     step: u32,
     slot: Slot,
-    party: &mut BTreeSet<u32>,
+    party: &mut BTreeSet<NodeId>,
 ) -> Result<(), Refusal>
     requires partition { slot.partition < ring.now.q }
     requires index { slot.index < ring.now.n }
-    ensures ok { OnOk result (nodes party.new.keys ≡ with_node (stage_before ring.now plan.now slot step).owner (nodes party.old.keys)) }
+    ensures ok { OnOk result (party.new.keys ≡ with_node (stage_before ring.now plan.now slot step).owner party.old.keys) }
     ensures memory { IfErr result (λ e. e ≡ OutOfMemory) }
 {
     let stage = stage_before(alloc, ring, plan, step, slot)?;
@@ -135,11 +134,11 @@ fn add_owner(
 }
 
 // Puts one more node among the others.
-fn add_node(party: &mut BTreeSet<u32>, node: NodeId) -> Result<(), Refusal>
-    ensures ok { OnOk result (nodes party.new.keys ≡ with_node node (nodes party.old.keys)) }
+fn add_node(party: &mut BTreeSet<NodeId>, node: NodeId) -> Result<(), Refusal>
+    ensures ok { OnOk result (party.new.keys ≡ with_node node party.old.keys) }
     ensures memory { IfErr result (λ e. e ≡ OutOfMemory) }
 {
-    party.insert(node.0)?;
+    party.insert(node)?;
     Ok(())
 }
 

@@ -3,7 +3,7 @@
 ghost use Rattle.std.specs.Prelude.{◌≡◌, ◌<◌, IfErr, IfOk, OnOk};
 ghost use Rattle.ring_names.specs.declared.refusal.Refusal.TheVariants.{OutOfMemory};
 ghost use Rattle.plan_stage.specs.Stage.{is_among, fits, next, switched, opening};
-ghost use Rattle.plan_stage.specs.Walk.{nodes, stage_of};
+ghost use Rattle.plan_stage.specs.Looking.Walk.{stage_of};
 
 use crate::stage::Stage;
 use plan_text::Step;
@@ -18,7 +18,7 @@ pub struct Walk {
     owner: NodeId,
     mirror: Option<NodeId>,
     copied: bool,
-    leftovers: BTreeSet<u32>,
+    leftovers: BTreeSet<NodeId>,
 }
 
 impl Walk {
@@ -52,11 +52,10 @@ impl Walk {
     }
 
     // Whether the node owned the slot before, and was not dropped since.
-    #[tactic(auto, using(crate::proofs::Leftovers::leftover_steps))]
     fn is_leftover(&self, node: NodeId) -> bool
-        ensures { result ≡ is_among node (nodes self.now.leftovers.keys) }
+        ensures { result ≡ is_among node self.now.leftovers.keys }
     {
-        self.leftovers.contains(&node.0)
+        self.leftovers.contains(&node)
     }
 
     /// Lets the step act.
@@ -72,7 +71,7 @@ impl Walk {
             Step::Copy(_, _) => self.copied = true,
             Step::Switch(_) => self.switch()?,
             Step::Drop(_, node) => {
-                self.leftovers.remove(&node.0);
+                self.leftovers.remove(node);
             }
             Step::Join(_) | Step::Retire(_) => {}
         }
@@ -84,7 +83,7 @@ impl Walk {
         ensures ok { OnOk result (stage_of self.new ≡ switched (stage_of self.old)) }
         ensures memory { IfErr result (λ e. e ≡ OutOfMemory) }
     {
-        self.leftovers.insert(self.owner.0)?;
+        self.leftovers.insert(self.owner)?;
         self.owner = self.mirror.unwrap_or(self.owner);
         self.mirror = None;
         self.copied = false;
@@ -112,9 +111,9 @@ impl Walk {
     }
 }
 
-/// The nodes of a set of numbers, ascending.
-pub fn listed(alloc: Global, numbers: &BTreeSet<u32>) -> Result<Vec<NodeId>, AllocError>
-    ensures { IfOk result (λ list. list.items ≡ nodes numbers.now.keys) }
+/// The nodes of a set, by number.
+pub fn listed(alloc: Global, nodes: &BTreeSet<NodeId>) -> Result<Vec<NodeId>, AllocError>
+    ensures { IfOk result (λ list. list.items ≡ nodes.now.keys) }
 {
-    numbers.iter().map(|number| NodeId(*number)).collect(alloc)
+    nodes.iter().copied().collect(alloc)
 }

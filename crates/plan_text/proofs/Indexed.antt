@@ -9,7 +9,7 @@ use Rattle.plan_text.specs.declared.step.Step.{Step}
 use Rattle.plan_text.specs.declared.step.Step.TheVariants.{Join, Mirror, Copy, Switch, Drop, Retire}
 use Rattle.plan_text.specs.declared.step.Source.{Source}
 use Rattle.plan_text.specs.declared.step.Planned.{Planned}
-use Rattle.plan_text.specs.declared.index.SlotIndex.{SlotIndex}
+use Rattle.ring_names.specs.declared.lists.Lists.{Lists}
 use Rattle.plan_text.specs.declared.index.NodeIndex.{NodeIndex}
 use Rattle.plan_text.specs.declared.index.Index.{Index}
 use Rattle.plan_text.specs.Held.{numbers_at, first_of, holds, HoldsNodes, HoldsSteps}
@@ -94,7 +94,7 @@ retires-none a plan x none h =
 
 -- ---- the index with one more step, which is the slot's, joins a node or retires one
 
-pub HoldsSteps-slot : (a : Index) (b : SlotIndex) (plan : List Planned) (x : Planned) (slot : Slot) (number : ℕ) → length plan ≡ number → OnSlot slot x.step → ((s : Slot) → numbers_at b s ≡ cond (is_slot s slot) (numbers_at a.slots s ++ number ∷ []) (numbers_at a.slots s)) → HoldsSteps a plan → HoldsSteps (record { slots = b; joins = a.joins; retirements = a.retirements }) (plan ++ x ∷ [])
+pub HoldsSteps-slot : (a : Index) (b : Lists Slot ℕ) (plan : List Planned) (x : Planned) (slot : Slot) (number : ℕ) → length plan ≡ number → OnSlot slot x.step → ((s : Slot) → numbers_at b s ≡ cond (is_slot s slot) (numbers_at a.slots s ++ number ∷ []) (numbers_at a.slots s)) → HoldsSteps a plan → HoldsSteps (record { slots = b; joins = a.joins; retirements = a.retirements }) (plan ++ x ∷ [])
 HoldsSteps-slot a b plan x slot number n on more h = record {
   slots = λ s. more s ∙ rw (h.slots s, ← on.0 s, ← n) (sym (steps_of-push plan x s));
   joins = joins-none a.joins plan x on.1 h.joins;
@@ -102,7 +102,7 @@ HoldsSteps-slot a b plan x slot number n on more h = record {
 }
 
 -- a step that is no slot's
-off_slot : (a : SlotIndex) (plan : List Planned) (x : Planned) (t : Step) → x.step ≡ t → ((s : Slot) → is_on s t ≡ false) → ((s : Slot) → numbers_at a s ≡ steps_of plan s) → (s : Slot) → numbers_at a s ≡ steps_of (plan ++ x ∷ []) s
+off_slot : (a : Lists Slot ℕ) (plan : List Planned) (x : Planned) (t : Step) → x.step ≡ t → ((s : Slot) → is_on s t ≡ false) → ((s : Slot) → numbers_at a s ≡ steps_of plan s) → (s : Slot) → numbers_at a s ≡ steps_of (plan ++ x ∷ []) s
 off_slot a plan x t e off h s =
     h s ∙ sym (steps_of-push plan x s ∙ ap (λ (b : Bool). cond b (steps_of plan s ++ length plan ∷ []) (steps_of plan s)) (ap (is_on s) e ∙ off s))
 

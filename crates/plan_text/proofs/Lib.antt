@@ -1,5 +1,6 @@
 pub mod Pushed
 pub mod Indexed
+pub mod KeptLaws
 pub mod Searched
 pub mod NextLaws
 pub mod Below

@@ -1,22 +1,25 @@
 -- What holds of a plan as it is kept.
-use Rattle.std.specs.Prelude.{◌≡◌, ℕ, Bool, List, [], Option, Some, None, is_some, nat_eq}
+use Rattle.std.specs.Prelude.{◌≡◌, ℕ, Bool, List, [], Option, Some, None, is_some}
 use Rattle.std.specs.HashMap as map
 use Rattle.ring_names.specs.Lists.{has, all_different}
+use Rattle.ring_names.specs.ByKey.{list_at}
+use Rattle.ring_names.specs.declared.ids.NodeId.{NodeId}
 use Rattle.ring_names.specs.declared.ids.Slot.{Slot}
+use Rattle.ring_names.specs.declared.lists.Lists.{Lists}
+use Rattle.ring_names.specs.contracts.ids.NodeIdPartialEq.TheImpl as node_eq
 use Rattle.ring_names.specs.contracts.ids.SlotPartialEq.TheImpl as slot_eq
 use Rattle.plan_text.specs.declared.step.Planned.{Planned}
-use Rattle.plan_text.specs.declared.index.SlotIndex.{SlotIndex}
 use Rattle.plan_text.specs.declared.index.NodeIndex.{NodeIndex}
 use Rattle.plan_text.specs.declared.index.Index.{Index}
 use Rattle.plan_text.specs.Steps.{steps_of, joined, retired, join_of, retirement_of}
 
 -- the numbers that the index has for a slot
-abbrev pub numbers_at : SlotIndex → Slot → List ℕ
-numbers_at a s = elim (map.get ((slot_eq.ghosts).eq) a.lists s) [ None ↦ [] | Some v ↦ v.items ]
+abbrev pub numbers_at : Lists Slot ℕ → Slot → List ℕ
+numbers_at a s = list_at ((slot_eq.ghosts).eq) a s
 
 -- the number of the first step that met the node
 abbrev pub first_of : NodeIndex → ℕ → Option ℕ
-first_of a x = map.get nat_eq a.firsts x
+first_of a x = map.get ((node_eq.ghosts).eq) a.firsts (record { 0 = x })
 
 -- whether the index has met the node
 abbrev pub holds : NodeIndex → ℕ → Bool

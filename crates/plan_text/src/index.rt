@@ -9,62 +9,14 @@ ghost use Rattle.std.specs.Option.{option_or};
 ghost use Rattle.plan_text.specs.Held.{first_of, holds, numbers_at, HoldsSteps};
 
 use crate::step::Step;
-use ring_names::{NodeId, Refusal, Slot};
+use ring_names::{Lists, NodeId, Refusal, Slot};
 use std::alloc::Global;
 use std::collections::HashMap;
-
-/// The steps of each slot.
-#[derive(Drop)]
-pub struct SlotIndex {
-    alloc: Global,
-    lists: HashMap<Slot, Vec<u32>>,
-}
-
-impl SlotIndex {
-    /// No slot has a step.
-    pub fn new(alloc: Global) -> SlotIndex
-        ensures { (s : Slot) → numbers_at result s ≡ [] }
-    {
-        SlotIndex {
-            alloc,
-            lists: HashMap::new(alloc),
-        }
-    }
-
-    /// The numbers of the slot's steps.
-    pub fn numbers(&self, slot: Slot) -> &[u32]
-        ensures { result.now ≡ numbers_at self.now slot }
-    {
-        match self.lists.get(&slot) {
-            Some(list) => list.as_slice(),
-            None => &[],
-        }
-    }
-
-    /// Puts a step last among those of its slot.
-    pub fn add(&mut self, slot: Slot, number: u32) -> Result<(), Refusal>
-        ensures ok { OnOk result ((s : Slot) → numbers_at self.new s ≡ (if is_slot s slot then numbers_at self.old s ++ number ∷ [] else numbers_at self.old s)) }
-        ensures err { OnErr result ((s : Slot) → numbers_at self.new s ≡ numbers_at self.old s) }
-        ensures memory { IfErr result (λ e. e ≡ OutOfMemory) }
-    {
-        match self.lists.get_mut(&slot) {
-            Some(list) => {
-                list.push(number)?;
-            }
-            None => {
-                let mut list = Vec::new(self.alloc);
-                list.push(number)?;
-                self.lists.insert(slot, list)?;
-            }
-        }
-        Ok(())
-    }
-}
 
 /// The first step that speaks of each node, and whether each was met once only.
 #[derive(Drop)]
 pub struct NodeIndex {
-    firsts: HashMap<u32, u32>,
+    firsts: HashMap<NodeId, u32>,
     different: bool,
 }
 
@@ -84,7 +36,7 @@ impl NodeIndex {
     pub fn first(&self, node: NodeId) -> Option<u32>
         ensures { result ≡ first_of self.now node.0 }
     {
-        self.firsts.get(&node.0).copied()
+        self.firsts.get(&node).copied()
     }
 
     /// Whether the node was met.
@@ -112,7 +64,7 @@ impl NodeIndex {
         if self.holds(node) {
             self.different = false;
         } else {
-            self.firsts.insert(node.0, number)?;
+            self.firsts.insert(node, number)?;
         }
         Ok(())
     }
@@ -121,7 +73,7 @@ impl NodeIndex {
 /// The index of a plan.
 #[derive(Drop)]
 pub struct Index {
-    slots: SlotIndex,
+    slots: Lists<Slot, u32>,
     joins: NodeIndex,
     retirements: NodeIndex,
 }
@@ -132,7 +84,7 @@ impl Index {
         ensures { HoldsSteps result [] }
     {
         Index {
-            slots: SlotIndex::new(alloc),
+            slots: Lists::new(alloc),
             joins: NodeIndex::new(alloc),
             retirements: NodeIndex::new(alloc),
         }
@@ -158,7 +110,7 @@ impl Index {
     pub fn slot_numbers(&self, slot: Slot) -> &[u32]
         ensures { result.now ≡ numbers_at self.now.slots slot }
     {
-        self.slots.numbers(slot)
+        self.slots.items(&slot)
     }
 
     /// The first step that joins the node.

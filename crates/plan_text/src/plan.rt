@@ -1,22 +1,32 @@
 //! The plan as a value that is always well formed.
 
 ghost use Rattle.std.specs.Prelude.{◌≡◌, ◌+◌, ◌<◌, ◌≤◌, ◌++◌, ◌∷◌, ◌↔◌, [], Some, length, slice_get, slice_index, EachIndex, option_map, IsTrue, OnOk, IfErr, IfSome, OnErr};
+ghost use Rattle.std.specs.List.{list_all};
 ghost use Rattle.ring_names.specs.Lists.{has};
 ghost use Rattle.ring_names.specs.declared.refusal.Refusal.TheVariants.{OutOfMemory};
 
 use crate::index::Index;
-use crate::step::{Planned, Step};
+use crate::step::Step;
 use crate::suits::all_suit;
-use ring_names::{Listed, NodeId, Refusal, Slot};
+use ring_names::{NodeId, Refusal, Rows, Slot};
 use ring_table::Ring;
 use std::alloc::Global;
 use std::marker::Model;
 
+/// A step, and the row that has its dependencies.
+#[derive(Drop)]
+pub(crate) struct Kept {
+    pub(crate) step: Step,
+    row: usize,
+}
+
 /// A plan. Its steps have numbers from 0, in the order written.
 #[derive(Drop)]
 pub struct Plan {
-    steps: Vec<Planned>,
-    // how many dependencies the steps have together
+    steps: Vec<Kept>,
+    // the dependencies of the steps
+    rows: Rows,
+    // how many they are together
     dependencies: u32,
     index: Index,
 }
@@ -27,16 +37,16 @@ impl Model for Plan {
 
     ghost Value = { List Planned };
 
-    ghost view = { λ a. a.steps.items };
+    ghost use Rattle.plan_text.specs.Kept.{plan_of, HoldsPlan};
 
-    ghost use Rattle.plan_text.specs.Kept.{HoldsPlan};
+    ghost view = { plan_of };
 
     ghost invariant = { HoldsPlan };
 }
 
 impl Plan {
     ghost use Rattle.plan_text.specs.Steps.{steps_of, depends, dependencies, joined, retired, join_of, retirement_of};
-    ghost use Rattle.plan_text.specs.Valid.{IsPlanned, IsPlan, Suits};
+    ghost use Rattle.plan_text.specs.Valid.{IsPlanned, IsPlan, Suits, step_suits};
 
     /// A plan of no steps.
     pub fn new(alloc: Global) -> Plan
@@ -44,26 +54,28 @@ impl Plan {
     {
         Plan {
             steps: Vec::new(alloc),
+            rows: Rows::new(alloc),
             dependencies: 0,
             index: Index::new(alloc),
         }
     }
 
     /// Adds the next step, with the steps that it waits for.
-    pub fn push(&mut self, step: Step, after: Listed<u32>) -> Result<(), Refusal>
-        requires planned { IsPlanned (length self.old) (record { step = step; after = after }) }
+    pub fn push(&mut self, step: Step, after: &[u32]) -> Result<(), Refusal>
+        requires planned { IsPlanned (length self.old) (record { step = step; after = after.now }) }
         requires steps { length self.old < 131072 }
-        requires dependencies { dependencies self.old + length after ≤ 524288 }
-        ensures ok { OnOk result (self.new ≡ self.old ++ record { step = step; after = after } ∷ []) }
+        requires dependencies { dependencies self.old + length after.now ≤ 524288 }
+        ensures ok { OnOk result (self.new ≡ self.old ++ record { step = step; after = after.now } ∷ []) }
         ensures err { OnErr result (self.new ≡ self.old) }
         ensures memory { IfErr result (λ e. e ≡ OutOfMemory) }
     {
         let number = self.len();
-        let more = after.as_slice().len() as u32;
+        let row = self.rows.len();
         self.steps.reserve(1)?;
+        self.rows.push(after)?;
         self.index.add(&step, number)?;
-        self.dependencies += more;
-        self.steps.push(Planned { step, after })?;
+        self.dependencies += after.len() as u32;
+        self.steps.push_reserved(Kept { step, row });
         Ok(())
     }
 
@@ -73,13 +85,6 @@ impl Plan {
         ensures valid { IsPlan self.now }
     {
         self.steps.len() as u32
-    }
-
-    // The steps, in order.
-    pub(crate) fn steps(&self) -> &[Planned]
-        ensures { result.now ≡ self.now }
-    {
-        self.steps.as_slice()
     }
 
     /// The step of that number.
@@ -97,7 +102,7 @@ impl Plan {
         ensures value { option_map (λ x. x.after) (slice_get self.now n) ≡ Some result.now }
         ensures valid { IsPlan self.now }
     {
-        self.steps[n as usize].after.as_slice()
+        self.rows.row(self.steps[n as usize].row)
     }
 
     /// The numbers of the slot's steps, ascending.
@@ -160,6 +165,13 @@ impl Plan {
     pub fn suits(&self, ring: &Ring) -> bool
         ensures { IsTrue result ↔ Suits ring.now self.now }
     {
-        self.index.all_different() && all_suit(ring, self.steps.as_slice())
+        self.index.all_different() && self.all_suit(ring)
+    }
+
+    // Whether each step speaks of nodes and slots of the ring alone, and joins no member.
+    fn all_suit(&self, ring: &Ring) -> bool
+        ensures { result ≡ list_all (λ x. step_suits ring.now x.step) self.now }
+    {
+        all_suit(ring, self.steps.as_slice())
     }
 }

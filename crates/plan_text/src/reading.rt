@@ -16,7 +16,7 @@ use crate::after::after;
 use crate::kind::kind;
 use crate::plan::Plan;
 use crate::said::{Said, to_step};
-use ring_names::{Listed, Refusal};
+use ring_names::Refusal;
 use ring_table::Ring;
 use ring_text::{Fields, Lines, NumberRow, both, end, finish, header, need};
 use std::alloc::Global;
@@ -52,7 +52,7 @@ fn add(alloc: Global, plan: &mut Plan, said: Said, after: NumberRow) -> Result<(
 {
     let step = to_step(alloc, said)?;
     let after = after.to_vec(alloc)?;
-    plan.push(step, Listed::from_vec(after))
+    plan.push(step, after.as_slice())
 }
 
 // Reads steps behind those of the plan, up to a line that begins with `end`.

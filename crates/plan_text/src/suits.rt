@@ -4,12 +4,13 @@ ghost use Rattle.std.specs.Prelude.{◌≡◌, ◌&&◌, not, length, nat_lt};
 ghost use Rattle.std.specs.List.{list_all};
 ghost use Rattle.plan_text.specs.Valid.{step_suits, source_suits, is_ring_slot, is_declared};
 
-use crate::step::{Planned, Source, Step};
+use crate::plan::Kept;
+use crate::step::{Source, Step};
 use ring_names::{NodeId, Slot};
 use ring_table::Ring;
 
 /// Whether each step suits the ring.
-pub fn all_suit(ring: &Ring, steps: &[Planned]) -> bool
+pub fn all_suit(ring: &Ring, steps: &[Kept]) -> bool
     ensures { result ≡ list_all (λ x. step_suits ring.now x.step) steps.now }
 {
     steps.iter().all(|x| step_suits(ring, &x.step))

@@ -9,7 +9,7 @@ ghost use Rattle.plan_text.specs.Spelling.{slot_fields, source_fields, kind_fiel
 ghost use Rattle.plan_text.specs.Valid.{Suits};
 
 use crate::plan::Plan;
-use crate::step::{Planned, Source, Step};
+use crate::step::{Source, Step};
 use ring_names::{Refusal, Slot};
 use ring_table::{Ring, push_name};
 use ring_text::push_numbers;
@@ -82,21 +82,21 @@ fn push_after(out: &mut Vec<u8>, after: &[u32]) -> Result<(), AllocError>
 }
 
 // The line of a step.
-fn push_step(out: &mut Vec<u8>, ring: &Ring, step: &Planned) -> Result<(), AllocError>
-    ensures { OnOk result (out.new.items ≡ out.old.items ++ line_text (step_fields (names_of ring.now) step.now)) }
+fn push_step(out: &mut Vec<u8>, ring: &Ring, step: &Step, after: &[u32]) -> Result<(), AllocError>
+    ensures { OnOk result (out.new.items ≡ out.old.items ++ line_text (step_fields (names_of ring.now) (record { step = step.now; after = after.now }))) }
 {
-    push_kind(out, ring, &step.step)?;
-    push_after(out, step.after.as_slice())?;
+    push_kind(out, ring, step)?;
+    push_after(out, after)?;
     out.push(b'\n')?;
     Ok(())
 }
 
 // The lines of the steps.
-fn push_steps(out: &mut Vec<u8>, ring: &Ring, steps: &[Planned]) -> Result<(), AllocError>
-    ensures { OnOk result (out.new.items ≡ out.old.items ++ text_of (map (step_fields (names_of ring.now)) steps.now)) }
+fn push_steps(out: &mut Vec<u8>, ring: &Ring, plan: &Plan) -> Result<(), AllocError>
+    ensures { OnOk result (out.new.items ≡ out.old.items ++ text_of (map (step_fields (names_of ring.now)) plan.now)) }
 {
-    for step in steps {
-        push_step(out, ring, step)?;
+    for n in 0..plan.len() {
+        push_step(out, ring, plan.step(n), plan.deps(n))?;
     }
     Ok(())
 }
@@ -109,7 +109,7 @@ pub fn write_plan(alloc: Global, ring: &Ring, plan: &Plan) -> Result<Vec<u8>, Re
 {
     let mut out = Vec::new(alloc);
     out.extend_from_slice(b"plan 1\n")?;
-    push_steps(&mut out, ring, plan.steps())?;
+    push_steps(&mut out, ring, plan)?;
     out.extend_from_slice(b"end\n")?;
     Ok(out)
 }

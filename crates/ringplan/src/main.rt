@@ -1,14 +1,9 @@
 //! Checks a bundle: its bytes on standard input, the verdict on standard output.
 #![tactic(auto)]
 
-mod answer;
-mod bundle;
-mod command;
-mod input;
-mod output;
-mod run;
-
+use ringplan_run::{end_without_memory, end_without_words, run};
 use std::env;
+use std::io::ErrorKind;
 use std::process::ExitCode;
 
 fn main(rt: HostRuntime) -> ExitCode {
@@ -18,14 +13,17 @@ fn main(rt: HostRuntime) -> ExitCode {
 // Runs the words of the process over its standard input and output.
 fn run_words(rt: &HostRuntime) -> u8 {
     let mut output = rt.stdout();
-    let Ok(arguments) = env::args(rt) else {
-        return run::end_without_memory(&mut output);
+    let arguments = match env::args(rt) {
+        Ok(arguments) => arguments,
+        Err(error) => {
+            return match error.kind() {
+                ErrorKind::InvalidData => end_without_words(&mut output),
+                _ => end_without_memory(&mut output),
+            };
+        }
     };
     let Ok(words) = arguments.collect::<Vec<String>>(rt.alloc()) else {
-        return run::end_without_memory(&mut output);
+        return end_without_memory(&mut output);
     };
-    run::run(rt, words.as_slice(), &mut rt.stdin(), &mut output)
+    run(rt, words.as_slice(), &mut rt.stdin(), &mut output)
 }
-
-#[cfg(test)]
-mod tests;

@@ -1,7 +1,7 @@
 use Rattle.std.proofs.Common.{◌∙◌}
 use Rattle.plan_text.specs.Valid.{step_suits}
-use Rattle.plan_cover.specs.Numbers.{copies_at}
-use Rattle.plan_cover.specs.Serving.{serving_at}
+use Rattle.plan_cover.specs.Looking.Numbers.{kept_of}
+use Rattle.plan_cover.specs.Looking.Serving.{serving_at}
 use Rattle.plan_cover.proofs.Served.{serving-first, step-passes, copies-next, present-next}
 use Rattle.plan_cover.proofs.cover.all_copies.Goals as goal
 
@@ -23,6 +23,6 @@ loop-n-preserved c =
     let plan = c.args.plan.now in
     let t = c.step-step.result.now in
     record {
-      copies = λ x. copies-next ring plan c.loop-n.n (serving_at ring c.loop-n.present) x t (copies_at c.loop-n.copies x) (copies_at c.add_parties.new.copies x) c.step-step.ensures.value c.loop-n.invariant.present (c.loop-n.invariant.copies x) (c.in_ok-add_parties.ensures.ok x);
+      copies = λ x. copies-next ring plan c.loop-n.n (serving_at ring c.loop-n.present) x t (kept_of c.loop-n.copies x) (kept_of c.add_parties.new.copies x) c.step-step.ensures.value c.loop-n.invariant.present (c.loop-n.invariant.copies x) (c.in_ok-add_parties.ensures.ok x);
       present = λ s. present-next ring plan s c.loop-n.n t (serving_at ring c.loop-n.present s) (serving_at ring c.act.new.self s) c.step-step.ensures.value (c.loop-n.invariant.present s) (c.in_ok-act.ensures.ok s);
     }

@@ -1,6 +1,6 @@
 use Rattle.std.proofs.Common.{◌<◌, length, arith}
 use Rattle.plan_text.specs.Steps.{steps_of}
-use Rattle.plan_stage.specs.Walk.{stage_of}
+use Rattle.plan_stage.specs.Looking.Walk.{stage_of}
 use Rattle.plan_stage.proofs.Stages.{stage-next}
 use Rattle.plan_stage.proofs.check.stage_at.Goals as goal
 

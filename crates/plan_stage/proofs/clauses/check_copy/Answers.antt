@@ -1,7 +1,7 @@
 use Rattle.std.proofs.Common.{ℕ, ◌∙◌, sym, ap, subst, List}
 use Rattle.plan_text.specs.declared.step.Source.{Source}
 use Rattle.plan_text.specs.declared.step.Step.TheVariants.{Copy}
-use Rattle.plan_order.specs.Facts.{is_ordered}
+use Rattle.plan_order.specs.Order.{order}
 use Rattle.plan_stage.specs.Clauses.{Guard, Gives}
 use Rattle.plan_stage.specs.Partition.{copy_clauses, step_clauses}
 use Rattle.plan_stage.proofs.Tested.{listed}
@@ -9,9 +9,9 @@ use Rattle.plan_stage.proofs.clauses.check_copy.Goals as goal
 
 pub returns-in-Slots : goal.returns-in-Slots
 returns-in-Slots c =
-    let ring = c.args.ring.now in
-    let plan = c.args.plan.now in
-    let O = is_ordered plan c.args.facts.now in
+    let ring = c.args.context.now.ring.now in
+    let plan = c.args.context.now.plan.now in
+    let O = order c.args.context.now in
     let slot = c.args.slot in
     let same = ap (λ (source : Source). step_clauses ring plan O slot.partition c.args.number (Copy slot source)) c.in-Slots.is
     ∙ listed ring plan O c.args.number slot c.in-Slots.from

@@ -2,7 +2,7 @@ use Rattle.std.proofs.Common.{◌≡◌, true, nat_lt, length, ◌∷◌, rules}
 use Rattle.ring_text.proofs.Fronts.{both_true}
 use Rattle.ring_table.specs.Value.{owner_of}
 use Rattle.plan_text.specs.Steps.{steps_of}
-use Rattle.plan_stage.specs.Gathered.{are_steps}
+use Rattle.plan_stage.specs.Looking.Gathered.{are_steps}
 use Rattle.plan_stage.proofs.Gathering.{slot-within, none-taken, owner-has, one-taken, grows-more, retirement-stays}
 use Rattle.plan_stage.proofs.concerned.add_slot.Goals as goal
 

@@ -2,7 +2,7 @@ use Rattle.std.proofs.Common.{◌≡◌, true, Some, length}
 use Rattle.ring_names.specs.declared.ids.NodeId.{NodeId}
 use Rattle.ring_table.specs.Value.{owner_of}
 use Rattle.plan_text.specs.Steps.{steps_of}
-use Rattle.plan_stage.specs.Gathered.{are_steps, Grows, HasRetirement}
+use Rattle.plan_stage.specs.Looking.Gathered.{are_steps, Grows, HasRetirement}
 use Rattle.plan_stage.proofs.Gathering.{TakenOr}
 use Rattle.plan_stage.proofs.concerned.add_slot.Given as goal
 

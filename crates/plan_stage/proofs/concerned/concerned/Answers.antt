@@ -1,4 +1,4 @@
-use Rattle.plan_stage.specs.Gathered.{IsGathered}
+use Rattle.plan_stage.specs.Looking.Gathered.{IsGathered}
 use Rattle.plan_stage.proofs.Enough.{concerned-from}
 use Rattle.plan_stage.proofs.concerned.concerned.Goals as goal
 

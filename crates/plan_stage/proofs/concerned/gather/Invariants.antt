@@ -1,5 +1,5 @@
 use Rattle.std.proofs.Common.{◌≡◌, true, ℕ, ◌<◌}
-use Rattle.plan_stage.specs.Gathered.{are_steps, HasSlot}
+use Rattle.plan_stage.specs.Looking.Gathered.{are_steps, HasSlot}
 use Rattle.plan_stage.proofs.concerned.gather.Given as goal
 
 -- the slots in front have what belongs to them

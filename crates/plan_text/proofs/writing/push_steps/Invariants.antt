@@ -4,5 +4,5 @@ use Rattle.ring_table.specs.Value.{names_of}
 use Rattle.plan_text.specs.Spelling.{step_fields}
 use Rattle.plan_text.proofs.writing.push_steps.Given as goal
 
-abbrev pub invariant-loop-step : goal.invariant-loop-step
-invariant-loop-step l = l.out.items ≡ l.fn.out.items ++ text_of (map (step_fields (names_of l.ring)) (take l.step-index l.steps))
+abbrev pub invariant-loop-n : goal.invariant-loop-n
+invariant-loop-n l = l.out.items ≡ l.fn.out.items ++ text_of (map (step_fields (names_of l.ring)) (take l.n l.plan))

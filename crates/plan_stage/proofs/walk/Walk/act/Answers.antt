@@ -2,8 +2,8 @@ use Rattle.std.proofs.Common.{ap, ◌∙◌, sym, List}
 use Rattle.ring_names.specs.declared.ids.NodeId.{NodeId}
 use Rattle.plan_stage.specs.declared.stage.Stage.{Stage}
 use Rattle.plan_stage.specs.Stage.{next}
-use Rattle.plan_stage.specs.Walk.{nodes, stage_of}
-use Rattle.plan_stage.proofs.Leftovers.{without_node-nodes}
+use Rattle.plan_stage.specs.Looking.Walk.{stage_of}
+use Rattle.plan_stage.proofs.Leftovers.{without_node-remove}
 use Rattle.plan_stage.proofs.walk.Walk.act.Goals as goal
 
 with_leftovers : Stage → List NodeId → Stage
@@ -13,4 +13,4 @@ pub returns-in-Drop-clause-ok : goal.returns-in-Drop-clause-ok
 unfolding with_leftovers
 returns-in-Drop-clause-ok c =
     let old = c.args.self.now in
-    ap (with_leftovers (stage_of old)) (ap nodes c.remove.ensures.keys ∙ without_node-nodes c.in-Drop.node old.leftovers.keys) ∙ sym (ap (next (stage_of old)) c.in-Drop.is)
+    ap (with_leftovers (stage_of old)) (c.remove.ensures.keys ∙ without_node-remove c.in-Drop.node old.leftovers.keys) ∙ sym (ap (next (stage_of old)) c.in-Drop.is)

@@ -1,0 +1,4 @@
+-- How the checker looks at the clauses of a node: what it keeps of a plan and a certificate, and what it asks of that.
+pub mod Guards
+pub mod Numbers
+pub mod Serving

@@ -1,0 +1,56 @@
+-- How the checker looks at a clause: numbers of entries that pass a test, and what is kept of them for each node.
+use Rattle.std.specs.Prelude.{◌≡◌, ℕ, ◌+◌, ◌-◌, Bool, false, ◌==◌, List, [], ◌∷◌, ◌++◌, Some, None, length, slice_get, if◌then◌else◌}
+use Rattle.ring_names.specs.ByKey.{list_at}
+use Rattle.ring_names.specs.contracts.ids.NodeIdPartialEq.TheImpl as node_eq
+use Rattle.ring_names.specs.declared.ids.NodeId.{NodeId}
+use Rattle.ring_names.specs.declared.lists.Lists.{Lists}
+use Rattle.ring_table.specs.Value.{RingValue}
+use Rattle.plan_text.specs.declared.step.Planned.{Planned}
+use Rattle.plan_cert.specs.declared.cert.Chain.{Chain}
+use Rattle.plan_cert.specs.declared.cert.Cert.{Cert}
+use Rattle.plan_stage.specs.Occupancy.{is_node}
+use Rattle.plan_stage.specs.Stage.{is_among}
+use Rattle.plan_stage.specs.Parties.{parties}
+use Rattle.plan_cover.specs.declared.cover.Cover.{Cover}
+
+-- the numbers of the entries that pass the test, ascending, where the first has number k
+abbrev pub numbers_from : {A : Type 0} → (ℕ → A → Bool) → ℕ → List A → List ℕ
+numbers_from test k [] = []
+numbers_from test k (x ∷ xs) = if test k x then k ∷ numbers_from test (k + 1) xs else numbers_from test (k + 1) xs
+
+-- whether step n is a copy in which the node takes part
+abbrev pub takes_part : RingValue → List Planned → NodeId → ℕ → Planned → Bool
+takes_part ring plan x n p = is_among x (parties ring plan n)
+
+-- whether the chain is the node's
+abbrev pub is_chain_of : NodeId → ℕ → Chain → Bool
+is_chain_of x k c = is_node x c.node
+
+-- the copies in which the node takes part, ascending
+abbrev pub copies_of : RingValue → List Planned → NodeId → List ℕ
+copies_of ring plan x = numbers_from (takes_part ring plan x) 0 plan
+
+-- the node's chains, by number
+abbrev pub chain_numbers : List Chain → NodeId → List ℕ
+chain_numbers chains x = numbers_from (is_chain_of x) 0 chains
+
+-- the numbers that are kept for the node
+abbrev pub kept_of : Lists NodeId ℕ → NodeId → List ℕ
+kept_of a x = list_at ((node_eq.ghosts).eq) a x
+
+-- whether the last number is n
+abbrev pub is_last : ℕ → List ℕ → Bool
+is_last n xs = elim (slice_get xs (length xs - 1)) [ Some m ↦ m == n | None ↦ false ]
+
+-- with n as the last number, once
+abbrev pub with_last : ℕ → List ℕ → List ℕ
+with_last n xs = if is_last n xs then xs else xs ++ n ∷ []
+
+-- the same where it is asked for
+abbrev pub with_last_if : Bool → ℕ → List ℕ → List ℕ
+with_last_if b n xs = if b then with_last n xs else xs
+
+-- the copies and the chains of each node
+pub record IsCover (ring : RingValue) (plan : List Planned) (cert : Cert) (a : Cover) : Type 0 where
+  pub copies : (x : NodeId) → kept_of a.copies x ≡ copies_of ring plan x
+  pub chains : (x : NodeId) → kept_of a.chains x ≡ chain_numbers cert.chains x

@@ -1,0 +1,46 @@
+-- How the checker looks at a clause: who serves each slot, as a pass over a plan keeps it.
+use Rattle.std.specs.Prelude.{Bool, false, ◌||◌, List, [], ◌∷◌, Option, Some, None, unwrap_or}
+use Rattle.std.specs.HashMap as map
+use Rattle.ring_names.specs.declared.ids.NodeId.{NodeId}
+use Rattle.ring_names.specs.declared.ids.Slot.{Slot}
+use Rattle.ring_names.specs.contracts.ids.SlotPartialEq.TheImpl as slot_eq
+use Rattle.ring_table.specs.Value.{RingValue, owner_of}
+use Rattle.plan_text.specs.declared.step.Step.{Step}
+use Rattle.plan_text.specs.Steps.{copy_of}
+use Rattle.plan_stage.specs.declared.stage.Stage.{Stage}
+use Rattle.plan_stage.specs.Occupancy.{is_node}
+use Rattle.plan_stage.specs.Stage.{next}
+use Rattle.plan_stage.specs.Parties.{source_slots}
+use Rattle.plan_cover.specs.declared.present.Serving.{Serving}
+use Rattle.plan_cover.specs.declared.present.Present.{Present}
+
+-- the owner and the mirror of a stage
+abbrev pub serving_of : Stage → Serving
+serving_of a = record { owner = a.owner; mirror = a.mirror }
+
+-- what is kept for the slot, and otherwise the ring's owner
+abbrev pub serving_at : RingValue → Present → Slot → Serving
+serving_at ring a s = elim (map.get ((slot_eq.ghosts).eq) a.slots s) [
+  | Some v ↦ v
+  | None ↦ record { owner = unwrap_or (owner_of ring s) (record { 0 = 0 }); mirror = None }
+]
+
+-- after a step of the slot
+abbrev pub after_step : Serving → Step → Serving
+after_step a s = serving_of (next (record { owner = a.owner; mirror = a.mirror; copied = false; leftovers = [] }) s)
+
+-- whether the node is the one that mirrors, if there is one
+abbrev pub is_the_mirror : Option NodeId → NodeId → Bool
+is_the_mirror o x = elim o [ Some y ↦ is_node x y | None ↦ false ]
+
+-- whether the node owns one of the slots
+abbrev pub owns_some : (Slot → Serving) → List Slot → NodeId → Bool
+owns_some serve [] x = false
+owns_some serve (s ∷ ss) x = is_node x (serve s).owner || owns_some serve ss x
+
+-- whether the node takes part in the step, where the slots are served so
+abbrev pub is_party : (Slot → Serving) → Step → NodeId → Bool
+is_party serve s x = elim (copy_of s) [
+  | Some c ↦ is_the_mirror (serve c.0).mirror x || owns_some serve (source_slots c.0 c.1) x
+  | None ↦ false
+]

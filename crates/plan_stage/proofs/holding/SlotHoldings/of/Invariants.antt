@@ -1,6 +1,0 @@
-use Rattle.std.proofs.Common.{drop}
-use Rattle.plan_stage.specs.Switches.{IsBehind}
-use Rattle.plan_stage.proofs.holding.SlotHoldings.of.Given as goal
-
-abbrev pub invariant-loop-k : goal.invariant-loop-k
-invariant-loop-k l = IsBehind l.plan l.fn.slot l.behind (drop l.k l.numbers)

@@ -1,0 +1,8 @@
+-- How the checker looks at the clauses: what it keeps of a plan, and what it asks of that.
+pub mod Asked
+pub mod Concerned
+pub mod Gathered
+pub mod Held
+pub mod Looked
+pub mod Switches
+pub mod Walk

@@ -1,0 +1,29 @@
+-- How the checker looks at a clause: the holdings that are kept for the slots of a partition.
+use Rattle.std.specs.Prelude.{◌≡◌, ℕ, ◌<◌, List, [], Some, None, reverse, slice_get}
+use Rattle.ring_names.specs.ByKey.{list_at}
+use Rattle.ring_names.specs.contracts.ids.NodeIdPartialEq.TheImpl as node_eq
+use Rattle.ring_names.specs.declared.ids.NodeId.{NodeId}
+use Rattle.ring_names.specs.declared.ids.Slot.{Slot}
+use Rattle.ring_names.specs.declared.lists.Lists.{Lists}
+use Rattle.ring_table.specs.Value.{RingValue}
+use Rattle.plan_text.specs.declared.step.Planned.{Planned}
+use Rattle.plan_stage.specs.declared.holding.Holding.{Holding}
+use Rattle.plan_stage.specs.declared.holding.Holdings.{Holdings}
+use Rattle.plan_stage.specs.Each.{slot_at}
+use Rattle.plan_stage.specs.Holdings.{holdings}
+
+-- what is kept of the node in one slot
+abbrev pub held_of : Lists NodeId Holding → NodeId → List Holding
+held_of a x = list_at ((node_eq.ghosts).eq) a x
+
+-- what is kept of the node in the slot of that index
+abbrev pub held_at : Holdings → ℕ → NodeId → List Holding
+held_at a i x = elim (slice_get a.slots.items i) [ None ↦ [] | Some slot ↦ held_of slot x ]
+
+-- it is all holdings of each node in the slot, the last first
+abbrev pub IsHeld : RingValue → List Planned → Slot → (NodeId → List Holding) → Type 0
+IsHeld ring plan slot held = (x : NodeId) → held x ≡ reverse (holdings ring plan slot x)
+
+-- so it is for each slot of the partition
+abbrev pub AreHeld : RingValue → List Planned → ℕ → Holdings → Type 0
+AreHeld ring plan p a = (i : ℕ) → i < ring.n → IsHeld ring plan (slot_at p i) (held_at a i)

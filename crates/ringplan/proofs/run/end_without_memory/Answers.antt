@@ -1,5 +1,0 @@
-use Rattle.ringplan.proofs.Runs.{prints_no_memory}
-use Rattle.ringplan.proofs.run.end_without_memory.Goals as goal
-
-pub returns : goal.returns
-returns g c = prints_no_memory _ _ _ c.finish.ensures

@@ -1,0 +1,9 @@
+use Rattle.std.proofs.Common.{ap}
+use Rattle.ringplan_run.specs.Verdict.{judged}
+use Rattle.ringplan_run.proofs.bundle.check_plan.Goals as goal
+
+pub returns-in-Ok : goal.returns-in-Ok
+returns-in-Ok c = ap judged (c.check.ensures.exactly.0 c.in-Ok.ensures.certified)
+
+pub returns : goal.returns
+returns c = λ other. ap judged (c.in-Err.ensures.refused other)

@@ -1,0 +1,19 @@
+use Rattle.std.proofs.Common.{◌∙◌, sym, map, Ok, Err}
+use Rattle.clap.specs.Words.{app_of, kind_of}
+use Rattle.clap.specs.declared.parser.matches.ArgMatches.{ArgMatches}
+use Rattle.ringplan_run.proofs.Commands.{parsed, helped, mistaken}
+use Rattle.ringplan_run.proofs.command.try_parse.Goals as goal
+
+pub returns-in-Ok : goal.returns-in-Ok
+returns-in-Ok g c =
+    parsed (app_of c.in_ok-command.field-0) (map g.S.AsStr.text c.args.words.now) (Ok c.in-Ok.field-0) c.in_ok-command.ensures c.in-Ok.ensures.kinds
+
+pub returns-in-DisplayHelp : goal.returns-in-DisplayHelp
+returns-in-DisplayHelp g c =
+    let words = map g.S.AsStr.text c.args.words.now in
+    helped _ (kind_of c.in-Err.error) (sym c.kind.ensures ∙ c.in-DisplayHelp.is) (parsed {T = ArgMatches} (app_of c.in_ok-command.field-0) words (Err c.in-Err.error) c.in_ok-command.ensures c.in-Err.ensures.kinds)
+
+pub returns : goal.returns
+returns g c =
+    let words = map g.S.AsStr.text c.args.words.now in
+    mistaken _ (kind_of c.in-Err.error) (λ e. c.in_default.not-DisplayHelp (c.kind.ensures ∙ e)) (λ e. c.in_default.not-OutOfMemory (c.kind.ensures ∙ e)) (parsed {T = ArgMatches} (app_of c.in_ok-command.field-0) words (Err c.in-Err.error) c.in_ok-command.ensures c.in-Err.ensures.kinds)

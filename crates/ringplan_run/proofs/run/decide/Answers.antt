@@ -1,0 +1,16 @@
+use Rattle.std.proofs.Common.{refl}
+use Rattle.ringplan_run.specs.Run.{help, refused}
+use Rattle.ringplan_run.proofs.Runs.{said, said_verdict}
+use Rattle.ringplan_run.proofs.run.decide.Goals as goal
+
+pub returns-in-Check : goal.returns-in-Check
+returns-in-Check g c =
+    said_verdict _ (g.R.Read.remaining c.args.input.now) c.check_input.result c.answer_of.result c.in-Check.ensures.kinds c.check_input.ensures c.answer_of.ensures.output c.answer_of.ensures.status
+
+pub returns-in-Help : goal.returns-in-Help
+returns-in-Help g c =
+    said _ (g.R.Read.remaining c.args.input.now) c.in-Help.output.items 0 (λ bytes. help c.in-Help.ensures.kinds refl)
+
+pub returns-in-Refused : goal.returns-in-Refused
+returns-in-Refused g c =
+    said _ (g.R.Read.remaining c.args.input.now) c.in-Refused.output.items 2 (λ bytes. refused c.in-Refused.ensures.kinds refl)

@@ -1,0 +1,13 @@
+//! The program over any input and any output: from the words of a command line and the bytes of a bundle to what is printed and
+//! the exit status.
+#![tactic(auto)]
+
+mod answer;
+mod bundle;
+mod command;
+mod input;
+mod output;
+mod run;
+
+pub use bundle::check_bundle;
+pub use run::{end_without_memory, end_without_words, run};

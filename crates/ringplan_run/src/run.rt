@@ -1,0 +1,100 @@
+//! The program, over any input and any output.
+
+ghost use Rattle.std.specs.Prelude.{◌≡◌, ◌∷◌, ℕ, List, [], IfOk, codes, drop, map};
+ghost use Rattle.clap.specs.Words.{fault_of};
+ghost use Rattle.ring_names.specs.Refusals.{line_of};
+ghost use Rattle.ringplan_run.specs.Command.{ringplan};
+ghost use Rattle.ringplan_run.specs.Io.{Tells};
+ghost use Rattle.ringplan_run.specs.Run.{Checks, Prints, Runs, Says};
+
+use crate::answer::{Answer, answer_of};
+use crate::bundle::check_bundle;
+use crate::command::{CommandLine, parse};
+use crate::input::read_all;
+use crate::output::write_all;
+use ring_names::Refusal;
+use std::alloc::{AllocError, Global};
+use std::convert::AsStr;
+use std::io::{Read, Write};
+
+// The line of a refusal for want of memory, which itself needs none.
+const NO_MEMORY: &[u8; 6] = b"no 60\n";
+
+// What is said of words that are no text.
+const NO_WORDS: &[u8; 123] = b"error: invalid UTF-8 was detected in one or more arguments\n\nUsage: ringplan <COMMAND>\n\nFor more information, try '--help'.\n";
+
+// The exit status where memory, the input or the output failed.
+const FAILED: u8 = 3;
+
+// The exit status where the command line is refused.
+const REFUSED: u8 = 2;
+
+/// Runs a command line, whose first word is the program's name, and returns the exit status: 0 for
+/// yes and for help, 1 for a plan that is refused, 2 for a text or a command line that is refused,
+/// and 3 where memory, the input or the output failed.
+pub fn run<RT: AllocGlobal, S: AsStr, R: Read + Drop, W: Write>(
+    rt: &RT,
+    words: &[S],
+    input: &mut R,
+    output: &mut W,
+) -> u8
+    ensures line { (bytes : List ℕ) × Tells (R.remaining input.old) bytes
+        × Runs (fault_of ringplan (map S.text words.now)) bytes (W.contents output.old) (W.contents output.new) result }
+    ensures check { drop 1 (map S.text words.now) ≡ codes "check" ∷ []
+        → (bytes : List ℕ) × Tells (R.remaining input.old) bytes
+        × Runs [] bytes (W.contents output.old) (W.contents output.new) result }
+{
+    match decide(rt.alloc(), words, input) {
+        Ok(answer) => finish(output, answer.output.as_slice(), answer.status),
+        Err(_) => end_without_memory(output),
+    }
+}
+
+/// Says that memory was refused, and returns the exit status of that, 3.
+pub fn end_without_memory<W: Write>(output: &mut W) -> u8
+    ensures { Prints (W.contents output.old) (W.contents output.new) (line_of Refusal.OutOfMemory) 3 result }
+{
+    finish(output, NO_MEMORY, FAILED)
+}
+
+/// Says that the words of a command line are no text, and returns the exit status of that, 2.
+pub fn end_without_words<W: Write>(output: &mut W) -> u8
+    ensures { Prints (W.contents output.old) (W.contents output.new) NO_WORDS.now 2 result }
+{
+    finish(output, NO_WORDS, REFUSED)
+}
+
+// What the command line and the input ask to be printed. Refused where memory is.
+fn decide<S: AsStr, R: Read + Drop>(
+    alloc: Global,
+    words: &[S],
+    input: &mut R,
+) -> Result<Answer, AllocError>
+    ensures { IfOk result (λ answer. (bytes : List ℕ) × Tells (R.remaining input.old) bytes
+        × Says (fault_of ringplan (map S.text words.now)) bytes answer.output.items answer.status) }
+{
+    match parse(alloc, words) {
+        CommandLine::Check => answer_of(alloc, check_input(alloc, input)),
+        CommandLine::Help(output) => Ok(Answer { output, status: 0 }),
+        CommandLine::Refused(output) => Ok(Answer { output, status: 2 }),
+        CommandLine::OutOfMemory => Err(AllocError),
+    }
+}
+
+// The verdict on the whole input.
+fn check_input<R: Read + Drop>(alloc: Global, input: &mut R) -> Result<(), Refusal>
+    ensures { (bytes : List ℕ) × Tells (R.remaining input.old) bytes × Checks bytes result }
+{
+    let bytes = read_all(alloc, input)?;
+    check_bundle(alloc, bytes.as_slice())
+}
+
+// Prints the text, and ends with the status, or with 3 where the output fails.
+fn finish<W: Write>(output: &mut W, text: &[u8], status: u8) -> u8
+    ensures { Prints (W.contents output.old) (W.contents output.new) text.now status result }
+{
+    match write_all(output, text) {
+        Ok(()) => status,
+        Err(_) => FAILED,
+    }
+}
