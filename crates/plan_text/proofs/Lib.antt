@@ -9,3 +9,4 @@ pub mod PlanLaws
 pub mod SuitLaws
 pub mod TextLaws
 pub mod WriteLaws
+pub mod PlanLates

@@ -19,7 +19,7 @@ use Rattle.plan_text.specs.declared.said.SaidSource.TheVariants.{Owner, Slots}
 use Rattle.plan_text.specs.declared.step.Planned.{Planned}
 use Rattle.plan_text.specs.Said.{step_of}
 use Rattle.plan_text.specs.Steps.{dependencies}
-use Rattle.plan_text.specs.Valid.{ascends, HasSources}
+use Rattle.plan_text.specs.Valid.{HasSources}
 use Rattle.plan_text.specs.Fits.{FitsSource, FitsSaid, IsNext}
 use Rattle.plan_text.specs.Reading.{slot_at, slot_node_at, joining_at, retiring_at, judge_indexes, source_at, copy_at, kind_at, judge_after, after_at, said_at}
 
@@ -132,14 +132,9 @@ sources-of n (Switch s) p = tt
 sources-of n (Drop s x) p = tt
 sources-of n (Retire x) p = tt
 
-pub ascending-ascends : (xs : List ℕ) → ascending xs ≡ ascends xs
-ascending-ascends [] = refl
-ascending-ascends (x ∷ []) = refl
-ascending-ascends (x ∷ y ∷ ys) = ap (λ b. nat_lt x y && b) (ascending-ascends (y ∷ ys))
-
 -- what is known of the steps that a step waits for
 pub record IsAfter (plan : List Planned) (xs : List ℕ) : Type 0 where
-  pub ascending : ascends xs ≡ true
+  pub ascending : ascending xs ≡ true
   pub few : length xs ≤ 4096
   pub total : dependencies plan + length xs ≤ 524288
   pub small : are_small xs ≡ true
@@ -150,7 +145,7 @@ after-are plan k xs ys le e =
     let u = unless_is ((eqb (length xs) 0, BadLine k) ∷ (not (ascending xs), BadLine k) ∷ (not (nat_le (length xs) 4096), TooLarge k) ∷ (not (nat_le (length xs) (524288 - dependencies plan)), TooLarge k) ∷ (not (list_all (λ x. nat_lt x 4294967296) xs), TooLarge k) ∷ (not (list_all (λ x. nat_lt x (length plan)) xs), LaterDependency k) ∷ []) xs ys e in
     let room = leb-true (length xs) (524288 - dependencies plan) (not_false (nat_le (length xs) (524288 - dependencies plan)) u.1.1.1.1.0) in
     let known : IsAfter plan xs = record {
-      ascending = sym (ascending-ascends xs) ∙ not_false (ascending xs) u.1.1.0;
+      ascending = not_false (ascending xs) u.1.1.0;
       few = leb-true (length xs) 4096 (not_false (nat_le (length xs) 4096) u.1.1.1.0);
       total = omega arith;
       small = not_false (list_all (λ x. nat_lt x 4294967296) xs) u.1.1.1.1.1.0;

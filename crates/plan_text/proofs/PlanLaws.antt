@@ -3,10 +3,11 @@ use Rattle.std.proofs.Common.{◌≡◌, ℕ, ◌+◌, ◌≤◌, Bool, true, fa
 use Rattle.std.proofs.lemmas.List.{append-nil}
 use Rattle.std.proofs.lemmas.List.Sums.{sum_by_push}
 use Rattle.ring_names.specs.declared.refusal.Refusal.{Refusal}
-use Rattle.ring_text.specs.Judging.{word_at}
-use Rattle.ring_text.specs.Left.{Left, ◌>>=◌, first_line, begins_with, one_line}
+use Rattle.ring_text.specs.Left.{Left, ◌>>=◌, next_number, first_line, begins_with, one_line}
+use Rattle.ring_text.specs.Frames.{header_fields, header_at, end_fields, end_line_at}
+use Rattle.ring_text.proofs.FrameLaws.{Nothing, header-line, end-line}
 use Rattle.ring_text.specs.Laws.{IsLine, IsPart, SomeLeft, Any}
-use Rattle.ring_text.proofs.Items.{IsItem-⊗, IsItem-word, IsLine-whole, IsLine-map, IsLine-as, IsPart-line, IsPart-then, IsPart-map, IsPart-as, ok_is, bind_ok, first_is, some_lines}
+use Rattle.ring_text.proofs.Items.{IsLine-map, IsLine-as, IsPart-line, IsPart-then, IsPart-map, IsPart-as, ok_is, bind_ok, first_is, some_lines}
 use Rattle.ring_table.specs.Value.{RingValue, names_of}
 use Rattle.ring_table.proofs.RowLaws.{AreNames}
 use Rattle.plan_text.specs.declared.said.Said.{Said}
@@ -20,8 +21,8 @@ use Rattle.plan_text.specs.declared.step.Source.TheVariants as source
 use Rattle.plan_text.specs.declared.step.Planned.{Planned}
 use Rattle.plan_text.specs.Said.{step_of, planned_of}
 use Rattle.plan_text.specs.Steps.{dependencies}
-use Rattle.plan_text.specs.Spelling.{plan_header_fields, kind_fields, after_fields, step_fields, plan_end_fields, plan_lines}
-use Rattle.plan_text.specs.Reading.{plan_header_at, said_at, step_at, steps_from, steps_at, plan_end_at, plan_at}
+use Rattle.plan_text.specs.Spelling.{kind_fields, after_fields, step_fields, plan_lines}
+use Rattle.plan_text.specs.Reading.{said_at, step_at, steps_from, steps_at, plan_at}
 use Rattle.plan_text.proofs.StepLaws.{IsStepLine, said-line}
 
 -- ---- what a line must say for a step
@@ -97,34 +98,20 @@ record Found (ring : RingValue) (seen xs : List Planned) (lines : List (List (Li
 abbrev Read : Type 0
 Read = Result (List Planned × Left) Refusal
 
-abbrev Nothing : Unit {0} → Type 0
-Nothing x = Unit {0}
-
-header-line : (k : ℕ) → IsLine (plan_header_at k) (λ x. plan_header_fields) Nothing
-unfolding plan_header_at
-header-line k =
-    let pair = IsItem-⊗ (word_at k (codes "plan")) (word_at k (codes "1")) (λ x. codes "plan" ∷ []) (λ x. codes "1" ∷ []) Nothing Nothing (IsItem-word k (codes "plan")) (IsItem-word k (codes "1")) in
-    let line = IsLine-map _ _ _ (λ x. tt {0}) (λ x. (tt, tt)) (λ a. refl) (λ b. refl) (IsLine-whole k _ _ _ pair) in
-    IsLine-as _ _ _ _ _ (λ v. refl) (λ v p. tt) (λ v p. (tt, tt)) line
-
-end-line : (k : ℕ) → IsLine (plan_end_at k) (λ x. plan_end_fields) Nothing
-unfolding plan_end_at
-end-line k = IsLine-map _ _ _ (λ x. tt {0}) (λ x. tt) (λ a. refl) (λ b. refl) (IsLine-whole k _ _ _ (IsItem-word k (codes "end")))
-
 module _ (ring : RingValue) (q : ring.q ≤ 4096) (n : ring.n ≤ 7) (good : AreNames (names_of ring)) where
   more-few : (seen : List Planned) (x : Planned) → IsStepLine ring seen (line_of x) → dependencies (seen ++ x ∷ []) ≤ 524288
   more-few seen x p = rw (sum_by_push (λ (y : Planned). length y.after) seen x) p.after.total
 
   found-by : (b : Bool) (seen xs : List Planned) (k : ℕ) (line : List (List ℕ)) (more : List (List (List ℕ))) (t : Left) → dependencies seen ≤ 524288
-      → ((ys : List Planned) (u : Left) → dependencies ys ≤ 524288 → steps_from ring ys (k + 1) more ≡ Ok (xs, u) → (x : List (List ℕ)) × (zs : List (List (List ℕ))) × (more ≡ x ∷ zs) → Found ring ys xs more u)
-      → ◌≡◌ {A = Read} (cond b (Ok (seen, record { line = k; lines = line ∷ more })) (first_line k (line ∷ more) >>= λ _. step_at ring seen k line >>= λ x. steps_from ring (seen ++ x ∷ []) (k + 1) more)) (Ok (xs, t)) → Found ring seen xs (line ∷ more) t
+      → ((ys : List Planned) (u : Left) → dependencies ys ≤ 524288 → steps_from ring ys (next_number k) more ≡ Ok (xs, u) → (x : List (List ℕ)) × (zs : List (List (List ℕ))) × (more ≡ x ∷ zs) → Found ring ys xs more u)
+      → ◌≡◌ {A = Read} (cond b (Ok (seen, record { line = k; lines = line ∷ more })) (first_line k (line ∷ more) >>= λ _. step_at ring seen k line >>= λ x. steps_from ring (seen ++ x ∷ []) (next_number k) more)) (Ok (xs, t)) → Found ring seen xs (line ∷ more) t
   found-by true seen xs k line more t few later e =
       let G : List Planned × Left → Type 0 = λ w. Found ring seen w.0 (line ∷ more) w.1 in
       let start : G (seen, record { line = k; lines = line ∷ more }) = record { steps = []; all = sym (append-nil seen); parts = refl; new = tt; some = (line, more, refl) } in
       subst G (ok_is _ (xs, t) e) start
   found-by false seen xs k line more t few later e =
-      let b = bind_ok (first_line k (line ∷ more)) (λ _. step_at ring seen k line >>= λ x. steps_from ring (seen ++ x ∷ []) (k + 1) more) (xs, t) e in
-      let c = bind_ok (step_at ring seen k line) (λ x. steps_from ring (seen ++ x ∷ []) (k + 1) more) (xs, t) b.2 in
+      let b = bind_ok (first_line k (line ∷ more)) (λ _. step_at ring seen k line >>= λ x. steps_from ring (seen ++ x ∷ []) (next_number k) more) (xs, t) e in
+      let c = bind_ok (step_at ring seen k line) (λ x. steps_from ring (seen ++ x ∷ []) (next_number k) more) (xs, t) b.2 in
       let f = first_is k (line ∷ more) b.0.0 b.0.1 b.1 in
       let law = (step-line ring seen k q n good few).takes line c.0 c.1 in
       let some : (x : List (List ℕ)) × (zs : List (List (List ℕ))) × (more ≡ x ∷ zs) = (f.1.0, f.1.1, tail_is line b.0.0 more b.0.1.lines f.0 ∙ f.1.2) in
@@ -142,15 +129,15 @@ module _ (ring : RingValue) (q : ring.q ≤ 4096) (n : ring.n ≤ 7) (good : Are
 
   steps-found : (seen xs : List Planned) (k : ℕ) (lines : List (List (List ℕ))) (t : Left) → dependencies seen ≤ 524288 → (x : List (List ℕ)) × (zs : List (List (List ℕ))) × (lines ≡ x ∷ zs) → steps_from ring seen k lines ≡ Ok (xs, t) → Found ring seen xs lines t
   steps-found seen xs k [] t few some e = absurd cc
-  steps-found seen xs k (line ∷ more) t few some e = found-by (begins_with (codes "end") (line ∷ more)) seen xs k line more t few (λ ys u f h s. steps-found ys xs (k + 1) more u f s h) e
+  steps-found seen xs k (line ∷ more) t few some e = found-by (begins_with (codes "end") (line ∷ more)) seen xs k line more t few (λ ys u f h s. steps-found ys xs (next_number k) more u f s h) e
 
-  first-ok : (k : ℕ) (l : List (List ℕ)) (rest : List (List (List ℕ))) (z : List (List ℕ)) (zs : List (List (List ℕ))) → rest ≡ z ∷ zs → first_line k (l ∷ rest) ≡ Ok (l, record { line = k + 1; lines = rest })
+  first-ok : (k : ℕ) (l : List (List ℕ)) (rest : List (List (List ℕ))) (z : List (List ℕ)) (zs : List (List (List ℕ))) → rest ≡ z ∷ zs → first_line k (l ∷ rest) ≡ Ok (l, record { line = next_number k; lines = rest })
   first-ok k l rest z zs e = rw e refl
 
   steps-given : (ys seen : List Planned) (k : ℕ) (x : List (List ℕ)) (xs : List (List (List ℕ))) → dependencies seen ≤ 524288 → AreNext ring seen ys → IsEnd x → (m : ℕ) × (steps_from ring seen k (map (step_fields (names_of ring)) ys ++ x ∷ xs) ≡ Ok (seen ++ ys, record { line = m; lines = x ∷ xs }))
   steps-given [] seen k x xs few new end = (k, rw (end-any x xs end, append-nil seen) refl)
   steps-given (y ∷ ys) seen k x xs few new end =
-      let rest = steps-given ys (seen ++ y ∷ []) (k + 1) x xs (more-few seen y new.0) new.1 end in
+      let rest = steps-given ys (seen ++ y ∷ []) (next_number k) x xs (more-few seen y new.0) new.1 end in
       let line = (step-line ring seen k q n good few).gives y new.0 in
       let sh = some_lines (map (step_fields (names_of ring)) ys) x xs in
       let first = first-ok k (step_fields (names_of ring) y) (map (step_fields (names_of ring)) ys ++ x ∷ xs) sh.0 sh.1 sh.2 in
@@ -173,7 +160,7 @@ module _ (ring : RingValue) (q : ring.q ≤ 4096) (n : ring.n ≤ 7) (good : Are
   pub plan-part : IsPart Any (plan_at ring) (plan_lines ring) (AreNext ring [])
   unfolding plan_at
   plan-part =
-      let body = IsPart-then {A = List Planned} {B = Unit {0}} IsEnd Any (steps_at ring) (λ _. one_line plan_end_at) (λ xs. map (step_fields (names_of ring)) xs) (λ _ x. plan_end_fields ∷ []) (AreNext ring []) (λ _ x. Unit {0}) steps-part (λ a p. IsPart-line plan_end_at (λ x. plan_end_fields) Nothing end-line) (λ a b x xs p p2 d. refl) in
-      let all = IsPart-then {A = Unit {0}} {B = List Planned × Unit {0}} Any Any (one_line plan_header_at) _ (λ x. plan_header_fields ∷ []) _ Nothing _ (IsPart-line plan_header_at (λ x. plan_header_fields) Nothing header-line) (λ x p. body) (λ a b x xs p p2 d. tt) in
+      let body = IsPart-then {A = List Planned} {B = Unit {0}} IsEnd Any (steps_at ring) (λ _. one_line end_line_at) (λ xs. map (step_fields (names_of ring)) xs) (λ _ x. end_fields ∷ []) (AreNext ring []) (λ _ x. Unit {0}) steps-part (λ a p. IsPart-line end_line_at (λ x. end_fields) Nothing end-line) (λ a b x xs p p2 d. refl) in
+      let all = IsPart-then {A = Unit {0}} {B = List Planned × Unit {0}} Any Any (one_line (header_at (codes "plan"))) _ (λ x. header_fields (codes "plan") ∷ []) _ Nothing _ (IsPart-line (header_at (codes "plan")) (λ x. header_fields (codes "plan")) Nothing (header-line (codes "plan"))) (λ x p. body) (λ a b x xs p p2 d. tt) in
       let made = IsPart-map {A = Unit {0} × (List Planned × Unit {0})} {B = List Planned} Any _ _ _ (λ x. x.1.0) (λ v. (tt, (v, tt))) (λ a. refl) (λ b. refl) all in
       IsPart-as Any _ _ _ _ _ (λ v. refl) (λ v p. p.1.0) (λ v p. (tt, (p, tt))) made

@@ -9,7 +9,8 @@ use Rattle.std.proofs.lemmas.List.Sorted.{searched}
 use Rattle.ring_names.specs.Lists.{has}
 use Rattle.plan_text.specs.declared.step.Planned.{Planned}
 use Rattle.plan_text.specs.Steps.{depends}
-use Rattle.plan_text.specs.Valid.{ascends, EachPlanned}
+use Rattle.ring_text.specs.Numbers.{ascending}
+use Rattle.plan_text.specs.Valid.{EachPlanned}
 
 both : (a b : Bool) → (a && b) ≡ true → (a ≡ true) × (b ≡ true)
 both true b e = (refl, e)
@@ -18,26 +19,26 @@ both false b e = absurd cc
 below : (x y : ℕ) → nat_lt x y ≡ true → x < y
 below x y e = grind (arith, nat_tests)
 
-ascends-head : (x : ℕ) (xs : List ℕ) → ascends (x ∷ xs) ≡ true → (j : ℕ) → j < length xs → x < get_or xs j 0
+ascends-head : (x : ℕ) (xs : List ℕ) → ascending (x ∷ xs) ≡ true → (j : ℕ) → j < length xs → x < get_or xs j 0
 ascends-head x [] e j h = absurd (omega arith)
-ascends-head x (y ∷ ys) e zero h = below x y (both (nat_lt x y) (ascends (y ∷ ys)) e).0
+ascends-head x (y ∷ ys) e zero h = below x y (both (nat_lt x y) (ascending (y ∷ ys)) e).0
 ascends-head x (y ∷ ys) e (suc j) h =
-    let b = both (nat_lt x y) (ascends (y ∷ ys)) e in
+    let b = both (nat_lt x y) (ascending (y ∷ ys)) e in
     let first = below x y b.0 in
     let rest = ascends-head y ys b.1 j (omega arith) in
     omega arith
 
-ascends-tail : (x : ℕ) (xs : List ℕ) → ascends (x ∷ xs) ≡ true → ascends xs ≡ true
+ascends-tail : (x : ℕ) (xs : List ℕ) → ascending (x ∷ xs) ≡ true → ascending xs ≡ true
 ascends-tail x [] e = refl
-ascends-tail x (y ∷ ys) e = (both (nat_lt x y) (ascends (y ∷ ys)) e).1
+ascends-tail x (y ∷ ys) e = (both (nat_lt x y) (ascending (y ∷ ys)) e).1
 
-pub ascends-below : (xs : List ℕ) → ascends xs ≡ true → (i j : ℕ) → i < j → j < length xs → get_or xs i 0 < get_or xs j 0
+pub ascends-below : (xs : List ℕ) → ascending xs ≡ true → (i j : ℕ) → i < j → j < length xs → get_or xs i 0 < get_or xs j 0
 ascends-below [] e i j h k = absurd (omega arith)
 ascends-below (x ∷ xs) e i zero h k = absurd (omega arith)
 ascends-below (x ∷ xs) e zero (suc j) h k = ascends-head x xs e j (omega arith)
 ascends-below (x ∷ xs) e (suc i) (suc j) h k = ascends-below xs (ascends-tail x xs e) i j (omega arith) (omega arith)
 
-rises : (xs : List ℕ) → ascends xs ≡ true → (i j : ℕ) → i ≤ j → j < length xs → get_or xs i 0 ≤ get_or xs j 0
+rises : (xs : List ℕ) → ascending xs ≡ true → (i j : ℕ) → i ≤ j → j < length xs → get_or xs i 0 ≤ get_or xs j 0
 rises [] e i j h k = absurd (omega arith)
 rises (x ∷ xs) e zero zero h k = omega arith
 rises (x ∷ xs) e (suc i) zero h k = absurd (omega arith)
@@ -70,7 +71,7 @@ out xs x i k low high h e =
     let up : (i ≤ k → x < get_or xs k 0) = λ l. high k l h in
     grind arith
 
-pub search-has : (xs : List ℕ) (x : ℕ) (r : Result ℕ ℕ) → IsBinarySearchResult (λ y. nat_cmp y x) xs r → ascends xs ≡ true → is_ok r ≡ has x xs
+pub search-has : (xs : List ℕ) (x : ℕ) (r : Result ℕ ℕ) → IsBinarySearchResult (λ y. nat_cmp y x) xs r → ascending xs ≡ true → is_ok r ≡ has x xs
 search-has xs x (Ok i) found e =
     let s = searched xs x (Ok i) found (rises xs e) in
     sym (has-at x xs i s.0 s.1)
@@ -78,10 +79,10 @@ search-has xs x (Err i) found e =
     let s = searched xs x (Err i) found (rises xs e) in
     sym (has-none x xs (λ k h is. out xs x i k s.1 s.2 h is))
 
-head-ascends : (x : Planned) (ds : List ℕ) → Some x.after ≡ Some ds → ascends x.after ≡ true → ascends ds ≡ true
+head-ascends : (x : Planned) (ds : List ℕ) → Some x.after ≡ Some ds → ascending x.after ≡ true → ascending ds ≡ true
 head-ascends x ds e h = let f : x.after ≡ ds = cc in rw f at h
 
-pub deps-ascend : (k : ℕ) (plan : List Planned) (b : ℕ) (ds : List ℕ) → EachPlanned k plan → option_map (λ (x : Planned). x.after) (slice_get plan b) ≡ Some ds → ascends ds ≡ true
+pub deps-ascend : (k : ℕ) (plan : List Planned) (b : ℕ) (ds : List ℕ) → EachPlanned k plan → option_map (λ (x : Planned). x.after) (slice_get plan b) ≡ Some ds → ascending ds ≡ true
 deps-ascend k [] b ds each e = absurd cc
 deps-ascend k (x ∷ xs) zero ds each e = head-ascends x ds e each.0.ascending
 deps-ascend k (x ∷ xs) (suc b) ds each e = deps-ascend (k + 1) xs b ds each.1 e

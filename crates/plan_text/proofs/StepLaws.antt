@@ -28,7 +28,7 @@ use Rattle.plan_text.specs.Said.{source_of, step_of}
 use Rattle.plan_text.specs.Steps.{dependencies, joined, retired}
 use Rattle.plan_text.specs.Spelling.{slot_fields, source_fields, kind_fields, after_fields}
 use Rattle.plan_text.specs.Reading.{slot_at, slot_node_at, joining_at, retiring_at, judge_indexes, source_at, copy_at, kind_at, judge_after, after_at, said_at}
-use Rattle.plan_text.proofs.NextLaws.{small_all, IsSource, IsAfter, indexes-are, after-are, ascending-ascends}
+use Rattle.plan_text.proofs.NextLaws.{small_all, IsSource, IsAfter, indexes-are, after-are}
 use Rattle.ring_text.proofs.Fronts.{Free, Last, IsFront, front-item, front-⊗, front-whole, front-word, item-unless, numbers-taken, numbers-given, pair_is}
 use Rattle.plan_text.proofs.Below.{item-below}
 
@@ -45,7 +45,7 @@ after-judged : (plan : List Planned) (k : ℕ) (xs : List ℕ) → 1 ≤ length 
 after-judged plan k xs some p =
     let room : length xs ≤ 524288 - dependencies plan = omega (arith, p.total) in
     unless_ok ((eqb (length xs) 0, BadLine k) ∷ (not (ascending xs), BadLine k) ∷ (not (nat_le (length xs) 4096), TooLarge k) ∷ (not (nat_le (length xs) (524288 - dependencies plan)), TooLarge k) ∷ (not (list_all (λ x. nat_lt x 4294967296) xs), TooLarge k) ∷ (not (list_all (λ x. nat_lt x (length plan)) xs), LaterDependency k) ∷ []) xs
-    (none-is xs some, (ap not (ascending-ascends xs ∙ p.ascending), (ap not (le-leb (length xs) 4096 p.few), (ap not (le-leb (length xs) (524288 - dependencies plan) room), (ap not p.small, (ap not p.earlier, tt))))))
+    (none-is xs some, (ap not (p.ascending), (ap not (le-leb (length xs) 4096 p.few), (ap not (le-leb (length xs) (524288 - dependencies plan) room), (ap not p.small, (ap not p.earlier, tt))))))
 
 filled-after : (xs : List ℕ) → 1 ≤ length xs → after_fields xs ≡ codes "after" ∷ map decimal xs
 filled-after [] le = absurd (omega arith)

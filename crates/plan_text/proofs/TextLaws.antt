@@ -6,8 +6,9 @@ use Rattle.ring_names.specs.declared.ids.NodeId.{NodeId}
 use Rattle.ring_names.specs.declared.refusal.Refusal.{Refusal}
 use Rattle.ring_text.specs.Name.{is_name}
 use Rattle.ring_text.specs.Parts.{lines_of}
-use Rattle.ring_text.specs.Left.{Left, over_at}
-use Rattle.ring_text.specs.Laws.{IsPlain, IsPlainLine}
+use Rattle.ring_text.specs.Left.{Left}
+use Rattle.ring_text.specs.Frames.{end_fields}
+use Rattle.ring_text.specs.Laws.{SomeLeft, IsPlain, IsPlainLine}
 use Rattle.ring_text.proofs.Wholes.{whole-takes, whole-gives, decimal-plain}
 use Rattle.ring_text.proofs.Rows.{numbers-plain}
 use Rattle.ring_table.specs.Value.{RingValue, names_of}
@@ -23,7 +24,7 @@ use Rattle.plan_text.specs.declared.step.Source.TheVariants.{Owner, Slots}
 use Rattle.plan_text.specs.declared.step.Planned.{Planned}
 use Rattle.plan_text.specs.Valid.{IsPlan, Suits}
 use Rattle.ring_text.specs.Numbers.{are_small}
-use Rattle.plan_text.specs.Spelling.{kind_fields, after_fields, step_fields, plan_end_fields, plan_lines, plan_text}
+use Rattle.plan_text.specs.Spelling.{kind_fields, after_fields, step_fields, plan_lines, plan_text}
 use Rattle.plan_text.specs.Reading.{plan_at, plan_reading}
 use Rattle.plan_text.proofs.NextLaws.{small_all}
 use Rattle.plan_text.proofs.StepLaws.{SaidSuits}
@@ -66,7 +67,7 @@ module _ (ring : RingValue) (q : ring.q ≤ 4096) (n : ring.n ≤ 7) (good : Are
   kind-plain plan (Drop s x) p = (words-plain.6, (below-plain s.partition ring.q q p.0.0, (below-plain s.index ring.n (omega arith) p.0.1, (named x, tt))))
   kind-plain plan (Retire x) p = (words-plain.7, (named x, tt))
 
-  steps-plain : (seen ys : List Planned) → AreNext ring seen ys → AllByRecursion IsPlainLine (map (step_fields (names_of ring)) ys ++ plan_end_fields ∷ [])
+  steps-plain : (seen ys : List Planned) → AreNext ring seen ys → AllByRecursion IsPlainLine (map (step_fields (names_of ring)) ys ++ end_fields ∷ [])
   steps-plain seen [] next = ((words-plain.11, tt), tt)
   steps-plain seen (y ∷ ys) next = (joined-plain (kind_fields (names_of ring) y.step) (after_fields y.after) (kind-plain seen y.step next.0.said) (after-plain y.after next.0.after.small), steps-plain (seen ++ y ∷ []) ys next.1)
 
@@ -84,23 +85,18 @@ module _ (ring : RingValue) (q : ring.q ≤ 4096) (n : ring.n ≤ 7) (good : Are
       let next = next-of ring v is suits in
       whole-gives (plan_at ring) (plan_lines ring) (AreNext ring []) (plan-part ring q n good) text v next (lines-plain v next) e
 
--- ---- a whole text, as the code reads
+-- ---- a section
 
-module _ (ring : RingValue) (text : List ℕ) (s : Left) (start : s ≡ record { line = 1; lines = lines_of text }) where
-  pub reading-bad : (e : Refusal) → plan_at ring s ≡ Err e → plan_reading ring text ≡ Err e
-  reading-bad e f =
-      let at : plan_at ring (record { line = 1; lines = lines_of text }) ≡ Err e = ap (plan_at ring) (sym start) ∙ f in
-      rw at refl
+some-line : (ring : RingValue) (s t : Left) (v : List Planned) → plan_at ring s ≡ Ok (v, t) → SomeLeft s
+unfolding plan_at
+some-line ring s t v e = by s.lines e
+  where
+    by : (lines : List (List (List ℕ))) → plan_at ring (record { line = s.line; lines = lines }) ≡ Ok (v, t) → (x : List (List ℕ)) × (xs : List (List (List ℕ))) × (lines ≡ x ∷ xs)
+    by [] f = absurd cc
+    by (x ∷ xs) f = (x, xs, refl)
 
-  pub reading-over : (t : Left) (v : List Planned) (e : Refusal) → plan_at ring s ≡ Ok (v, t) → over_at t ≡ Err e → plan_reading ring text ≡ Err e
-  reading-over t v e f g =
-      let at : plan_at ring (record { line = 1; lines = lines_of text }) ≡ Ok (v, t) = ap (plan_at ring) (sym start) ∙ f in
-      rw (at, g) refl
-
-  pub reading-good : (t : Left) (v : List Planned) (u : Unit {0}) → plan_at ring s ≡ Ok (v, t) → over_at t ≡ Ok u → plan_reading ring text ≡ Ok v
-  reading-good t v u f g =
-      let at : plan_at ring (record { line = 1; lines = lines_of text }) ≡ Ok (v, t) = ap (plan_at ring) (sym start) ∙ f in
-      rw (at, g) refl
+pub section-found : (ring : RingValue) (s : Left) → IsRing ring → (v : List Planned) (t : Left) → plan_at ring s ≡ Ok (v, t) → IsPlan v × Suits ring v
+section-found ring s r v t e = plan-of-next ring v ((plan-part ring (space-le ring.q r.space) r.slots (names-of ring r)).takes s t v (some-line ring s t v e) e).1
 
 pub read-found : (ring : RingValue) (text : List ℕ) (v : List Planned) → IsRing ring → plan_reading ring text ≡ Ok v → IsPlan v × Suits ring v × (text ≡ plan_text ring v)
 read-found ring text v r e = found-in ring (space-le ring.q r.space) r.slots (names-of ring r) text v e

@@ -9,8 +9,9 @@ use Rattle.ring_names.specs.declared.refusal.Refusal.{Refusal}
 use Rattle.ring_names.specs.declared.refusal.Refusal.TheVariants.{BadLine, TooLarge, Repeated, LaterDependency}
 use Rattle.ring_text.specs.Number.{decimal_value}
 use Rattle.ring_text.specs.Numbers.{numbers_of, beyond, ascending}
-use Rattle.ring_text.specs.Judging.{Item, ◌⊗◌, field_at, word_at, need_at, map_ok, map_item, whole, unless}
-use Rattle.ring_text.specs.Left.{Left, ◌>>=◌, begins_with, first_line, one_line, then_part, map_part, whole_text}
+use Rattle.ring_text.specs.Judging.{Item, ◌⊗◌, field_at, need_at, map_ok, map_item, whole, unless}
+use Rattle.ring_text.specs.Left.{Left, ◌>>=◌, next_number, begins_with, first_line, one_line, then_part, map_part, whole_text}
+use Rattle.ring_text.specs.Frames.{header_at, end_line_at}
 use Rattle.ring_table.specs.Value.{RingValue, is_member}
 use Rattle.ring_table.specs.Reading.{declared_at}
 use Rattle.plan_text.specs.declared.said.Said.{Said}
@@ -20,10 +21,6 @@ use Rattle.plan_text.specs.declared.said.SaidSource.TheVariants.{Owner, Slots}
 use Rattle.plan_text.specs.declared.step.Planned.{Planned}
 use Rattle.plan_text.specs.Said.{planned_of}
 use Rattle.plan_text.specs.Steps.{dependencies, joined, retired}
-
--- `plan 1`
-unfoldable pub plan_header_at : ℕ → List (List ℕ) → Result (Unit {0}) Refusal
-plan_header_at k fields = map_ok (λ x. tt) (whole k (word_at k (codes "plan") ⊗ word_at k (codes "1")) fields)
 
 -- a number below a limit
 abbrev pub judge_below : ℕ → ℕ → List ℕ → Result ℕ Refusal
@@ -107,21 +104,17 @@ abbrev pub steps_from : RingValue → List Planned → ℕ → List (List (List 
 steps_from ring seen k [] = Err (BadLine k)
 steps_from ring seen k (line ∷ more) = if begins_with (codes "end") (line ∷ more)
     then Ok (seen, record { line = k; lines = line ∷ more })
-    else (first_line k (line ∷ more) >>= λ _. step_at ring seen k line >>= λ x. steps_from ring (seen ++ x ∷ []) (k + 1) more)
+    else (first_line k (line ∷ more) >>= λ _. step_at ring seen k line >>= λ x. steps_from ring (seen ++ x ∷ []) (next_number k) more)
 
 unfoldable pub steps_at : RingValue → Left → Result (List Planned × Left) Refusal
 steps_at ring s = steps_from ring [] s.line s.lines
 
--- `end`
-unfoldable pub plan_end_at : ℕ → List (List ℕ) → Result (Unit {0}) Refusal
-plan_end_at k fields = map_ok (λ x. tt) (whole k (word_at k (codes "end")) fields)
-
 -- the lines of a plan, one part behind the other
 unfoldable pub plan_at : RingValue → Left → Result (List Planned × Left) Refusal
 plan_at ring = map_part (λ (x : Unit {0} × (List Planned × Unit {0})). x.1.0)
-    (then_part (one_line plan_header_at) (λ _.
+    (then_part (one_line (header_at (codes "plan"))) (λ _.
     then_part (steps_at ring) (λ _.
-    one_line plan_end_at)))
+    one_line end_line_at)))
 
 -- a whole text
 abbrev pub plan_reading : RingValue → List ℕ → Result (List Planned) Refusal

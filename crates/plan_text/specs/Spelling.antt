@@ -3,6 +3,7 @@ use Rattle.std.specs.Prelude.{ℕ, List, [], ◌∷◌, ◌++◌, map, codes}
 use Rattle.std.specs.Fmt.{decimal}
 use Rattle.ring_names.specs.declared.ids.Slot.{Slot}
 use Rattle.ring_text.specs.Parts.{text_of}
+use Rattle.ring_text.specs.Frames.{header_fields, end_fields}
 use Rattle.ring_table.specs.Value.{RingValue, names_of}
 use Rattle.ring_table.specs.Spelling.{name_at}
 use Rattle.plan_text.specs.declared.step.Step.{Step}
@@ -10,9 +11,6 @@ use Rattle.plan_text.specs.declared.step.Step.TheVariants.{Join, Mirror, Copy, S
 use Rattle.plan_text.specs.declared.step.Source.{Source}
 use Rattle.plan_text.specs.declared.step.Source.TheVariants.{Owner, Slots}
 use Rattle.plan_text.specs.declared.step.Planned.{Planned}
-
-abbrev pub plan_header_fields : List (List ℕ)
-plan_header_fields = codes "plan" ∷ codes "1" ∷ []
 
 abbrev pub slot_fields : Slot → List (List ℕ)
 slot_fields s = decimal s.partition ∷ decimal s.index ∷ []
@@ -38,12 +36,9 @@ after_fields (x ∷ xs) = codes "after" ∷ decimal x ∷ map decimal xs
 abbrev pub step_fields : List (List ℕ) → Planned → List (List ℕ)
 step_fields names x = kind_fields names x.step ++ after_fields x.after
 
-abbrev pub plan_end_fields : List (List ℕ)
-plan_end_fields = codes "end" ∷ []
-
 -- the lines of a plan
 abbrev pub plan_lines : RingValue → List Planned → List (List (List ℕ))
-plan_lines ring plan = plan_header_fields ∷ (map (step_fields (names_of ring)) plan ++ plan_end_fields ∷ [])
+plan_lines ring plan = header_fields (codes "plan") ∷ (map (step_fields (names_of ring)) plan ++ end_fields ∷ [])
 
 -- its text
 abbrev pub plan_text : RingValue → List Planned → List ℕ

@@ -4,6 +4,7 @@ use Rattle.std.specs.List.{list_all}
 use Rattle.ring_names.specs.Lists.{all_different}
 use Rattle.ring_names.specs.declared.ids.NodeId.{NodeId}
 use Rattle.ring_names.specs.declared.ids.Slot.{Slot}
+use Rattle.ring_text.specs.Numbers.{ascending}
 use Rattle.ring_table.specs.Value.{RingValue, is_member}
 use Rattle.plan_text.specs.declared.step.Step.{Step}
 use Rattle.plan_text.specs.declared.step.Step.TheVariants.{Join, Mirror, Copy, Switch, Drop, Retire}
@@ -11,12 +12,6 @@ use Rattle.plan_text.specs.declared.step.Source.{Source}
 use Rattle.plan_text.specs.declared.step.Source.TheVariants.{Owner, Slots}
 use Rattle.plan_text.specs.declared.step.Planned.{Planned}
 use Rattle.plan_text.specs.Steps.{dependencies, joined, retired}
-
--- the numbers ascend strictly
-abbrev pub ascends : List ℕ → Bool
-ascends [] = true
-ascends (x ∷ []) = true
-ascends (x ∷ y ∷ ys) = nat_lt x y && ascends (y ∷ ys)
 
 -- a copy from listed slots lists 1 to 7 of them
 abbrev pub HasSources : Step → Type 0
@@ -30,7 +25,7 @@ HasSources (Retire x) = Unit {0}
 
 -- what a plan's step with that number may be
 pub record IsPlanned (number : ℕ) (x : Planned) : Type 0 where
-  pub ascending : ascends x.after ≡ true
+  pub ascending : ascending x.after ≡ true
   pub earlier : list_all (λ a. nat_lt a number) x.after ≡ true
   pub few : length x.after ≤ 4096
   pub sources : HasSources x.step

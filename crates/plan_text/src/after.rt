@@ -9,7 +9,7 @@ use ring_names::Refusal;
 use ring_text::{CAP, Fields, NumberRow};
 
 // Steps that the next one of the plan waits for.
-fn dependencies<'a>(plan: &Plan, row: NumberRow<'a>, line: u32) -> Result<NumberRow<'a>, Refusal>
+fn dependencies<'a>(plan: &Plan, line: u32, row: NumberRow<'a>) -> Result<NumberRow<'a>, Refusal>
     ensures { result ≡ judge_after plan.now line row.entry }
 {
     if row.is_empty() {
@@ -35,15 +35,16 @@ fn dependencies<'a>(plan: &Plan, row: NumberRow<'a>, line: u32) -> Result<Number
 
 /// Nothing, or `after` and the numbers behind it. Takes no memory.
 #[tactic(auto, unfolding(crate::specs::Reading::after_at))]
-pub fn after<'a>(plan: &Plan, fields: &mut Fields<'a>, line: u32) -> Result<NumberRow<'a>, Refusal>
-    ensures { Does (after_at plan.now line) fields.old result fields.new }
+pub fn after<'a>(plan: &Plan, fields: &mut Fields<'a>) -> Result<NumberRow<'a>, Refusal>
+    ensures { Does (after_at plan.now) fields.old result fields.new }
 {
+    let line = fields.line();
     let Some(word) = fields.next() else {
         return Ok(NumberRow::none());
     };
     if word == b"after".as_slice() {
         let row = fields.numbers();
-        return dependencies(plan, row, line);
+        return dependencies(plan, line, row);
     }
     Err(Refusal::BadLine(line))
 }

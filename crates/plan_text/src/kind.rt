@@ -12,7 +12,7 @@ use ring_table::Ring;
 use ring_text::{Fields, NumberRow, both};
 
 // Listed slots of a ring of n slots.
-fn indexes<'a>(n: u32, row: NumberRow<'a>, line: u32) -> Result<NumberRow<'a>, Refusal>
+fn indexes<'a>(n: u32, line: u32, row: NumberRow<'a>) -> Result<NumberRow<'a>, Refusal>
     ensures { result ≡ judge_indexes n line row.entry }
 {
     if row.is_empty() {
@@ -29,9 +29,10 @@ fn indexes<'a>(n: u32, row: NumberRow<'a>, line: u32) -> Result<NumberRow<'a>, R
 
 // `owner`, or `slots` and the numbers behind it.
 #[tactic(auto, unfolding(crate::specs::Reading::source_at))]
-fn source<'a>(n: u32, fields: &mut Fields<'a>, line: u32) -> Result<SaidSource<'a>, Refusal>
-    ensures { Does (source_at n line) fields.old result fields.new }
+fn source<'a>(n: u32, fields: &mut Fields<'a>) -> Result<SaidSource<'a>, Refusal>
+    ensures { Does (source_at n) fields.old result fields.new }
 {
+    let line = fields.line();
     let Some(word) = fields.next() else {
         return Err(Refusal::BadLine(line));
     };
@@ -40,7 +41,7 @@ fn source<'a>(n: u32, fields: &mut Fields<'a>, line: u32) -> Result<SaidSource<'
     }
     if word == b"slots".as_slice() {
         let row = fields.numbers();
-        return match indexes(n, row, line) {
+        return match indexes(n, line, row) {
             Ok(row) => Ok(SaidSource::Slots(row)),
             Err(e) => Err(e),
         };
@@ -50,62 +51,36 @@ fn source<'a>(n: u32, fields: &mut Fields<'a>, line: u32) -> Result<SaidSource<'
 
 // A slot, and where its copy reads.
 #[tactic(auto, unfolding(crate::specs::Reading::copy_at))]
-fn copy<'a>(
-    ring: &Ring,
-    fields: &mut Fields<'a>,
-    line: u32,
-) -> Result<(Slot, SaidSource<'a>), Refusal>
-    ensures { Does (copy_at ring.now line) fields.old result fields.new }
+fn copy<'a>(ring: &Ring, fields: &mut Fields<'a>) -> Result<(Slot, SaidSource<'a>), Refusal>
+    ensures { Does (copy_at ring.now) fields.old result fields.new }
 {
-    let slot = slot(ring, fields, line);
-    let source = source(ring.n(), fields, line);
+    let slot = slot(ring, fields);
+    let source = source(ring.n(), fields);
     both(slot, source)
 }
 
 /// What the step is, behind the steps of a plan. Takes no memory.
 #[tactic(auto, unfolding(crate::specs::Reading::kind_at))]
-pub fn kind<'a>(
-    ring: &Ring,
-    plan: &Plan,
-    fields: &mut Fields<'a>,
-    line: u32,
-) -> Result<Said<'a>, Refusal>
-    ensures { Does (kind_at ring.now plan.now line) fields.old result fields.new }
+pub fn kind<'a>(ring: &Ring, plan: &Plan, fields: &mut Fields<'a>) -> Result<Said<'a>, Refusal>
+    ensures { Does (kind_at ring.now plan.now) fields.old result fields.new }
 {
     let Some(word) = fields.next() else {
-        return Err(Refusal::BadLine(line));
+        return Err(Refusal::BadLine(fields.line()));
     };
     if word == b"join".as_slice() {
-        match joining(ring, plan, fields, line) {
-            Ok(node) => Ok(Said::Join(node)),
-            Err(e) => Err(e),
-        }
+        joining(ring, plan, fields).map(|node| Said::Join(node))
     } else if word == b"mirror".as_slice() {
-        match slot_node(ring, fields, line) {
-            Ok((slot, node)) => Ok(Said::Mirror(slot, node)),
-            Err(e) => Err(e),
-        }
+        slot_node(ring, fields).map(|(slot, node)| Said::Mirror(slot, node))
     } else if word == b"copy".as_slice() {
-        match copy(ring, fields, line) {
-            Ok((slot, source)) => Ok(Said::Copy(slot, source)),
-            Err(e) => Err(e),
-        }
+        let (slot, source) = copy(ring, fields)?;
+        Ok(Said::Copy(slot, source))
     } else if word == b"switch".as_slice() {
-        match slot(ring, fields, line) {
-            Ok(slot) => Ok(Said::Switch(slot)),
-            Err(e) => Err(e),
-        }
+        slot(ring, fields).map(|slot| Said::Switch(slot))
     } else if word == b"drop".as_slice() {
-        match slot_node(ring, fields, line) {
-            Ok((slot, node)) => Ok(Said::Drop(slot, node)),
-            Err(e) => Err(e),
-        }
+        slot_node(ring, fields).map(|(slot, node)| Said::Drop(slot, node))
     } else if word == b"retire".as_slice() {
-        match retiring(ring, plan, fields, line) {
-            Ok(node) => Ok(Said::Retire(node)),
-            Err(e) => Err(e),
-        }
+        retiring(ring, plan, fields).map(|node| Said::Retire(node))
     } else {
-        Err(Refusal::BadLine(line))
+        Err(Refusal::BadLine(fields.line()))
     }
 }

@@ -5,15 +5,15 @@ ghost use Rattle.ring_text.specs.Judging.{field_at, Does};
 ghost use Rattle.plan_text.specs.Reading.{judge_below, slot_at, slot_node_at, joining_at, retiring_at};
 
 use crate::plan::Plan;
-use crate::suits::is_member;
 use ring_names::{NodeId, Refusal, Slot};
 use ring_table::{Ring, node_field};
 use ring_text::{Fields, both, value_of};
 
 // A number below a limit.
-fn below(limit: u32, fields: &mut Fields, line: u32) -> Result<u32, Refusal>
-    ensures { Does (field_at line (judge_below line limit)) fields.old result fields.new }
+fn below(limit: u32, fields: &mut Fields) -> Result<u32, Refusal>
+    ensures { Does (λ k. field_at k (judge_below k limit)) fields.old result fields.new }
 {
+    let line = fields.line();
     let Some(field) = fields.next() else {
         return Err(Refusal::BadLine(line));
     };
@@ -26,11 +26,11 @@ fn below(limit: u32, fields: &mut Fields, line: u32) -> Result<u32, Refusal>
 
 /// A slot of the ring. Else that is `BadLine` or `TooLarge`.
 #[tactic(auto, unfolding(crate::specs::Reading::slot_at))]
-pub fn slot(ring: &Ring, fields: &mut Fields, line: u32) -> Result<Slot, Refusal>
-    ensures { Does (slot_at ring.now line) fields.old result fields.new }
+pub fn slot(ring: &Ring, fields: &mut Fields) -> Result<Slot, Refusal>
+    ensures { Does (slot_at ring.now) fields.old result fields.new }
 {
-    let partition = below(ring.q(), fields, line);
-    let index = below(ring.n(), fields, line);
+    let partition = below(ring.q(), fields);
+    let index = below(ring.n(), fields);
     match both(partition, index) {
         Ok((partition, index)) => Ok(Slot { partition, index }),
         Err(e) => Err(e),
@@ -39,32 +39,34 @@ pub fn slot(ring: &Ring, fields: &mut Fields, line: u32) -> Result<Slot, Refusal
 
 /// A slot, and behind it a declared node.
 #[tactic(auto, unfolding(crate::specs::Reading::slot_node_at))]
-pub fn slot_node(ring: &Ring, fields: &mut Fields, line: u32) -> Result<(Slot, NodeId), Refusal>
-    ensures { Does (slot_node_at ring.now line) fields.old result fields.new }
+pub fn slot_node(ring: &Ring, fields: &mut Fields) -> Result<(Slot, NodeId), Refusal>
+    ensures { Does (slot_node_at ring.now) fields.old result fields.new }
 {
-    let slot = slot(ring, fields, line);
-    let node = node_field(ring, fields, line);
+    let slot = slot(ring, fields);
+    let node = node_field(ring, fields);
     both(slot, node)
 }
 
 /// A node that was no member before the plan, and that the plan does not join yet. Else that is `Repeated`.
 #[tactic(auto, unfolding(crate::specs::Reading::joining_at))]
-pub fn joining(ring: &Ring, plan: &Plan, fields: &mut Fields, line: u32) -> Result<NodeId, Refusal>
-    ensures { Does (joining_at ring.now plan.now line) fields.old result fields.new }
+pub fn joining(ring: &Ring, plan: &Plan, fields: &mut Fields) -> Result<NodeId, Refusal>
+    ensures { Does (joining_at ring.now plan.now) fields.old result fields.new }
 {
-    match node_field(ring, fields, line) {
-        Ok(node) if is_member(ring, node) || plan.is_joined(node) => Err(Refusal::Repeated(line)),
+    match node_field(ring, fields) {
+        Ok(node) if ring.is_member(node) || plan.is_joined(node) => Err(Refusal::Repeated(
+            fields.line(),
+        )),
         other => other,
     }
 }
 
 /// A node that the plan does not retire yet. Else that is `Repeated`.
 #[tactic(auto, unfolding(crate::specs::Reading::retiring_at))]
-pub fn retiring(ring: &Ring, plan: &Plan, fields: &mut Fields, line: u32) -> Result<NodeId, Refusal>
-    ensures { Does (retiring_at ring.now plan.now line) fields.old result fields.new }
+pub fn retiring(ring: &Ring, plan: &Plan, fields: &mut Fields) -> Result<NodeId, Refusal>
+    ensures { Does (retiring_at ring.now plan.now) fields.old result fields.new }
 {
-    match node_field(ring, fields, line) {
-        Ok(node) if plan.is_retired(node) => Err(Refusal::Repeated(line)),
+    match node_field(ring, fields) {
+        Ok(node) if plan.is_retired(node) => Err(Refusal::Repeated(fields.line())),
         other => other,
     }
 }

@@ -3,10 +3,11 @@
 ghost use Rattle.std.specs.Prelude.{◌≡◌, ◌≤◌, ◌+◌, ◌++◌, ◌∷◌, [], length, List, ℕ, nat_lt, Ok, IfOk, IfErr, OnOk};
 ghost use Rattle.ring_names.specs.declared.refusal.Refusal.TheVariants.{OutOfMemory};
 ghost use Rattle.ring_text.specs.Left.{Reads};
+ghost use Rattle.ring_text.specs.Late.{IsAt, Late, NoFaultBefore};
 ghost use Rattle.ring_text.specs.Judging.{Gives, map_ok};
 ghost use Rattle.plan_text.specs.Said.{planned_of};
 ghost use Rattle.plan_text.specs.Fits.{IsNext};
-ghost use Rattle.plan_text.specs.Reading.{plan_header_at, said_at, steps_from, steps_at, plan_end_at, plan_at, plan_reading};
+ghost use Rattle.plan_text.specs.Reading.{said_at, steps_from, steps_at, plan_at, plan_reading};
 ghost use Rattle.plan_text.specs.Spelling.{plan_text};
 ghost use Rattle.plan_text.specs.Valid.{IsPlan, Suits};
 ghost use Rattle.plan_text.specs.declared.step.Planned.{Planned};
@@ -17,28 +18,8 @@ use crate::plan::Plan;
 use crate::said::{Said, to_step};
 use ring_names::Refusal;
 use ring_table::Ring;
-use ring_text::{Fields, Lines, NumberRow, both, finish, need};
+use ring_text::{Fields, Lines, NumberRow, both, end, finish, header, need};
 use std::alloc::Global;
-
-// `plan 1`
-#[tactic(auto, unfolding(crate::specs::Reading::plan_header_at))]
-fn header_line(mut fields: Fields, line: u32) -> Result<(), Refusal>
-    ensures { result ≡ plan_header_at line fields.entry }
-{
-    let word = fields.word(b"plan", line);
-    let format = fields.word(b"1", line);
-    finish(both(word, format), fields, line)?;
-    Ok(())
-}
-
-// `end`
-#[tactic(auto, unfolding(crate::specs::Reading::plan_end_at))]
-fn end_line(mut fields: Fields, line: u32) -> Result<(), Refusal>
-    ensures { result ≡ plan_end_at line fields.entry }
-{
-    let word = fields.word(b"end", line);
-    finish(word, fields, line)
-}
 
 // What a step's line says, behind the steps of the plan. Takes no memory.
 #[tactic(auto, unfolding(crate::specs::Reading::said_at))]
@@ -46,18 +27,18 @@ fn step_line<'a>(
     ring: &Ring,
     plan: &Plan,
     mut fields: Fields<'a>,
-    line: u32,
 ) -> Result<(Said<'a>, NumberRow<'a>), Refusal>
-    ensures value { result ≡ said_at ring.now plan.now line fields.entry }
+    ensures value { result ≡ said_at ring.now plan.now fields.entry.number fields.entry.fields }
     ensures next { IfOk result (λ x. IsNext plan.now x) }
+    ensures at { IfErr result (λ e. IsAt fields.entry.number e) }
 {
     // Listed slots are small numbers.
     let slots = ring.n();
     prove!(slots <= 7);
-    let room = need(plan.len() < 131072, line);
-    let said = kind(ring, plan, &mut fields, line);
-    let after = after(plan, &mut fields, line);
-    match finish(both(both(room, said), after), fields, line) {
+    let room = need(plan.len() < 131072, &fields);
+    let said = kind(ring, plan, &mut fields);
+    let after = after(plan, &mut fields);
+    match finish(both(both(room, said), after), fields) {
         Ok(((_, said), after)) => Ok((said, after)),
         Err(e) => Err(e),
     }
@@ -76,15 +57,13 @@ fn add(alloc: Global, plan: &mut Plan, said: Said, after: NumberRow) -> Result<(
 
 // Reads steps behind those of the plan, up to a line that begins with `end`.
 fn read_into(alloc: Global, ring: &Ring, plan: &mut Plan, lines: &mut Lines) -> Result<(), Refusal>
-    requires start { lines.old.line ≤ 100000000 }
     requires none { plan.old ≡ [] }
     ensures read { Reads (map_ok (λ _. plan.new) result) lines.new (steps_from ring.now plan.old lines.old.line lines.old.lines) }
-    ensures line { OnOk result (lines.new.line ≤ lines.old.line + 131072) }
+    ensures late { Late 1 result lines.old lines.new (steps_from ring.now plan.old lines.old.line lines.old.lines) }
 {
     'steps: while !lines.begins(b"end") {
-        let line = lines.line();
         let fields = lines.next()?;
-        let (said, after) = step_line(ring, plan, fields, line)?;
+        let (said, after) = step_line(ring, plan, fields)?;
         add(alloc, plan, said, after)?;
     }
     Ok(())
@@ -93,33 +72,54 @@ fn read_into(alloc: Global, ring: &Ring, plan: &mut Plan, lines: &mut Lines) -> 
 // Reads the steps of a plan.
 #[tactic(auto, unfolding(crate::specs::Reading::steps_at))]
 fn read_steps(alloc: Global, ring: &Ring, lines: &mut Lines) -> Result<Plan, Refusal>
-    requires { lines.old.line ≤ 100000000 }
     ensures read { Reads result lines.new (steps_at ring.now lines.old) }
-    ensures line { OnOk result (lines.new.line ≤ lines.old.line + 131072) }
+    ensures late { Late 1 result lines.old lines.new (steps_at ring.now lines.old) }
 {
     let mut plan = Plan::new(alloc);
     read_into(alloc, ring, &mut plan, lines)?;
     Ok(plan)
 }
 
-/// Reads the lines of a plan, up to its line `end`, and leaves what follows them. Refused as `read_plan` is.
+// Reads the lines of a plan.
 #[tactic(auto, unfolding(crate::specs::Reading::plan_at))]
-pub fn read_plan_section(alloc: Global, ring: &Ring, lines: &mut Lines) -> Result<Plan, Refusal>
-    requires { lines.old.line ≤ 90000000 }
+fn read_parts(alloc: Global, ring: &Ring, lines: &mut Lines) -> Result<Plan, Refusal>
     ensures read { Reads result lines.new (plan_at ring.now lines.old) }
-    ensures line { OnOk result (lines.new.line ≤ lines.old.line + 131074) }
+    ensures late { Late 2 result lines.old lines.new (plan_at ring.now lines.old) }
 {
-    let line = lines.line();
-    header_line(lines.next()?, line)?;
+    header(lines, b"plan")?;
     let plan = read_steps(alloc, ring, lines)?;
-    let line = lines.line();
-    end_line(lines.next()?, line)?;
+    end(lines)?;
+    Ok(plan)
+}
+
+/// Reads the lines of a plan, up to its line `end`, and leaves what follows them. Refused as `read_plan` is.
+pub fn read_plan_section(alloc: Global, ring: &Ring, lines: &mut Lines) -> Result<Plan, Refusal>
+    ensures read { Reads result lines.new (plan_at ring.now lines.old) }
+    // What is read is a plan that suits the ring.
+    ensures found { IfOk result (λ v. IsPlan v × Suits ring.now v) }
+    // Memory may run out behind its first two lines, if these have no fault, and later only behind lines that have none.
+    ensures late { Late 2 result lines.old lines.new (plan_at ring.now lines.old) }
+{
+    // Names and numbers of a ring are plain.
+    let slots = ring.n();
+    prove!(slots <= 7);
+    read_parts(alloc, ring, lines)
+}
+
+// Reads a plan from its whole text.
+fn read_whole(alloc: Global, ring: &Ring, text: &[u8]) -> Result<Plan, Refusal>
+    ensures exact { Gives result (plan_reading ring.now text.now) }
+    ensures late { IfErr result (λ e. e ≡ OutOfMemory → NoFaultBefore 3 (plan_reading ring.now text.now)) }
+{
+    let mut lines = Lines::of(text);
+    let plan = read_plan_section(alloc, ring, &mut lines)?;
+    lines.ended()?;
     Ok(plan)
 }
 
 /// Reads a plan of the ring from its whole text. The first line at fault decides, and in it the fault of the least
 /// number: 1 `BadLine`, 2 `TooLarge`, 3 `UnknownNode`, 4 `Repeated`, 20 `LaterDependency`.
-/// `OutOfMemory` comes only where memory ran out.
+/// `OutOfMemory` comes only where memory ran out, behind lines that have no fault.
 pub fn read_plan(alloc: Global, ring: &Ring, text: &[u8]) -> Result<Plan, Refusal>
     // What is read is a plan that suits the ring, and spelled so.
     ensures found { IfOk result (λ v. IsPlan v × Suits ring.now v × (text.now ≡ plan_text ring.now v)) }
@@ -127,16 +127,11 @@ pub fn read_plan(alloc: Global, ring: &Ring, text: &[u8]) -> Result<Plan, Refusa
     ensures only { (v : List Planned) → IsPlan v → Suits ring.now v → text.now ≡ plan_text ring.now v → Gives result (Ok v) }
     // Which fault it is.
     ensures exact { Gives result (plan_reading ring.now text.now) }
+    // Memory may run out only if the first two lines have no fault.
+    ensures late { IfErr result (λ e. e ≡ OutOfMemory → NoFaultBefore 3 (plan_reading ring.now text.now)) }
 {
     // Names and numbers of a ring are plain.
     let slots = ring.n();
     prove!(slots <= 7);
-    let mut lines = Lines::of(text);
-    match read_plan_section(alloc, ring, &mut lines) {
-        Err(e) => Err(e),
-        Ok(plan) => match lines.ended() {
-            Err(e) => Err(e),
-            Ok(()) => Ok(plan),
-        },
-    }
+    read_whole(alloc, ring, text)
 }

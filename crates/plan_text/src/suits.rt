@@ -2,7 +2,6 @@
 
 ghost use Rattle.std.specs.Prelude.{◌≡◌, ◌&&◌, not, length, nat_lt};
 ghost use Rattle.std.specs.List.{list_all};
-ghost use Rattle.ring_table.specs.Value.{is_member};
 ghost use Rattle.plan_text.specs.Valid.{step_suits, source_suits, is_ring_slot, is_declared};
 
 use crate::plan::Kept;
@@ -22,7 +21,7 @@ pub fn step_suits(ring: &Ring, step: &Step) -> bool
     ensures { result ≡ step_suits ring.now step.now }
 {
     match step {
-        Step::Join(node) => is_declared(ring, *node) && !is_member(ring, *node),
+        Step::Join(node) => is_declared(ring, *node) && !ring.is_member(*node),
         Step::Mirror(slot, node) | Step::Drop(slot, node) => {
             is_ring_slot(ring, *slot) && is_declared(ring, *node)
         }
@@ -59,14 +58,4 @@ fn is_declared(ring: &Ring, node: NodeId) -> bool
     ensures { result ≡ is_declared ring.now node }
 {
     (node.0 as usize) < ring.nodes().len()
-}
-
-/// Whether the node is a member before the first step.
-pub fn is_member(ring: &Ring, node: NodeId) -> bool
-    ensures { result ≡ is_member ring.now.nodes node }
-{
-    match ring.nodes().get(node.0 as usize) {
-        Some(node) => node.is_member,
-        None => false,
-    }
 }

@@ -1,15 +1,15 @@
-use Rattle.std.proofs.Common.{sym, ◌∙◌}
-use Rattle.plan_text.proofs.TextLaws.{reading-bad, reading-over, reading-good, read-found, read-only}
+use Rattle.std.proofs.Common.{◌≡◌, subst}
+use Rattle.ring_text.specs.Judging.{Gives}
+use Rattle.ring_text.proofs.Wholes.{gives-found}
+use Rattle.plan_text.specs.Reading.{plan_reading}
+use Rattle.plan_text.specs.Spelling.{plan_text}
+use Rattle.plan_text.specs.Valid.{IsPlan, Suits}
+use Rattle.plan_text.proofs.TextLaws.{read-found, read-only}
 use Rattle.plan_text.proofs.reading.read_plan.Goals as goal
 
-pub returns-in-Err-clause-only : goal.returns-in-Err-clause-only
-returns-in-Err-clause-only c = λ v is suits e ne. sym (read-only c.args.ring.now c.args.text.now v c.n-slots.ensures.valid is suits e) ∙ reading-bad c.args.ring.now c.args.text.now c.of-lines.result c.of-lines.ensures c.in-Err.e (c.in-Err.ensures.read ne)
+pub returns-clause-found : goal.returns-clause-found
+returns-clause-found c = gives-found c.read_whole.result (plan_reading c.args.ring.now c.args.text.now) (λ v. IsPlan v × Suits c.args.ring.now v × (c.args.text.now ≡ plan_text c.args.ring.now v)) c.read_whole.ensures.exact
+    (λ v e. read-found c.args.ring.now c.args.text.now v c.n-slots.ensures.valid e)
 
-pub returns-in-Err-ended-clause-only : goal.returns-in-Err-ended-clause-only
-returns-in-Err-ended-clause-only c = λ v is suits e ne. sym (read-only c.args.ring.now c.args.text.now v c.n-slots.ensures.valid is suits e) ∙ reading-over c.args.ring.now c.args.text.now c.of-lines.result c.of-lines.ensures c.read_plan_section.new.lines c.in-Ok.plan c.in-Err-ended.e c.in-Ok.ensures.read (sym c.ended.ensures ∙ c.in-Err-ended.is)
-
-pub returns-in-Ok-ended-clause-found : goal.returns-in-Ok-ended-clause-found
-returns-in-Ok-ended-clause-found c = read-found c.args.ring.now c.args.text.now c.in-Ok.plan c.n-slots.ensures.valid (reading-good c.args.ring.now c.args.text.now c.of-lines.result c.of-lines.ensures c.read_plan_section.new.lines c.in-Ok.plan c.in-Ok-ended.field-0 c.in-Ok.ensures.read (sym c.ended.ensures ∙ c.in-Ok-ended.is))
-
-pub returns-in-Ok-ended-clause-only : goal.returns-in-Ok-ended-clause-only
-returns-in-Ok-ended-clause-only c = λ v is suits e. sym (read-only c.args.ring.now c.args.text.now v c.n-slots.ensures.valid is suits e) ∙ reading-good c.args.ring.now c.args.text.now c.of-lines.result c.of-lines.ensures c.read_plan_section.new.lines c.in-Ok.plan c.in-Ok-ended.field-0 c.in-Ok.ensures.read (sym c.ended.ensures ∙ c.in-Ok-ended.is)
+pub returns-clause-only : goal.returns-clause-only
+returns-clause-only c = λ v is suits e. subst (Gives c.read_whole.result) (read-only c.args.ring.now c.args.text.now v c.n-slots.ensures.valid is suits e) c.read_whole.ensures.exact

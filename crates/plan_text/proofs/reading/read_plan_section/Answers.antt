@@ -1,9 +1,8 @@
-use Rattle.std.proofs.Common.{arith}
-use Rattle.ring_table.proofs.NodesLaws.{first-line}
+use Rattle.ring_text.proofs.Wholes.{reads-found}
+use Rattle.plan_text.specs.Reading.{plan_at}
+use Rattle.plan_text.specs.Valid.{IsPlan, Suits}
+use Rattle.plan_text.proofs.TextLaws.{section-found}
 use Rattle.plan_text.proofs.reading.read_plan_section.Goals as goal
 
-pub returns-clause-line : goal.returns-clause-line
-returns-clause-line c =
-    let n1 = first-line c.args.lines.now c.next.new.self c.in_ok-next.field-0 c.in_ok-next.ensures.found in
-    let n2 = first-line c.read_steps.new.lines c.next-2.new.self c.in_ok-next-2.field-0 c.in_ok-next-2.ensures.found in
-    omega (arith, n1, n2, c.in_ok-plan.ensures.line)
+pub returns-clause-found : goal.returns-clause-found
+returns-clause-found c = reads-found c.read_parts.result c.read_parts.new.lines (plan_at c.args.ring.now c.args.lines.now) (λ v. IsPlan v × Suits c.args.ring.now v) c.read_parts.ensures.read (section-found c.args.ring.now c.args.lines.now c.n-slots.ensures.valid)
