@@ -1,6 +1,6 @@
 -- In every run of a sound plan no two slots of a partition share a node.
 use Rattle.std.proofs.Common.{◌≡◌, inl, inr, ◌∙◌, ℕ, zero, suc, ◌<◌, Bool, true, false, not, List, [], ◌∷◌, length, map, get_or, refl, sym, ap, subst, arith, length-append, ltb-true, eq-eqb}
-use Rattle.std.specs.Prelude.{◌&&◌, ◌==◌, nat_lt, Option, Some, None, Result, Ok, Err, slice_get, option_and_then, unwrap_or}
+use Rattle.std.specs.Prelude.{◌&&◌, ◌==◌, nat_lt, Option, Some, None, Result, Ok, Err, slice_get, is_some, option_and_then, unwrap_or}
 use Rattle.std.specs.List.{AllByRecursion}
 use Rattle.std.proofs.lemmas.Option.{slice_get-get_or}
 use Rattle.ring_names.specs.Lists.{has, all_different}
@@ -13,17 +13,22 @@ use Rattle.ring_text.proofs.Fronts.{both_true}
 use Rattle.plan_text.specs.declared.step.Step.{Step}
 use Rattle.plan_text.specs.declared.step.Step.TheVariants.{Join, Mirror, Copy, Switch, Drop, Retire}
 use Rattle.plan_text.specs.declared.step.Planned.{Planned}
-use Rattle.plan_text.specs.Steps.{steps_of}
+use Rattle.plan_text.specs.Steps.{steps_of, copy_of}
 use Rattle.plan_stage.specs.Stage.{opening, stage}
 use Rattle.plan_stage.specs.Clauses.{first_failing}
 use Rattle.plan_check.specs.declared.event.Event.{Event}
 use Rattle.plan_check.specs.declared.event.Event.TheVariants.{Do, OpenCopy, ChunkCopy, CloseCopy, AbortCopy, StartPut, Write, Hint, Ack, StartGet, Read, EndGet, Down, Up, Handoff}
 use Rattle.plan_check.specs.declared.event.Reply.{Reply}
 use Rattle.plan_check.specs.World.{PutRecord, World, opening_world, count, keeps_other}
-use Rattle.plan_check.specs.Events.{is_copy, put_slot, serves, do_guards, guards, effect, reply_to, with_number, without_number, with_ticket, served_puts, without_puts, done_step, changed}
+use Rattle.plan_check.specs.Versions.{put_slot}
+use Rattle.plan_check.specs.Guards.{serves_in, step_guards, guards}
+use Rattle.plan_check.specs.Effects.{with_number, without_number, without_puts, changed, step_effect, served_puts, with_ticket, effect}
+use Rattle.plan_check.specs.Answers.{reply_to}
 use Rattle.plan_stage.specs.Each.{step_at}
-use Rattle.plan_check.specs.Runs.{Entry, Leads}
-use Rattle.plan_check.specs.Headline.{AreApartAlways, AreFinishedFirst}
+use Rattle.plan_check.specs.declared.event.Entry.{Entry}
+use Rattle.plan_check.specs.Runs.{Leads}
+use Rattle.plan_check.specs.Safe.{AreApart}
+use Rattle.plan_check.specs.Headline.{Always, AreFinishedFirst}
 use Rattle.plan_check.proofs.Prefix.{order, passed, prefix}
 use Rattle.plan_check.proofs.Groups.{Served, InGroup, in_group}
 use Rattle.plan_check.proofs.Mirrored.{Known, Ready, down}
@@ -32,13 +37,13 @@ use Rattle.plan_stage.proofs.Truth.{second_of_two, not_is}
 
 -- ---- steps
 
-may_do : (ring : RingValue) (w : World) (m : Option Step) (s : Slot) (x : NodeId) → m ≡ Some (Mirror s x) → AllMet (elim m [ Some t ↦ do_guards ring w t | None ↦ [] ]) → keeps_other ring w x.0 s ≡ false
+may_do : (ring : RingValue) (w : World) (m : Option Step) (s : Slot) (x : NodeId) → m ≡ Some (Mirror s x) → AllMet (elim m [ Some t ↦ step_guards ring w t | None ↦ [] ]) → keeps_other ring w x.0 s ≡ false
 may_do ring w m s x e g =
-    let h : AllMet (do_guards ring w (Mirror s x)) = subst (λ (o : Option Step). AllMet (elim o [ Some t ↦ do_guards ring w t | None ↦ [] ])) e g in
+    let h : AllMet (step_guards ring w (Mirror s x)) = subst (λ (o : Option Step). AllMet (elim o [ Some t ↦ step_guards ring w t | None ↦ [] ])) e g in
     not_is (keeps_other ring w x.0 s) h.1.0
 
 do_inv : (ring : RingValue) (plan : List Planned) → Known ring plan → (w : World) (n : ℕ) (m : Option Step) → Inv ring plan w → Ready plan w.done n → MayMirror ring plan w n
-    → Inv ring plan (elim m [ Some s ↦ done_step (record w { done = with_number w.done n }) s | None ↦ w ])
+    → Inv ring plan (elim m [ Some s ↦ step_effect (record w { done = with_number w.done n }) s | None ↦ w ])
 do_inv ring plan k w n None i y may = i
 do_inv ring plan k w n (Some (Join x)) i y may = done_inv ring plan k w n w.is_open (with_number w.up x.0) w.stored i y may (λ m e. e)
 do_inv ring plan k w n (Some (Mirror s x)) i y may = done_inv ring plan k w n w.is_open w.up w.stored i y may (λ m e. e)
@@ -47,9 +52,9 @@ do_inv ring plan k w n (Some (Switch s)) i y may = done_inv ring plan k w n w.is
 do_inv ring plan k w n (Some (Drop s x)) i y may = done_inv ring plan k w n w.is_open w.up (without_puts w.stored x s) i y may (λ m e. e)
 do_inv ring plan k w n (Some (Retire x)) i y may = done_inv ring plan k w n w.is_open w.up w.stored i y may (λ m e. e)
 
-no_mirror : (m : Option Step) (s : Slot) (x : NodeId) → (elim m [ Some t ↦ is_copy t | None ↦ false ]) ≡ true → m ≡ Some (Mirror s x) → ⊥
+no_mirror : (m : Option Step) (s : Slot) (x : NodeId) → is_some (option_and_then copy_of m) ≡ true → m ≡ Some (Mirror s x) → ⊥
 no_mirror m s x c e =
-    let h : is_copy (Mirror s x) ≡ true = subst (λ (o : Option Step). (elim o [ Some t ↦ is_copy t | None ↦ false ]) ≡ true) e c in
+    let h : is_some (copy_of (Mirror s x)) ≡ true = subst (λ (o : Option Step). is_some (option_and_then copy_of o) ≡ true) e c in
     absurd cc
 
 pub without_was : (D : ℕ → Bool) (n m : ℕ) → without_number D n m ≡ true → D m ≡ true
@@ -58,6 +63,7 @@ without_was D n m e = (both_true (not (m == n)) (D m) e).1
 -- ---- one event
 
 event_inv : (ring : RingValue) (plan : List Planned) → Known ring plan → (w : World) → Inv ring plan w → (e : Event) → AllMet (guards ring plan w e) → Inv ring plan (effect ring plan w e)
+unfolding guards effect
 event_inv ring plan k w i (Do n) g =
     do_inv ring plan k w n (step_at plan n) i (ready plan w n g.1.1.0) (λ s x at. (not_is (w.done n) g.1.0, may_do ring w (step_at plan n) s x at g.1.1.1))
 event_inv ring plan k w i (OpenCopy n) g = record {
@@ -85,7 +91,7 @@ event_inv ring plan k w i (Write v j) g =
     less_inv ring plan w (with_ticket ring plan w v j) (served_puts ring plan w (put_slot ring w v j) (λ u. u == v)) w.hinted i (let l : length (with_ticket ring plan w v j) ≡ length w.puts = length_changed w.puts v _ in omega arith) (λ x s u e. e)
 event_inv ring plan k w i (Hint v j x) g =
     let e = both_true (nat_lt v (length w.puts)) (nat_lt j ring.n) g.0 in
-    hint_inv ring plan w v (put_slot ring w v j) x (with_ticket ring plan w v j) i (ltb-true v (length w.puts) e.0) (length_changed w.puts v _) (not_is (serves ring plan w (put_slot ring w v j).partition x.0) g.1.1.1.0) (not_is (keeps_other ring w x.0 (put_slot ring w v j)) g.1.1.1.1.0)
+    hint_inv ring plan w v (put_slot ring w v j) x (with_ticket ring plan w v j) i (ltb-true v (length w.puts) e.0) (length_changed w.puts v _) (not_is (serves_in ring plan w (put_slot ring w v j).partition x.0) g.1.1.1.0) (not_is (keeps_other ring w x.0 (put_slot ring w v j)) g.1.1.1.1.0)
 event_inv ring plan k w i (Ack v) g =
     less_inv ring plan w (changed w.puts v (λ x. record x { acked = true })) w.stored w.hinted i (let l : length (changed w.puts v (λ x. record x { acked = true })) ≡ length w.puts = length_changed w.puts v _ in omega arith) (λ x s u e. e)
 event_inv ring plan k w i (StartGet key) g = record { closed = i.closed; opened = i.opened; fresh = i.fresh; apart = i.apart }
@@ -105,8 +111,8 @@ answered None v u s r e = (refl, (let p : (v, s) ≡ (u, r) = cc in ap (λ (q : 
 pub run_inv : (ring : RingValue) (plan : List Planned) → Known ring plan → (run : List Entry) (w v : World) → Inv ring plan w → Leads ring plan w run v → Inv ring plan v
 run_inv ring plan k [] w v i l = subst (λ (u : World). Inv ring plan u) (sym l) i
 run_inv ring plan k (x ∷ xs) w v i l =
-    let a = answered (first_failing (guards ring plan w x.0)) (effect ring plan w x.0) l.0 (reply_to ring plan w x.0) x.1 l.1 in
-    let j : Inv ring plan l.0 = subst (λ (u : World). Inv ring plan u) a.1 (event_inv ring plan k w i x.0 (all_met (guards ring plan w x.0) a.0)) in
+    let a = answered (first_failing (guards ring plan w x.event)) (effect ring plan w x.event) l.0 (reply_to ring plan w x.event) x.reply l.1 in
+    let j : Inv ring plan l.0 = subst (λ (u : World). Inv ring plan u) a.1 (event_inv ring plan k w i x.event (all_met (guards ring plan w x.event) a.0)) in
     run_inv ring plan k xs l.0 v j l.2
 
 -- ---- the start
@@ -178,12 +184,12 @@ start_inv ring plan r = record {
   apart = start_apart ring plan r;
 }
 
-pub apart_always : (ring : RingValue) (plan : List Planned) → Known ring plan → AreApartAlways ring plan
+pub apart_always : (ring : RingValue) (plan : List Planned) → Known ring plan → Always ring plan (AreApart ring plan)
 apart_always ring plan k run w is p i j x l m n ne g h =
     let v = run_inv ring plan k run (opening_world ring) w (start_inv ring plan k.is_ring) is in
     v.apart p i j x l m n ne (in_group ring plan w (record { partition = p; index = i }) x g) (in_group ring plan w (record { partition = p; index = j }) x h)
 
-pub finished_first : (ring : RingValue) (plan : List Planned) → Known ring plan → AreFinishedFirst ring plan
+pub finished_first : (ring : RingValue) (plan : List Planned) → Known ring plan → Always ring plan (AreFinishedFirst plan)
 finished_first ring plan k run w is slot i l =
     let v = run_inv ring plan k run (opening_world ring) w (start_inv ring plan k.is_ring) is in
     let p = prefix w.done (steps_of plan slot) (down ring plan k w.done v.closed slot) in (

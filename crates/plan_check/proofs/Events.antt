@@ -1,5 +1,5 @@
 -- What each event leaves true.
-use Rattle.std.proofs.Common.{◌≡◌, ◌≢◌, ◌⊎◌, inl, inr, ◌∙◌, ℕ, zero, suc, ◌<◌, ◌≤◌, Bool, true, false, not, List, [], ◌∷◌, length, refl, sym, ap, subst, arith, eqb-true, eq-eqb}
+use Rattle.std.proofs.Common.{◌≡◌, ◌≢◌, ◌⊎◌, inl, inr, ◌∙◌, ℕ, zero, suc, ◌<◌, ◌≤◌, Bool, true, false, not, List, [], ◌∷◌, length, refl, sym, ap, subst, arith, eqb-true}
 use Rattle.std.specs.Prelude.{◌&&◌, ◌==◌, Option, Some, None, slice_get}
 use Rattle.std.specs.List.{list_all}
 use Rattle.std.proofs.lemmas.Bool.Decides.{eqb_tells}
@@ -14,12 +14,13 @@ use Rattle.plan_text.specs.declared.step.Planned.{Planned}
 use Rattle.plan_text.specs.Steps.{is_slot}
 use Rattle.plan_stage.specs.Clauses.{first_failing, Guard}
 use Rattle.plan_stage.proofs.Below.{met}
-use Rattle.plan_check.specs.World.{PutRecord, World, stage_now, keeps, keeps_other}
-use Rattle.plan_check.specs.Events.{is_ready, serves, with_number, with_puts, changed}
+use Rattle.plan_check.specs.World.{PutRecord, World, stage_now, keeps, keeps_other, is_served}
+use Rattle.plan_check.specs.Guards.{is_ready, serves_in}
+use Rattle.plan_check.specs.Effects.{with_number, with_puts, changed}
 use Rattle.plan_stage.specs.Each.{step_at, sibling}
-use Rattle.plan_check.proofs.Groups.{Served, Keeps, InGroup, some_is, moved}
+use Rattle.plan_check.proofs.Groups.{Served, Keeps, InGroup, some_is, served_is, moved}
 use Rattle.plan_check.proofs.Mirrored.{Known, Closed, Ready, still_passes, closed_with, rises, down, mirrored_alone}
-use Rattle.plan_stage.proofs.Truth.{either, second_of_two, slot-is}
+use Rattle.plan_stage.proofs.Truth.{either, slot-is}
 
 -- two slots of a partition share no node
 abbrev pub Apart : RingValue → List Planned → World → Type 0
@@ -76,19 +77,9 @@ other_kept ring w x j s l ne k =
       | inr t ↦ some_is ring.n (λ i. not (i == s.index) && keeps w x (record { partition = s.partition; index = i })) j l (rw (t.0, f) refl)
     ]
 
-served_serves : (ring : RingValue) (plan : List Planned) (w : World) (p j x : ℕ) → j < ring.n → Served (stage_now ring plan w (record { partition = p; index = j })) x → serves ring plan w p x ≡ true
-served_serves ring plan w p j x l h = by (stage_now ring plan w (record { partition = p; index = j })).mirror refl h
-  where
-    by : (m : Option NodeId) → (stage_now ring plan w (record { partition = p; index = j })).mirror ≡ m → Served (stage_now ring plan w (record { partition = p; index = j })) x → serves ring plan w p x ≡ true
-    by None e s = elim s [
-      | inl f ↦ some_is ring.n _ j l (rw e (eq-eqb x (stage_now ring plan w (record { partition = p; index = j })).owner.0 f))
-      | inr f ↦ absurd cc
-    ]
-    by (Some y) e s = elim s [
-      | inl f ↦ some_is ring.n _ j l (rw (e, eq-eqb x (stage_now ring plan w (record { partition = p; index = j })).owner.0 f) refl)
-      | inr f ↦ (let g : y ≡ record { 0 = x } = cc in let i : x ≡ y.0 = sym (ap (λ (z : NodeId). z.0) g) in
-          some_is ring.n _ j l (rw (e, eq-eqb x y.0 i) (second_of_two (x == (stage_now ring plan w (record { partition = p; index = j })).owner.0) true refl)))
-    ]
+served_serves : (ring : RingValue) (plan : List Planned) (w : World) (p j x : ℕ) → j < ring.n → Served (stage_now ring plan w (record { partition = p; index = j })) x → serves_in ring plan w p x ≡ true
+served_serves ring plan w p j x l h =
+    some_is ring.n (λ i. is_served (stage_now ring plan w (record { partition = p; index = i })) x) j l (served_is (stage_now ring plan w (record { partition = p; index = j })) x h)
 
 among : (D : ℕ → Bool) (a : ℕ) (xs : List ℕ) → list_all D xs ≡ true → has a xs ≡ true → D a ≡ true
 among D a [] e h = absurd cc
@@ -190,7 +181,7 @@ with_put f x s v y t u e = elim (either ((y == x.0) && is_slot s t && (u == v)) 
   | inr g ↦ inr g
 ]
 
-pub hint_inv : (ring : RingValue) (plan : List Planned) (w : World) (v : ℕ) (s : Slot) (x : NodeId) (ps : List PutRecord) → Inv ring plan w → v < length w.puts → length ps ≡ length w.puts → serves ring plan w s.partition x.0 ≡ false → keeps_other ring w x.0 s ≡ false
+pub hint_inv : (ring : RingValue) (plan : List Planned) (w : World) (v : ℕ) (s : Slot) (x : NodeId) (ps : List PutRecord) → Inv ring plan w → v < length w.puts → length ps ≡ length w.puts → serves_in ring plan w s.partition x.0 ≡ false → keeps_other ring w x.0 s ≡ false
     → Inv ring plan (record w { hinted = with_puts w.hinted x s (λ u. u == v); puts = ps })
 hint_inv ring plan w v s x ps i l n out alone = record {
   closed = i.closed;

@@ -1,18 +1,17 @@
 -- In every run of a sound plan no node takes part in more open copies than its allowance.
-use Rattle.std.proofs.Common.{◌≡◌, ◌≢◌, ◌⊎◌, inl, inr, ◌∙◌, ℕ, zero, suc, ◌+◌, ◌<◌, ◌≤◌, Bool, true, false, cond, List, [], ◌∷◌, length, refl, sym, ap, subst, arith, eqb-true, eq-eqb}
-use Rattle.std.specs.Prelude.{◌&&◌, ◌==◌, Some, None, slice_get}
+use Rattle.std.proofs.Common.{◌≡◌, ◌≢◌, ◌⊎◌, inl, inr, ◌∙◌, ℕ, zero, suc, ◌+◌, ◌≤◌, Bool, true, false, cond, List, [], ◌∷◌, length, refl, sym, ap, subst, arith, eqb-true, eq-eqb}
+use Rattle.std.specs.Prelude.{◌&&◌, ◌==◌, Some, None}
 use Rattle.ring_names.specs.Lists.{has, all_different}
 use Rattle.ring_table.specs.Value.{RingValue}
 use Rattle.ring_text.proofs.Fronts.{both_true}
 use Rattle.plan_text.specs.declared.step.Planned.{Planned}
 use Rattle.plan_order.specs.Before.{Before}
 use Rattle.plan_order.proofs.Reaching.{join}
-use Rattle.plan_check.specs.World.{opening_world, passing_from, passing_below}
-use Rattle.plan_stage.specs.Each.{step_at}
-use Rattle.plan_check.specs.Safe.{takes_part}
-use Rattle.plan_cover.specs.Clauses.{allowance_of, in_some}
-use Rattle.plan_check.specs.Sound.{IsChain, AreChains}
-use Rattle.plan_check.specs.Headline.{AreFewAlways}
+use Rattle.plan_check.specs.World.{opening_world, passing_from, passing_below, copy_at}
+use Rattle.plan_check.specs.Safe.{takes_part_now, AreFew}
+use Rattle.plan_cover.specs.Clauses.{in_some}
+use Rattle.plan_check.specs.Sound.{IsChain, AreChains, Covers, is_party_of}
+use Rattle.plan_check.specs.Headline.{Always}
 use Rattle.plan_check.proofs.Quorums.{without, kept-in, different-without, one-taken, by_equal}
 use Rattle.plan_check.proofs.Mirrored.{Known, before_ready}
 use Rattle.plan_check.proofs.Events.{Inv}
@@ -121,15 +120,10 @@ no_more plan test apart (c ∷ cs) xs are d t h = elim (in_chain c xs) [
 
 -- ---- the law
 
-declared : {A : Type 0} (xs : List A) (i : ℕ) → (slice_get xs i ≡ None → ⊥) → i < length xs
-declared [] i h = absurd (h refl)
-declared (x ∷ xs) zero h = omega arith
-declared (x ∷ xs) (suc i) h = (let l = declared xs i h in omega arith)
-
-pub few_always : (ring : RingValue) (plan : List Planned) → Known ring plan → AreFewAlways ring plan
+pub few_always : (ring : RingValue) (plan : List Planned) → Known ring plan → Always ring plan (AreFew ring plan)
 few_always ring plan k run w is x a al =
-    let rest = no_more plan test apart (k.chains x) (passing_below (length plan) test) (k.meets.linked x named) (none_twice 0 (length plan) test) (λ n e. (passes 0 (length plan) test n e).1) (λ n e. covered n (passes 0 (length plan) test n e).1) in
-    let few = k.meets.few x a al in
+    let rest = no_more plan test apart (k.chains x) (passing_below (length plan) test) covers.linked (none_twice 0 (length plan) test) (λ n e. (passes 0 (length plan) test n e).1) (λ n e. covered n (passes 0 (length plan) test n e).1) in
+    let few = covers.few in
     omega arith
   where
     i : Inv ring plan w
@@ -138,14 +132,14 @@ few_always ring plan k run w is x a al =
     o : Pending plan w
     o = run_pending ring plan run (opening_world ring) w (start_pending ring plan) is
 
+    covers : Covers (Before plan) a (is_party_of ring plan x) (k.chains x)
+    covers = k.meets.covers x a al
+
     part : ℕ → Bool
-    part n = elim (step_at plan n) [ Some s ↦ takes_part ring plan w x s | None ↦ false ]
+    part n = elim (copy_at plan n) [ Some c ↦ takes_part_now ring plan w x c.0 c.1 | None ↦ false ]
 
     test : ℕ → Bool
     test n = w.is_open n && part n
-
-    named : x < length ring.nodes
-    named = declared ring.nodes x (λ e. (let f = rw (e, allowance_of) at al in absurd cc))
 
     open_one : (n : ℕ) → test n ≡ true → w.is_open n ≡ true
     open_one n e = (both_true (w.is_open n) (part n) e).0
@@ -158,4 +152,4 @@ few_always ring plan k run w is x a al =
         absurd cc
 
     covered : (n : ℕ) → test n ≡ true → in_some n (k.chains x) ≡ true
-    covered n e = k.meets.covered (record { 0 = x }) n named (party ring plan k w n x i.closed (i.opened n (open_one n e)) (o.undone n (open_one n e)) (both_true (w.is_open n) (part n) e).1)
+    covered n e = covers.covered n (party ring plan k w n x i.closed (i.opened n (open_one n e)) (o.undone n (open_one n e)) (both_true (w.is_open n) (part n) e).1)

@@ -2,7 +2,6 @@ mod Examples
 mod Verdicts
 pub mod Occupied
 pub mod Certifies
-pub mod Answered
 pub mod Quorums
 pub mod Good
 pub mod Suited
@@ -13,6 +12,7 @@ pub mod Groups
 pub mod Mirrored
 pub mod Events
 pub mod Apart
+pub mod Split
 pub mod Serving
 pub mod Open
 pub mod Partakers

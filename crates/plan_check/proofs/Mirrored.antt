@@ -16,7 +16,7 @@ use Rattle.plan_stage.specs.declared.stage.Stage.{Stage}
 use Rattle.plan_stage.specs.Stage.{stage, after}
 use Rattle.plan_stage.specs.Occupancy.{is_node, leaving, mirror_end}
 use Rattle.plan_check.specs.World.{count}
-use Rattle.plan_check.specs.Events.{with_number}
+use Rattle.plan_check.specs.Effects.{with_number}
 use Rattle.plan_stage.specs.Each.{step_at, sibling, place_in}
 use Rattle.plan_check.specs.Sound.{Meets, EndsBefore}
 use Rattle.plan_check.proofs.Prefix.{order, passed, found, found_later, Rises, Down, prefix, place}
@@ -97,11 +97,11 @@ front_done D ss i e d h f =
 
 -- ---- the other slots of the partition
 
-from_start : (ring : RingValue) (plan : List Planned) → Known ring plan → (D : ℕ → Bool) (t j : ℕ) (slot : Slot) (x : NodeId) → Closed plan D → Ready plan D t → step_at plan t ≡ Some (Mirror slot x) → j < ring.n → j ≢ slot.index
+from_start : (ring : RingValue) (plan : List Planned) → Known ring plan → (D : ℕ → Bool) (t j : ℕ) (slot : Slot) (x : NodeId) → Closed plan D → Ready plan D t → step_at plan t ≡ Some (Mirror slot x) → j ≢ slot.index
     → FromStart ring plan (sibling slot j) x (count D (steps_of plan (sibling slot j))) → ⊥
-from_start ring plan k D t j slot x c y at l ne f =
+from_start ring plan k D t j slot x c y at ne f =
     let d = down ring plan k D c (sibling slot j) in
-    let e = ends plan _ t (k.meets.left_first t j slot x at l ne f.0) in
+    let e = ends plan _ t (k.meets.left_first t j slot x at ne f.0) in
     let w = (prefix D (steps_of plan (sibling slot j)) d).within in
     not_done D (steps_of plan (sibling slot j)) e.0 d (ends_later ring plan (sibling slot j) x (count D (steps_of plan (sibling slot j))) e.0 w f e.1) (before_ready plan D e.0 t c y e.2)
 
@@ -140,7 +140,7 @@ mirrored_alone ring plan k D t j slot x c y off at p l ne s =
     let other = steps_of plan (sibling slot j) in
     let q = prefix D other (down ring plan k D c (sibling slot j)) in
     elim (occupied ring plan (sibling slot j) x (count D other) k.is_ring p l q.within s) [
-      | inl f ↦ from_start ring plan k D t j slot x c y at l ne f
+      | inl f ↦ from_start ring plan k D t j slot x c y at ne f
       | inr f ↦ elim (order (get_or other f.0 0) t) [
         | inl g ↦ from_earlier ring plan k D t j f.0 slot x c y at ne f.1 g
         | inr g ↦ later f.0 f.1 g

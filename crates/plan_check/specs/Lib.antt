@@ -3,7 +3,10 @@ pub mod Words
 pub mod Replies
 pub mod World
 pub mod Succession
-pub mod Events
+pub mod Versions
+pub mod Guards
+pub mod Effects
+pub mod Answers
 pub mod Runs
 pub mod Safe
 pub mod Sound

@@ -1,19 +1,16 @@
 //! Laws about the definitions, which cost nothing: each is the contract of a function that does nothing.
 
-ghost use Rattle.std.specs.Prelude.{◌≡◌, ◌↔◌, ◌<◌, ◌+◌, ◌⊎◌, ℕ, List, true, None, Ok, Err, length, nat_lt};
+ghost use Rattle.std.specs.Prelude.{◌≡◌, ◌↔◌, ◌<◌, ◌+◌, ℕ, List, true, None, length, nat_lt};
 ghost use Rattle.std.specs.List.{list_all};
 ghost use Rattle.ring_names.specs.Lists.{has, all_different};
-ghost use Rattle.ring_names.specs.declared.refusal.Refusal.{Refusal as TheRefusal};
 ghost use Rattle.plan_text.specs.Valid.{Suits};
 ghost use Rattle.plan_stage.specs.Clauses.{AllStaged};
-ghost use Rattle.plan_check.specs.declared.event.Event.{Event as TheEvent};
-ghost use Rattle.plan_check.specs.declared.event.Reply.{Reply as TheReply};
-ghost use Rattle.plan_check.specs.World.{World};
-ghost use Rattle.plan_check.specs.Events.{answer};
 ghost use Rattle.plan_check.specs.Sound.{Sound};
 ghost use Rattle.plan_check.specs.Certified.{IsCertified};
 ghost use Rattle.plan_check.specs.First.{first_refusal};
-ghost use Rattle.plan_check.specs.Headline.{AreApartAlways, AreFewAlways, AreFinishedFirst};
+ghost use Rattle.plan_check.specs.Runs.{SplitAnywhere};
+ghost use Rattle.plan_check.specs.Safe.{AreApart, AreFew};
+ghost use Rattle.plan_check.specs.Headline.{Always, AreFinishedFirst};
 ghost use Rattle.plan_check.specs.Occupies.{ServersOccupy, OccupantsServe, AreGoodStages};
 
 use plan_cert::Cert;
@@ -35,13 +32,6 @@ pub fn first_is_none_where_certified(ring: &Ring, plan: &Plan, cert: &Cert)
     let _ = (ring.n(), plan.len(), cert.facts.as_slice().len());
 }
 
-/// In every world an event has one answer: the next world and a reply, or a refusal, which leaves the world.
-pub fn events_have_one_answer(ring: &Ring, plan: &Plan)
-    ensures { (w : World) (e : TheEvent) → ((u : World) × (r : TheReply) × (answer ring.now plan.now w e ≡ Ok (u, r))) ⊎ ((f : TheRefusal) × (answer ring.now plan.now w e ≡ Err f)) }
-{
-    let _ = (ring.n(), plan.len());
-}
-
 /// After each of a slot's steps its owner is no node that still has to drop what it held, and its mirror is neither of these.
 pub fn stages_are_good(ring: &Ring, plan: &Plan)
     ensures { Sound ring.now plan.now → AreGoodStages ring.now plan.now }
@@ -60,21 +50,28 @@ pub fn servers_occupy(ring: &Ring, plan: &Plan)
 
 /// In every run of a sound plan the finished steps of a slot are its first ones.
 pub fn finished_steps_come_first(ring: &Ring, plan: &Plan)
-    ensures { Sound ring.now plan.now → AreFinishedFirst ring.now plan.now }
+    ensures { Sound ring.now plan.now → Always ring.now plan.now (AreFinishedFirst plan.now) }
 {
     let _ = (ring.n(), plan.len());
 }
 
 /// In every run of a sound plan no two slots of a partition share a node, keepers of hints included.
 pub fn groups_stay_apart(ring: &Ring, plan: &Plan)
-    ensures { Sound ring.now plan.now → AreApartAlways ring.now plan.now }
+    ensures { Sound ring.now plan.now → Always ring.now plan.now (AreApart ring.now plan.now) }
 {
     let _ = (ring.n(), plan.len());
 }
 
 /// In every run of a sound plan no node takes part in more open copies than its allowance.
 pub fn transfers_stay_few(ring: &Ring, plan: &Plan)
-    ensures { Sound ring.now plan.now → AreFewAlways ring.now plan.now }
+    ensures { Sound ring.now plan.now → Always ring.now plan.now (AreFew ring.now plan.now) }
+{
+    let _ = (ring.n(), plan.len());
+}
+
+/// A run in two parts is a run of the first, and then of the second from the world to which the first leads.
+pub fn runs_split(ring: &Ring, plan: &Plan)
+    ensures { SplitAnywhere ring.now plan.now }
 {
     let _ = (ring.n(), plan.len());
 }
