@@ -18,7 +18,8 @@ use Rattle.plan_check.specs.World.{PutRecord, World, stage_now, keeps, keeps_oth
 use Rattle.plan_check.specs.Guards.{is_ready, serves_in}
 use Rattle.plan_check.specs.Effects.{with_number, with_puts, changed}
 use Rattle.plan_stage.specs.Each.{step_at, sibling}
-use Rattle.plan_check.proofs.Groups.{Served, Keeps, InGroup, some_is, served_is, moved}
+use Rattle.plan_check.proofs.Groups.{Served, Keeps, InGroup, served_is, moved}
+use Rattle.plan_check.proofs.Passing.{some_is}
 use Rattle.plan_check.proofs.Mirrored.{Known, Closed, Ready, still_passes, closed_with, rises, down, mirrored_alone}
 use Rattle.plan_stage.proofs.Truth.{either, slot-is}
 

@@ -13,34 +13,13 @@ use Rattle.plan_cover.specs.Clauses.{in_some}
 use Rattle.plan_check.specs.Sound.{IsChain, AreChains, Covers, is_party_of}
 use Rattle.plan_check.specs.Headline.{Always}
 use Rattle.plan_check.proofs.Quorums.{without, kept-in, different-without, one-taken, by_equal}
+use Rattle.plan_check.proofs.Passing.{below_is, none_twice, passing_ascend}
 use Rattle.plan_check.proofs.Mirrored.{Known, before_ready}
 use Rattle.plan_check.proofs.Events.{Inv}
 use Rattle.plan_check.proofs.Apart.{run_inv, start_inv}
 use Rattle.plan_check.proofs.Open.{Pending, run_pending, start_pending}
 use Rattle.plan_check.proofs.Partakers.{party}
 use Rattle.plan_stage.proofs.Truth.{either, second_of_two}
-
--- ---- the numbers that pass a test
-
-passes : (k n : ℕ) (test : ℕ → Bool) (m : ℕ) → has m (passing_from k n test) ≡ true → (k ≤ m) × (test m ≡ true)
-passes k zero test m h = absurd cc
-passes k (suc n) test m h = by (test k) refl h (λ g. (let r = passes (k + 1) n test m g in let l = r.0 in (omega arith, r.1)))
-  where
-    by : (b : Bool) → test k ≡ b → has m (cond b (k ∷ passing_from (k + 1) n test) (passing_from (k + 1) n test)) ≡ true → (has m (passing_from (k + 1) n test) ≡ true → (k ≤ m) × (test m ≡ true)) → (k ≤ m) × (test m ≡ true)
-    by false e g later = later g
-    by true e g later = elim (either (m == k) (has m (passing_from (k + 1) n test)) g) [
-      | inl f ↦ (let s = eqb-true m k f in (omega arith, ap test s ∙ e))
-      | inr f ↦ later f
-    ]
-
-none_twice : (k n : ℕ) (test : ℕ → Bool) → all_different (passing_from k n test) ≡ true
-none_twice k zero test = refl
-none_twice k (suc n) test = by (test k) (has k (passing_from (k + 1) n test)) refl (none_twice (k + 1) n test)
-  where
-    by : (b c : Bool) → has k (passing_from (k + 1) n test) ≡ c → all_different (passing_from (k + 1) n test) ≡ true → all_different (cond b (k ∷ passing_from (k + 1) n test) (passing_from (k + 1) n test)) ≡ true
-    by false c e r = r
-    by true true e r = absurd (let l = (passes (k + 1) n test k e).0 in omega arith)
-    by true false e r = rw (e, r) refl
 
 -- ---- chains
 
@@ -122,7 +101,7 @@ no_more plan test apart (c ∷ cs) xs are d t h = elim (in_chain c xs) [
 
 pub few_always : (ring : RingValue) (plan : List Planned) → Known ring plan → Always ring plan (AreFew ring plan)
 few_always ring plan k run w is x a al =
-    let rest = no_more plan test apart (k.chains x) (passing_below (length plan) test) covers.linked (none_twice 0 (length plan) test) (λ n e. (passes 0 (length plan) test n e).1) (λ n e. covered n (passes 0 (length plan) test n e).1) in
+    let rest = no_more plan test apart (k.chains x) (passing_below (length plan) test) covers.linked (none_twice (passing_below (length plan) test) (passing_ascend 0 (length plan) test)) (λ n e. (below_is (length plan) test n e).1) (λ n e. covered n (below_is (length plan) test n e).1) in
     let few = covers.few in
     omega arith
   where

@@ -16,24 +16,9 @@ use Rattle.plan_stage.proofs.Stages.{stage-more}
 use Rattle.plan_check.specs.World.{World, stage_now, keeps, some_below, count, mirrors, is_served, is_in_group}
 use Rattle.plan_check.specs.Effects.{with_number}
 use Rattle.plan_stage.specs.Each.{step_at}
+use Rattle.plan_check.proofs.Passing.{some_found}
 use Rattle.plan_check.proofs.Prefix.{found, Rises, Down, one_more, count_same}
 use Rattle.plan_stage.proofs.Truth.{either, second_of_two, slot-is}
-
--- ---- numbers below n
-
-pub some_found : (n : ℕ) (test : ℕ → Bool) → some_below n test ≡ true → (v : ℕ) × (v < n) × (test v ≡ true)
-some_found zero test h = absurd cc
-some_found (suc n) test h = elim (either (some_below n test) (test n) h) [
-  | inl f ↦ (let g = some_found n test f in (g.0, omega arith, g.2))
-  | inr f ↦ (n, omega arith, f)
-]
-
-pub some_is : (n : ℕ) (test : ℕ → Bool) (v : ℕ) → v < n → test v ≡ true → some_below n test ≡ true
-some_is zero test v l e = absurd (omega arith)
-some_is (suc n) test v l e = elim (eqb_tells v n) [
-  | inl t ↦ second_of_two (some_below n test) (test n) (subst (λ m. test m ≡ true) t.1 e)
-  | inr t ↦ (let f = some_is n test v (let g = t.1 in omega arith) e in rw f refl)
-]
 
 -- ---- the group of a slot
 

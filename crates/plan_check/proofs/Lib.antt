@@ -18,3 +18,6 @@ pub mod Open
 pub mod Partakers
 pub mod Few
 pub mod Checked
+pub mod Passing
+pub mod Succeeding
+pub mod Keyed

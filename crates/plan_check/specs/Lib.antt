@@ -14,3 +14,4 @@ pub mod Certified
 pub mod Headline
 pub mod First
 pub mod Occupies
+pub mod Causes
