@@ -21,3 +21,7 @@ pub mod Checked
 pub mod Passing
 pub mod Succeeding
 pub mod Keyed
+pub mod Answered
+pub mod Latest
+pub mod Changed
+pub mod Copying

@@ -7,6 +7,7 @@ pub mod Versions
 pub mod Guards
 pub mod Effects
 pub mod Answers
+pub mod Reached
 pub mod Runs
 pub mod Safe
 pub mod Sound

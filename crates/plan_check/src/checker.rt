@@ -34,6 +34,7 @@ pub fn check(alloc: Global, ring: Ring, plan: Plan, cert: &Cert) -> Result<Appro
     ensures same { IfOk result (λ a. (a.ring ≡ ring) × (a.plan ≡ plan)) }
     ensures approved { OnOk result (IsApproved ring plan) }
     ensures certified { OnOk result (IsCertified ring plan cert.now) }
+    ensures accepted { OnOk result (first_refusal ring plan cert.now ≡ None) }
     ensures refused { IfErr result (λ t. (t.refusal ≡ OutOfMemory → ⊥) → first_refusal ring plan cert.now ≡ Some t.refusal) }
     ensures unchanged { IfErr result (λ t. (t.ring ≡ ring) × (t.plan ≡ plan)) }
     ensures memory { IsCertified ring plan cert.now → IfErr result (λ t. t.refusal ≡ OutOfMemory) }
