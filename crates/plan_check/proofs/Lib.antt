@@ -25,3 +25,7 @@ pub mod Answered
 pub mod Latest
 pub mod Changed
 pub mod Copying
+pub mod Storing
+pub mod Growing
+pub mod Passed
+pub mod Reached
