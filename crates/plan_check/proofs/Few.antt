@@ -15,9 +15,8 @@ use Rattle.plan_check.specs.Headline.{Always}
 use Rattle.plan_check.proofs.Quorums.{without, kept-in, different-without, one-taken, by_equal}
 use Rattle.plan_check.proofs.Passing.{below_is, none_twice, passing_ascend}
 use Rattle.plan_check.proofs.Mirrored.{Known, before_ready}
-use Rattle.plan_check.proofs.Events.{Inv}
-use Rattle.plan_check.proofs.Apart.{run_inv, start_inv}
-use Rattle.plan_check.proofs.Open.{Pending, run_pending, start_pending}
+use Rattle.plan_check.specs.Reached.{Reached}
+use Rattle.plan_check.proofs.Reached.{reached}
 use Rattle.plan_check.proofs.Partakers.{party}
 use Rattle.plan_stage.proofs.Truth.{either, second_of_two}
 
@@ -105,11 +104,8 @@ few_always ring plan k run w is x a al =
     let few = covers.few in
     omega arith
   where
-    i : Inv ring plan w
-    i = run_inv ring plan k run (opening_world ring) w (start_inv ring plan k.is_ring) is
-
-    o : Pending plan w
-    o = run_pending ring plan run (opening_world ring) w (start_pending ring plan) is
+    r : Reached ring plan w
+    r = reached ring plan run w is
 
     covers : Covers (Before plan) a (is_party_of ring plan x) (k.chains x)
     covers = k.meets.covers x a al
@@ -126,9 +122,9 @@ few_always ring plan k run w is x a al =
     -- an open copy comes before no other
     apart : (n m : ℕ) → test n ≡ true → test m ≡ true → Before plan n m → ⊥
     apart n m e f b =
-        let done = before_ready plan w.done n m i.closed (i.opened m (open_one m f)) b in
-        let off = o.undone n (open_one n e) in
+        let done = before_ready plan w.done n m r.closed (r.copies.ready m (open_one m f)) b in
+        let off = r.copies.unfinished n (open_one n e) in
         absurd cc
 
     covered : (n : ℕ) → test n ≡ true → in_some n (k.chains x) ≡ true
-    covered n e = covers.covered n (party ring plan k w n x i.closed (i.opened n (open_one n e)) (o.undone n (open_one n e)) (both_true (w.is_open n) (part n) e).1)
+    covered n e = covers.covered n (party ring plan k w n x r.closed (r.copies.ready n (open_one n e)) (r.copies.unfinished n (open_one n e)) (both_true (w.is_open n) (part n) e).1)

@@ -10,11 +10,10 @@ pub mod Refused
 pub mod Prefix
 pub mod Groups
 pub mod Mirrored
-pub mod Events
+pub mod Entering
 pub mod Apart
 pub mod Split
 pub mod Serving
-pub mod Open
 pub mod Partakers
 pub mod Few
 pub mod Checked

@@ -19,6 +19,7 @@ use Rattle.plan_check.specs.World.{count}
 use Rattle.plan_check.specs.Effects.{with_number}
 use Rattle.plan_stage.specs.Each.{step_at, sibling, place_in}
 use Rattle.plan_check.specs.Sound.{Meets, EndsBefore}
+use Rattle.plan_check.specs.Reached.{Ready, Closed}
 use Rattle.plan_check.proofs.Prefix.{order, passed, found, found_later, Rises, Down, prefix, place}
 use Rattle.plan_check.proofs.Groups.{on_steps}
 use Rattle.plan_check.specs.Occupies.{FromStart, FromMirror, Serves}
@@ -32,13 +33,6 @@ pub record Known (ring : RingValue) (plan : List Planned) : Type 0 where
   pub chains : ℕ → List (List ℕ)
   pub meets : Meets ring plan (Before plan) chains
 
--- what a step depends on is done, of all steps that are done and of one
-abbrev pub Closed : List Planned → (ℕ → Bool) → Type 0
-Closed plan D = (a n : ℕ) → D n ≡ true → depends plan a n ≡ true → D a ≡ true
-
-abbrev pub Ready : List Planned → (ℕ → Bool) → ℕ → Type 0
-Ready plan D n = (a : ℕ) → depends plan a n ≡ true → D a ≡ true
-
 pub before_done : (plan : List Planned) (D : ℕ → Bool) (a n : ℕ) → Closed plan D → Before plan a n → D n ≡ true → D a ≡ true
 before_done plan D a n c (direct _ _ d) e = c a n e d
 before_done plan D a n c (through _ b _ d r) e = c a b (before_done plan D b n c r e) d
@@ -46,15 +40,6 @@ before_done plan D a n c (through _ b _ d r) e = c a b (before_done plan D b n c
 pub before_ready : (plan : List Planned) (D : ℕ → Bool) (a n : ℕ) → Closed plan D → Ready plan D n → Before plan a n → D a ≡ true
 before_ready plan D a n c y (direct _ _ d) = y a d
 before_ready plan D a n c y (through _ b _ d r) = c a b (before_ready plan D b n c y r) d
-
-pub still_passes : (D : ℕ → Bool) (n m : ℕ) → D m ≡ true → with_number D n m ≡ true
-still_passes D n m e = second_of_two (m == n) (D m) e
-
-pub closed_with : (plan : List Planned) (D : ℕ → Bool) (n : ℕ) → Closed plan D → Ready plan D n → Closed plan (with_number D n)
-closed_with plan D n c y a m e d = elim (passed D n m e) [
-  | inl f ↦ still_passes D n a (y a (subst (λ k. depends plan a k ≡ true) f d))
-  | inr f ↦ still_passes D n a (c a m f d)
-]
 
 pub rises : (ring : RingValue) (plan : List Planned) → Known ring plan → (slot : Slot) → Rises (steps_of plan slot)
 rises ring plan k slot i l = less plan _ _ k.is_plan (k.meets.in_order slot i l)

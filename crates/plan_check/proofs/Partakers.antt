@@ -23,7 +23,8 @@ use Rattle.plan_stage.specs.Each.{step_at, sibling}
 use Rattle.plan_check.specs.Safe.{mirrors_now, gives_now, takes_part_now}
 use Rattle.plan_check.specs.Sound.{is_party_of}
 use Rattle.plan_check.proofs.Prefix.{order, found, Rises, IsPrefix, prefix, count_below_is, place}
-use Rattle.plan_check.proofs.Mirrored.{Known, Closed, Ready, before_done, before_ready, rises, down}
+use Rattle.plan_check.proofs.Mirrored.{Known, before_done, before_ready, rises, down}
+use Rattle.plan_check.specs.Reached.{Ready, Closed}
 use Rattle.plan_check.proofs.Groups.{on_steps}
 use Rattle.plan_stage.proofs.Places.{placed}
 use Rattle.plan_stage.proofs.Truth.{either, second_of_two, slot-is, slot-same}

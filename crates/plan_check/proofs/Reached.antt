@@ -36,7 +36,8 @@ use Rattle.plan_check.proofs.Passing.{some_found, below_is}
 use Rattle.plan_check.proofs.Storing.{StoreFits, GetsFit, Grows, put_stays, for_get_stays, with_puts_is, with_mirror_is, served_puts_is, without_puts_was}
 use Rattle.plan_stage.proofs.Truth.{not_is}
 
-pub record Parts (ring : RingValue) (plan : List Planned) (w : World) : Type 0 where
+-- the same in parts
+record Parts (ring : RingValue) (plan : List Planned) (w : World) : Type 0 where
   pub closed : Closed plan w.done
   pub copies : CopiesFit plan w.done w.is_open w.marked
   pub store : StoreFits ring w
@@ -282,29 +283,31 @@ event_parts ring plan w i (Handoff x s) g = record {
   gets = record { found = i.gets.found; replied = i.gets.replied; seen = i.gets.seen };
 }
 
+pub event_reached : (ring : RingValue) (plan : List Planned) (w : World) → Reached ring plan w → (e : Event) → AllMet (guards ring plan w e) → Reached ring plan (effect ring plan w e)
+event_reached ring plan w r e g =
+    let i : Parts ring plan w = record { closed = r.closed; copies = r.copies; store = record { stored = r.stored; hinted = r.hinted }; gets = record { found = r.found; replied = r.replied; seen = r.seen } } in
+    let j = event_parts ring plan w i e g in
+    record { closed = j.closed; copies = j.copies; stored = j.store.stored; hinted = j.store.hinted; found = j.gets.found; replied = j.gets.replied; seen = j.gets.seen }
+
 -- ---- a run
 
-start_parts : (ring : RingValue) (plan : List Planned) → Parts ring plan (opening_world ring)
-start_parts ring plan = record {
+pub start_reached : (ring : RingValue) (plan : List Planned) → Reached ring plan (opening_world ring)
+start_reached ring plan = record {
   closed = λ a n e d. absurd cc;
   copies = record { copies = λ n e. absurd cc; ready = λ n e. absurd cc; unfinished = λ n e. refl; marks = λ n c e. absurd cc; copied = λ n c h e l. absurd cc };
-  store = record { stored = λ x s v e. absurd cc; hinted = λ x s v e. absurd cc };
-  gets = record { found = λ g i v e. absurd cc; replied = λ g v e. absurd cc; seen = λ u g e. absurd cc };
+  stored = λ x s v e. absurd cc;
+  hinted = λ x s v e. absurd cc;
+  found = λ g i v e. absurd cc;
+  replied = λ g v e. absurd cc;
+  seen = λ u g e. absurd cc;
 }
 
-run_parts : (ring : RingValue) (plan : List Planned) (run : List Entry) (w v : World) → Parts ring plan w → Leads ring plan w run v → Parts ring plan v
-run_parts ring plan [] w v i l = subst (λ (u : World). Parts ring plan u) (sym l) i
-run_parts ring plan (x ∷ xs) w v i l =
+pub run_reached : (ring : RingValue) (plan : List Planned) (run : List Entry) (w v : World) → Reached ring plan w → Leads ring plan w run v → Reached ring plan v
+run_reached ring plan [] w v i l = subst (λ (u : World). Reached ring plan u) (sym l) i
+run_reached ring plan (x ∷ xs) w v i l =
     let a = answered ring plan w l.0 x.event x.reply l.1 in
-    let j : Parts ring plan l.0 = subst (λ (u : World). Parts ring plan u) a.1 (event_parts ring plan w i x.event (all_met (guards ring plan w x.event) a.0)) in
-    run_parts ring plan xs l.0 v j l.2
-
-pub reached_from : (ring : RingValue) (plan : List Planned) (w v : World) (run : List Entry) → Reached ring plan w → Leads ring plan w run v → Reached ring plan v
-reached_from ring plan w v run r l =
-    let i = run_parts ring plan run w v (record { closed = r.closed; copies = r.copies; store = record { stored = r.stored; hinted = r.hinted }; gets = record { found = r.found; replied = r.replied; seen = r.seen } }) l in
-    record { closed = i.closed; copies = i.copies; stored = i.store.stored; hinted = i.store.hinted; found = i.gets.found; replied = i.gets.replied; seen = i.gets.seen }
+    let j : Reached ring plan l.0 = subst (λ (u : World). Reached ring plan u) a.1 (event_reached ring plan w i x.event (all_met (guards ring plan w x.event) a.0)) in
+    run_reached ring plan xs l.0 v j l.2
 
 pub reached : (ring : RingValue) (plan : List Planned) (run : List Entry) (w : World) → IsRun ring plan run w → Reached ring plan w
-reached ring plan run w l =
-    let i = run_parts ring plan run (opening_world ring) w (start_parts ring plan) l in
-    record { closed = i.closed; copies = i.copies; stored = i.store.stored; hinted = i.store.hinted; found = i.gets.found; replied = i.gets.replied; seen = i.gets.seen }
+reached ring plan run w l = run_reached ring plan run (opening_world ring) w (start_reached ring plan) l

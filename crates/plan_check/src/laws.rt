@@ -17,6 +17,7 @@ ghost use Rattle.plan_check.specs.Causes.{puts_of, AreCausesOf, AgreeOn};
 ghost use Rattle.plan_check.specs.Sound.{Sound};
 ghost use Rattle.plan_check.specs.Certified.{IsCertified};
 ghost use Rattle.plan_check.specs.First.{first_refusal};
+ghost use Rattle.plan_check.specs.Reached.{Reached};
 ghost use Rattle.plan_check.specs.Runs.{SplitAnywhere};
 ghost use Rattle.plan_check.specs.Safe.{AreApart, AreFew};
 ghost use Rattle.plan_check.specs.Headline.{Always, AreFinishedFirst};
@@ -53,6 +54,14 @@ pub fn stages_are_good(ring: &Ring, plan: &Plan)
 pub fn servers_occupy(ring: &Ring, plan: &Plan)
     ensures occupy { ServersOccupy ring.now plan.now }
     ensures serve { AllStaged ring.now plan.now → OccupantsServe ring.now plan.now }
+{
+    let _ = (ring.n(), plan.len());
+}
+
+/// What every run of a plan leads to, sound or not: what finished steps depend on is finished, open copies are ready and not
+/// finished, only ready copies have marks, nodes have puts of the slot's partition, and gets found and answered puts of their key.
+pub fn runs_reach(ring: &Ring, plan: &Plan)
+    ensures { Always ring.now plan.now (Reached ring.now plan.now) }
 {
     let _ = (ring.n(), plan.len());
 }
