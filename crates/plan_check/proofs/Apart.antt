@@ -1,12 +1,11 @@
 -- In every run of a sound plan no two slots of a partition share a node.
-use Rattle.std.proofs.Common.{◌≡◌, inl, inr, ◌∙◌, ℕ, zero, suc, ◌<◌, Bool, true, false, not, List, [], ◌∷◌, length, map, get_or, refl, sym, ap, subst, arith, length-append, ltb-true, eq-eqb}
-use Rattle.std.specs.Prelude.{◌&&◌, ◌==◌, nat_lt, Option, Some, None, Result, Ok, Err, slice_get, is_some, option_and_then, unwrap_or}
+use Rattle.std.proofs.Common.{◌≡◌, inl, inr, ◌∙◌, ℕ, zero, suc, ◌<◌, true, false, not, List, [], ◌∷◌, length, map, get_or, refl, sym, ap, subst, arith, eq-eqb}
+use Rattle.std.specs.Prelude.{◌==◌, Option, Some, None, slice_get, is_some, option_and_then, unwrap_or}
 use Rattle.std.specs.List.{AllByRecursion}
 use Rattle.std.proofs.lemmas.Option.{slice_get-get_or}
 use Rattle.ring_names.specs.Lists.{has, all_different}
 use Rattle.ring_names.specs.declared.ids.NodeId.{NodeId}
 use Rattle.ring_names.specs.declared.ids.Slot.{Slot}
-use Rattle.ring_names.specs.declared.refusal.Refusal.{Refusal}
 use Rattle.ring_table.specs.Value.{RingValue, owner_of}
 use Rattle.ring_table.specs.Valid.{IsRing, IsRow}
 use Rattle.ring_text.proofs.Fronts.{both_true}
@@ -15,21 +14,18 @@ use Rattle.plan_text.specs.declared.step.Step.TheVariants.{Join, Mirror, Copy, S
 use Rattle.plan_text.specs.declared.step.Planned.{Planned}
 use Rattle.plan_text.specs.Steps.{steps_of, copy_of}
 use Rattle.plan_stage.specs.Stage.{opening, stage}
-use Rattle.plan_stage.specs.Clauses.{first_failing}
 use Rattle.plan_check.specs.declared.event.Event.{Event}
 use Rattle.plan_check.specs.declared.event.Event.TheVariants.{Do, OpenCopy, ChunkCopy, CloseCopy, AbortCopy, StartPut, Write, Hint, Ack, StartGet, Read, EndGet, Down, Up, Handoff}
-use Rattle.plan_check.specs.declared.event.Reply.{Reply}
-use Rattle.plan_check.specs.World.{PutRecord, World, opening_world, count, keeps_other}
+use Rattle.plan_check.specs.World.{World, opening_world, count, keeps_other}
 use Rattle.plan_check.specs.Versions.{put_slot}
 use Rattle.plan_check.specs.Guards.{serves_in, step_guards, guards}
 use Rattle.plan_check.specs.Effects.{with_number, without_number, without_puts, changed, step_effect, served_puts, with_ticket, effect}
-use Rattle.plan_check.specs.Answers.{reply_to}
 use Rattle.plan_stage.specs.Each.{step_at}
 use Rattle.plan_check.specs.declared.event.Entry.{Entry}
 use Rattle.plan_check.specs.Runs.{Leads}
 use Rattle.plan_check.specs.Safe.{AreApart}
 use Rattle.plan_check.specs.Headline.{Always, AreFinishedFirst}
-use Rattle.plan_check.proofs.Prefix.{order, passed, prefix}
+use Rattle.plan_check.proofs.Prefix.{order, prefix}
 use Rattle.plan_check.proofs.Groups.{Served, InGroup, in_group}
 use Rattle.plan_check.proofs.Mirrored.{Known, down}
 use Rattle.plan_check.specs.Reached.{Ready}

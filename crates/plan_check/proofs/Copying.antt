@@ -1,6 +1,6 @@
 -- What every event leaves true of finished steps and of copies.
-use Rattle.std.proofs.Common.{◌≡◌, inl, inr, ℕ, suc, ◌<◌, Bool, true, false, not, List, [], ◌∷◌, length, refl, sym, subst, arith, eqb-true}
-use Rattle.std.specs.Prelude.{◌&&◌, ◌||◌, ◌==◌, Option, Some, None, is_some, option_and_then}
+use Rattle.std.proofs.Common.{◌≡◌, inl, inr, ℕ, ◌<◌, Bool, true, false, not, List, [], ◌∷◌, length, refl, sym, subst, arith, eqb-true}
+use Rattle.std.specs.Prelude.{◌&&◌, ◌==◌, Option, Some, None, is_some, option_and_then}
 use Rattle.std.proofs.lemmas.Bool.Decides.{eqb_tells}
 use Rattle.ring_names.specs.Lists.{has}
 use Rattle.ring_text.proofs.Fronts.{both_true}

@@ -1,22 +1,16 @@
 -- Who enters the group of a slot.
-use Rattle.std.proofs.Common.{◌≡◌, ◌≢◌, ◌⊎◌, inl, inr, ◌∙◌, ℕ, zero, suc, ◌<◌, ◌≤◌, Bool, true, false, not, List, [], ◌∷◌, length, refl, sym, ap, subst, arith, eqb-true}
-use Rattle.std.specs.Prelude.{◌&&◌, ◌==◌, Option, Some, None, slice_get}
-use Rattle.std.specs.List.{list_all}
+use Rattle.std.proofs.Common.{◌≡◌, ◌≢◌, ◌⊎◌, inl, inr, ◌∙◌, ℕ, ◌<◌, Bool, true, false, not, List, length, refl, sym, ap, subst}
+use Rattle.std.specs.Prelude.{◌&&◌, ◌==◌, Option, Some, None}
 use Rattle.std.proofs.lemmas.Bool.Decides.{eqb_tells}
-use Rattle.ring_names.specs.Lists.{has}
 use Rattle.ring_names.specs.declared.ids.NodeId.{NodeId}
 use Rattle.ring_names.specs.declared.ids.Slot.{Slot}
 use Rattle.ring_table.specs.Value.{RingValue}
-use Rattle.ring_text.proofs.Fronts.{both_true}
 use Rattle.plan_text.specs.declared.step.Step.{Step}
 use Rattle.plan_text.specs.declared.step.Step.TheVariants.{Join, Mirror, Copy, Switch, Drop, Retire}
 use Rattle.plan_text.specs.declared.step.Planned.{Planned}
-use Rattle.plan_text.specs.Steps.{is_slot}
-use Rattle.plan_stage.specs.Clauses.{first_failing, Guard}
-use Rattle.plan_stage.proofs.Below.{met}
 use Rattle.plan_check.specs.World.{PutRecord, World, stage_now, keeps, keeps_other, is_served}
-use Rattle.plan_check.specs.Guards.{is_ready, serves_in}
-use Rattle.plan_check.specs.Effects.{with_number, with_puts, changed}
+use Rattle.plan_check.specs.Guards.{serves_in}
+use Rattle.plan_check.specs.Effects.{with_number, with_puts}
 use Rattle.plan_stage.specs.Each.{step_at, sibling}
 use Rattle.plan_check.proofs.Groups.{Served, Keeps, InGroup, served_is, moved}
 use Rattle.plan_check.proofs.Passing.{some_is}
@@ -24,7 +18,6 @@ use Rattle.plan_check.proofs.Mirrored.{Known, rises, down, mirrored_alone}
 use Rattle.plan_check.proofs.Copying.{closed_with}
 use Rattle.plan_check.proofs.Storing.{with_puts_is}
 use Rattle.plan_check.specs.Reached.{Ready, Reached}
-use Rattle.plan_stage.proofs.Truth.{either, slot-is}
 
 -- two slots of a partition share no node
 abbrev pub Apart : RingValue → List Planned → World → Type 0

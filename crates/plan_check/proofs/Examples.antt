@@ -1,5 +1,5 @@
 -- Worked examples: what events are answered, one after the other.
-use Rattle.std.proofs.Common.{◌≡◌, ℕ, List, [], ◌∷◌, codes, Result, Ok, Err, refl, true, false, Bool}
+use Rattle.std.proofs.Common.{◌≡◌, ℕ, List, [], ◌∷◌, codes, Result, Ok, Err, Option, Some, refl, true, false, Bool}
 use Rattle.ring_names.specs.declared.ids.NodeId.{NodeId}
 use Rattle.ring_names.specs.declared.ids.Slot.{Slot}
 use Rattle.ring_names.specs.declared.refusal.Refusal.{Refusal}
@@ -16,7 +16,8 @@ use Rattle.plan_check.specs.declared.event.Event.{Event}
 use Rattle.plan_check.specs.declared.event.Event.TheVariants.{Do, OpenCopy, ChunkCopy, CloseCopy, AbortCopy, StartPut, Write, Hint, Ack, StartGet, Read, EndGet, Down, Up, Handoff}
 use Rattle.plan_check.specs.declared.event.Reply.{Reply}
 use Rattle.plan_check.specs.declared.event.Reply.TheVariants as reply
-use Rattle.plan_check.specs.World.{World, opening_world}
+use Rattle.plan_check.specs.World.{World, opening_world, passing_below, is_acked, reply_of}
+use Rattle.plan_check.specs.Versions.{is_held}
 use Rattle.plan_check.specs.Guards.{guards}
 use Rattle.plan_check.specs.Effects.{effect}
 use Rattle.plan_check.specs.Answers.{answer}
@@ -25,6 +26,11 @@ use Rattle.plan_check.specs.Answers.{answer}
 abbrev replies : RingValue → List Planned → World → List Event → List (Result Reply Refusal)
 replies ring plan w [] = []
 replies ring plan w (e ∷ es) = elim (answer ring plan w e) [ Ok x ↦ Ok x.1 ∷ replies ring plan x.0 es | Err r ↦ Err r ∷ replies ring plan w es ]
+
+-- the world to which the events lead, where a refused one changes nothing
+abbrev world_after : RingValue → List Planned → World → List Event → World
+world_after ring plan w [] = w
+world_after ring plan w (e ∷ es) = elim (answer ring plan w e) [ Ok x ↦ world_after ring plan x.0 es | Err r ↦ world_after ring plan w es ]
 
 abbrev pub node : List ℕ → ℕ → Bool → Node
 node name allowance is_member = record { name = name; allowance = allowance; is_member = is_member }
@@ -111,6 +117,31 @@ hint_reaches_the_mirror : replies ring_of_five moves_to_e (opening_world ring_of
     ≡ Ok reply.Plain ∷ Ok (reply.Put 0) ∷ Ok (reply.Ticket (at 0 0) 0) ∷ Ok (reply.Ticket (at 0 1) 0) ∷ Ok reply.Plain ∷ Ok reply.Plain ∷ Ok reply.Plain ∷ Ok reply.Plain ∷ Ok reply.Plain ∷ Ok reply.Plain ∷ Ok reply.Plain ∷ Ok reply.Plain ∷ Ok reply.Plain ∷ Ok reply.Plain ∷ Ok reply.Plain ∷ Ok reply.Plain ∷ Ok reply.Plain ∷ Ok reply.Plain ∷ Ok reply.Plain ∷ Ok reply.Plain ∷ Ok reply.Plain ∷ Ok reply.Plain ∷ Ok reply.Plain ∷ Ok reply.Plain ∷ Ok reply.Plain ∷ Ok reply.Plain ∷ Err AlreadyDone ∷ Ok reply.Plain ∷ Ok reply.Plain ∷ Ok (reply.Get 0) ∷ Ok (reply.Found (0 ∷ [])) ∷ Ok (reply.Found ([])) ∷ Ok (reply.Answer (0 ∷ [])) ∷ []
 unfolding guards effect log2 block_words rounds compress hash_after digest_bytes md5
 hint_reaches_the_mirror = refl
+
+-- which slots of partition 0 hold put 0, whether it is acknowledged, and what get 0 was answered
+record Kept : Type 0 where
+  holders : List ℕ
+  acked : Bool
+  reply : Option (List ℕ)
+
+abbrev kept : RingValue → List Planned → World → Kept
+kept ring plan w = record { holders = passing_below ring.n (λ i. is_held ring plan w 0 (at 0 i)); acked = is_acked w 0; reply = reply_of w 0 }
+
+abbrev handed_over : List Event
+handed_over = Down (the 1) ∷ StartPut (record { 0 = 0 }) (codes "a") (49 ∷ []) ([]) ∷ Write 0 0 ∷ Hint 0 1 (the 3) ∷ Ack 0 ∷ Up (the 1) ∷ Do 0 ∷ Do 1 ∷ Handoff (the 3) (at 0 1) ∷ StartGet (codes "a") ∷ Read 0 1 ∷ Read 0 2 ∷ EndGet 0 ∷ []
+
+-- two of three slots hold an acknowledged put, so each two slots have one of them; a get that starts after it is answered it
+held_and_read : kept ring_of_five moves_to_e (world_after ring_of_five moves_to_e (opening_world ring_of_five) handed_over) ≡ record { holders = 0 ∷ 1 ∷ []; acked = true; reply = Some (0 ∷ []) }
+unfolding guards effect log2 block_words rounds compress hash_after digest_bytes md5
+held_and_read = refl
+
+abbrev overwritten : List Event
+overwritten = StartPut (record { 0 = 0 }) (codes "a") (49 ∷ []) ([]) ∷ Write 0 0 ∷ Write 0 1 ∷ Ack 0 ∷ StartPut (record { 0 = 0 }) (codes "a") (50 ∷ []) ([]) ∷ Write 1 2 ∷ StartGet (codes "a") ∷ Read 0 0 ∷ Read 0 2 ∷ EndGet 0 ∷ []
+
+-- a slot that has a put of the same writer after it holds it too, and a get is answered that one
+held_by_a_successor : kept (ring_of_four false) [] (world_after (ring_of_four false) [] (opening_world (ring_of_four false)) overwritten) ≡ record { holders = 0 ∷ 1 ∷ 2 ∷ []; acked = true; reply = Some (1 ∷ []) }
+unfolding guards effect log2 block_words rounds compress hash_after digest_bytes md5
+held_by_a_successor = refl
 
 -- puts that know nothing of one another are both answered, and one that has seen both hides them
 two_writers : replies (ring_of_four false) [] (opening_world (ring_of_four false))

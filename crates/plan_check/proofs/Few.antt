@@ -1,5 +1,5 @@
 -- In every run of a sound plan no node takes part in more open copies than its allowance.
-use Rattle.std.proofs.Common.{◌≡◌, ◌≢◌, ◌⊎◌, inl, inr, ◌∙◌, ℕ, zero, suc, ◌+◌, ◌≤◌, Bool, true, false, cond, List, [], ◌∷◌, length, refl, sym, ap, subst, arith, eqb-true, eq-eqb}
+use Rattle.std.proofs.Common.{◌≡◌, ◌≢◌, ◌⊎◌, inl, inr, ◌∙◌, ℕ, ◌≤◌, Bool, true, false, cond, List, [], ◌∷◌, length, refl, sym, ap, subst, arith, eqb-true, eq-eqb}
 use Rattle.std.specs.Prelude.{◌&&◌, ◌==◌, Some, None}
 use Rattle.ring_names.specs.Lists.{has, all_different}
 use Rattle.ring_table.specs.Value.{RingValue}
@@ -7,7 +7,7 @@ use Rattle.ring_text.proofs.Fronts.{both_true}
 use Rattle.plan_text.specs.declared.step.Planned.{Planned}
 use Rattle.plan_order.specs.Before.{Before}
 use Rattle.plan_order.proofs.Reaching.{join}
-use Rattle.plan_check.specs.World.{opening_world, passing_from, passing_below, copy_at}
+use Rattle.plan_check.specs.World.{passing_below, copy_at}
 use Rattle.plan_check.specs.Safe.{takes_part_now, AreFew}
 use Rattle.plan_cover.specs.Clauses.{in_some}
 use Rattle.plan_check.specs.Sound.{IsChain, AreChains, Covers, is_party_of}

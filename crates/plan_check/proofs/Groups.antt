@@ -13,7 +13,7 @@ use Rattle.plan_text.specs.Steps.{steps_of, steps_from, is_slot, is_on}
 use Rattle.plan_stage.specs.declared.stage.Stage.{Stage}
 use Rattle.plan_stage.specs.Stage.{stage, after, next}
 use Rattle.plan_stage.proofs.Stages.{stage-more}
-use Rattle.plan_check.specs.World.{World, stage_now, keeps, some_below, count, mirrors, is_served, is_in_group}
+use Rattle.plan_check.specs.World.{World, stage_now, keeps, count, mirrors, is_served, is_in_group}
 use Rattle.plan_check.specs.Effects.{with_number}
 use Rattle.plan_stage.specs.Each.{step_at}
 use Rattle.plan_check.proofs.Passing.{some_found}

@@ -1,16 +1,14 @@
 -- Puts and gets that come or change keep what every event leaves true of them.
-use Rattle.std.proofs.Common.{◌≡◌, ◌⊎◌, inl, inr, ◌∙◌, ℕ, zero, suc, ◌<◌, ◌≤◌, Bool, true, false, List, [], ◌∷◌, ◌++◌, length, length-append, refl, sym, ap, subst, arith}
-use Rattle.std.specs.Prelude.{◌==◌, Option, Some, None, slice_get, is_some}
+use Rattle.std.proofs.Common.{◌≡◌, ◌⊎◌, inl, inr, ◌∙◌, ℕ, zero, suc, Bool, true, false, List, [], ◌∷◌, ◌++◌, length, length-append, refl, ap, subst, arith}
+use Rattle.std.specs.Prelude.{Some, None, slice_get, is_some}
 use Rattle.std.specs.Str.{bytes_eq}
 use Rattle.ring_names.specs.Lists.{has}
 use Rattle.ring_names.specs.declared.ids.Slot.{Slot}
-use Rattle.plan_check.specs.World.{PutRecord, GetRecord, World, key_of_put, key_of_get, seen_of, reply_of, is_get_of}
+use Rattle.plan_check.specs.World.{PutRecord, GetRecord, World, seen_of}
 use Rattle.plan_check.specs.Succession.{replied}
-use Rattle.plan_check.specs.Guards.{has_ended}
 use Rattle.plan_check.specs.Effects.{changed, has_found}
 use Rattle.plan_check.specs.Reached.{IsPutForGet, IsGetForPut}
-use Rattle.plan_check.proofs.Changed.{read_at, length_changed, part_changed, part_before, part_new, part_past}
-use Rattle.plan_check.proofs.Prefix.{order}
+use Rattle.plan_check.proofs.Changed.{read_at, length_changed, part_changed, part_before}
 use Rattle.plan_check.proofs.Storing.{GetsFit, Grows, for_get_stays, for_put_stays, found_exists, reply_exists, seen_exists}
 
 -- ---- one more put, one put changed

@@ -1,14 +1,13 @@
 -- Of the puts of one key, succession in the world is succession among their causes.
-use Rattle.std.proofs.Common.{◌≡◌, ◌⊎◌, inl, inr, ◌∙◌, ℕ, ◌<◌, ◌≤◌, true, List, length, get_or, refl, sym, ap, subst, arith, lt-ltb, eqb-true, eq-eqb}
-use Rattle.std.specs.Prelude.{◌↔◌, ◌&&◌, ◌||◌, ◌==◌, nat_lt}
+use Rattle.std.proofs.Common.{◌≡◌, ◌⊎◌, inl, inr, ◌∙◌, ℕ, ◌<◌, true, List, length, get_or, refl, sym, ap, subst, arith, lt-ltb, eqb-true, eq-eqb}
+use Rattle.std.specs.Prelude.{◌&&◌, ◌==◌, nat_lt}
 use Rattle.std.specs.Str.{bytes_eq}
 use Rattle.std.proofs.lemmas.Slice.Eq.{bytes_eq-Decides}
 use Rattle.ring_names.specs.Lists.{has}
 use Rattle.ring_clock.specs.declared.causes.Cause.{Cause}
 use Rattle.ring_clock.specs.Causes as causes
-use Rattle.ring_text.specs.Numbers.{ascending}
 use Rattle.plan_check.specs.World.{World, key_of_put, writer_of, seen_of, is_of_key}
-use Rattle.plan_check.specs.Succession.{some_replied, is_direct, Succeeds, itself, by}
+use Rattle.plan_check.specs.Succession.{some_replied, Succeeds, itself, by}
 use Rattle.plan_check.specs.Causes.{puts_of, AreCausesOf, AgreeOn}
 use Rattle.plan_check.proofs.Passing.{below_is, is_below, passing_ascend, at_place, rises_at}
 use Rattle.plan_check.proofs.Prefix.{order, found}

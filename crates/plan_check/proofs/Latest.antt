@@ -1,6 +1,6 @@
 -- The latest of some puts, by its members.
-use Rattle.std.proofs.Common.{◌≡◌, ◌⊎◌, inl, inr, ℕ, ◌+◌, ◌≤◌, Bool, true, false, not, cond, List, [], ◌∷◌, refl, arith, eqb-true, eq-eqb, ltb-true, lt-ltb}
-use Rattle.std.specs.Prelude.{◌&&◌, ◌||◌, ◌==◌, nat_lt}
+use Rattle.std.proofs.Common.{◌≡◌, ◌⊎◌, inl, inr, ℕ, ◌+◌, ◌≤◌, Bool, true, false, not, cond, List, [], ◌∷◌, refl, arith, eqb-true, eq-eqb, ltb-true}
+use Rattle.std.specs.Prelude.{◌&&◌, ◌==◌, nat_lt}
 use Rattle.std.proofs.lemmas.Bool.Decides.{eqb_tells}
 use Rattle.ring_names.specs.Lists.{has}
 use Rattle.ring_text.specs.Numbers.{ascending}
@@ -8,8 +8,8 @@ use Rattle.ring_text.proofs.Fronts.{both_true}
 use Rattle.plan_check.specs.World.{World}
 use Rattle.plan_check.specs.Succession.{Succeeds, succeeds, some_succeeds, latest_of, latest}
 use Rattle.plan_check.proofs.Succeeding.{succeeds_is, is_succeeds}
-use Rattle.plan_check.proofs.Passing.{StartsAt, ascending_rest, first_least, with_first}
-use Rattle.plan_stage.proofs.Truth.{all_of, either, first_of_two, second_of_two, not_is}
+use Rattle.plan_check.proofs.Passing.{StartsAt, ascending_rest, with_first}
+use Rattle.plan_stage.proofs.Truth.{either, first_of_two, second_of_two, not_is}
 
 -- ---- another one of them succeeds the put
 

@@ -8,7 +8,7 @@ use Rattle.ring_table.specs.Value.{RingValue}
 use Rattle.ring_table.specs.Valid.{IsRing}
 use Rattle.plan_text.specs.declared.step.Step.TheVariants.{Mirror}
 use Rattle.plan_text.specs.declared.step.Planned.{Planned}
-use Rattle.plan_text.specs.Steps.{steps_of, depends}
+use Rattle.plan_text.specs.Steps.{steps_of}
 use Rattle.plan_text.specs.Valid.{IsPlan}
 use Rattle.plan_order.specs.Before.{Before, direct, through}
 use Rattle.plan_order.proofs.Reaching.{less}
@@ -16,11 +16,10 @@ use Rattle.plan_stage.specs.declared.stage.Stage.{Stage}
 use Rattle.plan_stage.specs.Stage.{stage, after}
 use Rattle.plan_stage.specs.Occupancy.{is_node, leaving, mirror_end}
 use Rattle.plan_check.specs.World.{count}
-use Rattle.plan_check.specs.Effects.{with_number}
 use Rattle.plan_stage.specs.Each.{step_at, sibling, place_in}
-use Rattle.plan_check.specs.Sound.{Meets, EndsBefore}
+use Rattle.plan_check.specs.Sound.{Meets, EndsBefore, Sound}
 use Rattle.plan_check.specs.Reached.{Ready, Closed}
-use Rattle.plan_check.proofs.Prefix.{order, passed, found, found_later, Rises, Down, prefix, place}
+use Rattle.plan_check.proofs.Prefix.{order, found, found_later, Rises, Down, prefix, place}
 use Rattle.plan_check.proofs.Groups.{on_steps}
 use Rattle.plan_check.specs.Occupies.{FromStart, FromMirror, Serves}
 use Rattle.plan_check.proofs.Occupied.{occupied, ends_later, mirror_ends_later}
@@ -32,6 +31,9 @@ pub record Known (ring : RingValue) (plan : List Planned) : Type 0 where
   pub is_plan : IsPlan plan
   pub chains : ℕ → List (List ℕ)
   pub meets : Meets ring plan (Before plan) chains
+
+pub known : (ring : RingValue) (plan : List Planned) → IsRing ring → IsPlan plan → Sound ring plan → Known ring plan
+known ring plan r p sound = record { is_ring = r; is_plan = p; chains = sound.0; meets = sound.1 }
 
 pub before_done : (plan : List Planned) (D : ℕ → Bool) (a n : ℕ) → Closed plan D → Before plan a n → D n ≡ true → D a ≡ true
 before_done plan D a n c (direct _ _ d) e = c a n e d

@@ -44,7 +44,7 @@ in_turn ring plan k slot i (suc j) l m = elim (order i j) [
 ]
 
 -- the finished steps of a slot, where its step n is ready and not finished, are those in front of n
-own_count : (ring : RingValue) (plan : List Planned) → Known ring plan → (D : ℕ → Bool) (n : ℕ) (slot : Slot) → Closed plan D → Ready plan D n → D n ≡ false → has n (steps_of plan slot) ≡ true → count D (steps_of plan slot) ≡ count_below n (steps_of plan slot)
+pub own_count : (ring : RingValue) (plan : List Planned) → Known ring plan → (D : ℕ → Bool) (n : ℕ) (slot : Slot) → Closed plan D → Ready plan D n → D n ≡ false → has n (steps_of plan slot) ≡ true → count D (steps_of plan slot) ≡ count_below n (steps_of plan slot)
 own_count ring plan k D n slot c y off h = done ∙ sym front
   where
     ss : List ℕ
@@ -111,7 +111,7 @@ abbrev pub Settled : List Planned → ℕ → Slot → Type 0
 Settled plan n slot = (m : ℕ) → step_at plan m ≡ Some (Switch slot) → Before plan m n ⊎ Before plan n m
 
 -- so the owner now is the one before step n, where n is ready and not finished
-owner_same : (ring : RingValue) (plan : List Planned) → Known ring plan → (D : ℕ → Bool) (n : ℕ) (slot : Slot) → Closed plan D → Ready plan D n → D n ≡ false → Settled plan n slot
+pub owner_same : (ring : RingValue) (plan : List Planned) → Known ring plan → (D : ℕ → Bool) (n : ℕ) (slot : Slot) → Closed plan D → Ready plan D n → D n ≡ false → Settled plan n slot
     → (stage ring plan slot (count D (steps_of plan slot))).owner ≡ (stage_before ring plan slot n).owner
 owner_same ring plan k D n slot c y off settled = elim (order (count D ss) (count_below n ss)) [
   | inl h ↦ sym (owner_kept ring plan slot (count D ss) (count_below n ss) (omega arith) q.within ahead)

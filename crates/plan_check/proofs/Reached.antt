@@ -1,12 +1,11 @@
 -- What holds of every world to which a run leads.
-use Rattle.std.proofs.Common.{◌≡◌, ◌⊎◌, inl, inr, ◌∙◌, ℕ, zero, suc, ◌<◌, Bool, true, false, not, cond, List, [], ◌∷◌, ◌++◌, length, refl, sym, ap, subst, arith, ltb-true, eqb-true}
-use Rattle.std.specs.Prelude.{◌&&◌, ◌||◌, ◌==◌, nat_lt, Option, Some, None, slice_get, is_some}
+use Rattle.std.proofs.Common.{◌≡◌, ◌⊎◌, inl, inr, ◌∙◌, ℕ, zero, suc, ◌<◌, Bool, true, false, cond, List, [], ◌∷◌, ◌++◌, length, refl, sym, ap, subst, arith, ltb-true, eqb-true}
+use Rattle.std.specs.Prelude.{◌&&◌, ◌||◌, ◌==◌, nat_lt, Option, Some, None, slice_get}
 use Rattle.std.specs.List.{list_all}
 use Rattle.std.specs.Str.{bytes_eq}
 use Rattle.ring_names.specs.Lists.{has}
 use Rattle.ring_names.specs.declared.ids.NodeId.{NodeId}
 use Rattle.ring_names.specs.declared.ids.Slot.{Slot}
-use Rattle.ring_names.specs.declared.ids.WriterId.{WriterId}
 use Rattle.ring_space.specs.Place.{place_of}
 use Rattle.ring_table.specs.Value.{RingValue}
 use Rattle.ring_text.proofs.Fronts.{both_true}
@@ -22,8 +21,7 @@ use Rattle.plan_check.specs.World.{PutRecord, GetRecord, World, some_below, pass
 use Rattle.plan_check.specs.Succession.{replied}
 use Rattle.plan_check.specs.Versions.{put_slot, get_slot, is_in_chunk, slot_has}
 use Rattle.plan_check.specs.Guards.{has_copy, has_ended, guards}
-use Rattle.plan_check.specs.Effects.{with_number, without_number, with_puts, with_mirror_puts, without_puts, served_puts, with_ticket, changed, step_effect, source_has, is_copied, copied_puts, with_value, finds, answers, has_found, read_effect, end_get_effect, effect}
-use Rattle.plan_check.specs.Answers.{answer}
+use Rattle.plan_check.specs.Effects.{with_number, without_number, with_puts, with_mirror_puts, without_puts, served_puts, changed, step_effect, source_has, is_copied, with_value, finds, answers, has_found, read_effect, end_get_effect, effect}
 use Rattle.plan_check.specs.Reached.{Closed, CopiesFit, IsPutOf, IsPutForGet, IsGetForPut, Reached}
 use Rattle.plan_check.specs.Runs.{Leads, IsRun}
 use Rattle.plan_check.proofs.Answered.{answered}

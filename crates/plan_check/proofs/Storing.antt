@@ -1,6 +1,6 @@
 -- What every event leaves true of what nodes store and keep, and of puts and gets.
-use Rattle.std.proofs.Common.{◌≡◌, ◌⊎◌, inl, inr, ◌∙◌, ℕ, zero, suc, ◌<◌, ◌≤◌, Bool, true, false, not, List, [], ◌∷◌, ◌++◌, length, refl, sym, ap, subst, arith, eqb-true}
-use Rattle.std.specs.Prelude.{◌&&◌, ◌||◌, ◌==◌, Option, Some, None, slice_get, is_some}
+use Rattle.std.proofs.Common.{◌≡◌, ◌⊎◌, inl, inr, ◌∙◌, ℕ, zero, suc, ◌<◌, ◌≤◌, Bool, true, false, not, List, [], ◌∷◌, length, sym, ap, subst, arith, eqb-true}
+use Rattle.std.specs.Prelude.{◌&&◌, ◌==◌, Option, Some, None, slice_get}
 use Rattle.std.specs.Str.{bytes_eq}
 use Rattle.ring_names.specs.Lists.{has}
 use Rattle.ring_names.specs.declared.ids.NodeId.{NodeId}
@@ -10,13 +10,12 @@ use Rattle.ring_table.specs.Value.{RingValue}
 use Rattle.ring_text.proofs.Fronts.{both_true}
 use Rattle.plan_text.specs.declared.step.Planned.{Planned}
 use Rattle.plan_text.specs.Steps.{is_slot}
-use Rattle.plan_check.specs.World.{PutRecord, GetRecord, World, stage_now, key_of_put, key_of_get, seen_of, reply_of, is_get_of, is_of_key}
+use Rattle.plan_check.specs.World.{PutRecord, GetRecord, World, stage_now, key_of_put, key_of_get, seen_of, is_get_of, is_of_key}
 use Rattle.plan_check.specs.Succession.{replied}
-use Rattle.plan_check.specs.Versions.{put_slot}
 use Rattle.plan_check.specs.Guards.{has_ended}
-use Rattle.plan_check.specs.Effects.{with_puts, with_mirror_puts, without_puts, served_puts, changed, has_found}
+use Rattle.plan_check.specs.Effects.{with_puts, with_mirror_puts, without_puts, served_puts, has_found}
 use Rattle.plan_check.specs.Reached.{IsPutOf, IsPutForGet, IsGetForPut}
-use Rattle.plan_check.proofs.Changed.{read_at, length_changed, part_changed, part_before}
+use Rattle.plan_check.proofs.Changed.{read_at}
 use Rattle.plan_stage.proofs.Truth.{either, slot-is}
 
 pub record StoreFits (ring : RingValue) (w : World) : Type 0 where

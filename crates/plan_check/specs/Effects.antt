@@ -14,7 +14,8 @@ use Rattle.plan_text.specs.Steps.{is_slot}
 use Rattle.plan_stage.specs.Each.{step_at}
 use Rattle.plan_stage.specs.Parties.{source_slots}
 use Rattle.plan_check.specs.declared.event.Event.{Event}
-use Rattle.plan_check.specs.declared.event.Event.TheVariants.{Do, OpenCopy, ChunkCopy, CloseCopy, AbortCopy, StartPut, Write, Hint, Ack, StartGet, Read, EndGet, Down, Up, Handoff}
+use Rattle.plan_check.specs.declared.event.Event.TheVariants.{Do, OpenCopy, ChunkCopy, CloseCopy, AbortCopy, StartPut, Write, Hint}
+use Rattle.plan_check.specs.declared.event.Event.TheVariants.{Ack, StartGet, Read, EndGet, Down, Up, Handoff}
 use Rattle.plan_check.specs.World.{PutRecord, World, some_below, passing_below, key_of_get, found_at, is_of_key, copy_at, stage_now, generation}
 use Rattle.plan_check.specs.Succession.{latest}
 use Rattle.plan_check.specs.Versions.{put_slot, get_slot, is_in_chunk, slot_has}

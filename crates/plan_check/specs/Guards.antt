@@ -3,7 +3,8 @@ use Rattle.std.specs.Prelude.{ℕ, Bool, false, not, ◌&&◌, ◌||◌, ◌==�
 use Rattle.std.specs.List.{list_all, list_any}
 use Rattle.ring_names.specs.declared.ids.NodeId.{NodeId}
 use Rattle.ring_names.specs.declared.ids.Slot.{Slot}
-use Rattle.ring_names.specs.declared.refusal.Refusal.TheVariants.{NotMember, NotReady, AlreadyDone, NodeDown, KeeperTaken, KeeperInPartition, StaleTickets, TooFewSlots, UnknownNumber, HintsLeft, NotOpen, ChunksLeft}
+use Rattle.ring_names.specs.declared.refusal.Refusal.TheVariants.{NotMember, NotReady, AlreadyDone, NodeDown, KeeperTaken, KeeperInPartition}
+use Rattle.ring_names.specs.declared.refusal.Refusal.TheVariants.{StaleTickets, TooFewSlots, UnknownNumber, HintsLeft, NotOpen, ChunksLeft}
 use Rattle.ring_table.specs.Value.{RingValue}
 use Rattle.plan_text.specs.declared.step.Source.{Source}
 use Rattle.plan_text.specs.declared.step.Source.TheVariants as source
@@ -16,8 +17,10 @@ use Rattle.plan_stage.specs.Each.{step_at}
 use Rattle.plan_stage.specs.Parties.{parties, source_slots}
 use Rattle.plan_stage.specs.Clauses.{Guard}
 use Rattle.plan_check.specs.declared.event.Event.{Event}
-use Rattle.plan_check.specs.declared.event.Event.TheVariants.{Do, OpenCopy, ChunkCopy, CloseCopy, AbortCopy, StartPut, Write, Hint, Ack, StartGet, Read, EndGet, Down, Up, Handoff}
-use Rattle.plan_check.specs.World.{World, some_below, passing_below, is_acked, key_of_get, found_at, reply_of, is_get_of, is_of_key, copy_at, stage_now, generation, is_member_now, slot_of, keeps, keeps_other, keeps_any, is_served}
+use Rattle.plan_check.specs.declared.event.Event.TheVariants.{Do, OpenCopy, ChunkCopy, CloseCopy, AbortCopy, StartPut, Write, Hint}
+use Rattle.plan_check.specs.declared.event.Event.TheVariants.{Ack, StartGet, Read, EndGet, Down, Up, Handoff}
+use Rattle.plan_check.specs.World.{World, some_below, passing_below, is_acked, key_of_get, found_at, reply_of, is_get_of, is_of_key}
+use Rattle.plan_check.specs.World.{copy_at, stage_now, generation, is_member_now, slot_of, keeps, keeps_other, keeps_any, is_served}
 use Rattle.plan_check.specs.Versions.{put_slot, get_slot, is_in_chunk}
 
 -- ---- nodes that must be up

@@ -1,5 +1,6 @@
 -- A store at one moment, and what follows from it for slots and nodes.
-use Rattle.std.specs.Prelude.{ℕ, zero, suc, ◌+◌, Bool, false, not, ◌&&◌, ◌||◌, ◌==◌, List, [], ◌∷◌, length, Option, Some, None, slice_get, is_some, option_and_then, if◌then◌else◌}
+use Rattle.std.specs.Prelude.{ℕ, zero, suc, ◌+◌, Bool, false, not, ◌&&◌, ◌||◌, ◌==◌, List}
+use Rattle.std.specs.Prelude.{[], ◌∷◌, length, Option, Some, None, slice_get, is_some, option_and_then, if◌then◌else◌}
 use Rattle.std.specs.Str.{bytes_eq}
 use Rattle.ring_names.specs.declared.ids.Slot.{Slot}
 use Rattle.ring_names.specs.declared.ids.NodeId.{NodeId}

@@ -41,7 +41,7 @@ pub fn check(alloc: Global, ring: Ring, plan: Plan, cert: &Cert) -> Result<Appro
     ensures late { IfErr result (λ t. t.refusal ≡ OutOfMemory → first_failing (fact_clauses plan 0 cert.now.facts) ≡ None) }
 {
     first_is_none_where_certified(&ring, &plan, cert);
-    certified_is_sound(&ring, &plan, cert);
+    certified_is_sound();
     groups_stay_apart(&ring, &plan);
     transfers_stay_few(&ring, &plan);
     match check_all(alloc, &ring, &plan, cert) {

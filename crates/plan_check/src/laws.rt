@@ -7,6 +7,7 @@ ghost use Rattle.plan_text.specs.Valid.{Suits};
 ghost use Rattle.std.specs.Bool.{Decides};
 ghost use Rattle.ring_names.specs.declared.ids.Slot.{Slot as TheSlot};
 ghost use Rattle.ring_clock.specs.declared.causes.Cause.{Cause};
+ghost use Rattle.plan_cert.specs.declared.cert.Cert.{Cert as TheCert};
 ghost use Rattle.ring_table.specs.Value.{RingValue};
 ghost use Rattle.plan_text.specs.declared.step.Planned.{Planned};
 ghost use Rattle.plan_stage.specs.Clauses.{AllStaged};
@@ -28,11 +29,9 @@ use plan_text::Plan;
 use ring_table::Ring;
 
 /// What a certificate proves in order is before, so a plan that it certifies is sound.
-pub fn certified_is_sound(ring: &Ring, plan: &Plan, cert: &Cert)
-    ensures { IsCertified ring.now plan.now cert.now → Sound ring.now plan.now }
-{
-    let _ = (ring.n(), plan.len(), cert.facts.as_slice().len());
-}
+pub fn certified_is_sound()
+    ensures { (ring : RingValue) (plan : List Planned) (cert : TheCert) → IsCertified ring plan cert → Sound ring plan }
+{}
 
 /// No clause of the checker fails exactly where the certificate certifies the plan.
 pub fn first_is_none_where_certified(ring: &Ring, plan: &Plan, cert: &Cert)
@@ -43,11 +42,9 @@ pub fn first_is_none_where_certified(ring: &Ring, plan: &Plan, cert: &Cert)
 }
 
 /// After each of a slot's steps its owner is no node that still has to drop what it held, and its mirror is neither of these.
-pub fn stages_are_good(ring: &Ring, plan: &Plan)
-    ensures { Sound ring.now plan.now → AreGoodStages ring.now plan.now }
-{
-    let _ = (ring.n(), plan.len());
-}
+pub fn stages_are_good()
+    ensures { (ring : RingValue) (plan : List Planned) → Sound ring plan → AreGoodStages ring plan }
+{}
 
 /// A node that owns or mirrors a slot has begun to, at the start or by a mirror step, and has not left it since; and where each
 /// step of a slot fits its stage, whoever has begun and has not left owns or mirrors it.
@@ -60,11 +57,9 @@ pub fn servers_occupy(ring: &Ring, plan: &Plan)
 
 /// What every run of a plan leads to, sound or not: what finished steps depend on is finished, open copies are ready and not
 /// finished, only ready copies have marks, nodes have puts of the slot's partition, and gets found and answered puts of their key.
-pub fn runs_reach(ring: &Ring, plan: &Plan)
-    ensures { Always ring.now plan.now (Reached ring.now plan.now) }
-{
-    let _ = (ring.n(), plan.len());
-}
+pub fn runs_reach()
+    ensures { (ring : RingValue) (plan : List Planned) → Always ring plan (Reached ring plan) }
+{}
 
 /// In every run of a sound plan the finished steps of a slot are its first ones.
 pub fn finished_steps_come_first(ring: &Ring, plan: &Plan)
@@ -88,11 +83,9 @@ pub fn transfers_stay_few(ring: &Ring, plan: &Plan)
 }
 
 /// A run in two parts is a run of the first, and then of the second from the world to which the first leads.
-pub fn runs_split(ring: &Ring, plan: &Plan)
-    ensures { SplitAnywhere ring.now plan.now }
-{
-    let _ = (ring.n(), plan.len());
-}
+pub fn runs_split()
+    ensures { (ring : RingValue) (plan : List Planned) → SplitAnywhere ring plan }
+{}
 
 /// The test whether one put succeeds another one tells just that.
 pub fn succession_is_tested()

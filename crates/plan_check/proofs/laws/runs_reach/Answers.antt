@@ -2,4 +2,4 @@ use Rattle.plan_check.proofs.Reached.{reached}
 use Rattle.plan_check.proofs.laws.runs_reach.Goals as goal
 
 pub returns : goal.returns
-returns c = λ run w is. reached c.args.ring.now c.args.plan.now run w is
+returns c = reached

@@ -2,4 +2,4 @@ use Rattle.plan_check.proofs.Split.{split}
 use Rattle.plan_check.proofs.laws.runs_split.Goals as goal
 
 pub returns : goal.returns
-returns c = λ w v first second. split c.args.ring.now c.args.plan.now w v first second
+returns c = split
