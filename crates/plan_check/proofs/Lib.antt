@@ -28,3 +28,4 @@ pub mod Storing
 pub mod Growing
 pub mod Passed
 pub mod Reached
+pub mod Ticketed

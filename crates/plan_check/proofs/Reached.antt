@@ -17,7 +17,7 @@ use Rattle.plan_stage.specs.Each.{step_at}
 use Rattle.plan_check.specs.declared.event.Event.{Event}
 use Rattle.plan_check.specs.declared.event.Event.TheVariants.{Do, OpenCopy, ChunkCopy, CloseCopy, AbortCopy, StartPut, Write, Hint, Ack, StartGet, Read, EndGet, Down, Up, Handoff}
 use Rattle.plan_check.specs.declared.event.Entry.{Entry}
-use Rattle.plan_check.specs.World.{PutRecord, GetRecord, World, some_below, passing_below, opening_world, copy_at, stage_now, generation, key_of_put, key_of_get, seen_of, is_get_of, is_of_key}
+use Rattle.plan_check.specs.World.{PutRecord, GetRecord, World, some_below, passing_below, opening_world, copy_at, stage_now, generation, ticket_of, key_of_put, key_of_get, seen_of, is_get_of, is_of_key}
 use Rattle.plan_check.specs.Succession.{replied}
 use Rattle.plan_check.specs.Versions.{put_slot, get_slot, is_in_chunk, slot_has}
 use Rattle.plan_check.specs.Guards.{has_copy, has_ended, guards}
@@ -25,12 +25,13 @@ use Rattle.plan_check.specs.Effects.{with_number, without_number, with_puts, wit
 use Rattle.plan_check.specs.Reached.{Closed, CopiesFit, IsPutOf, IsPutForGet, IsGetForPut, Reached}
 use Rattle.plan_check.specs.Runs.{Leads, IsRun}
 use Rattle.plan_check.proofs.Answered.{answered}
-use Rattle.plan_check.proofs.Changed.{part_changed, part_new}
-use Rattle.plan_check.proofs.Copying.{closed_with, do_copies, open_copies_fit, chunk_copies, none_left, close_copies, abort_copies, other_is_no_copy}
+use Rattle.plan_check.proofs.Changed.{read_at, part_changed, part_new}
+use Rattle.plan_check.proofs.Copying.{still_passes, closed_with, do_copies, open_copies_fit, chunk_copies, none_left, close_copies, abort_copies, other_is_no_copy}
 use Rattle.plan_check.proofs.Growing.{one_put, put_changed, one_get, get_changes, gets_kept, gets_grow, new_put_seen, new_get_found, new_get_replied, changed_found, changed_replied}
 use Rattle.plan_check.proofs.Latest.{latest_of_is}
 use Rattle.plan_check.proofs.Passed.{AllMet, all_met, among, ready}
 use Rattle.plan_check.proofs.Passing.{some_found, below_is}
+use Rattle.plan_check.proofs.Ticketed.{TicketFits, TicketsFit, ticket_stays, new_put_ticket, ticketed_fits}
 use Rattle.plan_check.proofs.Storing.{StoreFits, GetsFit, Grows, put_stays, for_get_stays, with_puts_is, with_mirror_is, served_puts_is, without_puts_was}
 use Rattle.plan_stage.proofs.Truth.{not_is}
 
@@ -38,6 +39,7 @@ use Rattle.plan_stage.proofs.Truth.{not_is}
 record Parts (ring : RingValue) (plan : List Planned) (w : World) : Type 0 where
   pub closed : Closed plan w.done
   pub copies : CopiesFit plan w.done w.is_open w.marked
+  pub tickets : TicketsFit ring plan w
   pub store : StoreFits ring w
   pub gets : GetsFit w
 
@@ -51,19 +53,25 @@ less_store : (ring : RingValue) (w : World) (d o : ℕ → Bool) (m : ℕ → �
 less_store ring w d o m a b less i = record { stored = λ x s v e. i.stored x s v (less x s v e); hinted = i.hinted }
 
 -- nothing of puts and gets changes
-around : (ring : RingValue) (plan : List Planned) (w : World) (d o : ℕ → Bool) (m : ℕ → ℕ → Bool) (a : ℕ → Bool) (b : ℕ → Slot → ℕ → Bool) → Parts ring plan w → Closed plan d → CopiesFit plan d o m
+around : (ring : RingValue) (plan : List Planned) (w : World) (d o : ℕ → Bool) (m : ℕ → ℕ → Bool) (a : ℕ → Bool) (b : ℕ → Slot → ℕ → Bool) → Parts ring plan w → ((k : ℕ) → w.done k ≡ true → d k ≡ true) → Closed plan d → CopiesFit plan d o m
     → ((x : ℕ) (s : Slot) (v : ℕ) → b x s v ≡ true → w.stored x s v ≡ true) → Parts ring plan (record w { done = d; is_open = o; marked = m; up = a; stored = b })
-around ring plan w d o m a b i closed copies less = record { closed = closed; copies = copies; store = less_store ring w d o m a b less i.store; gets = same_gets w d o m a b w.hinted i.gets }
+around ring plan w d o m a b i more closed copies less = record {
+  closed = closed;
+  copies = copies;
+  tickets = λ v j g e. ticket_stays ring plan w (record w { done = d; is_open = o; marked = m; up = a; stored = b }) v j g refl more (i.tickets v j g e);
+  store = less_store ring w d o m a b less i.store;
+  gets = same_gets w d o m a b w.hinted i.gets;
+}
 
 do_parts : (ring : RingValue) (plan : List Planned) (w : World) (n : ℕ) (t : Option Step) → Parts ring plan w → Closed plan (with_number w.done n) → CopiesFit plan (with_number w.done n) w.is_open w.marked
     → Parts ring plan (elim t [ Some s ↦ step_effect (record w { done = with_number w.done n }) s | None ↦ w ])
 do_parts ring plan w n None i c k = i
-do_parts ring plan w n (Some (Join x)) i c k = around ring plan w (with_number w.done n) w.is_open w.marked (with_number w.up x.0) w.stored i c k (λ y s v e. e)
-do_parts ring plan w n (Some (Mirror s x)) i c k = around ring plan w (with_number w.done n) w.is_open w.marked w.up w.stored i c k (λ y s v e. e)
-do_parts ring plan w n (Some (Copy s from)) i c k = around ring plan w (with_number w.done n) w.is_open w.marked w.up w.stored i c k (λ y s v e. e)
-do_parts ring plan w n (Some (Switch s)) i c k = around ring plan w (with_number w.done n) w.is_open w.marked w.up w.stored i c k (λ y s v e. e)
-do_parts ring plan w n (Some (Drop s x)) i c k = around ring plan w (with_number w.done n) w.is_open w.marked w.up (without_puts w.stored x s) i c k (λ y t v e. without_puts_was w.stored x s y t v e)
-do_parts ring plan w n (Some (Retire x)) i c k = around ring plan w (with_number w.done n) w.is_open w.marked w.up w.stored i c k (λ y s v e. e)
+do_parts ring plan w n (Some (Join x)) i c k = around ring plan w (with_number w.done n) w.is_open w.marked (with_number w.up x.0) w.stored i (still_passes w.done n) c k (λ y s v e. e)
+do_parts ring plan w n (Some (Mirror s x)) i c k = around ring plan w (with_number w.done n) w.is_open w.marked w.up w.stored i (still_passes w.done n) c k (λ y s v e. e)
+do_parts ring plan w n (Some (Copy s from)) i c k = around ring plan w (with_number w.done n) w.is_open w.marked w.up w.stored i (still_passes w.done n) c k (λ y s v e. e)
+do_parts ring plan w n (Some (Switch s)) i c k = around ring plan w (with_number w.done n) w.is_open w.marked w.up w.stored i (still_passes w.done n) c k (λ y s v e. e)
+do_parts ring plan w n (Some (Drop s x)) i c k = around ring plan w (with_number w.done n) w.is_open w.marked w.up (without_puts w.stored x s) i (still_passes w.done n) c k (λ y t v e. without_puts_was w.stored x s y t v e)
+do_parts ring plan w n (Some (Retire x)) i c k = around ring plan w (with_number w.done n) w.is_open w.marked w.up w.stored i (still_passes w.done n) c k (λ y s v e. e)
 
 -- ---- a chunk
 
@@ -90,10 +98,11 @@ get_exists k [] g e = absurd cc
 get_exists k (x ∷ gs) zero e = omega arith
 get_exists k (x ∷ gs) (suc g) e = (let l = get_exists k gs g e in omega arith)
 
-put_parts : (ring : RingValue) (plan : List Planned) (w : World) (p : PutRecord) → Parts ring plan w → list_all (is_get_of w p.key) p.seen ≡ true → list_all (has_ended w) p.seen ≡ true → Parts ring plan (record w { puts = w.puts ++ p ∷ [] })
-put_parts ring plan w p i of ended = record {
+put_parts : (ring : RingValue) (plan : List Planned) (w : World) (p : PutRecord) → ((j : ℕ) → p.ticket j ≡ None) → Parts ring plan w → list_all (is_get_of w p.key) p.seen ≡ true → list_all (has_ended w) p.seen ≡ true → Parts ring plan (record w { puts = w.puts ++ p ∷ [] })
+put_parts ring plan w p none i of ended = record {
   closed = i.closed;
   copies = i.copies;
+  tickets = λ v j g e. (let r = new_put_ticket w.puts p v j g (none j) e in ticket_stays ring plan w u v j g (grows.key v r.0) (λ k d. d) (i.tickets v j g r.1));
   store = record { stored = λ x s v e. put_stays ring w u s v grows (i.store.stored x s v e); hinted = λ x s v e. put_stays ring w u s v grows (i.store.hinted x s v e) };
   gets = gets_kept w u grows refl named i.gets;
 }
@@ -114,11 +123,13 @@ put_parts ring plan w p i of ended = record {
     ]
 
 -- a put is changed, and what is stored and kept are puts of the slot's partition
-changed_parts : (ring : RingValue) (plan : List Planned) (w : World) (n : ℕ) (f : PutRecord → PutRecord) (b h : ℕ → Slot → ℕ → Bool) → ((x : PutRecord) → (f x).key ≡ x.key) → ((x : PutRecord) → (f x).seen ≡ x.seen) → Parts ring plan w
+changed_parts : (ring : RingValue) (plan : List Planned) (w : World) (n : ℕ) (f : PutRecord → PutRecord) (b h : ℕ → Slot → ℕ → Bool) → ((x : PutRecord) → (f x).key ≡ x.key) → ((x : PutRecord) → (f x).seen ≡ x.seen)
+    → ((v j g : ℕ) → read_at (λ (x : PutRecord). x.ticket j) None (changed w.puts n f) v ≡ Some g → (ticket_of w v j ≡ Some g) ⊎ TicketFits ring plan w v j g) → Parts ring plan w
     → ((x : ℕ) (s : Slot) (v : ℕ) → b x s v ≡ true → IsPutOf ring w s v) → ((x : ℕ) (s : Slot) (v : ℕ) → h x s v ≡ true → IsPutOf ring w s v) → Parts ring plan (record w { puts = changed w.puts n f; stored = b; hinted = h })
-changed_parts ring plan w n f b h key seen i stored hinted = record {
+changed_parts ring plan w n f b h key seen tickets i stored hinted = record {
   closed = i.closed;
   copies = i.copies;
+  tickets = λ v j g e. ticket_stays ring plan w u v j g (part_changed (λ (x : PutRecord). x.key) [] w.puts n f key v) (λ k d. d) (elim (tickets v j g e) [ inl t ↦ i.tickets v j g t | inr t ↦ t ]);
   store = record { stored = λ x s v e. put_stays ring w u s v grows (stored x s v e); hinted = λ x s v e. put_stays ring w u s v grows (hinted x s v e) };
   gets = gets_kept w u grows refl (λ p g e. inl (subst (λ (gs : List ℕ). has g gs ≡ true) (part_changed (λ (x : PutRecord). x.seen) [] w.puts n f seen p) e)) i.gets;
 }
@@ -151,6 +162,7 @@ start_get_parts : (ring : RingValue) (plan : List Planned) (w : World) (a : GetR
 start_get_parts ring plan w a found reply i = record {
   closed = i.closed;
   copies = i.copies;
+  tickets = i.tickets;
   store = record { stored = i.store.stored; hinted = i.store.hinted };
   gets = gets_grow w (record w { gets = w.gets ++ a ∷ [] }) (one_get w a) refl (λ g k v e. inl (new_get_found w.gets a g k v found e)) (λ g v e. inl (new_get_replied w.gets a g v reply e)) i.gets;
 }
@@ -180,6 +192,7 @@ read_parts : (ring : RingValue) (plan : List Planned) (w : World) (g j : ℕ) �
 read_parts ring plan w g j l i = record {
   closed = i.closed;
   copies = i.copies;
+  tickets = i.tickets;
   store = record { stored = i.store.stored; hinted = i.store.hinted };
   gets = gets_grow w u grows refl found (λ h v e. inl (replied_before h v e)) i.gets;
 }
@@ -210,6 +223,7 @@ end_get_parts : (ring : RingValue) (plan : List Planned) (w : World) (g : ℕ) �
 end_get_parts ring plan w g l i = record {
   closed = i.closed;
   copies = i.copies;
+  tickets = i.tickets;
   store = record { stored = i.store.stored; hinted = i.store.hinted };
   gets = gets_grow w u grows refl (λ h k v e. inl (found_before h k v e)) replies i.gets;
 }
@@ -242,38 +256,41 @@ unfolding guards effect
 event_parts ring plan w i (Do n) g =
     do_parts ring plan w n (step_at plan n) i (closed_with plan w.done n i.closed (ready plan w n g.1.1.0)) (do_copies plan w.done w.is_open w.marked n i.copies (other_is_no_copy plan n g.0))
 event_parts ring plan w i (OpenCopy n) g =
-    around ring plan w w.done (with_number w.is_open n) w.marked w.up w.stored i i.closed
+    around ring plan w w.done (with_number w.is_open n) w.marked w.up w.stored i (λ k e. e) i.closed
     (open_copies_fit plan w.done w.is_open w.marked n i.copies g.0 (ready plan w n g.1.1.0) (neither (w.done n) (w.is_open n) (not_is (w.done n || w.is_open n) g.1.0))) (λ x s v e. e)
 event_parts ring plan w i (ChunkCopy n c) g = record {
   closed = i.closed;
   copies = chunk_copies plan w.done w.is_open w.marked n c i.copies g.1.0 (ltb-true c 16 (both_true (has_copy plan n) (nat_lt c 16) g.0).1);
+  tickets = i.tickets;
   store = record { stored = λ x s v e. copied_is ring plan w n c (copy_at plan n) i.store x s v e; hinted = i.store.hinted };
   gets = record { found = i.gets.found; replied = i.gets.replied; seen = i.gets.seen };
 }
 event_parts ring plan w i (CloseCopy n) g =
-    around ring plan w (with_number w.done n) (without_number w.is_open n) w.marked w.up w.stored i (closed_with plan w.done n i.closed (i.copies.ready n g.1.0))
+    around ring plan w (with_number w.done n) (without_number w.is_open n) w.marked w.up w.stored i (still_passes w.done n) (closed_with plan w.done n i.closed (i.copies.ready n g.1.0))
     (close_copies plan w.done w.is_open w.marked n i.copies (none_left 16 (w.marked n) g.1.1.0)) (λ x s v e. e)
 event_parts ring plan w i (AbortCopy n) g =
-    around ring plan w w.done (without_number w.is_open n) w.marked w.up w.stored i i.closed (abort_copies plan w.done w.is_open w.marked n i.copies) (λ x s v e. e)
+    around ring plan w w.done (without_number w.is_open n) w.marked w.up w.stored i (λ k e. e) i.closed (abort_copies plan w.done w.is_open w.marked n i.copies) (λ x s v e. e)
 event_parts ring plan w i (StartPut writer key value seen) g =
-    put_parts ring plan w (record { writer = writer.0; key = key; value = value; seen = seen; ticket = λ j. None; acked = false }) i g.0 g.1.0
+    put_parts ring plan w (record { writer = writer.0; key = key; value = value; seen = seen; ticket = λ j. None; acked = false }) (λ j. refl) i g.0 g.1.0
 event_parts ring plan w i (Write v j) g =
     let l = ltb-true v (length w.puts) (both_true (nat_lt v (length w.puts)) (nat_lt j ring.n) g.0).0 in
-    changed_parts ring plan w v (ticketed ring plan w v j) (served_puts ring plan w (put_slot ring w v j) (λ u. u == v)) w.hinted (λ x. refl) (λ x. refl) i
+    changed_parts ring plan w v (ticketed ring plan w v j) (served_puts ring plan w (put_slot ring w v j) (λ u. u == v)) w.hinted (λ x. refl) (λ x. refl) (ticketed_fits ring plan w v j (ltb-true j ring.n (both_true (nat_lt v (length w.puts)) (nat_lt j ring.n) g.0).1)) i
     (served_fit ring plan w (put_slot ring w v j) (λ u. u == v) i.store (only ring w v j l)) i.store.hinted
 event_parts ring plan w i (Hint v j x) g =
     let l = ltb-true v (length w.puts) (both_true (nat_lt v (length w.puts)) (nat_lt j ring.n) g.0).0 in
-    changed_parts ring plan w v (ticketed ring plan w v j) w.stored (with_puts w.hinted x (put_slot ring w v j) (λ u. u == v)) (λ x. refl) (λ x. refl) i
+    changed_parts ring plan w v (ticketed ring plan w v j) w.stored (with_puts w.hinted x (put_slot ring w v j) (λ u. u == v)) (λ x. refl) (λ x. refl) (ticketed_fits ring plan w v j (ltb-true j ring.n (both_true (nat_lt v (length w.puts)) (nat_lt j ring.n) g.0).1)) i
     i.store.stored (kept_fit ring w x (put_slot ring w v j) (λ u. u == v) i.store (only ring w v j l))
-event_parts ring plan w i (Ack v) g = changed_parts ring plan w v (λ x. record x { acked = true }) w.stored w.hinted (λ x. refl) (λ x. refl) i i.store.stored i.store.hinted
+event_parts ring plan w i (Ack v) g = changed_parts ring plan w v (λ x. record x { acked = true }) w.stored w.hinted (λ x. refl) (λ x. refl)
+    (λ u j h e. inl (sym (part_changed (λ (x : PutRecord). x.ticket j) None w.puts v (λ x. record x { acked = true }) (λ x. refl) u) ∙ e)) i i.store.stored i.store.hinted
 event_parts ring plan w i (StartGet key) g = start_get_parts ring plan w (record { key = key; found = λ j. None; reply = None }) (λ j. refl) refl i
 event_parts ring plan w i (Read h j) g = read_parts ring plan w h j (ltb-true h (length w.gets) (both_true (nat_lt h (length w.gets)) (nat_lt j ring.n) g.0).0) i
 event_parts ring plan w i (EndGet h) g = end_get_parts ring plan w h (ltb-true h (length w.gets) g.0) i
-event_parts ring plan w i (Down x) g = around ring plan w w.done w.is_open w.marked (without_number w.up x.0) w.stored i i.closed i.copies (λ y s v e. e)
-event_parts ring plan w i (Up x) g = around ring plan w w.done w.is_open w.marked (with_number w.up x.0) w.stored i i.closed i.copies (λ y s v e. e)
+event_parts ring plan w i (Down x) g = around ring plan w w.done w.is_open w.marked (without_number w.up x.0) w.stored i (λ k e. e) i.closed i.copies (λ y s v e. e)
+event_parts ring plan w i (Up x) g = around ring plan w w.done w.is_open w.marked (with_number w.up x.0) w.stored i (λ k e. e) i.closed i.copies (λ y s v e. e)
 event_parts ring plan w i (Handoff x s) g = record {
   closed = i.closed;
   copies = i.copies;
+  tickets = i.tickets;
   store = record {
     stored = served_fit ring plan w s (w.hinted x.0 s) i.store (λ v e. i.store.hinted x.0 s v e);
     hinted = λ y t v e. i.store.hinted y t v (without_puts_was w.hinted x s y t v e);
@@ -283,9 +300,9 @@ event_parts ring plan w i (Handoff x s) g = record {
 
 pub event_reached : (ring : RingValue) (plan : List Planned) (w : World) → Reached ring plan w → (e : Event) → AllMet (guards ring plan w e) → Reached ring plan (effect ring plan w e)
 event_reached ring plan w r e g =
-    let i : Parts ring plan w = record { closed = r.closed; copies = r.copies; store = record { stored = r.stored; hinted = r.hinted }; gets = record { found = r.found; replied = r.replied; seen = r.seen } } in
+    let i : Parts ring plan w = record { closed = r.closed; copies = r.copies; tickets = r.tickets; store = record { stored = r.stored; hinted = r.hinted }; gets = record { found = r.found; replied = r.replied; seen = r.seen } } in
     let j = event_parts ring plan w i e g in
-    record { closed = j.closed; copies = j.copies; stored = j.store.stored; hinted = j.store.hinted; found = j.gets.found; replied = j.gets.replied; seen = j.gets.seen }
+    record { closed = j.closed; copies = j.copies; tickets = j.tickets; stored = j.store.stored; hinted = j.store.hinted; found = j.gets.found; replied = j.gets.replied; seen = j.gets.seen }
 
 -- ---- a run
 
@@ -293,6 +310,7 @@ pub start_reached : (ring : RingValue) (plan : List Planned) → Reached ring pl
 start_reached ring plan = record {
   closed = λ a n e d. absurd cc;
   copies = record { copies = λ n e. absurd cc; ready = λ n e. absurd cc; unfinished = λ n e. refl; marks = λ n c e. absurd cc; copied = λ n c h e l. absurd cc };
+  tickets = λ v i g e. absurd cc;
   stored = λ x s v e. absurd cc;
   hinted = λ x s v e. absurd cc;
   found = λ g i v e. absurd cc;

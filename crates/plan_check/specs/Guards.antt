@@ -19,8 +19,8 @@ use Rattle.plan_stage.specs.Clauses.{Guard}
 use Rattle.plan_check.specs.declared.event.Event.{Event}
 use Rattle.plan_check.specs.declared.event.Event.TheVariants.{Do, OpenCopy, ChunkCopy, CloseCopy, AbortCopy, StartPut, Write, Hint}
 use Rattle.plan_check.specs.declared.event.Event.TheVariants.{Ack, StartGet, Read, EndGet, Down, Up, Handoff}
-use Rattle.plan_check.specs.World.{World, some_below, passing_below, is_acked, key_of_get, found_at, reply_of, is_get_of, is_of_key}
-use Rattle.plan_check.specs.World.{copy_at, stage_now, generation, is_member_now, slot_of, keeps, keeps_other, keeps_any, is_served}
+use Rattle.plan_check.specs.World.{World, some_below, passing_below, is_acked, ticket_of, key_of_get, found_at, reply_of, is_get_of, is_of_key}
+use Rattle.plan_check.specs.World.{copy_at, stage_now, generation, is_member_now, keeps, keeps_other, keeps_any, is_served}
 use Rattle.plan_check.specs.Versions.{put_slot, get_slot, is_in_chunk}
 
 -- ---- nodes that must be up
@@ -128,10 +128,7 @@ serves_in ring plan w p x = some_below ring.n (λ i. is_served (stage_now ring p
 
 -- the put's ticket for the slot of that index is of the slot's present generation
 abbrev pub is_current : RingValue → List Planned → World → ℕ → ℕ → Bool
-is_current ring plan w v i = elim (slice_get w.puts v) [
-  | Some x ↦ elim (x.ticket i) [ Some g ↦ g == generation plan w (slot_of ring x.key i) | None ↦ false ]
-  | None ↦ false
-]
+is_current ring plan w v i = elim (ticket_of w v i) [ Some g ↦ g == generation plan w (put_slot ring w v i) | None ↦ false ]
 
 -- how many of the put's tickets are current
 abbrev pub current_tickets : RingValue → List Planned → World → ℕ → ℕ

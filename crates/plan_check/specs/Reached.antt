@@ -1,11 +1,11 @@
 -- What holds of every world to which a run leads, whatever the plan.
-use Rattle.std.specs.Prelude.{◌≡◌, ℕ, ◌<◌, Bool, true, false, List, length}
+use Rattle.std.specs.Prelude.{◌≡◌, ℕ, ◌<◌, ◌≤◌, Bool, true, false, List, length, Some}
 use Rattle.ring_names.specs.Lists.{has}
 use Rattle.ring_names.specs.declared.ids.Slot.{Slot}
 use Rattle.ring_table.specs.Value.{RingValue}
 use Rattle.plan_text.specs.declared.step.Planned.{Planned}
 use Rattle.plan_text.specs.Steps.{depends}
-use Rattle.plan_check.specs.World.{World, key_of_put, key_of_get, seen_of, is_get_of, is_of_key}
+use Rattle.plan_check.specs.World.{World, generation, ticket_of, key_of_put, key_of_get, seen_of, is_get_of, is_of_key}
 use Rattle.plan_check.specs.Succession.{replied}
 use Rattle.plan_check.specs.Versions.{put_slot}
 use Rattle.plan_check.specs.Guards.{has_copy, has_ended}
@@ -46,6 +46,8 @@ IsGetForPut w u g = (g < length w.gets) × (is_get_of w (key_of_put w u) g ≡ t
 pub record Reached (ring : RingValue) (plan : List Planned) (w : World) : Type 0 where
   pub closed : Closed plan w.done
   pub copies : CopiesFit plan w.done w.is_open w.marked
+  -- a put's ticket is for a slot by index, and of the slot's present generation or an earlier one
+  pub tickets : (v i g : ℕ) → ticket_of w v i ≡ Some g → (i < ring.n) × (g ≤ generation plan w (put_slot ring w v i))
   -- what nodes store and keep for slots
   pub stored : (x : ℕ) (slot : Slot) (v : ℕ) → w.stored x slot v ≡ true → IsPutOf ring w slot v
   pub hinted : (x : ℕ) (slot : Slot) (v : ℕ) → w.hinted x slot v ≡ true → IsPutOf ring w slot v

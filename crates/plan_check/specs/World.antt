@@ -92,6 +92,10 @@ seen_of w v = elim (slice_get w.puts v) [ Some x ↦ x.seen | None ↦ [] ]
 abbrev pub is_acked : World → ℕ → Bool
 is_acked w v = elim (slice_get w.puts v) [ Some x ↦ x.acked | None ↦ false ]
 
+-- the generation at which the put was last written or hinted for the slot of that index, if it was
+abbrev pub ticket_of : World → ℕ → ℕ → Option ℕ
+ticket_of w v i = elim (slice_get w.puts v) [ Some x ↦ x.ticket i | None ↦ None ]
+
 -- the get's key
 abbrev pub key_of_get : World → ℕ → List ℕ
 key_of_get w g = elim (slice_get w.gets g) [ Some x ↦ x.key | None ↦ [] ]
