@@ -1,113 +1,96 @@
 -- In every run of a sound plan no two slots of a partition share a node.
-use Rattle.std.proofs.Common.{◌≡◌, inl, inr, ◌∙◌, ℕ, zero, suc, ◌<◌, Bool, true, false, not, List, [], ◌∷◌, length, map, get_or, refl, sym, ap, subst, arith, length-append, ltb-true, eq-eqb}
-use Rattle.std.specs.Prelude.{◌&&◌, ◌==◌, nat_lt, Option, Some, None, Result, Ok, Err, slice_get, option_and_then, unwrap_or}
+use Rattle.std.proofs.Common.{◌≡◌, inl, inr, ◌∙◌, ℕ, zero, suc, ◌<◌, true, false, not, List, [], ◌∷◌, length, map, get_or, refl, sym, ap, subst, arith, eq-eqb}
+use Rattle.std.specs.Prelude.{◌==◌, Option, Some, None, slice_get, is_some, option_and_then, unwrap_or}
 use Rattle.std.specs.List.{AllByRecursion}
 use Rattle.std.proofs.lemmas.Option.{slice_get-get_or}
 use Rattle.ring_names.specs.Lists.{has, all_different}
 use Rattle.ring_names.specs.declared.ids.NodeId.{NodeId}
 use Rattle.ring_names.specs.declared.ids.Slot.{Slot}
-use Rattle.ring_names.specs.declared.refusal.Refusal.{Refusal}
 use Rattle.ring_table.specs.Value.{RingValue, owner_of}
 use Rattle.ring_table.specs.Valid.{IsRing, IsRow}
 use Rattle.ring_text.proofs.Fronts.{both_true}
 use Rattle.plan_text.specs.declared.step.Step.{Step}
 use Rattle.plan_text.specs.declared.step.Step.TheVariants.{Join, Mirror, Copy, Switch, Drop, Retire}
 use Rattle.plan_text.specs.declared.step.Planned.{Planned}
-use Rattle.plan_text.specs.Steps.{steps_of}
+use Rattle.plan_text.specs.Steps.{steps_of, copy_of}
 use Rattle.plan_stage.specs.Stage.{opening, stage}
-use Rattle.plan_stage.specs.Clauses.{first_failing}
 use Rattle.plan_check.specs.declared.event.Event.{Event}
 use Rattle.plan_check.specs.declared.event.Event.TheVariants.{Do, OpenCopy, ChunkCopy, CloseCopy, AbortCopy, StartPut, Write, Hint, Ack, StartGet, Read, EndGet, Down, Up, Handoff}
-use Rattle.plan_check.specs.declared.event.Reply.{Reply}
-use Rattle.plan_check.specs.World.{PutRecord, World, opening_world, count, keeps_other}
-use Rattle.plan_check.specs.Events.{is_copy, put_slot, serves, do_guards, guards, effect, reply_to, with_number, without_number, with_ticket, served_puts, without_puts, done_step, changed}
+use Rattle.plan_check.specs.World.{World, opening_world, count, keeps_other}
+use Rattle.plan_check.specs.Versions.{put_slot}
+use Rattle.plan_check.specs.Guards.{serves_in, step_guards, guards}
+use Rattle.plan_check.specs.Effects.{with_number, without_number, without_puts, changed, step_effect, served_puts, with_ticket, effect}
 use Rattle.plan_stage.specs.Each.{step_at}
-use Rattle.plan_check.specs.Runs.{Entry, Leads}
-use Rattle.plan_check.specs.Headline.{AreApartAlways, AreFinishedFirst}
-use Rattle.plan_check.proofs.Prefix.{order, passed, prefix}
+use Rattle.plan_check.specs.declared.event.Entry.{Entry}
+use Rattle.plan_check.specs.Runs.{Leads}
+use Rattle.plan_check.specs.Safe.{AreApart}
+use Rattle.plan_check.specs.Headline.{Always, AreFinishedFirst}
+use Rattle.plan_check.proofs.Prefix.{order, prefix}
 use Rattle.plan_check.proofs.Groups.{Served, InGroup, in_group}
-use Rattle.plan_check.proofs.Mirrored.{Known, Ready, down}
-use Rattle.plan_check.proofs.Events.{Apart, Inv, AllMet, all_met, ready, MayMirror, done_inv, less_inv, hint_inv, length_changed}
+use Rattle.plan_check.proofs.Mirrored.{Known, down}
+use Rattle.plan_check.specs.Reached.{Ready}
+use Rattle.plan_check.proofs.Answered.{answered}
+use Rattle.plan_check.proofs.Passed.{AllMet, all_met, ready}
+use Rattle.plan_check.proofs.Storing.{without_puts_was}
+use Rattle.plan_check.proofs.Reached.{event_reached, start_reached}
+use Rattle.plan_check.proofs.Entering.{Apart, Inv, MayMirror, done_apart, less_apart, hint_apart}
 use Rattle.plan_stage.proofs.Truth.{second_of_two, not_is}
 
 -- ---- steps
 
-may_do : (ring : RingValue) (w : World) (m : Option Step) (s : Slot) (x : NodeId) → m ≡ Some (Mirror s x) → AllMet (elim m [ Some t ↦ do_guards ring w t | None ↦ [] ]) → keeps_other ring w x.0 s ≡ false
+may_do : (ring : RingValue) (w : World) (m : Option Step) (s : Slot) (x : NodeId) → m ≡ Some (Mirror s x) → AllMet (elim m [ Some t ↦ step_guards ring w t | None ↦ [] ]) → keeps_other ring w x.0 s ≡ false
 may_do ring w m s x e g =
-    let h : AllMet (do_guards ring w (Mirror s x)) = subst (λ (o : Option Step). AllMet (elim o [ Some t ↦ do_guards ring w t | None ↦ [] ])) e g in
+    let h : AllMet (step_guards ring w (Mirror s x)) = subst (λ (o : Option Step). AllMet (elim o [ Some t ↦ step_guards ring w t | None ↦ [] ])) e g in
     not_is (keeps_other ring w x.0 s) h.1.0
 
-do_inv : (ring : RingValue) (plan : List Planned) → Known ring plan → (w : World) (n : ℕ) (m : Option Step) → Inv ring plan w → Ready plan w.done n → MayMirror ring plan w n
-    → Inv ring plan (elim m [ Some s ↦ done_step (record w { done = with_number w.done n }) s | None ↦ w ])
-do_inv ring plan k w n None i y may = i
-do_inv ring plan k w n (Some (Join x)) i y may = done_inv ring plan k w n w.is_open (with_number w.up x.0) w.stored i y may (λ m e. e)
-do_inv ring plan k w n (Some (Mirror s x)) i y may = done_inv ring plan k w n w.is_open w.up w.stored i y may (λ m e. e)
-do_inv ring plan k w n (Some (Copy s from)) i y may = done_inv ring plan k w n w.is_open w.up w.stored i y may (λ m e. e)
-do_inv ring plan k w n (Some (Switch s)) i y may = done_inv ring plan k w n w.is_open w.up w.stored i y may (λ m e. e)
-do_inv ring plan k w n (Some (Drop s x)) i y may = done_inv ring plan k w n w.is_open w.up (without_puts w.stored x s) i y may (λ m e. e)
-do_inv ring plan k w n (Some (Retire x)) i y may = done_inv ring plan k w n w.is_open w.up w.stored i y may (λ m e. e)
+do_apart : (ring : RingValue) (plan : List Planned) → Known ring plan → (w : World) (n : ℕ) (m : Option Step) → Inv ring plan w → Ready plan w.done n → MayMirror ring plan w n
+    → Apart ring plan (elim m [ Some s ↦ step_effect (record w { done = with_number w.done n }) s | None ↦ w ])
+do_apart ring plan k w n None i y may = i.apart
+do_apart ring plan k w n (Some (Join x)) i y may = done_apart ring plan k w n w.is_open (with_number w.up x.0) w.stored i y may
+do_apart ring plan k w n (Some (Mirror s x)) i y may = done_apart ring plan k w n w.is_open w.up w.stored i y may
+do_apart ring plan k w n (Some (Copy s from)) i y may = done_apart ring plan k w n w.is_open w.up w.stored i y may
+do_apart ring plan k w n (Some (Switch s)) i y may = done_apart ring plan k w n w.is_open w.up w.stored i y may
+do_apart ring plan k w n (Some (Drop s x)) i y may = done_apart ring plan k w n w.is_open w.up (without_puts w.stored x s) i y may
+do_apart ring plan k w n (Some (Retire x)) i y may = done_apart ring plan k w n w.is_open w.up w.stored i y may
 
-no_mirror : (m : Option Step) (s : Slot) (x : NodeId) → (elim m [ Some t ↦ is_copy t | None ↦ false ]) ≡ true → m ≡ Some (Mirror s x) → ⊥
+no_mirror : (m : Option Step) (s : Slot) (x : NodeId) → is_some (option_and_then copy_of m) ≡ true → m ≡ Some (Mirror s x) → ⊥
 no_mirror m s x c e =
-    let h : is_copy (Mirror s x) ≡ true = subst (λ (o : Option Step). (elim o [ Some t ↦ is_copy t | None ↦ false ]) ≡ true) e c in
+    let h : is_some (copy_of (Mirror s x)) ≡ true = subst (λ (o : Option Step). is_some (option_and_then copy_of o) ≡ true) e c in
     absurd cc
-
-pub without_was : (D : ℕ → Bool) (n m : ℕ) → without_number D n m ≡ true → D m ≡ true
-without_was D n m e = (both_true (not (m == n)) (D m) e).1
 
 -- ---- one event
 
-event_inv : (ring : RingValue) (plan : List Planned) → Known ring plan → (w : World) → Inv ring plan w → (e : Event) → AllMet (guards ring plan w e) → Inv ring plan (effect ring plan w e)
-event_inv ring plan k w i (Do n) g =
-    do_inv ring plan k w n (step_at plan n) i (ready plan w n g.1.1.0) (λ s x at. (not_is (w.done n) g.1.0, may_do ring w (step_at plan n) s x at g.1.1.1))
-event_inv ring plan k w i (OpenCopy n) g = record {
-  closed = i.closed;
-  opened = λ m e. elim (passed w.is_open n m e) [
-    | inl f ↦ subst (λ (z : ℕ). Ready plan w.done z) (sym f) (ready plan w n g.1.1.0)
-    | inr f ↦ i.opened m f
-  ];
-  fresh = i.fresh;
-  apart = i.apart;
-}
-event_inv ring plan k w i (ChunkCopy n c) g = record { closed = i.closed; opened = i.opened; fresh = i.fresh; apart = i.apart }
-event_inv ring plan k w i (CloseCopy n) g =
-    done_inv ring plan k w n (without_number w.is_open n) w.up w.stored i (i.opened n g.1.0) (λ s x at. absurd (no_mirror (step_at plan n) s x g.0 at)) (without_was w.is_open n)
-event_inv ring plan k w i (AbortCopy n) g = record {
-  closed = i.closed;
-  opened = λ m e. i.opened m (without_was w.is_open n m e);
-  fresh = i.fresh;
-  apart = i.apart;
-}
-event_inv ring plan k w i (StartPut writer key value seen) g =
-    let p : PutRecord = record { writer = writer.0; key = key; value = value; seen = seen; ticket = λ (j : ℕ). None; acked = false } in
-    less_inv ring plan w _ w.stored w.hinted i (let l = length-append w.puts (p ∷ []) in omega arith) (λ x s v e. e)
-event_inv ring plan k w i (Write v j) g =
-    less_inv ring plan w (with_ticket ring plan w v j) (served_puts ring plan w (put_slot ring w v j) (λ u. u == v)) w.hinted i (let l : length (with_ticket ring plan w v j) ≡ length w.puts = length_changed w.puts v _ in omega arith) (λ x s u e. e)
-event_inv ring plan k w i (Hint v j x) g =
-    let e = both_true (nat_lt v (length w.puts)) (nat_lt j ring.n) g.0 in
-    hint_inv ring plan w v (put_slot ring w v j) x (with_ticket ring plan w v j) i (ltb-true v (length w.puts) e.0) (length_changed w.puts v _) (not_is (serves ring plan w (put_slot ring w v j).partition x.0) g.1.1.1.0) (not_is (keeps_other ring w x.0 (put_slot ring w v j)) g.1.1.1.1.0)
-event_inv ring plan k w i (Ack v) g =
-    less_inv ring plan w (changed w.puts v (λ x. record x { acked = true })) w.stored w.hinted i (let l : length (changed w.puts v (λ x. record x { acked = true })) ≡ length w.puts = length_changed w.puts v _ in omega arith) (λ x s u e. e)
-event_inv ring plan k w i (StartGet key) g = record { closed = i.closed; opened = i.opened; fresh = i.fresh; apart = i.apart }
-event_inv ring plan k w i (Read h j) g = record { closed = i.closed; opened = i.opened; fresh = i.fresh; apart = i.apart }
-event_inv ring plan k w i (EndGet h) g = record { closed = i.closed; opened = i.opened; fresh = i.fresh; apart = i.apart }
-event_inv ring plan k w i (Down x) g = record { closed = i.closed; opened = i.opened; fresh = i.fresh; apart = i.apart }
-event_inv ring plan k w i (Up x) g = record { closed = i.closed; opened = i.opened; fresh = i.fresh; apart = i.apart }
-event_inv ring plan k w i (Handoff x s) g =
-    less_inv ring plan w w.puts (served_puts ring plan w s (w.hinted x.0 s)) (without_puts w.hinted x s) i (omega arith) (λ y t u e. (both_true (not ((y == x.0) && _)) (w.hinted y t u) e).1)
+event_apart : (ring : RingValue) (plan : List Planned) → Known ring plan → (w : World) → Inv ring plan w → (e : Event) → AllMet (guards ring plan w e) → Apart ring plan (effect ring plan w e)
+unfolding guards effect
+event_apart ring plan k w i (Do n) g =
+    do_apart ring plan k w n (step_at plan n) i (ready plan w n g.1.1.0) (λ s x at. (not_is (w.done n) g.1.0, may_do ring w (step_at plan n) s x at g.1.1.1))
+event_apart ring plan k w i (OpenCopy n) g = i.apart
+event_apart ring plan k w i (ChunkCopy n c) g = i.apart
+event_apart ring plan k w i (CloseCopy n) g =
+    done_apart ring plan k w n (without_number w.is_open n) w.up w.stored i (i.reached.copies.ready n g.1.0) (λ s x at. absurd (no_mirror (step_at plan n) s x g.0 at))
+event_apart ring plan k w i (AbortCopy n) g = i.apart
+event_apart ring plan k w i (StartPut writer key value seen) g = less_apart ring plan w _ w.stored w.hinted i (λ x s v e. e)
+event_apart ring plan k w i (Write v j) g = less_apart ring plan w (with_ticket ring plan w v j) (served_puts ring plan w (put_slot ring w v j) (λ u. u == v)) w.hinted i (λ x s u e. e)
+event_apart ring plan k w i (Hint v j x) g =
+    hint_apart ring plan w v (put_slot ring w v j) x (with_ticket ring plan w v j) i (not_is (serves_in ring plan w (put_slot ring w v j).partition x.0) g.1.1.1.0) (not_is (keeps_other ring w x.0 (put_slot ring w v j)) g.1.1.1.1.0)
+event_apart ring plan k w i (Ack v) g = less_apart ring plan w (changed w.puts v (λ x. record x { acked = true })) w.stored w.hinted i (λ x s u e. e)
+event_apart ring plan k w i (StartGet key) g = i.apart
+event_apart ring plan k w i (Read h j) g = i.apart
+event_apart ring plan k w i (EndGet h) g = i.apart
+event_apart ring plan k w i (Down x) g = i.apart
+event_apart ring plan k w i (Up x) g = i.apart
+event_apart ring plan k w i (Handoff x s) g =
+    less_apart ring plan w w.puts (served_puts ring plan w s (w.hinted x.0 s)) (without_puts w.hinted x s) i (λ y t u e. without_puts_was w.hinted x s y t u e)
 
 -- ---- a run
-
-pub answered : (o : Option Refusal) (v u : World) (s r : Reply) → ◌≡◌ {A = Result (World × Reply) Refusal} (elim o [ Some f ↦ Err f | None ↦ Ok (v, s) ]) (Ok (u, r)) → (o ≡ None) × (v ≡ u)
-answered (Some f) v u s r e = absurd cc
-answered None v u s r e = (refl, (let p : (v, s) ≡ (u, r) = cc in ap (λ (q : World × Reply). q.0) p))
 
 pub run_inv : (ring : RingValue) (plan : List Planned) → Known ring plan → (run : List Entry) (w v : World) → Inv ring plan w → Leads ring plan w run v → Inv ring plan v
 run_inv ring plan k [] w v i l = subst (λ (u : World). Inv ring plan u) (sym l) i
 run_inv ring plan k (x ∷ xs) w v i l =
-    let a = answered (first_failing (guards ring plan w x.0)) (effect ring plan w x.0) l.0 (reply_to ring plan w x.0) x.1 l.1 in
-    let j : Inv ring plan l.0 = subst (λ (u : World). Inv ring plan u) a.1 (event_inv ring plan k w i x.0 (all_met (guards ring plan w x.0) a.0)) in
-    run_inv ring plan k xs l.0 v j l.2
+    let a = answered ring plan w l.0 x.event x.reply l.1 in
+    let g = all_met (guards ring plan w x.event) a.0 in
+    let n : Inv ring plan (effect ring plan w x.event) = record { reached = event_reached ring plan w i.reached x.event g; apart = event_apart ring plan k w i x.event g } in
+    run_inv ring plan k xs l.0 v (subst (λ (u : World). Inv ring plan u) a.1 n) l.2
 
 -- ---- the start
 
@@ -171,22 +154,17 @@ start_apart ring plan r p i j x l m n ne g h =
         at ∙ ap (λ (v : ℕ). Some (record { 0 = v })) (sym s)
 
 pub start_inv : (ring : RingValue) (plan : List Planned) → IsRing ring → Inv ring plan (opening_world ring)
-start_inv ring plan r = record {
-  closed = λ a n e d. absurd cc;
-  opened = λ n e a d. absurd cc;
-  fresh = λ x s v e. absurd cc;
-  apart = start_apart ring plan r;
-}
+start_inv ring plan r = record { reached = start_reached ring plan; apart = start_apart ring plan r }
 
-pub apart_always : (ring : RingValue) (plan : List Planned) → Known ring plan → AreApartAlways ring plan
+pub apart_always : (ring : RingValue) (plan : List Planned) → Known ring plan → Always ring plan (AreApart ring plan)
 apart_always ring plan k run w is p i j x l m n ne g h =
     let v = run_inv ring plan k run (opening_world ring) w (start_inv ring plan k.is_ring) is in
     v.apart p i j x l m n ne (in_group ring plan w (record { partition = p; index = i }) x g) (in_group ring plan w (record { partition = p; index = j }) x h)
 
-pub finished_first : (ring : RingValue) (plan : List Planned) → Known ring plan → AreFinishedFirst ring plan
+pub finished_first : (ring : RingValue) (plan : List Planned) → Known ring plan → Always ring plan (AreFinishedFirst plan)
 finished_first ring plan k run w is slot i l =
     let v = run_inv ring plan k run (opening_world ring) w (start_inv ring plan k.is_ring) is in
-    let p = prefix w.done (steps_of plan slot) (down ring plan k w.done v.closed slot) in (
+    let p = prefix w.done (steps_of plan slot) (down ring plan k w.done v.reached.closed slot) in (
       λ d. elim (order i (count w.done (steps_of plan slot))) [
         | inl h ↦ h
         | inr h ↦ absurd (let off = p.above i h l in cc)

@@ -1,5 +1,5 @@
 -- What a certificate proves in order is before.
-use Rattle.std.proofs.Common.{◌≡◌, inl, inr, ℕ, true, List, [], ◌∷◌, Option, Some, None}
+use Rattle.std.proofs.Common.{◌≡◌, inl, inr, ℕ, Bool, true, List, [], ◌∷◌, Option, Some, None}
 use Rattle.std.specs.List.{list_all}
 use Rattle.ring_text.proofs.Fronts.{both_true}
 use Rattle.ring_table.specs.Value.{RingValue}
@@ -10,7 +10,7 @@ use Rattle.plan_order.specs.Paths.{is_path}
 use Rattle.plan_order.specs.Facts.{leads, some_leads}
 use Rattle.plan_order.proofs.Reaching.{path_before}
 use Rattle.plan_cert.specs.declared.cert.Cert.{Cert}
-use Rattle.plan_check.specs.Sound.{Order, EndsBefore, IsChain, AreChains, Meets, Sound}
+use Rattle.plan_check.specs.Sound.{Order, EndsBefore, IsChain, AreChains, Covers, is_party_of, Meets, Sound}
 use Rattle.plan_check.specs.Certified.{ordered_by, IsCertified}
 use Rattle.plan_cover.specs.Clauses.{chains_from}
 use Rattle.plan_stage.proofs.Truth.{either}
@@ -46,20 +46,22 @@ module _ (O W : Order) (wider : (a b : ℕ) → O a b → W a b) where
   chains_are [] h = tt
   chains_are (c ∷ cs) h = (chain c h.0, chains_are cs h.1)
 
+  covers_are : (most : ℕ) (is_one : ℕ → Bool) (cs : List (List ℕ)) → Covers O most is_one cs → Covers W most is_one cs
+  covers_are most is_one cs c = record { few = c.few; linked = chains_are cs c.linked; covered = c.covered }
+
   pub meets_wider : (ring : RingValue) (plan : List Planned) (chains : ℕ → List (List ℕ)) → Meets ring plan O chains → Meets ring plan W chains
   meets_wider ring plan chains m = record {
+    suits = m.suits;
     staged = m.staged;
     in_order = λ slot k h. wider _ _ (m.in_order slot k h);
     sources = m.sources;
     settled = λ n k j slot from h here s. elim (m.settled n k j slot from h here s) [ inl x ↦ inl (wider k n x) | inr x ↦ inr (wider n k x) ];
-    left_first = λ t j slot x h l apart o. ends _ t (m.left_first t j slot x h l apart o);
+    left_first = λ t j slot x h apart o. ends _ t (m.left_first t j slot x h apart o);
     left_later = λ t b j slot x h apart l s. ends _ t (m.left_later t b j slot x h apart l s);
-    joined = λ t x out h. (let r = m.joined t x out h in (r.0, r.1, wider r.0 t r.2));
+    joined_first = λ t x out h. (let r = m.joined_first t x out h in (r.0, r.1, wider r.0 t r.2));
     dropped_first = λ t slot x h o. ends _ t (m.dropped_first t slot x h o);
     dropped_later = λ t b slot x h s. ends _ t (m.dropped_later t b slot x h s);
-    few = m.few;
-    linked = λ x l. chains_are (chains x) (m.linked x l);
-    covered = m.covered;
+    covers = λ x a e. covers_are a (is_party_of ring plan x) (chains x) (m.covers x a e);
   }
 
 pub certified-sound : (ring : RingValue) (plan : List Planned) (cert : Cert) → IsCertified ring plan cert → Sound ring plan

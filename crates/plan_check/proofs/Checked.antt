@@ -1,6 +1,6 @@
 -- What the parts of the check find, put together.
-use Rattle.std.proofs.Common.{◌≡◌, ◌⊎◌, inl, inr, ℕ, ◌+◌, Bool, cond, List, [], ◌∷◌, length, refl, sym, ap, ◌∙◌, Option, Some, None, Result, Ok, Err}
-use Rattle.std.specs.Prelude.{◌||◌, min}
+use Rattle.std.proofs.Common.{◌≡◌, ◌⊎◌, inl, inr, ℕ, ◌+◌, Bool, true, false, cond, List, [], ◌∷◌, length, refl, sym, ap, ◌∙◌, Option, Some, None, Result, Ok, Err}
+use Rattle.std.specs.Prelude.{◌||◌, min, IfErr}
 use Rattle.ring_names.specs.declared.refusal.Refusal.{Refusal}
 use Rattle.ring_names.specs.declared.refusal.Refusal.TheVariants.{BadPath, OutOfMemory}
 use Rattle.ring_table.specs.Value.{RingValue}
@@ -62,3 +62,28 @@ err X e = Err e
 pub facts-bad : {X : Type 0} → (o : Option Refusal) (r : Result X Refusal) (d : Refusal) → ((e : Refusal) → o ≡ Some e → r ≡ Err e) → (o ≡ None → d ≡ OutOfMemory) → r ≡ Err d → (d ≡ OutOfMemory → ⊥) → o ≡ Some d
 facts-bad None r d bad good is ne = absurd (ne (good refl))
 facts-bad {X} (Some e) r d bad good is ne = (let h : err X e ≡ err X d = sym (bad e refl) ∙ is in cc)
+
+-- ---- where memory is refused
+
+bad-path : (plan : List Planned) (n : ℕ) (fs : List (List ℕ)) (e : Refusal) → first_bad plan n fs ≡ Some e → e ≡ OutOfMemory → ⊥
+bad-path plan n [] e h m = absurd cc
+bad-path plan n (f ∷ fs) e h m = by (is_path plan f) h (λ g. bad-path plan (n + 1) fs e g m)
+  where
+    by : (b : Bool) → cond b (first_bad plan (n + 1) fs) (Some (BadPath (min n 4294967295))) ≡ Some e → (first_bad plan (n + 1) fs ≡ Some e → ⊥) → ⊥
+    by true g later = later g
+    by false g later = absurd cc
+
+-- the facts hold
+pub facts-late : {X : Type 0} → (plan : List Planned) (fs : List (List ℕ)) (r : Result X Refusal) (d : Refusal) → ((e : Refusal) → first_bad plan 0 fs ≡ Some e → r ≡ Err e) → r ≡ Err d → d ≡ OutOfMemory → first_bad plan 0 fs ≡ None
+facts-late {X} plan fs r d bad is memory = by (first_bad plan 0 fs) refl
+  where
+    by : (o : Option Refusal) → first_bad plan 0 fs ≡ o → o ≡ None
+    by None e = refl
+    by (Some f) e =
+        let h : err X f ≡ err X d = sym (bad f e) ∙ is in
+        let g : f ≡ d = cc in
+        absurd (bad-path plan 0 fs f e (g ∙ memory))
+
+pub late-behind : (r : Result (Unit {0}) Refusal) (o : Option Refusal) → o ≡ None → IfErr r (λ e. e ≡ OutOfMemory → o ≡ None)
+late-behind (Ok x) o h = tt
+late-behind (Err e) o h = λ m. h

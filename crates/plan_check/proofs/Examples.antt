@@ -1,5 +1,5 @@
 -- Worked examples: what events are answered, one after the other.
-use Rattle.std.proofs.Common.{◌≡◌, ℕ, List, [], ◌∷◌, codes, Result, Ok, Err, refl, true, false, Bool}
+use Rattle.std.proofs.Common.{◌≡◌, ℕ, List, [], ◌∷◌, codes, Result, Ok, Err, Option, Some, refl, true, false, Bool}
 use Rattle.ring_names.specs.declared.ids.NodeId.{NodeId}
 use Rattle.ring_names.specs.declared.ids.Slot.{Slot}
 use Rattle.ring_names.specs.declared.refusal.Refusal.{Refusal}
@@ -16,13 +16,21 @@ use Rattle.plan_check.specs.declared.event.Event.{Event}
 use Rattle.plan_check.specs.declared.event.Event.TheVariants.{Do, OpenCopy, ChunkCopy, CloseCopy, AbortCopy, StartPut, Write, Hint, Ack, StartGet, Read, EndGet, Down, Up, Handoff}
 use Rattle.plan_check.specs.declared.event.Reply.{Reply}
 use Rattle.plan_check.specs.declared.event.Reply.TheVariants as reply
-use Rattle.plan_check.specs.World.{World, opening_world}
-use Rattle.plan_check.specs.Events.{answer}
+use Rattle.plan_check.specs.World.{World, opening_world, passing_below, is_acked, reply_of}
+use Rattle.plan_check.specs.Versions.{is_held}
+use Rattle.plan_check.specs.Guards.{guards}
+use Rattle.plan_check.specs.Effects.{effect}
+use Rattle.plan_check.specs.Answers.{answer}
 
 -- what each event is answered, where a refused one changes nothing
 abbrev replies : RingValue → List Planned → World → List Event → List (Result Reply Refusal)
 replies ring plan w [] = []
 replies ring plan w (e ∷ es) = elim (answer ring plan w e) [ Ok x ↦ Ok x.1 ∷ replies ring plan x.0 es | Err r ↦ Err r ∷ replies ring plan w es ]
+
+-- the world to which the events lead, where a refused one changes nothing
+abbrev world_after : RingValue → List Planned → World → List Event → World
+world_after ring plan w [] = w
+world_after ring plan w (e ∷ es) = elim (answer ring plan w e) [ Ok x ↦ world_after ring plan x.0 es | Err r ↦ world_after ring plan w es ]
 
 abbrev pub node : List ℕ → ℕ → Bool → Node
 node name allowance is_member = record { name = name; allowance = allowance; is_member = is_member }
@@ -66,21 +74,21 @@ to_third_slot = step (Mirror (at 0 2) (the 3)) [] ∷ step (Copy (at 0 2) Owner)
 keeper_in_the_way : replies (ring_of_four true) to_third_slot (opening_world (ring_of_four true))
     (StartPut (record { 0 = 0 }) (codes "a") (49 ∷ []) ([]) ∷ Hint 0 1 (the 3) ∷ Hint 0 2 (the 3) ∷ Do 0 ∷ Handoff (the 3) (at 0 1) ∷ Do 0 ∷ Hint 0 1 (the 3) ∷ [])
     ≡ Ok (reply.Put 0) ∷ Ok (reply.Ticket (at 0 1) 0) ∷ Err KeeperTaken ∷ Err HintsLeft ∷ Ok reply.Plain ∷ Ok reply.Plain ∷ Err KeeperInPartition ∷ []
-unfolding log2 block_words rounds compress hash_after digest_bytes md5
+unfolding guards effect log2 block_words rounds compress hash_after digest_bytes md5
 keeper_in_the_way = refl
 
 -- a ticket from before the mirror began does not count for an acknowledgement
 stale_ticket : replies (ring_of_four false) moves_to_d (opening_world (ring_of_four false))
     (StartPut (record { 0 = 0 }) (codes "a") (49 ∷ []) ([]) ∷ Write 0 0 ∷ Write 0 1 ∷ Do 0 ∷ Do 1 ∷ Ack 0 ∷ Write 0 1 ∷ Ack 0 ∷ [])
     ≡ Ok (reply.Put 0) ∷ Ok (reply.Ticket (at 0 0) 0) ∷ Ok (reply.Ticket (at 0 1) 0) ∷ Ok reply.Plain ∷ Ok reply.Plain ∷ Err (StaleTickets 1) ∷ Ok (reply.Ticket (at 0 1) 1) ∷ Ok reply.Plain ∷ []
-unfolding log2 block_words rounds compress hash_after digest_bytes md5
+unfolding guards effect log2 block_words rounds compress hash_after digest_bytes md5
 stale_ticket = refl
 
 -- marks stay when a copy is broken off
 aborted_copy : replies (ring_of_four false) moves_to_d (opening_world (ring_of_four false))
     (Do 0 ∷ Do 1 ∷ OpenCopy 2 ∷ ChunkCopy 2 0 ∷ ChunkCopy 2 1 ∷ ChunkCopy 2 2 ∷ ChunkCopy 2 3 ∷ ChunkCopy 2 4 ∷ ChunkCopy 2 5 ∷ ChunkCopy 2 6 ∷ AbortCopy 2 ∷ OpenCopy 2 ∷ ChunkCopy 2 6 ∷ CloseCopy 2 ∷ ChunkCopy 2 7 ∷ ChunkCopy 2 8 ∷ ChunkCopy 2 9 ∷ ChunkCopy 2 10 ∷ ChunkCopy 2 11 ∷ ChunkCopy 2 12 ∷ ChunkCopy 2 13 ∷ ChunkCopy 2 14 ∷ ChunkCopy 2 15 ∷ CloseCopy 2 ∷ AbortCopy 2 ∷ OpenCopy 2 ∷ [])
     ≡ Ok reply.Plain ∷ Ok reply.Plain ∷ Ok reply.Plain ∷ Ok reply.Plain ∷ Ok reply.Plain ∷ Ok reply.Plain ∷ Ok reply.Plain ∷ Ok reply.Plain ∷ Ok reply.Plain ∷ Ok reply.Plain ∷ Ok reply.Plain ∷ Ok reply.Plain ∷ Err AlreadyDone ∷ Err (ChunksLeft 9) ∷ Ok reply.Plain ∷ Ok reply.Plain ∷ Ok reply.Plain ∷ Ok reply.Plain ∷ Ok reply.Plain ∷ Ok reply.Plain ∷ Ok reply.Plain ∷ Ok reply.Plain ∷ Ok reply.Plain ∷ Ok reply.Plain ∷ Err NotOpen ∷ Err AlreadyDone ∷ []
-unfolding log2 block_words rounds compress hash_after digest_bytes md5
+unfolding guards effect log2 block_words rounds compress hash_after digest_bytes md5
 aborted_copy = refl
 
 abbrev ring_of_five : RingValue
@@ -100,26 +108,51 @@ moves_to_e = step (Join (the 4)) [] ∷ step (Mirror (at 0 1) (the 4)) (0 ∷ []
 hint_follows_its_slot : replies ring_of_five moves_to_e (opening_world ring_of_five)
     (Down (the 1) ∷ StartPut (record { 0 = 0 }) (codes "a") (49 ∷ []) ([]) ∷ Write 0 0 ∷ Write 0 1 ∷ Hint 0 1 (the 3) ∷ Ack 0 ∷ Up (the 1) ∷ Do 0 ∷ Do 1 ∷ OpenCopy 2 ∷ ChunkCopy 2 0 ∷ ChunkCopy 2 1 ∷ ChunkCopy 2 2 ∷ ChunkCopy 2 3 ∷ ChunkCopy 2 4 ∷ ChunkCopy 2 5 ∷ ChunkCopy 2 6 ∷ ChunkCopy 2 7 ∷ ChunkCopy 2 8 ∷ ChunkCopy 2 9 ∷ ChunkCopy 2 10 ∷ ChunkCopy 2 11 ∷ ChunkCopy 2 12 ∷ ChunkCopy 2 13 ∷ ChunkCopy 2 14 ∷ ChunkCopy 2 15 ∷ CloseCopy 2 ∷ Do 3 ∷ Handoff (the 3) (at 0 1) ∷ Down (the 3) ∷ StartGet (codes "a") ∷ Read 0 1 ∷ Read 0 2 ∷ EndGet 0 ∷ [])
     ≡ Ok reply.Plain ∷ Ok (reply.Put 0) ∷ Ok (reply.Ticket (at 0 0) 0) ∷ Err (NodeDown 1) ∷ Ok (reply.Ticket (at 0 1) 0) ∷ Ok reply.Plain ∷ Ok reply.Plain ∷ Ok reply.Plain ∷ Ok reply.Plain ∷ Ok reply.Plain ∷ Ok reply.Plain ∷ Ok reply.Plain ∷ Ok reply.Plain ∷ Ok reply.Plain ∷ Ok reply.Plain ∷ Ok reply.Plain ∷ Ok reply.Plain ∷ Ok reply.Plain ∷ Ok reply.Plain ∷ Ok reply.Plain ∷ Ok reply.Plain ∷ Ok reply.Plain ∷ Ok reply.Plain ∷ Ok reply.Plain ∷ Ok reply.Plain ∷ Ok reply.Plain ∷ Ok reply.Plain ∷ Ok reply.Plain ∷ Ok reply.Plain ∷ Ok reply.Plain ∷ Ok (reply.Get 0) ∷ Ok (reply.Found (0 ∷ [])) ∷ Ok (reply.Found ([])) ∷ Ok (reply.Answer (0 ∷ [])) ∷ []
-unfolding log2 block_words rounds compress hash_after digest_bytes md5
+unfolding guards effect log2 block_words rounds compress hash_after digest_bytes md5
 hint_follows_its_slot = refl
 
 -- a hint is handed to the mirror too, whose copy may have its chunk behind it already
 hint_reaches_the_mirror : replies ring_of_five moves_to_e (opening_world ring_of_five)
     (Down (the 1) ∷ StartPut (record { 0 = 0 }) (codes "a") (49 ∷ []) ([]) ∷ Write 0 0 ∷ Hint 0 1 (the 3) ∷ Ack 0 ∷ Up (the 1) ∷ Do 0 ∷ Do 1 ∷ OpenCopy 2 ∷ ChunkCopy 2 0 ∷ ChunkCopy 2 1 ∷ ChunkCopy 2 2 ∷ ChunkCopy 2 3 ∷ ChunkCopy 2 4 ∷ ChunkCopy 2 5 ∷ ChunkCopy 2 6 ∷ ChunkCopy 2 7 ∷ ChunkCopy 2 8 ∷ ChunkCopy 2 9 ∷ ChunkCopy 2 10 ∷ ChunkCopy 2 11 ∷ ChunkCopy 2 12 ∷ ChunkCopy 2 13 ∷ ChunkCopy 2 14 ∷ ChunkCopy 2 15 ∷ Handoff (the 3) (at 0 1) ∷ Handoff (the 3) (at 0 1) ∷ CloseCopy 2 ∷ Do 3 ∷ StartGet (codes "a") ∷ Read 0 1 ∷ Read 0 2 ∷ EndGet 0 ∷ [])
     ≡ Ok reply.Plain ∷ Ok (reply.Put 0) ∷ Ok (reply.Ticket (at 0 0) 0) ∷ Ok (reply.Ticket (at 0 1) 0) ∷ Ok reply.Plain ∷ Ok reply.Plain ∷ Ok reply.Plain ∷ Ok reply.Plain ∷ Ok reply.Plain ∷ Ok reply.Plain ∷ Ok reply.Plain ∷ Ok reply.Plain ∷ Ok reply.Plain ∷ Ok reply.Plain ∷ Ok reply.Plain ∷ Ok reply.Plain ∷ Ok reply.Plain ∷ Ok reply.Plain ∷ Ok reply.Plain ∷ Ok reply.Plain ∷ Ok reply.Plain ∷ Ok reply.Plain ∷ Ok reply.Plain ∷ Ok reply.Plain ∷ Ok reply.Plain ∷ Ok reply.Plain ∷ Err AlreadyDone ∷ Ok reply.Plain ∷ Ok reply.Plain ∷ Ok (reply.Get 0) ∷ Ok (reply.Found (0 ∷ [])) ∷ Ok (reply.Found ([])) ∷ Ok (reply.Answer (0 ∷ [])) ∷ []
-unfolding log2 block_words rounds compress hash_after digest_bytes md5
+unfolding guards effect log2 block_words rounds compress hash_after digest_bytes md5
 hint_reaches_the_mirror = refl
+
+-- which slots of partition 0 hold put 0, whether it is acknowledged, and what get 0 was answered
+record Kept : Type 0 where
+  holders : List ℕ
+  acked : Bool
+  reply : Option (List ℕ)
+
+abbrev kept : RingValue → List Planned → World → Kept
+kept ring plan w = record { holders = passing_below ring.n (λ i. is_held ring plan w 0 (at 0 i)); acked = is_acked w 0; reply = reply_of w 0 }
+
+abbrev handed_over : List Event
+handed_over = Down (the 1) ∷ StartPut (record { 0 = 0 }) (codes "a") (49 ∷ []) ([]) ∷ Write 0 0 ∷ Hint 0 1 (the 3) ∷ Ack 0 ∷ Up (the 1) ∷ Do 0 ∷ Do 1 ∷ Handoff (the 3) (at 0 1) ∷ StartGet (codes "a") ∷ Read 0 1 ∷ Read 0 2 ∷ EndGet 0 ∷ []
+
+-- two of three slots hold an acknowledged put, so each two slots have one of them; a get that starts after it is answered it
+held_and_read : kept ring_of_five moves_to_e (world_after ring_of_five moves_to_e (opening_world ring_of_five) handed_over) ≡ record { holders = 0 ∷ 1 ∷ []; acked = true; reply = Some (0 ∷ []) }
+unfolding guards effect log2 block_words rounds compress hash_after digest_bytes md5
+held_and_read = refl
+
+abbrev overwritten : List Event
+overwritten = StartPut (record { 0 = 0 }) (codes "a") (49 ∷ []) ([]) ∷ Write 0 0 ∷ Write 0 1 ∷ Ack 0 ∷ StartPut (record { 0 = 0 }) (codes "a") (50 ∷ []) ([]) ∷ Write 1 2 ∷ StartGet (codes "a") ∷ Read 0 0 ∷ Read 0 2 ∷ EndGet 0 ∷ []
+
+-- a slot that has a put of the same writer after it holds it too, and a get is answered that one
+held_by_a_successor : kept (ring_of_four false) [] (world_after (ring_of_four false) [] (opening_world (ring_of_four false)) overwritten) ≡ record { holders = 0 ∷ 1 ∷ 2 ∷ []; acked = true; reply = Some (1 ∷ []) }
+unfolding guards effect log2 block_words rounds compress hash_after digest_bytes md5
+held_by_a_successor = refl
 
 -- puts that know nothing of one another are both answered, and one that has seen both hides them
 two_writers : replies (ring_of_four false) [] (opening_world (ring_of_four false))
     (StartPut (record { 0 = 0 }) (codes "abc") (49 ∷ []) ([]) ∷ StartPut (record { 0 = 1 }) (codes "abc") (50 ∷ []) ([]) ∷ Write 0 0 ∷ Write 0 1 ∷ Write 1 0 ∷ Write 1 1 ∷ Ack 0 ∷ Ack 1 ∷ StartGet (codes "abc") ∷ Read 0 1 ∷ Read 0 2 ∷ EndGet 0 ∷ StartPut (record { 0 = 0 }) (codes "abc") (51 ∷ []) (0 ∷ []) ∷ Write 2 0 ∷ Write 2 2 ∷ Ack 2 ∷ StartGet (codes "abc") ∷ Read 1 0 ∷ Read 1 1 ∷ EndGet 1 ∷ [])
     ≡ Ok (reply.Put 0) ∷ Ok (reply.Put 1) ∷ Ok (reply.Ticket (at 2 0) 0) ∷ Ok (reply.Ticket (at 2 1) 0) ∷ Ok (reply.Ticket (at 2 0) 0) ∷ Ok (reply.Ticket (at 2 1) 0) ∷ Ok reply.Plain ∷ Ok reply.Plain ∷ Ok (reply.Get 0) ∷ Ok (reply.Found (0 ∷ 1 ∷ [])) ∷ Ok (reply.Found ([])) ∷ Ok (reply.Answer (0 ∷ 1 ∷ [])) ∷ Ok (reply.Put 2) ∷ Ok (reply.Ticket (at 2 0) 0) ∷ Ok (reply.Ticket (at 2 2) 0) ∷ Ok reply.Plain ∷ Ok (reply.Get 1) ∷ Ok (reply.Found (2 ∷ [])) ∷ Ok (reply.Found (0 ∷ 1 ∷ [])) ∷ Ok (reply.Answer (2 ∷ [])) ∷ []
-unfolding log2 block_words rounds compress hash_after digest_bytes md5
+unfolding guards effect log2 block_words rounds compress hash_after digest_bytes md5
 two_writers = refl
 
 -- a get ends only when R slots were read
 too_few_slots : replies (ring_of_four false) [] (opening_world (ring_of_four false))
     (StartGet (codes "a") ∷ Read 0 1 ∷ Read 0 1 ∷ EndGet 0 ∷ Read 0 3 ∷ Read 0 2 ∷ EndGet 0 ∷ EndGet 0 ∷ [])
     ≡ Ok (reply.Get 0) ∷ Ok (reply.Found ([])) ∷ Err AlreadyDone ∷ Err (TooFewSlots 1) ∷ Err UnknownNumber ∷ Ok (reply.Found ([])) ∷ Ok (reply.Answer ([])) ∷ Err AlreadyDone ∷ []
-unfolding log2 block_words rounds compress hash_after digest_bytes md5
+unfolding guards effect log2 block_words rounds compress hash_after digest_bytes md5
 too_few_slots = refl

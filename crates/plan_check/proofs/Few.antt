@@ -1,47 +1,24 @@
 -- In every run of a sound plan no node takes part in more open copies than its allowance.
-use Rattle.std.proofs.Common.{◌≡◌, ◌≢◌, ◌⊎◌, inl, inr, ◌∙◌, ℕ, zero, suc, ◌+◌, ◌<◌, ◌≤◌, Bool, true, false, cond, List, [], ◌∷◌, length, refl, sym, ap, subst, arith, eqb-true, eq-eqb}
-use Rattle.std.specs.Prelude.{◌&&◌, ◌==◌, Some, None, slice_get}
+use Rattle.std.proofs.Common.{◌≡◌, ◌≢◌, ◌⊎◌, inl, inr, ◌∙◌, ℕ, ◌≤◌, Bool, true, false, cond, List, [], ◌∷◌, length, refl, sym, ap, subst, arith, eqb-true, eq-eqb}
+use Rattle.std.specs.Prelude.{◌&&◌, ◌==◌, Some, None}
 use Rattle.ring_names.specs.Lists.{has, all_different}
 use Rattle.ring_table.specs.Value.{RingValue}
 use Rattle.ring_text.proofs.Fronts.{both_true}
 use Rattle.plan_text.specs.declared.step.Planned.{Planned}
 use Rattle.plan_order.specs.Before.{Before}
 use Rattle.plan_order.proofs.Reaching.{join}
-use Rattle.plan_check.specs.World.{opening_world, passing_from, passing_below}
-use Rattle.plan_stage.specs.Each.{step_at}
-use Rattle.plan_check.specs.Safe.{takes_part}
-use Rattle.plan_cover.specs.Clauses.{allowance_of, in_some}
-use Rattle.plan_check.specs.Sound.{IsChain, AreChains}
-use Rattle.plan_check.specs.Headline.{AreFewAlways}
+use Rattle.plan_check.specs.World.{passing_below, copy_at}
+use Rattle.plan_check.specs.Safe.{takes_part_now, AreFew}
+use Rattle.plan_cover.specs.Clauses.{in_some}
+use Rattle.plan_check.specs.Sound.{IsChain, AreChains, Covers, is_party_of}
+use Rattle.plan_check.specs.Headline.{Always}
 use Rattle.plan_check.proofs.Quorums.{without, kept-in, different-without, one-taken, by_equal}
+use Rattle.plan_check.proofs.Passing.{below_is, none_twice, passing_ascend}
 use Rattle.plan_check.proofs.Mirrored.{Known, before_ready}
-use Rattle.plan_check.proofs.Events.{Inv}
-use Rattle.plan_check.proofs.Apart.{run_inv, start_inv}
-use Rattle.plan_check.proofs.Open.{Pending, run_pending, start_pending}
+use Rattle.plan_check.specs.Reached.{Reached}
+use Rattle.plan_check.proofs.Reached.{reached}
 use Rattle.plan_check.proofs.Partakers.{party}
 use Rattle.plan_stage.proofs.Truth.{either, second_of_two}
-
--- ---- the numbers that pass a test
-
-passes : (k n : ℕ) (test : ℕ → Bool) (m : ℕ) → has m (passing_from k n test) ≡ true → (k ≤ m) × (test m ≡ true)
-passes k zero test m h = absurd cc
-passes k (suc n) test m h = by (test k) refl h (λ g. (let r = passes (k + 1) n test m g in let l = r.0 in (omega arith, r.1)))
-  where
-    by : (b : Bool) → test k ≡ b → has m (cond b (k ∷ passing_from (k + 1) n test) (passing_from (k + 1) n test)) ≡ true → (has m (passing_from (k + 1) n test) ≡ true → (k ≤ m) × (test m ≡ true)) → (k ≤ m) × (test m ≡ true)
-    by false e g later = later g
-    by true e g later = elim (either (m == k) (has m (passing_from (k + 1) n test)) g) [
-      | inl f ↦ (let s = eqb-true m k f in (omega arith, ap test s ∙ e))
-      | inr f ↦ later f
-    ]
-
-none_twice : (k n : ℕ) (test : ℕ → Bool) → all_different (passing_from k n test) ≡ true
-none_twice k zero test = refl
-none_twice k (suc n) test = by (test k) (has k (passing_from (k + 1) n test)) refl (none_twice (k + 1) n test)
-  where
-    by : (b c : Bool) → has k (passing_from (k + 1) n test) ≡ c → all_different (passing_from (k + 1) n test) ≡ true → all_different (cond b (k ∷ passing_from (k + 1) n test) (passing_from (k + 1) n test)) ≡ true
-    by false c e r = r
-    by true true e r = absurd (let l = (passes (k + 1) n test k e).0 in omega arith)
-    by true false e r = rw (e, r) refl
 
 -- ---- chains
 
@@ -121,31 +98,23 @@ no_more plan test apart (c ∷ cs) xs are d t h = elim (in_chain c xs) [
 
 -- ---- the law
 
-declared : {A : Type 0} (xs : List A) (i : ℕ) → (slice_get xs i ≡ None → ⊥) → i < length xs
-declared [] i h = absurd (h refl)
-declared (x ∷ xs) zero h = omega arith
-declared (x ∷ xs) (suc i) h = (let l = declared xs i h in omega arith)
-
-pub few_always : (ring : RingValue) (plan : List Planned) → Known ring plan → AreFewAlways ring plan
+pub few_always : (ring : RingValue) (plan : List Planned) → Known ring plan → Always ring plan (AreFew ring plan)
 few_always ring plan k run w is x a al =
-    let rest = no_more plan test apart (k.chains x) (passing_below (length plan) test) (k.meets.linked x named) (none_twice 0 (length plan) test) (λ n e. (passes 0 (length plan) test n e).1) (λ n e. covered n (passes 0 (length plan) test n e).1) in
-    let few = k.meets.few x a al in
+    let rest = no_more plan test apart (k.chains x) (passing_below (length plan) test) covers.linked (none_twice (passing_below (length plan) test) (passing_ascend 0 (length plan) test)) (λ n e. (below_is (length plan) test n e).1) (λ n e. covered n (below_is (length plan) test n e).1) in
+    let few = covers.few in
     omega arith
   where
-    i : Inv ring plan w
-    i = run_inv ring plan k run (opening_world ring) w (start_inv ring plan k.is_ring) is
+    r : Reached ring plan w
+    r = reached ring plan run w is
 
-    o : Pending plan w
-    o = run_pending ring plan run (opening_world ring) w (start_pending ring plan) is
+    covers : Covers (Before plan) a (is_party_of ring plan x) (k.chains x)
+    covers = k.meets.covers x a al
 
     part : ℕ → Bool
-    part n = elim (step_at plan n) [ Some s ↦ takes_part ring plan w x s | None ↦ false ]
+    part n = elim (copy_at plan n) [ Some c ↦ takes_part_now ring plan w x c.0 c.1 | None ↦ false ]
 
     test : ℕ → Bool
     test n = w.is_open n && part n
-
-    named : x < length ring.nodes
-    named = declared ring.nodes x (λ e. (let f = rw (e, allowance_of) at al in absurd cc))
 
     open_one : (n : ℕ) → test n ≡ true → w.is_open n ≡ true
     open_one n e = (both_true (w.is_open n) (part n) e).0
@@ -153,9 +122,9 @@ few_always ring plan k run w is x a al =
     -- an open copy comes before no other
     apart : (n m : ℕ) → test n ≡ true → test m ≡ true → Before plan n m → ⊥
     apart n m e f b =
-        let done = before_ready plan w.done n m i.closed (i.opened m (open_one m f)) b in
-        let off = o.undone n (open_one n e) in
+        let done = before_ready plan w.done n m r.closed (r.copies.ready m (open_one m f)) b in
+        let off = r.copies.unfinished n (open_one n e) in
         absurd cc
 
     covered : (n : ℕ) → test n ≡ true → in_some n (k.chains x) ≡ true
-    covered n e = k.meets.covered (record { 0 = x }) n named (party ring plan k w n x i.closed (i.opened n (open_one n e)) (o.undone n (open_one n e)) (both_true (w.is_open n) (part n) e).1)
+    covered n e = covers.covered n (party ring plan k w n x r.closed (r.copies.ready n (open_one n e)) (r.copies.unfinished n (open_one n e)) (both_true (w.is_open n) (part n) e).1)

@@ -1,6 +1,6 @@
 -- Who is in the group of a slot, and how a step changes it.
 use Rattle.std.proofs.Common.{◌≡◌, ◌⊎◌, inl, inr, ◌∙◌, ℕ, zero, suc, ◌+◌, ◌<◌, Bool, true, false, cond, List, [], ◌∷◌, length, refl, sym, ap, subst, arith, add-one, eqb-true, eq-eqb}
-use Rattle.std.specs.Prelude.{◌||◌, ◌==◌, Option, Some, None, slice_get, unwrap_or}
+use Rattle.std.specs.Prelude.{◌==◌, Option, Some, None, slice_get, unwrap_or}
 use Rattle.std.proofs.lemmas.Bool.Decides.{eqb_tells}
 use Rattle.ring_names.specs.Lists.{has}
 use Rattle.ring_names.specs.declared.ids.NodeId.{NodeId}
@@ -13,28 +13,12 @@ use Rattle.plan_text.specs.Steps.{steps_of, steps_from, is_slot, is_on}
 use Rattle.plan_stage.specs.declared.stage.Stage.{Stage}
 use Rattle.plan_stage.specs.Stage.{stage, after, next}
 use Rattle.plan_stage.proofs.Stages.{stage-more}
-use Rattle.plan_check.specs.World.{World, stage_now, keeps, some_below, count}
-use Rattle.plan_check.specs.Safe.{is_in_group}
-use Rattle.plan_check.specs.Events.{with_number}
+use Rattle.plan_check.specs.World.{World, stage_now, keeps, count, mirrors, is_served, is_in_group}
+use Rattle.plan_check.specs.Effects.{with_number}
 use Rattle.plan_stage.specs.Each.{step_at}
+use Rattle.plan_check.proofs.Passing.{some_found}
 use Rattle.plan_check.proofs.Prefix.{found, Rises, Down, one_more, count_same}
 use Rattle.plan_stage.proofs.Truth.{either, second_of_two, slot-is}
-
--- ---- numbers below n
-
-pub some_found : (n : ℕ) (test : ℕ → Bool) → some_below n test ≡ true → (v : ℕ) × (v < n) × (test v ≡ true)
-some_found zero test h = absurd cc
-some_found (suc n) test h = elim (either (some_below n test) (test n) h) [
-  | inl f ↦ (let g = some_found n test f in (g.0, omega arith, g.2))
-  | inr f ↦ (n, omega arith, f)
-]
-
-pub some_is : (n : ℕ) (test : ℕ → Bool) (v : ℕ) → v < n → test v ≡ true → some_below n test ≡ true
-some_is zero test v l e = absurd (omega arith)
-some_is (suc n) test v l e = elim (eqb_tells v n) [
-  | inl t ↦ second_of_two (some_below n test) (test n) (subst (λ m. test m ≡ true) t.1 e)
-  | inr t ↦ (let f = some_is n test v (let g = t.1 in omega arith) e in rw f refl)
-]
 
 -- ---- the group of a slot
 
@@ -47,28 +31,27 @@ Keeps w x slot = (v : ℕ) × (v < length w.puts) × (w.hinted x slot v ≡ true
 abbrev pub InGroup : RingValue → List Planned → World → Slot → ℕ → Type 0
 InGroup ring plan w slot x = Served (stage_now ring plan w slot) x ⊎ Keeps w x slot
 
-pub in_group : (ring : RingValue) (plan : List Planned) (w : World) (slot : Slot) (x : ℕ) → is_in_group ring plan w slot x ≡ true → InGroup ring plan w slot x
-in_group ring plan w slot x h = by (stage_now ring plan w slot).mirror refl
-  where
-    kept : keeps w x slot ≡ true → InGroup ring plan w slot x
-    kept k = inr (some_found (length w.puts) (λ v. w.hinted x slot v) k)
+mirror_is : (o : Option NodeId) (x : ℕ) → (elim o [ Some y ↦ x == y.0 | None ↦ false ]) ≡ true → o ≡ Some (record { 0 = x })
+mirror_is None x h = absurd cc
+mirror_is (Some y) x h = ap (λ (k : ℕ). Some (record { 0 = k })) (sym (eqb-true x y.0 h))
 
-    by : (m : Option NodeId) → (stage_now ring plan w slot).mirror ≡ m → InGroup ring plan w slot x
-    by None e =
-        let g = rw e at h in
-        elim (either (x == (stage_now ring plan w slot).owner.0) (keeps w x slot) g) [
-          | inl f ↦ inl (inl (eqb-true x (stage_now ring plan w slot).owner.0 f))
-          | inr f ↦ kept f
-        ]
-    by (Some y) e =
-        let g = rw e at h in
-        elim (either ((x == (stage_now ring plan w slot).owner.0) || (x == y.0)) (keeps w x slot) g) [
-          | inl f ↦ elim (either (x == (stage_now ring plan w slot).owner.0) (x == y.0) f) [
-            | inl t ↦ inl (inl (eqb-true x (stage_now ring plan w slot).owner.0 t))
-            | inr t ↦ inl (inr (e ∙ ap (λ (k : ℕ). Some (record { 0 = k })) (sym (eqb-true x y.0 t))))
-          ]
-          | inr f ↦ kept f
-        ]
+pub served_by : (a : Stage) (x : ℕ) → is_served a x ≡ true → Served a x
+served_by a x h = elim (either (x == a.owner.0) (mirrors a x) h) [
+  | inl f ↦ inl (eqb-true x a.owner.0 f)
+  | inr f ↦ inr (mirror_is a.mirror x f)
+]
+
+pub served_is : (a : Stage) (x : ℕ) → Served a x → is_served a x ≡ true
+served_is a x h = elim h [
+  | inl e ↦ rw (eq-eqb x a.owner.0 e) refl
+  | inr e ↦ second_of_two (x == a.owner.0) (mirrors a x) (rw e (eq-eqb x x refl))
+]
+
+pub in_group : (ring : RingValue) (plan : List Planned) (w : World) (slot : Slot) (x : ℕ) → is_in_group ring plan w slot x ≡ true → InGroup ring plan w slot x
+in_group ring plan w slot x h = elim (either (is_served (stage_now ring plan w slot) x) (keeps w x slot) h) [
+  | inl f ↦ inl (served_by (stage_now ring plan w slot) x f)
+  | inr f ↦ inr (some_found (length w.puts) (λ v. w.hinted x slot v) f)
+]
 
 -- ---- one step
 

@@ -8,7 +8,7 @@ use Rattle.ring_table.specs.Value.{RingValue}
 use Rattle.ring_table.specs.Valid.{IsRing}
 use Rattle.plan_text.specs.declared.step.Step.TheVariants.{Mirror}
 use Rattle.plan_text.specs.declared.step.Planned.{Planned}
-use Rattle.plan_text.specs.Steps.{steps_of, depends}
+use Rattle.plan_text.specs.Steps.{steps_of}
 use Rattle.plan_text.specs.Valid.{IsPlan}
 use Rattle.plan_order.specs.Before.{Before, direct, through}
 use Rattle.plan_order.proofs.Reaching.{less}
@@ -16,10 +16,10 @@ use Rattle.plan_stage.specs.declared.stage.Stage.{Stage}
 use Rattle.plan_stage.specs.Stage.{stage, after}
 use Rattle.plan_stage.specs.Occupancy.{is_node, leaving, mirror_end}
 use Rattle.plan_check.specs.World.{count}
-use Rattle.plan_check.specs.Events.{with_number}
 use Rattle.plan_stage.specs.Each.{step_at, sibling, place_in}
-use Rattle.plan_check.specs.Sound.{Meets, EndsBefore}
-use Rattle.plan_check.proofs.Prefix.{order, passed, found, found_later, Rises, Down, prefix, place}
+use Rattle.plan_check.specs.Sound.{Meets, EndsBefore, Sound}
+use Rattle.plan_check.specs.Reached.{Ready, Closed}
+use Rattle.plan_check.proofs.Prefix.{order, found, found_later, Rises, Down, prefix, place}
 use Rattle.plan_check.proofs.Groups.{on_steps}
 use Rattle.plan_check.specs.Occupies.{FromStart, FromMirror, Serves}
 use Rattle.plan_check.proofs.Occupied.{occupied, ends_later, mirror_ends_later}
@@ -32,12 +32,8 @@ pub record Known (ring : RingValue) (plan : List Planned) : Type 0 where
   pub chains : ℕ → List (List ℕ)
   pub meets : Meets ring plan (Before plan) chains
 
--- what a step depends on is done, of all steps that are done and of one
-abbrev pub Closed : List Planned → (ℕ → Bool) → Type 0
-Closed plan D = (a n : ℕ) → D n ≡ true → depends plan a n ≡ true → D a ≡ true
-
-abbrev pub Ready : List Planned → (ℕ → Bool) → ℕ → Type 0
-Ready plan D n = (a : ℕ) → depends plan a n ≡ true → D a ≡ true
+pub known : (ring : RingValue) (plan : List Planned) → IsRing ring → IsPlan plan → Sound ring plan → Known ring plan
+known ring plan r p sound = record { is_ring = r; is_plan = p; chains = sound.0; meets = sound.1 }
 
 pub before_done : (plan : List Planned) (D : ℕ → Bool) (a n : ℕ) → Closed plan D → Before plan a n → D n ≡ true → D a ≡ true
 before_done plan D a n c (direct _ _ d) e = c a n e d
@@ -46,15 +42,6 @@ before_done plan D a n c (through _ b _ d r) e = c a b (before_done plan D b n c
 pub before_ready : (plan : List Planned) (D : ℕ → Bool) (a n : ℕ) → Closed plan D → Ready plan D n → Before plan a n → D a ≡ true
 before_ready plan D a n c y (direct _ _ d) = y a d
 before_ready plan D a n c y (through _ b _ d r) = c a b (before_ready plan D b n c y r) d
-
-pub still_passes : (D : ℕ → Bool) (n m : ℕ) → D m ≡ true → with_number D n m ≡ true
-still_passes D n m e = second_of_two (m == n) (D m) e
-
-pub closed_with : (plan : List Planned) (D : ℕ → Bool) (n : ℕ) → Closed plan D → Ready plan D n → Closed plan (with_number D n)
-closed_with plan D n c y a m e d = elim (passed D n m e) [
-  | inl f ↦ still_passes D n a (y a (subst (λ k. depends plan a k ≡ true) f d))
-  | inr f ↦ still_passes D n a (c a m f d)
-]
 
 pub rises : (ring : RingValue) (plan : List Planned) → Known ring plan → (slot : Slot) → Rises (steps_of plan slot)
 rises ring plan k slot i l = less plan _ _ k.is_plan (k.meets.in_order slot i l)
@@ -97,11 +84,11 @@ front_done D ss i e d h f =
 
 -- ---- the other slots of the partition
 
-from_start : (ring : RingValue) (plan : List Planned) → Known ring plan → (D : ℕ → Bool) (t j : ℕ) (slot : Slot) (x : NodeId) → Closed plan D → Ready plan D t → step_at plan t ≡ Some (Mirror slot x) → j < ring.n → j ≢ slot.index
+from_start : (ring : RingValue) (plan : List Planned) → Known ring plan → (D : ℕ → Bool) (t j : ℕ) (slot : Slot) (x : NodeId) → Closed plan D → Ready plan D t → step_at plan t ≡ Some (Mirror slot x) → j ≢ slot.index
     → FromStart ring plan (sibling slot j) x (count D (steps_of plan (sibling slot j))) → ⊥
-from_start ring plan k D t j slot x c y at l ne f =
+from_start ring plan k D t j slot x c y at ne f =
     let d = down ring plan k D c (sibling slot j) in
-    let e = ends plan _ t (k.meets.left_first t j slot x at l ne f.0) in
+    let e = ends plan _ t (k.meets.left_first t j slot x at ne f.0) in
     let w = (prefix D (steps_of plan (sibling slot j)) d).within in
     not_done D (steps_of plan (sibling slot j)) e.0 d (ends_later ring plan (sibling slot j) x (count D (steps_of plan (sibling slot j))) e.0 w f e.1) (before_ready plan D e.0 t c y e.2)
 
@@ -140,7 +127,7 @@ mirrored_alone ring plan k D t j slot x c y off at p l ne s =
     let other = steps_of plan (sibling slot j) in
     let q = prefix D other (down ring plan k D c (sibling slot j)) in
     elim (occupied ring plan (sibling slot j) x (count D other) k.is_ring p l q.within s) [
-      | inl f ↦ from_start ring plan k D t j slot x c y at l ne f
+      | inl f ↦ from_start ring plan k D t j slot x c y at ne f
       | inr f ↦ elim (order (get_or other f.0 0) t) [
         | inl g ↦ from_earlier ring plan k D t j f.0 slot x c y at ne f.1 g
         | inr g ↦ later f.0 f.1 g

@@ -1,6 +1,7 @@
 -- Who takes part in an open copy now is one of the copy's nodes.
 use Rattle.std.proofs.Common.{◌≡◌, ◌⊎◌, inl, inr, ◌∙◌, ℕ, zero, suc, ◌+◌, ◌<◌, ◌≤◌, Bool, true, false, cond, List, [], ◌∷◌, length, get_or, map, refl, sym, ap, subst, arith, add-one, ltb-true, ltb-false, lt-ltb, eqb-true, eq-eqb}
-use Rattle.std.specs.Prelude.{◌==◌, nat_lt, Option, Some, None, slice_get, option_map}
+use Rattle.std.specs.Prelude.{◌==◌, nat_lt, Option, Some, None, slice_get, option_map, option_and_then}
+use Rattle.std.specs.List.{list_any}
 use Rattle.ring_names.specs.Lists.{has}
 use Rattle.ring_names.specs.declared.ids.NodeId.{NodeId}
 use Rattle.ring_names.specs.declared.ids.Slot.{Slot}
@@ -10,19 +11,20 @@ use Rattle.plan_text.specs.declared.step.Source.TheVariants.{Owner, Slots}
 use Rattle.plan_text.specs.declared.step.Step.{Step}
 use Rattle.plan_text.specs.declared.step.Step.TheVariants.{Join, Mirror, Copy, Switch, Drop, Retire}
 use Rattle.plan_text.specs.declared.step.Planned.{Planned}
-use Rattle.plan_text.specs.Steps.{steps_of, is_on}
+use Rattle.plan_text.specs.Steps.{steps_of, is_on, copy_of}
 use Rattle.plan_order.specs.Before.{Before}
 use Rattle.plan_order.proofs.Reaching.{less, join}
 use Rattle.plan_stage.specs.declared.stage.Stage.{Stage}
 use Rattle.plan_stage.specs.Stage.{stage, after, next, is_among, with_node}
-use Rattle.plan_stage.specs.Parties.{count_below, stage_before, source_slots, owners_before, sources_of, target_of, with_target, parties}
+use Rattle.plan_stage.specs.Parties.{count_below, stage_before, source_slots, owners_before, sources_of, target_of, with_target}
 use Rattle.plan_stage.proofs.Stages.{after-next, stage-more}
-use Rattle.plan_check.specs.World.{World, stage_now, count}
-use Rattle.plan_check.specs.Events.{is_in_slots}
+use Rattle.plan_check.specs.World.{World, stage_now, count, copy_at}
 use Rattle.plan_stage.specs.Each.{step_at, sibling}
-use Rattle.plan_check.specs.Safe.{takes_part}
+use Rattle.plan_check.specs.Safe.{mirrors_now, gives_now, takes_part_now}
+use Rattle.plan_check.specs.Sound.{is_party_of}
 use Rattle.plan_check.proofs.Prefix.{order, found, Rises, IsPrefix, prefix, count_below_is, place}
-use Rattle.plan_check.proofs.Mirrored.{Known, Closed, Ready, before_done, before_ready, rises, down}
+use Rattle.plan_check.proofs.Mirrored.{Known, before_done, before_ready, rises, down}
+use Rattle.plan_check.specs.Reached.{Ready, Closed}
 use Rattle.plan_check.proofs.Groups.{on_steps}
 use Rattle.plan_stage.proofs.Places.{placed}
 use Rattle.plan_stage.proofs.Truth.{either, second_of_two, slot-is, slot-same}
@@ -42,7 +44,7 @@ in_turn ring plan k slot i (suc j) l m = elim (order i j) [
 ]
 
 -- the finished steps of a slot, where its step n is ready and not finished, are those in front of n
-own_count : (ring : RingValue) (plan : List Planned) → Known ring plan → (D : ℕ → Bool) (n : ℕ) (slot : Slot) → Closed plan D → Ready plan D n → D n ≡ false → has n (steps_of plan slot) ≡ true → count D (steps_of plan slot) ≡ count_below n (steps_of plan slot)
+pub own_count : (ring : RingValue) (plan : List Planned) → Known ring plan → (D : ℕ → Bool) (n : ℕ) (slot : Slot) → Closed plan D → Ready plan D n → D n ≡ false → has n (steps_of plan slot) ≡ true → count D (steps_of plan slot) ≡ count_below n (steps_of plan slot)
 own_count ring plan k D n slot c y off h = done ∙ sym front
   where
     ss : List ℕ
@@ -109,7 +111,7 @@ abbrev pub Settled : List Planned → ℕ → Slot → Type 0
 Settled plan n slot = (m : ℕ) → step_at plan m ≡ Some (Switch slot) → Before plan m n ⊎ Before plan n m
 
 -- so the owner now is the one before step n, where n is ready and not finished
-owner_same : (ring : RingValue) (plan : List Planned) → Known ring plan → (D : ℕ → Bool) (n : ℕ) (slot : Slot) → Closed plan D → Ready plan D n → D n ≡ false → Settled plan n slot
+pub owner_same : (ring : RingValue) (plan : List Planned) → Known ring plan → (D : ℕ → Bool) (n : ℕ) (slot : Slot) → Closed plan D → Ready plan D n → D n ≡ false → Settled plan n slot
     → (stage ring plan slot (count D (steps_of plan slot))).owner ≡ (stage_before ring plan slot n).owner
 owner_same ring plan k D n slot c y off settled = elim (order (count D ss) (count_below n ss)) [
   | inl h ↦ sym (owner_kept ring plan slot (count D ss) (count_below n ss) (omega arith) q.within ahead)
@@ -172,10 +174,10 @@ abbrev pub SameOwners : RingValue → List Planned → World → ℕ → List Sl
 SameOwners ring plan w n [] = Unit {0}
 SameOwners ring plan w n (t ∷ ts) = ((stage_now ring plan w t).owner ≡ (stage_before ring plan t n).owner) × SameOwners ring plan w n ts
 
-owner_in : (ring : RingValue) (plan : List Planned) (w : World) (n x : ℕ) (ts : List Slot) → SameOwners ring plan w n ts → is_in_slots (λ t. x == (stage_now ring plan w t).owner.0) ts ≡ true
+owner_in : (ring : RingValue) (plan : List Planned) (w : World) (n x : ℕ) (ts : List Slot) → SameOwners ring plan w n ts → list_any (λ t. x == (stage_now ring plan w t).owner.0) ts ≡ true
     → is_among (record { 0 = x }) (owners_before ring plan n ts) ≡ true
 owner_in ring plan w n x [] s h = absurd cc
-owner_in ring plan w n x (t ∷ ts) s h = elim (either (x == (stage_now ring plan w t).owner.0) (is_in_slots (λ t. x == (stage_now ring plan w t).owner.0) ts) h) [
+owner_in ring plan w n x (t ∷ ts) s h = elim (either (x == (stage_now ring plan w t).owner.0) (list_any (λ t. x == (stage_now ring plan w t).owner.0) ts) h) [
   | inl f ↦ (
       let e : x ≡ (stage_before ring plan t n).owner.0 = eqb-true x (stage_now ring plan w t).owner.0 f ∙ ap (λ (y : NodeId). y.0) s.0 in
       subst (λ (z : ℕ). is_among (record { 0 = z }) (with_node (stage_before ring plan t n).owner (owners_before ring plan n ts)) ≡ true) (sym e) (node_in (stage_before ring plan t n).owner (owners_before ring plan n ts)))
@@ -202,8 +204,11 @@ source_in z None ys h = h
 source_in z (Some y) ys h = still_in z y ys h
 
 copy_party : (ring : RingValue) (plan : List Planned) → Known ring plan → (w : World) (n x : ℕ) (slot : Slot) (source : Source) → Closed plan w.done → Ready plan w.done n → w.done n ≡ false → step_at plan n ≡ Some (Copy slot source)
-    → takes_part ring plan w x (Copy slot source) ≡ true → is_among (record { 0 = x }) (with_target (stage_before ring plan slot n).mirror (owners_before ring plan n (source_slots slot source))) ≡ true
-copy_party ring plan k w n x slot source c y off at part = by (stage_now ring plan w slot).mirror refl
+    → takes_part_now ring plan w x slot source ≡ true → is_among (record { 0 = x }) (with_target (stage_before ring plan slot n).mirror (owners_before ring plan n (source_slots slot source))) ≡ true
+copy_party ring plan k w n x slot source c y off at part = elim (either (mirrors_now ring plan w x slot source) (gives_now ring plan w x slot source) part) [
+  | inl h ↦ from_mirror (stage_now ring plan w slot).mirror refl h
+  | inr h ↦ source_in (record { 0 = x }) (stage_before ring plan slot n).mirror owners (owner_in ring plan w n x (source_slots slot source) (sources_same ring plan k w n slot source c y off at own) h)
+]
   where
     z : 0 + n ≡ n
     z = omega arith
@@ -217,32 +222,31 @@ copy_party ring plan k w n x slot source c y off at part = by (stage_now ring pl
     owners : List NodeId
     owners = owners_before ring plan n (source_slots slot source)
 
-    from_source : is_in_slots (λ t. x == (stage_now ring plan w t).owner.0) (source_slots slot source) ≡ true → is_among (record { 0 = x }) (with_target (stage_before ring plan slot n).mirror owners) ≡ true
-    from_source h = source_in (record { 0 = x }) (stage_before ring plan slot n).mirror owners (owner_in ring plan w n x (source_slots slot source) (sources_same ring plan k w n slot source c y off at own) h)
+    from_mirror : (m : Option NodeId) → (stage_now ring plan w slot).mirror ≡ m → (elim m [ Some y ↦ x == y.0 | None ↦ false ]) ≡ true → is_among (record { 0 = x }) (with_target (stage_before ring plan slot n).mirror owners) ≡ true
+    from_mirror None e h = absurd cc
+    from_mirror (Some y) e h =
+        let target : (stage_before ring plan slot n).mirror ≡ Some y = ap (λ (a : Stage). a.mirror) (sym own) ∙ e in
+        let i : y.0 ≡ x = sym (eqb-true x y.0 h) in
+        rw target (subst (λ (v : ℕ). is_among (record { 0 = v }) (with_node y owners) ≡ true) i (node_in y owners))
 
-    by : (m : Option NodeId) → (stage_now ring plan w slot).mirror ≡ m → is_among (record { 0 = x }) (with_target (stage_before ring plan slot n).mirror owners) ≡ true
-    by None e = from_source (rw e at part)
-    by (Some y) e = elim (either (x == y.0) (is_in_slots (λ t. x == (stage_now ring plan w t).owner.0) (source_slots slot source)) (rw e at part)) [
-      | inl f ↦ (
-          let target : (stage_before ring plan slot n).mirror ≡ Some y = ap (λ (a : Stage). a.mirror) (sym own) ∙ e in
-          let i : y.0 ≡ x = sym (eqb-true x y.0 f) in
-          rw target (subst (λ (v : ℕ). is_among (record { 0 = v }) (with_node y owners) ≡ true) i (node_in y owners)))
-      | inr f ↦ from_source f
-    ]
-
-step_party : (ring : RingValue) (plan : List Planned) → Known ring plan → (w : World) (n x : ℕ) (t : Step) → Closed plan w.done → Ready plan w.done n → w.done n ≡ false → step_at plan n ≡ Some t
-    → takes_part ring plan w x t ≡ true → is_among (record { 0 = x }) (with_target (target_of ring plan n t) (sources_of ring plan n t)) ≡ true
-step_party ring plan k w n x (Join z) c y off at part = absurd cc
-step_party ring plan k w n x (Mirror s z) c y off at part = absurd cc
-step_party ring plan k w n x (Copy s source) c y off at part = copy_party ring plan k w n x s source c y off at part
-step_party ring plan k w n x (Switch s) c y off at part = absurd cc
-step_party ring plan k w n x (Drop s z) c y off at part = absurd cc
-step_party ring plan k w n x (Retire z) c y off at part = absurd cc
+-- the copy that a step is
+copy_is : (o : Option Step) (slot : Slot) (source : Source) → option_and_then copy_of o ≡ Some (slot, source) → o ≡ Some (Copy slot source)
+copy_is None slot source e = absurd cc
+copy_is (Some (Join x)) slot source e = absurd cc
+copy_is (Some (Mirror s x)) slot source e = absurd cc
+copy_is (Some (Copy s from)) slot source e =
+    let p : (s, from) ≡ (slot, source) = cc in
+    ap (λ (k : Slot × Source). Some (Copy k.0 k.1)) p
+copy_is (Some (Switch s)) slot source e = absurd cc
+copy_is (Some (Drop s x)) slot source e = absurd cc
+copy_is (Some (Retire x)) slot source e = absurd cc
 
 pub party : (ring : RingValue) (plan : List Planned) → Known ring plan → (w : World) (n x : ℕ) → Closed plan w.done → Ready plan w.done n → w.done n ≡ false
-    → (elim (step_at plan n) [ Some s ↦ takes_part ring plan w x s | None ↦ false ]) ≡ true → is_among (record { 0 = x }) (parties ring plan n) ≡ true
-party ring plan k w n x c y off h = by (step_at plan n) refl h
+    → (elim (copy_at plan n) [ Some k ↦ takes_part_now ring plan w x k.0 k.1 | None ↦ false ]) ≡ true → is_party_of ring plan x n ≡ true
+party ring plan k w n x c y off h = by (copy_at plan n) refl h
   where
-    by : (o : Option Step) → step_at plan n ≡ o → (elim o [ Some s ↦ takes_part ring plan w x s | None ↦ false ]) ≡ true → is_among (record { 0 = x }) (parties ring plan n) ≡ true
+    by : (o : Option (Slot × Source)) → copy_at plan n ≡ o → (elim o [ Some k ↦ takes_part_now ring plan w x k.0 k.1 | None ↦ false ]) ≡ true → is_party_of ring plan x n ≡ true
     by None e g = absurd cc
-    by (Some t) e g = rw (its_parties ring plan n t (slice_get plan n) e) (step_party ring plan k w n x t c y off e g)
+    by (Some d) e g =
+        let at : step_at plan n ≡ Some (Copy d.0 d.1) = copy_is (step_at plan n) d.0 d.1 e in
+        rw (its_parties ring plan n (Copy d.0 d.1) (slice_get plan n) at) (copy_party ring plan k w n x d.0 d.1 c y off at g)

@@ -4,7 +4,7 @@ use Rattle.std.specs.Prelude.{◌==◌, nat_lt}
 use Rattle.ring_names.specs.Lists.{has}
 use Rattle.plan_stage.specs.Parties.{count_below}
 use Rattle.plan_check.specs.World.{count}
-use Rattle.plan_check.specs.Events.{with_number}
+use Rattle.plan_check.specs.Effects.{with_number}
 use Rattle.plan_stage.proofs.Truth.{either, second_of_two}
 
 -- ---- tests

@@ -26,7 +26,7 @@ use Rattle.plan_check.specs.Certified.{IsCertified, ordered_by}
 use Rattle.plan_check.specs.First.{fact_clauses, first_refusal}
 use Rattle.plan_stage.specs.Partition.{Test, is_settled, has_left, has_joined, has_dropped, step_clauses, steps_clauses, slot_step_clauses, slot_clauses, partition_clauses}
 use Rattle.plan_stage.proofs.Truth.{all_of, push, two-met, two-all, parted, together, asked-met, asked-all, clauses-met, clauses-all, same, slot-same}
-use Rattle.plan_check.proofs.Suited.{step-within, slot-within, retires-within, owner-within, allowance-within}
+use Rattle.plan_check.proofs.Suited.{step-within, slot-within, retires-within, owner-within, allowance-within, allowance-at}
 use Rattle.plan_check.proofs.Firsts.{holds, facts-met, facts-all, order-met, order-all, retire-is, settled-met, settled-all, left_first-met, left_later-met, left-all, joined-met, joined-all, dropped_first-met, dropped_later-met, dropped-all, AreGood, chains-met, chains-all, party-step, few-met, few-all}
 use Rattle.ring_text.proofs.Fronts.{both_true}
 
@@ -157,17 +157,22 @@ in_order-met ring plan O suits h slot k l =
 
 meets-met : (ring : RingValue) (plan : List Planned) (cert : Cert) (O : Test) → IsRing ring → Suits ring plan → Parts ring plan O → Nodes ring plan cert O → Meets ring plan (holds O) (λ x. chains_from x cert.chains)
 meets-met ring plan cert O is suits h g = record {
-  staged = h.staged;
+  suits = suits;
+  staged = λ slot k l.
+      let w = slot-within ring plan suits slot (omega arith) in
+      h.staged slot w.0 w.1 k l;
   in_order = in_order-met ring plan O suits h;
   sources = λ n slot from at.
       let b = both_true (all_different from) (nat_le ring.r (length from)) (copy-met ring plan O suits h n slot from at).0 in
       (b.0, leb-true ring.r (length from) b.1);
   settled = λ n m j slot from at. settled-met plan O n slot from (copy-met ring plan O suits h n slot from at).1 m j;
-  left_first = λ t j slot x at l ne. left_first-met ring plan O t slot x (mirror-met ring plan O suits h t slot x at).0 j l ne;
+  left_first = λ t j slot x at ne owns.
+      let w = owner-within ring is (sibling slot j) x owns in
+      left_first-met ring plan O t slot x (mirror-met ring plan O suits h t slot x at).0 j w.1 ne owns;
   left_later = λ t b j slot x at ne lt before.
       let w = step-within ring plan suits (sibling slot j) b (Mirror (sibling slot j) x) before (slot-same (sibling slot j)) in
       left_later-met ring plan O t slot x (mirror-met ring plan O suits h t slot x at).0 j w.1 ne b lt before;
-  joined = λ t x out kind. elim kind [
+  joined_first = λ t x out kind. elim kind [
     | inl m ↦ joined-met ring plan O t x (mirror-met ring plan O suits h t m.0 x m.1).1 out
     | inr at ↦ joined-met ring plan O t x (leaves-joined ring plan cert O suits g t x at) out
   ];
@@ -177,40 +182,44 @@ meets-met ring plan cert O is suits h g = record {
   dropped_later = λ t b slot x at before.
       let w = step-within ring plan suits slot b (Mirror slot x) before (slot-same slot) in
       dropped_later-met ring plan O t slot x (retire-met ring plan O h t x slot.partition w.0 at) w.1 b before;
-  few = λ x a e. few-met ring (record { 0 = x }) (length (chains_from x cert.chains)) a (g.few (record { 0 = x }) (allowance-within ring x a e)) e;
-  linked = λ x l. (chains-good ring plan cert O g (record { 0 = x }) l).0;
-  covered = covered-met ring plan cert O g;
+  covers = λ x a e.
+      let l = allowance-within ring x a e in
+      record {
+        few = few-met ring (record { 0 = x }) (length (chains_from x cert.chains)) a (g.few (record { 0 = x }) l) e;
+        linked = (chains-good ring plan cert O g (record { 0 = x }) l).0;
+        covered = λ n among. covered-met ring plan cert O g (record { 0 = x }) n l among;
+      };
 }
 
 -- ---- where the plan is certified
 
-step-all : (ring : RingValue) (plan : List Planned) (O : Test) (chains : ℕ → List (List ℕ)) → Suits ring plan → Meets ring plan (holds O) chains → (p n : ℕ) (s : Step) → step_at plan n ≡ Some s → first_failing (step_clauses ring plan O p n s) ≡ None
-step-all ring plan O chains suits h p n (Join x) at = refl
-step-all ring plan O chains suits h p n (Mirror slot x) at =
+step-all : (ring : RingValue) (plan : List Planned) (O : Test) (chains : ℕ → List (List ℕ)) → Meets ring plan (holds O) chains → (p n : ℕ) (s : Step) → step_at plan n ≡ Some s → first_failing (step_clauses ring plan O p n s) ≡ None
+step-all ring plan O chains h p n (Join x) at = refl
+step-all ring plan O chains h p n (Mirror slot x) at =
     asked-all (slot.partition == p) ((has_left ring plan O n slot x, SharedInPlan n) ∷ (has_joined ring plan O n x, NotJoined n) ∷ []) (λ _.
     two-all (has_left ring plan O n slot x) (has_joined ring plan O n x) (SharedInPlan n) (NotJoined n)
-    (left-all ring plan O n slot x (λ j l ne owns. h.left_first n j slot x at l ne owns) (λ j l ne b lt before. h.left_later n b j slot x at ne lt before))
-    (joined-all ring plan O n x (λ out. h.joined n x out (inl (slot, at)))))
-step-all ring plan O chains suits h p n (Copy slot Owner) at = refl
-step-all ring plan O chains suits h p n (Copy slot (Slots from)) at =
+    (left-all ring plan O n slot x (λ j l ne owns. h.left_first n j slot x at ne owns) (λ j l ne b lt before. h.left_later n b j slot x at ne lt before))
+    (joined-all ring plan O n x (λ out. h.joined_first n x out (inl (slot, at)))))
+step-all ring plan O chains h p n (Copy slot Owner) at = refl
+step-all ring plan O chains h p n (Copy slot (Slots from)) at =
     asked-all (slot.partition == p) ((reads_enough ring from, BadSource n) ∷ (is_settled plan O n slot from, MovingSource n) ∷ []) (λ _.
     let s = h.sources n slot from at in
     two-all (reads_enough ring from) (is_settled plan O n slot from) (BadSource n) (MovingSource n)
     (all_of (all_different from) (nat_le ring.r (length from)) s.0 (le-leb ring.r (length from) s.1))
     (settled-all plan O n slot from (λ m j some switch. h.settled n m j slot from at some switch)))
-step-all ring plan O chains suits h p n (Switch slot) at = refl
-step-all ring plan O chains suits h p n (Drop slot x) at = refl
-step-all ring plan O chains suits h p n (Retire x) at =
+step-all ring plan O chains h p n (Switch slot) at = refl
+step-all ring plan O chains h p n (Drop slot x) at = refl
+step-all ring plan O chains h p n (Retire x) at =
     push (has_dropped ring plan O p n x) (RetiredInUse n) None
     (dropped-all ring plan O p n x (λ s owns. h.dropped_first n s x at owns) (λ b s before. h.dropped_later n b s x at before)) refl
 
-parts-from : (ring : RingValue) (plan : List Planned) (O : Test) (chains : ℕ → List (List ℕ)) → Suits ring plan → Meets ring plan (holds O) chains → Parts ring plan O
-parts-from ring plan O chains suits h = record {
-  staged = h.staged;
+parts-from : (ring : RingValue) (plan : List Planned) (O : Test) (chains : ℕ → List (List ℕ)) → Meets ring plan (holds O) chains → Parts ring plan O
+parts-from ring plan O chains h = record {
+  staged = λ slot p i k l. h.staged slot k l;
   ordered = λ slot p i k l. order-all (λ (i : ℕ). slice_index (steps_of plan slot) i) O k (λ j e.
       let m : suc j < length (steps_of plan slot) = omega arith in
       rw (← e) (h.in_order slot j m));
-  steps = λ p l n s at. step-all ring plan O chains suits h p n s at;
+  steps = λ p l n s at. step-all ring plan O chains h p n s at;
 }
 
 retired-all : (ring : RingValue) (plan : List Planned) (O : Test) (chains : ℕ → List (List ℕ)) → Meets ring plan (holds O) chains → (x : NodeId) (n : ℕ) (s : Step) → step_at plan n ≡ Some s → first_failing (retire_clauses ring plan O x n s) ≡ None
@@ -218,18 +227,19 @@ retired-all ring plan O chains h x n s at =
     asked-all (is_retire_of x.0 s) ((has_joined ring plan O n x, NotJoined n) ∷ []) (λ retires.
     let e : s ≡ Retire x = retire-is x s retires in
     let here : step_at plan n ≡ Some (Retire x) = rw e at at in
-    push (has_joined ring plan O n x) (NotJoined n) None (joined-all ring plan O n x (λ out. h.joined n x out (inr here))) refl)
+    push (has_joined ring plan O n x) (NotJoined n) None (joined-all ring plan O n x (λ out. h.joined_first n x out (inr here))) refl)
 
 nodes-from : (ring : RingValue) (plan : List Planned) (cert : Cert) → IsCertified ring plan cert → Nodes ring plan cert (ordered_by plan cert)
 nodes-from ring plan cert h = record {
   retired = λ x l n s at. retired-all ring plan (ordered_by plan cert) (λ x. chains_from x cert.chains) h.meets x n s at;
-  chains = λ x l. chains-all ring plan (ordered_by plan cert) x 0 cert.chains (h.meets.linked x.0 l, λ n some. h.entries x n l some);
+  chains = λ x l. (let a = allowance-at ring x.0 l in
+      chains-all ring plan (ordered_by plan cert) x 0 cert.chains ((h.meets.covers x.0 a.0 a.1).linked, h.entries x.0 a.0 a.1));
   cover = λ x l n s at. asked-all (is_among x (parties ring plan n)) ((in_some n (chains_from x.0 cert.chains), CoverMissing x.0 n) ∷ []) (λ among.
-      push (in_some n (chains_from x.0 cert.chains)) (CoverMissing x.0 n) None (h.meets.covered x n l among) refl);
-  few = λ x l. few-all ring x (length (chains_from x.0 cert.chains)) (λ a e. h.meets.few x.0 a e);
+      push (in_some n (chains_from x.0 cert.chains)) (CoverMissing x.0 n) None (let a = allowance-at ring x.0 l in (h.meets.covers x.0 a.0 a.1).covered n among) refl);
+  few = λ x l. few-all ring x (length (chains_from x.0 cert.chains)) (λ a e. (h.meets.covers x.0 a e).few);
 }
 
--- ---- both_true ways
+-- ---- both ways
 
 abbrev parts_of : RingValue → List Planned → Cert → List Guard
 parts_of ring plan cert = below (partition_clauses ring plan (ordered_by plan cert)) ring.q
@@ -246,12 +256,12 @@ certified-from ring plan cert is suits none =
     record {
       facts = facts-met plan 0 cert.facts a.0;
       meets = meets-met ring plan cert (ordered_by plan cert) is suits p g;
-      entries = λ x n l some. (chains-good ring plan cert (ordered_by plan cert) g x l).1 n some;
+      entries = λ x a e. (chains-good ring plan cert (ordered_by plan cert) g (record { 0 = x }) (allowance-within ring x a e)).1;
     }
 
-pub none-from : (ring : RingValue) (plan : List Planned) (cert : Cert) → Suits ring plan → IsCertified ring plan cert → first_refusal ring plan cert ≡ None
-none-from ring plan cert suits h =
+pub none-from : (ring : RingValue) (plan : List Planned) (cert : Cert) → IsCertified ring plan cert → first_refusal ring plan cert ≡ None
+none-from ring plan cert h =
     together (fact_clauses plan 0 cert.facts) (parts_of ring plan cert ++ nodes_of ring plan cert) (facts-all plan 0 cert.facts h.facts)
     (together (parts_of ring plan cert) (nodes_of ring plan cert)
-    (parts-all ring plan (ordered_by plan cert) (parts-from ring plan (ordered_by plan cert) (λ x. chains_from x cert.chains) suits h.meets))
+    (parts-all ring plan (ordered_by plan cert) (parts-from ring plan (ordered_by plan cert) (λ x. chains_from x cert.chains) h.meets))
     (nodes-all ring plan cert (ordered_by plan cert) (nodes-from ring plan cert h)))

@@ -94,3 +94,12 @@ some_of (Some y) a h = (y, refl)
 
 pub allowance-within : (ring : RingValue) (x a : ℕ) → allowance_of ring x ≡ Some a → x < length ring.nodes
 allowance-within ring x a h = (let s = some_of (slice_get ring.nodes x) a h in slice_get_within ring.nodes x s.0 s.1)
+
+-- a declared node has one
+pub allowance-at : (ring : RingValue) (x : ℕ) → x < length ring.nodes → (a : ℕ) × (allowance_of ring x ≡ Some a)
+allowance-at ring x l = by ring.nodes x l
+  where
+    by : (ns : List Node) (i : ℕ) → i < length ns → (a : ℕ) × ((elim (slice_get ns i) [ Some node ↦ Some node.allowance | None ↦ None ]) ≡ Some a)
+    by [] i l = absurd (omega arith)
+    by (n ∷ ns) zero l = (n.allowance, refl)
+    by (n ∷ ns) (suc i) l = by ns i (omega arith)

@@ -18,7 +18,8 @@ fact_clauses plan n (f ∷ fs) = (is_path plan f, BadPath (min n 4294967295)) �
 
 -- partitions and nodes by number, by a test of the order
 abbrev pub rest_clauses : RingValue → List Planned → Cert → Test → List Guard
-rest_clauses ring plan cert O = below (partition_clauses ring plan O) ring.q ++ below (λ x. node_clauses ring plan cert O (record { 0 = x })) (length ring.nodes)
+rest_clauses ring plan cert O =
+    below (partition_clauses ring plan O) ring.q ++ below (λ x. node_clauses ring plan cert O (record { 0 = x })) (length ring.nodes)
 
 -- facts, partitions, nodes
 abbrev pub all_clauses : RingValue → List Planned → Cert → List Guard

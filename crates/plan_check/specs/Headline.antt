@@ -1,40 +1,42 @@
 -- What a sound plan promises of every run of it.
-use Rattle.std.specs.Prelude.{◌≡◌, ◌↔◌, ℕ, ◌<◌, true, List, ◌++◌, ◌∷◌, [], length, get_or}
+use Rattle.std.specs.Prelude.{◌≡◌, ◌↔◌, ℕ, ◌<◌, true, List, ◌∷◌, length, get_or, Ok}
 use Rattle.ring_names.specs.Lists.{has}
 use Rattle.ring_names.specs.declared.ids.Slot.{Slot}
 use Rattle.ring_table.specs.Value.{RingValue}
 use Rattle.plan_text.specs.declared.step.Planned.{Planned}
 use Rattle.plan_text.specs.Steps.{steps_of}
+use Rattle.plan_check.specs.declared.event.Entry.{Entry}
 use Rattle.plan_check.specs.declared.event.Event.TheVariants.{StartGet, EndGet}
 use Rattle.plan_check.specs.declared.event.Reply.TheVariants as reply
 use Rattle.plan_check.specs.declared.words.Key.{Key}
-use Rattle.plan_check.specs.World.{World, count}
+use Rattle.plan_check.specs.World.{World, count, is_acked, is_of_key}
 use Rattle.plan_check.specs.Succession.{Succeeds}
-use Rattle.plan_check.specs.Events.{is_acked, is_of_key}
-use Rattle.plan_check.specs.Runs.{Entry, IsRun}
-use Rattle.plan_check.specs.Safe.{Safe, AreApart, AreFew}
+use Rattle.plan_check.specs.Answers.{answer}
+use Rattle.plan_check.specs.Runs.{Leads, IsRun}
+use Rattle.plan_check.specs.Safe.{Safe}
 
--- at every moment of every run the store is safe; a moment is what some first events of a run lead to, so the end of a run too
-abbrev pub IsSafeAlways : RingValue → List Planned → Type 0
-IsSafeAlways ring plan = (run : List Entry) (w : World) → IsRun ring plan run w → Safe ring plan w
+-- at every moment of every run the store is so; a moment is what some first events of a run lead to, so the end of a run too
+abbrev pub Always : RingValue → List Planned → (World → Type 0) → Type 0
+Always ring plan Holds = (run : List Entry) (w : World) → IsRun ring plan run w → Holds w
 
--- at every moment of every run two slots of a partition share no node
-abbrev pub AreApartAlways : RingValue → List Planned → Type 0
-AreApartAlways ring plan = (run : List Entry) (w : World) → IsRun ring plan run w → AreApart ring plan w
+-- the put or one that succeeds it is among those that the get answers
+abbrev pub IsAnswered : World → ℕ → List ℕ → Type 0
+IsAnswered w v found = (u : ℕ) × (has u found ≡ true) × Succeeds w u v
 
--- at every moment of every run no node takes part in more open copies than its allowance
-abbrev pub AreFewAlways : RingValue → List Planned → Type 0
-AreFewAlways ring plan = (run : List Entry) (w : World) → IsRun ring plan run w → AreFew ring plan w
-
--- at every moment of every run the finished steps of a slot are its first ones
-abbrev pub AreFinishedFirst : RingValue → List Planned → Type 0
-AreFinishedFirst ring plan = (run : List Entry) (w : World) → IsRun ring plan run w → (slot : Slot) (i : ℕ) → i < length (steps_of plan slot)
-    → (w.done (get_or (steps_of plan slot) i 0) ≡ true) ↔ (i < count w.done (steps_of plan slot))
-
--- of each put of its key that was acknowledged before the get started, the get's reply has that put or one that succeeds it
-abbrev pub AreRepliesFresh : RingValue → List Planned → Type 0
-AreRepliesFresh ring plan = (before between : List Entry) (key : Key) (g : ℕ) (found : List ℕ) (start w : World)
+-- a get that starts in a world sees each put of its key that is acknowledged there
+abbrev pub GetsAreFresh : RingValue → List Planned → Type 0
+GetsAreFresh ring plan = (before between : List Entry) (start mid w : World) (key : Key) (g : ℕ) (found : List ℕ)
     → IsRun ring plan before start
-    → IsRun ring plan (before ++ ((StartGet key, reply.Get g) ∷ (between ++ ((EndGet g, reply.Answer found) ∷ [])))) w
-    → (v : ℕ) → is_of_key start key v ≡ true → is_acked start v ≡ true
-    → (u : ℕ) × (has u found ≡ true) × Succeeds w u v
+    → Leads ring plan start (record { event = StartGet key; reply = reply.Get g } ∷ between) mid
+    → answer ring plan mid (EndGet g) ≡ Ok (w, reply.Answer found)
+    → (v : ℕ) → is_of_key start key v ≡ true → is_acked start v ≡ true → IsAnswered w v found
+
+-- the headline: at every moment the store is safe, and gets see the puts that were acknowledged before they started
+pub record KeepsPromises (ring : RingValue) (plan : List Planned) : Type 0 where
+  pub safe : Always ring plan (Safe ring plan)
+  pub fresh : GetsAreFresh ring plan
+
+-- the finished steps of a slot are its first ones
+abbrev pub AreFinishedFirst : List Planned → World → Type 0
+AreFinishedFirst plan w = (slot : Slot) (i : ℕ) → i < length (steps_of plan slot)
+    → (w.done (get_or (steps_of plan slot) i 0) ≡ true) ↔ (i < count w.done (steps_of plan slot))

@@ -3,7 +3,11 @@ pub mod Words
 pub mod Replies
 pub mod World
 pub mod Succession
-pub mod Events
+pub mod Versions
+pub mod Guards
+pub mod Effects
+pub mod Answers
+pub mod Reached
 pub mod Runs
 pub mod Safe
 pub mod Sound
@@ -11,3 +15,4 @@ pub mod Certified
 pub mod Headline
 pub mod First
 pub mod Occupies
+pub mod Causes

@@ -18,7 +18,8 @@ FromStart ring plan slot x k = (owner_of ring slot ≡ Some x) × (leaving plan 
 
 -- the b-th of them mirrored it, and it has not left since
 abbrev pub FromMirror : RingValue → List Planned → Slot → NodeId → ℕ → ℕ → Type 0
-FromMirror ring plan slot x k b = (b < k) × (step_at plan (get_or (steps_of plan slot) b 0) ≡ Some (Mirror slot x)) × (leaving plan x (stage ring plan slot (suc b)) (drop (suc b) (take k (steps_of plan slot))) ≡ None)
+FromMirror ring plan slot x k b = (b < k) × (step_at plan (get_or (steps_of plan slot) b 0) ≡ Some (Mirror slot x))
+    × (leaving plan x (stage ring plan slot (suc b)) (drop (suc b) (take k (steps_of plan slot))) ≡ None)
 
 -- the node is the slot's owner or mirror after its first k steps
 abbrev pub Serves : RingValue → List Planned → Slot → NodeId → ℕ → Type 0
@@ -27,25 +28,32 @@ Serves ring plan slot x k = (x ≡ (stage ring plan slot k).owner) ⊎ ((stage r
 -- it serves since one of the two, and the end of that, if there is one, is a later step
 pub record Occupies (ring : RingValue) (plan : List Planned) (slot : Slot) (x : NodeId) (k : ℕ) : Type 0 where
   pub since : FromStart ring plan slot x k ⊎ ((b : ℕ) × FromMirror ring plan slot x k b)
-  pub first_later : FromStart ring plan slot x k → (e : ℕ) → first_end ring plan slot ≡ Some e → has e (drop k (steps_of plan slot)) ≡ true
-  pub mirror_later : (b : ℕ) → FromMirror ring plan slot x k b → (e : ℕ) → mirror_end ring plan slot b x ≡ Some e → has e (drop k (steps_of plan slot)) ≡ true
+  pub first_later : FromStart ring plan slot x k → (e : ℕ) → first_end ring plan slot ≡ Some e
+      → has e (drop k (steps_of plan slot)) ≡ true
+  pub mirror_later : (b : ℕ) → FromMirror ring plan slot x k b → (e : ℕ) → mirror_end ring plan slot b x ≡ Some e
+      → has e (drop k (steps_of plan slot)) ≡ true
 
 -- whoever serves a slot of the ring after its first k steps occupies it
 abbrev pub ServersOccupy : RingValue → List Planned → Type 0
-ServersOccupy ring plan = (slot : Slot) (x : NodeId) (k : ℕ) → slot.partition < ring.q → slot.index < ring.n → k ≤ length (steps_of plan slot) → Serves ring plan slot x k → Occupies ring plan slot x k
+ServersOccupy ring plan = (slot : Slot) (x : NodeId) (k : ℕ) → slot.partition < ring.q → slot.index < ring.n
+    → k ≤ length (steps_of plan slot) → Serves ring plan slot x k → Occupies ring plan slot x k
 
--- and whoever occupies it serves it
+-- whoever occupies a slot of the ring serves it
 abbrev pub OccupantsServe : RingValue → List Planned → Type 0
-OccupantsServe ring plan = (slot : Slot) (x : NodeId) (k : ℕ) → slot.partition < ring.q → slot.index < ring.n → k ≤ length (steps_of plan slot) → FromStart ring plan slot x k ⊎ ((b : ℕ) × FromMirror ring plan slot x k b) → Serves ring plan slot x k
+OccupantsServe ring plan = (slot : Slot) (x : NodeId) (k : ℕ) → slot.partition < ring.q → slot.index < ring.n
+    → k ≤ length (steps_of plan slot) → FromStart ring plan slot x k ⊎ ((b : ℕ) × FromMirror ring plan slot x k b)
+    → Serves ring plan slot x k
 
 -- the mirror is neither the owner nor a leftover
 abbrev pub IsGoodMirror : Stage → Option NodeId → Type 0
 IsGoodMirror a None = Unit {0}
 IsGoodMirror a (Some m) = (is_node m a.owner ≡ false) × (is_among m a.leftovers ≡ false)
 
--- and the owner is no leftover
+-- nor is the owner a leftover
 abbrev pub IsGoodStage : Stage → Type 0
 IsGoodStage a = (is_among a.owner a.leftovers ≡ false) × IsGoodMirror a a.mirror
 
+-- each stage of each of the ring's slots is so
 abbrev pub AreGoodStages : RingValue → List Planned → Type 0
-AreGoodStages ring plan = (slot : Slot) (k : ℕ) → slot.partition < ring.q → slot.index < ring.n → k ≤ length (steps_of plan slot) → IsGoodStage (stage ring plan slot k)
+AreGoodStages ring plan = (slot : Slot) (k : ℕ) → slot.partition < ring.q → slot.index < ring.n → k ≤ length (steps_of plan slot)
+    → IsGoodStage (stage ring plan slot k)

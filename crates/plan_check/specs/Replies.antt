@@ -9,6 +9,7 @@ use Rattle.plan_check.specs.declared.event.Reply.TheVariants.{Plain, Put, Ticket
 abbrev pub numbers_text : List ℕ → List ℕ
 numbers_text ns = spaced (map decimal ns)
 
+-- a word, and the numbers
 abbrev pub reply_text : Reply → List ℕ
 reply_text Plain = codes "ok"
 reply_text (Put n) = codes "put" ++ numbers_text (n ∷ [])

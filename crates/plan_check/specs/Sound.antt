@@ -1,5 +1,5 @@
 -- Which plans are sound.
-use Rattle.std.specs.Prelude.{◌≡◌, ◌≢◌, ◌⊎◌, ℕ, suc, ◌<◌, ◌≤◌, true, false, List, [], ◌∷◌, length, get_or, Option, Some, None}
+use Rattle.std.specs.Prelude.{◌≡◌, ◌≢◌, ◌⊎◌, ℕ, suc, ◌<◌, ◌≤◌, Bool, true, false, List, [], ◌∷◌, length, get_or, Option, Some, None}
 use Rattle.ring_names.specs.Lists.{has, all_different}
 use Rattle.ring_names.specs.declared.ids.NodeId.{NodeId}
 use Rattle.ring_names.specs.declared.ids.Slot.{Slot}
@@ -8,9 +8,10 @@ use Rattle.plan_text.specs.declared.step.Source.TheVariants.{Slots}
 use Rattle.plan_text.specs.declared.step.Step.TheVariants.{Join, Mirror, Copy, Switch, Retire}
 use Rattle.plan_text.specs.declared.step.Planned.{Planned}
 use Rattle.plan_text.specs.Steps.{steps_of}
+use Rattle.plan_text.specs.Valid.{Suits}
 use Rattle.plan_order.specs.Before.{Before}
 use Rattle.plan_stage.specs.Stage.{is_among}
-use Rattle.plan_stage.specs.Clauses.{AllStaged}
+use Rattle.plan_stage.specs.Clauses.{IsStagedSlot}
 use Rattle.plan_stage.specs.Occupancy.{first_end, mirror_end, first_drop, mirror_drop}
 use Rattle.plan_stage.specs.Parties.{parties}
 use Rattle.plan_stage.specs.Each.{step_at, sibling, place_in}
@@ -31,32 +32,62 @@ IsChain O [] = Unit {0}
 IsChain O (a ∷ []) = Unit {0}
 IsChain O (a ∷ b ∷ rest) = O a b × IsChain O (b ∷ rest)
 
+-- each of them is a chain
 abbrev pub AreChains : Order → List (List ℕ) → Type 0
 AreChains O [] = Unit {0}
 AreChains O (c ∷ cs) = IsChain O c × AreChains O cs
 
+-- at most so many chains have between them each step that passes the test
+pub record Covers (O : Order) (most : ℕ) (is_one : ℕ → Bool) (chains : List (List ℕ)) : Type 0 where
+  pub few : length chains ≤ most
+  pub linked : AreChains O chains
+  pub covered : (n : ℕ) → is_one n ≡ true → in_some n chains ≡ true
+
+-- they have no other step
+abbrev pub HaveOnly : (ℕ → Bool) → List (List ℕ) → Type 0
+HaveOnly is_one chains = (n : ℕ) → in_some n chains ≡ true → is_one n ≡ true
+
+-- the node takes part in step n, by the plan
+abbrev pub is_party_of : RingValue → List Planned → ℕ → ℕ → Bool
+is_party_of ring plan x n = is_among (record { 0 = x }) (parties ring plan n)
+
+-- the step mirrors the node or retires it
+abbrev pub NeedsMember : List Planned → NodeId → ℕ → Type 0
+NeedsMember plan x t = ((slot : Slot) × (step_at plan t ≡ Some (Mirror slot x))) ⊎ (step_at plan t ≡ Some (Retire x))
+
 -- what a plan must meet, by an order of its steps and chains for each node
 pub record Meets (ring : RingValue) (plan : List Planned) (O : Order) (chains : ℕ → List (List ℕ)) : Type 0 where
+  -- its steps are about nodes and slots of the ring
+  pub suits : Suits ring plan
   -- each step of a slot fits the stage before it
-  pub staged : AllStaged ring plan
+  pub staged : (slot : Slot) → IsStagedSlot ring plan slot
   -- and comes after the slot's step before it
-  pub in_order : (slot : Slot) (k : ℕ) → suc k < length (steps_of plan slot) → O (get_or (steps_of plan slot) k 0) (get_or (steps_of plan slot) (suc k) 0)
+  pub in_order : (slot : Slot) (k : ℕ) → suc k < length (steps_of plan slot)
+      → O (get_or (steps_of plan slot) k 0) (get_or (steps_of plan slot) (suc k) 0)
   -- a copy reads its owner, or at least R slots, all different
-  pub sources : (n : ℕ) (slot : Slot) (from : List ℕ) → step_at plan n ≡ Some (Copy slot (Slots from)) → (all_different from ≡ true) × (ring.r ≤ length from)
+  pub sources : (n : ℕ) (slot : Slot) (from : List ℕ) → step_at plan n ≡ Some (Copy slot (Slots from))
+      → (all_different from ≡ true) × (ring.r ≤ length from)
   -- each switch of a listed slot comes before or after the copy
-  pub settled : (n m j : ℕ) (slot : Slot) (from : List ℕ) → step_at plan n ≡ Some (Copy slot (Slots from)) → has j from ≡ true → step_at plan m ≡ Some (Switch (sibling slot j)) → O m n ⊎ O n m
-  -- a mirrored node has left each other slot of the partition that it served from the start, or from an earlier step on
-  pub left_first : (t j : ℕ) (slot : Slot) (x : NodeId) → step_at plan t ≡ Some (Mirror slot x) → j < ring.n → j ≢ slot.index → owner_of ring (sibling slot j) ≡ Some x → EndsBefore O (first_end ring plan (sibling slot j)) t
-  pub left_later : (t b j : ℕ) (slot : Slot) (x : NodeId) → step_at plan t ≡ Some (Mirror slot x) → j ≢ slot.index → b < t → step_at plan b ≡ Some (Mirror (sibling slot j) x) → EndsBefore O (mirror_end ring plan (sibling slot j) (place_in plan (sibling slot j) b) x) t
+  pub settled : (n m j : ℕ) (slot : Slot) (from : List ℕ) → step_at plan n ≡ Some (Copy slot (Slots from)) → has j from ≡ true
+      → step_at plan m ≡ Some (Switch (sibling slot j)) → O m n ⊎ O n m
+  -- a mirrored node has left each other slot of the partition that it served from the start
+  pub left_first : (t j : ℕ) (slot : Slot) (x : NodeId) → step_at plan t ≡ Some (Mirror slot x) → j ≢ slot.index
+      → owner_of ring (sibling slot j) ≡ Some x → EndsBefore O (first_end ring plan (sibling slot j)) t
+  -- and each that it served from an earlier step on
+  pub left_later : (t b j : ℕ) (slot : Slot) (x : NodeId) → step_at plan t ≡ Some (Mirror slot x) → j ≢ slot.index
+      → b < t → step_at plan b ≡ Some (Mirror (sibling slot j) x)
+      → EndsBefore O (mirror_end ring plan (sibling slot j) (place_in plan (sibling slot j) b) x) t
   -- a node that is `out` joins before it is mirrored or retires
-  pub joined : (t : ℕ) (x : NodeId) → is_member ring.nodes x ≡ false → ((slot : Slot) × (step_at plan t ≡ Some (Mirror slot x))) ⊎ (step_at plan t ≡ Some (Retire x)) → (j : ℕ) × (step_at plan j ≡ Some (Join x)) × O j t
-  -- a node that retires has dropped all that it held
-  pub dropped_first : (t : ℕ) (slot : Slot) (x : NodeId) → step_at plan t ≡ Some (Retire x) → owner_of ring slot ≡ Some x → EndsBefore O (first_drop ring plan slot) t
-  pub dropped_later : (t b : ℕ) (slot : Slot) (x : NodeId) → step_at plan t ≡ Some (Retire x) → step_at plan b ≡ Some (Mirror slot x) → EndsBefore O (mirror_drop plan slot (place_in plan slot b) x) t
+  pub joined_first : (t : ℕ) (x : NodeId) → is_member ring.nodes x ≡ false → NeedsMember plan x t
+      → (j : ℕ) × (step_at plan j ≡ Some (Join x)) × O j t
+  -- a node that retires has dropped what it held from the start
+  pub dropped_first : (t : ℕ) (slot : Slot) (x : NodeId) → step_at plan t ≡ Some (Retire x)
+      → owner_of ring slot ≡ Some x → EndsBefore O (first_drop ring plan slot) t
+  -- and what it held since it was mirrored
+  pub dropped_later : (t b : ℕ) (slot : Slot) (x : NodeId) → step_at plan t ≡ Some (Retire x)
+      → step_at plan b ≡ Some (Mirror slot x) → EndsBefore O (mirror_drop plan slot (place_in plan slot b) x) t
   -- of each declared node at most as many chains as its allowance have all copies in which it takes part
-  pub few : (x a : ℕ) → allowance_of ring x ≡ Some a → length (chains x) ≤ a
-  pub linked : (x : ℕ) → x < length ring.nodes → AreChains O (chains x)
-  pub covered : (x : NodeId) (n : ℕ) → x.0 < length ring.nodes → is_among x (parties ring plan n) ≡ true → in_some n (chains x.0) ≡ true
+  pub covers : (x a : ℕ) → allowance_of ring x ≡ Some a → Covers O a (is_party_of ring plan x) (chains x)
 
 -- a plan is sound where it meets this by "before", with some chains
 abbrev pub Sound : RingValue → List Planned → Type 0

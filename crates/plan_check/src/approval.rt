@@ -26,10 +26,7 @@ impl Model for Approved {
 }
 
 impl Approved {
-    ghost use Rattle.plan_text.specs.Valid.{Suits};
     ghost use Rattle.plan_check.specs.Approval.{Approval, IsApproved};
-    ghost use Rattle.plan_check.specs.Sound.{Sound};
-    ghost use Rattle.plan_check.specs.Headline.{AreApartAlways, AreFewAlways};
 
     /// The two together.
     pub(crate) fn new(ring: Ring, plan: Plan) -> Approved
@@ -42,10 +39,7 @@ impl Approved {
     /// The ring.
     pub fn ring(&self) -> &Ring
         ensures value { result.now ≡ self.now.ring }
-        ensures suits { Suits self.now.ring self.now.plan }
-        ensures sound { Sound self.now.ring self.now.plan }
-        ensures apart { AreApartAlways self.now.ring self.now.plan }
-        ensures few { AreFewAlways self.now.ring self.now.plan }
+        ensures approved { IsApproved self.now.ring self.now.plan }
     {
         &self.ring
     }
@@ -53,10 +47,7 @@ impl Approved {
     /// The plan.
     pub fn plan(&self) -> &Plan
         ensures value { result.now ≡ self.now.plan }
-        ensures suits { Suits self.now.ring self.now.plan }
-        ensures sound { Sound self.now.ring self.now.plan }
-        ensures apart { AreApartAlways self.now.ring self.now.plan }
-        ensures few { AreFewAlways self.now.ring self.now.plan }
+        ensures approved { IsApproved self.now.ring self.now.plan }
     {
         &self.plan
     }

@@ -1,15 +1,14 @@
 //! The check itself.
 
-ghost use Rattle.std.specs.Prelude.{◌≡◌, ◌↔◌, None, Some, IfOk, IfErr, OnOk, length};
+ghost use Rattle.std.specs.Prelude.{◌≡◌, None, Some, IfOk, IfErr, OnOk, length};
 ghost use Rattle.ring_names.specs.declared.refusal.Refusal.TheVariants.{OutOfMemory};
 ghost use Rattle.plan_text.specs.Valid.{Suits};
 ghost use Rattle.plan_order.specs.Facts.{AreFactsOf, is_ordered};
-ghost use Rattle.plan_stage.specs.Clauses.{Gives, below};
+ghost use Rattle.plan_stage.specs.Clauses.{Gives, below, first_failing};
 ghost use Rattle.plan_stage.specs.Partition.{partition_clauses};
-ghost use Rattle.plan_check.specs.Sound.{Sound};
+ghost use Rattle.plan_check.specs.Approval.{IsApproved};
 ghost use Rattle.plan_check.specs.Certified.{IsCertified};
-ghost use Rattle.plan_check.specs.First.{rest_clauses, all_clauses, first_refusal};
-ghost use Rattle.plan_check.specs.Headline.{AreApartAlways, AreFewAlways};
+ghost use Rattle.plan_check.specs.First.{fact_clauses, rest_clauses, all_clauses, first_refusal};
 
 use crate::approval::{Approved, Turned};
 use crate::laws::{
@@ -28,22 +27,21 @@ use std::alloc::Global;
 ///
 /// A plan that is accepted is sound, and so in every run of it two slots of a partition share no node, and no node takes part
 /// in more open copies than its allowance. Any other plan is refused by the first clause that does not hold, and comes back
-/// with its ring as it was. So does one for which there was no memory. The cost is that of reading the texts: each pair of
-/// steps that a clause compares is a dependency or a fact, or ends the check.
+/// with its ring as it was. So does one for which there was no memory, once all facts are verified. The cost is about that of
+/// reading the texts: of each two steps that a clause compares one comes directly before the other or by a fact, or the check ends.
 pub fn check(alloc: Global, ring: Ring, plan: Plan, cert: &Cert) -> Result<Approved, Turned>
     requires { Suits ring plan }
-    ensures approved { IfOk result (λ a. (a.ring ≡ ring) × (a.plan ≡ plan)) }
+    ensures same { IfOk result (λ a. (a.ring ≡ ring) × (a.plan ≡ plan)) }
+    ensures approved { OnOk result (IsApproved ring plan) }
     ensures certified { OnOk result (IsCertified ring plan cert.now) }
-    ensures sound { OnOk result (Sound ring plan) }
-    ensures apart { OnOk result (AreApartAlways ring plan) }
-    ensures few { OnOk result (AreFewAlways ring plan) }
+    ensures accepted { OnOk result (first_refusal ring plan cert.now ≡ None) }
     ensures refused { IfErr result (λ t. (t.refusal ≡ OutOfMemory → ⊥) → first_refusal ring plan cert.now ≡ Some t.refusal) }
     ensures unchanged { IfErr result (λ t. (t.ring ≡ ring) × (t.plan ≡ plan)) }
-    ensures exactly { IsCertified ring plan cert.now ↔ (first_refusal ring plan cert.now ≡ None) }
     ensures memory { IsCertified ring plan cert.now → IfErr result (λ t. t.refusal ≡ OutOfMemory) }
+    ensures late { IfErr result (λ t. t.refusal ≡ OutOfMemory → first_failing (fact_clauses plan 0 cert.now.facts) ≡ None) }
 {
     first_is_none_where_certified(&ring, &plan, cert);
-    certified_is_sound(&ring, &plan, cert);
+    certified_is_sound();
     groups_stay_apart(&ring, &plan);
     transfers_stay_few(&ring, &plan);
     match check_all(alloc, &ring, &plan, cert) {
@@ -59,7 +57,8 @@ pub fn check(alloc: Global, ring: Ring, plan: Plan, cert: &Cert) -> Result<Appro
 // Tests all clauses in their order.
 fn check_all(alloc: Global, ring: &Ring, plan: &Plan, cert: &Cert) -> Result<(), Refusal>
     requires { Suits ring.now plan.now }
-    ensures { Gives result (all_clauses ring.now plan.now cert.now) }
+    ensures first { Gives result (all_clauses ring.now plan.now cert.now) }
+    ensures late { IfErr result (λ e. e ≡ OutOfMemory → first_failing (fact_clauses plan.now 0 cert.now.facts) ≡ None) }
 {
     let facts = Facts::verify(alloc, plan, cert.facts.as_slice())?;
     check_rest(alloc, ring, plan, &facts, cert)

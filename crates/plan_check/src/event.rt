@@ -62,6 +62,13 @@ pub enum Reply {
     Answer(Listed<u32>),
 }
 
+/// An event with the reply that it got.
+#[derive(Debug, Drop)]
+pub struct Entry {
+    pub event: Event,
+    pub reply: Reply,
+}
+
 impl Reply {
     /// Adds the reply's text, as `ticket 0 1 2`; a list of puts without any is its word alone.
     pub fn write_text(&self, out: &mut Vec<u8>) -> Result<(), AllocError>

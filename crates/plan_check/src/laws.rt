@@ -1,19 +1,27 @@
 //! Laws about the definitions, which cost nothing: each is the contract of a function that does nothing.
 
-ghost use Rattle.std.specs.Prelude.{◌≡◌, ◌↔◌, ◌<◌, ◌+◌, ◌⊎◌, ℕ, List, true, None, Ok, Err, length, nat_lt};
+ghost use Rattle.std.specs.Prelude.{◌≡◌, ◌↔◌, ◌<◌, ◌+◌, ℕ, List, true, None, length, nat_lt};
 ghost use Rattle.std.specs.List.{list_all};
 ghost use Rattle.ring_names.specs.Lists.{has, all_different};
-ghost use Rattle.ring_names.specs.declared.refusal.Refusal.{Refusal as TheRefusal};
 ghost use Rattle.plan_text.specs.Valid.{Suits};
+ghost use Rattle.std.specs.Bool.{Decides};
+ghost use Rattle.ring_names.specs.declared.ids.Slot.{Slot as TheSlot};
+ghost use Rattle.ring_clock.specs.declared.causes.Cause.{Cause};
+ghost use Rattle.plan_cert.specs.declared.cert.Cert.{Cert as TheCert};
+ghost use Rattle.ring_table.specs.Value.{RingValue};
+ghost use Rattle.plan_text.specs.declared.step.Planned.{Planned};
 ghost use Rattle.plan_stage.specs.Clauses.{AllStaged};
-ghost use Rattle.plan_check.specs.declared.event.Event.{Event as TheEvent};
-ghost use Rattle.plan_check.specs.declared.event.Reply.{Reply as TheReply};
 ghost use Rattle.plan_check.specs.World.{World};
-ghost use Rattle.plan_check.specs.Events.{answer};
+ghost use Rattle.plan_check.specs.Succession.{Succeeds, succeeds};
+ghost use Rattle.plan_check.specs.Versions.{IsHeld, is_held};
+ghost use Rattle.plan_check.specs.Causes.{puts_of, AreCausesOf, AgreeOn};
 ghost use Rattle.plan_check.specs.Sound.{Sound};
 ghost use Rattle.plan_check.specs.Certified.{IsCertified};
 ghost use Rattle.plan_check.specs.First.{first_refusal};
-ghost use Rattle.plan_check.specs.Headline.{AreApartAlways, AreFewAlways, AreFinishedFirst};
+ghost use Rattle.plan_check.specs.Reached.{Reached};
+ghost use Rattle.plan_check.specs.Runs.{SplitAnywhere};
+ghost use Rattle.plan_check.specs.Safe.{AreApart, AreFew};
+ghost use Rattle.plan_check.specs.Headline.{Always, AreFinishedFirst};
 ghost use Rattle.plan_check.specs.Occupies.{ServersOccupy, OccupantsServe, AreGoodStages};
 
 use plan_cert::Cert;
@@ -21,11 +29,9 @@ use plan_text::Plan;
 use ring_table::Ring;
 
 /// What a certificate proves in order is before, so a plan that it certifies is sound.
-pub fn certified_is_sound(ring: &Ring, plan: &Plan, cert: &Cert)
-    ensures { IsCertified ring.now plan.now cert.now → Sound ring.now plan.now }
-{
-    let _ = (ring.n(), plan.len(), cert.facts.as_slice().len());
-}
+pub fn certified_is_sound()
+    ensures { (ring : RingValue) (plan : List Planned) (cert : TheCert) → IsCertified ring plan cert → Sound ring plan }
+{}
 
 /// No clause of the checker fails exactly where the certificate certifies the plan.
 pub fn first_is_none_where_certified(ring: &Ring, plan: &Plan, cert: &Cert)
@@ -35,19 +41,10 @@ pub fn first_is_none_where_certified(ring: &Ring, plan: &Plan, cert: &Cert)
     let _ = (ring.n(), plan.len(), cert.facts.as_slice().len());
 }
 
-/// In every world an event has one answer: the next world and a reply, or a refusal, which leaves the world.
-pub fn events_have_one_answer(ring: &Ring, plan: &Plan)
-    ensures { (w : World) (e : TheEvent) → ((u : World) × (r : TheReply) × (answer ring.now plan.now w e ≡ Ok (u, r))) ⊎ ((f : TheRefusal) × (answer ring.now plan.now w e ≡ Err f)) }
-{
-    let _ = (ring.n(), plan.len());
-}
-
 /// After each of a slot's steps its owner is no node that still has to drop what it held, and its mirror is neither of these.
-pub fn stages_are_good(ring: &Ring, plan: &Plan)
-    ensures { Sound ring.now plan.now → AreGoodStages ring.now plan.now }
-{
-    let _ = (ring.n(), plan.len());
-}
+pub fn stages_are_good()
+    ensures { (ring : RingValue) (plan : List Planned) → Sound ring plan → AreGoodStages ring plan }
+{}
 
 /// A node that owns or mirrors a slot has begun to, at the start or by a mirror step, and has not left it since; and where each
 /// step of a slot fits its stage, whoever has begun and has not left owns or mirrors it.
@@ -58,26 +55,52 @@ pub fn servers_occupy(ring: &Ring, plan: &Plan)
     let _ = (ring.n(), plan.len());
 }
 
+/// What every run of a plan leads to, sound or not: what finished steps depend on is finished, open copies are ready and not
+/// finished, only ready copies have marks, nodes have puts of the slot's partition, and gets found and answered puts of their key.
+pub fn runs_reach()
+    ensures { (ring : RingValue) (plan : List Planned) → Always ring plan (Reached ring plan) }
+{}
+
 /// In every run of a sound plan the finished steps of a slot are its first ones.
 pub fn finished_steps_come_first(ring: &Ring, plan: &Plan)
-    ensures { Sound ring.now plan.now → AreFinishedFirst ring.now plan.now }
+    ensures { Sound ring.now plan.now → Always ring.now plan.now (AreFinishedFirst plan.now) }
 {
     let _ = (ring.n(), plan.len());
 }
 
 /// In every run of a sound plan no two slots of a partition share a node, keepers of hints included.
 pub fn groups_stay_apart(ring: &Ring, plan: &Plan)
-    ensures { Sound ring.now plan.now → AreApartAlways ring.now plan.now }
+    ensures { Sound ring.now plan.now → Always ring.now plan.now (AreApart ring.now plan.now) }
 {
     let _ = (ring.n(), plan.len());
 }
 
 /// In every run of a sound plan no node takes part in more open copies than its allowance.
 pub fn transfers_stay_few(ring: &Ring, plan: &Plan)
-    ensures { Sound ring.now plan.now → AreFewAlways ring.now plan.now }
+    ensures { Sound ring.now plan.now → Always ring.now plan.now (AreFew ring.now plan.now) }
 {
     let _ = (ring.n(), plan.len());
 }
+
+/// A run in two parts is a run of the first, and then of the second from the world to which the first leads.
+pub fn runs_split()
+    ensures { (ring : RingValue) (plan : List Planned) → SplitAnywhere ring plan }
+{}
+
+/// The test whether one put succeeds another one tells just that.
+pub fn succession_is_tested()
+    ensures { (w : World) (u v : ℕ) → Decides (succeeds w u v) (Succeeds w u v) }
+{}
+
+/// The test whether a slot holds a put tells just that.
+pub fn holding_is_tested()
+    ensures { (ring : RingValue) (plan : List Planned) (w : World) (v : ℕ) (slot : TheSlot) → Decides (is_held ring plan w v slot) (IsHeld ring plan w v slot) }
+{}
+
+/// Of the puts of one key, one succeeds another where its cause, as clocks are made of them, succeeds the other's.
+pub fn succession_is_of_causes()
+    ensures { (w : World) (key : List ℕ) (causes : List Cause) → AreCausesOf w (puts_of w key) causes → AgreeOn w (puts_of w key) causes }
+{}
 
 /// Two lists of different numbers below n that are together longer than n share a number: every read meets every write.
 pub fn quorums_meet()

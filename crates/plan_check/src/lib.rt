@@ -5,16 +5,14 @@ mod approval;
 mod checker;
 mod event;
 mod laws;
-#[cfg(test)]
-mod tests;
 mod words;
 
 pub use approval::{Approved, Turned};
 pub use checker::check;
-pub use event::{Event, Reply};
+pub use event::{Entry, Event, Reply};
 pub use laws::{
-    certified_is_sound, events_have_one_answer, finished_steps_come_first,
-    first_is_none_where_certified, groups_stay_apart, quorums_meet, servers_occupy,
-    stages_are_good, transfers_stay_few,
+    certified_is_sound, finished_steps_come_first, first_is_none_where_certified,
+    groups_stay_apart, holding_is_tested, quorums_meet, runs_reach, runs_split, servers_occupy,
+    stages_are_good, succession_is_of_causes, succession_is_tested, transfers_stay_few,
 };
 pub use words::{Key, Seen, Value};

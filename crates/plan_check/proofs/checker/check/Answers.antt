@@ -2,13 +2,9 @@ use Rattle.plan_check.proofs.checker.check.Goals as goal
 
 pub new-requires : goal.new-requires
 new-requires c =
-    let sound = c.certified_is_sound.ensures (c.first_is_none_where_certified.ensures.0 c.in-Ok.ensures) in
+    let sound = c.certified_is_sound.ensures c.args.ring c.args.plan c.args.cert.now (c.first_is_none_where_certified.ensures.0 c.in-Ok.ensures.first) in
     record {
-      suits = c.requires;
       sound = sound;
       apart = c.groups_stay_apart.ensures sound;
       few = c.transfers_stay_few.ensures sound;
     }
-
-pub returns-in-Ok-clause-few : goal.returns-in-Ok-clause-few
-returns-in-Ok-clause-few c = c.transfers_stay_few.ensures (c.certified_is_sound.ensures (c.first_is_none_where_certified.ensures.0 c.in-Ok.ensures))

@@ -5,5 +5,5 @@ use Rattle.plan_check.proofs.laws.first_is_none_where_certified.Goals as goal
 pub returns : goal.returns
 returns c = (
   certified-from c.args.ring.now c.args.plan.now c.args.cert.now c.n.ensures.valid c.requires,
-  none-from c.args.ring.now c.args.plan.now c.args.cert.now c.requires,
+  none-from c.args.ring.now c.args.plan.now c.args.cert.now,
 )

@@ -3,7 +3,7 @@ use Rattle.ringplan_run.specs.Verdict.{judged}
 use Rattle.ringplan_run.proofs.bundle.check_plan.Goals as goal
 
 pub returns-in-Ok : goal.returns-in-Ok
-returns-in-Ok c = ap judged (c.check.ensures.exactly.0 c.in-Ok.ensures.certified)
+returns-in-Ok c = ap judged c.in-Ok.ensures.accepted
 
 pub returns : goal.returns
 returns c = λ other. ap judged (c.in-Err.ensures.refused other)

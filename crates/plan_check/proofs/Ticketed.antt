@@ -1,0 +1,76 @@
+-- What every event leaves true of tickets.
+use Rattle.std.proofs.Common.{◌≡◌, ◌⊎◌, inl, inr, ◌∙◌, ℕ, zero, suc, ◌+◌, ◌<◌, ◌≤◌, Bool, true, false, cond, List, [], ◌∷◌, ◌++◌, length, refl, sym, ap, subst, arith, eqb-true}
+use Rattle.std.specs.Prelude.{◌&&◌, ◌==◌, Some, None, is_some}
+use Rattle.ring_names.specs.declared.ids.Slot.{Slot}
+use Rattle.ring_table.specs.Value.{RingValue}
+use Rattle.ring_text.proofs.Fronts.{both_true}
+use Rattle.plan_text.specs.declared.step.Planned.{Planned}
+use Rattle.plan_text.specs.Steps.{steps_of}
+use Rattle.plan_check.specs.World.{PutRecord, World, count, key_of_put, ticket_of, mirror_at, generation, slot_of}
+use Rattle.plan_check.specs.Versions.{put_slot}
+use Rattle.plan_check.specs.Effects.{changed, with_value}
+use Rattle.plan_check.proofs.Changed.{read_at}
+use Rattle.plan_stage.proofs.Truth.{all_of}
+
+abbrev pub TicketFits : RingValue → List Planned → World → ℕ → ℕ → ℕ → Type 0
+TicketFits ring plan w v i g = (i < ring.n) × (g ≤ generation plan w (put_slot ring w v i))
+
+abbrev pub TicketsFit : RingValue → List Planned → World → Type 0
+TicketsFit ring plan w = (v i g : ℕ) → ticket_of w v i ≡ Some g → TicketFits ring plan w v i g
+
+-- ---- generations rise
+
+pub count_more : (D E : ℕ → Bool) (ss : List ℕ) → ((m : ℕ) → D m ≡ true → E m ≡ true) → count D ss ≤ count E ss
+count_more D E [] h = omega arith
+count_more D E (s ∷ ss) h = by (D s) (E s) (h s) (count_more D E ss h)
+  where
+    by : (a b : Bool) → (a ≡ true → b ≡ true) → count D ss ≤ count E ss → cond a (count D ss + 1) (count D ss) ≤ cond b (count E ss + 1) (count E ss)
+    by false false f l = l
+    by false true f l = omega arith
+    by true false f l = absurd (let g = f refl in cc)
+    by true true f l = omega arith
+
+pub generation_more : (plan : List Planned) (w u : World) (slot : Slot) → ((m : ℕ) → w.done m ≡ true → u.done m ≡ true) → generation plan w slot ≤ generation plan u slot
+generation_more plan w u slot h = count_more (λ s. w.done s && is_some (mirror_at plan s)) (λ s. u.done s && is_some (mirror_at plan s)) (steps_of plan slot)
+    (λ m e. (let b = both_true (w.done m) (is_some (mirror_at plan m)) e in all_of (u.done m) (is_some (mirror_at plan m)) (h m b.0) b.1))
+
+-- a ticket stays where the put keeps its key
+pub ticket_stays : (ring : RingValue) (plan : List Planned) (w u : World) (v i g : ℕ) → key_of_put u v ≡ key_of_put w v → ((m : ℕ) → w.done m ≡ true → u.done m ≡ true) → TicketFits ring plan w v i g → TicketFits ring plan u v i g
+ticket_stays ring plan w u v i g key more h =
+    let l : g ≤ generation plan w (put_slot ring w v i) = h.1 in
+    let m = generation_more plan w u (put_slot ring w v i) more in
+    let k : g ≤ generation plan u (put_slot ring w v i) = omega arith in
+    (h.0, subst (λ (z : List ℕ). g ≤ generation plan u (slot_of ring z i)) (sym key) k)
+
+-- ---- tickets of puts that come, and of a put that is changed
+
+pub new_put_ticket : (ps : List PutRecord) (p : PutRecord) (v i g : ℕ) → p.ticket i ≡ None → read_at (λ (x : PutRecord). x.ticket i) None (ps ++ p ∷ []) v ≡ Some g → (v < length ps) × (read_at (λ (x : PutRecord). x.ticket i) None ps v ≡ Some g)
+new_put_ticket [] p zero i g none e = absurd (let f = sym none ∙ e in cc)
+new_put_ticket [] p (suc v) i g none e = absurd cc
+new_put_ticket (x ∷ ps) p zero i g none e = (omega arith, e)
+new_put_ticket (x ∷ ps) p (suc v) i g none e = (let r = new_put_ticket ps p v i g none e in let l = r.0 in (omega arith, r.1))
+
+pub changed_ticket : (ps : List PutRecord) (n : ℕ) (f : PutRecord → PutRecord) (v i g : ℕ) → read_at (λ (x : PutRecord). x.ticket i) None (changed ps n f) v ≡ Some g
+    → (read_at (λ (x : PutRecord). x.ticket i) None ps v ≡ Some g) ⊎ ((v ≡ n) × (x : PutRecord) × ((f x).ticket i ≡ Some g) × (read_at (λ (y : PutRecord). y.ticket i) None ps v ≡ x.ticket i))
+changed_ticket [] n f v i g e = absurd cc
+changed_ticket (x ∷ ps) zero f zero i g e = inr (refl, x, e, refl)
+changed_ticket (x ∷ ps) zero f (suc v) i g e = inl e
+changed_ticket (x ∷ ps) (suc n) f zero i g e = inl e
+changed_ticket (x ∷ ps) (suc n) f (suc v) i g e = elim (changed_ticket ps n f v i g e) [ inl h ↦ inl h | inr h ↦ inr (ap suc h.0, h.1, h.2, h.3) ]
+
+-- a put with a ticket for the slot of index j, of its present generation
+pub ticketed_fits : (ring : RingValue) (plan : List Planned) (w : World) (n j : ℕ) → j < ring.n → (v i g : ℕ)
+    → read_at (λ (x : PutRecord). x.ticket i) None (changed w.puts n (λ x. record x { ticket = with_value x.ticket j (generation plan w (put_slot ring w n j)) })) v ≡ Some g
+    → (ticket_of w v i ≡ Some g) ⊎ TicketFits ring plan w v i g
+ticketed_fits ring plan w n j l v i g e = elim (changed_ticket w.puts n (λ x. record x { ticket = with_value x.ticket j (generation plan w (put_slot ring w n j)) }) v i g e) [
+  | inl f ↦ inl f
+  | inr f ↦ by (i == j) refl f.1 f.2 f.0 f.3
+]
+  where
+    by : (b : Bool) → (i == j) ≡ b → (x : PutRecord) → cond b (Some (generation plan w (put_slot ring w n j))) (x.ticket i) ≡ Some g → v ≡ n → ticket_of w v i ≡ x.ticket i → (ticket_of w v i ≡ Some g) ⊎ TicketFits ring plan w v i g
+    by false same x h is at = inl (at ∙ h)
+    by true same x h is at =
+        let k : i ≡ j = eqb-true i j same in
+        let m : generation plan w (put_slot ring w n j) ≡ g = cc in
+        let a : generation plan w (put_slot ring w v i) ≡ generation plan w (put_slot ring w n j) = ap (λ (z : ℕ). generation plan w (put_slot ring w z i)) is ∙ ap (λ (z : ℕ). generation plan w (put_slot ring w n z)) k in
+        inr (omega arith, omega arith)
