@@ -7,7 +7,7 @@ mod bundle;
 mod command;
 mod input;
 mod output;
-mod run;
+mod program;
 
 pub use bundle::check_bundle;
-pub use run::{end_without_memory, end_without_words, run};
+pub use program::{end_without_memory, end_without_words, run};

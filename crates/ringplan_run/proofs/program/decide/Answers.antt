@@ -1,7 +1,7 @@
 use Rattle.std.proofs.Common.{refl}
 use Rattle.ringplan_run.specs.Run.{help, refused}
 use Rattle.ringplan_run.proofs.Runs.{said, said_verdict}
-use Rattle.ringplan_run.proofs.run.decide.Goals as goal
+use Rattle.ringplan_run.proofs.program.decide.Goals as goal
 
 pub returns-in-Check : goal.returns-in-Check
 returns-in-Check g c =

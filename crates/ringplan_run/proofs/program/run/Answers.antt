@@ -2,7 +2,7 @@ use Rattle.std.proofs.Common.{map}
 use Rattle.clap.specs.Words.{fault_of}
 use Rattle.ringplan_run.specs.Command.{ringplan}
 use Rattle.ringplan_run.proofs.Runs.{ran, ran_check, ran_out}
-use Rattle.ringplan_run.proofs.run.run.Goals as goal
+use Rattle.ringplan_run.proofs.program.run.Goals as goal
 
 pub returns-in-Ok-clause-check : goal.returns-in-Ok-clause-check
 returns-in-Ok-clause-check g c = λ e.
