@@ -1,7 +1,7 @@
 -- A certificate is read only from its one text.
 use Rattle.std.proofs.Common.{◌≡◌, ℕ, ◌+◌, ◌<◌, ◌≤◌, true, nat_lt, nat_le, List, [], ◌∷◌, ◌++◌, length, map, codes, Ok, Err, refl, sym, ap, ◌∙◌, arith, rules, length-append}
 use Rattle.std.specs.List.{list_all, AllByRecursion}
-use Rattle.std.proofs.lemmas.Bool.{lt-ltb, ltb-true}
+use Rattle.std.proofs.lemmas.Bool.{lt-ltb, ltb-true, and_parts}
 use Rattle.std.proofs.lemmas.List.{length-map}
 use Rattle.ring_names.specs.declared.refusal.Refusal.{Refusal}
 use Rattle.ring_text.specs.Numbers.{are_small}
@@ -12,7 +12,6 @@ use Rattle.ring_text.proofs.FrameLaws.{Nothing, header-line, end-line}
 use Rattle.ring_text.specs.Laws.{IsPart, SomeLeft, Any, IsPlain, IsPlainLine, EachNext, BeginsOther}
 use Rattle.ring_text.proofs.Items.{IsPart-line, IsPart-then, IsPart-map, IsPart-as, some_lines}
 use Rattle.ring_text.proofs.Many.{many-part}
-use Rattle.ring_text.proofs.Fronts.{both_true}
 use Rattle.ring_text.proofs.Rows.{numbers-plain}
 use Rattle.ring_text.proofs.Wholes.{whole-takes, whole-gives}
 use Rattle.ring_table.specs.declared.node.Node.{Node}
@@ -46,9 +45,9 @@ facts-are seen (x ∷ xs) le next =
 facts-next : (seen xs : List (List ℕ)) → AreFacts (length seen) xs → EachNext IsFactLine seen xs
 facts-next seen [] p = tt
 facts-next seen (x ∷ xs) p =
-    let f = both_true (is_fact x) (list_all is_fact xs) p.facts in
-    let two = both_true (nat_le 2 (length x)) (nat_le (length x) 1024) f.0 in
-    let s = both_true (are_small x) (list_all are_small xs) p.small in
+    let f = and_parts (is_fact x) (list_all is_fact xs) p.facts in
+    let two = and_parts (nat_le 2 (length x)) (nat_le (length x) 1024) f.0 in
+    let s = and_parts (are_small x) (list_all are_small xs) p.small in
     let grown = length-append seen (x ∷ []) in
     let few = p.few in
     (record { room = omega arith; path_is = record { two = two.0; few = two.1; small = s.0 } }, facts-next (seen ++ x ∷ []) xs (record { few = omega arith; facts = f.1; small = s.1 }))
@@ -80,9 +79,9 @@ chains-are ring seen (x ∷ xs) le next =
 chains-next : (ring : RingValue) (seen xs : List Chain) → AreChains ring (length seen) xs → EachNext (IsChainLine ring) seen xs
 chains-next ring seen [] p = tt
 chains-next ring seen (x ∷ xs) p =
-    let f = both_true (is_chain ring x) (list_all (is_chain ring) xs) p.chains in
-    let one = both_true (nat_lt x.node.0 (length ring.nodes)) (nat_le 1 (length x.steps)) f.0 in
-    let s = both_true (are_small x.steps) (list_all (λ c. are_small c.steps) xs) p.small in
+    let f = and_parts (is_chain ring x) (list_all (is_chain ring) xs) p.chains in
+    let one = and_parts (nat_lt x.node.0 (length ring.nodes)) (nat_le 1 (length x.steps)) f.0 in
+    let s = and_parts (are_small x.steps) (list_all (λ c. are_small c.steps) xs) p.small in
     let grown = length-append seen (x ∷ []) in
     let few = p.few in
     (record { room = omega arith; node_is = declared-below ring x.node.0 one.0; steps_are = record { one = one.1; small = s.0 } }, chains-next ring (seen ++ x ∷ []) xs (record { few = omega arith; chains = f.1; small = s.1 }))

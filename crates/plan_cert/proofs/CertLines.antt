@@ -2,7 +2,7 @@
 use Rattle.std.proofs.Common.{◌≡◌, ℕ, ◌<◌, ◌≤◌, Bool, true, false, not, nat_lt, nat_le, List, [], ◌∷◌, ◌++◌, length, map, codes, Result, Ok, Err, refl, sym, ap, subst, ◌∙◌, arith}
 use Rattle.std.specs.Prelude.{IfOk, OnOk}
 use Rattle.std.specs.Fmt.{decimal}
-use Rattle.std.proofs.lemmas.Bool.{lt-ltb, ltb-true}
+use Rattle.std.proofs.lemmas.Bool.{lt-ltb, ltb-true, not-false}
 use Rattle.std.proofs.lemmas.Bool.Decides.{nat_tests}
 use Rattle.ring_names.specs.declared.refusal.Refusal.{Refusal}
 use Rattle.ring_names.specs.declared.refusal.Refusal.TheVariants.{BadLine, TooLarge}
@@ -32,10 +32,6 @@ names-of ring r = names-of_nodes ring.nodes (record { some_node = r.some_node; n
 le-leb : (a b : ℕ) → a ≤ b → nat_le a b ≡ true
 le-leb a b le = grind (arith, nat_tests)
 
-not_false : (b : Bool) → not b ≡ false → b ≡ true
-not_false true e = refl
-not_false false e = absurd cc
-
 pub record IsPath (xs : List ℕ) : Type 0 where
   pub two : nat_le 2 (length xs) ≡ true
   pub few : nat_le (length xs) 1024 ≡ true
@@ -48,7 +44,7 @@ pub record AreSteps (xs : List ℕ) : Type 0 where
 path-are : (k : ℕ) (xs v : List ℕ) → judge_path k xs ≡ Ok v → (xs ≡ v) × IsPath v
 path-are k xs v e =
     let u = unless_is ((not (nat_le 2 (length xs)), BadLine k) ∷ (not (nat_le (length xs) 1024), TooLarge k) ∷ (not (are_small xs), TooLarge k) ∷ []) xs v e in
-    let mine : IsPath xs = record { two = not_false (nat_le 2 (length xs)) u.1.0; few = not_false (nat_le (length xs) 1024) u.1.1.0; small = not_false (are_small xs) u.1.1.1.0 } in
+    let mine : IsPath xs = record { two = not-false (nat_le 2 (length xs)) u.1.0; few = not-false (nat_le (length xs) 1024) u.1.1.0; small = not-false (are_small xs) u.1.1.1.0 } in
     (u.0, subst IsPath u.0 mine)
 
 path-judged : (k : ℕ) (xs : List ℕ) → IsPath xs → judge_path k xs ≡ Ok xs
@@ -58,7 +54,7 @@ path-judged k xs p = unless_ok ((not (nat_le 2 (length xs)), BadLine k) ∷ (not
 steps-are : (k : ℕ) (xs v : List ℕ) → judge_steps k xs ≡ Ok v → (xs ≡ v) × AreSteps v
 steps-are k xs v e =
     let u = unless_is ((not (nat_le 1 (length xs)), BadLine k) ∷ (not (are_small xs), TooLarge k) ∷ []) xs v e in
-    let mine : AreSteps xs = record { one = not_false (nat_le 1 (length xs)) u.1.0; small = not_false (are_small xs) u.1.1.0 } in
+    let mine : AreSteps xs = record { one = not-false (nat_le 1 (length xs)) u.1.0; small = not-false (are_small xs) u.1.1.0 } in
     (u.0, subst AreSteps u.0 mine)
 
 steps-judged : (k : ℕ) (xs : List ℕ) → AreSteps xs → judge_steps k xs ≡ Ok xs

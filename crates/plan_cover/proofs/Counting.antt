@@ -3,7 +3,7 @@ use Rattle.std.proofs.Common.{◌≡◌, ℕ, suc, zero, ◌+◌, ◌-◌, ◌<�
 use Rattle.std.specs.Prelude.{◌||◌, ◌==◌, slice_get}
 use Rattle.std.proofs.lemmas.Bool.{lt-ltb, eq-eqb}
 use Rattle.std.proofs.lemmas.Bool.Decides.{nat_tests}
-use Rattle.plan_text.specs.Valid.{ascends}
+use Rattle.ring_text.specs.Numbers.{ascending}
 use Rattle.plan_cover.specs.Looking.Numbers.{numbers_from, is_last, with_last, with_last_if}
 
 -- ---- one more entry
@@ -67,15 +67,15 @@ numbers-between test k n (x ∷ xs) e =
 
 -- ---- they ascend
 
-in_front : (k n : ℕ) (xs : List ℕ) → AreBetween (k + 1) n xs → ascends xs ≡ true → ascends (k ∷ xs) ≡ true
+in_front : (k n : ℕ) (xs : List ℕ) → AreBetween (k + 1) n xs → ascending xs ≡ true → ascending (k ∷ xs) ≡ true
 in_front k n [] a e = refl
 in_front k n (x ∷ xs) a e = (let low = a.0 in rw (lt-ltb k x (omega arith), e) refl)
 
-put_up : (b : Bool) (k n : ℕ) (xs : List ℕ) → AreBetween (k + 1) n xs → ascends xs ≡ true → ascends (cond b (k ∷ xs) xs) ≡ true
+put_up : (b : Bool) (k n : ℕ) (xs : List ℕ) → AreBetween (k + 1) n xs → ascending xs ≡ true → ascending (cond b (k ∷ xs) xs) ≡ true
 put_up true k n xs a e = in_front k n xs a e
 put_up false k n xs a e = e
 
-pub numbers-ascend : {A : Type 0} (test : ℕ → A → Bool) (k : ℕ) (xs : List A) → ascends (numbers_from test k xs) ≡ true
+pub numbers-ascend : {A : Type 0} (test : ℕ → A → Bool) (k : ℕ) (xs : List A) → ascending (numbers_from test k xs) ≡ true
 numbers-ascend test k [] = refl
 numbers-ascend test k (x ∷ xs) =
     put_up (test k x) k ((k + 1) + length xs) (numbers_from test (k + 1) xs) (numbers-between test (k + 1) ((k + 1) + length xs) xs refl) (numbers-ascend test (k + 1) xs)

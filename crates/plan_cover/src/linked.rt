@@ -2,7 +2,7 @@
 
 ghost use Rattle.std.specs.Prelude.{◌≡◌, true, map, min};
 ghost use Rattle.ring_names.specs.Lists.{has};
-ghost use Rattle.plan_text.specs.Valid.{ascends};
+ghost use Rattle.ring_text.specs.Numbers.{ascending};
 ghost use Rattle.plan_order.specs.Order.{order};
 ghost use Rattle.plan_stage.specs.Clauses.{Gives};
 ghost use Rattle.plan_cover.specs.Looking.Guards.{leads_on, is_linked_in, steps_at, chain_guard};
@@ -18,7 +18,7 @@ pub fn check_chains(
     numbers: &[usize],
     copies: &[u32],
 ) -> Result<(), Refusal>
-    requires { ascends copies.now ≡ true }
+    requires { ascending copies.now ≡ true }
     ensures { Gives result (map (chain_guard copies.now (order context.now) chains.now) numbers.now) }
 {
     let mut rest = numbers;
@@ -39,7 +39,7 @@ fn number_of(place: usize) -> u32
 }
 
 fn is_linked_at(context: &Context, chains: &[Chain], number: usize, copies: &[u32]) -> bool
-    requires { ascends copies.now ≡ true }
+    requires { ascending copies.now ≡ true }
     ensures { result ≡ is_linked_in copies.now (order context.now) (steps_at chains.now number) }
 {
     match chains.get(number) {
@@ -49,7 +49,7 @@ fn is_linked_at(context: &Context, chains: &[Chain], number: usize, copies: &[u3
 }
 
 fn is_linked(context: &Context, steps: &[u32], copies: &[u32]) -> bool
-    requires { ascends copies.now ≡ true }
+    requires { ascending copies.now ≡ true }
     ensures { result ≡ is_linked_in copies.now (order context.now) steps.now }
 {
     let mut rest = steps;
@@ -63,7 +63,7 @@ fn is_linked(context: &Context, steps: &[u32], copies: &[u32]) -> bool
 }
 
 fn is_copy(copies: &[u32], step: u32) -> bool
-    requires { ascends copies.now ≡ true }
+    requires { ascending copies.now ≡ true }
     ensures { result ≡ has step copies.now }
 {
     copies.binary_search(&step).is_ok()

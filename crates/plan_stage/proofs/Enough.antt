@@ -12,7 +12,8 @@ use Rattle.plan_text.specs.declared.step.Step.{Step}
 use Rattle.plan_text.specs.declared.step.Step.TheVariants.{Join, Mirror, Copy, Switch, Drop, Retire}
 use Rattle.plan_text.specs.declared.step.Planned.{Planned}
 use Rattle.plan_text.specs.Steps.{is_slot, retires, retired, is_retire_of, first_step, retirement_of}
-use Rattle.plan_text.specs.Valid.{ascends, Suits, step_suits, source_suits, is_ring_slot, is_declared}
+use Rattle.plan_text.specs.Valid.{Suits, step_suits, source_suits, is_ring_slot, is_declared}
+use Rattle.ring_text.specs.Numbers.{ascending}
 use Rattle.plan_stage.specs.Each.{step_at}
 use Rattle.plan_stage.specs.Occupancy.{is_node}
 use Rattle.plan_stage.specs.Holdings.{holdings, is_none}
@@ -111,5 +112,5 @@ concerned-at ring plan p numbers suits g n (Retire x) at h =
     let r = holder-slot ring plan p x h in
     holder-retires ring plan (record { partition = p; index = r.0 }) x numbers (g.slots r.0 r.1) r.2 n (retirement-at plan n x suits.retirements at)
 
-pub concerned-from : (ring : RingValue) (plan : List Planned) (p : ℕ) (numbers : List ℕ) → Suits ring plan → ascends numbers ≡ true → IsGathered ring plan p numbers → AreConcerned ring plan p numbers
+pub concerned-from : (ring : RingValue) (plan : List Planned) (p : ℕ) (numbers : List ℕ) → Suits ring plan → ascending numbers ≡ true → IsGathered ring plan p numbers → AreConcerned ring plan p numbers
 concerned-from ring plan p numbers suits asc g = record { ascending = asc; within = g.within; all = concerned-at ring plan p numbers suits g }

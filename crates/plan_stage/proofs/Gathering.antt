@@ -4,7 +4,7 @@ use Rattle.std.specs.Prelude.{◌||◌, ◌==◌, nat_lt, slice_get, option_map}
 use Rattle.std.specs.List.{list_all}
 use Rattle.std.specs.declared.cmp.Ordering.TheVariants.{Less, Equal, Greater}
 use Rattle.std.specs.List.Sorted.{IsStrictlySortedBy}
-use Rattle.plan_text.specs.Valid.{ascends}
+use Rattle.ring_text.specs.Numbers.{ascending}
 use Rattle.std.specs.Ordering.{nat_cmp, match_ordering}
 use Rattle.std.specs.BTreeSet.{insert_key}
 use Rattle.std.proofs.lemmas.Bool.{eqb-true, lt-ltb}
@@ -161,12 +161,12 @@ ordered true c h = refl
 ordered false true h = absurd cc
 ordered false false h = absurd cc
 
--- what a set keeps ascends
-pub sorted-ascends : (xs : List ℕ) → IsStrictlySortedBy nat_cmp xs → ascends xs ≡ true
+-- what a set keeps ascending
+pub sorted-ascends : (xs : List ℕ) → IsStrictlySortedBy nat_cmp xs → ascending xs ≡ true
 unfolding IsStrictlySortedBy
 sorted-ascends [] h = refl
 sorted-ascends (x ∷ []) h = refl
-sorted-ascends (x ∷ y ∷ ys) h = all_of (nat_lt x y) (ascends (y ∷ ys)) (ordered (nat_lt x y) (x == y) h.0.0) (sorted-ascends (y ∷ ys) h.1)
+sorted-ascends (x ∷ y ∷ ys) h = all_of (nat_lt x y) (ascending (y ∷ ys)) (ordered (nat_lt x y) (x == y) h.0.0) (sorted-ascends (y ∷ ys) h.1)
 
 -- the slots below a number, and the slot of that number
 pub slots-more : (ring : RingValue) (plan : List Planned) (p k : ℕ) (old new : List ℕ) → Grows plan old new → ((i : ℕ) → i < k → HasSlot ring plan (record { partition = p; index = i }) old) → HasSlot ring plan (record { partition = p; index = k }) new → (i : ℕ) → i < k + 1 → HasSlot ring plan (record { partition = p; index = i }) new

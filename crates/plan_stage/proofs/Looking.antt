@@ -13,7 +13,7 @@ use Rattle.plan_text.specs.declared.step.Step.{Step}
 use Rattle.plan_text.specs.declared.step.Step.TheVariants.{Join, Mirror, Copy, Switch, Drop, Retire}
 use Rattle.plan_text.specs.declared.step.Source.TheVariants.{Owner, Slots}
 use Rattle.plan_text.specs.declared.step.Planned.{Planned}
-use Rattle.plan_text.specs.Valid.{ascends}
+use Rattle.ring_text.specs.Numbers.{ascending}
 use Rattle.plan_stage.specs.Clauses.{Guard, first_failing}
 use Rattle.plan_stage.specs.Occupancy.{first_drop, mirror_drop}
 use Rattle.plan_stage.specs.Each.{step_at, each_step, is_mirror_of, owns_first, place_in}
@@ -32,23 +32,23 @@ front-same [] ds es e = e
 front-same (c ∷ cs) ds es e = rw (front-same cs ds es e) refl
 
 -- the first of ascending numbers is below the others
-pub ascends-below : (n : ℕ) (ns : List ℕ) → ascends (n ∷ ns) ≡ true → (j : ℕ) → has j ns ≡ true → n < j
+pub ascends-below : (n : ℕ) (ns : List ℕ) → ascending (n ∷ ns) ≡ true → (j : ℕ) → has j ns ≡ true → n < j
 ascends-below n [] h j is = absurd cc
 ascends-below n (m ∷ ms) h j is =
-    let b = both_true (nat_lt n m) (ascends (m ∷ ms)) h in
+    let b = both_true (nat_lt n m) (ascending (m ∷ ms)) h in
     let l : n < m = ltb-true n m b.0 in
     elim (either (j == m) (has j ms) is) [
       | inl here ↦ (let e : j ≡ m = eqb-true j m here in rw e l)
       | inr there ↦ (let g : m < j = ascends-below m ms b.1 j there in omega arith)
     ]
 
-pub ascends-later : (n : ℕ) (ns : List ℕ) → ascends (n ∷ ns) ≡ true → ascends ns ≡ true
+pub ascends-later : (n : ℕ) (ns : List ℕ) → ascending (n ∷ ns) ≡ true → ascending ns ≡ true
 ascends-later n [] h = refl
-ascends-later n (m ∷ ms) h = (both_true (nat_lt n m) (ascends (m ∷ ms)) h).1
+ascends-later n (m ∷ ms) h = (both_true (nat_lt n m) (ascending (m ∷ ms)) h).1
 
 -- the numbers are of steps from number k on, and the clauses of the other steps hold
 pub record Covers (f : ℕ → Step → List Guard) (k : ℕ) (plan : List Planned) (numbers : List ℕ) : Type 0 where
-  pub ascending : ascends numbers ≡ true
+  pub ascending : ascending numbers ≡ true
   pub low : (j : ℕ) → has j numbers ≡ true → k ≤ j
   pub high : (j : ℕ) → has j numbers ≡ true → j < k + length plan
   pub others : (m : ℕ) (s : Step) → step_at plan m ≡ Some s → has (k + m) numbers ≡ false → first_failing (f (k + m) s) ≡ None
@@ -93,7 +93,7 @@ taken f k x xs ns c = record {
     differs k m = elim (told (k + suc m == k)) [ inl e ↦ absurd (let g : k + suc m ≡ k = eqb-true (k + suc m) k e in omega arith) | inr d ↦ d ]
 
 -- a number that is there, and below all others, is the first
-leads : (k : ℕ) (numbers : List ℕ) → ascends numbers ≡ true → ((j : ℕ) → has j numbers ≡ true → k ≤ j) → has k numbers ≡ true → (ns : List ℕ) × (numbers ≡ k ∷ ns)
+leads : (k : ℕ) (numbers : List ℕ) → ascending numbers ≡ true → ((j : ℕ) → has j numbers ≡ true → k ≤ j) → has k numbers ≡ true → (ns : List ℕ) × (numbers ≡ k ∷ ns)
 leads k [] h low is = absurd cc
 leads k (n ∷ ns) h low is = elim (either (k == n) (has k ns) is) [
   | inl here ↦ (ns, (let e : k ≡ n = eqb-true k n here in rw e refl))
@@ -120,7 +120,7 @@ from f plan k (x ∷ xs) numbers tail c =
     ]
 
 -- where the clauses of all other steps hold, the first that fails is the first of all
-pub looked-at : (f : ℕ → Step → List Guard) (plan : List Planned) (numbers : List ℕ) → ascends numbers ≡ true → list_all (λ n. nat_lt n (length plan)) numbers ≡ true → ((n : ℕ) (s : Step) → step_at plan n ≡ Some s → has n numbers ≡ false → first_failing (f n s) ≡ None) → first_failing (clauses_of f plan numbers) ≡ first_failing (steps_clauses f 0 plan)
+pub looked-at : (f : ℕ → Step → List Guard) (plan : List Planned) (numbers : List ℕ) → ascending numbers ≡ true → list_all (λ n. nat_lt n (length plan)) numbers ≡ true → ((n : ℕ) (s : Step) → step_at plan n ≡ Some s → has n numbers ≡ false → first_failing (f n s) ≡ None) → first_failing (clauses_of f plan numbers) ≡ first_failing (steps_clauses f 0 plan)
 looked-at f plan numbers asc within others =
     from f plan 0 plan numbers (λ m. rw (zero_more m) refl) (record {
       ascending = asc;

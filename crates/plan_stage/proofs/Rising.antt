@@ -11,7 +11,7 @@ use Rattle.ring_names.specs.declared.ids.Slot.{Slot}
 use Rattle.ring_table.specs.Value.{RingValue}
 use Rattle.plan_text.specs.declared.step.Planned.{Planned}
 use Rattle.plan_text.specs.Steps.{steps_of, steps_from, is_on}
-use Rattle.plan_text.specs.Valid.{ascends}
+use Rattle.ring_text.specs.Numbers.{ascending}
 use Rattle.plan_stage.specs.declared.holding.Holding.{Holding}
 use Rattle.plan_stage.specs.declared.stage.Stage.{Stage}
 use Rattle.plan_stage.specs.Stage.{after, opening}
@@ -43,26 +43,26 @@ all-until p q (h ∷ hs) front = rw (take_while-cons p h hs) (by (p h) front.0 (
 
 -- ---- the steps of a slot ascend
 
-ascends-from : (k : ℕ) (xs : List Planned) (slot : Slot) (j : ℕ) → j < k → ascends (j ∷ steps_from k xs slot) ≡ true
+ascends-from : (k : ℕ) (xs : List Planned) (slot : Slot) (j : ℕ) → j < k → ascending (j ∷ steps_from k xs slot) ≡ true
 ascends-from k [] slot j l = refl
 ascends-from k (x ∷ xs) slot j l = by (is_on slot x.step) (ascends-from (k + 1) xs slot k (omega arith)) (ascends-from (k + 1) xs slot j (omega arith))
   where
-    by : (b : Bool) → ascends (k ∷ steps_from (k + 1) xs slot) ≡ true → ascends (j ∷ steps_from (k + 1) xs slot) ≡ true → ascends (j ∷ cond b (k ∷ steps_from (k + 1) xs slot) (steps_from (k + 1) xs slot)) ≡ true
+    by : (b : Bool) → ascending (k ∷ steps_from (k + 1) xs slot) ≡ true → ascending (j ∷ steps_from (k + 1) xs slot) ≡ true → ascending (j ∷ cond b (k ∷ steps_from (k + 1) xs slot) (steps_from (k + 1) xs slot)) ≡ true
     by true here there = rw (lt-ltb j k l, here) refl
     by false here there = there
 
-ascends-behind : (j : ℕ) (ns : List ℕ) → ascends (j ∷ ns) ≡ true → ascends ns ≡ true
+ascends-behind : (j : ℕ) (ns : List ℕ) → ascending (j ∷ ns) ≡ true → ascending ns ≡ true
 ascends-behind j [] h = refl
-ascends-behind j (n ∷ ns) h = (both_true (nat_lt j n) (ascends (n ∷ ns)) h).1
+ascends-behind j (n ∷ ns) h = (both_true (nat_lt j n) (ascending (n ∷ ns)) h).1
 
-steps-ascend : (plan : List Planned) (slot : Slot) → ascends (steps_of plan slot) ≡ true
+steps-ascend : (plan : List Planned) (slot : Slot) → ascending (steps_of plan slot) ≡ true
 steps-ascend [] slot = refl
 steps-ascend (x ∷ xs) slot = by (is_on slot x.step)
   where
     z : 0 + 1 ≡ 1
     z = omega arith
 
-    by : (b : Bool) → ascends (cond b (0 ∷ steps_from (0 + 1) xs slot) (steps_from (0 + 1) xs slot)) ≡ true
+    by : (b : Bool) → ascending (cond b (0 ∷ steps_from (0 + 1) xs slot) (steps_from (0 + 1) xs slot)) ≡ true
     by true = ascends-from (0 + 1) xs slot 0 (omega arith)
     by false = ascends-behind 0 (steps_from (0 + 1) xs slot) (ascends-from (0 + 1) xs slot 0 (omega arith))
 
@@ -75,10 +75,10 @@ not_early : (b t : ℕ) → nat_lt b t ≡ false → t ≤ b
 not_early b t h = grind (arith, nat_tests)
 
 -- behind a step that is not before step t all begin at step t or later
-none-before : (plan : List Planned) (slot : Slot) (x : NodeId) (t : ℕ) (a : Stage) (b : ℕ) (bs : List ℕ) → t ≤ b → ascends (b ∷ bs) ≡ true → list_all (λ k. not (begins_before t k)) (holdings_from plan slot x a bs) ≡ true
+none-before : (plan : List Planned) (slot : Slot) (x : NodeId) (t : ℕ) (a : Stage) (b : ℕ) (bs : List ℕ) → t ≤ b → ascending (b ∷ bs) ≡ true → list_all (λ k. not (begins_before t k)) (holdings_from plan slot x a bs) ≡ true
 none-before plan slot x t a b [] l up = refl
 none-before plan slot x t a b (c ∷ cs) l up =
-    let p = both_true (nat_lt b c) (ascends (c ∷ cs)) up in
+    let p = both_true (nat_lt b c) (ascending (c ∷ cs)) up in
     let more : b < c = ltb-true b c p.0 in
     let far : t ≤ c = omega arith in
     by (elim (step_at plan c) [ Some s ↦ is_mirror_of slot x s | None ↦ false ]) (late c t far) (none-before plan slot x t (after plan a c) c cs far p.1)
@@ -88,7 +88,7 @@ none-before plan slot x t a b (c ∷ cs) l up =
     by true e rest = rw (e, rest) refl
     by false e rest = rest
 
-rise-from : (plan : List Planned) (slot : Slot) (x : NodeId) (t : ℕ) (a : Stage) (bs : List ℕ) → ascends bs ≡ true → InFront (begins_before t) (holdings_from plan slot x a bs)
+rise-from : (plan : List Planned) (slot : Slot) (x : NodeId) (t : ℕ) (a : Stage) (bs : List ℕ) → ascending bs ≡ true → InFront (begins_before t) (holdings_from plan slot x a bs)
 rise-from plan slot x t a [] up = tt
 rise-from plan slot x t a (b ∷ bs) up =
     by (elim (step_at plan b) [ Some s ↦ is_mirror_of slot x s | None ↦ false ]) (rise-from plan slot x t (after plan a b) bs (ascends-behind b bs up))

@@ -3,7 +3,8 @@
 ghost use Rattle.std.specs.Prelude.{◌≡◌, ◌<◌, IfOk, IfErr, OnOk, length, true};
 ghost use Rattle.ring_names.specs.Lists.{has};
 ghost use Rattle.ring_names.specs.declared.refusal.Refusal.TheVariants.{OutOfMemory};
-ghost use Rattle.plan_text.specs.Valid.{Suits, ascends};
+ghost use Rattle.plan_text.specs.Valid.{Suits};
+ghost use Rattle.ring_text.specs.Numbers.{ascending};
 ghost use Rattle.plan_stage.specs.Looking.Concerned.{AreConcerned};
 ghost use Rattle.plan_stage.specs.Looking.Gathered.{mirrored_node, Grows, HasRetirement, HasStep, HasSlot, IsGathered};
 
@@ -32,7 +33,7 @@ pub fn concerned(
 // The numbers of a set, ascending.
 fn listed(alloc: Global, numbers: &BTreeSet<u32>) -> Result<Vec<u32>, AllocError>
     ensures items { IfOk result (λ list. list.items ≡ numbers.now.keys) }
-    ensures ascending { IfOk result (λ list. ascends list.items ≡ true) }
+    ensures ascending { IfOk result (λ list. ascending list.items ≡ true) }
 {
     numbers.iter().copied().collect(alloc)
 }

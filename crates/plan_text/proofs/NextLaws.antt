@@ -2,7 +2,7 @@
 use Rattle.std.proofs.Common.{◌≡◌, ℕ, ◌+◌, ◌-◌, ◌≤◌, Bool, true, false, not, cond, nat_lt, nat_le, eqb, ◌&&◌, ◌⊎◌, inl, inr, List, [], ◌∷◌, length, codes, Result, Ok, Err, refl, sym, ap, subst, ◌∙◌, arith}
 use Rattle.std.specs.List.{list_all}
 use Rattle.std.specs.Str.{bytes_eq}
-use Rattle.std.proofs.lemmas.Bool.{lt-ltb, ltb-true, leb-true}
+use Rattle.std.proofs.lemmas.Bool.{lt-ltb, ltb-true, leb-true, and_parts, not-false}
 use Rattle.ring_names.specs.declared.ids.NodeId.{NodeId}
 use Rattle.ring_names.specs.declared.ids.Slot.{Slot}
 use Rattle.ring_names.specs.declared.refusal.Refusal.{Refusal}
@@ -10,7 +10,6 @@ use Rattle.ring_names.specs.declared.refusal.Refusal.TheVariants.{BadLine, TooLa
 use Rattle.ring_text.specs.Numbers.{numbers_of, beyond, ascending, are_small}
 use Rattle.ring_text.specs.Judging.{Item, ◌⊗◌, need_at, end_at, map_ok, map_item, whole}
 use Rattle.ring_text.proofs.Items.{both_is, map_is, ok_is, unless_is}
-use Rattle.ring_text.proofs.Fronts.{both_true}
 use Rattle.ring_table.specs.Value.{RingValue}
 use Rattle.plan_text.specs.declared.said.Said.{Said}
 use Rattle.plan_text.specs.declared.said.Said.TheVariants.{Join, Mirror, Copy, Switch, Drop, Retire}
@@ -23,10 +22,6 @@ use Rattle.plan_text.specs.Valid.{HasSources}
 use Rattle.plan_text.specs.Fits.{FitsSource, FitsSaid, IsNext}
 use Rattle.plan_text.specs.Reading.{slot_at, slot_node_at, joining_at, retiring_at, judge_indexes, source_at, copy_at, kind_at, judge_after, after_at, said_at}
 
-pub not_false : (b : Bool) → not b ≡ false → b ≡ true
-not_false true e = refl
-not_false false e = absurd cc
-
 -- one of the two
 pub either_ok : {A : Type 0} (b : Bool) (x y : Result A Refusal × List (List ℕ)) (v : A) → (cond b x y).0 ≡ Ok v → (x.0 ≡ Ok v) ⊎ (y.0 ≡ Ok v)
 either_ok true x y v e = inl e
@@ -38,7 +33,7 @@ below-small n x le e = let h = ltb-true x n e in lt-ltb x 4294967296 (omega arit
 pub small_all : (n : ℕ) (xs : List ℕ) → n ≤ 7 → list_all (λ i. nat_lt i n) xs ≡ true → are_small xs ≡ true
 small_all n [] le e = refl
 small_all n (x ∷ xs) le e =
-    let p = both_true (nat_lt x n) (list_all (λ i. nat_lt i n) xs) e in
+    let p = and_parts (nat_lt x n) (list_all (λ i. nat_lt i n) xs) e in
     rw (below-small n x le p.0, small_all n xs le p.1) refl
 
 pub filled : (xs : List ℕ) → eqb (length xs) 0 ≡ false → 1 ≤ length xs
@@ -53,7 +48,7 @@ IsSource n (Slots xs) = (1 ≤ length xs) × (length xs ≤ 7) × (list_all (λ 
 pub indexes-are : (n k : ℕ) (xs ys : List ℕ) → judge_indexes n k xs ≡ Ok ys → (xs ≡ ys) × IsSource n (Slots ys)
 indexes-are n k xs ys e =
     let u = unless_is ((eqb (length xs) 0, BadLine k) ∷ (not (nat_le (length xs) 7), TooLarge k) ∷ (not (list_all (λ i. nat_lt i n) xs), TooLarge k) ∷ []) xs ys e in
-    (u.0, subst (λ (zs : List ℕ). IsSource n (Slots zs)) u.0 (filled xs u.1.0, leb-true (length xs) 7 (not_false (nat_le (length xs) 7) u.1.1.0), not_false (list_all (λ i. nat_lt i n) xs) u.1.1.1.0))
+    (u.0, subst (λ (zs : List ℕ). IsSource n (Slots zs)) u.0 (filled xs u.1.0, leb-true (length xs) 7 (not-false (nat_le (length xs) 7) u.1.1.0), not-false (list_all (λ i. nat_lt i n) xs) u.1.1.1.0))
 
 source-is : (n k : ℕ) (fields : List (List ℕ)) (v : SaidSource) → (source_at n k fields).0 ≡ Ok v → IsSource n v
 unfolding source_at
@@ -143,13 +138,13 @@ pub record IsAfter (plan : List Planned) (xs : List ℕ) : Type 0 where
 pub after-are : (plan : List Planned) (k : ℕ) (xs ys : List ℕ) → dependencies plan ≤ 524288 → judge_after plan k xs ≡ Ok ys → (xs ≡ ys) × ((1 ≤ length ys) × IsAfter plan ys)
 after-are plan k xs ys le e =
     let u = unless_is ((eqb (length xs) 0, BadLine k) ∷ (not (ascending xs), BadLine k) ∷ (not (nat_le (length xs) 4096), TooLarge k) ∷ (not (nat_le (length xs) (524288 - dependencies plan)), TooLarge k) ∷ (not (list_all (λ x. nat_lt x 4294967296) xs), TooLarge k) ∷ (not (list_all (λ x. nat_lt x (length plan)) xs), LaterDependency k) ∷ []) xs ys e in
-    let room = leb-true (length xs) (524288 - dependencies plan) (not_false (nat_le (length xs) (524288 - dependencies plan)) u.1.1.1.1.0) in
+    let room = leb-true (length xs) (524288 - dependencies plan) (not-false (nat_le (length xs) (524288 - dependencies plan)) u.1.1.1.1.0) in
     let known : IsAfter plan xs = record {
-      ascending = not_false (ascending xs) u.1.1.0;
-      few = leb-true (length xs) 4096 (not_false (nat_le (length xs) 4096) u.1.1.1.0);
+      ascending = not-false (ascending xs) u.1.1.0;
+      few = leb-true (length xs) 4096 (not-false (nat_le (length xs) 4096) u.1.1.1.0);
       total = omega arith;
-      small = not_false (list_all (λ x. nat_lt x 4294967296) xs) u.1.1.1.1.1.0;
-      earlier = not_false (list_all (λ x. nat_lt x (length plan)) xs) u.1.1.1.1.1.1.0;
+      small = not-false (list_all (λ x. nat_lt x 4294967296) xs) u.1.1.1.1.1.0;
+      earlier = not-false (list_all (λ x. nat_lt x (length plan)) xs) u.1.1.1.1.1.1.0;
     } in
     (u.0, subst (λ (zs : List ℕ). (1 ≤ length zs) × IsAfter plan zs) u.0 (filled xs u.1.0, known))
 

@@ -11,26 +11,23 @@ use Rattle.plan_text.specs.declared.step.Planned.{Planned}
 use Rattle.plan_text.specs.Steps.{depends}
 use Rattle.ring_text.specs.Numbers.{ascending}
 use Rattle.plan_text.specs.Valid.{EachPlanned}
-
-both : (a b : Bool) → (a && b) ≡ true → (a ≡ true) × (b ≡ true)
-both true b e = (refl, e)
-both false b e = absurd cc
+use Rattle.std.proofs.lemmas.Bool.{and_parts}
 
 below : (x y : ℕ) → nat_lt x y ≡ true → x < y
 below x y e = grind (arith, nat_tests)
 
 ascends-head : (x : ℕ) (xs : List ℕ) → ascending (x ∷ xs) ≡ true → (j : ℕ) → j < length xs → x < get_or xs j 0
 ascends-head x [] e j h = absurd (omega arith)
-ascends-head x (y ∷ ys) e zero h = below x y (both (nat_lt x y) (ascending (y ∷ ys)) e).0
+ascends-head x (y ∷ ys) e zero h = below x y (and_parts (nat_lt x y) (ascending (y ∷ ys)) e).0
 ascends-head x (y ∷ ys) e (suc j) h =
-    let b = both (nat_lt x y) (ascending (y ∷ ys)) e in
+    let b = and_parts (nat_lt x y) (ascending (y ∷ ys)) e in
     let first = below x y b.0 in
     let rest = ascends-head y ys b.1 j (omega arith) in
     omega arith
 
 ascends-tail : (x : ℕ) (xs : List ℕ) → ascending (x ∷ xs) ≡ true → ascending xs ≡ true
 ascends-tail x [] e = refl
-ascends-tail x (y ∷ ys) e = (both (nat_lt x y) (ascending (y ∷ ys)) e).1
+ascends-tail x (y ∷ ys) e = (and_parts (nat_lt x y) (ascending (y ∷ ys)) e).1
 
 pub ascends-below : (xs : List ℕ) → ascending xs ≡ true → (i j : ℕ) → i < j → j < length xs → get_or xs i 0 < get_or xs j 0
 ascends-below [] e i j h k = absurd (omega arith)

@@ -1,7 +1,7 @@
 -- Steps that follow one another, each allowed behind those in front, are a plan that suits the ring.
 use Rattle.std.proofs.Common.{◌≡◌, ℕ, suc, ◌+◌, ◌<◌, ◌≤◌, Bool, true, false, not, nat_lt, eqb, ◌&&◌, ◌||◌, List, [], ◌∷◌, ◌++◌, length, map, refl, sym, ap, subst, ◌∙◌, arith, append_assoc, length-append, add-zero}
 use Rattle.std.specs.List.{list_all}
-use Rattle.std.proofs.lemmas.Bool.{lt-ltb, ltb-true}
+use Rattle.std.proofs.lemmas.Bool.{lt-ltb, ltb-true, and_parts}
 use Rattle.std.proofs.lemmas.Bool.Decides.{nat_tests}
 use Rattle.std.proofs.lemmas.Grind.{flat_map-append}
 use Rattle.std.proofs.lemmas.List.{append-nil, length-map}
@@ -19,7 +19,6 @@ use Rattle.plan_text.specs.Steps.{dependencies, joins, retires, joined, retired}
 use Rattle.plan_text.specs.Valid.{HasSources, IsPlanned, EachPlanned, IsPlan, step_suits, Suits}
 use Rattle.ring_text.specs.Numbers.{are_small}
 use Rattle.plan_text.proofs.Pushed.{IsPlan-push, joined-push, retired-push, all_different-push}
-use Rattle.ring_text.proofs.Fronts.{both_true}
 use Rattle.plan_text.proofs.StepLaws.{SaidSuits, IsStepLine}
 use Rattle.plan_text.proofs.PlanLaws.{said_of, line_of, AreNext}
 
@@ -114,8 +113,8 @@ each-at k (x ∷ seen) y ys each =
     rw e (each-at (k + 1) seen y ys each.1)
 
 all-at : (ring : RingValue) (seen : List Planned) (y : Planned) (ys : List Planned) → list_all (λ (z : Planned). step_suits ring z.step) (seen ++ y ∷ ys) ≡ true → step_suits ring y.step ≡ true
-all-at ring [] y ys e = (both_true (step_suits ring y.step) (list_all (λ (z : Planned). step_suits ring z.step) ys) e).0
-all-at ring (x ∷ seen) y ys e = all-at ring seen y ys (both_true (step_suits ring x.step) (list_all (λ (z : Planned). step_suits ring z.step) (seen ++ y ∷ ys)) e).1
+all-at ring [] y ys e = (and_parts (step_suits ring y.step) (list_all (λ (z : Planned). step_suits ring z.step) ys) e).0
+all-at ring (x ∷ seen) y ys e = all-at ring seen y ys (and_parts (step_suits ring x.step) (list_all (λ (z : Planned). step_suits ring z.step) (seen ++ y ∷ ys)) e).1
 
 has-later : (x : ℕ) (xs : List ℕ) (y : ℕ) (ys : List ℕ) → has x (xs ++ y ∷ ys) ≡ false → eqb x y ≡ false
 has-later x [] y ys e = (neither (eqb x y) (has x ys) e).0
@@ -127,7 +126,7 @@ eq-flip x y = grind (arith, nat_tests)
 apart : (xs : List ℕ) (y : ℕ) (ys : List ℕ) → all_different (xs ++ y ∷ ys) ≡ true → has y xs ≡ false
 apart [] y ys e = refl
 apart (x ∷ xs) y ys e =
-    let p = both_true (not (has x (xs ++ y ∷ ys))) (all_different (xs ++ y ∷ ys)) e in
+    let p = and_parts (not (has x (xs ++ y ∷ ys))) (all_different (xs ++ y ∷ ys)) e in
     let h = has-later x xs y ys (not_true (has x (xs ++ y ∷ ys)) p.0) in
     neither-of (eqb y x) (has y xs) (eq-flip y x ∙ h) (apart xs y ys p.1)
 
@@ -138,31 +137,31 @@ retired-parts : (seen : List Planned) (y : Planned) (ys : List Planned) → reti
 retired-parts seen y ys = flat_map-append (λ (x : Planned). retires x.step) seen (y ∷ ys) ∙ ap (λ (r : List ℕ). retired seen ++ r) (flat_map-cons (λ (x : Planned). retires x.step) y ys)
 
 slot-in : (ring : RingValue) (p i : ℕ) → (nat_lt p ring.q && nat_lt i ring.n) ≡ true → (p < ring.q) × (i < ring.n)
-slot-in ring p i e = let b = both_true (nat_lt p ring.q) (nat_lt i ring.n) e in (ltb-true p ring.q b.0, ltb-true i ring.n b.1)
+slot-in ring p i e = let b = and_parts (nat_lt p ring.q) (nat_lt i ring.n) e in (ltb-true p ring.q b.0, ltb-true i ring.n b.1)
 
 said-of-step : (ring : RingValue) (seen : List Planned) (s : Step) (js rs : List ℕ) → step_suits ring s ≡ true → HasSources s → all_different (joined seen ++ (joins s ++ js)) ≡ true → all_different (retired seen ++ (retires s ++ rs)) ≡ true → SaidSuits ring seen (said_of s)
 said-of-step ring seen (Join x) js rs e h j r =
-    let b = both_true (nat_lt x.0 (length ring.nodes)) (not (is_member ring.nodes x)) e in
+    let b = and_parts (nat_lt x.0 (length ring.nodes)) (not (is_member ring.nodes x)) e in
     (declared-below ring x.0 b.0, (neither-of (is_member ring.nodes x) (has x.0 (joined seen)) (not_true (is_member ring.nodes x) b.1) (apart (joined seen) x.0 js j), tt))
 said-of-step ring seen (Mirror s x) js rs e h j r =
-    let b = both_true (nat_lt s.partition ring.q && nat_lt s.index ring.n) (nat_lt x.0 (length ring.nodes)) e in
+    let b = and_parts (nat_lt s.partition ring.q && nat_lt s.index ring.n) (nat_lt x.0 (length ring.nodes)) e in
     (slot-in ring s.partition s.index b.0, declared-below ring x.0 b.1)
 said-of-step ring seen (Copy s Owner) js rs e h j r =
-    let b = both_true (nat_lt s.partition ring.q && nat_lt s.index ring.n) true e in
+    let b = and_parts (nat_lt s.partition ring.q && nat_lt s.index ring.n) true e in
     (slot-in ring s.partition s.index b.0, tt)
 said-of-step ring seen (Copy s (Slots from)) js rs e h j r =
-    let b = both_true (nat_lt s.partition ring.q && nat_lt s.index ring.n) (list_all (λ i. nat_lt i ring.n) from) e in
+    let b = and_parts (nat_lt s.partition ring.q && nat_lt s.index ring.n) (list_all (λ i. nat_lt i ring.n) from) e in
     (slot-in ring s.partition s.index b.0, (h.0, h.1, b.1))
 said-of-step ring seen (Switch s) js rs e h j r = slot-in ring s.partition s.index e
 said-of-step ring seen (Drop s x) js rs e h j r =
-    let b = both_true (nat_lt s.partition ring.q && nat_lt s.index ring.n) (nat_lt x.0 (length ring.nodes)) e in
+    let b = and_parts (nat_lt s.partition ring.q && nat_lt s.index ring.n) (nat_lt x.0 (length ring.nodes)) e in
     (slot-in ring s.partition s.index b.0, declared-below ring x.0 b.1)
 said-of-step ring seen (Retire x) js rs e h j r = (declared-below ring x.0 e, (apart (retired seen) x.0 rs r, tt))
 
 small-below : (k : ℕ) (xs : List ℕ) → k ≤ 131072 → list_all (λ a. nat_lt a k) xs ≡ true → are_small xs ≡ true
 small-below k [] le e = refl
 small-below k (x ∷ xs) le e =
-    let p = both_true (nat_lt x k) (list_all (λ a. nat_lt a k) xs) e in
+    let p = and_parts (nat_lt x k) (list_all (λ a. nat_lt a k) xs) e in
     let lt = ltb-true x k p.0 in
     rw (lt-ltb x 4294967296 (omega arith), small-below k xs le p.1) refl
 

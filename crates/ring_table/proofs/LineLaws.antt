@@ -4,7 +4,7 @@ use Rattle.std.specs.Prelude.{is_some}
 use Rattle.std.specs.Fmt.{decimal}
 use Rattle.std.specs.List.{AllByRecursion}
 use Rattle.std.specs.Str.{bytes_eq}
-use Rattle.std.proofs.lemmas.Bool.{lt-ltb, ltb-true, le-ltb, eqb-true, leb-true}
+use Rattle.std.proofs.lemmas.Bool.{lt-ltb, ltb-true, le-ltb, eqb-true, leb-true, and_parts, or_cases, not-false}
 use Rattle.std.proofs.lemmas.Slice.Eq.{bytes_eq-Decides}
 use Rattle.ring_names.specs.Lists.{has}
 use Rattle.ring_names.specs.Names.{place}
@@ -15,7 +15,7 @@ use Rattle.ring_text.specs.Judging.{field_at, word_at, number_at, need_at, limit
 use Rattle.ring_text.specs.Laws.{IsItem, IsLine}
 use Rattle.ring_text.proofs.Items.{IsItem-⊗, IsItem-word, IsItem-field, IsItem-need, IsLine-whole, IsLine-map, IsLine-judged, IsLine-as, ok_is, bind_ok}
 use Rattle.ring_text.proofs.FrameLaws.{Nothing}
-use Rattle.ring_text.proofs.Decimals.{IsItem-number, decimal-value, value-decimal, limited_is, and_is}
+use Rattle.ring_text.proofs.Decimals.{IsItem-number, decimal-value, value-decimal, limited_is}
 use Rattle.ring_table.specs.declared.head.Quorum.{Quorum}
 use Rattle.ring_table.specs.declared.node.Node.{Node}
 use Rattle.ring_names.specs.Space.{is_space}
@@ -23,17 +23,9 @@ use Rattle.ring_table.specs.Valid.{is_quorum, IsNew}
 use Rattle.ring_table.specs.Spelling.{space_fields, quorum_fields, membership, node_fields}
 use Rattle.ring_table.specs.Reading.{space_at, quorum_at, judge_new, above_zero, judge_allowance, judge_membership, node_at}
 
-pub not_is : (b : Bool) → not b ≡ false → b ≡ true
-not_is true e = refl
-not_is false e = absurd cc
-
-either_is : (a b : Bool) → (a || b) ≡ true → (a ≡ true) ⊎ (b ≡ true)
-either_is true b e = inl refl
-either_is false b e = inr e
-
 has-most : (q m : ℕ) (xs : List ℕ) → AllByRecursion (λ x. x ≤ m) xs → has q xs ≡ true → q ≤ m
 has-most q m [] a e = absurd cc
-has-most q m (x ∷ xs) a e = elim (either_is (q == x) (has q xs) e) [ inl h ↦ omega (arith, eqb-true q x h, a.0) | inr h ↦ has-most q m xs a.1 h ]
+has-most q m (x ∷ xs) a e = elim (or_cases (q == x) (has q xs) e) [ inl h ↦ omega (arith, eqb-true q x h, a.0) | inr h ↦ has-most q m xs a.1 h ]
 
 -- no greater number is one
 pub space-le : (q : ℕ) → is_space q ≡ true → q ≤ 4096
@@ -48,15 +40,15 @@ unfolding space_at
 space-line k =
     let pair = IsItem-⊗ (word_at k (codes "space")) (number_at k 4096) (λ x. codes "space" ∷ []) (λ n. decimal n ∷ []) Nothing (λ n. n ≤ 4096) (IsItem-word k (codes "space")) (IsItem-number k 4096 (omega arith)) in
     let line = IsLine-judged _ _ _ (λ x. (not (is_space x.1), BadLine k) ∷ []) (λ x. x.1) (λ q. (tt, q)) (λ a. refl) (λ b. refl) (IsLine-whole k _ _ _ pair) in
-    IsLine-as _ _ _ _ _ (λ v. refl) (λ v p. not_is (is_space v) p.1.0) (λ v p. ((tt, space-le v p), (ap not p, tt))) line
+    IsLine-as _ _ _ _ _ (λ v. refl) (λ v p. not-false (is_space v) p.1.0) (λ v p. ((tt, space-le v p), (ap not p, tt))) line
 
 pub quorum-parts : (n r w : ℕ) → is_quorum n r w ≡ true → (r ≤ n) × (w ≤ n)
 unfolding is_quorum
 quorum-parts n r w e =
-    let a = and_is (nat_le 1 r && nat_le r n && nat_le 1 w && nat_le w n) (nat_lt n (r + w)) e in
-    let b = and_is (nat_le 1 r && nat_le r n && nat_le 1 w) (nat_le w n) a.0 in
-    let c = and_is (nat_le 1 r && nat_le r n) (nat_le 1 w) b.0 in
-    let d = and_is (nat_le 1 r) (nat_le r n) c.0 in
+    let a = and_parts (nat_le 1 r && nat_le r n && nat_le 1 w && nat_le w n) (nat_lt n (r + w)) e in
+    let b = and_parts (nat_le 1 r && nat_le r n && nat_le 1 w) (nat_le w n) a.0 in
+    let c = and_parts (nat_le 1 r && nat_le r n) (nat_le 1 w) b.0 in
+    let d = and_parts (nat_le 1 r) (nat_le r n) c.0 in
     (leb-true r n d.1, leb-true w n b.1)
 
 pub quorum-line : (k : ℕ) → IsLine (quorum_at k) (λ x. quorum_fields x.n x.r x.w) (λ x. (x.n ≤ 7) × (is_quorum x.n x.r x.w ≡ true))
@@ -68,7 +60,7 @@ quorum-line k =
     let p3 = IsItem-⊗ _ (number_at k 7) _ (λ n. decimal n ∷ []) _ (λ n. n ≤ 7) p2 number in
     let line = IsLine-judged _ _ _ (λ x. (not (is_quorum x.0.0.1 x.0.1 x.1), QuorumTooSmall k) ∷ []) (λ x. record { n = x.0.0.1; r = x.0.1; w = x.1 }) (λ (y : Quorum). (((tt {0}, y.n), y.r), y.w)) (λ a. refl) (λ b. refl) (IsLine-whole k _ _ _ p3) in
     IsLine-as _ _ _ _ _ (λ v. refl)
-    (λ v p. (p.0.0.0.1, not_is (is_quorum v.n v.r v.w) p.1.0))
+    (λ v p. (p.0.0.0.1, not-false (is_quorum v.n v.r v.w) p.1.0))
     (λ v p. let parts = quorum-parts v.n v.r v.w p.1 in ((((tt, p.0), omega arith), omega arith), (ap not p.1, tt)))
     line
 

@@ -1,7 +1,7 @@
 -- The node lines of a ring are read only if they are spelled so.
 use Rattle.std.proofs.Common.{◌≡◌, ℕ, ◌+◌, ◌<◌, ◌≤◌, Bool, true, false, not, cond, nat_lt, List, [], ◌∷◌, ◌++◌, length, map, codes, Ok, refl, sym, ap, subst, ◌∙◌, arith, append_assoc, length-append}
 use Rattle.std.specs.List.{AllByRecursion}
-use Rattle.std.proofs.lemmas.Bool.{lt-ltb, ltb-true}
+use Rattle.std.proofs.lemmas.Bool.{lt-ltb, ltb-true, not-false}
 use Rattle.std.proofs.lemmas.List.{append-nil, map_push}
 use Rattle.ring_names.specs.Lists.{AllNew}
 use Rattle.ring_names.specs.declared.refusal.Refusal.TheVariants.{BadLine}
@@ -15,7 +15,7 @@ use Rattle.ring_table.specs.declared.node.Node.{Node}
 use Rattle.ring_table.specs.Valid.{IsNode, IsNew}
 use Rattle.ring_table.specs.Spelling.{node_fields}
 use Rattle.ring_table.specs.Reading.{node_at, nodes_at}
-use Rattle.ring_table.proofs.LineLaws.{node-line-law, not_is}
+use Rattle.ring_table.proofs.LineLaws.{node-line-law}
 use Rattle.ring_table.proofs.RowLaws.{AreNames}
 
 -- each node is new behind those in front of it
@@ -70,7 +70,7 @@ nodes-part = record { takes = take; gives = give }
         let u = unless_is ((not (nat_lt 0 (length b.0.0)), BadLine b.0.1.line) ∷ []) b.0 (v, z) b.2 in
         let f = lines-part.takes a b.0.1 b.0.0 some b.1 in
         let G : List Node × Left → Type 0 = λ w. (a.lines ≡ map node_fields w.0 ++ w.1.lines) × AreNodes w.0 × SomeLeft w.1 in
-        let filled : 0 < length b.0.0 = ltb-true 0 (length b.0.0) (not_is (nat_lt 0 (length b.0.0)) u.1.0) in
+        let filled : 0 < length b.0.0 = ltb-true 0 (length b.0.0) (not-false (nat_lt 0 (length b.0.0)) u.1.0) in
         let new : AreNew [] b.0.0 = f.1 in
         let start : G b.0 = (f.0, record { some_node = omega arith; nodes = omega (arith, new-length [] b.0.0 (omega arith) new); each_node = new-each [] b.0.0 new; names = new-names [] b.0.0 new }, f.2) in
         subst G u.0 start

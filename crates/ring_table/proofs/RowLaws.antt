@@ -15,7 +15,6 @@ use Rattle.ring_text.specs.Judging.{field_at, word_at}
 use Rattle.ring_text.specs.Left.{Left, ◌>>=◌, next_line}
 use Rattle.ring_text.specs.Laws.{IsItem, IsLine, IsPart, Any}
 use Rattle.ring_text.proofs.Items.{IsItem-⊗, IsItem-word, IsItem-field, IsLine-whole, IsLine-judged, IsLine-as, ok_is, IsItem-nil, IsItem-cons, IsPart-nil, IsPart-cons}
-use Rattle.ring_text.proofs.Decimals.{and_is}
 use Rattle.std.proofs.lemmas.List.{length-map, append-nil, take_more, length-take}
 use Rattle.std.proofs.lemmas.List.Concat.{flat_map-cons}
 use Rattle.ring_table.specs.declared.node.Node.{Node}
@@ -23,7 +22,7 @@ use Rattle.ring_table.specs.Value.{is_member}
 use Rattle.ring_table.specs.Valid.{IsRow}
 use Rattle.ring_table.specs.Spelling.{name_at, row_fields, rows_lines}
 use Rattle.ring_table.specs.Reading.{judge_declared, owners_at, row_at, rows_at}
-use Rattle.ring_table.proofs.LineLaws.{not_is}
+use Rattle.std.proofs.lemmas.Bool.{and_parts, not-false}
 
 -- names that can be told apart
 pub record AreNames (names : List (List ℕ)) : Type 0 where
@@ -74,7 +73,7 @@ member-below nodes x e = below nodes x.0 e
 members-below : (nodes : List Node) (xs : List NodeId) → list_all (is_member nodes) xs ≡ true → AllByRecursion (λ x. x.0 < length (map (λ (y : Node). y.name) nodes)) xs
 members-below nodes [] e = tt
 members-below nodes (x ∷ xs) e =
-    let parts = and_is (is_member nodes x) (list_all (is_member nodes) xs) e in
+    let parts = and_parts (is_member nodes x) (list_all (is_member nodes) xs) e in
     (simp length-map (member-below nodes x parts.0), members-below nodes xs parts.1)
 
 row-line : (nodes : List Node) (n p k : ℕ) → AreNames (map (λ y. y.name) nodes) → IsLine (row_at nodes n p k) (row_fields (map (λ y. y.name) nodes) p) (IsRow n nodes)
@@ -85,7 +84,7 @@ row-line nodes n p k good =
     let p2 = IsItem-⊗ _ (owners_at k names n) _ (λ xs. map (name_at names) xs) _ _ p1 (IsItem-owners k names n good) in
     let line = IsLine-judged _ _ _ (λ x. (not (all_different (map (λ (y : NodeId). y.0) x.1)), SharedNode k) ∷ (not (list_all (is_member nodes) x.1), NotMember k) ∷ []) (λ x. x.1) (λ (xs : List NodeId). ((tt {0}, tt {0}), xs)) (λ a. refl) (λ b. refl) (IsLine-whole k _ _ _ p2) in
     IsLine-as _ _ _ _ _ (λ v. refl)
-    (λ v q. record { slots = q.0.1.0; different = not_is (all_different (map (λ (y : NodeId). y.0) v)) q.1.0; members = not_is (list_all (is_member nodes) v) q.1.1.0 })
+    (λ v q. record { slots = q.0.1.0; different = not-false (all_different (map (λ (y : NodeId). y.0) v)) q.1.0; members = not-false (list_all (is_member nodes) v) q.1.1.0 })
     (λ v q. (((tt, tt), (q.slots, members-below nodes v q.members)), (ap not q.different, (ap not q.members, tt))))
     line
 

@@ -4,7 +4,7 @@ use Rattle.std.specs.Str.{all_ascii_digits}
 use Rattle.std.specs.Fmt.{decimal}
 use Rattle.std.proofs.lemmas.Str.Parse.{IsNumeralModel, numerals_by_fold}
 use Rattle.std.proofs.lemmas.Fmt.{decimal-digits_value, digits_decimal, digits_value-decimal, first_decimal, decimal_digit}
-use Rattle.std.proofs.lemmas.Bool.{lt-ltb, eqb-true, ltb-false, le-ltb}
+use Rattle.std.proofs.lemmas.Bool.{lt-ltb, eqb-true, ltb-false, le-ltb, and_parts}
 use Rattle.ring_names.specs.declared.refusal.Refusal.TheVariants.{TooLarge}
 use Rattle.ring_text.specs.Number.{value_from, is_number, decimal_value}
 use Rattle.ring_text.specs.Judging.{limited, number_at}
@@ -13,11 +13,6 @@ use Rattle.ring_text.proofs.Items.{IsItem-field, ok_is}
 
 pub own : IsNumeralModel (λ ds. all_ascii_digits ds ≡ true) (value_from 0)
 own = numerals_by_fold _ (search rules) value_from (search rules)
-
-pub and_is : (a b : Bool) → (a && b) ≡ true → (a ≡ true) × (b ≡ true)
-and_is true true e = (refl, refl)
-and_is true false e = absurd cc
-and_is false b e = absurd cc
 
 or_is : (a b : Bool) → (a || b) ≡ true → a ≡ false → b ≡ true
 or_is true b e f = absurd cc
@@ -31,7 +26,7 @@ some_by false x n e = absurd cc
 pub decimal-value : (f : List ℕ) (n : ℕ) → decimal_value f ≡ Some n → n < 2 ^ 64 → f ≡ decimal n
 decimal-value f n e small =
     let s = some_by (is_number f) (value_from 0 f) n e in
-    let parts = and_is (all_ascii_digits f) (nat_lt 48 (get_or f 0 0) || eqb (length f) 1) s.0 in
+    let parts = and_parts (all_ascii_digits f) (nat_lt 48 (get_or f 0 0) || eqb (length f) 1) s.0 in
     let lone : get_or f 0 0 ≡ 48 → length f ≡ 1 = λ z. eqb-true _ _ (or_is (nat_lt 48 (get_or f 0 0)) (eqb (length f) 1) parts.1 (rw z refl)) in
     let filled : 0 < length f = non_empty f parts.1 in
     let fits : value_from 0 f < 2 ^ 64 = rw s.1 small in

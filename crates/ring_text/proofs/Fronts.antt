@@ -2,7 +2,7 @@
 use Rattle.std.proofs.Common.{◌≡◌, ℕ, Bool, true, false, cond, nat_lt, ◌&&◌, List, [], ◌∷◌, ◌++◌, map, Some, None, Result, Ok, Err, refl, sym, ap, subst, ◌∙◌, arith, append_assoc}
 use Rattle.std.specs.Fmt.{decimal}
 use Rattle.std.proofs.lemmas.List.{append-nil}
-use Rattle.std.proofs.lemmas.Bool.{ltb-true}
+use Rattle.std.proofs.lemmas.Bool.{ltb-true, and_parts}
 use Rattle.ring_names.specs.declared.refusal.Refusal.{Refusal}
 use Rattle.ring_names.specs.declared.refusal.Refusal.TheVariants.{BadLine}
 use Rattle.ring_text.specs.Number.{value_from, is_number, decimal_value}
@@ -120,7 +120,7 @@ numbers-taken (f ∷ fs) small = by (is_number f) refl (λ s. numbers-taken fs s
   where
     by : (b : Bool) → is_number f ≡ b → (are_small (numbers_of fs) ≡ true → fs ≡ map decimal (numbers_of fs) ++ beyond fs) → are_small (cond b (value_from 0 f ∷ numbers_of fs) []) ≡ true → f ∷ fs ≡ map decimal (cond b (value_from 0 f ∷ numbers_of fs) []) ++ cond b (beyond fs) (f ∷ fs)
     by true h later s =
-        let p = both_true (nat_lt (value_from 0 f) 4294967296) (are_small (numbers_of fs)) s in
+        let p = and_parts (nat_lt (value_from 0 f) 4294967296) (are_small (numbers_of fs)) s in
         let lt = ltb-true (value_from 0 f) 4294967296 p.0 in
         let is : decimal_value f ≡ Some (value_from 0 f) = rw h refl in
         ap (λ (x : List ℕ). x ∷ fs) (decimal-value f (value_from 0 f) is (omega (arith, lt))) ∙ ap (λ (x : List (List ℕ)). decimal (value_from 0 f) ∷ x) (later p.1)
@@ -129,7 +129,7 @@ numbers-taken (f ∷ fs) small = by (is_number f) refl (λ s. numbers-taken fs s
 pub numbers-given : (xs : List ℕ) (rest : List (List ℕ)) → are_small xs ≡ true → Free rest → (numbers_of (map decimal xs ++ rest) ≡ xs) × (beyond (map decimal xs ++ rest) ≡ rest)
 numbers-given [] rest small free = free
 numbers-given (x ∷ xs) rest small free =
-    let p = both_true (nat_lt x 4294967296) (are_small xs) small in
+    let p = and_parts (nat_lt x 4294967296) (are_small xs) small in
     let lt = ltb-true x 4294967296 p.0 in
     let is = some_parts (is_number (decimal x)) (value_from 0 (decimal x)) x (value-decimal x (omega (arith, lt))) in
     let i = numbers-given xs rest p.1 free in

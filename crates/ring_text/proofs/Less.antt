@@ -2,13 +2,9 @@
 use Rattle.std.proofs.Common.{◌≡◌, ℕ, zero, suc, ◌+◌, ◌-◌, ◌*◌, ◌<◌, ◌≤◌, Bool, true, false, ◌&&◌, ◌||◌, ◌⊎◌, inl, inr, eqb, nat_lt, List, [], ◌∷◌, length, get_or, take, refl, sym, arith}
 use Rattle.std.specs.Str.{all_ascii_digits}
 use Rattle.std.specs.Char.{is_ascii_digit}
-use Rattle.std.proofs.lemmas.Bool.{lt-ltb, ltb-true, eqb-true, le-ltb}
+use Rattle.std.proofs.lemmas.Bool.{lt-ltb, ltb-true, eqb-true, le-ltb, and_parts, or_cases}
 use Rattle.std.proofs.lemmas.Bool.Decides.{nat_tests}
 use Rattle.ring_text.specs.Number.{value_from, is_number}
-
-and_is : (a b : Bool) → (a && b) ≡ true → (a ≡ true) × (b ≡ true)
-and_is true b e = (refl, e)
-and_is false b e = absurd cc
 
 digit-most : (c : ℕ) → is_ascii_digit c ≡ true → (48 ≤ c) × (c ≤ 57)
 digit-most c e = grind (arith, nat_tests)
@@ -19,7 +15,7 @@ front-less n m [] [] da e l = l
 front-less n m [] (b ∷ vs) da e l = absurd (omega arith)
 front-less n m (a ∷ us) [] da e l = absurd (omega arith)
 front-less n m (a ∷ us) (b ∷ vs) da e l =
-    let d = and_is (is_ascii_digit a) (all_ascii_digits us) da in
+    let d = and_parts (is_ascii_digit a) (all_ascii_digits us) da in
     let most = digit-most a d.0 in
     front-less (10 * n + (a - 48)) (10 * m + (b - 48)) us vs d.1 (omega arith) (omega arith)
 
@@ -41,25 +37,21 @@ first-less : (n i : ℕ) (us vs : List ℕ) → all_ascii_digits us ≡ true →
 first-less n i [] vs da db e t l lt = absurd (omega arith)
 first-less n i (a ∷ us) [] da db e t l lt = absurd (omega arith)
 first-less n zero (a ∷ us) (b ∷ vs) da db e t l lt =
-    let d = and_is (is_ascii_digit a) (all_ascii_digits us) da in
-    let c = and_is (is_ascii_digit b) (all_ascii_digits vs) db in
+    let d = and_parts (is_ascii_digit a) (all_ascii_digits us) da in
+    let c = and_parts (is_ascii_digit b) (all_ascii_digits vs) db in
     let least = digit-most a d.0 in
     front-less (10 * n + (a - 48)) (10 * n + (b - 48)) us vs d.1 (omega arith) (omega arith)
 first-less n (suc i) (a ∷ us) (b ∷ vs) da db e t l lt =
-    let d = and_is (is_ascii_digit a) (all_ascii_digits us) da in
-    let c = and_is (is_ascii_digit b) (all_ascii_digits vs) db in
+    let d = and_parts (is_ascii_digit a) (all_ascii_digits us) da in
+    let c = and_parts (is_ascii_digit b) (all_ascii_digits vs) db in
     let heads : a ≡ b = cc in
     let tails : take i us ≡ take i vs = cc in
     rw heads (first-less (10 * n + (b - 48)) i us vs d.1 c.1 (omega arith) tails (omega arith) lt)
 
-or_is : (a b : Bool) → (a || b) ≡ true → (a ≡ true) ⊎ (b ≡ true)
-or_is true b e = inl refl
-or_is false b e = inr e
-
 lead : (x : ℕ) (xs : List ℕ) → is_number (x ∷ xs) ≡ true → 0 < length xs → 48 < x
 lead x xs h l =
-    let p = and_is (all_ascii_digits (x ∷ xs)) (nat_lt 48 x || eqb (length (x ∷ xs)) 1) h in
-    elim (or_is (nat_lt 48 x) (eqb (length (x ∷ xs)) 1) p.1) [ inl e ↦ ltb-true 48 x e | inr e ↦ let f = eqb-true (length (x ∷ xs)) 1 e in absurd (omega arith) ]
+    let p = and_parts (all_ascii_digits (x ∷ xs)) (nat_lt 48 x || eqb (length (x ∷ xs)) 1) h in
+    elim (or_cases (nat_lt 48 x) (eqb (length (x ∷ xs)) 1) p.1) [ inl e ↦ ltb-true 48 x e | inr e ↦ let f = eqb-true (length (x ∷ xs)) 1 e in absurd (omega arith) ]
 
 filled : (xs : List ℕ) → is_number xs ≡ true → 0 < length xs
 filled [] h = absurd cc
@@ -71,10 +63,10 @@ shorter us [] ha hb l = absurd (omega arith)
 shorter us (b ∷ vs) ha hb l =
     let f = filled us ha in
     let top = lead b vs hb (omega arith) in
-    more-less (10 * 0 + (b - 48)) us vs (and_is (all_ascii_digits us) (nat_lt 48 (get_or us 0 0) || eqb (length us) 1) ha).0 (omega arith) (omega arith)
+    more-less (10 * 0 + (b - 48)) us vs (and_parts (all_ascii_digits us) (nat_lt 48 (get_or us 0 0) || eqb (length us) 1) ha).0 (omega arith) (omega arith)
 
 digits : (us : List ℕ) → is_number us ≡ true → all_ascii_digits us ≡ true
-digits us ha = (and_is (all_ascii_digits us) (nat_lt 48 (get_or us 0 0) || eqb (length us) 1) ha).0
+digits us ha = (and_parts (all_ascii_digits us) (nat_lt 48 (get_or us 0 0) || eqb (length us) 1) ha).0
 
 pub less-shorter : (us vs : List ℕ) → length us < length vs → is_number us ≡ true → is_number vs ≡ true → true ≡ nat_lt (value_from 0 us) (value_from 0 vs)
 less-shorter us vs l ha hb = sym (lt-ltb _ _ (shorter us vs ha hb l))

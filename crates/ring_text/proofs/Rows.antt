@@ -2,15 +2,14 @@
 use Rattle.std.proofs.Common.{◌≡◌, ℕ, true, nat_lt, List, [], ◌∷◌, map, arith}
 use Rattle.std.specs.Fmt.{decimal}
 use Rattle.std.specs.List.{AllByRecursion}
-use Rattle.std.proofs.lemmas.Bool.{ltb-true}
+use Rattle.std.proofs.lemmas.Bool.{ltb-true, and_parts}
 use Rattle.ring_text.specs.Numbers.{are_small}
 use Rattle.ring_text.specs.Laws.{IsPlain}
-use Rattle.ring_text.proofs.Fronts.{both_true}
 use Rattle.ring_text.proofs.Wholes.{decimal-plain}
 
 pub numbers-plain : (xs : List ℕ) → are_small xs ≡ true → AllByRecursion IsPlain (map decimal xs)
 numbers-plain [] e = tt
 numbers-plain (x ∷ xs) e =
-    let p = both_true (nat_lt x 4294967296) (are_small xs) e in
+    let p = and_parts (nat_lt x 4294967296) (are_small xs) e in
     let lt = ltb-true x 4294967296 p.0 in
     (decimal-plain x (omega (arith, lt)), numbers-plain xs p.1)

@@ -4,7 +4,7 @@ use Rattle.std.specs.List.{AllByRecursion, list_all}
 use Rattle.std.specs.Str.{all_ascii_digits}
 use Rattle.std.specs.Char.{is_ascii_digit}
 use Rattle.std.specs.Fmt.{decimal}
-use Rattle.std.proofs.lemmas.Bool.{leb-true, eqb-true}
+use Rattle.std.proofs.lemmas.Bool.{leb-true, eqb-true, and_parts, or_cases}
 use Rattle.std.proofs.lemmas.Fmt.{digits_decimal}
 use Rattle.ring_names.specs.declared.refusal.Refusal.{Refusal}
 use Rattle.ring_names.specs.declared.refusal.Refusal.TheVariants.{BadLine}
@@ -16,7 +16,7 @@ use Rattle.ring_text.specs.Left.{Left, ◌>>=◌, Reads, is_nil, is_nothing, ove
 use Rattle.ring_text.specs.Laws.{IsPart, SomeLeft, Any, IsPlain, IsPlainLine}
 use Rattle.ring_text.proofs.Cuts.{some_line}
 use Rattle.ring_text.proofs.Items.{bind_ok, ok_is}
-use Rattle.ring_text.proofs.Decimals.{own, and_is}
+use Rattle.ring_text.proofs.Decimals.{own}
 use Rattle.ring_text.proofs.Texts.{text-lines, lines-text}
 
 nil_is : (f : List ℕ) → is_nil f ≡ true → f ≡ []
@@ -68,18 +68,14 @@ reads-found (Err e) new read P g p = tt
 digits-plain : (ds : List ℕ) → all_ascii_digits ds ≡ true → IsPlain ds
 digits-plain [] e = tt
 digits-plain (d ∷ ds) e =
-    let p = and_is (is_ascii_digit d) (all_ascii_digits ds) e in
+    let p = and_parts (is_ascii_digit d) (all_ascii_digits ds) e in
     (digit-plain d p.0, digits-plain ds p.1)
   where
     digit-plain : (c : ℕ) → is_ascii_digit c ≡ true → 32 < c
-    digit-plain c h = omega (arith, leb-true 48 c (and_is (nat_le 48 c) (nat_le c 57) h).0)
+    digit-plain c h = omega (arith, leb-true 48 c (and_parts (nat_le 48 c) (nat_le c 57) h).0)
 
 pub decimal-plain : (n : ℕ) → n < 2 ^ 64 → IsPlain (decimal n)
 decimal-plain n small = digits-plain (decimal n) (digits_decimal own n small)
-
-either_is : (a b : Bool) → (a || b) ≡ true → (a ≡ true) ⊎ (b ≡ true)
-either_is true b e = inl refl
-either_is false b e = inr e
 
 abbrev letter : ℕ → Bool
 letter b = nat_le 97 b && nat_le b 122
@@ -89,17 +85,17 @@ digit b = nat_le 48 b && nat_le b 57
 
 name-byte-plain : (b : ℕ) → is_name_byte b ≡ true → 32 < b
 name-byte-plain b e =
-    elim (either_is (letter b || digit b || (b == 95) || (b == 46) || (b == 58)) (b == 45) e) [
+    elim (or_cases (letter b || digit b || (b == 95) || (b == 46) || (b == 58)) (b == 45) e) [
       | inr h ↦ omega (arith, eqb-true b 45 h)
-      | inl e1 ↦ elim (either_is (letter b || digit b || (b == 95) || (b == 46)) (b == 58) e1) [
+      | inl e1 ↦ elim (or_cases (letter b || digit b || (b == 95) || (b == 46)) (b == 58) e1) [
         | inr h ↦ omega (arith, eqb-true b 58 h)
-        | inl e2 ↦ elim (either_is (letter b || digit b || (b == 95)) (b == 46) e2) [
+        | inl e2 ↦ elim (or_cases (letter b || digit b || (b == 95)) (b == 46) e2) [
           | inr h ↦ omega (arith, eqb-true b 46 h)
-          | inl e3 ↦ elim (either_is (letter b || digit b) (b == 95) e3) [
+          | inl e3 ↦ elim (or_cases (letter b || digit b) (b == 95) e3) [
             | inr h ↦ omega (arith, eqb-true b 95 h)
-            | inl e4 ↦ elim (either_is (letter b) (digit b) e4) [
-              | inl h ↦ omega (arith, leb-true 97 b (and_is (nat_le 97 b) (nat_le b 122) h).0)
-              | inr h ↦ omega (arith, leb-true 48 b (and_is (nat_le 48 b) (nat_le b 57) h).0)
+            | inl e4 ↦ elim (or_cases (letter b) (digit b) e4) [
+              | inl h ↦ omega (arith, leb-true 97 b (and_parts (nat_le 97 b) (nat_le b 122) h).0)
+              | inr h ↦ omega (arith, leb-true 48 b (and_parts (nat_le 48 b) (nat_le b 57) h).0)
             ]
           ]
         ]
@@ -109,8 +105,8 @@ name-byte-plain b e =
 name-bytes-plain : (bs : List ℕ) → list_all is_name_byte bs ≡ true → IsPlain bs
 name-bytes-plain [] e = tt
 name-bytes-plain (b ∷ bs) e =
-    let p = and_is (is_name_byte b) (list_all is_name_byte bs) e in
+    let p = and_parts (is_name_byte b) (list_all is_name_byte bs) e in
     (name-byte-plain b p.0, name-bytes-plain bs p.1)
 
 pub name-plain : (bs : List ℕ) → is_name bs ≡ true → IsPlain bs
-name-plain bs e = name-bytes-plain bs (and_is (nat_le 1 (length bs) && nat_le (length bs) 32) (list_all is_name_byte bs) e).1
+name-plain bs e = name-bytes-plain bs (and_parts (nat_le 1 (length bs) && nat_le (length bs) 32) (list_all is_name_byte bs) e).1

@@ -6,7 +6,7 @@ use Rattle.ring_table.specs.Value.{RingValue}
 use Rattle.plan_text.specs.declared.step.Step.{Step}
 use Rattle.plan_text.specs.declared.step.Step.TheVariants.{Join, Mirror, Copy, Switch, Drop, Retire}
 use Rattle.plan_text.specs.declared.step.Planned.{Planned}
-use Rattle.plan_text.specs.Valid.{ascends}
+use Rattle.ring_text.specs.Numbers.{ascending}
 use Rattle.plan_stage.specs.Each.{step_at}
 use Rattle.plan_stage.specs.Holdings.{is_holder}
 
@@ -21,6 +21,6 @@ is_concerned ring plan p (Retire x) = is_holder ring plan p x
 
 -- these numbers have all such steps, and ascend
 pub record AreConcerned (ring : RingValue) (plan : List Planned) (p : ℕ) (numbers : List ℕ) : Type 0 where
-  pub ascending : ascends numbers ≡ true
+  pub ascending : ascending numbers ≡ true
   pub within : list_all (λ n. nat_lt n (length plan)) numbers ≡ true
   pub all : (n : ℕ) (s : Step) → step_at plan n ≡ Some s → is_concerned ring plan p s ≡ true → has n numbers ≡ true
