@@ -11,7 +11,6 @@ use Rattle.ring_text.proofs.FrameLaws.{end-at}
 use Rattle.ring_table.specs.Value.{RingValue}
 use Rattle.ring_table.proofs.RingLates.{judges-declared}
 use Rattle.plan_cert.specs.declared.cert.Chain.{Chain}
-use Rattle.plan_cert.specs.declared.cert.Cert.{Cert}
 use Rattle.plan_cert.specs.Reading.{path_at, steps_at, fact_at, chain_at, facts_at, chains_at, cert_of, cert_at}
 
 judges-path : (k : ℕ) → Judges k (path_at k)

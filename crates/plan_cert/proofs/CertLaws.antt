@@ -1,12 +1,10 @@
 -- A certificate is read only from its one text.
-use Rattle.std.proofs.Common.{◌≡◌, ℕ, ◌+◌, ◌<◌, ◌≤◌, true, nat_lt, nat_le, List, [], ◌∷◌, ◌++◌, length, map, codes, Ok, Err, refl, sym, ap, ◌∙◌, arith, rules, length-append}
+use Rattle.std.proofs.Common.{◌≡◌, ℕ, ◌+◌, ◌<◌, ◌≤◌, true, nat_lt, nat_le, List, [], ◌∷◌, ◌++◌, length, map, codes, Ok, refl, arith, rules, length-append}
 use Rattle.std.specs.List.{list_all, AllByRecursion}
 use Rattle.std.proofs.lemmas.Bool.{lt-ltb, ltb-true, and_parts}
 use Rattle.std.proofs.lemmas.List.{length-map}
-use Rattle.ring_names.specs.declared.refusal.Refusal.{Refusal}
 use Rattle.ring_text.specs.Numbers.{are_small}
-use Rattle.ring_text.specs.Parts.{lines_of}
-use Rattle.ring_text.specs.Left.{Left, one_line, then_part, over_at}
+use Rattle.ring_text.specs.Left.{Left, one_line, then_part}
 use Rattle.ring_text.specs.Frames.{header_fields, header_at, end_fields, end_line_at}
 use Rattle.ring_text.proofs.FrameLaws.{Nothing, header-line, end-line}
 use Rattle.ring_text.specs.Laws.{IsPart, SomeLeft, Any, IsPlain, IsPlainLine, EachNext, BeginsOther}

@@ -1,5 +1,5 @@
 -- The lines of a certificate are read only if they are spelled so.
-use Rattle.std.proofs.Common.{◌≡◌, ℕ, ◌<◌, ◌≤◌, Bool, true, false, not, nat_lt, nat_le, List, [], ◌∷◌, ◌++◌, length, map, codes, Result, Ok, Err, refl, sym, ap, subst, ◌∙◌, arith}
+use Rattle.std.proofs.Common.{◌≡◌, ℕ, ◌<◌, ◌≤◌, true, not, nat_lt, nat_le, List, [], ◌∷◌, ◌++◌, length, map, codes, Result, Ok, Err, refl, sym, ap, subst, ◌∙◌, arith}
 use Rattle.std.specs.Prelude.{IfOk, OnOk}
 use Rattle.std.specs.Fmt.{decimal}
 use Rattle.std.proofs.lemmas.Bool.{lt-ltb, ltb-true, not-false}
@@ -10,7 +10,7 @@ use Rattle.ring_text.specs.Numbers.{numbers_of, beyond, are_small}
 use Rattle.ring_text.specs.Judging.{Item, word_at, need_at, map_ok}
 use Rattle.ring_text.specs.Laws.{IsItem, IsLine}
 use Rattle.ring_text.proofs.FrameLaws.{Nothing}
-use Rattle.ring_text.proofs.Items.{IsItem-⊗, IsItem-word, IsItem-need, IsLine-map, IsLine-as, IsLine-whole, unless_is, unless_ok}
+use Rattle.ring_text.proofs.Items.{IsItem-⊗, IsItem-word, IsItem-need, IsLine-map, IsLine-as, unless_is, unless_ok}
 use Rattle.ring_text.proofs.Fronts.{Free, Last, IsFront, front-item, front-⊗, front-whole, numbers-taken, numbers-given, pair_is}
 use Rattle.ring_table.specs.Value.{RingValue, names_of}
 use Rattle.ring_table.specs.Valid.{IsRing}

@@ -1,8 +1,7 @@
 -- The steps that a plan keeps, and one more of them.
-use Rattle.std.proofs.Common.{◌≡◌, ℕ, zero, suc, ◌+◌, ◌<◌, List, [], ◌∷◌, ◌++◌, length, map, refl, ap, ◌∙◌, arith}
-use Rattle.std.specs.Prelude.{slice_get, unwrap_or, Option, Some, None}
+use Rattle.std.proofs.Common.{◌≡◌, ℕ, zero, suc, ◌<◌, List, [], ◌∷◌, ◌++◌, length, map, refl, ◌∙◌, arith}
+use Rattle.std.specs.Prelude.{slice_get, Some}
 use Rattle.std.proofs.lemmas.List.{length-append, map_push}
-use Rattle.plan_text.specs.declared.step.Planned.{Planned}
 use Rattle.plan_text.specs.declared.plan.Kept.{Kept}
 use Rattle.plan_text.specs.Kept.{planned_in, AreRows}
 

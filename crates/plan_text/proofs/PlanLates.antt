@@ -13,7 +13,7 @@ use Rattle.ring_text.specs.Judging.{map_ok, map_item}
 use Rattle.ring_text.specs.Left.{Left, ◌>>=◌, next_number, begins_with, first_line, next_line, one_line, then_part}
 use Rattle.ring_text.specs.Frames.{header_at, end_line_at}
 use Rattle.ring_text.specs.Late.{ReadsTo}
-use Rattle.ring_text.proofs.Lates.{At, at-map, at-bind, at-if, at-unless, at-whole, Judges, judges-⊗, judges-map, judges-field, judges-need, Advances, advances-line, to-first, to-second, to-map, reads-less, next-after, next-line, next-monotone}
+use Rattle.ring_text.proofs.Lates.{At, at-map, at-bind, at-if, at-unless, at-whole, Judges, judges-⊗, judges-map, judges-field, judges-need, advances-line, to-first, to-second, to-map, reads-less, next-after, next-line, next-monotone}
 use Rattle.ring_text.proofs.FrameLaws.{end-at}
 use Rattle.ring_table.specs.Value.{RingValue, is_member}
 use Rattle.ring_table.specs.Reading.{declared_at}

@@ -1,11 +1,8 @@
 -- The whole text of a plan.
-use Rattle.std.proofs.Common.{◌≡◌, ℕ, zero, suc, ◌<◌, ◌≤◌, true, nat_lt, List, [], ◌∷◌, ◌++◌, map, codes, Some, None, Ok, Err, refl, sym, ap, ◌∙◌, arith, rules}
+use Rattle.std.proofs.Common.{◌≡◌, ℕ, ◌<◌, ◌≤◌, true, List, [], ◌∷◌, ◌++◌, map, codes, Ok, refl, arith, rules}
 use Rattle.std.specs.Fmt.{decimal}
 use Rattle.std.specs.List.{AllByRecursion}
 use Rattle.ring_names.specs.declared.ids.NodeId.{NodeId}
-use Rattle.ring_names.specs.declared.refusal.Refusal.{Refusal}
-use Rattle.ring_text.specs.Name.{is_name}
-use Rattle.ring_text.specs.Parts.{lines_of}
 use Rattle.ring_text.specs.Left.{Left}
 use Rattle.ring_text.specs.Frames.{end_fields}
 use Rattle.ring_text.specs.Laws.{SomeLeft, IsPlain, IsPlainLine}

@@ -1,9 +1,8 @@
 -- What holds of a plan as it is kept.
-use Rattle.std.specs.Prelude.{◌≡◌, ℕ, Bool, List, [], Option, Some, None, is_some}
+use Rattle.std.specs.Prelude.{◌≡◌, ℕ, Bool, List, Option, is_some}
 use Rattle.std.specs.HashMap as map
 use Rattle.ring_names.specs.Lists.{has, all_different}
 use Rattle.ring_names.specs.ByKey.{list_at}
-use Rattle.ring_names.specs.declared.ids.NodeId.{NodeId}
 use Rattle.ring_names.specs.declared.ids.Slot.{Slot}
 use Rattle.ring_names.specs.declared.lists.Lists.{Lists}
 use Rattle.ring_names.specs.contracts.ids.NodeIdPartialEq.TheImpl as node_eq

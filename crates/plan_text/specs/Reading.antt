@@ -1,5 +1,5 @@
 -- Reading a plan of a ring: the steps of a text, or its first fault.
-use Rattle.std.specs.Prelude.{ℕ, ◌+◌, ◌-◌, ◌==◌, ◌||◌, not, nat_lt, nat_le, List, [], ◌∷◌, ◌++◌, length, codes, Some, None, Result, Ok, Err, if◌then◌else◌}
+use Rattle.std.specs.Prelude.{ℕ, ◌-◌, ◌==◌, ◌||◌, not, nat_lt, nat_le, List, [], ◌∷◌, ◌++◌, length, codes, Some, None, Result, Ok, Err, if◌then◌else◌}
 use Rattle.std.specs.List.{list_all}
 use Rattle.std.specs.Str.{bytes_eq}
 use Rattle.ring_names.specs.Lists.{has}
@@ -36,7 +36,10 @@ slot_node_at ring k = slot_at ring k ⊗ declared_at ring k
 
 -- a node that was no member, and is not joined yet
 unfoldable pub joining_at : RingValue → List Planned → ℕ → Item NodeId
-joining_at ring plan k fields = (((declared_at ring k fields).0 >>= λ x. unless ((is_member ring.nodes x || has x.0 (joined plan), Repeated k) ∷ []) x), (declared_at ring k fields).1)
+joining_at ring plan k fields = (
+  ((declared_at ring k fields).0 >>= λ x. unless ((is_member ring.nodes x || has x.0 (joined plan), Repeated k) ∷ []) x),
+  (declared_at ring k fields).1,
+)
 
 -- a node that is not retired yet
 unfoldable pub retiring_at : RingValue → List Planned → ℕ → Item NodeId

@@ -1,13 +1,13 @@
 -- The node lines of a ring are read only if they are spelled so.
-use Rattle.std.proofs.Common.{◌≡◌, ℕ, ◌+◌, ◌<◌, ◌≤◌, Bool, true, false, not, cond, nat_lt, List, [], ◌∷◌, ◌++◌, length, map, codes, Ok, refl, sym, ap, subst, ◌∙◌, arith, append_assoc, length-append}
+use Rattle.std.proofs.Common.{◌≡◌, ℕ, ◌+◌, ◌<◌, ◌≤◌, true, not, nat_lt, List, [], ◌∷◌, ◌++◌, length, map, codes, Ok, refl, subst, arith, length-append}
 use Rattle.std.specs.List.{AllByRecursion}
 use Rattle.std.proofs.lemmas.Bool.{lt-ltb, ltb-true, not-false}
-use Rattle.std.proofs.lemmas.List.{append-nil, map_push}
+use Rattle.std.proofs.lemmas.List.{map_push}
 use Rattle.ring_names.specs.Lists.{AllNew}
 use Rattle.ring_names.specs.declared.refusal.Refusal.TheVariants.{BadLine}
 use Rattle.ring_text.specs.Name.{is_name}
 use Rattle.ring_text.specs.Judging.{unless}
-use Rattle.ring_text.specs.Left.{Left, ◌>>=◌, many_from}
+use Rattle.ring_text.specs.Left.{Left, many_from}
 use Rattle.ring_text.specs.Laws.{IsPart, SomeLeft, EachNext, BeginsOther}
 use Rattle.ring_text.proofs.Items.{bind_ok, unless_is}
 use Rattle.ring_text.proofs.Many.{many-part}

@@ -1,5 +1,5 @@
 -- Reading a ring does not go back, and each of its faults is at a line that was reached.
-use Rattle.std.proofs.Common.{◌≡◌, ℕ, zero, suc, ◌+◌, ◌-◌, ◌<◌, ◌≤◌, Bool, true, false, cond, not, nat_lt, List, [], ◌∷◌, ◌++◌, length, map, codes, Option, Some, None, Result, Ok, Err, refl, sym, ap, subst, ◌∙◌, arith}
+use Rattle.std.proofs.Common.{◌≡◌, ℕ, zero, suc, ◌+◌, ◌-◌, ◌<◌, ◌≤◌, Bool, true, false, cond, not, nat_lt, List, [], ◌∷◌, ◌++◌, length, map, codes, Option, Some, None, Result, Ok, Err, refl, arith}
 use Rattle.std.specs.Prelude.{is_some}
 use Rattle.std.specs.Str.{bytes_eq}
 use Rattle.std.specs.Fmt.{decimal}
@@ -11,12 +11,12 @@ use Rattle.ring_names.specs.declared.refusal.Refusal.{Refusal}
 use Rattle.ring_names.specs.declared.refusal.Refusal.TheVariants.{BadLine, UnknownNode, Repeated, QuorumTooSmall, SharedNode, NotMember}
 use Rattle.ring_text.specs.Name.{is_name}
 use Rattle.ring_text.specs.Number.{decimal_value}
-use Rattle.ring_text.specs.Judging.{Item, field_at, word_at, number_at, need_at, limited, map_item, unless}
+use Rattle.ring_text.specs.Judging.{field_at, limited, unless}
 use Rattle.ring_text.specs.Left.{Left, ◌>>=◌, next_number, next_line, one_line, then_part, many_from}
-use Rattle.ring_text.specs.Frames.{header_at, end_line_at}
+use Rattle.ring_text.specs.Frames.{end_line_at}
 use Rattle.ring_text.specs.Late.{ReadsTo}
 use Rattle.ring_text.proofs.Lates.{At, at-map, at-bind, at-if, at-unless, at-limited, at-whole, Judges, judges-⊗, judges-map, judges-field, judges-word, judges-number, judges-need, Advances, advances-line, advances-then, advances-map, to-first, to-second, to-map, many-on, next-line, next-monotone}
-use Rattle.ring_text.proofs.FrameLaws.{header-at, end-at}
+use Rattle.ring_text.proofs.FrameLaws.{end-at}
 use Rattle.ring_table.specs.declared.head.Head.{Head}
 use Rattle.ring_table.specs.declared.head.Quorum.{Quorum}
 use Rattle.ring_table.specs.declared.node.Node.{Node}

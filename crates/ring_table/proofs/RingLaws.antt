@@ -1,5 +1,5 @@
 -- A ring is read only from its one text.
-use Rattle.std.proofs.Common.{◌≡◌, ℕ, zero, suc, ◌+◌, ◌≤◌, Bool, true, false, List, [], ◌∷◌, ◌++◌, length, map, codes, Ok, Err, refl, sym, ap, ◌∙◌, append_assoc, arith, rules, Some, None}
+use Rattle.std.proofs.Common.{◌≡◌, ℕ, zero, suc, ◌+◌, ◌≤◌, Bool, true, false, List, [], ◌∷◌, ◌++◌, length, map, codes, Ok, refl, sym, ap, ◌∙◌, append_assoc, arith, rules, Some, None}
 use Rattle.std.specs.Prelude.{slice_get}
 use Rattle.std.specs.List.{AllByRecursion}
 use Rattle.std.proofs.lemmas.List.Concat.{flat_map-append}
@@ -9,8 +9,7 @@ use Rattle.ring_text.specs.Laws.{IsPart, SomeLeft, Any, IsPlain, IsPlainLine}
 use Rattle.ring_text.proofs.FrameLaws.{Nothing, header-line, end-line}
 use Rattle.ring_text.specs.Name.{is_name}
 use Rattle.ring_text.proofs.Wholes.{decimal-plain, name-plain, whole-takes, whole-gives}
-use Rattle.ring_text.specs.Parts.{lines_of, line_text, text_of}
-use Rattle.ring_names.specs.declared.refusal.Refusal.{Refusal}
+use Rattle.ring_text.specs.Parts.{line_text, text_of}
 use Rattle.ring_text.proofs.Items.{IsPart-line, IsPart-then, IsPart-map, IsPart-as, some_lines}
 use Rattle.ring_names.specs.declared.ids.NodeId.{NodeId}
 use Rattle.ring_table.specs.declared.head.Quorum.{Quorum}

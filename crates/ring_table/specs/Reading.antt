@@ -1,5 +1,6 @@
 -- Reading a ring: the value of a text, or its first fault.
-use Rattle.std.specs.Prelude.{ℕ, zero, suc, ◌+◌, Bool, true, false, not, nat_lt, List, [], ◌∷◌, ◌++◌, length, map, codes, Some, None, Result, Ok, Err, is_some, if◌then◌else◌}
+use Rattle.std.specs.Prelude.{ℕ, zero, suc, ◌+◌, Bool, true, false, not, nat_lt, List, [], ◌∷◌, length, map, codes, Some, None, Result, Ok, Err}
+use Rattle.std.specs.Prelude.{is_some, if◌then◌else◌}
 use Rattle.std.specs.Fmt.{decimal}
 use Rattle.std.specs.List.{list_all}
 use Rattle.std.specs.Str.{bytes_eq}
@@ -51,7 +52,8 @@ judge_membership k field = if bytes_eq field (codes "in") then Ok true else (if 
 -- `node <name> <allowance> in` or `.. out`, behind the nodes seen
 unfoldable pub node_at : List Node → ℕ → List (List ℕ) → Result Node Refusal
 node_at seen k fields = map_ok (λ x. record { name = x.0.0.1; allowance = x.0.1; is_member = x.1 })
-    (whole k (need_at k (nat_lt (length seen) 1024) ⊗ word_at k (codes "node") ⊗ field_at k (judge_new k (map (λ y. y.name) seen)) ⊗ field_at k (judge_allowance k) ⊗ field_at k (judge_membership k)) fields)
+    (whole k (need_at k (nat_lt (length seen) 1024) ⊗ word_at k (codes "node") ⊗ field_at k (judge_new k (map (λ y. y.name) seen))
+    ⊗ field_at k (judge_allowance k) ⊗ field_at k (judge_membership k)) fields)
 
 -- one or more of them: lines as long as they begin so
 unfoldable pub nodes_at : Left → Result (List Node × Left) Refusal
@@ -61,7 +63,8 @@ nodes_at s = do
 
 -- a declared node
 abbrev pub judge_declared : ℕ → List (List ℕ) → List ℕ → Result NodeId Refusal
-judge_declared k names field = if is_name field then elim (place names field) [ Some n ↦ Ok (record { 0 = n }) | None ↦ Err (UnknownNode k) ] else Err (BadLine k)
+judge_declared k names field =
+    if is_name field then elim (place names field) [ Some n ↦ Ok (record { 0 = n }) | None ↦ Err (UnknownNode k) ] else Err (BadLine k)
 
 -- one of a ring
 unfoldable pub declared_at : RingValue → ℕ → Item NodeId

@@ -34,7 +34,8 @@ rows_lines names p (row ∷ rows) = row_fields names p row ∷ rows_lines names 
 
 -- the lines of a ring
 abbrev pub ring_lines : RingValue → List (List (List ℕ))
-ring_lines v = header_fields (codes "ring") ∷ space_fields v.q ∷ quorum_fields v.n v.r v.w ∷ (map node_fields v.nodes ++ (rows_lines (names_of v) 0 v.owners ++ end_fields ∷ []))
+ring_lines v = header_fields (codes "ring") ∷ space_fields v.q ∷ quorum_fields v.n v.r v.w
+    ∷ (map node_fields v.nodes ++ (rows_lines (names_of v) 0 v.owners ++ end_fields ∷ []))
 
 -- its text
 abbrev pub ring_text : RingValue → List ℕ

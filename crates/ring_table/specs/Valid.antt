@@ -1,5 +1,5 @@
 -- Which rings are valid.
-use Rattle.std.specs.Prelude.{◌≡◌, ℕ, ◌+◌, ◌<◌, ◌≤◌, ◌&&◌, Bool, true, nat_le, nat_lt, List, [], ◌∷◌, length, map, None}
+use Rattle.std.specs.Prelude.{◌≡◌, ℕ, ◌+◌, ◌<◌, ◌≤◌, ◌&&◌, Bool, true, nat_le, nat_lt, List, [], length, map, None}
 use Rattle.std.specs.List.{AllByRecursion, list_all}
 use Rattle.ring_text.specs.Name.{is_name}
 use Rattle.ring_names.specs.Lists.{all_different, AllNew}

@@ -1,6 +1,5 @@
 -- The first and the last line of a section are read only if they are spelled so.
-use Rattle.std.proofs.Common.{◌≡◌, ℕ, List, [], ◌∷◌, codes, Result, Ok, Err, refl, subst, ◌∙◌, sym}
-use Rattle.ring_names.specs.declared.refusal.Refusal.{Refusal}
+use Rattle.std.proofs.Common.{ℕ, List, [], ◌∷◌, codes, refl}
 use Rattle.ring_text.specs.Judging.{word_at}
 use Rattle.ring_text.specs.Frames.{header_fields, header_at, end_fields, end_line_at}
 use Rattle.ring_text.specs.Laws.{IsLine}

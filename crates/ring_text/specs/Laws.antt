@@ -20,9 +20,11 @@ abbrev pub SomeLeft : Left → Type 0
 SomeLeft s = (x : List (List ℕ)) × (xs : List (List (List ℕ))) × (s.lines ≡ x ∷ xs)
 
 -- of the lines of a text those of an allowed value are taken from the front, and nothing else, where C holds of the line behind them
-pub record IsPart {A : Type 0} (C : List (List ℕ) → Type 0) (read : Left → Result (A × Left) Refusal) (spell : A → List (List (List ℕ))) (P : A → Type 0) : Type 0 where
+pub record IsPart {A : Type 0} (C : List (List ℕ) → Type 0) (read : Left → Result (A × Left) Refusal) (spell : A → List (List (List ℕ))) (P : A → Type 0)
+    : Type 0 where
   pub takes : (s t : Left) (v : A) → SomeLeft s → read s ≡ Ok (v, t) → (s.lines ≡ spell v ++ t.lines) × P v × SomeLeft t
-  pub gives : (k : ℕ) (v : A) (x : List (List ℕ)) (xs : List (List (List ℕ))) → P v → C x → (m : ℕ) × (read (record { line = k; lines = spell v ++ x ∷ xs }) ≡ Ok (v, record { line = m; lines = x ∷ xs }))
+  pub gives : (k : ℕ) (v : A) (x : List (List ℕ)) (xs : List (List (List ℕ))) → P v → C x
+      → (m : ℕ) × (read (record { line = k; lines = spell v ++ x ∷ xs }) ≡ Ok (v, record { line = m; lines = x ∷ xs }))
 
 -- each is allowed behind those in front of it
 abbrev pub EachNext : {A : Type 0} → (List A → A → Type 0) → List A → List A → Type 0

@@ -81,7 +81,8 @@ then_part read again s = do
   Ok ((x.0, y.0), y.1)
 
 -- lines as long as they begin with a word, each read behind those seen
-abbrev pub many_from : {A : Type 0} → List ℕ → (List A → ℕ → List (List ℕ) → Result A Refusal) → List A → ℕ → List (List (List ℕ)) → Result (List A × Left) Refusal
+abbrev pub many_from : {A : Type 0} → List ℕ → (List A → ℕ → List (List ℕ) → Result A Refusal)
+    → List A → ℕ → List (List (List ℕ)) → Result (List A × Left) Refusal
 many_from word read seen k [] = Ok (seen, record { line = k; lines = [] })
 many_from word read seen k (line ∷ more) = if begins_with word (line ∷ more)
     then (first_line k (line ∷ more) >>= λ _. read seen k line >>= λ x. many_from word read (seen ++ x ∷ []) (next_number k) more)

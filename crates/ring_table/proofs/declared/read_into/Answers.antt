@@ -1,7 +1,6 @@
-use Rattle.std.proofs.Common.{codes, ap, sym, ◌∙◌}
+use Rattle.std.proofs.Common.{codes, sym, ◌∙◌}
 use Rattle.ring_text.proofs.Lates.{late-here, many-late}
 use Rattle.ring_text.specs.Left.{many_from}
-use Rattle.ring_text.specs.Judging.{map_ok}
 use Rattle.ring_table.specs.Kept.{node_of}
 use Rattle.ring_table.specs.Reading.{node_at}
 use Rattle.ring_table.proofs.RingLates.{node-at}

@@ -1,4 +1,3 @@
-use Rattle.std.proofs.Common.{sym, ◌∙◌}
 use Rattle.ring_text.proofs.Lates.{late-part}
 use Rattle.ring_table.specs.Reading.{body_at}
 use Rattle.ring_table.proofs.RingLates.{body-nodes, body-rows}

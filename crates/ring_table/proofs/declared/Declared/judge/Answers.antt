@@ -1,7 +1,5 @@
 use Rattle.std.proofs.Common.{◌≡◌, sym, ap, ◌∙◌, rules}
-use Rattle.std.specs.Prelude.{Err}
 use Rattle.ring_text.specs.Judging.{map_ok}
-use Rattle.ring_text.specs.Late.{IsAt}
 use Rattle.ring_text.proofs.Lates.{at-is}
 use Rattle.ring_table.specs.Reading.{node_at}
 use Rattle.ring_table.proofs.NodeLines.{node-line, made_from}
