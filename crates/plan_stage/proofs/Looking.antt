@@ -16,13 +16,14 @@ use Rattle.plan_text.specs.declared.step.Planned.{Planned}
 use Rattle.ring_text.specs.Numbers.{ascending}
 use Rattle.plan_stage.specs.Clauses.{Guard, first_failing}
 use Rattle.plan_stage.specs.Occupancy.{first_drop, mirror_drop}
-use Rattle.plan_stage.specs.Each.{step_at, each_step, is_mirror_of, owns_first, place_in}
+use Rattle.plan_stage.specs.Each.{step_at, each_step, is_mirror_of, owns_first, slot_in, place_in}
 use Rattle.plan_stage.specs.Partition.{Test, ends_before, has_dropped, step_clauses, steps_clauses}
 use Rattle.plan_stage.specs.Holdings.{is_holder}
 use Rattle.plan_stage.specs.Looking.Concerned.{is_concerned, AreConcerned}
 use Rattle.plan_stage.specs.Looking.Looked.{clauses_at, clauses_of}
 use Rattle.plan_stage.proofs.Below.{first-then, first-kept}
 use Rattle.plan_stage.proofs.Truth.{all_of, either, first_of_two, second_of_two, same, if_asked, each-all, each_below-all, list_all-met}
+use Rattle.plan_stage.proofs.Rising.{ascends-later}
 use Rattle.plan_stage.proofs.Holders.{told, IsFree, no-holder}
 
 -- ---- in general
@@ -41,10 +42,6 @@ ascends-below n (m ∷ ms) h j is =
       | inl here ↦ (let e : j ≡ m = eqb-true j m here in rw e l)
       | inr there ↦ (let g : m < j = ascends-below m ms b.1 j there in omega arith)
     ]
-
-pub ascends-later : (n : ℕ) (ns : List ℕ) → ascending (n ∷ ns) ≡ true → ascending ns ≡ true
-ascends-later n [] h = refl
-ascends-later n (m ∷ ms) h = (both_true (nat_lt n m) (ascending (m ∷ ms)) h).1
 
 -- the numbers are of steps from number k on, and the clauses of the other steps hold
 pub record Covers (f : ℕ → Step → List Guard) (k : ℕ) (plan : List Planned) (numbers : List ℕ) : Type 0 where
@@ -134,9 +131,6 @@ looked-at f plan numbers asc within others =
 
 -- ---- the steps of a partition
 
-abbrev slot_at : ℕ → ℕ → Slot
-slot_at p j = record { partition = p; index = j }
-
 abbrev first_dropped : RingValue → List Planned → Test → ℕ → Slot → NodeId → Bool
 first_dropped ring plan O t s x = not (owns_first ring s x) || ends_before O (first_drop ring plan s) t
 
@@ -144,17 +138,17 @@ abbrev later_dropped : List Planned → Test → ℕ → Slot → NodeId → ℕ
 later_dropped plan O t s x b u = not (is_mirror_of s x u) || ends_before O (mirror_drop plan s (place_in plan s b) x) t
 
 abbrev dropped_at : RingValue → List Planned → Test → ℕ → ℕ → NodeId → ℕ → Bool
-dropped_at ring plan O p t x j = first_dropped ring plan O t (slot_at p j) x && each_step (later_dropped plan O t (slot_at p j) x) 0 plan
+dropped_at ring plan O p t x j = first_dropped ring plan O t (slot_in p j) x && each_step (later_dropped plan O t (slot_in p j) x) 0 plan
 
 -- a node that holds no slot of the partition has dropped all that it held
 pub dropped-all : (ring : RingValue) (plan : List Planned) (O : Test) (p t : ℕ) (x : NodeId) → is_holder ring plan p x ≡ false → has_dropped ring plan O p t x ≡ true
 dropped-all ring plan O p t x none = each_below-all (dropped_at ring plan O p t x) ring.n (λ j l. at_slot j (no-holder ring plan p x none j l))
   where
-    at_slot : (j : ℕ) → IsFree ring plan (slot_at p j) x → dropped_at ring plan O p t x j ≡ true
+    at_slot : (j : ℕ) → IsFree ring plan (slot_in p j) x → dropped_at ring plan O p t x j ≡ true
     at_slot j free =
-        all_of (first_dropped ring plan O t (slot_at p j) x) (each_step (later_dropped plan O t (slot_at p j) x) 0 plan)
-        (if_asked (owns_first ring (slot_at p j) x) (ends_before O (first_drop ring plan (slot_at p j)) t) (λ h. absurd (let f = free.owns in cc)))
-        (each-all (later_dropped plan O t (slot_at p j) x) plan (λ b u at. if_asked (is_mirror_of (slot_at p j) x u) (ends_before O (mirror_drop plan (slot_at p j) (place_in plan (slot_at p j) b) x) t) (λ h. absurd (let f = free.mirrors b u at in cc))))
+        all_of (first_dropped ring plan O t (slot_in p j) x) (each_step (later_dropped plan O t (slot_in p j) x) 0 plan)
+        (if_asked (owns_first ring (slot_in p j) x) (ends_before O (first_drop ring plan (slot_in p j)) t) (λ h. absurd (let f = free.owns in cc)))
+        (each-all (later_dropped plan O t (slot_in p j) x) plan (λ b u at. if_asked (is_mirror_of (slot_in p j) x u) (ends_before O (mirror_drop plan (slot_in p j) (place_in plan (slot_in p j) b) x) t) (λ h. absurd (let f = free.mirrors b u at in cc))))
 
 -- a step that is not concerned has no clause that fails
 pub unconcerned : (ring : RingValue) (plan : List Planned) (O : Test) (p n : ℕ) (s : Step) → is_concerned ring plan p s ≡ false → first_failing (step_clauses ring plan O p n s) ≡ None

@@ -51,9 +51,9 @@ ascends-from k (x ∷ xs) slot j l = by (is_on slot x.step) (ascends-from (k + 1
     by true here there = rw (lt-ltb j k l, here) refl
     by false here there = there
 
-ascends-behind : (j : ℕ) (ns : List ℕ) → ascending (j ∷ ns) ≡ true → ascending ns ≡ true
-ascends-behind j [] h = refl
-ascends-behind j (n ∷ ns) h = (both_true (nat_lt j n) (ascending (n ∷ ns)) h).1
+pub ascends-later : (j : ℕ) (ns : List ℕ) → ascending (j ∷ ns) ≡ true → ascending ns ≡ true
+ascends-later j [] h = refl
+ascends-later j (n ∷ ns) h = (both_true (nat_lt j n) (ascending (n ∷ ns)) h).1
 
 steps-ascend : (plan : List Planned) (slot : Slot) → ascending (steps_of plan slot) ≡ true
 steps-ascend [] slot = refl
@@ -64,7 +64,7 @@ steps-ascend (x ∷ xs) slot = by (is_on slot x.step)
 
     by : (b : Bool) → ascending (cond b (0 ∷ steps_from (0 + 1) xs slot) (steps_from (0 + 1) xs slot)) ≡ true
     by true = ascends-from (0 + 1) xs slot 0 (omega arith)
-    by false = ascends-behind 0 (steps_from (0 + 1) xs slot) (ascends-from (0 + 1) xs slot 0 (omega arith))
+    by false = ascends-later 0 (steps_from (0 + 1) xs slot) (ascends-from (0 + 1) xs slot 0 (omega arith))
 
 -- ---- so do the steps that begin holdings
 
@@ -91,7 +91,7 @@ none-before plan slot x t a b (c ∷ cs) l up =
 rise-from : (plan : List Planned) (slot : Slot) (x : NodeId) (t : ℕ) (a : Stage) (bs : List ℕ) → ascending bs ≡ true → InFront (begins_before t) (holdings_from plan slot x a bs)
 rise-from plan slot x t a [] up = tt
 rise-from plan slot x t a (b ∷ bs) up =
-    by (elim (step_at plan b) [ Some s ↦ is_mirror_of slot x s | None ↦ false ]) (rise-from plan slot x t (after plan a b) bs (ascends-behind b bs up))
+    by (elim (step_at plan b) [ Some s ↦ is_mirror_of slot x s | None ↦ false ]) (rise-from plan slot x t (after plan a b) bs (ascends-later b bs up))
   where
     by : (v : Bool) → InFront (begins_before t) (holdings_from plan slot x (after plan a b) bs)
         → InFront (begins_before t) (cond v (record { begin = Some b; end = leaving plan x (after plan a b) bs; drop = dropping plan x slot bs } ∷ holdings_from plan slot x (after plan a b) bs) (holdings_from plan slot x (after plan a b) bs))

@@ -45,12 +45,12 @@ abbrev pub owns_first : RingValue → Slot → NodeId → Bool
 owns_first ring s x = elim (owner_of ring s) [ Some y ↦ is_node x y | None ↦ false ]
 
 -- the slot of that index in the partition
-abbrev pub slot_at : ℕ → ℕ → Slot
-slot_at p j = record { partition = p; index = j }
+abbrev pub slot_in : ℕ → ℕ → Slot
+slot_in p j = record { partition = p; index = j }
 
 -- the slot of that index in the same partition
 abbrev pub sibling : Slot → ℕ → Slot
-sibling slot j = slot_at slot.partition j
+sibling slot j = slot_in slot.partition j
 
 -- the place of a step among those of its slot
 abbrev pub place_in : List Planned → Slot → ℕ → ℕ

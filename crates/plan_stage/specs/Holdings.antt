@@ -9,7 +9,7 @@ use Rattle.plan_stage.specs.declared.holding.Holding.{Holding}
 use Rattle.plan_stage.specs.declared.stage.Stage.{Stage}
 use Rattle.plan_stage.specs.Stage.{opening, after}
 use Rattle.plan_stage.specs.Occupancy.{leaving, dropping, first_end, first_drop}
-use Rattle.plan_stage.specs.Each.{passes, each_below, is_mirror_of, owns_first, slot_at}
+use Rattle.plan_stage.specs.Each.{passes, each_below, is_mirror_of, owns_first, slot_in}
 
 -- the holdings of the node that these steps begin, which act on the slot from the stage on
 abbrev pub holdings_from : List Planned → Slot → NodeId → Stage → List ℕ → List Holding
@@ -34,4 +34,4 @@ is_none (h ∷ hs) = false
 
 -- the node holds some slot of the partition for some time
 abbrev pub is_holder : RingValue → List Planned → ℕ → NodeId → Bool
-is_holder ring plan p x = not (each_below ring.n (λ i. is_none (holdings ring plan (slot_at p i) x)))
+is_holder ring plan p x = not (each_below ring.n (λ i. is_none (holdings ring plan (slot_in p i) x)))

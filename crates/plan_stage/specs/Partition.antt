@@ -16,7 +16,7 @@ use Rattle.plan_stage.specs.declared.stage.Stage.{Stage}
 use Rattle.plan_stage.specs.Stage.{stage}
 use Rattle.plan_stage.specs.Clauses.{Guard, below, is_staged}
 use Rattle.plan_stage.specs.Occupancy.{first_end, mirror_end, first_drop, mirror_drop}
-use Rattle.plan_stage.specs.Each.{some_step, each_step, each_below, is_switch_of, is_mirror_of, owns_first, slot_at, sibling, place_in}
+use Rattle.plan_stage.specs.Each.{some_step, each_step, each_below, is_switch_of, is_mirror_of, owns_first, slot_in, sibling, place_in}
 
 -- a test of the order of two steps
 abbrev pub Test : Type 0
@@ -53,7 +53,7 @@ has_dropped_slot ring plan O t slot x = (not (owns_first ring slot x) || ends_be
 
 -- before step t the node has dropped all that it held of the partition
 abbrev pub has_dropped : RingValue → List Planned → Test → ℕ → ℕ → NodeId → Bool
-has_dropped ring plan O p t x = each_below ring.n (λ j. has_dropped_slot ring plan O t (slot_at p j) x)
+has_dropped ring plan O p t x = each_below ring.n (λ j. has_dropped_slot ring plan O t (slot_in p j) x)
 
 -- a mirror of the node by step n
 abbrev pub mirror_clauses : RingValue → List Planned → Test → ℕ → Slot → NodeId → List Guard
@@ -96,4 +96,4 @@ slot_clauses ring plan O slot = below (slot_step_clauses ring plan O slot) (leng
 
 -- a partition's slots by index, and then the plan's steps by number
 abbrev pub partition_clauses : RingValue → List Planned → Test → ℕ → List Guard
-partition_clauses ring plan O p = below (λ i. slot_clauses ring plan O (slot_at p i)) ring.n ++ steps_clauses (step_clauses ring plan O p) 0 plan
+partition_clauses ring plan O p = below (λ i. slot_clauses ring plan O (slot_in p i)) ring.n ++ steps_clauses (step_clauses ring plan O p) 0 plan

@@ -8,7 +8,7 @@ use Rattle.ring_table.specs.Value.{RingValue, owner_of}
 use Rattle.plan_text.specs.declared.step.Step.{Step}
 use Rattle.plan_text.specs.declared.step.Planned.{Planned}
 use Rattle.plan_text.specs.Steps.{steps_of, retirement_of, mirror_of}
-use Rattle.plan_stage.specs.Each.{step_at, slot_at}
+use Rattle.plan_stage.specs.Each.{step_at, slot_in}
 
 -- the node that the step mirrors a slot to
 abbrev pub mirrored_node : Step → Option NodeId
@@ -40,4 +40,4 @@ pub record HasSlot (ring : RingValue) (plan : List Planned) (slot : Slot) (numbe
 -- they are steps, and have what belongs to the ring's slots in the partition
 pub record IsGathered (ring : RingValue) (plan : List Planned) (p : ℕ) (numbers : List ℕ) : Type 0 where
   pub within : are_steps plan numbers ≡ true
-  pub slots : (i : ℕ) → i < ring.n → HasSlot ring plan (slot_at p i) numbers
+  pub slots : (i : ℕ) → i < ring.n → HasSlot ring plan (slot_in p i) numbers

@@ -9,7 +9,7 @@ use Rattle.ring_table.specs.Value.{RingValue}
 use Rattle.plan_text.specs.declared.step.Planned.{Planned}
 use Rattle.plan_stage.specs.declared.holding.Holding.{Holding}
 use Rattle.plan_stage.specs.declared.holding.Holdings.{Holdings}
-use Rattle.plan_stage.specs.Each.{slot_at}
+use Rattle.plan_stage.specs.Each.{slot_in}
 use Rattle.plan_stage.specs.Holdings.{holdings}
 
 -- what is kept of the node in one slot
@@ -26,4 +26,4 @@ IsHeld ring plan slot held = (x : NodeId) → held x ≡ reverse (holdings ring 
 
 -- so it is for each slot of the partition
 abbrev pub AreHeld : RingValue → List Planned → ℕ → Holdings → Type 0
-AreHeld ring plan p a = (i : ℕ) → i < ring.n → IsHeld ring plan (slot_at p i) (held_at a i)
+AreHeld ring plan p a = (i : ℕ) → i < ring.n → IsHeld ring plan (slot_in p i) (held_at a i)
