@@ -125,7 +125,7 @@ module _ (ring : RingValue) where
   abbrev Steps : Type 0
   Steps = Result (List Planned × Left) Refusal
 
-  steps-on : (seen : List Planned) (k : ℕ) (lines : List (List (List ℕ))) → ReadsTo k (steps_from ring seen k lines)
+  pub steps-on : (seen : List Planned) (k : ℕ) (lines : List (List (List ℕ))) → ReadsTo k (steps_from ring seen k lines)
   steps-on seen k [] = (k, omega arith, refl)
   steps-on seen k (line ∷ []) = by (begins_with (codes "end") (line ∷ []))
     where

@@ -99,10 +99,10 @@ nodes-to k s p = by (many_from (codes "node") node_at [] s.line s.lines) p
     by (Ok x) q = filled-on k x q
     by (Err e) q = q
 
-nodes-on : Advances nodes_at
+pub nodes-on : Advances nodes_at
 nodes-on = record { on = λ s. nodes-to s.line s (many-on (codes "node") node_at node-at [] s.line s.lines) }
 
-rows-on : (nodes : List Node) (n p c : ℕ) → Advances (rows_at nodes n p c)
+pub rows-on : (nodes : List Node) (n p c : ℕ) → Advances (rows_at nodes n p c)
 unfolding rows_at
 rows-on nodes n p zero = record { on = λ s. omega arith }
 rows-on nodes n p (suc c) = advances-map _ _ (advances-then _ _ (advances-line _ (row-at nodes n p)) (λ _. rows-on nodes n (p + 1) c))

@@ -1,8 +1,8 @@
 //! Reading a ring.
 
-ghost use Rattle.std.specs.Prelude.{◌≡◌, ◌≤◌, Ok, IfOk, IfErr};
+ghost use Rattle.std.specs.Prelude.{◌≡◌, ◌≤◌, Ok, IfOk, IfErr, OnOk};
 ghost use Rattle.ring_names.specs.declared.refusal.Refusal.TheVariants.{OutOfMemory};
-ghost use Rattle.ring_text.specs.Left.{Reads};
+ghost use Rattle.ring_text.specs.Left.{Reads, next_number, lines_on};
 ghost use Rattle.ring_text.specs.Late.{Late, NoFaultBefore};
 ghost use Rattle.ring_text.specs.Judging.{Gives, map_ok};
 ghost use Rattle.ring_table.specs.Value.{RingValue};
@@ -32,6 +32,7 @@ fn read_body(alloc: Global, head: Head, lines: &mut Lines) -> Result<Body, Refus
     requires { head.quorum.n ≤ 7 }
     ensures read { Reads (map_ok body_of result) lines.new (body_at head lines.old) }
     ensures late { Late 1 result lines.old lines.new (body_at head lines.old) }
+    ensures far { OnOk result (next_number lines.old.line ≤ lines.new.line) }
 {
     let declared = read_nodes(alloc, lines)?;
     let owners = read_rows(alloc, &declared, head.quorum.n, head.q, lines)?;
@@ -47,6 +48,8 @@ pub fn read_ring_section(alloc: Global, lines: &mut Lines) -> Result<Ring, Refus
     ensures found { IfOk result (λ v. IsRing v) }
     // Memory may run out behind its first four lines, if these have no fault, and later only behind lines that have none.
     ensures late { Late 4 result lines.old lines.new (ring_at lines.old) }
+    // It has four lines at least.
+    ensures far { OnOk result (lines_on 4 lines.old.line ≤ lines.new.line) }
 {
     let head = read_head(lines)?;
     let Body { declared, owners } = read_body(alloc, head, lines)?;

@@ -1,23 +1,23 @@
 -- The verdict on a bundle, by its parts.
-use Rattle.std.proofs.Common.{◌≡◌, ℕ, List, Ok, Err, refl, ap, sym, ◌∙◌}
+use Rattle.std.proofs.Common.{◌≡◌, ◌≤◌, ◌∙◌, ℕ, List, [], Result, Ok, Err, IfErr, codes, refl, ap, sym, arith}
 use Rattle.ring_names.specs.declared.refusal.Refusal.{Refusal}
-use Rattle.ring_text.specs.Left.{whole_text, Left}
+use Rattle.ring_names.specs.declared.refusal.Refusal.TheVariants.{OutOfMemory}
+use Rattle.ring_text.specs.Left.{whole_text, Left, lines_on, then_part, one_line}
+use Rattle.ring_text.specs.Frames.{header_at, end_line_at}
+use Rattle.ring_text.specs.Late.{ReadsTo, NoFaultBefore}
+use Rattle.ring_text.proofs.Lates.{Advances, advances-line, advances-then, advances-map, to-first, to-second, to-map, reads-less, many-on, next-after, next-monotone}
+use Rattle.ring_text.proofs.FrameLaws.{header-at, end-at}
 use Rattle.ring_table.specs.Value.{RingValue}
-use Rattle.plan_text.specs.declared.step.Planned.{Planned}
-use Rattle.plan_check.specs.First.{first_refusal}
-use Rattle.ring_text.specs.Parts.{lines_of}
-use Rattle.ring_text.proofs.Cuts.{some_line}
 use Rattle.ring_table.specs.Reading.{ring_at}
-use Rattle.ring_table.specs.Valid.{IsRing}
-use Rattle.ring_table.proofs.LineLaws.{space-le}
-use Rattle.ring_table.proofs.RingLaws.{ring-part}
-use Rattle.plan_text.specs.Valid.{Suits}
-use Rattle.plan_text.specs.Reading.{plan_at}
-use Rattle.plan_text.proofs.PlanLaws.{plan-part}
-use Rattle.plan_text.proofs.SuitLaws.{plan-of-next}
-use Rattle.plan_text.proofs.TextLaws.{names-of}
+use Rattle.plan_text.specs.declared.step.Planned.{Planned}
+use Rattle.plan_text.specs.Reading.{steps_at, plan_at}
+use Rattle.plan_text.proofs.PlanLates.{steps-on, steps-at}
+use Rattle.plan_cert.specs.declared.cert.Cert.{Cert}
+use Rattle.plan_cert.specs.Reading.{fact_at, chain_at, facts_at, chains_at, cert_at}
+use Rattle.plan_cert.proofs.CertLates.{fact-at, chain-at}
+use Rattle.plan_check.specs.First.{first_refusal}
 use Rattle.ringplan_run.specs.declared.bundle.Bundle.{Bundle}
-use Rattle.ringplan_run.specs.Verdict.{bundle_at, judged, verdict}
+use Rattle.ringplan_run.specs.Verdict.{bundle_of, bundle_at, judged, verdict}
 
 pub verdict-bad : (bytes : List ℕ) (e : Refusal) → whole_text bundle_at bytes ≡ Err e → verdict bytes ≡ Err e
 unfolding verdict
@@ -27,11 +27,59 @@ pub verdict-good : (bytes : List ℕ) (b : Bundle) → whole_text bundle_at byte
 unfolding verdict
 verdict-good bytes b h = rw h refl
 
--- a plan that was read behind its ring suits it
-pub bundle-suits : (bytes : List ℕ) (s t u : Left) (ring : RingValue) (plan : List Planned) → s ≡ record { line = 1; lines = lines_of bytes } → ring_at s ≡ Ok (ring, t) → plan_at ring t ≡ Ok (plan, u) → Suits ring plan
-bundle-suits bytes s t u ring plan start e f =
-    let at : ring_at (record { line = 1; lines = lines_of bytes }) ≡ Ok (ring, t) = ap ring_at (sym start) ∙ e in
-    let read = ring-part.takes (record { line = 1; lines = lines_of bytes }) t ring (some_line bytes) at in
-    let valid : IsRing ring = read.1 in
-    let next = ((plan-part ring (space-le ring.q valid.space) valid.slots (names-of ring valid)).takes t u plan read.2 f).1 in
-    (plan-of-next ring plan next).1
+-- what was read has no fault
+pub no-fault : (n : ℕ) (bytes : List ℕ) (b : Bundle) → whole_text bundle_at bytes ≡ Ok b → NoFaultBefore n (whole_text bundle_at bytes)
+no-fault n bytes b h = rw h tt
+
+-- ---- reading a plan and a certificate does not go back
+
+steps-all : (ring : RingValue) → Advances (steps_at ring)
+steps-all ring = record { on = λ s. rw (sym (steps-at ring s)) (steps-on ring [] s.line s.lines) }
+
+pub plan-on : (ring : RingValue) → Advances (plan_at ring)
+unfolding plan_at
+plan-on ring = advances-map _ _ (advances-then _ _ (advances-line _ (header-at (codes "plan"))) (λ _. advances-then _ _ (steps-all ring) (λ _. advances-line end_line_at end-at)))
+
+facts-all : Advances facts_at
+facts-all = record { on = λ s. many-on (codes "fact") fact_at fact-at [] s.line s.lines }
+
+chains-all : (ring : RingValue) → Advances (chains_at ring)
+chains-all ring = record { on = λ s. many-on (codes "chain") (chain_at ring) (chain-at ring) [] s.line s.lines }
+
+pub cert-on : (ring : RingValue) → Advances (cert_at ring)
+unfolding cert_at
+cert-on ring = advances-map _ _ (advances-then _ _ (advances-line _ (header-at (codes "cert"))) (λ _. advances-then _ _ facts-all (λ _. advances-then _ _ (chains-all ring) (λ _. advances-line end_line_at end-at))))
+
+-- ---- a place in a bundle
+
+abbrev rest : RingValue → Left → Result ((List Planned × Cert) × Left) Refusal
+rest ring = then_part (plan_at ring) (λ _. cert_at ring)
+
+rest-on : (ring : RingValue) → Advances (rest ring)
+rest-on ring = advances-then (plan_at ring) _ (plan-on ring) (λ _. cert-on ring)
+
+-- in the ring
+pub bundle-ring : (k : ℕ) (s : Left) → ReadsTo k (ring_at s) → ReadsTo k (bundle_at s)
+unfolding bundle_at
+bundle-ring k s p = to-map bundle_of (then_part ring_at rest) k s (to-first ring_at rest k s rest-on p)
+
+-- behind it
+bundle-rest : (k : ℕ) (s t : Left) (ring : RingValue) → ring_at s ≡ Ok (ring, t) → ReadsTo k (rest ring t) → ReadsTo k (bundle_at s)
+unfolding bundle_at
+bundle-rest k s t ring e p = to-map bundle_of (then_part ring_at rest) k s (to-second ring_at rest k s t ring e p)
+
+-- in the plan
+pub bundle-plan : (k : ℕ) (s t : Left) (ring : RingValue) → ring_at s ≡ Ok (ring, t) → ReadsTo k (plan_at ring t) → ReadsTo k (bundle_at s)
+bundle-plan k s t ring e p = bundle-rest k s t ring e (to-first (plan_at ring) (λ _. cert_at ring) k t (λ _. cert-on ring) p)
+
+-- in the certificate
+pub bundle-cert : (k : ℕ) (s t u : Left) (ring : RingValue) (plan : List Planned) → ring_at s ≡ Ok (ring, t) → plan_at ring t ≡ Ok (plan, u) → ReadsTo k (cert_at ring u) → ReadsTo k (bundle_at s)
+bundle-cert k s t u ring plan e f p = bundle-rest k s t ring e (to-second (plan_at ring) (λ _. cert_at ring) k t u plan f p)
+
+-- two lines on is not in front of where it was
+pub two-on : (k : ℕ) → k ≤ lines_on 2 k
+two-on k = let a = next-after k in let b = next-after (lines_on 1 k) in omega arith
+
+-- a plan ends behind where it begins
+pub past-plan : (ring : RingValue) (s t : Left) (plan : List Planned) → plan_at ring s ≡ Ok (plan, t) → s.line ≤ t.line
+past-plan ring s t plan e = (let on = (plan-on ring).on s in rw e at on)

@@ -3,8 +3,8 @@ use Rattle.ring_text.specs.Judging.{Gives}
 use Rattle.ringplan_run.proofs.Verdicts.{verdict-bad, verdict-good}
 use Rattle.ringplan_run.proofs.bundle.check_bundle.Goals as goal
 
-pub returns-in-Ok : goal.returns-in-Ok
-returns-in-Ok c = subst (λ v. Gives c.check_plan.result v) (sym (verdict-good c.args.bytes.now c.in-Ok.bundle c.in-Ok.ensures.read)) c.check_plan.ensures
+pub returns-in-Ok-clause-read : goal.returns-in-Ok-clause-read
+returns-in-Ok-clause-read c = subst (λ v. Gives c.check_plan.result v) (sym (verdict-good c.args.bytes.now c.in-Ok.bundle c.in-Ok.ensures.read)) c.check_plan.ensures
 
-pub returns-in-Err : goal.returns-in-Err
-returns-in-Err c = λ other. verdict-bad c.args.bytes.now c.in-Err.e (c.in-Err.ensures.read other)
+pub returns-in-Err-clause-read : goal.returns-in-Err-clause-read
+returns-in-Err-clause-read c = λ other. verdict-bad c.args.bytes.now c.in-Err.e (c.in-Err.ensures.read other)

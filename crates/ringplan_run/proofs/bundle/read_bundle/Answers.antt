@@ -1,5 +1,6 @@
-use Rattle.ringplan_run.proofs.Verdicts.{bundle-suits}
+use Rattle.ring_text.proofs.Lates.{late-whole, four-lines}
+use Rattle.ringplan_run.specs.Verdict.{bundle_at}
 use Rattle.ringplan_run.proofs.bundle.read_bundle.Goals as goal
 
-pub returns-clause-suits : goal.returns-clause-suits
-returns-clause-suits c = bundle-suits c.args.bytes.now c.of-lines.result c.read_ring_section.new.lines c.read_plan_section.new.lines c.in_ok-ring.ring c.in_ok-plan.plan c.of-lines.ensures c.in_ok-ring.ensures.read c.in_ok-plan.ensures.read
+pub returns-in_err-bundle-clause-late : goal.returns-in_err-bundle-clause-late
+returns-in_err-bundle-clause-late c = late-whole 4 5 c.from_residual.result c.in_err-bundle.field-0.0 c.args.bytes.now c.of-lines.result c.read_parts.new.lines bundle_at four-lines c.from_residual.ensures.1 c.of-lines.ensures c.in_err-bundle.ensures.late
