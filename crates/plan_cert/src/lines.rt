@@ -55,10 +55,8 @@ fn judge_fact<'a>(seen: &[Listed<u32>], mut fields: Fields<'a>) -> Result<Number
     let room = need(seen.len() < 262144, &fields);
     let word = fields.word(b"fact");
     let path = path_field(&mut fields);
-    match finish(both(both(room, word), path), fields) {
-        Ok((_, path)) => Ok(path),
-        Err(e) => Err(e),
-    }
+    let (_, path) = finish(both(both(room, word), path), fields)?;
+    Ok(path)
 }
 
 /// What a fact's line says, behind the facts seen. Takes no memory.
@@ -91,10 +89,8 @@ fn judge_chain<'a>(
     let word = fields.word(b"chain");
     let node = node_field(ring, &mut fields);
     let steps = steps_field(&mut fields);
-    match finish(both(both(both(room, word), node), steps), fields) {
-        Ok(((_, node), steps)) => Ok(ChainLine { node, steps }),
-        Err(e) => Err(e),
-    }
+    let ((_, node), steps) = finish(both(both(both(room, word), node), steps), fields)?;
+    Ok(ChainLine { node, steps })
 }
 
 /// What a chain's line says, behind the chains seen. Takes no memory.

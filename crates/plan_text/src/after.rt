@@ -9,9 +9,14 @@ use ring_names::Refusal;
 use ring_text::{CAP, Fields, NumberRow};
 
 // Steps that the next one of the plan waits for.
-fn dependencies<'a>(plan: &Plan, line: u32, row: NumberRow<'a>) -> Result<NumberRow<'a>, Refusal>
-    ensures { result ≡ judge_after plan.now line row.entry }
+fn dependencies<'a>(
+    plan: &Plan,
+    fields: &Fields,
+    row: NumberRow<'a>,
+) -> Result<NumberRow<'a>, Refusal>
+    ensures { result ≡ judge_after plan.now fields.now.number row.entry }
 {
+    let line = fields.line();
     if row.is_empty() {
         return Err(Refusal::BadLine(line));
     }
@@ -38,13 +43,12 @@ fn dependencies<'a>(plan: &Plan, line: u32, row: NumberRow<'a>) -> Result<Number
 pub fn after<'a>(plan: &Plan, fields: &mut Fields<'a>) -> Result<NumberRow<'a>, Refusal>
     ensures { Does (after_at plan.now) fields.old result fields.new }
 {
-    let line = fields.line();
     let Some(word) = fields.next() else {
         return Ok(NumberRow::none());
     };
     if word == b"after".as_slice() {
         let row = fields.numbers();
-        return dependencies(plan, line, row);
+        return dependencies(plan, fields, row);
     }
-    Err(Refusal::BadLine(line))
+    Err(Refusal::BadLine(fields.line()))
 }

@@ -12,9 +12,10 @@ use ring_table::Ring;
 use ring_text::{Fields, NumberRow, both};
 
 // Listed slots of a ring of n slots.
-fn indexes<'a>(n: u32, line: u32, row: NumberRow<'a>) -> Result<NumberRow<'a>, Refusal>
-    ensures { result ≡ judge_indexes n line row.entry }
+fn indexes<'a>(n: u32, fields: &Fields, row: NumberRow<'a>) -> Result<NumberRow<'a>, Refusal>
+    ensures { result ≡ judge_indexes n fields.now.number row.entry }
 {
+    let line = fields.line();
     if row.is_empty() {
         return Err(Refusal::BadLine(line));
     }
@@ -32,21 +33,18 @@ fn indexes<'a>(n: u32, line: u32, row: NumberRow<'a>) -> Result<NumberRow<'a>, R
 fn source<'a>(n: u32, fields: &mut Fields<'a>) -> Result<SaidSource<'a>, Refusal>
     ensures { Does (source_at n) fields.old result fields.new }
 {
-    let line = fields.line();
     let Some(word) = fields.next() else {
-        return Err(Refusal::BadLine(line));
+        return Err(Refusal::BadLine(fields.line()));
     };
     if word == b"owner".as_slice() {
         return Ok(SaidSource::Owner);
     }
     if word == b"slots".as_slice() {
         let row = fields.numbers();
-        return match indexes(n, line, row) {
-            Ok(row) => Ok(SaidSource::Slots(row)),
-            Err(e) => Err(e),
-        };
+        let row = indexes(n, fields, row)?;
+        return Ok(SaidSource::Slots(row));
     }
-    Err(Refusal::BadLine(line))
+    Err(Refusal::BadLine(fields.line()))
 }
 
 // A slot, and where its copy reads.

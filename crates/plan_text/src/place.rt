@@ -31,10 +31,8 @@ pub fn slot(ring: &Ring, fields: &mut Fields) -> Result<Slot, Refusal>
 {
     let partition = below(ring.q(), fields);
     let index = below(ring.n(), fields);
-    match both(partition, index) {
-        Ok((partition, index)) => Ok(Slot { partition, index }),
-        Err(e) => Err(e),
-    }
+    let (partition, index) = both(partition, index)?;
+    Ok(Slot { partition, index })
 }
 
 /// A slot, and behind it a declared node.

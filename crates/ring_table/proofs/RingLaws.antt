@@ -118,10 +118,6 @@ some-head s t h e = by s.lines e
     by [] f = absurd cc
     by (x ∷ xs) f = (x, xs, refl)
 
--- what was read as a head is one
-pub head-valid : (s t : Left) (h : Head) → head_at s ≡ Ok (h, t) → IsHead h
-head-valid s t h e = (head-part.takes s t h (some-head s t h e) e).1
-
 pub ring-valid : (s t u : Left) (h : Head) (b : Behind) → head_at s ≡ Ok (h, t) → body_at h t ≡ Ok (b, u) → IsRing (ring_of h b)
 ring-valid s t u h b e f =
     let front = head-part.takes s t h (some-head s t h e) e in
