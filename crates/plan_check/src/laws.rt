@@ -20,7 +20,7 @@ ghost use Rattle.plan_check.specs.Certified.{IsCertified};
 ghost use Rattle.plan_check.specs.First.{first_refusal};
 ghost use Rattle.plan_check.specs.Reached.{Reached};
 ghost use Rattle.plan_check.specs.Runs.{SplitAnywhere};
-ghost use Rattle.plan_check.specs.Safe.{AreApart, AreFew};
+ghost use Rattle.plan_check.specs.Safe.{GroupsAreApart, TransfersAreFew};
 ghost use Rattle.plan_check.specs.Headline.{Always, AreFinishedFirst};
 ghost use Rattle.plan_check.specs.Occupies.{ServersOccupy, OccupantsServe, AreGoodStages};
 
@@ -70,14 +70,14 @@ pub fn finished_steps_come_first(ring: &Ring, plan: &Plan)
 
 /// In every run of a sound plan no two slots of a partition share a node, keepers of hints included.
 pub fn groups_stay_apart(ring: &Ring, plan: &Plan)
-    ensures { Sound ring.now plan.now → Always ring.now plan.now (AreApart ring.now plan.now) }
+    ensures { Sound ring.now plan.now → Always ring.now plan.now (GroupsAreApart ring.now plan.now) }
 {
     let _ = (ring.n(), plan.len());
 }
 
 /// In every run of a sound plan no node takes part in more open copies than its allowance.
 pub fn transfers_stay_few(ring: &Ring, plan: &Plan)
-    ensures { Sound ring.now plan.now → Always ring.now plan.now (AreFew ring.now plan.now) }
+    ensures { Sound ring.now plan.now → Always ring.now plan.now (TransfersAreFew ring.now plan.now) }
 {
     let _ = (ring.n(), plan.len());
 }
