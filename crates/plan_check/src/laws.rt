@@ -4,16 +4,15 @@ ghost use Rattle.std.specs.Prelude.{◌≡◌, ◌↔◌, ◌<◌, ◌+◌, ℕ,
 ghost use Rattle.std.specs.List.{list_all};
 ghost use Rattle.ring_names.specs.Lists.{has, all_different};
 ghost use Rattle.plan_text.specs.Valid.{Suits};
-ghost use Rattle.std.specs.Bool.{Decides};
-ghost use Rattle.ring_names.specs.declared.ids.Slot.{Slot as TheSlot};
 ghost use Rattle.ring_clock.specs.declared.causes.Cause.{Cause};
+ghost use Rattle.ring_clock.specs.Causes.{IsEarlier};
 ghost use Rattle.plan_cert.specs.declared.cert.Cert.{Cert as TheCert};
 ghost use Rattle.ring_table.specs.Value.{RingValue};
 ghost use Rattle.plan_text.specs.declared.step.Planned.{Planned};
 ghost use Rattle.plan_stage.specs.Clauses.{AllStaged};
 ghost use Rattle.plan_check.specs.World.{World};
-ghost use Rattle.plan_check.specs.Succession.{Succeeds, succeeds};
-ghost use Rattle.plan_check.specs.Versions.{IsHeld, is_held};
+ghost use Rattle.plan_check.specs.Succession.{IsSuccessionTested};
+ghost use Rattle.plan_check.specs.Versions.{IsHoldingTested};
 ghost use Rattle.plan_check.specs.Causes.{puts_of, AreCausesOf, AgreeOn};
 ghost use Rattle.plan_check.specs.Sound.{Sound};
 ghost use Rattle.plan_check.specs.Certified.{IsCertified};
@@ -89,17 +88,19 @@ pub fn runs_split()
 
 /// The test whether one put succeeds another one tells just that.
 pub fn succession_is_tested()
-    ensures { (w : World) (u v : ℕ) → Decides (succeeds w u v) (Succeeds w u v) }
+    ensures { (w : World) → IsSuccessionTested w }
 {}
 
 /// The test whether a slot holds a put tells just that.
 pub fn holding_is_tested()
-    ensures { (ring : RingValue) (plan : List Planned) (w : World) (v : ℕ) (slot : TheSlot) → Decides (is_held ring plan w v slot) (IsHeld ring plan w v slot) }
+    ensures { (ring : RingValue) (plan : List Planned) (w : World) → IsHoldingTested ring plan w }
 {}
 
-/// Of the puts of one key, one succeeds another where its cause, as clocks are made of them, succeeds the other's.
+/// Of the puts of one key, one succeeds another where its cause, as clocks are made of them, succeeds the other's; and causes see
+/// earlier puts alone, as the making of clocks asks.
 pub fn succession_is_of_causes()
-    ensures { (w : World) (key : List ℕ) (causes : List Cause) → AreCausesOf w (puts_of w key) causes → AgreeOn w (puts_of w key) causes }
+    ensures earlier { (w : World) (key : List ℕ) (causes : List Cause) → AreCausesOf w (puts_of w key) causes → IsEarlier causes }
+    ensures agree { (w : World) (key : List ℕ) (causes : List Cause) → AreCausesOf w (puts_of w key) causes → AgreeOn w (puts_of w key) causes }
 {}
 
 /// Two lists of different numbers below n that are together longer than n share a number: every read meets every write.
