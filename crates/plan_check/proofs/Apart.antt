@@ -23,7 +23,7 @@ use Rattle.plan_check.specs.Effects.{with_number, without_number, without_puts, 
 use Rattle.plan_stage.specs.Each.{step_at}
 use Rattle.plan_check.specs.declared.event.Entry.{Entry}
 use Rattle.plan_check.specs.Runs.{Leads}
-use Rattle.plan_check.specs.Safe.{AreApart}
+use Rattle.plan_check.specs.Safe.{GroupsAreApart}
 use Rattle.plan_check.specs.Headline.{Always, AreFinishedFirst}
 use Rattle.plan_check.proofs.Prefix.{order, prefix}
 use Rattle.plan_check.proofs.Groups.{Served, InGroup, in_group}
@@ -156,7 +156,7 @@ start_apart ring plan r p i j x l m n ne g h =
 pub start_inv : (ring : RingValue) (plan : List Planned) → IsRing ring → Inv ring plan (opening_world ring)
 start_inv ring plan r = record { reached = start_reached ring plan; apart = start_apart ring plan r }
 
-pub apart_always : (ring : RingValue) (plan : List Planned) → Known ring plan → Always ring plan (AreApart ring plan)
+pub apart_always : (ring : RingValue) (plan : List Planned) → Known ring plan → Always ring plan (GroupsAreApart ring plan)
 apart_always ring plan k run w is p i j x l m n ne g h =
     let v = run_inv ring plan k run (opening_world ring) w (start_inv ring plan k.is_ring) is in
     v.apart p i j x l m n ne (in_group ring plan w (record { partition = p; index = i }) x g) (in_group ring plan w (record { partition = p; index = j }) x h)

@@ -8,7 +8,7 @@ use Rattle.plan_text.specs.declared.step.Planned.{Planned}
 use Rattle.plan_order.specs.Before.{Before}
 use Rattle.plan_order.proofs.Reaching.{join}
 use Rattle.plan_check.specs.World.{passing_below, copy_at}
-use Rattle.plan_check.specs.Safe.{takes_part_now, AreFew}
+use Rattle.plan_check.specs.Safe.{takes_part_now, TransfersAreFew}
 use Rattle.plan_cover.specs.Clauses.{in_some}
 use Rattle.plan_check.specs.Sound.{IsChain, AreChains, Covers, is_party_of}
 use Rattle.plan_check.specs.Headline.{Always}
@@ -98,7 +98,7 @@ no_more plan test apart (c ∷ cs) xs are d t h = elim (in_chain c xs) [
 
 -- ---- the law
 
-pub few_always : (ring : RingValue) (plan : List Planned) → Known ring plan → Always ring plan (AreFew ring plan)
+pub few_always : (ring : RingValue) (plan : List Planned) → Known ring plan → Always ring plan (TransfersAreFew ring plan)
 few_always ring plan k run w is x a al =
     let rest = no_more plan test apart (k.chains x) (passing_below (length plan) test) covers.linked (none_twice (passing_below (length plan) test) (passing_ascend 0 (length plan) test)) (λ n e. (below_is (length plan) test n e).1) (λ n e. covered n (below_is (length plan) test n e).1) in
     let few = covers.few in

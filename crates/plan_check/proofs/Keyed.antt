@@ -1,5 +1,5 @@
 -- Of the puts of one key, succession in the world is succession among their causes.
-use Rattle.std.proofs.Common.{◌≡◌, ◌⊎◌, inl, inr, ◌∙◌, ℕ, ◌<◌, true, List, length, get_or, refl, sym, ap, subst, arith, lt-ltb, eqb-true, eq-eqb}
+use Rattle.std.proofs.Common.{◌≡◌, ◌⊎◌, inl, inr, ◌∙◌, ℕ, zero, suc, ◌<◌, true, List, [], ◌∷◌, length, get_or, refl, sym, ap, subst, arith, lt-ltb, eqb-true, eq-eqb}
 use Rattle.std.specs.Prelude.{◌&&◌, ◌==◌, nat_lt}
 use Rattle.std.specs.Str.{bytes_eq}
 use Rattle.std.proofs.lemmas.Slice.Eq.{bytes_eq-Decides}
@@ -96,3 +96,15 @@ agree w key list are k j l m = (
   λ s. to_causes w key list are (get_or (puts_of w key) k 0) (get_or (puts_of w key) j 0) s k j l m refl refl,
   λ s. to_world w key list are k j s l,
 )
+
+-- only causes that there are see puts
+seen_within : (list : List Cause) (k v : ℕ) → has v (causes.seen_by list k) ≡ true → k < length list
+seen_within [] k v e = absurd cc
+seen_within (c ∷ cs) zero v e = omega arith
+seen_within (c ∷ cs) (suc k) v e = (let l = seen_within cs k v e in omega arith)
+
+pub see_earlier : (w : World) (key : List ℕ) (list : List Cause) → AreCausesOf w (puts_of w key) list → causes.IsEarlier list
+see_earlier w key list are k v e =
+    let l = seen_within list k v e in
+    let each = are.each in
+    ((are.seen k v (omega arith)).0 e).0

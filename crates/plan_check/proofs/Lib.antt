@@ -29,3 +29,4 @@ pub mod Growing
 pub mod Passed
 pub mod Reached
 pub mod Ticketed
+pub mod Lasting

@@ -3,7 +3,7 @@ use Rattle.std.specs.Prelude.{List}
 use Rattle.ring_table.specs.Value.{RingValue}
 use Rattle.plan_text.specs.declared.step.Planned.{Planned}
 use Rattle.plan_check.specs.Sound.{Sound}
-use Rattle.plan_check.specs.Safe.{AreApart, AreFew}
+use Rattle.plan_check.specs.Safe.{GroupsAreApart, TransfersAreFew}
 use Rattle.plan_check.specs.Headline.{Always}
 
 -- the two
@@ -16,6 +16,6 @@ pub record IsApproved (ring : RingValue) (plan : List Planned) : Type 0 where
   -- the plan is sound, and so it suits the ring
   pub sound : Sound ring plan
   -- in every run two slots of a partition share no node
-  pub apart : Always ring plan (AreApart ring plan)
+  pub apart : Always ring plan (GroupsAreApart ring plan)
   -- and no node takes part in more open copies than its allowance
-  pub few : Always ring plan (AreFew ring plan)
+  pub few : Always ring plan (TransfersAreFew ring plan)

@@ -20,7 +20,7 @@ use Rattle.plan_check.specs.declared.event.Event.{Event}
 use Rattle.plan_check.specs.declared.event.Event.TheVariants.{Do, OpenCopy, ChunkCopy, CloseCopy, AbortCopy, StartPut, Write, Hint}
 use Rattle.plan_check.specs.declared.event.Event.TheVariants.{Ack, StartGet, Read, EndGet, Down, Up, Handoff}
 use Rattle.plan_check.specs.World.{World, some_below, passing_below, is_acked, ticket_of, key_of_get, found_at, reply_of, is_get_of, is_of_key}
-use Rattle.plan_check.specs.World.{copy_at, stage_now, generation, is_member_now, keeps, keeps_other, keeps_any, is_served}
+use Rattle.plan_check.specs.World.{copy_at, stage_now, generation, is_member_now, slot_at, keeps, keeps_other, keeps_any, is_served}
 use Rattle.plan_check.specs.Versions.{put_slot, get_slot, is_in_chunk}
 
 -- ---- nodes that must be up
@@ -124,7 +124,7 @@ put_exists ring w v i = nat_lt v (length w.puts) && nat_lt i ring.n
 
 -- the node owns or mirrors a slot of the partition
 abbrev pub serves_in : RingValue → List Planned → World → ℕ → ℕ → Bool
-serves_in ring plan w p x = some_below ring.n (λ i. is_served (stage_now ring plan w (record { partition = p; index = i })) x)
+serves_in ring plan w p x = some_below ring.n (λ i. is_served (stage_now ring plan w (slot_at p i)) x)
 
 -- the put's ticket for the slot of that index is of the slot's present generation
 abbrev pub is_current : RingValue → List Planned → World → ℕ → ℕ → Bool

@@ -8,19 +8,18 @@ use Rattle.plan_text.specs.declared.step.Source.{Source}
 use Rattle.plan_text.specs.declared.step.Planned.{Planned}
 use Rattle.plan_stage.specs.Parties.{source_slots}
 use Rattle.plan_cover.specs.Clauses.{allowance_of}
-use Rattle.plan_check.specs.World.{World, passing_below, is_acked, copy_at, stage_now, mirrors, is_in_group}
+use Rattle.plan_check.specs.World.{World, passing_below, is_acked, copy_at, slot_at, stage_now, mirrors, is_in_group}
 use Rattle.plan_check.specs.Versions.{put_slot, IsHeld}
 
 -- of any R different slots of its key's partition one holds the put
-abbrev pub IsHeldByEach : RingValue → List Planned → World → ℕ → Type 0
-IsHeldByEach ring plan w v = (slots : List ℕ) → all_different slots ≡ true → list_all (λ i. nat_lt i ring.n) slots ≡ true
+abbrev pub MeetsEveryRead : RingValue → List Planned → World → ℕ → Type 0
+MeetsEveryRead ring plan w v = (slots : List ℕ) → all_different slots ≡ true → list_all (λ i. nat_lt i ring.n) slots ≡ true
     → length slots ≡ ring.r → (i : ℕ) × (has i slots ≡ true) × IsHeld ring plan w v (put_slot ring w v i)
 
 -- two slots of a partition share no node
-abbrev pub AreApart : RingValue → List Planned → World → Type 0
-AreApart ring plan w = (p i j x : ℕ) → p < ring.q → i < ring.n → j < ring.n → i ≢ j
-    → is_in_group ring plan w (record { partition = p; index = i }) x ≡ true
-    → is_in_group ring plan w (record { partition = p; index = j }) x ≡ true → ⊥
+abbrev pub GroupsAreApart : RingValue → List Planned → World → Type 0
+GroupsAreApart ring plan w = (p i j x : ℕ) → p < ring.q → i < ring.n → j < ring.n → i ≢ j
+    → is_in_group ring plan w (slot_at p i) x ≡ true → is_in_group ring plan w (slot_at p j) x ≡ true → ⊥
 
 -- the node mirrors the slot that is copied, now
 abbrev pub mirrors_now : RingValue → List Planned → World → ℕ → Slot → Source → Bool
@@ -43,11 +42,11 @@ abbrev pub open_copies : List Planned → World → (Slot → Source → Bool) �
 open_copies plan w test = length (passing_below (length plan) (is_open_copy plan w test))
 
 -- no node takes part in more open copies than its allowance
-abbrev pub AreFew : RingValue → List Planned → World → Type 0
-AreFew ring plan w = (x a : ℕ) → allowance_of ring x ≡ Some a → open_copies plan w (takes_part_now ring plan w x) ≤ a
+abbrev pub TransfersAreFew : RingValue → List Planned → World → Type 0
+TransfersAreFew ring plan w = (x a : ℕ) → allowance_of ring x ≡ Some a → open_copies plan w (takes_part_now ring plan w x) ≤ a
 
 -- what is promised
 pub record Safe (ring : RingValue) (plan : List Planned) (w : World) : Type 0 where
-  pub held : (v : ℕ) → is_acked w v ≡ true → IsHeldByEach ring plan w v
-  pub apart : AreApart ring plan w
-  pub few : AreFew ring plan w
+  pub held : (v : ℕ) → is_acked w v ≡ true → MeetsEveryRead ring plan w v
+  pub apart : GroupsAreApart ring plan w
+  pub few : TransfersAreFew ring plan w

@@ -1,5 +1,6 @@
 -- Which puts of one key succeed which (DeCandia et al. 2007, section 4.4). There are no clocks in it.
 use Rattle.std.specs.Prelude.{◌≡◌, ℕ, zero, suc, Bool, true, false, not, ◌&&◌, ◌||◌, ◌==◌, nat_lt, List, [], ◌∷◌, length, Some, None, slice_get, if◌then◌else◌}
+use Rattle.std.specs.Bool.{Decides}
 use Rattle.std.specs.List.{list_any}
 use Rattle.std.specs.Str.{bytes_eq}
 use Rattle.ring_names.specs.Lists.{has}
@@ -34,6 +35,10 @@ succeeds_within w (suc n) u v = (u == v) || some_below u (λ m. is_direct w u m 
 -- the same as a test: each direct succession leads to a smaller number
 abbrev pub succeeds : World → ℕ → ℕ → Bool
 succeeds w u v = succeeds_within w u u v
+
+-- the test tells succession
+abbrev pub IsSuccessionTested : World → Type 0
+IsSuccessionTested w = (u v : ℕ) → Decides (succeeds w u v) (Succeeds w u v)
 
 -- whether another one of these puts succeeds the put
 abbrev pub some_succeeds : World → ℕ → List ℕ → Bool

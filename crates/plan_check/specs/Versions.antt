@@ -1,5 +1,6 @@
 -- Where puts are.
 use Rattle.std.specs.Prelude.{◌≡◌, ℕ, Bool, true, ◌&&◌, ◌||◌, ◌==◌, List, length}
+use Rattle.std.specs.Bool.{Decides}
 use Rattle.ring_names.specs.declared.ids.Slot.{Slot}
 use Rattle.ring_space.specs.Place.{place_of}
 use Rattle.ring_table.specs.Value.{RingValue}
@@ -34,3 +35,7 @@ IsHeld ring plan w v slot = (u : ℕ) × Succeeds w u v × (slot_has ring plan w
 -- the same as a test
 abbrev pub is_held : RingValue → List Planned → World → ℕ → Slot → Bool
 is_held ring plan w v slot = slot_has ring plan w slot v || some_below (length w.puts) (λ u. succeeds w u v && slot_has ring plan w slot u)
+
+-- the test tells what is held
+abbrev pub IsHoldingTested : RingValue → List Planned → World → Type 0
+IsHoldingTested ring plan w = (v : ℕ) (slot : Slot) → Decides (is_held ring plan w v slot) (IsHeld ring plan w v slot)

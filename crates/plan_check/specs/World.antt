@@ -141,9 +141,13 @@ abbrev pub is_member_now : RingValue → List Planned → World → ℕ → Bool
 is_member_now ring plan w x = (is_member ring.nodes (record { 0 = x }) || some_step (λ n s. w.done n && is_join_of x s) 0 plan)
     && not (some_step (λ n s. w.done n && is_retire_of x s) 0 plan)
 
+-- the slot of that partition and index
+abbrev pub slot_at : ℕ → ℕ → Slot
+slot_at p i = record { partition = p; index = i }
+
 -- the slot of that index of a key's partition
 abbrev pub slot_of : RingValue → List ℕ → ℕ → Slot
-slot_of ring key i = record { partition = (place_of ring.q key).partition; index = i }
+slot_of ring key i = slot_at (place_of ring.q key).partition i
 
 -- whether the node keeps a hint for the slot
 abbrev pub keeps : World → ℕ → Slot → Bool
@@ -155,7 +159,7 @@ keeps_other ring w x slot = some_below ring.n (λ i. not (i == slot.index) && ke
 
 -- whether it keeps one for any slot of the ring
 abbrev pub keeps_any : RingValue → World → ℕ → Bool
-keeps_any ring w x = some_below ring.q (λ p. some_below ring.n (λ i. keeps w x (record { partition = p; index = i })))
+keeps_any ring w x = some_below ring.q (λ p. some_below ring.n (λ i. keeps w x (slot_at p i)))
 
 -- whether the node mirrors the slot in the stage
 abbrev pub mirrors : Stage → ℕ → Bool

@@ -4,23 +4,22 @@ ghost use Rattle.std.specs.Prelude.{◌≡◌, ◌↔◌, ◌<◌, ◌+◌, ℕ,
 ghost use Rattle.std.specs.List.{list_all};
 ghost use Rattle.ring_names.specs.Lists.{has, all_different};
 ghost use Rattle.plan_text.specs.Valid.{Suits};
-ghost use Rattle.std.specs.Bool.{Decides};
-ghost use Rattle.ring_names.specs.declared.ids.Slot.{Slot as TheSlot};
 ghost use Rattle.ring_clock.specs.declared.causes.Cause.{Cause};
+ghost use Rattle.ring_clock.specs.Causes.{IsEarlier};
 ghost use Rattle.plan_cert.specs.declared.cert.Cert.{Cert as TheCert};
 ghost use Rattle.ring_table.specs.Value.{RingValue};
 ghost use Rattle.plan_text.specs.declared.step.Planned.{Planned};
 ghost use Rattle.plan_stage.specs.Clauses.{AllStaged};
 ghost use Rattle.plan_check.specs.World.{World};
-ghost use Rattle.plan_check.specs.Succession.{Succeeds, succeeds};
-ghost use Rattle.plan_check.specs.Versions.{IsHeld, is_held};
+ghost use Rattle.plan_check.specs.Succession.{IsSuccessionTested};
+ghost use Rattle.plan_check.specs.Versions.{IsHoldingTested};
 ghost use Rattle.plan_check.specs.Causes.{puts_of, AreCausesOf, AgreeOn};
 ghost use Rattle.plan_check.specs.Sound.{Sound};
 ghost use Rattle.plan_check.specs.Certified.{IsCertified};
 ghost use Rattle.plan_check.specs.First.{first_refusal};
 ghost use Rattle.plan_check.specs.Reached.{Reached};
 ghost use Rattle.plan_check.specs.Runs.{SplitAnywhere};
-ghost use Rattle.plan_check.specs.Safe.{AreApart, AreFew};
+ghost use Rattle.plan_check.specs.Safe.{GroupsAreApart, TransfersAreFew};
 ghost use Rattle.plan_check.specs.Headline.{Always, AreFinishedFirst};
 ghost use Rattle.plan_check.specs.Occupies.{ServersOccupy, OccupantsServe, AreGoodStages};
 
@@ -70,14 +69,14 @@ pub fn finished_steps_come_first(ring: &Ring, plan: &Plan)
 
 /// In every run of a sound plan no two slots of a partition share a node, keepers of hints included.
 pub fn groups_stay_apart(ring: &Ring, plan: &Plan)
-    ensures { Sound ring.now plan.now → Always ring.now plan.now (AreApart ring.now plan.now) }
+    ensures { Sound ring.now plan.now → Always ring.now plan.now (GroupsAreApart ring.now plan.now) }
 {
     let _ = (ring.n(), plan.len());
 }
 
 /// In every run of a sound plan no node takes part in more open copies than its allowance.
 pub fn transfers_stay_few(ring: &Ring, plan: &Plan)
-    ensures { Sound ring.now plan.now → Always ring.now plan.now (AreFew ring.now plan.now) }
+    ensures { Sound ring.now plan.now → Always ring.now plan.now (TransfersAreFew ring.now plan.now) }
 {
     let _ = (ring.n(), plan.len());
 }
@@ -89,17 +88,19 @@ pub fn runs_split()
 
 /// The test whether one put succeeds another one tells just that.
 pub fn succession_is_tested()
-    ensures { (w : World) (u v : ℕ) → Decides (succeeds w u v) (Succeeds w u v) }
+    ensures { (w : World) → IsSuccessionTested w }
 {}
 
 /// The test whether a slot holds a put tells just that.
 pub fn holding_is_tested()
-    ensures { (ring : RingValue) (plan : List Planned) (w : World) (v : ℕ) (slot : TheSlot) → Decides (is_held ring plan w v slot) (IsHeld ring plan w v slot) }
+    ensures { (ring : RingValue) (plan : List Planned) (w : World) → IsHoldingTested ring plan w }
 {}
 
-/// Of the puts of one key, one succeeds another where its cause, as clocks are made of them, succeeds the other's.
+/// Of the puts of one key, one succeeds another where its cause, as clocks are made of them, succeeds the other's; and causes see
+/// earlier puts alone, as the making of clocks asks.
 pub fn succession_is_of_causes()
-    ensures { (w : World) (key : List ℕ) (causes : List Cause) → AreCausesOf w (puts_of w key) causes → AgreeOn w (puts_of w key) causes }
+    ensures earlier { (w : World) (key : List ℕ) (causes : List Cause) → AreCausesOf w (puts_of w key) causes → IsEarlier causes }
+    ensures agree { (w : World) (key : List ℕ) (causes : List Cause) → AreCausesOf w (puts_of w key) causes → AgreeOn w (puts_of w key) causes }
 {}
 
 /// Two lists of different numbers below n that are together longer than n share a number: every read meets every write.
