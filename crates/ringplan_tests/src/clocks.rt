@@ -1,0 +1,117 @@
+//! Clocks and versions of three puts: two writers that know nothing of one another, and one of them again, who has seen both.
+
+ghost use Rattle.std.specs.Prelude.{◌≡◌, IfOk, length};
+
+use ring_clock::{Cause, Clock, Entry, clocks};
+use ring_names::{Refusal, Value, WriterId};
+use ring_versions::{Version, Versions};
+use std::alloc::Global;
+use std::process::Abort;
+use std::test::Fail;
+
+fn entry(writer: u32, counter: u64) -> Entry {
+    Entry {
+        writer: WriterId(writer),
+        counter,
+    }
+}
+
+fn three_clocks(alloc: Global) -> Result<Vec<Clock>, Refusal>
+    ensures { IfOk result (λ c. length c.items ≡ 3) }
+{
+    let causes = vec![in alloc;
+        Cause {
+            writer: WriterId(1),
+            seen: vec![in alloc; 0; 0]?
+        },
+        Cause {
+            writer: WriterId(2),
+            seen: vec![in alloc; 0; 0]?
+        },
+        Cause {
+            writer: WriterId(1),
+            seen: vec![in alloc; 0, 1]?
+        },
+    ]?;
+    clocks(alloc, causes.as_slice())
+}
+
+fn told<RT: Abort>(rt: &RT, clocks: &[Clock]) {
+    assert_eq!(rt; clocks.len(), 3);
+    assert_eq!(rt; clocks[0].entries(), [entry(1, 1)].as_slice());
+    assert_eq!(rt; clocks[1].entries(), [entry(2, 1)].as_slice());
+    assert_eq!(rt; clocks[2].entries(), [entry(1, 2), entry(2, 1)].as_slice());
+    assert!(rt; clocks[0].le(&clocks[2]));
+    assert!(rt; clocks[1].le(&clocks[2]));
+    assert!(rt; !clocks[0].le(&clocks[1]));
+}
+
+#[test]
+fn clocks_of_three_puts(rt: HostRuntime) -> Result<(), Fail> {
+    let clocks = three_clocks(rt.alloc())?;
+    told(&rt, clocks.as_slice());
+    Ok(())
+}
+
+#[test]
+fn one_clock_more(rt: HostRuntime) -> Result<(), Fail> {
+    let clock = Clock::new(rt.alloc()).bump(WriterId(3))?;
+    assert_eq!(rt; clock.counter(WriterId(3)), 1);
+    let both = clock.join(&clock)?;
+    assert_eq!(rt; both.entries(), [entry(3, 1)].as_slice());
+    Ok(())
+}
+
+fn version(alloc: Global, put: u32, clock: &Clock) -> Result<Version, Refusal> {
+    let clock = clock.try_copy()?;
+    let bytes = Vec::from_slice(alloc, b"1")?;
+    match Value::of(bytes) {
+        Some(value) => Ok(Version { put, clock, value }),
+        None => Err(Refusal::TooLarge(0)),
+    }
+}
+
+// The set of one version.
+fn set_of(alloc: Global, put: u32, clock: &Clock) -> Result<Versions, Refusal> {
+    Versions::of(alloc, version(alloc, put, clock)?)
+}
+
+// Two that are in conflict stay, the third makes them ancestors, and they do not come back.
+fn merged<RT: Abort>(
+    rt: &RT,
+    all: &mut Versions,
+    second: &Versions,
+    third: &Versions,
+) -> Result<(), Fail> {
+    all.merge(second)?;
+    assert_eq!(rt; all.list().len(), 2);
+    all.merge(third)?;
+    assert_eq!(rt; all.list().len(), 1);
+    all.merge(second)?;
+    assert_eq!(rt; all.list().len(), 1);
+    assert_eq!(rt; all.list()[0].put, 2);
+    assert_eq!(rt; all.list()[0].value.as_slice(), b"1".as_slice());
+    Ok(())
+}
+
+#[test]
+fn conflicts_stay_and_ancestors_go(rt: HostRuntime) -> Result<(), Fail> {
+    let alloc = rt.alloc();
+    let clocks = three_clocks(alloc)?;
+    let mut all = set_of(alloc, 0, &clocks[0])?;
+    assert!(rt; !all.covers(&clocks[1]));
+    let second = set_of(alloc, 1, &clocks[1])?;
+    let third = set_of(alloc, 2, &clocks[2])?;
+    merged(&rt, &mut all, &second, &third)
+}
+
+#[test]
+fn sets_copied(rt: HostRuntime) -> Result<(), Fail> {
+    let alloc = rt.alloc();
+    let clock = Clock::new(alloc).bump(WriterId(3))?;
+    let set = set_of(alloc, 4, &clock)?;
+    let copy = set.try_copy()?;
+    assert_eq!(rt; copy.list().len(), 1);
+    assert!(rt; copy.covers(&clock));
+    Ok(())
+}

@@ -1,0 +1,20 @@
+//! Tests of what no contract says: that calls which may run out of memory succeed where there is enough, texts that are printed,
+//! places and clocks by values from outside, and readers and writers that fail. Nothing is exported.
+#![tactic(auto)]
+
+#[cfg(test)]
+mod checks;
+#[cfg(test)]
+mod clocks;
+#[cfg(test)]
+mod memory;
+#[cfg(test)]
+mod names;
+#[cfg(test)]
+mod plans;
+#[cfg(test)]
+mod program;
+#[cfg(test)]
+mod texts;
+#[cfg(test)]
+mod words;

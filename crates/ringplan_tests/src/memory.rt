@@ -1,0 +1,82 @@
+//! A reader and a writer over memory, which can fail at a call and can take few bytes at a time.
+
+ghost use Rattle.std.specs.Prelude.{◌<◌, Some};
+
+use std::alloc::Global;
+use std::io;
+use std::io::{ErrorKind, Read, Write};
+
+/// Gives `rest`, at most `step` bytes a call, and fails once `calls` calls were made.
+#[derive(Drop)]
+pub struct MemoryReader<'a> {
+    pub rest: &'a [u8],
+    pub step: usize,
+    pub calls: usize,
+    ghost some: { 0 < step },
+}
+
+impl<'a> Read for MemoryReader<'a> {
+    ghost remaining = { λ r. Some r.rest.now };
+
+    fn read(&mut self, buf: &mut [u8]) -> io::Result<usize> {
+        use_call(&mut self.calls)?;
+        let count = self.rest.len().min(buf.len()).min(self.step);
+        let (front, rest) = self.rest.split_at(count);
+        buf[..count].copy_from_slice(front);
+        self.rest = rest;
+        Ok(count)
+    }
+}
+
+/// Takes at most `step` bytes a call, and fails once `calls` calls were made.
+#[derive(Drop)]
+pub struct MemoryWriter {
+    pub bytes: Vec<u8>,
+    pub step: usize,
+    pub calls: usize,
+}
+
+impl MemoryWriter {
+    pub fn new(alloc: Global, step: usize, calls: usize) -> MemoryWriter {
+        MemoryWriter {
+            bytes: Vec::new(alloc),
+            step,
+            calls,
+        }
+    }
+}
+
+impl Write for MemoryWriter {
+    ghost contents = { λ w. Some w.bytes.items };
+
+    fn write(&mut self, buf: &[u8]) -> io::Result<usize> {
+        use_call(&mut self.calls)?;
+        let count = buf.len().min(self.step);
+        self.bytes.extend_from_slice(&buf[..count])?;
+        Ok(count)
+    }
+
+    fn flush(&mut self) -> io::Result<()> {
+        use_call(&mut self.calls)
+    }
+}
+
+/// Gives zeros without end.
+#[derive(Drop)]
+pub struct Endless;
+
+impl Read for Endless {
+    fn read(&mut self, buf: &mut [u8]) -> io::Result<usize> {
+        buf.fill(0);
+        Ok(buf.len())
+    }
+}
+
+// Fails where no call is left.
+fn use_call(calls: &mut usize) -> io::Result<()> {
+    if *calls == 0 {
+        return Err(io::Error::from(ErrorKind::BrokenPipe));
+    }
+    *calls -= 1;
+    Ok(())
+}

@@ -1,0 +1,171 @@
+//! Texts that are written as they were read, and the limits of texts.
+
+use plan_cert::{Cert, Chain, read_cert, write_cert};
+use plan_text::{Plan, read_plan, write_plan};
+use ring_names::{Listed, NodeId, Refusal};
+use ring_table::{Ring, push_row, read_ring, write_ring};
+use std::alloc::{AllocError, Global};
+use std::process::Abort;
+use std::test::Fail;
+
+pub const RING: &[u8] = b"ring 1\nspace 4\nquorum 3 2 2\nnode a 4 in\nnode b 1 in\nnode c 4 in\nnode d 4 out\nslots 0 a b c\nslots 1 a b c\nslots 2 a b c\nslots 3 a b c\nend\n";
+
+// Moves slot 1 of two partitions from b to d, one after the other.
+pub const TWO_MOVES: &[u8] = b"plan 1\njoin d\nmirror 0 1 d after 0\ncopy 0 1 owner after 1\nswitch 0 1 after 2\nmirror 1 1 d after 0 3\ncopy 1 1 owner after 4\nswitch 1 1 after 5\nend\n";
+
+const CERTS: [&str; 5] = [
+    "cert 1\nend\n",
+    "cert 1\nchain b 2\nchain d 2\nend\n",
+    "cert 1\nchain b 2\nchain b 6\nchain c 9\nchain d 2\nchain d 6\nchain d 9\nend\n",
+    "cert 1\nfact 2 3 4 5\nchain b 2 5\nchain d 2 5\nend\n",
+    "cert 1\nfact 7 7\nfact 4294967295 0\nend\n",
+];
+
+#[test]
+fn rings_written(rt: HostRuntime) -> Result<(), Fail> {
+    let ring = read_ring(rt.alloc(), RING)?;
+    assert!(rt; ring.is_member(NodeId(2)));
+    assert!(rt; !ring.is_member(NodeId(3)));
+    let text = write_ring(rt.alloc(), &ring)?;
+    assert_eq!(rt; text.as_slice(), RING);
+    Ok(())
+}
+
+#[test]
+fn rows_written(rt: HostRuntime) -> Result<(), Fail> {
+    let ring = read_ring(rt.alloc(), RING)?;
+    let mut text = Vec::new(rt.alloc());
+    push_row(&mut text, ring.nodes(), 7, &[NodeId(3), NodeId(0)])?;
+    assert_eq!(rt; text.as_slice(), b"slots 7 d a\n".as_slice());
+    Ok(())
+}
+
+// A plan of the ring is written as it was read.
+fn plan_written<RT: AllocGlobal + Abort>(rt: &RT, ring: &Ring) -> Result<(), Fail> {
+    let plan = read_plan(rt.alloc(), ring, TWO_MOVES)?;
+    let text = write_plan(rt.alloc(), ring, &plan)?;
+    assert_eq!(rt; text.as_slice(), TWO_MOVES);
+    Ok(())
+}
+
+#[test]
+fn plans_written(rt: HostRuntime) -> Result<(), Fail> {
+    let ring = read_ring(rt.alloc(), RING)?;
+    plan_written(&rt, &ring)
+}
+
+// A certificate over the ring is written as it was read.
+fn cert_written<RT: AllocGlobal + Abort>(rt: &RT, ring: &Ring, text: &str) -> Result<(), Fail> {
+    let cert = read_cert(rt.alloc(), ring, text.as_bytes())?;
+    let written = write_cert(rt.alloc(), ring, &cert)?;
+    assert_eq!(rt; written.as_slice(), text.as_bytes());
+    Ok(())
+}
+
+#[test]
+fn certificates_written(rt: HostRuntime) -> Result<(), Fail> {
+    let ring = read_ring(rt.alloc(), RING)?;
+    for text in CERTS {
+        cert_written(&rt, &ring, text)?;
+    }
+    Ok(())
+}
+
+// A text of that first line, so many of a line, and `end`.
+fn lines_of(alloc: Global, first: &[u8], line: &[u8], count: u32) -> Result<Vec<u8>, AllocError> {
+    let mut text = Vec::from_slice(alloc, first)?;
+    for _ in 0..count {
+        text.extend_from_slice(line)?;
+    }
+    text.extend_from_slice(b"end\n")?;
+    Ok(text)
+}
+
+// How many steps reading a plan of so many switches finds.
+fn steps_read(alloc: Global, ring: &Ring, count: u32) -> Result<u32, Refusal> {
+    let text = lines_of(alloc, b"plan 1\n", b"switch 0 0\n", count)?;
+    let plan = read_plan(alloc, ring, text.as_slice())?;
+    Ok(plan.len())
+}
+
+// As many steps as a plan may have, and one more.
+#[test]
+fn longest_plans(rt: HostRuntime) -> Result<(), Fail> {
+    let ring = read_ring(rt.alloc(), RING)?;
+    assert_eq!(rt; steps_read(rt.alloc(), &ring, 131_072), Ok(131_072));
+    assert_eq!(rt; steps_read(rt.alloc(), &ring, 131_073), Err(Refusal::TooLarge(131_074)));
+    Ok(())
+}
+
+// The numbers of facts and chains of a certificate, or the refusal.
+fn sizes(alloc: Global, ring: &Ring, text: &[u8]) -> Result<(usize, usize), Refusal> {
+    let cert = read_cert(alloc, ring, text)?;
+    Ok((cert.facts.as_slice().len(), cert.chains.as_slice().len()))
+}
+
+// The same of so many equal lines.
+fn sizes_of(alloc: Global, ring: &Ring, line: &[u8], count: u32) -> Result<(usize, usize), Refusal> {
+    let text = lines_of(alloc, b"cert 1\n", line, count)?;
+    sizes(alloc, ring, text.as_slice())
+}
+
+// As many facts and chains as a certificate may have, and one more.
+#[test]
+fn largest_certificates(rt: HostRuntime) -> Result<(), Fail> {
+    let ring = read_ring(rt.alloc(), RING)?;
+    let fact = b"fact 0 1\n";
+    let chain = b"chain a 0\n";
+    assert_eq!(rt; sizes_of(rt.alloc(), &ring, fact, 262_144), Ok((262_144, 0)));
+    assert_eq!(rt; sizes_of(rt.alloc(), &ring, fact, 262_145), Err(Refusal::TooLarge(262_146)));
+    assert_eq!(rt; sizes_of(rt.alloc(), &ring, chain, 65_536), Ok((0, 65_536)));
+    assert_eq!(rt; sizes_of(rt.alloc(), &ring, chain, 65_537), Err(Refusal::TooLarge(65_538)));
+    Ok(())
+}
+
+// A fact of so many steps.
+fn fact_of(alloc: Global, count: u32) -> Result<Vec<u8>, AllocError> {
+    let mut text = Vec::from_slice(alloc, b"cert 1\nfact")?;
+    for _ in 0..count {
+        text.extend_from_slice(b" 9")?;
+    }
+    text.extend_from_slice(b"\nend\n")?;
+    Ok(text)
+}
+
+// As many steps as a fact may have, and one more.
+#[test]
+fn longest_facts(rt: HostRuntime) -> Result<(), Fail> {
+    let ring = read_ring(rt.alloc(), RING)?;
+    let text = fact_of(rt.alloc(), 1_024)?;
+    assert_eq!(rt; sizes(rt.alloc(), &ring, text.as_slice()), Ok((1, 0)));
+    let text = fact_of(rt.alloc(), 1_025)?;
+    assert_eq!(rt; sizes(rt.alloc(), &ring, text.as_slice()), Err(Refusal::TooLarge(2)));
+    Ok(())
+}
+
+// A certificate with one chain of a node that the ring does not have.
+fn strange_cert(alloc: Global) -> Result<Cert, AllocError> {
+    let steps = Listed::from_vec(Vec::from_slice(alloc, &[2])?);
+    let mut chains = Vec::new(alloc);
+    chains.push(Chain {
+        node: NodeId(4),
+        steps,
+    })?;
+    Ok(Cert {
+        facts: Listed::from_vec(Vec::new(alloc)),
+        chains: Listed::from_vec(chains),
+    })
+}
+
+#[test]
+fn a_strange_chain(rt: HostRuntime) -> Result<(), Fail> {
+    let ring = read_ring(rt.alloc(), RING)?;
+    let cert = strange_cert(rt.alloc())?;
+    assert!(rt; !cert.suits(&ring));
+    Ok(())
+}
+
+// The ring and the plan of the two moves.
+pub fn two_moves(alloc: Global, ring: &Ring) -> Result<Plan, Refusal> {
+    read_plan(alloc, ring, TWO_MOVES)
+}
