@@ -8,10 +8,6 @@ use Rattle.ring_text.specs.Numbers.{ascending}
 abbrev pub is_key : List ℕ → Bool
 is_key bs = nat_le 1 (length bs) && nat_le (length bs) 64 && list_all is_name_byte bs
 
--- at most 1,024 bytes
-abbrev pub is_value : List ℕ → Bool
-is_value bs = nat_le (length bs) 1024
-
 -- at most 16 numbers, each less than the next
 abbrev pub is_seen : List ℕ → Bool
 is_seen gs = nat_le (length gs) 16 && ascending gs

@@ -5,8 +5,8 @@ ghost use Rattle.std.specs.Fmt.{decimal};
 ghost use Rattle.ring_text.specs.Parts.{spaced};
 ghost use Rattle.plan_check.specs.Replies.{reply_text};
 
-use crate::words::{Key, Seen, Value};
-use ring_names::{Listed, NodeId, Slot, WriterId};
+use crate::words::{Key, Seen};
+use ring_names::{Listed, NodeId, Slot, Value, WriterId};
 use ring_text::push_numbers;
 use std::alloc::AllocError;
 

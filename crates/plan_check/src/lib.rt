@@ -15,4 +15,4 @@ pub use laws::{
     groups_stay_apart, holding_is_tested, quorums_meet, runs_reach, runs_split, servers_occupy,
     stages_are_good, succession_is_of_causes, succession_is_tested, transfers_stay_few,
 };
-pub use words::{Key, Seen, Value};
+pub use words::{Key, Seen};

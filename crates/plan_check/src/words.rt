@@ -3,7 +3,7 @@
 ghost use Rattle.std.specs.Prelude.{◌≡◌, IfSome, is_some};
 ghost use Rattle.std.specs.List.{list_all};
 ghost use Rattle.ring_text.specs.Numbers.{ascending};
-ghost use Rattle.plan_check.specs.Words.{is_key, is_value, is_seen};
+ghost use Rattle.plan_check.specs.Words.{is_key, is_seen};
 
 use ring_text::are_name_bytes;
 use std::marker::Model;
@@ -34,42 +34,6 @@ impl Key {
         let written = bytes.as_slice();
         if 1 <= written.len() && written.len() <= 64 && are_name_bytes(written) {
             return Some(Key { bytes });
-        }
-        None
-    }
-
-    pub fn as_slice(&self) -> &[u8]
-        ensures { result.now ≡ self.now }
-    {
-        self.bytes.as_slice()
-    }
-}
-
-/// A value: 0 to 1,024 bytes.
-#[derive(Debug, Drop)]
-pub struct Value {
-    bytes: Vec<u8>,
-}
-
-impl Model for Value {
-    ghost use Rattle.std.specs.Prelude.{◌≡◌, ℕ, List, true};
-    ghost use Rattle.plan_check.specs.Words.{is_value};
-
-    ghost Value = { List ℕ };
-
-    ghost view = { λ a. a.bytes.items };
-
-    ghost invariant = { λ a. is_value a.bytes.items ≡ true };
-}
-
-impl Value {
-    /// The value of these bytes, where they are not too many. Takes no memory.
-    pub fn of(bytes: Vec<u8>) -> Option<Value>
-        ensures some { is_some result ≡ is_value bytes.items }
-        ensures same { IfSome result (λ value. value ≡ bytes.items) }
-    {
-        if bytes.as_slice().len() <= 1024 {
-            return Some(Value { bytes });
         }
         None
     }

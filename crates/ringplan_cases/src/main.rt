@@ -3,10 +3,8 @@
 #![tactic(auto)]
 
 use ringplan_run::{check_bundle, run};
-use std::env;
-use std::fs;
 use std::fs::File;
-use std::io;
+use std::{env, fs, io};
 
 fn main(rt: HostRuntime) -> io::Result<()> {
     for name in env::args(&rt)?.skip(1) {

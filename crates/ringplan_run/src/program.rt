@@ -21,7 +21,8 @@ use std::io::{Read, Write};
 const NO_MEMORY: &[u8; 6] = b"no 60\n";
 
 // What is said of words that are no text.
-const NO_WORDS: &[u8; 123] = b"error: invalid UTF-8 was detected in one or more arguments\n\nUsage: ringplan <COMMAND>\n\nFor more information, try '--help'.\n";
+const NO_WORDS: &[u8; 123] =
+    b"error: invalid UTF-8 was detected in one or more arguments\n\nUsage: ringplan <COMMAND>\n\nFor more information, try '--help'.\n";
 
 // The exit status where memory, the input or the output failed.
 const FAILED: u8 = 3;

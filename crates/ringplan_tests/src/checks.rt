@@ -14,7 +14,8 @@ use std::process::Abort;
 use std::test::Fail;
 
 // Moves slot 1 of a partition from b to d, and then slot 2 from c to b, which reads slots 1 and 0.
-const READS_LISTED: &[u8] = b"plan 1\njoin d\nmirror 0 1 d after 0\ncopy 0 1 owner after 1\nswitch 0 1 after 2\nmirror 0 2 b after 3\ncopy 0 2 slots 1 0 after 4\nend\n";
+const READS_LISTED: &[u8] =
+    b"plan 1\njoin d\nmirror 0 1 d after 0\ncopy 0 1 owner after 1\nswitch 0 1 after 2\nmirror 0 2 b after 3\ncopy 0 2 slots 1 0 after 4\nend\n";
 
 const CERT: &[u8] = b"cert 1\nfact 2 3 4 5\nchain b 2 5\nchain d 2 5\nend\n";
 
@@ -73,7 +74,10 @@ fn parties_of<RT: AllocGlobal + Abort>(rt: &RT, ring: &Ring, plan: &Plan) -> Res
     let first = parties(rt.alloc(), ring, plan, 2)?;
     assert_eq!(rt; first.as_slice(), [NodeId(1), NodeId(3)].as_slice());
     let second = parties(rt.alloc(), ring, plan, 5)?;
-    assert_eq!(rt; second.as_slice(), [NodeId(0), NodeId(1), NodeId(3)].as_slice());
+    assert_eq!(rt;
+        second.as_slice(),
+        [NodeId(0), NodeId(1), NodeId(3)].as_slice()
+    );
     let none = parties(rt.alloc(), ring, plan, 3)?;
     assert!(rt; none.as_slice().is_empty());
     Ok(())
@@ -123,7 +127,12 @@ fn nodes(alloc: Global, ring: &Ring, plan: &Plan, cert: &[u8]) -> Result<(), Ref
 fn nodes_of<RT: AllocGlobal + Abort>(rt: &RT, ring: &Ring) -> Result<(), Fail> {
     let plan = two_moves(rt.alloc(), ring)?;
     assert_eq!(rt; nodes(rt.alloc(), ring, &plan, CERT), Ok(()));
-    let short = nodes(rt.alloc(), ring, &plan, b"cert 1\nfact 2 3 4 5\nchain b 2 5\nend\n");
+    let short = nodes(
+        rt.alloc(),
+        ring,
+        &plan,
+        b"cert 1\nfact 2 3 4 5\nchain b 2 5\nend\n",
+    );
     assert_eq!(rt; short, Err(Refusal::CoverMissing(3, 2)));
     Ok(())
 }
@@ -150,5 +159,8 @@ fn whole(alloc: Global, cert: &[u8]) -> Result<u32, Refusal> {
 #[test]
 fn plans_checked(rt: HostRuntime) {
     assert_eq!(rt; whole(rt.alloc(), CERT), Ok(7));
-    assert_eq!(rt; whole(rt.alloc(), b"cert 1\nfact 2 5\nend\n"), Err(Refusal::BadPath(0)));
+    assert_eq!(rt;
+        whole(rt.alloc(), b"cert 1\nfact 2 5\nend\n"),
+        Err(Refusal::BadPath(0))
+    );
 }

@@ -10,10 +10,16 @@ use std::test::Fail;
 
 const CHECK: [&str; 2] = ["ringplan", "check"];
 
-const BUNDLE: &[u8] = b"ring 1\nspace 1\nquorum 1 1 1\nnode a 1 in\nslots 0 a\nend\nplan 1\nend\ncert 1\nend\n";
+const BUNDLE: &[u8] =
+    b"ring 1\nspace 1\nquorum 1 1 1\nnode a 1 in\nslots 0 a\nend\nplan 1\nend\ncert 1\nend\n";
 
 // The command line ends with this status, and prints a text that contains the other.
-fn told<RT: AllocGlobal + Abort>(rt: &RT, words: &[&str], status: u8, text: &str) -> Result<(), Fail> {
+fn told<RT: AllocGlobal + Abort>(
+    rt: &RT,
+    words: &[&str],
+    status: u8,
+    text: &str,
+) -> Result<(), Fail> {
     let mut output = MemoryWriter::new(rt.alloc(), 4096, 2);
     let ended = run(rt, words, &mut Endless, &mut output);
     assert_eq!(rt; ended, status);
@@ -31,9 +37,24 @@ fn helps_printed(rt: HostRuntime) -> Result<(), Fail> {
 
 #[test]
 fn mistakes_told(rt: HostRuntime) -> Result<(), Fail> {
-    told(&rt, &["ringplan", "plan"], 2, "error: unrecognized subcommand 'plan'")?;
-    told(&rt, &["ringplan", "check", "--fast"], 2, "error: unexpected argument '--fast'")?;
-    told(&rt, &["ringplan", "check", "check"], 2, "error: unexpected argument 'check'")
+    told(
+        &rt,
+        &["ringplan", "plan"],
+        2,
+        "error: unrecognized subcommand 'plan'",
+    )?;
+    told(
+        &rt,
+        &["ringplan", "check", "--fast"],
+        2,
+        "error: unexpected argument '--fast'",
+    )?;
+    told(
+        &rt,
+        &["ringplan", "check", "check"],
+        2,
+        "error: unexpected argument 'check'",
+    )
 }
 
 #[test]

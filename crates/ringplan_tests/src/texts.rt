@@ -8,10 +8,12 @@ use std::alloc::{AllocError, Global};
 use std::process::Abort;
 use std::test::Fail;
 
-pub const RING: &[u8] = b"ring 1\nspace 4\nquorum 3 2 2\nnode a 4 in\nnode b 1 in\nnode c 4 in\nnode d 4 out\nslots 0 a b c\nslots 1 a b c\nslots 2 a b c\nslots 3 a b c\nend\n";
+pub const RING: &[u8] =
+    b"ring 1\nspace 4\nquorum 3 2 2\nnode a 4 in\nnode b 1 in\nnode c 4 in\nnode d 4 out\nslots 0 a b c\nslots 1 a b c\nslots 2 a b c\nslots 3 a b c\nend\n";
 
 // Moves slot 1 of two partitions from b to d, one after the other.
-pub const TWO_MOVES: &[u8] = b"plan 1\njoin d\nmirror 0 1 d after 0\ncopy 0 1 owner after 1\nswitch 0 1 after 2\nmirror 1 1 d after 0 3\ncopy 1 1 owner after 4\nswitch 1 1 after 5\nend\n";
+pub const TWO_MOVES: &[u8] =
+    b"plan 1\njoin d\nmirror 0 1 d after 0\ncopy 0 1 owner after 1\nswitch 0 1 after 2\nmirror 1 1 d after 0 3\ncopy 1 1 owner after 4\nswitch 1 1 after 5\nend\n";
 
 const CERTS: [&str; 5] = [
     "cert 1\nend\n",
@@ -93,7 +95,10 @@ fn steps_read(alloc: Global, ring: &Ring, count: u32) -> Result<u32, Refusal> {
 fn longest_plans(rt: HostRuntime) -> Result<(), Fail> {
     let ring = read_ring(rt.alloc(), RING)?;
     assert_eq!(rt; steps_read(rt.alloc(), &ring, 131_072), Ok(131_072));
-    assert_eq!(rt; steps_read(rt.alloc(), &ring, 131_073), Err(Refusal::TooLarge(131_074)));
+    assert_eq!(rt;
+        steps_read(rt.alloc(), &ring, 131_073),
+        Err(Refusal::TooLarge(131_074))
+    );
     Ok(())
 }
 
@@ -104,7 +109,12 @@ fn sizes(alloc: Global, ring: &Ring, text: &[u8]) -> Result<(usize, usize), Refu
 }
 
 // The same of so many equal lines.
-fn sizes_of(alloc: Global, ring: &Ring, line: &[u8], count: u32) -> Result<(usize, usize), Refusal> {
+fn sizes_of(
+    alloc: Global,
+    ring: &Ring,
+    line: &[u8],
+    count: u32,
+) -> Result<(usize, usize), Refusal> {
     let text = lines_of(alloc, b"cert 1\n", line, count)?;
     sizes(alloc, ring, text.as_slice())
 }
@@ -115,10 +125,19 @@ fn largest_certificates(rt: HostRuntime) -> Result<(), Fail> {
     let ring = read_ring(rt.alloc(), RING)?;
     let fact = b"fact 0 1\n";
     let chain = b"chain a 0\n";
-    assert_eq!(rt; sizes_of(rt.alloc(), &ring, fact, 262_144), Ok((262_144, 0)));
-    assert_eq!(rt; sizes_of(rt.alloc(), &ring, fact, 262_145), Err(Refusal::TooLarge(262_146)));
+    assert_eq!(rt;
+        sizes_of(rt.alloc(), &ring, fact, 262_144),
+        Ok((262_144, 0))
+    );
+    assert_eq!(rt;
+        sizes_of(rt.alloc(), &ring, fact, 262_145),
+        Err(Refusal::TooLarge(262_146))
+    );
     assert_eq!(rt; sizes_of(rt.alloc(), &ring, chain, 65_536), Ok((0, 65_536)));
-    assert_eq!(rt; sizes_of(rt.alloc(), &ring, chain, 65_537), Err(Refusal::TooLarge(65_538)));
+    assert_eq!(rt;
+        sizes_of(rt.alloc(), &ring, chain, 65_537),
+        Err(Refusal::TooLarge(65_538))
+    );
     Ok(())
 }
 
@@ -139,7 +158,10 @@ fn longest_facts(rt: HostRuntime) -> Result<(), Fail> {
     let text = fact_of(rt.alloc(), 1_024)?;
     assert_eq!(rt; sizes(rt.alloc(), &ring, text.as_slice()), Ok((1, 0)));
     let text = fact_of(rt.alloc(), 1_025)?;
-    assert_eq!(rt; sizes(rt.alloc(), &ring, text.as_slice()), Err(Refusal::TooLarge(2)));
+    assert_eq!(rt;
+        sizes(rt.alloc(), &ring, text.as_slice()),
+        Err(Refusal::TooLarge(2))
+    );
     Ok(())
 }
 
