@@ -51,6 +51,9 @@ fn add(alloc: Global, plan: &mut Plan, said: Said, after: NumberRow) -> Result<(
     ensures memory { IfErr result (λ e. e ≡ OutOfMemory) }
 {
     let step = to_step(alloc, said)?;
+    if let Some(few) = after.kept() {
+        return plan.push(step, few);
+    }
     let after = after.to_vec(alloc)?;
     plan.push(step, after.as_slice())
 }

@@ -11,3 +11,4 @@ pub mod Spaced
 pub mod Rows
 pub mod Lates
 pub mod FrameLaws
+pub mod Measured

@@ -1,10 +1,15 @@
 -- What is kept of numbers in a row.
-use Rattle.std.specs.Prelude.{◌≡◌, ℕ, ◌≤◌, List, length, min, nat_le, nat_lt}
+use Rattle.std.specs.Prelude.{◌≡◌, ℕ, ◌≤◌, List, true, length, min, nat_le, nat_lt, take}
 use Rattle.std.specs.List.{list_all}
-use Rattle.ring_text.specs.Numbers.{numbers_of}
+use Rattle.ring_text.specs.Numbers.{ascending, are_small}
+use Rattle.ring_text.specs.declared.measure.Measure.{Measure}
 
-pub record HoldsRow (rest : List (List ℕ)) (count bound : ℕ) : Type 0 where
+pub record Measures (numbers : List ℕ) (kept : Measure) : Type 0 where
   -- how many there are, as far as a `u64` counts
-  pub counted : count ≡ min (length (numbers_of rest)) 18446744073709551615
+  pub counted : kept.count ≡ min (length numbers) 18446744073709551615
   -- they are below each limit that the bound is at most
-  pub bounded : (limit : ℕ) → limit ≤ 4294967296 → nat_le bound limit ≡ list_all (λ x. nat_lt x limit) (numbers_of rest)
+  pub bounded : (limit : ℕ) → limit ≤ 4294967296 → nat_le kept.bound limit ≡ list_all (λ x. nat_lt x limit) numbers
+  -- whether they ascend
+  pub ordered : are_small numbers ≡ true → kept.ascends ≡ ascending numbers
+  -- what they are, where they are few
+  pub first : are_small numbers ≡ true → length numbers ≤ 8 → take (length numbers) kept.first ≡ numbers

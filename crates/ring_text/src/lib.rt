@@ -9,6 +9,7 @@ mod fields;
 mod frame;
 mod judge;
 mod lines;
+mod measure;
 mod name;
 mod number;
 mod number_row;

@@ -1,14 +1,15 @@
 //! Numbers in a row.
 
-ghost use Rattle.std.specs.Prelude.{◌≡◌, ◌∷◌, ◌≤◌, ◌==◌, ◌++◌, [], true, nat_lt, nat_le, length, ⊤, MatchOption, OnOk, IfOk, IfErr};
+ghost use Rattle.std.specs.Prelude.{◌≡◌, ◌∷◌, ◌≤◌, ◌==◌, ◌++◌, [], true, nat_lt, nat_le, length, ⊤, MatchOption, IfSome, OnOk, IfOk, IfErr};
 ghost use Rattle.std.specs.List.{list_all};
 ghost use Rattle.ring_names.specs.declared.refusal.Refusal.TheVariants.{OutOfMemory};
 ghost use Rattle.ring_text.specs.Number.{value_from, is_number, capped};
-ghost use Rattle.ring_text.specs.Numbers.{numbers_of, beyond, ascending};
+ghost use Rattle.ring_text.specs.Numbers.{numbers_of, beyond, ascending, are_small};
 
 use crate::compare::is_less;
 use crate::cursor::Cursor;
-use crate::number::value_of;
+use crate::measure::Measure;
+use crate::number::{CAP, value_of};
 use ring_names::Refusal;
 use std::alloc::Global;
 use std::marker::Model;
@@ -17,10 +18,7 @@ use std::marker::Model;
 #[derive(Drop)]
 pub struct NumberRow<'a> {
     rest: Cursor<'a>,
-    // how many there are
-    count: u64,
-    // one more than the greatest of them, those from `CAP` on taken for `CAP`; 0 where there are none
-    bound: u64,
+    measure: Measure,
 }
 
 impl<'a> Model for NumberRow<'a> {
@@ -31,9 +29,9 @@ impl<'a> Model for NumberRow<'a> {
 
     ghost view = { λ a. numbers_of a.rest };
 
-    ghost use Rattle.ring_text.specs.KeptRow.{HoldsRow};
+    ghost use Rattle.ring_text.specs.KeptRow.{Measures};
 
-    ghost invariant = { λ a. HoldsRow a.rest a.count a.bound };
+    ghost invariant = { λ a. Measures (numbers_of a.rest) a.measure };
 }
 
 impl<'a> Cursor<'a> {
@@ -63,13 +61,11 @@ impl<'a> Cursor<'a> {
         ensures rest { self.new ≡ beyond self.old }
     {
         let rest = self.again();
-        let mut count = 0u64;
-        let mut bound = 0u64;
+        let mut measure = Measure::new();
         'numbers: while let Some((_, value)) = self.next_number() {
-            count = count.saturating_add(1);
-            bound = bound.max(value + 1);
+            measure.add(value);
         }
-        NumberRow { rest, count, bound }
+        NumberRow { rest, measure }
     }
 
     // Adds the numbers that stand in front.
@@ -92,8 +88,7 @@ impl<'a> NumberRow<'a> {
     {
         NumberRow {
             rest: Cursor { rest: None },
-            count: 0,
-            bound: 0,
+            measure: Measure::new(),
         }
     }
 
@@ -103,8 +98,7 @@ impl<'a> NumberRow<'a> {
     {
         NumberRow {
             rest: self.rest.again(),
-            count: self.count,
-            bound: self.bound,
+            measure: self.measure,
         }
     }
 
@@ -112,14 +106,14 @@ impl<'a> NumberRow<'a> {
     pub fn is_empty(&self) -> bool
         ensures { result ≡ (length self.now == 0) }
     {
-        self.count == 0
+        self.measure.count == 0
     }
 
     /// Whether there are at most so many.
     pub fn is_at_most(&self, limit: u32) -> bool
         ensures { result ≡ nat_le (length self.now) limit }
     {
-        self.count <= u64::from(limit)
+        self.measure.count <= u64::from(limit)
     }
 
     /// Whether each is below the limit.
@@ -127,13 +121,16 @@ impl<'a> NumberRow<'a> {
         requires { limit ≤ 4294967296 }
         ensures { result ≡ list_all (λ x. nat_lt x limit) self.now }
     {
-        self.bound <= limit
+        self.measure.bound <= limit
     }
 
     /// Whether each is less than the next.
     pub fn are_ascending(&self) -> bool
         ensures { result ≡ ascending self.now }
     {
+        if self.measure.bound <= CAP {
+            return self.measure.ascends;
+        }
         let mut numbers = self.rest.again();
         let Some((mut last, _)) = numbers.next_number() else {
             return true;
@@ -147,6 +144,13 @@ impl<'a> NumberRow<'a> {
         true
     }
 
+    /// The numbers, where they are at most 8 and each is a `u32`.
+    pub fn kept(&self) -> Option<&[u32]>
+        ensures { IfSome result (λ kept. are_small self.now ≡ true → kept.now ≡ self.now) }
+    {
+        self.measure.kept()
+    }
+
     /// The numbers in a vector.
     pub fn to_vec(&self, alloc: Global) -> Result<Vec<u32>, Refusal>
         requires { list_all (λ x. nat_lt x 4294967296) self.now ≡ true }
@@ -154,6 +158,10 @@ impl<'a> NumberRow<'a> {
         ensures memory { IfErr result (λ e. e ≡ OutOfMemory) }
     {
         let mut out = Vec::new(alloc);
+        if let Some(kept) = self.kept() {
+            out.extend_from_slice(kept)?;
+            return Ok(out);
+        }
         let mut numbers = self.rest.again();
         numbers.push_numbers(&mut out)?;
         Ok(out)
