@@ -1,7 +1,6 @@
 //! Whether a node is on the ring before a step.
 
 ghost use Rattle.std.specs.Prelude.{◌≡◌, ◌&&◌};
-ghost use Rattle.ring_table.specs.Value.{is_member};
 ghost use Rattle.plan_text.specs.Steps.{is_join_of};
 ghost use Rattle.plan_text.specs.Valid.{Suits};
 ghost use Rattle.plan_order.specs.Facts.{is_ordered, AreFactsOf};
@@ -28,17 +27,7 @@ pub fn has_joined(ring: &Ring, plan: &Plan, facts: &Facts, step: u32, node: Node
 pub fn has_joined_by(context: &Context, step: u32, node: NodeId) -> bool
     ensures { result ≡ has_joined context.now.ring.now context.now.plan.now (order context.now) step node }
 {
-    is_member(context.ring, node) || joins_before(context, step, node)
-}
-
-// Whether the node is a member before the first step.
-fn is_member(ring: &Ring, node: NodeId) -> bool
-    ensures { result ≡ is_member ring.now.nodes node }
-{
-    match ring.nodes().get(node.0 as usize) {
-        Some(node) => node.is_member,
-        None => false,
-    }
+    context.ring.is_member(node) || joins_before(context, step, node)
 }
 
 // Whether the step that joins the node comes before the step.
