@@ -38,19 +38,19 @@ pub enum Refusal {
     BadSource(u32),
     /// 24 (step): a switch of a listed slot neither before nor after the copy.
     MovingSource(u32),
-    /// 25 (step): the target may still occupy another slot of the partition.
+    /// 25 (step): the node may still serve another slot of the partition, from the start or from an earlier step on.
     SharedInPlan(u32),
-    /// 26 (step): a node that is `out` has no join ordered before the step.
+    /// 26 (step): the node is declared `out`, and no join of it is ordered before the step that mirrors or retires it.
     NotJoined(u32),
-    /// 27 (step): a holding of the node has no drop ordered before its retirement.
+    /// 27 (step): something that the node held, from the start or from a mirror on, has no drop ordered before its retirement.
     RetiredInUse(u32),
     /// 28: the planner found none.
     NoPlan,
     /// 30 (fact): fewer than two steps, or a link is not a direct dependency.
     BadPath(u32),
-    /// 32 (node, step): the copy is in none of the node's chains.
+    /// 32 (node, step): the copy, in which the node takes part, is in none of the node's chains.
     CoverMissing(u32, u32),
-    /// 33 (chain): a link is not ordered, or an entry is no copy to which the node is party.
+    /// 33 (chain): a link is not ordered, or an entry is no copy in which the node takes part.
     ChainBroken(u32),
     /// 34 (node): more chains than the allowance.
     TooManyChains(u32),
