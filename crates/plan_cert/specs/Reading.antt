@@ -30,6 +30,7 @@ judge_steps k xs = unless (
     ∷ (not (are_small xs), TooLarge k)
     ∷ []) xs
 
+-- all numbers in front, as the steps of a chain
 unfoldable pub steps_at : ℕ → Item (List ℕ)
 steps_at k fields = (judge_steps k (numbers_of fields), beyond fields)
 
@@ -46,6 +47,7 @@ chain_at ring seen k fields = map_ok (λ x. record { node = x.0.1; steps = x.1 }
 abbrev pub facts_at : Left → Result (List (List ℕ) × Left) Refusal
 facts_at s = many_from (codes "fact") fact_at [] s.line s.lines
 
+-- chains, as long as lines begin so
 abbrev pub chains_at : RingValue → Left → Result (List Chain × Left) Refusal
 chains_at ring s = many_from (codes "chain") (chain_at ring) [] s.line s.lines
 

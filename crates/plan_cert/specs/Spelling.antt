@@ -8,9 +8,11 @@ use Rattle.ring_table.specs.Spelling.{name_at}
 use Rattle.plan_cert.specs.declared.cert.Chain.{Chain}
 use Rattle.plan_cert.specs.declared.cert.Cert.{Cert}
 
+-- the line of a fact
 abbrev pub fact_fields : List ℕ → List (List ℕ)
 fact_fields path = codes "fact" ∷ map decimal path
 
+-- the line of a chain
 abbrev pub chain_fields : List (List ℕ) → Chain → List (List ℕ)
 chain_fields names c = codes "chain" ∷ name_at names c.node ∷ map decimal c.steps
 

@@ -10,10 +10,12 @@ use Rattle.plan_text.specs.Said.{planned_of}
 use Rattle.plan_text.specs.Steps.{dependencies}
 use Rattle.plan_text.specs.Valid.{IsPlanned}
 
+-- the listed slots can be kept as numbers of 32 bits
 abbrev pub FitsSource : SaidSource → Type 0
 FitsSource Owner = Unit {0}
 FitsSource (Slots from) = are_small from ≡ true
 
+-- so can those of the step
 abbrev pub FitsSaid : Said → Type 0
 FitsSaid (Join x) = Unit {0}
 FitsSaid (Mirror s x) = Unit {0}

@@ -20,6 +20,7 @@ plan_of a = map (planned_in a.rows) a.steps.items
 abbrev pub AreRows : List (List ℕ) → List Kept → Type 0
 AreRows rows steps = AllByRecursion (λ k. k.row < length rows) steps
 
+-- what holds of the fields together
 pub record HoldsPlan (a : Inside) : Type 0 where
   pub plan : IsPlan (plan_of a)
   pub rows : AreRows a.rows a.steps.items

@@ -99,6 +99,7 @@ after_at plan k (word ∷ fields) =
 unfoldable pub said_at : RingValue → List Planned → ℕ → List (List ℕ) → Result (Said × List ℕ) Refusal
 said_at ring plan k fields = map_ok (λ x. (x.0.1, x.1)) (whole k (need_at k (nat_lt (length plan) 131072) ⊗ kind_at ring plan k ⊗ after_at plan k) fields)
 
+-- the same as a step of a plan
 abbrev pub step_at : RingValue → List Planned → ℕ → List (List ℕ) → Result Planned Refusal
 step_at ring plan k fields = map_ok planned_of (said_at ring plan k fields)
 
@@ -109,6 +110,7 @@ steps_from ring seen k (line ∷ more) = if begins_with (codes "end") (line ∷ 
     then Ok (seen, record { line = k; lines = line ∷ more })
     else (first_line k (line ∷ more) >>= λ _. step_at ring seen k line >>= λ x. steps_from ring (seen ++ x ∷ []) (next_number k) more)
 
+-- the steps of a plan, from the first on
 unfoldable pub steps_at : RingValue → Left → Result (List Planned × Left) Refusal
 steps_at ring s = steps_from ring [] s.line s.lines
 

@@ -10,10 +10,12 @@ use Rattle.plan_text.specs.declared.step.Source.{Source}
 use Rattle.plan_text.specs.declared.step.Source.TheVariants as source
 use Rattle.plan_text.specs.declared.step.Planned.{Planned}
 
+-- where the copy reads, as it is kept
 abbrev pub source_of : SaidSource → Source
 source_of said_source.Owner = source.Owner
 source_of (said_source.Slots from) = source.Slots from
 
+-- the step, as it is kept
 abbrev pub step_of : Said → Step
 step_of (said.Join x) = step.Join x
 step_of (said.Mirror s x) = step.Mirror s x

@@ -12,9 +12,11 @@ use Rattle.plan_text.specs.declared.step.Source.{Source}
 use Rattle.plan_text.specs.declared.step.Source.TheVariants.{Owner, Slots}
 use Rattle.plan_text.specs.declared.step.Planned.{Planned}
 
+-- a slot: its partition, and its index
 abbrev pub slot_fields : Slot → List (List ℕ)
 slot_fields s = decimal s.partition ∷ decimal s.index ∷ []
 
+-- where a copy reads
 abbrev pub source_fields : Source → List (List ℕ)
 source_fields Owner = codes "owner" ∷ []
 source_fields (Slots from) = codes "slots" ∷ map decimal from
@@ -33,6 +35,7 @@ abbrev pub after_fields : List ℕ → List (List ℕ)
 after_fields [] = []
 after_fields (x ∷ xs) = codes "after" ∷ decimal x ∷ map decimal xs
 
+-- the line of a step
 abbrev pub step_fields : List (List ℕ) → Planned → List (List ℕ)
 step_fields names x = kind_fields names x.step ++ after_fields x.after
 

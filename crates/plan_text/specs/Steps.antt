@@ -9,6 +9,7 @@ use Rattle.plan_text.specs.declared.step.Step.{Step}
 use Rattle.plan_text.specs.declared.step.Step.TheVariants.{Join, Mirror, Copy, Switch, Drop, Retire}
 use Rattle.plan_text.specs.declared.step.Planned.{Planned}
 
+-- the two are one slot
 abbrev pub is_slot : Slot → Slot → Bool
 is_slot s t = (s.partition == t.partition) && (s.index == t.index)
 
@@ -74,6 +75,7 @@ joins (Switch s) = []
 joins (Drop s x) = []
 joins (Retire x) = []
 
+-- the node that the step retires
 abbrev pub retires : Step → List ℕ
 retires (Join x) = []
 retires (Mirror s x) = []
@@ -86,6 +88,7 @@ retires (Retire x) = x.0 ∷ []
 abbrev pub joined : List Planned → List ℕ
 joined plan = flat_map (λ x. joins x.step) plan
 
+-- the nodes that the steps retire, in order
 abbrev pub retired : List Planned → List ℕ
 retired plan = flat_map (λ x. retires x.step) plan
 
@@ -98,6 +101,7 @@ is_join_of x (Switch s) = false
 is_join_of x (Drop s y) = false
 is_join_of x (Retire y) = false
 
+-- whether the step retires the node
 abbrev pub is_retire_of : ℕ → Step → Bool
 is_retire_of x (Join y) = false
 is_retire_of x (Mirror s y) = false
@@ -115,5 +119,6 @@ first_step test k (x ∷ xs) = if test x.step then Some k else first_step test (
 abbrev pub join_of : List Planned → ℕ → Option ℕ
 join_of plan x = first_step (is_join_of x) 0 plan
 
+-- the step that retires the node
 abbrev pub retirement_of : List Planned → ℕ → Option ℕ
 retirement_of plan x = first_step (is_retire_of x) 0 plan

@@ -35,6 +35,7 @@ abbrev pub EachPlanned : ℕ → List Planned → Type 0
 EachPlanned k [] = Unit {0}
 EachPlanned k (x ∷ xs) = IsPlanned k x × EachPlanned (k + 1) xs
 
+-- what is a plan: each step may stand where it does, and the limits hold
 pub record IsPlan (plan : List Planned) : Type 0 where
   pub each : EachPlanned 0 plan
   pub steps : length plan ≤ 131072
@@ -44,6 +45,7 @@ pub record IsPlan (plan : List Planned) : Type 0 where
 abbrev pub is_ring_slot : RingValue → Slot → Bool
 is_ring_slot ring s = nat_lt s.partition ring.q && nat_lt s.index ring.n
 
+-- the ring declares the node
 abbrev pub is_declared : RingValue → NodeId → Bool
 is_declared ring x = nat_lt x.0 (length ring.nodes)
 

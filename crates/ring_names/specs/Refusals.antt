@@ -3,8 +3,14 @@ use Rattle.std.specs.Prelude.{ℕ, List, [], ◌∷◌, ◌++◌, codes}
 use Rattle.std.specs.List.{flat_map}
 use Rattle.std.specs.Fmt.{decimal}
 use Rattle.ring_names.specs.declared.refusal.Refusal.{Refusal}
-use Rattle.ring_names.specs.declared.refusal.Refusal.TheVariants.{BadLine, TooLarge, UnknownNode, Repeated, QuorumTooSmall, SharedNode, NotMember, LaterDependency, WrongStage, UnorderedSlot, BadSource, MovingSource, SharedInPlan, NotJoined, RetiredInUse, NoPlan, BadPath, CoverMissing, ChainBroken, TooManyChains, NotReady, AlreadyDone, NodeDown, KeeperTaken, KeeperInPartition, StaleTickets, TooFewSlots, UnknownNumber, HintsLeft, NotOpen, ChunksLeft, HistoryFull, OutOfMemory, ReadFailed, WriteFailed, Mismatch, Disagree, TurnsSpent}
+use Rattle.ring_names.specs.declared.refusal.Refusal.TheVariants.{BadLine, TooLarge, UnknownNode, Repeated, QuorumTooSmall, SharedNode, NotMember}
+use Rattle.ring_names.specs.declared.refusal.Refusal.TheVariants.{LaterDependency, WrongStage, UnorderedSlot, BadSource, MovingSource, SharedInPlan}
+use Rattle.ring_names.specs.declared.refusal.Refusal.TheVariants.{NotJoined, RetiredInUse, NoPlan, BadPath, CoverMissing, ChainBroken, TooManyChains}
+use Rattle.ring_names.specs.declared.refusal.Refusal.TheVariants.{NotReady, AlreadyDone, NodeDown, KeeperTaken, KeeperInPartition, StaleTickets}
+use Rattle.ring_names.specs.declared.refusal.Refusal.TheVariants.{TooFewSlots, UnknownNumber, HintsLeft, NotOpen, ChunksLeft, HistoryFull, OutOfMemory}
+use Rattle.ring_names.specs.declared.refusal.Refusal.TheVariants.{ReadFailed, WriteFailed, Mismatch, Disagree, TurnsSpent}
 
+-- the number by which formats and programs know the refusal
 abbrev pub number_of : Refusal → ℕ
 number_of (BadLine a) = 1
 number_of (TooLarge a) = 2

@@ -16,6 +16,7 @@ rows_of a = map (row_in a.numbers.items) a.spans.items
 abbrev pub IsSpan : List ℕ → Span → Type 0
 IsSpan numbers s = (s.from ≤ s.to) × (s.to ≤ length numbers)
 
+-- what holds of the fields together
 pub record HoldsRows (a : Inside) : Type 0 where
   pub within : AllByRecursion (IsSpan a.numbers.items) a.spans.items
   pub total : sum_by (λ row. length row) (rows_of a) ≡ length a.numbers.items

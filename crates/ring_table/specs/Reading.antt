@@ -42,6 +42,7 @@ abbrev pub above_zero : ℕ → ℕ → Result ℕ Refusal
 above_zero k zero = Err (BadLine k)
 above_zero k (suc n) = Ok (suc n)
 
+-- an allowance
 abbrev pub judge_allowance : ℕ → List ℕ → Result ℕ Refusal
 judge_allowance k field = limited k 64 (decimal_value field) >>= above_zero k
 

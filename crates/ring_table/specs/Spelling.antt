@@ -7,16 +7,20 @@ use Rattle.ring_text.specs.Frames.{header_fields, end_fields}
 use Rattle.ring_table.specs.declared.node.Node.{Node}
 use Rattle.ring_table.specs.Value.{RingValue, names_of}
 
+-- the line of the number of partitions
 abbrev pub space_fields : ℕ → List (List ℕ)
 space_fields q = codes "space" ∷ decimal q ∷ []
 
+-- the line of the quorums
 abbrev pub quorum_fields : ℕ → ℕ → ℕ → List (List ℕ)
 quorum_fields n r w = codes "quorum" ∷ decimal n ∷ decimal r ∷ decimal w ∷ []
 
+-- whether a node is a member, as its line says it
 abbrev pub membership : Bool → List ℕ
 membership true = codes "in"
 membership false = codes "out"
 
+-- the line of a node
 abbrev pub node_fields : Node → List (List ℕ)
 node_fields x = codes "node" ∷ x.name ∷ decimal x.allowance ∷ membership x.is_member ∷ []
 
@@ -24,6 +28,7 @@ node_fields x = codes "node" ∷ x.name ∷ decimal x.allowance ∷ membership x
 abbrev pub name_at : List (List ℕ) → NodeId → List ℕ
 name_at names x = elim (slice_get names x.0) [ Some name ↦ name | None ↦ [] ]
 
+-- the line of a partition's owners
 abbrev pub row_fields : List (List ℕ) → ℕ → List NodeId → List (List ℕ)
 row_fields names p row = codes "slots" ∷ decimal p ∷ map (name_at names) row
 

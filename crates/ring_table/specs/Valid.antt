@@ -21,6 +21,7 @@ pub record IsHead (head : Head) : Type 0 where
   pub slots : head.quorum.n ≤ 7
   pub quorum : is_quorum head.quorum.n head.quorum.r head.quorum.w ≡ true
 
+-- what a ring may declare as a node
 pub record IsNode (x : Node) : Type 0 where
   pub name : is_name x.name ≡ true
   pub some_allowance : 1 ≤ x.allowance
@@ -38,6 +39,7 @@ pub record IsRow (n : ℕ) (nodes : List Node) (row : List NodeId) : Type 0 wher
   pub different : all_different (map (λ x. x.0) row) ≡ true
   pub members : list_all (is_member nodes) row ≡ true
 
+-- what is a ring
 pub record IsRing (v : RingValue) : Type 0 where
   pub space : is_space v.q ≡ true
   pub slots : v.n ≤ 7
@@ -53,6 +55,7 @@ pub record IsRing (v : RingValue) : Type 0 where
 abbrev pub value_of : Inside → RingValue
 value_of a = record { q = a.q; n = a.n; r = a.r; w = a.w; nodes = a.nodes.items; owners = a.owners.items }
 
+-- what holds of the fields together
 pub record HoldsRing (a : Inside) : Type 0 where
   pub ring : IsRing (value_of a)
   pub names : a.names ≡ names_of (value_of a)

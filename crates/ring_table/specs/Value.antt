@@ -4,6 +4,7 @@ use Rattle.ring_names.specs.declared.ids.NodeId.{NodeId}
 use Rattle.ring_names.specs.declared.ids.Slot.{Slot}
 use Rattle.ring_table.specs.declared.node.Node.{Node}
 
+-- a ring
 pub record RingValue : Type 0 where
   -- partitions, slots of each, answers to a read, takers of a write
   pub q : ℕ

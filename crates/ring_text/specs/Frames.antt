@@ -7,6 +7,7 @@ use Rattle.ring_text.specs.Judging.{◌⊗◌, word_at, map_ok, whole}
 abbrev pub header_fields : List ℕ → List (List ℕ)
 header_fields word = word ∷ codes "1" ∷ []
 
+-- that line, read
 unfoldable pub header_at : List ℕ → ℕ → List (List ℕ) → Result (Unit {0}) Refusal
 header_at word k fields = map_ok (λ x. tt) (whole k (word_at k word ⊗ word_at k (codes "1")) fields)
 
@@ -14,5 +15,6 @@ header_at word k fields = map_ok (λ x. tt) (whole k (word_at k word ⊗ word_at
 abbrev pub end_fields : List (List ℕ)
 end_fields = codes "end" ∷ []
 
+-- that line, read
 unfoldable pub end_line_at : ℕ → List (List ℕ) → Result (Unit {0}) Refusal
 end_line_at k fields = map_ok (λ x. tt) (whole k (word_at k (codes "end")) fields)

@@ -36,6 +36,7 @@ abbrev pub limited : ℕ → ℕ → Option ℕ → Result ℕ Refusal
 limited k limit None = Err (BadLine k)
 limited k limit (Some n) = if nat_lt limit n then Err (TooLarge k) else Ok n
 
+-- one field that is such a number
 abbrev pub number_at : ℕ → ℕ → Item ℕ
 number_at k limit = field_at k (λ field. limited k limit (decimal_value field))
 
@@ -62,6 +63,7 @@ abbrev pub map_ok : {A B : Type 0} → (A → B) → Result A Refusal → Result
 map_ok f (Ok x) = Ok (f x)
 map_ok f (Err e) = Err e
 
+-- the value of an item, made into another
 abbrev pub map_item : {A B : Type 0} → (A → B) → Item A → Item B
 map_item f item fields = (map_ok f (item fields).0, (item fields).1)
 

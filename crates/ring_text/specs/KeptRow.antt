@@ -4,6 +4,7 @@ use Rattle.std.specs.List.{list_all}
 use Rattle.ring_text.specs.Numbers.{ascending, are_small}
 use Rattle.ring_text.specs.declared.measure.Measure.{Measure}
 
+-- what is kept of the numbers of a row
 pub record Measures (numbers : List ℕ) (kept : Measure) : Type 0 where
   -- how many there are, as far as a `u64` counts
   pub counted : kept.count ≡ min (length numbers) 18446744073709551615

@@ -41,6 +41,7 @@ first_line k [] = Err (BadLine k)
 first_line k (line ∷ []) = Err (BadLine k)
 first_line k (line ∷ next ∷ more) = Ok (line, record { line = next_number k; lines = next ∷ more })
 
+-- the next line, and what is left behind it
 abbrev pub next_line : Left → Result (List (List ℕ) × Left) Refusal
 next_line s = first_line s.line s.lines
 
@@ -52,6 +53,7 @@ is_nothing ((field ∷ []) ∷ []) = is_nil field
 is_nothing ((field ∷ []) ∷ line ∷ lines) = false
 is_nothing ((field ∷ next ∷ fields) ∷ lines) = false
 
+-- whether nothing is left
 abbrev pub is_over : Left → Bool
 is_over s = is_nothing s.lines
 

@@ -11,6 +11,7 @@ use Rattle.plan_cert.specs.Reading.{cert_at}
 use Rattle.plan_check.specs.First.{first_refusal}
 use Rattle.ringplan_run.specs.declared.bundle.Bundle.{Bundle}
 
+-- the three parts as one
 abbrev pub bundle_of : RingValue × (List Planned × Cert) → Bundle
 bundle_of x = record { ring = x.0; plan = x.1.0; cert = x.1.1 }
 
