@@ -8,7 +8,7 @@ use Rattle.ring_names.specs.declared.ids.NodeId.{NodeId}
 use Rattle.ring_names.specs.declared.ids.Slot.{Slot}
 use Rattle.ring_table.specs.Value.{RingValue, owner_of}
 use Rattle.ring_table.specs.Valid.{IsRing, IsRow}
-use Rattle.ring_text.proofs.Fronts.{both_true}
+use Rattle.std.proofs.lemmas.Bool.{and_parts}
 use Rattle.plan_text.specs.declared.step.Step.{Step}
 use Rattle.plan_text.specs.declared.step.Step.TheVariants.{Join, Mirror, Copy, Switch, Drop, Retire}
 use Rattle.plan_text.specs.declared.step.Planned.{Planned}
@@ -111,7 +111,7 @@ has_at (y ∷ ys) (suc i) x e = second_of_two (x.0 == y.0) (has x.0 (map (λ z. 
 -- a row has no node twice
 first_again : (y : NodeId) (ys : List NodeId) (j : ℕ) (x : NodeId) → all_different (map (λ z. z.0) (y ∷ ys)) ≡ true → y ≡ x → slice_get ys j ≡ Some x → ⊥
 first_again y ys j x d g f =
-    let p = both_true (not (has y.0 (map (λ z. z.0) ys))) (all_different (map (λ z. z.0) ys)) d in
+    let p = and_parts (not (has y.0 (map (λ z. z.0) ys))) (all_different (map (λ z. z.0) ys)) d in
     let h = has_at ys j x f in
     let n = not_is (has y.0 (map (λ z. z.0) ys)) p.0 in
     let m : has y.0 (map (λ z. z.0) ys) ≡ true = ap (λ (z : NodeId). has z.0 (map (λ v. v.0) ys)) g ∙ h in
@@ -123,7 +123,7 @@ once (y ∷ ys) zero zero x d e f = refl
 once (y ∷ ys) zero (suc j) x d e f = absurd (first_again y ys j x d (let g : y ≡ x = cc in g) f)
 once (y ∷ ys) (suc i) zero x d e f = absurd (first_again y ys i x d (let g : y ≡ x = cc in g) e)
 once (y ∷ ys) (suc i) (suc j) x d e f =
-    let p = both_true (not (has y.0 (map (λ z. z.0) ys))) (all_different (map (λ z. z.0) ys)) d in
+    let p = and_parts (not (has y.0 (map (λ z. z.0) ys))) (all_different (map (λ z. z.0) ys)) d in
     ap suc (once ys i j x p.1 e f)
 
 -- who is in a group at the start owns the slot

@@ -1,7 +1,7 @@
 -- What a certificate proves in order is before.
 use Rattle.std.proofs.Common.{◌≡◌, inl, inr, ℕ, Bool, true, List, [], ◌∷◌, Option, Some, None}
 use Rattle.std.specs.List.{list_all}
-use Rattle.ring_text.proofs.Fronts.{both_true}
+use Rattle.std.proofs.lemmas.Bool.{and_parts}
 use Rattle.ring_table.specs.Value.{RingValue}
 use Rattle.plan_text.specs.declared.step.Planned.{Planned}
 use Rattle.plan_text.specs.Steps.{depends}
@@ -18,7 +18,7 @@ use Rattle.plan_stage.proofs.Truth.{either}
 paths_before : (plan : List Planned) (a b : ℕ) (paths : List (List ℕ)) → list_all (is_path plan) paths ≡ true → some_leads a b paths ≡ true → Before plan a b
 paths_before plan a b [] all h = absurd cc
 paths_before plan a b (p ∷ ps) all h =
-    let each = both_true (is_path plan p) (list_all (is_path plan) ps) all in
+    let each = and_parts (is_path plan p) (list_all (is_path plan) ps) all in
     elim (either (leads a b p) (some_leads a b ps) h) [
       | inl this ↦ path_before plan a b p each.0 this
       | inr later ↦ paths_before plan a b ps each.1 later

@@ -3,7 +3,7 @@ use Rattle.std.proofs.Common.{◌≡◌, inl, inr, ℕ, ◌<◌, Bool, true, fal
 use Rattle.std.specs.Prelude.{◌&&◌, ◌==◌, Option, Some, None, is_some, option_and_then}
 use Rattle.std.proofs.lemmas.Bool.Decides.{eqb_tells}
 use Rattle.ring_names.specs.Lists.{has}
-use Rattle.ring_text.proofs.Fronts.{both_true}
+use Rattle.std.proofs.lemmas.Bool.{and_parts}
 use Rattle.plan_text.specs.declared.step.Step.{Step}
 use Rattle.plan_text.specs.declared.step.Planned.{Planned}
 use Rattle.plan_text.specs.Steps.{copy_of, depends}
@@ -25,10 +25,10 @@ pub still_off : (D : ℕ → Bool) (n m : ℕ) → (m == n) ≡ false → D m �
 still_off D n m e f = rw (e, f) refl
 
 pub without_was : (D : ℕ → Bool) (n m : ℕ) → without_number D n m ≡ true → D m ≡ true
-without_was D n m e = (both_true (not (m == n)) (D m) e).1
+without_was D n m e = (and_parts (not (m == n)) (D m) e).1
 
 without_is : (D : ℕ → Bool) (n m : ℕ) → without_number D n m ≡ true → (m == n) ≡ false
-without_is D n m e = not_is (m == n) (both_true (not (m == n)) (D m) e).0
+without_is D n m e = not_is (m == n) (and_parts (not (m == n)) (D m) e).0
 
 copy_or_not : (o : Option Step) → (elim o [ Some s ↦ not (is_some (copy_of s)) | None ↦ false ]) ≡ true → is_some (option_and_then copy_of o) ≡ false
 copy_or_not None h = absurd cc
@@ -85,7 +85,7 @@ chunk_copies plan D o m n c i opened less = record {
   unfinished = i.unfinished;
   marks = λ k d e. elim (either ((k == n) && (d == c)) (m k d) e) [
     | inl f ↦ (
-        let b = both_true (k == n) (d == c) f in
+        let b = and_parts (k == n) (d == c) f in
         let same = eqb-true k n b.0 in
         let chunk = eqb-true d c b.1 in
         (subst (λ z. has_copy plan z ≡ true) (sym same) (i.copies n opened), omega arith, subst (λ z. Ready plan D z) (sym same) (i.ready n opened)))

@@ -3,7 +3,7 @@ use Rattle.std.proofs.Common.{◌≡◌, ◌≢◌, ◌⊎◌, inl, inr, ◌∙�
 use Rattle.std.specs.Prelude.{◌&&◌, ◌==◌, Some, None}
 use Rattle.ring_names.specs.Lists.{has, all_different}
 use Rattle.ring_table.specs.Value.{RingValue}
-use Rattle.ring_text.proofs.Fronts.{both_true}
+use Rattle.std.proofs.lemmas.Bool.{and_parts}
 use Rattle.plan_text.specs.declared.step.Planned.{Planned}
 use Rattle.plan_order.specs.Before.{Before}
 use Rattle.plan_order.proofs.Reaching.{join}
@@ -117,7 +117,7 @@ few_always ring plan k run w is x a al =
     test n = w.is_open n && part n
 
     open_one : (n : ℕ) → test n ≡ true → w.is_open n ≡ true
-    open_one n e = (both_true (w.is_open n) (part n) e).0
+    open_one n e = (and_parts (w.is_open n) (part n) e).0
 
     -- an open copy comes before no other
     apart : (n m : ℕ) → test n ≡ true → test m ≡ true → Before plan n m → ⊥
@@ -127,4 +127,4 @@ few_always ring plan k run w is x a al =
         absurd cc
 
     covered : (n : ℕ) → test n ≡ true → in_some n (k.chains x) ≡ true
-    covered n e = covers.covered n (party ring plan k w n x r.closed (r.copies.ready n (open_one n e)) (r.copies.unfinished n (open_one n e)) (both_true (w.is_open n) (part n) e).1)
+    covered n e = covers.covered n (party ring plan k w n x r.closed (r.copies.ready n (open_one n e)) (r.copies.unfinished n (open_one n e)) (and_parts (w.is_open n) (part n) e).1)

@@ -2,7 +2,7 @@
 use Rattle.std.proofs.Common.{◌≡◌, ◌≢◌, ◌⊎◌, inl, inr, ℕ, suc, zero, ◌+◌, ◌-◌, ◌<◌, ◌≤◌, Bool, true, false, not, cond, List, [], ◌∷◌, refl, sym, ap, arith, Option, Some, None}
 use Rattle.std.specs.Prelude.{◌&&◌, ◌||◌, ◌==◌, min, nat_lt, nat_le, slice_get}
 use Rattle.std.specs.List.{list_all}
-use Rattle.std.proofs.lemmas.Bool.{eqb-true, ltb-true, lt-ltb, leb-true, le-leb}
+use Rattle.std.proofs.lemmas.Bool.{eqb-true, ltb-true, lt-ltb, leb-true, le-leb, and_parts}
 use Rattle.std.proofs.lemmas.Bool.Decides.{eqb_tells}
 use Rattle.ring_names.specs.Lists.{has}
 use Rattle.ring_names.specs.declared.ids.NodeId.{NodeId}
@@ -26,7 +26,6 @@ use Rattle.plan_check.specs.Sound.{Order, EndsBefore, IsChain, AreChains}
 use Rattle.plan_check.specs.First.{fact_clauses}
 use Rattle.plan_stage.specs.Partition.{Test, ends_before, is_settled, has_left, has_joined, has_dropped}
 use Rattle.plan_stage.proofs.Truth.{all_of, either, first_of_two, second_of_two, where_asked, if_asked, push, each-met, each-all, some-met, some-all, each_below-met, each_below-all, list_all-met, list_all-all, same, slot-is, slot-same, node-is, node-same}
-use Rattle.ring_text.proofs.Fronts.{both_true}
 
 -- the order of which a test tells
 abbrev pub holds : Test → Order
@@ -43,7 +42,7 @@ facts-met plan n (f ∷ fs) h =
 pub facts-all : (plan : List Planned) (n : ℕ) (fs : List (List ℕ)) → list_all (is_path plan) fs ≡ true → first_failing (fact_clauses plan n fs) ≡ None
 facts-all plan n [] h = refl
 facts-all plan n (f ∷ fs) h =
-    let b = both_true (is_path plan f) (list_all (is_path plan) fs) h in
+    let b = and_parts (is_path plan f) (list_all (is_path plan) fs) h in
     push (is_path plan f) _ (first_failing (fact_clauses plan (n + 1) fs)) b.0 (facts-all plan (n + 1) fs b.1)
 
 -- ---- the order of a slot's steps
@@ -67,7 +66,7 @@ order-all f O (suc k) h =
 pub mirror-is : (s : Slot) (x : NodeId) (t : Step) → is_mirror_of s x t ≡ true → t ≡ Mirror s x
 mirror-is s x (Join y) h = absurd cc
 mirror-is s x (Mirror t y) h =
-    let b = both_true (is_slot s t) (is_node x y) h in
+    let b = and_parts (is_slot s t) (is_node x y) h in
     let p : s ≡ t = slot-is s t b.0 in
     let e : x ≡ y = node-is x y b.1 in
     cc
@@ -168,13 +167,13 @@ left-met ring plan O t slot x h j l ne =
 pub left_first-met : (ring : RingValue) (plan : List Planned) (O : Test) (t : ℕ) (slot : Slot) (x : NodeId) → has_left ring plan O t slot x ≡ true → (j : ℕ) → j < ring.n → j ≢ slot.index → owner_of ring (sibling slot j) ≡ Some x → EndsBefore (holds O) (first_end ring plan (sibling slot j)) t
 left_first-met ring plan O t slot x h j l ne owns =
     let s : Slot = sibling slot j in
-    let b = both_true (not (owns_first ring s x) || first_left ring plan O t s) (each_step (step_left ring plan O t s x) 0 plan) (left-met ring plan O t slot x h j l ne) in
+    let b = and_parts (not (owns_first ring s x) || first_left ring plan O t s) (each_step (step_left ring plan O t s x) 0 plan) (left-met ring plan O t slot x h j l ne) in
     ends-met O (first_end ring plan s) t (where_asked (owns_first ring s x) (first_left ring plan O t s) b.0 (owns-all ring s x owns))
 
 pub left_later-met : (ring : RingValue) (plan : List Planned) (O : Test) (t : ℕ) (slot : Slot) (x : NodeId) → has_left ring plan O t slot x ≡ true → (j : ℕ) → j < ring.n → j ≢ slot.index → (b : ℕ) → b < t → step_at plan b ≡ Some (Mirror (sibling slot j) x) → EndsBefore (holds O) (mirror_end ring plan (sibling slot j) (place_in plan (sibling slot j) b) x) t
 left_later-met ring plan O t slot x h j l ne b lt at =
     let s : Slot = sibling slot j in
-    let c = both_true (not (owns_first ring s x) || first_left ring plan O t s) (each_step (step_left ring plan O t s x) 0 plan) (left-met ring plan O t slot x h j l ne) in
+    let c = and_parts (not (owns_first ring s x) || first_left ring plan O t s) (each_step (step_left ring plan O t s x) 0 plan) (left-met ring plan O t slot x h j l ne) in
     let e = each-met (step_left ring plan O t s x) plan c.1 b (Mirror s x) at in
     let asked = all_of (nat_lt b t) (is_mirror_of s x (Mirror s x)) (lt-ltb b t lt) (mirror-same s x) in
     ends-met O (mirror_end ring plan s (place_in plan s b) x) t (where_asked (nat_lt b t && is_mirror_of s x (Mirror s x)) (later_left ring plan O t s x b) e asked)
@@ -186,7 +185,7 @@ left_at-all ring plan O t s x start more =
     (if_asked (owns_first ring s x) (first_left ring plan O t s) (λ owns. ends-all O (first_end ring plan s) t (start (owns-met ring s x owns))))
     (each-all (step_left ring plan O t s x) plan (λ b u at.
     if_asked (nat_lt b t && is_mirror_of s x u) (later_left ring plan O t s x b) (λ asked.
-    let c = both_true (nat_lt b t) (is_mirror_of s x u) asked in
+    let c = and_parts (nat_lt b t) (is_mirror_of s x u) asked in
     let e : u ≡ Mirror s x = mirror-is s x u c.1 in
     ends-all O (mirror_end ring plan s (place_in plan s b) x) t (more b (ltb-true b t c.0) (rw e at at)))))
 
@@ -211,7 +210,7 @@ joined-met ring plan O t x h out = elim (either (is_member ring.nodes x) (some_s
   | inl member ↦ absurd cc
   | inr some ↦ (
       let r = some-met (joins_before O t x) plan some in
-      let b = both_true (is_join_of x.0 r.1) (O r.0 t) r.3 in
+      let b = and_parts (is_join_of x.0 r.1) (O r.0 t) r.3 in
       let e : r.1 ≡ Join x = join-is x r.1 b.0 in
       (r.0, rw e at r.2, b.1))
 ]
@@ -241,7 +240,7 @@ dropped_at ring plan O t s x = (not (owns_first ring s x) || first_dropped ring 
 
 dropped-met : (ring : RingValue) (plan : List Planned) (O : Test) (t : ℕ) (s : Slot) (x : NodeId) → has_dropped ring plan O s.partition t x ≡ true → s.index < ring.n → ((not (owns_first ring s x) || first_dropped ring plan O t s) ≡ true) × (each_step (step_dropped plan O t s x) 0 plan ≡ true)
 dropped-met ring plan O t s x h l =
-    both_true (not (owns_first ring s x) || first_dropped ring plan O t s) (each_step (step_dropped plan O t s x) 0 plan)
+    and_parts (not (owns_first ring s x) || first_dropped ring plan O t s) (each_step (step_dropped plan O t s x) 0 plan)
     (each_below-met (λ (j : ℕ). dropped_at ring plan O t (record { partition = s.partition; index = j }) x) ring.n h s.index l)
 
 pub dropped_first-met : (ring : RingValue) (plan : List Planned) (O : Test) (t : ℕ) (s : Slot) (x : NodeId) → has_dropped ring plan O s.partition t x ≡ true → s.index < ring.n → owner_of ring s ≡ Some x → EndsBefore (holds O) (first_drop ring plan s) t
@@ -290,8 +289,8 @@ good-met ring plan O x (a ∷ []) h = (
   ],
 )
 good-met ring plan O x (a ∷ b ∷ rest) h =
-    let q = both_true (is_among x (parties ring plan a) && O a b) (is_good_chain ring plan O x (b ∷ rest)) h in
-    let p = both_true (is_among x (parties ring plan a)) (O a b) q.0 in
+    let q = and_parts (is_among x (parties ring plan a) && O a b) (is_good_chain ring plan O x (b ∷ rest)) h in
+    let p = and_parts (is_among x (parties ring plan a)) (O a b) q.0 in
     let g = good-met ring plan O x (b ∷ rest) q.1 in (
       (p.1, g.0),
       λ n is. elim (either (n == a) (has n (b ∷ rest)) is) [

@@ -1,7 +1,7 @@
 -- The stages of a slot whose steps fit.
 use Rattle.std.proofs.Common.{◌≡◌, ◌∙◌, ℕ, zero, suc, ◌+◌, ◌<◌, ◌≤◌, Bool, true, false, not, cond, List, [], ◌∷◌, length, get_or, Option, Some, None, refl, sym, ap, subst, arith}
 use Rattle.std.specs.Prelude.{◌==◌, ◌&&◌, ◌||◌, nat_lt, slice_get, option_map, unwrap_or, is_some}
-use Rattle.ring_text.proofs.Fronts.{both_true}
+use Rattle.std.proofs.lemmas.Bool.{and_parts}
 use Rattle.ring_names.specs.declared.ids.NodeId.{NodeId}
 use Rattle.ring_names.specs.declared.ids.Slot.{Slot}
 use Rattle.ring_table.specs.Value.{RingValue}
@@ -64,8 +64,8 @@ switch-good a (Some m) h own g = among-with m a.owner a.leftovers g.0 g.1
 next-good : (a : Stage) (t : Step) → fits a t ≡ true → IsGoodStage a → IsGoodStage (next a t)
 next-good a (Join y) h g = g
 next-good a (Mirror slot y) h g =
-    let f = both_true (not (is_some a.mirror) && not (y.0 == a.owner.0)) (not (is_among y a.leftovers)) h in
-    let o = both_true (not (is_some a.mirror)) (not (y.0 == a.owner.0)) f.0 in
+    let f = and_parts (not (is_some a.mirror) && not (y.0 == a.owner.0)) (not (is_among y a.leftovers)) h in
+    let o = and_parts (not (is_some a.mirror)) (not (y.0 == a.owner.0)) f.0 in
     (g.0, (not_is (y.0 == a.owner.0) o.1, not_is (is_among y a.leftovers) f.1))
 next-good a (Copy slot from) h g = good_copied a.mirror g.1
   where
@@ -73,7 +73,7 @@ next-good a (Copy slot from) h g = good_copied a.mirror g.1
     good_copied None m = (g.0, tt)
     good_copied (Some z) m = (g.0, m)
 next-good a (Switch slot) h g =
-    let f = both_true (is_some a.mirror) a.copied h in
+    let f = and_parts (is_some a.mirror) a.copied h in
     (switch-good a a.mirror f.0 g.0 g.1, tt)
 next-good a (Drop slot y) h g = (among-without a.owner y a.leftovers g.0, mirror-without a y a.mirror g.1)
 next-good a (Retire y) h g = g

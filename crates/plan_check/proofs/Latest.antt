@@ -4,7 +4,7 @@ use Rattle.std.specs.Prelude.{◌&&◌, ◌==◌, nat_lt}
 use Rattle.std.proofs.lemmas.Bool.Decides.{eqb_tells}
 use Rattle.ring_names.specs.Lists.{has}
 use Rattle.ring_text.specs.Numbers.{ascending}
-use Rattle.ring_text.proofs.Fronts.{both_true}
+use Rattle.std.proofs.lemmas.Bool.{and_parts}
 use Rattle.plan_check.specs.World.{World}
 use Rattle.plan_check.specs.Succession.{Succeeds, succeeds, some_succeeds, latest_of, latest}
 use Rattle.plan_check.proofs.Succeeding.{succeeds_is, is_succeeds}
@@ -16,7 +16,7 @@ use Rattle.plan_stage.proofs.Truth.{either, first_of_two, second_of_two, not_is}
 pub some_succeeds_found : (w : World) (v : ℕ) (us : List ℕ) → some_succeeds w v us ≡ true → (u : ℕ) × (has u us ≡ true) × ((u == v) ≡ false) × Succeeds w u v
 some_succeeds_found w v [] h = absurd cc
 some_succeeds_found w v (u ∷ us) h = elim (either (not (u == v) && succeeds w u v) (some_succeeds w v us) h) [
-  | inl f ↦ (let b = both_true (not (u == v)) (succeeds w u v) f in (u, rw (eq-eqb u u refl) refl, not_is (u == v) b.0, succeeds_is w u v b.1))
+  | inl f ↦ (let b = and_parts (not (u == v)) (succeeds w u v) f in (u, rw (eq-eqb u u refl) refl, not_is (u == v) b.0, succeeds_is w u v b.1))
   | inr f ↦ (let r = some_succeeds_found w v us f in (r.0, second_of_two (r.0 == u) (has r.0 us) r.1, r.2, r.3))
 ]
 
@@ -72,7 +72,7 @@ starts_latest w all (x ∷ vs) k s a = by (some_succeeds w x all) (starts_latest
   where
     later : (ys : List ℕ) → k ≤ x → ascending (x ∷ ys) ≡ true → StartsAt k ys
     later [] l h = tt
-    later (y ∷ ys) l h = (let b = ltb-true x y (both_true (nat_lt x y) (ascending (y ∷ ys)) h).0 in omega arith)
+    later (y ∷ ys) l h = (let b = ltb-true x y (and_parts (nat_lt x y) (ascending (y ∷ ys)) h).0 in omega arith)
 
     by : (b : Bool) → StartsAt k (latest_of w all vs) → StartsAt k (cond b (latest_of w all vs) (x ∷ latest_of w all vs))
     by true h = h
@@ -84,7 +84,7 @@ latest_ascend w all (x ∷ vs) a = by (some_succeeds w x all) (latest_ascend w a
   where
     later : (ys : List ℕ) → ascending (x ∷ ys) ≡ true → StartsAt (x + 1) ys
     later [] h = tt
-    later (y ∷ ys) h = (let b = ltb-true x y (both_true (nat_lt x y) (ascending (y ∷ ys)) h).0 in omega arith)
+    later (y ∷ ys) h = (let b = ltb-true x y (and_parts (nat_lt x y) (ascending (y ∷ ys)) h).0 in omega arith)
 
     by : (b : Bool) → ascending (latest_of w all vs) ≡ true → ascending (cond b (latest_of w all vs) (x ∷ latest_of w all vs)) ≡ true
     by true h = h

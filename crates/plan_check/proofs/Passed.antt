@@ -3,7 +3,7 @@ use Rattle.std.proofs.Common.{◌≡◌, inl, inr, ◌∙◌, ℕ, Bool, true, f
 use Rattle.std.specs.Prelude.{◌==◌, Option, Some, None, slice_get}
 use Rattle.std.specs.List.{list_all}
 use Rattle.ring_names.specs.Lists.{has}
-use Rattle.ring_text.proofs.Fronts.{both_true}
+use Rattle.std.proofs.lemmas.Bool.{and_parts}
 use Rattle.plan_text.specs.declared.step.Planned.{Planned}
 use Rattle.plan_stage.specs.Clauses.{first_failing, Guard}
 use Rattle.plan_stage.proofs.Below.{met}
@@ -24,7 +24,7 @@ all_met (c ∷ cs) h = (let m = met c.0 c.1 (first_failing cs) h in (m.0, all_me
 pub among : (D : ℕ → Bool) (a : ℕ) (xs : List ℕ) → list_all D xs ≡ true → has a xs ≡ true → D a ≡ true
 among D a [] e h = absurd cc
 among D a (x ∷ xs) e h =
-    let p = both_true (D x) (list_all D xs) e in
+    let p = and_parts (D x) (list_all D xs) e in
     elim (either (a == x) (has a xs) h) [
       | inl f ↦ ap D (eqb-true a x f) ∙ p.0
       | inr f ↦ among D a xs p.1 f

@@ -4,7 +4,7 @@ use Rattle.std.specs.Prelude.{◌==◌, nat_lt}
 use Rattle.std.proofs.lemmas.Bool.Decides.{eqb_tells}
 use Rattle.ring_names.specs.Lists.{has, all_different}
 use Rattle.ring_text.specs.Numbers.{ascending}
-use Rattle.ring_text.proofs.Fronts.{both_true}
+use Rattle.std.proofs.lemmas.Bool.{and_parts}
 use Rattle.plan_check.specs.World.{some_below, passing_from, passing_below}
 use Rattle.plan_stage.proofs.Truth.{all_of, either, second_of_two}
 
@@ -88,13 +88,13 @@ passing_ascend k (suc n) test = by (test k) (passing_ascend (k + 1) n test)
 
 pub ascending_rest : (x : ℕ) (xs : List ℕ) → ascending (x ∷ xs) ≡ true → ascending xs ≡ true
 ascending_rest x [] h = refl
-ascending_rest x (y ∷ ys) h = (both_true (nat_lt x y) (ascending (y ∷ ys)) h).1
+ascending_rest x (y ∷ ys) h = (and_parts (nat_lt x y) (ascending (y ∷ ys)) h).1
 
 -- the first is less than each of the others
 pub first_least : (x : ℕ) (xs : List ℕ) → ascending (x ∷ xs) ≡ true → (m : ℕ) → has m xs ≡ true → x < m
 first_least x [] h m e = absurd cc
 first_least x (y ∷ ys) h m e =
-    let b = both_true (nat_lt x y) (ascending (y ∷ ys)) h in
+    let b = and_parts (nat_lt x y) (ascending (y ∷ ys)) h in
     let l = ltb-true x y b.0 in
     elim (either (m == y) (has m ys) e) [
       | inl f ↦ (let s = eqb-true m y f in omega arith)

@@ -2,10 +2,9 @@
 use Rattle.std.proofs.Common.{◌≡◌, ◌≢◌, inl, inr, ℕ, zero, suc, ◌+◌, ◌<◌, ◌≤◌, Bool, true, false, not, cond, List, [], ◌∷◌, length, refl, sym, ap, subst, arith}
 use Rattle.std.specs.Prelude.{◌==◌, ◌||◌, nat_lt, if◌then◌else◌}
 use Rattle.std.specs.List.{list_all}
-use Rattle.std.proofs.lemmas.Bool.{lt-ltb, ltb-true}
+use Rattle.std.proofs.lemmas.Bool.{lt-ltb, ltb-true, and_parts}
 use Rattle.std.proofs.lemmas.Bool.Decides.{eqb_tells}
 use Rattle.ring_names.specs.Lists.{has, all_different}
-use Rattle.ring_text.proofs.Fronts.{both_true}
 
 -- the list without a number
 abbrev pub without : ℕ → List ℕ → List ℕ
@@ -50,7 +49,7 @@ kept-out n y xs h = by (has y (without n xs)) refl
 pub different-without : (n : ℕ) (xs : List ℕ) → all_different xs ≡ true → all_different (without n xs) ≡ true
 different-without n [] h = refl
 different-without n (x ∷ xs) h =
-    let p = both_true (not (has x xs)) (all_different xs) h in
+    let p = and_parts (not (has x xs)) (all_different xs) h in
     let rest = different-without n xs p.1 in
     by_equal n x (λ b. all_different (cond b (without n xs) (x ∷ without n xs)) ≡ true)
     (λ e. rest)
@@ -59,7 +58,7 @@ different-without n (x ∷ xs) h =
 less-without : (n : ℕ) (xs : List ℕ) → list_all (λ x. nat_lt x (suc n)) xs ≡ true → list_all (λ x. nat_lt x n) (without n xs) ≡ true
 less-without n [] h = refl
 less-without n (x ∷ xs) h =
-    let p = both_true (nat_lt x (suc n)) (list_all (λ x. nat_lt x (suc n)) xs) h in
+    let p = and_parts (nat_lt x (suc n)) (list_all (λ x. nat_lt x (suc n)) xs) h in
     let rest = less-without n xs p.1 in
     by_equal n x (λ b. list_all (λ x. nat_lt x n) (cond b (without n xs) (x ∷ without n xs)) ≡ true)
     (λ e. rest)
@@ -75,7 +74,7 @@ none-taken n (x ∷ xs) h = by_equal n x (λ b. (b || has n xs) ≡ false → le
 pub one-taken : (n : ℕ) (xs : List ℕ) → all_different xs ≡ true → length xs ≤ length (without n xs) + 1
 one-taken n [] h = omega arith
 one-taken n (x ∷ xs) h =
-    let p = both_true (not (has x xs)) (all_different xs) h in
+    let p = and_parts (not (has x xs)) (all_different xs) h in
     by_equal n x (λ b. suc (length xs) ≤ length (cond b (without n xs) (x ∷ without n xs)) + 1)
     (λ e. (let same = none-taken n xs (subst (λ m. has m xs ≡ false) (sym e) (not_false (has x xs) p.0)) in omega arith))
     (λ e. (let rest = one-taken n xs p.1 in omega arith))
@@ -83,8 +82,8 @@ one-taken n (x ∷ xs) h =
 pub meet : (n : ℕ) (xs ys : List ℕ) → all_different xs ≡ true → all_different ys ≡ true → list_all (λ x. nat_lt x n) xs ≡ true → list_all (λ y. nat_lt y n) ys ≡ true → n < length xs + length ys
     → (x : ℕ) × (has x xs ≡ true) × (has x ys ≡ true)
 meet zero [] [] dx dy lx ly more = absurd (omega arith)
-meet zero [] (y ∷ ys) dx dy lx ly more = let p = both_true (nat_lt y 0) (list_all (λ x. nat_lt x 0) ys) ly in let lt = ltb-true y 0 p.0 in absurd (omega arith)
-meet zero (x ∷ xs) ys dx dy lx ly more = let p = both_true (nat_lt x 0) (list_all (λ x. nat_lt x 0) xs) lx in let lt = ltb-true x 0 p.0 in absurd (omega arith)
+meet zero [] (y ∷ ys) dx dy lx ly more = let p = and_parts (nat_lt y 0) (list_all (λ x. nat_lt x 0) ys) ly in let lt = ltb-true y 0 p.0 in absurd (omega arith)
+meet zero (x ∷ xs) ys dx dy lx ly more = let p = and_parts (nat_lt x 0) (list_all (λ x. nat_lt x 0) xs) lx in let lt = ltb-true x 0 p.0 in absurd (omega arith)
 meet (suc n) xs ys dx dy lx ly more = by (has n xs) (has n ys) refl refl
     (λ l. meet n (without n xs) (without n ys) (different-without n xs dx) (different-without n ys dy) (less-without n xs lx) (less-without n ys ly) l)
   where

@@ -8,7 +8,7 @@ use Rattle.ring_names.specs.declared.ids.NodeId.{NodeId}
 use Rattle.ring_names.specs.declared.ids.Slot.{Slot}
 use Rattle.ring_space.specs.Place.{place_of}
 use Rattle.ring_table.specs.Value.{RingValue}
-use Rattle.ring_text.proofs.Fronts.{both_true}
+use Rattle.std.proofs.lemmas.Bool.{and_parts}
 use Rattle.plan_text.specs.declared.step.Source.{Source}
 use Rattle.plan_text.specs.declared.step.Step.{Step}
 use Rattle.plan_text.specs.declared.step.Step.TheVariants.{Join, Mirror, Copy, Switch, Drop, Retire}
@@ -80,9 +80,9 @@ copied_is : (ring : RingValue) (plan : List Planned) (w : World) (n c : ℕ) (o 
 copied_is ring plan w n c None i y t u e = i.stored y t u e
 copied_is ring plan w n c (Some k) i y t u e = elim (with_mirror_is w.stored (stage_now ring plan w k.0).mirror k.0 (is_copied ring plan w k.0 k.1 c) y t u e) [
   | inl f ↦ (
-      let a = both_true (nat_lt u (length w.puts) && is_in_chunk ring w k.0 c u) (source_has ring plan w k.0 k.1 u) f.1 in
-      let b = both_true (nat_lt u (length w.puts)) (is_in_chunk ring w k.0 c u) a.0 in
-      let p = both_true ((place_of ring.q (key_of_put w u)).partition == k.0.partition) ((place_of ring.q (key_of_put w u)).chunk == c) b.1 in
+      let a = and_parts (nat_lt u (length w.puts) && is_in_chunk ring w k.0 c u) (source_has ring plan w k.0 k.1 u) f.1 in
+      let b = and_parts (nat_lt u (length w.puts)) (is_in_chunk ring w k.0 c u) a.0 in
+      let p = and_parts ((place_of ring.q (key_of_put w u)).partition == k.0.partition) ((place_of ring.q (key_of_put w u)).chunk == c) b.1 in
       subst (λ (z : Slot). IsPutOf ring w z u) (sym f.0) (ltb-true u (length w.puts) b.0, eqb-true (place_of ring.q (key_of_put w u)).partition k.0.partition p.0))
   | inr f ↦ i.stored y t u f
 ]
@@ -172,7 +172,7 @@ finds_fit : (ring : RingValue) (plan : List Planned) (w : World) (g j v : ℕ) �
 finds_fit ring plan w g j v e =
     let test : ℕ → Bool = λ u. is_of_key w (key_of_get w g) u && slot_has ring plan w (get_slot ring w g j) u in
     let b = below_is (length w.puts) test v (latest_of_is w (passing_below (length w.puts) test) (passing_below (length w.puts) test) v e).0 in
-    (b.0, (both_true (is_of_key w (key_of_get w g) v) (slot_has ring plan w (get_slot ring w g j) v) b.1).0)
+    (b.0, (and_parts (is_of_key w (key_of_get w g) v) (slot_has ring plan w (get_slot ring w g j) v) b.1).0)
 
 answers_fit : (ring : RingValue) (w : World) (g v : ℕ) → GetsFit w → has v (answers ring w g) ≡ true → IsPutForGet w g v
 answers_fit ring w g v i e =
@@ -260,7 +260,7 @@ event_parts ring plan w i (OpenCopy n) g =
     (open_copies_fit plan w.done w.is_open w.marked n i.copies g.0 (ready plan w n g.1.1.0) (neither (w.done n) (w.is_open n) (not_is (w.done n || w.is_open n) g.1.0))) (λ x s v e. e)
 event_parts ring plan w i (ChunkCopy n c) g = record {
   closed = i.closed;
-  copies = chunk_copies plan w.done w.is_open w.marked n c i.copies g.1.0 (ltb-true c 16 (both_true (has_copy plan n) (nat_lt c 16) g.0).1);
+  copies = chunk_copies plan w.done w.is_open w.marked n c i.copies g.1.0 (ltb-true c 16 (and_parts (has_copy plan n) (nat_lt c 16) g.0).1);
   tickets = i.tickets;
   store = record { stored = λ x s v e. copied_is ring plan w n c (copy_at plan n) i.store x s v e; hinted = i.store.hinted };
   gets = record { found = i.gets.found; replied = i.gets.replied; seen = i.gets.seen };
@@ -273,17 +273,17 @@ event_parts ring plan w i (AbortCopy n) g =
 event_parts ring plan w i (StartPut writer key value seen) g =
     put_parts ring plan w (record { writer = writer.0; key = key; value = value; seen = seen; ticket = λ j. None; acked = false }) (λ j. refl) i g.0 g.1.0
 event_parts ring plan w i (Write v j) g =
-    let l = ltb-true v (length w.puts) (both_true (nat_lt v (length w.puts)) (nat_lt j ring.n) g.0).0 in
-    changed_parts ring plan w v (ticketed ring plan w v j) (served_puts ring plan w (put_slot ring w v j) (λ u. u == v)) w.hinted (λ x. refl) (λ x. refl) (ticketed_fits ring plan w v j (ltb-true j ring.n (both_true (nat_lt v (length w.puts)) (nat_lt j ring.n) g.0).1)) i
+    let l = ltb-true v (length w.puts) (and_parts (nat_lt v (length w.puts)) (nat_lt j ring.n) g.0).0 in
+    changed_parts ring plan w v (ticketed ring plan w v j) (served_puts ring plan w (put_slot ring w v j) (λ u. u == v)) w.hinted (λ x. refl) (λ x. refl) (ticketed_fits ring plan w v j (ltb-true j ring.n (and_parts (nat_lt v (length w.puts)) (nat_lt j ring.n) g.0).1)) i
     (served_fit ring plan w (put_slot ring w v j) (λ u. u == v) i.store (only ring w v j l)) i.store.hinted
 event_parts ring plan w i (Hint v j x) g =
-    let l = ltb-true v (length w.puts) (both_true (nat_lt v (length w.puts)) (nat_lt j ring.n) g.0).0 in
-    changed_parts ring plan w v (ticketed ring plan w v j) w.stored (with_puts w.hinted x (put_slot ring w v j) (λ u. u == v)) (λ x. refl) (λ x. refl) (ticketed_fits ring plan w v j (ltb-true j ring.n (both_true (nat_lt v (length w.puts)) (nat_lt j ring.n) g.0).1)) i
+    let l = ltb-true v (length w.puts) (and_parts (nat_lt v (length w.puts)) (nat_lt j ring.n) g.0).0 in
+    changed_parts ring plan w v (ticketed ring plan w v j) w.stored (with_puts w.hinted x (put_slot ring w v j) (λ u. u == v)) (λ x. refl) (λ x. refl) (ticketed_fits ring plan w v j (ltb-true j ring.n (and_parts (nat_lt v (length w.puts)) (nat_lt j ring.n) g.0).1)) i
     i.store.stored (kept_fit ring w x (put_slot ring w v j) (λ u. u == v) i.store (only ring w v j l))
 event_parts ring plan w i (Ack v) g = changed_parts ring plan w v (λ x. record x { acked = true }) w.stored w.hinted (λ x. refl) (λ x. refl)
     (λ u j h e. inl (sym (part_changed (λ (x : PutRecord). x.ticket j) None w.puts v (λ x. record x { acked = true }) (λ x. refl) u) ∙ e)) i i.store.stored i.store.hinted
 event_parts ring plan w i (StartGet key) g = start_get_parts ring plan w (record { key = key; found = λ j. None; reply = None }) (λ j. refl) refl i
-event_parts ring plan w i (Read h j) g = read_parts ring plan w h j (ltb-true h (length w.gets) (both_true (nat_lt h (length w.gets)) (nat_lt j ring.n) g.0).0) i
+event_parts ring plan w i (Read h j) g = read_parts ring plan w h j (ltb-true h (length w.gets) (and_parts (nat_lt h (length w.gets)) (nat_lt j ring.n) g.0).0) i
 event_parts ring plan w i (EndGet h) g = end_get_parts ring plan w h (ltb-true h (length w.gets) g.0) i
 event_parts ring plan w i (Down x) g = around ring plan w w.done w.is_open w.marked (without_number w.up x.0) w.stored i (λ k e. e) i.closed i.copies (λ y s v e. e)
 event_parts ring plan w i (Up x) g = around ring plan w w.done w.is_open w.marked (with_number w.up x.0) w.stored i (λ k e. e) i.closed i.copies (λ y s v e. e)

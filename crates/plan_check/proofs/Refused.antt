@@ -1,7 +1,7 @@
 -- No clause of the checker fails exactly where the certificate certifies the plan.
 use Rattle.std.proofs.Common.{◌≡◌, inl, inr, ℕ, suc, ◌-◌, ◌<◌, Bool, true, List, [], ◌∷◌, ◌++◌, length, get_or, refl, arith, Some, None}
 use Rattle.std.specs.Prelude.{◌&&◌, ◌||◌, ◌==◌, nat_le, slice_index}
-use Rattle.std.proofs.lemmas.Bool.{leb-true, le-leb}
+use Rattle.std.proofs.lemmas.Bool.{leb-true, le-leb, and_parts}
 use Rattle.ring_names.specs.Lists.{all_different}
 use Rattle.ring_names.specs.declared.ids.NodeId.{NodeId}
 use Rattle.ring_names.specs.declared.ids.Slot.{Slot}
@@ -28,7 +28,6 @@ use Rattle.plan_stage.specs.Partition.{Test, is_settled, has_left, has_joined, h
 use Rattle.plan_stage.proofs.Truth.{all_of, push, two-met, two-all, parted, together, asked-met, asked-all, clauses-met, clauses-all, same, slot-same}
 use Rattle.plan_check.proofs.Suited.{step-within, slot-within, retires-within, owner-within, allowance-within, allowance-at}
 use Rattle.plan_check.proofs.Firsts.{holds, facts-met, facts-all, order-met, order-all, retire-is, settled-met, settled-all, left_first-met, left_later-met, left-all, joined-met, joined-all, dropped_first-met, dropped_later-met, dropped-all, AreGood, chains-met, chains-all, party-step, few-met, few-all}
-use Rattle.ring_text.proofs.Fronts.{both_true}
 
 -- ---- the clauses, one by one
 
@@ -163,7 +162,7 @@ meets-met ring plan cert O is suits h g = record {
       h.staged slot w.0 w.1 k l;
   in_order = in_order-met ring plan O suits h;
   sources = λ n slot from at.
-      let b = both_true (all_different from) (nat_le ring.r (length from)) (copy-met ring plan O suits h n slot from at).0 in
+      let b = and_parts (all_different from) (nat_le ring.r (length from)) (copy-met ring plan O suits h n slot from at).0 in
       (b.0, leb-true ring.r (length from) b.1);
   settled = λ n m j slot from at. settled-met plan O n slot from (copy-met ring plan O suits h n slot from at).1 m j;
   left_first = λ t j slot x at ne owns.

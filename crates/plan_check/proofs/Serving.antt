@@ -2,7 +2,7 @@
 use Rattle.std.proofs.Common.{◌≡◌, ◌⊎◌, inl, inr, ◌∙◌, ℕ, zero, suc, ◌+◌, ◌<◌, ◌≤◌, Bool, true, false, not, cond, List, [], ◌∷◌, ◌++◌, length, get_or, take, drop, Option, Some, None, refl, sym, ap, subst, arith}
 use Rattle.std.specs.Prelude.{◌&&◌, is_some, unwrap_or, fold, option_map, slice_get}
 use Rattle.std.proofs.lemmas.List.{take_more, length-take-le}
-use Rattle.ring_text.proofs.Fronts.{both_true}
+use Rattle.std.proofs.lemmas.Bool.{and_parts}
 use Rattle.ring_names.specs.declared.ids.NodeId.{NodeId}
 use Rattle.ring_names.specs.declared.ids.Slot.{Slot}
 use Rattle.ring_table.specs.Value.{RingValue}
@@ -46,7 +46,7 @@ next-keeps : (x : NodeId) (a : Stage) (t : Step) → fits a t ≡ true → (is_n
 next-keeps x a (Join y) f stay s = absurd cc
 next-keeps x a (Mirror slot y) f stay s = elim s [
   | inl owner ↦ inl owner
-  | inr mirror ↦ absurd (taken a.mirror mirror (both_true (not (is_some a.mirror)) (not (is_node y a.owner)) (both_true (not (is_some a.mirror) && not (is_node y a.owner)) _ f).0).0)
+  | inr mirror ↦ absurd (taken a.mirror mirror (and_parts (not (is_some a.mirror)) (not (is_node y a.owner)) (and_parts (not (is_some a.mirror) && not (is_node y a.owner)) _ f).0).0)
 ]
   where
     taken : (o : Option NodeId) → o ≡ Some x → not (is_some o) ≡ true → ⊥

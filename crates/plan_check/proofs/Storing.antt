@@ -7,7 +7,7 @@ use Rattle.ring_names.specs.declared.ids.NodeId.{NodeId}
 use Rattle.ring_names.specs.declared.ids.Slot.{Slot}
 use Rattle.ring_space.specs.Place.{place_of}
 use Rattle.ring_table.specs.Value.{RingValue}
-use Rattle.ring_text.proofs.Fronts.{both_true}
+use Rattle.std.proofs.lemmas.Bool.{and_parts}
 use Rattle.plan_text.specs.declared.step.Planned.{Planned}
 use Rattle.plan_text.specs.Steps.{is_slot}
 use Rattle.plan_check.specs.World.{PutRecord, GetRecord, World, stage_now, key_of_put, key_of_get, seen_of, is_get_of, is_of_key}
@@ -33,8 +33,8 @@ pub record GetsFit (w : World) : Type 0 where
 pub with_puts_is : (f : ℕ → Slot → ℕ → Bool) (x : NodeId) (s : Slot) (more : ℕ → Bool) (y : ℕ) (t : Slot) (u : ℕ) → with_puts f x s more y t u ≡ true → ((y ≡ x.0) × (t ≡ s) × (more u ≡ true)) ⊎ (f y t u ≡ true)
 with_puts_is f x s more y t u e = elim (either ((y == x.0) && is_slot s t && more u) (f y t u) e) [
   | inl g ↦ (
-      let p = both_true ((y == x.0) && is_slot s t) (more u) g in
-      let q = both_true (y == x.0) (is_slot s t) p.0 in
+      let p = and_parts ((y == x.0) && is_slot s t) (more u) g in
+      let q = and_parts (y == x.0) (is_slot s t) p.0 in
       inl (eqb-true y x.0 q.0, sym (slot-is s t q.1), p.1))
   | inr g ↦ inr g
 ]
@@ -50,7 +50,7 @@ served_puts_is ring plan w s more y t u e = elim (with_mirror_is (with_puts w.st
 ]
 
 pub without_puts_was : (f : ℕ → Slot → ℕ → Bool) (x : NodeId) (s : Slot) (y : ℕ) (t : Slot) (u : ℕ) → without_puts f x s y t u ≡ true → f y t u ≡ true
-without_puts_was f x s y t u e = (both_true (not ((y == x.0) && is_slot s t)) (f y t u) e).1
+without_puts_was f x s y t u e = (and_parts (not ((y == x.0) && is_slot s t)) (f y t u) e).1
 
 -- with puts of the slot's partition what is stored fits
 more_fit : (ring : RingValue) (w : World) (s : Slot) (more : ℕ → Bool) → ((v : ℕ) → more v ≡ true → IsPutOf ring w s v) → (t : Slot) (u : ℕ) → (t ≡ s) × (more u ≡ true) → IsPutOf ring w t u

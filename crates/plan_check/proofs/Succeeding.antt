@@ -4,7 +4,7 @@ use Rattle.std.specs.Prelude.{◌&&◌, ◌||◌, ◌==◌, nat_lt}
 use Rattle.std.specs.Str.{bytes_eq}
 use Rattle.ring_names.specs.declared.ids.Slot.{Slot}
 use Rattle.ring_table.specs.Value.{RingValue}
-use Rattle.ring_text.proofs.Fronts.{both_true}
+use Rattle.std.proofs.lemmas.Bool.{and_parts}
 use Rattle.plan_text.specs.declared.step.Planned.{Planned}
 use Rattle.plan_check.specs.World.{World, some_below, key_of_put, writer_of, seen_of}
 use Rattle.plan_check.specs.Succession.{some_replied, is_direct, Succeeds, itself, by, succeeds_within, succeeds}
@@ -25,9 +25,9 @@ pub record Direct (w : World) (u v : ℕ) : Type 0 where
 
 pub direct_parts : (w : World) (u v : ℕ) → is_direct w u v ≡ true → Direct w u v
 direct_parts w u v h =
-    let a = both_true (nat_lt v u && nat_lt u (length w.puts) && bytes_eq (key_of_put w u) (key_of_put w v)) (is_known w u v) h in
-    let b = both_true (nat_lt v u && nat_lt u (length w.puts)) (bytes_eq (key_of_put w u) (key_of_put w v)) a.0 in
-    let c = both_true (nat_lt v u) (nat_lt u (length w.puts)) b.0 in
+    let a = and_parts (nat_lt v u && nat_lt u (length w.puts) && bytes_eq (key_of_put w u) (key_of_put w v)) (is_known w u v) h in
+    let b = and_parts (nat_lt v u && nat_lt u (length w.puts)) (bytes_eq (key_of_put w u) (key_of_put w v)) a.0 in
+    let c = and_parts (nat_lt v u) (nat_lt u (length w.puts)) b.0 in
     record { less = ltb-true v u c.0; exists = ltb-true u (length w.puts) c.1; same_key = b.1; known = a.1 }
 
 -- ---- the test
@@ -38,7 +38,7 @@ tested w (suc n) u v h = elim (either (u == v) (some_below u (λ m. is_direct w 
   | inl e ↦ subst (λ (z : ℕ). Succeeds w u z) (eqb-true u v e) (itself u)
   | inr f ↦ (
       let s = some_found u (λ m. is_direct w u m && succeeds_within w n m v) f in
-      let b = both_true (is_direct w u s.0) (succeeds_within w n s.0 v) s.2 in
+      let b = and_parts (is_direct w u s.0) (succeeds_within w n s.0 v) s.2 in
       by u s.0 v b.0 (tested w n s.0 v b.1))
 ]
 
@@ -78,7 +78,7 @@ held_is ring plan w v slot h = elim (either (slot_has ring plan w slot v) (some_
   | inl f ↦ (v, itself v, f)
   | inr f ↦ (
       let s = some_found (length w.puts) (λ u. succeeds w u v && slot_has ring plan w slot u) f in
-      let b = both_true (succeeds w s.0 v) (slot_has ring plan w slot s.0) s.2 in
+      let b = and_parts (succeeds w s.0 v) (slot_has ring plan w slot s.0) s.2 in
       (s.0, succeeds_is w s.0 v b.0, b.1))
 ]
 

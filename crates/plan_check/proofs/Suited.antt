@@ -2,7 +2,7 @@
 use Rattle.std.proofs.Common.{◌≡◌, ℕ, suc, zero, ◌+◌, ◌<◌, Bool, true, false, cond, List, [], ◌∷◌, length, refl, arith, Option, Some, None}
 use Rattle.std.specs.Prelude.{nat_lt, slice_get, option_and_then}
 use Rattle.std.specs.List.{list_all, AllByRecursion}
-use Rattle.std.proofs.lemmas.Bool.{ltb-true}
+use Rattle.std.proofs.lemmas.Bool.{ltb-true, and_parts}
 use Rattle.std.proofs.lemmas.Option.{slice_get_within}
 use Rattle.ring_names.specs.declared.ids.NodeId.{NodeId}
 use Rattle.ring_names.specs.declared.ids.Slot.{Slot}
@@ -17,7 +17,6 @@ use Rattle.plan_text.specs.Valid.{Suits, step_suits, source_suits, is_ring_slot,
 use Rattle.plan_stage.specs.Each.{step_at}
 use Rattle.plan_cover.specs.Clauses.{allowance_of}
 use Rattle.plan_stage.proofs.Truth.{slot-is}
-use Rattle.ring_text.proofs.Fronts.{both_true}
 
 -- ---- a step, and the slot of a step
 
@@ -28,20 +27,20 @@ suits-at : (ring : RingValue) (plan : List Planned) → all_suit ring plan ≡ t
 suits-at ring [] h m s at = absurd cc
 suits-at ring (x ∷ xs) h zero s at =
     let e : x.step ≡ s = cc in
-    rw (← e) (both_true (step_suits ring x.step) (all_suit ring xs) h).0
-suits-at ring (x ∷ xs) h (suc m) s at = suits-at ring xs (both_true (step_suits ring x.step) (all_suit ring xs) h).1 m s at
+    rw (← e) (and_parts (step_suits ring x.step) (all_suit ring xs) h).0
+suits-at ring (x ∷ xs) h (suc m) s at = suits-at ring xs (and_parts (step_suits ring x.step) (all_suit ring xs) h).1 m s at
 
 within : (ring : RingValue) (s : Slot) → is_ring_slot ring s ≡ true → (s.partition < ring.q) × (s.index < ring.n)
 within ring s h =
-    let b = both_true (nat_lt s.partition ring.q) (nat_lt s.index ring.n) h in
+    let b = and_parts (nat_lt s.partition ring.q) (nat_lt s.index ring.n) h in
     (ltb-true s.partition ring.q b.0, ltb-true s.index ring.n b.1)
 
 on-suits : (ring : RingValue) (slot : Slot) (t : Step) → is_on slot t ≡ true → step_suits ring t ≡ true → is_ring_slot ring slot ≡ true
 on-suits ring slot (Join x) on h = absurd cc
-on-suits ring slot (Mirror t x) on h = (let e = slot-is slot t on in rw e (both_true (is_ring_slot ring t) (is_declared ring x) h).0)
-on-suits ring slot (Copy t from) on h = (let e = slot-is slot t on in rw e (both_true (is_ring_slot ring t) (source_suits ring from) h).0)
+on-suits ring slot (Mirror t x) on h = (let e = slot-is slot t on in rw e (and_parts (is_ring_slot ring t) (is_declared ring x) h).0)
+on-suits ring slot (Copy t from) on h = (let e = slot-is slot t on in rw e (and_parts (is_ring_slot ring t) (source_suits ring from) h).0)
 on-suits ring slot (Switch t) on h = (let e = slot-is slot t on in rw e h)
-on-suits ring slot (Drop t x) on h = (let e = slot-is slot t on in rw e (both_true (is_ring_slot ring t) (is_declared ring x) h).0)
+on-suits ring slot (Drop t x) on h = (let e = slot-is slot t on in rw e (and_parts (is_ring_slot ring t) (is_declared ring x) h).0)
 on-suits ring slot (Retire x) on h = absurd cc
 
 pub step-within : (ring : RingValue) (plan : List Planned) → Suits ring plan → (slot : Slot) (m : ℕ) (s : Step) → step_at plan m ≡ Some s → is_on slot s ≡ true → (slot.partition < ring.q) × (slot.index < ring.n)
@@ -54,7 +53,7 @@ pick false k ys P here there l = there l
 some-suits : (ring : RingValue) (k : ℕ) (plan : List Planned) (slot : Slot) → all_suit ring plan ≡ true → 0 < length (steps_from k plan slot) → is_ring_slot ring slot ≡ true
 some-suits ring k [] slot h l = absurd (omega arith)
 some-suits ring k (x ∷ xs) slot h l =
-    let b = both_true (step_suits ring x.step) (all_suit ring xs) h in
+    let b = and_parts (step_suits ring x.step) (all_suit ring xs) h in
     pick (is_on slot x.step) k (steps_from (k + 1) xs slot) (is_ring_slot ring slot ≡ true) (λ on. on-suits ring slot x.step on b.0) (λ m. some-suits ring (k + 1) xs slot b.1 m) l
 
 -- a slot with steps is the ring's

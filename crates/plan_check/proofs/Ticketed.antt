@@ -3,7 +3,7 @@ use Rattle.std.proofs.Common.{◌≡◌, ◌⊎◌, inl, inr, ◌∙◌, ℕ, ze
 use Rattle.std.specs.Prelude.{◌&&◌, ◌==◌, Some, None, is_some}
 use Rattle.ring_names.specs.declared.ids.Slot.{Slot}
 use Rattle.ring_table.specs.Value.{RingValue}
-use Rattle.ring_text.proofs.Fronts.{both_true}
+use Rattle.std.proofs.lemmas.Bool.{and_parts}
 use Rattle.plan_text.specs.declared.step.Planned.{Planned}
 use Rattle.plan_text.specs.Steps.{steps_of}
 use Rattle.plan_check.specs.World.{PutRecord, World, count, key_of_put, ticket_of, mirror_at, generation, slot_of}
@@ -32,7 +32,7 @@ count_more D E (s ∷ ss) h = by (D s) (E s) (h s) (count_more D E ss h)
 
 pub generation_more : (plan : List Planned) (w u : World) (slot : Slot) → ((m : ℕ) → w.done m ≡ true → u.done m ≡ true) → generation plan w slot ≤ generation plan u slot
 generation_more plan w u slot h = count_more (λ s. w.done s && is_some (mirror_at plan s)) (λ s. u.done s && is_some (mirror_at plan s)) (steps_of plan slot)
-    (λ m e. (let b = both_true (w.done m) (is_some (mirror_at plan m)) e in all_of (u.done m) (is_some (mirror_at plan m)) (h m b.0) b.1))
+    (λ m e. (let b = and_parts (w.done m) (is_some (mirror_at plan m)) e in all_of (u.done m) (is_some (mirror_at plan m)) (h m b.0) b.1))
 
 -- a ticket stays where the put keeps its key
 pub ticket_stays : (ring : RingValue) (plan : List Planned) (w u : World) (v i g : ℕ) → key_of_put u v ≡ key_of_put w v → ((m : ℕ) → w.done m ≡ true → u.done m ≡ true) → TicketFits ring plan w v i g → TicketFits ring plan u v i g

@@ -1,8 +1,7 @@
 -- The one step that retires a node, and what it asks.
 use Rattle.std.proofs.Common.{◌≡◌, ℕ, ◌+◌, Bool, true, false, cond, List, [], ◌∷◌, ◌++◌, Option, Some, refl, sym, ◌∙◌}
 use Rattle.std.specs.Prelude.{not, ◌||◌}
-use Rattle.std.proofs.lemmas.Bool.{eqb-true}
-use Rattle.ring_text.proofs.Fronts.{both_true}
+use Rattle.std.proofs.lemmas.Bool.{eqb-true, and_parts}
 use Rattle.ring_names.specs.Lists.{has, all_different}
 use Rattle.ring_names.specs.declared.ids.NodeId.{NodeId}
 use Rattle.ring_table.specs.Value.{RingValue}
@@ -26,7 +25,7 @@ in_front x (Drop t y) rest = refl
 in_front x (Retire y) rest = refl
 
 behind : (s : Step) (rest : List ℕ) → all_different (retires s ++ rest) ≡ true → all_different rest ≡ true
-behind (Retire y) rest h = (both_true (not (has y.0 rest)) (all_different rest) h).1
+behind (Retire y) rest h = (and_parts (not (has y.0 rest)) (all_different rest) h).1
 behind (Mirror t y) rest h = h
 behind (Copy t from) rest h = h
 behind (Switch t) rest h = h
@@ -36,7 +35,7 @@ behind (Join y) rest h = h
 once : (x : ℕ) (s : Step) (rest : List ℕ) → all_different (retires s ++ rest) ≡ true → is_retire_of x s ≡ true → has x rest ≡ false
 once x (Retire y) rest h is =
     let e : x ≡ y.0 = eqb-true x y.0 is in
-    rw e (not_is (has y.0 rest) (both_true (not (has y.0 rest)) (all_different rest) h).0)
+    rw e (not_is (has y.0 rest) (and_parts (not (has y.0 rest)) (all_different rest) h).0)
 once x (Mirror t y) rest h is = absurd cc
 once x (Copy t from) rest h is = absurd cc
 once x (Switch t) rest h is = absurd cc

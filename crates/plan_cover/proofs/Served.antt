@@ -2,10 +2,9 @@
 use Rattle.std.proofs.Common.{◌≡◌, ℕ, suc, zero, ◌+◌, ◌<◌, ◌≤◌, Bool, true, false, cond, List, [], ◌∷◌, ◌++◌, length, take, Option, Some, None, refl, sym, ap, ◌∙◌, arith}
 use Rattle.std.specs.Prelude.{◌||◌, ◌==◌, nat_lt, slice_get, option_map, fold, unwrap_or}
 use Rattle.std.specs.List.{list_all}
-use Rattle.std.proofs.lemmas.Bool.{lt-ltb}
+use Rattle.std.proofs.lemmas.Bool.{lt-ltb, and_parts}
 use Rattle.std.proofs.lemmas.Bool.Decides.{nat_tests}
 use Rattle.std.proofs.lemmas.List.Sums.{fold_push}
-use Rattle.ring_text.proofs.Fronts.{both_true}
 use Rattle.ring_names.specs.declared.ids.NodeId.{NodeId}
 use Rattle.ring_names.specs.declared.ids.Slot.{Slot}
 use Rattle.ring_table.specs.Value.{RingValue, owner_of}
@@ -141,8 +140,8 @@ takes_part-party ring plan n serve x p e same = ap (λ (o : Option Planned). is_
 
 pub all-at : (f : Planned → Bool) (xs : List Planned) (n : ℕ) (p : Planned) → list_all f xs ≡ true → slice_get xs n ≡ Some p → f p ≡ true
 all-at f [] n p h e = absurd cc
-all-at f (x ∷ xs) zero p h e = (let s : x ≡ p = cc in rw (← s) (both_true (f x) (list_all f xs) h).0)
-all-at f (x ∷ xs) (suc n) p h e = all-at f xs n p (both_true (f x) (list_all f xs) h).1 e
+all-at f (x ∷ xs) zero p h e = (let s : x ≡ p = cc in rw (← s) (and_parts (f x) (list_all f xs) h).0)
+all-at f (x ∷ xs) (suc n) p h e = all-at f xs n p (and_parts (f x) (list_all f xs) h).1 e
 
 -- the whole of a step of which only what it does is known
 pub whole : (o : Option Planned) (t : Step) → option_map (λ (x : Planned). x.step) o ≡ Some t → (p : Planned) × (o ≡ Some p) × (p.step ≡ t)

@@ -9,7 +9,7 @@ use Rattle.std.specs.Cmp.{unsigned_ties, tied_then}
 use Rattle.std.specs.BTreeMap.{is_at}
 use Rattle.std.specs.BTreeSet.{insert_key}
 use Rattle.std.proofs.lemmas.Bool.Decides.{eqb_tells, nat_tests}
-use Rattle.ring_text.proofs.Fronts.{both_true}
+use Rattle.std.proofs.lemmas.Bool.{and_parts}
 use Rattle.plan_order.specs.declared.facts.Ends.{Ends}
 use Rattle.plan_order.specs.Facts.{ends_with, leads, has_ends}
 
@@ -42,7 +42,7 @@ looked_up e (x ∷ es) = rw (tie_is_same e x, looked_up e es) refl
 
 is_at_ends : (e : Ends) (a b : ℕ) → ((e.first == a) && (e.last == b)) ≡ true → (e.first ≡ a) × (e.last ≡ b)
 is_at_ends e a b h =
-    let p = both_true (e.first == a) (e.last == b) h in (
+    let p = and_parts (e.first == a) (e.last == b) h in (
       elim (eqb_tells e.first a) [ inl t ↦ t.1 | inr t ↦ absurd cc ],
       elim (eqb_tells e.last b) [ inl t ↦ t.1 | inr t ↦ absurd cc ],
     )

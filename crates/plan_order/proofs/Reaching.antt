@@ -2,14 +2,13 @@
 use Rattle.std.proofs.Common.{◌≡◌, inl, inr, ℕ, zero, suc, ◌+◌, ◌<◌, Bool, true, false, cond, List, [], ◌∷◌, length, refl, subst, arith}
 use Rattle.std.specs.Prelude.{◌||◌, ◌==◌, nat_lt, nat_le, min, Some, None}
 use Rattle.std.specs.List.{list_all}
-use Rattle.std.proofs.lemmas.Bool.{ltb-true}
+use Rattle.std.proofs.lemmas.Bool.{ltb-true, and_parts}
 use Rattle.std.proofs.lemmas.Bool.Decides.{eqb_tells}
 use Rattle.ring_names.specs.Lists.{has}
 use Rattle.ring_names.specs.declared.refusal.Refusal.TheVariants.{BadPath}
 use Rattle.plan_text.specs.declared.step.Planned.{Planned}
 use Rattle.plan_text.specs.Steps.{depends}
 use Rattle.plan_text.specs.Valid.{IsPlan, EachPlanned}
-use Rattle.ring_text.proofs.Fronts.{both_true}
 use Rattle.plan_order.specs.Before.{Before, direct, through}
 use Rattle.plan_order.specs.Paths.{are_links, is_path, first_bad}
 use Rattle.std.proofs.lemmas.Bool.{or_cases}
@@ -25,7 +24,7 @@ join plan a b c (through _ m _ d r) s = through a m c d (join plan m b c r s)
 among_less : (a n : ℕ) (xs : List ℕ) → list_all (λ x. nat_lt x n) xs ≡ true → has a xs ≡ true → a < n
 among_less a n [] e h = absurd cc
 among_less a n (x ∷ xs) e h =
-    let p = both_true (nat_lt x n) (list_all (λ x. nat_lt x n) xs) e in
+    let p = and_parts (nat_lt x n) (list_all (λ x. nat_lt x n) xs) e in
     elim (eqb_tells a x) [
       | inl t ↦ (let lt = ltb-true x n p.0 in let same = t.1 in omega arith)
       | inr t ↦ among_less a n xs p.1 (subst (λ b. (b || has a xs) ≡ true) t.0 h)
@@ -47,19 +46,19 @@ less plan a b is (through _ m _ d r) =
 
 links : (plan : List Planned) (a b x : ℕ) (rest : List ℕ) → are_links plan (a ∷ x ∷ rest) ≡ true → ends_with b (x ∷ rest) ≡ true → Before plan a b
 links plan a b x [] e h = elim (eqb_tells x b) [
-  | inl t ↦ subst (λ y. Before plan a y) t.1 (direct a x (both_true (depends plan a x) true e).0)
+  | inl t ↦ subst (λ y. Before plan a y) t.1 (direct a x (and_parts (depends plan a x) true e).0)
   | inr t ↦ absurd cc
 ]
 links plan a b x (y ∷ rest) e h =
-    let p = both_true (depends plan a x) (are_links plan (x ∷ y ∷ rest)) e in
+    let p = and_parts (depends plan a x) (are_links plan (x ∷ y ∷ rest)) e in
     through a x b p.0 (links plan x b y rest p.1 h)
 
 pub path_before : (plan : List Planned) (a b : ℕ) (path : List ℕ) → is_path plan path ≡ true → leads a b path ≡ true → Before plan a b
 path_before plan a b [] e h = absurd cc
 path_before plan a b (x ∷ []) e h = absurd cc
 path_before plan a b (x ∷ y ∷ rest) e h =
-    let p = both_true (nat_le 2 (length (x ∷ y ∷ rest))) (are_links plan (x ∷ y ∷ rest)) e in
-    let q = both_true (x == a) (ends_with b (y ∷ rest)) h in
+    let p = and_parts (nat_le 2 (length (x ∷ y ∷ rest))) (are_links plan (x ∷ y ∷ rest)) e in
+    let q = and_parts (x == a) (ends_with b (y ∷ rest)) h in
     elim (eqb_tells x a) [
       | inl t ↦ subst (λ z. Before plan z b) t.1 (links plan x b y rest p.1 q.1)
       | inr t ↦ absurd cc

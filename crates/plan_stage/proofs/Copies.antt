@@ -5,7 +5,7 @@ use Rattle.std.specs.List.{list_all}
 use Rattle.std.proofs.lemmas.Option.{slice_get-get_or}
 use Rattle.std.proofs.lemmas.List.Recursion.{is_count_by}
 use Rattle.std.proofs.lemmas.List.{drop_more}
-use Rattle.ring_text.proofs.Fronts.{both_true}
+use Rattle.std.proofs.lemmas.Bool.{and_parts}
 use Rattle.ring_names.specs.declared.ids.Slot.{Slot}
 use Rattle.ring_names.specs.declared.ids.NodeId.{NodeId}
 use Rattle.ring_table.specs.Value.{RingValue}
@@ -43,8 +43,8 @@ steps_of-few plan slot = steps_from-few 0 plan slot
 
 all_at : {X : Type 0} → (f : X → Bool) (xs : List X) (n : ℕ) (x : X) → list_all f xs ≡ true → slice_get xs n ≡ Some x → f x ≡ true
 all_at f [] n x all at = absurd cc
-all_at f (y ∷ ys) zero x all at = (let e : y ≡ x = cc in ap f (sym e) ∙ (both_true (f y) (list_all f ys) all).0)
-all_at f (y ∷ ys) (suc n) x all at = all_at f ys n x (both_true (f y) (list_all f ys) all).1 at
+all_at f (y ∷ ys) zero x all at = (let e : y ≡ x = cc in ap f (sym e) ∙ (and_parts (f y) (list_all f ys) all).0)
+all_at f (y ∷ ys) (suc n) x all at = all_at f ys n x (and_parts (f y) (list_all f ys) all).1 at
 
 -- so does each step of the plan
 step-suits : (ring : RingValue) (plan : List Planned) (n : ℕ) (t : Step) → Suits ring plan → option_map (λ (x : Planned). x.step) (slice_get plan n) ≡ Some t → step_suits ring t ≡ true
@@ -57,8 +57,8 @@ step-suits ring plan n t suits at = by (slice_get plan n) refl at
 -- and the slots of a copy
 pub copy-suits : (ring : RingValue) (plan : List Planned) (n : ℕ) (t : Step) (slot : Slot) (source : Source) → Suits ring plan → option_map (λ (x : Planned). x.step) (slice_get plan n) ≡ Some t → t ≡ Copy slot source → (slot.partition < ring.q) × (slot.index < ring.n) × (source_suits ring source ≡ true)
 copy-suits ring plan n t slot source suits at e =
-    let b = both_true (is_ring_slot ring slot) (source_suits ring source) (ap (step_suits ring) (sym e) ∙ step-suits ring plan n t suits at) in
-    let s = both_true (nat_lt slot.partition ring.q) (nat_lt slot.index ring.n) b.0 in
+    let b = and_parts (is_ring_slot ring slot) (source_suits ring source) (ap (step_suits ring) (sym e) ∙ step-suits ring plan n t suits at) in
+    let s = and_parts (nat_lt slot.partition ring.q) (nat_lt slot.index ring.n) b.0 in
     (ltb-true slot.partition ring.q s.0, ltb-true slot.index ring.n s.1, b.1)
 
 pub below_at : (n : ℕ) (from : List ℕ) (k : ℕ) → list_all (λ i. nat_lt i n) from ≡ true → k < length from → get_or from k 0 < n

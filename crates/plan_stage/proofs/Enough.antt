@@ -2,12 +2,11 @@
 use Rattle.std.proofs.Common.{◌≡◌, inl, inr, ℕ, suc, zero, ◌+◌, ◌<◌, true, false, not, List, [], ◌∷◌, ◌++◌, refl, sym, ap, arith, Option, Some, None}
 use Rattle.std.specs.Prelude.{◌==◌, nat_lt}
 use Rattle.std.specs.List.{list_all}
-use Rattle.std.proofs.lemmas.Bool.{eqb-true, ltb-true}
+use Rattle.std.proofs.lemmas.Bool.{eqb-true, ltb-true, and_parts}
 use Rattle.ring_names.specs.Lists.{has, all_different}
 use Rattle.ring_names.specs.declared.ids.NodeId.{NodeId}
 use Rattle.ring_names.specs.declared.ids.Slot.{Slot}
 use Rattle.ring_table.specs.Value.{RingValue, owner_of}
-use Rattle.ring_text.proofs.Fronts.{both_true}
 use Rattle.plan_text.specs.declared.step.Step.{Step}
 use Rattle.plan_text.specs.declared.step.Step.TheVariants.{Join, Mirror, Copy, Switch, Drop, Retire}
 use Rattle.plan_text.specs.declared.step.Planned.{Planned}
@@ -37,7 +36,7 @@ has-retired (y ∷ ys) (suc m) x at = has-behind x.0 (retires y.step) (retired y
 
 different-behind : (xs ys : List ℕ) → all_different (xs ++ ys) ≡ true → all_different ys ≡ true
 different-behind [] ys h = h
-different-behind (x ∷ xs) ys h = different-behind xs ys (both_true (not (has x (xs ++ ys))) (all_different (xs ++ ys)) h).1
+different-behind (x ∷ xs) ys h = different-behind xs ys (and_parts (not (has x (xs ++ ys))) (all_different (xs ++ ys)) h).1
 
 -- no step in front retires a node that a later step retires
 not-before : (s : Step) (x : ℕ) (ys : List ℕ) → all_different (retires s ++ ys) ≡ true → has x ys ≡ true → is_retire_of x s ≡ false
@@ -49,7 +48,7 @@ not-before (Drop t y) x ys h is = refl
 not-before (Retire y) x ys h is = elim (told (x == y.0)) [
   | inl e ↦ absurd (
       let g : x ≡ y.0 = eqb-true x y.0 e in
-      let n : has y.0 ys ≡ false = not_is (has y.0 ys) (both_true (not (has y.0 ys)) (all_different ys) h).0 in
+      let n : has y.0 ys ≡ false = not_is (has y.0 ys) (and_parts (not (has y.0 ys)) (all_different ys) h).0 in
       let i : has y.0 ys ≡ true = rw g at is in
       cc)
   | inr d ↦ d
@@ -77,11 +76,11 @@ suits-at : (ring : RingValue) (plan : List Planned) → list_all (λ (x : Planne
 suits-at ring [] h m s at = absurd cc
 suits-at ring (x ∷ xs) h zero s at =
     let e : x.step ≡ s = cc in
-    rw (← e) (both_true (step_suits ring x.step) (list_all (λ (x : Planned). step_suits ring x.step) xs) h).0
-suits-at ring (x ∷ xs) h (suc m) s at = suits-at ring xs (both_true (step_suits ring x.step) (list_all (λ (x : Planned). step_suits ring x.step) xs) h).1 m s at
+    rw (← e) (and_parts (step_suits ring x.step) (list_all (λ (x : Planned). step_suits ring x.step) xs) h).0
+suits-at ring (x ∷ xs) h (suc m) s at = suits-at ring xs (and_parts (step_suits ring x.step) (list_all (λ (x : Planned). step_suits ring x.step) xs) h).1 m s at
 
 index-within : (ring : RingValue) (slot : Slot) → is_ring_slot ring slot ≡ true → slot.index < ring.n
-index-within ring slot h = ltb-true slot.index ring.n (both_true (nat_lt slot.partition ring.q) (nat_lt slot.index ring.n) h).1
+index-within ring slot h = ltb-true slot.index ring.n (and_parts (nat_lt slot.partition ring.q) (nat_lt slot.index ring.n) h).1
 
 on-itself : (p : ℕ) (slot : Slot) → (slot.partition == p) ≡ true → is_slot (record { partition = p; index = slot.index }) slot ≡ true
 on-itself p slot h = (let e : slot.partition ≡ p = eqb-true slot.partition p h in rw (← e) (slot-same slot))
@@ -101,10 +100,10 @@ holder-retires ring plan slot x numbers h some = elim (held-by ring plan slot x 
 concerned-at : (ring : RingValue) (plan : List Planned) (p : ℕ) (numbers : List ℕ) → Suits ring plan → IsGathered ring plan p numbers → (n : ℕ) (s : Step) → step_at plan n ≡ Some s → is_concerned ring plan p s ≡ true → has n numbers ≡ true
 concerned-at ring plan p numbers suits g n (Join x) at h = absurd cc
 concerned-at ring plan p numbers suits g n (Mirror slot x) at h =
-    let b = both_true (is_ring_slot ring slot) (is_declared ring x) (suits-at ring plan suits.steps n (Mirror slot x) at) in
+    let b = and_parts (is_ring_slot ring slot) (is_declared ring x) (suits-at ring plan suits.steps n (Mirror slot x) at) in
     ((g.slots slot.index (index-within ring slot b.0)).steps n (has-step plan (record { partition = p; index = slot.index }) n (Mirror slot x) at (on-itself p slot h))).here
 concerned-at ring plan p numbers suits g n (Copy slot from) at h =
-    let b = both_true (is_ring_slot ring slot) (source_suits ring from) (suits-at ring plan suits.steps n (Copy slot from) at) in
+    let b = and_parts (is_ring_slot ring slot) (source_suits ring from) (suits-at ring plan suits.steps n (Copy slot from) at) in
     ((g.slots slot.index (index-within ring slot b.0)).steps n (has-step plan (record { partition = p; index = slot.index }) n (Copy slot from) at (on-itself p slot h))).here
 concerned-at ring plan p numbers suits g n (Switch slot) at h = absurd cc
 concerned-at ring plan p numbers suits g n (Drop slot x) at h = absurd cc

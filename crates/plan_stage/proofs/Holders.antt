@@ -1,12 +1,11 @@
 -- Which nodes hold some slot, by its first owner and its mirrors.
 use Rattle.std.proofs.Common.{◌≡◌, ◌⊎◌, inl, inr, ℕ, suc, zero, ◌+◌, ◌<◌, Bool, true, false, not, cond, List, [], ◌∷◌, ◌++◌, refl, sym, ap, arith, Option, Some, None}
 use Rattle.std.specs.Prelude.{◌&&◌, ◌==◌}
-use Rattle.std.proofs.lemmas.Bool.{eqb-true}
+use Rattle.std.proofs.lemmas.Bool.{eqb-true, and_parts}
 use Rattle.ring_names.specs.Lists.{has}
 use Rattle.ring_names.specs.declared.ids.NodeId.{NodeId}
 use Rattle.ring_names.specs.declared.ids.Slot.{Slot}
 use Rattle.ring_table.specs.Value.{RingValue}
-use Rattle.ring_text.proofs.Fronts.{both_true}
 use Rattle.plan_text.specs.declared.step.Step.{Step}
 use Rattle.plan_text.specs.declared.step.Step.TheVariants.{Join, Mirror, Copy, Switch, Drop, Retire}
 use Rattle.plan_text.specs.declared.step.Planned.{Planned}
@@ -28,7 +27,7 @@ told false = inr refl
 
 pub mirror-on : (slot : Slot) (x : NodeId) (s : Step) → is_mirror_of slot x s ≡ true → is_on slot s ≡ true
 mirror-on slot x (Join y) h = absurd cc
-mirror-on slot x (Mirror t y) h = (both_true (is_slot slot t) (is_node x y) h).0
+mirror-on slot x (Mirror t y) h = (and_parts (is_slot slot t) (is_node x y) h).0
 mirror-on slot x (Copy t from) h = absurd cc
 mirror-on slot x (Switch t) h = absurd cc
 mirror-on slot x (Drop t y) h = absurd cc
@@ -36,7 +35,7 @@ mirror-on slot x (Retire y) h = absurd cc
 
 pub mirror-node : (slot : Slot) (x : NodeId) (s : Step) → is_mirror_of slot x s ≡ true → mirrored_node s ≡ Some x
 mirror-node slot x (Join y) h = absurd cc
-mirror-node slot x (Mirror t y) h = ap Some (sym (node-is x y (both_true (is_slot slot t) (is_node x y) h).1))
+mirror-node slot x (Mirror t y) h = ap Some (sym (node-is x y (and_parts (is_slot slot t) (is_node x y) h).1))
 mirror-node slot x (Copy t from) h = absurd cc
 mirror-node slot x (Switch t) h = absurd cc
 mirror-node slot x (Drop t y) h = absurd cc

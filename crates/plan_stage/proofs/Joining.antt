@@ -1,7 +1,7 @@
 -- The one step that joins a node.
 use Rattle.std.proofs.Common.{◌≡◌, ℕ, ◌+◌, Bool, true, false, cond, List, [], ◌∷◌, ◌++◌, Option, Some, None, refl, sym, ◌∙◌}
 use Rattle.std.specs.Prelude.{not, ◌&&◌, ◌||◌}
-use Rattle.std.proofs.lemmas.Bool.{eqb-true}
+use Rattle.std.proofs.lemmas.Bool.{eqb-true, and_parts}
 use Rattle.ring_names.specs.Lists.{has, all_different}
 use Rattle.plan_text.specs.declared.step.Step.{Step}
 use Rattle.plan_text.specs.declared.step.Step.TheVariants.{Join, Mirror, Copy, Switch, Drop, Retire}
@@ -10,7 +10,6 @@ use Rattle.plan_text.specs.Steps.{joins, joined, is_join_of, first_step, join_of
 use Rattle.plan_stage.specs.Each.{some_step}
 use Rattle.plan_stage.specs.Partition.{Test}
 use Rattle.plan_stage.proofs.Truth.{not_is}
-use Rattle.ring_text.proofs.Fronts.{both_true}
 
 -- the first step that joins the node, if there is one, comes before step t
 abbrev pub comes_before : Test → Option ℕ → ℕ → Bool
@@ -27,7 +26,7 @@ in_front x (Drop t y) rest = refl
 in_front x (Retire y) rest = refl
 
 behind : (s : Step) (rest : List ℕ) → all_different (joins s ++ rest) ≡ true → all_different rest ≡ true
-behind (Join y) rest h = (both_true (not (has y.0 rest)) (all_different rest) h).1
+behind (Join y) rest h = (and_parts (not (has y.0 rest)) (all_different rest) h).1
 behind (Mirror t y) rest h = h
 behind (Copy t from) rest h = h
 behind (Switch t) rest h = h
@@ -37,7 +36,7 @@ behind (Retire y) rest h = h
 once : (x : ℕ) (s : Step) (rest : List ℕ) → all_different (joins s ++ rest) ≡ true → is_join_of x s ≡ true → has x rest ≡ false
 once x (Join y) rest h is =
     let e : x ≡ y.0 = eqb-true x y.0 is in
-    rw e (not_is (has y.0 rest) (both_true (not (has y.0 rest)) (all_different rest) h).0)
+    rw e (not_is (has y.0 rest) (and_parts (not (has y.0 rest)) (all_different rest) h).0)
 once x (Mirror t y) rest h is = absurd cc
 once x (Copy t from) rest h is = absurd cc
 once x (Switch t) rest h is = absurd cc

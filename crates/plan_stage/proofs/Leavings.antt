@@ -1,7 +1,7 @@
 -- In a slot whose steps fit, a node leaves at a switch, and which one is known from the switches alone.
 use Rattle.std.proofs.Common.{◌≡◌, ◌∙◌, ℕ, Bool, true, false, not, cond, List, [], ◌∷◌, Option, Some, None, refl, sym, ap, subst}
 use Rattle.std.specs.Prelude.{◌==◌, ◌&&◌, slice_get, option_map, unwrap_or, is_some}
-use Rattle.ring_text.proofs.Fronts.{both_true}
+use Rattle.std.proofs.lemmas.Bool.{and_parts}
 use Rattle.ring_names.specs.declared.ids.NodeId.{NodeId}
 use Rattle.ring_names.specs.declared.ids.Slot.{Slot}
 use Rattle.plan_text.specs.declared.step.Step.{Step}
@@ -27,8 +27,8 @@ some_is x y e = cc
 pub apart-next : (a : Stage) (t : Step) → fits a t ≡ true → IsApart a → IsApart (next a t)
 apart-next a (Join y) h g = absurd cc
 apart-next a (Mirror slot y) h g = λ m e. (
-    let f = both_true (not (is_some a.mirror) && not (y.0 == a.owner.0)) (not (is_among y a.leftovers)) h in
-    let o = both_true (not (is_some a.mirror)) (not (y.0 == a.owner.0)) f.0 in
+    let f = and_parts (not (is_some a.mirror) && not (y.0 == a.owner.0)) (not (is_among y a.leftovers)) h in
+    let o = and_parts (not (is_some a.mirror)) (not (y.0 == a.owner.0)) f.0 in
     subst (λ (z : NodeId). is_node z a.owner ≡ false) (some_is y m e) (not_is (y.0 == a.owner.0) o.1))
 apart-next a (Copy slot from) h g = g
 apart-next a (Switch slot) h g = λ m e. absurd cc
@@ -74,7 +74,7 @@ owner-step plan slot a b bs (Join y) on h g more = absurd cc
 owner-step plan slot a b bs (Mirror s y) on h g more = rw (stays (is_node a.owner a.owner)) (more refl)
 owner-step plan slot a b bs (Copy s from) on h g more = rw (stays (is_node a.owner a.owner)) (more refl)
 owner-step plan slot a b bs (Switch s) on h g more =
-    let f = both_true (is_some a.mirror) a.copied h in
+    let f = and_parts (is_some a.mirror) a.copied h in
     rw (both (is_node a.owner a.owner) (is_node a.owner (unwrap_or a.mirror a.owner)) (node-same a.owner) (to_another a a.mirror f.0 g), on) refl
 owner-step plan slot a b bs (Drop s y) on h g more = rw (stays (is_node a.owner a.owner)) (more refl)
 owner-step plan slot a b bs (Retire y) on h g more = absurd cc
@@ -98,8 +98,8 @@ mirror-step : (plan : List Planned) (slot : Slot) (x : NodeId) (a : Stage) (bs :
     → leaving plan x (next a t) bs ≡ cond (is_switch_of slot t) (next_switch plan slot bs) (second_switch plan slot bs)
 mirror-step plan slot x a bs (Join y) on h m second first = absurd cc
 mirror-step plan slot x a bs (Mirror s y) on h m second first =
-    let f = both_true (not (is_some a.mirror) && not (y.0 == a.owner.0)) (not (is_among y a.leftovers)) h in
-    let o = both_true (not (is_some a.mirror)) (not (y.0 == a.owner.0)) f.0 in
+    let f = and_parts (not (is_some a.mirror) && not (y.0 == a.owner.0)) (not (is_among y a.leftovers)) h in
+    let o = and_parts (not (is_some a.mirror)) (not (y.0 == a.owner.0)) f.0 in
     absurd (let n = o.0 in let k : is_some a.mirror ≡ true = rw m refl in cc)
 mirror-step plan slot x a bs (Copy s from) on h m second first = second m
 mirror-step plan slot x a bs (Switch s) on h m second first = rw on (first (rw m refl))

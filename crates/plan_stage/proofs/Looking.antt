@@ -2,12 +2,11 @@
 use Rattle.std.proofs.Common.{◌≡◌, ◌⊎◌, inl, inr, ◌∙◌, ℕ, suc, ◌+◌, ◌<◌, ◌≤◌, ◌≢◌, Bool, true, false, not, List, [], ◌∷◌, ◌++◌, length, refl, sym, ap, arith, Option, Some, None}
 use Rattle.std.specs.Prelude.{◌||◌, ◌&&◌, ◌==◌, nat_lt}
 use Rattle.std.specs.List.{list_all}
-use Rattle.std.proofs.lemmas.Bool.{eqb-true, ltb-true}
+use Rattle.std.proofs.lemmas.Bool.{eqb-true, ltb-true, and_parts}
 use Rattle.ring_names.specs.Lists.{has}
 use Rattle.ring_names.specs.declared.ids.NodeId.{NodeId}
 use Rattle.ring_names.specs.declared.ids.Slot.{Slot}
 use Rattle.ring_names.specs.declared.refusal.Refusal.{Refusal}
-use Rattle.ring_text.proofs.Fronts.{both_true}
 use Rattle.ring_table.specs.Value.{RingValue}
 use Rattle.plan_text.specs.declared.step.Step.{Step}
 use Rattle.plan_text.specs.declared.step.Step.TheVariants.{Join, Mirror, Copy, Switch, Drop, Retire}
@@ -36,7 +35,7 @@ front-same (c ∷ cs) ds es e = rw (front-same cs ds es e) refl
 pub ascends-below : (n : ℕ) (ns : List ℕ) → ascending (n ∷ ns) ≡ true → (j : ℕ) → has j ns ≡ true → n < j
 ascends-below n [] h j is = absurd cc
 ascends-below n (m ∷ ms) h j is =
-    let b = both_true (nat_lt n m) (ascending (m ∷ ms)) h in
+    let b = and_parts (nat_lt n m) (ascending (m ∷ ms)) h in
     let l : n < m = ltb-true n m b.0 in
     elim (either (j == m) (has j ms) is) [
       | inl here ↦ (let e : j ≡ m = eqb-true j m here in rw e l)

@@ -2,10 +2,9 @@
 use Rattle.std.proofs.Common.{◌≡◌, ℕ, ◌+◌, ◌<◌, ◌≤◌, Bool, true, false, not, cond, List, [], ◌∷◌, ◌++◌, Some, None, refl, arith}
 use Rattle.std.specs.Prelude.{◌&&◌, ◌||◌, nat_lt}
 use Rattle.std.specs.List.{list_all, take_while}
-use Rattle.std.proofs.lemmas.Bool.{lt-ltb, ltb-true}
+use Rattle.std.proofs.lemmas.Bool.{lt-ltb, ltb-true, and_parts}
 use Rattle.std.proofs.lemmas.Bool.Decides.{nat_tests}
 use Rattle.std.proofs.lemmas.List.Sums.{take_while-cons}
-use Rattle.ring_text.proofs.Fronts.{both_true}
 use Rattle.ring_names.specs.declared.ids.NodeId.{NodeId}
 use Rattle.ring_names.specs.declared.ids.Slot.{Slot}
 use Rattle.ring_table.specs.Value.{RingValue}
@@ -29,7 +28,7 @@ InFront p (h ∷ hs) = (p h ≡ false → list_all (λ k. not (p k)) hs ≡ true
 
 none-asked : (p q : Holding → Bool) (hs : List Holding) → list_all (λ k. not (p k)) hs ≡ true → list_all (λ k. not (p k) || q k) hs ≡ true
 none-asked p q [] none = refl
-none-asked p q (h ∷ hs) none = (let b = both_true (not (p h)) (list_all (λ k. not (p k)) hs) none in rw (b.0, none-asked p q hs b.1) refl)
+none-asked p q (h ∷ hs) none = (let b = and_parts (not (p h)) (list_all (λ k. not (p k)) hs) none in rw (b.0, none-asked p q hs b.1) refl)
 
 -- it is enough to ask those in front of the first that fails
 pub all-until : (p q : Holding → Bool) (hs : List Holding) → InFront p hs → list_all q (take_while p hs) ≡ list_all (λ k. not (p k) || q k) hs
@@ -53,7 +52,7 @@ ascends-from k (x ∷ xs) slot j l = by (is_on slot x.step) (ascends-from (k + 1
 
 pub ascends-later : (j : ℕ) (ns : List ℕ) → ascending (j ∷ ns) ≡ true → ascending ns ≡ true
 ascends-later j [] h = refl
-ascends-later j (n ∷ ns) h = (both_true (nat_lt j n) (ascending (n ∷ ns)) h).1
+ascends-later j (n ∷ ns) h = (and_parts (nat_lt j n) (ascending (n ∷ ns)) h).1
 
 steps-ascend : (plan : List Planned) (slot : Slot) → ascending (steps_of plan slot) ≡ true
 steps-ascend [] slot = refl
@@ -78,7 +77,7 @@ not_early b t h = grind (arith, nat_tests)
 none-before : (plan : List Planned) (slot : Slot) (x : NodeId) (t : ℕ) (a : Stage) (b : ℕ) (bs : List ℕ) → t ≤ b → ascending (b ∷ bs) ≡ true → list_all (λ k. not (begins_before t k)) (holdings_from plan slot x a bs) ≡ true
 none-before plan slot x t a b [] l up = refl
 none-before plan slot x t a b (c ∷ cs) l up =
-    let p = both_true (nat_lt b c) (ascending (c ∷ cs)) up in
+    let p = and_parts (nat_lt b c) (ascending (c ∷ cs)) up in
     let more : b < c = ltb-true b c p.0 in
     let far : t ≤ c = omega arith in
     by (elim (step_at plan c) [ Some s ↦ is_mirror_of slot x s | None ↦ false ]) (late c t far) (none-before plan slot x t (after plan a c) c cs far p.1)

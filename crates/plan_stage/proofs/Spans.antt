@@ -2,7 +2,7 @@
 use Rattle.std.proofs.Common.{◌≡◌, ◌∙◌, ℕ, ◌+◌, ◌-◌, ◌<◌, ◌≤◌, Bool, true, false, cond, List, [], ◌∷◌, ◌++◌, length, get_or, drop, Option, Some, None, refl, sym, ap, subst, arith}
 use Rattle.std.specs.Prelude.{◌==◌, slice_get, option_map, reverse, unwrap_or}
 use Rattle.std.proofs.lemmas.List.{reverse-append, drop_more}
-use Rattle.ring_text.proofs.Fronts.{both_true}
+use Rattle.std.proofs.lemmas.Bool.{and_parts}
 use Rattle.ring_names.specs.declared.ids.NodeId.{NodeId}
 use Rattle.ring_names.specs.declared.ids.Slot.{Slot}
 use Rattle.ring_table.specs.Value.{RingValue, owner_of}
@@ -27,7 +27,7 @@ use Rattle.plan_stage.proofs.Truth.{node-is}
 
 mirrored : (slot : Slot) (x : NodeId) (a : Stage) (t : Step) → is_mirror_of slot x t ≡ true → (next a t).mirror ≡ Some x
 mirrored slot x a (Join y) e = absurd cc
-mirrored slot x a (Mirror s y) e = (let b = both_true (is_slot slot s) (is_node x y) e in ap (λ (z : NodeId). Some z) (sym (node-is x y b.1)))
+mirrored slot x a (Mirror s y) e = (let b = and_parts (is_slot slot s) (is_node x y) e in ap (λ (z : NodeId). Some z) (sym (node-is x y b.1)))
 mirrored slot x a (Copy s from) e = absurd cc
 mirrored slot x a (Switch s) e = absurd cc
 mirrored slot x a (Drop s y) e = absurd cc

@@ -2,7 +2,7 @@
 use Rattle.std.proofs.Common.{◌≡◌, ◌⊎◌, inl, inr, ℕ, suc, zero, ◌+◌, ◌<◌, Bool, true, false, not, cond, List, [], ◌∷◌, ◌++◌, refl, ap, ◌∙◌, arith, below_more, Option, Some, None}
 use Rattle.std.specs.Prelude.{◌&&◌, ◌||◌, ◌==◌}
 use Rattle.std.specs.List.{list_all}
-use Rattle.std.proofs.lemmas.Bool.{eqb-true, eq-eqb}
+use Rattle.std.proofs.lemmas.Bool.{eqb-true, eq-eqb, and_parts}
 use Rattle.ring_names.specs.Lists.{has}
 use Rattle.ring_names.specs.declared.ids.NodeId.{NodeId}
 use Rattle.ring_names.specs.declared.ids.Slot.{Slot}
@@ -15,7 +15,6 @@ use Rattle.plan_stage.specs.Occupancy.{is_node}
 use Rattle.plan_stage.proofs.Below.{met}
 use Rattle.plan_stage.specs.Each.{some_step, step_at, each_step, each_below}
 use Rattle.plan_stage.specs.Partition.{steps_clauses}
-use Rattle.ring_text.proofs.Fronts.{both_true}
 
 -- ---- truth values
 
@@ -107,9 +106,9 @@ each_step-met f n [] h m s at = absurd cc
 each_step-met f n (x ∷ xs) h zero s at =
     let e : x.step ≡ s = cc in
     let z : n + 0 ≡ n = omega arith in
-    rw (z, ← e) (both_true (f n x.step) (each_step f (n + 1) xs) h).0
+    rw (z, ← e) (and_parts (f n x.step) (each_step f (n + 1) xs) h).0
 each_step-met f n (x ∷ xs) h (suc m) s at =
-    rw (← later n m) (each_step-met f (n + 1) xs (both_true (f n x.step) (each_step f (n + 1) xs) h).1 m s at)
+    rw (← later n m) (each_step-met f (n + 1) xs (and_parts (f n x.step) (each_step f (n + 1) xs) h).1 m s at)
 
 pub each_step-all : (f : ℕ → Step → Bool) (n : ℕ) (plan : List Planned) → ((m : ℕ) (s : Step) → step_at plan m ≡ Some s → f (n + m) s ≡ true) → each_step f n plan ≡ true
 each_step-all f n [] all = refl
@@ -162,7 +161,7 @@ some-all f plan m s at h = some_step-all f 0 plan m s at (rw (from_zero m) h)
 pub each_below-met : (f : ℕ → Bool) (n : ℕ) → each_below n f ≡ true → (k : ℕ) → k < n → f k ≡ true
 each_below-met f zero h k l = absurd (omega arith)
 each_below-met f (suc n) h k l =
-    let s = both_true (each_below n f) (f n) h in
+    let s = and_parts (each_below n f) (f n) h in
     (let l : k < n + 1 = omega arith in below_more (λ (i : ℕ). f i ≡ true) n (each_below-met f n s.0) s.1 k l)
 
 pub each_below-all : (f : ℕ → Bool) (n : ℕ) → ((k : ℕ) → k < n → f k ≡ true) → each_below n f ≡ true
@@ -175,7 +174,7 @@ same a = eq-eqb a a refl
 pub list_all-met : (f : ℕ → Bool) (xs : List ℕ) → list_all f xs ≡ true → (j : ℕ) → has j xs ≡ true → f j ≡ true
 list_all-met f [] h j is = absurd cc
 list_all-met f (x ∷ xs) h j is =
-    let b = both_true (f x) (list_all f xs) h in
+    let b = and_parts (f x) (list_all f xs) h in
     elim (either (j == x) (has j xs) is) [ inl here ↦ (let e : j ≡ x = eqb-true j x here in rw e b.0) | inr there ↦ list_all-met f xs b.1 j there ]
 
 pub list_all-all : (f : ℕ → Bool) (xs : List ℕ) → ((j : ℕ) → has j xs ≡ true → f j ≡ true) → list_all f xs ≡ true
@@ -187,7 +186,7 @@ list_all-all f (x ∷ xs) all =
 
 pub slot-is : (s t : Slot) → is_slot s t ≡ true → s ≡ t
 slot-is s t h =
-    let b = both_true (s.partition == t.partition) (s.index == t.index) h in
+    let b = and_parts (s.partition == t.partition) (s.index == t.index) h in
     let p : s.partition ≡ t.partition = eqb-true s.partition t.partition b.0 in
     let i : s.index ≡ t.index = eqb-true s.index t.index b.1 in
     ap (λ (k : ℕ). record { partition = k; index = s.index }) p ∙ ap (λ (k : ℕ). record { partition = t.partition; index = k }) i

@@ -13,10 +13,6 @@ use Rattle.ring_text.specs.Laws.{IsItem, IsLine}
 use Rattle.ring_text.proofs.Items.{both_is, map_is, bind_ok, unless_is, unless_ok, Passes}
 use Rattle.ring_text.proofs.Decimals.{decimal-value, value-decimal}
 
-pub both_true : (a b : Bool) → (a && b) ≡ true → (a ≡ true) × (b ≡ true)
-both_true true b e = (refl, e)
-both_true false b e = absurd cc
-
 -- no number stands in front
 abbrev pub Free : List (List ℕ) → Type 0
 Free rest = (numbers_of rest ≡ []) × (beyond rest ≡ rest)

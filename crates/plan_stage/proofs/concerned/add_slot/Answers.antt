@@ -1,5 +1,5 @@
 use Rattle.std.proofs.Common.{◌≡◌, true, nat_lt, length, ◌∷◌, rules}
-use Rattle.ring_text.proofs.Fronts.{both_true}
+use Rattle.std.proofs.lemmas.Bool.{and_parts}
 use Rattle.ring_table.specs.Value.{owner_of}
 use Rattle.plan_text.specs.Steps.{steps_of}
 use Rattle.plan_stage.specs.Looking.Gathered.{are_steps}
@@ -22,7 +22,7 @@ steps-preserved c =
     let w : are_steps plan (c.in-Some.number.now ∷ c.in-Some.later.now) ≡ true = rw e at inv.within in
     let grows = c.in_ok-add_step.ensures.grows in
     record {
-      within = (both_true (nat_lt c.in-Some.number.now (length plan)) (are_steps plan c.in-Some.later.now) w).1;
+      within = (and_parts (nat_lt c.in-Some.number.now (length plan)) (are_steps plan c.in-Some.later.now) w).1;
       grows = grows-more plan c.args.numbers.now.keys c.steps.numbers.keys c.add_step.new.numbers.keys inv.grows grows;
       owner = λ x is. retirement-stays plan x c.steps.numbers.keys c.add_step.new.numbers.keys grows (inv.owner x is);
       taken = one-taken plan (steps_of plan c.args.slot) c.in-Some.later.now c.steps.numbers.keys c.add_step.new.numbers.keys c.in-Some.number.now (rw e at inv.taken) grows c.in_ok-add_step.ensures.step;
