@@ -1,9 +1,11 @@
 -- The node lines of a ring are read only if they are spelled so.
-use Rattle.std.proofs.Common.{◌≡◌, ℕ, ◌+◌, ◌<◌, ◌≤◌, true, not, nat_lt, List, [], ◌∷◌, ◌++◌, length, map, codes, Ok, refl, subst, arith, length-append}
+use Rattle.std.proofs.Common.{◌≡◌, ℕ, ◌+◌, ◌<◌, ◌≤◌, true, not, nat_lt, List, [], ◌∷◌, ◌++◌, length, map, codes, Ok, refl, subst, arith, length-append, Some}
 use Rattle.std.specs.List.{AllByRecursion}
 use Rattle.std.proofs.lemmas.Bool.{lt-ltb, ltb-true, not-false}
 use Rattle.std.proofs.lemmas.List.{map_push}
 use Rattle.ring_names.specs.Lists.{AllNew}
+use Rattle.ring_names.specs.Names.{place}
+use Rattle.ring_names.proofs.Places.{get-place}
 use Rattle.ring_names.specs.declared.refusal.Refusal.TheVariants.{BadLine}
 use Rattle.ring_text.specs.Name.{is_name}
 use Rattle.ring_text.specs.Judging.{unless}
@@ -16,7 +18,7 @@ use Rattle.ring_table.specs.Valid.{IsNode, IsNew}
 use Rattle.ring_table.specs.Spelling.{node_fields}
 use Rattle.ring_table.specs.Reading.{node_at, nodes_at}
 use Rattle.ring_table.proofs.LineLaws.{node-line-law}
-use Rattle.ring_table.proofs.RowLaws.{AreNames}
+use Rattle.ring_table.proofs.RowLaws.{AreNames, each_at}
 
 -- each node is new behind those in front of it
 abbrev pub AreNew : List Node → List Node → Type 0
@@ -88,3 +90,7 @@ each-name (x ∷ xs) a = (a.0.name, each-name xs a.1)
 -- the names of a ring's nodes can be told apart
 pub names-of_nodes : (xs : List Node) → AreNodes xs → AreNames (map (λ x. x.name) xs)
 names-of_nodes xs p = record { new = p.names; each = each-name xs p.each_node }
+
+-- what is found among the names of nodes is a name
+pub placed-name : (xs : List Node) (f : List ℕ) (n : ℕ) → AllByRecursion IsNode xs → place (map (λ x. x.name) xs) f ≡ Some n → is_name f ≡ true
+placed-name xs f n a e = each_at (λ x. is_name x ≡ true) (map (λ x. x.name) xs) n f (each-name xs a) (get-place (map (λ x. x.name) xs) n f e)

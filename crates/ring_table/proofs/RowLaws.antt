@@ -37,7 +37,7 @@ found_at [] i lt = absurd (omega arith)
 found_at (x ∷ xs) zero lt = (x, refl)
 found_at (x ∷ xs) (suc i) lt = found_at xs i (omega arith)
 
-each_at : (P : List ℕ → Type 0) (names : List (List ℕ)) (i : ℕ) (f : List ℕ) → AllByRecursion P names → slice_get names i ≡ Some f → P f
+pub each_at : (P : List ℕ → Type 0) (names : List (List ℕ)) (i : ℕ) (f : List ℕ) → AllByRecursion P names → slice_get names i ≡ Some f → P f
 each_at P [] i f a e = absurd cc
 each_at P (x ∷ xs) zero f a e = let same : x ≡ f = cc in subst P same a.0
 each_at P (x ∷ xs) (suc i) f a e = each_at P xs i f a.1 e

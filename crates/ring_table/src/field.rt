@@ -16,11 +16,11 @@ pub fn node_field(ring: &Ring, fields: &mut Fields) -> Result<NodeId, Refusal>
     let Some(name) = fields.next() else {
         return Err(Refusal::BadLine(line));
     };
-    if !is_name(name) {
-        return Err(Refusal::BadLine(line));
+    if let Some(node) = ring.number_of(name) {
+        return Ok(node);
     }
-    match ring.number_of(name) {
-        Some(node) => Ok(node),
-        None => Err(Refusal::UnknownNode(line)),
+    if is_name(name) {
+        return Err(Refusal::UnknownNode(line));
     }
+    Err(Refusal::BadLine(line))
 }

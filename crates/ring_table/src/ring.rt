@@ -1,7 +1,8 @@
 //! The ring as a value that is always valid.
 
-ghost use Rattle.std.specs.Prelude.{◌≡◌, ◌<◌, true, Some, length, slice_get, option_map};
+ghost use Rattle.std.specs.Prelude.{◌≡◌, ◌<◌, true, Some, IfSome, length, slice_get, option_map};
 ghost use Rattle.ring_names.specs.Names.{place};
+ghost use Rattle.ring_text.specs.Name.{is_name};
 
 use crate::declared::Declared;
 use crate::head::Head;
@@ -102,7 +103,9 @@ impl Ring {
 
     /// The node of that name, if it is declared. Takes no memory.
     pub fn number_of(&self, name: &[u8]) -> Option<NodeId>
-        ensures { option_map (λ x. x.0) result ≡ place (names_of self.now) name.now }
+        ensures value { option_map (λ x. x.0) result ≡ place (names_of self.now) name.now }
+        // Names of a ring are names.
+        ensures name { IfSome result (λ _. is_name name.now ≡ true) }
     {
         match self.names.number_of(name) {
             Some(number) => Some(NodeId(number)),

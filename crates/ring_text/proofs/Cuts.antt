@@ -73,3 +73,7 @@ unfolding Parts
 some_line bs =
     let s = shape (λ b. eqb b 10) bs in
     (fields_of s.0, map fields_of s.1, ap (λ (ps : List (List ℕ)). map fields_of ps) s.2)
+
+pub first_part : (p : ℕ → Bool) (bs : List ℕ) → (x : List ℕ) × (xs : List (List ℕ)) × (slice_split p bs ≡ x ∷ xs)
+unfolding Parts
+first_part p bs = shape p bs

@@ -12,3 +12,4 @@ pub mod Rows
 pub mod Lates
 pub mod FrameLaws
 pub mod Measured
+pub mod Firsts

@@ -1,7 +1,10 @@
 //! Cutting bytes at a separator.
 
-ghost use Rattle.std.specs.Prelude.{◌≡◌, ◌∷◌, [], ◌==◌, MatchOption};
+ghost use Rattle.std.specs.Prelude.{◌≡◌, ◌∷◌, [], ◌==◌, ◌||◌, List, ℕ, MatchOption};
 ghost use Rattle.std.specs.List.{slice_split};
+ghost use Rattle.std.specs.Str.{bytes_eq};
+ghost use Rattle.ring_text.specs.Parts.{lines_of};
+ghost use Rattle.ring_text.specs.Left.{begins_with};
 
 use memchr::memchr;
 
@@ -29,4 +32,23 @@ pub fn cut_near(bytes: &[u8], separator: u8) -> (&[u8], Option<&[u8]>)
         }
     }
     (bytes, None)
+}
+
+// Whether a field ends at the byte.
+fn is_end(byte: u8) -> bool
+    ensures { result ≡ ((byte == 32) || (byte == 10)) }
+{
+    byte == b' ' || byte == b'\n'
+}
+
+// The first field of the first line of a text.
+pub fn first_field(text: &[u8]) -> &[u8]
+    ensures { (word : List ℕ) → begins_with word (lines_of text.now) ≡ bytes_eq result.now word }
+{
+    for at in 0..text.len() {
+        if is_end(text[at]) {
+            return &text[..at];
+        }
+    }
+    text
 }

@@ -5,7 +5,7 @@ ghost use Rattle.ring_text.specs.Parts.{lines_of};
 ghost use Rattle.ring_text.specs.Late.{IsAt};
 ghost use Rattle.ring_text.specs.Left.{next_line, next_number, is_over, over_at, begins_with};
 
-use crate::cut::cut;
+use crate::cut::{cut, first_field};
 use crate::fields::Fields;
 use ring_names::Refusal;
 use std::marker::Model;
@@ -77,9 +77,7 @@ impl<'a> Lines<'a> {
     pub fn begins(&self, word: &[u8]) -> bool
         ensures { result ≡ begins_with word.now self.now.lines }
     {
-        let (line, _) = cut(self.rest, b'\n');
-        let (field, _) = cut(line, b' ');
-        field == word
+        first_field(self.rest) == word
     }
 
     /// Whether nothing is left.
