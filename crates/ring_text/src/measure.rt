@@ -1,6 +1,6 @@
 //! What is kept of numbers that are taken one behind the other.
 
-ghost use Rattle.std.specs.Prelude.{◌≡◌, ◌≤◌, ◌<◌, ◌+◌, ◌++◌, ◌∷◌, [], ℕ, List, true, take, IfSome};
+ghost use Rattle.std.specs.Prelude.{◌≡◌, ◌≤◌, ◌<◌, ◌+◌, ◌++◌, ◌∷◌, ◌&&◌, [], ℕ, List, nat_le, length, take, is_some, IfSome};
 ghost use Rattle.ring_text.specs.Number.{capped};
 ghost use Rattle.ring_text.specs.Numbers.{are_small};
 ghost use Rattle.ring_text.specs.KeptRow.{Measures};
@@ -56,11 +56,12 @@ impl Measure {
         self.bound = self.bound.max(value + 1);
     }
 
-    /// The numbers, where they are at most 8.
+    /// The numbers, where they are at most 8 and each is a `u32`.
     pub(crate) fn kept(&self) -> Option<&[u32]>
-        ensures { IfSome result (λ s. (xs : List ℕ) → Measures xs self.now → are_small xs ≡ true → s.now ≡ xs) }
+        ensures some { (xs : List ℕ) → Measures xs self.now → is_some result ≡ (nat_le (length xs) 8 && are_small xs) }
+        ensures same { IfSome result (λ s. (xs : List ℕ) → Measures xs self.now → s.now ≡ xs) }
     {
-        if self.count <= 8 {
+        if self.count <= 8 && self.bound <= CAP {
             return Some(&self.first[..self.count as usize]);
         }
         None

@@ -1,6 +1,6 @@
 //! Numbers in a row.
 
-ghost use Rattle.std.specs.Prelude.{◌≡◌, ◌∷◌, ◌≤◌, ◌==◌, ◌++◌, [], true, nat_lt, nat_le, length, ⊤, MatchOption, IfSome, OnOk, IfOk, IfErr};
+ghost use Rattle.std.specs.Prelude.{◌≡◌, ◌∷◌, ◌≤◌, ◌==◌, ◌++◌, ◌&&◌, [], true, nat_lt, nat_le, length, ⊤, MatchOption, is_some, IfSome, OnOk, IfOk, IfErr};
 ghost use Rattle.std.specs.List.{list_all};
 ghost use Rattle.ring_names.specs.declared.refusal.Refusal.TheVariants.{OutOfMemory};
 ghost use Rattle.ring_text.specs.Number.{value_from, is_number, capped};
@@ -146,7 +146,8 @@ impl<'a> NumberRow<'a> {
 
     /// The numbers, where they are at most 8 and each is a `u32`.
     pub fn kept(&self) -> Option<&[u32]>
-        ensures { IfSome result (λ kept. are_small self.now ≡ true → kept.now ≡ self.now) }
+        ensures some { is_some result ≡ (nat_le (length self.now) 8 && are_small self.now) }
+        ensures same { IfSome result (λ kept. kept.now ≡ self.now) }
     {
         self.measure.kept()
     }
