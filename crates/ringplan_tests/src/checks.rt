@@ -1,5 +1,7 @@
 //! The checker's parts on two moves, one after the other.
 
+ghost use Rattle.plan_text.specs.Valid.{Suits};
+
 use crate::texts::{RING, two_moves};
 use plan_cert::{Cert, read_cert};
 use plan_check::check;
@@ -53,7 +55,9 @@ fn facts_by_paths(rt: HostRuntime) -> Result<(), Fail> {
 // ---- partitions
 
 // What the check of a partition says, by the facts of a certificate.
-fn partition(alloc: Global, ring: &Ring, plan: &Plan, cert: &[u8]) -> Result<(), Refusal> {
+fn partition(alloc: Global, ring: &Ring, plan: &Plan, cert: &[u8]) -> Result<(), Refusal>
+    requires { Suits ring.now plan.now }
+{
     let cert = read_cert(alloc, ring, cert)?;
     let facts = Facts::verify(alloc, plan, cert.facts.as_slice())?;
     if ring.q() == 0 {
@@ -63,14 +67,18 @@ fn partition(alloc: Global, ring: &Ring, plan: &Plan, cert: &[u8]) -> Result<(),
 }
 
 // The copy from slot 1 needs the path from the switch of that slot.
-fn listed_copy<RT: AllocGlobal + Abort>(rt: &RT, ring: &Ring, plan: &Plan) {
+fn listed_copy<RT: AllocGlobal + Abort>(rt: &RT, ring: &Ring, plan: &Plan)
+    requires { Suits ring.now plan.now }
+{
     let with = partition(rt.alloc(), ring, plan, b"cert 1\nfact 3 4 5\nend\n");
     assert_eq!(rt; with, Ok(()));
     let without = partition(rt.alloc(), ring, plan, b"cert 1\nend\n");
     assert_eq!(rt; without, Err(Refusal::MovingSource(5)));
 }
 
-fn parties_of<RT: AllocGlobal + Abort>(rt: &RT, ring: &Ring, plan: &Plan) -> Result<(), Fail> {
+fn parties_of<RT: AllocGlobal + Abort>(rt: &RT, ring: &Ring, plan: &Plan) -> Result<(), Fail>
+    requires { Suits ring.now plan.now }
+{
     let first = parties(rt.alloc(), ring, plan, 2)?;
     assert_eq!(rt; first.as_slice(), [NodeId(1), NodeId(3)].as_slice());
     let second = parties(rt.alloc(), ring, plan, 5)?;
@@ -114,7 +122,9 @@ fn partitions_and_their_parts(rt: HostRuntime) -> Result<(), Fail> {
 // ---- nodes
 
 // What the check of node b says, and that of all nodes.
-fn nodes(alloc: Global, ring: &Ring, plan: &Plan, cert: &[u8]) -> Result<(), Refusal> {
+fn nodes(alloc: Global, ring: &Ring, plan: &Plan, cert: &[u8]) -> Result<(), Refusal>
+    requires { Suits ring.now plan.now }
+{
     let cert = read_cert(alloc, ring, cert)?;
     let facts = Facts::verify(alloc, plan, cert.facts.as_slice())?;
     if ring.nodes().len() <= 1 {

@@ -1,17 +1,25 @@
 //! Names, lists by key, rows and places.
 
-use ring_names::{Lists, Names, NodeId, Rows, Value};
+use ring_names::{Lists, Names, NodeId, Refusal, Rows, Value};
 use ring_space::{Place, place};
 use std::process::Abort;
 use std::test::Fail;
 
+// One name more, where there are few.
+fn add_name(names: &mut Names, name: &[u8]) -> Result<u32, Refusal> {
+    if names.len() >= 100 {
+        return Err(Refusal::OutOfMemory);
+    }
+    names.add(name)
+}
+
 // Names in order of first sight.
 fn add_names<RT: Abort>(rt: &RT, names: &mut Names) -> Result<(), Fail> {
-    let first = names.add(b"b")?;
+    let first = add_name(names, b"b")?;
     assert_eq!(rt; first, 0);
-    let second = names.add(b"a")?;
+    let second = add_name(names, b"a")?;
     assert_eq!(rt; second, 1);
-    let again = names.add(b"b")?;
+    let again = add_name(names, b"b")?;
     assert_eq!(rt; again, 0);
     Ok(())
 }

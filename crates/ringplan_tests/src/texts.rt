@@ -1,5 +1,8 @@
 //! Texts that are written as they were read, and the limits of texts.
 
+ghost use Rattle.std.specs.Prelude.{IfOk};
+ghost use Rattle.plan_text.specs.Valid.{Suits};
+
 use plan_cert::{Cert, Chain, read_cert, write_cert};
 use plan_text::{Plan, read_plan, write_plan};
 use ring_names::{Listed, NodeId, Refusal};
@@ -188,6 +191,8 @@ fn a_strange_chain(rt: HostRuntime) -> Result<(), Fail> {
 }
 
 // The ring and the plan of the two moves.
-pub fn two_moves(alloc: Global, ring: &Ring) -> Result<Plan, Refusal> {
+pub fn two_moves(alloc: Global, ring: &Ring) -> Result<Plan, Refusal>
+    ensures { IfOk result (λ plan. Suits ring.now plan) }
+{
     read_plan(alloc, ring, TWO_MOVES)
 }
