@@ -7,17 +7,14 @@ ghost use Rattle.plan_text.specs.Reading.{judge_below, slot_at, slot_node_at, jo
 use crate::plan::Plan;
 use ring_names::{NodeId, Refusal, Slot};
 use ring_table::{Ring, node_field};
-use ring_text::{Fields, both, value_of};
+use ring_text::{Fields, both};
 
 // A number below a limit.
 fn below(limit: u32, fields: &mut Fields) -> Result<u32, Refusal>
     ensures { Does (λ k. field_at k (judge_below k limit)) fields.old result fields.new }
 {
     let line = fields.line();
-    let Some(field) = fields.next() else {
-        return Err(Refusal::BadLine(line));
-    };
-    match value_of(field) {
+    match fields.value() {
         None => Err(Refusal::BadLine(line)),
         Some(value) if value < u64::from(limit) => Ok(value as u32),
         Some(_) => Err(Refusal::TooLarge(line)),

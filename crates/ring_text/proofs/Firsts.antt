@@ -60,7 +60,7 @@ begins word bs field h = rw (h.3, h.4) refl
 pub begins_at : (word bs : List ℕ) (i : ℕ) → i ≤ length bs → ((k : ℕ) → k < i → (eqb (get_or bs k 0) 32 || eqb (get_or bs k 0) 10) ≡ false) → (i < length bs → (eqb (get_or bs i 0) 32 || eqb (get_or bs i 0) 10) ≡ true) → begins_with word (lines_of bs) ≡ bytes_eq (take i bs) word
 begins_at word bs i l before at = begins word bs (take i bs) (first_at bs i l before at)
 
-take_whole : (bs : List ℕ) → take (length bs) bs ≡ bs
+pub take_whole : (bs : List ℕ) → take (length bs) bs ≡ bs
 take_whole [] = refl
 take_whole (b ∷ bs) = ap (λ (cs : List ℕ). b ∷ cs) (take_whole bs)
 

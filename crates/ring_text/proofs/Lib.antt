@@ -13,3 +13,4 @@ pub mod Lates
 pub mod FrameLaws
 pub mod Measured
 pub mod Firsts
+pub mod InFront

@@ -24,7 +24,7 @@ digits-push (d ∷ ds) c = ap (λ b. is_ascii_digit d && b) (digits-push ds c) �
 pub capped-step : (a d : ℕ) → min (10 * min a 4294967296 + d) 4294967296 ≡ min (10 * a + d) 4294967296
 capped-step a d = omega arith
 
-and-false : (a : Bool) → (a && false) ≡ false
+pub and-false : (a : Bool) → (a && false) ≡ false
 and-false true = refl
 and-false false = refl
 

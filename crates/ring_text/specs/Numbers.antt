@@ -1,7 +1,12 @@
 -- Numbers in a row.
-use Rattle.std.specs.Prelude.{ℕ, Bool, true, ◌&&◌, nat_lt, List, [], ◌∷◌, if◌then◌else◌}
+use Rattle.std.specs.Prelude.{ℕ, Bool, true, ◌&&◌, nat_lt, List, [], ◌∷◌, Option, None, if◌then◌else◌}
 use Rattle.std.specs.List.{list_all}
-use Rattle.ring_text.specs.Number.{value_from, is_number}
+use Rattle.ring_text.specs.Number.{value_from, is_number, decimal_value}
+
+-- the number that the first field spells
+abbrev pub first_value : List (List ℕ) → Option ℕ
+first_value [] = None
+first_value (field ∷ fields) = decimal_value field
 
 -- what the fields in front spell, up to the first that is no number
 abbrev pub numbers_of : List (List ℕ) → List ℕ

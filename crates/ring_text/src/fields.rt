@@ -1,12 +1,12 @@
 //! The fields of a line, one after the other.
 
-ghost use Rattle.std.specs.Prelude.{◌≡◌, ◌∷◌, [], MatchOption};
+ghost use Rattle.std.specs.Prelude.{◌≡◌, ◌∷◌, [], drop, option_map, MatchOption};
 ghost use Rattle.ring_text.specs.Parts.{fields_of};
 ghost use Rattle.ring_text.specs.Judging.{Does, word_at, number_at, end_at};
-ghost use Rattle.ring_text.specs.Numbers.{numbers_of, beyond};
+ghost use Rattle.ring_text.specs.Number.{capped};
+ghost use Rattle.ring_text.specs.Numbers.{numbers_of, beyond, first_value};
 
 use crate::cursor::Cursor;
-use crate::number::value_of;
 use crate::number_row::NumberRow;
 use ring_names::Refusal;
 use std::marker::Model;
@@ -62,14 +62,24 @@ impl<'a> Fields<'a> {
         }
     }
 
+    /// Takes the next field, if there is one, and tells the number that it spells: decimal, without sign and without leading zeros, of any
+    /// length, and at most `CAP`.
+    pub fn value(&mut self) -> Option<u64>
+        ensures value { result ≡ option_map capped (first_value self.old.fields) }
+        ensures rest { self.new ≡ record { number = self.old.number; fields = drop 1 self.old.fields } }
+    {
+        if let Some((_, value)) = self.rest.next_number() {
+            return Some(value);
+        }
+        let _ = self.rest.next();
+        None
+    }
+
     /// Takes a field that must be a number. Another field is `BadLine`, a number above the limit `TooLarge`.
     pub fn number(&mut self, limit: u32) -> Result<u32, Refusal>
         ensures { Does (λ k. number_at k limit) self.old result self.new }
     {
-        let Some(field) = self.next() else {
-            return Err(Refusal::BadLine(self.line));
-        };
-        match value_of(field) {
+        match self.value() {
             None => Err(Refusal::BadLine(self.line)),
             Some(value) if value > u64::from(limit) => Err(Refusal::TooLarge(self.line)),
             Some(value) => Ok(value as u32),

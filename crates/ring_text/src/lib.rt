@@ -20,6 +20,6 @@ pub use frame::{end, header};
 pub use judge::{both, finish, need};
 pub use lines::Lines;
 pub use name::{are_name_bytes, is_name};
-pub use number::{CAP, value_of};
+pub use number::CAP;
 pub use number_row::NumberRow;
 pub use writing::push_numbers;

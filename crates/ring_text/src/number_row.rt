@@ -9,7 +9,7 @@ ghost use Rattle.ring_text.specs.Numbers.{numbers_of, beyond, ascending, are_sma
 use crate::compare::is_less;
 use crate::cursor::Cursor;
 use crate::measure::Measure;
-use crate::number::{CAP, value_of};
+use crate::number::{CAP, number_in_front};
 use ring_names::Refusal;
 use std::alloc::Global;
 use std::marker::Model;
@@ -43,16 +43,21 @@ impl<'a> Cursor<'a> {
     }
 
     // Takes the next part if it is a number, and tells its value, at most `CAP`.
-    fn next_number(&mut self) -> Option<(&'a [u8], u64)>
+    #[tactic(auto, using(crate::proofs::InFront::none_beyond))]
+    pub(crate) fn next_number(&mut self) -> Option<(&'a [u8], u64)>
         ensures number { MatchOption result (numbers_of self.old ≡ []) (λ n. (is_number n.0.now ≡ true) × (numbers_of self.old ≡ value_from 0 n.0.now ∷ numbers_of self.new)) }
-        ensures value { MatchOption result ⊤ (λ n. n.1 ≡ capped (value_from 0 n.0.now)) }
-        ensures rest { MatchOption result ((beyond self.old ≡ self.old) × (self.new ≡ self.old)) (λ n. beyond self.old ≡ beyond self.new) }
+        ensures value { IfSome result (λ n. n.1 ≡ capped (value_from 0 n.0.now)) }
+        ensures field { MatchOption result (self.new ≡ self.old) (λ n. self.old ≡ n.0.now ∷ self.new) }
+        ensures rest { MatchOption result (beyond self.old ≡ self.old) (λ n. beyond self.old ≡ beyond self.new) }
     {
-        let mut rest = self.again();
-        let field = rest.next()?;
-        let value = value_of(field)?;
-        self.rest = rest.rest;
-        Some((field, value))
+        let rest = self.rest?;
+        match number_in_front(rest) {
+            None => None,
+            Some(front) => {
+                self.rest = front.rest;
+                Some((front.digits, front.value))
+            }
+        }
     }
 
     /// Takes the numbers that stand in front.
