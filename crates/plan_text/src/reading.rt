@@ -18,7 +18,7 @@ use crate::plan::Plan;
 use crate::said::{Said, to_step};
 use ring_names::Refusal;
 use ring_table::Ring;
-use ring_text::{Fields, Lines, NumberRow, both, end, finish, header, need};
+use ring_text::{Fields, Lines, NumberRow, end, finish_both, header, need};
 use std::alloc::Global;
 
 // What a step's line says, behind the steps of the plan. Takes no memory.
@@ -38,8 +38,8 @@ fn step_line<'a>(
     let room = need(plan.len() < 131072, &fields);
     let said = kind(ring, plan, &mut fields);
     let after = after(plan, &mut fields);
-    match finish(both(both(room, said), after), fields) {
-        Ok(((_, said), after)) => Ok((said, after)),
+    match finish_both(room, said, after, fields) {
+        Ok((said, after)) => Ok((said, after)),
         Err(e) => Err(e),
     }
 }

@@ -14,3 +14,4 @@ pub mod FrameLaws
 pub mod Measured
 pub mod Firsts
 pub mod InFront
+pub mod Faults

@@ -22,6 +22,16 @@ pub fn both<A: Drop, B: Drop>(
     }
 }
 
+// Whether something was read, without what it is.
+fn outcome<A>(item: &Result<A, Refusal>) -> Result<(), Refusal>
+    ensures { result ≡ map_ok (λ _. tt) item.now }
+{
+    match item {
+        Ok(_) => Ok(()),
+        Err(e) => Err(*e),
+    }
+}
+
 /// Room for what a line begins. Else that is `TooLarge`.
 pub fn need(room: bool, fields: &Fields) -> Result<(), Refusal>
     ensures { result ≡ (need_at fields.now.number room []).0 }
@@ -41,6 +51,24 @@ pub fn finish<A: Drop>(item: Result<A, Refusal>, fields: Fields) -> Result<A, Re
     let end = fields.ended();
     match both(item, end) {
         Ok((value, ())) => Ok(value),
+        Err(e) => Err(e),
+    }
+}
+
+/// Two values that were read of a line behind a value that is not asked for, where no field is left behind them. Joins their faults, and then moves
+/// the values once.
+#[tactic(auto, unfolding(crate::specs::Judging::both_of))]
+pub fn finish_both<Z: Drop, A: Drop, B: Drop>(
+    before: Result<Z, Refusal>,
+    first: Result<A, Refusal>,
+    second: Result<B, Refusal>,
+    fields: Fields,
+) -> Result<(A, B), Refusal>
+    ensures { result ≡ map_ok (λ x. (x.0.0.1, x.0.1)) (both_of (both_of (both_of before first) second) (end_at fields.entry.number fields.entry.fields).0) }
+{
+    let faults = both(both(before, outcome(&first)), outcome(&second));
+    match finish(faults, fields) {
+        Ok(_) => Ok((first?, second?)),
         Err(e) => Err(e),
     }
 }

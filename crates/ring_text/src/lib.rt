@@ -17,7 +17,7 @@ mod writing;
 
 pub use fields::Fields;
 pub use frame::{end, header};
-pub use judge::{both, finish, need};
+pub use judge::{both, finish, finish_both, need};
 pub use lines::Lines;
 pub use name::{are_name_bytes, is_name};
 pub use number::CAP;
