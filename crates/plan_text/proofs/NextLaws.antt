@@ -1,5 +1,6 @@
 -- What a step's line says can be the next step of the plan.
-use Rattle.std.proofs.Common.{◌≡◌, ℕ, ◌+◌, ◌-◌, ◌≤◌, Bool, true, false, not, cond, nat_lt, nat_le, eqb, ◌⊎◌, inl, inr, List, [], ◌∷◌, length, codes, Result, Ok, Err, refl, ap, subst, ◌∙◌, arith}
+use Rattle.std.proofs.Common.{◌≡◌, ℕ, ◌+◌, ◌-◌, ◌≤◌, Bool, true, false, not, cond, nat_lt, nat_le, eqb, ◌⊎◌, inl, inr, List, [], ◌∷◌, length, codes, Result, Ok, Err, refl, sym, ap, subst, ◌∙◌, arith}
+use Rattle.std.specs.Prelude.{IfOk}
 use Rattle.std.specs.List.{list_all}
 use Rattle.std.specs.Str.{bytes_eq}
 use Rattle.std.proofs.lemmas.Bool.{lt-ltb, ltb-true, leb-true, and_parts, not-false}
@@ -19,7 +20,7 @@ use Rattle.plan_text.specs.declared.step.Planned.{Planned}
 use Rattle.plan_text.specs.Said.{step_of}
 use Rattle.plan_text.specs.Steps.{dependencies}
 use Rattle.plan_text.specs.Valid.{HasSources}
-use Rattle.plan_text.specs.Fits.{FitsSource, FitsSaid, IsNext}
+use Rattle.plan_text.specs.Fits.{IsNext}
 use Rattle.plan_text.specs.Reading.{slot_at, slot_node_at, joining_at, retiring_at, judge_indexes, source_at, copy_at, kind_at, judge_after, after_at, said_at}
 
 -- one of the two
@@ -27,14 +28,17 @@ pub either_ok : {A : Type 0} (b : Bool) (x y : Result A Refusal × List (List �
 either_ok true x y v e = inl e
 either_ok false x y v e = inr e
 
-below-small : (n x : ℕ) → n ≤ 7 → nat_lt x n ≡ true → nat_lt x 4294967296 ≡ true
-below-small n x le e = let h = ltb-true x n e in lt-ltb x 4294967296 (omega arith)
+below-more : (m n x : ℕ) → n ≤ m → nat_lt x n ≡ true → nat_lt x m ≡ true
+below-more m n x le e = let h = ltb-true x n e in lt-ltb x m (omega arith)
+
+pub below_all : (m n : ℕ) (xs : List ℕ) → n ≤ m → list_all (λ i. nat_lt i n) xs ≡ true → list_all (λ i. nat_lt i m) xs ≡ true
+below_all m n [] le e = refl
+below_all m n (x ∷ xs) le e =
+    let p = and_parts (nat_lt x n) (list_all (λ i. nat_lt i n) xs) e in
+    rw (below-more m n x le p.0, below_all m n xs le p.1) refl
 
 pub small_all : (n : ℕ) (xs : List ℕ) → n ≤ 7 → list_all (λ i. nat_lt i n) xs ≡ true → are_small xs ≡ true
-small_all n [] le e = refl
-small_all n (x ∷ xs) le e =
-    let p = and_parts (nat_lt x n) (list_all (λ i. nat_lt i n) xs) e in
-    rw (below-small n x le p.0, small_all n xs le p.1) refl
+small_all n xs le e = below_all 4294967296 n xs (omega arith) e
 
 pub filled : (xs : List ℕ) → eqb (length xs) 0 ≡ false → 1 ≤ length xs
 filled [] e = absurd cc
@@ -106,18 +110,6 @@ kind-is ring plan k (word ∷ fields) v e =
           ]
     ]
 
-fits_source : (n : ℕ) (v : SaidSource) → n ≤ 7 → IsSource n v → FitsSource v
-fits_source n Owner le p = tt
-fits_source n (Slots xs) le p = small_all n xs le p.2
-
-fits_said : (n : ℕ) (v : Said) → n ≤ 7 → IsSaid n v → FitsSaid v
-fits_said n (Join x) le p = tt
-fits_said n (Mirror s x) le p = tt
-fits_said n (Copy s from) le p = fits_source n from le p
-fits_said n (Switch s) le p = tt
-fits_said n (Drop s x) le p = tt
-fits_said n (Retire x) le p = tt
-
 sources-of : (n : ℕ) (v : Said) → IsSaid n v → HasSources (step_of v)
 sources-of n (Join x) p = tt
 sources-of n (Mirror s x) p = tt
@@ -178,10 +170,14 @@ said-next ring plan k fields x small few e =
     let kind = kind-is ring plan k fields n.0.0.0.1 first.1 in
     let after = after-is plan k front.1 n.0.0.1 few parts.1 in
     let known : IsNext plan (n.0.0.0.1, n.0.0.1) = record {
-      said = fits_said ring.n n.0.0.0.1 small kind;
       after = after.small;
       planned = record { ascending = after.ascending; earlier = after.earlier; few = after.few; sources = sources-of ring.n n.0.0.0.1 kind };
       room = ltb-true (length plan) 131072 (need-is k (nat_lt (length plan) 131072) fields n.0.0.0.0 first.0);
       few = after.total;
     } in
     subst (IsNext plan) (ap (λ (y : (Unit {0} × Said) × List ℕ). (y.0.1, y.1)) n.2 ∙ m.2) known
+
+-- so it is of each answer that is the line's
+pub next-if : (ring : RingValue) (plan : List Planned) (k : ℕ) (fields : List (List ℕ)) (r : Result (Said × List ℕ) Refusal) → ring.n ≤ 7 → dependencies plan ≤ 524288 → r ≡ said_at ring plan k fields → IfOk r (λ x. IsNext plan x)
+next-if ring plan k fields (Ok x) small few e = said-next ring plan k fields x small few (sym e)
+next-if ring plan k fields (Err f) small few e = tt

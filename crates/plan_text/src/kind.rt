@@ -1,9 +1,10 @@
 //! What a step is, by its line.
 
-ghost use Rattle.std.specs.Prelude.{◌≡◌};
+ghost use Rattle.std.specs.Prelude.{◌≡◌, ◌≤◌};
 ghost use Rattle.ring_text.specs.Judging.{map_item, Does};
 ghost use Rattle.plan_text.specs.Reading.{judge_indexes, source_at, copy_at, kind_at};
 
+use crate::indexes::Indexes;
 use crate::place::{joining, retiring, slot, slot_node};
 use crate::plan::Plan;
 use crate::said::{Said, SaidSource};
@@ -12,8 +13,9 @@ use ring_table::Ring;
 use ring_text::{Fields, NumberRow, both};
 
 // Listed slots of a ring of n slots.
-fn indexes<'a>(n: u32, fields: &Fields, row: NumberRow<'a>) -> Result<NumberRow<'a>, Refusal>
-    ensures { result ≡ judge_indexes n fields.now.number row.entry }
+fn indexes(n: u32, fields: &Fields, row: &NumberRow) -> Result<Indexes, Refusal>
+    requires { n ≤ 7 }
+    ensures { result ≡ judge_indexes n fields.now.number row.now }
 {
     let line = fields.line();
     if row.is_empty() {
@@ -25,12 +27,16 @@ fn indexes<'a>(n: u32, fields: &Fields, row: NumberRow<'a>) -> Result<NumberRow<
     if !row.are_below(u64::from(n)) {
         return Err(Refusal::TooLarge(line));
     }
-    Ok(row)
+    match row.kept() {
+        Some(kept) => Ok(Indexes::from_numbers(kept)),
+        None => unreachable!(),
+    }
 }
 
 // `owner`, or `slots` and the numbers behind it.
 #[tactic(auto, unfolding(crate::specs::Reading::source_at))]
-fn source<'a>(n: u32, fields: &mut Fields<'a>) -> Result<SaidSource<'a>, Refusal>
+fn source(n: u32, fields: &mut Fields) -> Result<SaidSource, Refusal>
+    requires { n ≤ 7 }
     ensures { Does (source_at n) fields.old result fields.new }
 {
     let Some(word) = fields.next() else {
@@ -41,15 +47,15 @@ fn source<'a>(n: u32, fields: &mut Fields<'a>) -> Result<SaidSource<'a>, Refusal
     }
     if word == b"slots".as_slice() {
         let row = fields.numbers();
-        let row = indexes(n, fields, row)?;
-        return Ok(SaidSource::Slots(row));
+        let indexes = indexes(n, fields, &row)?;
+        return Ok(SaidSource::Slots(indexes));
     }
     Err(Refusal::BadLine(fields.line()))
 }
 
 // A slot, and where its copy reads.
 #[tactic(auto, unfolding(crate::specs::Reading::copy_at))]
-fn copy<'a>(ring: &Ring, fields: &mut Fields<'a>) -> Result<(Slot, SaidSource<'a>), Refusal>
+fn copy(ring: &Ring, fields: &mut Fields) -> Result<(Slot, SaidSource), Refusal>
     ensures { Does (copy_at ring.now) fields.old result fields.new }
 {
     let slot = slot(ring, fields);
@@ -59,7 +65,7 @@ fn copy<'a>(ring: &Ring, fields: &mut Fields<'a>) -> Result<(Slot, SaidSource<'a
 
 /// What the step is, behind the steps of a plan. Takes no memory.
 #[tactic(auto, unfolding(crate::specs::Reading::kind_at))]
-pub fn kind<'a>(ring: &Ring, plan: &Plan, fields: &mut Fields<'a>) -> Result<Said<'a>, Refusal>
+pub fn kind(ring: &Ring, plan: &Plan, fields: &mut Fields) -> Result<Said, Refusal>
     ensures { Does (kind_at ring.now plan.now) fields.old result fields.new }
 {
     let Some(word) = fields.next() else {

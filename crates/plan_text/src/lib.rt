@@ -3,6 +3,7 @@
 
 mod after;
 mod index;
+mod indexes;
 mod kind;
 mod place;
 mod plan;

@@ -27,7 +27,7 @@ fn step_line<'a>(
     ring: &Ring,
     plan: &Plan,
     mut fields: Fields<'a>,
-) -> Result<(Said<'a>, NumberRow<'a>), Refusal>
+) -> Result<(Said, NumberRow<'a>), Refusal>
     ensures value { result ≡ said_at ring.now plan.now fields.entry.number fields.entry.fields }
     ensures next { IfOk result (λ x. IsNext plan.now x) }
     ensures at { IfErr result (λ e. IsAt fields.entry.number e) }
@@ -38,16 +38,13 @@ fn step_line<'a>(
     let room = need(plan.len() < 131072, &fields);
     let said = kind(ring, plan, &mut fields);
     let after = after(plan, &mut fields);
-    match finish_both(room, said, after, fields) {
-        Ok((said, after)) => Ok((said, after)),
-        Err(e) => Err(e),
-    }
+    finish_both(room, said, after, fields)
 }
 
 // Adds the step of a line that was judged behind the steps of the plan.
 fn add(alloc: Global, plan: &mut Plan, said: Said, after: NumberRow) -> Result<(), Refusal>
     requires { IsNext plan.old (said, after) }
-    ensures ok { OnOk result (plan.new ≡ plan.old ++ planned_of (said.entry, after.entry) ∷ []) }
+    ensures ok { OnOk result (plan.new ≡ plan.old ++ planned_of (said, after.entry) ∷ []) }
     ensures memory { IfErr result (λ e. e ≡ OutOfMemory) }
 {
     let step = to_step(alloc, said)?;

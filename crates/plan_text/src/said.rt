@@ -3,19 +3,18 @@
 ghost use Rattle.std.specs.Prelude.{◌≡◌, IfOk, IfErr};
 ghost use Rattle.ring_names.specs.declared.refusal.Refusal.TheVariants.{OutOfMemory};
 ghost use Rattle.plan_text.specs.Said.{source_of, step_of};
-ghost use Rattle.plan_text.specs.Fits.{FitsSource, FitsSaid};
 
+use crate::indexes::Indexes;
 use crate::step::{Source, Step};
 use ring_names::{Listed, NodeId, Refusal, Slot};
-use ring_text::NumberRow;
 use std::alloc::Global;
 
-/// A step, its lists still in the text.
+/// A step that takes no memory of its own.
 #[derive(Drop)]
-pub enum Said<'a> {
+pub enum Said {
     Join(NodeId),
     Mirror(Slot, NodeId),
-    Copy(Slot, SaidSource<'a>),
+    Copy(Slot, SaidSource),
     Switch(Slot),
     Drop(Slot, NodeId),
     Retire(NodeId),
@@ -23,15 +22,14 @@ pub enum Said<'a> {
 
 /// Where a copy reads.
 #[derive(Drop)]
-pub enum SaidSource<'a> {
+pub enum SaidSource {
     Owner,
-    Slots(NumberRow<'a>),
+    Slots(Indexes),
 }
 
 // The source, in memory of its own.
 fn to_source(alloc: Global, source: SaidSource) -> Result<Source, Refusal>
-    requires { FitsSource source }
-    ensures ok { IfOk result (λ kept. kept ≡ source_of source.entry) }
+    ensures ok { IfOk result (λ kept. kept ≡ source_of source) }
     ensures memory { IfErr result (λ e. e ≡ OutOfMemory) }
 {
     match source {
@@ -45,8 +43,7 @@ fn to_source(alloc: Global, source: SaidSource) -> Result<Source, Refusal>
 
 /// The step, in memory of its own.
 pub fn to_step(alloc: Global, said: Said) -> Result<Step, Refusal>
-    requires { FitsSaid said }
-    ensures ok { IfOk result (λ kept. kept ≡ step_of said.entry) }
+    ensures ok { IfOk result (λ kept. kept ≡ step_of said) }
     ensures memory { IfErr result (λ e. e ≡ OutOfMemory) }
 {
     match said {
