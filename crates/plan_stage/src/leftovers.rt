@@ -31,6 +31,7 @@ impl Model for Leftovers {
 }
 
 impl Leftovers {
+    /// No nodes.
     pub fn new(alloc: Global) -> Leftovers
         ensures { result ≡ [] }
     {
@@ -40,6 +41,7 @@ impl Leftovers {
         }
     }
 
+    /// Whether the node is among them.
     pub fn contains(&self, node: NodeId) -> bool
         ensures { result ≡ is_among node self.now }
     {
@@ -49,6 +51,7 @@ impl Leftovers {
         }
     }
 
+    /// Adds the node, if it is not there.
     pub fn add(&mut self, node: NodeId) -> Result<(), Refusal>
         ensures ok { OnOk result (self.new ≡ with_node node self.old) }
         ensures memory { IfErr result (λ e. e ≡ OutOfMemory) }
@@ -67,6 +70,7 @@ impl Leftovers {
         Ok(())
     }
 
+    /// Takes the node out, if it is there.
     pub fn remove(&mut self, node: NodeId)
         ensures { self.new ≡ without_node node self.old }
     {
@@ -82,6 +86,7 @@ impl Leftovers {
         }
     }
 
+    /// The nodes, by number.
     pub fn to_vec(&self, alloc: Global) -> Result<Vec<NodeId>, AllocError>
         ensures { IfOk result (λ list. list.items ≡ self.now) }
     {
