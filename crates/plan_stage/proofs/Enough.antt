@@ -101,10 +101,10 @@ concerned-at : (ring : RingValue) (plan : List Planned) (p : ℕ) (numbers : Lis
 concerned-at ring plan p numbers suits g n (Join x) at h = absurd cc
 concerned-at ring plan p numbers suits g n (Mirror slot x) at h =
     let b = and_parts (is_ring_slot ring slot) (is_declared ring x) (suits-at ring plan suits.steps n (Mirror slot x) at) in
-    ((g.slots slot.index (index-within ring slot b.0)).steps n (has-step plan (record { partition = p; index = slot.index }) n (Mirror slot x) at (on-itself p slot h))).here
+    ((g.slots slot.index (index-within ring slot b.0)).steps n (has-step plan (record { partition = p; index = slot.index }) n (Mirror slot x) at (on-itself p slot h))).here (Mirror slot x) at refl
 concerned-at ring plan p numbers suits g n (Copy slot from) at h =
     let b = and_parts (is_ring_slot ring slot) (source_suits ring from) (suits-at ring plan suits.steps n (Copy slot from) at) in
-    ((g.slots slot.index (index-within ring slot b.0)).steps n (has-step plan (record { partition = p; index = slot.index }) n (Copy slot from) at (on-itself p slot h))).here
+    ((g.slots slot.index (index-within ring slot b.0)).steps n (has-step plan (record { partition = p; index = slot.index }) n (Copy slot from) at (on-itself p slot h))).here (Copy slot from) at refl
 concerned-at ring plan p numbers suits g n (Switch slot) at h = absurd cc
 concerned-at ring plan p numbers suits g n (Drop slot x) at h = absurd cc
 concerned-at ring plan p numbers suits g n (Retire x) at h =

@@ -1,12 +1,16 @@
--- Sets of step numbers as they grow.
-use Rattle.std.proofs.Common.{◌≡◌, ◌⊎◌, inl, inr, ◌∙◌, ℕ, suc, ◌+◌, ◌<◌, Bool, true, false, cond, List, [], ◌∷◌, length, refl, sym, ap, arith, below_more, Option, Some, None}
-use Rattle.std.specs.Prelude.{◌||◌, ◌==◌, nat_lt, slice_get, option_map}
-use Rattle.std.specs.List.{list_all}
+-- Lists of step numbers as they grow, and in order.
+use Rattle.std.proofs.Common.{◌≡◌, ◌⊎◌, inl, inr, ◌∙◌, ℕ, suc, ◌+◌, ◌<◌, Bool, true, false, cond, List, [], ◌∷◌, ◌++◌, length, refl, sym, ap, arith, below_more, Option, Some, None}
+use Rattle.std.specs.Prelude.{◌||◌, ◌&&◌, ◌==◌, nat_lt, slice_get, option_map}
+use Rattle.std.specs.List.{list_all, list_any, dedup, dedup_from}
+use Rattle.std.proofs.lemmas.List.Folds.{list_all-append}
+use Rattle.std.proofs.lemmas.List.Kept.{IsStrictlySortedBy-dedup}
+use Rattle.std.proofs.lemmas.List.Sorted.{list_any-IsPermutation}
+use Rattle.std.proofs.lemmas.Cmp.{nat_cmp_total}
+use Rattle.std.specs.Cmp.{unsigned_ties}
 use Rattle.std.specs.declared.cmp.Ordering.TheVariants.{Less, Equal, Greater}
-use Rattle.std.specs.List.Sorted.{IsStrictlySortedBy}
+use Rattle.std.specs.List.Sorted.{IsPermutation, IsSorted, IsStrictlySortedBy}
 use Rattle.ring_text.specs.Numbers.{ascending}
-use Rattle.std.specs.Ordering.{nat_cmp, match_ordering}
-use Rattle.std.specs.BTreeSet.{insert_key}
+use Rattle.std.specs.Ordering.{nat_cmp}
 use Rattle.std.proofs.lemmas.Bool.{eqb-true, lt-ltb}
 use Rattle.ring_names.specs.Lists.{has}
 use Rattle.ring_names.specs.declared.ids.NodeId.{NodeId}
@@ -15,43 +19,64 @@ use Rattle.ring_table.specs.Value.{RingValue}
 use Rattle.plan_text.specs.declared.step.Step.{Step}
 use Rattle.plan_text.specs.declared.step.Planned.{Planned}
 use Rattle.plan_text.specs.Steps.{is_on, steps_from, steps_of, is_retire_of, first_step, retirement_of}
-use Rattle.plan_stage.specs.Looking.Gathered.{mirrored_node, are_steps, Grows, HasRetirement, HasStep, HasSlot}
+use Rattle.plan_stage.specs.Each.{slot_in}
+use Rattle.plan_stage.specs.Looking.Gathered.{mirrored_node, are_steps, Grows, HasRetirement, HasStep, HasSlot, IsGathered}
 use Rattle.plan_stage.proofs.Truth.{all_of, either, first_of_two, second_of_two, same, list_all-met, list_all-all}
 
 -- ---- one more number
 
-inserted : (b e h : Bool) (k y x : ℕ) (ys new : List ℕ) → e ≡ (k == y) → has x new ≡ ((x == k) || has x ys) → has x (match_ordering (cond b Less (cond e Equal Greater)) (k ∷ y ∷ ys) (y ∷ ys) (y ∷ new)) ≡ ((x == k) || has x (y ∷ ys))
-inserted true e h k y x ys new is there = refl
-inserted false true h k y x ys new is there =
-    let same_key : k ≡ y = eqb-true k y (sym is) in
-    rw same_key (twice (x == y) (has x ys))
-  where
-    twice : (a b : Bool) → (a || b) ≡ (a || (a || b))
-    twice true b = refl
-    twice false b = refl
-inserted false false h k y x ys new is there = rw there (swapped (x == y) (x == k) (has x ys))
+pub has-push : (x k : ℕ) (ks : List ℕ) → has x (ks ++ k ∷ []) ≡ ((x == k) || has x ks)
+has-push x k [] = refl
+has-push x k (y ∷ ys) = rw (has-push x k ys) (swapped (x == y) (x == k) (has x ys))
   where
     swapped : (a b c : Bool) → (a || (b || c)) ≡ (b || (a || c))
     swapped true true c = refl
     swapped true false c = refl
     swapped false b c = refl
 
-pub has-insert : (x k : ℕ) (ks : List ℕ) → has x (insert_key nat_cmp ks k) ≡ ((x == k) || has x ks)
-has-insert x k [] = refl
-has-insert x k (y ∷ ys) = inserted (nat_lt k y) (k == y) true k y x ys (insert_key nat_cmp ys k) refl (has-insert x k ys)
+pub push-has : (k : ℕ) (old new : List ℕ) → new ≡ old ++ k ∷ [] → has k new ≡ true
+push-has k old new e = rw (e, has-push k k old) (first_of_two (k == k) (has k old) (same k))
 
-pub insert-has : (k : ℕ) (old new : List ℕ) → new ≡ insert_key nat_cmp old k → has k new ≡ true
-insert-has k old new e = rw (e, has-insert k k old) (first_of_two (k == k) (has k old) (same k))
-
-pub insert-grows : (plan : List Planned) (k : ℕ) (old new : List ℕ) → k < length plan → new ≡ insert_key nat_cmp old k → Grows plan old new
-insert-grows plan k old new l e = record {
-  stay = λ n h. rw (e, has-insert n k old) (second_of_two (n == k) (has n old) h);
-  steps = λ h. list_all-all (λ (n : ℕ). nat_lt n (length plan)) new (λ n is. by n h (either (n == k) (has n old) (let g : ((n == k) || has n old) ≡ true = sym (has-insert n k old) ∙ ap (has n) (sym e) ∙ is in g)));
+pub push-grows : (plan : List Planned) (k : ℕ) (old new : List ℕ) → k < length plan → new ≡ old ++ k ∷ [] → Grows plan old new
+push-grows plan k old new l e = record {
+  stay = λ n h. rw (e, has-push n k old) (second_of_two (n == k) (has n old) h);
+  steps = λ h. rw (e, list_all-append (λ (n : ℕ). nat_lt n (length plan)) old (k ∷ [])) (all_of (are_steps plan old) (nat_lt k (length plan) && true) h (rw (lt-ltb k (length plan) l) refl));
 }
+
+-- ---- the same numbers, in order
+
+has-any : (x : ℕ) (ks : List ℕ) → has x ks ≡ list_any (λ y. x == y) ks
+has-any x [] = refl
+has-any x (k ∷ ks) = rw (has-any x ks) refl
+
+-- a number that is told from the last one kept, or is the same
+deduped : (b : Bool) (x k y : ℕ) (ys : List ℕ) → (b ≡ true → y ≡ k) → has x (dedup_from (λ (n m : ℕ). n == m) k ys) ≡ has x (k ∷ ys)
+    → has x (dedup_from (λ (n m : ℕ). n == m) y ys) ≡ has x (y ∷ ys) → has x (cond b (dedup_from (λ (n m : ℕ). n == m) k ys) (k ∷ dedup_from (λ (n m : ℕ). n == m) y ys)) ≡ has x (k ∷ y ∷ ys)
+deduped true x k y ys is here there = rw (is refl) (here ∙ twice (x == k) (has x ys))
   where
-    by : (n : ℕ) → are_steps plan old ≡ true → ((n == k) ≡ true) ⊎ (has n old ≡ true) → nat_lt n (length plan) ≡ true
-    by n h (inl here) = (let is : n ≡ k = eqb-true n k here in rw is (lt-ltb k (length plan) l))
-    by n h (inr there) = list_all-met (λ (n : ℕ). nat_lt n (length plan)) old h n there
+    twice : (a b : Bool) → (a || b) ≡ (a || (a || b))
+    twice true b = refl
+    twice false b = refl
+deduped false x k y ys is here there = rw there refl
+
+has-dedup_from : (x k : ℕ) (ys : List ℕ) → has x (dedup_from (λ (n m : ℕ). n == m) k ys) ≡ has x (k ∷ ys)
+has-dedup_from x k [] = refl
+has-dedup_from x k (y ∷ ys) = deduped (y == k) x k y ys (eqb-true y k) (has-dedup_from x k ys) (has-dedup_from x y ys)
+
+has-dedup : (x : ℕ) (ys : List ℕ) → has x (dedup (λ (n m : ℕ). n == m) ys) ≡ has x ys
+has-dedup x [] = refl
+has-dedup x (y ∷ ys) = has-dedup_from x y ys
+
+-- what is sorted, and then has no number twice, has the numbers that it had
+pub has-ordered : (x : ℕ) (old sorted new : List ℕ) → IsPermutation old sorted → new ≡ dedup (λ (n m : ℕ). n == m) sorted → has x new ≡ has x old
+has-ordered x old sorted new p e =
+    ap (has x) e ∙ has-dedup x sorted ∙ has-any x sorted ∙ sym (list_any-IsPermutation (λ (y : ℕ). x == y) old sorted p) ∙ sym (has-any x old)
+
+grows-alike : (plan : List Planned) (old new : List ℕ) → ((n : ℕ) → has n new ≡ has n old) → Grows plan old new
+grows-alike plan old new e = record {
+  stay = λ n h. e n ∙ h;
+  steps = λ h. list_all-all (λ (n : ℕ). nat_lt n (length plan)) new (λ n is. list_all-met (λ (n : ℕ). nat_lt n (length plan)) old h n (sym (e n) ∙ is));
+}
 
 -- ---- growing
 
@@ -65,7 +90,7 @@ pub retirement-stays : (plan : List Planned) (x : NodeId) (old new : List ℕ) �
 retirement-stays plan x old new g h = λ n is. g.stay n (h n is)
 
 pub step-stays : (plan : List Planned) (n : ℕ) (old new : List ℕ) → Grows plan old new → HasStep plan n old → HasStep plan n new
-step-stays plan n old new g h = record { here = g.stay n h.here; mirrored = λ s x at is. retirement-stays plan x old new g (h.mirrored s x at is) }
+step-stays plan n old new g h = record { here = λ s at is. g.stay n (h.here s at is); mirrored = λ s x at is. retirement-stays plan x old new g (h.mirrored s x at is) }
 
 -- ---- the numbers of steps
 
@@ -110,7 +135,7 @@ same_step (Some x) s t e at = (let f : x.step ≡ t = cc in let g : x.step ≡ s
 -- a step that mirrors a slot to the node has what it needs
 pub step-mirrors : (plan : List Planned) (n : ℕ) (t : Step) (x : NodeId) (old new : List ℕ) → option_map (λ y. y.step) (slice_get plan n) ≡ Some t → mirrored_node t ≡ Some x → has n old ≡ true → Grows plan old new → HasRetirement plan x new → HasStep plan n new
 step-mirrors plan n t x old new e is here g r = record {
-  here = g.stay n here;
+  here = λ s at looked. g.stay n here;
   mirrored = λ s y at same m k. (
       let st : s ≡ t = same_step (slice_get plan n) s t e at in
       let xy : y ≡ x = cc in
@@ -161,14 +186,26 @@ ordered true c h = refl
 ordered false true h = absurd cc
 ordered false false h = absurd cc
 
--- what a set keeps ascending
-pub sorted-ascends : (xs : List ℕ) → IsStrictlySortedBy nat_cmp xs → ascending xs ≡ true
+-- each number is below those after it
+sorted-ascends : (xs : List ℕ) → IsStrictlySortedBy nat_cmp xs → ascending xs ≡ true
 unfolding IsStrictlySortedBy
 sorted-ascends [] h = refl
 sorted-ascends (x ∷ []) h = refl
 sorted-ascends (x ∷ y ∷ ys) h = all_of (nat_lt x y) (ascending (y ∷ ys)) (ordered (nat_lt x y) (x == y) h.0.0) (sorted-ascends (y ∷ ys) h.1)
 
+-- so does what is sorted, and then has no number twice
+pub ordered-ascends : (sorted new : List ℕ) → IsSorted nat_cmp sorted → new ≡ dedup (λ (n m : ℕ). n == m) sorted → ascending new ≡ true
+ordered-ascends sorted new h e = ap ascending e ∙ sorted-ascends (dedup (λ (n m : ℕ). n == m) sorted) (IsStrictlySortedBy-dedup nat_cmp_total unsigned_ties sorted h)
+
+-- ---- the slots
+
 -- the slots below a number, and the slot of that number
 pub slots-more : (ring : RingValue) (plan : List Planned) (p k : ℕ) (old new : List ℕ) → Grows plan old new → ((i : ℕ) → i < k → HasSlot ring plan (record { partition = p; index = i }) old) → HasSlot ring plan (record { partition = p; index = k }) new → (i : ℕ) → i < k + 1 → HasSlot ring plan (record { partition = p; index = i }) new
 slots-more ring plan p k old new g front here i l =
     below_more (λ (i : ℕ). HasSlot ring plan (record { partition = p; index = i }) new) k (λ i l. slot-stays ring plan (record { partition = p; index = i }) old new g (front i l)) here i l
+
+-- what the slots gathered is there in any order
+pub gathered-alike : (ring : RingValue) (plan : List Planned) (p : ℕ) (old new : List ℕ) → ((n : ℕ) → has n new ≡ has n old) → IsGathered ring plan p old → IsGathered ring plan p new
+gathered-alike ring plan p old new e h =
+    let g = grows-alike plan old new e in
+    record { within = g.steps h.within; slots = λ i l. slot-stays ring plan (slot_in p i) old new g (h.slots i l) }

@@ -1,4 +1,4 @@
-pub mod Leftovers
+pub mod NodeSets
 pub mod Below
 pub mod Stages
 pub mod Truth

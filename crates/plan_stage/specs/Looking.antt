@@ -3,6 +3,7 @@ pub mod Asked
 pub mod Concerned
 pub mod Gathered
 pub mod Held
+pub mod Leftovers
 pub mod Looked
 pub mod Switches
 pub mod Walk

@@ -1,20 +1,19 @@
 //! The steps that a partition has to look at.
 
-ghost use Rattle.std.specs.Prelude.{◌≡◌, ◌<◌, IfOk, IfErr, OnOk, length, true};
+ghost use Rattle.std.specs.Prelude.{◌≡◌, ℕ, ◌<◌, IfOk, IfErr, OnOk, length, true};
 ghost use Rattle.ring_names.specs.Lists.{has};
 ghost use Rattle.ring_names.specs.declared.refusal.Refusal.TheVariants.{OutOfMemory};
 ghost use Rattle.plan_text.specs.Valid.{Suits};
 ghost use Rattle.ring_text.specs.Numbers.{ascending};
 ghost use Rattle.plan_stage.specs.Looking.Concerned.{AreConcerned};
-ghost use Rattle.plan_stage.specs.Looking.Gathered.{mirrored_node, Grows, HasRetirement, HasStep, HasSlot, IsGathered};
+ghost use Rattle.plan_stage.specs.Looking.Gathered.{Grows, HasRetirement, HasStep, HasSlot, IsGathered};
 
 use plan_text::{Plan, Step};
 use ring_names::{NodeId, Refusal, Slot};
 use ring_table::Ring;
-use std::alloc::{AllocError, Global};
-use std::collections::BTreeSet;
+use std::alloc::Global;
 
-/// The numbers of the steps that a partition has to look at, ascending. Costs the steps of the partition's slots.
+/// The numbers of the steps that a partition has to look at, ascending. Costs a sort of those of its slots.
 pub fn concerned(
     alloc: Global,
     ring: &Ring,
@@ -26,42 +25,39 @@ pub fn concerned(
     ensures ok { IfOk result (λ list. AreConcerned ring.now plan.now partition list.items) }
     ensures memory { IfErr result (λ e. e ≡ OutOfMemory) }
 {
-    let numbers = gather(alloc, ring, plan, partition)?;
-    Ok(listed(alloc, &numbers)?)
+    let mut numbers = gather(alloc, ring, plan, partition)?;
+    put_in_order(&mut numbers);
+    Ok(numbers)
 }
 
-// The numbers of a set, ascending.
-fn listed(alloc: Global, numbers: &BTreeSet<u32>) -> Result<Vec<u32>, AllocError>
-    ensures items { IfOk result (λ list. list.items ≡ numbers.now.keys) }
-    ensures ascending { IfOk result (λ list. ascending list.items ≡ true) }
+// Puts the numbers in ascending order, each once.
+fn put_in_order(numbers: &mut Vec<u32>)
+    ensures ascending { ascending numbers.new.items ≡ true }
+    ensures same { (n : ℕ) → has n numbers.new.items ≡ has n numbers.old.items }
 {
-    numbers.iter().copied().collect(alloc)
+    numbers.sort_unstable();
+    numbers.dedup();
 }
 
 // What each slot of the partition has to look at.
-fn gather(alloc: Global, ring: &Ring, plan: &Plan, partition: u32) -> Result<BTreeSet<u32>, Refusal>
+fn gather(alloc: Global, ring: &Ring, plan: &Plan, partition: u32) -> Result<Vec<u32>, Refusal>
     requires { partition < ring.now.q }
-    ensures ok { IfOk result (λ numbers. IsGathered ring.now plan.now partition numbers.keys) }
+    ensures ok { IfOk result (λ numbers. IsGathered ring.now plan.now partition numbers.items) }
     ensures memory { IfErr result (λ e. e ≡ OutOfMemory) }
 {
-    let mut numbers = BTreeSet::new(alloc);
+    let mut numbers = Vec::new(alloc);
     'slots: for index in 0..ring.n() {
         add_slot(&mut numbers, ring, plan, Slot { partition, index })?;
     }
     Ok(numbers)
 }
 
-// Adds the steps of the slot, and the retirements of its first owner and of the nodes that its steps mirror.
-fn add_slot(
-    numbers: &mut BTreeSet<u32>,
-    ring: &Ring,
-    plan: &Plan,
-    slot: Slot,
-) -> Result<(), Refusal>
+// Adds the mirrors and copies of the slot, and the retirements of its first owner and of the nodes that are mirrored.
+fn add_slot(numbers: &mut Vec<u32>, ring: &Ring, plan: &Plan, slot: Slot) -> Result<(), Refusal>
     requires partition { slot.partition < ring.now.q }
     requires index { slot.index < ring.now.n }
-    ensures grows { OnOk result (Grows plan.now numbers.old.keys numbers.new.keys) }
-    ensures slot { OnOk result (HasSlot ring.now plan.now slot numbers.new.keys) }
+    ensures grows { OnOk result (Grows plan.now numbers.old.items numbers.new.items) }
+    ensures slot { OnOk result (HasSlot ring.now plan.now slot numbers.new.items) }
     ensures memory { IfErr result (λ e. e ≡ OutOfMemory) }
 {
     add_retirement(numbers, plan, ring.owner(slot))?;
@@ -73,35 +69,27 @@ fn add_slot(
     Ok(())
 }
 
-// Adds the step, and where it mirrors a slot the retirement of the node.
-fn add_step(numbers: &mut BTreeSet<u32>, plan: &Plan, number: u32) -> Result<(), Refusal>
+// Adds the step if it is a mirror or a copy, and for a mirror the retirement of the node.
+fn add_step(numbers: &mut Vec<u32>, plan: &Plan, number: u32) -> Result<(), Refusal>
     requires { number < length plan.now }
-    ensures grows { OnOk result (Grows plan.now numbers.old.keys numbers.new.keys) }
-    ensures step { OnOk result (HasStep plan.now number numbers.new.keys) }
+    ensures grows { OnOk result (Grows plan.now numbers.old.items numbers.new.items) }
+    ensures step { OnOk result (HasStep plan.now number numbers.new.items) }
     ensures memory { IfErr result (λ e. e ≡ OutOfMemory) }
 {
-    add_number(numbers, plan, number)?;
-    match mirrored_node(plan.step(number)) {
-        Some(node) => add_retirement(numbers, plan, node),
-        None => Ok(()),
-    }
-}
-
-// The node that the step mirrors a slot to.
-fn mirrored_node(step: &Step) -> Option<NodeId>
-    ensures { result ≡ mirrored_node step.now }
-{
-    match step {
-        Step::Mirror(_, node) => Some(*node),
-        Step::Join(_) | Step::Copy(_, _) | Step::Switch(_) | Step::Drop(_, _) | Step::Retire(_) =>
-            None,
+    match plan.step(number) {
+        Step::Mirror(_, node) => {
+            add_number(numbers, plan, number)?;
+            add_retirement(numbers, plan, *node)
+        }
+        Step::Copy(_, _) => add_number(numbers, plan, number),
+        Step::Join(_) | Step::Switch(_) | Step::Drop(_, _) | Step::Retire(_) => Ok(()),
     }
 }
 
 // Adds the step that retires the node, if there is one.
-fn add_retirement(numbers: &mut BTreeSet<u32>, plan: &Plan, node: NodeId) -> Result<(), Refusal>
-    ensures grows { OnOk result (Grows plan.now numbers.old.keys numbers.new.keys) }
-    ensures retirement { OnOk result (HasRetirement plan.now node numbers.new.keys) }
+fn add_retirement(numbers: &mut Vec<u32>, plan: &Plan, node: NodeId) -> Result<(), Refusal>
+    ensures grows { OnOk result (Grows plan.now numbers.old.items numbers.new.items) }
+    ensures retirement { OnOk result (HasRetirement plan.now node numbers.new.items) }
     ensures memory { IfErr result (λ e. e ≡ OutOfMemory) }
 {
     match plan.retirement_of(node) {
@@ -111,12 +99,12 @@ fn add_retirement(numbers: &mut BTreeSet<u32>, plan: &Plan, node: NodeId) -> Res
 }
 
 // Adds the number of a step.
-fn add_number(numbers: &mut BTreeSet<u32>, plan: &Plan, number: u32) -> Result<(), Refusal>
+fn add_number(numbers: &mut Vec<u32>, plan: &Plan, number: u32) -> Result<(), Refusal>
     requires { number < length plan.now }
-    ensures grows { OnOk result (Grows plan.now numbers.old.keys numbers.new.keys) }
-    ensures added { OnOk result (has number numbers.new.keys ≡ true) }
+    ensures grows { OnOk result (Grows plan.now numbers.old.items numbers.new.items) }
+    ensures added { OnOk result (has number numbers.new.items ≡ true) }
     ensures memory { IfErr result (λ e. e ≡ OutOfMemory) }
 {
-    numbers.insert(number)?;
+    numbers.push(number)?;
     Ok(())
 }

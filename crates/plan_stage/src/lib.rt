@@ -9,6 +9,7 @@ mod clauses;
 mod concerned;
 mod holding;
 mod joined;
+mod leftovers;
 mod party;
 mod stage;
 mod walk;

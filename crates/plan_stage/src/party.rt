@@ -9,8 +9,8 @@ ghost use Rattle.plan_stage.specs.Parties.{count_below, stage_before, source_slo
 ghost use Rattle.plan_stage.specs.Stage.{with_node};
 
 use crate::check::stage_at;
+use crate::leftovers::listed;
 use crate::stage::Stage;
-use crate::walk::listed;
 use plan_text::{Plan, Source, Step};
 use ring_names::{Listed, NodeId, Refusal, Slot};
 use ring_table::Ring;

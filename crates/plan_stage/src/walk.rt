@@ -2,15 +2,15 @@
 
 ghost use Rattle.std.specs.Prelude.{◌≡◌, ◌<◌, IfErr, IfOk, OnOk};
 ghost use Rattle.ring_names.specs.declared.refusal.Refusal.TheVariants.{OutOfMemory};
-ghost use Rattle.plan_stage.specs.Stage.{is_among, fits, next, switched, opening};
+ghost use Rattle.plan_stage.specs.Stage.{fits, next, switched, opening};
 ghost use Rattle.plan_stage.specs.Looking.Walk.{stage_of};
 
+use crate::leftovers::Leftovers;
 use crate::stage::Stage;
 use plan_text::Step;
 use ring_names::{Listed, NodeId, Refusal, Slot};
 use ring_table::Ring;
-use std::alloc::{AllocError, Global};
-use std::collections::BTreeSet;
+use std::alloc::Global;
 
 /// A stage whose leftovers are found fast.
 #[derive(Drop)]
@@ -18,7 +18,7 @@ pub struct Walk {
     owner: NodeId,
     mirror: Option<NodeId>,
     copied: bool,
-    leftovers: BTreeSet<NodeId>,
+    leftovers: Leftovers,
 }
 
 impl Walk {
@@ -32,7 +32,7 @@ impl Walk {
             owner: ring.owner(slot),
             mirror: None,
             copied: false,
-            leftovers: BTreeSet::new(alloc),
+            leftovers: Leftovers::new(alloc),
         }
     }
 
@@ -42,20 +42,13 @@ impl Walk {
     {
         match step {
             Step::Mirror(_, node) => {
-                self.mirror.is_none() && node.0 != self.owner.0 && !self.is_leftover(*node)
+                self.mirror.is_none() && node.0 != self.owner.0 && !self.leftovers.contains(*node)
             }
             Step::Copy(_, _) => self.mirror.is_some() && !self.copied,
             Step::Switch(_) => self.mirror.is_some() && self.copied,
-            Step::Drop(_, node) => self.is_leftover(*node),
+            Step::Drop(_, node) => self.leftovers.contains(*node),
             Step::Join(_) | Step::Retire(_) => false,
         }
-    }
-
-    // Whether the node owned the slot before, and was not dropped since.
-    fn is_leftover(&self, node: NodeId) -> bool
-        ensures { result ≡ is_among node self.now.leftovers.keys }
-    {
-        self.leftovers.contains(&node)
     }
 
     /// Lets the step act.
@@ -71,7 +64,7 @@ impl Walk {
             Step::Copy(_, _) => self.copied = true,
             Step::Switch(_) => self.switch()?,
             Step::Drop(_, node) => {
-                self.leftovers.remove(node);
+                self.leftovers.remove(*node);
             }
             Step::Join(_) | Step::Retire(_) => {}
         }
@@ -83,7 +76,7 @@ impl Walk {
         ensures ok { OnOk result (stage_of self.new ≡ switched (stage_of self.old)) }
         ensures memory { IfErr result (λ e. e ≡ OutOfMemory) }
     {
-        self.leftovers.insert(self.owner)?;
+        self.leftovers.add(self.owner)?;
         self.owner = self.mirror.unwrap_or(self.owner);
         self.mirror = None;
         self.copied = false;
@@ -95,7 +88,7 @@ impl Walk {
         ensures ok { IfOk result (λ stage. stage ≡ stage_of self) }
         ensures memory { IfErr result (λ e. e ≡ OutOfMemory) }
     {
-        let leftovers = listed(alloc, &self.leftovers)?;
+        let leftovers = self.leftovers.to_vec(alloc)?;
         let Walk {
             owner,
             mirror,
@@ -109,11 +102,4 @@ impl Walk {
             leftovers: Listed::from_vec(leftovers),
         })
     }
-}
-
-/// The nodes of a set, by number.
-pub fn listed(alloc: Global, nodes: &BTreeSet<NodeId>) -> Result<Vec<NodeId>, AllocError>
-    ensures { IfOk result (λ list. list.items ≡ nodes.now.keys) }
-{
-    nodes.iter().copied().collect(alloc)
 }

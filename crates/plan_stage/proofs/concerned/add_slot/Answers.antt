@@ -10,8 +10,8 @@ pub steps-init : goal.steps-init
 steps-init c = record {
   within = rw c.slot_steps-rest.ensures.value (slot-within c.args.plan.now c.args.slot);
   grows = c.in_ok-add_retirement.ensures.grows;
-  owner = λ x is. owner-has c.args.plan.now (owner_of c.args.ring.now c.args.slot) c.owner.result x c.add_retirement.new.numbers.keys c.owner.ensures is c.in_ok-add_retirement.ensures.retirement;
-  taken = none-taken c.args.plan.now (steps_of c.args.plan.now c.args.slot) c.slot_steps-rest.result.now c.add_retirement.new.numbers.keys c.slot_steps-rest.ensures.value;
+  owner = λ x is. owner-has c.args.plan.now (owner_of c.args.ring.now c.args.slot) c.owner.result x c.add_retirement.new.numbers.items c.owner.ensures is c.in_ok-add_retirement.ensures.retirement;
+  taken = none-taken c.args.plan.now (steps_of c.args.plan.now c.args.slot) c.slot_steps-rest.result.now c.add_retirement.new.numbers.items c.slot_steps-rest.ensures.value;
 }
 
 pub steps-preserved : goal.steps-preserved
@@ -23,7 +23,7 @@ steps-preserved c =
     let grows = c.in_ok-add_step.ensures.grows in
     record {
       within = (and_parts (nat_lt c.in-Some.number.now (length plan)) (are_steps plan c.in-Some.later.now) w).1;
-      grows = grows-more plan c.args.numbers.now.keys c.steps.numbers.keys c.add_step.new.numbers.keys inv.grows grows;
-      owner = λ x is. retirement-stays plan x c.steps.numbers.keys c.add_step.new.numbers.keys grows (inv.owner x is);
-      taken = one-taken plan (steps_of plan c.args.slot) c.in-Some.later.now c.steps.numbers.keys c.add_step.new.numbers.keys c.in-Some.number.now (rw e at inv.taken) grows c.in_ok-add_step.ensures.step;
+      grows = grows-more plan c.args.numbers.now.items c.steps.numbers.items c.add_step.new.numbers.items inv.grows grows;
+      owner = λ x is. retirement-stays plan x c.steps.numbers.items c.add_step.new.numbers.items grows (inv.owner x is);
+      taken = one-taken plan (steps_of plan c.args.slot) c.in-Some.later.now c.steps.numbers.items c.add_step.new.numbers.items c.in-Some.number.now (rw e at inv.taken) grows c.in_ok-add_step.ensures.step;
     }

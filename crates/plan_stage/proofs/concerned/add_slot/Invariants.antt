@@ -9,9 +9,9 @@ use Rattle.plan_stage.proofs.concerned.add_slot.Given as goal
 -- the steps that are left, and what the set has of the others
 pub record Left (l : goal.Live-steps) : Type 0 where
   pub within : are_steps l.plan l.rest ≡ true
-  pub grows : Grows l.plan l.fn.numbers.keys l.numbers.keys
-  pub owner : (x : NodeId) → owner_of l.ring l.fn.slot ≡ Some x → HasRetirement l.plan x l.numbers.keys
-  pub taken : TakenOr l.plan (steps_of l.plan l.fn.slot) l.rest l.numbers.keys
+  pub grows : Grows l.plan l.fn.numbers.items l.numbers.items
+  pub owner : (x : NodeId) → owner_of l.ring l.fn.slot ≡ Some x → HasRetirement l.plan x l.numbers.items
+  pub taken : TakenOr l.plan (steps_of l.plan l.fn.slot) l.rest l.numbers.items
 
 abbrev pub invariant-steps : goal.invariant-steps
 invariant-steps l = Left l

@@ -1,8 +1,12 @@
-use Rattle.plan_stage.specs.Looking.Gathered.{IsGathered}
+use Rattle.plan_stage.proofs.Gathering.{gathered-alike}
 use Rattle.plan_stage.proofs.Enough.{concerned-from}
 use Rattle.plan_stage.proofs.concerned.concerned.Goals as goal
 
 pub returns-clause-ok : goal.returns-clause-ok
 returns-clause-ok c =
-    let g : IsGathered c.args.ring.now c.args.plan.now c.args.partition c.in_ok-listed.field-0.items = rw c.in_ok-listed.ensures.items c.in_ok-numbers.ensures.ok in
-    concerned-from c.args.ring.now c.args.plan.now c.args.partition c.in_ok-listed.field-0.items c.requires.suits c.in_ok-listed.ensures.ascending g
+    let ring = c.args.ring.now in
+    let plan = c.args.plan.now in
+    let p = c.args.partition in
+    let old = c.in_ok-numbers.numbers.items in
+    let new = c.put_in_order.new.numbers.items in
+    concerned-from ring plan p new c.requires.suits c.put_in_order.ensures.ascending (gathered-alike ring plan p old new c.put_in_order.ensures.same c.in_ok-numbers.ensures.ok)

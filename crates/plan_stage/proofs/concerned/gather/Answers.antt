@@ -8,7 +8,7 @@ slots-preserved c =
     let grows = c.in_ok-add_slot.ensures.grows in
     record {
       within = grows.steps inv.within;
-      slots = slots-more c.args.ring.now c.args.plan.now c.args.partition c.slots.index c.slots.numbers.keys c.add_slot.new.numbers.keys grows inv.slots c.in_ok-add_slot.ensures.slot;
+      slots = slots-more c.args.ring.now c.args.plan.now c.args.partition c.slots.index c.slots.numbers.items c.add_slot.new.numbers.items grows inv.slots c.in_ok-add_slot.ensures.slot;
     }
 
 pub returns-clause-ok : goal.returns-clause-ok

@@ -1,5 +1,5 @@
 use Rattle.std.proofs.Common.{◌∙◌}
-use Rattle.plan_stage.proofs.Leftovers.{with_node-insert}
+use Rattle.plan_stage.proofs.NodeSets.{with_node-insert}
 use Rattle.plan_stage.proofs.party.add_node.Goals as goal
 
 pub returns-clause-ok : goal.returns-clause-ok
