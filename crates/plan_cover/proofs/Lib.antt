@@ -3,3 +3,4 @@ pub mod Served
 pub mod Retiring
 pub mod Guarded
 pub mod Alike
+pub mod Placed

@@ -45,11 +45,11 @@ fn all_copies(alloc: Global, ring: &Ring, plan: &Plan) -> Result<Lists<NodeId, u
     ensures memory { IfErr result (λ e. e ≡ OutOfMemory) }
 {
     let mut copies = Lists::new(alloc);
-    let mut present = Present::new(alloc);
+    let mut present = Present::new(alloc, ring)?;
     for n in 0..plan.len() {
         let step = plan.step(n);
         add_parties(&mut copies, &present, ring, step, n)?;
-        present.act(ring, step)?;
+        present.act(ring, step);
     }
     Ok(copies)
 }

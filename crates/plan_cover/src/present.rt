@@ -1,18 +1,17 @@
 //! Who serves each slot, on the way through a plan.
 
-ghost use Rattle.std.specs.Prelude.{◌≡◌, ◌<◌, ℕ, Some, None, true, unwrap_or, IfErr, OnOk, if◌then◌else◌};
+ghost use Rattle.std.specs.Prelude.{◌≡◌, ◌<◌, Some, None, true, unwrap_or, length, IfErr, IfOk, if◌then◌else◌};
 ghost use Rattle.ring_names.specs.declared.ids.Slot.{Slot as TheSlot};
 ghost use Rattle.ring_names.specs.declared.refusal.Refusal.TheVariants.{OutOfMemory};
 ghost use Rattle.ring_table.specs.Value.{RingValue, owner_of};
 ghost use Rattle.plan_text.specs.Steps.{is_slot, is_on};
 ghost use Rattle.plan_text.specs.Valid.{step_suits};
-ghost use Rattle.plan_cover.specs.Looking.Serving.{serving_at, after_step};
+ghost use Rattle.plan_cover.specs.Looking.Serving.{place_of, kept_at, serving_at, HasRoom, after_step};
 
 use plan_text::Step;
 use ring_names::{NodeId, Refusal, Slot};
 use ring_table::Ring;
 use std::alloc::Global;
-use std::collections::HashMap;
 
 /// The owner of a slot, and its mirror if a step has set one.
 #[derive(Clone, Copy, Debug)]
@@ -21,20 +20,40 @@ pub struct Serving {
     pub mirror: Option<NodeId>,
 }
 
-/// Who serves each slot after the first steps of a plan. A slot that is not kept has the ring's owner.
+// Where a slot is kept: a partition has at most 7 slots.
+fn place_of(slot: Slot) -> usize
+    ensures { result ≡ place_of slot }
+{
+    7 * slot.partition as usize + slot.index as usize
+}
+
+/// Who serves each slot of a ring after the first steps of a plan. A slot that is not kept has the ring's owner.
 #[derive(Drop)]
 pub struct Present {
-    slots: HashMap<Slot, Serving>,
+    slots: Vec<Option<Serving>>,
 }
 
 impl Present {
     /// Before the first step.
-    pub fn new(alloc: Global) -> Present
-        ensures { (ring : RingValue) → (s : TheSlot) → serving_at ring result s ≡ record { owner = unwrap_or (owner_of ring s) (record { 0 = 0 }); mirror = None } }
+    pub fn new(alloc: Global, ring: &Ring) -> Result<Present, Refusal>
+        ensures room { IfOk result (λ a. HasRoom ring.now a) }
+        ensures ok { IfOk result (λ a. (s : TheSlot) → serving_at ring.now a s ≡ record { owner = unwrap_or (owner_of ring.now s) (record { 0 = 0 }); mirror = None }) }
+        ensures memory { IfErr result (λ e. e ≡ OutOfMemory) }
     {
-        Present {
-            slots: HashMap::new(alloc),
+        let slots = vec![in alloc; None; 7 * ring.q() as usize]?;
+        Ok(Present { slots })
+    }
+
+    // Who serves the slot, where that is kept.
+    fn kept(&self, slot: Slot) -> Option<Serving>
+        ensures { result ≡ kept_at self.now slot }
+    {
+        if slot.index < 7 {
+            if let Some(serving) = self.slots.get(place_of(slot)) {
+                return *serving;
+            }
         }
+        None
     }
 
     /// Who serves the slot.
@@ -43,8 +62,8 @@ impl Present {
         requires index { slot.index < ring.now.n }
         ensures { result ≡ serving_at ring.now self.now slot }
     {
-        match self.slots.get(&slot) {
-            Some(serving) => *serving,
+        match self.kept(slot) {
+            Some(serving) => serving,
             None => Serving {
                 owner: ring.owner(slot),
                 mirror: None,
@@ -53,25 +72,30 @@ impl Present {
     }
 
     // Keeps who serves the slot from now on.
-    fn set(&mut self, slot: Slot, serving: Serving) -> Result<(), Refusal>
-        ensures ok { OnOk result ((ring : RingValue) → (s : TheSlot) → serving_at ring self.new s ≡ (if is_slot s slot then serving else serving_at ring self.old s)) }
-        ensures memory { IfErr result (λ e. e ≡ OutOfMemory) }
+    fn set(&mut self, slot: Slot, serving: Serving)
+        requires room { place_of slot < length self.old.slots.items }
+        requires index { slot.index < 7 }
+        ensures kept { (s : TheSlot) → kept_at self.new s ≡ (if is_slot s slot then Some serving else kept_at self.old s) }
+        ensures room { length self.new.slots.items ≡ length self.old.slots.items }
     {
-        self.slots.insert(slot, serving)?;
-        Ok(())
+        self.slots[place_of(slot)] = Some(serving);
     }
 
     /// Lets a step act.
-    pub fn act(&mut self, ring: &Ring, step: &Step) -> Result<(), Refusal>
-        requires { step_suits ring.now step.now ≡ true }
-        ensures ok { OnOk result ((s : TheSlot) → serving_at ring.now self.new s ≡ (if is_on s step.now then after_step (serving_at ring.now self.old s) step.now else serving_at ring.now self.old s)) }
-        ensures memory { IfErr result (λ e. e ≡ OutOfMemory) }
+    pub fn act(&mut self, ring: &Ring, step: &Step)
+        requires suits { step_suits ring.now step.now ≡ true }
+        requires room { HasRoom ring.now self.old }
+        ensures serving { (s : TheSlot) → serving_at ring.now self.new s ≡ (if is_on s step.now then after_step (serving_at ring.now self.old s) step.now else serving_at ring.now self.old s) }
+        ensures room { HasRoom ring.now self.new }
     {
+        // A ring has at most 7 slots in a partition.
+        let slots = ring.n();
+        prove!(slots <= 7);
         match step {
             Step::Mirror(slot, node) => {
                 let Serving { owner, mirror: _ } = self.at(ring, *slot);
                 let mirror = Some(*node);
-                self.set(*slot, Serving { owner, mirror })
+                self.set(*slot, Serving { owner, mirror });
             }
             Step::Switch(slot) => {
                 let Serving { owner, mirror } = self.at(ring, *slot);
@@ -82,9 +106,9 @@ impl Present {
                         owner,
                         mirror: None,
                     },
-                )
+                );
             }
-            Step::Copy(_, _) | Step::Drop(_, _) | Step::Join(_) | Step::Retire(_) => Ok(()),
+            Step::Copy(_, _) | Step::Drop(_, _) | Step::Join(_) | Step::Retire(_) => {}
         }
     }
 }

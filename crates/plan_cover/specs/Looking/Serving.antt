@@ -1,9 +1,7 @@
 -- How the checker looks at a clause: who serves each slot, as a pass over a plan keeps it.
-use Rattle.std.specs.Prelude.{Bool, false, ◌||◌, List, [], ◌∷◌, Option, Some, None, unwrap_or}
-use Rattle.std.specs.HashMap as map
+use Rattle.std.specs.Prelude.{◌≡◌, ℕ, ◌+◌, ◌*◌, nat_lt, length, if◌then◌else◌, Bool, false, ◌||◌, List, [], ◌∷◌, Option, Some, None, unwrap_or, slice_index_or}
 use Rattle.ring_names.specs.declared.ids.NodeId.{NodeId}
 use Rattle.ring_names.specs.declared.ids.Slot.{Slot}
-use Rattle.ring_names.specs.contracts.ids.SlotPartialEq.TheImpl as slot_eq
 use Rattle.ring_table.specs.Value.{RingValue, owner_of}
 use Rattle.plan_text.specs.declared.step.Step.{Step}
 use Rattle.plan_text.specs.Steps.{copy_of}
@@ -18,9 +16,21 @@ use Rattle.plan_cover.specs.declared.present.Present.{Present}
 abbrev pub serving_of : Stage → Serving
 serving_of a = record { owner = a.owner; mirror = a.mirror }
 
--- what is kept for the slot, and otherwise the ring's owner
+-- where a slot is kept
+abbrev pub place_of : Slot → ℕ
+place_of s = 7 * s.partition + s.index
+
+-- each slot of the ring has a place
+abbrev pub HasRoom : RingValue → Present → Type 0
+HasRoom ring a = length a.slots.items ≡ 7 * ring.q
+
+-- what is kept for the slot
+abbrev pub kept_at : Present → Slot → Option Serving
+kept_at a s = if nat_lt s.index 7 then slice_index_or a.slots.items (place_of s) None else None
+
+-- and otherwise the ring's owner
 abbrev pub serving_at : RingValue → Present → Slot → Serving
-serving_at ring a s = elim (map.get ((slot_eq.ghosts).eq) a.slots s) [
+serving_at ring a s = elim (kept_at a s) [
   | Some v ↦ v
   | None ↦ record { owner = unwrap_or (owner_of ring s) (record { 0 = 0 }); mirror = None }
 ]

@@ -8,14 +8,15 @@ use Rattle.plan_cover.proofs.cover.all_copies.Goals as goal
 pub loop-n-init : goal.loop-n-init
 loop-n-init c = record {
   copies = c.new-copies.ensures;
-  present = λ s. c.new-present.ensures c.args.ring.now s ∙ serving-first c.args.ring.now c.args.plan.now s;
+  present = λ s. c.in_ok-present.ensures.ok s ∙ serving-first c.args.ring.now c.args.plan.now s;
+  room = c.in_ok-present.ensures.room;
 }
 
 pub add_parties-requires : goal.add_parties-requires
 add_parties-requires c = step-passes (step_suits c.args.ring.now) c.args.plan.now c.loop-n.n c.step-step.result.now c.step-step.ensures.value c.requires.steps
 
-pub act-requires : goal.act-requires
-act-requires c = step-passes (step_suits c.args.ring.now) c.args.plan.now c.loop-n.n c.step-step.result.now c.step-step.ensures.value c.requires.steps
+pub act-requires-clause-suits : goal.act-requires-clause-suits
+act-requires-clause-suits c = step-passes (step_suits c.args.ring.now) c.args.plan.now c.loop-n.n c.step-step.result.now c.step-step.ensures.value c.requires.steps
 
 pub loop-n-preserved : goal.loop-n-preserved
 loop-n-preserved c =
@@ -24,5 +25,6 @@ loop-n-preserved c =
     let t = c.step-step.result.now in
     record {
       copies = λ x. copies-next ring plan c.loop-n.n (serving_at ring c.loop-n.present) x t (kept_of c.loop-n.copies x) (kept_of c.add_parties.new.copies x) c.step-step.ensures.value c.loop-n.invariant.present (c.loop-n.invariant.copies x) (c.in_ok-add_parties.ensures.ok x);
-      present = λ s. present-next ring plan s c.loop-n.n t (serving_at ring c.loop-n.present s) (serving_at ring c.act.new.self s) c.step-step.ensures.value (c.loop-n.invariant.present s) (c.in_ok-act.ensures.ok s);
+      present = λ s. present-next ring plan s c.loop-n.n t (serving_at ring c.loop-n.present s) (serving_at ring c.act.new.self s) c.step-step.ensures.value (c.loop-n.invariant.present s) (c.act.ensures.serving s);
+      room = c.act.ensures.room;
     }

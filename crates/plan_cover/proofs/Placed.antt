@@ -1,0 +1,37 @@
+-- Where slots are kept, and what one more of them leaves as it was.
+use Rattle.std.proofs.Common.{◌≡◌, ◌≢◌, ℕ, ◌<◌, Bool, true, false, cond, List, length, get_or, Option, Some, None, refl, sym, ap, ◌∙◌, arith, slice_set}
+use Rattle.std.specs.Prelude.{◌==◌, ◌&&◌, nat_lt}
+use Rattle.std.proofs.lemmas.Bool.{eqb-true, ltb-true, lt-ltb, and_parts}
+use Rattle.std.proofs.lemmas.Grind.{get_or-set_at}
+use Rattle.std.proofs.lemmas.List.{get_or-set_other}
+use Rattle.ring_names.specs.declared.ids.Slot.{Slot}
+use Rattle.plan_text.specs.Steps.{is_slot}
+use Rattle.plan_stage.proofs.Truth.{same}
+use Rattle.plan_cover.specs.declared.present.Serving.{Serving}
+use Rattle.plan_cover.specs.Looking.Serving.{place_of}
+
+-- slots of one place are one slot
+same-slot : (s t : Slot) → s.index < 7 → t.index < 7 → place_of s ≡ place_of t → is_slot s t ≡ true
+same-slot s t l m e =
+    let p : s.partition ≡ t.partition = omega arith in
+    let i : s.index ≡ t.index = omega arith in
+    rw (p, i) (both (t.partition) (t.index))
+  where
+    both : (a b : ℕ) → ((a == a) && (b == b)) ≡ true
+    both a b = rw (same a, same b) refl
+
+abbrev at : List (Option Serving) → Slot → Option Serving
+at xs s = cond (nat_lt s.index 7) (get_or xs (place_of s) None) None
+
+pub kept-set : (xs : List (Option Serving)) (k : ℕ) (s t : Slot) (v : Serving) → k ≡ place_of t → t.index < 7 → place_of t < length xs → at (slice_set xs k (Some v)) s ≡ cond (is_slot s t) (Some v) (at xs s)
+kept-set xs k s t v e m l = by (is_slot s t) (nat_lt s.index 7) refl refl
+  where
+    by : (b c : Bool) → is_slot s t ≡ b → nat_lt s.index 7 ≡ c → cond c (get_or (slice_set xs k (Some v)) (place_of s) None) None ≡ cond b (Some v) (cond c (get_or xs (place_of s) None) None)
+    by true c is low =
+        let p = and_parts (s.partition == t.partition) (s.index == t.index) is in
+        let a : s.partition ≡ t.partition = eqb-true s.partition t.partition p.0 in
+        let b : s.index ≡ t.index = eqb-true s.index t.index p.1 in
+        let y : c ≡ true = sym low ∙ lt-ltb s.index 7 (omega arith) in
+        rw y (get_or-set_at xs k (place_of s) (Some v) None (omega arith) (omega arith))
+    by false true other low = get_or-set_other xs k (place_of s) (Some v) None (λ equal. (let f = same-slot s t (ltb-true s.index 7 low) m (equal ∙ e) in absurd cc))
+    by false false other low = refl
