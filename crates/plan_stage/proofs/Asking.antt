@@ -1,8 +1,8 @@
 -- What is asked of a node's holdings is what is asked of the steps that begin them.
-use Rattle.std.proofs.Common.{◌≡◌, ℕ, zero, suc, ◌+◌, ◌<◌, ◌≤◌, Bool, true, false, not, cond, List, [], ◌∷◌, ◌++◌, length, get_or, drop, Option, Some, None, refl, sym, ap, ◌∙◌, arith, add-one}
-use Rattle.std.specs.Prelude.{◌&&◌, ◌||◌, nat_lt, reverse, is_some}
+use Rattle.std.proofs.Common.{◌≡◌, ℕ, zero, suc, ◌+◌, ◌<◌, ◌≤◌, Bool, true, false, not, cond, List, [], ◌∷◌, length, get_or, drop, Option, Some, None, refl, sym, ap, subst, ◌∙◌, arith, add-one}
+use Rattle.std.specs.Prelude.{◌&&◌, ◌||◌, nat_lt, reverse, is_some, slice_get}
 use Rattle.std.specs.List.{list_all}
-use Rattle.std.proofs.lemmas.List.{drop_more, drop_all, reverse-append, reverse-reverse}
+use Rattle.std.proofs.lemmas.List.{drop_more, drop_all, reverse-reverse}
 use Rattle.std.proofs.lemmas.List.Folds.{list_all-append}
 use Rattle.ring_names.specs.declared.ids.NodeId.{NodeId}
 use Rattle.ring_names.specs.declared.ids.Slot.{Slot}
@@ -14,45 +14,25 @@ use Rattle.plan_text.specs.Steps.{steps_of, is_on, switch_of}
 use Rattle.plan_stage.specs.declared.holding.Holding.{Holding}
 use Rattle.plan_stage.specs.declared.holding.Holdings.{Holdings}
 use Rattle.plan_stage.specs.Stage.{opening, stage, after}
-use Rattle.plan_stage.specs.Occupancy.{leaving, dropping, mirror_end, mirror_drop, first_end, first_drop}
+use Rattle.plan_stage.specs.Occupancy.{leaving, dropping, mirror_end, mirror_drop, first_drop}
 use Rattle.plan_stage.specs.Each.{step_at, each_step, each_below, is_mirror_of, is_switch_of, owns_first, place_in}
 use Rattle.plan_stage.specs.Partition.{Test, ends_before, has_left_slot, has_dropped_slot}
 use Rattle.plan_stage.specs.Holdings.{holdings_from, first_holding, holdings}
 use Rattle.plan_stage.specs.Looking.Held.{held_at, AreHeld}
-use Rattle.plan_stage.specs.Looking.Asked.{switches, is_settling, begins_before, is_ended_before, are_left, is_dropped_before}
+use Rattle.plan_stage.specs.Looking.Asked.{switches, is_settling, begins_before, is_left_before, has_left_at, is_dropped_before, has_dropped_at}
 use Rattle.plan_stage.proofs.Stages.{stage-more}
 use Rattle.plan_stage.proofs.Slots.{place, own_steps}
-use Rattle.plan_stage.proofs.Rising.{all-until, holdings-rise}
+use Rattle.plan_stage.proofs.Rising.{InFront, holdings-rise}
+use Rattle.plan_stage.proofs.Kept.{both-fail, and-true, all-reverse, left-kept, dropped-kept}
 
 -- ---- numbers below n
 
 pub below-more : (f : ℕ → Bool) (n : ℕ) → each_below n f ≡ true → f n ≡ true → each_below (n + 1) f ≡ true
 below-more f n h here = rw (add-one, h, here) refl
 
-both-fail : (a : Bool) → (a && false) ≡ false
-both-fail true = refl
-both-fail false = refl
-
 pub below-fails : (f : ℕ → Bool) (k m : ℕ) → f k ≡ false → each_below (m + suc k) f ≡ false
 below-fails f k zero h = (let z : 0 + suc k ≡ suc k = omega arith in rw (z, h) (both-fail (each_below k f)))
 below-fails f k (suc m) h = (let s : suc m + suc k ≡ suc (m + suc k) = omega arith in rw (s, below-fails f k m h) refl)
-
--- ---- tests over lists
-
-and-true : (a : Bool) → (a && true) ≡ a
-and-true true = refl
-and-true false = refl
-
-and-turn : (a b : Bool) → (a && b) ≡ (b && a)
-and-turn true b = sym (and-true b)
-and-turn false b = sym (both-fail b)
-
-all-reverse : (f : Holding → Bool) (xs : List Holding) → list_all f (reverse xs) ≡ list_all f xs
-all-reverse f [] = refl
-all-reverse f (x ∷ xs) =
-    let r : reverse (x ∷ xs) ≡ reverse xs ++ x ∷ [] = reverse-append (x ∷ []) xs in
-    ap (list_all f) r ∙ list_all-append f (reverse xs) (x ∷ []) ∙ and-turn (list_all f (reverse xs)) (f x && true)
-    ∙ (rw (and-true (f x), all-reverse f xs) refl)
 
 -- ---- the steps that begin holdings
 
@@ -124,11 +104,7 @@ two-tests false false c = refl
 no-mirror : (a b c : Bool) → b ≡ false → (not (a && b) || c) ≡ true
 no-mirror a b c e = rw (e, both-fail a) refl
 
--- where the holding begins before step t, the node no longer owns the slot by then
-abbrev is_left_before : Test → ℕ → Holding → Bool
-is_left_before O t h = not (begins_before t h) || is_ended_before O t h
-
-pub left-is : (ring : RingValue) (plan : List Planned) (O : Test) (t p i : ℕ) (x : NodeId) (h : Holdings) → AreHeld ring plan p h → i < ring.n → are_left O t (reverse (held_at h i x)) ≡ has_left_slot ring plan O t (record { partition = p; index = i }) x
+pub left-is : (ring : RingValue) (plan : List Planned) (O : Test) (t p i : ℕ) (x : NodeId) (h : Holdings) → AreHeld ring plan p h → i < ring.n → has_left_at O t h i x ≡ has_left_slot ring plan O t (record { partition = p; index = i }) x
 left-is ring plan O t p i x h held l =
     let slot : Slot = record { partition = p; index = i } in
     let f = is_left_before O t in
@@ -136,17 +112,18 @@ left-is ring plan O t p i x h held l =
     (λ b s off. no-mirror (nat_lt b t) (is_mirror_of slot x s) (ends_before O (mirror_end ring plan slot (place_in plan slot b) x) t) (other-mirror slot x s off))
     (λ b s at on. two-tests (nat_lt b t) (is_mirror_of slot x s) (ends_before O (mirror_end ring plan slot (place_in plan slot b) x) t) ∙ asked-at ring plan slot x f b s at) in
     let turned : reverse (held_at h i x) ≡ holdings ring plan slot x = ap (λ (hs : List Holding). reverse hs) (held i l x) ∙ reverse-reverse (holdings ring plan slot x) in
-    ap (are_left O t) turned ∙ all-until (begins_before t) (is_ended_before O t) (holdings ring plan slot x) (holdings-rise ring plan slot x t)
-    ∙ asked-all ring plan slot x f ∙ ap (λ (b : Bool). (not (owns_first ring slot x) || ends_before O (first_end ring plan slot) t) && b) (sym steps)
+    left-kept O t x (slice_get h.slots.items i) (subst (InFront (begins_before t)) (sym turned) (holdings-rise ring plan slot x t))
+    ∙ ap (list_all f) turned ∙ asked-all ring plan slot x f ∙ ap (λ (b : Bool). (not (owns_first ring slot x) || f (first_holding ring plan slot)) && b) (sym steps)
 
-pub dropped-is : (ring : RingValue) (plan : List Planned) (O : Test) (t p i : ℕ) (x : NodeId) (h : Holdings) → AreHeld ring plan p h → i < ring.n → list_all (is_dropped_before O t) (held_at h i x) ≡ has_dropped_slot ring plan O t (record { partition = p; index = i }) x
+pub dropped-is : (ring : RingValue) (plan : List Planned) (O : Test) (t p i : ℕ) (x : NodeId) (h : Holdings) → AreHeld ring plan p h → i < ring.n → has_dropped_at O t h i x ≡ has_dropped_slot ring plan O t (record { partition = p; index = i }) x
 dropped-is ring plan O t p i x h held l =
     let slot : Slot = record { partition = p; index = i } in
     let f = is_dropped_before O t in
     let steps = own_steps plan slot (λ b s. not (is_mirror_of slot x s) || ends_before O (mirror_drop plan slot (place_in plan slot b) x) t) (asked ring plan slot x f)
     (λ b s off. no-mirror true (is_mirror_of slot x s) (ends_before O (mirror_drop plan slot (place_in plan slot b) x) t) (other-mirror slot x s off))
     (λ b s at on. asked-at ring plan slot x f b s at) in
-    ap (list_all f) (held i l x) ∙ all-reverse f (holdings ring plan slot x) ∙ asked-all ring plan slot x f ∙ ap (λ (b : Bool). (not (owns_first ring slot x) || ends_before O (first_drop ring plan slot) t) && b) (sym steps)
+    dropped-kept O t x (slice_get h.slots.items i)
+    ∙ ap (list_all f) (held i l x) ∙ all-reverse f (holdings ring plan slot x) ∙ asked-all ring plan slot x f ∙ ap (λ (b : Bool). (not (owns_first ring slot x) || ends_before O (first_drop ring plan slot) t) && b) (sym steps)
 
 -- ---- switches of listed slots
 

@@ -4,6 +4,7 @@ pub mod Stages
 pub mod Truth
 pub mod Slots
 pub mod Rising
+pub mod Kept
 pub mod Asking
 pub mod Places
 pub mod Leavings

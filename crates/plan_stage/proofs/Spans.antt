@@ -10,8 +10,7 @@ use Rattle.plan_text.specs.declared.step.Step.{Step}
 use Rattle.plan_text.specs.declared.step.Step.TheVariants.{Join, Mirror, Copy, Switch, Drop, Retire}
 use Rattle.plan_text.specs.declared.step.Planned.{Planned}
 use Rattle.plan_text.specs.Steps.{is_on, steps_of, is_slot}
-use Rattle.ring_names.specs.declared.lists.Lists.{Lists}
-use Rattle.plan_stage.specs.declared.holding.Holding.{Holding}
+use Rattle.plan_stage.specs.declared.held.Held.{Held}
 use Rattle.plan_stage.specs.declared.behind.Behind.{Behind}
 use Rattle.plan_stage.specs.declared.stage.Stage.{Stage}
 use Rattle.plan_stage.specs.Stage.{after, next, opening}
@@ -98,7 +97,7 @@ goes_back plan slot numbers k old new t e some le at goes h =
     rw e (back plan slot (k - 1) old new t (rw e at l) (rw e at at) (rw e at goes) (rw (before, ← e) h))
 
 -- the holding of the first owner, put last
-pub is_held : (ring : RingValue) (plan : List Planned) (slot : Slot) (y : NodeId) (old : Behind) (new : Lists NodeId Holding) → owner_of ring slot ≡ Some y → IsStagedSlot ring plan slot → IsBehind plan slot old (steps_of plan slot)
+pub is_held : (ring : RingValue) (plan : List Planned) (slot : Slot) (y : NodeId) (old : Behind) (new : Held) → owner_of ring slot ≡ Some y → IsStagedSlot ring plan slot → IsBehind plan slot old (steps_of plan slot)
     → ((x : NodeId) → held_of new x ≡ cond (is_node x y) (held_of old.held x ++ record { begin = None; end = old.next_switch; drop = drop_of old y } ∷ []) (held_of old.held x))
     → IsHeld ring plan slot (held_of new)
 is_held ring plan slot y old new own staged h more = λ x.

@@ -1,6 +1,7 @@
 -- How the checker looks at the clauses: what it keeps of a plan, and what it asks of that.
 pub mod Asked
 pub mod Concerned
+pub mod Drops
 pub mod Gathered
 pub mod Held
 pub mod Leftovers

@@ -7,11 +7,12 @@ ghost use Rattle.plan_stage.specs.Occupancy.{is_node};
 ghost use Rattle.plan_stage.specs.Looking.Held.{held_of};
 ghost use Rattle.plan_stage.specs.Looking.Switches.{drop_of, GoesBehind};
 
+use crate::drops::Drops;
+use crate::held::Held;
 use crate::holding::Holding;
 use plan_text::Step;
-use ring_names::{Lists, NodeId, Refusal};
+use ring_names::{NodeId, Refusal};
 use std::alloc::Global;
-use std::collections::HashMap;
 
 /// The first two switches of some steps of a slot, the first drop of each node, and what the nodes hold that they begin.
 #[derive(Drop)]
@@ -19,8 +20,8 @@ pub struct Behind {
     /// The first switch behind, if there is one.
     pub next_switch: Option<u32>,
     second_switch: Option<u32>,
-    drops: HashMap<NodeId, u32>,
-    held: Lists<NodeId, Holding>,
+    drops: Drops,
+    held: Held,
 }
 
 impl Behind {
@@ -34,8 +35,8 @@ impl Behind {
         Behind {
             next_switch: None,
             second_switch: None,
-            drops: HashMap::new(alloc),
-            held: Lists::new(alloc),
+            drops: Drops::new(alloc),
+            held: Held::new(alloc),
         }
     }
 
@@ -54,7 +55,7 @@ impl Behind {
                 self.next_switch = Some(number);
             }
             Step::Drop(_, node) => {
-                self.drops.insert(*node, number)?;
+                self.drops.set(*node, number)?;
             }
             Step::Copy(_, _) | Step::Join(_) | Step::Retire(_) => {}
         }
@@ -74,12 +75,12 @@ impl Behind {
         ensures held { OnOk result ((x : TheNode) → held_of self.new.held x ≡ (if is_node x node then held_of self.old.held x ++ record { begin = begin; end = end; drop = drop_of self.old node } ∷ [] else held_of self.old.held x)) }
         ensures memory { IfErr result (λ e. e ≡ OutOfMemory) }
     {
-        let drop = self.drops.get(&node).copied();
+        let drop = self.drops.get(node);
         self.held.add(node, Holding { begin, end, drop })
     }
 
     /// What the nodes hold.
-    pub fn into_held(self) -> Lists<NodeId, Holding>
+    pub fn into_held(self) -> Held
         ensures { result ≡ self.held }
     {
         let Behind {

@@ -8,10 +8,11 @@ ghost use Rattle.plan_order.specs.Order.{order};
 ghost use Rattle.plan_stage.specs.Clauses.{Gives};
 ghost use Rattle.plan_stage.specs.Partition.{ends_before, is_settled, has_left, has_dropped, mirror_clauses, copy_clauses, step_clauses};
 ghost use Rattle.plan_stage.specs.Each.{each_step, each_below, is_switch_of, sibling};
-ghost use Rattle.plan_stage.specs.Looking.Held.{AreHeld, held_at};
+ghost use Rattle.plan_stage.specs.Looking.Held.{AreHeld, held_among};
 ghost use Rattle.plan_stage.specs.Looking.Looked.{clauses_at};
-ghost use Rattle.plan_stage.specs.Looking.Asked.{switches, is_settling, begins_before, are_left, is_dropped_before};
+ghost use Rattle.plan_stage.specs.Looking.Asked.{switches, is_settling, begins_before, are_left, is_left_before, has_left_held, has_left_at, is_dropped_before, has_dropped_at};
 
+use crate::held::{Found, Held};
 use crate::holding::{Holding, Holdings};
 use crate::joined::has_joined_by;
 use plan_order::Context;
@@ -112,12 +113,25 @@ fn are_left(context: &Context, number: u32, held: &[Holding]) -> bool
         .all(|holding| ends_before(context, holding.end, number))
 }
 
-// Whether what all these holdings held is dropped by the step.
-fn are_dropped(context: &Context, number: u32, held: &[Holding]) -> bool
-    ensures { result ≡ list_all (is_dropped_before (order context.now) number) held.now }
+// Whether those of the node among these that begin before the step are ended by then.
+fn are_first_left(context: &Context, number: u32, node: NodeId, found: &[Found]) -> bool
+    ensures { result ≡ list_all (is_left_before (order context.now) number) (held_among found.now node) }
 {
-    held.iter()
-        .all(|holding| ends_before(context, holding.drop, number))
+    found
+        .iter()
+        .filter(|one| one.node.0 == node.0)
+        .map(|one| one.holding)
+        .all(|holding| {
+            !begins_before(&holding, number) || ends_before(context, holding.end, number)
+        })
+}
+
+// Whether the node has left the slot of which this is kept, where it served it from the start or from an earlier step on.
+fn has_left_held(context: &Context, number: u32, node: NodeId, held: &Held) -> bool
+    ensures { result ≡ has_left_held (order context.now) number node held.now }
+{
+    are_first_left(context, number, node, held.first())
+        && are_left(context, number, held.others(node))
 }
 
 // Whether the slot of that index is the step's own, or the node has left it by the step.
@@ -129,9 +143,53 @@ fn is_left_at(
     node: NodeId,
     index: u32,
 ) -> bool
-    ensures { result ≡ ((index == slot.index) || are_left (order context.now) number (reverse (held_at holdings.now index node))) }
+    ensures { result ≡ ((index == slot.index) || has_left_at (order context.now) number holdings.now index node) }
 {
-    index == slot.index || are_left(context, number, holdings.held(index, node))
+    if index == slot.index {
+        return true;
+    }
+    match holdings.slot(index) {
+        Some(held) => has_left_held(context, number, node, held),
+        None => true,
+    }
+}
+
+// Whether what all these holdings held is dropped by the step.
+fn are_dropped(context: &Context, number: u32, held: &[Holding]) -> bool
+    ensures { result ≡ list_all (is_dropped_before (order context.now) number) held.now }
+{
+    held.iter()
+        .all(|holding| ends_before(context, holding.drop, number))
+}
+
+// Whether what the node held by those of these that are its own is dropped by the step.
+fn are_first_dropped(context: &Context, number: u32, node: NodeId, found: &[Found]) -> bool
+    ensures { result ≡ list_all (is_dropped_before (order context.now) number) (held_among found.now node) }
+{
+    found
+        .iter()
+        .filter(|one| one.node.0 == node.0)
+        .map(|one| one.holding)
+        .all(|holding| ends_before(context, holding.drop, number))
+}
+
+// Whether the node has dropped what it held of the slot of that index.
+fn is_dropped_at(
+    context: &Context,
+    holdings: &Holdings,
+    number: u32,
+    node: NodeId,
+    index: u32,
+) -> bool
+    ensures { result ≡ has_dropped_at (order context.now) number holdings.now index node }
+{
+    match holdings.slot(index) {
+        Some(held) => {
+            are_first_dropped(context, number, node, held.first())
+                && are_dropped(context, number, held.others(node))
+        }
+        None => true,
+    }
 }
 
 // Whether the node has left each other slot of the partition that it served from the start or from an earlier step on.
@@ -159,7 +217,7 @@ fn has_dropped(
     ensures { result ≡ has_dropped context.now.ring.now context.now.plan.now (order context.now) partition number node }
 {
     for index in 0..context.ring.n() {
-        if !are_dropped(context, number, holdings.held(index, node)) {
+        if !is_dropped_at(context, holdings, number, node, index) {
             return false;
         }
     }

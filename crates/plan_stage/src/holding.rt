@@ -1,13 +1,14 @@
 //! How long nodes hold versions of the slots of a partition.
 
-ghost use Rattle.std.specs.Prelude.{◌≡◌, ◌<◌, IfOk, IfErr};
+ghost use Rattle.std.specs.Prelude.{◌≡◌, ◌<◌, IfOk, IfErr, option_copied, slice_get};
 ghost use Rattle.ring_names.specs.declared.refusal.Refusal.TheVariants.{OutOfMemory};
 ghost use Rattle.plan_stage.specs.Clauses.{IsStagedSlot, IsStagedIn};
 ghost use Rattle.plan_stage.specs.Looking.Held.{held_of, held_at, IsHeld, AreHeld};
 
 use crate::behind::Behind;
+use crate::held::Held;
 use plan_text::Plan;
-use ring_names::{Lists, NodeId, Refusal, Slot};
+use ring_names::{Refusal, Slot};
 use ring_table::Ring;
 use std::alloc::Global;
 
@@ -23,12 +24,7 @@ pub struct Holding {
 }
 
 // What each node holds of one slot, the last holding first. Costs one pass over the slot's steps.
-fn slot_holdings(
-    alloc: Global,
-    ring: &Ring,
-    plan: &Plan,
-    slot: Slot,
-) -> Result<Lists<NodeId, Holding>, Refusal>
+fn slot_holdings(alloc: Global, ring: &Ring, plan: &Plan, slot: Slot) -> Result<Held, Refusal>
     requires partition { slot.partition < ring.now.q }
     requires index { slot.index < ring.now.n }
     requires staged { IsStagedSlot ring.now plan.now slot }
@@ -48,7 +44,7 @@ fn slot_holdings(
 /// What each node holds of the slots of a partition, by index.
 #[derive(Drop)]
 pub struct Holdings {
-    slots: Vec<Lists<NodeId, Holding>>,
+    slots: Vec<Held>,
 }
 
 impl Holdings {
@@ -59,20 +55,17 @@ impl Holdings {
         ensures ok { IfOk result (λ a. AreHeld ring.now plan.now partition a) }
         ensures memory { IfErr result (λ e. e ≡ OutOfMemory) }
     {
-        let mut slots = Vec::new(alloc);
+        let mut slots = Vec::with_capacity(alloc, ring.n() as usize)?;
         for index in 0..ring.n() {
             slots.push(slot_holdings(alloc, ring, plan, Slot { partition, index })?)?;
         }
         Ok(Holdings { slots })
     }
 
-    /// What the node holds of the slot of that index, the last holding first.
-    pub fn held(&self, index: u32, node: NodeId) -> &[Holding]
-        ensures { result.now ≡ held_at self.now index node }
+    /// What the nodes hold of the slot of that index, the last holding first.
+    pub fn slot(&self, index: u32) -> Option<&Held>
+        ensures { option_copied result ≡ slice_get self.now.slots.items index }
     {
-        match self.slots.get(index as usize) {
-            Some(slot) => slot.items(&node),
-            None => &[],
-        }
+        self.slots.get(index as usize)
     }
 }

@@ -1,11 +1,15 @@
 -- How the checker looks at a clause: what is asked of one step of a slot, and of the holdings of a node.
-use Rattle.std.specs.Prelude.{ℕ, Bool, true, not, ◌||◌, nat_lt, List, Some, None, is_some}
+use Rattle.std.specs.Prelude.{ℕ, Bool, true, not, ◌&&◌, ◌||◌, nat_lt, List, Some, None, is_some, reverse, slice_get}
 use Rattle.std.specs.List.{list_all, take_while}
+use Rattle.ring_names.specs.declared.ids.NodeId.{NodeId}
 use Rattle.plan_text.specs.declared.step.Planned.{Planned}
 use Rattle.plan_text.specs.Steps.{switch_of}
+use Rattle.plan_stage.specs.declared.held.Held.{Held}
 use Rattle.plan_stage.specs.declared.holding.Holding.{Holding}
+use Rattle.plan_stage.specs.declared.holding.Holdings.{Holdings}
 use Rattle.plan_stage.specs.Each.{passes}
 use Rattle.plan_stage.specs.Partition.{Test, ends_before}
+use Rattle.plan_stage.specs.Looking.Held.{held_among, held_beside}
 
 -- whether step m is a switch
 abbrev pub switches : List Planned → ℕ → Bool
@@ -27,6 +31,26 @@ is_ended_before O t h = ends_before O h.end t
 abbrev pub are_left : Test → ℕ → List Holding → Bool
 are_left O t hs = list_all (is_ended_before O t) (take_while (begins_before t) hs)
 
+-- where the holding begins before step t, the node no longer owns the slot by then
+abbrev pub is_left_before : Test → ℕ → Holding → Bool
+is_left_before O t h = not (begins_before t h) || is_ended_before O t h
+
+-- so it is for each holding of the node that is kept
+abbrev pub has_left_held : Test → ℕ → NodeId → Held → Bool
+has_left_held O t x a = list_all (is_left_before O t) (held_among a.first x) && are_left O t (reverse (held_beside a.others x))
+
+-- so it is in the slot of that index
+abbrev pub has_left_at : Test → ℕ → Holdings → ℕ → NodeId → Bool
+has_left_at O t a i x = elim (slice_get a.slots.items i) [ None ↦ true | Some held ↦ has_left_held O t x held ]
+
 -- by step t the node has dropped what it had
 abbrev pub is_dropped_before : Test → ℕ → Holding → Bool
 is_dropped_before O t h = ends_before O h.drop t
+
+-- so it is for each holding of the node that is kept
+abbrev pub has_dropped_held : Test → ℕ → NodeId → Held → Bool
+has_dropped_held O t x a = list_all (is_dropped_before O t) (held_among a.first x) && list_all (is_dropped_before O t) (held_beside a.others x)
+
+-- so it is in the slot of that index
+abbrev pub has_dropped_at : Test → ℕ → Holdings → ℕ → NodeId → Bool
+has_dropped_at O t a i x = elim (slice_get a.slots.items i) [ None ↦ true | Some held ↦ has_dropped_held O t x held ]

@@ -1,7 +1,5 @@
 -- How the checker looks at a clause: what the later steps of a slot say of a holding, where each step fits the stage before it.
 use Rattle.std.specs.Prelude.{◌≡◌, ℕ, true, List, [], ◌∷◌, Option, Some, None, reverse, if◌then◌else◌}
-use Rattle.std.specs.HashMap as map
-use Rattle.ring_names.specs.contracts.ids.NodeIdPartialEq.TheImpl as node_eq
 use Rattle.ring_names.specs.declared.ids.NodeId.{NodeId}
 use Rattle.ring_names.specs.declared.ids.Slot.{Slot}
 use Rattle.plan_text.specs.declared.step.Step.{Step}
@@ -11,6 +9,7 @@ use Rattle.plan_stage.specs.declared.holding.Holding.{Holding}
 use Rattle.plan_stage.specs.declared.behind.Behind.{Behind}
 use Rattle.plan_stage.specs.Each.{step_at, passes, is_switch_of, is_mirror_of}
 use Rattle.plan_stage.specs.Occupancy.{dropping}
+use Rattle.plan_stage.specs.Looking.Drops.{dropped_in}
 use Rattle.plan_stage.specs.Looking.Held.{held_of}
 
 -- the first switch among these steps
@@ -32,7 +31,7 @@ spans plan slot x (b ∷ bs) = if passes (is_mirror_of slot x) plan b
 
 -- the drop that is kept of the node
 abbrev pub drop_of : Behind → NodeId → Option ℕ
-drop_of a x = map.get ((node_eq.ghosts).eq) a.drops x
+drop_of a x = dropped_in a.drops x
 
 -- what is kept is what these steps say
 pub record IsBehind (plan : List Planned) (slot : Slot) (a : Behind) (bs : List ℕ) : Type 0 where

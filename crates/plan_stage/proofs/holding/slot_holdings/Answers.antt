@@ -1,8 +1,6 @@
 use Rattle.std.proofs.Common.{◌≡◌, ℕ, ◌<◌, ◌≤◌, length, drop, arith, subst, sym, ap, ◌∙◌}
 use Rattle.plan_stage.specs.Looking.Switches.{IsBehind}
-use Rattle.ring_names.specs.declared.ids.NodeId.{NodeId}
-use Rattle.ring_names.specs.declared.lists.Lists.{Lists}
-use Rattle.plan_stage.specs.declared.holding.Holding.{Holding}
+use Rattle.plan_stage.specs.declared.held.Held.{Held}
 use Rattle.plan_stage.specs.Looking.Held.{IsHeld, held_of}
 use Rattle.plan_stage.proofs.Spans.{goes_back, is_held}
 use Rattle.plan_stage.proofs.holding.slot_holdings.Goals as goal
@@ -20,4 +18,4 @@ returns-clause-ok c =
     let first : c.loop-k.k ≡ 0 = omega arith in
     let all = ap (λ (k : ℕ). drop k c.slot_steps-numbers.result.now) first ∙ c.slot_steps-numbers.ensures.value in
     let behind = subst (IsBehind plan c.args.slot c.loop-k.behind) all c.loop-k.invariant in
-    subst (λ (a : Lists NodeId Holding). IsHeld c.args.ring.now plan c.args.slot (held_of a)) (sym c.into_held.ensures) (is_held c.args.ring.now plan c.args.slot c.owner.result c.loop-k.behind c.begin.new.self.held c.owner.ensures c.requires.staged behind c.in_ok-begin.ensures.held)
+    subst (λ (a : Held). IsHeld c.args.ring.now plan c.args.slot (held_of a)) (sym c.into_held.ensures) (is_held c.args.ring.now plan c.args.slot c.owner.result c.loop-k.behind c.begin.new.self.held c.owner.ensures c.requires.staged behind c.in_ok-begin.ensures.held)
