@@ -1,3 +1,5 @@
+pub mod ChainLaws
+pub mod Places
 pub mod Written
 pub mod CertLines
 pub mod CertLaws

@@ -1,3 +1,4 @@
+pub mod Chains
 pub mod Valid
 pub mod Spelling
 pub mod Reading

@@ -4,10 +4,12 @@ ghost use Rattle.std.specs.Prelude.{◌≡◌, ◌↔◌, IsTrue};
 ghost use Rattle.std.specs.List.{list_all};
 ghost use Rattle.plan_cert.specs.Valid.{is_fact, is_chain, Suits};
 
-use ring_names::{Listed, NodeId};
+use crate::chains::Chains;
+use ring_names::{Listed, NodeId, Rows};
 use ring_table::Ring;
 
-/// Copies to which a node is party, one behind the other in order: the node has one transfer of a chain open at a time.
+/// Copies to which a node is party, one behind the other in order: the node has one transfer of a chain open at a time. `Chains` is
+/// a list of these, as contracts see it.
 #[derive(Debug, Drop)]
 pub struct Chain {
     pub node: NodeId,
@@ -17,33 +19,43 @@ pub struct Chain {
 /// A certificate: paths of dependencies, and chains of copies, both in the order written.
 #[derive(Debug, Drop)]
 pub struct Cert {
-    pub facts: Listed<Listed<u32>>,
-    pub chains: Listed<Chain>,
+    pub facts: Rows,
+    pub chains: Chains,
 }
 
-fn is_fact(path: &Listed<u32>) -> bool
+fn is_fact(path: &[u32]) -> bool
     ensures { result ≡ is_fact path.now }
 {
-    let steps = path.as_slice().len();
+    let steps = path.len();
     2 <= steps && steps <= 1024
 }
 
-fn is_chain(ring: &Ring, chain: &Chain) -> bool
-    ensures { result ≡ is_chain ring.now chain.now }
+fn is_chain(ring: &Ring, node: NodeId, steps: &[u32]) -> bool
+    ensures { result ≡ is_chain ring.now (record { node = node; steps = steps.now }) }
 {
-    (chain.node.0 as usize) < ring.nodes().len() && !chain.steps.as_slice().is_empty()
+    (node.0 as usize) < ring.nodes().len() && !steps.is_empty()
 }
 
-fn are_facts(facts: &[Listed<u32>]) -> bool
+fn are_facts(facts: &Rows) -> bool
     ensures { result ≡ list_all is_fact facts.now }
 {
-    facts.iter().all(|path| is_fact(path))
+    for place in 0..facts.len() {
+        if !is_fact(facts.row(place)) {
+            return false;
+        }
+    }
+    true
 }
 
-fn are_chains(ring: &Ring, chains: &[Chain]) -> bool
+fn are_chains(ring: &Ring, chains: &Chains) -> bool
     ensures { result ≡ list_all (is_chain ring.now) chains.now }
 {
-    chains.iter().all(|chain| is_chain(ring, chain))
+    for place in 0..chains.len() {
+        if !is_chain(ring, chains.node(place), chains.steps(place)) {
+            return false;
+        }
+    }
+    true
 }
 
 impl Cert {
@@ -52,11 +64,9 @@ impl Cert {
     pub fn suits(&self, ring: &Ring) -> bool
         ensures { IsTrue result ↔ Suits ring.now self.now }
     {
-        let facts = self.facts.as_slice();
-        let chains = self.chains.as_slice();
-        facts.len() <= 262144
-            && are_facts(facts)
-            && chains.len() <= 65536
-            && are_chains(ring, chains)
+        self.facts.len() <= 262144
+            && are_facts(&self.facts)
+            && self.chains.len() <= 65536
+            && are_chains(ring, &self.chains)
     }
 }

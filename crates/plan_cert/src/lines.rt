@@ -7,8 +7,8 @@ ghost use Rattle.ring_text.specs.Late.{IsAt};
 ghost use Rattle.plan_cert.specs.Reading.{path_at, steps_at, fact_at, chain_at};
 ghost use Rattle.plan_cert.specs.Said.{chain_of};
 
-use crate::cert::Chain;
-use ring_names::{Listed, NodeId, Refusal};
+use crate::chains::Chains;
+use ring_names::{NodeId, Refusal, Rows};
 use ring_table::{Ring, node_field};
 use ring_text::{CAP, Fields, NumberRow, both, finish, need};
 
@@ -49,7 +49,7 @@ fn steps_field<'a>(fields: &mut Fields<'a>) -> Result<NumberRow<'a>, Refusal>
 
 // What a fact's line says.
 #[tactic(auto, unfolding(crate::specs::Reading::fact_at))]
-fn judge_fact<'a>(seen: &[Listed<u32>], mut fields: Fields<'a>) -> Result<NumberRow<'a>, Refusal>
+fn judge_fact<'a>(seen: &Rows, mut fields: Fields<'a>) -> Result<NumberRow<'a>, Refusal>
     ensures { result ≡ fact_at seen.now fields.entry.number fields.entry.fields }
 {
     let room = need(seen.len() < 262144, &fields);
@@ -60,7 +60,7 @@ fn judge_fact<'a>(seen: &[Listed<u32>], mut fields: Fields<'a>) -> Result<Number
 }
 
 /// What a fact's line says, behind the facts seen. Takes no memory.
-pub fn fact_line<'a>(seen: &[Listed<u32>], fields: Fields<'a>) -> Result<NumberRow<'a>, Refusal>
+pub fn fact_line<'a>(seen: &Rows, fields: Fields<'a>) -> Result<NumberRow<'a>, Refusal>
     ensures value { result ≡ fact_at seen.now fields.entry.number fields.entry.fields }
     ensures small { IfOk result (λ path. are_small path ≡ true) }
     ensures room { OnOk result (length seen.now < 262144) }
@@ -80,7 +80,7 @@ pub struct ChainLine<'a> {
 #[tactic(auto, unfolding(crate::specs::Reading::chain_at))]
 fn judge_chain<'a>(
     ring: &Ring,
-    seen: &[Chain],
+    seen: &Chains,
     mut fields: Fields<'a>,
 ) -> Result<ChainLine<'a>, Refusal>
     ensures { map_ok chain_of result ≡ chain_at ring.now seen.now fields.entry.number fields.entry.fields }
@@ -96,7 +96,7 @@ fn judge_chain<'a>(
 /// What a chain's line says, behind the chains seen. Takes no memory.
 pub fn chain_line<'a>(
     ring: &Ring,
-    seen: &[Chain],
+    seen: &Chains,
     fields: Fields<'a>,
 ) -> Result<ChainLine<'a>, Refusal>
     ensures value { map_ok chain_of result ≡ chain_at ring.now seen.now fields.entry.number fields.entry.fields }

@@ -12,49 +12,51 @@ ghost use Rattle.plan_cert.specs.Spelling.{cert_text};
 ghost use Rattle.plan_cert.specs.Valid.{IsCert, Suits};
 ghost use Rattle.plan_cert.specs.declared.cert.Cert.{Cert};
 
-use crate::cert::{Cert, Chain};
+use crate::cert::Cert;
+use crate::chains::Chains;
 use crate::lines::{ChainLine, chain_line, fact_line};
-use ring_names::{Listed, Refusal};
+use ring_names::{Refusal, Rows};
 use ring_table::Ring;
 use ring_text::{Lines, NumberRow, end, header};
 use std::alloc::Global;
 
 // Adds the fact of a line that was judged.
-fn add_fact(alloc: Global, facts: &mut Vec<Listed<u32>>, path: NumberRow) -> Result<(), Refusal>
+fn add_fact(alloc: Global, facts: &mut Rows, path: NumberRow) -> Result<(), Refusal>
     requires { are_small path ≡ true }
-    ensures ok { OnOk result (facts.new.items ≡ facts.old.items ++ path.entry ∷ []) }
-    ensures grows { OnOk result (length facts.new.items ≡ length facts.old.items + 1) }
+    ensures ok { OnOk result (facts.new ≡ facts.old ++ path.entry ∷ []) }
+    ensures grows { OnOk result (length facts.new ≡ length facts.old + 1) }
     ensures memory { IfErr result (λ e. e ≡ OutOfMemory) }
 {
+    if let Some(few) = path.kept() {
+        return facts.push(few);
+    }
     let steps = path.to_vec(alloc)?;
-    facts.push(Listed::from_vec(steps))?;
-    Ok(())
+    facts.push(steps.as_slice())
 }
 
 // Adds the chain of a line that was judged.
-fn add_chain(alloc: Global, chains: &mut Vec<Chain>, said: ChainLine) -> Result<(), Refusal>
+fn add_chain(alloc: Global, chains: &mut Chains, said: ChainLine) -> Result<(), Refusal>
     requires { are_small said.steps ≡ true }
-    ensures ok { OnOk result (chains.new.items ≡ chains.old.items ++ chain_of said.entry ∷ []) }
-    ensures grows { OnOk result (length chains.new.items ≡ length chains.old.items + 1) }
+    ensures ok { OnOk result (chains.new ≡ chains.old ++ chain_of said.entry ∷ []) }
+    ensures grows { OnOk result (length chains.new ≡ length chains.old + 1) }
     ensures memory { IfErr result (λ e. e ≡ OutOfMemory) }
 {
+    if let Some(few) = said.steps.kept() {
+        return chains.push(said.node, few);
+    }
     let steps = said.steps.to_vec(alloc)?;
-    chains.push(Chain {
-        node: said.node,
-        steps: Listed::from_vec(steps),
-    })?;
-    Ok(())
+    chains.push(said.node, steps.as_slice())
 }
 
 // Reads facts behind those seen, as long as lines begin so.
-fn read_facts(alloc: Global, facts: &mut Vec<Listed<u32>>, lines: &mut Lines) -> Result<(), Refusal>
-    requires none { facts.old.items ≡ [] }
-    ensures read { Reads (map_ok (λ _. facts.new.items) result) lines.new (many_from (codes "fact") fact_at facts.old.items lines.old.line lines.old.lines) }
-    ensures late { Late 1 result lines.old lines.new (many_from (codes "fact") fact_at facts.old.items lines.old.line lines.old.lines) }
+fn read_facts(alloc: Global, facts: &mut Rows, lines: &mut Lines) -> Result<(), Refusal>
+    requires none { facts.old ≡ [] }
+    ensures read { Reads (map_ok (λ _. facts.new) result) lines.new (many_from (codes "fact") fact_at facts.old lines.old.line lines.old.lines) }
+    ensures late { Late 1 result lines.old lines.new (many_from (codes "fact") fact_at facts.old lines.old.line lines.old.lines) }
 {
     'facts: while lines.begins(b"fact") {
         let fields = lines.next()?;
-        let path = fact_line(facts.as_slice(), fields)?;
+        let path = fact_line(facts, fields)?;
         add_fact(alloc, facts, path)?;
     }
     Ok(())
@@ -64,16 +66,16 @@ fn read_facts(alloc: Global, facts: &mut Vec<Listed<u32>>, lines: &mut Lines) ->
 fn read_chains(
     alloc: Global,
     ring: &Ring,
-    chains: &mut Vec<Chain>,
+    chains: &mut Chains,
     lines: &mut Lines,
 ) -> Result<(), Refusal>
-    requires none { chains.old.items ≡ [] }
-    ensures read { Reads (map_ok (λ _. chains.new.items) result) lines.new (many_from (codes "chain") (chain_at ring.now) chains.old.items lines.old.line lines.old.lines) }
-    ensures late { Late 1 result lines.old lines.new (many_from (codes "chain") (chain_at ring.now) chains.old.items lines.old.line lines.old.lines) }
+    requires none { chains.old ≡ [] }
+    ensures read { Reads (map_ok (λ _. chains.new) result) lines.new (many_from (codes "chain") (chain_at ring.now) chains.old lines.old.line lines.old.lines) }
+    ensures late { Late 1 result lines.old lines.new (many_from (codes "chain") (chain_at ring.now) chains.old lines.old.line lines.old.lines) }
 {
     'chains: while lines.begins(b"chain") {
         let fields = lines.next()?;
-        let said = chain_line(ring, chains.as_slice(), fields)?;
+        let said = chain_line(ring, chains, fields)?;
         add_chain(alloc, chains, said)?;
     }
     Ok(())
@@ -86,15 +88,12 @@ fn read_parts(alloc: Global, ring: &Ring, lines: &mut Lines) -> Result<Cert, Ref
     ensures late { Late 2 result lines.old lines.new (cert_at ring.now lines.old) }
 {
     header(lines, b"cert")?;
-    let mut facts = Vec::new(alloc);
+    let mut facts = Rows::new(alloc);
     read_facts(alloc, &mut facts, lines)?;
-    let mut chains = Vec::new(alloc);
+    let mut chains = Chains::new(alloc);
     read_chains(alloc, ring, &mut chains, lines)?;
     end(lines)?;
-    Ok(Cert {
-        facts: Listed::from_vec(facts),
-        chains: Listed::from_vec(chains),
-    })
+    Ok(Cert { facts, chains })
 }
 
 /// Reads the lines of a certificate, up to its line `end`, and leaves what follows them. Refused as `read_cert` is.

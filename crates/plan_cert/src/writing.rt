@@ -7,49 +7,50 @@ ghost use Rattle.ring_table.specs.Value.{names_of};
 ghost use Rattle.plan_cert.specs.Spelling.{fact_fields, chain_fields, cert_text};
 ghost use Rattle.plan_cert.specs.Valid.{Suits};
 
-use crate::cert::{Cert, Chain};
-use ring_names::{Listed, Refusal};
+use crate::cert::Cert;
+use crate::chains::Chains;
+use ring_names::{NodeId, Refusal, Rows};
 use ring_table::{Ring, push_name};
 use ring_text::push_numbers;
 use std::alloc::{AllocError, Global};
 
 // The line of a fact.
-fn push_fact(out: &mut Vec<u8>, path: &Listed<u32>) -> Result<(), AllocError>
+fn push_fact(out: &mut Vec<u8>, path: &[u32]) -> Result<(), AllocError>
     ensures { OnOk result (out.new.items ≡ out.old.items ++ line_text (fact_fields path.now)) }
 {
     out.extend_from_slice(b"fact")?;
-    push_numbers(out, path.as_slice())?;
+    push_numbers(out, path)?;
     out.push(b'\n')?;
     Ok(())
 }
 
 // The line of a chain.
-fn push_chain(out: &mut Vec<u8>, ring: &Ring, chain: &Chain) -> Result<(), AllocError>
-    ensures { OnOk result (out.new.items ≡ out.old.items ++ line_text (chain_fields (names_of ring.now) chain.now)) }
+fn push_chain(out: &mut Vec<u8>, ring: &Ring, node: NodeId, steps: &[u32]) -> Result<(), AllocError>
+    ensures { OnOk result (out.new.items ≡ out.old.items ++ line_text (chain_fields (names_of ring.now) (record { node = node; steps = steps.now }))) }
 {
     out.extend_from_slice(b"chain")?;
-    push_name(out, ring.nodes(), chain.node)?;
-    push_numbers(out, chain.steps.as_slice())?;
+    push_name(out, ring.nodes(), node)?;
+    push_numbers(out, steps)?;
     out.push(b'\n')?;
     Ok(())
 }
 
 // The lines of the facts.
-fn push_facts(out: &mut Vec<u8>, facts: &[Listed<u32>]) -> Result<(), AllocError>
+fn push_facts(out: &mut Vec<u8>, facts: &Rows) -> Result<(), AllocError>
     ensures { OnOk result (out.new.items ≡ out.old.items ++ text_of (map fact_fields facts.now)) }
 {
-    for path in facts {
-        push_fact(out, path)?;
+    for place in 0..facts.len() {
+        push_fact(out, facts.row(place))?;
     }
     Ok(())
 }
 
 // The lines of the chains.
-fn push_chains(out: &mut Vec<u8>, ring: &Ring, chains: &[Chain]) -> Result<(), AllocError>
+fn push_chains(out: &mut Vec<u8>, ring: &Ring, chains: &Chains) -> Result<(), AllocError>
     ensures { OnOk result (out.new.items ≡ out.old.items ++ text_of (map (chain_fields (names_of ring.now)) chains.now)) }
 {
-    for chain in chains {
-        push_chain(out, ring, chain)?;
+    for place in 0..chains.len() {
+        push_chain(out, ring, chains.node(place), chains.steps(place))?;
     }
     Ok(())
 }
@@ -62,8 +63,8 @@ pub fn write_cert(alloc: Global, ring: &Ring, cert: &Cert) -> Result<Vec<u8>, Re
 {
     let mut out = Vec::new(alloc);
     out.extend_from_slice(b"cert 1\n")?;
-    push_facts(&mut out, cert.facts.as_slice())?;
-    push_chains(&mut out, ring, cert.chains.as_slice())?;
+    push_facts(&mut out, &cert.facts)?;
+    push_chains(&mut out, ring, &cert.chains)?;
     out.extend_from_slice(b"end\n")?;
     Ok(out)
 }

@@ -60,7 +60,7 @@ fn check_all(alloc: Global, ring: &Ring, plan: &Plan, cert: &Cert) -> Result<(),
     ensures first { Gives result (all_clauses ring.now plan.now cert.now) }
     ensures late { IfErr result (λ e. e ≡ OutOfMemory → first_failing (fact_clauses plan.now 0 cert.now.facts) ≡ None) }
 {
-    let facts = Facts::verify(alloc, plan, cert.facts.as_slice())?;
+    let facts = Facts::verify(alloc, plan, &cert.facts)?;
     check_rest(alloc, ring, plan, &facts, cert)
 }
 

@@ -37,7 +37,7 @@ pub fn first_is_none_where_certified(ring: &Ring, plan: &Plan, cert: &Cert)
     requires { Suits ring.now plan.now }
     ensures { (first_refusal ring.now plan.now cert.now ≡ None) ↔ IsCertified ring.now plan.now cert.now }
 {
-    let _ = (ring.n(), plan.len(), cert.facts.as_slice().len());
+    let _ = (ring.n(), plan.len(), cert.facts.len());
 }
 
 /// After each of a slot's steps its owner is no node that still has to drop what it held, and its mirror is neither of these.

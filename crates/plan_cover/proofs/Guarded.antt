@@ -158,8 +158,8 @@ whole ring plan cert O x once =
     ∙ rw (retirement-asked ring plan O x once, chains-guarded ring plan O x (copies_of ring plan x) cert.chains 0 cert.chains (has-copies ring plan x) (from_start cert.chains), copies-guarded ring plan x (chains_from x.0 cert.chains) 0 plan, picked x 0 cert.chains cert.chains (from_start cert.chains), as_many cert.chains (chain_numbers cert.chains x)) refl
 
 -- the clauses of a node are those that are tested
-pub node-tested : (ring : RingValue) (plan : List Planned) (cert : Cert) (O : Test) (x : NodeId) (chains : List Chain) (numbers copies : List ℕ) → all_different (retired plan) ≡ true → chains ≡ cert.chains → numbers ≡ chain_numbers cert.chains x → copies ≡ copies_of ring plan x → first_failing (node_clauses ring plan cert O x) ≡ tested ring plan O x chains numbers copies
-node-tested ring plan cert O x chains numbers copies once all ns cs = rw (all, ns, cs) (whole ring plan cert O x once)
+pub node-tested : (ring : RingValue) (plan : List Planned) (cert : Cert) (O : Test) (x : NodeId) (numbers copies : List ℕ) → all_different (retired plan) ≡ true → numbers ≡ chain_numbers cert.chains x → copies ≡ copies_of ring plan x → first_failing (node_clauses ring plan cert O x) ≡ tested ring plan O x cert.chains numbers copies
+node-tested ring plan cert O x numbers copies once ns cs = rw (ns, cs) (whole ring plan cert O x once)
 
 -- the first refusal is the answer, and what passes leaves the answer to the rest
 pub fails : (o p : Option Refusal) (e : Refusal) → o ≡ Some e → option_or o p ≡ Some e

@@ -5,19 +5,18 @@ ghost use Rattle.ring_names.specs.declared.ids.NodeId.{NodeId as TheNode};
 ghost use Rattle.ring_names.specs.declared.refusal.Refusal.TheVariants.{OutOfMemory};
 ghost use Rattle.plan_cover.specs.Looking.Numbers.{kept_of, chain_numbers};
 
-use plan_cert::Cert;
+use plan_cert::Chains;
 use ring_names::{Lists, NodeId, Refusal};
 use std::alloc::Global;
 
 /// The places of the chains of each node in their certificate. Costs one pass over the chains.
-pub fn chains_of(alloc: Global, cert: &Cert) -> Result<Lists<NodeId, usize>, Refusal>
-    ensures ok { IfOk result (λ a. (x : TheNode) → kept_of a x ≡ chain_numbers cert.now.chains x) }
+pub fn chains_of(alloc: Global, chains: &Chains) -> Result<Lists<NodeId, usize>, Refusal>
+    ensures ok { IfOk result (λ a. (x : TheNode) → kept_of a x ≡ chain_numbers chains.now x) }
     ensures memory { IfErr result (λ e. e ≡ OutOfMemory) }
 {
-    let chains = cert.chains.as_slice();
     let mut index = Lists::new(alloc);
     for k in 0..chains.len() {
-        index.add(chains[k].node, k)?;
+        index.add(chains.node(k), k)?;
     }
     Ok(index)
 }

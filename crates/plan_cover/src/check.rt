@@ -80,12 +80,11 @@ fn check_with(
     requires { IsCover context.now.ring.now context.now.plan.now cert.now cover.now }
     ensures { Gives result (node_clauses context.now.ring.now context.now.plan.now cert.now (order context.now) node) }
 {
-    let chains = cert.chains.as_slice();
     let numbers = cover.chains.items(&node);
     let copies = cover.copies.items(&node);
     check_retirement(context, node)?;
-    check_chains(context, chains, numbers, copies)?;
-    check_copies(alloc, chains, numbers, copies, node)?;
+    check_chains(context, &cert.chains, numbers, copies)?;
+    check_copies(alloc, &cert.chains, numbers, copies, node)?;
     check_count(context.ring, node, numbers.len())
 }
 

@@ -33,7 +33,7 @@ impl Cover {
         ensures memory { IfErr result (λ e. e ≡ OutOfMemory) }
     {
         let copies = all_copies(alloc, ring, plan)?;
-        let chains = chains_of(alloc, cert)?;
+        let chains = chains_of(alloc, &cert.chains)?;
         Ok(Cover { copies, chains })
     }
 }

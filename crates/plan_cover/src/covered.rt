@@ -9,7 +9,7 @@ ghost use Rattle.plan_stage.specs.Clauses.{Gives};
 ghost use Rattle.plan_cover.specs.Clauses.{in_some};
 ghost use Rattle.plan_cover.specs.Looking.Guards.{steps_at, chains_at, copy_guard};
 
-use plan_cert::Chain;
+use plan_cert::Chains;
 use ring_names::{NodeId, Refusal};
 use std::alloc::Global;
 use std::collections::BTreeSet;
@@ -18,7 +18,7 @@ use std::collections::BTreeSet;
 /// the steps, so they are kept in order and not by a hash.
 pub fn check_copies(
     alloc: Global,
-    chains: &[Chain],
+    chains: &Chains,
     numbers: &[usize],
     copies: &[u32],
     node: NodeId,
@@ -30,7 +30,7 @@ pub fn check_copies(
 }
 
 // The steps of the chains of these numbers.
-fn steps_of(alloc: Global, chains: &[Chain], numbers: &[usize]) -> Result<BTreeSet<u32>, Refusal>
+fn steps_of(alloc: Global, chains: &Chains, numbers: &[usize]) -> Result<BTreeSet<u32>, Refusal>
     ensures ok { IfOk result (λ s. (n : ℕ) → contains nat_cmp s n ≡ in_some n (chains_at chains.now numbers.now)) }
     ensures memory { IfErr result (λ e. e ≡ OutOfMemory) }
 {
@@ -43,14 +43,14 @@ fn steps_of(alloc: Global, chains: &[Chain], numbers: &[usize]) -> Result<BTreeS
     Ok(covered)
 }
 
-fn add_chain(covered: &mut BTreeSet<u32>, chains: &[Chain], number: usize) -> Result<(), Refusal>
+fn add_chain(covered: &mut BTreeSet<u32>, chains: &Chains, number: usize) -> Result<(), Refusal>
     ensures ok { OnOk result ((n : ℕ) → contains nat_cmp covered.new n ≡ (has n (steps_at chains.now number) || contains nat_cmp covered.old n)) }
     ensures memory { IfErr result (λ e. e ≡ OutOfMemory) }
 {
-    match chains.get(number) {
-        Some(chain) => add_steps(covered, chain.steps.as_slice()),
-        None => Ok(()),
+    if number >= chains.len() {
+        return Ok(());
     }
+    add_steps(covered, chains.steps(number))
 }
 
 fn add_steps(covered: &mut BTreeSet<u32>, steps: &[u32]) -> Result<(), Refusal>

@@ -7,14 +7,14 @@ ghost use Rattle.plan_order.specs.Order.{order};
 ghost use Rattle.plan_stage.specs.Clauses.{Gives};
 ghost use Rattle.plan_cover.specs.Looking.Guards.{leads_on, is_linked_in, steps_at, chain_guard};
 
-use plan_cert::Chain;
+use plan_cert::Chains;
 use plan_order::Context;
 use ring_names::Refusal;
 
 /// Tests the chains of these numbers. Each step must be one of the copies, and come before the next.
 pub fn check_chains(
     context: &Context,
-    chains: &[Chain],
+    chains: &Chains,
     numbers: &[usize],
     copies: &[u32],
 ) -> Result<(), Refusal>
@@ -38,14 +38,11 @@ fn number_of(place: usize) -> u32
     place.min(4294967295) as u32
 }
 
-fn is_linked_at(context: &Context, chains: &[Chain], number: usize, copies: &[u32]) -> bool
+fn is_linked_at(context: &Context, chains: &Chains, number: usize, copies: &[u32]) -> bool
     requires { ascending copies.now ≡ true }
     ensures { result ≡ is_linked_in copies.now (order context.now) (steps_at chains.now number) }
 {
-    match chains.get(number) {
-        Some(chain) => is_linked(context, chain.steps.as_slice(), copies),
-        None => true,
-    }
+    number >= chains.len() || is_linked(context, chains.steps(number), copies)
 }
 
 fn is_linked(context: &Context, steps: &[u32], copies: &[u32]) -> bool

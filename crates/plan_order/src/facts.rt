@@ -9,7 +9,7 @@ ghost use Rattle.plan_order.specs.Facts.{AreFactsOf, is_ordered, has_ends, leads
 
 use crate::path::{is_link, verify_fact};
 use plan_text::Plan;
-use ring_names::{Listed, Refusal};
+use ring_names::{Refusal, Rows};
 use std::alloc::Global;
 use std::collections::BTreeSet;
 use std::marker::Model;
@@ -37,17 +37,13 @@ impl Model for Facts {
 }
 
 // The number of the first path that is none. The numbers that no `u32` has are all the greatest.
-fn first_bad_path(plan: &Plan, paths: &[Listed<u32>]) -> Option<u32>
+fn first_bad_path(plan: &Plan, paths: &Rows) -> Option<u32>
     ensures { first_bad plan.now 0 paths.now ≡ option_map (λ n. BadPath n) result }
 {
-    let mut number: u32 = 0;
-    let mut rest = paths;
-    'paths: while let Some((path, later)) = rest.split_first() {
-        if !verify_fact(plan, path.as_slice()) {
-            return Some(number);
+    for number in 0..paths.len() {
+        if !verify_fact(plan, paths.row(number)) {
+            return Some(number.min(4294967295) as u32);
         }
-        number = number.saturating_add(1);
-        rest = later;
     }
     None
 }
@@ -67,21 +63,19 @@ fn add_ends(ends: &mut BTreeSet<Ends>, path: &[u32]) -> Result<(), Refusal>
 }
 
 // Adds the ends of each path.
-fn add_all_ends(ends: &mut BTreeSet<Ends>, paths: &[Listed<u32>]) -> Result<(), Refusal>
+fn add_all_ends(ends: &mut BTreeSet<Ends>, paths: &Rows) -> Result<(), Refusal>
     ensures ok { OnOk result ((a b : ℕ) → has_ends a b ends.new.keys ≡ (some_leads a b paths.now || has_ends a b ends.old.keys)) }
     ensures memory { IfErr result (λ e. e ≡ OutOfMemory) }
 {
-    let mut rest = paths;
-    'paths: while let Some((path, later)) = rest.split_first() {
-        add_ends(ends, path.as_slice())?;
-        rest = later;
+    for place in 0..paths.len() {
+        add_ends(ends, paths.row(place))?;
     }
     Ok(())
 }
 
 impl Facts {
     /// Verifies paths of the plan. The first that is none is `BadPath` with its number, from 0. Costs a binary search for each link.
-    pub fn verify(alloc: Global, plan: &Plan, paths: &[Listed<u32>]) -> Result<Facts, Refusal>
+    pub fn verify(alloc: Global, plan: &Plan, paths: &Rows) -> Result<Facts, Refusal>
         ensures bad { (e : TheRefusal) → first_bad plan.now 0 paths.now ≡ Some e → result ≡ Err e }
         ensures good { IfErr result (λ e. first_bad plan.now 0 paths.now ≡ None → e ≡ OutOfMemory) }
         ensures late { IfErr result (λ e. e ≡ OutOfMemory → first_bad plan.now 0 paths.now ≡ None) }

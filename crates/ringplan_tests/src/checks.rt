@@ -32,7 +32,7 @@ fn paths_verified<RT: Abort>(rt: &RT, plan: &Plan) {
 }
 
 fn facts_ordered<RT: AllocGlobal + Abort>(rt: &RT, plan: &Plan, cert: &Cert) -> Result<(), Fail> {
-    let facts = Facts::verify(rt.alloc(), plan, cert.facts.as_slice())?;
+    let facts = Facts::verify(rt.alloc(), plan, &cert.facts)?;
     assert!(rt; facts.ordered(plan, 2, 5));
     assert!(rt; facts.ordered(plan, 2, 3));
     assert!(rt; !facts.ordered(plan, 2, 4));
@@ -59,7 +59,7 @@ fn partition(alloc: Global, ring: &Ring, plan: &Plan, cert: &[u8]) -> Result<(),
     requires { Suits ring.now plan.now }
 {
     let cert = read_cert(alloc, ring, cert)?;
-    let facts = Facts::verify(alloc, plan, cert.facts.as_slice())?;
+    let facts = Facts::verify(alloc, plan, &cert.facts)?;
     if ring.q() == 0 {
         return Err(Refusal::BadLine(0));
     }
@@ -126,7 +126,7 @@ fn nodes(alloc: Global, ring: &Ring, plan: &Plan, cert: &[u8]) -> Result<(), Ref
     requires { Suits ring.now plan.now }
 {
     let cert = read_cert(alloc, ring, cert)?;
-    let facts = Facts::verify(alloc, plan, cert.facts.as_slice())?;
+    let facts = Facts::verify(alloc, plan, &cert.facts)?;
     if ring.nodes().len() <= 1 {
         return Err(Refusal::BadLine(0));
     }

@@ -3,9 +3,9 @@
 ghost use Rattle.std.specs.Prelude.{IfOk};
 ghost use Rattle.plan_text.specs.Valid.{Suits};
 
-use plan_cert::{Cert, Chain, read_cert, write_cert};
+use plan_cert::{Cert, Chains, read_cert, write_cert};
 use plan_text::{Plan, read_plan, write_plan};
-use ring_names::{Listed, NodeId, Refusal};
+use ring_names::{NodeId, Refusal, Rows};
 use ring_table::{Ring, push_row, read_ring, write_ring};
 use std::alloc::{AllocError, Global};
 use std::process::Abort;
@@ -23,7 +23,7 @@ const CERTS: [&str; 5] = [
     "cert 1\nchain b 2\nchain d 2\nend\n",
     "cert 1\nchain b 2\nchain b 6\nchain c 9\nchain d 2\nchain d 6\nchain d 9\nend\n",
     "cert 1\nfact 2 3 4 5\nchain b 2 5\nchain d 2 5\nend\n",
-    "cert 1\nfact 7 7\nfact 4294967295 0\nend\n",
+    "cert 1\nfact 7 7\nfact 4294967295 0\nchain a 1 2 3 4 5 6 7 8 9\nend\n",
 ];
 
 #[test]
@@ -108,7 +108,7 @@ fn longest_plans(rt: HostRuntime) -> Result<(), Fail> {
 // The numbers of facts and chains of a certificate, or the refusal.
 fn sizes(alloc: Global, ring: &Ring, text: &[u8]) -> Result<(usize, usize), Refusal> {
     let cert = read_cert(alloc, ring, text)?;
-    Ok((cert.facts.as_slice().len(), cert.chains.as_slice().len()))
+    Ok((cert.facts.len(), cert.chains.len()))
 }
 
 // The same of so many equal lines.
@@ -168,17 +168,24 @@ fn longest_facts(rt: HostRuntime) -> Result<(), Fail> {
     Ok(())
 }
 
+#[test]
+fn chains_kept(rt: HostRuntime) -> Result<(), Fail> {
+    let mut chains = Chains::new(rt.alloc());
+    chains.push(NodeId(1), &[2, 5])?;
+    chains.push(NodeId(3), &[2])?;
+    assert_eq!(rt; chains.len(), 2);
+    assert_eq!(rt; chains.node(1), NodeId(3));
+    assert_eq!(rt; chains.steps(0), [2, 5].as_slice());
+    Ok(())
+}
+
 // A certificate with one chain of a node that the ring does not have.
-fn strange_cert(alloc: Global) -> Result<Cert, AllocError> {
-    let steps = Listed::from_vec(Vec::from_slice(alloc, &[2])?);
-    let mut chains = Vec::new(alloc);
-    chains.push(Chain {
-        node: NodeId(4),
-        steps,
-    })?;
+fn strange_cert(alloc: Global) -> Result<Cert, Refusal> {
+    let mut chains = Chains::new(alloc);
+    chains.push(NodeId(4), &[2])?;
     Ok(Cert {
-        facts: Listed::from_vec(Vec::new(alloc)),
-        chains: Listed::from_vec(chains),
+        facts: Rows::new(alloc),
+        chains,
     })
 }
 

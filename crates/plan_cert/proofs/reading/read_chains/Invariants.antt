@@ -5,10 +5,10 @@ use Rattle.plan_cert.proofs.reading.read_chains.Given as goal
 
 abbrev pub invariant-chains : goal.invariant-chains
 invariant-chains l = record {
-  rest : many_from (codes "chain") (chain_at l.ring) l.chains.items l.lines.line l.lines.lines ≡ many_from (codes "chain") (chain_at l.fn.ring) l.fn.chains.items l.fn.lines.line l.fn.lines.lines;
+  rest : many_from (codes "chain") (chain_at l.ring) l.chains l.lines.line l.lines.lines ≡ many_from (codes "chain") (chain_at l.fn.ring) l.fn.chains l.fn.lines.line l.fn.lines.lines;
   forward : l.fn.lines.line ≤ l.lines.line;
-  few : length l.chains.items ≤ 65536;
+  few : length l.chains ≤ 65536;
 }
 
 abbrev pub decreases-chains : goal.decreases-chains
-decreases-chains l = 65536 - length l.chains.items
+decreases-chains l = 65536 - length l.chains

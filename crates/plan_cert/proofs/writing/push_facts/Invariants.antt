@@ -3,5 +3,5 @@ use Rattle.ring_text.specs.Parts.{text_of}
 use Rattle.plan_cert.specs.Spelling.{fact_fields}
 use Rattle.plan_cert.proofs.writing.push_facts.Given as goal
 
-abbrev pub invariant-loop-path : goal.invariant-loop-path
-invariant-loop-path l = l.out.items ≡ l.fn.out.items ++ text_of (map fact_fields (take l.path-index l.facts))
+abbrev pub invariant-loop-place : goal.invariant-loop-place
+invariant-loop-place l = l.out.items ≡ l.fn.out.items ++ text_of (map fact_fields (take l.place l.facts))

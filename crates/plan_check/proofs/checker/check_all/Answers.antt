@@ -1,7 +1,7 @@
-use Rattle.std.proofs.Common.{◌≡◌, ℕ, ◌∙◌, sym, ap}
+use Rattle.std.proofs.Common.{◌∙◌}
 use Rattle.std.proofs.lemmas.Result.{err_from_is_err_and}
 use Rattle.plan_order.specs.Paths.{first_bad}
-use Rattle.plan_order.specs.Facts.{has_ends, some_leads, is_ordered}
+use Rattle.plan_order.specs.Facts.{is_ordered}
 use Rattle.plan_stage.specs.Clauses.{first_failing}
 use Rattle.plan_check.specs.Certified.{ordered_by}
 use Rattle.plan_check.specs.First.{fact_clauses, rest_clauses}
@@ -15,15 +15,14 @@ returns-in_err-facts-clause-first c =
     let plan = c.args.plan.now in
     let cert = c.args.cert.now in
     let p = err_from_is_err_and c.from_residual.result c.from_residual.ensures.1 in
-    let same : first_failing (fact_clauses plan 0 cert.facts) ≡ first_bad plan 0 c.as_slice.result.now = facts-first plan 0 cert.facts ∙ ap (first_bad plan 0) (sym c.as_slice.ensures) in
-    rw (p.1, p.2) (gives-front c.in_err-facts.field-0.0 (fact_clauses plan 0 cert.facts) (rest_clauses ring plan cert (ordered_by plan cert)) (λ ne. same ∙ facts-bad (first_bad plan 0 c.as_slice.result.now) c.verify.result c.in_err-facts.field-0.0 c.verify.ensures.bad c.in_err-facts.ensures.good c.in_err-facts.was ne))
+    rw (p.1, p.2) (gives-front c.in_err-facts.field-0.0 (fact_clauses plan 0 cert.facts) (rest_clauses ring plan cert (ordered_by plan cert)) (λ ne. facts-first plan 0 cert.facts ∙ facts-bad (first_bad plan 0 cert.facts) c.verify.result c.in_err-facts.field-0.0 c.verify.ensures.bad c.in_err-facts.ensures.good c.in_err-facts.was ne))
 
 pub returns-in_err-facts-clause-late : goal.returns-in_err-facts-clause-late
 returns-in_err-facts-clause-late c =
     let plan = c.args.plan.now in
     let fs = c.args.cert.now.facts in
     let p = err_from_is_err_and c.from_residual.result c.from_residual.ensures.1 in
-    rw (p.1, p.2) (λ m. facts-first plan 0 fs ∙ ap (first_bad plan 0) (sym c.as_slice.ensures) ∙ facts-late plan c.as_slice.result.now c.verify.result c.in_err-facts.field-0.0 c.verify.ensures.bad c.in_err-facts.was m)
+    rw (p.1, p.2) (λ m. facts-first plan 0 fs ∙ facts-late plan fs c.verify.result c.in_err-facts.field-0.0 c.verify.ensures.bad c.in_err-facts.was m)
 
 pub returns-clause-first : goal.returns-clause-first
 returns-clause-first c =
@@ -31,15 +30,14 @@ returns-clause-first c =
     let plan = c.args.plan.now in
     let cert = c.args.cert.now in
     let facts = c.in_ok-facts.facts in
-    let none = facts-good (first_bad plan 0 c.as_slice.result.now) c.verify.result facts c.verify.ensures.bad c.in_ok-facts.was in
-    let good = facts-first plan 0 cert.facts ∙ ap (first_bad plan 0) (sym c.as_slice.ensures) ∙ none in
-    let ends : (a b : ℕ) → has_ends a b facts ≡ some_leads a b cert.facts = λ a b. c.in_ok-facts.ensures.ends a b ∙ ap (some_leads a b) c.as_slice.ensures in
+    let none = facts-good (first_bad plan 0 cert.facts) c.verify.result facts c.verify.ensures.bad c.in_ok-facts.was in
+    let good = facts-first plan 0 cert.facts ∙ none in
     gives-behind c.check_rest.result (fact_clauses plan 0 cert.facts) (rest_clauses ring plan cert (ordered_by plan cert)) good
-    (gives-same c.check_rest.result (rest_clauses ring plan cert (is_ordered plan facts)) (rest_clauses ring plan cert (ordered_by plan cert)) (rest-alike ring plan facts cert ends) c.check_rest.ensures)
+    (gives-same c.check_rest.result (rest_clauses ring plan cert (is_ordered plan facts)) (rest_clauses ring plan cert (ordered_by plan cert)) (rest-alike ring plan facts cert c.in_ok-facts.ensures.ends) c.check_rest.ensures)
 
 pub returns-clause-late : goal.returns-clause-late
 returns-clause-late c =
     let plan = c.args.plan.now in
     let cert = c.args.cert.now in
-    let none = facts-good (first_bad plan 0 c.as_slice.result.now) c.verify.result c.in_ok-facts.facts c.verify.ensures.bad c.in_ok-facts.was in
-    late-behind c.check_rest.result (first_failing (fact_clauses plan 0 cert.facts)) (facts-first plan 0 cert.facts ∙ ap (first_bad plan 0) (sym c.as_slice.ensures) ∙ none)
+    let none = facts-good (first_bad plan 0 cert.facts) c.verify.result c.in_ok-facts.facts c.verify.ensures.bad c.in_ok-facts.was in
+    late-behind c.check_rest.result (first_failing (fact_clauses plan 0 cert.facts)) (facts-first plan 0 cert.facts ∙ none)

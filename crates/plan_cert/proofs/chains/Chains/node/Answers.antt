@@ -1,0 +1,17 @@
+use Rattle.std.proofs.Common.{◌≡◌, ◌<◌, List, length, refl, sym, ap, ◌∙◌, arith}
+use Rattle.std.specs.Prelude.{slice_get, option_map}
+use Rattle.std.proofs.lemmas.Option.{slice_get_read}
+use Rattle.plan_cert.specs.declared.cert.Chain.{Chain}
+use Rattle.plan_cert.proofs.ChainLaws.{chains-length, node-at}
+use Rattle.plan_cert.proofs.chains.Chains.node.Goals as goal
+
+pub index-requires : goal.index-requires
+index-requires c =
+    let same : length c.args.self.now ≡ length c.self.inside.nodes.items = sym (ap (λ (cs : List Chain). length cs) c.self.view_is) ∙ chains-length c.self.inside.nodes.items c.self.inside.rows c.self.invariant in
+    omega arith
+
+pub returns : goal.returns
+returns c =
+    let same : length c.args.self.now ≡ length c.self.inside.nodes.items = sym (ap (λ (cs : List Chain). length cs) c.self.view_is) ∙ chains-length c.self.inside.nodes.items c.self.inside.rows c.self.invariant in
+    let within : c.args.place < length c.self.inside.nodes.items = omega arith in
+    ap (λ (cs : List Chain). option_map (λ (x : Chain). x.node) (slice_get cs c.args.place)) (sym c.self.view_is) ∙ node-at c.self.inside.nodes.items c.self.inside.rows c.args.place c.self.invariant ∙ slice_get_read c.self.inside.nodes.items (length c.self.inside.nodes.items) c.args.place c.index.result.now refl within c.index.ensures
