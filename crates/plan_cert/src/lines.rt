@@ -1,6 +1,6 @@
 //! The lines of a certificate.
 
-ghost use Rattle.std.specs.Prelude.{◌≡◌, ◌<◌, IfOk, IfErr, OnOk, length, true};
+ghost use Rattle.std.specs.Prelude.{◌≡◌, ◌<◌, ◌-◌, IfOk, IfErr, OnOk, length, slice_get, option_map, true};
 ghost use Rattle.ring_text.specs.Numbers.{are_small};
 ghost use Rattle.ring_text.specs.Judging.{Does, map_ok};
 ghost use Rattle.ring_text.specs.Late.{IsAt};
@@ -10,7 +10,7 @@ ghost use Rattle.plan_cert.specs.Said.{chain_of};
 use crate::chains::Chains;
 use ring_names::{NodeId, Refusal, Rows};
 use ring_table::{Ring, node_field};
-use ring_text::{CAP, Fields, NumberRow, both, finish, need};
+use ring_text::{CAP, Fields, NumberRow, both, finish_both, need};
 
 // All numbers in front, as the steps of a fact.
 #[tactic(auto, unfolding(crate::specs::Reading::path_at))]
@@ -55,7 +55,7 @@ fn judge_fact<'a>(seen: &Rows, mut fields: Fields<'a>) -> Result<NumberRow<'a>, 
     let room = need(seen.len() < 262144, &fields);
     let word = fields.word(b"fact");
     let path = path_field(&mut fields);
-    let (_, path) = finish(both(both(room, word), path), fields)?;
+    let (_, path) = finish_both(room, word, path, fields)?;
     Ok(path)
 }
 
@@ -76,6 +76,17 @@ pub struct ChainLine<'a> {
     pub steps: NumberRow<'a>,
 }
 
+// The node of the last chain, if there is one: chains of one node mostly follow one another.
+fn last_node(seen: &Chains) -> Option<NodeId>
+    ensures { result ≡ option_map (λ c. c.node) (slice_get seen.now (length seen.now - 1)) }
+{
+    let count = seen.len();
+    if count == 0 {
+        return None;
+    }
+    Some(seen.node(count - 1))
+}
+
 // What a chain's line says.
 #[tactic(auto, unfolding(crate::specs::Reading::chain_at))]
 fn judge_chain<'a>(
@@ -87,9 +98,9 @@ fn judge_chain<'a>(
 {
     let room = need(seen.len() < 65536, &fields);
     let word = fields.word(b"chain");
-    let node = node_field(ring, &mut fields);
+    let node = node_field(ring, last_node(seen), &mut fields);
     let steps = steps_field(&mut fields);
-    let ((_, node), steps) = finish(both(both(both(room, word), node), steps), fields)?;
+    let (node, steps) = finish_both(both(room, word), node, steps, fields)?;
     Ok(ChainLine { node, steps })
 }
 

@@ -38,7 +38,7 @@ pub fn slot_node(ring: &Ring, fields: &mut Fields) -> Result<(Slot, NodeId), Ref
     ensures { Does (slot_node_at ring.now) fields.old result fields.new }
 {
     let slot = slot(ring, fields);
-    let node = node_field(ring, fields);
+    let node = node_field(ring, None, fields);
     both(slot, node)
 }
 
@@ -47,7 +47,7 @@ pub fn slot_node(ring: &Ring, fields: &mut Fields) -> Result<(Slot, NodeId), Ref
 pub fn joining(ring: &Ring, plan: &Plan, fields: &mut Fields) -> Result<NodeId, Refusal>
     ensures { Does (joining_at ring.now plan.now) fields.old result fields.new }
 {
-    match node_field(ring, fields) {
+    match node_field(ring, None, fields) {
         Ok(node) if ring.is_member(node) || plan.is_joined(node) => Err(Refusal::Repeated(
             fields.line(),
         )),
@@ -60,7 +60,7 @@ pub fn joining(ring: &Ring, plan: &Plan, fields: &mut Fields) -> Result<NodeId, 
 pub fn retiring(ring: &Ring, plan: &Plan, fields: &mut Fields) -> Result<NodeId, Refusal>
     ensures { Does (retiring_at ring.now plan.now) fields.old result fields.new }
 {
-    match node_field(ring, fields) {
+    match node_field(ring, None, fields) {
         Ok(node) if plan.is_retired(node) => Err(Refusal::Repeated(fields.line())),
         other => other,
     }

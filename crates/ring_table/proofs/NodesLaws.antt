@@ -1,11 +1,13 @@
 -- The node lines of a ring are read only if they are spelled so.
-use Rattle.std.proofs.Common.{◌≡◌, ℕ, ◌+◌, ◌<◌, ◌≤◌, true, not, nat_lt, List, [], ◌∷◌, ◌++◌, length, map, codes, Ok, refl, subst, arith, length-append, Some}
+use Rattle.std.proofs.Common.{◌≡◌, ℕ, ◌+◌, ◌<◌, ◌≤◌, true, not, nat_lt, List, [], ◌∷◌, ◌++◌, length, map, codes, Ok, refl, ap, subst, ◌∙◌, arith, length-append, Some, get_or}
+use Rattle.std.specs.Prelude.{option_map}
 use Rattle.std.specs.List.{AllByRecursion}
 use Rattle.std.proofs.lemmas.Bool.{lt-ltb, ltb-true, not-false}
 use Rattle.std.proofs.lemmas.List.{map_push}
+use Rattle.std.proofs.lemmas.Option.{slice_get-map, slice_get-get_or}
 use Rattle.ring_names.specs.Lists.{AllNew}
 use Rattle.ring_names.specs.Names.{place}
-use Rattle.ring_names.proofs.Places.{get-place}
+use Rattle.ring_names.proofs.Places.{get-place, place-get}
 use Rattle.ring_names.specs.declared.refusal.Refusal.TheVariants.{BadLine}
 use Rattle.ring_text.specs.Name.{is_name}
 use Rattle.ring_text.specs.Judging.{unless}
@@ -94,3 +96,8 @@ names-of_nodes xs p = record { new = p.names; each = each-name xs p.each_node }
 -- what is found among the names of nodes is a name
 pub placed-name : (xs : List Node) (f : List ℕ) (n : ℕ) → AllByRecursion IsNode xs → place (map (λ x. x.name) xs) f ≡ Some n → is_name f ≡ true
 placed-name xs f n a e = each_at (λ x. is_name x ≡ true) (map (λ x. x.name) xs) n f (each-name xs a) (get-place (map (λ x. x.name) xs) n f e)
+
+-- the node of a place has the number of its name
+pub named-place : (xs : List Node) (i : ℕ) (d : Node) (f : List ℕ) → i < length xs → (get_or xs i d).name ≡ f → AllNew [] (map (λ y. y.name) xs) → place (map (λ y. y.name) xs) f ≡ Some i
+named-place xs i d f l same new =
+    place-get (map (λ y. y.name) xs) i f new (slice_get-map (λ (y : Node). y.name) xs i ∙ ap (option_map (λ (y : Node). y.name)) (slice_get-get_or xs i d l) ∙ ap Some same)
