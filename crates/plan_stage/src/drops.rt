@@ -24,7 +24,7 @@ pub struct Dropped {
 pub struct Drops {
     alloc: Global,
     first: Few<Dropped>,
-    others: Option<HashMap<NodeId, u32>>,
+    others: Option<Box<HashMap<NodeId, u32>>>,
 }
 
 impl Drops {
@@ -67,7 +67,7 @@ impl Drops {
                 if !self.first.try_push(Dropped { node, number }) {
                     let mut others = HashMap::new(self.alloc);
                     others.insert(node, number)?;
-                    self.others = Some(others);
+                    self.others = Some(Box::new(self.alloc, others)?);
                 }
             }
         }

@@ -18,12 +18,12 @@ pub struct Found {
     pub holding: Holding,
 }
 
-/// What each node holds of one slot. The first few that are added take no memory.
+/// What each node holds of one slot. The first few that are added take no memory; the others stand apart, so that it is small.
 #[derive(Drop)]
 pub struct Held {
     alloc: Global,
     first: Few<Found>,
-    others: Option<Lists<NodeId, Holding>>,
+    others: Option<Box<Lists<NodeId, Holding>>>,
 }
 
 impl Held {
@@ -57,7 +57,7 @@ impl Held {
                 if !self.first.try_push(Found { node, holding }) {
                     let mut others = Lists::new(self.alloc);
                     others.add(node, holding)?;
-                    self.others = Some(others);
+                    self.others = Some(Box::new(self.alloc, others)?);
                 }
                 Ok(())
             }

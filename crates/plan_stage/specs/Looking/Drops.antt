@@ -16,5 +16,5 @@ dropped_among ds x = option_map (λ d. d.number) (find (λ d. is_node x d.node) 
 abbrev pub dropped_in : Drops → NodeId → Option ℕ
 dropped_in a x = elim a.others [
   | None ↦ dropped_among a.first x
-  | Some others ↦ elim (map.get ((node_eq.ghosts).eq) others x) [ Some n ↦ Some n | None ↦ dropped_among a.first x ]
+  | Some others ↦ elim (map.get ((node_eq.ghosts).eq) others.value x) [ Some n ↦ Some n | None ↦ dropped_among a.first x ]
 ]

@@ -1,5 +1,6 @@
 -- How the checker looks at a clause: the holdings that are kept for the slots of a partition.
-use Rattle.std.specs.Prelude.{◌≡◌, ℕ, ◌<◌, List, [], ◌++◌, Option, Some, None, filter, map, reverse, slice_get}
+use Rattle.std.specs.Prelude.{◌≡◌, ℕ, ◌<◌, List, [], ◌++◌, Box, Option, Some, None, filter, map, reverse, slice_get}
+use Rattle.std.specs.declared.alloc.Global.{Global}
 use Rattle.ring_names.specs.ByKey.{list_at}
 use Rattle.ring_names.specs.contracts.ids.NodeIdPartialEq.TheImpl as node_eq
 use Rattle.ring_names.specs.declared.ids.NodeId.{NodeId}
@@ -20,8 +21,8 @@ abbrev pub held_among : List Found → NodeId → List Holding
 held_among found x = map (λ f. f.holding) (filter (λ f. is_node x f.node) found)
 
 -- those of the node that are kept beside the first
-abbrev pub held_beside : Option (Lists NodeId Holding) → NodeId → List Holding
-held_beside others x = elim others [ None ↦ [] | Some a ↦ list_at ((node_eq.ghosts).eq) a x ]
+abbrev pub held_beside : Option (Box (Lists NodeId Holding) Global) → NodeId → List Holding
+held_beside others x = elim others [ None ↦ [] | Some a ↦ list_at ((node_eq.ghosts).eq) a.value x ]
 
 -- what is kept of the node in one slot
 abbrev pub held_of : Held → NodeId → List Holding
