@@ -155,15 +155,22 @@ fn nodes_covered(rt: HostRuntime) -> Result<(), Fail> {
 
 // ---- the whole check
 
+// How many steps of the plan are approved.
+fn approved(alloc: Global, ring: Ring, plan: Plan, cert: &Cert) -> Result<u32, Refusal>
+    requires { Suits ring plan }
+{
+    match check(alloc, ring, plan, cert) {
+        Ok(approved) => Ok(approved.plan().len()),
+        Err(turned) => Err(turned.refusal),
+    }
+}
+
 // What the check of the two moves says.
 fn whole(alloc: Global, cert: &[u8]) -> Result<u32, Refusal> {
     let ring = read_ring(alloc, RING)?;
     let plan = two_moves(alloc, &ring)?;
     let cert = read_cert(alloc, &ring, cert)?;
-    match check(alloc, ring, plan, &cert) {
-        Ok(approved) => Ok(approved.plan().len()),
-        Err(turned) => Err(turned.refusal),
-    }
+    approved(alloc, ring, plan, &cert)
 }
 
 #[test]

@@ -27,14 +27,19 @@ fn push_keeps_the_step(rt: HostRuntime) -> Result<(), Fail> {
     Ok(())
 }
 
+// The first steps that join and retire a node.
+fn looked_up<RT: Abort>(rt: &RT, plan: &Plan) {
+    assert_eq!(rt; plan.join_of(NodeId(3)), Some(1));
+    assert_eq!(rt; plan.retirement_of(NodeId(3)), Some(0));
+    assert_eq!(rt; plan.join_of(NodeId(4)), None);
+}
+
 #[test]
 fn first_steps_are_looked_up(rt: HostRuntime) -> Result<(), Fail> {
     let mut plan = Plan::new(rt.alloc());
     plan.push(Step::Retire(NodeId(3)), &[])?;
     plan.push(Step::Join(NodeId(3)), &[])?;
     plan.push(Step::Join(NodeId(3)), &[])?;
-    assert_eq!(rt; plan.join_of(NodeId(3)), Some(1));
-    assert_eq!(rt; plan.retirement_of(NodeId(3)), Some(0));
-    assert_eq!(rt; plan.join_of(NodeId(4)), None);
+    looked_up(&rt, &plan);
     Ok(())
 }

@@ -36,13 +36,18 @@ fn rings_written(rt: HostRuntime) -> Result<(), Fail> {
     Ok(())
 }
 
-#[test]
-fn rows_written(rt: HostRuntime) -> Result<(), Fail> {
-    let ring = read_ring(rt.alloc(), RING)?;
+// A row is written with the names of the ring's nodes.
+fn row_written<RT: AllocGlobal + Abort>(rt: &RT, ring: &Ring) -> Result<(), Fail> {
     let mut text = Vec::new(rt.alloc());
     push_row(&mut text, ring.nodes(), 7, &[NodeId(3), NodeId(0)])?;
     assert_eq!(rt; text.as_slice(), b"slots 7 d a\n".as_slice());
     Ok(())
+}
+
+#[test]
+fn rows_written(rt: HostRuntime) -> Result<(), Fail> {
+    let ring = read_ring(rt.alloc(), RING)?;
+    row_written(&rt, &ring)
 }
 
 // A plan of the ring is written as it was read.
@@ -123,24 +128,25 @@ fn sizes_of(
 }
 
 // As many facts and chains as a certificate may have, and one more.
+fn most_lines<RT: AllocGlobal + Abort>(rt: &RT, ring: &Ring) {
+    let fact = b"fact 0 1\n";
+    let chain = b"chain a 0\n";
+    assert_eq!(rt; sizes_of(rt.alloc(), ring, fact, 262_144), Ok((262_144, 0)));
+    assert_eq!(rt;
+        sizes_of(rt.alloc(), ring, fact, 262_145),
+        Err(Refusal::TooLarge(262_146))
+    );
+    assert_eq!(rt; sizes_of(rt.alloc(), ring, chain, 65_536), Ok((0, 65_536)));
+    assert_eq!(rt;
+        sizes_of(rt.alloc(), ring, chain, 65_537),
+        Err(Refusal::TooLarge(65_538))
+    );
+}
+
 #[test]
 fn largest_certificates(rt: HostRuntime) -> Result<(), Fail> {
     let ring = read_ring(rt.alloc(), RING)?;
-    let fact = b"fact 0 1\n";
-    let chain = b"chain a 0\n";
-    assert_eq!(rt;
-        sizes_of(rt.alloc(), &ring, fact, 262_144),
-        Ok((262_144, 0))
-    );
-    assert_eq!(rt;
-        sizes_of(rt.alloc(), &ring, fact, 262_145),
-        Err(Refusal::TooLarge(262_146))
-    );
-    assert_eq!(rt; sizes_of(rt.alloc(), &ring, chain, 65_536), Ok((0, 65_536)));
-    assert_eq!(rt;
-        sizes_of(rt.alloc(), &ring, chain, 65_537),
-        Err(Refusal::TooLarge(65_538))
-    );
+    most_lines(&rt, &ring);
     Ok(())
 }
 
