@@ -1,12 +1,12 @@
 -- Clocks that are raised to others, and the order that follows.
-use Rattle.std.proofs.Common.{◌≡◌, ◌≢◌, ◌⊎◌, inl, inr, ◌∙◌, ℕ, ◌+◌, ◌<◌, ◌≤◌, Bool, true, false, List, [], ◌∷◌, length, get_or, refl, sym, subst, arith}
-use Rattle.std.specs.Prelude.{max, ◌==◌, ◌||◌, Option, Some, None, if◌then◌else◌}
+use Rattle.std.proofs.Common.{◌≡◌, ◌≢◌, ◌⊎◌, inl, inr, ◌∙◌, ℕ, ◌+◌, ◌<◌, ◌≤◌, Bool, true, false, List, [], ◌∷◌, length, refl, sym, subst, arith}
+use Rattle.std.specs.Prelude.{max, ◌==◌, ◌||◌, Option, Some, None}
 use Rattle.std.proofs.lemmas.Bool.Decides.{eqb_tells, nat_tests}
 use Rattle.ring_names.specs.Lists.{has}
 use Rattle.ring_clock.specs.declared.entry.Entry.{Entry}
 use Rattle.ring_clock.specs.declared.causes.Cause.{Cause}
 use Rattle.ring_clock.specs.Clock.{counter, IsAtMost}
-use Rattle.ring_clock.specs.Built.{IsJoinOf, Bumps, IsInput, IsNext}
+use Rattle.ring_clock.specs.Built.{IsJoinOf, Bumps, IsInput}
 
 max_is : (a b : ℕ) → (max a b ≡ a) ⊎ (max a b ≡ b)
 max_is a b = elim (eqb_tells (max a b) a) [ inl t ↦ inl t.1 | inr t ↦ inr (grind (arith, t.1)) ]

@@ -9,7 +9,7 @@ use Rattle.ring_clock.specs.declared.causes.Cause.{Cause}
 use Rattle.ring_clock.specs.Clock.{counter, IsAtMost}
 use Rattle.ring_clock.specs.Causes.{writer_of, seen_by, IsEarlier, IsDirect}
 use Rattle.ring_clock.specs.Built.{IsInput, IsNext, IsClockOf, AreClocks, IsLast, with_clock}
-use Rattle.ring_clock.proofs.Causing.{same, differ, Follows, follows, few_next}
+use Rattle.ring_clock.proofs.Causing.{same, differ, Follows, follows}
 
 pub cause_at : (causes : List Cause) (k : ℕ) (c : Cause) → c ≡ get_or causes k c → k < length causes → (writer_of causes k ≡ c.writer.0) × (seen_by causes k ≡ c.seen.items)
 cause_at [] k c is h = absurd (omega arith)

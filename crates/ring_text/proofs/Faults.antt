@@ -1,5 +1,5 @@
 -- Faults of a line, joined without the values.
-use Rattle.std.proofs.Common.{◌≡◌, ℕ, Ok, Err, Result}
+use Rattle.std.proofs.Common.{◌≡◌, Ok, Err, Result}
 use Rattle.ring_names.specs.declared.refusal.Refusal.{Refusal}
 use Rattle.ring_text.specs.Judging.{both_of, map_ok}
 

@@ -1,4 +1,4 @@
-use Rattle.std.proofs.Common.{sym, ◌∙◌, rules}
+use Rattle.std.proofs.Common.{sym, rules}
 use Rattle.ring_text.specs.Judging.{end_at}
 use Rattle.ring_text.proofs.Faults.{fault-of-both}
 use Rattle.ring_text.proofs.judge.finish_both.Goals as goal

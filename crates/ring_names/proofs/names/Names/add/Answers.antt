@@ -12,3 +12,6 @@ pub returns-clause-names : goal.returns-clause-names
 returns-clause-names c =
     let absent : place c.args.self.now c.args.name.now ≡ None = search rules in
     new-names c.self.inside.set.keys c.insert.new.self.keys c.in_ok-kept.kept c.args.self.now c.args.name.now c.self.view_is c.in_ok-kept.ensures.items absent c.in_ok-insert.ensures.keys ∙ rw absent refl
+
+pub returns-in-Some-clause-number : goal.returns-in-Some-clause-number
+returns-in-Some-clause-number c = search rules

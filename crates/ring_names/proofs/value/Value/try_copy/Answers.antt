@@ -1,4 +1,4 @@
-use Rattle.std.proofs.Common.{◌≡◌, ◌∙◌, Bool, true, List, ℕ, sym, subst}
+use Rattle.std.proofs.Common.{◌≡◌, ◌∙◌, true, List, ℕ, sym, subst}
 use Rattle.ring_names.specs.Values.{is_value}
 use Rattle.ring_names.proofs.value.Value.try_copy.Goals as goal
 
