@@ -1,3 +1,4 @@
+use Rattle.std.proofs.Common.{rules}
 use Rattle.ring_text.proofs.Lates.{late-part}
 use Rattle.plan_cert.specs.Reading.{cert_at}
 use Rattle.plan_cert.proofs.CertLates.{cert-facts, cert-chains, behind-facts}
@@ -19,3 +20,7 @@ returns-in_err-read_chains-clause-late c =
       rw c.in_ok-header.ensures.line at (behind-facts c.args.ring.now c.args.lines.now c.header.new.lines c.in_ok-header.field-0 c.in_ok-header.ensures.read k c.read_facts.new.lines c.read_facts.new.facts facts p.0),
       cert-chains c.args.ring.now c.args.lines.now c.header.new.lines c.in_ok-header.field-0 c.in_ok-header.ensures.read k c.read_facts.new.lines c.read_facts.new.facts facts p.1,
     ))
+
+pub returns-clause-read : goal.returns-clause-read
+unfolding cert_at
+returns-clause-read c = search rules

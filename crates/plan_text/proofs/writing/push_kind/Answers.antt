@@ -1,4 +1,5 @@
-use Rattle.std.proofs.Common.{◌++◌, codes, sym, ap, ◌∙◌}
+use Rattle.std.proofs.Common.{◌++◌, codes, sym, ap, ◌∙◌, arith}
+use Rattle.std.proofs.lemmas.Grind.{common_steps}
 use Rattle.std.specs.List.{join_with_byte}
 use Rattle.std.proofs.lemmas.Result.{on_ok_weaker}
 use Rattle.ring_table.specs.Value.{names_of}
@@ -6,6 +7,9 @@ use Rattle.plan_text.specs.declared.step.Step.{Step}
 use Rattle.plan_text.specs.Spelling.{slot_fields, source_fields, kind_fields}
 use Rattle.ring_text.proofs.Spaced.{two-parts}
 use Rattle.plan_text.proofs.writing.push_kind.Goals as goal
+
+pub returns-in_ok-push_slot-in-Mirror : goal.returns-in_ok-push_slot-in-Mirror
+returns-in_ok-push_slot-in-Mirror c = grind (arith, common_steps)
 
 pub returns-in_ok-push_slot-in-Copy : goal.returns-in_ok-push_slot-in-Copy
 returns-in_ok-push_slot-in-Copy c = on_ok_weaker c.push_source.result (λ p. (
