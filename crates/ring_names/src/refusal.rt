@@ -12,7 +12,6 @@ use thiserror::Error;
 /// Why a text, a plan, an event or a run was refused. Each has a number and up to two values:
 /// lines count from 1, steps, facts, chains, nodes and entries from 0.
 #[derive(Clone, Copy, PartialEq, Eq, Error)]
-#[error("{text}", text = self.message())]
 pub enum Refusal {
     /// 1 (line): the line is not in the grammar.
     BadLine(u32),
@@ -253,6 +252,12 @@ impl Refusal {
             | Refusal::Disagree
             | Refusal::TurnsSpent => (None, None),
         }
+    }
+}
+
+impl fmt::Display for Refusal {
+    fn fmt<W: fmt::Write>(&self, f: &mut fmt::Formatter<W>) -> fmt::Result {
+        f.write_str(self.message())
     }
 }
 
