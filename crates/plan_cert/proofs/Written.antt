@@ -6,7 +6,7 @@ use Rattle.ring_text.specs.Parts.{line_text, spaced}
 use Rattle.ring_text.proofs.Spaced.{join-spaced}
 use Rattle.ring_table.specs.Spelling.{name_at}
 use Rattle.plan_cert.specs.declared.cert.Chain.{Chain}
-use Rattle.plan_cert.specs.Spelling.{fact_fields, chain_fields}
+use Rattle.plan_cert.specs.Spelling.{fact_fields, side_word, chain_fields}
 
 -- a word, fields behind it, and the line's last byte
 line-of : (o a b c w : List ℕ) (fs : List (List ℕ)) → a ≡ o ++ w → b ≡ a ++ spaced fs → c ≡ b ++ 10 ∷ [] → c ≡ o ++ line_text (w ∷ fs)
@@ -15,8 +15,8 @@ line-of o a b c w fs ea eb ec = ec ∙ rw (eb, ea) (simp append_assoc) ∙ ap (�
 pub fact-written : (o a b c path : List ℕ) → a ≡ o ++ codes "fact" → b ≡ a ++ spaced (map decimal path) → c ≡ b ++ 10 ∷ [] → c ≡ o ++ line_text (fact_fields path)
 fact-written o a b c path ea eb ec = line-of o a b c (codes "fact") (map decimal path) ea eb ec
 
-pub chain-written : (names : List (List ℕ)) (x : Chain) (o a b c d : List ℕ) → a ≡ o ++ codes "chain" → b ≡ a ++ 32 ∷ name_at names x.node → c ≡ b ++ spaced (map decimal x.steps) → d ≡ c ++ 10 ∷ [] → d ≡ o ++ line_text (chain_fields names x)
+pub chain-written : (names : List (List ℕ)) (x : Chain) (o a b c d : List ℕ) → a ≡ o ++ side_word x.side → b ≡ a ++ 32 ∷ name_at names x.node → c ≡ b ++ spaced (map decimal x.steps) → d ≡ c ++ 10 ∷ [] → d ≡ o ++ line_text (chain_fields names x)
 chain-written names x o a b c d ea eb ec ed =
     let name = name_at names x.node in
     let all : c ≡ a ++ spaced (name ∷ map decimal x.steps) = ec ∙ rw eb (append_assoc a (32 ∷ name) (spaced (map decimal x.steps))) ∙ ap (λ (r : List ℕ). a ++ r) (sym (flat_map-cons (λ (g : List ℕ). 32 ∷ g) name (map decimal x.steps))) in
-    line-of o a c d (codes "chain") (name ∷ map decimal x.steps) ea all ed
+    line-of o a c d (side_word x.side) (name ∷ map decimal x.steps) ea all ed

@@ -1,8 +1,8 @@
 -- Which certificates a text can say.
-use Rattle.std.specs.Prelude.{◌≡◌, ℕ, ◌≤◌, Bool, true, ◌&&◌, nat_le, nat_lt, List, length}
+use Rattle.std.specs.Prelude.{◌≡◌, ℕ, ◌≤◌, Bool, true, ◌&&◌, nat_le, List, length, is_some}
 use Rattle.std.specs.List.{list_all}
 use Rattle.ring_text.specs.Numbers.{are_small}
-use Rattle.ring_table.specs.Value.{RingValue}
+use Rattle.ring_table.specs.Value.{RingValue, allowance_of}
 use Rattle.plan_cert.specs.declared.cert.Chain.{Chain}
 use Rattle.plan_cert.specs.declared.cert.Cert.{Cert}
 
@@ -10,16 +10,16 @@ use Rattle.plan_cert.specs.declared.cert.Cert.{Cert}
 abbrev pub is_fact : List ℕ → Bool
 is_fact path = nat_le 2 (length path) && nat_le (length path) 1024
 
--- a declared node, and at least one step
+-- a side of a declared node, and at least one step
 abbrev pub is_chain : RingValue → Chain → Bool
-is_chain ring c = nat_lt c.node.0 (length ring.nodes) && nat_le 1 (length c.steps)
+is_chain ring c = is_some (allowance_of ring c.node.0 c.side) && nat_le 1 (length c.steps)
 
 -- every number is a `u32`
 pub record IsCert (v : Cert) : Type 0 where
   pub facts : list_all are_small v.facts ≡ true
   pub chains : list_all (λ c. are_small c.steps) v.chains ≡ true
 
--- facts and chains within their limits, and chains of declared nodes
+-- facts and chains within their limits, and chains of sides that their nodes have
 pub record Suits (ring : RingValue) (v : Cert) : Type 0 where
   pub few_facts : length v.facts ≤ 262144
   pub facts : list_all is_fact v.facts ≡ true

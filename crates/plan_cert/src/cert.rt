@@ -2,17 +2,20 @@
 
 ghost use Rattle.std.specs.Prelude.{◌≡◌, ◌↔◌, IsTrue};
 ghost use Rattle.std.specs.List.{list_all};
+ghost use Rattle.plan_cert.specs.Chains.{chain_of};
 ghost use Rattle.plan_cert.specs.Valid.{is_fact, is_chain, Suits};
 
 use crate::chains::Chains;
 use ring_names::{Listed, NodeId, Rows};
-use ring_table::Ring;
+use ring_table::{NodeSide, Ring, Side};
 
 /// Copies to which a node is party, one behind the other in order: the node has one transfer of a chain open at a time. `Chains` is
 /// a list of these, as contracts see it.
 #[derive(Debug, Drop)]
 pub struct Chain {
     pub node: NodeId,
+    /// The transfers of the node that it counts among.
+    pub side: Side,
     pub steps: Listed<u32>,
 }
 
@@ -30,10 +33,10 @@ fn is_fact(path: &[u32]) -> bool
     2 <= steps && steps <= 1024
 }
 
-fn is_chain(ring: &Ring, node: NodeId, steps: &[u32]) -> bool
-    ensures { result ≡ is_chain ring.now (record { node = node; steps = steps.now }) }
+fn is_chain(ring: &Ring, of: NodeSide, steps: &[u32]) -> bool
+    ensures { result ≡ is_chain ring.now (chain_of of steps.now) }
 {
-    (node.0 as usize) < ring.nodes().len() && !steps.is_empty()
+    ring.allowance(of).is_some() && !steps.is_empty()
 }
 
 fn are_facts(facts: &Rows) -> bool
@@ -51,7 +54,7 @@ fn are_chains(ring: &Ring, chains: &Chains) -> bool
     ensures { result ≡ list_all (is_chain ring.now) chains.now }
 {
     for place in 0..chains.len() {
-        if !is_chain(ring, chains.node(place), chains.steps(place)) {
+        if !is_chain(ring, chains.of(place), chains.steps(place)) {
             return false;
         }
     }
@@ -60,7 +63,7 @@ fn are_chains(ring: &Ring, chains: &Chains) -> bool
 
 impl Cert {
     /// Whether the certificate is one that a text can say of a plan over the ring: at most 262,144 facts of 2 to 1,024 steps, and at
-    /// most 65,536 chains of declared nodes with at least one step each. Takes no memory.
+    /// most 65,536 chains with at least one step each, of sides that their nodes have. Takes no memory.
     pub fn suits(&self, ring: &Ring) -> bool
         ensures { IsTrue result ↔ Suits ring.now self.now }
     {

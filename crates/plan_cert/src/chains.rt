@@ -3,14 +3,15 @@
 ghost use Rattle.std.specs.Prelude.{◌≡◌, ◌<◌, ◌++◌, ◌∷◌, [], Some, length, slice_get, option_map, OnOk, OnErr, IfErr};
 ghost use Rattle.ring_names.specs.declared.refusal.Refusal.TheVariants.{OutOfMemory};
 
-use ring_names::{NodeId, Refusal, Rows};
+use ring_names::{Refusal, Rows};
+use ring_table::NodeSide;
 use std::alloc::Global;
 use std::marker::Model;
 
 /// Chains in order, their steps kept in rows, so that a chain needs no memory of its own.
 #[derive(Debug, Drop)]
 pub struct Chains {
-    nodes: Vec<NodeId>,
+    sides: Vec<NodeSide>,
     // the steps of each
     rows: Rows,
 }
@@ -29,12 +30,14 @@ impl Model for Chains {
 }
 
 impl Chains {
+    ghost use Rattle.plan_cert.specs.Chains.{chain_of, side_of};
+
     /// No chains.
     pub fn new(alloc: Global) -> Chains
         ensures { result ≡ [] }
     {
         Chains {
-            nodes: Vec::new(alloc),
+            sides: Vec::new(alloc),
             rows: Rows::new(alloc),
         }
     }
@@ -43,15 +46,15 @@ impl Chains {
     pub fn len(&self) -> usize
         ensures { result ≡ length self.now }
     {
-        self.nodes.len()
+        self.sides.len()
     }
 
-    /// The node of the chain of that place.
-    pub fn node(&self, place: usize) -> NodeId
+    /// The node and the side of the chain of that place.
+    pub fn of(&self, place: usize) -> NodeSide
         requires { place < length self.now }
-        ensures { option_map (λ c. c.node) (slice_get self.now place) ≡ Some result }
+        ensures { option_map side_of (slice_get self.now place) ≡ Some result }
     {
-        self.nodes[place]
+        self.sides[place]
     }
 
     /// The steps of the chain of that place.
@@ -63,14 +66,14 @@ impl Chains {
     }
 
     /// Adds a chain behind the others. Refused, the chains are as before, and only for want of memory.
-    pub fn push(&mut self, node: NodeId, steps: &[u32]) -> Result<(), Refusal>
-        ensures ok { OnOk result (self.new ≡ self.old ++ record { node = node; steps = steps.now } ∷ []) }
+    pub fn push(&mut self, of: NodeSide, steps: &[u32]) -> Result<(), Refusal>
+        ensures ok { OnOk result (self.new ≡ self.old ++ chain_of of steps.now ∷ []) }
         ensures err { OnErr result (self.new ≡ self.old) }
         ensures memory { IfErr result (λ e. e ≡ OutOfMemory) }
     {
-        self.nodes.reserve(1)?;
+        self.sides.reserve(1)?;
         self.rows.push(steps)?;
-        self.nodes.push_reserved(node);
+        self.sides.push_reserved(of);
         Ok(())
     }
 }

@@ -2,14 +2,14 @@
 
 ghost use Rattle.std.specs.Prelude.{◌≡◌, ◌<◌, ◌-◌, IfOk, IfErr, OnOk, length, slice_get, option_map, true};
 ghost use Rattle.ring_text.specs.Numbers.{are_small};
-ghost use Rattle.ring_text.specs.Judging.{Does, map_ok};
+ghost use Rattle.ring_text.specs.Judging.{Does, field_at, map_ok};
 ghost use Rattle.ring_text.specs.Late.{IsAt};
-ghost use Rattle.plan_cert.specs.Reading.{path_at, steps_at, fact_at, chain_at};
-ghost use Rattle.plan_cert.specs.Said.{chain_of};
+ghost use Rattle.plan_cert.specs.Reading.{path_at, steps_at, fact_at, judge_side, side_node_at, node_side_at, chain_at};
+ghost use Rattle.plan_cert.specs.Said.{chain_said};
 
 use crate::chains::Chains;
 use ring_names::{NodeId, Refusal, Rows};
-use ring_table::{Ring, node_field};
+use ring_table::{NodeSide, Ring, Side, node_field};
 use ring_text::{CAP, Fields, NumberRow, both, finish_both, need};
 
 // All numbers in front, as the steps of a fact.
@@ -69,10 +69,10 @@ pub fn fact_line<'a>(seen: &Rows, fields: Fields<'a>) -> Result<NumberRow<'a>, R
     judge_fact(seen, fields)
 }
 
-/// What a chain's line says: its node, and its steps, still in the text.
+/// What a chain's line says: whose it is, and its steps, still in the text.
 #[derive(Drop)]
 pub struct ChainLine<'a> {
-    pub node: NodeId,
+    pub of: NodeSide,
     pub steps: NumberRow<'a>,
 }
 
@@ -84,7 +84,58 @@ fn last_node(seen: &Chains) -> Option<NodeId>
     if count == 0 {
         return None;
     }
-    Some(seen.node(count - 1))
+    Some(seen.of(count - 1).node)
+}
+
+// `chain`, `take` or `give`
+fn side(fields: &mut Fields) -> Result<Side, Refusal>
+    ensures { Does (λ k. field_at k (judge_side k)) fields.old result fields.new }
+{
+    let line = fields.line();
+    let Some(word) = fields.next() else {
+        return Err(Refusal::BadLine(line));
+    };
+    if word == b"chain".as_slice() {
+        Ok(Side::Both)
+    } else if word == b"take".as_slice() {
+        Ok(Side::Take)
+    } else if word == b"give".as_slice() {
+        Ok(Side::Give)
+    } else {
+        Err(Refusal::BadLine(line))
+    }
+}
+
+// That word and a declared node.
+fn side_node(
+    ring: &Ring,
+    likely: Option<NodeId>,
+    fields: &mut Fields,
+) -> Result<(Side, NodeId), Refusal>
+    ensures { Does (side_node_at ring.now) fields.old result fields.new }
+{
+    let side = side(fields);
+    let node = node_field(ring, likely, fields);
+    both(side, node)
+}
+
+// A side of a declared node.
+#[tactic(auto, unfolding(crate::specs::Reading::node_side_at))]
+fn node_side(ring: &Ring, likely: Option<NodeId>, fields: &mut Fields) -> Result<NodeSide, Refusal>
+    ensures { Does (node_side_at ring.now) fields.old result fields.new }
+{
+    let line = fields.line();
+    match side_node(ring, likely, fields) {
+        Ok((side, node)) => {
+            let of = NodeSide { node, side };
+            if ring.allowance(of).is_some() {
+                Ok(of)
+            } else {
+                Err(Refusal::BadLine(line))
+            }
+        }
+        Err(e) => Err(e),
+    }
 }
 
 // What a chain's line says.
@@ -94,14 +145,13 @@ fn judge_chain<'a>(
     seen: &Chains,
     mut fields: Fields<'a>,
 ) -> Result<ChainLine<'a>, Refusal>
-    ensures { map_ok chain_of result ≡ chain_at ring.now seen.now fields.entry.number fields.entry.fields }
+    ensures { map_ok chain_said result ≡ chain_at ring.now seen.now fields.entry.number fields.entry.fields }
 {
     let room = need(seen.len() < 65536, &fields);
-    let word = fields.word(b"chain");
-    let node = node_field(ring, last_node(seen), &mut fields);
+    let of = node_side(ring, last_node(seen), &mut fields);
     let steps = steps_field(&mut fields);
-    let (node, steps) = finish_both(both(room, word), node, steps, fields)?;
-    Ok(ChainLine { node, steps })
+    let (of, steps) = finish_both(room, of, steps, fields)?;
+    Ok(ChainLine { of, steps })
 }
 
 /// What a chain's line says, behind the chains seen. Takes no memory.
@@ -110,7 +160,7 @@ pub fn chain_line<'a>(
     seen: &Chains,
     fields: Fields<'a>,
 ) -> Result<ChainLine<'a>, Refusal>
-    ensures value { map_ok chain_of result ≡ chain_at ring.now seen.now fields.entry.number fields.entry.fields }
+    ensures value { map_ok chain_said result ≡ chain_at ring.now seen.now fields.entry.number fields.entry.fields }
     ensures small { IfOk result (λ said. are_small said.steps ≡ true) }
     ensures room { OnOk result (length seen.now < 65536) }
     ensures at { IfErr result (λ e. IsAt fields.entry.number e) }

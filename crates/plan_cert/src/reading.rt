@@ -2,13 +2,13 @@
 
 ghost use Rattle.std.specs.Prelude.{◌≡◌, ◌≤◌, ◌+◌, ◌<◌, ◌++◌, ◌∷◌, [], length, codes, true, Ok, IfOk, IfErr, OnOk};
 ghost use Rattle.ring_names.specs.declared.refusal.Refusal.TheVariants.{OutOfMemory};
-ghost use Rattle.ring_text.specs.Left.{Reads, many_from};
+ghost use Rattle.ring_text.specs.Left.{Reads, begins_so, is_word, many_from};
 ghost use Rattle.ring_text.specs.Late.{Late, NoFaultBefore};
 ghost use Rattle.ring_text.specs.Judging.{Gives, map_ok};
 ghost use Rattle.ring_text.specs.Numbers.{are_small};
-ghost use Rattle.plan_cert.specs.Reading.{fact_at, chain_at, cert_at, cert_reading};
-ghost use Rattle.plan_cert.specs.Said.{chain_of};
-ghost use Rattle.plan_cert.specs.Spelling.{cert_text};
+ghost use Rattle.plan_cert.specs.Reading.{fact_at, chain_at, begins_chain, cert_at, cert_reading};
+ghost use Rattle.plan_cert.specs.Said.{chain_said};
+ghost use Rattle.plan_cert.specs.Spelling.{cert_format, cert_text};
 ghost use Rattle.plan_cert.specs.Valid.{IsCert, Suits};
 ghost use Rattle.plan_cert.specs.declared.cert.Cert.{Cert};
 
@@ -37,22 +37,22 @@ fn add_fact(alloc: Global, facts: &mut Rows, path: NumberRow) -> Result<(), Refu
 // Adds the chain of a line that was judged.
 fn add_chain(alloc: Global, chains: &mut Chains, said: ChainLine) -> Result<(), Refusal>
     requires { are_small said.steps ≡ true }
-    ensures ok { OnOk result (chains.new ≡ chains.old ++ chain_of said.entry ∷ []) }
+    ensures ok { OnOk result (chains.new ≡ chains.old ++ chain_said said.entry ∷ []) }
     ensures grows { OnOk result (length chains.new ≡ length chains.old + 1) }
     ensures memory { IfErr result (λ e. e ≡ OutOfMemory) }
 {
     if let Some(few) = said.steps.kept() {
-        return chains.push(said.node, few);
+        return chains.push(said.of, few);
     }
     let steps = said.steps.to_vec(alloc)?;
-    chains.push(said.node, steps.as_slice())
+    chains.push(said.of, steps.as_slice())
 }
 
 // Reads facts behind those seen, as long as lines begin so.
 fn read_facts(alloc: Global, facts: &mut Rows, lines: &mut Lines) -> Result<(), Refusal>
     requires none { facts.old ≡ [] }
-    ensures read { Reads (map_ok (λ _. facts.new) result) lines.new (many_from (codes "fact") fact_at facts.old lines.old.line lines.old.lines) }
-    ensures late { Late 1 result lines.old lines.new (many_from (codes "fact") fact_at facts.old lines.old.line lines.old.lines) }
+    ensures read { Reads (map_ok (λ _. facts.new) result) lines.new (many_from (is_word (codes "fact")) fact_at facts.old lines.old.line lines.old.lines) }
+    ensures late { Late 1 result lines.old lines.new (many_from (is_word (codes "fact")) fact_at facts.old lines.old.line lines.old.lines) }
 {
     'facts: while lines.begins(b"fact") {
         let fields = lines.next()?;
@@ -60,6 +60,14 @@ fn read_facts(alloc: Global, facts: &mut Rows, lines: &mut Lines) -> Result<(), 
         add_fact(alloc, facts, path)?;
     }
     Ok(())
+}
+
+// Whether the next line is one of a chain.
+fn begins_chain(ring: &Ring, lines: &Lines) -> bool
+    ensures { result ≡ begins_so (begins_chain ring.now) lines.now.lines }
+{
+    lines.begins(b"chain")
+        || (ring.format() != 1 && (lines.begins(b"take") || lines.begins(b"give")))
 }
 
 // Reads chains behind those seen, as long as lines begin so.
@@ -70,15 +78,22 @@ fn read_chains(
     lines: &mut Lines,
 ) -> Result<(), Refusal>
     requires none { chains.old ≡ [] }
-    ensures read { Reads (map_ok (λ _. chains.new) result) lines.new (many_from (codes "chain") (chain_at ring.now) chains.old lines.old.line lines.old.lines) }
-    ensures late { Late 1 result lines.old lines.new (many_from (codes "chain") (chain_at ring.now) chains.old lines.old.line lines.old.lines) }
+    ensures read { Reads (map_ok (λ _. chains.new) result) lines.new (many_from (begins_chain ring.now) (chain_at ring.now) chains.old lines.old.line lines.old.lines) }
+    ensures late { Late 1 result lines.old lines.new (many_from (begins_chain ring.now) (chain_at ring.now) chains.old lines.old.line lines.old.lines) }
 {
-    'chains: while lines.begins(b"chain") {
+    'chains: while begins_chain(ring, lines) {
         let fields = lines.next()?;
         let said = chain_line(ring, chains, fields)?;
         add_chain(alloc, chains, said)?;
     }
     Ok(())
+}
+
+// The format of a certificate of plans over the ring.
+pub fn format_of(ring: &Ring) -> &'static [u8]
+    ensures { result.now ≡ cert_format ring.now }
+{
+    if ring.format() == 1 { b"1" } else { b"2" }
 }
 
 // Reads the lines of a certificate.
@@ -87,7 +102,7 @@ fn read_parts(alloc: Global, ring: &Ring, lines: &mut Lines) -> Result<Cert, Ref
     ensures read { Reads result lines.new (cert_at ring.now lines.old) }
     ensures late { Late 2 result lines.old lines.new (cert_at ring.now lines.old) }
 {
-    header(lines, b"cert")?;
+    header(lines, b"cert", format_of(ring))?;
     let mut facts = Rows::new(alloc);
     read_facts(alloc, &mut facts, lines)?;
     let mut chains = Chains::new(alloc);

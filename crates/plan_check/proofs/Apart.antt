@@ -15,11 +15,11 @@ use Rattle.plan_text.specs.declared.step.Planned.{Planned}
 use Rattle.plan_text.specs.Steps.{steps_of, copy_of}
 use Rattle.plan_stage.specs.Stage.{opening, stage}
 use Rattle.plan_check.specs.declared.event.Event.{Event}
-use Rattle.plan_check.specs.declared.event.Event.TheVariants.{Do, OpenCopy, ChunkCopy, CloseCopy, AbortCopy, StartPut, Write, Hint, Ack, StartGet, Read, EndGet, Down, Up, Handoff}
+use Rattle.plan_check.specs.declared.event.Event.TheVariants.{Do, OpenCopy, ChunkCopy, CloseCopy, AbortCopy, StartPut, Write, Hint, Ack, StartGet, Read, EndGet, Down, Up, Handoff, Lose}
 use Rattle.plan_check.specs.World.{World, opening_world, count, keeps_other}
 use Rattle.plan_check.specs.Versions.{put_slot}
 use Rattle.plan_check.specs.Guards.{serves_in, step_guards, guards}
-use Rattle.plan_check.specs.Effects.{with_number, without_number, without_puts, changed, step_effect, served_puts, with_ticket, effect}
+use Rattle.plan_check.specs.Effects.{with_number, without_number, without_puts, changed, step_effect, served_puts, with_ticket, lose_effect, effect}
 use Rattle.plan_stage.specs.Each.{step_at}
 use Rattle.plan_check.specs.declared.event.Entry.{Entry}
 use Rattle.plan_check.specs.Runs.{Leads}
@@ -31,7 +31,7 @@ use Rattle.plan_check.proofs.Mirrored.{Known, down}
 use Rattle.plan_check.specs.Reached.{Ready}
 use Rattle.plan_check.proofs.Answered.{answered}
 use Rattle.plan_check.proofs.Passed.{AllMet, all_met, ready}
-use Rattle.plan_check.proofs.Storing.{without_puts_was}
+use Rattle.plan_check.proofs.Storing.{without_puts_was, lose_hinted}
 use Rattle.plan_check.proofs.Reached.{event_reached, start_reached}
 use Rattle.plan_check.proofs.Entering.{Apart, Inv, MayMirror, done_apart, less_apart, hint_apart}
 use Rattle.plan_stage.proofs.Truth.{second_of_two, not_is}
@@ -69,18 +69,21 @@ event_apart ring plan k w i (ChunkCopy n c) g = i.apart
 event_apart ring plan k w i (CloseCopy n) g =
     done_apart ring plan k w n (without_number w.is_open n) w.up w.stored i (i.reached.copies.ready n g.1.0) (λ s x at. absurd (no_mirror (step_at plan n) s x g.0 at))
 event_apart ring plan k w i (AbortCopy n) g = i.apart
-event_apart ring plan k w i (StartPut writer key value seen) g = less_apart ring plan w _ w.stored w.hinted i (λ x s v e. e)
-event_apart ring plan k w i (Write v j) g = less_apart ring plan w (with_ticket ring plan w v j) (served_puts ring plan w (put_slot ring w v j) (λ u. u == v)) w.hinted i (λ x s u e. e)
+event_apart ring plan k w i (StartPut writer key value seen) g = less_apart ring plan w _ w.stored w.hinted w.losses w.lost i (λ x s v e. e)
+event_apart ring plan k w i (Write v j) g = less_apart ring plan w (with_ticket ring plan w v j) (served_puts ring plan w (put_slot ring w v j) (λ u. u == v)) w.hinted w.losses w.lost i (λ x s u e. e)
 event_apart ring plan k w i (Hint v j x) g =
     hint_apart ring plan w v (put_slot ring w v j) x (with_ticket ring plan w v j) i (not_is (serves_in ring plan w (put_slot ring w v j).partition x.0) g.1.1.1.0) (not_is (keeps_other ring w x.0 (put_slot ring w v j)) g.1.1.1.1.0)
-event_apart ring plan k w i (Ack v) g = less_apart ring plan w (changed w.puts v (λ x. record x { acked = true })) w.stored w.hinted i (λ x s u e. e)
+event_apart ring plan k w i (Ack v) g = less_apart ring plan w (changed w.puts v (λ x. record x { acked = true })) w.stored w.hinted w.losses w.lost i (λ x s u e. e)
 event_apart ring plan k w i (StartGet key) g = i.apart
 event_apart ring plan k w i (Read h j) g = i.apart
 event_apart ring plan k w i (EndGet h) g = i.apart
 event_apart ring plan k w i (Down x) g = i.apart
 event_apart ring plan k w i (Up x) g = i.apart
 event_apart ring plan k w i (Handoff x s) g =
-    less_apart ring plan w w.puts (served_puts ring plan w s (w.hinted x.0 s)) (without_puts w.hinted x s) i (λ y t u e. without_puts_was w.hinted x s y t u e)
+    less_apart ring plan w w.puts (served_puts ring plan w s (w.hinted x.0 s)) (without_puts w.hinted x s) w.losses w.lost i (λ y t u e. without_puts_was w.hinted x s y t u e)
+event_apart ring plan k w i (Lose x) g =
+    let u = lose_effect ring plan w x in
+    less_apart ring plan w w.puts u.stored u.hinted u.losses u.lost i (lose_hinted ring plan w x)
 
 -- ---- a run
 

@@ -2,6 +2,7 @@
 use Rattle.std.proofs.Common.{◌≡◌, inl, inr, ℕ, Bool, true, List, [], ◌∷◌, Option, Some, None}
 use Rattle.std.specs.List.{list_all}
 use Rattle.std.proofs.lemmas.Bool.{and_parts}
+use Rattle.ring_table.specs.declared.allowance.Side.{Side}
 use Rattle.ring_table.specs.Value.{RingValue}
 use Rattle.plan_text.specs.declared.step.Planned.{Planned}
 use Rattle.plan_text.specs.Steps.{depends}
@@ -49,7 +50,7 @@ module _ (O W : Order) (wider : (a b : ℕ) → O a b → W a b) where
   covers_are : (most : ℕ) (is_one : ℕ → Bool) (cs : List (List ℕ)) → Covers O most is_one cs → Covers W most is_one cs
   covers_are most is_one cs c = record { few = c.few; linked = chains_are cs c.linked; covered = c.covered }
 
-  pub meets_wider : (ring : RingValue) (plan : List Planned) (chains : ℕ → List (List ℕ)) → Meets ring plan O chains → Meets ring plan W chains
+  pub meets_wider : (ring : RingValue) (plan : List Planned) (chains : ℕ → Side → List (List ℕ)) → Meets ring plan O chains → Meets ring plan W chains
   meets_wider ring plan chains m = record {
     suits = m.suits;
     staged = m.staged;
@@ -61,9 +62,9 @@ module _ (O W : Order) (wider : (a b : ℕ) → O a b → W a b) where
     joined_first = λ t x out h. (let r = m.joined_first t x out h in (r.0, r.1, wider r.0 t r.2));
     dropped_first = λ t slot x h o. ends _ t (m.dropped_first t slot x h o);
     dropped_later = λ t b slot x h s. ends _ t (m.dropped_later t b slot x h s);
-    covers = λ x a e. covers_are a (is_party_of ring plan x) (chains x) (m.covers x a e);
+    covers = λ x side a e. covers_are a (is_party_of ring plan x side) (chains x side) (m.covers x side a e);
   }
 
 pub certified-sound : (ring : RingValue) (plan : List Planned) (cert : Cert) → IsCertified ring plan cert → Sound ring plan
 certified-sound ring plan cert c =
-    (λ x. chains_from x cert.chains, meets_wider (λ a b. ordered_by plan cert a b ≡ true) (Before plan) (λ a b h. ordered_before plan cert a b c.facts h) ring plan (λ x. chains_from x cert.chains) c.meets)
+    (λ x side. chains_from x side cert.chains, meets_wider (λ a b. ordered_by plan cert a b ≡ true) (Before plan) (λ a b h. ordered_before plan cert a b c.facts h) ring plan (λ x side. chains_from x side cert.chains) c.meets)

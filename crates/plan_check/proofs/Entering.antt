@@ -117,10 +117,10 @@ done_apart ring plan k w n o a b i y may = by (step_at plan n) refl
 
 -- ---- hints
 
--- hints go, and puts come
-pub less_apart : (ring : RingValue) (plan : List Planned) (w : World) (ps : List PutRecord) (b f : ℕ → Slot → ℕ → Bool) → Inv ring plan w → ((x : ℕ) (s : Slot) (v : ℕ) → f x s v ≡ true → w.hinted x s v ≡ true)
-    → Apart ring plan (record w { puts = ps; stored = b; hinted = f })
-less_apart ring plan w ps b f i fewer = shrinks ring plan w (record w { puts = ps; stored = b; hinted = f }) i.apart (λ t x g. elim g [
+-- hints go, puts come, and stores are lost
+pub less_apart : (ring : RingValue) (plan : List Planned) (w : World) (ps : List PutRecord) (b f : ℕ → Slot → ℕ → Bool) (l : ℕ) (m : Slot → ℕ) → Inv ring plan w → ((x : ℕ) (s : Slot) (v : ℕ) → f x s v ≡ true → w.hinted x s v ≡ true)
+    → Apart ring plan (record w { puts = ps; stored = b; hinted = f; losses = l; lost = m })
+less_apart ring plan w ps b f l m i fewer = shrinks ring plan w (record w { puts = ps; stored = b; hinted = f; losses = l; lost = m }) i.apart (λ t x g. elim g [
   | inl h ↦ inl h
   | inr h ↦ inr (h.0, (i.reached.hinted x t h.0 (fewer x t h.0 h.2)).0, fewer x t h.0 h.2)
 ])

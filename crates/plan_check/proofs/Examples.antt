@@ -1,25 +1,26 @@
 -- Worked examples: what events are answered, one after the other.
-use Rattle.std.proofs.Common.{◌≡◌, ℕ, List, [], ◌∷◌, codes, Result, Ok, Err, Option, Some, refl, true, false, Bool}
+use Rattle.std.proofs.Common.{◌≡◌, ℕ, List, [], ◌∷◌, map, codes, Result, Ok, Err, Option, Some, refl, true, false, Bool}
 use Rattle.ring_names.specs.declared.ids.NodeId.{NodeId}
 use Rattle.ring_names.specs.declared.ids.Slot.{Slot}
 use Rattle.ring_names.specs.declared.refusal.Refusal.{Refusal}
-use Rattle.ring_names.specs.declared.refusal.Refusal.TheVariants.{AlreadyDone, NodeDown, KeeperTaken, KeeperInPartition, StaleTickets, TooFewSlots, UnknownNumber, HintsLeft, NotOpen, ChunksLeft}
+use Rattle.ring_names.specs.declared.refusal.Refusal.TheVariants.{AlreadyDone, NodeDown, KeeperTaken, KeeperInPartition, StaleTickets, TooFewSlots, UnknownNumber, HintsLeft, NotOpen, ChunksLeft, NotMember, LossesSpent}
 use Rattle.md5.specs.Md5.{block_words, rounds, compress, hash_after, digest_bytes, md5}
 use Rattle.ring_space.specs.Place.{log2, place_of}
 use Rattle.ring_table.specs.Value.{RingValue}
+use Rattle.ring_table.specs.declared.allowance.Allowance.TheVariants.{Joint}
 use Rattle.ring_table.specs.declared.node.Node.{Node}
 use Rattle.plan_text.specs.declared.step.Source.TheVariants.{Owner}
 use Rattle.plan_text.specs.declared.step.Step.{Step}
 use Rattle.plan_text.specs.declared.step.Step.TheVariants.{Join, Mirror, Copy, Switch, Drop}
 use Rattle.plan_text.specs.declared.step.Planned.{Planned}
 use Rattle.plan_check.specs.declared.event.Event.{Event}
-use Rattle.plan_check.specs.declared.event.Event.TheVariants.{Do, OpenCopy, ChunkCopy, CloseCopy, AbortCopy, StartPut, Write, Hint, Ack, StartGet, Read, EndGet, Down, Up, Handoff}
+use Rattle.plan_check.specs.declared.event.Event.TheVariants.{Do, OpenCopy, ChunkCopy, CloseCopy, AbortCopy, StartPut, Write, Hint, Ack, StartGet, Read, EndGet, Down, Up, Handoff, Lose}
 use Rattle.plan_check.specs.declared.event.Reply.{Reply}
 use Rattle.plan_check.specs.declared.event.Reply.TheVariants as reply
-use Rattle.plan_check.specs.World.{World, opening_world, passing_below, is_acked, reply_of}
+use Rattle.plan_check.specs.World.{World, opening_world, passing_below, is_acked, reply_of, generation}
 use Rattle.plan_check.specs.Versions.{is_held}
 use Rattle.plan_check.specs.Guards.{guards}
-use Rattle.plan_check.specs.Effects.{effect}
+use Rattle.plan_check.specs.Effects.{effect, lose_effect}
 use Rattle.plan_check.specs.Answers.{answer}
 
 -- what each event is answered, where a refused one changes nothing
@@ -33,7 +34,7 @@ world_after ring plan w [] = w
 world_after ring plan w (e ∷ es) = elim (answer ring plan w e) [ Ok x ↦ world_after ring plan x.0 es | Err r ↦ world_after ring plan w es ]
 
 abbrev pub node : List ℕ → ℕ → Bool → Node
-node name allowance is_member = record { name = name; allowance = allowance; is_member = is_member }
+node name most is_member = record { name = name; allowance = Joint most; is_member = is_member }
 
 abbrev pub the : ℕ → NodeId
 the x = record { 0 = x }
@@ -47,10 +48,12 @@ step s after = record { step = s; after = after }
 -- four nodes, of which d is a member or not
 abbrev pub ring_of_four : Bool → RingValue
 ring_of_four d = record {
+  format = 1;
   q = 4;
   n = 3;
   r = 2;
   w = 2;
+  loss = 0;
   nodes = node (codes "a") 4 true ∷ node (codes "b") 4 true ∷ node (codes "c") 4 true ∷ node (codes "d") 4 d ∷ [];
   owners = (the 0 ∷ the 1 ∷ the 2 ∷ []) ∷ (the 0 ∷ the 1 ∷ the 2 ∷ []) ∷ (the 0 ∷ the 1 ∷ the 2 ∷ []) ∷ (the 0 ∷ the 1 ∷ the 2 ∷ []) ∷ [];
 }
@@ -93,10 +96,12 @@ aborted_copy = refl
 
 abbrev ring_of_five : RingValue
 ring_of_five = record {
+  format = 1;
   q = 4;
   n = 3;
   r = 2;
   w = 2;
+  loss = 0;
   nodes = node (codes "a") 4 true ∷ node (codes "b") 4 true ∷ node (codes "c") 4 true ∷ node (codes "d") 4 true ∷ node (codes "e") 4 false ∷ [];
   owners = (the 0 ∷ the 1 ∷ the 2 ∷ []) ∷ (the 0 ∷ the 1 ∷ the 2 ∷ []) ∷ (the 0 ∷ the 1 ∷ the 2 ∷ []) ∷ (the 0 ∷ the 1 ∷ the 2 ∷ []) ∷ [];
 }
@@ -156,3 +161,84 @@ too_few_slots : replies (ring_of_four false) [] (opening_world (ring_of_four fal
     ≡ Ok (reply.Get 0) ∷ Ok (reply.Found ([])) ∷ Err AlreadyDone ∷ Err (TooFewSlots 1) ∷ Err UnknownNumber ∷ Ok (reply.Found ([])) ∷ Ok (reply.Answer ([])) ∷ Err AlreadyDone ∷ []
 unfolding guards effect log2 block_words rounds compress hash_after digest_bytes md5
 too_few_slots = refl
+
+-- ---- a node loses its store
+
+-- of put 0 and slot 1 of partition 0: the nodes that store it and those that keep it as a hint; and the generations of the
+-- partition's slots, and how many stores were lost
+record Left : Type 0 where
+  storers : List ℕ
+  keepers : List ℕ
+  generations : List ℕ
+  losses : ℕ
+
+abbrev left : List Planned → World → Left
+left plan w = record {
+  storers = passing_below 4 (λ x. w.stored x (at 0 1) 0);
+  keepers = passing_below 4 (λ x. w.hinted x (at 0 1) 0);
+  generations = map (λ i. generation plan w (at 0 i)) (0 ∷ 1 ∷ 2 ∷ []);
+  losses = w.losses;
+}
+
+-- b stores put 0 for its slot, and d keeps it as a hint
+abbrev stored_and_hinted : World
+stored_and_hinted = world_after (ring_of_four true) [] (opening_world (ring_of_four true)) (StartPut (record { 0 = 0 }) (codes "a") (49 ∷ []) ([]) ∷ Write 0 1 ∷ Hint 0 1 (the 3) ∷ [])
+
+before_a_loss : left [] stored_and_hinted ≡ record { storers = 1 ∷ []; keepers = 3 ∷ []; generations = 0 ∷ 0 ∷ 0 ∷ []; losses = 0 }
+unfolding guards effect log2 block_words rounds compress hash_after digest_bytes md5
+before_a_loss = refl
+
+-- an owner that loses its store has nothing of its slot, whose generation is one more
+owner_loses : left [] (lose_effect (ring_of_four true) [] stored_and_hinted (the 1)) ≡ record { storers = []; keepers = 3 ∷ []; generations = 0 ∷ 1 ∷ 0 ∷ []; losses = 1 }
+unfolding guards effect log2 block_words rounds compress hash_after digest_bytes md5
+owner_loses = refl
+
+-- so has a keeper, and the generation is one more too
+keeper_loses : left [] (lose_effect (ring_of_four true) [] stored_and_hinted (the 3)) ≡ record { storers = 1 ∷ []; keepers = []; generations = 0 ∷ 1 ∷ 0 ∷ []; losses = 1 }
+unfolding guards effect log2 block_words rounds compress hash_after digest_bytes md5
+keeper_loses = refl
+
+-- once it has nothing it is in no group, and a second loss changes no generation
+keeper_loses_again : left [] (lose_effect (ring_of_four true) [] (lose_effect (ring_of_four true) [] stored_and_hinted (the 3)) (the 3)) ≡ record { storers = 1 ∷ []; keepers = []; generations = 0 ∷ 1 ∷ 0 ∷ []; losses = 2 }
+unfolding guards effect log2 block_words rounds compress hash_after digest_bytes md5
+keeper_loses_again = refl
+
+-- an owner is in its group with or without a store
+owner_loses_again : left [] (lose_effect (ring_of_four true) [] (lose_effect (ring_of_four true) [] stored_and_hinted (the 1)) (the 1)) ≡ record { storers = []; keepers = 3 ∷ []; generations = 0 ∷ 2 ∷ 0 ∷ []; losses = 2 }
+unfolding guards effect log2 block_words rounds compress hash_after digest_bytes md5
+owner_loses_again = refl
+
+-- every node stores and keeps the put for every slot
+abbrev all_have_it : World
+all_have_it = record stored_and_hinted { stored = λ x s v. true; hinted = λ x s v. true }
+
+-- b, which stores and keeps, has neither after it, and the others have both
+one_of_all_loses : left [] (lose_effect (ring_of_four true) [] all_have_it (the 1)) ≡ record { storers = 0 ∷ 2 ∷ 3 ∷ []; keepers = 0 ∷ 2 ∷ 3 ∷ []; generations = 1 ∷ 1 ∷ 1 ∷ []; losses = 1 }
+unfolding guards effect log2 block_words rounds compress hash_after digest_bytes md5
+one_of_all_loses = refl
+
+-- a mirror that loses its store: one generation is of the mirror's beginning, and one of the loss
+mirror_loses : left moves_to_d (lose_effect (ring_of_four false) moves_to_d (world_after (ring_of_four false) moves_to_d (opening_world (ring_of_four false)) (Do 0 ∷ Do 1 ∷ [])) (the 3)) ≡ record { storers = []; keepers = []; generations = 0 ∷ 2 ∷ 0 ∷ []; losses = 1 }
+unfolding guards effect
+mirror_loses = refl
+
+-- a node that is no member loses nothing
+outsider_loses_nothing : replies (ring_of_four false) [] (opening_world (ring_of_four false)) (Lose (the 3) ∷ []) ≡ Err (NotMember 3) ∷ []
+unfolding guards effect
+outsider_loses_nothing = refl
+
+-- nor does a member of a ring that allows no loss
+no_loss_is_allowed : replies (ring_of_four false) [] (opening_world (ring_of_four false)) (Lose (the 0) ∷ []) ≡ Err LossesSpent ∷ []
+unfolding guards effect
+no_loss_is_allowed = refl
+
+-- a write is in all three slots, and one store may be lost
+abbrev ring_with_a_loss : RingValue
+ring_with_a_loss = record (ring_of_four false) { w = 3; loss = 1 }
+
+-- a ticket from before a loss does not count for an acknowledgement
+ticket_before_a_loss : replies ring_with_a_loss [] (opening_world ring_with_a_loss)
+    (StartPut (record { 0 = 0 }) (codes "a") (49 ∷ []) ([]) ∷ Write 0 0 ∷ Write 0 1 ∷ Lose (the 1) ∷ Write 0 2 ∷ Ack 0 ∷ Write 0 1 ∷ Ack 0 ∷ Lose (the 3) ∷ Lose (the 0) ∷ [])
+    ≡ Ok (reply.Put 0) ∷ Ok (reply.Ticket (at 0 0) 0) ∷ Ok (reply.Ticket (at 0 1) 0) ∷ Ok reply.Plain ∷ Ok (reply.Ticket (at 0 2) 0) ∷ Err (StaleTickets 2) ∷ Ok (reply.Ticket (at 0 1) 1) ∷ Ok reply.Plain ∷ Err (NotMember 3) ∷ Err LossesSpent ∷ []
+unfolding guards effect log2 block_words rounds compress hash_after digest_bytes md5
+ticket_before_a_loss = refl

@@ -99,19 +99,19 @@ no_more plan test apart (c ∷ cs) xs are d t h = elim (in_chain c xs) [
 -- ---- the law
 
 pub few_always : (ring : RingValue) (plan : List Planned) → Known ring plan → Always ring plan (TransfersAreFew ring plan)
-few_always ring plan k run w is x a al =
-    let rest = no_more plan test apart (k.chains x) (passing_below (length plan) test) covers.linked (none_twice (passing_below (length plan) test) (passing_ascend 0 (length plan) test)) (λ n e. (below_is (length plan) test n e).1) (λ n e. covered n (below_is (length plan) test n e).1) in
+few_always ring plan k run w is x side a al =
+    let rest = no_more plan test apart (k.chains x side) (passing_below (length plan) test) covers.linked (none_twice (passing_below (length plan) test) (passing_ascend 0 (length plan) test)) (λ n e. (below_is (length plan) test n e).1) (λ n e. covered n (below_is (length plan) test n e).1) in
     let few = covers.few in
     omega arith
   where
     r : Reached ring plan w
     r = reached ring plan run w is
 
-    covers : Covers (Before plan) a (is_party_of ring plan x) (k.chains x)
-    covers = k.meets.covers x a al
+    covers : Covers (Before plan) a (is_party_of ring plan x side) (k.chains x side)
+    covers = k.meets.covers x side a al
 
     part : ℕ → Bool
-    part n = elim (copy_at plan n) [ Some c ↦ takes_part_now ring plan w x c.0 c.1 | None ↦ false ]
+    part n = elim (copy_at plan n) [ Some c ↦ takes_part_now ring plan w x side c.0 c.1 | None ↦ false ]
 
     test : ℕ → Bool
     test n = w.is_open n && part n
@@ -126,5 +126,5 @@ few_always ring plan k run w is x a al =
         let off = r.copies.unfinished n (open_one n e) in
         absurd cc
 
-    covered : (n : ℕ) → test n ≡ true → in_some n (k.chains x) ≡ true
-    covered n e = covers.covered n (party ring plan k w n x r.closed (r.copies.ready n (open_one n e)) (r.copies.unfinished n (open_one n e)) (and_parts (w.is_open n) (part n) e).1)
+    covered : (n : ℕ) → test n ≡ true → in_some n (k.chains x side) ≡ true
+    covered n e = covers.covered n (party ring plan k w n x side r.closed (r.copies.ready n (open_one n e)) (r.copies.unfinished n (open_one n e)) (and_parts (w.is_open n) (part n) e).1)

@@ -1,6 +1,6 @@
 -- What the checker's clauses say, one by one, and what they follow from.
-use Rattle.std.proofs.Common.{◌≡◌, ◌≢◌, ◌⊎◌, inl, inr, ℕ, suc, zero, ◌+◌, ◌-◌, ◌<◌, ◌≤◌, Bool, true, false, not, cond, List, [], ◌∷◌, refl, sym, ap, arith, Option, Some, None}
-use Rattle.std.specs.Prelude.{◌&&◌, ◌||◌, ◌==◌, min, nat_lt, nat_le, slice_get}
+use Rattle.std.proofs.Common.{◌≡◌, ◌≢◌, ◌⊎◌, inl, inr, ℕ, suc, zero, ◌+◌, ◌-◌, ◌<◌, ◌≤◌, Bool, true, false, not, cond, List, [], ◌∷◌, refl, sym, ap, subst, arith, Option, Some, None}
+use Rattle.std.specs.Prelude.{◌&&◌, ◌||◌, ◌==◌, min, nat_lt, nat_le, slice_get, is_some}
 use Rattle.std.specs.List.{list_all}
 use Rattle.std.proofs.lemmas.Bool.{eqb-true, ltb-true, lt-ltb, leb-true, le-leb, and_parts}
 use Rattle.std.proofs.lemmas.Bool.Decides.{eqb_tells}
@@ -8,7 +8,9 @@ use Rattle.ring_names.specs.Lists.{has}
 use Rattle.ring_names.specs.declared.ids.NodeId.{NodeId}
 use Rattle.ring_names.specs.declared.ids.Slot.{Slot}
 use Rattle.ring_names.specs.declared.refusal.Refusal.TheVariants.{ChainBroken}
-use Rattle.ring_table.specs.Value.{RingValue, is_member, owner_of}
+use Rattle.ring_table.specs.declared.allowance.Side.{Side}
+use Rattle.ring_table.specs.declared.allowance.Side.TheVariants.{Both, Take, Give}
+use Rattle.ring_table.specs.Value.{RingValue, is_side, is_member, allowance_of, owner_of}
 use Rattle.plan_text.specs.declared.step.Step.{Step}
 use Rattle.plan_text.specs.declared.step.Step.TheVariants.{Join, Mirror, Copy, Switch, Drop, Retire}
 use Rattle.plan_text.specs.declared.step.Planned.{Planned}
@@ -18,10 +20,10 @@ use Rattle.plan_cert.specs.declared.cert.Chain.{Chain}
 use Rattle.plan_stage.specs.Stage.{is_among}
 use Rattle.plan_stage.specs.Clauses.{first_failing}
 use Rattle.plan_stage.specs.Occupancy.{is_node, first_end, mirror_end, first_drop, mirror_drop}
-use Rattle.plan_stage.specs.Parties.{parties, target_of, sources_of, with_target}
+use Rattle.plan_stage.specs.Parties.{target_of, sources_of, on_side, parties_on}
 use Rattle.plan_stage.proofs.Below.{met}
 use Rattle.plan_stage.specs.Each.{some_step, step_at, place_in, sibling, each_step, is_switch_of, is_mirror_of, owns_first}
-use Rattle.plan_cover.specs.Clauses.{allowance_of, in_some, chains_from, is_good_chain, chains_clauses, is_few}
+use Rattle.plan_cover.specs.Clauses.{in_some, chains_from, has_side, is_good_chain, chains_clauses, is_few}
 use Rattle.plan_check.specs.Sound.{Order, EndsBefore, IsChain, AreChains}
 use Rattle.plan_check.specs.First.{fact_clauses}
 use Rattle.plan_stage.specs.Partition.{Test, ends_before, is_settled, has_left, has_joined, has_dropped}
@@ -272,26 +274,30 @@ dropped-all ring plan O p t x start more =
 
 -- ---- chains
 
--- its entries are in order, and copies of the node
-abbrev pub IsGood : RingValue → List Planned → Test → NodeId → List ℕ → Type 0
-IsGood ring plan O x c = IsChain (holds O) c × ((n : ℕ) → has n c ≡ true → is_among x (parties ring plan n) ≡ true)
+-- its entries are in order, and copies of that side of the node
+abbrev pub IsGood : RingValue → List Planned → Test → NodeId → Side → List ℕ → Type 0
+IsGood ring plan O x side c = IsChain (holds O) c × ((n : ℕ) → has n c ≡ true → is_among x (parties_on ring plan side n) ≡ true)
 
-abbrev pub AreGood : RingValue → List Planned → Test → NodeId → List (List ℕ) → Type 0
-AreGood ring plan O x cs = AreChains (holds O) cs × ((n : ℕ) → in_some n cs ≡ true → is_among x (parties ring plan n) ≡ true)
+abbrev pub AreGood : RingValue → List Planned → Test → NodeId → Side → List (List ℕ) → Type 0
+AreGood ring plan O x side cs = AreChains (holds O) cs × ((n : ℕ) → in_some n cs ≡ true → is_among x (parties_on ring plan side n) ≡ true)
 
-good-met : (ring : RingValue) (plan : List Planned) (O : Test) (x : NodeId) (c : List ℕ) → is_good_chain ring plan O x c ≡ true → IsGood ring plan O x c
-good-met ring plan O x [] h = (tt, λ n is. absurd cc)
-good-met ring plan O x (a ∷ []) h = (
+-- there are some only if the node has the side
+abbrev pub IsAllowed : RingValue → NodeId → Side → List (List ℕ) → Type 0
+IsAllowed ring x side cs = allowance_of ring x.0 side ≡ None → cs ≡ []
+
+good-met : (ring : RingValue) (plan : List Planned) (O : Test) (x : NodeId) (side : Side) (c : List ℕ) → is_good_chain ring plan O x side c ≡ true → IsGood ring plan O x side c
+good-met ring plan O x side [] h = (tt, λ n is. absurd cc)
+good-met ring plan O x side (a ∷ []) h = (
   tt,
   λ n is. elim (either (n == a) false is) [
     | inl here ↦ (let e : n ≡ a = eqb-true n a here in rw e h)
     | inr there ↦ absurd cc
   ],
 )
-good-met ring plan O x (a ∷ b ∷ rest) h =
-    let q = and_parts (is_among x (parties ring plan a) && O a b) (is_good_chain ring plan O x (b ∷ rest)) h in
-    let p = and_parts (is_among x (parties ring plan a)) (O a b) q.0 in
-    let g = good-met ring plan O x (b ∷ rest) q.1 in (
+good-met ring plan O x side (a ∷ b ∷ rest) h =
+    let q = and_parts (is_among x (parties_on ring plan side a) && O a b) (is_good_chain ring plan O x side (b ∷ rest)) h in
+    let p = and_parts (is_among x (parties_on ring plan side a)) (O a b) q.0 in
+    let g = good-met ring plan O x side (b ∷ rest) q.1 in (
       (p.1, g.0),
       λ n is. elim (either (n == a) (has n (b ∷ rest)) is) [
         | inl here ↦ (let e : n ≡ a = eqb-true n a here in rw e p.0)
@@ -299,38 +305,87 @@ good-met ring plan O x (a ∷ b ∷ rest) h =
       ],
     )
 
-good-all : (ring : RingValue) (plan : List Planned) (O : Test) (x : NodeId) (c : List ℕ) → IsGood ring plan O x c → is_good_chain ring plan O x c ≡ true
-good-all ring plan O x [] g = refl
-good-all ring plan O x (a ∷ []) g = g.1 a (first_of_two (a == a) false (same a))
-good-all ring plan O x (a ∷ b ∷ rest) g =
-    all_of (is_among x (parties ring plan a) && O a b) (is_good_chain ring plan O x (b ∷ rest))
-    (all_of (is_among x (parties ring plan a)) (O a b) (g.1 a (first_of_two (a == a) (has a (b ∷ rest)) (same a))) g.0.0)
-    (good-all ring plan O x (b ∷ rest) (g.0.1, λ n is. g.1 n (second_of_two (n == a) (has n (b ∷ rest)) is)))
+good-all : (ring : RingValue) (plan : List Planned) (O : Test) (x : NodeId) (side : Side) (c : List ℕ) → IsGood ring plan O x side c → is_good_chain ring plan O x side c ≡ true
+good-all ring plan O x side [] g = refl
+good-all ring plan O x side (a ∷ []) g = g.1 a (first_of_two (a == a) false (same a))
+good-all ring plan O x side (a ∷ b ∷ rest) g =
+    all_of (is_among x (parties_on ring plan side a) && O a b) (is_good_chain ring plan O x side (b ∷ rest))
+    (all_of (is_among x (parties_on ring plan side a)) (O a b) (g.1 a (first_of_two (a == a) (has a (b ∷ rest)) (same a))) g.0.0)
+    (good-all ring plan O x side (b ∷ rest) (g.0.1, λ n is. g.1 n (second_of_two (n == a) (has n (b ∷ rest)) is)))
 
-chain-met : (ring : RingValue) (plan : List Planned) (O : Test) (x : NodeId) (own : Bool) (c : List ℕ) (cs : List (List ℕ)) → (not own || is_good_chain ring plan O x c) ≡ true → AreGood ring plan O x cs → AreGood ring plan O x (cond own (c ∷ cs) cs)
-chain-met ring plan O x true c cs h g =
-    let m = good-met ring plan O x c h in
-    ((m.0, g.0), λ n is. elim (either (has n c) (in_some n cs) is) [ inl here ↦ m.1 n here | inr there ↦ g.1 n there ])
-chain-met ring plan O x false c cs h g = g
+-- what is tested of a chain of the node
+abbrev passes : RingValue → List Planned → Test → NodeId → Chain → Bool
+passes ring plan O x c = has_side ring x c.side && is_good_chain ring plan O x c.side c.steps
 
-chain-all : (ring : RingValue) (plan : List Planned) (O : Test) (x : NodeId) (own : Bool) (c : List ℕ) (cs : List (List ℕ)) → AreGood ring plan O x (cond own (c ∷ cs) cs) → ((not own || is_good_chain ring plan O x c) ≡ true) × AreGood ring plan O x cs
-chain-all ring plan O x true c cs g = (
-  good-all ring plan O x c (g.0.0, λ n is. g.1 n (first_of_two (has n c) (in_some n cs) is)),
-  (g.0.1, λ n is. g.1 n (second_of_two (has n c) (in_some n cs) is)),
-)
-chain-all ring plan O x false c cs g = (refl, g)
+some-side : (o : Option ℕ) → is_some o ≡ true → o ≡ None → ⊥
+some-side None h e = absurd cc
+some-side (Some a) h e = cc
 
-pub chains-met : (ring : RingValue) (plan : List Planned) (O : Test) (x : NodeId) (k : ℕ) (cs : List Chain) → first_failing (chains_clauses ring plan O x k cs) ≡ None → AreGood ring plan O x (chains_from x.0 cs)
-chains-met ring plan O x k [] h = (tt, λ n is. absurd cc)
-chains-met ring plan O x k (c ∷ cs) h =
-    let m = met (not (is_node x c.node) || is_good_chain ring plan O x c.steps) (ChainBroken (min k 4294967295)) (first_failing (chains_clauses ring plan O x (k + 1) cs)) h in
-    chain-met ring plan O x (is_node x c.node) c.steps (chains_from x.0 cs) m.0 (chains-met ring plan O x (k + 1) cs m.1)
+side_of : (o : Option ℕ) → (o ≡ None → ⊥) → is_some o ≡ true
+side_of None h = absurd (h refl)
+side_of (Some a) h = refl
 
-pub chains-all : (ring : RingValue) (plan : List Planned) (O : Test) (x : NodeId) (k : ℕ) (cs : List Chain) → AreGood ring plan O x (chains_from x.0 cs) → first_failing (chains_clauses ring plan O x k cs) ≡ None
+side-is : (s t : Side) → is_side s t ≡ true → s ≡ t
+side-is Both Both e = refl
+side-is Both Take e = absurd cc
+side-is Both Give e = absurd cc
+side-is Take Both e = absurd cc
+side-is Take Take e = refl
+side-is Take Give e = absurd cc
+side-is Give Both e = absurd cc
+side-is Give Take e = absurd cc
+side-is Give Give e = refl
+
+side-same : (s : Side) → is_side s s ≡ true
+side-same Both = refl
+side-same Take = refl
+side-same Give = refl
+
+one-met : (ring : RingValue) (plan : List Planned) (O : Test) (x : NodeId) (side : Side) (own : Bool) (c : Chain) (cs : List (List ℕ)) → (not own || passes ring plan O x c) ≡ true → AreGood ring plan O x side cs × IsAllowed ring x side cs
+    → AreGood ring plan O x side (cond (own && is_side side c.side) (c.steps ∷ cs) cs) × IsAllowed ring x side (cond (own && is_side side c.side) (c.steps ∷ cs) cs)
+one-met ring plan O x side false c cs h g = g
+one-met ring plan O x side true c cs h g = by (is_side side c.side) refl
+  where
+    p : (has_side ring x c.side ≡ true) × (is_good_chain ring plan O x c.side c.steps ≡ true)
+    p = and_parts (has_side ring x c.side) (is_good_chain ring plan O x c.side c.steps) h
+
+    by : (b : Bool) → is_side side c.side ≡ b → AreGood ring plan O x side (cond b (c.steps ∷ cs) cs) × IsAllowed ring x side (cond b (c.steps ∷ cs) cs)
+    by false e = g
+    by true e =
+        let s : side ≡ c.side = side-is side c.side e in
+        let m = good-met ring plan O x side c.steps (rw s p.1) in
+        let has_it : has_side ring x side ≡ true = rw s p.0 in (
+          ((m.0, g.0.0), λ n is. elim (either (has n c.steps) (in_some n cs) is) [ inl here ↦ m.1 n here | inr there ↦ g.0.1 n there ]),
+          λ none. absurd (some-side (allowance_of ring x.0 side) has_it none),
+        )
+
+pub chains-met : (ring : RingValue) (plan : List Planned) (O : Test) (x : NodeId) (side : Side) (k : ℕ) (cs : List Chain) → first_failing (chains_clauses ring plan O x k cs) ≡ None → AreGood ring plan O x side (chains_from x.0 side cs) × IsAllowed ring x side (chains_from x.0 side cs)
+chains-met ring plan O x side k [] h = ((tt, λ n is. absurd cc), λ none. refl)
+chains-met ring plan O x side k (c ∷ cs) h =
+    let m = met (not (is_node x c.node) || passes ring plan O x c) (ChainBroken (min k 4294967295)) (first_failing (chains_clauses ring plan O x (k + 1) cs)) h in
+    one-met ring plan O x side (is_node x c.node) c (chains_from x.0 side cs) m.0 (chains-met ring plan O x side (k + 1) cs m.1)
+
+-- of each side
+abbrev pub AllGood : RingValue → List Planned → Test → NodeId → List Chain → Type 0
+AllGood ring plan O x cs = (side : Side) → AreGood ring plan O x side (chains_from x.0 side cs) × IsAllowed ring x side (chains_from x.0 side cs)
+
+one-all : (ring : RingValue) (plan : List Planned) (O : Test) (x : NodeId) (c : Chain) (cs : List Chain) → AllGood ring plan O x (c ∷ cs) → (not (is_node x c.node) || passes ring plan O x c) ≡ true
+one-all ring plan O x c cs g = if_asked (is_node x c.node) (passes ring plan O x c) (λ own.
+    let in_it : chains_from x.0 c.side (c ∷ cs) ≡ c.steps ∷ chains_from x.0 c.side cs = rw (own, side-same c.side) refl in
+    let here = subst (λ (l : List (List ℕ)). AreGood ring plan O x c.side l × IsAllowed ring x c.side l) in_it (g c.side) in
+    all_of (has_side ring x c.side) (is_good_chain ring plan O x c.side c.steps)
+    (side_of (allowance_of ring x.0 c.side) (λ none. (let e = here.1 none in absurd cc)))
+    (good-all ring plan O x c.side c.steps (here.0.0.0, λ n is. here.0.1 n (first_of_two (has n c.steps) (in_some n (chains_from x.0 c.side cs)) is))))
+
+fewer : (ring : RingValue) (plan : List Planned) (O : Test) (x : NodeId) (side : Side) (b : Bool) (c : List ℕ) (cs : List (List ℕ)) → AreGood ring plan O x side (cond b (c ∷ cs) cs) × IsAllowed ring x side (cond b (c ∷ cs) cs) → AreGood ring plan O x side cs × IsAllowed ring x side cs
+fewer ring plan O x side false c cs g = g
+fewer ring plan O x side true c cs g = ((g.0.0.1, λ n is. g.0.1 n (second_of_two (has n c) (in_some n cs) is)), λ none. (let e = g.1 none in absurd cc))
+
+pub chains-all : (ring : RingValue) (plan : List Planned) (O : Test) (x : NodeId) (k : ℕ) (cs : List Chain) → AllGood ring plan O x cs → first_failing (chains_clauses ring plan O x k cs) ≡ None
 chains-all ring plan O x k [] g = refl
 chains-all ring plan O x k (c ∷ cs) g =
-    let a = chain-all ring plan O x (is_node x c.node) c.steps (chains_from x.0 cs) g in
-    push (not (is_node x c.node) || is_good_chain ring plan O x c.steps) (ChainBroken (min k 4294967295)) (first_failing (chains_clauses ring plan O x (k + 1) cs)) a.0 (chains-all ring plan O x (k + 1) cs a.1)
+    push (not (is_node x c.node) || passes ring plan O x c) (ChainBroken (min k 4294967295)) (first_failing (chains_clauses ring plan O x (k + 1) cs)) (one-all ring plan O x c cs g)
+    (chains-all ring plan O x (k + 1) cs (λ side. fewer ring plan O x side (is_node x c.node && is_side side c.side) c.steps (chains_from x.0 side cs) (g side)))
 
 -- ---- the copies of a node, and its allowance
 
@@ -338,8 +393,8 @@ party : (o : Option Planned) (x : NodeId) (f : Planned → List NodeId) → is_a
 party None x f h = absurd cc
 party (Some y) x f h = (y.step, refl)
 
-pub party-step : (ring : RingValue) (plan : List Planned) (n : ℕ) (x : NodeId) → is_among x (parties ring plan n) ≡ true → (s : Step) × (step_at plan n ≡ Some s)
-party-step ring plan n x h = party (slice_get plan n) x (λ (y : Planned). with_target (target_of ring plan n y.step) (sources_of ring plan n y.step)) h
+pub party-step : (ring : RingValue) (plan : List Planned) (side : Side) (n : ℕ) (x : NodeId) → is_among x (parties_on ring plan side n) ≡ true → (s : Step) × (step_at plan n ≡ Some s)
+party-step ring plan side n x h = party (slice_get plan n) x (λ (y : Planned). on_side side (target_of ring plan n y.step) (sources_of ring plan n y.step)) h
 
 few_of : (o : Option ℕ) (n a : ℕ) → (elim o [ Some b ↦ nat_le n b | None ↦ true ]) ≡ true → o ≡ Some a → n ≤ a
 few_of None n a h e = absurd cc
@@ -348,12 +403,12 @@ few_of (Some b) n a h e =
     let le = leb-true n b h in
     omega arith
 
-pub few-met : (ring : RingValue) (x : NodeId) (n a : ℕ) → is_few ring x n ≡ true → allowance_of ring x.0 ≡ Some a → n ≤ a
-few-met ring x n a h e = few_of (allowance_of ring x.0) n a h e
+pub few-met : (ring : RingValue) (x : NodeId) (side : Side) (n a : ℕ) → is_few ring x side n ≡ true → allowance_of ring x.0 side ≡ Some a → n ≤ a
+few-met ring x side n a h e = few_of (allowance_of ring x.0 side) n a h e
 
 of_few : (o : Option ℕ) (n : ℕ) → ((a : ℕ) → o ≡ Some a → n ≤ a) → (elim o [ Some b ↦ nat_le n b | None ↦ true ]) ≡ true
 of_few None n h = refl
 of_few (Some b) n h = le-leb n b (h b refl)
 
-pub few-all : (ring : RingValue) (x : NodeId) (n : ℕ) → ((a : ℕ) → allowance_of ring x.0 ≡ Some a → n ≤ a) → is_few ring x n ≡ true
-few-all ring x n h = of_few (allowance_of ring x.0) n h
+pub few-all : (ring : RingValue) (x : NodeId) (side : Side) (n : ℕ) → ((a : ℕ) → allowance_of ring x.0 side ≡ Some a → n ≤ a) → is_few ring x side n ≡ true
+few-all ring x side n h = of_few (allowance_of ring x.0 side) n h

@@ -10,7 +10,7 @@ use Rattle.plan_text.specs.declared.step.Step.TheVariants.{Join, Mirror, Copy, S
 use Rattle.plan_text.specs.declared.step.Planned.{Planned}
 use Rattle.plan_stage.specs.Each.{step_at}
 use Rattle.plan_check.specs.declared.event.Event.{Event}
-use Rattle.plan_check.specs.declared.event.Event.TheVariants.{Do, OpenCopy, ChunkCopy, CloseCopy, AbortCopy, StartPut, Write, Hint, Ack, StartGet, Read, EndGet, Down, Up, Handoff}
+use Rattle.plan_check.specs.declared.event.Event.TheVariants.{Do, OpenCopy, ChunkCopy, CloseCopy, AbortCopy, StartPut, Write, Hint, Ack, StartGet, Read, EndGet, Down, Up, Handoff, Lose}
 use Rattle.plan_check.specs.declared.event.Entry.{Entry}
 use Rattle.plan_check.specs.World.{PutRecord, GetRecord, World, generation, key_of_put, writer_of, seen_of}
 use Rattle.plan_check.specs.Succession.{replied, some_replied, is_direct, Succeeds, itself, by}
@@ -49,8 +49,8 @@ extends_through w u x a b = record {
 
 -- ---- each event
 
-same_puts : (w : World) (d o : ℕ → Bool) (m : ℕ → ℕ → Bool) (a : ℕ → Bool) (b h : ℕ → Slot → ℕ → Bool) → Extends w (record w { done = d; is_open = o; marked = m; up = a; stored = b; hinted = h })
-same_puts w d o m a b h = record {
+same_puts : (w : World) (d o : ℕ → Bool) (m : ℕ → ℕ → Bool) (a : ℕ → Bool) (b h : ℕ → Slot → ℕ → Bool) (l : ℕ) (s : Slot → ℕ) → Extends w (record w { done = d; is_open = o; marked = m; up = a; stored = b; hinted = h; losses = l; lost = s })
+same_puts w d o m a b h l s = record {
   puts = omega arith;
   key = λ v l. refl;
   writer = λ v l. refl;
@@ -60,13 +60,13 @@ same_puts w d o m a b h = record {
 }
 
 do_extends : (w : World) (n : ℕ) (t : Option Step) → Extends w (elim t [ Some s ↦ step_effect (record w { done = with_number w.done n }) s | None ↦ w ])
-do_extends w n None = same_puts w w.done w.is_open w.marked w.up w.stored w.hinted
-do_extends w n (Some (Join x)) = same_puts w (with_number w.done n) w.is_open w.marked (with_number w.up x.0) w.stored w.hinted
-do_extends w n (Some (Mirror s x)) = same_puts w (with_number w.done n) w.is_open w.marked w.up w.stored w.hinted
-do_extends w n (Some (Copy s from)) = same_puts w (with_number w.done n) w.is_open w.marked w.up w.stored w.hinted
-do_extends w n (Some (Switch s)) = same_puts w (with_number w.done n) w.is_open w.marked w.up w.stored w.hinted
-do_extends w n (Some (Drop s x)) = same_puts w (with_number w.done n) w.is_open w.marked w.up _ w.hinted
-do_extends w n (Some (Retire x)) = same_puts w (with_number w.done n) w.is_open w.marked w.up w.stored w.hinted
+do_extends w n None = same_puts w w.done w.is_open w.marked w.up w.stored w.hinted w.losses w.lost
+do_extends w n (Some (Join x)) = same_puts w (with_number w.done n) w.is_open w.marked (with_number w.up x.0) w.stored w.hinted w.losses w.lost
+do_extends w n (Some (Mirror s x)) = same_puts w (with_number w.done n) w.is_open w.marked w.up w.stored w.hinted w.losses w.lost
+do_extends w n (Some (Copy s from)) = same_puts w (with_number w.done n) w.is_open w.marked w.up w.stored w.hinted w.losses w.lost
+do_extends w n (Some (Switch s)) = same_puts w (with_number w.done n) w.is_open w.marked w.up w.stored w.hinted w.losses w.lost
+do_extends w n (Some (Drop s x)) = same_puts w (with_number w.done n) w.is_open w.marked w.up _ w.hinted w.losses w.lost
+do_extends w n (Some (Retire x)) = same_puts w (with_number w.done n) w.is_open w.marked w.up w.stored w.hinted w.losses w.lost
 
 put_extends : (w : World) (p : PutRecord) → Extends w (record w { puts = w.puts ++ p ∷ [] })
 put_extends w p = record {
@@ -121,10 +121,10 @@ read_extends w n f same = record {
 pub event_extends : (ring : RingValue) (plan : List Planned) (w : World) (e : Event) → AllMet (guards ring plan w e) → Extends w (effect ring plan w e)
 unfolding guards effect
 event_extends ring plan w (Do n) g = do_extends w n (step_at plan n)
-event_extends ring plan w (OpenCopy n) g = same_puts w w.done _ w.marked w.up w.stored w.hinted
-event_extends ring plan w (ChunkCopy n c) g = same_puts w w.done w.is_open _ w.up _ w.hinted
-event_extends ring plan w (CloseCopy n) g = same_puts w _ _ w.marked w.up w.stored w.hinted
-event_extends ring plan w (AbortCopy n) g = same_puts w w.done _ w.marked w.up w.stored w.hinted
+event_extends ring plan w (OpenCopy n) g = same_puts w w.done _ w.marked w.up w.stored w.hinted w.losses w.lost
+event_extends ring plan w (ChunkCopy n c) g = same_puts w w.done w.is_open _ w.up _ w.hinted w.losses w.lost
+event_extends ring plan w (CloseCopy n) g = same_puts w _ _ w.marked w.up w.stored w.hinted w.losses w.lost
+event_extends ring plan w (AbortCopy n) g = same_puts w w.done _ w.marked w.up w.stored w.hinted w.losses w.lost
 event_extends ring plan w (StartPut writer key value seen) g = put_extends w _
 event_extends ring plan w (Write v j) g = changed_extends w v (λ x. record x { ticket = with_value x.ticket j (generation plan w (put_slot ring w v j)) }) _ w.hinted (λ x. refl) (λ x. refl) (λ x. refl)
 event_extends ring plan w (Hint v j x) g = changed_extends w v (λ x. record x { ticket = with_value x.ticket j (generation plan w (put_slot ring w v j)) }) w.stored _ (λ x. refl) (λ x. refl) (λ x. refl)
@@ -135,12 +135,13 @@ event_extends ring plan w (EndGet h) g = gets_extend w _ (λ k e. get_other w.ge
     let f : has_ended w h ≡ true = subst (λ (z : ℕ). has_ended w z ≡ true) s e in
     let n = not_is (has_ended w h) g.1.0 in
     cc)))
-event_extends ring plan w (Down x) g = same_puts w w.done w.is_open w.marked _ w.stored w.hinted
-event_extends ring plan w (Up x) g = same_puts w w.done w.is_open w.marked _ w.stored w.hinted
-event_extends ring plan w (Handoff x s) g = same_puts w w.done w.is_open w.marked w.up _ _
+event_extends ring plan w (Down x) g = same_puts w w.done w.is_open w.marked _ w.stored w.hinted w.losses w.lost
+event_extends ring plan w (Up x) g = same_puts w w.done w.is_open w.marked _ w.stored w.hinted w.losses w.lost
+event_extends ring plan w (Handoff x s) g = same_puts w w.done w.is_open w.marked w.up _ _ w.losses w.lost
+event_extends ring plan w (Lose x) g = same_puts w w.done w.is_open w.marked w.up _ _ _ _
 
 pub run_extends : (ring : RingValue) (plan : List Planned) (run : List Entry) (w v : World) → Leads ring plan w run v → Extends w v
-run_extends ring plan [] w v l = subst (λ (u : World). Extends w u) (sym l) (same_puts w w.done w.is_open w.marked w.up w.stored w.hinted)
+run_extends ring plan [] w v l = subst (λ (u : World). Extends w u) (sym l) (same_puts w w.done w.is_open w.marked w.up w.stored w.hinted w.losses w.lost)
 run_extends ring plan (x ∷ xs) w v l =
     let a = answered ring plan w l.0 x.event x.reply l.1 in
     let b : Extends w l.0 = subst (λ (u : World). Extends w u) a.1 (event_extends ring plan w x.event (all_met (guards ring plan w x.event) a.0)) in

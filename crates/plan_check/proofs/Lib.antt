@@ -30,3 +30,4 @@ pub mod Passed
 pub mod Reached
 pub mod Ticketed
 pub mod Lasting
+pub mod Migrating

@@ -4,6 +4,7 @@ use Rattle.std.specs.Prelude.{◌&&◌, ◌==◌, Option, Some, None}
 use Rattle.ring_names.specs.Lists.{has}
 use Rattle.ring_names.specs.declared.ids.NodeId.{NodeId}
 use Rattle.ring_names.specs.declared.ids.Slot.{Slot}
+use Rattle.ring_table.specs.declared.allowance.Side.{Side}
 use Rattle.ring_table.specs.Value.{RingValue}
 use Rattle.ring_table.specs.Valid.{IsRing}
 use Rattle.plan_text.specs.declared.step.Step.TheVariants.{Mirror}
@@ -29,7 +30,7 @@ use Rattle.plan_stage.proofs.Truth.{second_of_two, slot-same}
 pub record Known (ring : RingValue) (plan : List Planned) : Type 0 where
   pub is_ring : IsRing ring
   pub is_plan : IsPlan plan
-  pub chains : ℕ → List (List ℕ)
+  pub chains : ℕ → Side → List (List ℕ)
   pub meets : Meets ring plan (Before plan) chains
 
 pub known : (ring : RingValue) (plan : List Planned) → IsRing ring → IsPlan plan → Sound ring plan → Known ring plan

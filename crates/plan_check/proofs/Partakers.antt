@@ -5,6 +5,8 @@ use Rattle.std.specs.List.{list_any}
 use Rattle.ring_names.specs.Lists.{has}
 use Rattle.ring_names.specs.declared.ids.NodeId.{NodeId}
 use Rattle.ring_names.specs.declared.ids.Slot.{Slot}
+use Rattle.ring_table.specs.declared.allowance.Side.{Side}
+use Rattle.ring_table.specs.declared.allowance.Side.TheVariants.{Both, Take, Give}
 use Rattle.ring_table.specs.Value.{RingValue}
 use Rattle.plan_text.specs.declared.step.Source.{Source}
 use Rattle.plan_text.specs.declared.step.Source.TheVariants.{Owner, Slots}
@@ -16,7 +18,7 @@ use Rattle.plan_order.specs.Before.{Before}
 use Rattle.plan_order.proofs.Reaching.{less, join}
 use Rattle.plan_stage.specs.declared.stage.Stage.{Stage}
 use Rattle.plan_stage.specs.Stage.{stage, after, next, is_among, with_node}
-use Rattle.plan_stage.specs.Parties.{count_below, stage_before, source_slots, owners_before, sources_of, target_of, with_target}
+use Rattle.plan_stage.specs.Parties.{count_below, stage_before, source_slots, owners_before, sources_of, target_of, with_target, on_side}
 use Rattle.plan_stage.proofs.Stages.{after-next, stage-more}
 use Rattle.plan_check.specs.World.{World, stage_now, count, copy_at}
 use Rattle.plan_stage.specs.Each.{step_at, sibling}
@@ -194,40 +196,49 @@ sources_same : (ring : RingValue) (plan : List Planned) → Known ring plan → 
 sources_same ring plan k w n slot Owner c y off at own = (ap (λ (a : Stage). a.owner) own, tt)
 sources_same ring plan k w n slot (Slots from) c y off at own = listed_same ring plan w n slot from (λ j e. owner_same ring plan k w.done n (sibling slot j) c y off (λ m s. k.meets.settled n m j slot from at e s))
 
-its_parties : (ring : RingValue) (plan : List Planned) (n : ℕ) (t : Step) (o : Option Planned) → (elim o as (λ _. Option Step) [ Some x ↦ Some x.step | None ↦ None ]) ≡ Some t
-    → (elim o as (λ _. List NodeId) [ Some x ↦ with_target (target_of ring plan n x.step) (sources_of ring plan n x.step) | None ↦ [] ]) ≡ with_target (target_of ring plan n t) (sources_of ring plan n t)
-its_parties ring plan n t None e = absurd cc
-its_parties ring plan n t (Some x) e = (let f : x.step ≡ t = cc in ap (λ (z : Step). with_target (target_of ring plan n z) (sources_of ring plan n z)) f)
+its_parties : (ring : RingValue) (plan : List Planned) (side : Side) (n : ℕ) (t : Step) (o : Option Planned) → (elim o as (λ _. Option Step) [ Some x ↦ Some x.step | None ↦ None ]) ≡ Some t
+    → (elim o as (λ _. List NodeId) [ Some x ↦ on_side side (target_of ring plan n x.step) (sources_of ring plan n x.step) | None ↦ [] ]) ≡ on_side side (target_of ring plan n t) (sources_of ring plan n t)
+its_parties ring plan side n t None e = absurd cc
+its_parties ring plan side n t (Some x) e = (let f : x.step ≡ t = cc in ap (λ (z : Step). on_side side (target_of ring plan n z) (sources_of ring plan n z)) f)
 
 source_in : (z : NodeId) (o : Option NodeId) (ys : List NodeId) → is_among z ys ≡ true → is_among z (with_target o ys) ≡ true
 source_in z None ys h = h
 source_in z (Some y) ys h = still_in z y ys h
 
-copy_party : (ring : RingValue) (plan : List Planned) → Known ring plan → (w : World) (n x : ℕ) (slot : Slot) (source : Source) → Closed plan w.done → Ready plan w.done n → w.done n ≡ false → step_at plan n ≡ Some (Copy slot source)
-    → takes_part_now ring plan w x slot source ≡ true → is_among (record { 0 = x }) (with_target (stage_before ring plan slot n).mirror (owners_before ring plan n (source_slots slot source))) ≡ true
-copy_party ring plan k w n x slot source c y off at part = elim (either (mirrors_now ring plan w x slot source) (gives_now ring plan w x slot source) part) [
-  | inl h ↦ from_mirror (stage_now ring plan w slot).mirror refl h
-  | inr h ↦ source_in (record { 0 = x }) (stage_before ring plan slot n).mirror owners (owner_in ring plan w n x (source_slots slot source) (sources_same ring plan k w n slot source c y off at own) h)
-]
-  where
-    z : 0 + n ≡ n
-    z = omega arith
+-- a copy that is ready and not finished: its mirror now, and its owners now
+module _ (ring : RingValue) (plan : List Planned) (k : Known ring plan) (w : World) (n x : ℕ) (slot : Slot) (source : Source) (c : Closed plan w.done) (y : Ready plan w.done n) (off : w.done n ≡ false) (at : step_at plan n ≡ Some (Copy slot source)) where
+  own : stage_now ring plan w slot ≡ stage_before ring plan slot n
+  own =
+      let z : 0 + n ≡ n = omega arith in
+      let on : has n (steps_of plan slot) ≡ true = subst (λ (m : ℕ). has m (steps_of plan slot) ≡ true) z (on_steps 0 n plan slot (Copy slot source) at (slot-same slot)) in
+      ap (stage ring plan slot) (own_count ring plan k w.done n slot c y off on)
 
-    on : has n (steps_of plan slot) ≡ true
-    on = subst (λ (m : ℕ). has m (steps_of plan slot) ≡ true) z (on_steps 0 n plan slot (Copy slot source) at (slot-same slot))
+  abbrev owners : List NodeId
+  owners = owners_before ring plan n (source_slots slot source)
 
-    own : stage_now ring plan w slot ≡ stage_before ring plan slot n
-    own = ap (stage ring plan slot) (own_count ring plan k w.done n slot c y off on)
+  abbrev mirror : Option NodeId
+  mirror = (stage_before ring plan slot n).mirror
 
-    owners : List NodeId
-    owners = owners_before ring plan n (source_slots slot source)
+  receives : (others : List NodeId) → mirrors_now ring plan w x slot source ≡ true → is_among (record { 0 = x }) (with_target mirror others) ≡ true
+  receives others h = by (stage_now ring plan w slot).mirror refl h
+    where
+      by : (m : Option NodeId) → (stage_now ring plan w slot).mirror ≡ m → (elim m [ Some y ↦ x == y.0 | None ↦ false ]) ≡ true → is_among (record { 0 = x }) (with_target mirror others) ≡ true
+      by None e h = absurd cc
+      by (Some y) e h =
+          let target : mirror ≡ Some y = ap (λ (a : Stage). a.mirror) (sym own) ∙ e in
+          let i : y.0 ≡ x = sym (eqb-true x y.0 h) in
+          rw target (subst (λ (v : ℕ). is_among (record { 0 = v }) (with_node y others) ≡ true) i (node_in y others))
 
-    from_mirror : (m : Option NodeId) → (stage_now ring plan w slot).mirror ≡ m → (elim m [ Some y ↦ x == y.0 | None ↦ false ]) ≡ true → is_among (record { 0 = x }) (with_target (stage_before ring plan slot n).mirror owners) ≡ true
-    from_mirror None e h = absurd cc
-    from_mirror (Some y) e h =
-        let target : (stage_before ring plan slot n).mirror ≡ Some y = ap (λ (a : Stage). a.mirror) (sym own) ∙ e in
-        let i : y.0 ≡ x = sym (eqb-true x y.0 h) in
-        rw target (subst (λ (v : ℕ). is_among (record { 0 = v }) (with_node y owners) ≡ true) i (node_in y owners))
+  is_read : gives_now ring plan w x slot source ≡ true → is_among (record { 0 = x }) owners ≡ true
+  is_read h = owner_in ring plan w n x (source_slots slot source) (sources_same ring plan k w n slot source c y off at own) h
+
+  copy_party : (side : Side) → takes_part_now ring plan w x side slot source ≡ true → is_among (record { 0 = x }) (on_side side mirror owners) ≡ true
+  copy_party Both part = elim (either (mirrors_now ring plan w x slot source) (gives_now ring plan w x slot source) part) [
+    | inl h ↦ receives owners h
+    | inr h ↦ source_in (record { 0 = x }) mirror owners (is_read h)
+  ]
+  copy_party Take part = receives [] part
+  copy_party Give part = is_read part
 
 -- the copy that a step is
 copy_is : (o : Option Step) (slot : Slot) (source : Source) → option_and_then copy_of o ≡ Some (slot, source) → o ≡ Some (Copy slot source)
@@ -241,12 +252,12 @@ copy_is (Some (Switch s)) slot source e = absurd cc
 copy_is (Some (Drop s x)) slot source e = absurd cc
 copy_is (Some (Retire x)) slot source e = absurd cc
 
-pub party : (ring : RingValue) (plan : List Planned) → Known ring plan → (w : World) (n x : ℕ) → Closed plan w.done → Ready plan w.done n → w.done n ≡ false
-    → (elim (copy_at plan n) [ Some k ↦ takes_part_now ring plan w x k.0 k.1 | None ↦ false ]) ≡ true → is_party_of ring plan x n ≡ true
-party ring plan k w n x c y off h = by (copy_at plan n) refl h
+pub party : (ring : RingValue) (plan : List Planned) → Known ring plan → (w : World) (n x : ℕ) (side : Side) → Closed plan w.done → Ready plan w.done n → w.done n ≡ false
+    → (elim (copy_at plan n) [ Some k ↦ takes_part_now ring plan w x side k.0 k.1 | None ↦ false ]) ≡ true → is_party_of ring plan x side n ≡ true
+party ring plan k w n x side c y off h = by (copy_at plan n) refl h
   where
-    by : (o : Option (Slot × Source)) → copy_at plan n ≡ o → (elim o [ Some k ↦ takes_part_now ring plan w x k.0 k.1 | None ↦ false ]) ≡ true → is_party_of ring plan x n ≡ true
+    by : (o : Option (Slot × Source)) → copy_at plan n ≡ o → (elim o [ Some k ↦ takes_part_now ring plan w x side k.0 k.1 | None ↦ false ]) ≡ true → is_party_of ring plan x side n ≡ true
     by None e g = absurd cc
     by (Some d) e g =
         let at : step_at plan n ≡ Some (Copy d.0 d.1) = copy_is (step_at plan n) d.0 d.1 e in
-        rw (its_parties ring plan n (Copy d.0 d.1) (slice_get plan n) at) (copy_party ring plan k w n x d.0 d.1 c y off at g)
+        rw (its_parties ring plan side n (Copy d.0 d.1) (slice_get plan n) at) (copy_party ring plan k w n x d.0 d.1 c y off at side g)

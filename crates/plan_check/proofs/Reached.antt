@@ -1,5 +1,5 @@
 -- What holds of every world to which a run leads.
-use Rattle.std.proofs.Common.{◌≡◌, ◌⊎◌, inl, inr, ◌∙◌, ℕ, zero, suc, ◌<◌, Bool, true, false, cond, List, [], ◌∷◌, ◌++◌, length, refl, sym, ap, subst, arith, ltb-true, eqb-true}
+use Rattle.std.proofs.Common.{◌≡◌, ◌⊎◌, inl, inr, ◌∙◌, ℕ, zero, suc, ◌<◌, ◌≤◌, Bool, true, false, cond, List, [], ◌∷◌, ◌++◌, length, refl, sym, ap, subst, arith, ltb-true, eqb-true}
 use Rattle.std.specs.Prelude.{◌&&◌, ◌||◌, ◌==◌, nat_lt, Option, Some, None, slice_get}
 use Rattle.std.specs.List.{list_all}
 use Rattle.std.specs.Str.{bytes_eq}
@@ -15,13 +15,13 @@ use Rattle.plan_text.specs.declared.step.Step.TheVariants.{Join, Mirror, Copy, S
 use Rattle.plan_text.specs.declared.step.Planned.{Planned}
 use Rattle.plan_stage.specs.Each.{step_at}
 use Rattle.plan_check.specs.declared.event.Event.{Event}
-use Rattle.plan_check.specs.declared.event.Event.TheVariants.{Do, OpenCopy, ChunkCopy, CloseCopy, AbortCopy, StartPut, Write, Hint, Ack, StartGet, Read, EndGet, Down, Up, Handoff}
+use Rattle.plan_check.specs.declared.event.Event.TheVariants.{Do, OpenCopy, ChunkCopy, CloseCopy, AbortCopy, StartPut, Write, Hint, Ack, StartGet, Read, EndGet, Down, Up, Handoff, Lose}
 use Rattle.plan_check.specs.declared.event.Entry.{Entry}
 use Rattle.plan_check.specs.World.{PutRecord, GetRecord, World, some_below, passing_below, opening_world, copy_at, stage_now, generation, ticket_of, key_of_put, key_of_get, seen_of, is_get_of, is_of_key}
 use Rattle.plan_check.specs.Succession.{replied}
 use Rattle.plan_check.specs.Versions.{put_slot, get_slot, is_in_chunk, slot_has}
 use Rattle.plan_check.specs.Guards.{has_copy, has_ended, guards}
-use Rattle.plan_check.specs.Effects.{with_number, without_number, with_puts, with_mirror_puts, without_puts, served_puts, changed, step_effect, source_has, is_copied, with_value, finds, answers, has_found, read_effect, end_get_effect, effect}
+use Rattle.plan_check.specs.Effects.{with_number, without_number, with_puts, with_mirror_puts, without_puts, served_puts, changed, step_effect, source_has, is_copied, with_value, finds, answers, has_found, read_effect, end_get_effect, lose_effect, effect}
 use Rattle.plan_check.specs.Reached.{Closed, CopiesFit, IsPutOf, IsPutForGet, IsGetForPut, Reached}
 use Rattle.plan_check.specs.Runs.{Leads, IsRun}
 use Rattle.plan_check.proofs.Answered.{answered}
@@ -31,8 +31,8 @@ use Rattle.plan_check.proofs.Growing.{one_put, put_changed, one_get, get_changes
 use Rattle.plan_check.proofs.Latest.{latest_of_is}
 use Rattle.plan_check.proofs.Passed.{AllMet, all_met, among, ready}
 use Rattle.plan_check.proofs.Passing.{some_found, below_is}
-use Rattle.plan_check.proofs.Ticketed.{TicketFits, TicketsFit, ticket_stays, new_put_ticket, ticketed_fits}
-use Rattle.plan_check.proofs.Storing.{StoreFits, GetsFit, Grows, put_stays, for_get_stays, with_puts_is, with_mirror_is, served_puts_is, without_puts_was}
+use Rattle.plan_check.proofs.Ticketed.{TicketFits, TicketsFit, ticket_stays, new_put_ticket, ticketed_fits, lose_more}
+use Rattle.plan_check.proofs.Storing.{StoreFits, GetsFit, Grows, put_stays, for_get_stays, with_puts_is, with_mirror_is, served_puts_is, without_puts_was, lose_stored, lose_hinted}
 use Rattle.plan_stage.proofs.Truth.{not_is}
 
 -- the same in parts
@@ -42,6 +42,7 @@ record Parts (ring : RingValue) (plan : List Planned) (w : World) : Type 0 where
   pub tickets : TicketsFit ring plan w
   pub store : StoreFits ring w
   pub gets : GetsFit w
+  pub spent : w.losses ≤ ring.loss
 
 -- ---- what an event leaves as it is
 
@@ -58,9 +59,10 @@ around : (ring : RingValue) (plan : List Planned) (w : World) (d o : ℕ → Boo
 around ring plan w d o m a b i more closed copies less = record {
   closed = closed;
   copies = copies;
-  tickets = λ v j g e. ticket_stays ring plan w (record w { done = d; is_open = o; marked = m; up = a; stored = b }) v j g refl more (i.tickets v j g e);
+  tickets = λ v j g e. ticket_stays ring plan w (record w { done = d; is_open = o; marked = m; up = a; stored = b }) v j g refl more (λ s. omega arith) (i.tickets v j g e);
   store = less_store ring w d o m a b less i.store;
   gets = same_gets w d o m a b w.hinted i.gets;
+  spent = i.spent;
 }
 
 do_parts : (ring : RingValue) (plan : List Planned) (w : World) (n : ℕ) (t : Option Step) → Parts ring plan w → Closed plan (with_number w.done n) → CopiesFit plan (with_number w.done n) w.is_open w.marked
@@ -102,9 +104,10 @@ put_parts : (ring : RingValue) (plan : List Planned) (w : World) (p : PutRecord)
 put_parts ring plan w p none i of ended = record {
   closed = i.closed;
   copies = i.copies;
-  tickets = λ v j g e. (let r = new_put_ticket w.puts p v j g (none j) e in ticket_stays ring plan w u v j g (grows.key v r.0) (λ k d. d) (i.tickets v j g r.1));
+  tickets = λ v j g e. (let r = new_put_ticket w.puts p v j g (none j) e in ticket_stays ring plan w u v j g (grows.key v r.0) (λ k d. d) (λ s. omega arith) (i.tickets v j g r.1));
   store = record { stored = λ x s v e. put_stays ring w u s v grows (i.store.stored x s v e); hinted = λ x s v e. put_stays ring w u s v grows (i.store.hinted x s v e) };
   gets = gets_kept w u grows refl named i.gets;
+  spent = i.spent;
 }
   where
     u : World
@@ -129,9 +132,10 @@ changed_parts : (ring : RingValue) (plan : List Planned) (w : World) (n : ℕ) (
 changed_parts ring plan w n f b h key seen tickets i stored hinted = record {
   closed = i.closed;
   copies = i.copies;
-  tickets = λ v j g e. ticket_stays ring plan w u v j g (part_changed (λ (x : PutRecord). x.key) [] w.puts n f key v) (λ k d. d) (elim (tickets v j g e) [ inl t ↦ i.tickets v j g t | inr t ↦ t ]);
+  tickets = λ v j g e. ticket_stays ring plan w u v j g (part_changed (λ (x : PutRecord). x.key) [] w.puts n f key v) (λ k d. d) (λ s. omega arith) (elim (tickets v j g e) [ inl t ↦ i.tickets v j g t | inr t ↦ t ]);
   store = record { stored = λ x s v e. put_stays ring w u s v grows (stored x s v e); hinted = λ x s v e. put_stays ring w u s v grows (hinted x s v e) };
   gets = gets_kept w u grows refl (λ p g e. inl (subst (λ (gs : List ℕ). has g gs ≡ true) (part_changed (λ (x : PutRecord). x.seen) [] w.puts n f seen p) e)) i.gets;
+  spent = i.spent;
 }
   where
     u : World
@@ -165,6 +169,7 @@ start_get_parts ring plan w a found reply i = record {
   tickets = i.tickets;
   store = record { stored = i.store.stored; hinted = i.store.hinted };
   gets = gets_grow w (record w { gets = w.gets ++ a ∷ [] }) (one_get w a) refl (λ g k v e. inl (new_get_found w.gets a g k v found e)) (λ g v e. inl (new_get_replied w.gets a g v reply e)) i.gets;
+  spent = i.spent;
 }
 
 -- what a read finds exists and is of the get's key, and so is what a get is answered
@@ -195,6 +200,7 @@ read_parts ring plan w g j l i = record {
   tickets = i.tickets;
   store = record { stored = i.store.stored; hinted = i.store.hinted };
   gets = gets_grow w u grows refl found (λ h v e. inl (replied_before h v e)) i.gets;
+  spent = i.spent;
 }
   where
     reads : GetRecord → GetRecord
@@ -226,6 +232,7 @@ end_get_parts ring plan w g l i = record {
   tickets = i.tickets;
   store = record { stored = i.store.stored; hinted = i.store.hinted };
   gets = gets_grow w u grows refl (λ h k v e. inl (found_before h k v e)) replies i.gets;
+  spent = i.spent;
 }
   where
     ends : GetRecord → GetRecord
@@ -264,6 +271,7 @@ event_parts ring plan w i (ChunkCopy n c) g = record {
   tickets = i.tickets;
   store = record { stored = λ x s v e. copied_is ring plan w n c (copy_at plan n) i.store x s v e; hinted = i.store.hinted };
   gets = record { found = i.gets.found; replied = i.gets.replied; seen = i.gets.seen };
+  spent = i.spent;
 }
 event_parts ring plan w i (CloseCopy n) g =
     around ring plan w (with_number w.done n) (without_number w.is_open n) w.marked w.up w.stored i (still_passes w.done n) (closed_with plan w.done n i.closed (i.copies.ready n g.1.0))
@@ -296,13 +304,25 @@ event_parts ring plan w i (Handoff x s) g = record {
     hinted = λ y t v e. i.store.hinted y t v (without_puts_was w.hinted x s y t v e);
   };
   gets = record { found = i.gets.found; replied = i.gets.replied; seen = i.gets.seen };
+  spent = i.spent;
+}
+event_parts ring plan w i (Lose x) g = record {
+  closed = i.closed;
+  copies = i.copies;
+  tickets = λ v j h e. ticket_stays ring plan w (lose_effect ring plan w x) v j h refl (λ k d. d) (lose_more ring plan w x) (i.tickets v j h e);
+  store = record {
+    stored = λ y t v e. i.store.stored y t v (lose_stored ring plan w x y t v e);
+    hinted = λ y t v e. i.store.hinted y t v (lose_hinted ring plan w x y t v e);
+  };
+  gets = record { found = i.gets.found; replied = i.gets.replied; seen = i.gets.seen };
+  spent = (let l = ltb-true w.losses ring.loss g.1.0 in omega (arith, l));
 }
 
 pub event_reached : (ring : RingValue) (plan : List Planned) (w : World) → Reached ring plan w → (e : Event) → AllMet (guards ring plan w e) → Reached ring plan (effect ring plan w e)
 event_reached ring plan w r e g =
-    let i : Parts ring plan w = record { closed = r.closed; copies = r.copies; tickets = r.tickets; store = record { stored = r.stored; hinted = r.hinted }; gets = record { found = r.found; replied = r.replied; seen = r.seen } } in
+    let i : Parts ring plan w = record { closed = r.closed; copies = r.copies; tickets = r.tickets; store = record { stored = r.stored; hinted = r.hinted }; gets = record { found = r.found; replied = r.replied; seen = r.seen }; spent = r.spent } in
     let j = event_parts ring plan w i e g in
-    record { closed = j.closed; copies = j.copies; tickets = j.tickets; stored = j.store.stored; hinted = j.store.hinted; found = j.gets.found; replied = j.gets.replied; seen = j.gets.seen }
+    record { closed = j.closed; copies = j.copies; tickets = j.tickets; stored = j.store.stored; hinted = j.store.hinted; found = j.gets.found; replied = j.gets.replied; seen = j.gets.seen; spent = j.spent }
 
 -- ---- a run
 
@@ -316,6 +336,7 @@ start_reached ring plan = record {
   found = λ g i v e. absurd cc;
   replied = λ g v e. absurd cc;
   seen = λ u g e. absurd cc;
+  spent = omega arith;
 }
 
 pub run_reached : (ring : RingValue) (plan : List Planned) (run : List Entry) (w v : World) → Reached ring plan w → Leads ring plan w run v → Reached ring plan v

@@ -1,12 +1,14 @@
 -- No clause of the checker fails exactly where the certificate certifies the plan.
-use Rattle.std.proofs.Common.{◌≡◌, inl, inr, ℕ, suc, ◌-◌, ◌<◌, Bool, true, List, [], ◌∷◌, ◌++◌, length, get_or, refl, arith, Some, None}
-use Rattle.std.specs.Prelude.{◌&&◌, ◌||◌, ◌==◌, nat_le, slice_index}
+use Rattle.std.proofs.Common.{◌≡◌, inl, inr, ℕ, suc, ◌-◌, ◌<◌, Bool, true, false, cond, Option, List, [], ◌∷◌, ◌++◌, length, get_or, refl, arith, Some, None}
+use Rattle.std.specs.Prelude.{◌&&◌, ◌||◌, ◌==◌, nat_le, slice_index, is_some}
 use Rattle.std.proofs.lemmas.Bool.{leb-true, le-leb, and_parts}
 use Rattle.ring_names.specs.Lists.{all_different}
 use Rattle.ring_names.specs.declared.ids.NodeId.{NodeId}
 use Rattle.ring_names.specs.declared.ids.Slot.{Slot}
 use Rattle.ring_names.specs.declared.refusal.Refusal.TheVariants.{BadSource, MovingSource, SharedInPlan, NotJoined, RetiredInUse, CoverMissing, TooManyChains}
-use Rattle.ring_table.specs.Value.{RingValue}
+use Rattle.ring_table.specs.declared.allowance.Side.{Side}
+use Rattle.ring_table.specs.declared.allowance.Side.TheVariants.{Both, Take, Give}
+use Rattle.ring_table.specs.Value.{RingValue, allowance_of}
 use Rattle.ring_table.specs.Valid.{IsRing}
 use Rattle.plan_text.specs.declared.step.Source.TheVariants.{Owner, Slots}
 use Rattle.plan_text.specs.declared.step.Step.{Step}
@@ -17,17 +19,17 @@ use Rattle.plan_text.specs.Valid.{Suits}
 use Rattle.plan_cert.specs.declared.cert.Cert.{Cert}
 use Rattle.plan_stage.specs.Stage.{stage, is_among}
 use Rattle.plan_stage.specs.Clauses.{first_failing, below, is_staged, AllStaged, Guard}
-use Rattle.plan_stage.specs.Parties.{parties}
+use Rattle.plan_stage.specs.Parties.{parties_on}
 use Rattle.plan_stage.proofs.Below.{met, below-met, below-all}
 use Rattle.plan_stage.specs.Each.{step_at, sibling}
 use Rattle.plan_check.specs.Sound.{Meets}
-use Rattle.plan_cover.specs.Clauses.{in_some, chains_from, chains_clauses, is_few, retire_clauses, cover_clauses, node_clauses}
+use Rattle.plan_cover.specs.Clauses.{in_some, chains_from, has_side, chains_clauses, is_few, retire_clauses, cover_clauses, side_covers, side_count, each_side, node_clauses}
 use Rattle.plan_check.specs.Certified.{IsCertified, ordered_by}
 use Rattle.plan_check.specs.First.{fact_clauses, first_refusal}
 use Rattle.plan_stage.specs.Partition.{Test, is_settled, has_left, has_joined, has_dropped, step_clauses, steps_clauses, slot_step_clauses, slot_clauses, partition_clauses}
 use Rattle.plan_stage.proofs.Truth.{all_of, push, two-met, two-all, parted, together, asked-met, asked-all, clauses-met, clauses-all, same, slot-same}
-use Rattle.plan_check.proofs.Suited.{step-within, slot-within, retires-within, owner-within, allowance-within, allowance-at}
-use Rattle.plan_check.proofs.Firsts.{holds, facts-met, facts-all, order-met, order-all, retire-is, settled-met, settled-all, left_first-met, left_later-met, left-all, joined-met, joined-all, dropped_first-met, dropped_later-met, dropped-all, AreGood, chains-met, chains-all, party-step, few-met, few-all}
+use Rattle.plan_check.proofs.Suited.{step-within, slot-within, retires-within, owner-within, allowance-within}
+use Rattle.plan_check.proofs.Firsts.{holds, facts-met, facts-all, order-met, order-all, retire-is, settled-met, settled-all, left_first-met, left_later-met, left-all, joined-met, joined-all, dropped_first-met, dropped_later-met, dropped-all, AreGood, IsAllowed, AllGood, chains-met, chains-all, party-step, few-met, few-all}
 
 -- ---- the clauses, one by one
 
@@ -43,8 +45,8 @@ record Parts (ring : RingValue) (plan : List Planned) (O : Test) : Type 0 where
 record Nodes (ring : RingValue) (plan : List Planned) (cert : Cert) (O : Test) : Type 0 where
   retired : (x : NodeId) → x.0 < length ring.nodes → (n : ℕ) (s : Step) → step_at plan n ≡ Some s → first_failing (retire_clauses ring plan O x n s) ≡ None
   chains : (x : NodeId) → x.0 < length ring.nodes → first_failing (chains_clauses ring plan O x 0 cert.chains) ≡ None
-  cover : (x : NodeId) → x.0 < length ring.nodes → (n : ℕ) (s : Step) → step_at plan n ≡ Some s → first_failing (cover_clauses ring plan (chains_from x.0 cert.chains) x n s) ≡ None
-  few : (x : NodeId) → x.0 < length ring.nodes → is_few ring x (length (chains_from x.0 cert.chains)) ≡ true
+  cover : (x : NodeId) → x.0 < length ring.nodes → (side : Side) → has_side ring x side ≡ true → (n : ℕ) (s : Step) → step_at plan n ≡ Some s → first_failing (cover_clauses ring plan (chains_from x.0 side cert.chains) x side n s) ≡ None
+  few : (x : NodeId) → x.0 < length ring.nodes → (side : Side) → is_few ring x side (length (chains_from x.0 side cert.chains)) ≡ true
 
 slot-met : (ring : RingValue) (plan : List Planned) (O : Test) (slot : Slot) → first_failing (slot_clauses ring plan O slot) ≡ None → (k : ℕ) → k < length (steps_of plan slot) → (is_staged plan (stage ring plan slot k) (steps_of plan slot) k ≡ true) × (orders plan O slot k ≡ true)
 slot-met ring plan O slot h k l =
@@ -79,27 +81,46 @@ parts-all ring plan O h =
 abbrev node_at : RingValue → List Planned → Cert → Test → ℕ → List Guard
 node_at ring plan cert O x = node_clauses ring plan cert O (record { 0 = x })
 
+-- ---- side by side
+
+sides-met : (f : Side → List Guard) → first_failing (each_side f) ≡ None → (side : Side) → first_failing (f side) ≡ None
+sides-met f h Both = (parted (f Both) (f Take ++ f Give) h).0
+sides-met f h Take = (parted (f Take) (f Give) (parted (f Both) (f Take ++ f Give) h).1).0
+sides-met f h Give = (parted (f Take) (f Give) (parted (f Both) (f Take ++ f Give) h).1).1
+
+sides-all : (f : Side → List Guard) → ((side : Side) → first_failing (f side) ≡ None) → first_failing (each_side f) ≡ None
+sides-all f h = together (f Both) (f Take ++ f Give) (h Both) (together (f Take) (f Give) (h Take) (h Give))
+
+where-met : (b : Bool) (cs : List Guard) → first_failing (cond b cs []) ≡ None → b ≡ true → first_failing cs ≡ None
+where-met true cs h e = h
+where-met false cs h e = absurd cc
+
+where-all : (b : Bool) (cs : List Guard) → (b ≡ true → first_failing cs ≡ None) → first_failing (cond b cs []) ≡ None
+where-all true cs h = h refl
+where-all false cs h = refl
+
 abbrev covers : RingValue → List Planned → Cert → NodeId → List Guard
-covers ring plan cert x = steps_clauses (cover_clauses ring plan (chains_from x.0 cert.chains) x) 0 plan
+covers ring plan cert x = each_side (side_covers ring plan cert x)
 
 abbrev fews : RingValue → Cert → NodeId → List Guard
-fews ring cert x = (is_few ring x (length (chains_from x.0 cert.chains)), TooManyChains x.0) ∷ []
+fews ring cert x = each_side (side_count ring cert x)
 
 node-met : (ring : RingValue) (plan : List Planned) (cert : Cert) (O : Test) → first_failing (below (node_at ring plan cert O) (length ring.nodes)) ≡ None → (x : NodeId) → x.0 < length ring.nodes
-    → (first_failing (steps_clauses (retire_clauses ring plan O x) 0 plan) ≡ None) × (first_failing (chains_clauses ring plan O x 0 cert.chains) ≡ None) × (first_failing (covers ring plan cert x) ≡ None) × (is_few ring x (length (chains_from x.0 cert.chains)) ≡ true)
+    → (first_failing (steps_clauses (retire_clauses ring plan O x) 0 plan) ≡ None) × (first_failing (chains_clauses ring plan O x 0 cert.chains) ≡ None) × (first_failing (covers ring plan cert x) ≡ None) × (first_failing (fews ring cert x) ≡ None)
 node-met ring plan cert O h x l =
-    let few = is_few ring x (length (chains_from x.0 cert.chains)) in
     let a = parted (steps_clauses (retire_clauses ring plan O x) 0 plan) (chains_clauses ring plan O x 0 cert.chains ++ (covers ring plan cert x ++ fews ring cert x)) (below-met (node_at ring plan cert O) (length ring.nodes) h x.0 l) in
     let b = parted (chains_clauses ring plan O x 0 cert.chains) (covers ring plan cert x ++ fews ring cert x) a.1 in
     let c = parted (covers ring plan cert x) (fews ring cert x) b.1 in
-    (a.0, b.0, c.0, (met few (TooManyChains x.0) None c.1).0)
+    (a.0, b.0, c.0, c.1)
 
 nodes-met : (ring : RingValue) (plan : List Planned) (cert : Cert) (O : Test) → first_failing (below (node_at ring plan cert O) (length ring.nodes)) ≡ None → Nodes ring plan cert O
 nodes-met ring plan cert O h = record {
   retired = λ x l n s at. clauses-met (retire_clauses ring plan O x) plan (node-met ring plan cert O h x l).0 n s at;
   chains = λ x l. (node-met ring plan cert O h x l).1;
-  cover = λ x l n s at. clauses-met (cover_clauses ring plan (chains_from x.0 cert.chains) x) plan (node-met ring plan cert O h x l).2 n s at;
-  few = λ x l. (node-met ring plan cert O h x l).3;
+  cover = λ x l side has_it n s at.
+      let met_here = sides-met (side_covers ring plan cert x) (node-met ring plan cert O h x l).2 side in
+      clauses-met (cover_clauses ring plan (chains_from x.0 side cert.chains) x side) plan (where-met (has_side ring x side) (steps_clauses (cover_clauses ring plan (chains_from x.0 side cert.chains) x side) 0 plan) met_here has_it) n s at;
+  few = λ x l side. (met (is_few ring x side (length (chains_from x.0 side cert.chains))) (TooManyChains x.0) None (sides-met (side_count ring cert x) (node-met ring plan cert O h x l).3 side)).0;
 }
 
 nodes-all : (ring : RingValue) (plan : List Planned) (cert : Cert) (O : Test) → Nodes ring plan cert O → first_failing (below (node_at ring plan cert O) (length ring.nodes)) ≡ None
@@ -110,8 +131,8 @@ nodes-all ring plan cert O h =
     (clauses-all (retire_clauses ring plan O x) plan (h.retired x l))
     (together (chains_clauses ring plan O x 0 cert.chains) (covers ring plan cert x ++ fews ring cert x) (h.chains x l)
     (together (covers ring plan cert x) (fews ring cert x)
-    (clauses-all (cover_clauses ring plan (chains_from x.0 cert.chains) x) plan (h.cover x l))
-    (push (is_few ring x (length (chains_from x.0 cert.chains))) (TooManyChains x.0) None (h.few x l) refl))))
+    (sides-all (side_covers ring plan cert x) (λ side. where-all (has_side ring x side) (steps_clauses (cover_clauses ring plan (chains_from x.0 side cert.chains) x side) 0 plan) (λ has_it. clauses-all (cover_clauses ring plan (chains_from x.0 side cert.chains) x side) plan (h.cover x l side has_it))))
+    (sides-all (side_count ring cert x) (λ side. push (is_few ring x side (length (chains_from x.0 side cert.chains))) (TooManyChains x.0) None (h.few x l side) refl)))))
 
 -- ---- a step's own clauses
 
@@ -140,21 +161,21 @@ leaves-joined ring plan cert O suits h n x at =
 
 -- ---- where no clause fails
 
-chains-good : (ring : RingValue) (plan : List Planned) (cert : Cert) (O : Test) → Nodes ring plan cert O → (x : NodeId) → x.0 < length ring.nodes → AreGood ring plan O x (chains_from x.0 cert.chains)
-chains-good ring plan cert O h x l = chains-met ring plan O x 0 cert.chains (h.chains x l)
+chains-good : (ring : RingValue) (plan : List Planned) (cert : Cert) (O : Test) → Nodes ring plan cert O → (x : NodeId) → x.0 < length ring.nodes → AllGood ring plan O x cert.chains
+chains-good ring plan cert O h x l = λ side. chains-met ring plan O x side 0 cert.chains (h.chains x l)
 
-covered-met : (ring : RingValue) (plan : List Planned) (cert : Cert) (O : Test) → Nodes ring plan cert O → (x : NodeId) (n : ℕ) → x.0 < length ring.nodes → is_among x (parties ring plan n) ≡ true → in_some n (chains_from x.0 cert.chains) ≡ true
-covered-met ring plan cert O h x n l among =
-    let s = party-step ring plan n x among in
-    let none = asked-met (is_among x (parties ring plan n)) ((in_some n (chains_from x.0 cert.chains), CoverMissing x.0 n) ∷ []) (h.cover x l n s.0 s.1) among in
-    (met (in_some n (chains_from x.0 cert.chains)) (CoverMissing x.0 n) None none).0
+covered-met : (ring : RingValue) (plan : List Planned) (cert : Cert) (O : Test) → Nodes ring plan cert O → (x : NodeId) (side : Side) (n : ℕ) → x.0 < length ring.nodes → has_side ring x side ≡ true → is_among x (parties_on ring plan side n) ≡ true → in_some n (chains_from x.0 side cert.chains) ≡ true
+covered-met ring plan cert O h x side n l has_it among =
+    let s = party-step ring plan side n x among in
+    let none = asked-met (is_among x (parties_on ring plan side n)) ((in_some n (chains_from x.0 side cert.chains), CoverMissing x.0 n) ∷ []) (h.cover x l side has_it n s.0 s.1) among in
+    (met (in_some n (chains_from x.0 side cert.chains)) (CoverMissing x.0 n) None none).0
 
 in_order-met : (ring : RingValue) (plan : List Planned) (O : Test) → Suits ring plan → Parts ring plan O → (slot : Slot) (k : ℕ) → suc k < length (steps_of plan slot) → O (get_or (steps_of plan slot) k 0) (get_or (steps_of plan slot) (suc k) 0) ≡ true
 in_order-met ring plan O suits h slot k l =
     let w = slot-within ring plan suits slot (omega arith) in
     order-met (λ (i : ℕ). slice_index (steps_of plan slot) i) O k (h.ordered slot w.0 w.1 (suc k) l)
 
-meets-met : (ring : RingValue) (plan : List Planned) (cert : Cert) (O : Test) → IsRing ring → Suits ring plan → Parts ring plan O → Nodes ring plan cert O → Meets ring plan (holds O) (λ x. chains_from x cert.chains)
+meets-met : (ring : RingValue) (plan : List Planned) (cert : Cert) (O : Test) → IsRing ring → Suits ring plan → Parts ring plan O → Nodes ring plan cert O → Meets ring plan (holds O) (λ x side. chains_from x side cert.chains)
 meets-met ring plan cert O is suits h g = record {
   suits = suits;
   staged = λ slot k l.
@@ -181,18 +202,19 @@ meets-met ring plan cert O is suits h g = record {
   dropped_later = λ t b slot x at before.
       let w = step-within ring plan suits slot b (Mirror slot x) before (slot-same slot) in
       dropped_later-met ring plan O t slot x (retire-met ring plan O h t x slot.partition w.0 at) w.1 b before;
-  covers = λ x a e.
-      let l = allowance-within ring x a e in
+  covers = λ x side a e.
+      let l = allowance-within ring x side a e in
+      let has_it : has_side ring (record { 0 = x }) side ≡ true = rw e refl in
       record {
-        few = few-met ring (record { 0 = x }) (length (chains_from x cert.chains)) a (g.few (record { 0 = x }) l) e;
-        linked = (chains-good ring plan cert O g (record { 0 = x }) l).0;
-        covered = λ n among. covered-met ring plan cert O g (record { 0 = x }) n l among;
+        few = few-met ring (record { 0 = x }) side (length (chains_from x side cert.chains)) a (g.few (record { 0 = x }) l side) e;
+        linked = (chains-good ring plan cert O g (record { 0 = x }) l side).0.0;
+        covered = λ n among. covered-met ring plan cert O g (record { 0 = x }) side n l has_it among;
       };
 }
 
 -- ---- where the plan is certified
 
-step-all : (ring : RingValue) (plan : List Planned) (O : Test) (chains : ℕ → List (List ℕ)) → Meets ring plan (holds O) chains → (p n : ℕ) (s : Step) → step_at plan n ≡ Some s → first_failing (step_clauses ring plan O p n s) ≡ None
+step-all : (ring : RingValue) (plan : List Planned) (O : Test) (chains : ℕ → Side → List (List ℕ)) → Meets ring plan (holds O) chains → (p n : ℕ) (s : Step) → step_at plan n ≡ Some s → first_failing (step_clauses ring plan O p n s) ≡ None
 step-all ring plan O chains h p n (Join x) at = refl
 step-all ring plan O chains h p n (Mirror slot x) at =
     asked-all (slot.partition == p) ((has_left ring plan O n slot x, SharedInPlan n) ∷ (has_joined ring plan O n x, NotJoined n) ∷ []) (λ _.
@@ -212,7 +234,7 @@ step-all ring plan O chains h p n (Retire x) at =
     push (has_dropped ring plan O p n x) (RetiredInUse n) None
     (dropped-all ring plan O p n x (λ s owns. h.dropped_first n s x at owns) (λ b s before. h.dropped_later n b s x at before)) refl
 
-parts-from : (ring : RingValue) (plan : List Planned) (O : Test) (chains : ℕ → List (List ℕ)) → Meets ring plan (holds O) chains → Parts ring plan O
+parts-from : (ring : RingValue) (plan : List Planned) (O : Test) (chains : ℕ → Side → List (List ℕ)) → Meets ring plan (holds O) chains → Parts ring plan O
 parts-from ring plan O chains h = record {
   staged = λ slot p i k l. h.staged slot k l;
   ordered = λ slot p i k l. order-all (λ (i : ℕ). slice_index (steps_of plan slot) i) O k (λ j e.
@@ -221,21 +243,33 @@ parts-from ring plan O chains h = record {
   steps = λ p l n s at. step-all ring plan O chains h p n s at;
 }
 
-retired-all : (ring : RingValue) (plan : List Planned) (O : Test) (chains : ℕ → List (List ℕ)) → Meets ring plan (holds O) chains → (x : NodeId) (n : ℕ) (s : Step) → step_at plan n ≡ Some s → first_failing (retire_clauses ring plan O x n s) ≡ None
+retired-all : (ring : RingValue) (plan : List Planned) (O : Test) (chains : ℕ → Side → List (List ℕ)) → Meets ring plan (holds O) chains → (x : NodeId) (n : ℕ) (s : Step) → step_at plan n ≡ Some s → first_failing (retire_clauses ring plan O x n s) ≡ None
 retired-all ring plan O chains h x n s at =
     asked-all (is_retire_of x.0 s) ((has_joined ring plan O n x, NotJoined n) ∷ []) (λ retires.
     let e : s ≡ Retire x = retire-is x s retires in
     let here : step_at plan n ≡ Some (Retire x) = rw e at at in
     push (has_joined ring plan O n x) (NotJoined n) None (joined-all ring plan O n x (λ out. h.joined_first n x out (inr here))) refl)
 
+-- the chains of a certified plan
+good-from : (ring : RingValue) (plan : List Planned) (cert : Cert) → IsCertified ring plan cert → (x : NodeId) → x.0 < length ring.nodes → AllGood ring plan (ordered_by plan cert) x cert.chains
+good-from ring plan cert h x l = λ side. by side (allowance_of ring x.0 side) refl
+  where
+    by : (side : Side) (o : Option ℕ) → allowance_of ring x.0 side ≡ o → AreGood ring plan (ordered_by plan cert) x side (chains_from x.0 side cert.chains) × IsAllowed ring x side (chains_from x.0 side cert.chains)
+    by side (Some a) e = (((h.meets.covers x.0 side a e).linked, h.entries x.0 side a e), λ none. h.sides x.0 side l none)
+    by side None e = (let none = h.sides x.0 side l e in rw none ((tt, λ n is. absurd cc), λ f. refl))
+
+-- a side that the node has
+some-allowed : (o : Option ℕ) → is_some o ≡ true → (a : ℕ) × (o ≡ Some a)
+some-allowed None h = absurd cc
+some-allowed (Some a) h = (a, refl)
+
 nodes-from : (ring : RingValue) (plan : List Planned) (cert : Cert) → IsCertified ring plan cert → Nodes ring plan cert (ordered_by plan cert)
 nodes-from ring plan cert h = record {
-  retired = λ x l n s at. retired-all ring plan (ordered_by plan cert) (λ x. chains_from x cert.chains) h.meets x n s at;
-  chains = λ x l. (let a = allowance-at ring x.0 l in
-      chains-all ring plan (ordered_by plan cert) x 0 cert.chains ((h.meets.covers x.0 a.0 a.1).linked, h.entries x.0 a.0 a.1));
-  cover = λ x l n s at. asked-all (is_among x (parties ring plan n)) ((in_some n (chains_from x.0 cert.chains), CoverMissing x.0 n) ∷ []) (λ among.
-      push (in_some n (chains_from x.0 cert.chains)) (CoverMissing x.0 n) None (let a = allowance-at ring x.0 l in (h.meets.covers x.0 a.0 a.1).covered n among) refl);
-  few = λ x l. few-all ring x (length (chains_from x.0 cert.chains)) (λ a e. (h.meets.covers x.0 a e).few);
+  retired = λ x l n s at. retired-all ring plan (ordered_by plan cert) (λ x side. chains_from x side cert.chains) h.meets x n s at;
+  chains = λ x l. chains-all ring plan (ordered_by plan cert) x 0 cert.chains (good-from ring plan cert h x l);
+  cover = λ x l side has_it n s at. asked-all (is_among x (parties_on ring plan side n)) ((in_some n (chains_from x.0 side cert.chains), CoverMissing x.0 n) ∷ []) (λ among.
+      push (in_some n (chains_from x.0 side cert.chains)) (CoverMissing x.0 n) None (let a = some-allowed (allowance_of ring x.0 side) has_it in (h.meets.covers x.0 side a.0 a.1).covered n among) refl);
+  few = λ x l side. few-all ring x side (length (chains_from x.0 side cert.chains)) (λ a e. (h.meets.covers x.0 side a e).few);
 }
 
 -- ---- both ways
@@ -255,12 +289,13 @@ certified-from ring plan cert is suits none =
     record {
       facts = facts-met plan 0 cert.facts a.0;
       meets = meets-met ring plan cert (ordered_by plan cert) is suits p g;
-      entries = λ x a e. (chains-good ring plan cert (ordered_by plan cert) g (record { 0 = x }) (allowance-within ring x a e)).1;
+      entries = λ x side a e. (chains-good ring plan cert (ordered_by plan cert) g (record { 0 = x }) (allowance-within ring x side a e) side).0.1;
+      sides = λ x side l none. (chains-good ring plan cert (ordered_by plan cert) g (record { 0 = x }) l side).1 none;
     }
 
 pub none-from : (ring : RingValue) (plan : List Planned) (cert : Cert) → IsCertified ring plan cert → first_refusal ring plan cert ≡ None
 none-from ring plan cert h =
     together (fact_clauses plan 0 cert.facts) (parts_of ring plan cert ++ nodes_of ring plan cert) (facts-all plan 0 cert.facts h.facts)
     (together (parts_of ring plan cert) (nodes_of ring plan cert)
-    (parts-all ring plan (ordered_by plan cert) (parts-from ring plan (ordered_by plan cert) (λ x. chains_from x cert.chains) h.meets))
+    (parts-all ring plan (ordered_by plan cert) (parts-from ring plan (ordered_by plan cert) (λ x side. chains_from x side cert.chains) h.meets))
     (nodes-all ring plan cert (ordered_by plan cert) (nodes-from ring plan cert h)))

@@ -8,12 +8,13 @@ use Rattle.ring_names.specs.declared.ids.Slot.{Slot}
 use Rattle.ring_space.specs.Place.{place_of}
 use Rattle.ring_table.specs.Value.{RingValue}
 use Rattle.std.proofs.lemmas.Bool.{and_parts}
+use Rattle.std.proofs.lemmas.Bool.Decides.{nat_tests}
 use Rattle.plan_text.specs.declared.step.Planned.{Planned}
 use Rattle.plan_text.specs.Steps.{is_slot}
 use Rattle.plan_check.specs.World.{PutRecord, GetRecord, World, stage_now, key_of_put, key_of_get, seen_of, is_get_of, is_of_key}
 use Rattle.plan_check.specs.Succession.{replied}
 use Rattle.plan_check.specs.Guards.{has_ended}
-use Rattle.plan_check.specs.Effects.{with_puts, with_mirror_puts, without_puts, served_puts, has_found}
+use Rattle.plan_check.specs.Effects.{with_puts, with_mirror_puts, without_puts, served_puts, has_found, lose_effect}
 use Rattle.plan_check.specs.Reached.{IsPutOf, IsPutForGet, IsGetForPut}
 use Rattle.plan_check.proofs.Changed.{read_at}
 use Rattle.plan_stage.proofs.Truth.{either, slot-is}
@@ -51,6 +52,13 @@ served_puts_is ring plan w s more y t u e = elim (with_mirror_is (with_puts w.st
 
 pub without_puts_was : (f : ℕ → Slot → ℕ → Bool) (x : NodeId) (s : Slot) (y : ℕ) (t : Slot) (u : ℕ) → without_puts f x s y t u ≡ true → f y t u ≡ true
 without_puts_was f x s y t u e = (and_parts (not ((y == x.0) && is_slot s t)) (f y t u) e).1
+
+-- what nodes store and keep after a loss they had before it
+pub lose_stored : (ring : RingValue) (plan : List Planned) (w : World) (x : NodeId) (y : ℕ) (t : Slot) (u : ℕ) → (lose_effect ring plan w x).stored y t u ≡ true → w.stored y t u ≡ true
+lose_stored ring plan w x y t u e = grind (arith, nat_tests)
+
+pub lose_hinted : (ring : RingValue) (plan : List Planned) (w : World) (x : NodeId) (y : ℕ) (t : Slot) (u : ℕ) → (lose_effect ring plan w x).hinted y t u ≡ true → w.hinted y t u ≡ true
+lose_hinted ring plan w x y t u e = grind (arith, nat_tests)
 
 -- with puts of the slot's partition what is stored fits
 more_fit : (ring : RingValue) (w : World) (s : Slot) (more : ℕ → Bool) → ((v : ℕ) → more v ≡ true → IsPutOf ring w s v) → (t : Slot) (u : ℕ) → (t ≡ s) × (more u ≡ true) → IsPutOf ring w t u

@@ -7,7 +7,8 @@ use Rattle.std.proofs.lemmas.Option.{slice_get_within}
 use Rattle.ring_names.specs.declared.ids.NodeId.{NodeId}
 use Rattle.ring_names.specs.declared.ids.Slot.{Slot}
 use Rattle.ring_table.specs.declared.node.Node.{Node}
-use Rattle.ring_table.specs.Value.{RingValue, owner_of}
+use Rattle.ring_table.specs.declared.allowance.Side.{Side}
+use Rattle.ring_table.specs.Value.{RingValue, owner_of, most_of, allowance_of}
 use Rattle.ring_table.specs.Valid.{IsRing, IsRow}
 use Rattle.plan_text.specs.declared.step.Step.{Step}
 use Rattle.plan_text.specs.declared.step.Step.TheVariants.{Join, Mirror, Copy, Switch, Drop, Retire}
@@ -15,7 +16,6 @@ use Rattle.plan_text.specs.declared.step.Planned.{Planned}
 use Rattle.plan_text.specs.Steps.{is_on, steps_from, steps_of}
 use Rattle.plan_text.specs.Valid.{Suits, step_suits, source_suits, is_ring_slot, is_declared}
 use Rattle.plan_stage.specs.Each.{step_at}
-use Rattle.plan_cover.specs.Clauses.{allowance_of}
 use Rattle.plan_stage.proofs.Truth.{slot-is}
 
 -- ---- a step, and the slot of a step
@@ -87,18 +87,9 @@ owner-within ring is slot x h =
 
 -- ---- a node with an allowance
 
-some_of : (o : Option Node) (a : ℕ) → (elim o [ Some node ↦ Some node.allowance | None ↦ None ]) ≡ Some a → (y : Node) × (o ≡ Some y)
-some_of None a h = absurd cc
-some_of (Some y) a h = (y, refl)
+some_of : (o : Option Node) (side : Side) (a : ℕ) → (elim o [ Some node ↦ most_of side node.allowance | None ↦ None ]) ≡ Some a → (y : Node) × (o ≡ Some y)
+some_of None side a h = absurd cc
+some_of (Some y) side a h = (y, refl)
 
-pub allowance-within : (ring : RingValue) (x a : ℕ) → allowance_of ring x ≡ Some a → x < length ring.nodes
-allowance-within ring x a h = (let s = some_of (slice_get ring.nodes x) a h in slice_get_within ring.nodes x s.0 s.1)
-
--- a declared node has one
-pub allowance-at : (ring : RingValue) (x : ℕ) → x < length ring.nodes → (a : ℕ) × (allowance_of ring x ≡ Some a)
-allowance-at ring x l = by ring.nodes x l
-  where
-    by : (ns : List Node) (i : ℕ) → i < length ns → (a : ℕ) × ((elim (slice_get ns i) [ Some node ↦ Some node.allowance | None ↦ None ]) ≡ Some a)
-    by [] i l = absurd (omega arith)
-    by (n ∷ ns) zero l = (n.allowance, refl)
-    by (n ∷ ns) (suc i) l = by ns i (omega arith)
+pub allowance-within : (ring : RingValue) (x : ℕ) (side : Side) (a : ℕ) → allowance_of ring x side ≡ Some a → x < length ring.nodes
+allowance-within ring x side a h = (let s = some_of (slice_get ring.nodes x) side a h in slice_get_within ring.nodes x s.0 s.1)

@@ -1,14 +1,16 @@
 -- What every event leaves true of tickets.
 use Rattle.std.proofs.Common.{◌≡◌, ◌⊎◌, inl, inr, ◌∙◌, ℕ, zero, suc, ◌+◌, ◌<◌, ◌≤◌, Bool, true, false, cond, List, [], ◌∷◌, ◌++◌, length, refl, sym, ap, subst, arith, eqb-true}
 use Rattle.std.specs.Prelude.{◌&&◌, ◌==◌, Some, None, is_some}
+use Rattle.ring_names.specs.declared.ids.NodeId.{NodeId}
 use Rattle.ring_names.specs.declared.ids.Slot.{Slot}
 use Rattle.ring_table.specs.Value.{RingValue}
 use Rattle.std.proofs.lemmas.Bool.{and_parts}
+use Rattle.std.proofs.lemmas.Bool.Decides.{nat_tests}
 use Rattle.plan_text.specs.declared.step.Planned.{Planned}
 use Rattle.plan_text.specs.Steps.{steps_of}
-use Rattle.plan_check.specs.World.{PutRecord, World, count, key_of_put, ticket_of, mirror_at, generation, slot_of}
+use Rattle.plan_check.specs.World.{PutRecord, World, count, key_of_put, ticket_of, mirror_at, mirrors_done, generation, slot_of}
 use Rattle.plan_check.specs.Versions.{put_slot}
-use Rattle.plan_check.specs.Effects.{changed, with_value}
+use Rattle.plan_check.specs.Effects.{changed, with_value, lose_effect}
 use Rattle.plan_check.proofs.Changed.{read_at}
 use Rattle.plan_stage.proofs.Truth.{all_of}
 
@@ -30,15 +32,22 @@ count_more D E (s ∷ ss) h = by (D s) (E s) (h s) (count_more D E ss h)
     by true false f l = absurd (let g = f refl in cc)
     by true true f l = omega arith
 
-pub generation_more : (plan : List Planned) (w u : World) (slot : Slot) → ((m : ℕ) → w.done m ≡ true → u.done m ≡ true) → generation plan w slot ≤ generation plan u slot
-generation_more plan w u slot h = count_more (λ s. w.done s && is_some (mirror_at plan s)) (λ s. u.done s && is_some (mirror_at plan s)) (steps_of plan slot)
+pub mirrors_more : (plan : List Planned) (w u : World) (slot : Slot) → ((m : ℕ) → w.done m ≡ true → u.done m ≡ true) → mirrors_done plan w slot ≤ mirrors_done plan u slot
+mirrors_more plan w u slot h = count_more (λ s. w.done s && is_some (mirror_at plan s)) (λ s. u.done s && is_some (mirror_at plan s)) (steps_of plan slot)
     (λ m e. (let b = and_parts (w.done m) (is_some (mirror_at plan m)) e in all_of (u.done m) (is_some (mirror_at plan m)) (h m b.0) b.1))
 
+pub generation_more : (plan : List Planned) (w u : World) (slot : Slot) → ((m : ℕ) → w.done m ≡ true → u.done m ≡ true) → w.lost slot ≤ u.lost slot → generation plan w slot ≤ generation plan u slot
+generation_more plan w u slot h l = (let m = mirrors_more plan w u slot h in omega arith)
+
+-- no slot has fewer losses after one
+pub lose_more : (ring : RingValue) (plan : List Planned) (w : World) (x : NodeId) (slot : Slot) → w.lost slot ≤ (lose_effect ring plan w x).lost slot
+lose_more ring plan w x slot = grind (arith, nat_tests)
+
 -- a ticket stays where the put keeps its key
-pub ticket_stays : (ring : RingValue) (plan : List Planned) (w u : World) (v i g : ℕ) → key_of_put u v ≡ key_of_put w v → ((m : ℕ) → w.done m ≡ true → u.done m ≡ true) → TicketFits ring plan w v i g → TicketFits ring plan u v i g
-ticket_stays ring plan w u v i g key more h =
+pub ticket_stays : (ring : RingValue) (plan : List Planned) (w u : World) (v i g : ℕ) → key_of_put u v ≡ key_of_put w v → ((m : ℕ) → w.done m ≡ true → u.done m ≡ true) → ((s : Slot) → w.lost s ≤ u.lost s) → TicketFits ring plan w v i g → TicketFits ring plan u v i g
+ticket_stays ring plan w u v i g key more lost h =
     let l : g ≤ generation plan w (put_slot ring w v i) = h.1 in
-    let m = generation_more plan w u (put_slot ring w v i) more in
+    let m = generation_more plan w u (put_slot ring w v i) more (lost (put_slot ring w v i)) in
     let k : g ≤ generation plan u (put_slot ring w v i) = omega arith in
     (h.0, subst (λ (z : List ℕ). g ≤ generation plan u (slot_of ring z i)) (sym key) k)
 

@@ -6,7 +6,7 @@ use Rattle.plan_text.specs.declared.step.Planned.{Planned}
 use Rattle.plan_stage.specs.Clauses.{first_failing}
 use Rattle.plan_check.specs.declared.event.Event.{Event}
 use Rattle.plan_check.specs.declared.event.Event.TheVariants.{Do, OpenCopy, ChunkCopy, CloseCopy, AbortCopy, StartPut, Write, Hint}
-use Rattle.plan_check.specs.declared.event.Event.TheVariants.{Ack, StartGet, Read, EndGet, Down, Up, Handoff}
+use Rattle.plan_check.specs.declared.event.Event.TheVariants.{Ack, StartGet, Read, EndGet, Down, Up, Handoff, Lose}
 use Rattle.plan_check.specs.declared.event.Reply.{Reply}
 use Rattle.plan_check.specs.declared.event.Reply.TheVariants as reply
 use Rattle.plan_check.specs.World.{World, generation}
@@ -31,6 +31,7 @@ reply_to ring plan w (EndGet g) = reply.Answer (answers ring w g)
 reply_to ring plan w (Down x) = reply.Plain
 reply_to ring plan w (Up x) = reply.Plain
 reply_to ring plan w (Handoff x s) = reply.Plain
+reply_to ring plan w (Lose x) = reply.Plain
 
 -- the next world and the reply, or the refusal of the first guard that fails
 abbrev pub answer : RingValue → List Planned → World → Event → Result (World × Reply) Refusal

@@ -1,5 +1,6 @@
 -- What each event changes.
-use Rattle.std.specs.Prelude.{ℕ, zero, suc, Bool, true, false, not, ◌&&◌, ◌||◌, ◌==◌, nat_lt, List, [], ◌∷◌, ◌++◌, length, Option, Some, None, if◌then◌else◌}
+use Rattle.std.specs.Prelude.{ℕ, zero, suc, ◌+◌, Bool, true, false, not, ◌&&◌, ◌||◌, ◌==◌, nat_lt}
+use Rattle.std.specs.Prelude.{List, [], ◌∷◌, ◌++◌, length, Option, Some, None, if◌then◌else◌}
 use Rattle.std.specs.List.{list_any}
 use Rattle.ring_names.specs.Lists.{has}
 use Rattle.ring_names.specs.declared.ids.NodeId.{NodeId}
@@ -15,8 +16,8 @@ use Rattle.plan_stage.specs.Each.{step_at}
 use Rattle.plan_stage.specs.Parties.{source_slots}
 use Rattle.plan_check.specs.declared.event.Event.{Event}
 use Rattle.plan_check.specs.declared.event.Event.TheVariants.{Do, OpenCopy, ChunkCopy, CloseCopy, AbortCopy, StartPut, Write, Hint}
-use Rattle.plan_check.specs.declared.event.Event.TheVariants.{Ack, StartGet, Read, EndGet, Down, Up, Handoff}
-use Rattle.plan_check.specs.World.{PutRecord, World, some_below, passing_below, key_of_get, found_at, is_of_key, copy_at, stage_now, generation}
+use Rattle.plan_check.specs.declared.event.Event.TheVariants.{Ack, StartGet, Read, EndGet, Down, Up, Handoff, Lose}
+use Rattle.plan_check.specs.World.{PutRecord, World, some_below, passing_below, key_of_get, found_at, is_of_key, copy_at, stage_now, generation, is_in_group}
 use Rattle.plan_check.specs.Succession.{latest}
 use Rattle.plan_check.specs.Versions.{put_slot, get_slot, is_in_chunk, slot_has}
 
@@ -46,6 +47,10 @@ with_mirror_puts test (Some x) s more = with_puts test x s more
 -- without any put for the slot at the node
 abbrev pub without_puts : (ℕ → Slot → ℕ → Bool) → NodeId → Slot → ℕ → Slot → ℕ → Bool
 without_puts test x s y t v = not ((y == x.0) && is_slot s t) && test y t v
+
+-- without any put at the node
+abbrev pub without_node : (ℕ → Slot → ℕ → Bool) → NodeId → ℕ → Slot → ℕ → Bool
+without_node test x y t v = not (y == x.0) && test y t v
 
 -- the list with its n-th item changed
 abbrev pub changed : {A : Type 0} → List A → ℕ → (A → A) → List A
@@ -173,6 +178,15 @@ up_effect w x = record w { up = with_number w.up x.0 }
 abbrev pub handoff_effect : RingValue → List Planned → World → NodeId → Slot → World
 handoff_effect ring plan w x s = record w { stored = served_puts ring plan w s (w.hinted x.0 s); hinted = without_puts w.hinted x s }
 
+-- a slot whose group has the node has one loss more
+abbrev pub with_loss : RingValue → List Planned → World → NodeId → Slot → ℕ
+with_loss ring plan w x s = if is_in_group ring plan w s x.0 then w.lost s + 1 else w.lost s
+
+-- the node stores and keeps nothing, and there is one loss more
+abbrev pub lose_effect : RingValue → List Planned → World → NodeId → World
+lose_effect ring plan w x =
+    record w { stored = without_node w.stored x; hinted = without_node w.hinted x; losses = w.losses + 1; lost = with_loss ring plan w x }
+
 -- the world after the event
 unfoldable pub effect : RingValue → List Planned → World → Event → World
 effect ring plan w (Do n) = do_effect plan w n
@@ -190,3 +204,4 @@ effect ring plan w (EndGet g) = end_get_effect ring w g
 effect ring plan w (Down x) = down_effect w x
 effect ring plan w (Up x) = up_effect w x
 effect ring plan w (Handoff x s) = handoff_effect ring plan w x s
+effect ring plan w (Lose x) = lose_effect ring plan w x

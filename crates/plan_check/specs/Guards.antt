@@ -4,7 +4,7 @@ use Rattle.std.specs.List.{list_all, list_any}
 use Rattle.ring_names.specs.declared.ids.NodeId.{NodeId}
 use Rattle.ring_names.specs.declared.ids.Slot.{Slot}
 use Rattle.ring_names.specs.declared.refusal.Refusal.TheVariants.{NotMember, NotReady, AlreadyDone, NodeDown, KeeperTaken, KeeperInPartition}
-use Rattle.ring_names.specs.declared.refusal.Refusal.TheVariants.{StaleTickets, TooFewSlots, UnknownNumber, HintsLeft, NotOpen, ChunksLeft}
+use Rattle.ring_names.specs.declared.refusal.Refusal.TheVariants.{StaleTickets, TooFewSlots, UnknownNumber, HintsLeft, NotOpen, ChunksLeft, LossesSpent}
 use Rattle.ring_table.specs.Value.{RingValue}
 use Rattle.plan_text.specs.declared.step.Source.{Source}
 use Rattle.plan_text.specs.declared.step.Source.TheVariants as source
@@ -18,7 +18,7 @@ use Rattle.plan_stage.specs.Parties.{parties, source_slots}
 use Rattle.plan_stage.specs.Clauses.{Guard}
 use Rattle.plan_check.specs.declared.event.Event.{Event}
 use Rattle.plan_check.specs.declared.event.Event.TheVariants.{Do, OpenCopy, ChunkCopy, CloseCopy, AbortCopy, StartPut, Write, Hint}
-use Rattle.plan_check.specs.declared.event.Event.TheVariants.{Ack, StartGet, Read, EndGet, Down, Up, Handoff}
+use Rattle.plan_check.specs.declared.event.Event.TheVariants.{Ack, StartGet, Read, EndGet, Down, Up, Handoff, Lose}
 use Rattle.plan_check.specs.World.{World, some_below, passing_below, is_acked, ticket_of, key_of_get, found_at, reply_of, is_get_of, is_of_key}
 use Rattle.plan_check.specs.World.{copy_at, stage_now, generation, is_member_now, slot_at, keeps, keeps_other, keeps_any, is_served}
 use Rattle.plan_check.specs.Versions.{put_slot, get_slot, is_in_chunk}
@@ -192,6 +192,10 @@ up_guards ring plan w x = (is_member_now ring plan w x.0, NotMember x.0) ∷ (no
 abbrev pub handoff_guards : RingValue → List Planned → World → NodeId → Slot → List Guard
 handoff_guards ring plan w x s = (is_ring_slot ring s, UnknownNumber) ∷ (keeps w x.0 s, AlreadyDone) ∷ up_guard w.up x ∷ served_up ring plan w s
 
+-- a member, and fewer stores were lost than may be
+abbrev pub lose_guards : RingValue → List Planned → World → NodeId → List Guard
+lose_guards ring plan w x = (is_member_now ring plan w x.0, NotMember x.0) ∷ (nat_lt w.losses ring.loss, LossesSpent) ∷ []
+
 -- what the event needs
 unfoldable pub guards : RingValue → List Planned → World → Event → List Guard
 guards ring plan w (Do n) = do_guards ring plan w n
@@ -209,3 +213,4 @@ guards ring plan w (EndGet g) = end_get_guards ring w g
 guards ring plan w (Down x) = down_guards ring plan w x
 guards ring plan w (Up x) = up_guards ring plan w x
 guards ring plan w (Handoff x s) = handoff_guards ring plan w x s
+guards ring plan w (Lose x) = lose_guards ring plan w x

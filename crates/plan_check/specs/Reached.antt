@@ -56,3 +56,5 @@ pub record Reached (ring : RingValue) (plan : List Planned) (w : World) : Type 0
   pub replied : (g v : ℕ) → replied w.gets g v ≡ true → IsPutForGet w g v
   -- the gets that a put names
   pub seen : (u g : ℕ) → has g (seen_of w u) ≡ true → IsGetForPut w u g
+  -- no more stores were lost than may be
+  pub spent : w.losses ≤ ring.loss

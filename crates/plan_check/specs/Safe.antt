@@ -3,11 +3,12 @@ use Rattle.std.specs.Prelude.{◌≡◌, ◌≢◌, ℕ, ◌<◌, ◌≤◌, Boo
 use Rattle.std.specs.List.{list_all, list_any}
 use Rattle.ring_names.specs.Lists.{has, all_different}
 use Rattle.ring_names.specs.declared.ids.Slot.{Slot}
-use Rattle.ring_table.specs.Value.{RingValue}
+use Rattle.ring_table.specs.declared.allowance.Side.{Side}
+use Rattle.ring_table.specs.declared.allowance.Side.TheVariants.{Both, Take, Give}
+use Rattle.ring_table.specs.Value.{RingValue, allowance_of}
 use Rattle.plan_text.specs.declared.step.Source.{Source}
 use Rattle.plan_text.specs.declared.step.Planned.{Planned}
 use Rattle.plan_stage.specs.Parties.{source_slots}
-use Rattle.plan_cover.specs.Clauses.{allowance_of}
 use Rattle.plan_check.specs.World.{World, passing_below, is_acked, copy_at, slot_at, stage_now, mirrors, is_in_group}
 use Rattle.plan_check.specs.Versions.{put_slot, IsHeld}
 
@@ -29,9 +30,11 @@ mirrors_now ring plan w x slot from = mirrors (stage_now ring plan w slot) x
 abbrev pub gives_now : RingValue → List Planned → World → ℕ → Slot → Source → Bool
 gives_now ring plan w x slot from = list_any (λ t. x == (stage_now ring plan w t).owner.0) (source_slots slot from)
 
--- it does one or the other
-abbrev pub takes_part_now : RingValue → List Planned → World → ℕ → Slot → Source → Bool
-takes_part_now ring plan w x slot from = mirrors_now ring plan w x slot from || gives_now ring plan w x slot from
+-- it takes part in the copy on that side, now: on both where it does one or the other
+abbrev pub takes_part_now : RingValue → List Planned → World → ℕ → Side → Slot → Source → Bool
+takes_part_now ring plan w x Both slot from = mirrors_now ring plan w x slot from || gives_now ring plan w x slot from
+takes_part_now ring plan w x Take slot from = mirrors_now ring plan w x slot from
+takes_part_now ring plan w x Give slot from = gives_now ring plan w x slot from
 
 -- step n is an open copy that passes the test
 abbrev pub is_open_copy : List Planned → World → (Slot → Source → Bool) → ℕ → Bool
@@ -41,9 +44,9 @@ is_open_copy plan w test n = w.is_open n && elim (copy_at plan n) [ Some k ↦ t
 abbrev pub open_copies : List Planned → World → (Slot → Source → Bool) → ℕ
 open_copies plan w test = length (passing_below (length plan) (is_open_copy plan w test))
 
--- no node takes part in more open copies than its allowance
+-- no node takes part in more open copies than its allowance, on any side that this counts
 abbrev pub TransfersAreFew : RingValue → List Planned → World → Type 0
-TransfersAreFew ring plan w = (x a : ℕ) → allowance_of ring x ≡ Some a → open_copies plan w (takes_part_now ring plan w x) ≤ a
+TransfersAreFew ring plan w = (x : ℕ) (side : Side) (a : ℕ) → allowance_of ring x side ≡ Some a → open_copies plan w (takes_part_now ring plan w x side) ≤ a
 
 -- what is promised
 pub record Safe (ring : RingValue) (plan : List Planned) (w : World) : Type 0 where

@@ -3,7 +3,8 @@ use Rattle.std.specs.Prelude.{◌≡◌, ◌≢◌, ◌⊎◌, ℕ, suc, ◌<◌
 use Rattle.ring_names.specs.Lists.{has, all_different}
 use Rattle.ring_names.specs.declared.ids.NodeId.{NodeId}
 use Rattle.ring_names.specs.declared.ids.Slot.{Slot}
-use Rattle.ring_table.specs.Value.{RingValue, is_member, owner_of}
+use Rattle.ring_table.specs.declared.allowance.Side.{Side}
+use Rattle.ring_table.specs.Value.{RingValue, is_member, allowance_of, owner_of}
 use Rattle.plan_text.specs.declared.step.Source.TheVariants.{Slots}
 use Rattle.plan_text.specs.declared.step.Step.TheVariants.{Join, Mirror, Copy, Switch, Retire}
 use Rattle.plan_text.specs.declared.step.Planned.{Planned}
@@ -13,9 +14,9 @@ use Rattle.plan_order.specs.Before.{Before}
 use Rattle.plan_stage.specs.Stage.{is_among}
 use Rattle.plan_stage.specs.Clauses.{IsStagedSlot}
 use Rattle.plan_stage.specs.Occupancy.{first_end, mirror_end, first_drop, mirror_drop}
-use Rattle.plan_stage.specs.Parties.{parties}
+use Rattle.plan_stage.specs.Parties.{parties_on}
 use Rattle.plan_stage.specs.Each.{step_at, sibling, place_in}
-use Rattle.plan_cover.specs.Clauses.{allowance_of, in_some}
+use Rattle.plan_cover.specs.Clauses.{in_some}
 
 -- an order of steps
 abbrev pub Order : Type 1
@@ -47,16 +48,16 @@ pub record Covers (O : Order) (most : ℕ) (is_one : ℕ → Bool) (chains : Lis
 abbrev pub HaveOnly : (ℕ → Bool) → List (List ℕ) → Type 0
 HaveOnly is_one chains = (n : ℕ) → in_some n chains ≡ true → is_one n ≡ true
 
--- the node takes part in step n, by the plan
-abbrev pub is_party_of : RingValue → List Planned → ℕ → ℕ → Bool
-is_party_of ring plan x n = is_among (record { 0 = x }) (parties ring plan n)
+-- the node takes part in step n on that side, by the plan
+abbrev pub is_party_of : RingValue → List Planned → ℕ → Side → ℕ → Bool
+is_party_of ring plan x side n = is_among (record { 0 = x }) (parties_on ring plan side n)
 
 -- the step mirrors the node or retires it
 abbrev pub NeedsMember : List Planned → NodeId → ℕ → Type 0
 NeedsMember plan x t = ((slot : Slot) × (step_at plan t ≡ Some (Mirror slot x))) ⊎ (step_at plan t ≡ Some (Retire x))
 
--- what a plan must meet, by an order of its steps and chains for each node
-pub record Meets (ring : RingValue) (plan : List Planned) (O : Order) (chains : ℕ → List (List ℕ)) : Type 0 where
+-- what a plan must meet, by an order of its steps and chains for each side of a node
+pub record Meets (ring : RingValue) (plan : List Planned) (O : Order) (chains : ℕ → Side → List (List ℕ)) : Type 0 where
   -- its steps are about nodes and slots of the ring
   pub suits : Suits ring plan
   -- each step of a slot fits the stage before it
@@ -86,9 +87,9 @@ pub record Meets (ring : RingValue) (plan : List Planned) (O : Order) (chains : 
   -- and what it held since it was mirrored
   pub dropped_later : (t b : ℕ) (slot : Slot) (x : NodeId) → step_at plan t ≡ Some (Retire x)
       → step_at plan b ≡ Some (Mirror slot x) → EndsBefore O (mirror_drop plan slot (place_in plan slot b) x) t
-  -- of each declared node at most as many chains as its allowance have all copies in which it takes part
-  pub covers : (x a : ℕ) → allowance_of ring x ≡ Some a → Covers O a (is_party_of ring plan x) (chains x)
+  -- of each side that a declared node's allowance counts at most so many chains have all copies in which it takes part on that side
+  pub covers : (x : ℕ) (side : Side) (a : ℕ) → allowance_of ring x side ≡ Some a → Covers O a (is_party_of ring plan x side) (chains x side)
 
 -- a plan is sound where it meets this by "before", with some chains
 abbrev pub Sound : RingValue → List Planned → Type 0
-Sound ring plan = (chains : ℕ → List (List ℕ)) × Meets ring plan (Before plan) chains
+Sound ring plan = (chains : ℕ → Side → List (List ℕ)) × Meets ring plan (Before plan) chains

@@ -29,7 +29,8 @@ pub record GetRecord : Type 0 where
   pub reply : Option (List ℕ)
 
 -- which steps are finished, which copies are open and which of their chunks are marked, which nodes are up, the puts and gets in
--- order of their start, the puts that nodes store for slots, and those that they keep as hints for slots; nothing else is kept
+-- order of their start, the puts that nodes store for slots, and those that they keep as hints for slots; how many stores were lost,
+-- and for each slot of how many of these losses the node was in its group; nothing else is kept
 pub record World : Type 0 where
   pub done : ℕ → Bool
   pub is_open : ℕ → Bool
@@ -39,6 +40,8 @@ pub record World : Type 0 where
   pub gets : List GetRecord
   pub stored : ℕ → Slot → ℕ → Bool
   pub hinted : ℕ → Slot → ℕ → Bool
+  pub losses : ℕ
+  pub lost : Slot → ℕ
 
 -- at the start members are up, and there is nothing else
 abbrev pub opening_world : RingValue → World
@@ -51,6 +54,8 @@ opening_world ring = record {
   gets = [];
   stored = λ x s v. false;
   hinted = λ x s v. false;
+  losses = 0;
+  lost = λ s. 0;
 }
 
 -- ---- numbers below n
@@ -133,8 +138,12 @@ abbrev pub stage_now : RingValue → List Planned → World → Slot → Stage
 stage_now ring plan w slot = stage ring plan slot (count w.done (steps_of plan slot))
 
 -- how many of the slot's mirrors are finished
+abbrev pub mirrors_done : List Planned → World → Slot → ℕ
+mirrors_done plan w slot = count (λ s. w.done s && is_some (mirror_at plan s)) (steps_of plan slot)
+
+-- these, and the losses whose node was in the slot's group
 abbrev pub generation : List Planned → World → Slot → ℕ
-generation plan w slot = count (λ s. w.done s && is_some (mirror_at plan s)) (steps_of plan slot)
+generation plan w slot = mirrors_done plan w slot + w.lost slot
 
 -- `in` at the start or joined, and not retired
 abbrev pub is_member_now : RingValue → List Planned → World → ℕ → Bool

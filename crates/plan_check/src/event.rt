@@ -43,6 +43,8 @@ pub enum Event {
     Up(NodeId),
     /// A stand-in hands the hints that it keeps for a slot to the slot's owner and mirror.
     Handoff(NodeId, Slot),
+    /// A node loses all that it stores and keeps; it stays up or down.
+    Lose(NodeId),
 }
 
 /// What an event is answered.

@@ -7,7 +7,7 @@ ghost use Rattle.plan_text.specs.Valid.{Suits};
 ghost use Rattle.ring_clock.specs.declared.causes.Cause.{Cause};
 ghost use Rattle.ring_clock.specs.Causes.{IsEarlier};
 ghost use Rattle.plan_cert.specs.declared.cert.Cert.{Cert as TheCert};
-ghost use Rattle.ring_table.specs.Value.{RingValue};
+ghost use Rattle.ring_table.specs.Value.{RingValue, migrated};
 ghost use Rattle.plan_text.specs.declared.step.Planned.{Planned};
 ghost use Rattle.plan_stage.specs.Clauses.{AllStaged};
 ghost use Rattle.plan_check.specs.World.{World};
@@ -40,6 +40,11 @@ pub fn first_is_none_where_certified(ring: &Ring, plan: &Plan, cert: &Cert)
     let _ = (ring.n(), plan.len(), cert.facts.len());
 }
 
+/// The checker answers the same before a ring is migrated and after.
+pub fn migration_changes_no_refusal()
+    ensures { (ring : RingValue) (plan : List Planned) (cert : TheCert) → first_refusal (migrated ring) plan cert ≡ first_refusal ring plan cert }
+{}
+
 /// After each of a slot's steps its owner is no node that still has to drop what it held, and its mirror is neither of these.
 pub fn stages_are_good()
     ensures { (ring : RingValue) (plan : List Planned) → Sound ring plan → AreGoodStages ring plan }
@@ -55,7 +60,8 @@ pub fn servers_occupy(ring: &Ring, plan: &Plan)
 }
 
 /// What every run of a plan leads to, sound or not: what finished steps depend on is finished, open copies are ready and not
-/// finished, only ready copies have marks, nodes have puts of the slot's partition, and gets found and answered puts of their key.
+/// finished, only ready copies have marks, nodes have puts of the slot's partition, gets found and answered puts of their key, and no more
+/// stores were lost than the ring allows.
 pub fn runs_reach()
     ensures { (ring : RingValue) (plan : List Planned) → Always ring plan (Reached ring plan) }
 {}
@@ -74,7 +80,7 @@ pub fn groups_stay_apart(ring: &Ring, plan: &Plan)
     let _ = (ring.n(), plan.len());
 }
 
-/// In every run of a sound plan no node takes part in more open copies than its allowance.
+/// In every run of a sound plan no node takes part in more open copies than its allowance, on any side that this counts.
 pub fn transfers_stay_few(ring: &Ring, plan: &Plan)
     ensures { Sound ring.now plan.now → Always ring.now plan.now (TransfersAreFew ring.now plan.now) }
 {

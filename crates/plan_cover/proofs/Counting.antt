@@ -1,6 +1,6 @@
 -- Numbers of entries that pass a test.
 use Rattle.std.proofs.Common.{◌≡◌, ℕ, suc, zero, ◌+◌, ◌-◌, ◌<◌, ◌≤◌, Bool, true, false, cond, List, [], ◌∷◌, ◌++◌, length, take, Option, Some, None, refl, ap, ◌∙◌, arith, add-zero}
-use Rattle.std.specs.Prelude.{◌||◌, ◌==◌, slice_get}
+use Rattle.std.specs.Prelude.{◌&&◌, ◌||◌, ◌==◌, slice_get}
 use Rattle.std.proofs.lemmas.Bool.{lt-ltb, eq-eqb}
 use Rattle.std.proofs.lemmas.Bool.Decides.{nat_tests}
 use Rattle.ring_text.specs.Numbers.{ascending}
@@ -119,3 +119,8 @@ pub with_last-or : (a b : Bool) (n : ℕ) (xs : List ℕ) → with_last_if b n (
 with_last-or true true n xs = with_last-twice n xs
 with_last-or true false n xs = refl
 with_last-or false b n xs = refl
+
+-- the same, where both are asked under a condition
+pub with_last-more : (g a b : Bool) (n : ℕ) (xs ys : List ℕ) → ys ≡ with_last_if (g && a) n xs → with_last_if (g && b) n ys ≡ with_last_if (g && (a || b)) n xs
+with_last-more true a b n xs ys e = ap (λ l. with_last_if b n l) e ∙ with_last-or a b n xs
+with_last-more false a b n xs ys e = e

@@ -1,28 +1,34 @@
 -- The clauses of a node, and what is tested of what a cover keeps.
 use Rattle.std.proofs.Common.{◌≡◌, inl, inr, ℕ, suc, ◌+◌, ◌<◌, ◌≤◌, Bool, true, false, cond, List, [], ◌∷◌, ◌++◌, length, map, Option, Some, None, Result, Ok, Err, refl, sym, ap, ◌∙◌, arith}
-use Rattle.std.specs.Prelude.{not, ◌||◌, ◌==◌, slice_get, min}
+use Rattle.std.specs.Prelude.{not, ◌&&◌, ◌||◌, ◌==◌, slice_get, min, count_by}
 use Rattle.std.specs.Option.{option_or}
 use Rattle.std.proofs.lemmas.Bool.{eq-eqb}
 use Rattle.std.proofs.lemmas.Bool.Decides.{eqb_tells, nat_tests}
 use Rattle.std.proofs.lemmas.Option.{slice_get_past}
+use Rattle.std.proofs.lemmas.List.Recursion.{is_count_by}
 use Rattle.ring_names.specs.Lists.{has, all_different}
 use Rattle.ring_names.specs.declared.ids.NodeId.{NodeId}
 use Rattle.ring_names.specs.declared.refusal.Refusal.{Refusal}
 use Rattle.ring_names.specs.declared.refusal.Refusal.TheVariants.{ChainBroken, CoverMissing, TooManyChains}
-use Rattle.ring_table.specs.Value.{RingValue}
+use Rattle.ring_names.specs.declared.lists.Lists.{Lists}
+use Rattle.ring_text.specs.Numbers.{ascending}
+use Rattle.ring_table.specs.declared.allowance.NodeSide.{NodeSide}
+use Rattle.ring_table.specs.declared.allowance.Side.{Side}
+use Rattle.ring_table.specs.declared.allowance.Side.TheVariants.{Both, Take, Give}
+use Rattle.ring_table.specs.Value.{RingValue, is_side}
 use Rattle.plan_text.specs.declared.step.Planned.{Planned}
 use Rattle.plan_text.specs.Steps.{retired, retirement_of}
 use Rattle.plan_cert.specs.declared.cert.Chain.{Chain}
 use Rattle.plan_cert.specs.declared.cert.Cert.{Cert}
 use Rattle.plan_stage.specs.Stage.{is_among}
 use Rattle.plan_stage.specs.Occupancy.{is_node}
-use Rattle.plan_stage.specs.Parties.{parties, target_of, sources_of, with_target}
+use Rattle.plan_stage.specs.Parties.{target_of, sources_of, on_side, parties_on}
 use Rattle.plan_stage.specs.Clauses.{Guard, first_failing, Gives}
 use Rattle.plan_stage.specs.Partition.{Test, steps_clauses}
-use Rattle.plan_cover.specs.Clauses.{in_some, chains_from, retire_clauses, is_linked, is_good_chain, chains_clauses, cover_clauses, is_few, node_clauses}
-use Rattle.plan_cover.specs.Looking.Numbers.{numbers_from, takes_part, is_chain_of, copies_of, chain_numbers}
-use Rattle.plan_cover.specs.Looking.Guards.{retirement_guards, is_linked_in, steps_at, chains_at, chain_guard, copy_guard}
-use Rattle.plan_cover.proofs.Counting.{AreBetween, numbers-between}
+use Rattle.plan_cover.specs.Clauses.{in_some, chains_from, retire_clauses, is_linked, has_side, is_good_chain, chains_clauses, cover_clauses, side_covers, is_few, side_count, each_side, node_clauses}
+use Rattle.plan_cover.specs.Looking.Numbers.{numbers_from, takes_part, is_chain_of, copies_of, chain_numbers, copies_kept, sides_kept, AreAscending}
+use Rattle.plan_cover.specs.Looking.Guards.{retirement_guards, is_linked_in, steps_at, side_at, chains_at, chain_guard, copy_guard, side_guards, count_guards}
+use Rattle.plan_cover.proofs.Counting.{AreBetween, numbers-between, numbers-ascend}
 use Rattle.plan_cover.proofs.Retiring.{retirement-asked}
 
 -- ---- clauses behind clauses
@@ -68,15 +74,18 @@ has-numbers f n k (p ∷ ps) l out =
           past_it (f k) n k rest t.0 ∙ has-numbers f n (k + 1) ps up (λ m. out (omega arith)))
     ]
 
-parties_in : RingValue → List Planned → ℕ → Option Planned → List NodeId
-parties_in ring plan n o = elim o [ Some step ↦ with_target (target_of ring plan n step.step) (sources_of ring plan n step.step) | None ↦ [] ]
+abbrev parties_in : RingValue → List Planned → Side → ℕ → Option Planned → List NodeId
+parties_in ring plan side n o = elim o [ Some step ↦ on_side side (target_of ring plan n step.step) (sources_of ring plan n step.step) | None ↦ [] ]
 
-no_party : (ring : RingValue) (plan : List Planned) (x : NodeId) (n : ℕ) → length plan ≤ n → is_among x (parties ring plan n) ≡ false
-unfolding parties_in
-no_party ring plan x n l = ap (λ (o : Option Planned). is_among x (parties_in ring plan n o)) (slice_get_past plan n l)
+no_party : (ring : RingValue) (plan : List Planned) (y : NodeSide) (n : ℕ) → length plan ≤ n → (has_side ring y.node y.side && is_among y.node (parties_on ring plan y.side n)) ≡ false
+no_party ring plan y n l = ap (λ (o : Option Planned). has_side ring y.node y.side && is_among y.node (parties_in ring plan y.side n o)) (slice_get_past plan n l) ∙ none (has_side ring y.node y.side)
+  where
+    none : (b : Bool) → (b && false) ≡ false
+    none true = refl
+    none false = refl
 
-pub has-copies : (ring : RingValue) (plan : List Planned) (x : NodeId) (n : ℕ) → has n (copies_of ring plan x) ≡ is_among x (parties ring plan n)
-has-copies ring plan x n = has-numbers (λ m. is_among x (parties ring plan m)) n 0 plan (omega arith) (λ l. no_party ring plan x n (omega arith))
+has-copies : (ring : RingValue) (plan : List Planned) (y : NodeSide) (n : ℕ) → has n (copies_of ring plan y) ≡ (has_side ring y.node y.side && is_among y.node (parties_on ring plan y.side n))
+has-copies ring plan y n = has-numbers (λ m. has_side ring y.node y.side && is_among y.node (parties_on ring plan y.side m)) n 0 plan (omega arith) (λ l. no_party ring plan y n (omega arith))
 
 -- ---- the chains
 
@@ -102,29 +111,41 @@ chain_by : (b g : Bool) (k : ℕ) (guard : ℕ → Guard) (e : Refusal) (o : Opt
 chain_by true g k guard e o ks is h = ap (λ (p : Option Refusal). cond g p (Some e)) h ∙ ap (λ (c : Guard). cond c.0 (first_failing (map guard ks)) (Some c.1)) (sym is)
 chain_by false g k guard e o ks is h = h
 
-chains-guarded : (ring : RingValue) (plan : List Planned) (O : Test) (x : NodeId) (copies : List ℕ) (all : List Chain) (k : ℕ) (cs : List Chain) → ((n : ℕ) → has n copies ≡ is_among x (parties ring plan n)) → AreFrom k cs all → first_failing (chains_clauses ring plan O x k cs) ≡ first_failing (map (chain_guard copies O all) (numbers_from (is_chain_of x) k cs))
+-- what is tested of a chain, if there is one
+abbrev test_of : RingValue → NodeId → (Side → List ℕ) → Test → Option Chain → Bool
+test_of ring x copies O o = has_side ring x (elim o [ Some c ↦ c.side | None ↦ Both ]) && is_linked_in (copies (elim o [ Some c ↦ c.side | None ↦ Both ])) O (elim o [ Some c ↦ c.steps | None ↦ [] ])
+
+-- the copies of the sides that the node has
+abbrev pub AreCopies : RingValue → List Planned → NodeId → (Side → List ℕ) → Type 0
+AreCopies ring plan x copies = (side : Side) (n : ℕ) → has n (copies side) ≡ (has_side ring x side && is_among x (parties_on ring plan side n))
+
+good-guarded : (ring : RingValue) (plan : List Planned) (O : Test) (x : NodeId) (copies : Side → List ℕ) (side : Side) (steps : List ℕ) → AreCopies ring plan x copies → (has_side ring x side && is_linked_in (copies side) O steps) ≡ (has_side ring x side && is_good_chain ring plan O x side steps)
+good-guarded ring plan O x copies side steps same = by (has_side ring x side) refl
+  where
+    by : (b : Bool) → has_side ring x side ≡ b → (b && is_linked_in (copies side) O steps) ≡ (b && is_good_chain ring plan O x side steps)
+    by true e = linked-same (λ n. has n (copies side)) (λ n. is_among x (parties_on ring plan side n)) O steps (λ n. same side n ∙ ap (λ (b : Bool). b && is_among x (parties_on ring plan side n)) e)
+    by false e = refl
+
+chains-guarded : (ring : RingValue) (plan : List Planned) (O : Test) (x : NodeId) (copies : Side → List ℕ) (all : List Chain) (k : ℕ) (cs : List Chain) → AreCopies ring plan x copies → AreFrom k cs all → first_failing (chains_clauses ring plan O x k cs) ≡ first_failing (map (chain_guard ring x copies O all) (numbers_from (is_chain_of x) k cs))
 chains-guarded ring plan O x copies all k [] same from = refl
 chains-guarded ring plan O x copies all k (c ∷ cs) same from =
     let e : Refusal = ChainBroken (min k 4294967295) in
-    let is : is_linked_in copies O (steps_at all k) ≡ is_good_chain ring plan O x c.steps = ap (λ (o : Option Chain). is_linked_in copies O (elim o [ Some d ↦ d.steps | None ↦ [] ])) (first_at k c cs all from) ∙ linked-same (λ n. has n copies) (λ n. is_among x (parties ring plan n)) O c.steps same in
-    chain_by (x.0 == c.node.0) (is_good_chain ring plan O x c.steps) k (chain_guard copies O all) e (first_failing (chains_clauses ring plan O x (k + 1) cs)) (numbers_from (is_chain_of x) (k + 1) cs)
+    let is : test_of ring x copies O (slice_get all k) ≡ (has_side ring x c.side && is_good_chain ring plan O x c.side c.steps) = ap (test_of ring x copies O) (first_at k c cs all from) ∙ good-guarded ring plan O x copies c.side c.steps same in
+    chain_by (x.0 == c.node.0) (has_side ring x c.side && is_good_chain ring plan O x c.side c.steps) k (chain_guard ring x copies O all) e (first_failing (chains_clauses ring plan O x (k + 1) cs)) (numbers_from (is_chain_of x) (k + 1) cs)
     (ap (λ (b : Bool). (b, e)) is) (chains-guarded ring plan O x copies all (k + 1) cs same (from_later k c cs all from))
 
-pick_by : (b : Bool) (k : ℕ) (all : List Chain) (steps : List ℕ) (ls : List (List ℕ)) (ks : List ℕ) → steps_at all k ≡ steps → ls ≡ chains_at all ks → cond b (steps ∷ ls) ls ≡ chains_at all (cond b (k ∷ ks) ks)
-pick_by true k all steps ls ks is rest = ap (λ (s : List ℕ). s ∷ ls) (sym is) ∙ ap (λ (l : List (List ℕ)). steps_at all k ∷ l) rest
-pick_by false k all steps ls ks is rest = rest
+pick_by : (b : Bool) (side s : Side) (k : ℕ) (all : List Chain) (steps : List ℕ) (ls : List (List ℕ)) (ks : List ℕ) → side_at all k ≡ s → steps_at all k ≡ steps → ls ≡ chains_at all side ks → cond (b && is_side side s) (steps ∷ ls) ls ≡ chains_at all side (cond b (k ∷ ks) ks)
+pick_by true side s k all steps ls ks on is rest = rw (on, is, rest) refl
+pick_by false side s k all steps ls ks on is rest = rest
 
--- the node's chains are those of its numbers
-picked : (x : NodeId) (k : ℕ) (cs all : List Chain) → AreFrom k cs all → chains_from x.0 cs ≡ chains_at all (numbers_from (is_chain_of x) k cs)
-picked x k [] all from = refl
-picked x k (c ∷ cs) all from =
-    pick_by (is_node x c.node) k all c.steps (chains_from x.0 cs) (numbers_from (is_chain_of x) (k + 1) cs)
+-- the chains of a side of the node are those of its numbers that are of the side
+picked : (x : NodeId) (side : Side) (k : ℕ) (cs all : List Chain) → AreFrom k cs all → chains_from x.0 side cs ≡ chains_at all side (numbers_from (is_chain_of x) k cs)
+picked x side k [] all from = refl
+picked x side k (c ∷ cs) all from =
+    pick_by (is_node x c.node) side c.side k all c.steps (chains_from x.0 side cs) (numbers_from (is_chain_of x) (k + 1) cs)
+    (ap (λ (o : Option Chain). elim o [ Some d ↦ d.side | None ↦ Both ]) (first_at k c cs all from))
     (ap (λ (o : Option Chain). elim o [ Some d ↦ d.steps | None ↦ [] ]) (first_at k c cs all from))
-    (picked x (k + 1) cs all (from_later k c cs all from))
-
-as_many : (all : List Chain) (ks : List ℕ) → length (chains_at all ks) ≡ length ks
-as_many all [] = refl
-as_many all (k ∷ ks) = ap (λ n. suc n) (as_many all ks)
+    (picked x side (k + 1) cs all (from_later k c cs all from))
 
 -- ---- the copies
 
@@ -132,34 +153,75 @@ cover_by : (b : Bool) (k : ℕ) (guard : ℕ → Guard) (g : Guard) (gs : List G
 cover_by true k guard g gs ks is rest = rw (is, rest) refl
 cover_by false k guard g gs ks is rest = rest
 
-copies-guarded : (ring : RingValue) (plan : List Planned) (x : NodeId) (chains : List (List ℕ)) (k : ℕ) (ps : List Planned) → steps_clauses (cover_clauses ring plan chains x) k ps ≡ map (copy_guard chains x) (numbers_from (takes_part ring plan x) k ps)
-copies-guarded ring plan x chains k [] = refl
-copies-guarded ring plan x chains k (p ∷ ps) =
-    cover_by (is_among x (parties ring plan k)) k (copy_guard chains x) (in_some k chains, CoverMissing x.0 k) (steps_clauses (cover_clauses ring plan chains x) (k + 1) ps) (numbers_from (takes_part ring plan x) (k + 1) ps)
-    refl (copies-guarded ring plan x chains (k + 1) ps)
+copies-guarded : (ring : RingValue) (plan : List Planned) (x : NodeId) (side : Side) (chains : List (List ℕ)) (b : Bool) (k : ℕ) (ps : List Planned) → cond b (steps_clauses (cover_clauses ring plan chains x side) k ps) [] ≡ map (copy_guard chains x) (numbers_from (λ n p. b && is_among x (parties_on ring plan side n)) k ps)
+copies-guarded ring plan x side chains true k [] = refl
+copies-guarded ring plan x side chains true k (p ∷ ps) =
+    cover_by (is_among x (parties_on ring plan side k)) k (copy_guard chains x) (in_some k chains, CoverMissing x.0 k) (steps_clauses (cover_clauses ring plan chains x side) (k + 1) ps) (numbers_from (λ n p. true && is_among x (parties_on ring plan side n)) (k + 1) ps)
+    refl (copies-guarded ring plan x side chains true (k + 1) ps)
+copies-guarded ring plan x side chains false k [] = refl
+copies-guarded ring plan x side chains false k (p ∷ ps) = copies-guarded ring plan x side chains false (k + 1) ps
 
 -- ---- the clauses of a node
 
 -- what is tested, in its order
-abbrev pub tested : RingValue → List Planned → Test → NodeId → List Chain → List ℕ → List ℕ → Option Refusal
+abbrev pub tested : RingValue → List Planned → Test → NodeId → List Chain → List ℕ → Lists NodeSide ℕ → Option Refusal
 tested ring plan O x chains numbers copies = option_or (first_failing (retirement_guards ring plan O x (retirement_of plan x.0)))
-    (option_or (first_failing (map (chain_guard copies O chains) numbers))
-    (option_or (first_failing (map (copy_guard (chains_at chains numbers) x) copies))
-    (first_failing ((is_few ring x (length numbers), TooManyChains x.0) ∷ []))))
+    (option_or (first_failing (map (chain_guard ring x (sides_kept copies x) O chains) numbers))
+    (option_or (first_failing (each_side (side_guards copies chains numbers x)))
+    (first_failing (each_side (count_guards ring chains numbers x)))))
 
-whole : (ring : RingValue) (plan : List Planned) (cert : Cert) (O : Test) (x : NodeId) → all_different (retired plan) ≡ true → first_failing (node_clauses ring plan cert O x) ≡ tested ring plan O x cert.chains (chain_numbers cert.chains x) (copies_of ring plan x)
-whole ring plan cert O x once =
-    let few : Guard = (is_few ring x (length (chains_from x.0 cert.chains)), TooManyChains x.0) in
-    let cover : List Guard = steps_clauses (cover_clauses ring plan (chains_from x.0 cert.chains) x) 0 plan in
-    let chains : List Guard = chains_clauses ring plan O x 0 cert.chains in
-    let retire : List Guard = steps_clauses (retire_clauses ring plan O x) 0 plan in
-    first-append retire (chains ++ (cover ++ (few ∷ [])))
-    ∙ ap (λ (o : Option Refusal). option_or (first_failing retire) o) (first-append chains (cover ++ (few ∷ [])) ∙ ap (λ (o : Option Refusal). option_or (first_failing chains) o) (first-append cover (few ∷ [])))
-    ∙ rw (retirement-asked ring plan O x once, chains-guarded ring plan O x (copies_of ring plan x) cert.chains 0 cert.chains (has-copies ring plan x) (from_start cert.chains), copies-guarded ring plan x (chains_from x.0 cert.chains) 0 plan, picked x 0 cert.chains cert.chains (from_start cert.chains), as_many cert.chains (chain_numbers cert.chains x)) refl
+-- what is the same of each side is so of all
+each-same : (f g : Side → List Guard) → ((side : Side) → f side ≡ g side) → each_side f ≡ each_side g
+each-same f g same = rw (same Both, same Take, same Give) refl
 
--- the clauses of a node are those that are tested
-pub node-tested : (ring : RingValue) (plan : List Planned) (cert : Cert) (O : Test) (x : NodeId) (numbers copies : List ℕ) → all_different (retired plan) ≡ true → numbers ≡ chain_numbers cert.chains x → copies ≡ copies_of ring plan x → first_failing (node_clauses ring plan cert O x) ≡ tested ring plan O x cert.chains numbers copies
-node-tested ring plan cert O x numbers copies once ns cs = rw (ns, cs) (whole ring plan cert O x once)
+module _ (ring : RingValue) (plan : List Planned) (cert : Cert) (O : Test) (x : NodeId) (numbers : List ℕ) (copies : Lists NodeSide ℕ)
+    (ns : numbers ≡ chain_numbers cert.chains x) (cs : (y : NodeSide) → copies_kept copies y ≡ copies_of ring plan y) where
+  chains_of : (side : Side) → chains_from x.0 side cert.chains ≡ chains_at cert.chains side numbers
+  chains_of side = picked x side 0 cert.chains cert.chains (from_start cert.chains) ∙ ap (chains_at cert.chains side) (sym ns)
+
+  covers_of : (side : Side) → side_covers ring plan cert x side ≡ side_guards copies cert.chains numbers x side
+  covers_of side =
+      copies-guarded ring plan x side (chains_from x.0 side cert.chains) (has_side ring x side) 0 plan
+      ∙ ap (λ (ls : List (List ℕ)). map (copy_guard ls x) (copies_of ring plan (record { node = x; side = side }))) (chains_of side)
+      ∙ ap (λ (l : List ℕ). map (copy_guard (chains_at cert.chains side numbers) x) l) (sym (cs (record { node = x; side = side })))
+
+  counts_of : (side : Side) → side_count ring cert x side ≡ count_guards ring cert.chains numbers x side
+  counts_of side = ap (λ (ls : List (List ℕ)). (is_few ring x side (length ls), TooManyChains x.0) ∷ []) (chains_of side)
+
+  chains-tested : first_failing (chains_clauses ring plan O x 0 cert.chains) ≡ first_failing (map (chain_guard ring x (sides_kept copies x) O cert.chains) numbers)
+  chains-tested =
+      chains-guarded ring plan O x (sides_kept copies x) cert.chains 0 cert.chains (λ side n. ap (has n) (cs (record { node = x; side = side })) ∙ has-copies ring plan (record { node = x; side = side }) n) (from_start cert.chains)
+      ∙ ap (λ (l : List ℕ). first_failing (map (chain_guard ring x (sides_kept copies x) O cert.chains) l)) (sym ns)
+
+  -- the clauses of a node are those that are tested
+  pub node-tested : all_different (retired plan) ≡ true → first_failing (node_clauses ring plan cert O x) ≡ tested ring plan O x cert.chains numbers copies
+  node-tested once =
+      let few : List Guard = each_side (side_count ring cert x) in
+      let cover : List Guard = each_side (side_covers ring plan cert x) in
+      let chains : List Guard = chains_clauses ring plan O x 0 cert.chains in
+      let retire : List Guard = steps_clauses (retire_clauses ring plan O x) 0 plan in
+      first-append retire (chains ++ (cover ++ few))
+      ∙ ap (λ (o : Option Refusal). option_or (first_failing retire) o) (first-append chains (cover ++ few) ∙ ap (λ (o : Option Refusal). option_or (first_failing chains) o) (first-append cover few))
+      ∙ ap (λ (gs : List Guard). option_or (first_failing gs) (option_or (first_failing chains) (option_or (first_failing cover) (first_failing few)))) (retirement-asked ring plan O x once)
+      ∙ ap (λ (o : Option Refusal). option_or (first_failing (retirement_guards ring plan O x (retirement_of plan x.0))) (option_or o (option_or (first_failing cover) (first_failing few)))) chains-tested
+      ∙ ap (λ (gs : List Guard). option_or (first_failing (retirement_guards ring plan O x (retirement_of plan x.0))) (option_or (first_failing (map (chain_guard ring x (sides_kept copies x) O cert.chains) numbers)) (option_or (first_failing gs) (first_failing few)))) (each-same (side_covers ring plan cert x) (side_guards copies cert.chains numbers x) covers_of)
+      ∙ ap (λ (gs : List Guard). option_or (first_failing (retirement_guards ring plan O x (retirement_of plan x.0))) (option_or (first_failing (map (chain_guard ring x (sides_kept copies x) O cert.chains) numbers)) (option_or (first_failing (each_side (side_guards copies cert.chains numbers x))) (first_failing gs)))) (each-same (side_count ring cert x) (count_guards ring cert.chains numbers x) counts_of)
+
+-- the clauses of all sides, one after the other
+pub each-first : (f : Side → List Guard) → first_failing (each_side f) ≡ option_or (first_failing (f Both)) (option_or (first_failing (f Take)) (first_failing (f Give)))
+each-first f = first-append (f Both) (f Take ++ f Give) ∙ ap (λ (o : Option Refusal). option_or (first_failing (f Both)) o) (first-append (f Take) (f Give))
+
+-- how many chains are of the side
+pub count-chains : (chains : List Chain) (side : Side) (ks : List ℕ) → count_by (λ k. is_side side (side_at chains k)) ks ≡ length (chains_at chains side ks)
+count-chains chains side ks = sym (is_count_by (λ ls. length (chains_at chains side ls)) (λ k. is_side side (side_at chains k)) refl (λ k ls. by (is_side side (side_at chains k)) (steps_at chains k) (chains_at chains side ls)) ks)
+  where
+    by : (b : Bool) (steps : List ℕ) (ls : List (List ℕ)) → length (cond b (steps ∷ ls) ls) ≡ cond b (1 + length ls) (length ls)
+    by true steps ls = omega arith
+    by false steps ls = refl
+
+-- the copies that are kept ascend
+pub kept-ascend : (ring : RingValue) (plan : List Planned) (copies : Lists NodeSide ℕ) → ((y : NodeSide) → copies_kept copies y ≡ copies_of ring plan y) → AreAscending copies
+kept-ascend ring plan copies cs = λ y. ap ascending (cs y) ∙ numbers-ascend (takes_part ring plan y) 0 plan
 
 -- the first refusal is the answer, and what passes leaves the answer to the rest
 pub fails : (o p : Option Refusal) (e : Refusal) → o ≡ Some e → option_or o p ≡ Some e

@@ -1,13 +1,17 @@
 -- Who serves a slot after one more step, and who takes part in that step.
 use Rattle.std.proofs.Common.{◌≡◌, ℕ, suc, zero, ◌+◌, ◌<◌, ◌≤◌, Bool, true, false, cond, List, [], ◌∷◌, ◌++◌, length, take, Option, Some, None, refl, sym, ap, ◌∙◌, arith}
-use Rattle.std.specs.Prelude.{◌||◌, ◌==◌, nat_lt, slice_get, option_map, fold, unwrap_or}
+use Rattle.std.specs.Prelude.{◌&&◌, ◌||◌, ◌==◌, nat_lt, slice_get, option_map, fold, unwrap_or}
 use Rattle.std.specs.List.{list_all}
 use Rattle.std.proofs.lemmas.Bool.{lt-ltb, and_parts}
 use Rattle.std.proofs.lemmas.Bool.Decides.{nat_tests}
 use Rattle.std.proofs.lemmas.List.Sums.{fold_push}
 use Rattle.ring_names.specs.declared.ids.NodeId.{NodeId}
 use Rattle.ring_names.specs.declared.ids.Slot.{Slot}
+use Rattle.ring_table.specs.declared.allowance.NodeSide.{NodeSide}
+use Rattle.ring_table.specs.declared.allowance.Side.{Side}
+use Rattle.ring_table.specs.declared.allowance.Side.TheVariants.{Both, Take, Give}
 use Rattle.ring_table.specs.Value.{RingValue, owner_of}
+use Rattle.plan_cover.specs.Clauses.{has_side}
 use Rattle.plan_text.specs.declared.step.Step.{Step}
 use Rattle.plan_text.specs.declared.step.Step.TheVariants.{Join, Mirror, Copy, Switch, Drop, Retire}
 use Rattle.plan_text.specs.declared.step.Planned.{Planned}
@@ -15,10 +19,10 @@ use Rattle.plan_text.specs.Steps.{is_on, steps_from, steps_of}
 use Rattle.plan_text.proofs.Pushed.{steps_of-push}
 use Rattle.plan_stage.specs.declared.stage.Stage.{Stage}
 use Rattle.plan_stage.specs.Stage.{is_among, with_node, next, after, opening}
-use Rattle.plan_stage.specs.Parties.{count_below, stage_before, source_slots, owners_before, sources_of, target_of, with_target}
+use Rattle.plan_stage.specs.Parties.{count_below, stage_before, source_slots, owners_before, sources_of, target_of, with_target, on_side}
 use Rattle.plan_stage.proofs.Stages.{after-next}
 use Rattle.plan_cover.specs.declared.present.Serving.{Serving}
-use Rattle.plan_cover.specs.Looking.Serving.{serving_of, after_step, is_the_mirror, owns_some, is_party}
+use Rattle.plan_cover.specs.Looking.Serving.{serving_of, after_step, is_the_mirror, owns_some, counts, is_party}
 use Rattle.plan_stage.specs.Occupancy.{is_node}
 use Rattle.plan_cover.specs.Looking.Numbers.{numbers_from, takes_part, is_last, with_last_if}
 use Rattle.plan_cover.proofs.Counting.{take-step, take-length, numbers-take, numbers-between, not_last}
@@ -120,21 +124,45 @@ among-owners ring plan n serve x [] same = refl
 among-owners ring plan n serve x (s ∷ ss) same =
     among-with x (stage_before ring plan s n).owner (owners_before ring plan n ss) ∙ rw (among-owners ring plan n serve x ss same, ap (λ (v : Serving). is_node x v.owner) (same s)) refl
 
-party : (ring : RingValue) (plan : List Planned) (n : ℕ) (serve : Slot → Serving) (x : NodeId) (t : Step) → ((s : Slot) → serve s ≡ serving_of (stage_before ring plan s n)) → is_among x (with_target (target_of ring plan n t) (sources_of ring plan n t)) ≡ is_party serve t x
-party ring plan n serve x (Join y) same = refl
-party ring plan n serve x (Mirror s y) same = refl
-party ring plan n serve x (Copy s from) same =
-    among-target (stage_before ring plan s n).mirror x (owners_before ring plan n (source_slots s from))
-    ∙ rw (among-owners ring plan n serve x (source_slots s from) same, ap (λ (v : Serving). is_the_mirror v.mirror x) (same s)) refl
-party ring plan n serve x (Switch s) same = refl
-party ring plan n serve x (Drop s y) same = refl
-party ring plan n serve x (Retire y) same = refl
+-- ---- by side
 
-abbrev parties_in : RingValue → List Planned → ℕ → Option Planned → List NodeId
-parties_in ring plan n o = elim o [ Some step ↦ with_target (target_of ring plan n step.step) (sources_of ring plan n step.step) | None ↦ [] ]
+among-side : (side : Side) (target : Option NodeId) (x : NodeId) (sources : List NodeId) → is_among x (on_side side target sources) ≡ ((counts side Take && is_the_mirror target x) || (counts side Give && is_among x sources))
+among-side Both target x sources = among-target target x sources
+among-side Take target x sources = among-target target x []
+among-side Give target x sources = refl
 
-pub takes_part-party : (ring : RingValue) (plan : List Planned) (n : ℕ) (serve : Slot → Serving) (x : NodeId) (p : Planned) → slice_get plan n ≡ Some p → ((s : Slot) → serve s ≡ serving_of (stage_before ring plan s n)) → takes_part ring plan x n p ≡ is_party serve p.step x
-takes_part-party ring plan n serve x p e same = ap (λ (o : Option Planned). is_among x (parties_in ring plan n o)) e ∙ party ring plan n serve x p.step same
+no_one : (h : Bool) (side : Side) (x : NodeId) → (h && is_among x (on_side side None [])) ≡ false
+no_one true Both x = refl
+no_one true Take x = refl
+no_one true Give x = refl
+no_one false side x = refl
+
+with_both : (h a m b o : Bool) → (h && ((a && m) || (b && o))) ≡ (((h && a) && m) || ((h && b) && o))
+with_both true a m b o = refl
+with_both false a m b o = refl
+
+party : (ring : RingValue) (plan : List Planned) (n : ℕ) (serve : Slot → Serving) (y : NodeSide) (t : Step) → ((s : Slot) → serve s ≡ serving_of (stage_before ring plan s n))
+    → (has_side ring y.node y.side && is_among y.node (on_side y.side (target_of ring plan n t) (sources_of ring plan n t))) ≡ is_party ring serve t y
+party ring plan n serve y (Join z) same = no_one (has_side ring y.node y.side) y.side y.node
+party ring plan n serve y (Mirror s z) same = no_one (has_side ring y.node y.side) y.side y.node
+party ring plan n serve y (Copy s from) same =
+    let h : Bool = has_side ring y.node y.side in
+    let sources : List NodeId = owners_before ring plan n (source_slots s from) in
+    let owns : is_among y.node sources ≡ owns_some serve (source_slots s from) y.node = among-owners ring plan n serve y.node (source_slots s from) same in
+    let mirror : is_the_mirror (stage_before ring plan s n).mirror y.node ≡ is_the_mirror (serve s).mirror y.node = ap (λ (v : Serving). is_the_mirror v.mirror y.node) (sym (same s)) in
+    ap (λ (b : Bool). h && b) (among-side y.side (stage_before ring plan s n).mirror y.node sources)
+    ∙ with_both h (counts y.side Take) (is_the_mirror (stage_before ring plan s n).mirror y.node) (counts y.side Give) (is_among y.node sources)
+    ∙ ap (λ (b : Bool). ((h && counts y.side Take) && b) || ((h && counts y.side Give) && is_among y.node sources)) mirror
+    ∙ ap (λ (b : Bool). ((h && counts y.side Take) && is_the_mirror (serve s).mirror y.node) || ((h && counts y.side Give) && b)) owns
+party ring plan n serve y (Switch s) same = no_one (has_side ring y.node y.side) y.side y.node
+party ring plan n serve y (Drop s z) same = no_one (has_side ring y.node y.side) y.side y.node
+party ring plan n serve y (Retire z) same = no_one (has_side ring y.node y.side) y.side y.node
+
+abbrev parties_in : RingValue → List Planned → Side → ℕ → Option Planned → List NodeId
+parties_in ring plan side n o = elim o [ Some step ↦ on_side side (target_of ring plan n step.step) (sources_of ring plan n step.step) | None ↦ [] ]
+
+pub takes_part-party : (ring : RingValue) (plan : List Planned) (n : ℕ) (serve : Slot → Serving) (y : NodeSide) (p : Planned) → slice_get plan n ≡ Some p → ((s : Slot) → serve s ≡ serving_of (stage_before ring plan s n)) → takes_part ring plan y n p ≡ is_party ring serve p.step y
+takes_part-party ring plan n serve y p e same = ap (λ (o : Option Planned). has_side ring y.node y.side && is_among y.node (parties_in ring plan y.side n o)) e ∙ party ring plan n serve y p.step same
 
 -- ---- what holds of each step holds of one
 
@@ -158,16 +186,16 @@ put_last : (b : Bool) (n : ℕ) (xs : List ℕ) → is_last n xs ≡ false → w
 put_last true n xs e = rw e refl
 put_last false n xs e = refl
 
--- the node's copies among one step more
-pub copies-next : (ring : RingValue) (plan : List Planned) (n : ℕ) (serve : Slot → Serving) (x : NodeId) (t : Step) (old new : List ℕ) → option_map (λ (p : Planned). p.step) (slice_get plan n) ≡ Some t → ((s : Slot) → serve s ≡ serving_of (stage_before ring plan s n)) → old ≡ numbers_from (takes_part ring plan x) 0 (take n plan) → new ≡ with_last_if (is_party serve t x) n old → new ≡ numbers_from (takes_part ring plan x) 0 (take (n + 1) plan)
-copies-next ring plan n serve x t old new e same before is =
+-- the copies of a side of a node among one step more
+pub copies-next : (ring : RingValue) (plan : List Planned) (n : ℕ) (serve : Slot → Serving) (y : NodeSide) (t : Step) (old new : List ℕ) → option_map (λ (p : Planned). p.step) (slice_get plan n) ≡ Some t → ((s : Slot) → serve s ≡ serving_of (stage_before ring plan s n)) → old ≡ numbers_from (takes_part ring plan y) 0 (take n plan) → new ≡ with_last_if (is_party ring serve t y) n old → new ≡ numbers_from (takes_part ring plan y) 0 (take (n + 1) plan)
+copies-next ring plan n serve y t old new e same before is =
     let w = whole (slice_get plan n) t e in
-    let front : List ℕ = numbers_from (takes_part ring plan x) 0 (take n plan) in
+    let front : List ℕ = numbers_from (takes_part ring plan y) 0 (take n plan) in
     let l : n ≡ 0 + length (take n plan) = (let r = take-length plan n w.0 w.1 in omega arith) in
-    let fresh : is_last n front ≡ false = not_last n 0 front (numbers-between (takes_part ring plan x) 0 n (take n plan) l) in
-    let who : is_party serve t x ≡ takes_part ring plan x n w.0 = ap (λ (u : Step). is_party serve u x) (sym w.2) ∙ sym (takes_part-party ring plan n serve x w.0 w.1 same) in
-    is ∙ ap (λ (b : Bool). with_last_if b n old) who ∙ ap (λ (xs : List ℕ). with_last_if (takes_part ring plan x n w.0) n xs) before
-    ∙ put_last (takes_part ring plan x n w.0) n front fresh ∙ sym (numbers-take (takes_part ring plan x) plan n w.0 w.1)
+    let fresh : is_last n front ≡ false = not_last n 0 front (numbers-between (takes_part ring plan y) 0 n (take n plan) l) in
+    let who : is_party ring serve t y ≡ takes_part ring plan y n w.0 = ap (λ (u : Step). is_party ring serve u y) (sym w.2) ∙ sym (takes_part-party ring plan n serve y w.0 w.1 same) in
+    is ∙ ap (λ (b : Bool). with_last_if b n old) who ∙ ap (λ (xs : List ℕ). with_last_if (takes_part ring plan y n w.0) n xs) before
+    ∙ put_last (takes_part ring plan y n w.0) n front fresh ∙ sym (numbers-take (takes_part ring plan y) plan n w.0 w.1)
 
 -- who serves after one step more
 pub present-next : (ring : RingValue) (plan : List Planned) (s : Slot) (n : ℕ) (t : Step) (v w : Serving) → option_map (λ (p : Planned). p.step) (slice_get plan n) ≡ Some t → v ≡ serving_of (stage_before ring plan s n) → w ≡ cond (is_on s t) (after_step v t) v → w ≡ serving_of (stage_before ring plan s (n + 1))

@@ -16,7 +16,7 @@ pub fn chains_of(alloc: Global, chains: &Chains) -> Result<Lists<NodeId, usize>,
 {
     let mut index = Lists::new(alloc);
     for k in 0..chains.len() {
-        index.add(chains.node(k), k)?;
+        index.add(chains.of(k).node, k)?;
     }
     Ok(index)
 }

@@ -1,25 +1,24 @@
 //! The check of each node.
 
-ghost use Rattle.std.specs.Prelude.{◌≡◌, ◌<◌, ◌∷◌, [], ℕ, length};
-ghost use Rattle.ring_names.specs.declared.refusal.Refusal.TheVariants.{TooManyChains};
+ghost use Rattle.std.specs.Prelude.{◌≡◌, ◌<◌, ℕ, length};
 ghost use Rattle.plan_text.specs.Steps.{retirement_of};
 ghost use Rattle.plan_text.specs.Valid.{Suits};
 ghost use Rattle.plan_order.specs.Facts.{is_ordered, AreFactsOf};
 ghost use Rattle.plan_order.specs.Order.{order};
 ghost use Rattle.plan_stage.specs.Clauses.{Gives, below};
-ghost use Rattle.plan_cover.specs.Clauses.{is_few, node_clauses};
+ghost use Rattle.plan_cover.specs.Clauses.{is_few, each_side, node_clauses};
 ghost use Rattle.plan_cover.specs.Looking.Numbers.{IsCover};
-ghost use Rattle.plan_cover.specs.Looking.Guards.{retirement_guards};
+ghost use Rattle.plan_cover.specs.Looking.Guards.{retirement_guards, chains_at, side_guards, count_guards};
 
 use crate::cover::Cover;
-use crate::covered::check_copies;
-use crate::linked::check_chains;
-use plan_cert::Cert;
+use crate::covered::{check_copies, is_side};
+use crate::linked::{check_chains, side_at};
+use plan_cert::{Cert, Chains};
 use plan_order::{Context, Facts};
 use plan_stage::has_joined_by;
 use plan_text::Plan;
-use ring_names::{NodeId, Refusal};
-use ring_table::Ring;
+use ring_names::{Lists, NodeId, Refusal};
+use ring_table::{NodeSide, Ring, Side};
 use std::alloc::Global;
 
 /// Tests the clauses of one node, and answers with the first refusal. Costs one pass over the plan and one over the chains.
@@ -81,11 +80,65 @@ fn check_with(
     ensures { Gives result (node_clauses context.now.ring.now context.now.plan.now cert.now (order context.now) node) }
 {
     let numbers = cover.chains.items(&node);
-    let copies = cover.copies.items(&node);
     check_retirement(context, node)?;
-    check_chains(context, &cert.chains, numbers, copies)?;
-    check_copies(alloc, &cert.chains, numbers, copies, node)?;
-    check_count(context.ring, node, numbers.len())
+    check_chains(context, &cover.copies, &cert.chains, numbers, node)?;
+    check_covers(alloc, &cover.copies, &cert.chains, numbers, node)?;
+    check_counts(context.ring, &cert.chains, numbers, node)
+}
+
+// Tests the copies of a side of the node.
+fn check_side(
+    alloc: Global,
+    copies: &Lists<NodeSide, u32>,
+    chains: &Chains,
+    numbers: &[usize],
+    of: NodeSide,
+) -> Result<(), Refusal>
+    ensures { Gives result (side_guards copies.now chains.now numbers.now of.node of.side) }
+{
+    check_copies(alloc, chains, numbers, copies.items(&of), of)
+}
+
+// Tests the copies of the node, side by side.
+fn check_covers(
+    alloc: Global,
+    copies: &Lists<NodeSide, u32>,
+    chains: &Chains,
+    numbers: &[usize],
+    node: NodeId,
+) -> Result<(), Refusal>
+    ensures { Gives result (each_side (side_guards copies.now chains.now numbers.now node)) }
+{
+    let side = Side::Both;
+    check_side(alloc, copies, chains, numbers, NodeSide { node, side })?;
+    let side = Side::Take;
+    check_side(alloc, copies, chains, numbers, NodeSide { node, side })?;
+    let side = Side::Give;
+    check_side(alloc, copies, chains, numbers, NodeSide { node, side })
+}
+
+// How many of the chains of these numbers are of the side.
+fn count_of(chains: &Chains, side: Side, numbers: &[usize]) -> usize
+    ensures { result ≡ length (chains_at chains.now side numbers.now) }
+{
+    numbers
+        .iter()
+        .filter(|number| is_side(side, side_at(chains, **number)))
+        .count()
+}
+
+// Tests the numbers of chains of the node, side by side.
+fn check_counts(
+    ring: &Ring,
+    chains: &Chains,
+    numbers: &[usize],
+    node: NodeId,
+) -> Result<(), Refusal>
+    ensures { Gives result (each_side (count_guards ring.now chains.now numbers.now node)) }
+{
+    check_count(ring, chains, numbers, node, Side::Both)?;
+    check_count(ring, chains, numbers, node, Side::Take)?;
+    check_count(ring, chains, numbers, node, Side::Give)
 }
 
 // Tests the step that retires the node.
@@ -100,22 +153,32 @@ fn check_retirement(context: &Context, node: NodeId) -> Result<(), Refusal>
     Ok(())
 }
 
-// Tests the number of the node's chains.
-fn check_count(ring: &Ring, node: NodeId, count: usize) -> Result<(), Refusal>
-    ensures { Gives result ((is_few ring.now node count, TooManyChains node.0) ∷ []) }
+// Tests the number of the node's chains of that side.
+fn check_count(
+    ring: &Ring,
+    chains: &Chains,
+    numbers: &[usize],
+    node: NodeId,
+    side: Side,
+) -> Result<(), Refusal>
+    ensures { Gives result (count_guards ring.now chains.now numbers.now node side) }
 {
-    if is_few(ring, node, count) {
+    if is_few(
+        ring,
+        NodeSide { node, side },
+        count_of(chains, side, numbers),
+    ) {
         Ok(())
     } else {
         Err(Refusal::TooManyChains(node.0))
     }
 }
 
-fn is_few(ring: &Ring, node: NodeId, count: usize) -> bool
-    ensures { result ≡ is_few ring.now node count }
+fn is_few(ring: &Ring, of: NodeSide, count: usize) -> bool
+    ensures { result ≡ is_few ring.now of.node of.side count }
 {
-    match ring.nodes().get(node.0 as usize) {
-        Some(node) => count <= node.allowance as usize,
+    match ring.allowance(of) {
+        Some(most) => count <= most as usize,
         None => true,
     }
 }

@@ -1,22 +1,58 @@
-//! The copies in which each node takes part.
+//! The copies of each side of a node.
 
-ghost use Rattle.std.specs.Prelude.{◌≡◌, IfErr, OnOk};
-ghost use Rattle.ring_names.specs.declared.ids.NodeId.{NodeId as TheNode};
+ghost use Rattle.std.specs.Prelude.{◌≡◌, ◌&&◌, IfErr, OnOk};
 ghost use Rattle.ring_names.specs.declared.refusal.Refusal.TheVariants.{OutOfMemory};
+ghost use Rattle.ring_table.specs.declared.allowance.NodeSide.{NodeSide as TheSide};
+ghost use Rattle.ring_table.specs.declared.allowance.Side.{Side as OneSide};
+ghost use Rattle.ring_table.specs.Value.{is_side};
 ghost use Rattle.plan_stage.specs.Occupancy.{is_node};
-ghost use Rattle.plan_cover.specs.Looking.Numbers.{kept_of, is_last, with_last_if};
+ghost use Rattle.plan_cover.specs.Clauses.{has_side};
+ghost use Rattle.plan_cover.specs.Looking.Numbers.{copies_kept, is_last, with_last_if};
+ghost use Rattle.plan_cover.specs.Looking.Serving.{counts, is_some_side, counts_at};
 
 use ring_names::{Lists, NodeId, Refusal};
+use ring_table::{NodeSide, Ring, Side};
 
-/// Adds a copy to those of the node, unless it is their last already.
-pub fn add_copy(copies: &mut Lists<NodeId, u32>, node: NodeId, number: u32) -> Result<(), Refusal>
-    ensures ok { OnOk result ((x : TheNode) → kept_of copies.new x ≡ with_last_if (is_node x node) number (kept_of copies.old x)) }
+/// Adds a copy to those of the side by which the node counts it, which it takes or gives, unless it is their last already.
+pub fn add_copy(
+    copies: &mut Lists<NodeSide, u32>,
+    ring: &Ring,
+    node: NodeId,
+    part: Side,
+    number: u32,
+) -> Result<(), Refusal>
+    ensures ok { OnOk result ((y : TheSide) → copies_kept copies.new y ≡ with_last_if (counts_at ring.now part y && is_node y.node node) number (copies_kept copies.old y)) }
     ensures memory { IfErr result (λ e. e ≡ OutOfMemory) }
 {
-    if is_last(copies.items(&node), number) {
+    match side_of(ring, node, part) {
+        Some(side) => add_at(copies, NodeSide { node, side }, number),
+        None => Ok(()),
+    }
+}
+
+// The side by which the node counts the copies that it takes, or gives.
+fn side_of(ring: &Ring, node: NodeId, part: Side) -> Option<Side>
+    ensures { (s : OneSide) → (has_side ring.now node s && counts s part) ≡ is_some_side result s }
+{
+    if ring.allowance(NodeSide { node, side: part }).is_some() {
+        return Some(part);
+    }
+    let side = Side::Both;
+    if ring.allowance(NodeSide { node, side }).is_some() {
+        return Some(side);
+    }
+    None
+}
+
+// Adds a copy to those of the side of a node, unless it is their last already.
+fn add_at(copies: &mut Lists<NodeSide, u32>, of: NodeSide, number: u32) -> Result<(), Refusal>
+    ensures ok { OnOk result ((y : TheSide) → copies_kept copies.new y ≡ with_last_if (is_node y.node of.node && is_side y.side of.side) number (copies_kept copies.old y)) }
+    ensures memory { IfErr result (λ e. e ≡ OutOfMemory) }
+{
+    if is_last(copies.items(&of), number) {
         return Ok(());
     }
-    copies.add(node, number)
+    copies.add(of, number)
 }
 
 fn is_last(list: &[u32], number: u32) -> bool

@@ -1,13 +1,14 @@
 //! The copies and the chains of each node.
 
-ghost use Rattle.std.specs.Prelude.{◌≡◌, ◌<◌, true, nat_lt, map, IfErr, IfOk, OnOk};
+ghost use Rattle.std.specs.Prelude.{◌≡◌, ◌<◌, ◌&&◌, true, nat_lt, map, IfErr, IfOk, OnOk};
 ghost use Rattle.std.specs.List.{list_all};
-ghost use Rattle.ring_names.specs.declared.ids.NodeId.{NodeId as TheNode};
+ghost use Rattle.ring_table.specs.declared.allowance.NodeSide.{NodeSide as TheSide};
+ghost use Rattle.ring_table.specs.declared.allowance.Side.TheVariants.{Take, Give};
 ghost use Rattle.ring_names.specs.declared.refusal.Refusal.TheVariants.{OutOfMemory};
 ghost use Rattle.plan_text.specs.Valid.{Suits, is_ring_slot, source_suits, step_suits};
 ghost use Rattle.plan_stage.specs.Parties.{source_slots};
-ghost use Rattle.plan_cover.specs.Looking.Numbers.{kept_of, copies_of, with_last_if, IsCover};
-ghost use Rattle.plan_cover.specs.Looking.Serving.{serving_at, is_the_mirror, owns_some, is_party};
+ghost use Rattle.plan_cover.specs.Looking.Numbers.{copies_kept, copies_of, with_last_if, IsCover};
+ghost use Rattle.plan_cover.specs.Looking.Serving.{serving_at, is_the_mirror, owns_some, counts_at, is_party};
 
 use crate::chains::chains_of;
 use crate::copies::add_copy;
@@ -15,13 +16,13 @@ use crate::present::Present;
 use plan_cert::Cert;
 use plan_text::{Plan, Source, Step};
 use ring_names::{Lists, NodeId, Refusal, Slot};
-use ring_table::Ring;
+use ring_table::{NodeSide, Ring, Side};
 use std::alloc::Global;
 
-/// The copies in which each node takes part, and the chains of each node.
+/// The copies of each side of a node, and the chains of each node.
 #[derive(Drop)]
 pub struct Cover {
-    pub copies: Lists<NodeId, u32>,
+    pub copies: Lists<NodeSide, u32>,
     pub chains: Lists<NodeId, usize>,
 }
 
@@ -38,10 +39,10 @@ impl Cover {
     }
 }
 
-// The copies in which each node takes part.
-fn all_copies(alloc: Global, ring: &Ring, plan: &Plan) -> Result<Lists<NodeId, u32>, Refusal>
+// The copies of each side of a node.
+fn all_copies(alloc: Global, ring: &Ring, plan: &Plan) -> Result<Lists<NodeSide, u32>, Refusal>
     requires { Suits ring.now plan.now }
-    ensures ok { IfOk result (λ a. (x : TheNode) → kept_of a x ≡ copies_of ring.now plan.now x) }
+    ensures ok { IfOk result (λ a. (y : TheSide) → copies_kept a y ≡ copies_of ring.now plan.now y) }
     ensures memory { IfErr result (λ e. e ≡ OutOfMemory) }
 {
     let mut copies = Lists::new(alloc);
@@ -56,19 +57,19 @@ fn all_copies(alloc: Global, ring: &Ring, plan: &Plan) -> Result<Lists<NodeId, u
 
 // Gives the step to each node that takes part in it.
 fn add_parties(
-    copies: &mut Lists<NodeId, u32>,
+    copies: &mut Lists<NodeSide, u32>,
     present: &Present,
     ring: &Ring,
     step: &Step,
     number: u32,
 ) -> Result<(), Refusal>
     requires { step_suits ring.now step.now ≡ true }
-    ensures ok { OnOk result ((x : TheNode) → kept_of copies.new x ≡ with_last_if (is_party (serving_at ring.now present.now) step.now x) number (kept_of copies.old x)) }
+    ensures ok { OnOk result ((y : TheSide) → copies_kept copies.new y ≡ with_last_if (is_party ring.now (serving_at ring.now present.now) step.now y) number (copies_kept copies.old y)) }
     ensures memory { IfErr result (λ e. e ≡ OutOfMemory) }
 {
     match step {
         Step::Copy(slot, source) => {
-            add_mirror(copies, present.at(ring, *slot).mirror, number)?;
+            add_mirror(copies, ring, present.at(ring, *slot).mirror, number)?;
             add_sources(copies, present, ring, *slot, source, number)
         }
         Step::Join(_) | Step::Mirror(_, _) | Step::Switch(_) | Step::Drop(_, _) | Step::Retire(_) =>
@@ -77,22 +78,23 @@ fn add_parties(
 }
 
 fn add_mirror(
-    copies: &mut Lists<NodeId, u32>,
+    copies: &mut Lists<NodeSide, u32>,
+    ring: &Ring,
     mirror: Option<NodeId>,
     number: u32,
 ) -> Result<(), Refusal>
-    ensures ok { OnOk result ((x : TheNode) → kept_of copies.new x ≡ with_last_if (is_the_mirror mirror x) number (kept_of copies.old x)) }
+    ensures ok { OnOk result ((y : TheSide) → copies_kept copies.new y ≡ with_last_if (counts_at ring.now Take y && is_the_mirror mirror y.node) number (copies_kept copies.old y)) }
     ensures memory { IfErr result (λ e. e ≡ OutOfMemory) }
 {
     match mirror {
-        Some(node) => add_copy(copies, node, number),
+        Some(node) => add_copy(copies, ring, node, Side::Take, number),
         None => Ok(()),
     }
 }
 
 // Gives the copy to the owners of the slots from which it reads.
 fn add_sources(
-    copies: &mut Lists<NodeId, u32>,
+    copies: &mut Lists<NodeSide, u32>,
     present: &Present,
     ring: &Ring,
     slot: Slot,
@@ -101,11 +103,14 @@ fn add_sources(
 ) -> Result<(), Refusal>
     requires slot { is_ring_slot ring.now slot ≡ true }
     requires source { source_suits ring.now source.now ≡ true }
-    ensures ok { OnOk result ((x : TheNode) → kept_of copies.new x ≡ with_last_if (owns_some (serving_at ring.now present.now) (source_slots slot source.now) x) number (kept_of copies.old x)) }
+    ensures ok { OnOk result ((y : TheSide) → copies_kept copies.new y ≡ with_last_if (counts_at ring.now Give y && owns_some (serving_at ring.now present.now) (source_slots slot source.now) y.node) number (copies_kept copies.old y)) }
     ensures memory { IfErr result (λ e. e ≡ OutOfMemory) }
 {
     match source {
-        Source::Owner => add_copy(copies, present.at(ring, slot).owner, number),
+        Source::Owner => {
+            let owner = present.at(ring, slot).owner;
+            add_copy(copies, ring, owner, Side::Give, number)
+        }
         Source::Slots(from) => {
             add_owners(
                 copies,
@@ -121,7 +126,7 @@ fn add_sources(
 
 // Gives the copy to the owners of the listed slots.
 fn add_owners(
-    copies: &mut Lists<NodeId, u32>,
+    copies: &mut Lists<NodeSide, u32>,
     present: &Present,
     ring: &Ring,
     partition: u32,
@@ -130,7 +135,7 @@ fn add_owners(
 ) -> Result<(), Refusal>
     requires partition { partition < ring.now.q }
     requires from { list_all (λ i. nat_lt i ring.now.n) from.now ≡ true }
-    ensures ok { OnOk result ((x : TheNode) → kept_of copies.new x ≡ with_last_if (owns_some (serving_at ring.now present.now) (map (λ i. record { partition = partition; index = i }) from.now) x) number (kept_of copies.old x)) }
+    ensures ok { OnOk result ((y : TheSide) → copies_kept copies.new y ≡ with_last_if (counts_at ring.now Give y && owns_some (serving_at ring.now present.now) (map (λ i. record { partition = partition; index = i }) from.now) y.node) number (copies_kept copies.old y)) }
     ensures memory { IfErr result (λ e. e ≡ OutOfMemory) }
 {
     let mut rest = from;
@@ -139,7 +144,8 @@ fn add_owners(
             partition,
             index: *first,
         };
-        add_copy(copies, present.at(ring, slot).owner, number)?;
+        let owner = present.at(ring, slot).owner;
+        add_copy(copies, ring, owner, Side::Give, number)?;
         rest = later;
     }
     Ok(())

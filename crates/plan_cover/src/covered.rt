@@ -1,53 +1,76 @@
 //! Whether the chains of a node cover its copies.
 
-ghost use Rattle.std.specs.Prelude.{◌≡◌, ◌||◌, ℕ, map, IfErr, IfOk, OnOk};
+ghost use Rattle.std.specs.Prelude.{◌≡◌, ◌||◌, ◌∷◌, [], ℕ, map, IfErr, IfOk, OnOk};
 ghost use Rattle.std.specs.BTreeSet.{contains};
 ghost use Rattle.std.specs.Ordering.{nat_cmp};
 ghost use Rattle.ring_names.specs.Lists.{has};
 ghost use Rattle.ring_names.specs.declared.refusal.Refusal.TheVariants.{CoverMissing, OutOfMemory};
 ghost use Rattle.plan_stage.specs.Clauses.{Gives};
 ghost use Rattle.plan_cover.specs.Clauses.{in_some};
-ghost use Rattle.plan_cover.specs.Looking.Guards.{steps_at, chains_at, copy_guard};
+ghost use Rattle.plan_cover.specs.Looking.Guards.{chains_at, copy_guard};
+ghost use Rattle.ring_table.specs.Value.{is_side};
 
+use crate::linked::side_at;
 use plan_cert::Chains;
 use ring_names::{NodeId, Refusal};
+use ring_table::{NodeSide, Side};
 use std::alloc::Global;
 use std::collections::BTreeSet;
 
-/// Tests the copies of a node: each must be in one of its chains, which have these numbers. The author of a certificate chooses
-/// the steps, so they are kept in order and not by a hash.
+/// Tests the copies of a side of a node: each must be in one of its chains of that side, which are among those of these numbers. The
+/// author of a certificate chooses the steps, so they are kept in order and not by a hash.
 pub fn check_copies(
     alloc: Global,
     chains: &Chains,
     numbers: &[usize],
     copies: &[u32],
-    node: NodeId,
+    of: NodeSide,
 ) -> Result<(), Refusal>
-    ensures { Gives result (map (copy_guard (chains_at chains.now numbers.now) node) copies.now) }
+    ensures { Gives result (map (copy_guard (chains_at chains.now of.side numbers.now) of.node) copies.now) }
 {
-    let covered = steps_of(alloc, chains, numbers)?;
-    check_covered(&covered, copies, node)
+    if copies.is_empty() {
+        return Ok(());
+    }
+    let covered = steps_of(alloc, chains, of.side, numbers)?;
+    check_covered(&covered, copies, of.node)
 }
 
-// The steps of the chains of these numbers.
-fn steps_of(alloc: Global, chains: &Chains, numbers: &[usize]) -> Result<BTreeSet<u32>, Refusal>
-    ensures ok { IfOk result (λ s. (n : ℕ) → contains nat_cmp s n ≡ in_some n (chains_at chains.now numbers.now)) }
+// Whether the two sides are one.
+pub fn is_side(first: Side, second: Side) -> bool
+    ensures { result ≡ is_side first second }
+{
+    first == second
+}
+
+// The steps of those of the chains of these numbers that are of the side.
+fn steps_of(
+    alloc: Global,
+    chains: &Chains,
+    side: Side,
+    numbers: &[usize],
+) -> Result<BTreeSet<u32>, Refusal>
+    ensures ok { IfOk result (λ s. (n : ℕ) → contains nat_cmp s n ≡ in_some n (chains_at chains.now side numbers.now)) }
     ensures memory { IfErr result (λ e. e ≡ OutOfMemory) }
 {
     let mut covered = BTreeSet::new(alloc);
     let mut rest = numbers;
     'chains: while let Some((first, later)) = rest.split_first() {
-        add_chain(&mut covered, chains, *first)?;
+        add_chain(&mut covered, chains, side, *first)?;
         rest = later;
     }
     Ok(covered)
 }
 
-fn add_chain(covered: &mut BTreeSet<u32>, chains: &Chains, number: usize) -> Result<(), Refusal>
-    ensures ok { OnOk result ((n : ℕ) → contains nat_cmp covered.new n ≡ (has n (steps_at chains.now number) || contains nat_cmp covered.old n)) }
+fn add_chain(
+    covered: &mut BTreeSet<u32>,
+    chains: &Chains,
+    side: Side,
+    number: usize,
+) -> Result<(), Refusal>
+    ensures ok { OnOk result ((n : ℕ) → contains nat_cmp covered.new n ≡ (in_some n (chains_at chains.now side (number ∷ [])) || contains nat_cmp covered.old n)) }
     ensures memory { IfErr result (λ e. e ≡ OutOfMemory) }
 {
-    if number >= chains.len() {
+    if number >= chains.len() || !is_side(side, side_at(chains, number)) {
         return Ok(());
     }
     add_steps(covered, chains.steps(number))

@@ -5,25 +5,29 @@ ghost use Rattle.ring_names.specs.Lists.{has};
 ghost use Rattle.ring_text.specs.Numbers.{ascending};
 ghost use Rattle.plan_order.specs.Order.{order};
 ghost use Rattle.plan_stage.specs.Clauses.{Gives};
-ghost use Rattle.plan_cover.specs.Looking.Guards.{leads_on, is_linked_in, steps_at, chain_guard};
+ghost use Rattle.plan_cover.specs.Looking.Guards.{leads_on, is_linked_in, steps_at, side_at, chain_guard};
+ghost use Rattle.plan_cover.specs.Looking.Numbers.{sides_kept, AreAscending};
 
 use plan_cert::Chains;
 use plan_order::Context;
-use ring_names::Refusal;
+use ring_names::{Lists, NodeId, Refusal};
+use ring_table::{NodeSide, Side};
 
-/// Tests the chains of these numbers. Each step must be one of the copies, and come before the next.
+/// Tests the chains of the node, which have these numbers. Each must be of a side that the node has, and each of its steps one of the
+/// copies of that side, and come before the next.
 pub fn check_chains(
     context: &Context,
+    copies: &Lists<NodeSide, u32>,
     chains: &Chains,
     numbers: &[usize],
-    copies: &[u32],
+    node: NodeId,
 ) -> Result<(), Refusal>
-    requires { ascending copies.now ≡ true }
-    ensures { Gives result (map (chain_guard copies.now (order context.now) chains.now) numbers.now) }
+    requires { AreAscending copies.now }
+    ensures { Gives result (map (chain_guard context.now.ring.now node (sides_kept copies.now node) (order context.now) chains.now) numbers.now) }
 {
     let mut rest = numbers;
     'chains: while let Some((first, later)) = rest.split_first() {
-        if !is_linked_at(context, chains, *first, copies) {
+        if !is_good_at(context, copies, chains, *first, node) {
             return Err(Refusal::ChainBroken(number_of(*first)));
         }
         rest = later;
@@ -36,6 +40,34 @@ fn number_of(place: usize) -> u32
     ensures { result ≡ min place 4294967295 }
 {
     place.min(4294967295) as u32
+}
+
+// The side of the chain of that number.
+pub fn side_at(chains: &Chains, number: usize) -> Side
+    ensures { result ≡ side_at chains.now number }
+{
+    if number < chains.len() {
+        chains.of(number).side
+    } else {
+        Side::Both
+    }
+}
+
+fn is_good_at(
+    context: &Context,
+    copies: &Lists<NodeSide, u32>,
+    chains: &Chains,
+    number: usize,
+    node: NodeId,
+) -> bool
+    requires { AreAscending copies.now }
+    ensures { result ≡ (chain_guard context.now.ring.now node (sides_kept copies.now node) (order context.now) chains.now number).0 }
+{
+    let of = NodeSide {
+        node,
+        side: side_at(chains, number),
+    };
+    context.ring.allowance(of).is_some() && is_linked_at(context, chains, number, copies.items(&of))
 }
 
 fn is_linked_at(context: &Context, chains: &Chains, number: usize, copies: &[u32]) -> bool

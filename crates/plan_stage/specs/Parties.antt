@@ -2,6 +2,8 @@
 use Rattle.std.specs.Prelude.{ℕ, ◌+◌, nat_lt, List, [], ◌∷◌, map, Option, Some, None, slice_get, if◌then◌else◌}
 use Rattle.ring_names.specs.declared.ids.NodeId.{NodeId}
 use Rattle.ring_names.specs.declared.ids.Slot.{Slot}
+use Rattle.ring_table.specs.declared.allowance.Side.{Side}
+use Rattle.ring_table.specs.declared.allowance.Side.TheVariants.{Both, Take, Give}
 use Rattle.ring_table.specs.Value.{RingValue}
 use Rattle.plan_text.specs.declared.step.Source.{Source}
 use Rattle.plan_text.specs.declared.step.Source.TheVariants.{Owner, Slots}
@@ -43,9 +45,23 @@ abbrev pub with_target : Option NodeId → List NodeId → List NodeId
 with_target None xs = xs
 with_target (Some x) xs = with_node x xs
 
--- the nodes of step n, by number
-abbrev pub parties : RingValue → List Planned → ℕ → List NodeId
-parties ring plan n = elim (slice_get plan n) [
-  | Some step ↦ with_target (target_of ring plan n step.step) (sources_of ring plan n step.step)
+-- of the mirror and the others those whose side it is: both, the one that receives, or those that are read
+abbrev pub on_side : Side → Option NodeId → List NodeId → List NodeId
+on_side Both target sources = with_target target sources
+on_side Take target sources = with_target target []
+on_side Give target sources = sources
+
+-- the nodes that take part in step n on that side, by number
+abbrev pub parties_on : RingValue → List Planned → Side → ℕ → List NodeId
+parties_on ring plan side n = elim (slice_get plan n) [
+  | Some step ↦ on_side side (target_of ring plan n step.step) (sources_of ring plan n step.step)
   | None ↦ []
 ]
+
+-- the nodes of step n, by number
+abbrev pub parties : RingValue → List Planned → ℕ → List NodeId
+parties ring plan n = parties_on ring plan Both n
+
+-- those of them that own a slot which it reads
+abbrev pub sources : RingValue → List Planned → ℕ → List NodeId
+sources ring plan n = parties_on ring plan Give n

@@ -19,5 +19,5 @@ mod walk;
 
 pub use check::{check_partition, stage_at};
 pub use joined::{has_joined, has_joined_by};
-pub use party::parties;
+pub use party::{parties, sources};
 pub use stage::Stage;

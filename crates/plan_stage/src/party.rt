@@ -5,7 +5,7 @@ ghost use Rattle.std.specs.List.{list_all};
 ghost use Rattle.ring_names.specs.declared.refusal.Refusal.TheVariants.{OutOfMemory};
 ghost use Rattle.plan_text.specs.Steps.{steps_of};
 ghost use Rattle.plan_text.specs.Valid.{Suits, source_suits};
-ghost use Rattle.plan_stage.specs.Parties.{count_below, stage_before, source_slots, owners_before, with_target, parties};
+ghost use Rattle.plan_stage.specs.Parties.{count_below, stage_before, source_slots, owners_before, with_target, on_side, parties_on, parties, sources};
 ghost use Rattle.plan_stage.specs.Stage.{with_node};
 
 use crate::check::stage_at;
@@ -13,7 +13,7 @@ use crate::leftovers::listed;
 use crate::stage::Stage;
 use plan_text::{Plan, Source, Step};
 use ring_names::{Listed, NodeId, Refusal, Slot};
-use ring_table::Ring;
+use ring_table::{Ring, Side};
 use std::alloc::Global;
 use std::collections::BTreeSet;
 
@@ -29,22 +29,52 @@ pub fn parties(
     ensures ok { IfOk result (λ list. list ≡ parties ring.now plan.now step) }
     ensures memory { IfErr result (λ e. e ≡ OutOfMemory) }
 {
+    parties_on(alloc, ring, plan, Side::Both, step)
+}
+
+/// The nodes from which a copy reads, by number: the owners of its source slots just before it. None where the step is no copy.
+pub fn sources(
+    alloc: Global,
+    ring: &Ring,
+    plan: &Plan,
+    step: u32,
+) -> Result<Listed<NodeId>, Refusal>
+    requires suits { Suits ring.now plan.now }
+    ensures ok { IfOk result (λ list. list ≡ sources ring.now plan.now step) }
+    ensures memory { IfErr result (λ e. e ≡ OutOfMemory) }
+{
+    parties_on(alloc, ring, plan, Side::Give, step)
+}
+
+// The nodes that take part in a copy on that side, by number. None where the step is no copy.
+fn parties_on(
+    alloc: Global,
+    ring: &Ring,
+    plan: &Plan,
+    side: Side,
+    step: u32,
+) -> Result<Listed<NodeId>, Refusal>
+    requires suits { Suits ring.now plan.now }
+    ensures ok { IfOk result (λ list. list ≡ parties_on ring.now plan.now side step) }
+    ensures memory { IfErr result (λ e. e ≡ OutOfMemory) }
+{
     let no_one = Listed::from_vec(Vec::new(alloc));
     if step >= plan.len() {
         return Ok(no_one);
     }
     match plan.step(step) {
-        Step::Copy(slot, source) => copy_parties(alloc, ring, plan, step, *slot, source),
+        Step::Copy(slot, source) => copy_parties(alloc, ring, plan, side, step, *slot, source),
         Step::Join(_) | Step::Mirror(_, _) | Step::Switch(_) | Step::Drop(_, _) | Step::Retire(_) =>
             Ok(no_one),
     }
 }
 
-// The owners of the source slots of the step that copies the slot, and the slot's mirror.
+// The nodes of the step that copies the slot.
 fn copy_parties(
     alloc: Global,
     ring: &Ring,
     plan: &Plan,
+    side: Side,
     step: u32,
     slot: Slot,
     source: &Source,
@@ -52,15 +82,33 @@ fn copy_parties(
     requires partition { slot.partition < ring.now.q }
     requires index { slot.index < ring.now.n }
     requires suits { source_suits ring.now source.now ≡ true }
-    ensures ok { IfOk result (λ list. list ≡ with_target (stage_before ring.now plan.now slot step).mirror (owners_before ring.now plan.now step (source_slots slot source.now))) }
+    ensures ok { IfOk result (λ list. list ≡ on_side side (stage_before ring.now plan.now slot step).mirror (owners_before ring.now plan.now step (source_slots slot source.now))) }
     ensures memory { IfErr result (λ e. e ≡ OutOfMemory) }
 {
-    let mut party = owners_before(alloc, ring, plan, step, slot, source)?;
-    let stage = stage_before(alloc, ring, plan, step, slot)?;
-    if let Some(target) = stage.mirror {
-        add_node(&mut party, target)?;
-    }
+    let mirror = stage_before(alloc, ring, plan, step, slot)?.mirror;
+    let party = match side {
+        Side::Both => {
+            let owners = owners_before(alloc, ring, plan, step, slot, source)?;
+            with_target(owners, mirror)?
+        }
+        Side::Take => with_target(BTreeSet::new(alloc), mirror)?,
+        Side::Give => owners_before(alloc, ring, plan, step, slot, source)?,
+    };
     Ok(Listed::from_vec(listed(alloc, &party)?))
+}
+
+// These nodes, and the mirror with them.
+fn with_target(
+    mut party: BTreeSet<NodeId>,
+    target: Option<NodeId>,
+) -> Result<BTreeSet<NodeId>, Refusal>
+    ensures ok { IfOk result (λ all. all.keys ≡ with_target target party.keys) }
+    ensures memory { IfErr result (λ e. e ≡ OutOfMemory) }
+{
+    if let Some(node) = target {
+        add_node(&mut party, node)?;
+    }
+    Ok(party)
 }
 
 // The owners of the slots from which the step copies, just before it.

@@ -170,7 +170,7 @@ module _ (ring : RingValue) where
   steps_on u = then_part (steps_at ring) last
 
   -- behind the first line: a place among the steps
-  pub plan-steps : (s t : Left) (u : Unit {0}) → one_line (header_at (codes "plan")) s ≡ Ok (u, t) → (k : ℕ) → ReadsTo k (steps_at ring t) → ReadsTo k (plan_at ring s)
+  pub plan-steps : (s t : Left) (u : Unit {0}) → one_line (header_at (codes "plan") (codes "1")) s ≡ Ok (u, t) → (k : ℕ) → ReadsTo k (steps_at ring t) → ReadsTo k (plan_at ring s)
   unfolding plan_at
-  plan-steps s t u start k p = to-map (λ (x : Unit {0} × (List Planned × Unit {0})). x.1.0) (then_part (one_line (header_at (codes "plan"))) steps_on) k s
-      (to-second (one_line (header_at (codes "plan"))) steps_on k s t u start (to-first (steps_at ring) last k t (λ steps. advances-line end_line_at end-at) p))
+  plan-steps s t u start k p = to-map (λ (x : Unit {0} × (List Planned × Unit {0})). x.1.0) (then_part (one_line (header_at (codes "plan") (codes "1"))) steps_on) k s
+      (to-second (one_line (header_at (codes "plan") (codes "1"))) steps_on k s t u start (to-first (steps_at ring) last k t (λ steps. advances-line end_line_at end-at) p))

@@ -161,6 +161,6 @@ module _ (ring : RingValue) (q : ring.q ≤ 4096) (n : ring.n ≤ 7) (good : Are
   unfolding plan_at
   plan-part =
       let body = IsPart-then {A = List Planned} {B = Unit {0}} IsEnd Any (steps_at ring) (λ _. one_line end_line_at) (λ xs. map (step_fields (names_of ring)) xs) (λ _ x. end_fields ∷ []) (AreNext ring []) (λ _ x. Unit {0}) steps-part (λ a p. IsPart-line end_line_at (λ x. end_fields) Nothing end-line) (λ a b x xs p p2 d. refl) in
-      let all = IsPart-then {A = Unit {0}} {B = List Planned × Unit {0}} Any Any (one_line (header_at (codes "plan"))) _ (λ x. header_fields (codes "plan") ∷ []) _ Nothing _ (IsPart-line (header_at (codes "plan")) (λ x. header_fields (codes "plan")) Nothing (header-line (codes "plan"))) (λ x p. body) (λ a b x xs p p2 d. tt) in
+      let all = IsPart-then {A = Unit {0}} {B = List Planned × Unit {0}} Any Any (one_line (header_at (codes "plan") (codes "1"))) _ (λ x. header_fields (codes "plan") (codes "1") ∷ []) _ Nothing _ (IsPart-line (header_at (codes "plan") (codes "1")) (λ x. header_fields (codes "plan") (codes "1")) Nothing (header-line (codes "plan") (codes "1"))) (λ x p. body) (λ a b x xs p p2 d. tt) in
       let made = IsPart-map {A = Unit {0} × (List Planned × Unit {0})} {B = List Planned} Any _ _ _ (λ x. x.1.0) (λ v. (tt, (v, tt))) (λ a. refl) (λ b. refl) all in
       IsPart-as Any _ _ _ _ _ (λ v. refl) (λ v p. p.1.0) (λ v p. (tt, (p, tt))) made

@@ -29,7 +29,7 @@ use Rattle.plan_text.proofs.PlanLaws.{said_of, AreNext, plan-part}
 use Rattle.plan_text.proofs.SuitLaws.{plan-of-next, next-of}
 
 pub names-of : (ring : RingValue) → IsRing ring → AreNames (names_of ring)
-names-of ring r = names-of_nodes ring.nodes (record { some_node = r.some_node; nodes = r.nodes; each_node = r.each_node; names = r.names })
+names-of ring r = names-of_nodes ring.format ring.nodes (record { some_node = r.some_node; nodes = r.nodes; each_node = r.each_node; names = r.names })
 
 -- ---- the lines of a plan are plain
 

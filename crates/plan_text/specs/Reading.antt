@@ -117,7 +117,7 @@ steps_at ring s = steps_from ring [] s.line s.lines
 -- the lines of a plan, one part behind the other
 unfoldable pub plan_at : RingValue → Left → Result (List Planned × Left) Refusal
 plan_at ring = map_part (λ (x : Unit {0} × (List Planned × Unit {0})). x.1.0)
-    (then_part (one_line (header_at (codes "plan"))) (λ _.
+    (then_part (one_line (header_at (codes "plan") (codes "1"))) (λ _.
     then_part (steps_at ring) (λ _.
     one_line end_line_at)))
 

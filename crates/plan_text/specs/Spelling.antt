@@ -41,7 +41,7 @@ step_fields names x = kind_fields names x.step ++ after_fields x.after
 
 -- the lines of a plan
 abbrev pub plan_lines : RingValue → List Planned → List (List (List ℕ))
-plan_lines ring plan = header_fields (codes "plan") ∷ (map (step_fields (names_of ring)) plan ++ end_fields ∷ [])
+plan_lines ring plan = header_fields (codes "plan") (codes "1") ∷ (map (step_fields (names_of ring)) plan ++ end_fields ∷ [])
 
 -- its text
 abbrev pub plan_text : RingValue → List Planned → List ℕ

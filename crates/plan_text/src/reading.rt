@@ -86,7 +86,7 @@ fn read_parts(alloc: Global, ring: &Ring, lines: &mut Lines) -> Result<Plan, Ref
     ensures read { Reads result lines.new (plan_at ring.now lines.old) }
     ensures late { Late 2 result lines.old lines.new (plan_at ring.now lines.old) }
 {
-    header(lines, b"plan")?;
+    header(lines, b"plan", b"1")?;
     let plan = read_steps(alloc, ring, lines)?;
     end(lines)?;
     Ok(plan)

@@ -7,7 +7,7 @@ use Rattle.ring_names.specs.declared.refusal.Refusal.TheVariants.{BadLine, TooLa
 use Rattle.ring_names.specs.declared.refusal.Refusal.TheVariants.{LaterDependency, WrongStage, UnorderedSlot, BadSource, MovingSource, SharedInPlan}
 use Rattle.ring_names.specs.declared.refusal.Refusal.TheVariants.{NotJoined, RetiredInUse, NoPlan, BadPath, CoverMissing, ChainBroken, TooManyChains}
 use Rattle.ring_names.specs.declared.refusal.Refusal.TheVariants.{NotReady, AlreadyDone, NodeDown, KeeperTaken, KeeperInPartition, StaleTickets}
-use Rattle.ring_names.specs.declared.refusal.Refusal.TheVariants.{TooFewSlots, UnknownNumber, HintsLeft, NotOpen, ChunksLeft, HistoryFull, OutOfMemory}
+use Rattle.ring_names.specs.declared.refusal.Refusal.TheVariants.{TooFewSlots, UnknownNumber, HintsLeft, NotOpen, ChunksLeft, HistoryFull, LossesSpent, OutOfMemory}
 use Rattle.ring_names.specs.declared.refusal.Refusal.TheVariants.{ReadFailed, WriteFailed, Mismatch, Disagree, TurnsSpent}
 
 -- the number by which formats and programs know the refusal
@@ -44,6 +44,7 @@ number_of HintsLeft = 48
 number_of NotOpen = 49
 number_of (ChunksLeft a) = 50
 number_of HistoryFull = 51
+number_of LossesSpent = 52
 number_of OutOfMemory = 60
 number_of ReadFailed = 61
 number_of WriteFailed = 62
@@ -85,6 +86,7 @@ values_of HintsLeft = []
 values_of NotOpen = []
 values_of (ChunksLeft a) = a ∷ []
 values_of HistoryFull = []
+values_of LossesSpent = []
 values_of OutOfMemory = []
 values_of ReadFailed = []
 values_of WriteFailed = []

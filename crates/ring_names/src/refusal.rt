@@ -21,7 +21,7 @@ pub enum Refusal {
     UnknownNode(u32),
     /// 4 (line): declared, joined, retired or named twice.
     Repeated(u32),
-    /// 10 (line): not 1 <= R <= N, 1 <= W <= N and R + W > N.
+    /// 10 (line): not 1 <= R <= N, 1 <= W <= N and R + W > N + f, where f stores may be lost.
     QuorumTooSmall(u32),
     /// 11 (line): one owner twice in a partition.
     SharedNode(u32),
@@ -51,7 +51,7 @@ pub enum Refusal {
     CoverMissing(u32, u32),
     /// 33 (chain): a link is not ordered, or an entry is no copy in which the node takes part.
     ChainBroken(u32),
-    /// 34 (node): more chains than the allowance.
+    /// 34 (node): more chains than the allowance, of one of its sides where it has two.
     TooManyChains(u32),
     /// 40: a dependency is not done, or a named get has not ended.
     NotReady,
@@ -77,6 +77,8 @@ pub enum Refusal {
     ChunksLeft(u32),
     /// 51: the history has 1,000,000 entries.
     HistoryFull,
+    /// 52: as many stores were lost already as the ring allows.
+    LossesSpent,
     /// 60: a growth was refused.
     OutOfMemory,
     /// 61: the input failed.
@@ -129,6 +131,7 @@ impl Refusal {
             Refusal::NotOpen => 49,
             Refusal::ChunksLeft(_) => 50,
             Refusal::HistoryFull => 51,
+            Refusal::LossesSpent => 52,
             Refusal::OutOfMemory => 60,
             Refusal::ReadFailed => 61,
             Refusal::WriteFailed => 62,
@@ -200,6 +203,7 @@ impl Refusal {
             Refusal::NotOpen => "the copy is not open",
             Refusal::ChunksLeft(_) => "chunks of the copy are not marked",
             Refusal::HistoryFull => "the history is full",
+            Refusal::LossesSpent => "as many stores were lost as the ring allows",
             Refusal::OutOfMemory => "out of memory",
             Refusal::ReadFailed => "the input could not be read",
             Refusal::WriteFailed => "the output could not be written",
@@ -246,6 +250,7 @@ impl Refusal {
             | Refusal::HintsLeft
             | Refusal::NotOpen
             | Refusal::HistoryFull
+            | Refusal::LossesSpent
             | Refusal::OutOfMemory
             | Refusal::ReadFailed
             | Refusal::WriteFailed

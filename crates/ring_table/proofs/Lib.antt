@@ -1,4 +1,5 @@
 pub mod NodeLines
+pub mod QuorumLines
 pub mod LineLaws
 pub mod RowLaws
 pub mod NodesLaws

@@ -1,5 +1,5 @@
 -- Reading a ring does not go back, and each of its faults is at a line that was reached.
-use Rattle.std.proofs.Common.{◌≡◌, ℕ, zero, suc, ◌+◌, ◌-◌, ◌<◌, ◌≤◌, Bool, true, false, cond, not, nat_lt, List, [], ◌∷◌, ◌++◌, length, map, codes, Option, Some, None, Result, Ok, Err, refl, arith}
+use Rattle.std.proofs.Common.{◌≡◌, ℕ, zero, suc, ◌+◌, ◌-◌, ◌<◌, ◌≤◌, Bool, true, false, cond, not, ◌&&◌, nat_lt, nat_le, List, [], ◌∷◌, ◌++◌, length, map, codes, Option, Some, None, Result, Ok, Err, refl, arith}
 use Rattle.std.specs.Prelude.{is_some}
 use Rattle.std.specs.Str.{bytes_eq}
 use Rattle.std.specs.Fmt.{decimal}
@@ -11,8 +11,9 @@ use Rattle.ring_names.specs.declared.refusal.Refusal.{Refusal}
 use Rattle.ring_names.specs.declared.refusal.Refusal.TheVariants.{BadLine, UnknownNode, Repeated, QuorumTooSmall, SharedNode, NotMember}
 use Rattle.ring_text.specs.Name.{is_name}
 use Rattle.ring_text.specs.Number.{decimal_value}
-use Rattle.ring_text.specs.Judging.{field_at, limited, unless}
-use Rattle.ring_text.specs.Left.{Left, ◌>>=◌, next_number, next_line, one_line, then_part, many_from}
+use Rattle.ring_text.specs.Numbers.{first_value}
+use Rattle.ring_text.specs.Judging.{field_at, number_at, limited, map_item, unless}
+use Rattle.ring_text.specs.Left.{Left, ◌>>=◌, is_word, next_number, next_line, one_line, then_part, many_from}
 use Rattle.ring_text.specs.Frames.{end_line_at}
 use Rattle.ring_text.specs.Late.{ReadsTo}
 use Rattle.ring_text.proofs.Lates.{At, at-map, at-bind, at-if, at-unless, at-limited, at-whole, Judges, judges-⊗, judges-map, judges-field, judges-word, judges-number, judges-need, Advances, advances-line, advances-then, advances-map, to-first, to-second, to-map, many-on, next-line, next-monotone}
@@ -23,7 +24,7 @@ use Rattle.ring_table.specs.declared.node.Node.{Node}
 use Rattle.ring_table.specs.Value.{RingValue, names_of, is_member}
 use Rattle.ring_names.specs.Space.{is_space}
 use Rattle.ring_table.specs.Valid.{is_quorum}
-use Rattle.ring_table.specs.Reading.{space_at, quorum_at, judge_new, above_zero, judge_allowance, judge_membership, node_at, nodes_at, judge_declared, declared_at, owners_at, row_at, rows_at, head_at, body_at, ring_of, ring_at}
+use Rattle.ring_table.specs.Reading.{judge_format, format_at, space_at, loss_at, quorum_at, judge_new, above_zero, judge_most, second_at, made, allowance_at, judge_membership, node_at, nodes_at, judge_declared, declared_at, owners_at, row_at, rows_at, head_at, body_at, ring_of, ring_at}
 use Rattle.ring_table.proofs.RowLaws.{behind, rows-goes_on}
 
 -- ---- lines
@@ -32,12 +33,27 @@ pub space-at : (k : ℕ) (fields : List (List ℕ)) → At k (space_at k fields)
 unfolding space_at
 space-at k fields = at-bind k _ _ (at-whole k _ (judges-⊗ k _ _ (judges-word k (codes "space")) (judges-number k 4096)) fields) (λ x. at-unless k ((not (is_space x.1), BadLine k) ∷ []) x.1 (refl, tt))
 
-pub quorum-at : (k : ℕ) (fields : List (List ℕ)) → At k (quorum_at k fields)
+format-judged : (k : ℕ) (field : List ℕ) → At k (judge_format k field)
+format-judged k field = at-if k (bytes_eq field (codes "1")) (Ok 1) _ tt (at-if k (bytes_eq field (codes "2")) (Ok 2) _ tt (at-if k (bytes_eq field (codes "3")) (Ok 3) (Err (BadLine k)) tt refl))
+
+pub format-at : (k : ℕ) (fields : List (List ℕ)) → At k (format_at k fields)
+unfolding format_at
+format-at k fields = at-map k _ _ (at-whole k _ (judges-⊗ k _ _ (judges-word k (codes "ring")) (judges-field k (judge_format k) (format-judged k))) fields)
+
+judges-loss : (format k : ℕ) → Judges k (loss_at format k)
+unfolding loss_at
+judges-loss format k = record { at = λ fields. by fields (nat_lt format 3) }
+  where
+    by : (fields : List (List ℕ)) (b : Bool) → At k (cond b (Ok 0, fields) (number_at k 6 fields)).0
+    by fields true = tt
+    by fields false = (judges-number k 6).at fields
+
+pub quorum-at : (format k : ℕ) (fields : List (List ℕ)) → At k (quorum_at format k fields)
 unfolding quorum_at
-quorum-at k fields =
+quorum-at format k fields =
     let number = judges-number k 7 in
-    at-bind k _ _ (at-whole k _ (judges-⊗ k _ _ (judges-⊗ k _ _ (judges-⊗ k _ _ (judges-word k (codes "quorum")) number) number) number) fields)
-    (λ x. at-unless {A = Quorum} k ((not (is_quorum x.0.0.1 x.0.1 x.1), QuorumTooSmall k) ∷ []) (record { n = x.0.0.1; r = x.0.1; w = x.1 }) (refl, tt))
+    at-bind k _ _ (at-whole k _ (judges-⊗ k _ _ (judges-⊗ k _ _ (judges-⊗ k _ _ (judges-⊗ k _ _ (judges-word k (codes "quorum")) number) number) number) (judges-loss format k)) fields)
+    (λ x. at-unless {A = Quorum} k ((not (is_quorum x.0.0.0.1 x.0.0.1 x.0.1 x.1), QuorumTooSmall k) ∷ []) (record { n = x.0.0.0.1; r = x.0.0.1; w = x.0.1; loss = x.1 }) (refl, tt))
 
 above-at : (k n : ℕ) → At k (above_zero k n)
 above-at k zero = refl
@@ -49,13 +65,28 @@ new-at k names field = at-if k (is_name field) _ (Err (BadLine k)) (at-if k (is_
 membership-at : (k : ℕ) (field : List ℕ) → At k (judge_membership k field)
 membership-at k field = at-if k (bytes_eq field (codes "in")) (Ok true) _ tt (at-if k (bytes_eq field (codes "out")) (Ok false) (Err (BadLine k)) tt refl)
 
-pub node-at : (seen : List Node) (k : ℕ) (fields : List (List ℕ)) → At k (node_at seen k fields)
+judges-most : (k : ℕ) → Judges k (field_at k (judge_most k))
+judges-most k = judges-field k (judge_most k) (λ f. at-bind k (limited k 64 (decimal_value f)) (above_zero k) (at-limited k 64 (decimal_value f)) (above-at k))
+
+judges-second : (format k : ℕ) → Judges k (second_at format k)
+unfolding second_at
+judges-second format k = record { at = λ fields. by fields (nat_le 2 format && is_some (first_value fields)) }
+  where
+    by : (fields : List (List ℕ)) (b : Bool) → At k (cond b (map_item Some (field_at k (judge_most k)) fields) (Ok None, fields)).0
+    by fields true = at-map k Some (field_at k (judge_most k) fields).0 ((judges-most k).at fields)
+    by fields false = tt
+
+judges-allowance : (format k : ℕ) → Judges k (allowance_at format k)
+unfolding allowance_at
+judges-allowance format k = judges-map k (λ x. made x.0 x.1) _ (judges-⊗ k _ _ (judges-most k) (judges-second format k))
+
+pub node-at : (format : ℕ) (seen : List Node) (k : ℕ) (fields : List (List ℕ)) → At k (node_at format seen k fields)
 unfolding node_at
-node-at seen k fields =
+node-at format seen k fields =
     let names = map (λ (y : Node). y.name) seen in
     let p1 = judges-⊗ k _ _ (judges-need k (nat_lt (length seen) 1024)) (judges-word k (codes "node")) in
     let p2 = judges-⊗ k _ _ p1 (judges-field k (judge_new k names) (new-at k names)) in
-    let p3 = judges-⊗ k _ _ p2 (judges-field k (judge_allowance k) (λ f. at-bind k (limited k 64 (decimal_value f)) (above_zero k) (at-limited k 64 (decimal_value f)) (above-at k))) in
+    let p3 = judges-⊗ k _ _ p2 (judges-allowance format k) in
     let p4 = judges-⊗ k _ _ p3 (judges-field k (judge_membership k) (membership-at k)) in
     at-map k _ _ (at-whole k _ p4 fields)
 
@@ -91,16 +122,16 @@ filled-on k x le = by (not (nat_lt 0 (length x.0)))
     by false = le
 
 -- a place among the node lines is one of the nodes
-pub nodes-to : (k : ℕ) (s : Left) → ReadsTo k (many_from (codes "node") node_at [] s.line s.lines) → ReadsTo k (nodes_at s)
+pub nodes-to : (format k : ℕ) (s : Left) → ReadsTo k (many_from (is_word (codes "node")) (node_at format) [] s.line s.lines) → ReadsTo k (nodes_at format s)
 unfolding nodes_at
-nodes-to k s p = by (many_from (codes "node") node_at [] s.line s.lines) p
+nodes-to format k s p = by (many_from (is_word (codes "node")) (node_at format) [] s.line s.lines) p
   where
     by : (r : Result (List Node × Left) Refusal) → ReadsTo k r → ReadsTo k (◌>>=◌ {B = List Node × Left} r (λ x. unless ((not (nat_lt 0 (length x.0)), BadLine x.1.line) ∷ []) x))
     by (Ok x) q = filled-on k x q
     by (Err e) q = q
 
-pub nodes-on : Advances nodes_at
-nodes-on = record { on = λ s. nodes-to s.line s (many-on (codes "node") node_at node-at [] s.line s.lines) }
+pub nodes-on : (format : ℕ) → Advances (nodes_at format)
+nodes-on format = record { on = λ s. nodes-to format s.line s (many-on (is_word (codes "node")) (node_at format) (node-at format) [] s.line s.lines) }
 
 pub rows-on : (nodes : List Node) (n p c : ℕ) → Advances (rows_at nodes n p c)
 unfolding rows_at
@@ -123,24 +154,24 @@ rows-late nodes n front p q start s t l row total lt e f le so_far =
 
 -- behind the head: a place among the nodes, or among the rows
 module _ (head : Head) (s : Left) where
-  abbrev made : List Node × (List (List NodeId) × Unit {0}) → List Node × List (List NodeId)
-  made x = (x.0, x.1.0)
+  abbrev joined : List Node × (List (List NodeId) × Unit {0}) → List Node × List (List NodeId)
+  joined x = (x.0, x.1.0)
 
   abbrev rest : Left → Result ((List Node × (List (List NodeId) × Unit {0})) × Left) Refusal
-  rest = then_part nodes_at (λ nodes. then_part (rows_at nodes head.quorum.n 0 head.q) (λ _. one_line end_line_at))
+  rest = then_part (nodes_at head.format) (λ nodes. then_part (rows_at nodes head.quorum.n 0 head.q) (λ _. one_line end_line_at))
 
-  pub body-nodes : (k : ℕ) → ReadsTo k (nodes_at s) → ReadsTo k (body_at head s)
+  pub body-nodes : (k : ℕ) → ReadsTo k (nodes_at head.format s) → ReadsTo k (body_at head s)
   unfolding body_at
-  body-nodes k p = to-map made rest k s (to-first nodes_at _ k s (λ nodes. advances-then _ _ (rows-on nodes head.quorum.n 0 head.q) (λ _. advances-line end_line_at end-at)) p)
+  body-nodes k p = to-map joined rest k s (to-first (nodes_at head.format) _ k s (λ nodes. advances-then _ _ (rows-on nodes head.quorum.n 0 head.q) (λ _. advances-line end_line_at end-at)) p)
 
-  pub body-rows : (k : ℕ) (t : Left) (nodes : List Node) → nodes_at s ≡ Ok (nodes, t) → (next_number t.line ≤ k) × ReadsTo k (rows_at nodes head.quorum.n 0 head.q t) → (next_number s.line ≤ k) × ReadsTo k (body_at head s)
+  pub body-rows : (k : ℕ) (t : Left) (nodes : List Node) → nodes_at head.format s ≡ Ok (nodes, t) → (next_number t.line ≤ k) × ReadsTo k (rows_at nodes head.quorum.n 0 head.q t) → (next_number s.line ≤ k) × ReadsTo k (body_at head s)
   unfolding body_at
   body-rows k t nodes e p =
-      let on : ReadsTo s.line (nodes_at s) = nodes-on.on s in
+      let on : ReadsTo s.line (nodes_at head.format s) = (nodes-on head.format).on s in
       let le : s.line ≤ t.line = rw e at on in
       let more = next-monotone s.line t.line le in
       let first = p.0 in
-      let to : ReadsTo k (body_at head s) = to-map made rest k s (to-second nodes_at _ k s t nodes e (to-first (rows_at nodes head.quorum.n 0 head.q) _ k t (λ _. advances-line end_line_at end-at) p.1)) in
+      let to : ReadsTo k (body_at head s) = to-map joined rest k s (to-second (nodes_at head.format) _ k s t nodes e (to-first (rows_at nodes head.quorum.n 0 head.q) _ k t (λ _. advances-line end_line_at end-at) p.1)) in
       (omega arith, to)
 
 pub ring-body : (k : ℕ) (s t : Left) (head : Head) → head_at s ≡ Ok (head, t) → ReadsTo k (body_at head t) → ReadsTo k (ring_at s)

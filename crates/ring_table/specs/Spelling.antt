@@ -1,28 +1,43 @@
 -- The one text of each ring.
-use Rattle.std.specs.Prelude.{ℕ, ◌+◌, Bool, true, false, List, [], ◌∷◌, ◌++◌, map, codes, slice_get, Some, None}
+use Rattle.std.specs.Prelude.{ℕ, ◌+◌, Bool, true, false, List, [], ◌∷◌, ◌++◌, map, codes, slice_get, Some, None, nat_lt, if◌then◌else◌}
 use Rattle.std.specs.Fmt.{decimal}
 use Rattle.ring_names.specs.declared.ids.NodeId.{NodeId}
 use Rattle.ring_text.specs.Parts.{text_of}
-use Rattle.ring_text.specs.Frames.{header_fields, end_fields}
+use Rattle.ring_text.specs.Frames.{end_fields}
+use Rattle.ring_table.specs.declared.allowance.Allowance.{Allowance}
+use Rattle.ring_table.specs.declared.allowance.Allowance.TheVariants.{Joint, Split}
 use Rattle.ring_table.specs.declared.node.Node.{Node}
 use Rattle.ring_table.specs.Value.{RingValue, names_of}
+
+-- the first line
+abbrev pub format_fields : ℕ → List (List ℕ)
+format_fields format = codes "ring" ∷ decimal format ∷ []
 
 -- the line of the number of partitions
 abbrev pub space_fields : ℕ → List (List ℕ)
 space_fields q = codes "space" ∷ decimal q ∷ []
 
+-- how many stores may be lost, where the format says it
+abbrev pub loss_fields : ℕ → ℕ → List (List ℕ)
+loss_fields format loss = if nat_lt format 3 then [] else decimal loss ∷ []
+
 -- the line of the quorums
-abbrev pub quorum_fields : ℕ → ℕ → ℕ → List (List ℕ)
-quorum_fields n r w = codes "quorum" ∷ decimal n ∷ decimal r ∷ decimal w ∷ []
+abbrev pub quorum_fields : ℕ → ℕ → ℕ → ℕ → ℕ → List (List ℕ)
+quorum_fields format n r w loss = codes "quorum" ∷ decimal n ∷ decimal r ∷ decimal w ∷ loss_fields format loss
 
 -- whether a node is a member, as its line says it
 abbrev pub membership : Bool → List ℕ
 membership true = codes "in"
 membership false = codes "out"
 
+-- the numbers of an allowance
+abbrev pub allowance_fields : Allowance → List (List ℕ)
+allowance_fields (Joint most) = decimal most ∷ []
+allowance_fields (Split take give) = decimal take ∷ decimal give ∷ []
+
 -- the line of a node
 abbrev pub node_fields : Node → List (List ℕ)
-node_fields x = codes "node" ∷ x.name ∷ decimal x.allowance ∷ membership x.is_member ∷ []
+node_fields x = codes "node" ∷ x.name ∷ (allowance_fields x.allowance ++ membership x.is_member ∷ [])
 
 -- the name of a node, by its number
 abbrev pub name_at : List (List ℕ) → NodeId → List ℕ
@@ -39,7 +54,7 @@ rows_lines names p (row ∷ rows) = row_fields names p row ∷ rows_lines names 
 
 -- the lines of a ring
 abbrev pub ring_lines : RingValue → List (List (List ℕ))
-ring_lines v = header_fields (codes "ring") ∷ space_fields v.q ∷ quorum_fields v.n v.r v.w
+ring_lines v = format_fields v.format ∷ space_fields v.q ∷ quorum_fields v.format v.n v.r v.w v.loss
     ∷ (map node_fields v.nodes ++ (rows_lines (names_of v) 0 v.owners ++ end_fields ∷ []))
 
 -- its text

@@ -4,10 +4,11 @@ ghost use Rattle.std.specs.Prelude.{◌≡◌, ◌<◌, ◌≤◌, ◌+◌, ◌+
 ghost use Rattle.ring_names.specs.declared.refusal.Refusal.TheVariants.{OutOfMemory};
 ghost use Rattle.ring_names.specs.Names.{place};
 ghost use Rattle.ring_text.specs.Judging.{Does, map_ok, field_at};
-ghost use Rattle.ring_text.specs.Left.{Reads, many_from};
+ghost use Rattle.ring_text.specs.Left.{Reads, is_word, many_from};
 ghost use Rattle.ring_text.specs.Late.{IsAt, Late};
-ghost use Rattle.ring_table.specs.Reading.{judge_new, judge_allowance, judge_membership, node_at, nodes_at};
+ghost use Rattle.ring_table.specs.Reading.{judge_new, judge_most, second_at, made, allowance_at, judge_membership, node_at, nodes_at};
 
+use crate::allowance::Allowance;
 use crate::node::Node;
 use ring_names::{Listed, Names, Refusal};
 use ring_text::{Fields, Lines, both, finish, is_name, need};
@@ -36,7 +37,7 @@ impl Model for Declared {
 #[derive(Drop)]
 struct NodeLine<'a> {
     name: &'a [u8],
-    allowance: u32,
+    allowance: Allowance,
     is_member: bool,
 }
 
@@ -58,12 +59,48 @@ fn new_name<'a>(names: &Names, fields: &mut Fields<'a>) -> Result<&'a [u8], Refu
 }
 
 // A number from 1 to 64.
-fn allowance(fields: &mut Fields) -> Result<u32, Refusal>
-    ensures { Does (λ k. field_at k (judge_allowance k)) fields.old result fields.new }
+fn most(fields: &mut Fields) -> Result<u32, Refusal>
+    ensures { Does (λ k. field_at k (judge_most k)) fields.old result fields.new }
 {
     match fields.number(64) {
         Ok(0) => Err(Refusal::BadLine(fields.line())),
         other => other,
+    }
+}
+
+// Such a number, where the format has a second one and a number stands in front.
+#[tactic(auto, unfolding(crate::specs::Reading::second_at))]
+fn second(format: u32, fields: &mut Fields) -> Result<Option<u32>, Refusal>
+    ensures { Does (second_at format) fields.old result fields.new }
+{
+    if 2 <= format && fields.begins_number() {
+        return match most(fields) {
+            Ok(number) => Ok(Some(number)),
+            Err(e) => Err(e),
+        };
+    }
+    Ok(None)
+}
+
+fn made(first: u32, second: Option<u32>) -> Allowance
+    ensures { result ≡ made first second }
+{
+    match second {
+        None => Allowance::Joint(first),
+        Some(give) => Allowance::Split { take: first, give },
+    }
+}
+
+// One number, or in format 2 and 3 perhaps two.
+#[tactic(auto, unfolding(crate::specs::Reading::allowance_at))]
+fn allowance(format: u32, fields: &mut Fields) -> Result<Allowance, Refusal>
+    ensures { Does (allowance_at format) fields.old result fields.new }
+{
+    let first = most(fields);
+    let second = second(format, fields);
+    match both(first, second) {
+        Ok((first, second)) => Ok(made(first, second)),
+        Err(e) => Err(e),
     }
 }
 
@@ -105,15 +142,15 @@ impl Declared {
 
     // What a node line behind these nodes says. Takes no memory.
     #[tactic(auto, unfolding(crate::specs::Reading::node_at))]
-    fn judge<'a>(&self, mut fields: Fields<'a>) -> Result<NodeLine<'a>, Refusal>
-        ensures value { map_ok node_of result ≡ node_at self.now fields.entry.number fields.entry.fields }
-        ensures new { IfOk result (λ said. IsNew self.now (node_of said)) }
+    fn judge<'a>(&self, format: u32, mut fields: Fields<'a>) -> Result<NodeLine<'a>, Refusal>
+        ensures value { map_ok node_of result ≡ node_at format self.now fields.entry.number fields.entry.fields }
+        ensures new { IfOk result (λ said. IsNew format self.now (node_of said)) }
         ensures at { IfErr result (λ e. IsAt fields.entry.number e) }
     {
         let room = need(self.nodes.len() < 1024, &fields);
         let word = fields.word(b"node");
         let name = new_name(&self.names, &mut fields);
-        let allowance = allowance(&mut fields);
+        let allowance = allowance(format, &mut fields);
         let is_member = membership(&mut fields);
         let item = both(both(both(both(room, word), name), allowance), is_member);
         match finish(item, fields) {
@@ -148,14 +185,19 @@ impl Declared {
 }
 
 // Reads node lines behind those declared, as long as lines begin so.
-fn read_into(alloc: Global, declared: &mut Declared, lines: &mut Lines) -> Result<(), Refusal>
+fn read_into(
+    alloc: Global,
+    format: u32,
+    declared: &mut Declared,
+    lines: &mut Lines,
+) -> Result<(), Refusal>
     requires few { length declared.old ≤ 1024 }
-    ensures read { Reads (map_ok (λ _. declared.new) result) lines.new (many_from (codes "node") node_at declared.old lines.old.line lines.old.lines) }
-    ensures late { Late 1 result lines.old lines.new (many_from (codes "node") node_at declared.old lines.old.line lines.old.lines) }
+    ensures read { Reads (map_ok (λ _. declared.new) result) lines.new (many_from (is_word (codes "node")) (node_at format) declared.old lines.old.line lines.old.lines) }
+    ensures late { Late 1 result lines.old lines.new (many_from (is_word (codes "node")) (node_at format) declared.old lines.old.line lines.old.lines) }
 {
     'nodes: while lines.begins(b"node") {
         let fields = lines.next()?;
-        let said = declared.judge(fields)?;
+        let said = declared.judge(format, fields)?;
         declared.push(alloc, said)?;
     }
     Ok(())
@@ -163,12 +205,12 @@ fn read_into(alloc: Global, declared: &mut Declared, lines: &mut Lines) -> Resul
 
 /// Reads node lines as long as lines begin so, at least one.
 #[tactic(auto, unfolding(crate::specs::Reading::nodes_at))]
-pub fn read_nodes(alloc: Global, lines: &mut Lines) -> Result<Declared, Refusal>
-    ensures read { Reads result lines.new (nodes_at lines.old) }
-    ensures late { Late 1 result lines.old lines.new (nodes_at lines.old) }
+pub fn read_nodes(alloc: Global, format: u32, lines: &mut Lines) -> Result<Declared, Refusal>
+    ensures read { Reads result lines.new (nodes_at format lines.old) }
+    ensures late { Late 1 result lines.old lines.new (nodes_at format lines.old) }
 {
     let mut declared = Declared::new(alloc);
-    read_into(alloc, &mut declared, lines)?;
+    read_into(alloc, format, &mut declared, lines)?;
     if declared.is_empty() {
         return Err(Refusal::BadLine(lines.line()));
     }

@@ -4,26 +4,58 @@ ghost use Rattle.std.specs.Prelude.{◌≡◌, ◌≢◌, OnOk, IfOk, IfErr};
 ghost use Rattle.ring_names.specs.Space.{is_space as is_valid_space};
 ghost use Rattle.ring_names.specs.declared.refusal.Refusal.TheVariants.{OutOfMemory};
 ghost use Rattle.ring_text.specs.Left.{Answers, lines_on};
-ghost use Rattle.ring_text.specs.Late.{IsAt};
+ghost use Rattle.ring_text.specs.Judging.{Does, field_at};
 ghost use Rattle.ring_table.specs.Valid.{is_quorum as is_valid_quorum, IsHead};
-ghost use Rattle.ring_table.specs.Reading.{space_at, quorum_at, head_at};
+ghost use Rattle.ring_table.specs.Reading.{judge_format, format_at, space_at, judge_quorum, loss_at, quorum_at, head_at};
 
 use ring_names::Refusal;
-use ring_text::{Fields, Lines, both, finish, header};
+use ring_text::{Fields, Lines, both, finish};
 
-/// How many slots a partition has, and how many of them answer a read and a write.
+/// How many slots a partition has, how many of them answer a read and a write, and how many stores may be lost.
 #[derive(Clone, Copy)]
 pub struct Quorum {
     pub n: u32,
     pub r: u32,
     pub w: u32,
+    pub loss: u32,
 }
 
-/// What the lines in front of the nodes say: the number of partitions, and the quorum.
+/// What the lines in front of the nodes say: the format, the number of partitions, and the quorum.
 #[derive(Clone, Copy)]
 pub struct Head {
+    pub format: u32,
     pub q: u32,
     pub quorum: Quorum,
+}
+
+// `1`, `2` or `3`
+fn format(fields: &mut Fields) -> Result<u32, Refusal>
+    ensures { Does (λ k. field_at k (judge_format k)) fields.old result fields.new }
+{
+    let line = fields.line();
+    let Some(field) = fields.next() else {
+        return Err(Refusal::BadLine(line));
+    };
+    if field == b"1".as_slice() {
+        Ok(1)
+    } else if field == b"2".as_slice() {
+        Ok(2)
+    } else if field == b"3".as_slice() {
+        Ok(3)
+    } else {
+        Err(Refusal::BadLine(line))
+    }
+}
+
+// `ring <format>`
+#[tactic(auto, unfolding(crate::specs::Reading::format_at))]
+fn format_line(mut fields: Fields) -> Result<u32, Refusal>
+    ensures { result ≡ format_at fields.entry.number fields.entry.fields }
+{
+    let word = fields.word(b"ring");
+    let format = format(&mut fields);
+    let (_, format) = finish(both(word, format), fields)?;
+    Ok(format)
 }
 
 #[tactic(auto, unfolding(ring_names::specs::Space::is_space))]
@@ -52,27 +84,52 @@ fn space_line(mut fields: Fields) -> Result<u32, Refusal>
 }
 
 #[tactic(auto, unfolding(crate::specs::Valid::is_quorum))]
-fn is_quorum(n: u32, r: u32, w: u32) -> bool
-    ensures { result ≡ is_valid_quorum n r w }
+fn is_quorum(n: u32, r: u32, w: u32, loss: u32) -> bool
+    ensures { result ≡ is_valid_quorum n r w loss }
 {
-    1 <= r && r <= n && 1 <= w && w <= n && u64::from(n) < u64::from(r) + u64::from(w)
+    1 <= r
+        && r <= n
+        && 1 <= w
+        && w <= n
+        && u64::from(n) + u64::from(loss) < u64::from(r) + u64::from(w)
 }
 
-// `quorum <n> <r> <w>`
+// The quorum, if it is one.
+fn judge_quorum(line: u32, n: u32, r: u32, w: u32, loss: u32) -> Result<Quorum, Refusal>
+    ensures { result ≡ judge_quorum line n r w loss }
+{
+    if !is_quorum(n, r, w, loss) {
+        return Err(Refusal::QuorumTooSmall(line));
+    }
+    Ok(Quorum { n, r, w, loss })
+}
+
+// How many stores may be lost, where the format says it.
+#[tactic(auto, unfolding(crate::specs::Reading::loss_at))]
+fn loss(format: u32, fields: &mut Fields) -> Result<u32, Refusal>
+    ensures { Does (loss_at format) fields.old result fields.new }
+{
+    if format < 3 {
+        return Ok(0);
+    }
+    fields.number(6)
+}
+
+// `quorum <n> <r> <w>`, and in format 3 ` <f>`
 #[tactic(auto, unfolding(crate::specs::Reading::quorum_at))]
-fn quorum_line(mut fields: Fields) -> Result<Quorum, Refusal>
-    ensures { result ≡ quorum_at fields.entry.number fields.entry.fields }
+fn quorum_line(format: u32, mut fields: Fields) -> Result<Quorum, Refusal>
+    ensures { result ≡ quorum_at format fields.entry.number fields.entry.fields }
 {
     let line = fields.line();
     let word = fields.word(b"quorum");
     let n = fields.number(7);
     let r = fields.number(7);
     let w = fields.number(7);
-    let (((_, n), r), w) = finish(both(both(both(word, n), r), w), fields)?;
-    if !is_quorum(n, r, w) {
-        return Err(Refusal::QuorumTooSmall(line));
+    let loss = loss(format, &mut fields);
+    match finish(both(both(both(both(word, n), r), w), loss), fields) {
+        Ok(((((_, n), r), w), loss)) => judge_quorum(line, n, r, w, loss),
+        Err(e) => Err(e),
     }
-    Ok(Quorum { n, r, w })
 }
 
 /// Reads the lines in front of the nodes. Takes no memory.
@@ -83,8 +140,8 @@ pub fn read_head(lines: &mut Lines) -> Result<Head, Refusal>
     ensures line { OnOk result (lines.new.line ≡ lines_on 3 lines.old.line) }
     ensures memory { IfErr result (λ e. e ≢ OutOfMemory) }
 {
-    header(lines, b"ring")?;
+    let format = format_line(lines.next()?)?;
     let q = space_line(lines.next()?)?;
-    let quorum = quorum_line(lines.next()?)?;
-    Ok(Head { q, quorum })
+    let quorum = quorum_line(format, lines.next()?)?;
+    Ok(Head { format, q, quorum })
 }

@@ -1,6 +1,7 @@
 //! The ring: which nodes there are, how many must answer, and who owns each slot of each partition.
 #![tactic(auto)]
 
+mod allowance;
 mod declared;
 mod field;
 mod head;
@@ -10,6 +11,7 @@ mod ring;
 mod row;
 mod writing;
 
+pub use allowance::{Allowance, NodeSide, Side};
 pub use field::node_field;
 pub use node::Node;
 pub use reading::{read_ring, read_ring_section};

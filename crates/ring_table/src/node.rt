@@ -3,6 +3,7 @@
 ghost use Rattle.std.specs.Prelude.{◌≡◌};
 ghost use Rattle.ring_table.specs.Value.{is_member};
 
+use crate::allowance::Allowance;
 use ring_names::{Listed, NodeId};
 
 /// A node of the ring.
@@ -10,8 +11,8 @@ use ring_names::{Listed, NodeId};
 pub struct Node {
     /// 1 to 32 bytes of `a-z0-9_.:-`.
     pub name: Listed<u8>,
-    /// The most transfers that may be open with this node at once, 1 to 64.
-    pub allowance: u32,
+    /// The most transfers that may be open with this node at once.
+    pub allowance: Allowance,
     /// Whether it is a member before the first step of a plan (`in`), or not yet (`out`).
     pub is_member: bool,
 }

@@ -34,7 +34,7 @@ fn read_body(alloc: Global, head: Head, lines: &mut Lines) -> Result<Body, Refus
     ensures late { Late 1 result lines.old lines.new (body_at head lines.old) }
     ensures far { OnOk result (next_number lines.old.line ≤ lines.new.line) }
 {
-    let declared = read_nodes(alloc, lines)?;
+    let declared = read_nodes(alloc, head.format, lines)?;
     let owners = read_rows(alloc, &declared, head.quorum.n, head.q, lines)?;
     end(lines)?;
     Ok(Body { declared, owners })

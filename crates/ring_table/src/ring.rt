@@ -4,6 +4,7 @@ ghost use Rattle.std.specs.Prelude.{◌≡◌, ◌<◌, true, Some, IfSome, leng
 ghost use Rattle.ring_names.specs.Names.{place};
 ghost use Rattle.ring_text.specs.Name.{is_name};
 
+use crate::allowance::NodeSide;
 use crate::declared::Declared;
 use crate::head::Head;
 use crate::node::{Node, is_member};
@@ -12,13 +13,15 @@ use std::marker::Model;
 
 /// A ring. Partitions are the `q` equal parts of the hash space (section 6.2 of DeCandia et al. 2007, strategy 3);
 /// each has `n` slots, and each slot one owner, a member. Of the slots `r` answer a read and `w` take a write,
-/// with `r + w > n` (section 4.5).
+/// with `r + w > n + f` (section 4.5), where `f` stores may be lost.
 #[derive(Drop)]
 pub struct Ring {
+    format: u32,
     q: u32,
     n: u32,
     r: u32,
     w: u32,
+    loss: u32,
     names: Names,
     nodes: Vec<Node>,
     owners: Vec<Listed<NodeId>>,
@@ -38,7 +41,7 @@ impl Model for Ring {
 
 impl Ring {
     ghost use Rattle.ring_table.specs.declared.node.Node.{Node};
-    ghost use Rattle.ring_table.specs.Value.{RingValue, names_of, is_member, row_of, owner_of};
+    ghost use Rattle.ring_table.specs.Value.{RingValue, names_of, is_member, allowance_of, row_of, owner_of, migrated};
     ghost use Rattle.ring_table.specs.Reading.{ring_of};
     ghost use Rattle.ring_names.specs.Space.{is_space};
     ghost use Rattle.ring_table.specs.Valid.{IsRing};
@@ -50,14 +53,34 @@ impl Ring {
     {
         let Declared { names, nodes } = declared;
         Ring {
+            format: head.format,
             q: head.q,
             n: head.quorum.n,
             r: head.quorum.r,
             w: head.quorum.w,
+            loss: head.quorum.loss,
             names,
             nodes,
             owners,
         }
+    }
+
+    /// The format of the ring's text: 1, 2 or 3.
+    pub fn format(&self) -> u32
+        ensures value { result ≡ self.now.format }
+        ensures valid { IsRing self.now }
+    {
+        self.format
+    }
+
+    /// A ring of format 1 as one of format 2, and any other as it is. Nothing but the format changes.
+    pub fn migrate(self) -> Ring
+        ensures { result ≡ migrated self }
+    {
+        if self.format != 1 {
+            return self;
+        }
+        Ring { format: 2, ..self }
     }
 
     /// The number of partitions, a power of two from 1 to 4,096.
@@ -91,6 +114,24 @@ impl Ring {
         ensures valid { IsRing self.now }
     {
         self.w
+    }
+
+    /// How many stores may be lost, 0 to 6; 0 in formats 1 and 2.
+    pub fn loss(&self) -> u32
+        ensures value { result ≡ self.now.loss }
+        ensures valid { IsRing self.now }
+    {
+        self.loss
+    }
+
+    /// The most transfers of that side that may be open with the node at once, if it is declared and its allowance counts the side.
+    pub fn allowance(&self, of: NodeSide) -> Option<u32>
+        ensures { result ≡ allowance_of self.now of.node.0 of.side }
+    {
+        match self.nodes.get(of.node.0 as usize) {
+            Some(node) => node.allowance.most(of.side),
+            None => None,
+        }
     }
 
     /// The nodes by number, 1 to 1,024 of them.

@@ -3,14 +3,26 @@
 ghost use Rattle.std.specs.Prelude.{◌≡◌, ◌++◌, ◌∷◌, [], ◌<◌, ◌≤◌, length, map, List, ℕ, IfOk, IfErr, OnOk, slice_get, Some};
 ghost use Rattle.ring_names.specs.declared.refusal.Refusal.TheVariants.{OutOfMemory};
 ghost use Rattle.std.specs.List.{flat_map};
-ghost use Rattle.ring_text.specs.Parts.{line_text, text_of};
-ghost use Rattle.ring_table.specs.Spelling.{ring_text, space_fields, quorum_fields, node_fields, name_at, row_fields, rows_lines};
+ghost use Rattle.ring_text.specs.Parts.{line_text, text_of, spaced};
+ghost use Rattle.ring_table.specs.Spelling.{ring_text, format_fields, space_fields, loss_fields, quorum_fields, allowance_fields, node_fields, name_at, row_fields, rows_lines};
 ghost use Rattle.ring_table.specs.Value.{names_of};
 
+use crate::allowance::Allowance;
 use crate::node::Node;
 use crate::ring::Ring;
 use ring_names::{Listed, NodeId, Refusal, push_decimal};
+use ring_text::push_numbers;
 use std::alloc::{AllocError, Global};
+
+// `ring <format>`
+fn push_format(out: &mut Vec<u8>, format: u32) -> Result<(), AllocError>
+    ensures { OnOk result (out.new.items ≡ out.old.items ++ line_text (format_fields format)) }
+{
+    out.extend_from_slice(b"ring ")?;
+    push_decimal(out, format)?;
+    out.push(b'\n')?;
+    Ok(())
+}
 
 // `space <q>`
 fn push_space(out: &mut Vec<u8>, q: u32) -> Result<(), AllocError>
@@ -22,18 +34,36 @@ fn push_space(out: &mut Vec<u8>, q: u32) -> Result<(), AllocError>
     Ok(())
 }
 
-// `quorum <n> <r> <w>`
-fn push_quorum(out: &mut Vec<u8>, n: u32, r: u32, w: u32) -> Result<(), AllocError>
-    ensures { OnOk result (out.new.items ≡ out.old.items ++ line_text (quorum_fields n r w)) }
+// How many stores may be lost, where the format says it.
+fn push_loss(out: &mut Vec<u8>, format: u32, loss: u32) -> Result<(), AllocError>
+    ensures { OnOk result (out.new.items ≡ out.old.items ++ spaced (loss_fields format loss)) }
 {
-    out.extend_from_slice(b"quorum ")?;
-    push_decimal(out, n)?;
+    if format < 3 {
+        return Ok(());
+    }
     out.push(b' ')?;
-    push_decimal(out, r)?;
-    out.push(b' ')?;
-    push_decimal(out, w)?;
+    push_decimal(out, loss)
+}
+
+// `quorum <n> <r> <w>`, and in format 3 ` <f>`
+fn push_quorum(out: &mut Vec<u8>, ring: &Ring) -> Result<(), AllocError>
+    ensures { OnOk result (out.new.items ≡ out.old.items ++ line_text (quorum_fields ring.now.format ring.now.n ring.now.r ring.now.w ring.now.loss)) }
+{
+    out.extend_from_slice(b"quorum")?;
+    push_numbers(out, &[ring.n(), ring.r(), ring.w()])?;
+    push_loss(out, ring.format(), ring.loss())?;
     out.push(b'\n')?;
     Ok(())
+}
+
+// The one number of an allowance, or both, each behind a space
+fn push_allowance(out: &mut Vec<u8>, allowance: &Allowance) -> Result<(), AllocError>
+    ensures { OnOk result (out.new.items ≡ out.old.items ++ spaced (allowance_fields allowance.now)) }
+{
+    match allowance {
+        Allowance::Joint(most) => push_numbers(out, &[*most]),
+        Allowance::Split { take, give } => push_numbers(out, &[*take, *give]),
+    }
 }
 
 // `node <name> <allowance> in` or `.. out`
@@ -42,8 +72,7 @@ fn push_node(out: &mut Vec<u8>, node: &Node) -> Result<(), AllocError>
 {
     out.extend_from_slice(b"node ")?;
     out.extend_from_slice(node.name.as_slice())?;
-    out.push(b' ')?;
-    push_decimal(out, node.allowance)?;
+    push_allowance(out, &node.allowance)?;
     if node.is_member {
         out.extend_from_slice(b" in\n")?;
     } else {
@@ -116,9 +145,9 @@ pub fn write_ring(alloc: Global, ring: &Ring) -> Result<Vec<u8>, Refusal>
     ensures memory { IfErr result (λ e. e ≡ OutOfMemory) }
 {
     let mut out = Vec::new(alloc);
-    out.extend_from_slice(b"ring 1\n")?;
+    push_format(&mut out, ring.format())?;
     push_space(&mut out, ring.q())?;
-    push_quorum(&mut out, ring.n(), ring.r(), ring.w())?;
+    push_quorum(&mut out, ring)?;
     push_nodes(&mut out, ring.nodes())?;
     push_rows(&mut out, ring.nodes(), ring.rows())?;
     out.extend_from_slice(b"end\n")?;

@@ -1,5 +1,5 @@
 -- Items behind which no number may stand, since they take all numbers that do.
-use Rattle.std.proofs.Common.{◌≡◌, ℕ, Bool, true, false, cond, nat_lt, ◌&&◌, List, [], ◌∷◌, ◌++◌, map, Some, None, Result, Ok, Err, refl, sym, ap, subst, ◌∙◌, arith, append_assoc}
+use Rattle.std.proofs.Common.{◌≡◌, ℕ, Bool, true, false, cond, nat_lt, List, [], ◌∷◌, ◌++◌, map, Some, None, Result, Ok, Err, refl, sym, ap, subst, ◌∙◌, arith, append_assoc}
 use Rattle.std.specs.Fmt.{decimal}
 use Rattle.std.proofs.lemmas.List.{append-nil}
 use Rattle.std.proofs.lemmas.Bool.{ltb-true, and_parts}
@@ -7,7 +7,7 @@ use Rattle.ring_names.specs.declared.refusal.Refusal.{Refusal}
 use Rattle.ring_names.specs.declared.refusal.Refusal.TheVariants.{BadLine}
 use Rattle.ring_text.specs.Number.{value_from, is_number, decimal_value}
 use Rattle.ring_text.specs.Numbers.{numbers_of, beyond, are_small}
-use Rattle.ring_text.specs.Judging.{both_of, Item, ◌⊗◌, end_at, map_ok, whole, unless}
+use Rattle.ring_text.specs.Judging.{both_of, Item, ◌⊗◌, end_at, map_ok, map_item, whole, unless}
 use Rattle.ring_text.specs.Left.{◌>>=◌}
 use Rattle.ring_text.specs.Laws.{IsItem, IsLine}
 use Rattle.ring_text.proofs.Items.{both_is, map_is, bind_ok, unless_is, unless_ok, Passes}
@@ -53,6 +53,20 @@ front-⊗ {A} {B} C D a b s t P Q ia ib free = record { takes = take; gives = gi
         let first = ia.gives v.0 (t v.1 ++ rest) p.0 (free v.1 rest f) in
         let second = ib.gives v.1 rest p.1 f in
         rw (append_assoc (s v.0) (t v.1) rest, first, second) refl
+
+-- the value as another type has it
+pub front-map : {A B : Type 0} (C : List (List ℕ) → Type 0) (a : Item A) (s : A → List (List ℕ)) (P : A → Type 0) (f : A → B) (g : B → A) → ((x : A) → g (f x) ≡ x) → ((y : B) → f (g y) ≡ y) → IsFront C a s P → IsFront C (map_item f a) (λ y. s (g y)) (λ y. P (g y))
+front-map {A} {B} C a s P f g gf fg ia = record { takes = take; gives = give }
+  where
+    take : (fields rest : List (List ℕ)) (v : B) → map_item f a fields ≡ (Ok v, rest) → (fields ≡ s (g v) ++ rest) × P (g v)
+    take fields rest v e =
+        let h = pair_is (map_item f a fields) (Ok v) rest e in
+        let m = map_is f (a fields).0 v h.0 in
+        let i = ia.takes fields rest m.0 (pair_of (a fields) (Ok m.0) rest m.1 h.1) in
+        rw (← m.2, gf m.0) i
+
+    give : (v : B) (rest : List (List ℕ)) → P (g v) → C rest → map_item f a (s (g v) ++ rest) ≡ (Ok v, rest)
+    give v rest p free = rw (ia.gives (g v) rest p free, fg v) refl
 
 end_is : (k : ℕ) (fields rest : List (List ℕ)) → end_at k fields ≡ (Ok tt, rest) → fields ≡ []
 end_is k [] rest e = refl

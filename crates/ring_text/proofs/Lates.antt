@@ -9,7 +9,7 @@ use Rattle.ring_names.specs.Refusals.{number_of, values_of}
 use Rattle.ring_text.specs.Number.{decimal_value}
 use Rattle.ring_text.specs.Judging.{both_of, Item, ◌⊗◌, field_at, word_at, limited, number_at, end_at, need_at, map_ok, map_item, whole, unless}
 use Rattle.ring_text.specs.Parts.{lines_of}
-use Rattle.ring_text.specs.Left.{Left, ◌>>=◌, next_number, lines_on, begins_with, first_line, next_line, is_nothing, over_at, one_line, then_part, many_from, map_part, whole_text}
+use Rattle.ring_text.specs.Left.{Left, ◌>>=◌, next_number, lines_on, begins_so, first_line, next_line, is_nothing, over_at, one_line, then_part, many_from, map_part, whole_text}
 use Rattle.ring_text.specs.Late.{IsAt, NoFaultBefore, ReadsTo, Late}
 use Rattle.ring_text.proofs.Items.{ok_is}
 use Rattle.ring_text.proofs.Many.{many-step}
@@ -167,32 +167,32 @@ to-map {A} {B} f read k s p = by (read s) p
 pub advances-map : {A B : Type 0} (f : A → B) (read : Left → Result (A × Left) Refusal) → Advances read → Advances (map_part f read)
 advances-map f read p = record { on = λ s. to-map f read s.line s (p.on s) }
 
--- ---- lines that begin with one word
+-- ---- lines that begin alike
 
-module _ {A : Type 0} (word : List ℕ) (read : List A → ℕ → List (List ℕ) → Result A Refusal) (at : (seen : List A) (k : ℕ) (fields : List (List ℕ)) → At k (read seen k fields)) where
-  pub many-on : (seen : List A) (k : ℕ) (lines : List (List (List ℕ))) → ReadsTo k (many_from word read seen k lines)
+module _ {A : Type 0} (test : List ℕ → Bool) (read : List A → ℕ → List (List ℕ) → Result A Refusal) (at : (seen : List A) (k : ℕ) (fields : List (List ℕ)) → At k (read seen k fields)) where
+  pub many-on : (seen : List A) (k : ℕ) (lines : List (List (List ℕ))) → ReadsTo k (many_from test read seen k lines)
   many-on seen k [] = omega arith
-  many-on seen k (line ∷ []) = by (begins_with word (line ∷ []))
+  many-on seen k (line ∷ []) = by (begins_so test (line ∷ []))
     where
       by : (t : Bool) → ReadsTo k (cond {A = Result (List A × Left) Refusal} t (Err (BadLine k)) (Ok (seen, record { line = k; lines = line ∷ [] })))
       by true = (k, omega arith, refl)
       by false = omega arith
-  many-on seen k (line ∷ next ∷ more) = by (begins_with word (line ∷ next ∷ more)) (λ ys. many-on ys (next_number k) (next ∷ more))
+  many-on seen k (line ∷ next ∷ more) = by (begins_so test (line ∷ next ∷ more)) (λ ys. many-on ys (next_number k) (next ∷ more))
     where
-      judged : (r : Result A Refusal) → At k r → ((ys : List A) → ReadsTo (next_number k) (many_from word read ys (next_number k) (next ∷ more))) → ReadsTo k (◌>>=◌ {B = List A × Left} r (λ x. many_from word read (seen ++ x ∷ []) (next_number k) (next ∷ more)))
+      judged : (r : Result A Refusal) → At k r → ((ys : List A) → ReadsTo (next_number k) (many_from test read ys (next_number k) (next ∷ more))) → ReadsTo k (◌>>=◌ {B = List A × Left} r (λ x. many_from test read (seen ++ x ∷ []) (next_number k) (next ∷ more)))
       judged (Ok x) p later = reads-less k (next_number k) _ (next-after k) (later (seen ++ x ∷ []))
       judged (Err e) p later = (k, omega arith, p)
 
-      by : (t : Bool) → ((ys : List A) → ReadsTo (next_number k) (many_from word read ys (next_number k) (next ∷ more)))
-          → ReadsTo k (cond t (◌>>=◌ {B = List A × Left} (read seen k line) (λ x. many_from word read (seen ++ x ∷ []) (next_number k) (next ∷ more))) (Ok (seen, record { line = k; lines = line ∷ next ∷ more })))
+      by : (t : Bool) → ((ys : List A) → ReadsTo (next_number k) (many_from test read ys (next_number k) (next ∷ more)))
+          → ReadsTo k (cond t (◌>>=◌ {B = List A × Left} (read seen k line) (λ x. many_from test read (seen ++ x ∷ []) (next_number k) (next ∷ more))) (Ok (seen, record { line = k; lines = line ∷ next ∷ more })))
       by true later = judged (read seen k line) (at seen k line) later
       by false later = omega arith
 
   -- memory that is asked for behind a line that was taken: what was read from the start on reads to where it is now
-  pub many-late : (seen : List A) (start s t : Left) (fields : List (List ℕ)) (x : A) (total : Result (List A × Left) Refusal) → begins_with word s.lines ≡ true → next_line s ≡ Ok (fields, t) → read seen s.line fields ≡ Ok x
-      → start.line ≤ s.line → many_from word read seen s.line s.lines ≡ total → (next_number start.line ≤ t.line) × ReadsTo t.line total
+  pub many-late : (seen : List A) (start s t : Left) (fields : List (List ℕ)) (x : A) (total : Result (List A × Left) Refusal) → begins_so test s.lines ≡ true → next_line s ≡ Ok (fields, t) → read seen s.line fields ≡ Ok x
+      → start.line ≤ s.line → many_from test read seen s.line s.lines ≡ total → (next_number start.line ≤ t.line) × ReadsTo t.line total
   many-late seen start s t fields x total b e f le so_far =
-      let behind : many_from word read seen s.line s.lines ≡ many_from word read (seen ++ x ∷ []) t.line t.lines = rw (many-step word read seen s.line s.lines b, e, f) refl in
+      let behind : many_from test read seen s.line s.lines ≡ many_from test read (seen ++ x ∷ []) t.line t.lines = rw (many-step test read seen s.line s.lines b, e, f) refl in
       let on = many-on (seen ++ x ∷ []) t.line t.lines in
       let line = next-line s t fields e in
       let more = next-monotone start.line s.line le in

@@ -1,9 +1,9 @@
 -- What it means that reading takes just the spellings of the values that are allowed.
-use Rattle.std.specs.Prelude.{◌≡◌, ◌<◌, ℕ, false, List, [], ◌∷◌, ◌++◌, Result, Ok}
+use Rattle.std.specs.Prelude.{◌≡◌, ◌<◌, ℕ, Bool, false, List, [], ◌∷◌, ◌++◌, Result, Ok}
 use Rattle.std.specs.List.{AllByRecursion}
 use Rattle.ring_names.specs.declared.refusal.Refusal.{Refusal}
 use Rattle.ring_text.specs.Judging.{Item}
-use Rattle.ring_text.specs.Left.{Left, begins_with}
+use Rattle.ring_text.specs.Left.{Left, begins_so}
 
 -- of the fields of a line the item takes the spelling of an allowed value from the front, and nothing else
 pub record IsItem {A : Type 0} (item : Item A) (spell : A → List (List ℕ)) (P : A → Type 0) : Type 0 where
@@ -31,9 +31,9 @@ abbrev pub EachNext : {A : Type 0} → (List A → A → Type 0) → List A → 
 EachNext P seen [] = Unit {0}
 EachNext P seen (x ∷ xs) = P seen x × EachNext P (seen ++ x ∷ []) xs
 
--- the line does not begin with the word
-abbrev pub BeginsOther : List ℕ → List (List ℕ) → Type 0
-BeginsOther word line = begins_with word (line ∷ []) ≡ false
+-- the line's first field does not pass the test
+abbrev pub BeginsOther : (List ℕ → Bool) → List (List ℕ) → Type 0
+BeginsOther test line = begins_so test (line ∷ []) ≡ false
 
 -- any line may follow
 abbrev pub Any : List (List ℕ) → Type 0

@@ -29,11 +29,19 @@ abbrev pub ◌>>=◌ : {A B : Type 0} → Result A Refusal → (A → Result B R
 (Ok x) >>= f = f x
 (Err e) >>= f = Err e
 
+-- whether the first field that is left passes the test
+abbrev pub begins_so : (List ℕ → Bool) → List (List (List ℕ)) → Bool
+begins_so test [] = false
+begins_so test ([] ∷ lines) = false
+begins_so test ((field ∷ fields) ∷ lines) = test field
+
+-- the field is this word
+abbrev pub is_word : List ℕ → List ℕ → Bool
+is_word word field = bytes_eq field word
+
 -- whether the first field that is left is this word
 abbrev pub begins_with : List ℕ → List (List (List ℕ)) → Bool
-begins_with word [] = false
-begins_with word ([] ∷ lines) = false
-begins_with word ((field ∷ fields) ∷ lines) = bytes_eq field word
+begins_with word lines = begins_so (is_word word) lines
 
 -- a line that must come: it is there only if it is ended, so if another follows
 abbrev pub first_line : ℕ → List (List (List ℕ)) → Result (List (List ℕ) × Left) Refusal
@@ -82,12 +90,12 @@ then_part read again s = do
   y ← again x.0 x.1
   Ok ((x.0, y.0), y.1)
 
--- lines as long as they begin with a word, each read behind those seen
-abbrev pub many_from : {A : Type 0} → List ℕ → (List A → ℕ → List (List ℕ) → Result A Refusal)
+-- lines as long as their first fields pass a test, each read behind those seen
+abbrev pub many_from : {A : Type 0} → (List ℕ → Bool) → (List A → ℕ → List (List ℕ) → Result A Refusal)
     → List A → ℕ → List (List (List ℕ)) → Result (List A × Left) Refusal
-many_from word read seen k [] = Ok (seen, record { line = k; lines = [] })
-many_from word read seen k (line ∷ more) = if begins_with word (line ∷ more)
-    then (first_line k (line ∷ more) >>= λ _. read seen k line >>= λ x. many_from word read (seen ++ x ∷ []) (next_number k) more)
+many_from test read seen k [] = Ok (seen, record { line = k; lines = [] })
+many_from test read seen k (line ∷ more) = if begins_so test (line ∷ more)
+    then (first_line k (line ∷ more) >>= λ _. read seen k line >>= λ x. many_from test read (seen ++ x ∷ []) (next_number k) more)
     else Ok (seen, record { line = k; lines = line ∷ more })
 
 -- the value, made into another

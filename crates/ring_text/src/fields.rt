@@ -1,6 +1,6 @@
 //! The fields of a line, one after the other.
 
-ghost use Rattle.std.specs.Prelude.{◌≡◌, ◌∷◌, [], drop, option_map, MatchOption};
+ghost use Rattle.std.specs.Prelude.{◌≡◌, ◌∷◌, [], drop, option_map, is_some, MatchOption};
 ghost use Rattle.ring_text.specs.Parts.{fields_of};
 ghost use Rattle.ring_text.specs.Judging.{Does, word_at, number_at, end_at};
 ghost use Rattle.ring_text.specs.Number.{capped};
@@ -73,6 +73,13 @@ impl<'a> Fields<'a> {
         }
         let _ = self.rest.next();
         None
+    }
+
+    /// Whether a number stands in front.
+    pub fn begins_number(&self) -> bool
+        ensures { result ≡ is_some (first_value self.now.fields) }
+    {
+        self.rest.again().next_number().is_some()
     }
 
     /// Takes a field that must be a number. Another field is `BadLine`, a number above the limit `TooLarge`.

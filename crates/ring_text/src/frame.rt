@@ -11,11 +11,11 @@ use crate::lines::Lines;
 use ring_names::Refusal;
 
 #[tactic(auto, unfolding(crate::specs::Frames::header_at))]
-fn header_line(mut fields: Fields, word: &[u8]) -> Result<(), Refusal>
-    ensures { result ≡ header_at word.now fields.entry.number fields.entry.fields }
+fn header_line(mut fields: Fields, word: &[u8], format: &[u8]) -> Result<(), Refusal>
+    ensures { result ≡ header_at word.now format.now fields.entry.number fields.entry.fields }
 {
     let word = fields.word(word);
-    let format = fields.word(b"1");
+    let format = fields.word(format);
     finish(both(word, format), fields)?;
     Ok(())
 }
@@ -28,13 +28,13 @@ fn end_line(mut fields: Fields) -> Result<(), Refusal>
     finish(word, fields)
 }
 
-/// Takes the line `<word> 1`.
-pub fn header(lines: &mut Lines, word: &[u8]) -> Result<(), Refusal>
-    ensures read { Answers result lines.new (one_line (header_at word.now) lines.old) }
+/// Takes the line `<word> <format>`.
+pub fn header(lines: &mut Lines, word: &[u8], format: &[u8]) -> Result<(), Refusal>
+    ensures read { Answers result lines.new (one_line (header_at word.now format.now) lines.old) }
     ensures at { IfErr result (λ e. IsAt lines.old.line e) }
     ensures line { OnOk result (lines.new.line ≡ next_number lines.old.line) }
 {
-    header_line(lines.next()?, word)
+    header_line(lines.next()?, word, format)
 }
 
 /// Takes the line `end`.

@@ -36,7 +36,7 @@ impl<'a> Model for NumberRow<'a> {
 
 impl<'a> Cursor<'a> {
     // The same parts.
-    fn again(&self) -> Cursor<'a>
+    pub(crate) fn again(&self) -> Cursor<'a>
         ensures { result ≡ self.now }
     {
         Cursor { rest: self.rest }

@@ -1,5 +1,6 @@
-//! Judges the bundles that its arguments name, and prints the name, the answer and the exit status of each. Then, of a bundle that
-//! is accepted, no first part may be: how many are is printed where it is not none.
+//! Runs the program on the bundles that its arguments name, and prints the name, the answer and the exit status of each. The words
+//! `check` and `migrate` among them say which subcommand is meant from there on, at first `check`. Of a bundle that is accepted, no
+//! first part may be: how many are is printed where it is not none.
 #![tactic(auto)]
 
 use ringplan_run::{check_bundle, run};
@@ -7,22 +8,34 @@ use std::fs::File;
 use std::{env, fs, io};
 
 fn main(rt: HostRuntime) -> io::Result<()> {
-    for name in env::args(&rt)?.skip(1) {
-        let path = format!(in rt.alloc(); "{name}.bundle")?;
-        println!(&rt; "{name}")?;
-        let status = judge(&rt, path.as_str())?;
-        println!(&rt; "{status}")?;
-        if status == 0 {
-            check_fronts(&rt, path.as_str())?;
+    let mut migrates = false;
+    for word in env::args(&rt)?.skip(1) {
+        match word.as_str() {
+            "check" => migrates = false,
+            "migrate" => migrates = true,
+            name => show(&rt, migrates, name)?,
         }
     }
     Ok(())
 }
 
+// Prints the name of a bundle, the program's answer to it and the exit status.
+fn show(rt: &HostRuntime, migrates: bool, name: &str) -> io::Result<()> {
+    let subcommand = if migrates { "migrate" } else { "check" };
+    let path = format!(in rt.alloc(); "{name}.bundle")?;
+    println!(rt; "{name}")?;
+    let status = answer(rt, subcommand, path.as_str())?;
+    println!(rt; "{status}")?;
+    if status == 0 && !migrates {
+        check_fronts(rt, path.as_str())?;
+    }
+    Ok(())
+}
+
 // Prints the program's answer to the bundle, and gives its exit status.
-fn judge(rt: &HostRuntime, path: &str) -> io::Result<u8> {
+fn answer(rt: &HostRuntime, subcommand: &str, path: &str) -> io::Result<u8> {
     let mut bundle = File::open(rt, path)?;
-    let words = ["ringplan", "check"];
+    let words = ["ringplan", subcommand];
     Ok(run(rt, words.as_slice(), &mut bundle, &mut rt.stdout()))
 }
 

@@ -1,23 +1,28 @@
 -- The verdict on a bundle, by its parts.
-use Rattle.std.proofs.Common.{◌≡◌, ◌≤◌, ◌∙◌, ℕ, List, [], Result, Ok, Err, IfErr, codes, refl, ap, sym, arith}
+use Rattle.std.proofs.Common.{◌≡◌, ◌≤◌, ◌∙◌, ◌==◌, if◌then◌else◌, Bool, true, false, ℕ, List, [], Result, Ok, Err, IfOk, IfErr, codes, refl, ap, sym, arith}
 use Rattle.ring_names.specs.declared.refusal.Refusal.{Refusal}
 use Rattle.ring_names.specs.declared.refusal.Refusal.TheVariants.{OutOfMemory}
-use Rattle.ring_text.specs.Left.{whole_text, Left, lines_on, then_part, one_line}
-use Rattle.ring_text.specs.Frames.{header_at, end_line_at}
+use Rattle.ring_text.specs.Judging.{Gives}
+use Rattle.ring_text.specs.Left.{whole_text, Left, lines_on, is_word, then_part}
+use Rattle.ring_text.specs.Frames.{end_line_at}
 use Rattle.ring_text.specs.Late.{ReadsTo, NoFaultBefore}
-use Rattle.ring_text.proofs.Lates.{Advances, advances-line, advances-then, advances-map, to-first, to-second, to-map, reads-less, many-on, next-after, next-monotone}
+use Rattle.ring_text.proofs.Lates.{Advances, advances-line, advances-then, advances-map, to-first, to-second, to-map, many-on, next-after}
 use Rattle.ring_text.proofs.FrameLaws.{header-at, end-at}
-use Rattle.ring_table.specs.Value.{RingValue}
+use Rattle.ring_table.specs.Value.{RingValue, migrated}
 use Rattle.ring_table.specs.Reading.{ring_at}
 use Rattle.plan_text.specs.declared.step.Planned.{Planned}
 use Rattle.plan_text.specs.Reading.{steps_at, plan_at}
 use Rattle.plan_text.proofs.PlanLates.{steps-on, steps-at}
 use Rattle.plan_cert.specs.declared.cert.Cert.{Cert}
-use Rattle.plan_cert.specs.Reading.{fact_at, chain_at, facts_at, chains_at, cert_at}
+use Rattle.plan_cert.specs.Reading.{fact_at, chain_at, begins_chain, facts_at, chains_at, cert_at}
+use Rattle.plan_cert.specs.Spelling.{cert_format}
+use Rattle.plan_cert.specs.Valid.{Suits}
 use Rattle.plan_cert.proofs.CertLates.{fact-at, chain-at}
 use Rattle.plan_check.specs.First.{first_refusal}
 use Rattle.ringplan_run.specs.declared.bundle.Bundle.{Bundle}
-use Rattle.ringplan_run.specs.Verdict.{bundle_of, bundle_at, judged, verdict}
+use Rattle.std.specs.Global.{Vec}
+use Rattle.ringplan_run.specs.Answers.{texts_of}
+use Rattle.ringplan_run.specs.Verdict.{bundle_of, bundle_at, judged, migrated_text, migration, verdict}
 
 pub verdict-bad : (bytes : List ℕ) (e : Refusal) → whole_text bundle_at bytes ≡ Err e → verdict bytes ≡ Err e
 unfolding verdict
@@ -26,6 +31,28 @@ verdict-bad bytes e h = rw h refl
 pub verdict-good : (bytes : List ℕ) (b : Bundle) → whole_text bundle_at bytes ≡ Ok b → verdict bytes ≡ judged (first_refusal b.ring b.plan b.cert)
 unfolding verdict
 verdict-good bytes b h = rw h refl
+
+pub migration-bad : (bytes : List ℕ) (e : Refusal) → whole_text bundle_at bytes ≡ Err e → migration bytes ≡ Err e
+unfolding migration
+migration-bad bytes e h = rw h refl
+
+pub migration-good : (bytes : List ℕ) (b : Bundle) → whole_text bundle_at bytes ≡ Ok b → migration bytes ≡ Ok (migrated_text b)
+unfolding migration
+migration-good bytes b h = rw h refl
+
+-- what writes the migrated texts of what was read, memory aside, gives the migration
+pub gives-migration : (bytes : List ℕ) (b : Bundle) (r : Result (Vec ℕ) Refusal) → whole_text bundle_at bytes ≡ Ok b → IfOk r (λ v. v.items ≡ migrated_text b) → IfErr r (λ e. e ≡ OutOfMemory)
+    → Gives (texts_of r) (migration bytes)
+gives-migration bytes b (Ok v) h p q = migration-good bytes b h ∙ ap Ok (sym p)
+gives-migration bytes b (Err e) h p q = λ other. absurd (other q)
+
+-- a certificate of a ring is one of the ring migrated: the nodes are the same
+pub cert-migrated : (ring : RingValue) (v : Cert) → Suits ring v → Suits (migrated ring) v
+cert-migrated ring v h = migrated-by (ring.format == 1)
+  where
+    migrated-by : (b : Bool) → Suits (if b then record ring { format = 2 } else ring) v
+    migrated-by true = record { few_facts = h.few_facts; facts = h.facts; few_chains = h.few_chains; chains = h.chains }
+    migrated-by false = h
 
 -- what was read has no fault
 pub no-fault : (n : ℕ) (bytes : List ℕ) (b : Bundle) → whole_text bundle_at bytes ≡ Ok b → NoFaultBefore n (whole_text bundle_at bytes)
@@ -38,17 +65,17 @@ steps-all ring = record { on = λ s. rw (sym (steps-at ring s)) (steps-on ring [
 
 pub plan-on : (ring : RingValue) → Advances (plan_at ring)
 unfolding plan_at
-plan-on ring = advances-map _ _ (advances-then _ _ (advances-line _ (header-at (codes "plan"))) (λ _. advances-then _ _ (steps-all ring) (λ _. advances-line end_line_at end-at)))
+plan-on ring = advances-map _ _ (advances-then _ _ (advances-line _ (header-at (codes "plan") (codes "1"))) (λ _. advances-then _ _ (steps-all ring) (λ _. advances-line end_line_at end-at)))
 
 facts-all : Advances facts_at
-facts-all = record { on = λ s. many-on (codes "fact") fact_at fact-at [] s.line s.lines }
+facts-all = record { on = λ s. many-on (is_word (codes "fact")) fact_at fact-at [] s.line s.lines }
 
 chains-all : (ring : RingValue) → Advances (chains_at ring)
-chains-all ring = record { on = λ s. many-on (codes "chain") (chain_at ring) (chain-at ring) [] s.line s.lines }
+chains-all ring = record { on = λ s. many-on (begins_chain ring) (chain_at ring) (chain-at ring) [] s.line s.lines }
 
 pub cert-on : (ring : RingValue) → Advances (cert_at ring)
 unfolding cert_at
-cert-on ring = advances-map _ _ (advances-then _ _ (advances-line _ (header-at (codes "cert"))) (λ _. advances-then _ _ facts-all (λ _. advances-then _ _ (chains-all ring) (λ _. advances-line end_line_at end-at))))
+cert-on ring = advances-map _ _ (advances-then _ _ (advances-line _ (header-at (codes "cert") (cert_format ring))) (λ _. advances-then _ _ facts-all (λ _. advances-then _ _ (chains-all ring) (λ _. advances-line end_line_at end-at))))
 
 -- ---- a place in a bundle
 

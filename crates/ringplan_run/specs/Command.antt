@@ -1,15 +1,42 @@
 -- The command lines of the program.
-use Rattle.std.specs.Prelude.{◌≡◌, ◌≢◌, [], true, codes, ⊤}
-use Rattle.clap.specs.Words.{App, IsAmong, Kinds, new_app, with_subcommand}
+use Rattle.std.specs.Prelude.{◌≡◌, ◌≢◌, ℕ, true, false, List, Option, [], codes, ⊤, if◌then◌else◌}
+use Rattle.std.specs.Option.{option_map_or}
+use Rattle.std.specs.Str.{bytes_eq}
+use Rattle.clap.specs.Words.{App, IsAmong, Kinds, Row, fault_of, new_app, subcommand_of, with_subcommand}
 use Rattle.clap.specs.declared.error.kind.ErrorKind.{ErrorKind}
 use Rattle.clap.specs.declared.error.kind.ErrorKind.TheVariants.{DisplayHelp}
 use Rattle.ringplan_run.specs.declared.command.CommandLine.{CommandLine}
-use Rattle.ringplan_run.specs.declared.command.CommandLine.TheVariants.{Check, Help, Refused, OutOfMemory}
+use Rattle.ringplan_run.specs.declared.command.CommandLine.TheVariants.{Do, Help, Refused, OutOfMemory}
+use Rattle.ringplan_run.specs.declared.job.Job.{Job}
+use Rattle.ringplan_run.specs.declared.job.Job.TheVariants.{Check, Migrate}
 
--- `ringplan`, which wants its one subcommand `check`
+-- the word that asks for a job
+abbrev pub word_of : Job → List ℕ
+word_of Check = codes "check"
+word_of Migrate = codes "migrate"
+
+-- `ringplan`, which wants one of its subcommands `check` and `migrate`
 abbrev pub ringplan : App
-ringplan = let app = with_subcommand (new_app (codes "ringplan")) (new_app (codes "check")).top in
+ringplan =
+    let app = with_subcommand (with_subcommand (new_app (codes "ringplan")) (new_app (word_of Check)).top) (new_app (word_of Migrate)).top in
     record app { top = record app.top { subcommand_required = true } }
+
+-- what the words of a command line ask: how they fail, and where they do not, the job
+pub record Asked : Type 0 where
+  pub faults : Kinds
+  pub job : Job
+
+-- the job of a subcommand, by its name
+abbrev pub job_named : Option (List ℕ × List Row) → Job
+job_named subcommand = if option_map_or (λ x. bytes_eq x.0 (word_of Migrate)) subcommand false then Migrate else Check
+
+-- what these words ask
+abbrev pub asked : List (List ℕ) → Asked
+asked words = record { faults = fault_of ringplan words; job = job_named (subcommand_of ringplan words) }
+
+-- just that job
+abbrev pub only : Job → Asked
+only job = record { faults = []; job = job }
 
 -- the faults ask for help
 abbrev pub WantsHelp : Kinds → Type 0
@@ -19,9 +46,9 @@ WantsHelp kinds = IsAmong DisplayHelp kinds
 abbrev pub IsMistaken : Kinds → Type 0
 IsMistaken kinds = (k : ErrorKind) × (k ≢ DisplayHelp) × IsAmong k kinds
 
--- what a command line with these faults asks for, memory aside
-abbrev pub Answers : Kinds → CommandLine → Type 0
-Answers kinds Check = kinds ≡ []
-Answers kinds (Help text) = WantsHelp kinds
-Answers kinds (Refused text) = IsMistaken kinds
-Answers kinds OutOfMemory = ⊤
+-- what a command line that asks so is taken for, memory aside
+abbrev pub Answers : Asked → CommandLine → Type 0
+Answers asked (Do job) = asked ≡ only job
+Answers asked (Help text) = WantsHelp asked.faults
+Answers asked (Refused text) = IsMistaken asked.faults
+Answers asked OutOfMemory = ⊤

@@ -2,7 +2,7 @@
 
 ghost use Rattle.std.specs.Prelude.{◌≡◌, IfOk};
 ghost use Rattle.ring_names.specs.Refusals.{number_of};
-ghost use Rattle.ringplan_run.specs.Answers.{output_of, refused_status, status_of};
+ghost use Rattle.ringplan_run.specs.Answers.{output_of, refused_status, status_of, texts_of};
 
 use ring_names::Refusal;
 use std::alloc::{AllocError, Global};
@@ -26,21 +26,18 @@ pub fn status_of(refusal: &Refusal) -> u8
     }
 }
 
-/// The answer that tells a verdict: `yes`, or the refusal's line.
-pub fn answer_of(alloc: Global, verdict: Result<(), Refusal>) -> Result<Answer, AllocError>
-    ensures output { IfOk result (λ answer. answer.output.items ≡ output_of verdict) }
-    ensures status { IfOk result (λ answer. answer.status ≡ status_of verdict) }
+/// The answer that tells what a job found: its text, or the refusal's line.
+pub fn answer_of(alloc: Global, found: Result<Vec<u8>, Refusal>) -> Result<Answer, AllocError>
+    ensures output { IfOk result (λ answer. answer.output.items ≡ output_of (texts_of found)) }
+    ensures status { IfOk result (λ answer. answer.status ≡ status_of (texts_of found)) }
 {
-    let mut output = Vec::new(alloc);
-    let status = match verdict {
-        Ok(()) => {
-            output.extend_from_slice(b"yes\n")?;
-            0
-        }
+    match found {
+        Ok(output) => Ok(Answer { output, status: 0 }),
         Err(refusal) => {
+            let mut output = Vec::new(alloc);
             refusal.write_line(&mut output)?;
-            status_of(&refusal)
+            let status = status_of(&refusal);
+            Ok(Answer { output, status })
         }
-    };
-    Ok(Answer { output, status })
+    }
 }

@@ -1,19 +1,21 @@
-//! The verdict on a bundle.
+//! Bundles, and what a job makes of one.
 
-ghost use Rattle.std.specs.Prelude.{◌≡◌, IfOk, IfErr};
+ghost use Rattle.std.specs.Prelude.{◌≡◌, ◌++◌, ◌∷◌, [], IfOk, IfErr, codes};
 ghost use Rattle.ring_names.specs.declared.refusal.Refusal.TheVariants.{OutOfMemory};
 ghost use Rattle.ring_text.specs.Judging.{Gives};
 ghost use Rattle.ring_text.specs.Left.{Reads, whole_text};
 ghost use Rattle.ring_text.specs.Late.{Late, NoFaultBefore};
 ghost use Rattle.plan_text.specs.Valid.{Suits};
 ghost use Rattle.plan_check.specs.First.{first_refusal};
-ghost use Rattle.ringplan_run.specs.Verdict.{bundle_at, judged, verdict};
+ghost use Rattle.ringplan_run.specs.Answers.{texts_of};
+ghost use Rattle.ringplan_run.specs.Verdict.{IsOfRing, bundle_at, judged, made_by, migrated_text, migration, verdict};
 
-use plan_cert::{Cert, read_cert_section};
+use crate::job::Job;
+use plan_cert::{Cert, read_cert_section, write_cert};
 use plan_check::check;
-use plan_text::{Plan, read_plan_section};
+use plan_text::{Plan, read_plan_section, write_plan};
 use ring_names::Refusal;
-use ring_table::{Ring, read_ring_section};
+use ring_table::{Ring, read_ring_section, write_ring};
 use ring_text::Lines;
 use std::alloc::Global;
 
@@ -29,7 +31,7 @@ pub struct Bundle {
 #[tactic(auto, unfolding(crate::specs::Verdict::bundle_at))]
 fn read_parts(alloc: Global, lines: &mut Lines) -> Result<Bundle, Refusal>
     ensures read { Reads result lines.new (bundle_at lines.old) }
-    ensures suits { IfOk result (λ b. Suits b.ring b.plan) }
+    ensures parts { IfOk result IsOfRing }
     ensures late { Late 4 result lines.old lines.new (bundle_at lines.old) }
 {
     let ring = read_ring_section(alloc, lines)?;
@@ -41,7 +43,7 @@ fn read_parts(alloc: Global, lines: &mut Lines) -> Result<Bundle, Refusal>
 // The parts of a bundle, and nothing behind them.
 fn read_bundle(alloc: Global, bytes: &[u8]) -> Result<Bundle, Refusal>
     ensures read { Gives result (whole_text bundle_at bytes.now) }
-    ensures suits { IfOk result (λ b. Suits b.ring b.plan) }
+    ensures parts { IfOk result IsOfRing }
     ensures late { IfErr result (λ e. e ≡ OutOfMemory → NoFaultBefore 5 (whole_text bundle_at bytes.now)) }
 {
     let mut lines = Lines::of(bytes);
@@ -75,5 +77,57 @@ pub fn check_bundle(alloc: Global, bytes: &[u8]) -> Result<(), Refusal>
     match read_bundle(alloc, bytes) {
         Ok(bundle) => check_plan(alloc, bundle.ring, bundle.plan, &bundle.cert),
         Err(e) => Err(e),
+    }
+}
+
+// The texts of a bundle, with the ring migrated. A plan's text names nodes, which stay.
+fn write_migrated(alloc: Global, bundle: Bundle) -> Result<Vec<u8>, Refusal>
+    requires { IsOfRing bundle }
+    ensures text { IfOk result (λ v. v.items ≡ migrated_text bundle) }
+    ensures memory { IfErr result (λ e. e ≡ OutOfMemory) }
+{
+    let Bundle { ring, plan, cert } = bundle;
+    let steps = write_plan(alloc, &ring, &plan)?;
+    let ring = ring.migrate();
+    let mut out = write_ring(alloc, &ring)?;
+    out.extend_from_slice(steps.as_slice())?;
+    let chains = write_cert(alloc, &ring, &cert)?;
+    out.extend_from_slice(chains.as_slice())?;
+    Ok(out)
+}
+
+/// The texts of a bundle with a ring of format 1 in format 2, and the certificate in the format that goes with it. A ring of
+/// another format stays, and with it the texts. Nothing is checked: the only refusals are the first fault of the texts, and
+/// `OutOfMemory`, which comes only where memory ran out, behind the first four lines of the ring.
+pub fn migrate_bundle(alloc: Global, bytes: &[u8]) -> Result<Vec<u8>, Refusal>
+    ensures read { Gives (texts_of result) (migration bytes.now) }
+    // Memory may run out only if the first four lines have no fault.
+    ensures late { IfErr result (λ e. e ≡ OutOfMemory → NoFaultBefore 5 (whole_text bundle_at bytes.now)) }
+{
+    match read_bundle(alloc, bytes) {
+        Ok(bundle) => write_migrated(alloc, bundle),
+        Err(e) => Err(e),
+    }
+}
+
+// What is printed where a plan is accepted.
+fn yes(alloc: Global) -> Result<Vec<u8>, Refusal>
+    ensures text { IfOk result (λ v. v.items ≡ codes "yes" ++ 10 ∷ []) }
+    ensures memory { IfErr result (λ e. e ≡ OutOfMemory) }
+{
+    let text = Vec::from_slice(alloc, b"yes\n")?;
+    Ok(text)
+}
+
+/// The text that a job makes of a bundle, or the refusal.
+pub fn make(alloc: Global, job: Job, bytes: &[u8]) -> Result<Vec<u8>, Refusal>
+    ensures { Gives (texts_of result) (made_by job bytes.now) }
+{
+    match job {
+        Job::Check => {
+            check_bundle(alloc, bytes)?;
+            yes(alloc)
+        }
+        Job::Migrate => migrate_bundle(alloc, bytes),
     }
 }

@@ -1,19 +1,35 @@
 //! The command line.
 
-ghost use Rattle.std.specs.Prelude.{◌≡◌, ◌⊎◌, ◌∷◌, [], IfOk, codes, drop, map};
-ghost use Rattle.clap.specs.Words.{app_of, fault_of};
-ghost use Rattle.ringplan_run.specs.Command.{ringplan, Answers};
+ghost use Rattle.std.specs.Prelude.{◌≡◌, ◌⊎◌, ◌∷◌, [], IfOk, drop, map};
+ghost use Rattle.clap.specs.Words.{app_of, subcommand_rows_of};
+ghost use Rattle.ringplan_run.specs.Command.{Answers, asked, job_named, ringplan, word_of};
+ghost use Rattle.ringplan_run.specs.declared.job.Job.{Job};
 
-use clap::Command;
+use crate::job::Job;
 use clap::error::ErrorKind;
+use clap::{ArgMatches, Command};
 use std::alloc::{AllocError, Global};
 use std::convert::AsStr;
 
-const ABOUT: &str = "Checks a plan that moves the keys of a ring";
+const ABOUT: &str =
+    "Checks a plan that moves the keys of a ring, or brings its texts to a later format";
 
 const CHECK: &str = "Checks the bundle on standard input";
 
+const MIGRATE: &str =
+    "Prints the bundle on standard input with a ring of format 1 in format 2; checks nothing";
+
 const STREAMS: &str = "\
+Standard input: a bundle, which is the text of a ring, then that of a plan, then that of its certificate.
+Standard output: of `check` the line `yes`, of `migrate` the bundle; else one line of `no`, the refusal's number and its values.
+
+Exit status:
+  0  yes, or the bundle was printed
+  1  the plan is refused (`check` alone)
+  2  a text or the command line is refused
+  3  out of memory, or the input or the output failed";
+
+const CHECK_STREAMS: &str = "\
 Standard input: a bundle, which is the text of a ring, then that of a plan, then that of its certificate.
 Standard output: `yes`, or one line of `no`, the refusal's number and its values.
 
@@ -23,11 +39,21 @@ Exit status:
   2  a text or the command line is refused
   3  out of memory, or the input or the output failed";
 
+const MIGRATE_STREAMS: &str = "\
+Standard input: a bundle, which is the text of a ring, then that of a plan, then that of its certificate.
+Standard output: the bundle, with `ring 2` and `cert 2` where the ring was of format 1, and else as it was; or one
+line of `no`, the number of the first fault of the texts and its line. Whether the plan may run is not asked.
+
+Exit status:
+  0  the bundle was printed
+  2  a text or the command line is refused
+  3  out of memory, or the input or the output failed";
+
 /// What a command line asks for.
 #[derive(Debug, Drop)]
 pub enum CommandLine {
-    /// To check a bundle.
-    Check,
+    /// To do something with a bundle.
+    Do(Job),
     /// To be told how to use the program, by this text.
     Help(Vec<u8>),
     /// Nothing that there is, as this text says.
@@ -38,9 +64,9 @@ pub enum CommandLine {
 
 /// Reads a command line, whose first word is the program's name.
 pub fn parse<S: AsStr>(alloc: Global, words: &[S]) -> CommandLine
-    ensures kinds { Answers (fault_of ringplan (map S.text words.now)) result }
-    ensures check { drop 1 (map S.text words.now) ≡ codes "check" ∷ []
-        → (result ≡ CommandLine.Check) ⊎ (result ≡ CommandLine.OutOfMemory) }
+    ensures kinds { Answers (asked (map S.text words.now)) result }
+    ensures job { (job : Job) → drop 1 (map S.text words.now) ≡ word_of job ∷ []
+        → (result ≡ CommandLine.Do job) ⊎ (result ≡ CommandLine.OutOfMemory) }
 {
     match try_parse(alloc, words) {
         Ok(line) => line,
@@ -49,10 +75,10 @@ pub fn parse<S: AsStr>(alloc: Global, words: &[S]) -> CommandLine
 }
 
 fn try_parse<S: AsStr>(alloc: Global, words: &[S]) -> Result<CommandLine, AllocError>
-    ensures { IfOk result (Answers (fault_of ringplan (map S.text words.now))) }
+    ensures { IfOk result (Answers (asked (map S.text words.now))) }
 {
     match command(alloc)?.try_get_matches_from(words) {
-        Ok(_) => Ok(CommandLine::Check),
+        Ok(matches) => Ok(CommandLine::Do(job_of(&matches))),
         Err(error) => {
             let text = format!(in alloc; "{error}")?.into_bytes();
             match error.kind() {
@@ -64,16 +90,30 @@ fn try_parse<S: AsStr>(alloc: Global, words: &[S]) -> Result<CommandLine, AllocE
     }
 }
 
+// The job that is named by the subcommand.
+fn job_of(matches: &ArgMatches) -> Job
+    ensures { result ≡ job_named (subcommand_rows_of matches.now) }
+{
+    match matches.subcommand_matches("migrate") {
+        Some(_) => Job::Migrate,
+        None => Job::Check,
+    }
+}
+
 // The command lines that there are.
 fn command<'a>(alloc: Global) -> Result<Command<'a>, AllocError>
     ensures { IfOk result (λ command. app_of command ≡ ringplan) }
 {
     let check = Command::new(alloc, "check")
         .about(CHECK)
-        .after_help(STREAMS);
+        .after_help(CHECK_STREAMS);
+    let migrate = Command::new(alloc, "migrate")
+        .about(MIGRATE)
+        .after_help(MIGRATE_STREAMS);
     Command::new(alloc, "ringplan")
         .about(ABOUT)
         .after_help(STREAMS)
         .subcommand_required(true)
-        .subcommand(check)
+        .subcommand(check)?
+        .subcommand(migrate)
 }

@@ -6,8 +6,9 @@ mod answer;
 mod bundle;
 mod command;
 mod input;
+mod job;
 mod output;
 mod program;
 
-pub use bundle::check_bundle;
+pub use bundle::{check_bundle, migrate_bundle};
 pub use program::{end_without_memory, end_without_words, run};

@@ -1,16 +1,18 @@
 //! The program, over any input and any output.
 
-ghost use Rattle.std.specs.Prelude.{◌≡◌, ◌∷◌, ℕ, List, [], IfOk, codes, drop, map};
-ghost use Rattle.clap.specs.Words.{fault_of};
+ghost use Rattle.std.specs.Prelude.{◌≡◌, ◌∷◌, ℕ, List, [], IfOk, drop, map};
 ghost use Rattle.ring_names.specs.Refusals.{line_of};
-ghost use Rattle.ringplan_run.specs.Command.{ringplan};
+ghost use Rattle.ringplan_run.specs.Answers.{texts_of};
+ghost use Rattle.ringplan_run.specs.Command.{asked, only, word_of};
 ghost use Rattle.ringplan_run.specs.Io.{Tells};
-ghost use Rattle.ringplan_run.specs.Run.{Checks, Prints, Runs, Says};
+ghost use Rattle.ringplan_run.specs.Run.{Finds, Prints, Runs, Says};
+ghost use Rattle.ringplan_run.specs.declared.job.Job.{Job};
 
 use crate::answer::{Answer, answer_of};
-use crate::bundle::check_bundle;
+use crate::bundle::make;
 use crate::command::{CommandLine, parse};
 use crate::input::read_all;
+use crate::job::Job;
 use crate::output::write_all;
 use ring_names::Refusal;
 use std::alloc::{AllocError, Global};
@@ -31,8 +33,8 @@ const FAILED: u8 = 3;
 const REFUSED: u8 = 2;
 
 /// Runs a command line, whose first word is the program's name, and returns the exit status: 0 for
-/// yes and for help, 1 for a plan that is refused, 2 for a text or a command line that is refused,
-/// and 3 where memory, the input or the output failed.
+/// yes, for migrated texts and for help, 1 for a plan that is refused, 2 for a text or a command line
+/// that is refused, and 3 where memory, the input or the output failed.
 pub fn run<RT: AllocGlobal, S: AsStr, R: Read + Drop, W: Write>(
     rt: &RT,
     words: &[S],
@@ -40,10 +42,11 @@ pub fn run<RT: AllocGlobal, S: AsStr, R: Read + Drop, W: Write>(
     output: &mut W,
 ) -> u8
     ensures line { (bytes : List ℕ) × Tells (R.remaining input.old) bytes
-        × Runs (fault_of ringplan (map S.text words.now)) bytes (W.contents output.old) (W.contents output.new) result }
-    ensures check { drop 1 (map S.text words.now) ≡ codes "check" ∷ []
+        × Runs (asked (map S.text words.now)) bytes (W.contents output.old) (W.contents output.new) result }
+    // `check` alone asks for the check, and `migrate` alone for the migration.
+    ensures job { (job : Job) → drop 1 (map S.text words.now) ≡ word_of job ∷ []
         → (bytes : List ℕ) × Tells (R.remaining input.old) bytes
-        × Runs [] bytes (W.contents output.old) (W.contents output.new) result }
+        × Runs (only job) bytes (W.contents output.old) (W.contents output.new) result }
 {
     match decide(rt.alloc(), words, input) {
         Ok(answer) => finish(output, answer.output.as_slice(), answer.status),
@@ -72,22 +75,22 @@ fn decide<S: AsStr, R: Read + Drop>(
     input: &mut R,
 ) -> Result<Answer, AllocError>
     ensures { IfOk result (λ answer. (bytes : List ℕ) × Tells (R.remaining input.old) bytes
-        × Says (fault_of ringplan (map S.text words.now)) bytes answer.output.items answer.status) }
+        × Says (asked (map S.text words.now)) bytes answer.output.items answer.status) }
 {
     match parse(alloc, words) {
-        CommandLine::Check => answer_of(alloc, check_input(alloc, input)),
+        CommandLine::Do(job) => answer_of(alloc, make_of(alloc, job, input)),
         CommandLine::Help(output) => Ok(Answer { output, status: 0 }),
         CommandLine::Refused(output) => Ok(Answer { output, status: 2 }),
         CommandLine::OutOfMemory => Err(AllocError),
     }
 }
 
-// The verdict on the whole input.
-fn check_input<R: Read + Drop>(alloc: Global, input: &mut R) -> Result<(), Refusal>
-    ensures { (bytes : List ℕ) × Tells (R.remaining input.old) bytes × Checks bytes result }
+// The text that a job makes of the whole input.
+fn make_of<R: Read + Drop>(alloc: Global, job: Job, input: &mut R) -> Result<Vec<u8>, Refusal>
+    ensures { (bytes : List ℕ) × Tells (R.remaining input.old) bytes × Finds job bytes (texts_of result) }
 {
     let bytes = read_all(alloc, input)?;
-    check_bundle(alloc, bytes.as_slice())
+    make(alloc, job, bytes.as_slice())
 }
 
 // Prints the text, and ends with the status, or with 3 where the output fails.

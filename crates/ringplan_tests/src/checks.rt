@@ -7,7 +7,7 @@ use plan_cert::{Cert, read_cert};
 use plan_check::check;
 use plan_cover::{check_node, check_nodes};
 use plan_order::{Facts, verify_fact};
-use plan_stage::{check_partition, parties, stage_at};
+use plan_stage::{check_partition, parties, sources, stage_at};
 use plan_text::{Plan, read_plan};
 use ring_names::{NodeId, Refusal, Slot};
 use ring_table::{Ring, read_ring};
@@ -86,6 +86,8 @@ fn parties_of<RT: AllocGlobal + Abort>(rt: &RT, ring: &Ring, plan: &Plan) -> Res
         second.as_slice(),
         [NodeId(0), NodeId(1), NodeId(3)].as_slice()
     );
+    let read = sources(rt.alloc(), ring, plan, 5)?;
+    assert_eq!(rt; read.as_slice(), [NodeId(0), NodeId(3)].as_slice());
     let none = parties(rt.alloc(), ring, plan, 3)?;
     assert!(rt; none.as_slice().is_empty());
     Ok(())

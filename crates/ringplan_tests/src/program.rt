@@ -30,7 +30,8 @@ fn told<RT: AllocGlobal + Abort>(
 
 #[test]
 fn helps_printed(rt: HostRuntime) -> Result<(), Fail> {
-    told(&rt, &["ringplan", "--help", "-h"], 0, "check")?;
+    told(&rt, &["ringplan", "--help", "-h"], 0, "migrate")?;
+    told(&rt, &["ringplan", "migrate", "-h"], 0, "checks nothing")?;
     told(&rt, &["ringplan", "check", "--help"], 0, "Exit status")?;
     told(&rt, &["ringplan", "help", "check"], 0, "Exit status")
 }
@@ -51,9 +52,9 @@ fn mistakes_told(rt: HostRuntime) -> Result<(), Fail> {
     )?;
     told(
         &rt,
-        &["ringplan", "check", "check"],
+        &["ringplan", "check", "migrate"],
         2,
-        "error: unexpected argument 'check'",
+        "error: unexpected argument 'migrate'",
     )
 }
 

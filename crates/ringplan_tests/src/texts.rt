@@ -6,7 +6,7 @@ ghost use Rattle.plan_text.specs.Valid.{Suits};
 use plan_cert::{Cert, Chains, read_cert, write_cert};
 use plan_text::{Plan, read_plan, write_plan};
 use ring_names::{NodeId, Refusal, Rows};
-use ring_table::{Ring, push_row, read_ring, write_ring};
+use ring_table::{NodeSide, Ring, Side, push_row, read_ring, write_ring};
 use std::alloc::{AllocError, Global};
 use std::process::Abort;
 use std::test::Fail;
@@ -26,14 +26,60 @@ const CERTS: [&str; 5] = [
     "cert 1\nfact 7 7\nfact 4294967295 0\nchain a 1 2 3 4 5 6 7 8 9\nend\n",
 ];
 
+// Node b counts apart what it receives and what reads from it.
+const SPLIT: &[u8] =
+    b"ring 2\nspace 1\nquorum 2 1 2\nnode a 4 in\nnode b 1 2 in\nslots 0 a b\nend\n";
+
+// One store may be lost.
+const LOSS: &[u8] =
+    b"ring 3\nspace 1\nquorum 2 2 2 1\nnode a 4 in\nnode b 1 2 in\nslots 0 a b\nend\n";
+
+const SPLIT_CERTS: [&str; 2] = [
+    "cert 2\nend\n",
+    "cert 2\nfact 7 7\ngive b 2 5\nchain a 2\ntake b 7\ngive b 9\nend\n",
+];
+
+// A ring is written as it was read.
+fn ring_written<RT: AllocGlobal + Abort>(rt: &RT, text: &[u8]) -> Result<(), Fail> {
+    let ring = read_ring(rt.alloc(), text)?;
+    let written = write_ring(rt.alloc(), &ring)?;
+    assert_eq!(rt; written.as_slice(), text);
+    Ok(())
+}
+
 #[test]
 fn rings_written(rt: HostRuntime) -> Result<(), Fail> {
+    ring_written(&rt, RING)?;
+    ring_written(&rt, SPLIT)?;
+    ring_written(&rt, LOSS)
+}
+
+#[test]
+fn members_known(rt: HostRuntime) -> Result<(), Fail> {
     let ring = read_ring(rt.alloc(), RING)?;
     assert!(rt; ring.is_member(NodeId(2)));
     assert!(rt; !ring.is_member(NodeId(3)));
-    let text = write_ring(rt.alloc(), &ring)?;
-    assert_eq!(rt; text.as_slice(), RING);
     Ok(())
+}
+
+// A ring that is migrated is written so.
+fn ring_migrated<RT: AllocGlobal + Abort>(rt: &RT, text: &[u8], to: &[u8]) -> Result<(), Fail> {
+    let ring = read_ring(rt.alloc(), text)?;
+    let ring = ring.migrate();
+    let written = write_ring(rt.alloc(), &ring)?;
+    assert_eq!(rt; written.as_slice(), to);
+    Ok(())
+}
+
+#[test]
+fn rings_migrated(rt: HostRuntime) -> Result<(), Fail> {
+    ring_migrated(
+        &rt,
+        b"ring 1\nspace 1\nquorum 1 1 1\nnode a 1 in\nslots 0 a\nend\n",
+        b"ring 2\nspace 1\nquorum 1 1 1\nnode a 1 in\nslots 0 a\nend\n",
+    )?;
+    ring_migrated(&rt, SPLIT, SPLIT)?;
+    ring_migrated(&rt, LOSS, LOSS)
 }
 
 // A row is written with the names of the ring's nodes.
@@ -76,6 +122,15 @@ fn cert_written<RT: AllocGlobal + Abort>(rt: &RT, ring: &Ring, text: &str) -> Re
 fn certificates_written(rt: HostRuntime) -> Result<(), Fail> {
     let ring = read_ring(rt.alloc(), RING)?;
     for text in CERTS {
+        cert_written(&rt, &ring, text)?;
+    }
+    Ok(())
+}
+
+#[test]
+fn split_certificates_written(rt: HostRuntime) -> Result<(), Fail> {
+    let ring = read_ring(rt.alloc(), SPLIT)?;
+    for text in SPLIT_CERTS {
         cert_written(&rt, &ring, text)?;
     }
     Ok(())
@@ -174,13 +229,21 @@ fn longest_facts(rt: HostRuntime) -> Result<(), Fail> {
     Ok(())
 }
 
+// A side of the node of that number.
+fn side_of(node: u32, side: Side) -> NodeSide {
+    NodeSide {
+        node: NodeId(node),
+        side,
+    }
+}
+
 #[test]
 fn chains_kept(rt: HostRuntime) -> Result<(), Fail> {
     let mut chains = Chains::new(rt.alloc());
-    chains.push(NodeId(1), &[2, 5])?;
-    chains.push(NodeId(3), &[2])?;
+    chains.push(side_of(1, Side::Both), &[2, 5])?;
+    chains.push(side_of(3, Side::Give), &[2])?;
     assert_eq!(rt; chains.len(), 2);
-    assert_eq!(rt; chains.node(1), NodeId(3));
+    assert_eq!(rt; chains.of(1), side_of(3, Side::Give));
     assert_eq!(rt; chains.steps(0), [2, 5].as_slice());
     Ok(())
 }
@@ -188,7 +251,7 @@ fn chains_kept(rt: HostRuntime) -> Result<(), Fail> {
 // A certificate with one chain of a node that the ring does not have.
 fn strange_cert(alloc: Global) -> Result<Cert, Refusal> {
     let mut chains = Chains::new(alloc);
-    chains.push(NodeId(4), &[2])?;
+    chains.push(side_of(4, Side::Both), &[2])?;
     Ok(Cert {
         facts: Rows::new(alloc),
         chains,

@@ -1,14 +1,19 @@
 -- How the checker looks at a clause: the clauses of a node over what a cover keeps of it.
-use Rattle.std.specs.Prelude.{ℕ, Bool, true, List, [], ◌∷◌, min, Option, Some, None, slice_get}
+use Rattle.std.specs.Prelude.{ℕ, Bool, true, ◌&&◌, List, [], ◌∷◌, length, map, min, Option, Some, None, slice_get, if◌then◌else◌}
 use Rattle.ring_names.specs.Lists.{has}
 use Rattle.ring_names.specs.declared.ids.NodeId.{NodeId}
-use Rattle.ring_names.specs.declared.refusal.Refusal.TheVariants.{NotJoined, CoverMissing, ChainBroken}
-use Rattle.ring_table.specs.Value.{RingValue}
+use Rattle.ring_names.specs.declared.lists.Lists.{Lists}
+use Rattle.ring_names.specs.declared.refusal.Refusal.TheVariants.{NotJoined, CoverMissing, ChainBroken, TooManyChains}
+use Rattle.ring_table.specs.declared.allowance.NodeSide.{NodeSide}
+use Rattle.ring_table.specs.declared.allowance.Side.{Side}
+use Rattle.ring_table.specs.declared.allowance.Side.TheVariants.{Both}
+use Rattle.ring_table.specs.Value.{RingValue, is_side}
 use Rattle.plan_text.specs.declared.step.Planned.{Planned}
 use Rattle.plan_cert.specs.declared.cert.Chain.{Chain}
 use Rattle.plan_stage.specs.Clauses.{Guard}
 use Rattle.plan_stage.specs.Partition.{Test, has_joined}
-use Rattle.plan_cover.specs.Clauses.{is_linked, in_some}
+use Rattle.plan_cover.specs.Clauses.{is_linked, in_some, has_side, is_few}
+use Rattle.plan_cover.specs.Looking.Numbers.{sides_kept}
 
 -- where step n retires the node, the node is on the ring before it
 abbrev pub retirement_guards : RingValue → List Planned → Test → NodeId → Option ℕ → List Guard
@@ -26,15 +31,31 @@ is_linked_in copies O steps = is_linked (λ n. has n copies) O steps
 abbrev pub steps_at : List Chain → ℕ → List ℕ
 steps_at chains k = elim (slice_get chains k) [ Some c ↦ c.steps | None ↦ [] ]
 
--- the steps of each of these chains
-abbrev pub chains_at : List Chain → List ℕ → List (List ℕ)
-chains_at chains [] = []
-chains_at chains (k ∷ ks) = steps_at chains k ∷ chains_at chains ks
+-- the side of the chain of that number
+abbrev pub side_at : List Chain → ℕ → Side
+side_at chains k = elim (slice_get chains k) [ Some c ↦ c.side | None ↦ Both ]
 
--- the chain of that number is linked
-abbrev pub chain_guard : List ℕ → Test → List Chain → ℕ → Guard
-chain_guard copies O chains k = (is_linked_in copies O (steps_at chains k), ChainBroken (min k 4294967295))
+-- the steps of those of these chains that are of the side
+abbrev pub chains_at : List Chain → Side → List ℕ → List (List ℕ)
+chains_at chains side [] = []
+chains_at chains side (k ∷ ks) =
+    if is_side side (side_at chains k) then steps_at chains k ∷ chains_at chains side ks else chains_at chains side ks
+
+-- the chain of that number is of a side that the node has, and is linked in the copies of that side
+abbrev pub chain_guard : RingValue → NodeId → (Side → List ℕ) → Test → List Chain → ℕ → Guard
+chain_guard ring x copies O chains k = (
+  has_side ring x (side_at chains k) && is_linked_in (copies (side_at chains k)) O (steps_at chains k),
+  ChainBroken (min k 4294967295),
+)
 
 -- step n is in one of the chains
 abbrev pub copy_guard : List (List ℕ) → NodeId → ℕ → Guard
 copy_guard chains x n = (in_some n chains, CoverMissing x.0 n)
+
+-- the copies of that side of the node are in its chains of that side
+abbrev pub side_guards : Lists NodeSide ℕ → List Chain → List ℕ → NodeId → Side → List Guard
+side_guards copies chains numbers x side = map (copy_guard (chains_at chains side numbers) x) (sides_kept copies x side)
+
+-- there are not too many chains of that side
+abbrev pub count_guards : RingValue → List Chain → List ℕ → NodeId → Side → List Guard
+count_guards ring chains numbers x side = (is_few ring x side (length (chains_at chains side numbers)), TooManyChains x.0) ∷ []

@@ -1,7 +1,11 @@
 -- How the checker looks at a clause: numbers of entries that pass a test, and what is kept of them for each node.
-use Rattle.std.specs.Prelude.{◌≡◌, ℕ, ◌+◌, ◌-◌, Bool, false, ◌==◌, List, [], ◌∷◌, ◌++◌, Some, None, length, slice_get, if◌then◌else◌}
+use Rattle.std.specs.Prelude.{◌≡◌, ℕ, ◌+◌, ◌-◌, Bool, true, false, ◌==◌, ◌&&◌, List, [], ◌∷◌, ◌++◌, Some, None, length, slice_get, if◌then◌else◌}
 use Rattle.ring_names.specs.ByKey.{list_at}
 use Rattle.ring_names.specs.contracts.ids.NodeIdPartialEq.TheImpl as node_eq
+use Rattle.ring_table.specs.contracts.allowance.NodeSidePartialEq.TheImpl as side_eq
+use Rattle.ring_table.specs.declared.allowance.NodeSide.{NodeSide}
+use Rattle.ring_table.specs.declared.allowance.Side.{Side}
+use Rattle.ring_text.specs.Numbers.{ascending}
 use Rattle.ring_names.specs.declared.ids.NodeId.{NodeId}
 use Rattle.ring_names.specs.declared.lists.Lists.{Lists}
 use Rattle.ring_table.specs.Value.{RingValue}
@@ -10,7 +14,8 @@ use Rattle.plan_cert.specs.declared.cert.Chain.{Chain}
 use Rattle.plan_cert.specs.declared.cert.Cert.{Cert}
 use Rattle.plan_stage.specs.Occupancy.{is_node}
 use Rattle.plan_stage.specs.Stage.{is_among}
-use Rattle.plan_stage.specs.Parties.{parties}
+use Rattle.plan_stage.specs.Parties.{parties_on}
+use Rattle.plan_cover.specs.Clauses.{has_side}
 use Rattle.plan_cover.specs.declared.cover.Cover.{Cover}
 
 -- the numbers of the entries that pass the test, ascending, where the first has number k
@@ -18,17 +23,17 @@ abbrev pub numbers_from : {A : Type 0} → (ℕ → A → Bool) → ℕ → List
 numbers_from test k [] = []
 numbers_from test k (x ∷ xs) = if test k x then k ∷ numbers_from test (k + 1) xs else numbers_from test (k + 1) xs
 
--- whether step n is a copy in which the node takes part
-abbrev pub takes_part : RingValue → List Planned → NodeId → ℕ → Planned → Bool
-takes_part ring plan x n p = is_among x (parties ring plan n)
+-- whether the node has the side, and step n is a copy in which it takes part on that side
+abbrev pub takes_part : RingValue → List Planned → NodeSide → ℕ → Planned → Bool
+takes_part ring plan y n p = has_side ring y.node y.side && is_among y.node (parties_on ring plan y.side n)
 
 -- whether the chain is the node's
 abbrev pub is_chain_of : NodeId → ℕ → Chain → Bool
 is_chain_of x k c = is_node x c.node
 
--- the copies in which the node takes part, ascending
-abbrev pub copies_of : RingValue → List Planned → NodeId → List ℕ
-copies_of ring plan x = numbers_from (takes_part ring plan x) 0 plan
+-- the copies of that side of the node, ascending
+abbrev pub copies_of : RingValue → List Planned → NodeSide → List ℕ
+copies_of ring plan y = numbers_from (takes_part ring plan y) 0 plan
 
 -- the node's chains, by number
 abbrev pub chain_numbers : List Chain → NodeId → List ℕ
@@ -37,6 +42,18 @@ chain_numbers chains x = numbers_from (is_chain_of x) 0 chains
 -- the numbers that are kept for the node
 abbrev pub kept_of : Lists NodeId ℕ → NodeId → List ℕ
 kept_of a x = list_at ((node_eq.ghosts).eq) a x
+
+-- the numbers that are kept for the side of a node
+abbrev pub copies_kept : Lists NodeSide ℕ → NodeSide → List ℕ
+copies_kept a y = list_at ((side_eq.ghosts).eq) a y
+
+-- those of each side of the node
+abbrev pub sides_kept : Lists NodeSide ℕ → NodeId → Side → List ℕ
+sides_kept a x side = copies_kept a (record { node = x; side = side })
+
+-- those of each side ascend
+abbrev pub AreAscending : Lists NodeSide ℕ → Type 0
+AreAscending a = (y : NodeSide) → ascending (copies_kept a y) ≡ true
 
 -- whether the last number is n
 abbrev pub is_last : ℕ → List ℕ → Bool
@@ -50,7 +67,7 @@ with_last n xs = if is_last n xs then xs else xs ++ n ∷ []
 abbrev pub with_last_if : Bool → ℕ → List ℕ → List ℕ
 with_last_if b n xs = if b then with_last n xs else xs
 
--- the copies and the chains of each node
+-- the copies of each side of a node, and the chains of each node
 pub record IsCover (ring : RingValue) (plan : List Planned) (cert : Cert) (a : Cover) : Type 0 where
-  pub copies : (x : NodeId) → kept_of a.copies x ≡ copies_of ring plan x
+  pub copies : (y : NodeSide) → copies_kept a.copies y ≡ copies_of ring plan y
   pub chains : (x : NodeId) → kept_of a.chains x ≡ chain_numbers cert.chains x

@@ -1,11 +1,11 @@
-use Rattle.std.proofs.Common.{◌≡◌, ◌-◌, ◌≤◌, length, codes}
+use Rattle.std.proofs.Common.{◌≡◌, ◌-◌, ◌≤◌, length}
 use Rattle.ring_text.specs.Left.{many_from}
-use Rattle.plan_cert.specs.Reading.{chain_at}
+use Rattle.plan_cert.specs.Reading.{chain_at, begins_chain}
 use Rattle.plan_cert.proofs.reading.read_chains.Given as goal
 
 abbrev pub invariant-chains : goal.invariant-chains
 invariant-chains l = record {
-  rest : many_from (codes "chain") (chain_at l.ring) l.chains l.lines.line l.lines.lines ≡ many_from (codes "chain") (chain_at l.fn.ring) l.fn.chains l.fn.lines.line l.fn.lines.lines;
+  rest : many_from (begins_chain l.ring) (chain_at l.ring) l.chains l.lines.line l.lines.lines ≡ many_from (begins_chain l.fn.ring) (chain_at l.fn.ring) l.fn.chains l.fn.lines.line l.fn.lines.lines;
   forward : l.fn.lines.line ≤ l.lines.line;
   few : length l.chains ≤ 65536;
 }

@@ -8,7 +8,7 @@ use Rattle.plan_cover.proofs.chains.chains_of.Goals as goal
 
 pub loop-k-preserved : goal.loop-k-preserved
 loop-k-preserved c = λ x.
-    c.in_ok-add.ensures.ok x ∙ ap (λ (l : List ℕ). cond (is_node x c.node.result) (l ++ c.loop-k.k ∷ []) l) (c.loop-k.invariant x) ∙ sym (chains-take c.args.chains.now c.loop-k.k c.node.result x c.node.ensures)
+    c.in_ok-add.ensures.ok x ∙ ap (λ (l : List ℕ). cond (is_node x c.of.result.node) (l ++ c.loop-k.k ∷ []) l) (c.loop-k.invariant x) ∙ sym (chains-take c.args.chains.now c.loop-k.k c.of.result x c.of.ensures)
 
 pub returns-clause-ok : goal.returns-clause-ok
 returns-clause-ok c = λ x.

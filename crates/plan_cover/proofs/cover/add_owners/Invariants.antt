@@ -1,15 +1,16 @@
 use Rattle.std.proofs.Common.{◌≡◌, true, map, length}
-use Rattle.std.specs.Prelude.{nat_lt}
+use Rattle.std.specs.Prelude.{nat_lt, ◌&&◌}
 use Rattle.std.specs.List.{list_all}
-use Rattle.ring_names.specs.declared.ids.NodeId.{NodeId}
-use Rattle.plan_cover.specs.Looking.Numbers.{kept_of, with_last_if}
-use Rattle.plan_cover.specs.Looking.Serving.{serving_at, owns_some}
+use Rattle.ring_table.specs.declared.allowance.NodeSide.{NodeSide}
+use Rattle.ring_table.specs.declared.allowance.Side.TheVariants.{Give}
+use Rattle.plan_cover.specs.Looking.Numbers.{copies_kept, with_last_if}
+use Rattle.plan_cover.specs.Looking.Serving.{serving_at, owns_some, counts_at}
 use Rattle.plan_cover.proofs.cover.add_owners.Given as goal
 
 abbrev pub invariant-slots : goal.invariant-slots
 invariant-slots l = record {
   within : list_all (λ i. nat_lt i l.ring.n) l.rest ≡ true;
-  added : (x : NodeId) → with_last_if (owns_some (serving_at l.ring l.present) (map (λ i. record { partition = l.partition; index = i }) l.rest) x) l.number (kept_of l.copies x) ≡ with_last_if (owns_some (serving_at l.ring l.present) (map (λ i. record { partition = l.partition; index = i }) l.from) x) l.number (kept_of l.fn.copies x);
+  added : (y : NodeSide) → with_last_if (counts_at l.ring Give y && owns_some (serving_at l.ring l.present) (map (λ i. record { partition = l.partition; index = i }) l.rest) y.node) l.number (copies_kept l.copies y) ≡ with_last_if (counts_at l.ring Give y && owns_some (serving_at l.ring l.present) (map (λ i. record { partition = l.partition; index = i }) l.from) y.node) l.number (copies_kept l.fn.copies y);
 }
 
 abbrev pub decreases-slots : goal.decreases-slots

@@ -1,6 +1,6 @@
 use Rattle.std.proofs.Common.{◌∙◌}
 use Rattle.plan_text.specs.Valid.{step_suits}
-use Rattle.plan_cover.specs.Looking.Numbers.{kept_of}
+use Rattle.plan_cover.specs.Looking.Numbers.{copies_kept}
 use Rattle.plan_cover.specs.Looking.Serving.{serving_at}
 use Rattle.plan_cover.proofs.Served.{serving-first, step-passes, copies-next, present-next}
 use Rattle.plan_cover.proofs.cover.all_copies.Goals as goal
@@ -24,7 +24,7 @@ loop-n-preserved c =
     let plan = c.args.plan.now in
     let t = c.step-step.result.now in
     record {
-      copies = λ x. copies-next ring plan c.loop-n.n (serving_at ring c.loop-n.present) x t (kept_of c.loop-n.copies x) (kept_of c.add_parties.new.copies x) c.step-step.ensures.value c.loop-n.invariant.present (c.loop-n.invariant.copies x) (c.in_ok-add_parties.ensures.ok x);
+      copies = λ y. copies-next ring plan c.loop-n.n (serving_at ring c.loop-n.present) y t (copies_kept c.loop-n.copies y) (copies_kept c.add_parties.new.copies y) c.step-step.ensures.value c.loop-n.invariant.present (c.loop-n.invariant.copies y) (c.in_ok-add_parties.ensures.ok y);
       present = λ s. present-next ring plan s c.loop-n.n t (serving_at ring c.loop-n.present s) (serving_at ring c.act.new.self s) c.step-step.ensures.value (c.loop-n.invariant.present s) (c.act.ensures.serving s);
       room = c.act.ensures.room;
     }

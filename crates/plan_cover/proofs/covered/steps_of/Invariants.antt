@@ -7,7 +7,7 @@ use Rattle.plan_cover.specs.Clauses.{in_some}
 use Rattle.plan_cover.proofs.covered.steps_of.Given as goal
 
 abbrev pub invariant-chains : goal.invariant-chains
-invariant-chains l = (n : ℕ) → (in_some n (chains_at l.chains l.rest) || contains nat_cmp l.covered n) ≡ in_some n (chains_at l.chains l.numbers)
+invariant-chains l = (n : ℕ) → (in_some n (chains_at l.chains l.side l.rest) || contains nat_cmp l.covered n) ≡ in_some n (chains_at l.chains l.side l.numbers)
 
 abbrev pub decreases-chains : goal.decreases-chains
 decreases-chains l = length l.rest

@@ -15,4 +15,4 @@ returns-then-place-nodes-clause-value c = λ h.
     (named-place c.nodes-nodes.result.now c.args.node.0 c.index-nodes-place.result c.args.name.now c.if-place-nodes.true same new)
 
 pub returns-then-place-nodes-clause-name : goal.returns-then-place-nodes-clause-name
-returns-then-place-nodes-clause-name c = λ h. placed-name c.args.ring.now.nodes c.args.name.now c.args.node.0 c.nodes-nodes.ensures.valid.each_node (returns-then-place-nodes-clause-value c h)
+returns-then-place-nodes-clause-name c = λ h. placed-name c.args.ring.now.format c.args.ring.now.nodes c.args.name.now c.args.node.0 c.nodes-nodes.ensures.valid.each_node (returns-then-place-nodes-clause-value c h)

@@ -1,4 +1,4 @@
-use Rattle.std.proofs.Common.{◌≡◌, ◌≤◌, arith}
+use Rattle.std.proofs.Common.{◌≤◌, arith}
 use Rattle.ring_text.proofs.Lates.{late-part, next-monotone}
 use Rattle.ring_table.specs.Reading.{body_at}
 use Rattle.ring_table.proofs.RingLates.{nodes-on, rows-on, body-nodes, body-rows}
@@ -13,7 +13,7 @@ returns-in_err-owners-clause-late c = late-part 1 c.from_residual-in_err-owners.
 
 pub returns-clause-far : goal.returns-clause-far
 returns-clause-far c =
-    let nodes = nodes-on.on c.args.lines.now in
+    let nodes = (nodes-on c.args.head.format).on c.args.lines.now in
     let past_nodes : c.args.lines.now.line ≤ c.read_nodes.new.lines.line = rw c.in_ok-declared.ensures.read at nodes in
     let rows = (rows-on c.in_ok-declared.declared c.args.head.quorum.n 0 c.args.head.q).on c.read_nodes.new.lines in
     let past_rows : c.read_nodes.new.lines.line ≤ c.read_rows.new.lines.line = rw c.in_ok-owners.ensures.read at rows in

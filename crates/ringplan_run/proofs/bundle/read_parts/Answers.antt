@@ -1,4 +1,4 @@
-use Rattle.std.proofs.Common.{◌≤◌, arith}
+use Rattle.std.proofs.Common.{arith}
 use Rattle.ring_text.proofs.Lates.{late-part}
 use Rattle.ringplan_run.specs.Verdict.{bundle_at}
 use Rattle.ringplan_run.proofs.Verdicts.{bundle-ring, bundle-plan, bundle-cert, two-on, past-plan}

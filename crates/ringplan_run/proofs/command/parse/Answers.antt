@@ -1,7 +1,9 @@
 use Rattle.std.proofs.Common.{map}
-use Rattle.ringplan_run.proofs.Commands.{check_asked}
+use Rattle.ringplan_run.specs.Command.{asked}
+use Rattle.ringplan_run.proofs.Commands.{asked_alone, job_asked}
 use Rattle.ringplan_run.proofs.command.parse.Goals as goal
 
-pub returns-in-Ok-clause-check : goal.returns-in-Ok-clause-check
-returns-in-Ok-clause-check g c =
-    λ e. check_asked (map g.S.AsStr.text c.args.words.now) c.in-Ok.line e c.in-Ok.ensures
+pub returns-in-Ok-clause-job : goal.returns-in-Ok-clause-job
+returns-in-Ok-clause-job g c = λ job e.
+    let words = map g.S.AsStr.text c.args.words.now in
+    job_asked job (asked words) c.in-Ok.line (asked_alone job words e) c.in-Ok.ensures

@@ -1,12 +1,15 @@
 use Rattle.std.proofs.Common.{◌∙◌, sym, map, Ok, Err}
 use Rattle.clap.specs.Words.{app_of, kind_of}
 use Rattle.clap.specs.declared.parser.matches.ArgMatches.{ArgMatches}
-use Rattle.ringplan_run.proofs.Commands.{parsed, helped, mistaken}
+use Rattle.ringplan_run.proofs.Commands.{parsed, asks_job, entered_by, helped, mistaken}
 use Rattle.ringplan_run.proofs.command.try_parse.Goals as goal
 
 pub returns-in-Ok : goal.returns-in-Ok
 returns-in-Ok g c =
-    parsed (app_of c.in_ok-command.field-0) (map g.S.AsStr.text c.args.words.now) (Ok c.in-Ok.field-0) c.in_ok-command.ensures c.in-Ok.ensures.kinds
+    let words = map g.S.AsStr.text c.args.words.now in
+    let none = parsed (app_of c.in_ok-command.field-0) words (Ok c.in-Ok.matches) c.in_ok-command.ensures c.in-Ok.ensures.kinds in
+    let met = entered_by (app_of c.in_ok-command.field-0) words c.in-Ok.matches c.in_ok-command.ensures c.in-Ok.ensures.matches in
+    asks_job words c.in-Ok.matches c.job_of.result none met c.job_of.ensures
 
 pub returns-in-DisplayHelp : goal.returns-in-DisplayHelp
 returns-in-DisplayHelp g c =

@@ -1,11 +1,12 @@
 use Rattle.std.proofs.Common.{refl}
+use Rattle.ringplan_run.specs.Answers.{texts_of}
 use Rattle.ringplan_run.specs.Run.{help, refused}
-use Rattle.ringplan_run.proofs.Runs.{said, said_verdict}
+use Rattle.ringplan_run.proofs.Runs.{said, said_found}
 use Rattle.ringplan_run.proofs.program.decide.Goals as goal
 
-pub returns-in-Check : goal.returns-in-Check
-returns-in-Check g c =
-    said_verdict _ (g.R.Read.remaining c.args.input.now) c.check_input.result c.answer_of.result c.in-Check.ensures.kinds c.check_input.ensures c.answer_of.ensures.output c.answer_of.ensures.status
+pub returns-in-Do : goal.returns-in-Do
+returns-in-Do g c =
+    said_found _ c.in-Do.job (g.R.Read.remaining c.args.input.now) (texts_of c.make_of.result) c.answer_of.result c.in-Do.ensures.kinds c.make_of.ensures c.answer_of.ensures.output c.answer_of.ensures.status
 
 pub returns-in-Help : goal.returns-in-Help
 returns-in-Help g c =

@@ -1,5 +1,5 @@
 use Rattle.plan_stage.proofs.Copies.{copy-suits}
-use Rattle.plan_stage.proofs.party.parties.Goals as goal
+use Rattle.plan_stage.proofs.party.parties_on.Goals as goal
 
 pub copy_parties-requires-clause-partition : goal.copy_parties-requires-clause-partition
 copy_parties-requires-clause-partition c =

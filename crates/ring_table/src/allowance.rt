@@ -1,0 +1,49 @@
+//! How many transfers may be open with a node.
+
+ghost use Rattle.std.specs.Prelude.{◌≡◌};
+ghost use Rattle.ring_table.specs.Value.{most_of};
+
+use ring_names::NodeId;
+
+/// The transfers of a node that one number of its allowance counts.
+#[derive(Clone, Copy, Debug, PartialEq, Eq, Hash)]
+pub enum Side {
+    /// All in which it takes part.
+    Both,
+    /// Those that it receives.
+    Take,
+    /// Those that read from it.
+    Give,
+}
+
+/// One side of a node.
+#[derive(Clone, Copy, Debug, PartialEq, Eq, Hash)]
+pub struct NodeSide {
+    pub node: NodeId,
+    pub side: Side,
+}
+
+/// The most transfers that may be open with a node at once, each number from 1 to 64.
+#[derive(Clone, Copy, Debug, PartialEq, Eq)]
+pub enum Allowance {
+    /// One number for all in which it takes part.
+    Joint(u32),
+    /// A number for those that it receives, and one for those that read from it. Not in a ring of format 1.
+    Split { take: u32, give: u32 },
+}
+
+impl Allowance {
+    /// The most transfers of that side that may be open at once, if the allowance counts the side.
+    pub fn most(&self, side: Side) -> Option<u32>
+        ensures { result ≡ most_of side self.now }
+    {
+        match (self, side) {
+            (Allowance::Joint(most), Side::Both) => Some(*most),
+            (Allowance::Split { take, give: _ }, Side::Take) => Some(*take),
+            (Allowance::Split { take: _, give }, Side::Give) => Some(*give),
+            (Allowance::Joint(_), Side::Take)
+            | (Allowance::Joint(_), Side::Give)
+            | (Allowance::Split { take: _, give: _ }, Side::Both) => None,
+        }
+    }
+}

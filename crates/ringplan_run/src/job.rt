@@ -1,0 +1,10 @@
+//! What there is to be done with a bundle.
+
+/// What there is to be done with a bundle.
+#[derive(Clone, Copy, Debug, PartialEq, Eq)]
+pub enum Job {
+    /// To tell whether the plan is accepted.
+    Check,
+    /// To print the texts with the ring in its next format.
+    Migrate,
+}
