@@ -5,7 +5,10 @@ ghost use Rattle.ring_names.specs.declared.refusal.Refusal.TheVariants.{OutOfMem
 ghost use Rattle.ring_text.specs.Judging.{Gives};
 ghost use Rattle.ring_text.specs.Left.{Reads, whole_text};
 ghost use Rattle.ring_text.specs.Late.{Late, NoFaultBefore};
+ghost use Rattle.ring_table.specs.Spelling.{ring_text};
 ghost use Rattle.plan_text.specs.Valid.{Suits};
+ghost use Rattle.plan_cert.specs.Spelling.{cert_text};
+ghost use Rattle.plan_cert.specs.Valid.{Suits as IsCertOf};
 ghost use Rattle.plan_check.specs.First.{first_refusal};
 ghost use Rattle.ringplan_run.specs.Answers.{texts_of};
 ghost use Rattle.ringplan_run.specs.Verdict.{IsOfRing, bundle_at, judged, made_by, migrated_text, migration, verdict};
@@ -80,6 +83,19 @@ pub fn check_bundle(alloc: Global, bytes: &[u8]) -> Result<(), Refusal>
     }
 }
 
+// The text of the ring, the plan's text as it is given, and the certificate's text.
+fn write_parts(alloc: Global, ring: &Ring, plan: &[u8], cert: &Cert) -> Result<Vec<u8>, Refusal>
+    requires { IsCertOf ring.now cert.now }
+    ensures text { IfOk result (λ v. v.items ≡ ring_text ring.now ++ (plan.now ++ cert_text ring.now cert.now)) }
+    ensures memory { IfErr result (λ e. e ≡ OutOfMemory) }
+{
+    let mut out = write_ring(alloc, ring)?;
+    out.extend_from_slice(plan)?;
+    let chains = write_cert(alloc, ring, cert)?;
+    out.extend_from_slice(chains.as_slice())?;
+    Ok(out)
+}
+
 // The texts of a bundle, with the ring migrated. A plan's text names nodes, which stay.
 fn write_migrated(alloc: Global, bundle: Bundle) -> Result<Vec<u8>, Refusal>
     requires { IsOfRing bundle }
@@ -89,11 +105,7 @@ fn write_migrated(alloc: Global, bundle: Bundle) -> Result<Vec<u8>, Refusal>
     let Bundle { ring, plan, cert } = bundle;
     let steps = write_plan(alloc, &ring, &plan)?;
     let ring = ring.migrate();
-    let mut out = write_ring(alloc, &ring)?;
-    out.extend_from_slice(steps.as_slice())?;
-    let chains = write_cert(alloc, &ring, &cert)?;
-    out.extend_from_slice(chains.as_slice())?;
-    Ok(out)
+    write_parts(alloc, &ring, steps.as_slice(), &cert)
 }
 
 /// The texts of a bundle with a ring of format 1 in format 2, and the certificate in the format that goes with it. A ring of
