@@ -3,6 +3,8 @@ use Rattle.std.proofs.Common.{◌≡◌, ◌⊎◌, inl, inr, Bool, false, IsTru
 use Rattle.ring_clock.specs.declared.entry.Entry.{Entry}
 use Rattle.ring_versions.specs.declared.version.Version.{Version}
 use Rattle.ring_versions.specs.Versions.{IsIn, Covers, InConflict, IsApart, IsMerge}
+use Rattle.ring_versions.specs.declared.fresh.Fresh.{Fresh}
+use Rattle.ring_versions.specs.Fresh.{IsFreshFor, BringsNothing}
 use Rattle.ring_versions.specs.Parts.{IsFresh, IsKept}
 use Rattle.ring_versions.proofs.Members.{in_first, in_either, in_last, covers_down, covers_first, covers_second, covers_either, covers_front, Cross, apart_join, apart_cross, apart_first, apart_second}
 use Rattle.std.proofs.lemmas.List.{append_assoc}
@@ -188,3 +190,14 @@ merge olds others fresh out f k =
       ));
     } in
     subst (IsMerge olds others) (sym k.all) m
+
+-- where nothing is fresh, the merge is what was held
+pub merge_nothing : (olds others : List Version) → IsApart olds → IsFresh olds others [] → IsMerge olds others olds
+merge_nothing olds others a f = record {
+  drawn = λ v h. inl h;
+  covers = λ k. (λ h. inl h, λ h. elim h [ inl old ↦ old | inr new ↦ elim (f.covers k new) [ inl old ↦ old | inr none ↦ absurd none.1 ] ]);
+  apart = a;
+}
+
+pub merge_with_none : (olds others : List Version) (f : Fresh) → IsApart olds → BringsNothing f → IsFreshFor olds others f → IsMerge olds others olds
+merge_with_none olds others f a e for = merge_nothing olds others a (subst (IsFresh olds others) e for.fresh)

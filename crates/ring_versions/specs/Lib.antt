@@ -1,2 +1,4 @@
 pub mod Versions
 pub mod Parts
+pub mod Fresh
+pub mod Puts

@@ -1,9 +1,12 @@
 //! Versions of a key's value, of which none is an ancestor of another (DeCandia et al. 2007, section 4.4).
 #![tactic(auto)]
 
+mod fresh;
 mod merge;
+mod puts;
 mod version;
 mod versions;
 
+pub use fresh::Fresh;
 pub use version::Version;
 pub use versions::Versions;

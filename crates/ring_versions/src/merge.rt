@@ -1,11 +1,14 @@
 //! Two lists of versions made one.
 
-ghost use Rattle.std.specs.Prelude.{◌≡◌, ◌↔◌, ◌+◌, ◌≤◌, ◌++◌, [], IsTrue, IfErr, OnOk, OnErr, length};
+ghost use Rattle.std.specs.Prelude.{◌≡◌, ◌↔◌, ◌+◌, ◌≤◌, [], List, IsTrue, IfOk, IfErr, OnOk};
 ghost use Rattle.std.specs.Vec.{vec_len, vec_capacity};
 ghost use Rattle.ring_names.specs.declared.refusal.Refusal.TheVariants.{OutOfMemory};
 ghost use Rattle.ring_versions.specs.Versions.{Covers, IsApart, IsMerge};
+ghost use Rattle.ring_versions.specs.Fresh.{IsFreshFor, FitsIn};
 ghost use Rattle.ring_versions.specs.Parts.{IsFresh, IsKept};
+ghost use Rattle.ring_versions.specs.declared.version.Version.{Version};
 
+use crate::fresh::Fresh;
 use crate::version::Version;
 use ring_clock::Clock;
 use ring_names::Refusal;
@@ -79,18 +82,29 @@ fn move_kept(out: &mut Vec<Version>, versions: &mut Vec<Version>)
     }
 }
 
-/// Makes the list the merge of it and the others.
-pub fn merge_into(alloc: Global, list: &mut Vec<Version>, others: &[Version]) -> Result<(), Refusal>
-    requires first { IsApart list.old.items }
-    requires second { IsApart others.now }
-    ensures ok { OnOk result (IsMerge list.old.items others.now list.new.items) }
-    ensures err { OnErr result (list.new.items ≡ list.old.items) }
+/// What the others bring to the versions held. Takes no memory where those cover them all.
+pub fn fresh_of(alloc: Global, held: &[Version], others: &[Version]) -> Result<Fresh, Refusal>
+    requires { IsApart others.now }
+    ensures ok { IfOk result (λ f. IsFreshFor held.now others.now f) }
     ensures memory { IfErr result (λ e. e ≡ OutOfMemory) }
 {
-    let mut merged = Vec::new(alloc);
-    push_fresh(alloc, &mut merged, others, list.as_slice())?;
-    merged.reserve(list.len())?;
-    move_kept(&mut merged, list);
-    *list = merged;
-    Ok(())
+    let mut list = Vec::new(alloc);
+    push_fresh(alloc, &mut list, others, held)?;
+    if !list.is_empty() {
+        list.reserve(held.len())?;
+    }
+    Ok(Fresh { list })
+}
+
+/// Makes the list the merge of it and the versions for which the fresh ones were made.
+pub fn absorb(list: &mut Vec<Version>, fresh: Fresh)
+    requires fits { FitsIn list.old.items fresh }
+    requires apart { IsApart list.old.items }
+    ensures { (others : List Version) → IsFreshFor list.old.items others fresh → IsMerge list.old.items others list.new.items }
+{
+    let Fresh { list: mut merged } = fresh;
+    if !merged.is_empty() {
+        move_kept(&mut merged, list);
+        *list = merged;
+    }
 }

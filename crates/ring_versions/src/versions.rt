@@ -1,13 +1,18 @@
 //! Sets of versions.
 
-ghost use Rattle.std.specs.Prelude.{◌≡◌, ◌↔◌, ◌∷◌, [], IsTrue, IfOk, IfErr, OnOk, OnErr};
+ghost use Rattle.std.specs.Prelude.{◌≡◌, ◌↔◌, ◌∷◌, [], List, IsTrue, IfOk, IfErr, OnOk, OnErr};
 ghost use Rattle.ring_names.specs.declared.refusal.Refusal.TheVariants.{OutOfMemory};
+ghost use Rattle.ring_versions.specs.Fresh.{IsFreshFor, FitsIn};
+ghost use Rattle.ring_versions.specs.Puts.{ArePuts};
 ghost use Rattle.ring_versions.specs.Versions.{Covers, IsApart, IsMerge};
+ghost use Rattle.ring_versions.specs.declared.version.Version.{Version};
 
-use crate::merge::{is_covered, merge_into, push_copies};
+use crate::fresh::Fresh;
+use crate::merge::{absorb, fresh_of, is_covered, push_copies};
+use crate::puts::puts_of;
 use crate::version::Version;
 use ring_clock::Clock;
-use ring_names::Refusal;
+use ring_names::{Listed, Refusal};
 use std::alloc::Global;
 use std::marker::Model;
 
@@ -73,7 +78,34 @@ impl Versions {
         ensures err { OnErr result (self.new ≡ self.old) }
         ensures memory { IfErr result (λ e. e ≡ OutOfMemory) }
     {
-        merge_into(self.alloc, &mut self.list, other.list())
+        let fresh = self.fresh_of(other)?;
+        self.absorb(fresh);
+        Ok(())
+    }
+
+    /// The first half of a merge: copies of those of the other versions that this set does not cover, with room for its own. Takes
+    /// no memory where it covers them all. Costs a comparison for each pair of versions of the two sets.
+    pub fn fresh_of(&self, other: &Versions) -> Result<Fresh, Refusal>
+        ensures ok { IfOk result (λ f. IsFreshFor self.now other.now f) }
+        ensures memory { IfErr result (λ e. e ≡ OutOfMemory) }
+    {
+        fresh_of(self.alloc, self.list.as_slice(), other.list())
+    }
+
+    /// The second half of a merge, which cannot fail: takes in what was made for this very set, and lets ancestors go.
+    pub fn absorb(&mut self, fresh: Fresh)
+        requires { FitsIn self.old fresh }
+        ensures { (other : List Version) → IsFreshFor self.old other fresh → IsMerge self.old other self.new }
+    {
+        absorb(&mut self.list, fresh);
+    }
+
+    /// The numbers of the puts, ascending. Costs a sort of them.
+    pub fn puts(&self) -> Result<Listed<u32>, Refusal>
+        ensures ok { IfOk result (λ ns. ArePuts self.now ns) }
+        ensures memory { IfErr result (λ e. e ≡ OutOfMemory) }
+    {
+        puts_of(self.alloc, self.list.as_slice())
     }
 
     /// The same set once more.

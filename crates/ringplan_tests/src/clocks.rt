@@ -71,8 +71,8 @@ fn version(alloc: Global, put: u32, clock: &Clock) -> Result<Version, Refusal> {
     }
 }
 
-// The set of one version.
-fn set_of(alloc: Global, put: u32, clock: &Clock) -> Result<Versions, Refusal> {
+/// The set of one version.
+pub fn set_of(alloc: Global, put: u32, clock: &Clock) -> Result<Versions, Refusal> {
     Versions::of(alloc, version(alloc, put, clock)?)
 }
 

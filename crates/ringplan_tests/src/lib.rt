@@ -15,6 +15,8 @@ mod plans;
 #[cfg(test)]
 mod program;
 #[cfg(test)]
+mod stores;
+#[cfg(test)]
 mod texts;
 #[cfg(test)]
 mod words;

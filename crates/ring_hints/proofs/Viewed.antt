@@ -1,0 +1,180 @@
+-- The sets of keepers and of slots once a pair is put in or taken out.
+use Rattle.std.proofs.Common.{◌≡◌, ◌≢◌, inl, inr, ℕ, Bool, true, false, cond, List, [], ◌∷◌, refl, sym, ap, ◌∙◌, arith}
+use Rattle.std.specs.Prelude.{zero, suc, not, ◌&&◌, ◌||◌, ◌==◌, Option, Some, None, IfSome, slice_get}
+use Rattle.std.specs.List.{list_any}
+use Rattle.std.specs.Ordering.{nat_cmp}
+use Rattle.std.specs.Cmp.{unsigned_ties, tied_then}
+use Rattle.std.specs.BTreeMap.{is_at}
+use Rattle.std.specs.BTreeSet.{insert_key}
+use Rattle.std.specs.Set.{remove_key}
+use Rattle.std.proofs.lemmas.Bool.Decides.{eqb_tells, nat_tests}
+use Rattle.std.proofs.lemmas.Bool.{and_parts}
+use Rattle.ring_names.specs.declared.ids.NodeId.{NodeId}
+use Rattle.ring_names.specs.declared.ids.Slot.{Slot}
+use Rattle.ring_names.specs.contracts.ids.NodeIdPartialEq.TheImpl as node_eq
+use Rattle.ring_names.specs.contracts.ids.SlotPartialEq.TheImpl as slot_eq
+use Rattle.ring_names.specs.contracts.ids.NodeIdOrd.TheImpl as node_order
+use Rattle.ring_names.specs.contracts.ids.SlotOrd.TheImpl as slot_order
+use Rattle.ring_hints.specs.declared.kept_for.KeptFor.{KeptFor}
+use Rattle.ring_hints.specs.contracts.kept_for.KeptForPartialEq.TheImpl as pair_eq
+use Rattle.ring_hints.specs.declared.sets.Sets.{Sets}
+use Rattle.ring_hints.specs.Sets.{set_at, AddsValue, RemovesValue}
+use Rattle.ring_hints.specs.Views.{is_of, has_slot, has_keeper, in_order}
+use Rattle.ring_hints.proofs.Members.{any_inserted, others_stay}
+
+same_number : (x y : ℕ) → x ≡ y → (x == y) ≡ true
+same_number x y e = grind (arith, nat_tests)
+
+differ : (x y : ℕ) → x ≢ y → (x == y) ≡ false
+differ x y e = grind (arith, nat_tests)
+
+turned : (x y : ℕ) → (x == y) ≡ (y == x)
+turned x y = elim (eqb_tells x y) [ inl t ↦ t.0 ∙ sym (same_number y x (sym t.1)) | inr t ↦ t.0 ∙ sym (differ y x (λ e. t.1 (sym e))) ]
+
+equal : (x y : ℕ) → (x == y) ≡ true → x ≡ y
+equal x y h = grind (arith, nat_tests)
+
+-- ---- nodes and slots that compare as equal are the same
+
+pub node_tie : (x y : ℕ) → is_at ((node_order.ghosts).cmp (record { 0 = x })) (record { 0 = y }) ≡ (x == y)
+node_tie x y = sym (unsigned_ties x y)
+
+pub slot_tie : (s t : Slot) → is_at ((slot_order.ghosts).cmp s) t ≡ ((s.partition == t.partition) && (s.index == t.index))
+slot_tie s t = sym (tied_then (nat_cmp s.partition t.partition) (nat_cmp s.index t.index)) ∙ rw (← unsigned_ties s.partition t.partition, ← unsigned_ties s.index t.index) refl
+
+node_same : (x : NodeId) → is_at ((node_order.ghosts).cmp x) x ≡ true
+node_same x = node_tie x.0 x.0 ∙ same_number x.0 x.0 refl
+
+node_exact : (x y : NodeId) → is_at ((node_order.ghosts).cmp x) y ≡ true → x ≡ y
+node_exact x y h = λ i. record { 0 = equal x.0 y.0 (sym (node_tie x.0 y.0) ∙ h) i }
+
+slot_same : (s : Slot) → is_at ((slot_order.ghosts).cmp s) s ≡ true
+slot_same s = slot_tie s s ∙ (λ i. same_number s.partition s.partition refl i && same_number s.index s.index refl i)
+
+slot_exact : (s t : Slot) → is_at ((slot_order.ghosts).cmp s) t ≡ true → s ≡ t
+slot_exact s t h =
+    let p = and_parts (s.partition == t.partition) (s.index == t.index) (sym (slot_tie s t) ∙ h) in
+    λ i. record { partition = equal s.partition t.partition p.0 i; index = equal s.index t.index p.1 i }
+
+-- ---- a pair is put in
+
+by_test : {A : Type 0} → (f : A → Bool) (c : Bool) (more was : A) (b : Bool) → (c ≡ true → f more ≡ (b || f was)) → f (cond c more was) ≡ ((c && b) || f was)
+by_test f true more was b h = h refl
+by_test f false more was b h = refl
+
+-- the pair is that of the node and the slot, in the two orders in which it is asked
+of_node : (pair : KeptFor) (x : ℕ) (s : Slot) → ((x == pair.keeper.0) && is_at ((slot_order.ghosts).cmp s) pair.slot) ≡ is_of pair x s
+of_node pair x s = rw (slot_tie s pair.slot, turned x pair.keeper.0, turned s.partition pair.slot.partition, turned s.index pair.slot.index) refl
+
+of_slot : (pair : KeptFor) (x : ℕ) (s : Slot) → ((slot_eq.ghosts).eq s pair.slot && is_at ((node_order.ghosts).cmp (record { 0 = x })) pair.keeper) ≡ is_of pair x s
+of_slot pair x s =
+    rw (node_tie x pair.keeper.0, turned x pair.keeper.0, turned s.partition pair.slot.partition, turned s.index pair.slot.index)
+    (moved (pair.keeper.0 == x) ((pair.slot.partition == s.partition) && (pair.slot.index == s.index)))
+  where
+    moved : (a b : Bool) → (b && a) ≡ (a && b)
+    moved true true = refl
+    moved true false = refl
+    moved false true = refl
+    moved false false = refl
+
+pub slot_added : (old new : Sets NodeId Slot) (pair : KeptFor) → AddsValue ((node_eq.ghosts).eq) ((slot_order.ghosts).cmp) old new pair.keeper pair.slot
+    → (x : ℕ) (s : Slot) → has_slot new x s ≡ (is_of pair x s || has_slot old x s)
+slot_added old new pair h x s =
+    let before = set_at ((node_eq.ghosts).eq) old (record { 0 = x }) in
+    let test = λ (ks : List Slot). list_any (is_at ((slot_order.ghosts).cmp s)) ks in
+    ap test (h (record { 0 = x }))
+    ∙ by_test test (x == pair.keeper.0) (insert_key ((slot_order.ghosts).cmp) before pair.slot) before (is_at ((slot_order.ghosts).cmp s) pair.slot)
+    (λ e. any_inserted ((slot_order.ghosts).cmp) slot_same slot_exact s pair.slot before)
+    ∙ ap (λ (b : Bool). b || has_slot old x s) (of_node pair x s)
+
+pub keeper_added : (old new : Sets Slot NodeId) (pair : KeptFor) → AddsValue ((slot_eq.ghosts).eq) ((node_order.ghosts).cmp) old new pair.slot pair.keeper
+    → (x : ℕ) (s : Slot) → has_keeper new x s ≡ (is_of pair x s || has_keeper old x s)
+keeper_added old new pair h x s =
+    let before = set_at ((slot_eq.ghosts).eq) old s in
+    let test = λ (ks : List NodeId). list_any (is_at ((node_order.ghosts).cmp (record { 0 = x }))) ks in
+    ap test (h s)
+    ∙ by_test test ((slot_eq.ghosts).eq s pair.slot) (insert_key ((node_order.ghosts).cmp) before pair.keeper) before (is_at ((node_order.ghosts).cmp (record { 0 = x })) pair.keeper)
+    (λ e. any_inserted ((node_order.ghosts).cmp) node_same node_exact (record { 0 = x }) pair.keeper before)
+    ∙ ap (λ (b : Bool). b || has_keeper old x s) (of_slot pair x s)
+
+-- ---- a pair is taken out
+
+-- what was asked for is not there once it is taken out, and anything else as before
+by_gone : {A : Type 0} → (f : A → Bool) (c : Bool) (less was : A) (b d : Bool) → (c && b) ≡ d → (c ≡ true → b ≡ true → f less ≡ false) → (b ≡ false → f less ≡ f was)
+    → f (cond c less was) ≡ (not d && f was)
+by_gone f true less was true d e gone stays = gone refl refl ∙ ap (λ (t : Bool). not t && f was) e
+by_gone f true less was false d e gone stays = stays refl ∙ ap (λ (t : Bool). not t && f was) e
+by_gone f false less was b d e gone stays = ap (λ (t : Bool). not t && f was) e
+
+-- from what a removal says of a set at one key
+taken : {V : Type 0} → (test gone_test : List V → Bool) (new less before : List V) (c b d : Bool) → new ≡ cond c less before → (c && b) ≡ d
+    → (c ≡ true → gone_test new ≡ false) → (b ≡ true → gone_test less ≡ test less) → (b ≡ false → test less ≡ test before) → test new ≡ (not d && test before)
+taken test gone_test new less before c b d e f gone alike stays =
+    ap test e ∙ by_gone test c less before b d f (λ y z. sym (alike z) ∙ sym (ap gone_test (e ∙ ap (λ (t : Bool). cond t less before) y)) ∙ gone y) stays
+
+pub slot_removed : (old new : Sets NodeId Slot) (pair : KeptFor) → RemovesValue ((node_eq.ghosts).eq) ((slot_order.ghosts).cmp) old new pair.keeper pair.slot
+    → (x : ℕ) (s : Slot) → has_slot new x s ≡ (not (is_of pair x s) && has_slot old x s)
+slot_removed old new pair h x s =
+    let before = set_at ((node_eq.ghosts).eq) old (record { 0 = x }) in
+    let less = remove_key (is_at ((slot_order.ghosts).cmp pair.slot)) before in
+    let among = λ (t : Slot) (ks : List Slot). list_any (is_at ((slot_order.ghosts).cmp t)) ks in
+    taken (among s) (among pair.slot) (set_at ((node_eq.ghosts).eq) new (record { 0 = x })) less before (x == pair.keeper.0) (is_at ((slot_order.ghosts).cmp s) pair.slot) (is_of pair x s)
+    (h.each (record { 0 = x })) (of_node pair x s) (h.gone (record { 0 = x })) (λ y. ap (λ (t : Slot). among t less) (sym (slot_exact s pair.slot y)))
+    (others_stay ((slot_order.ghosts).cmp) slot_same slot_exact s pair.slot before)
+
+pub keeper_removed : (old new : Sets Slot NodeId) (pair : KeptFor) → RemovesValue ((slot_eq.ghosts).eq) ((node_order.ghosts).cmp) old new pair.slot pair.keeper
+    → (x : ℕ) (s : Slot) → has_keeper new x s ≡ (not (is_of pair x s) && has_keeper old x s)
+keeper_removed old new pair h x s =
+    let before = set_at ((slot_eq.ghosts).eq) old s in
+    let less = remove_key (is_at ((node_order.ghosts).cmp pair.keeper)) before in
+    let among = λ (y : NodeId) (ks : List NodeId). list_any (is_at ((node_order.ghosts).cmp y)) ks in
+    taken (among (record { 0 = x })) (among pair.keeper) (set_at ((slot_eq.ghosts).eq) new s) less before ((slot_eq.ghosts).eq s pair.slot) (is_at ((node_order.ghosts).cmp (record { 0 = x })) pair.keeper) (is_of pair x s)
+    (h.each s) (of_slot pair x s) (h.gone s) (λ y. ap (λ (z : NodeId). among z less) (sym (node_exact (record { 0 = x }) pair.keeper y)))
+    (others_stay ((node_order.ghosts).cmp) node_same node_exact (record { 0 = x }) pair.keeper before)
+
+-- ---- a pair that was not there is put in and taken out
+
+with_without : (d b : Bool) → (d ≡ true → b ≡ false) → (not d && (d || b)) ≡ b
+with_without true b h = sym (h refl)
+with_without false b h = refl
+
+-- a test that holds of the pair alone is false where a test that it passes is
+pub only_where : (pair : KeptFor) (test : ℕ → Slot → Bool) → test pair.keeper.0 pair.slot ≡ false → (x : ℕ) (s : Slot) → is_of pair x s ≡ true → test x s ≡ false
+only_where pair test h x s y =
+    let p = and_parts (pair.keeper.0 == x) ((pair.slot.partition == s.partition) && (pair.slot.index == s.index)) y in
+    let q = and_parts (pair.slot.partition == s.partition) (pair.slot.index == s.index) p.1 in
+    sym (λ i. test (equal pair.keeper.0 x p.0 i) (record { partition = equal pair.slot.partition s.partition q.0 i; index = equal pair.slot.index s.index q.1 i })) ∙ h
+
+pub added_and_removed : (pair : KeptFor) (before added removed : ℕ → Slot → Bool) → before pair.keeper.0 pair.slot ≡ false
+    → ((x : ℕ) (s : Slot) → added x s ≡ (is_of pair x s || before x s)) → ((x : ℕ) (s : Slot) → removed x s ≡ (not (is_of pair x s) && added x s))
+    → (x : ℕ) (s : Slot) → removed x s ≡ before x s
+added_and_removed pair before added removed h f g x s =
+    g x s ∙ ap (λ (b : Bool). not (is_of pair x s) && b) (f x s) ∙ with_without (is_of pair x s) (before x s) (only_where pair before h x s)
+
+or_cond : (b c : Bool) → cond b true c ≡ (b || c)
+or_cond true c = refl
+or_cond false c = refl
+
+pub with_it : (b c d e : Bool) → d ≡ cond b true c → e ≡ c → (b || e) ≡ d
+with_it b c d e f g = ap (λ (t : Bool). b || t) g ∙ sym (or_cond b c) ∙ sym f
+
+pub without_it : (b c d e : Bool) → d ≡ cond b false c → e ≡ c → (not b && e) ≡ d
+without_it true c d e f g = sym f
+without_it false c d e f g = g ∙ sym f
+
+pair_same : (pair : KeptFor) → is_of pair pair.keeper.0 pair.slot ≡ true
+pair_same pair = λ i. same_number pair.keeper.0 pair.keeper.0 refl i && (same_number pair.slot.partition pair.slot.partition refl i && same_number pair.slot.index pair.slot.index refl i)
+
+or_later : (b c : Bool) → c ≡ true → (b || c) ≡ true
+or_later true c h = refl
+or_later false c h = h
+
+-- the pair that stands at some place is in the list
+pub at_place : (pairs : List KeptFor) (n : ℕ) → IfSome (slice_get pairs n) (λ pair. in_order pair.keeper.0 pair.slot pairs ≡ true)
+at_place [] n = tt
+at_place (pair ∷ pairs) zero = ap (λ (b : Bool). b || in_order pair.keeper.0 pair.slot pairs) (pair_same pair)
+at_place (pair ∷ pairs) (suc n) = later (slice_get pairs n) (at_place pairs n)
+  where
+    later : (o : Option KeptFor) → IfSome o (λ p. in_order p.keeper.0 p.slot pairs ≡ true) → IfSome o (λ p. in_order p.keeper.0 p.slot (pair ∷ pairs) ≡ true)
+    later None h = tt
+    later (Some p) h = or_later ((pair_eq.ghosts).eq p pair) (in_order p.keeper.0 p.slot pairs) h

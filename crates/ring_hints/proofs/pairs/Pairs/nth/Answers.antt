@@ -1,0 +1,10 @@
+use Rattle.std.proofs.Common.{◌≡◌, ◌∙◌, sym, subst, true}
+use Rattle.std.specs.Prelude.{Option, IfSome}
+use Rattle.ring_hints.specs.declared.kept_for.KeptFor.{KeptFor}
+use Rattle.ring_hints.specs.Pairs.{is_pair}
+use Rattle.ring_hints.proofs.Viewed.{at_place}
+use Rattle.ring_hints.proofs.pairs.Pairs.nth.Goals as goal
+
+pub returns-clause-some : goal.returns-clause-some
+returns-clause-some c =
+    subst (λ (o : Option KeptFor). IfSome o (λ pair. is_pair c.args.self.now pair.keeper.0 pair.slot ≡ true)) (sym (c.copied.ensures ∙ c.get_index.ensures.key)) (at_place c.args.self.now.order.keys c.args.n)

@@ -1,0 +1,17 @@
+use Rattle.std.proofs.Common.{◌∙◌}
+use Rattle.ring_hints.specs.Views.{has_slot, has_keeper, has_pair, is_of}
+use Rattle.ring_hints.proofs.Viewed.{slot_removed, keeper_removed, without_it}
+use Rattle.ring_hints.proofs.pairs.Pairs.remove.Goals as goal
+
+pub invariant_of-self : goal.invariant_of-self
+invariant_of-self c = record {
+  viewed = λ x s.
+      let pair = c.args.pair in
+      let seen = c.args.self.now.viewed x s in
+      let now = c.swap_remove.ensures.updates.0 (record { keeper = record { 0 = x }; slot = s }) in (
+        slot_removed c.args.self.now.slots c.remove.new.self pair (record { each = c.remove.ensures.each; gone = c.remove.ensures.gone }) x s
+            ∙ without_it (is_of pair x s) (has_pair c.args.self.now.order x s) (has_pair c.swap_remove.new.self x s) (has_slot c.args.self.now.slots x s) now seen.0,
+        keeper_removed c.args.self.now.keepers c.remove-2.new.self pair (record { each = c.remove-2.ensures.each; gone = c.remove-2.ensures.gone }) x s
+            ∙ without_it (is_of pair x s) (has_pair c.args.self.now.order x s) (has_pair c.swap_remove.new.self x s) (has_keeper c.args.self.now.keepers x s) now seen.1,
+      );
+}

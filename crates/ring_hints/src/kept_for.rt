@@ -1,0 +1,10 @@
+//! Who keeps hints for what.
+
+use ring_names::{NodeId, Slot};
+
+/// A node, and a slot for which it keeps hints.
+#[derive(Clone, Copy, Debug, PartialEq, Eq, Hash)]
+pub struct KeptFor {
+    pub keeper: NodeId,
+    pub slot: Slot,
+}

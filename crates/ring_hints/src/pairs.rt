@@ -1,0 +1,110 @@
+//! Which nodes keep hints for which slots.
+
+ghost use Rattle.ring_hints.specs.Views.{AreViews, AreViews-prop};
+
+use crate::kept_for::KeptFor;
+use crate::sets::Sets;
+use indexmap::IndexSet;
+use ring_names::{NodeId, Refusal, Slot};
+use std::alloc::Global;
+use std::collections::BTreeSet;
+
+/// Keepers with their slots, found by either, and numbered. Each call costs a few look-ups.
+#[derive(Drop)]
+pub struct Pairs {
+    order: IndexSet<KeptFor>,
+    slots: Sets<NodeId, Slot>,
+    keepers: Sets<Slot, NodeId>,
+    ghost viewed: { AreViews order slots keepers } by { AreViews-prop order slots keepers },
+}
+
+impl Pairs {
+    ghost use Rattle.std.specs.Prelude.{◌≡◌, ◌↔◌, ◌≤◌, ◌<◌, ◌&&◌, ◌||◌, not, ℕ, [], true, false, length, map, IsTrue, IfErr, IfNone, IfSome, OnOk, OnErr};
+    ghost use Rattle.ring_names.specs.declared.ids.Slot.{Slot};
+    ghost use Rattle.ring_names.specs.declared.refusal.Refusal.TheVariants.{OutOfMemory};
+    ghost use Rattle.ring_hints.specs.Pairs.{is_pair, keepers_of, pair_count};
+    ghost use Rattle.ring_hints.specs.Views.{is_of};
+
+    /// No pairs.
+    pub fn new(alloc: Global) -> Pairs
+        ensures { (x : ℕ) (s : Slot) → is_pair result x s ≡ false }
+    {
+        Pairs {
+            order: IndexSet::new(alloc),
+            slots: Sets::new(alloc),
+            keepers: Sets::new(alloc),
+        }
+    }
+
+    /// Whether the pair is there. Takes no memory.
+    pub fn has(&self, pair: KeptFor) -> bool
+        ensures { result ≡ is_pair self.now pair.keeper.0 pair.slot }
+    {
+        self.order.contains(&pair)
+    }
+
+    /// Whether the node keeps hints for any slot. Takes no memory.
+    pub fn has_keeper(&self, keeper: NodeId) -> bool
+        ensures { IsTrue result ↔ ((s : Slot) × (is_pair self.now keeper.0 s ≡ true)) }
+    {
+        self.slot_of(keeper).is_some()
+    }
+
+    /// A slot for which the node keeps hints, if there is one. Takes no memory.
+    pub fn slot_of(&self, keeper: NodeId) -> Option<Slot>
+        ensures some { IfSome result (λ s. is_pair self.now keeper.0 s ≡ true) }
+        ensures none { IfNone result ((s : Slot) → is_pair self.now keeper.0 s ≡ false) }
+    {
+        match self.slots.values(&keeper) {
+            Some(slots) => slots.first().copied(),
+            None => None,
+        }
+    }
+
+    /// The nodes that keep hints for the slot, by number.
+    pub fn keepers(&self, slot: Slot) -> Option<&BTreeSet<NodeId>>
+        ensures some { IfSome result (λ s. s.now.keys ≡ keepers_of self.now slot) }
+        ensures none { IfNone result (keepers_of self.now slot ≡ []) }
+    {
+        self.keepers.values(&slot)
+    }
+
+    /// The n-th pair, in an order that stays while the pairs do. Takes no memory.
+    pub fn nth(&self, n: u32) -> Option<KeptFor>
+        ensures some { IfSome result (λ pair. is_pair self.now pair.keeper.0 pair.slot ≡ true) }
+        ensures none { IfNone result (pair_count self.now ≤ n) }
+    {
+        self.order.get_index(n as usize).copied()
+    }
+
+    /// Adds the pair, if it is not there.
+    pub fn add(&mut self, pair: KeptFor) -> Result<(), Refusal>
+        ensures ok { OnOk result ((x : ℕ) (s : Slot) → is_pair self.new x s ≡ (is_of pair x s || is_pair self.old x s)) }
+        ensures err { OnErr result ((x : ℕ) (s : Slot) → is_pair self.new x s ≡ is_pair self.old x s) }
+        ensures memory { IfErr result (λ e. e ≡ OutOfMemory) }
+    {
+        if self.has(pair) {
+            return Ok(());
+        }
+        self.slots.add(pair.keeper, pair.slot)?;
+        if let Err(refusal) = self.keepers.add(pair.slot, pair.keeper) {
+            self.slots.remove(&pair.keeper, &pair.slot);
+            return Err(refusal);
+        }
+        if let Err(failed) = self.order.insert(pair) {
+            self.slots.remove(&pair.keeper, &pair.slot);
+            self.keepers.remove(&pair.slot, &pair.keeper);
+            return Err(Refusal::OutOfMemory);
+        }
+        Ok(())
+    }
+
+    /// Takes the pair out, if it is there; the last one takes its number. Takes no memory.
+    pub fn remove(&mut self, pair: KeptFor)
+        ensures { (x : ℕ) (s : Slot) → is_pair self.new x s ≡ (not (is_of pair x s) && is_pair self.old x s) }
+    {
+        self.order.swap_remove(&pair);
+        self.slots.remove(&pair.keeper, &pair.slot);
+        self.keepers.remove(&pair.slot, &pair.keeper);
+    }
+}

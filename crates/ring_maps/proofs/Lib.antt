@@ -1,0 +1,9 @@
+pub mod Answered
+pub mod Bytes
+pub mod Chunks
+pub mod Keys
+pub mod Merging
+pub mod Puts
+pub mod Rest
+pub mod Whole
+pub mod Slots

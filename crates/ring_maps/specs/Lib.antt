@@ -1,0 +1,5 @@
+pub mod Places
+pub mod Held
+pub mod Merges
+pub mod Chunks
+pub mod Slots

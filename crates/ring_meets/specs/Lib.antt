@@ -1,0 +1,14 @@
+pub mod Nodes
+pub mod Steps
+pub mod Slots
+pub mod Puts
+pub mod Gets
+pub mod NodesTold
+pub mod StepsLeft
+pub mod SlotsLost
+pub mod SlotsStepped
+pub mod Kept
+pub mod PutsChange
+pub mod GetsChange
+pub mod PutsTests
+pub mod GetsTests

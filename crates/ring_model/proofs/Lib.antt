@@ -1,0 +1,10 @@
+pub mod Showing
+pub mod Ordered
+pub mod Latest
+pub mod Started
+pub mod Kept
+pub mod Inputs
+pub mod Asked
+pub mod Held
+pub mod Coming
+pub mod Lasting

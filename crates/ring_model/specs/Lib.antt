@@ -1,0 +1,5 @@
+pub mod Shows
+pub mod Clocks
+pub mod Gets
+pub mod Found
+pub mod Stored

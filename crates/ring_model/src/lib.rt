@@ -1,0 +1,13 @@
+//! What pruned sets of versions show of the puts of a store's world, and the clocks of its puts: laws between the code's
+//! sets of versions and the world of the definitions, which has no clocks.
+#![tactic(auto)]
+
+mod clocks;
+mod gets;
+mod shows;
+mod stored;
+
+pub use clocks::{clocks_are_kept, clocks_tell_succession};
+pub use gets::{ended_gets_show_replies, found_clocks_join, gets_are_kept, reads_are_merged};
+pub use shows::{shown_numbers_are_the_latest, shown_sets_merge, slot_is_held_where_covered};
+pub use stored::{puts_come_in_front, stored_sets_grow, stored_sets_last};

@@ -1,0 +1,9 @@
+pub mod Writing
+pub mod Counting
+pub mod Bits
+pub mod Reading
+pub mod Marked
+pub mod Ticketing
+pub mod Bytes
+pub mod Tied
+pub mod Placed

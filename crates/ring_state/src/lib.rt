@@ -1,0 +1,21 @@
+//! What a running store keeps beside the versions themselves: its nodes, the steps of its plan, its slots, the keys, and the
+//! puts and gets in order of their start.
+#![tactic(auto)]
+
+mod gets;
+mod keys;
+mod lasts;
+mod marks;
+mod nodes;
+mod puts;
+mod slots;
+mod steps;
+
+pub use gets::{GetNow, Gets};
+pub use keys::Keys;
+pub use lasts::Lasts;
+pub use marks::Marks;
+pub use nodes::{NodeNow, Nodes};
+pub use puts::{PutNow, Puts};
+pub use slots::{SlotNow, Slots};
+pub use steps::{StepNow, Steps};

@@ -1,0 +1,132 @@
+use Rattle.std.proofs.Common.{◌∙◌, ℕ, List, refl, sym, ap, subst, Some}
+use Rattle.std.specs.Prelude.{IsSome}
+use Rattle.std.proofs.lemmas.Result.{IfOk-weaker}
+use Rattle.ring_versions.specs.Fresh.{IsFreshFor}
+use Rattle.ring_versions.specs.declared.version.Version.{Version}
+use Rattle.ring_store.specs.Slots.{held_by, maps_of, AreOf, PutsSlot}
+use Rattle.ring_store.proofs.Stored.{chunk_in, puts_slot, same_by, spaces_by, space_at, ready_at}
+use Rattle.ring_store.proofs.store.NodeStore.prepare.Goals as goal
+
+pub prepare-requires : goal.prepare-requires
+prepare-requires c =
+    let q = c.args.self.now.q in
+    let slot = c.args.slot in
+    let old = c.args.self.now.slots in
+    let m = c.in-Some.maps.now in
+    let value = (c.in-Some.ensures).value in
+    let reads = λ (k : List ℕ). ap (λ o. held_by o k) value in
+    let space = c.args.self.now.spaces slot m (sym value) in
+    chunk_in m q c.args.key.now c.args.chunk space c.requires
+
+pub invariant_of-self : goal.invariant_of-self
+invariant_of-self c =
+    let q = c.args.self.now.q in
+    let slot = c.args.slot in
+    let old = c.args.self.now.slots in
+    let m = c.in-Some.maps.now in
+    let value = (c.in-Some.ensures).value in
+    let reads = λ (k : List ℕ). ap (λ o. held_by o k) value in
+    let space = c.args.self.now.spaces slot m (sym value) in
+    let w = c.prepare.new.self in
+    let new = c.get_mut.follows.lender w in
+    let p = puts_slot old new slot (Some w) ((c.get_mut.follows.holds w).3 (subst IsSome value refl)) in
+    record { space = c.args.self.now.space; spaces = spaces_by old new slot (Some w) p q (space_at w w (Some w) q refl (c.prepare.ensures.space ∙ space)) c.args.self.now.spaces }
+
+pub invariant_of-self-in_default : goal.invariant_of-self-in_default
+invariant_of-self-in_default c =
+    record { space = c.args.self.now.space; spaces = subst (λ slots. AreOf c.args.self.now.q slots) (sym c.get_mut.follows.holds-at-none) c.args.self.now.spaces }
+
+pub returns-in-Some-clause-same : goal.returns-in-Some-clause-same
+returns-in-Some-clause-same c =
+    let q = c.args.self.now.q in
+    let slot = c.args.slot in
+    let old = c.args.self.now.slots in
+    let m = c.in-Some.maps.now in
+    let value = (c.in-Some.ensures).value in
+    let reads = λ (k : List ℕ). ap (λ o. held_by o k) value in
+    let space = c.args.self.now.spaces slot m (sym value) in
+    let w = c.prepare.new.self in
+    let new = c.get_mut.follows.lender w in
+    let p = puts_slot old new slot (Some w) ((c.get_mut.follows.holds w).3 (subst IsSome value refl)) in
+    same_by old new slot (Some w) p (λ k. c.prepare.ensures.same k ∙ reads k)
+
+pub returns-in-Some-clause-ok : goal.returns-in-Some-clause-ok
+returns-in-Some-clause-ok c =
+    let q = c.args.self.now.q in
+    let slot = c.args.slot in
+    let old = c.args.self.now.slots in
+    let m = c.in-Some.maps.now in
+    let value = (c.in-Some.ensures).value in
+    let reads = λ (k : List ℕ). ap (λ o. held_by o k) value in
+    let space = c.args.self.now.spaces slot m (sym value) in
+    IfOk-weaker c.prepare.result _ _ (λ f h. subst (λ (held : List Version). IsFreshFor held c.args.more.now f) (reads c.args.key.now) h) c.prepare.ensures.ok
+
+pub returns-in-Some-clause-ready : goal.returns-in-Some-clause-ready
+returns-in-Some-clause-ready c =
+    let q = c.args.self.now.q in
+    let slot = c.args.slot in
+    let old = c.args.self.now.slots in
+    let m = c.in-Some.maps.now in
+    let value = (c.in-Some.ensures).value in
+    let reads = λ (k : List ℕ). ap (λ o. held_by o k) value in
+    let space = c.args.self.now.spaces slot m (sym value) in
+    let w = c.prepare.new.self in
+    let new = c.get_mut.follows.lender w in
+    let p = puts_slot old new slot (Some w) ((c.get_mut.follows.holds w).3 (subst IsSome value refl)) in
+    IfOk-weaker c.prepare.result _ _ (λ f h. ready_at (maps_of new slot) w c.args.key.now f p.here h) c.prepare.ensures.ready
+
+pub returns-in_err-maps-clause-same : goal.returns-in_err-maps-clause-same
+returns-in_err-maps-clause-same c =
+    λ s k. ap (λ slots. held_by (maps_of slots s) k) c.get_mut.follows.holds-at-none
+
+pub prepare-requires-2 : goal.prepare-requires-2
+prepare-requires-2 c =
+    chunk_in c.in_ok-maps.maps c.args.self.now.q c.args.key.now c.args.chunk (c.in_ok-maps.ensures).space c.requires
+
+pub returns-in_err-fresh-clause-same : goal.returns-in_err-fresh-clause-same
+returns-in_err-fresh-clause-same c =
+    λ s k. ap (λ slots. held_by (maps_of slots s) k) c.get_mut.follows.holds-at-none
+
+pub put-requires : goal.put-requires
+put-requires c =
+    c.prepare-2.ensures.space ∙ (c.in_ok-maps.ensures).space
+
+pub returns-in_err-put-clause-same : goal.returns-in_err-put-clause-same
+returns-in_err-put-clause-same c =
+    λ s k. (c.in_err-put.ensures).err s k ∙ ap (λ slots. held_by (maps_of slots s) k) c.get_mut.follows.holds-at-none
+
+pub returns-clause-same : goal.returns-clause-same
+returns-clause-same c =
+    let q = c.args.self.now.q in
+    let slot = c.args.slot in
+    let old = c.args.self.now.slots in
+    let m = c.in_ok-maps.maps in
+    let w = c.prepare-2.new.self in
+    let new = c.put.new.self.slots in
+    let value = (c.in_default.ensures).value in
+    let reads = λ (k : List ℕ). (c.in_ok-maps.ensures).versions k ∙ ap (λ o. held_by o k) value in
+    same_by old new slot (Some w) (subst (λ slots. PutsSlot slots new slot (Some w)) c.get_mut.follows.holds-at-none (c.in_ok-put.ensures).ok) (λ k. c.prepare-2.ensures.same k ∙ reads k)
+
+pub returns-clause-ok : goal.returns-clause-ok
+returns-clause-ok c =
+    let q = c.args.self.now.q in
+    let slot = c.args.slot in
+    let old = c.args.self.now.slots in
+    let m = c.in_ok-maps.maps in
+    let w = c.prepare-2.new.self in
+    let new = c.put.new.self.slots in
+    let value = (c.in_default.ensures).value in
+    let reads = λ (k : List ℕ). (c.in_ok-maps.ensures).versions k ∙ ap (λ o. held_by o k) value in
+    subst (λ (held : List Version). IsFreshFor held c.args.more.now c.in_ok-fresh.fresh) (reads c.args.key.now) (c.in_ok-fresh.ensures).ok
+
+pub returns-clause-ready : goal.returns-clause-ready
+returns-clause-ready c =
+    let q = c.args.self.now.q in
+    let slot = c.args.slot in
+    let old = c.args.self.now.slots in
+    let m = c.in_ok-maps.maps in
+    let w = c.prepare-2.new.self in
+    let new = c.put.new.self.slots in
+    let value = (c.in_default.ensures).value in
+    let reads = λ (k : List ℕ). (c.in_ok-maps.ensures).versions k ∙ ap (λ o. held_by o k) value in
+    ready_at (maps_of new slot) w c.args.key.now c.in_ok-fresh.fresh ((c.in_ok-put.ensures).ok).here (c.in_ok-fresh.ensures).ready

@@ -1,0 +1,35 @@
+-- What a node stores.
+use Rattle.std.specs.Prelude.{◌≡◌, ℕ, Bool, true, List, [], ◌==◌, if◌then◌else◌, IfSome}
+use Rattle.ring_names.specs.declared.ids.Slot.{Slot}
+use Rattle.ring_versions.specs.Fresh.{FitsIn}
+use Rattle.ring_versions.specs.declared.fresh.Fresh.{Fresh}
+use Rattle.ring_versions.specs.declared.version.Version.{Version}
+use Rattle.ring_maps.specs.declared.fresh_keys.FreshKeys.{FreshKeys}
+use Rattle.ring_maps.specs.Chunks.{chunk_of}
+use Rattle.ring_maps.specs.Merges.{fresh_at}
+use Rattle.ring_store.specs.declared.store.NodeStore.{NodeStore}
+use Rattle.ring_store.specs.Slots.{maps_of, held_by, placed_by}
+
+-- how many partitions the hash space has
+abbrev pub partitions : NodeStore → ℕ
+partitions a = a.q
+
+-- the versions of the key in the slot
+abbrev pub versions_at : NodeStore → Slot → List ℕ → List Version
+versions_at a s k = held_by (maps_of a.slots s) k
+
+-- those of the keys of a chunk
+abbrev pub chunk_versions : NodeStore → Slot → ℕ → List ℕ → List Version
+chunk_versions a s c k = if chunk_of a.q k == c then versions_at a s k else []
+
+-- whether the key has a place in the slot, be it empty
+abbrev pub has_place_at : NodeStore → Slot → List ℕ → Bool
+has_place_at a s k = placed_by (maps_of a.slots s) k
+
+-- the key has a place in the slot, and f was made for its versions
+abbrev pub IsReadyAt : NodeStore → Slot → List ℕ → Fresh → Type 0
+IsReadyAt a s k f = (has_place_at a s k ≡ true) × FitsIn (versions_at a s k) f
+
+-- each key of f lies in the chunk and has a place in the slot, and what f has for it was made for its versions
+abbrev pub AreReadyAt : NodeStore → Slot → ℕ → FreshKeys → Type 0
+AreReadyAt a s c f = (k : List ℕ) → IfSome (fresh_at f k) (λ x. (chunk_of a.q k ≡ c) × IsReadyAt a s k x)

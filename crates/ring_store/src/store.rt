@@ -1,0 +1,230 @@
+//! The store of one node.
+
+ghost use Rattle.std.specs.Prelude.{◌≡◌, true};
+ghost use Rattle.ring_names.specs.Space.{is_space};
+ghost use Rattle.ring_store.specs.Slots.{AreOf};
+
+use ring_maps::{FreshKeys, KeyMap, SlotMap};
+use ring_names::{Listed, Refusal, Slot};
+use ring_space::place;
+use ring_versions::{Fresh, Versions};
+use std::alloc::Global;
+use std::collections::HashMap;
+
+/// The versions that a node stores, by slot and key. A look-up costs the key's length times the logarithm of the number of keys of its
+/// chunk, and its digest where the call takes no chunk. A refused growth leaves every reading as it was.
+#[derive(Drop)]
+pub struct NodeStore {
+    alloc: Global,
+    q: u32,
+    slots: HashMap<Slot, SlotMap>,
+    ghost space: { is_space q ≡ true },
+    ghost spaces: { AreOf q slots },
+}
+
+impl NodeStore {
+    ghost use Rattle.std.specs.Prelude.{◌≢◌, ◌<◌, ℕ, [], List, Some, IfSome, IfNone, IfOk, IfErr, OnOk, OnErr};
+    ghost use Rattle.ring_names.specs.declared.ids.Slot.{Slot};
+    ghost use Rattle.ring_names.specs.declared.refusal.Refusal.TheVariants.{OutOfMemory};
+    ghost use Rattle.ring_versions.specs.Fresh.{IsFreshFor};
+    ghost use Rattle.ring_versions.specs.declared.version.Version.{Version};
+    ghost use Rattle.ring_maps.specs.Chunks.{chunk_of};
+    ghost use Rattle.ring_maps.specs.Held.{held, has_place, AreKeys};
+    ghost use Rattle.ring_maps.specs.Merges.{at_key, AreFreshFor};
+    ghost use Rattle.ring_maps.specs.Slots.{space_of};
+    ghost use Rattle.ring_store.specs.Slots.{MergesInAll, PutsSlot, at_slot};
+    ghost use Rattle.ring_store.specs.Store.{partitions, versions_at, chunk_versions, has_place_at, IsReadyAt, AreReadyAt};
+
+    /// Nothing stored, in a hash space of q partitions.
+    pub fn new(alloc: Global, q: u32) -> NodeStore
+        requires { is_space q ≡ true }
+        ensures space { partitions result ≡ q }
+        ensures versions { (s : Slot) (k : List ℕ) → versions_at result s k ≡ [] }
+    {
+        NodeStore {
+            alloc,
+            q,
+            slots: HashMap::new(alloc),
+        }
+    }
+
+    /// How many partitions the hash space has.
+    pub fn q(&self) -> u32
+        ensures value { result ≡ partitions self.now }
+        ensures space { is_space result ≡ true }
+    {
+        self.q
+    }
+
+    /// The versions of a key in a slot, if it has any. Takes no memory.
+    pub fn key_versions(&self, slot: Slot, key: &[u8]) -> Option<&Versions>
+        ensures some { IfSome result (λ v. (v.now ≡ versions_at self.now slot key.now) × (v.now ≢ [])) }
+        ensures none { IfNone result (versions_at self.now slot key.now ≡ []) }
+    {
+        let chunk = place(self.q, key).chunk;
+        self.key_versions_in(slot, chunk, key)
+    }
+
+    /// The versions of a key of the chunk in a slot, if it has any. Takes no memory.
+    pub fn key_versions_in(&self, slot: Slot, chunk: u32, key: &[u8]) -> Option<&Versions>
+        requires { chunk_of (partitions self.now) key.now ≡ chunk }
+        ensures some { IfSome result (λ v. (v.now ≡ versions_at self.now slot key.now) × (v.now ≢ [])) }
+        ensures none { IfNone result (versions_at self.now slot key.now ≡ []) }
+    {
+        match self.slots.get(&slot) {
+            Some(maps) => maps.key_versions(chunk, key),
+            None => None,
+        }
+    }
+
+    /// The map of a chunk of a slot, if the slot has any. Takes no memory.
+    pub fn chunk_map(&self, slot: Slot, chunk: u32) -> Option<&KeyMap>
+        requires { chunk < 16 }
+        ensures some { IfSome result (λ m. (k : List ℕ) → held m.now k ≡ chunk_versions self.now slot chunk k) }
+        ensures lies { IfSome result (λ m. (k : List ℕ) → has_place m.now k ≡ true → chunk_of (partitions self.now) k ≡ chunk) }
+        ensures none { IfNone result ((k : List ℕ) → chunk_versions self.now slot chunk k ≡ []) }
+    {
+        match self.slots.get(&slot) {
+            Some(maps) => Some(maps.chunk(chunk)),
+            None => None,
+        }
+    }
+
+    /// The keys of a chunk that have versions in a slot, in ascending byte order. Walks that chunk's map alone.
+    pub fn chunk_keys(&self, slot: Slot, chunk: u32) -> Result<Vec<Listed<u8>>, Refusal>
+        requires { chunk < 16 }
+        ensures ok { IfOk result (λ keys. AreKeys (chunk_versions self.now slot chunk) keys.items) }
+        ensures memory { IfErr result (λ e. e ≡ OutOfMemory) }
+    {
+        match self.chunk_map(slot, chunk) {
+            Some(map) => map.keys(),
+            None => Ok(Vec::new(self.alloc)),
+        }
+    }
+
+    // The maps of a slot, in place of what it had.
+    fn put(&mut self, slot: Slot, maps: SlotMap) -> Result<(), Refusal>
+        requires { space_of maps ≡ partitions self.old }
+        ensures space { partitions self.new ≡ partitions self.old }
+        ensures ok { OnOk result (PutsSlot self.old.slots self.new.slots slot (Some maps)) }
+        ensures err { OnErr result ((s : Slot) (k : List ℕ) → versions_at self.new s k ≡ versions_at self.old s k) }
+        ensures memory { IfErr result (λ e. e ≡ OutOfMemory) }
+    {
+        self.slots.insert(slot, maps)?;
+        Ok(())
+    }
+
+    /// A merge at one key of a slot in one call. Refused, it has changed nothing.
+    pub fn merge_key(&mut self, slot: Slot, key: &[u8], more: &Versions) -> Result<(), Refusal>
+        ensures ok { OnOk result (MergesInAll (versions_at self.old) (at_slot slot (at_key key.now more.now)) (versions_at self.new)) }
+        ensures err { OnErr result ((s : Slot) (k : List ℕ) → versions_at self.new s k ≡ versions_at self.old s k) }
+        ensures memory { IfErr result (λ e. e ≡ OutOfMemory) }
+        ensures space { partitions self.new ≡ partitions self.old }
+    {
+        let chunk = place(self.q, key).chunk;
+        if let Some(maps) = self.slots.get_mut(&slot) {
+            return maps.merge(chunk, key, more);
+        }
+        let mut maps = SlotMap::new(self.alloc, self.q)?;
+        maps.merge(chunk, key, more)?;
+        self.put(slot, maps)
+    }
+
+    /// The first half of a merge at one key of the chunk in a slot: makes its place, where it has none, and what the other versions bring.
+    /// No reading changes, whatever the answer.
+    pub fn prepare(
+        &mut self,
+        slot: Slot,
+        chunk: u32,
+        key: &[u8],
+        more: &Versions,
+    ) -> Result<Fresh, Refusal>
+        requires { chunk_of (partitions self.old) key.now ≡ chunk }
+        ensures same { (s : Slot) (k : List ℕ) → versions_at self.new s k ≡ versions_at self.old s k }
+        ensures ok { IfOk result (λ f. IsFreshFor (versions_at self.old slot key.now) more.now f) }
+        ensures ready { IfOk result (λ f. IsReadyAt self.new slot key.now f) }
+        ensures memory { IfErr result (λ e. e ≡ OutOfMemory) }
+        ensures space { partitions self.new ≡ partitions self.old }
+    {
+        if let Some(maps) = self.slots.get_mut(&slot) {
+            return maps.prepare(chunk, key, more);
+        }
+        let mut maps = SlotMap::new(self.alloc, self.q)?;
+        let fresh = maps.prepare(chunk, key, more)?;
+        self.put(slot, maps)?;
+        Ok(fresh)
+    }
+
+    /// The second half of a merge at one key of the chunk in a slot, which cannot fail.
+    pub fn settle(&mut self, slot: Slot, chunk: u32, key: &[u8], fresh: Fresh)
+        requires chunk { chunk_of (partitions self.old) key.now ≡ chunk }
+        requires ready { IsReadyAt self.old slot key.now fresh }
+        ensures merged { (more : List Version) → IsFreshFor (versions_at self.old slot key.now) more fresh
+            → MergesInAll (versions_at self.old) (at_slot slot (at_key key.now more)) (versions_at self.new) }
+        ensures space { partitions self.new ≡ partitions self.old }
+    {
+        if let Some(maps) = self.slots.get_mut(&slot) {
+            maps.settle(chunk, key, fresh);
+        }
+    }
+
+    /// The first half of a merge of a chunk of a slot with a whole map, whose keys lie in the chunk: makes the places that are missing, and
+    /// what the other map brings. No reading changes, whatever the answer.
+    pub fn prepare_chunk(
+        &mut self,
+        slot: Slot,
+        chunk: u32,
+        other: &KeyMap,
+    ) -> Result<FreshKeys, Refusal>
+        requires chunk { chunk < 16 }
+        requires lies { (k : List ℕ) → has_place other.now k ≡ true → chunk_of (partitions self.old) k ≡ chunk }
+        ensures same { (s : Slot) (k : List ℕ) → versions_at self.new s k ≡ versions_at self.old s k }
+        ensures ok { IfOk result (λ f. AreFreshFor (versions_at self.old slot) (held other.now) f) }
+        ensures ready { IfOk result (λ f. AreReadyAt self.new slot chunk f) }
+        ensures memory { IfErr result (λ e. e ≡ OutOfMemory) }
+        ensures space { partitions self.new ≡ partitions self.old }
+    {
+        if let Some(maps) = self.slots.get_mut(&slot) {
+            return maps.prepare_chunk(chunk, other);
+        }
+        let mut maps = SlotMap::new(self.alloc, self.q)?;
+        let fresh = maps.prepare_chunk(chunk, other)?;
+        self.put(slot, maps)?;
+        Ok(fresh)
+    }
+
+    /// The second half of a merge of a chunk of a slot with a whole map, which cannot fail.
+    pub fn settle_chunk(&mut self, slot: Slot, chunk: u32, fresh: FreshKeys)
+        requires chunk { chunk < 16 }
+        requires ready { AreReadyAt self.old slot chunk fresh }
+        ensures merged { (more : List ℕ → List Version) → AreFreshFor (versions_at self.old slot) more fresh
+            → MergesInAll (versions_at self.old) (at_slot slot more) (versions_at self.new) }
+        ensures space { partitions self.new ≡ partitions self.old }
+    {
+        if let Some(maps) = self.slots.get_mut(&slot) {
+            maps.settle_chunk(chunk, fresh);
+        }
+    }
+
+    /// Forgets all keys of a slot. Takes no memory.
+    pub fn drop_slot(&mut self, slot: Slot)
+        ensures gone { (k : List ℕ) → versions_at self.new slot k ≡ [] }
+        ensures others { (s : Slot) (k : List ℕ) → s ≢ slot → versions_at self.new s k ≡ versions_at self.old s k }
+        ensures space { partitions self.new ≡ partitions self.old }
+    {
+        self.slots.remove(&slot);
+    }
+
+    /// The same store once more: every key of every slot reads the same.
+    pub fn try_copy(&self) -> Result<NodeStore, Refusal>
+        ensures space { IfOk result (λ a. partitions a ≡ partitions self.now) }
+        ensures same { IfOk result (λ a. (s : Slot) (k : List ℕ) → versions_at a s k ≡ versions_at self.now s k) }
+        ensures memory { IfErr result (λ e. e ≡ OutOfMemory) }
+    {
+        let mut copy = NodeStore::new(self.alloc, self.q);
+        'slots: for (slot, maps) in &self.slots {
+            copy.put(*slot, maps.try_copy(self.alloc)?)?;
+        }
+        Ok(copy)
+    }
+}

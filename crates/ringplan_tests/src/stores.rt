@@ -1,0 +1,130 @@
+//! What a running store keeps: each call that may run out of memory succeeds where there is enough.
+
+use crate::clocks::set_of;
+use crate::texts::RING;
+use ring_clock::Clock;
+use ring_hints::{KeptFor, Pairs, Sets};
+use ring_maps::KeyMap;
+use ring_names::{Listed, NodeId, Slot, WriterId};
+use ring_state::{GetNow, Gets, Keys, Lasts, Marks, Nodes, PutNow, Puts, Slots, Steps};
+use ring_table::{Ring, read_ring};
+use ring_versions::Versions;
+use std::process::Abort;
+use std::test::Fail;
+
+const SLOT: Slot = Slot {
+    partition: 0,
+    index: 1,
+};
+
+// What a merge brings is made first, and then taken in.
+fn merged_in_halves<RT: Abort>(rt: &RT, map: &mut KeyMap, set: &Versions) -> Result<(), Fail> {
+    let fresh = map.prepare(b"b", set)?;
+    assert!(rt; map.key_versions(b"b").is_none());
+    map.settle(b"b", fresh);
+    assert!(rt; map.key_versions(b"b").is_some());
+    Ok(())
+}
+
+fn map_of<RT: AllocGlobal + Abort>(rt: &RT) -> Result<KeyMap, Fail> {
+    let clock = Clock::new(rt.alloc()).bump(WriterId(0))?;
+    let set = set_of(rt.alloc(), 7, &clock)?;
+    let mut map = KeyMap::new(rt.alloc());
+    map.merge(b"a", &set)?;
+    merged_in_halves(rt, &mut map, &set)?;
+    Ok(map)
+}
+
+// Two maps become one.
+fn maps_merged<RT: Abort>(rt: &RT, map: &KeyMap, first: &mut KeyMap) -> Result<(), Fail> {
+    first.merge_all(map)?;
+    let fresh = first.prepare_all(map)?;
+    first.settle_all(fresh);
+    assert_eq!(rt; first.keys()?.len(), 2);
+    assert_eq!(rt; first.try_copy()?.keys()?.len(), 2);
+    Ok(())
+}
+
+#[test]
+fn maps_of_keys(rt: HostRuntime) -> Result<(), Fail> {
+    let map = map_of(&rt)?;
+    let mut first = KeyMap::new(rt.alloc());
+    maps_merged(&rt, &map, &mut first)
+}
+
+#[test]
+fn puts_of_versions(rt: HostRuntime) -> Result<(), Fail> {
+    let clock = Clock::new(rt.alloc()).bump(WriterId(0))?;
+    let set = set_of(rt.alloc(), 7, &clock)?;
+    let fresh = Versions::new(rt.alloc()).fresh_of(&set)?;
+    assert!(rt; !fresh.is_empty());
+    assert_eq!(rt; set.puts()?.as_slice(), [7].as_slice());
+    Ok(())
+}
+
+#[test]
+fn keepers_of_slots(rt: HostRuntime) -> Result<(), Fail> {
+    let pair = KeptFor {
+        keeper: NodeId(3),
+        slot: SLOT,
+    };
+    let mut pairs = Pairs::new(rt.alloc());
+    pairs.add(pair)?;
+    assert!(rt; pairs.has_keeper(NodeId(3)));
+    assert_eq!(rt; pairs.nth(0), Some(pair));
+    let mut sets: Sets<u32, u32> = Sets::new(rt.alloc());
+    sets.add(1, 2)?;
+    assert!(rt; sets.values(&1).is_some());
+    Ok(())
+}
+
+// The nodes, steps and slots of a ring at the start.
+fn started<RT: AllocGlobal + Abort>(rt: &RT, ring: &Ring) -> Result<(), Fail> {
+    assert!(rt; Nodes::start(rt.alloc(), ring)?.is_up(NodeId(0)));
+    assert_eq!(rt; Steps::start(rt.alloc(), 5)?.left(), 5);
+    assert_eq!(rt;
+        Slots::start(rt.alloc(), ring)?.owner(SLOT),
+        Some(NodeId(1))
+    );
+    Ok(())
+}
+
+#[test]
+fn parts_at_the_start(rt: HostRuntime) -> Result<(), Fail> {
+    let ring = read_ring(rt.alloc(), RING)?;
+    started(&rt, &ring)
+}
+
+#[test]
+fn keys_numbered(rt: HostRuntime) -> Result<(), Fail> {
+    let mut keys = Keys::new(rt.alloc(), 4);
+    assert_eq!(rt; keys.add(b"a")?, 0);
+    assert_eq!(rt; keys.add(b"abc")?, 1);
+    assert_eq!(rt; keys.add(b"a")?, 0);
+    let mut lasts = Lasts::new(rt.alloc());
+    lasts.set(0, WriterId(2), 9)?;
+    assert_eq!(rt; lasts.get(0, WriterId(2)), Some(9));
+    Ok(())
+}
+
+#[test]
+fn puts_and_gets(rt: HostRuntime) -> Result<(), Fail> {
+    let mut puts = Puts::new(rt.alloc());
+    puts.push(PutNow {
+        key: 0,
+        version: Versions::new(rt.alloc()),
+        tickets: [None; 7],
+        acked: false,
+    })?;
+    assert_eq!(rt; puts.len(), 1);
+    let mut gets = Gets::new(rt.alloc());
+    gets.push(GetNow {
+        key: 0,
+        read: Marks::none(),
+        found: Versions::new(rt.alloc()),
+        reply: None,
+    })?;
+    gets.end(0, Listed::from_vec(Vec::new(rt.alloc())));
+    assert_eq!(rt; gets.len(), 1);
+    Ok(())
+}
