@@ -22,16 +22,16 @@ use Rattle.ring_hints.specs.Sets.{set_at, AddsValue, RemovesValue}
 use Rattle.ring_hints.specs.Views.{is_of, has_slot, has_keeper, in_order}
 use Rattle.ring_hints.proofs.Members.{any_inserted, others_stay}
 
-same_number : (x y : ℕ) → x ≡ y → (x == y) ≡ true
+pub same_number : (x y : ℕ) → x ≡ y → (x == y) ≡ true
 same_number x y e = grind (arith, nat_tests)
 
-differ : (x y : ℕ) → x ≢ y → (x == y) ≡ false
+pub differ : (x y : ℕ) → x ≢ y → (x == y) ≡ false
 differ x y e = grind (arith, nat_tests)
 
 turned : (x y : ℕ) → (x == y) ≡ (y == x)
 turned x y = elim (eqb_tells x y) [ inl t ↦ t.0 ∙ sym (same_number y x (sym t.1)) | inr t ↦ t.0 ∙ sym (differ y x (λ e. t.1 (sym e))) ]
 
-equal : (x y : ℕ) → (x == y) ≡ true → x ≡ y
+pub equal : (x y : ℕ) → (x == y) ≡ true → x ≡ y
 equal x y h = grind (arith, nat_tests)
 
 -- ---- nodes and slots that compare as equal are the same
@@ -151,7 +151,7 @@ pub added_and_removed : (pair : KeptFor) (before added removed : ℕ → Slot �
 added_and_removed pair before added removed h f g x s =
     g x s ∙ ap (λ (b : Bool). not (is_of pair x s) && b) (f x s) ∙ with_without (is_of pair x s) (before x s) (only_where pair before h x s)
 
-or_cond : (b c : Bool) → cond b true c ≡ (b || c)
+pub or_cond : (b c : Bool) → cond b true c ≡ (b || c)
 or_cond true c = refl
 or_cond false c = refl
 
@@ -162,7 +162,7 @@ pub without_it : (b c d e : Bool) → d ≡ cond b false c → e ≡ c → (not 
 without_it true c d e f g = sym f
 without_it false c d e f g = g ∙ sym f
 
-pair_same : (pair : KeptFor) → is_of pair pair.keeper.0 pair.slot ≡ true
+pub pair_same : (pair : KeptFor) → is_of pair pair.keeper.0 pair.slot ≡ true
 pair_same pair = λ i. same_number pair.keeper.0 pair.keeper.0 refl i && (same_number pair.slot.partition pair.slot.partition refl i && same_number pair.slot.index pair.slot.index refl i)
 
 or_later : (b c : Bool) → c ≡ true → (b || c) ≡ true

@@ -1,3 +1,5 @@
 pub mod Sets
 pub mod Views
 pub mod Pairs
+pub mod Kept
+pub mod Hints

@@ -1,10 +1,12 @@
 //! What stand-ins keep for slots whose nodes were out of reach (hinted handoff: DeCandia et al. 2007, section 4.6).
 #![tactic(auto)]
 
+mod hints;
 mod kept_for;
 mod pairs;
 mod sets;
 
+pub use hints::Hints;
 pub use kept_for::KeptFor;
 pub use pairs::Pairs;
 pub use sets::Sets;

@@ -19,7 +19,7 @@ pub struct Pairs {
 }
 
 impl Pairs {
-    ghost use Rattle.std.specs.Prelude.{◌≡◌, ◌↔◌, ◌≤◌, ◌<◌, ◌&&◌, ◌||◌, not, ℕ, [], true, false, length, map, IsTrue, IfErr, IfNone, IfSome, OnOk, OnErr};
+    ghost use Rattle.std.specs.Prelude.{◌≡◌, ◌↔◌, ◌≤◌, ◌<◌, ◌+◌, ◌&&◌, ◌||◌, if◌then◌else◌, not, ℕ, [], true, false, length, map, IsTrue, IfErr, IfNone, IfSome, OnOk, OnErr};
     ghost use Rattle.ring_names.specs.declared.ids.Slot.{Slot};
     ghost use Rattle.ring_names.specs.declared.refusal.Refusal.TheVariants.{OutOfMemory};
     ghost use Rattle.ring_hints.specs.Pairs.{is_pair, keepers_of, pair_count};
@@ -101,7 +101,8 @@ impl Pairs {
 
     /// Takes the pair out, if it is there; the last one takes its number. Takes no memory.
     pub fn remove(&mut self, pair: KeptFor)
-        ensures { (x : ℕ) (s : Slot) → is_pair self.new x s ≡ (not (is_of pair x s) && is_pair self.old x s) }
+        ensures pairs { (x : ℕ) (s : Slot) → is_pair self.new x s ≡ (not (is_of pair x s) && is_pair self.old x s) }
+        ensures count { pair_count self.new + (if is_pair self.old pair.keeper.0 pair.slot then 1 else 0) ≡ pair_count self.old }
     {
         self.order.swap_remove(&pair);
         self.slots.remove(&pair.keeper, &pair.slot);

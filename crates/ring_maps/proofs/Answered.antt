@@ -51,3 +51,13 @@ on_none (Some x) P Q f h = tt
 pub both_ok : {A E : Type 0} (r : Result A E) (P Q : A → Type 0) → IfOk r P → IfOk r Q → IfOk r (λ a. P a × Q a)
 both_ok (Ok a) P Q p q = (p, q)
 both_ok (Err e) P Q p q = tt
+
+-- from what holds of either case, and what holds of a value
+pub some_of : {X : Type 0} (o : Option X) (P : Type 0) (F G H : X → Type 0) → ((x : X) → F x → G x → H x) → MatchOption o P F → IfSome o G → IfSome o H
+some_of None P F G H h f g = tt
+some_of (Some x) P F G H h f g = h x f g
+
+-- no value, where none can be
+pub none_where : {X : Type 0} (o : Option X) (F : X → Type 0) → ((x : X) → F x → ⊥) → IfSome o F → o ≡ None
+none_where None F h f = refl
+none_where (Some x) F h f = absurd (h x f)

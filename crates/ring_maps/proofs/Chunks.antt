@@ -46,15 +46,26 @@ get_back [] x i l = absurd (omega arith)
 get_back (y ∷ ys) x zero l = refl
 get_back (y ∷ ys) x (suc i) l = get_back ys x i (omega arith)
 
--- the map that a borrow of the i-th lends
-pub lent : (xs : List KeyMap) (i : ℕ) (m : KeyMap) → i < length xs → m ≡ get_or xs i m → slice_get xs i ≡ Some m
+-- what stands after a push
+pub pushed : {X : Type 0} (xs : List X) (x : X) (i : ℕ) → ((i ≡ length xs) × (slice_get (xs ++ x ∷ []) i ≡ Some x)) ⊎ (slice_get (xs ++ x ∷ []) i ≡ slice_get xs i)
+pushed [] x zero = inl (refl, refl)
+pushed [] x (suc i) = inr refl
+pushed (y ∷ ys) x zero = inr refl
+pushed (y ∷ ys) x (suc i) = elim (pushed ys x i) [ inl h ↦ inl (ap suc h.0, h.1) | inr e ↦ inr e ]
+
+pub get_last : {X : Type 0} (xs : List X) (x : X) → slice_get (xs ++ x ∷ []) (length xs) ≡ Some x
+get_last [] x = refl
+get_last (y ∷ ys) x = get_last ys x
+
+-- what a borrow of the i-th lends
+pub lent : {X : Type 0} (xs : List X) (i : ℕ) (m : X) → i < length xs → m ≡ get_or xs i m → slice_get xs i ≡ Some m
 lent xs i m l e = slice_get-get_or xs i m l ∙ ap Some (sym e)
 
 pub within : (xs : List KeyMap) (i : ℕ) → length xs ≡ 16 → i < 16 → i < length xs
 within xs i whole l = omega arith
 
 -- the same number or another
-same_or : (i j : ℕ) → (i ≡ j) ⊎ (i ≢ j)
+pub same_or : (i j : ℕ) → (i ≡ j) ⊎ (i ≢ j)
 same_or zero zero = inl refl
 same_or zero (suc j) = inr (λ e. cc)
 same_or (suc i) zero = inr (λ e. cc)
@@ -67,6 +78,16 @@ apart_of (Some m) k = m.apart k
 -- what a slot holds of a key is apart
 pub slot_apart : (a : SlotMap) (k : List ℕ) → IsApart (held_for a k)
 slot_apart a k = apart_of (slice_get a.chunks.items (chunk_of a.q k)) k
+
+-- what comes to the keys of a chunk
+abbrev pub chosen : ℕ → ℕ → (List ℕ → List Version) → List ℕ → List Version
+chosen q c more k = cond (nat_eq (chunk_of q k) c) (more k) []
+
+pub chosen_here : (i j : ℕ) (v : List Version) → i ≡ j → cond (nat_eq i j) v [] ≡ v
+chosen_here i j v e = rw (eq-eqb i j e) refl
+
+pub chosen_other : (i j : ℕ) (v : List Version) → i ≢ j → cond (nat_eq i j) v [] ≡ []
+chosen_other i j v ne = rw (false_from (nat_eq i j) (λ h. ne (eqb-true i j h))) refl
 
 no_place : (m : KeyMap) (k : List ℕ) → has_place m k ≡ false → held m k ≡ []
 no_place m k e = ap (λ (o : Option (List Version)). unwrap_or o []) (none_from_empty (value_at m.map k) e)
@@ -125,6 +146,12 @@ module _ (q c : ℕ) (xs : List KeyMap) (m n : KeyMap) (is : slice_get xs c ≡ 
   pub places_set : ((k : List ℕ) → has_place n k ≡ has_place m k) → (k : List ℕ) → place_in (slice_get (set xs c n) (chunk_of q k)) k ≡ place_in (slice_get xs (chunk_of q k)) k
   places_set same = by_chunk (λ (k : List ℕ). place_in (slice_get (set xs c n) (chunk_of q k)) k ≡ place_in (slice_get xs (chunk_of q k)) k) (λ k e. sym (new_place k e) ∙ same k ∙ old_place k e) other_place
 
+  pub filled_set : ((k : List ℕ) → has_place n k ≡ true → (has_place m k ≡ true) ⊎ (held n k ≢ []))
+      → (k : List ℕ) → place_in (slice_get (set xs c n) (chunk_of q k)) k ≡ true → (place_in (slice_get xs (chunk_of q k)) k ≡ true) ⊎ (held_of (slice_get (set xs c n) (chunk_of q k)) k ≢ [])
+  filled_set filled = by_chunk (λ (k : List ℕ). place_in (slice_get (set xs c n) (chunk_of q k)) k ≡ true → (place_in (slice_get xs (chunk_of q k)) k ≡ true) ⊎ (held_of (slice_get (set xs c n) (chunk_of q k)) k ≢ []))
+      (λ k e h. elim (filled k (new_place k e ∙ h)) [ inl was ↦ inl (sym (old_place k e) ∙ was) | inr some ↦ inr (λ none. some (new_held k e ∙ none)) ])
+      (λ k ne h. inl (sym (other_place k ne) ∙ h))
+
   -- what came to the map came to the slot
   pub merged_set : (more : List ℕ → List Version) → ((k : List ℕ) → chunk_of q k ≡ c → IsMerge (held m k) (more k) (held n k))
       → ((k : List ℕ) → chunk_of q k ≢ c → IsMerge (held_of (slice_get xs (chunk_of q k)) k) (more k) (held_of (slice_get xs (chunk_of q k)) k))
@@ -181,19 +208,9 @@ module _ (q c : ℕ) (xs : List KeyMap) (m n : KeyMap) (is : slice_get xs c ≡ 
       → ((more : List ℕ → List Version) → AreFreshFor (held m) more f → MergesAll (held m) more (held n))
       → (more : List ℕ → List Version) → AreFreshFor (λ k. held_of (slice_get xs (chunk_of q k)) k) more f → MergesAll (λ k. held_of (slice_get xs (chunk_of q k)) k) more (λ k. held_of (slice_get (set xs c n) (chunk_of q k)) k)
   merged_chunk f ready merged more are = merged_set more
-      (λ k e. subst (λ (comes : List Version). IsMerge (held m k) comes (held n k)) (chosen_here (chunk_of q k) c (more k) e) (merged (chosen more) fresh k))
+      (λ k e. subst (λ (comes : List Version). IsMerge (held m k) comes (held n k)) (chosen_here (chunk_of q k) c (more k) e) (merged (chosen q c more) fresh k))
       (λ k ne. at_none (value_at f.map k) _ _ (outside k ne) (are k))
     where
-      -- what comes to the chunk
-      chosen : (List ℕ → List Version) → List ℕ → List Version
-      chosen more k = cond (nat_eq (chunk_of q k) c) (more k) []
-
-      chosen_here : (i j : ℕ) (v : List Version) → i ≡ j → cond (nat_eq i j) v [] ≡ v
-      chosen_here i j v e = rw (eq-eqb i j e) refl
-
-      chosen_other : (i j : ℕ) (v : List Version) → i ≢ j → cond (nat_eq i j) v [] ≡ []
-      chosen_other i j v ne = rw (false_from (nat_eq i j) (λ h. ne (eqb-true i j h))) refl
-
       outside : (k : List ℕ) → chunk_of q k ≢ c → value_at f.map k ≡ None
       outside k ne = with_value (value_at f.map k) refl (ready k)
         where
@@ -201,8 +218,8 @@ module _ (q c : ℕ) (xs : List KeyMap) (m n : KeyMap) (is : slice_get xs c ≡ 
           with_value None e h = sym e
           with_value (Some x) e h = absurd (ne h.0)
 
-      fresh : AreFreshFor (held m) (chosen more) f
-      fresh = by_chunk (λ (k : List ℕ). MatchOption (value_at f.map k) (IsMerge (held m k) (chosen more k) (held m k)) (IsFreshFor (held m k) (chosen more k)))
+      fresh : AreFreshFor (held m) (chosen q c more) f
+      fresh = by_chunk (λ (k : List ℕ). MatchOption (value_at f.map k) (IsMerge (held m k) (chosen q c more k) (held m k)) (IsFreshFor (held m k) (chosen q c more k)))
           (λ k e. subst (λ (comes : List Version). MatchOption (value_at f.map k) (IsMerge (held m k) comes (held m k)) (IsFreshFor (held m k) comes)) (sym (chosen_here (chunk_of q k) c (more k) e))
           (subst (λ (old : List Version). MatchOption (value_at f.map k) (IsMerge old (more k) old) (IsFreshFor old (more k))) (sym (old_held k e)) (are k)))
           (λ k ne. none_to (value_at f.map k) _ _ (outside k ne) (subst (λ (comes : List Version). IsMerge (held m k) comes (held m k)) (sym (chosen_other (chunk_of q k) c (more k) ne)) (merge_none (held m k) (m.apart k))))

@@ -2,6 +2,7 @@ pub mod Answered
 pub mod Bytes
 pub mod Chunks
 pub mod Keys
+pub mod Maps
 pub mod Merging
 pub mod Puts
 pub mod Rest

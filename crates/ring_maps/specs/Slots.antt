@@ -4,9 +4,10 @@ use Rattle.ring_versions.specs.Fresh.{FitsIn}
 use Rattle.ring_versions.specs.declared.fresh.Fresh.{Fresh}
 use Rattle.ring_versions.specs.declared.version.Version.{Version}
 use Rattle.ring_maps.specs.declared.fresh_keys.FreshKeys.{FreshKeys}
+use Rattle.ring_maps.specs.declared.fresh_maps.FreshMaps.{FreshMaps}
 use Rattle.ring_maps.specs.declared.slot_map.SlotMap.{SlotMap}
 use Rattle.ring_maps.specs.Chunks.{chunk_of, held_of, place_in}
-use Rattle.ring_maps.specs.Merges.{fresh_at}
+use Rattle.ring_maps.specs.Merges.{fresh_at, fresh_in}
 
 -- how many partitions the hash space has
 abbrev pub space_of : SlotMap → ℕ
@@ -27,3 +28,7 @@ IsReadyFor a k f = (has_place_for a k ≡ true) × FitsIn (held_for a k) f
 -- each key of f lies in the chunk and has a place, and what f has for it was made for its versions
 abbrev pub AreReadyFor : SlotMap → ℕ → FreshKeys → Type 0
 AreReadyFor a c f = (k : List ℕ) → IfSome (fresh_at f k) (λ x. (chunk_of a.q k ≡ c) × IsReadyFor a k x)
+
+-- each key that f has in a chunk lies in that chunk and has a place, and what f has for it was made for its versions
+abbrev pub AllReadyFor : SlotMap → FreshMaps → Type 0
+AllReadyFor a f = (c : ℕ) (k : List ℕ) → IfSome (fresh_in f c k) (λ x. (chunk_of a.q k ≡ c) × IsReadyFor a k x)

@@ -3,10 +3,13 @@
 
 mod all_keys;
 mod fresh_keys;
+mod fresh_maps;
 mod key_map;
 mod one_key;
 mod slot_map;
+mod whole_slot;
 
 pub use fresh_keys::FreshKeys;
+pub use fresh_maps::FreshMaps;
 pub use key_map::KeyMap;
 pub use slot_map::SlotMap;

@@ -89,12 +89,15 @@ impl SlotMap {
         map.settle(key, fresh);
     }
 
-    /// A merge at one key of the chunk in one call. Refused, it has changed nothing.
+    /// A merge at one key of the chunk in one call. Refused, it has changed nothing and made no place; it never makes an empty one.
     pub fn merge(&mut self, chunk: u32, key: &[u8], more: &Versions) -> Result<(), Refusal>
         requires { chunk_of (space_of self.old) key.now ≡ chunk }
         ensures space { space_of self.new ≡ space_of self.old }
         ensures ok { OnOk result (MergesAll (held_for self.old) (at_key key.now more.now) (held_for self.new)) }
         ensures err { OnErr result ((k : List ℕ) → held_for self.new k ≡ held_for self.old k) }
+        ensures stays { (k : List ℕ) → has_place_for self.old k ≡ true → has_place_for self.new k ≡ true }
+        ensures filled { (k : List ℕ) → has_place_for self.new k ≡ true → (has_place_for self.old k ≡ true) ⊎ (held_for self.new k ≢ []) }
+        ensures places { OnErr result ((k : List ℕ) → has_place_for self.new k ≡ has_place_for self.old k) }
         ensures memory { IfErr result (λ e. e ≡ OutOfMemory) }
     {
         let map = &mut self.chunks[chunk as usize];
@@ -124,6 +127,7 @@ impl SlotMap {
         ensures space { space_of self.new ≡ space_of self.old }
         ensures merged { (more : List ℕ → List Version) → AreFreshFor (held_for self.old) more fresh
             → MergesAll (held_for self.old) more (held_for self.new) }
+        ensures others { (k : List ℕ) → chunk_of (space_of self.old) k ≢ chunk → held_for self.new k ≡ held_for self.old k }
         ensures places { (k : List ℕ) → has_place_for self.new k ≡ has_place_for self.old k }
     {
         let map = &mut self.chunks[chunk as usize];

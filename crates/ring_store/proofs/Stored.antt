@@ -6,7 +6,7 @@ use Rattle.std.specs.HashMap.{HashMap, UpdatesBy}
 use Rattle.std.proofs.lemmas.Bool.{cases_Bool, eqb-true, eq-eqb}
 use Rattle.ring_names.specs.contracts.ids.SlotPartialEq.TheImpl as slot_eq
 use Rattle.ring_names.specs.declared.ids.Slot.{Slot}
-use Rattle.ring_versions.specs.Fresh.{FitsIn}
+use Rattle.ring_versions.specs.Fresh.{FitsIn, IsFreshFor}
 use Rattle.ring_versions.specs.declared.fresh.Fresh.{Fresh}
 use Rattle.ring_versions.specs.declared.version.Version.{Version}
 use Rattle.ring_versions.specs.Versions.{IsApart, IsMerge}
@@ -14,10 +14,11 @@ use Rattle.ring_maps.specs.Chunks.{chunk_of}
 use Rattle.ring_maps.specs.Held.{held, has_place, AreKeys}
 use Rattle.ring_maps.specs.Places.{value_at}
 use Rattle.ring_maps.specs.declared.key_map.KeyMap.{KeyMap}
-use Rattle.ring_maps.proofs.Answered.{none_from_empty, false_from, on_some}
-use Rattle.ring_maps.specs.Merges.{MergesAll}
-use Rattle.ring_maps.specs.Slots.{space_of, held_for, has_place_for, AreReadyFor}
+use Rattle.ring_maps.proofs.Answered.{none_from_empty, false_from, on_some, none_where}
+use Rattle.ring_maps.specs.Merges.{MergesAll, AreFreshMaps, fresh_in}
+use Rattle.ring_maps.specs.Slots.{space_of, held_for, has_place_for, AreReadyFor, AllReadyFor}
 use Rattle.ring_maps.specs.declared.fresh_keys.FreshKeys.{FreshKeys}
+use Rattle.ring_maps.specs.declared.fresh_maps.FreshMaps.{FreshMaps}
 use Rattle.ring_maps.specs.declared.slot_map.SlotMap.{SlotMap}
 use Rattle.ring_maps.proofs.Chunks.{slot_apart}
 use Rattle.ring_maps.proofs.Merging.{merge_none}
@@ -57,6 +58,10 @@ module _ {S : Type 0} (old new : HashMap Slot SlotMap S) (slot : Slot) (o : Opti
 
   pub same_by : ((k : List ℕ) → held_by o k ≡ held_by (maps_of old slot) k) → (s : Slot) (k : List ℕ) → held_by (maps_of new s) k ≡ held_by (maps_of old s) k
   same_by same = by_slot (λ (s : Slot). (k : List ℕ) → held_by (maps_of new s) k ≡ held_by (maps_of old s) k) (λ k. ap (λ m. held_by m k) p.here ∙ same k) (λ s e k. ap (λ m. held_by m k) (p.others s e))
+
+  pub stays_by : ((k : List ℕ) → placed_by (maps_of old slot) k ≡ true → placed_by o k ≡ true) → (s : Slot) (k : List ℕ) → placed_by (maps_of old s) k ≡ true → placed_by (maps_of new s) k ≡ true
+  stays_by stays = by_slot (λ (s : Slot). (k : List ℕ) → placed_by (maps_of old s) k ≡ true → placed_by (maps_of new s) k ≡ true)
+      (λ k h. ap (λ m. placed_by m k) p.here ∙ stays k h) (λ s e k h. ap (λ m. placed_by m k) (p.others s e) ∙ h)
 
   pub merged_by : (more : List ℕ → List Version) → MergesAll (held_by (maps_of old slot)) more (held_by o) → MergesInAll (λ s k. held_by (maps_of old s) k) (at_slot slot more) (λ s k. held_by (maps_of new s) k)
   merged_by more h = by_slot (λ (s : Slot). (k : List ℕ) → IsMerge (held_by (maps_of old s) k) (at_slot slot more s k) (held_by (maps_of new s) k))
@@ -137,3 +142,24 @@ none_ready o q c f e h k = with_value (value_at f.map k) refl (h k)
 
 pub nothing_put : {S : Type 0} (slots : HashMap Slot SlotMap S) (slot : Slot) → PutsSlot slots slots slot (maps_of slots slot)
 nothing_put slots slot = record { here = refl; others = λ s e. refl }
+
+-- ---- all maps of a slot
+
+pub maps_ready_at : (o : Option SlotMap) (w : SlotMap) (q : ℕ) (f : FreshMaps) → o ≡ Some w → space_of w ≡ q → AllReadyFor w f
+    → (c : ℕ) (k : List ℕ) → IfSome (fresh_in f c k) (λ x. (chunk_of q k ≡ c) × ((placed_by o k ≡ true) × FitsIn (held_by o k) x))
+maps_ready_at o w q f e space h c k = on_some (fresh_in f c k) _ _ (λ x r. (sym (ap (λ (p : ℕ). chunk_of p k) space) ∙ r.0, ready_at o w k x e r.1)) (h c k)
+
+pub maps_ready_of : (o : Option SlotMap) (w : SlotMap) (q : ℕ) (f : FreshMaps) → o ≡ Some w → space_of w ≡ q
+    → ((c : ℕ) (k : List ℕ) → IfSome (fresh_in f c k) (λ x. (chunk_of q k ≡ c) × ((placed_by o k ≡ true) × FitsIn (held_by o k) x))) → AllReadyFor w f
+maps_ready_of o w q f e space h c k = on_some (fresh_in f c k) _ _ (λ x r. (ap (λ (p : ℕ). chunk_of p k) space ∙ r.0, ready_of o w k x e r.1)) (h c k)
+
+pub fresh_maps_same : (was held more : List ℕ → List Version) (f : FreshMaps) → ((k : List ℕ) → was k ≡ held k) → AreFreshMaps was more f → AreFreshMaps held more f
+fresh_maps_same was held more f same are = record {
+  each = λ c k. on_some (fresh_in f c k) _ _ (λ x h. subst (λ (v : List Version). IsFreshFor v (more k) x) (same k) h) (are.each c k);
+  others = λ k none. subst (λ (v : List Version). IsMerge v (more k) v) (same k) (are.others k none);
+}
+
+-- where a slot has no maps, nothing was made ready
+pub no_maps_ready : (o : Option SlotMap) (q : ℕ) (f : FreshMaps) → o ≡ None → ((c : ℕ) (k : List ℕ) → IfSome (fresh_in f c k) (λ x. (chunk_of q k ≡ c) × ((placed_by o k ≡ true) × FitsIn (held_by o k) x)))
+    → (k : List ℕ) (c : ℕ) → fresh_in f c k ≡ None
+no_maps_ready o q f e h k c = none_where (fresh_in f c k) _ (λ x r. (let no : placed_by o k ≡ false = ap (λ m. placed_by m k) e in let yes = r.1.0 in cc)) (h c k)

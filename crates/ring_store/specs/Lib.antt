@@ -1,2 +1,4 @@
 pub mod Slots
 pub mod Store
+pub mod Nodes
+pub mod Stores

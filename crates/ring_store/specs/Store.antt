@@ -5,8 +5,9 @@ use Rattle.ring_versions.specs.Fresh.{FitsIn}
 use Rattle.ring_versions.specs.declared.fresh.Fresh.{Fresh}
 use Rattle.ring_versions.specs.declared.version.Version.{Version}
 use Rattle.ring_maps.specs.declared.fresh_keys.FreshKeys.{FreshKeys}
+use Rattle.ring_maps.specs.declared.fresh_maps.FreshMaps.{FreshMaps}
 use Rattle.ring_maps.specs.Chunks.{chunk_of}
-use Rattle.ring_maps.specs.Merges.{fresh_at}
+use Rattle.ring_maps.specs.Merges.{fresh_at, fresh_in}
 use Rattle.ring_store.specs.declared.store.NodeStore.{NodeStore}
 use Rattle.ring_store.specs.Slots.{maps_of, held_by, placed_by}
 
@@ -33,3 +34,7 @@ IsReadyAt a s k f = (has_place_at a s k ≡ true) × FitsIn (versions_at a s k) 
 -- each key of f lies in the chunk and has a place in the slot, and what f has for it was made for its versions
 abbrev pub AreReadyAt : NodeStore → Slot → ℕ → FreshKeys → Type 0
 AreReadyAt a s c f = (k : List ℕ) → IfSome (fresh_at f k) (λ x. (chunk_of a.q k ≡ c) × IsReadyAt a s k x)
+
+-- each key that f has in a chunk lies in that chunk and has a place in the slot, and what f has for it was made for its versions
+abbrev pub AllReadyAt : NodeStore → Slot → FreshMaps → Type 0
+AllReadyAt a s f = (c : ℕ) (k : List ℕ) → IfSome (fresh_in f c k) (λ x. (chunk_of a.q k ≡ c) × IsReadyAt a s k x)

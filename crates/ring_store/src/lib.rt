@@ -1,6 +1,8 @@
-//! What one node stores: for each of its slots the versions of every key.
+//! What the nodes store: each one for each of its slots the versions of every key.
 #![tactic(auto)]
 
 mod store;
+mod stores;
 
 pub use store::NodeStore;
+pub use stores::Stores;

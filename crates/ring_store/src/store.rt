@@ -4,7 +4,7 @@ ghost use Rattle.std.specs.Prelude.{◌≡◌, true};
 ghost use Rattle.ring_names.specs.Space.{is_space};
 ghost use Rattle.ring_store.specs.Slots.{AreOf};
 
-use ring_maps::{FreshKeys, KeyMap, SlotMap};
+use ring_maps::{FreshKeys, FreshMaps, KeyMap, SlotMap};
 use ring_names::{Listed, Refusal, Slot};
 use ring_space::place;
 use ring_versions::{Fresh, Versions};
@@ -30,10 +30,10 @@ impl NodeStore {
     ghost use Rattle.ring_versions.specs.declared.version.Version.{Version};
     ghost use Rattle.ring_maps.specs.Chunks.{chunk_of};
     ghost use Rattle.ring_maps.specs.Held.{held, has_place, AreKeys};
-    ghost use Rattle.ring_maps.specs.Merges.{at_key, AreFreshFor};
-    ghost use Rattle.ring_maps.specs.Slots.{space_of};
+    ghost use Rattle.ring_maps.specs.Merges.{at_key, AreFreshFor, AreFreshMaps};
+    ghost use Rattle.ring_maps.specs.Slots.{space_of, held_for};
     ghost use Rattle.ring_store.specs.Slots.{MergesInAll, PutsSlot, at_slot};
-    ghost use Rattle.ring_store.specs.Store.{partitions, versions_at, chunk_versions, has_place_at, IsReadyAt, AreReadyAt};
+    ghost use Rattle.ring_store.specs.Store.{partitions, versions_at, chunk_versions, has_place_at, IsReadyAt, AreReadyAt, AllReadyAt};
 
     /// Nothing stored, in a hash space of q partitions.
     pub fn new(alloc: Global, q: u32) -> NodeStore
@@ -108,6 +108,7 @@ impl NodeStore {
         ensures space { partitions self.new ≡ partitions self.old }
         ensures ok { OnOk result (PutsSlot self.old.slots self.new.slots slot (Some maps)) }
         ensures err { OnErr result ((s : Slot) (k : List ℕ) → versions_at self.new s k ≡ versions_at self.old s k) }
+        ensures places { OnErr result ((s : Slot) (k : List ℕ) → has_place_at self.new s k ≡ has_place_at self.old s k) }
         ensures memory { IfErr result (λ e. e ≡ OutOfMemory) }
     {
         self.slots.insert(slot, maps)?;
@@ -141,6 +142,7 @@ impl NodeStore {
     ) -> Result<Fresh, Refusal>
         requires { chunk_of (partitions self.old) key.now ≡ chunk }
         ensures same { (s : Slot) (k : List ℕ) → versions_at self.new s k ≡ versions_at self.old s k }
+        ensures stays { (s : Slot) (k : List ℕ) → has_place_at self.old s k ≡ true → has_place_at self.new s k ≡ true }
         ensures ok { IfOk result (λ f. IsFreshFor (versions_at self.old slot key.now) more.now f) }
         ensures ready { IfOk result (λ f. IsReadyAt self.new slot key.now f) }
         ensures memory { IfErr result (λ e. e ≡ OutOfMemory) }
@@ -179,6 +181,7 @@ impl NodeStore {
         requires chunk { chunk < 16 }
         requires lies { (k : List ℕ) → has_place other.now k ≡ true → chunk_of (partitions self.old) k ≡ chunk }
         ensures same { (s : Slot) (k : List ℕ) → versions_at self.new s k ≡ versions_at self.old s k }
+        ensures stays { (s : Slot) (k : List ℕ) → has_place_at self.old s k ≡ true → has_place_at self.new s k ≡ true }
         ensures ok { IfOk result (λ f. AreFreshFor (versions_at self.old slot) (held other.now) f) }
         ensures ready { IfOk result (λ f. AreReadyAt self.new slot chunk f) }
         ensures memory { IfErr result (λ e. e ≡ OutOfMemory) }
@@ -203,6 +206,38 @@ impl NodeStore {
     {
         if let Some(maps) = self.slots.get_mut(&slot) {
             maps.settle_chunk(chunk, fresh);
+        }
+    }
+
+    /// The first half of a merge of a slot with all maps of another, in a hash space of as many partitions: makes the places that are missing,
+    /// and what the other maps bring. No reading changes, whatever the answer.
+    pub fn prepare_slot(&mut self, slot: Slot, other: &SlotMap) -> Result<FreshMaps, Refusal>
+        requires { space_of other.now ≡ partitions self.old }
+        ensures same { (s : Slot) (k : List ℕ) → versions_at self.new s k ≡ versions_at self.old s k }
+        ensures stays { (s : Slot) (k : List ℕ) → has_place_at self.old s k ≡ true → has_place_at self.new s k ≡ true }
+        ensures ok { IfOk result (λ f. AreFreshMaps (versions_at self.old slot) (held_for other.now) f) }
+        ensures ready { IfOk result (λ f. AllReadyAt self.new slot f) }
+        ensures memory { IfErr result (λ e. e ≡ OutOfMemory) }
+        ensures space { partitions self.new ≡ partitions self.old }
+    {
+        if let Some(maps) = self.slots.get_mut(&slot) {
+            return maps.prepare_map(self.alloc, other);
+        }
+        let mut maps = SlotMap::new(self.alloc, self.q)?;
+        let fresh = maps.prepare_map(self.alloc, other)?;
+        self.put(slot, maps)?;
+        Ok(fresh)
+    }
+
+    /// The second half of a merge of a slot with all maps of another, which cannot fail.
+    pub fn settle_slot(&mut self, slot: Slot, fresh: FreshMaps)
+        requires { AllReadyAt self.old slot fresh }
+        ensures merged { (more : List ℕ → List Version) → AreFreshMaps (versions_at self.old slot) more fresh
+            → MergesInAll (versions_at self.old) (at_slot slot more) (versions_at self.new) }
+        ensures space { partitions self.new ≡ partitions self.old }
+    {
+        if let Some(maps) = self.slots.get_mut(&slot) {
+            maps.settle_map(fresh);
         }
     }
 

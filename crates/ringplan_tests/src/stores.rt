@@ -3,10 +3,11 @@
 use crate::clocks::set_of;
 use crate::texts::RING;
 use ring_clock::Clock;
-use ring_hints::{KeptFor, Pairs, Sets};
+use ring_hints::{Hints, KeptFor, Pairs, Sets};
 use ring_maps::KeyMap;
 use ring_names::{Listed, NodeId, Slot, WriterId};
 use ring_state::{GetNow, Gets, Keys, Lasts, Marks, Nodes, PutNow, Puts, Slots, Steps};
+use ring_store::{NodeStore, Stores};
 use ring_table::{Ring, read_ring};
 use ring_versions::Versions;
 use std::process::Abort;
@@ -96,6 +97,7 @@ fn parts_at_the_start(rt: HostRuntime) -> Result<(), Fail> {
 }
 
 #[test]
+#[tactic(auto, unfolding(ring_names::specs::Space::is_space))]
 fn keys_numbered(rt: HostRuntime) -> Result<(), Fail> {
     let mut keys = Keys::new(rt.alloc(), 4);
     assert_eq!(rt; keys.add(b"a")?, 0);
@@ -127,4 +129,44 @@ fn puts_and_gets(rt: HostRuntime) -> Result<(), Fail> {
     gets.end(0, Listed::from_vec(Vec::new(rt.alloc())));
     assert_eq!(rt; gets.len(), 1);
     Ok(())
+}
+
+// A node's store of one key, and its copy.
+fn stored<RT: Abort>(rt: &RT, store: &mut NodeStore, set: &Versions) -> Result<(), Fail> {
+    store.merge_key(SLOT, b"a", set)?;
+    assert!(rt; store.key_versions(SLOT, b"a").is_some());
+    assert_eq!(rt; store.chunk_keys(SLOT, 3)?.len(), 1);
+    assert!(rt; store.try_copy()?.key_versions(SLOT, b"a").is_some());
+    Ok(())
+}
+
+#[test]
+#[tactic(auto, unfolding(ring_names::specs::Space::is_space))]
+fn stores_of_nodes(rt: HostRuntime) -> Result<(), Fail> {
+    let clock = Clock::new(rt.alloc()).bump(WriterId(0))?;
+    let set = set_of(rt.alloc(), 7, &clock)?;
+    let mut store = NodeStore::new(rt.alloc(), 4);
+    stored(&rt, &mut store, &set)?;
+    let stores = Stores::start(rt.alloc(), 4, 2)?;
+    assert!(rt; stores.chunk_map(NodeId(1), SLOT, 3).is_none());
+    Ok(())
+}
+
+// A hint that a node keeps.
+fn hinted<RT: Abort>(rt: &RT, hints: &mut Hints, set: &Versions) -> Result<(), Fail> {
+    if let Some(version) = set.list().first() {
+        hints.add(NodeId(3), SLOT, b"a", version)?;
+    }
+    assert!(rt; hints.keeps(NodeId(3), SLOT));
+    assert_eq!(rt; hints.nth(0), Some((NodeId(3), SLOT)));
+    Ok(())
+}
+
+#[test]
+#[tactic(auto, unfolding(ring_names::specs::Space::is_space))]
+fn hints_of_keepers(rt: HostRuntime) -> Result<(), Fail> {
+    let clock = Clock::new(rt.alloc()).bump(WriterId(0))?;
+    let set = set_of(rt.alloc(), 7, &clock)?;
+    let mut hints = Hints::new(rt.alloc(), 4);
+    hinted(&rt, &mut hints, &set)
 }

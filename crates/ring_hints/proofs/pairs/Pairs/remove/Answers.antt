@@ -1,4 +1,6 @@
-use Rattle.std.proofs.Common.{◌∙◌}
+use Rattle.std.proofs.Common.{◌≡◌, ◌+◌, ◌∙◌, Bool, subst, cond}
+use Rattle.indexmap.specs.IndexSet.{index_set_len}
+use Rattle.ring_hints.specs.Pairs.{pair_count}
 use Rattle.ring_hints.specs.Views.{has_slot, has_keeper, has_pair, is_of}
 use Rattle.ring_hints.proofs.Viewed.{slot_removed, keeper_removed, without_it}
 use Rattle.ring_hints.proofs.pairs.Pairs.remove.Goals as goal
@@ -15,3 +17,6 @@ invariant_of-self c = record {
             ∙ without_it (is_of pair x s) (has_pair c.args.self.now.order x s) (has_pair c.swap_remove.new.self x s) (has_keeper c.args.self.now.keepers x s) now seen.1,
       );
 }
+
+pub returns-clause-count : goal.returns-clause-count
+returns-clause-count c = subst (λ (b : Bool). index_set_len c.swap_remove.new.self + cond b 1 0 ≡ pair_count c.args.self.now) c.swap_remove.ensures.found c.swap_remove.ensures.len

@@ -1,7 +1,7 @@
 use Rattle.std.proofs.Common.{refl, ◌∙◌, inl, inr, ap, arith}
 use Rattle.std.proofs.Math.ListN.{length-set}
 use Rattle.ring_maps.proofs.Answered.{on_ok, on_err}
-use Rattle.ring_maps.proofs.Chunks.{chunk_below, within, lent, placed_set, lies_old, same_set, merged_key}
+use Rattle.ring_maps.proofs.Chunks.{chunk_below, within, lent, placed_set, lies_old, same_set, stays_set, filled_set, places_set, merged_key}
 use Rattle.ring_maps.specs.Chunks.{chunk_of}
 use Rattle.ring_maps.proofs.slot_map.SlotMap.merge.Goals as goal
 
@@ -46,6 +46,39 @@ returns-clause-err c =
     let n = c.merge.new.self in
     let is = lent xs i m room c.index_mut-map.ensures.value in
     on_err c.merge.result _ _ (λ h. same_set q i xs m n is room h) c.merge.ensures.err
+
+pub returns-clause-stays : goal.returns-clause-stays
+returns-clause-stays c =
+    let q = c.args.self.now.q in
+    let xs = c.args.self.now.chunks.items in
+    let i = c.args.chunk in
+    let room = within xs i c.args.self.now.whole (chunk_below c.args.self.now.q c.args.key.now c.args.chunk c.requires) in
+    let m = c.index_mut-map.result.now in
+    let n = c.merge.new.self in
+    let is = lent xs i m room c.index_mut-map.ensures.value in
+    stays_set q i xs m n is room c.merge.ensures.stays
+
+pub returns-clause-filled : goal.returns-clause-filled
+returns-clause-filled c =
+    let q = c.args.self.now.q in
+    let xs = c.args.self.now.chunks.items in
+    let i = c.args.chunk in
+    let room = within xs i c.args.self.now.whole (chunk_below c.args.self.now.q c.args.key.now c.args.chunk c.requires) in
+    let m = c.index_mut-map.result.now in
+    let n = c.merge.new.self in
+    let is = lent xs i m room c.index_mut-map.ensures.value in
+    filled_set q i xs m n is room c.merge.ensures.filled
+
+pub returns-clause-places : goal.returns-clause-places
+returns-clause-places c =
+    let q = c.args.self.now.q in
+    let xs = c.args.self.now.chunks.items in
+    let i = c.args.chunk in
+    let room = within xs i c.args.self.now.whole (chunk_below c.args.self.now.q c.args.key.now c.args.chunk c.requires) in
+    let m = c.index_mut-map.result.now in
+    let n = c.merge.new.self in
+    let is = lent xs i m room c.index_mut-map.ensures.value in
+    on_err c.merge.result _ _ (λ h. places_set q i xs m n is room h) c.merge.ensures.places
 
 pub returns-clause-memory : goal.returns-clause-memory
 returns-clause-memory c = c.merge.ensures.memory

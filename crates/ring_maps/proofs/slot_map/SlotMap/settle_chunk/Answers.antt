@@ -1,6 +1,6 @@
 use Rattle.std.proofs.Common.{refl, ◌∙◌, sym, arith}
 use Rattle.std.proofs.Math.ListN.{length-set}
-use Rattle.ring_maps.proofs.Chunks.{within, lent, placed_set, lies_old, places_set, chunk_ready, merged_chunk}
+use Rattle.ring_maps.proofs.Chunks.{within, lent, placed_set, lies_old, places_set, other_held, chunk_ready, merged_chunk}
 use Rattle.ring_maps.proofs.slot_map.SlotMap.settle_chunk.Goals as goal
 
 pub index_mut-map-requires : goal.index_mut-map-requires
@@ -54,3 +54,14 @@ returns-clause-places c =
     let n = c.settle_all.new.self in
     let is = lent xs i m room c.index_mut-map.ensures.value in
     places_set q i xs m n is room c.settle_all.ensures.places
+
+pub returns-clause-others : goal.returns-clause-others
+returns-clause-others c =
+    let q = c.args.self.now.q in
+    let xs = c.args.self.now.chunks.items in
+    let i = c.args.chunk in
+    let room = within xs i c.args.self.now.whole (c.requires.chunk) in
+    let m = c.index_mut-map.result.now in
+    let n = c.settle_all.new.self in
+    let is = lent xs i m room c.index_mut-map.ensures.value in
+    other_held q i xs m n is room

@@ -1,4 +1,4 @@
-use Rattle.std.proofs.Common.{◌∙◌, ℕ, List, refl, sym, ap, subst, Some}
+use Rattle.std.proofs.Common.{◌≡◌, ◌∙◌, false, ℕ, List, refl, sym, ap, subst, Some}
 use Rattle.std.specs.Prelude.{IsSome, MatchOption}
 use Rattle.std.proofs.lemmas.Result.{IfOk-weaker}
 use Rattle.ring_versions.specs.Fresh.{IsFreshFor}
@@ -7,8 +7,8 @@ use Rattle.ring_versions.specs.Versions.{IsMerge}
 use Rattle.ring_maps.specs.Chunks.{chunk_of}
 use Rattle.ring_maps.specs.Held.{held}
 use Rattle.ring_maps.specs.Places.{value_at}
-use Rattle.ring_store.specs.Slots.{held_by, maps_of, AreOf, PutsSlot}
-use Rattle.ring_store.proofs.Stored.{puts_slot, same_by, spaces_by, space_at, all_ready_at}
+use Rattle.ring_store.specs.Slots.{held_by, placed_by, maps_of, AreOf, PutsSlot}
+use Rattle.ring_store.proofs.Stored.{puts_slot, same_by, stays_by, spaces_by, space_at, all_ready_at}
 use Rattle.ring_store.proofs.store.NodeStore.prepare_chunk.Goals as goal
 
 pub prepare_chunk-requires-clause-chunk : goal.prepare_chunk-requires-clause-chunk
@@ -142,3 +142,36 @@ returns-clause-ready c =
     let value = (c.in_default.ensures).value in
     let reads = λ (k : List ℕ). (c.in_ok-maps.ensures).versions k ∙ ap (λ o. held_by o k) value in
     all_ready_at (maps_of new slot) w c.put.new.self.q c.args.chunk c.in_ok-fresh.fresh ((c.in_ok-put.ensures).ok).here (c.prepare_chunk-2.ensures.space ∙ (c.in_ok-maps.ensures).space ∙ sym (c.in_ok-put.ensures).space) (c.in_ok-fresh.ensures).ready
+
+pub returns-in-Some-clause-stays : goal.returns-in-Some-clause-stays
+returns-in-Some-clause-stays c =
+    let q = c.args.self.now.q in
+    let slot = c.args.slot in
+    let old = c.args.self.now.slots in
+    let m = c.in-Some.maps.now in
+    let value = (c.in-Some.ensures).value in
+    let w = c.prepare_chunk.new.self in
+    let new = c.get_mut.follows.lender w in
+    let p = puts_slot old new slot (Some w) ((c.get_mut.follows.holds w).3 (subst IsSome value refl)) in
+    stays_by old new slot (Some w) p (λ k h. c.prepare_chunk.ensures.stays k (ap (λ o. placed_by o k) value ∙ h))
+
+pub returns-in_err-maps-clause-stays : goal.returns-in_err-maps-clause-stays
+returns-in_err-maps-clause-stays c =
+    λ s k h. ap (λ slots. placed_by (maps_of slots s) k) c.get_mut.follows.holds-at-none ∙ h
+
+pub returns-in_err-fresh-clause-stays : goal.returns-in_err-fresh-clause-stays
+returns-in_err-fresh-clause-stays c =
+    λ s k h. ap (λ slots. placed_by (maps_of slots s) k) c.get_mut.follows.holds-at-none ∙ h
+
+pub returns-in_err-put-clause-stays : goal.returns-in_err-put-clause-stays
+returns-in_err-put-clause-stays c =
+    λ s k h. (c.in_err-put.ensures).places s k ∙ ap (λ slots. placed_by (maps_of slots s) k) c.get_mut.follows.holds-at-none ∙ h
+
+pub returns-clause-stays : goal.returns-clause-stays
+returns-clause-stays c =
+    let slot = c.args.slot in
+    let old = c.args.self.now.slots in
+    let w = c.prepare_chunk-2.new.self in
+    let new = c.put.new.self.slots in
+    let value = (c.in_default.ensures).value in
+    stays_by old new slot (Some w) (subst (λ slots. PutsSlot slots new slot (Some w)) c.get_mut.follows.holds-at-none (c.in_ok-put.ensures).ok) (λ k h. absurd (let no : false ≡ placed_by (maps_of old slot) k = ap (λ o. placed_by o k) value in cc))

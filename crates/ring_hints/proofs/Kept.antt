@@ -1,0 +1,222 @@
+-- The map of one pair changed.
+use Rattle.std.proofs.Common.{◌≡◌, ◌≢◌, ◌⊎◌, inl, inr, ◌∙◌, ◌+◌, ℕ, ◌<◌, Bool, true, false, cond, nat_eq, List, [], ◌∷◌, refl, sym, ap, subst, Option, Some, None, Result, Ok, Err, arith}
+use Rattle.std.specs.Prelude.{◌&&◌, ◌||◌, ◌==◌, ◌↔◌, not, is_some, IfNone, OnErr, slice_get, unwrap_or}
+use Rattle.std.specs.HashMap.{HashMap, UpdatesBy}
+use Rattle.std.proofs.lemmas.Bool.{cases_Bool, and_parts, eqb-true, eq-eqb}
+use Rattle.ring_names.specs.declared.ids.Slot.{Slot}
+use Rattle.ring_versions.specs.declared.version.Version.{Version}
+use Rattle.ring_versions.specs.Versions.{Covers, IsApart, IsMerge}
+use Rattle.ring_maps.specs.Chunks.{chunk_of}
+use Rattle.ring_maps.specs.Held.{held, has_place}
+use Rattle.ring_maps.specs.Places.{value_at}
+use Rattle.ring_maps.specs.declared.key_map.KeyMap.{KeyMap}
+use Rattle.ring_maps.specs.Merges.{MergesAll, at_key}
+use Rattle.ring_maps.specs.Slots.{space_of, held_for, has_place_for}
+use Rattle.ring_maps.specs.declared.slot_map.SlotMap.{SlotMap}
+use Rattle.ring_maps.proofs.Answered.{none_from_empty, false_from}
+use Rattle.ring_maps.proofs.Bytes.{same_bytes}
+use Rattle.ring_maps.proofs.Chunks.{slot_apart}
+use Rattle.ring_maps.proofs.Merging.{merge_none}
+use Rattle.ring_maps.proofs.Slots.{bare_held}
+use Rattle.ring_space.specs.Place.{place_of}
+use Rattle.ring_space.specs.declared.found.Place.{Place}
+use Rattle.ring_hints.specs.contracts.kept_for.KeptForPartialEq.TheImpl as pair_eq
+use Rattle.ring_hints.specs.declared.kept_for.KeptFor.{KeptFor}
+use Rattle.ring_hints.specs.declared.pairs.Pairs.{Pairs}
+use Rattle.ring_hints.specs.Kept.{map_of, held_by, IsKept, AreKept, ArePaired, PutsMap}
+use Rattle.ring_hints.specs.Pairs.{is_pair}
+use Rattle.ring_hints.specs.Views.{is_of, pair_of}
+use Rattle.ring_hints.proofs.Viewed.{differ, equal, pair_same, or_cond}
+
+-- the chunk of a place that was computed
+pub chunk_at : (q : ℕ) (k : List ℕ) (p : Place) → p ≡ place_of q k → chunk_of q k ≡ p.chunk
+unfolding chunk_of
+chunk_at q k p e = sym (ap (λ (r : Place). r.chunk) e)
+
+-- the chunk of a key among the map's own partitions
+pub chunk_in : (m : SlotMap) (q : ℕ) (k : List ℕ) (c : ℕ) → space_of m ≡ q → chunk_of q k ≡ c → chunk_of (space_of m) k ≡ c
+chunk_in m q k c e h = ap (λ (p : ℕ). chunk_of p k) e ∙ h
+
+pub always_err : {A E : Type 0} (r : Result A E) (P : Type 0) → P → OnErr r P
+always_err (Ok a) P h = tt
+always_err (Err e) P h = h
+
+pub pair_is : (a b : KeptFor) → is_of a b.keeper.0 b.slot ≡ true → a ≡ b
+pair_is a b h =
+    let p = and_parts (a.keeper.0 == b.keeper.0) ((a.slot.partition == b.slot.partition) && (a.slot.index == b.slot.index)) h in
+    let q = and_parts (a.slot.partition == b.slot.partition) (a.slot.index == b.slot.index) p.1 in
+    λ i. record {
+      keeper = record { 0 = equal a.keeper.0 b.keeper.0 p.0 i };
+      slot = record { partition = equal a.slot.partition b.slot.partition q.0 i; index = equal a.slot.index b.slot.index q.1 i };
+    }
+
+pub apart_by : (o : Option SlotMap) (k : List ℕ) → IsApart (held_by o k)
+apart_by None k = tt
+apart_by (Some m) k = slot_apart m k
+
+-- ---- what merges keep
+
+-- versions that one of the two has are covered after a merge
+pub not_emptied : (a b c : List Version) → IsMerge a b c → (a ≢ []) ⊎ (b ≢ []) → c ≢ []
+not_emptied [] [] c m h none = elim h [ inl ne ↦ ne refl | inr ne ↦ ne refl ]
+not_emptied (x ∷ xs) b c m h none = subst (λ (vs : List Version). Covers vs x.clock → ⊥) (sym none) (λ t. t.1) ((m.covers x.clock).1 (inl (x, inl refl, λ w. omega arith)))
+not_emptied [] (x ∷ xs) c m h none = subst (λ (vs : List Version). Covers vs x.clock → ⊥) (sym none) (λ t. t.1) ((m.covers x.clock).1 (inr (x, inl refl, λ w. omega arith)))
+
+-- a map that was kept, after a merge
+pub kept_merged : (q : ℕ) (pair : KeptFor) (m w : SlotMap) → IsKept q pair m → space_of w ≡ space_of m
+    → ((k : List ℕ) → has_place_for m k ≡ true → has_place_for w k ≡ true)
+    → ((k : List ℕ) → has_place_for w k ≡ true → (has_place_for m k ≡ true) ⊎ (held_for w k ≢ []))
+    → ((k : List ℕ) → held_for m k ≢ [] → held_for w k ≢ []) → IsKept q pair w
+kept_merged q pair m w s space stays filled keeps = record {
+  few = s.few;
+  space = space ∙ s.space;
+  filled = λ k h. elim (filled k h) [ inl was ↦ keeps k (s.filled k was) | inr some ↦ some ];
+  used = λ all. s.used (λ k. false_from (has_place_for m k) (λ h. let y = stays k h in let n = all k in cc));
+}
+
+at_itself : (key : List ℕ) (more : List Version) → at_key key more key ≡ more
+at_itself key more = ap (λ (b : Bool). cond b more []) (same_bytes key)
+
+-- a map that was made, after its first merge
+pub kept_first : (q : ℕ) (pair : KeptFor) (m w : SlotMap) (key : List ℕ) (more : List Version) → pair.slot.index < 7 → space_of w ≡ q
+    → ((k : List ℕ) → has_place_for m k ≡ false) → ((k : List ℕ) → has_place_for w k ≡ true → (has_place_for m k ≡ true) ⊎ (held_for w k ≢ []))
+    → more ≢ [] → MergesAll (held_for m) (at_key key more) (held_for w) → IsKept q pair w
+kept_first q pair m w key more few space bare filled some merged = record {
+  few = few;
+  space = space;
+  filled = λ k h. elim (filled k h) [ inl was ↦ absurd (let n = bare k in cc) | inr ne ↦ ne ];
+  used = λ all. not_emptied (held_for m key) (at_key key more key) (held_for w key) (merged key) (inr (λ none. some (sym (at_itself key more) ∙ none)))
+      (bare_held (slice_get w.chunks.items (chunk_of w.q key)) key (all key));
+}
+
+-- ---- whether anything is kept
+
+pub none_held : (o : Option SlotMap) (k : List ℕ) → is_some o ≡ false → held_by o k ≡ []
+none_held None k h = refl
+none_held (Some m) k h = absurd cc
+
+pub some_held : (q : ℕ) (pair : KeptFor) (o : Option SlotMap) → is_some o ≡ true → ((m : SlotMap) → o ≡ Some m → IsKept q pair m) → ((k : List ℕ) → held_by o k ≡ []) → ⊥
+some_held q pair None h kept none = cc
+some_held q pair (Some m) h kept none = let s = kept m refl in s.used (λ k. false_from (has_place_for m k) (λ y. s.filled k y (none k)))
+
+module _ {S : Type 0} (q : ℕ) (pairs : Pairs) (maps : HashMap KeptFor SlotMap S) (paired : ArePaired pairs maps) (kept : AreKept q maps) where
+  -- a pair is there exactly where some key has versions
+  pub keeps_is : (x : ℕ) (s : Slot) → (is_pair pairs x s ≡ false) ↔ ((k : List ℕ) → held_by (map_of maps (pair_of x s)) k ≡ [])
+  keeps_is x s = (
+    λ h k. none_held (map_of maps (pair_of x s)) k (sym (paired x s) ∙ h),
+    λ none. false_from (is_pair pairs x s) (λ h. some_held q (pair_of x s) (map_of maps (pair_of x s)) (sym (paired x s) ∙ h) (kept (pair_of x s)) none),
+  )
+
+  few_of : (o : Option SlotMap) (x : ℕ) (s : Slot) → o ≡ map_of maps (pair_of x s) → is_some o ≡ true → s.index < 7
+  few_of None x s e h = absurd cc
+  few_of (Some m) x s e h = (kept (pair_of x s) m (sym e)).few
+
+  -- a slot of a pair is one of the first seven
+  pub pair_few : (x : ℕ) (s : Slot) → is_pair pairs x s ≡ true → s.index < 7
+  pair_few x s h = few_of (map_of maps (pair_of x s)) x s refl (sym (paired x s) ∙ h)
+
+-- ---- the pair's map is o now
+
+pub puts_map : {S : Type 0} (old new : HashMap KeptFor SlotMap S) (pair : KeptFor) (o : Option SlotMap) → UpdatesBy ((pair_eq.ghosts).eq) (λ k. ((pair_eq.ghosts).eq) pair k) old new o → PutsMap old new pair o
+puts_map old new pair o u = record { here = u.1; others = λ other e. u.2 other e }
+
+module _ {S : Type 0} (old new : HashMap KeptFor SlotMap S) (pair : KeptFor) (o : Option SlotMap) (p : PutsMap old new pair o) where
+  pub by_pair : (P : KeptFor → Type 0) → P pair → ((other : KeptFor) → is_of pair other.keeper.0 other.slot ≡ false → P other) → (other : KeptFor) → P other
+  by_pair P here others other = elim (cases_Bool (is_of pair other.keeper.0 other.slot)) [ inl y ↦ subst P (pair_is pair other y) here | inr n ↦ others other n ]
+
+  pub same_by : ((k : List ℕ) → held_by o k ≡ held_by (map_of old pair) k) → (x : ℕ) (s : Slot) (k : List ℕ) → held_by (map_of new (pair_of x s)) k ≡ held_by (map_of old (pair_of x s)) k
+  same_by same x s = by_pair (λ (other : KeptFor). (k : List ℕ) → held_by (map_of new other) k ≡ held_by (map_of old other) k) (λ k. ap (λ m. held_by m k) p.here ∙ same k) (λ other e k. ap (λ m. held_by m k) (p.others other e)) (pair_of x s)
+
+  merged_of : (more : List ℕ → List Version) → MergesAll (held_by (map_of old pair)) more (held_by o)
+      → (other : KeptFor) (k : List ℕ) → IsMerge (held_by (map_of old other) k) (cond (is_of pair other.keeper.0 other.slot) (more k) []) (held_by (map_of new other) k)
+  merged_of more h = by_pair (λ (other : KeptFor). (k : List ℕ) → IsMerge (held_by (map_of old other) k) (cond (is_of pair other.keeper.0 other.slot) (more k) []) (held_by (map_of new other) k))
+      (λ k. subst (λ (b : Bool). IsMerge (held_by (map_of old pair) k) (cond b (more k) []) (held_by (map_of new pair) k)) (sym (pair_same pair))
+      (subst (IsMerge (held_by (map_of old pair) k) (more k)) (sym (ap (λ m. held_by m k) p.here)) (h k)))
+      (λ other e k. subst (λ (b : Bool). IsMerge (held_by (map_of old other) k) (cond b (more k) []) (held_by (map_of new other) k)) (sym e)
+      (subst (IsMerge (held_by (map_of old other) k) []) (sym (ap (λ m. held_by m k) (p.others other e))) (merge_none (held_by (map_of old other) k) (apart_by (map_of old other) k))))
+
+  pub merged_by : (more : List ℕ → List Version) → MergesAll (held_by (map_of old pair)) more (held_by o)
+      → (x : ℕ) (s : Slot) (k : List ℕ) → IsMerge (held_by (map_of old (pair_of x s)) k) (cond (is_of pair x s) (more k) []) (held_by (map_of new (pair_of x s)) k)
+  merged_by more h x s = merged_of more h (pair_of x s)
+
+  gone_of : o ≡ None → (other : KeptFor) (k : List ℕ) → held_by (map_of new other) k ≡ cond (is_of pair other.keeper.0 other.slot) [] (held_by (map_of old other) k)
+  gone_of none = by_pair (λ (other : KeptFor). (k : List ℕ) → held_by (map_of new other) k ≡ cond (is_of pair other.keeper.0 other.slot) [] (held_by (map_of old other) k))
+      (λ k. ap (λ m. held_by m k) (p.here ∙ none) ∙ sym (ap (λ (b : Bool). cond b [] (held_by (map_of old pair) k)) (pair_same pair)))
+      (λ other e k. ap (λ m. held_by m k) (p.others other e) ∙ sym (ap (λ (b : Bool). cond b [] (held_by (map_of old other) k)) e))
+
+  pub gone_by : o ≡ None → (x : ℕ) (s : Slot) (k : List ℕ) → held_by (map_of new (pair_of x s)) k ≡ cond (is_of pair x s) [] (held_by (map_of old (pair_of x s)) k)
+  gone_by none x s = gone_of none (pair_of x s)
+
+  pub kept_by : (q : ℕ) → ((m : SlotMap) → o ≡ Some m → IsKept q pair m) → AreKept q old → AreKept q new
+  kept_by q here kept = by_pair (λ (other : KeptFor). (m : SlotMap) → map_of new other ≡ Some m → IsKept q other m) (λ m e. here m (sym p.here ∙ e)) (λ other e m is. kept other m (sym (p.others other e) ∙ is))
+
+  paired_of : (pairs more : Pairs) → ((x : ℕ) (s : Slot) → is_pair more x s ≡ cond (is_of pair x s) (is_some o) (is_pair pairs x s)) → ArePaired pairs old
+      → (other : KeptFor) → is_pair more other.keeper.0 other.slot ≡ is_some (map_of new other)
+  paired_of pairs more now paired = by_pair (λ (other : KeptFor). is_pair more other.keeper.0 other.slot ≡ is_some (map_of new other))
+      (now pair.keeper.0 pair.slot ∙ ap (λ (b : Bool). cond b (is_some o) (is_pair pairs pair.keeper.0 pair.slot)) (pair_same pair) ∙ sym (ap is_some p.here))
+      (λ other e. now other.keeper.0 other.slot ∙ ap (λ (b : Bool). cond b (is_some o) (is_pair pairs other.keeper.0 other.slot)) e ∙ paired other.keeper.0 other.slot ∙ sym (ap is_some (p.others other e)))
+
+  pub paired_by : (pairs more : Pairs) → ((x : ℕ) (s : Slot) → is_pair more x s ≡ cond (is_of pair x s) (is_some o) (is_pair pairs x s)) → ArePaired pairs old → ArePaired more new
+  paired_by pairs more now paired x s = paired_of pairs more now paired (pair_of x s)
+
+  paired_still : (pairs : Pairs) → is_some o ≡ is_some (map_of old pair) → ArePaired pairs old → (other : KeptFor) → is_pair pairs other.keeper.0 other.slot ≡ is_some (map_of new other)
+  paired_still pairs same paired = by_pair (λ (other : KeptFor). is_pair pairs other.keeper.0 other.slot ≡ is_some (map_of new other))
+      (paired pair.keeper.0 pair.slot ∙ sym same ∙ sym (ap is_some p.here)) (λ other e. paired other.keeper.0 other.slot ∙ sym (ap is_some (p.others other e)))
+
+  -- another map stands where one stood
+  pub paired_stays : (pairs : Pairs) → is_some o ≡ is_some (map_of old pair) → ArePaired pairs old → ArePaired pairs new
+  paired_stays pairs same paired x s = paired_still pairs same paired (pair_of x s)
+
+-- the map w stands there
+pub kept_at : (q : ℕ) (pair : KeptFor) (w : SlotMap) (o : Option SlotMap) → o ≡ Some w → IsKept q pair w → (n : SlotMap) → o ≡ Some n → IsKept q pair n
+kept_at q pair w o is s n at = let same : w ≡ n = cc in subst (IsKept q pair) same s
+
+pub merged_at : (m w : SlotMap) (o : Option SlotMap) (more : List ℕ → List Version) → ((k : List ℕ) → held_for m k ≡ held_by o k) → MergesAll (held_for m) more (held_for w) → MergesAll (held_by o) more (held_by (Some w))
+merged_at m w o more reads h k = subst (λ (old : List Version). IsMerge old (more k) (held_for w k)) (reads k) (h k)
+
+-- a map is put where there was none, and taken out again
+pub put_back : {S : Type 0} (old mid new : HashMap KeptFor SlotMap S) (pair : KeptFor) (o : Option SlotMap) → map_of old pair ≡ None → PutsMap old mid pair o → PutsMap mid new pair None
+    → (other : KeptFor) → map_of new other ≡ map_of old other
+put_back old mid new pair o absent put out = by_pair mid new pair None out (λ (other : KeptFor). map_of new other ≡ map_of old other) (out.here ∙ sym absent) (λ other e. out.others other e ∙ put.others other e)
+
+pub kept_same : {S : Type 0} (q : ℕ) (old new : HashMap KeptFor SlotMap S) → ((other : KeptFor) → map_of new other ≡ map_of old other) → AreKept q old → AreKept q new
+kept_same q old new same kept other m e = kept other m (sym (same other) ∙ e)
+
+pub paired_same : {S : Type 0} (pairs more : Pairs) (old new : HashMap KeptFor SlotMap S) → ((x : ℕ) (s : Slot) → is_pair more x s ≡ is_pair pairs x s) → ((other : KeptFor) → map_of new other ≡ map_of old other)
+    → ArePaired pairs old → ArePaired more new
+paired_same pairs more old new pair_by same paired x s = pair_by x s ∙ paired x s ∙ sym (ap is_some (same (pair_of x s)))
+
+-- the pair is there, or is not, in the words of the pairs
+pub with_pair : (b c d : Bool) → d ≡ (b || c) → d ≡ cond b true c
+with_pair b c d e = e ∙ sym (or_cond b c)
+
+pub without_pair : (b c d : Bool) → d ≡ (not b && c) → d ≡ cond b false c
+without_pair true c d e = e
+without_pair false c d e = e
+
+-- ---- the keys of a chunk
+
+pub in_chunk : (q c : ℕ) (k : List ℕ) (v w : List Version) → (chunk_of q k ≡ c → v ≡ w) → (chunk_of q k ≢ c → v ≡ []) → v ≡ cond (nat_eq (chunk_of q k) c) w []
+in_chunk q c k v w here other = elim (cases_Bool (nat_eq (chunk_of q k) c)) [
+  | inl y ↦ here (eqb-true (chunk_of q k) c y) ∙ rw y refl
+  | inr n ↦ other (λ e. let y = eq-eqb (chunk_of q k) c e in cc) ∙ rw n refl
+]
+
+pub no_place : (m : KeyMap) (k : List ℕ) → (has_place m k ≡ true → ⊥) → held m k ≡ []
+no_place m k h = ap (λ (o : Option (List Version)). unwrap_or o []) (none_from_empty (value_at m.map k) (false_from (has_place m k) h))
+
+-- ---- all pairs of a node
+
+-- a map was there
+pub was_some : (r : Option SlotMap) (Q : Type 0) → IfNone r Q → (Q → ⊥) → is_some r ≡ true
+was_some None Q h false_of = absurd (false_of h)
+was_some (Some m) Q h false_of = refl
+
+pub others_stay : (pair : KeptFor) (x : ℕ) (s : Slot) (was now : List Version) → x ≢ pair.keeper.0 → now ≡ cond (is_of pair x s) [] was → now ≡ was
+others_stay pair x s was now ne e =
+    e ∙ ap (λ (b : Bool). cond (b && ((pair.slot.partition == s.partition) && (pair.slot.index == s.index))) [] was) (differ pair.keeper.0 x (λ h. ne (sym h)))
+
+-- a map less
+pub fewer : (r : Option SlotMap) (new old : ℕ) → is_some r ≡ true → new + cond (is_some r) 1 0 ≡ old → new < old
+fewer None new old h e = absurd cc
+fewer (Some m) new old h e = omega arith

@@ -1,0 +1,8 @@
+use Rattle.ring_hints.proofs.Kept.{chunk_at}
+use Rattle.ring_hints.proofs.hints.Hints.add.Goals as goal
+
+pub place-chunk-requires : goal.place-chunk-requires
+place-chunk-requires c = c.args.self.now.space
+
+pub add_set-requires-clause-chunk : goal.add_set-requires-clause-chunk
+add_set-requires-clause-chunk c = chunk_at c.args.self.now.q c.args.key.now c.place-chunk.result c.place-chunk.ensures.place

@@ -1,0 +1,277 @@
+//! The hints of all keepers.
+
+ghost use Rattle.std.specs.Prelude.{◌≡◌, true};
+ghost use Rattle.ring_names.specs.Space.{is_space};
+ghost use Rattle.ring_hints.specs.Kept.{AreKept, AreKept-prop, ArePaired};
+
+use crate::kept_for::KeptFor;
+use crate::pairs::Pairs;
+use ring_maps::{KeyMap, SlotMap};
+use ring_names::{Listed, NodeId, Refusal, Slot};
+use ring_space::place;
+use ring_versions::{Version, Versions};
+use std::alloc::Global;
+use std::collections::{BTreeSet, HashMap};
+
+/// The versions that nodes keep for slots whose nodes were out of reach, by keeper, slot and key. A look-up costs the key's length times
+/// the logarithm of the number of keys of its chunk, and its digest where the call takes no chunk. A refused growth leaves every reading
+/// as it was.
+#[derive(Drop)]
+pub struct Hints {
+    alloc: Global,
+    q: u32,
+    pairs: Pairs,
+    maps: HashMap<KeptFor, SlotMap>,
+    ghost space: { is_space q ≡ true },
+    ghost paired: { ArePaired pairs maps },
+    ghost kept: { AreKept q maps } by { AreKept-prop q maps },
+}
+
+impl Hints {
+    ghost use Rattle.std.specs.Prelude.{◌≢◌, ◌↔◌, ◌≤◌, ◌<◌, ◌+◌, ℕ, false, [], ◌∷◌, List, Some, None, is_some, if◌then◌else◌};
+    ghost use Rattle.std.specs.Prelude.{IfSome, IfNone, IfOk, IfErr, OnOk, OnErr};
+    ghost use Rattle.ring_names.specs.declared.ids.Slot.{Slot};
+    ghost use Rattle.ring_names.specs.declared.refusal.Refusal.TheVariants.{OutOfMemory};
+    ghost use Rattle.ring_maps.specs.Chunks.{chunk_of};
+    ghost use Rattle.ring_maps.specs.Held.{held, has_place};
+    ghost use Rattle.ring_maps.specs.Merges.{at_key};
+    ghost use Rattle.ring_maps.specs.Slots.{held_for, space_of};
+    ghost use Rattle.ring_hints.specs.Hints.{partitions, hinted_at, chunk_hints, kept_count};
+    ghost use Rattle.ring_hints.specs.Hints.{AddsHints, AreKeysBut, AreSameHints, IsUnhinted, Keeps, TakesHints};
+    ghost use Rattle.ring_hints.specs.Kept.{map_of, IsKept, PutsMap};
+    ghost use Rattle.ring_hints.specs.Views.{pair_of, in_keepers};
+
+    /// No hints, in a hash space of q partitions.
+    pub fn new(alloc: Global, q: u32) -> Hints
+        requires { is_space q ≡ true }
+        ensures space { partitions result ≡ q }
+        ensures versions { (x : ℕ) (s : Slot) (k : List ℕ) → hinted_at result x s k ≡ [] }
+    {
+        Hints {
+            alloc,
+            q,
+            pairs: Pairs::new(alloc),
+            maps: HashMap::new(alloc),
+        }
+    }
+
+    /// How many partitions the hash space has.
+    pub fn q(&self) -> u32
+        ensures value { result ≡ partitions self.now }
+        ensures space { is_space result ≡ true }
+    {
+        self.q
+    }
+
+    /// Whether the node keeps anything for the slot. One look-up, no memory.
+    pub fn keeps(&self, keeper: NodeId, slot: Slot) -> bool
+        ensures { (result ≡ false) ↔ ((k : List ℕ) → hinted_at self.now keeper.0 slot k ≡ []) }
+    {
+        self.pairs.has(KeptFor { keeper, slot })
+    }
+
+    /// Whether the node keeps anything for any slot. Takes no memory.
+    pub fn keeps_any(&self, keeper: NodeId) -> bool
+        ensures { (result ≡ false) ↔ ((s : Slot) (k : List ℕ) → hinted_at self.now keeper.0 s k ≡ []) }
+    {
+        self.pairs.has_keeper(keeper)
+    }
+
+    /// Whether the node keeps anything for another slot of the partition. At most seven look-ups, no memory.
+    pub fn keeps_other(&self, keeper: NodeId, slot: Slot) -> bool
+        ensures { (result ≡ false) ↔ ((s : Slot) → s.partition ≡ slot.partition → s.index ≢ slot.index → (k : List ℕ) → hinted_at self.now keeper.0 s k ≡ []) }
+    {
+        let partition = slot.partition;
+        'indexes: for index in 0..7u32 {
+            if index != slot.index && self.keeps(keeper, Slot { partition, index }) {
+                return true;
+            }
+        }
+        false
+    }
+
+    /// The versions of a key that the node keeps for the slot, if it has any. Takes no memory.
+    pub fn key_versions(&self, keeper: NodeId, slot: Slot, key: &[u8]) -> Option<&Versions>
+        ensures some { IfSome result (λ v. (v.now ≡ hinted_at self.now keeper.0 slot key.now) × (v.now ≢ [])) }
+        ensures none { IfNone result (hinted_at self.now keeper.0 slot key.now ≡ []) }
+    {
+        let chunk = place(self.q, key).chunk;
+        self.key_versions_in(KeptFor { keeper, slot }, chunk, key)
+    }
+
+    /// The versions of a key of the chunk that the pair's node keeps for its slot, if it has any. Takes no memory.
+    pub fn key_versions_in(&self, pair: KeptFor, chunk: u32, key: &[u8]) -> Option<&Versions>
+        requires { chunk_of (partitions self.now) key.now ≡ chunk }
+        ensures some { IfSome result (λ v. (v.now ≡ hinted_at self.now pair.keeper.0 pair.slot key.now) × (v.now ≢ [])) }
+        ensures none { IfNone result (hinted_at self.now pair.keeper.0 pair.slot key.now ≡ []) }
+    {
+        match self.maps.get(&pair) {
+            Some(map) => map.key_versions(chunk, key),
+            None => None,
+        }
+    }
+
+    /// The nodes that keep anything for the slot, ascending by number. Takes no memory.
+    pub fn keepers(&self, slot: Slot) -> Option<&BTreeSet<NodeId>>
+        ensures some { IfSome result (λ nodes. (x : ℕ) → (in_keepers x nodes.now.keys ≡ false) ↔ ((k : List ℕ) → hinted_at self.now x slot k ≡ [])) }
+        ensures none { IfNone result ((x : ℕ) (k : List ℕ) → hinted_at self.now x slot k ≡ []) }
+    {
+        self.pairs.keepers(slot)
+    }
+
+    /// The n-th node with a slot for which it keeps anything, in an order that stays while nothing is added or taken. Takes no memory.
+    pub fn nth(&self, n: u32) -> Option<(NodeId, Slot)>
+        ensures some { IfSome result (λ pair. Keeps self.now pair.0.0 pair.1) }
+        ensures none { IfNone result (kept_count self.now ≤ n) }
+    {
+        match self.pairs.nth(n) {
+            Some(pair) => Some((pair.keeper, pair.slot)),
+            None => None,
+        }
+    }
+
+    /// The map of a chunk of what the pair's node keeps for its slot, if it keeps anything. Takes no memory.
+    pub fn chunk_map(&self, pair: KeptFor, chunk: u32) -> Option<&KeyMap>
+        requires { chunk < 16 }
+        ensures some { IfSome result (λ m. (k : List ℕ) → held m.now k ≡ chunk_hints self.now pair chunk k) }
+        ensures lies { IfSome result (λ m. (k : List ℕ) → has_place m.now k ≡ true → chunk_of (partitions self.now) k ≡ chunk) }
+        ensures none { IfNone result ((k : List ℕ) → chunk_hints self.now pair chunk k ≡ []) }
+    {
+        match self.maps.get(&pair) {
+            Some(map) => Some(map.chunk(chunk)),
+            None => None,
+        }
+    }
+
+    // What these nodes keep of the chunk for the slot, merged aside.
+    fn gather(&self, keepers: &BTreeSet<NodeId>, slot: Slot, chunk: u32) -> Result<KeyMap, Refusal>
+        requires { chunk < 16 }
+        ensures each { IfOk result (λ m. (k : List ℕ) → held m k ≡ [] → (x : ℕ) → in_keepers x keepers.now.keys ≡ true
+            → chunk_hints self.now (pair_of x slot) chunk k ≡ []) }
+        ensures only { IfOk result (λ m. (k : List ℕ) → IsUnhinted self.now slot chunk k → held m k ≡ []) }
+        ensures memory { IfErr result (λ e. e ≡ OutOfMemory) }
+    {
+        let mut all = KeyMap::new(self.alloc);
+        'keepers: for keeper in keepers {
+            let pair = KeptFor {
+                keeper: *keeper,
+                slot,
+            };
+            if let Some(map) = self.chunk_map(pair, chunk) {
+                all.merge_all(map)?;
+            }
+        }
+        Ok(all)
+    }
+
+    /// The keys of a chunk of which any node keeps versions for the slot, in ascending byte order. Walks the maps of that chunk alone.
+    pub fn chunk_keys(&self, slot: Slot, chunk: u32) -> Result<Vec<Listed<u8>>, Refusal>
+        requires { chunk < 16 }
+        ensures ok { IfOk result (λ keys. AreKeysBut (IsUnhinted self.now slot chunk) keys.items) }
+        ensures memory { IfErr result (λ e. e ≡ OutOfMemory) }
+    {
+        match self.keepers(slot) {
+            Some(keepers) => self.gather(keepers, slot, chunk)?.keys(),
+            None => Ok(Vec::new(self.alloc)),
+        }
+    }
+
+    // The map of a pair that had none.
+    fn put(&mut self, pair: KeptFor, map: SlotMap) -> Result<(), Refusal>
+        requires absent { map_of self.old.maps pair ≡ None }
+        requires kept { IsKept (partitions self.old) pair map }
+        ensures space { partitions self.new ≡ partitions self.old }
+        ensures ok { OnOk result (PutsMap self.old.maps self.new.maps pair (Some map)) }
+        ensures err { OnErr result (AreSameHints self.old self.new) }
+        ensures memory { IfErr result (λ e. e ≡ OutOfMemory) }
+    {
+        self.maps.insert(pair, map)?;
+        if let Err(refusal) = self.pairs.add(pair) {
+            self.maps.remove(&pair);
+            return Err(refusal);
+        }
+        Ok(())
+    }
+
+    /// Merges versions of a key of the chunk into what the pair's node keeps for its slot. Refused, it has changed nothing.
+    pub fn add_set(
+        &mut self,
+        pair: KeptFor,
+        chunk: u32,
+        key: &[u8],
+        more: &Versions,
+    ) -> Result<(), Refusal>
+        requires chunk { chunk_of (partitions self.old) key.now ≡ chunk }
+        requires some { more.now ≢ [] }
+        requires few { pair.slot.index < 7 }
+        ensures ok { OnOk result (AddsHints self.old self.new pair (at_key key.now more.now)) }
+        ensures err { OnErr result (AreSameHints self.old self.new) }
+        ensures memory { IfErr result (λ e. e ≡ OutOfMemory) }
+        ensures space { partitions self.new ≡ partitions self.old }
+    {
+        if let Some(map) = self.maps.get_mut(&pair) {
+            return map.merge(chunk, key, more);
+        }
+        let mut map = SlotMap::new(self.alloc, self.q)?;
+        map.merge(chunk, key, more)?;
+        self.put(pair, map)
+    }
+
+    /// Merges one version of a key into what the node keeps for the slot. Refused, it has changed nothing.
+    pub fn add(
+        &mut self,
+        keeper: NodeId,
+        slot: Slot,
+        key: &[u8],
+        version: &Version,
+    ) -> Result<(), Refusal>
+        requires { slot.index < 7 }
+        ensures ok { OnOk result (AddsHints self.old self.new (pair_of keeper.0 slot) (at_key key.now (version.now ∷ []))) }
+        ensures err { OnErr result (AreSameHints self.old self.new) }
+        ensures memory { IfErr result (λ e. e ≡ OutOfMemory) }
+        ensures space { partitions self.new ≡ partitions self.old }
+    {
+        let chunk = place(self.q, key).chunk;
+        let copy = version.try_copy(self.alloc)?;
+        let one = Versions::of(self.alloc, copy)?;
+        self.add_set(KeptFor { keeper, slot }, chunk, key, &one)
+    }
+
+    /// Takes out what the node keeps for the slot. Takes no memory.
+    pub fn take(&mut self, keeper: NodeId, slot: Slot) -> Option<SlotMap>
+        ensures some { IfSome result (λ m. (k : List ℕ) → held_for m k ≡ hinted_at self.old keeper.0 slot k) }
+        ensures map_space { IfSome result (λ m. space_of m ≡ partitions self.old) }
+        ensures none { IfNone result ((k : List ℕ) → hinted_at self.old keeper.0 slot k ≡ []) }
+        ensures after { TakesHints self.old self.new (pair_of keeper.0 slot) }
+        ensures count { kept_count self.new + (if is_some result then 1 else 0) ≡ kept_count self.old }
+        ensures space { partitions self.new ≡ partitions self.old }
+    {
+        let pair = KeptFor { keeper, slot };
+        self.pairs.remove(pair);
+        self.maps.remove(&pair)
+    }
+
+    /// Forgets all that the node keeps, for any slot. Takes no memory.
+    pub fn drop_keeper(&mut self, keeper: NodeId)
+        ensures gone { (s : Slot) (k : List ℕ) → hinted_at self.new keeper.0 s k ≡ [] }
+        ensures others { (x : ℕ) (s : Slot) (k : List ℕ) → x ≢ keeper.0 → hinted_at self.new x s k ≡ hinted_at self.old x s k }
+        ensures space { partitions self.new ≡ partitions self.old }
+    {
+        'slots: while let Some(slot) = self.pairs.slot_of(keeper) {
+            self.take(keeper, slot);
+        }
+    }
+
+    /// The same hints once more.
+    pub fn try_copy(&self) -> Result<Hints, Refusal>
+        ensures space { IfOk result (λ a. partitions a ≡ partitions self.now) }
+        ensures same { IfOk result (AreSameHints self.now) }
+        ensures memory { IfErr result (λ e. e ≡ OutOfMemory) }
+    {
+        let mut copy = Hints::new(self.alloc, self.q);
+        'maps: for (pair, map) in &self.maps {
+            copy.put(*pair, map.try_copy(self.alloc)?)?;
+        }
+        Ok(copy)
+    }
+}

@@ -1,0 +1,227 @@
+//! The stores of all nodes.
+
+ghost use Rattle.std.specs.Prelude.{◌≡◌, true};
+ghost use Rattle.ring_names.specs.Space.{is_space};
+ghost use Rattle.ring_store.specs.Nodes.{AreOfSpace};
+
+use crate::store::NodeStore;
+use ring_maps::{FreshKeys, FreshMaps, KeyMap, SlotMap};
+use ring_names::{NodeId, Refusal, Slot};
+use ring_versions::{Fresh, Versions};
+use std::alloc::Global;
+
+/// The versions that the nodes store, by node, slot and key. A change that touches two nodes is made in halves: first all that it needs is
+/// made ready at both, which may be refused and changes no reading, and then all is taken in, which cannot fail.
+#[derive(Drop)]
+pub struct Stores {
+    alloc: Global,
+    q: u32,
+    list: Vec<NodeStore>,
+    ghost space: { is_space q ≡ true },
+    ghost spaces: { AreOfSpace q list.items },
+}
+
+impl Stores {
+    ghost use Rattle.std.specs.Prelude.{◌≢◌, ◌⊎◌, ◌<◌, ℕ, [], List, IfSome, IfNone, IfOk, IfErr};
+    ghost use Rattle.ring_names.specs.declared.ids.Slot.{Slot};
+    ghost use Rattle.ring_names.specs.declared.refusal.Refusal.TheVariants.{OutOfMemory};
+    ghost use Rattle.ring_versions.specs.Fresh.{IsFreshFor};
+    ghost use Rattle.ring_versions.specs.declared.version.Version.{Version};
+    ghost use Rattle.ring_maps.specs.Chunks.{chunk_of};
+    ghost use Rattle.ring_maps.specs.Held.{held, has_place};
+    ghost use Rattle.ring_maps.specs.Merges.{at_key, AreFreshFor, AreFreshMaps};
+    ghost use Rattle.ring_maps.specs.Slots.{space_of, held_for};
+    ghost use Rattle.ring_store.specs.Nodes.{MergesAtAll, at_node};
+    ghost use Rattle.ring_store.specs.Slots.{at_slot};
+    ghost use Rattle.ring_store.specs.Stores.{node_count, shared_space, held_at, chunk_held_at, IsReadyOn, AreReadyOn, AllReadyOn, KeepsReady};
+
+    /// Nothing stored at any of so many nodes, in a hash space of q partitions.
+    pub fn start(alloc: Global, q: u32, nodes: u32) -> Result<Stores, Refusal>
+        requires { is_space q ≡ true }
+        ensures space { IfOk result (λ a. shared_space a ≡ q) }
+        ensures count { IfOk result (λ a. node_count a ≡ nodes) }
+        ensures versions { IfOk result (λ a. (x : ℕ) (s : Slot) (k : List ℕ) → held_at a x s k ≡ []) }
+        ensures memory { IfErr result (λ e. e ≡ OutOfMemory) }
+    {
+        let mut list = Vec::new(alloc);
+        'nodes: for _node in 0..nodes {
+            list.push(NodeStore::new(alloc, q))?;
+        }
+        Ok(Stores { alloc, q, list })
+    }
+
+    /// The versions of a key of the chunk in a slot at a node, if it has any. Takes no memory.
+    pub fn key_versions_in(
+        &self,
+        node: NodeId,
+        slot: Slot,
+        chunk: u32,
+        key: &[u8],
+    ) -> Option<&Versions>
+        requires { chunk_of (shared_space self.now) key.now ≡ chunk }
+        ensures some { IfSome result (λ v. (v.now ≡ held_at self.now node.0 slot key.now) × (v.now ≢ [])) }
+        ensures none { IfNone result (held_at self.now node.0 slot key.now ≡ []) }
+    {
+        match self.list.get(node.0 as usize) {
+            Some(store) => store.key_versions_in(slot, chunk, key),
+            None => None,
+        }
+    }
+
+    /// The map of a chunk of a slot at a node, if there is the node and the slot has any maps there. Takes no memory.
+    pub fn chunk_map(&self, node: NodeId, slot: Slot, chunk: u32) -> Option<&KeyMap>
+        requires { chunk < 16 }
+        ensures some { IfSome result (λ m. (k : List ℕ) → held m.now k ≡ chunk_held_at self.now node.0 slot chunk k) }
+        ensures lies { IfSome result (λ m. (k : List ℕ) → has_place m.now k ≡ true → chunk_of (shared_space self.now) k ≡ chunk) }
+        ensures none { IfNone result ((k : List ℕ) → chunk_held_at self.now node.0 slot chunk k ≡ []) }
+    {
+        match self.list.get(node.0 as usize) {
+            Some(store) => store.chunk_map(slot, chunk),
+            None => None,
+        }
+    }
+
+    /// The first half of a merge at one key of the chunk in a slot at a node: makes its place, where it has none, and what the other versions
+    /// bring. No reading changes, whatever the answer, and all that was made ready before stays so.
+    pub fn prepare(
+        &mut self,
+        node: NodeId,
+        slot: Slot,
+        chunk: u32,
+        key: &[u8],
+        more: &Versions,
+    ) -> Result<Fresh, Refusal>
+        requires node { node.0 < node_count self.old }
+        requires chunk { chunk_of (shared_space self.old) key.now ≡ chunk }
+        ensures space { shared_space self.new ≡ shared_space self.old }
+        ensures count { node_count self.new ≡ node_count self.old }
+        ensures same { (x : ℕ) (s : Slot) (k : List ℕ) → held_at self.new x s k ≡ held_at self.old x s k }
+        ensures keeps { (y : ℕ) → KeepsReady y self.old self.new }
+        ensures ok { IfOk result (λ f. IsFreshFor (held_at self.old node.0 slot key.now) more.now f) }
+        ensures ready { IfOk result (λ f. IsReadyOn self.new node.0 slot key.now f) }
+        ensures memory { IfErr result (λ e. e ≡ OutOfMemory) }
+    {
+        let store = &mut self.list[node.0 as usize];
+        store.prepare(slot, chunk, key, more)
+    }
+
+    /// The second half of a merge at one key of the chunk in a slot at a node, which cannot fail. What was made ready at other nodes stays so.
+    pub fn settle(&mut self, node: NodeId, slot: Slot, chunk: u32, key: &[u8], fresh: Fresh)
+        requires node { node.0 < node_count self.old }
+        requires chunk { chunk_of (shared_space self.old) key.now ≡ chunk }
+        requires ready { IsReadyOn self.old node.0 slot key.now fresh }
+        ensures space { shared_space self.new ≡ shared_space self.old }
+        ensures count { node_count self.new ≡ node_count self.old }
+        ensures merged { (more : List Version) → IsFreshFor (held_at self.old node.0 slot key.now) more fresh
+            → MergesAtAll (held_at self.old) (at_node node.0 (at_slot slot (at_key key.now more))) (held_at self.new) }
+        ensures others { (y : ℕ) → y ≢ node.0 → (t : Slot) (j : List ℕ) → held_at self.new y t j ≡ held_at self.old y t j }
+        ensures keeps { (y : ℕ) → y ≢ node.0 → KeepsReady y self.old self.new }
+    {
+        let store = &mut self.list[node.0 as usize];
+        store.settle(slot, chunk, key, fresh);
+    }
+
+    /// The first half of a merge of a chunk of a slot at a node with a whole map, whose keys lie in the chunk: makes the places that are
+    /// missing, and what the other map brings. No reading changes, whatever the answer, and all that was made ready before stays so.
+    pub fn prepare_chunk(
+        &mut self,
+        node: NodeId,
+        slot: Slot,
+        chunk: u32,
+        other: &KeyMap,
+    ) -> Result<FreshKeys, Refusal>
+        requires node { node.0 < node_count self.old }
+        requires chunk { chunk < 16 }
+        requires lies { (k : List ℕ) → has_place other.now k ≡ true → chunk_of (shared_space self.old) k ≡ chunk }
+        ensures space { shared_space self.new ≡ shared_space self.old }
+        ensures count { node_count self.new ≡ node_count self.old }
+        ensures same { (x : ℕ) (s : Slot) (k : List ℕ) → held_at self.new x s k ≡ held_at self.old x s k }
+        ensures keeps { (y : ℕ) → KeepsReady y self.old self.new }
+        ensures ok { IfOk result (λ f. AreFreshFor (held_at self.old node.0 slot) (held other.now) f) }
+        ensures ready { IfOk result (λ f. AreReadyOn self.new node.0 slot chunk f) }
+        ensures memory { IfErr result (λ e. e ≡ OutOfMemory) }
+    {
+        let store = &mut self.list[node.0 as usize];
+        store.prepare_chunk(slot, chunk, other)
+    }
+
+    /// The second half of a merge of a chunk of a slot at a node with a whole map, which cannot fail. What was made ready at other nodes stays so.
+    pub fn settle_chunk(&mut self, node: NodeId, slot: Slot, chunk: u32, fresh: FreshKeys)
+        requires node { node.0 < node_count self.old }
+        requires chunk { chunk < 16 }
+        requires ready { AreReadyOn self.old node.0 slot chunk fresh }
+        ensures space { shared_space self.new ≡ shared_space self.old }
+        ensures count { node_count self.new ≡ node_count self.old }
+        ensures merged { (more : List ℕ → List Version) → AreFreshFor (held_at self.old node.0 slot) more fresh
+            → MergesAtAll (held_at self.old) (at_node node.0 (at_slot slot more)) (held_at self.new) }
+        ensures others { (y : ℕ) → y ≢ node.0 → (t : Slot) (j : List ℕ) → held_at self.new y t j ≡ held_at self.old y t j }
+        ensures keeps { (y : ℕ) → y ≢ node.0 → KeepsReady y self.old self.new }
+    {
+        let store = &mut self.list[node.0 as usize];
+        store.settle_chunk(slot, chunk, fresh);
+    }
+
+    /// The first half of a merge of a slot at a node with all maps of another, in a hash space of as many partitions: makes the places that are
+    /// missing, and what the other maps bring. No reading changes, whatever the answer, and all that was made ready before stays so.
+    pub fn prepare_slot(
+        &mut self,
+        node: NodeId,
+        slot: Slot,
+        other: &SlotMap,
+    ) -> Result<FreshMaps, Refusal>
+        requires node { node.0 < node_count self.old }
+        requires space { space_of other.now ≡ shared_space self.old }
+        ensures space { shared_space self.new ≡ shared_space self.old }
+        ensures count { node_count self.new ≡ node_count self.old }
+        ensures same { (x : ℕ) (s : Slot) (k : List ℕ) → held_at self.new x s k ≡ held_at self.old x s k }
+        ensures keeps { (y : ℕ) → KeepsReady y self.old self.new }
+        ensures ok { IfOk result (λ f. AreFreshMaps (held_at self.old node.0 slot) (held_for other.now) f) }
+        ensures ready { IfOk result (λ f. AllReadyOn self.new node.0 slot f) }
+        ensures memory { IfErr result (λ e. e ≡ OutOfMemory) }
+    {
+        let store = &mut self.list[node.0 as usize];
+        store.prepare_slot(slot, other)
+    }
+
+    /// The second half of a merge of a slot at a node with all maps of another, which cannot fail. What was made ready at other nodes stays so.
+    pub fn settle_slot(&mut self, node: NodeId, slot: Slot, fresh: FreshMaps)
+        requires node { node.0 < node_count self.old }
+        requires ready { AllReadyOn self.old node.0 slot fresh }
+        ensures space { shared_space self.new ≡ shared_space self.old }
+        ensures count { node_count self.new ≡ node_count self.old }
+        ensures merged { (more : List ℕ → List Version) → AreFreshMaps (held_at self.old node.0 slot) more fresh
+            → MergesAtAll (held_at self.old) (at_node node.0 (at_slot slot more)) (held_at self.new) }
+        ensures others { (y : ℕ) → y ≢ node.0 → (t : Slot) (j : List ℕ) → held_at self.new y t j ≡ held_at self.old y t j }
+        ensures keeps { (y : ℕ) → y ≢ node.0 → KeepsReady y self.old self.new }
+    {
+        let store = &mut self.list[node.0 as usize];
+        store.settle_slot(slot, fresh);
+    }
+
+    /// Forgets all keys of a slot at a node. Takes no memory.
+    pub fn drop_slot(&mut self, node: NodeId, slot: Slot)
+        ensures space { shared_space self.new ≡ shared_space self.old }
+        ensures count { node_count self.new ≡ node_count self.old }
+        ensures gone { (k : List ℕ) → held_at self.new node.0 slot k ≡ [] }
+        ensures others { (x : ℕ) (s : Slot) (k : List ℕ) → (x ≢ node.0) ⊎ (s ≢ slot) → held_at self.new x s k ≡ held_at self.old x s k }
+    {
+        let index = node.0 as usize;
+        if index < self.list.len() {
+            let store = &mut self.list[index];
+            store.drop_slot(slot);
+        }
+    }
+
+    /// Forgets all that a node stores. Takes no memory.
+    pub fn clear(&mut self, node: NodeId)
+        ensures space { shared_space self.new ≡ shared_space self.old }
+        ensures count { node_count self.new ≡ node_count self.old }
+        ensures gone { (s : Slot) (k : List ℕ) → held_at self.new node.0 s k ≡ [] }
+        ensures others { (x : ℕ) (s : Slot) (k : List ℕ) → x ≢ node.0 → held_at self.new x s k ≡ held_at self.old x s k }
+    {
+        let index = node.0 as usize;
+        if index < self.list.len() {
+            self.list[index] = NodeStore::new(self.alloc, self.q);
+        }
+    }
+}
