@@ -135,6 +135,7 @@ impl Hints {
         requires { chunk < 16 }
         ensures some { IfSome result (λ m. (k : List ℕ) → held m.now k ≡ chunk_hints self.now pair chunk k) }
         ensures lies { IfSome result (λ m. (k : List ℕ) → has_place m.now k ≡ true → chunk_of (partitions self.now) k ≡ chunk) }
+        ensures filled { IfSome result (λ m. (k : List ℕ) → has_place m.now k ≡ true → held m.now k ≢ []) }
         ensures none { IfNone result ((k : List ℕ) → chunk_hints self.now pair chunk k ≡ []) }
     {
         match self.maps.get(&pair) {
@@ -173,6 +174,17 @@ impl Hints {
         match self.keepers(slot) {
             Some(keepers) => self.gather(keepers, slot, chunk)?.keys(),
             None => Ok(Vec::new(self.alloc)),
+        }
+    }
+
+    /// Whether the node keeps anything of a chunk for the slot. One look-up, no memory.
+    pub fn keeps_chunk(&self, keeper: NodeId, slot: Slot, chunk: u32) -> bool
+        requires { chunk < 16 }
+        ensures { (result ≡ false) ↔ ((k : List ℕ) → chunk_hints self.now (pair_of keeper.0 slot) chunk k ≡ []) }
+    {
+        match self.chunk_map(KeptFor { keeper, slot }, chunk) {
+            Some(map) => !map.is_empty(),
+            None => false,
         }
     }
 

@@ -48,6 +48,7 @@ impl SlotMap {
         requires { chunk < 16 }
         ensures lies { (k : List ℕ) → has_place result.now k ≡ true → chunk_of (space_of self.now) k ≡ chunk }
         ensures same { (k : List ℕ) → chunk_of (space_of self.now) k ≡ chunk → held result.now k ≡ held_for self.now k }
+        ensures places { (k : List ℕ) → chunk_of (space_of self.now) k ≡ chunk → has_place result.now k ≡ has_place_for self.now k }
     {
         &self.chunks[chunk as usize]
     }

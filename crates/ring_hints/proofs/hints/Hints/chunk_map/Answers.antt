@@ -24,3 +24,9 @@ returns-in-Some-clause-lies c k h =
 
 pub returns-in-None-clause-none : goal.returns-in-None-clause-none
 returns-in-None-clause-none c k = sym (in_chunk c.args.self.now.q c.args.chunk k [] (held_by _ k) (λ e. ap (λ o. held_by o k) (c.in-None.ensures).value) (λ ne. refl))
+
+pub returns-in-Some-clause-filled : goal.returns-in-Some-clause-filled
+returns-in-Some-clause-filled c k h =
+    let e = c.chunk.ensures.lies k h in
+    let kept = c.args.self.now.kept c.args.pair c.in-Some.map.now (sym (c.in-Some.ensures).value) in
+    λ empty. kept.filled k (sym (c.chunk.ensures.places k e) ∙ h) (sym (c.chunk.ensures.same k e) ∙ empty)

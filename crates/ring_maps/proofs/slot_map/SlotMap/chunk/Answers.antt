@@ -1,5 +1,5 @@
 use Rattle.std.proofs.Common.{arith}
-use Rattle.ring_maps.proofs.Chunks.{within, lent, lies_old, old_held}
+use Rattle.ring_maps.proofs.Chunks.{within, lent, lies_old, old_held, old_place}
 use Rattle.ring_maps.proofs.slot_map.SlotMap.chunk.Goals as goal
 
 pub index-requires : goal.index-requires
@@ -16,3 +16,9 @@ returns-clause-same c =
     let xs = c.args.self.now.chunks.items in
     let room = within xs c.args.chunk c.args.self.now.whole c.requires in
     old_held c.args.self.now.q c.args.chunk xs c.index.result.now c.index.result.now (lent xs c.args.chunk c.index.result.now room c.index.ensures) room
+
+pub returns-clause-places : goal.returns-clause-places
+returns-clause-places c =
+    let xs = c.args.self.now.chunks.items in
+    let room = within xs c.args.chunk c.args.self.now.whole c.requires in
+    old_place c.args.self.now.q c.args.chunk xs c.index.result.now c.index.result.now (lent xs c.args.chunk c.index.result.now room c.index.ensures) room
