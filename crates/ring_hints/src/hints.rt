@@ -130,6 +130,15 @@ impl Hints {
         }
     }
 
+    /// All that the pair's node keeps for its slot, if it keeps anything. Takes no memory.
+    pub fn map(&self, pair: KeptFor) -> Option<&SlotMap>
+        ensures some { IfSome result (λ m. (k : List ℕ) → held_for m.now k ≡ hinted_at self.now pair.keeper.0 pair.slot k) }
+        ensures space { IfSome result (λ m. space_of m.now ≡ partitions self.now) }
+        ensures none { IfNone result ((k : List ℕ) → hinted_at self.now pair.keeper.0 pair.slot k ≡ []) }
+    {
+        self.maps.get(&pair)
+    }
+
     /// The map of a chunk of what the pair's node keeps for its slot, if it keeps anything. Takes no memory.
     pub fn chunk_map(&self, pair: KeptFor, chunk: u32) -> Option<&KeyMap>
         requires { chunk < 16 }
