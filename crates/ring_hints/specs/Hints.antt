@@ -11,7 +11,7 @@ use Rattle.ring_maps.specs.Chunks.{chunk_of}
 use Rattle.ring_hints.specs.declared.hints.Hints.{Hints}
 use Rattle.ring_hints.specs.declared.kept_for.KeptFor.{KeptFor}
 use Rattle.ring_hints.specs.Kept.{map_of, held_by}
-use Rattle.ring_hints.specs.Pairs.{pair_count}
+use Rattle.ring_hints.specs.Pairs.{pair_count, pairs_of}
 use Rattle.ring_hints.specs.Views.{is_of, pair_of}
 
 -- how many partitions the hash space has
@@ -55,3 +55,7 @@ pub record AreKeysBut (IsNone : List ℕ → Type 0) (keys : List (List ℕ)) : 
   pub rises : IsStrictlySortedBy (slice_cmp nat_cmp) keys
   pub each : (k : List ℕ) → (IsNone k → ⊥) → Contains keys k
   pub only : (k : List ℕ) → Contains keys k → IsNone k → ⊥
+
+-- the nodes with the slots for which they keep something, in the order of their numbers, each once
+abbrev pub kept_pairs : Hints → List KeptFor
+kept_pairs a = pairs_of a.pairs

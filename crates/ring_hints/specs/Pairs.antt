@@ -4,6 +4,7 @@ use Rattle.indexmap.specs.IndexSet.{index_set_len}
 use Rattle.ring_names.specs.declared.ids.NodeId.{NodeId}
 use Rattle.ring_names.specs.declared.ids.Slot.{Slot}
 use Rattle.ring_names.specs.contracts.ids.SlotPartialEq.TheImpl as slot_eq
+use Rattle.ring_hints.specs.declared.kept_for.KeptFor.{KeptFor}
 use Rattle.ring_hints.specs.declared.pairs.Pairs.{Pairs}
 use Rattle.ring_hints.specs.Sets.{set_at}
 use Rattle.ring_hints.specs.Views.{has_pair}
@@ -19,3 +20,7 @@ keepers_of a s = set_at ((slot_eq.ghosts).eq) a.keepers s
 -- how many pairs there are
 abbrev pub pair_count : Pairs → ℕ
 pair_count a = index_set_len a.order
+
+-- the pairs in the order of their numbers, each once
+abbrev pub pairs_of : Pairs → List KeptFor
+pairs_of a = a.order.keys

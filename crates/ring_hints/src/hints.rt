@@ -28,7 +28,7 @@ pub struct Hints {
 }
 
 impl Hints {
-    ghost use Rattle.std.specs.Prelude.{◌≢◌, ◌↔◌, ◌≤◌, ◌<◌, ◌+◌, ℕ, false, [], ◌∷◌, List, Some, None, is_some, if◌then◌else◌};
+    ghost use Rattle.std.specs.Prelude.{◌≢◌, ◌↔◌, ◌≤◌, ◌<◌, ◌+◌, ℕ, false, [], ◌∷◌, List, Some, None, is_some, slice_get, option_map, if◌then◌else◌};
     ghost use Rattle.std.specs.Prelude.{IfSome, IfNone, IfOk, IfErr, OnOk, OnErr};
     ghost use Rattle.ring_names.specs.declared.ids.Slot.{Slot};
     ghost use Rattle.ring_names.specs.declared.refusal.Refusal.TheVariants.{OutOfMemory};
@@ -36,7 +36,7 @@ impl Hints {
     ghost use Rattle.ring_maps.specs.Held.{held, has_place};
     ghost use Rattle.ring_maps.specs.Merges.{at_key};
     ghost use Rattle.ring_maps.specs.Slots.{held_for, space_of};
-    ghost use Rattle.ring_hints.specs.Hints.{partitions, hinted_at, chunk_hints, kept_count};
+    ghost use Rattle.ring_hints.specs.Hints.{partitions, hinted_at, chunk_hints, kept_count, kept_pairs};
     ghost use Rattle.ring_hints.specs.Hints.{AddsHints, AreKeysBut, AreSameHints, IsUnhinted, Keeps, TakesHints};
     ghost use Rattle.ring_hints.specs.Kept.{map_of, IsKept, PutsMap};
     ghost use Rattle.ring_hints.specs.Views.{pair_of, in_keepers};
@@ -121,6 +121,7 @@ impl Hints {
 
     /// The n-th node with a slot for which it keeps anything, in an order that stays while nothing is added or taken. Takes no memory.
     pub fn nth(&self, n: u32) -> Option<(NodeId, Slot)>
+        ensures value { result ≡ option_map (λ pair. (pair.keeper, pair.slot)) (slice_get (kept_pairs self.now) n) }
         ensures some { IfSome result (λ pair. Keeps self.now pair.0.0 pair.1) }
         ensures none { IfNone result (kept_count self.now ≤ n) }
     {

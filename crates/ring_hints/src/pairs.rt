@@ -19,10 +19,10 @@ pub struct Pairs {
 }
 
 impl Pairs {
-    ghost use Rattle.std.specs.Prelude.{◌≡◌, ◌↔◌, ◌≤◌, ◌<◌, ◌+◌, ◌&&◌, ◌||◌, if◌then◌else◌, not, ℕ, [], true, false, length, map, IsTrue, IfErr, IfNone, IfSome, OnOk, OnErr};
+    ghost use Rattle.std.specs.Prelude.{◌≡◌, ◌↔◌, ◌≤◌, ◌<◌, ◌+◌, ◌&&◌, ◌||◌, if◌then◌else◌, not, ℕ, [], true, false, length, map, slice_get, IsTrue, IfErr, IfNone, IfSome, OnOk, OnErr};
     ghost use Rattle.ring_names.specs.declared.ids.Slot.{Slot};
     ghost use Rattle.ring_names.specs.declared.refusal.Refusal.TheVariants.{OutOfMemory};
-    ghost use Rattle.ring_hints.specs.Pairs.{is_pair, keepers_of, pair_count};
+    ghost use Rattle.ring_hints.specs.Pairs.{is_pair, keepers_of, pair_count, pairs_of};
     ghost use Rattle.ring_hints.specs.Views.{is_of};
 
     /// No pairs.
@@ -71,6 +71,7 @@ impl Pairs {
 
     /// The n-th pair, in an order that stays while the pairs do. Takes no memory.
     pub fn nth(&self, n: u32) -> Option<KeptFor>
+        ensures value { result ≡ slice_get (pairs_of self.now) n }
         ensures some { IfSome result (λ pair. is_pair self.now pair.keeper.0 pair.slot ≡ true) }
         ensures none { IfNone result (pair_count self.now ≤ n) }
     {
