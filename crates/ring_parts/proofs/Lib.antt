@@ -1,0 +1,5 @@
+pub mod Known
+pub mod HintsFit
+pub mod Hinted
+pub mod Staying
+pub mod Starting

@@ -1,0 +1,3 @@
+pub mod HintsFit
+pub mod Kept
+pub mod Parts
