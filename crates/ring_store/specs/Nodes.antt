@@ -1,5 +1,6 @@
 -- The stores of the nodes, by node.
-use Rattle.std.specs.Prelude.{◌≡◌, ℕ, Bool, false, List, [], ◌==◌, Option, Some, None, if◌then◌else◌, slice_get}
+use Rattle.std.specs.Prelude.{◌≡◌, ℕ, Bool, false, ◌||◌, List, [], ◌==◌, Option, Some, None, if◌then◌else◌, slice_get}
+use Rattle.ring_names.specs.declared.ids.NodeId.{NodeId}
 use Rattle.ring_names.specs.declared.ids.Slot.{Slot}
 use Rattle.ring_versions.specs.Versions.{IsMerge}
 use Rattle.ring_versions.specs.declared.version.Version.{Version}
@@ -27,3 +28,8 @@ MergesAtAll old more new = (x : ℕ) (s : Slot) (k : List ℕ) → IsMerge (old 
 -- this for the node, and nothing for others
 abbrev pub at_node : ℕ → (Slot → List ℕ → List Version) → ℕ → Slot → List ℕ → List Version
 at_node node more x s k = if x == node then more s k else []
+
+-- this for the owner and for its mirror, if there is one, and nothing for others
+abbrev pub at_nodes : NodeId → Option NodeId → (Slot → List ℕ → List Version) → ℕ → Slot → List ℕ → List Version
+at_nodes owner None more x s k = at_node owner.0 more x s k
+at_nodes owner (Some mirror) more x s k = if (x == owner.0) || (x == mirror.0) then more s k else []

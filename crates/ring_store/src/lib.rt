@@ -1,6 +1,7 @@
 //! What the nodes store: each one for each of its slots the versions of every key.
 #![tactic(auto)]
 
+mod served;
 mod store;
 mod stores;
 

@@ -1,0 +1,31 @@
+-- Merges at one node after another.
+use Rattle.std.proofs.Common.{◌≡◌, ◌∙◌, ℕ, Bool, true, false, cond, List, [], refl, sym, subst, eqb-true}
+use Rattle.std.specs.Prelude.{◌≢◌, ◌==◌, ◌||◌, Some}
+use Rattle.std.proofs.Math.Path.{fun_ext}
+use Rattle.ring_names.specs.declared.ids.NodeId.{NodeId}
+use Rattle.ring_names.specs.declared.ids.Slot.{Slot}
+use Rattle.ring_versions.specs.declared.version.Version.{Version}
+use Rattle.ring_versions.specs.Versions.{IsMerge}
+use Rattle.ring_maps.proofs.Merging.{merge_then_none, merge_after_none}
+use Rattle.ring_store.specs.Nodes.{MergesAtAll, at_node, at_nodes}
+
+-- stores that read the same are one to read
+pub one_reading : (old new : ℕ → Slot → List ℕ → List Version) → ((x : ℕ) (s : Slot) (k : List ℕ) → new x s k ≡ old x s k) → new ≡ old
+one_reading old new same = fun_ext (λ x. fun_ext (λ s. fun_ext (λ k. same x s k)))
+
+-- a merge into what reads as the old did
+pub merges_same : (old mid more new : ℕ → Slot → List ℕ → List Version) → ((x : ℕ) (s : Slot) (k : List ℕ) → mid x s k ≡ old x s k) → MergesAtAll mid more new → MergesAtAll old more new
+merges_same old mid more new same h = subst (λ (was : ℕ → Slot → List ℕ → List Version). MergesAtAll was more new) (one_reading old mid same) h
+
+either_comes : (p q : Bool) (a m c e : List Version) → (p ≡ true → q ≡ true → ⊥) → IsMerge a (cond p m []) c → IsMerge c (cond q m []) e → IsMerge a (cond (p || q) m []) e
+either_comes true true a m c e never f g = absurd (never refl refl)
+either_comes true false a m c e never f g = merge_then_none a m c e f g
+either_comes false true a m c e never f g = merge_after_none a c m e f g
+either_comes false false a m c e never f g = merge_then_none a [] c e f g
+
+-- a merge at the owner, and then one at another node
+pub merges_both : (old mid new : ℕ → Slot → List ℕ → List Version) (owner mirror : NodeId) (more : Slot → List ℕ → List Version) → mirror.0 ≢ owner.0
+    → MergesAtAll old (at_node owner.0 more) mid → MergesAtAll mid (at_node mirror.0 more) new → MergesAtAll old (at_nodes owner (Some mirror) more) new
+merges_both old mid new owner mirror more apart a b x s k =
+    either_comes (x == owner.0) (x == mirror.0) (old x s k) (more s k) (mid x s k) (new x s k)
+    (λ p q. apart (sym (eqb-true x mirror.0 q) ∙ eqb-true x owner.0 p)) (a x s k) (b x s k)

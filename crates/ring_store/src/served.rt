@@ -1,0 +1,180 @@
+//! Merges into what a slot's owner and its mirror have.
+
+use crate::stores::Stores;
+use ring_maps::{KeyMap, SlotMap};
+use ring_names::{NodeId, Refusal, Slot};
+use ring_versions::Versions;
+
+impl Stores {
+    ghost use Rattle.std.specs.Prelude.{◌≡◌, ◌≢◌, ◌<◌, ℕ, true, List, Some, IfSome, IfErr, OnOk, OnErr};
+    ghost use Rattle.ring_names.specs.declared.ids.Slot.{Slot};
+    ghost use Rattle.ring_names.specs.declared.refusal.Refusal.TheVariants.{OutOfMemory};
+    ghost use Rattle.ring_maps.specs.Chunks.{chunk_of};
+    ghost use Rattle.ring_maps.specs.Held.{held, has_place};
+    ghost use Rattle.ring_maps.specs.Merges.{at_key};
+    ghost use Rattle.ring_maps.specs.Slots.{space_of, held_for};
+    ghost use Rattle.ring_store.specs.Nodes.{MergesAtAll, at_node, at_nodes};
+    ghost use Rattle.ring_store.specs.Slots.{at_slot};
+    ghost use Rattle.ring_store.specs.Stores.{node_count, shared_space, held_at};
+
+    // Merges versions of a key of the chunk into what one node has in the slot.
+    fn give_to(
+        &mut self,
+        node: NodeId,
+        slot: Slot,
+        chunk: u32,
+        key: &[u8],
+        more: &Versions,
+    ) -> Result<(), Refusal>
+        requires node { node.0 < node_count self.old }
+        requires chunk { chunk_of (shared_space self.old) key.now ≡ chunk }
+        ensures space { shared_space self.new ≡ shared_space self.old }
+        ensures count { node_count self.new ≡ node_count self.old }
+        ensures ok { OnOk result (MergesAtAll (held_at self.old) (at_node node.0 (at_slot slot (at_key key.now more.now))) (held_at self.new)) }
+        ensures err { OnErr result ((x : ℕ) (s : Slot) (k : List ℕ) → held_at self.new x s k ≡ held_at self.old x s k) }
+        ensures memory { IfErr result (λ e. e ≡ OutOfMemory) }
+    {
+        let fresh = self.prepare(node, slot, chunk, key, more)?;
+        self.settle(node, slot, chunk, key, fresh);
+        Ok(())
+    }
+
+    // Merges them into what the owner and the mirror have in the slot.
+    fn give_to_both(
+        &mut self,
+        slot: Slot,
+        owner: NodeId,
+        mirror: NodeId,
+        chunk: u32,
+        key: &[u8],
+        more: &Versions,
+    ) -> Result<(), Refusal>
+        requires owner { owner.0 < node_count self.old }
+        requires mirror { mirror.0 < node_count self.old }
+        requires apart { mirror.0 ≢ owner.0 }
+        requires chunk { chunk_of (shared_space self.old) key.now ≡ chunk }
+        ensures space { shared_space self.new ≡ shared_space self.old }
+        ensures count { node_count self.new ≡ node_count self.old }
+        ensures ok { OnOk result (MergesAtAll (held_at self.old) (at_nodes owner (Some mirror) (at_slot slot (at_key key.now more.now))) (held_at self.new)) }
+        ensures err { OnErr result ((x : ℕ) (s : Slot) (k : List ℕ) → held_at self.new x s k ≡ held_at self.old x s k) }
+        ensures memory { IfErr result (λ e. e ≡ OutOfMemory) }
+    {
+        let fresh = self.prepare(owner, slot, chunk, key, more)?;
+        let fresh_too = self.prepare(mirror, slot, chunk, key, more)?;
+        self.settle(owner, slot, chunk, key, fresh);
+        self.settle(mirror, slot, chunk, key, fresh_too);
+        Ok(())
+    }
+
+    /// Merges versions of a key of the chunk into what the slot's owner has, and its mirror, if there is one. Refused, it has changed no
+    /// reading.
+    pub fn give(
+        &mut self,
+        slot: Slot,
+        owner: NodeId,
+        mirror: Option<NodeId>,
+        chunk: u32,
+        key: &[u8],
+        more: &Versions,
+    ) -> Result<(), Refusal>
+        requires owner { owner.0 < node_count self.old }
+        requires mirror { IfSome mirror (λ x. (x.0 < node_count self.old) × (x.0 ≢ owner.0)) }
+        requires chunk { chunk_of (shared_space self.old) key.now ≡ chunk }
+        ensures space { shared_space self.new ≡ shared_space self.old }
+        ensures count { node_count self.new ≡ node_count self.old }
+        ensures ok { OnOk result (MergesAtAll (held_at self.old) (at_nodes owner mirror (at_slot slot (at_key key.now more.now))) (held_at self.new)) }
+        ensures err { OnErr result ((x : ℕ) (s : Slot) (k : List ℕ) → held_at self.new x s k ≡ held_at self.old x s k) }
+        ensures memory { IfErr result (λ e. e ≡ OutOfMemory) }
+    {
+        match mirror {
+            Some(node) => self.give_to_both(slot, owner, node, chunk, key, more),
+            None => self.give_to(owner, slot, chunk, key, more),
+        }
+    }
+
+    // Merges all maps of a slot into what one node has in the slot.
+    fn give_slot_to(&mut self, node: NodeId, slot: Slot, other: &SlotMap) -> Result<(), Refusal>
+        requires node { node.0 < node_count self.old }
+        requires space { space_of other.now ≡ shared_space self.old }
+        ensures space { shared_space self.new ≡ shared_space self.old }
+        ensures count { node_count self.new ≡ node_count self.old }
+        ensures ok { OnOk result (MergesAtAll (held_at self.old) (at_node node.0 (at_slot slot (held_for other.now))) (held_at self.new)) }
+        ensures err { OnErr result ((x : ℕ) (s : Slot) (k : List ℕ) → held_at self.new x s k ≡ held_at self.old x s k) }
+        ensures memory { IfErr result (λ e. e ≡ OutOfMemory) }
+    {
+        let fresh = self.prepare_slot(node, slot, other)?;
+        self.settle_slot(node, slot, fresh);
+        Ok(())
+    }
+
+    // Merges them into what the owner and the mirror have in the slot.
+    fn give_slot_to_both(
+        &mut self,
+        slot: Slot,
+        owner: NodeId,
+        mirror: NodeId,
+        other: &SlotMap,
+    ) -> Result<(), Refusal>
+        requires owner { owner.0 < node_count self.old }
+        requires mirror { mirror.0 < node_count self.old }
+        requires apart { mirror.0 ≢ owner.0 }
+        requires space { space_of other.now ≡ shared_space self.old }
+        ensures space { shared_space self.new ≡ shared_space self.old }
+        ensures count { node_count self.new ≡ node_count self.old }
+        ensures ok { OnOk result (MergesAtAll (held_at self.old) (at_nodes owner (Some mirror) (at_slot slot (held_for other.now))) (held_at self.new)) }
+        ensures err { OnErr result ((x : ℕ) (s : Slot) (k : List ℕ) → held_at self.new x s k ≡ held_at self.old x s k) }
+        ensures memory { IfErr result (λ e. e ≡ OutOfMemory) }
+    {
+        let fresh = self.prepare_slot(owner, slot, other)?;
+        let fresh_too = self.prepare_slot(mirror, slot, other)?;
+        self.settle_slot(owner, slot, fresh);
+        self.settle_slot(mirror, slot, fresh_too);
+        Ok(())
+    }
+
+    /// Merges all maps of a slot, in a hash space of as many partitions, into what the slot's owner has, and its mirror, if there is one.
+    /// Refused, it has changed no reading.
+    pub fn give_slot(
+        &mut self,
+        slot: Slot,
+        owner: NodeId,
+        mirror: Option<NodeId>,
+        other: &SlotMap,
+    ) -> Result<(), Refusal>
+        requires owner { owner.0 < node_count self.old }
+        requires mirror { IfSome mirror (λ x. (x.0 < node_count self.old) × (x.0 ≢ owner.0)) }
+        requires space { space_of other.now ≡ shared_space self.old }
+        ensures space { shared_space self.new ≡ shared_space self.old }
+        ensures count { node_count self.new ≡ node_count self.old }
+        ensures ok { OnOk result (MergesAtAll (held_at self.old) (at_nodes owner mirror (at_slot slot (held_for other.now))) (held_at self.new)) }
+        ensures err { OnErr result ((x : ℕ) (s : Slot) (k : List ℕ) → held_at self.new x s k ≡ held_at self.old x s k) }
+        ensures memory { IfErr result (λ e. e ≡ OutOfMemory) }
+    {
+        match mirror {
+            Some(node) => self.give_slot_to_both(slot, owner, node, other),
+            None => self.give_slot_to(owner, slot, other),
+        }
+    }
+
+    /// Merges a map of the chunk's keys into what one node has in the slot. Refused, it has changed no reading.
+    pub fn give_chunk(
+        &mut self,
+        node: NodeId,
+        slot: Slot,
+        chunk: u32,
+        other: &KeyMap,
+    ) -> Result<(), Refusal>
+        requires node { node.0 < node_count self.old }
+        requires chunk { chunk < 16 }
+        requires lies { (k : List ℕ) → has_place other.now k ≡ true → chunk_of (shared_space self.old) k ≡ chunk }
+        ensures space { shared_space self.new ≡ shared_space self.old }
+        ensures count { node_count self.new ≡ node_count self.old }
+        ensures ok { OnOk result (MergesAtAll (held_at self.old) (at_node node.0 (at_slot slot (held other.now))) (held_at self.new)) }
+        ensures err { OnErr result ((x : ℕ) (s : Slot) (k : List ℕ) → held_at self.new x s k ≡ held_at self.old x s k) }
+        ensures memory { IfErr result (λ e. e ≡ OutOfMemory) }
+    {
+        let fresh = self.prepare_chunk(node, slot, chunk, other)?;
+        self.settle_chunk(node, slot, chunk, fresh);
+        Ok(())
+    }
+}
