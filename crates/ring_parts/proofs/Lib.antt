@@ -3,3 +3,4 @@ pub mod HintsFit
 pub mod Hinted
 pub mod Staying
 pub mod Starting
+pub mod Declared
