@@ -1,0 +1,11 @@
+pub mod Testing
+pub mod Naming
+pub mod Leaving
+pub mod Acking
+pub mod Getting
+pub mod Keeping
+pub mod Looking
+pub mod Reading
+pub mod Raising
+pub mod Counted
+pub mod Putting

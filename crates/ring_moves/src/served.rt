@@ -1,0 +1,24 @@
+//! Tests of the nodes that serve a slot.
+
+ghost use Rattle.std.specs.Prelude.{◌≡◌};
+ghost use Rattle.plan_stage.specs.Clauses.{first_failing};
+ghost use Rattle.ring_meets.specs.Kept.{served_up_kept};
+
+use ring_names::{Refusal, Slot};
+use ring_parts::Parts;
+
+/// That the slot's owner is down, or else that its mirror is.
+pub(crate) fn served_refusal(parts: &Parts, slot: Slot) -> Option<Refusal>
+    ensures { result ≡ first_failing (served_up_kept parts.now.nodes parts.now.slots slot) }
+{
+    let Some(now) = parts.slots.at(slot) else {
+        return None;
+    };
+    if !parts.nodes.is_up(now.owner) {
+        return Some(Refusal::NodeDown(now.owner.0));
+    }
+    match now.mirror {
+        Some(mirror) if !parts.nodes.is_up(mirror) => Some(Refusal::NodeDown(mirror.0)),
+        _ => None,
+    }
+}
