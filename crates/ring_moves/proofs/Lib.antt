@@ -5,3 +5,7 @@ pub mod Refused
 pub mod Written
 pub mod Hinted
 pub mod Handed
+pub mod Gathering
+pub mod Chunked
+pub mod Lessened
+pub mod ChunkTested

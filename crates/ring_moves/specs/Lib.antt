@@ -1,1 +1,3 @@
 pub mod Targets
+pub mod Sources
+pub mod Keeping

@@ -1,0 +1,10 @@
+pub mod Sparing
+pub mod Counted
+pub mod Kept
+pub mod Tabled
+pub mod Covering
+pub mod Holding
+pub mod Masks
+pub mod Beginning
+pub mod Going
+pub mod Transferring

@@ -1,0 +1,31 @@
+-- Which events need a number, and which may need memory.
+use Rattle.std.specs.Prelude.{◌<◌, Bool, true, false, length}
+use Rattle.plan_check.specs.declared.event.Event.{Event}
+use Rattle.plan_check.specs.declared.event.Event.TheVariants.{Do, OpenCopy, ChunkCopy, CloseCopy, AbortCopy, StartPut, Write, Hint}
+use Rattle.plan_check.specs.declared.event.Event.TheVariants.{Ack, StartGet, Read, EndGet, Down, Up, Handoff, Lose}
+use Rattle.ring_parts.specs.declared.parts.Parts.{Parts}
+
+-- a put or get that starts has a number below 4,294,967,295
+abbrev pub HasNumber : Parts → Event → Type 0
+HasNumber a (StartPut writer key value seen) = length a.puts < 4294967295
+HasNumber a (StartGet key) = length a.gets < 4294967295
+HasNumber a e = Unit {0}
+
+-- the event may need memory: it starts something, or versions are made
+abbrev pub may_need_memory : Event → Bool
+may_need_memory (Do n) = false
+may_need_memory (OpenCopy n) = false
+may_need_memory (ChunkCopy n c) = true
+may_need_memory (CloseCopy n) = false
+may_need_memory (AbortCopy n) = false
+may_need_memory (StartPut writer key value seen) = true
+may_need_memory (Write v i) = true
+may_need_memory (Hint v i x) = true
+may_need_memory (Ack v) = false
+may_need_memory (StartGet key) = true
+may_need_memory (Read g i) = true
+may_need_memory (EndGet g) = true
+may_need_memory (Down x) = false
+may_need_memory (Up x) = false
+may_need_memory (Handoff x s) = true
+may_need_memory (Lose x) = false

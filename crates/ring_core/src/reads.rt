@@ -1,0 +1,211 @@
+//! What is asked of a running store without changing it.
+
+use crate::world::World;
+use ring_change::is_ready;
+use ring_clock::Clock;
+use ring_hints::KeptFor;
+use ring_names::{Listed, NodeId, Refusal, Slot};
+
+impl<'a> World<'a> {
+    ghost use Rattle.std.specs.Prelude.{◌≡◌, ℕ, ◌<◌, ◌≤◌, ◌&&◌, ◌==◌, true, false, List, length, slice_get, option_map, nat_lt, IsTrue, ◌↔◌, Some, IfOk, IfErr, IfSome, IfNone};
+    ghost use Rattle.std.specs.Int.{bit_at};
+    ghost use Rattle.ring_names.specs.declared.refusal.Refusal.TheVariants.{OutOfMemory};
+    ghost use Rattle.plan_text.specs.Valid.{is_ring_slot};
+    ghost use Rattle.plan_check.specs.Versions.{put_slot, is_held};
+    ghost use Rattle.plan_check.specs.World.{World as TheWorld, key_of_put, stage_now, keeps, slot_at};
+    ghost use Rattle.ring_hints.specs.Hints.{hinted_at, kept_count, kept_pairs};
+    ghost use Rattle.ring_maps.specs.Chunks.{chunk_of};
+    ghost use Rattle.ring_parts.specs.Parts.{kept_of};
+    ghost use Rattle.ring_versions.specs.Versions.{Covers};
+    ghost use Rattle.ring_store.specs.Stores.{held_at};
+    ghost use Rattle.ring_core.specs.Tables.{values_below, owner_kept, owners_now, owners_last, AllDone, left_of, can_begin_kept, IsNextStep, NoNextStep};
+    ghost use Rattle.ring_core.specs.World.{ring_of, plan_of, Meets, put_count, get_count, clock_of};
+    ghost use Rattle.ring_clock.specs.Clock.{IsAtMost};
+    ghost use Rattle.plan_check.specs.Succession.{Succeeds};
+
+    /// How many puts there are. Takes no memory.
+    pub fn puts(&self) -> u32
+        ensures count { result ≡ put_count self.now }
+        ensures world { (w : TheWorld) → Meets self.now w → result ≡ length w.puts }
+    {
+        self.parts.puts.len() as u32
+    }
+
+    /// A law, which costs nothing: of two puts of one key the first one's clock is at most the second's exactly where the second succeeds the
+    /// first (DeCandia et al. 2007, section 4.4).
+    pub fn clocks_tell_succession(&self)
+        ensures { (w : TheWorld) → Meets self.now w → (u v : ℕ) → u < length w.puts → v < length w.puts → key_of_put w u ≡ key_of_put w v
+            → IsAtMost (clock_of self.now v) (clock_of self.now u) ↔ Succeeds w u v }
+    {
+        let _ = self.parts.losses;
+    }
+
+    /// How many gets there are. Takes no memory.
+    pub fn gets(&self) -> u32
+        ensures count { result ≡ get_count self.now }
+        ensures world { (w : TheWorld) → Meets self.now w → result ≡ length w.gets }
+    {
+        self.parts.gets.len() as u32
+    }
+
+    /// How many steps are not done. Takes no memory and no look-up.
+    pub fn left(&self) -> u32
+        ensures { (w : TheWorld) → Meets self.now w → result ≡ left_of (plan_of self.now) w }
+    {
+        self.parts.steps.left()
+    }
+
+    /// The n-th node with a slot for which it keeps a hint, in an order that stays while the hints do. Takes no memory.
+    pub fn hint_at(&self, n: u32) -> Option<(NodeId, Slot)>
+        ensures some { IfSome result (λ pair. (w : TheWorld) → Meets self.now w → keeps w pair.0.0 pair.1 ≡ true) }
+        ensures value { result ≡ option_map (λ pair. (pair.keeper, pair.slot)) (slice_get (kept_pairs self.now.parts.hints) n) }
+        ensures none { IfNone result (kept_count self.now.parts.hints ≤ n) }
+    {
+        self.parts.hints.nth(n)
+    }
+
+    /// The node that owns the slot now. Takes no memory.
+    pub fn owner(&self, slot: Slot) -> NodeId
+        requires { is_ring_slot (ring_of self.now) slot ≡ true }
+        ensures now { (w : TheWorld) → Meets self.now w → result ≡ (stage_now (ring_of self.now) (plan_of self.now) w slot).owner }
+        ensures kept { result ≡ owner_kept (kept_of self.now.parts) slot }
+    {
+        let Some(owner) = self.parts.slots.owner(slot) else {
+            unreachable!()
+        };
+        owner
+    }
+
+    // The owners of a partition's slots now, by index.
+    fn row(&self, partition: u32) -> Result<Listed<NodeId>, Refusal>
+        requires { partition < (ring_of self.now).q }
+        ensures ok { IfOk result (λ row. row ≡ values_below (ring_of self.now).n (λ i. owner_kept (kept_of self.now.parts) (slot_at partition i))) }
+        ensures memory { IfErr result (λ e. e ≡ OutOfMemory) }
+    {
+        let n = self.parts.approved.ring().n();
+        let mut owners = Vec::new(self.parts.alloc);
+        for index in 0..n {
+            let owner = self.owner(Slot { partition, index });
+            owners.push(owner)?;
+        }
+        Ok(Listed::from_vec(owners))
+    }
+
+    /// The owners of all slots now, by partition and index. Once every step is done these are the owners after each slot's last step, in
+    /// whatever order the steps were done.
+    pub fn table(&self) -> Result<Vec<Listed<NodeId>>, Refusal>
+        ensures now { IfOk result (λ rows. (w : TheWorld) → Meets self.now w → rows.items ≡ owners_now (ring_of self.now) (plan_of self.now) w) }
+        ensures last { IfOk result (λ rows. (w : TheWorld) → Meets self.now w → AllDone (plan_of self.now) w
+            → rows.items ≡ owners_last (ring_of self.now) (plan_of self.now)) }
+        ensures memory { IfErr result (λ e. e ≡ OutOfMemory) }
+    {
+        let q = self.parts.approved.ring().q();
+        let mut rows = Vec::new(self.parts.alloc);
+        for partition in 0..q {
+            rows.push(self.row(partition)?)?;
+        }
+        Ok(rows)
+    }
+
+    // Whether the versions that some node keeps for the slot as hints cover the clock.
+    fn hints_cover(&self, slot: Slot, chunk: u32, key: &[u8], clock: &Clock) -> bool
+        requires { chunk_of (ring_of self.now).q key.now ≡ chunk }
+        ensures { IsTrue result ↔ ((x : ℕ) × Covers (hinted_at self.now.parts.hints x slot key.now) clock.now) }
+    {
+        let Some(keepers) = self.parts.hints.keepers(slot) else {
+            return false;
+        };
+        'keepers: for keeper in keepers {
+            let pair = KeptFor {
+                keeper: *keeper,
+                slot,
+            };
+            if let Some(versions) = self.parts.hints.key_versions_in(pair, chunk, key) {
+                if versions.covers(clock) {
+                    return true;
+                }
+            }
+        }
+        false
+    }
+
+    // Whether the versions that the owner has cover the clock.
+    fn owner_covers(&self, slot: Slot, chunk: u32, key: &[u8], clock: &Clock) -> bool
+        requires ring { is_ring_slot (ring_of self.now) slot ≡ true }
+        requires chunk { chunk_of (ring_of self.now).q key.now ≡ chunk }
+        ensures { IsTrue result ↔ Covers (held_at self.now.parts.stores (owner_kept (kept_of self.now.parts) slot).0 slot key.now) clock.now }
+    {
+        match self
+            .parts
+            .stores
+            .key_versions_in(self.owner(slot), slot, chunk, key)
+        {
+            Some(versions) => versions.covers(clock),
+            None => false,
+        }
+    }
+
+    // Whether the slot of that index of the put's partition holds the put.
+    fn holds(&self, put: u32, index: u32) -> bool
+        requires put { put < length self.now.parts.puts }
+        requires index { index < (ring_of self.now).n }
+        ensures { (w : TheWorld) → Meets self.now w → result ≡ is_held (ring_of self.now) (plan_of self.now) w put (put_slot (ring_of self.now) w put index) }
+    {
+        let Some(now) = self.parts.puts.get(put) else {
+            unreachable!()
+        };
+        let Some(version) = now.version.list().first() else {
+            unreachable!()
+        };
+        let place = self.parts.keys.place(now.key);
+        let key = self.parts.keys.key(now.key);
+        let slot = Slot {
+            partition: place.partition,
+            index,
+        };
+        let by_owner = self.owner_covers(slot, place.chunk, key, &version.clock);
+        let by_hints = self.hints_cover(slot, place.chunk, key, &version.clock);
+        by_owner | by_hints
+    }
+
+    /// The slots that hold the put or one that succeeds it: bit i is set where the slot of index i of the put's partition does. Takes no
+    /// memory, and looks at each slot's owner and at the keepers of hints for it.
+    pub fn held_slots(&self, put: u32) -> u32
+        requires { put < length self.now.parts.puts }
+        ensures { (w : TheWorld) → Meets self.now w → (i : ℕ) → i < 32 → (bit_at result i == 1) ≡ (nat_lt i (ring_of self.now).n
+            && is_held (ring_of self.now) (plan_of self.now) w put (put_slot (ring_of self.now) w put i)) }
+    {
+        let n = self.parts.approved.ring().n();
+        let mut mask = 0u32;
+        for index in 0..n {
+            if self.holds(put, index) {
+                mask |= 1 << index;
+            }
+        }
+        mask
+    }
+
+    // Whether the step can begin.
+    fn can_begin(&self, step: u32) -> bool
+        requires { step < length (plan_of self.now) }
+        ensures { result ≡ can_begin_kept (plan_of self.now) self.now.parts.steps step }
+    {
+        let steps = &self.parts.steps;
+        !(steps.is_done(step) || steps.is_open(step)) && is_ready(&self.parts, step)
+    }
+
+    /// The least step from that number on that is neither done nor open and whose direct dependencies are done, if there is one. Takes no memory,
+    /// and looks at each step up to it.
+    pub fn ready(&self, from: u32) -> Option<u32>
+        ensures some { IfSome result (λ n. (w : TheWorld) → Meets self.now w → IsNextStep (plan_of self.now) w from n) }
+        ensures none { IfNone result ((w : TheWorld) → Meets self.now w → NoNextStep (plan_of self.now) w from) }
+    {
+        let count = self.parts.approved.plan().len();
+        for step in from..count {
+            if self.can_begin(step) {
+                return Some(step);
+            }
+        }
+        None
+    }
+}

@@ -1,0 +1,66 @@
+//! A running store.
+
+ghost use Rattle.std.specs.Prelude.{◌≤◌, length};
+ghost use Rattle.ring_parts.specs.Parts.{IsSound};
+
+use crate::events::{happen, refusal};
+use plan_check::{Approved, Event, Reply};
+use ring_names::Refusal;
+use ring_parts::Parts;
+use std::alloc::Global;
+
+/// A store of all nodes of a ring in one process, which follows an approved plan.
+#[derive(Drop)]
+pub struct World<'a> {
+    pub(crate) parts: Parts<'a>,
+    ghost sound: { IsSound parts },
+    ghost puts: { length parts.puts ≤ 4294967295 },
+    ghost gets: { length parts.gets ≤ 4294967295 },
+}
+
+impl<'a> World<'a> {
+    ghost use Rattle.std.specs.Prelude.{◌≡◌, ◌≢◌, ◌⊎◌, ℕ, ◌<◌, true, false, length, None, IfOk, IfErr, OnOk, OnErr};
+    ghost use Rattle.ring_names.specs.declared.refusal.Refusal.TheVariants.{OutOfMemory};
+    ghost use Rattle.plan_check.specs.World.{World as TheWorld, opening_world};
+    ghost use Rattle.ring_core.specs.World.{ring_of, plan_of, Meets, Passes, Answers, Refuses, Stays, HasNumber, IsOneMore, put_count, get_count};
+    ghost use Rattle.ring_core.specs.Numbers.{may_need_memory};
+
+    /// The store before the first event: members are up, nothing is stored, and no step is done.
+    pub fn start(alloc: Global, approved: &'a Approved) -> Result<World<'a>, Refusal>
+        ensures ring { IfOk result (λ a. ring_of a ≡ approved.now.ring) }
+        ensures plan { IfOk result (λ a. plan_of a ≡ approved.now.plan) }
+        ensures opening { IfOk result (λ a. Meets a (opening_world approved.now.ring)) }
+        ensures counts { IfOk result (λ a. (put_count a ≡ 0) × (get_count a ≡ 0)) }
+        ensures memory { IfErr result (λ e. e ≡ OutOfMemory) }
+    {
+        let parts = Parts::start(alloc, approved)?;
+        Ok(World { parts })
+    }
+
+    /// Why the event would be refused now, if it would, but for want of memory. Takes no memory.
+    pub fn allows(&self, event: &Event) -> Result<(), Refusal>
+        ensures ok { OnOk result (Passes self.now event.now) }
+        ensures err { IfErr result (λ e. (e ≢ OutOfMemory) × Refuses self.now event.now e) }
+    {
+        match refusal(&self.parts, event) {
+            Some(refusal) => Err(refusal),
+            None => Ok(()),
+        }
+    }
+
+    /// The event's reply, where nothing refuses it, and the store has changed by it; else the refusal, and the store is as it was. Out of memory
+    /// comes last, and only of a chunk, a put, a write, a hint, a get, a read, the end of a get or a handoff.
+    pub fn apply(&mut self, event: &Event) -> Result<Reply, Refusal>
+        requires { HasNumber self.old event.now }
+        ensures ok { IfOk result (λ r. Answers self.old event.now r self.new) }
+        ensures err { IfErr result (λ e. (e ≡ OutOfMemory) ⊎ Refuses self.old event.now e) }
+        ensures same { OnErr result (Stays self.old self.new) }
+        ensures unchanged { IfErr result (λ e. e ≢ OutOfMemory → self.new ≡ self.old) }
+        ensures late { IfErr result (λ e. e ≡ OutOfMemory → Passes self.old event.now) }
+        ensures never { may_need_memory event.now ≡ false → IfErr result (λ e. e ≢ OutOfMemory) }
+        ensures counts { IsOneMore self.old self.new }
+    {
+        self.allows(event)?;
+        happen(&mut self.parts, event)
+    }
+}

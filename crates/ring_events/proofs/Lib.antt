@@ -1,0 +1,4 @@
+pub mod DigitLaws
+pub mod ScriptLates
+pub mod NextLaws
+pub mod WriteLaws

@@ -1,0 +1,6 @@
+pub mod Client
+pub mod Digits
+pub mod Said
+pub mod Reading
+pub mod Spelling
+pub mod Known

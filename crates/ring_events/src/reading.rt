@@ -1,0 +1,123 @@
+//! Reading a script.
+
+ghost use Rattle.std.specs.Prelude.{◌≡◌, ◌<◌, [], length, Ok, IfOk, IfErr, OnOk};
+ghost use Rattle.ring_names.specs.declared.refusal.Refusal.TheVariants.{OutOfMemory};
+ghost use Rattle.ring_text.specs.Left.{Reads};
+ghost use Rattle.ring_text.specs.Late.{IsAt, Late, NoFaultBefore};
+ghost use Rattle.ring_text.specs.Judging.{Gives, map_ok};
+ghost use Rattle.ring_events.specs.Said.{IsNext};
+ghost use Rattle.ring_events.specs.Reading.{said_at, events_from, events_at, script_at, script_reading};
+
+use crate::kind::kind;
+use crate::said::SaidEvent;
+use crate::script::Script;
+use crate::taken::add;
+use ring_names::{Names, Refusal};
+use ring_table::Ring;
+use ring_text::{Fields, Lines, both, end, finish, header, need};
+use std::alloc::Global;
+
+// What an event's line says, behind the events of the script and the writers known. Takes no memory.
+#[tactic(auto, unfolding(crate::specs::Reading::said_at))]
+fn judge_line<'a>(
+    ring: &Ring,
+    names: &Names,
+    script: &Script,
+    mut fields: Fields<'a>,
+) -> Result<SaidEvent<'a>, Refusal>
+    ensures { result ≡ said_at ring.now script.now names.now fields.entry.number fields.entry.fields }
+{
+    let room = need(script.len() < 1000000, &fields);
+    let said = kind(ring, names, &mut fields);
+    let (_, said) = finish(both(room, said), fields)?;
+    Ok(said)
+}
+
+// The same, and that it can be the next event.
+fn event_line<'a>(
+    ring: &Ring,
+    names: &Names,
+    script: &Script,
+    fields: Fields<'a>,
+) -> Result<SaidEvent<'a>, Refusal>
+    ensures value { result ≡ said_at ring.now script.now names.now fields.entry.number fields.entry.fields }
+    ensures next { IfOk result (λ x. IsNext script.now names.now x) }
+    ensures at { IfErr result (λ e. IsAt fields.entry.number e) }
+{
+    judge_line(ring, names, script, fields)
+}
+
+// Reads events behind those of the script, up to a line that begins with `end`.
+fn read_into(
+    alloc: Global,
+    ring: &Ring,
+    writers: &mut Names,
+    seen: &mut Script,
+    lines: &mut Lines,
+) -> Result<(), Refusal>
+    requires none { seen.old ≡ [] }
+    ensures read { Reads (map_ok (λ _. (seen.new, writers.new)) result) lines.new (events_from ring.now seen.old writers.old lines.old.line lines.old.lines) }
+    ensures late { Late 1 result lines.old lines.new (events_from ring.now seen.old writers.old lines.old.line lines.old.lines) }
+{
+    'events: while !lines.begins(b"end") {
+        let fields = lines.next()?;
+        let said = event_line(ring, writers, seen, fields)?;
+        add(alloc, writers, seen, said)?;
+    }
+    Ok(())
+}
+
+// Reads the events of a script.
+#[tactic(auto, unfolding(crate::specs::Reading::events_at))]
+fn read_events(
+    alloc: Global,
+    ring: &Ring,
+    writers: &mut Names,
+    lines: &mut Lines,
+) -> Result<Script, Refusal>
+    ensures read { Reads (map_ok (λ s. (s, writers.new)) result) lines.new (events_at ring.now writers.old lines.old) }
+    ensures late { Late 1 result lines.old lines.new (events_at ring.now writers.old lines.old) }
+{
+    let mut script = Script::new(alloc);
+    read_into(alloc, ring, writers, &mut script, lines)?;
+    Ok(script)
+}
+
+/// Reads the lines of a script, up to its line `end`, and leaves what follows them. New writers are added behind those that were seen.
+/// Refused as `read_script` is; then some of the new writers may have been added.
+#[tactic(auto, unfolding(crate::specs::Reading::script_at))]
+pub fn read_script_section(
+    alloc: Global,
+    ring: &Ring,
+    writers: &mut Names,
+    lines: &mut Lines,
+) -> Result<Script, Refusal>
+    ensures read { Reads (map_ok (λ s. (s, writers.new)) result) lines.new (script_at ring.now writers.old lines.old) }
+    // Memory may run out behind its first two lines, if these have no fault, and later only behind lines that have none.
+    ensures late { Late 2 result lines.old lines.new (script_at ring.now writers.old lines.old) }
+{
+    header(lines, b"script", b"1")?;
+    let script = read_events(alloc, ring, writers, lines)?;
+    end(lines)?;
+    Ok(script)
+}
+
+/// Reads a script from its whole text. New writers are numbered in order of first sight, behind those that were seen. The first line
+/// at fault decides, and in it the fault of the least number: 1 `BadLine`, 2 `TooLarge`, 3 `UnknownNode`. `OutOfMemory` comes only where
+/// memory ran out, behind lines that have no fault. Refused, some of the new writers may have been added.
+pub fn read_script(
+    alloc: Global,
+    ring: &Ring,
+    writers: &mut Names,
+    text: &[u8],
+) -> Result<Script, Refusal>
+    // Which fault it is.
+    ensures exact { Gives (map_ok (λ s. (s, writers.new)) result) (script_reading ring.now writers.old text.now) }
+    // Memory may run out only if the first two lines have no fault.
+    ensures late { IfErr result (λ e. e ≡ OutOfMemory → NoFaultBefore 3 (script_reading ring.now writers.old text.now)) }
+{
+    let mut lines = Lines::of(text);
+    let script = read_script_section(alloc, ring, writers, &mut lines)?;
+    lines.ended()?;
+    Ok(script)
+}

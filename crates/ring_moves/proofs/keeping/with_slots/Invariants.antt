@@ -1,0 +1,13 @@
+use Rattle.std.proofs.Common.{length}
+use Rattle.std.specs.Prelude.{None}
+use Rattle.plan_check.specs.World.{slot_at}
+use Rattle.ring_parts.specs.Parts.{ring_of}
+use Rattle.ring_moves.specs.Keeping.{keeps_part}
+use Rattle.ring_moves.proofs.Lessened.{Lessening}
+use Rattle.ring_moves.proofs.keeping.with_slots.Given as goal
+
+abbrev pub invariant-slots : goal.invariant-slots
+invariant-slots l = Lessening l.parts (λ w i. keeps_part (ring_of l.parts) w (slot_at l.partition i) l.chunk) l.from None l.least l.rest
+
+abbrev pub decreases-slots : goal.decreases-slots
+decreases-slots l = length l.rest
