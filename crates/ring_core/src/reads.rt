@@ -97,6 +97,7 @@ impl<'a> World<'a> {
         ensures now { IfOk result (λ rows. (w : TheWorld) → Meets self.now w → rows.items ≡ owners_now (ring_of self.now) (plan_of self.now) w) }
         ensures last { IfOk result (λ rows. (w : TheWorld) → Meets self.now w → AllDone (plan_of self.now) w
             → rows.items ≡ owners_last (ring_of self.now) (plan_of self.now)) }
+        ensures size { IfOk result (λ rows. length rows.items ≡ (ring_of self.now).q) }
         ensures memory { IfErr result (λ e. e ≡ OutOfMemory) }
     {
         let q = self.parts.approved.ring().q();

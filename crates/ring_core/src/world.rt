@@ -59,6 +59,8 @@ impl<'a> World<'a> {
         ensures late { IfErr result (λ e. e ≡ OutOfMemory → Passes self.old event.now) }
         ensures never { may_need_memory event.now ≡ false → IfErr result (λ e. e ≢ OutOfMemory) }
         ensures counts { IsOneMore self.old self.new }
+        ensures ring { ring_of self.new ≡ ring_of self.old }
+        ensures plan { plan_of self.new ≡ plan_of self.old }
     {
         self.allows(event)?;
         happen(&mut self.parts, event)

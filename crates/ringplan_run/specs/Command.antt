@@ -1,5 +1,5 @@
 -- The command lines of the program.
-use Rattle.std.specs.Prelude.{◌≡◌, ◌≢◌, ℕ, true, false, List, Option, [], codes, ⊤, if◌then◌else◌}
+use Rattle.std.specs.Prelude.{◌≡◌, ◌≢◌, ℕ, Bool, true, false, List, Option, [], codes, ⊤, if◌then◌else◌}
 use Rattle.std.specs.Option.{option_map_or}
 use Rattle.std.specs.Str.{bytes_eq}
 use Rattle.clap.specs.Words.{App, IsAmong, Kinds, Row, fault_of, new_app, subcommand_of, with_subcommand}
@@ -8,17 +8,22 @@ use Rattle.clap.specs.declared.error.kind.ErrorKind.TheVariants.{DisplayHelp}
 use Rattle.ringplan_run.specs.declared.command.CommandLine.{CommandLine}
 use Rattle.ringplan_run.specs.declared.command.CommandLine.TheVariants.{Do, Help, Refused, OutOfMemory}
 use Rattle.ringplan_run.specs.declared.job.Job.{Job}
-use Rattle.ringplan_run.specs.declared.job.Job.TheVariants.{Check, Migrate}
+use Rattle.ringplan_run.specs.declared.job.Job.TheVariants.{Check, Migrate, Play}
 
 -- the word that asks for a job
 abbrev pub word_of : Job → List ℕ
 word_of Check = codes "check"
 word_of Migrate = codes "migrate"
+word_of Play = codes "play"
 
--- `ringplan`, which wants one of its subcommands `check` and `migrate`
+-- a command with one subcommand more, that of a job
+abbrev pub with_job : App → Job → App
+with_job app job = with_subcommand app (new_app (word_of job)).top
+
+-- `ringplan`, which wants one of its subcommands `check`, `migrate` and `play`
 abbrev pub ringplan : App
 ringplan =
-    let app = with_subcommand (with_subcommand (new_app (codes "ringplan")) (new_app (word_of Check)).top) (new_app (word_of Migrate)).top in
+    let app = with_job (with_job (with_job (new_app (codes "ringplan")) Check) Migrate) Play in
     record app { top = record app.top { subcommand_required = true } }
 
 -- what the words of a command line ask: how they fail, and where they do not, the job
@@ -26,9 +31,13 @@ pub record Asked : Type 0 where
   pub faults : Kinds
   pub job : Job
 
+-- the subcommand is that of the job
+abbrev pub is_named : Job → Option (List ℕ × List Row) → Bool
+is_named job subcommand = option_map_or (λ x. bytes_eq x.0 (word_of job)) subcommand false
+
 -- the job of a subcommand, by its name
 abbrev pub job_named : Option (List ℕ × List Row) → Job
-job_named subcommand = if option_map_or (λ x. bytes_eq x.0 (word_of Migrate)) subcommand false then Migrate else Check
+job_named subcommand = if is_named Play subcommand then Play else (if is_named Migrate subcommand then Migrate else Check)
 
 -- what these words ask
 abbrev pub asked : List (List ℕ) → Asked

@@ -1,59 +1,28 @@
-//! Bundles, and what a job makes of one.
+//! What a job makes of a bundle.
 
 ghost use Rattle.std.specs.Prelude.{◌≡◌, ◌++◌, ◌∷◌, [], IfOk, IfErr, codes};
 ghost use Rattle.ring_names.specs.declared.refusal.Refusal.TheVariants.{OutOfMemory};
 ghost use Rattle.ring_text.specs.Judging.{Gives};
-ghost use Rattle.ring_text.specs.Left.{Reads, whole_text};
-ghost use Rattle.ring_text.specs.Late.{Late, NoFaultBefore};
+ghost use Rattle.ring_text.specs.Left.{whole_text};
+ghost use Rattle.ring_text.specs.Late.{NoFaultBefore};
 ghost use Rattle.ring_table.specs.Spelling.{ring_text};
 ghost use Rattle.plan_text.specs.Valid.{Suits};
 ghost use Rattle.plan_cert.specs.Spelling.{cert_text};
 ghost use Rattle.plan_cert.specs.Valid.{Suits as IsCertOf};
 ghost use Rattle.plan_check.specs.First.{first_refusal};
+ghost use Rattle.ring_script.specs.Bundles.{IsOfRing, bundle_at};
+ghost use Rattle.ring_script.specs.declared.bundle.Kind.TheVariants.{Check, Play};
 ghost use Rattle.ringplan_run.specs.Answers.{texts_of};
-ghost use Rattle.ringplan_run.specs.Verdict.{IsOfRing, bundle_at, judged, made_by, migrated_text, migration, verdict};
+ghost use Rattle.ringplan_run.specs.Verdict.{judged, made_by, migrated_text, migration, plays, shown, verdict};
 
 use crate::job::Job;
-use plan_cert::{Cert, read_cert_section, write_cert};
+use plan_cert::{Cert, write_cert};
 use plan_check::check;
-use plan_text::{Plan, read_plan_section, write_plan};
+use plan_text::{Plan, write_plan};
 use ring_names::Refusal;
-use ring_table::{Ring, read_ring_section, write_ring};
-use ring_text::Lines;
+use ring_script::{Bundle, Kind, play, read_bundle};
+use ring_table::{Ring, write_ring};
 use std::alloc::Global;
-
-/// A ring, a plan of it, and the plan's certificate.
-#[derive(Drop)]
-pub struct Bundle {
-    ring: Ring,
-    plan: Plan,
-    cert: Cert,
-}
-
-// The parts of a bundle. A ring's fault comes before a plan's, and that before a certificate's.
-#[tactic(auto, unfolding(crate::specs::Verdict::bundle_at))]
-fn read_parts(alloc: Global, lines: &mut Lines) -> Result<Bundle, Refusal>
-    ensures read { Reads result lines.new (bundle_at lines.old) }
-    ensures parts { IfOk result IsOfRing }
-    ensures late { Late 4 result lines.old lines.new (bundle_at lines.old) }
-{
-    let ring = read_ring_section(alloc, lines)?;
-    let plan = read_plan_section(alloc, &ring, lines)?;
-    let cert = read_cert_section(alloc, &ring, lines)?;
-    Ok(Bundle { ring, plan, cert })
-}
-
-// The parts of a bundle, and nothing behind them.
-fn read_bundle(alloc: Global, bytes: &[u8]) -> Result<Bundle, Refusal>
-    ensures read { Gives result (whole_text bundle_at bytes.now) }
-    ensures parts { IfOk result IsOfRing }
-    ensures late { IfErr result (λ e. e ≡ OutOfMemory → NoFaultBefore 5 (whole_text bundle_at bytes.now)) }
-{
-    let mut lines = Lines::of(bytes);
-    let bundle = read_parts(alloc, &mut lines)?;
-    lines.ended()?;
-    Ok(bundle)
-}
 
 // The checker's answer to a plan of the ring with its certificate.
 fn check_plan(alloc: Global, ring: Ring, plan: Plan, cert: &Cert) -> Result<(), Refusal>
@@ -75,9 +44,9 @@ fn check_plan(alloc: Global, ring: Ring, plan: Plan, cert: &Cert) -> Result<(), 
 pub fn check_bundle(alloc: Global, bytes: &[u8]) -> Result<(), Refusal>
     ensures read { Gives result (verdict bytes.now) }
     // Memory may run out only if the first four lines have no fault.
-    ensures late { IfErr result (λ e. e ≡ OutOfMemory → NoFaultBefore 5 (whole_text bundle_at bytes.now)) }
+    ensures late { IfErr result (λ e. e ≡ OutOfMemory → NoFaultBefore 5 (whole_text (bundle_at Check) bytes.now)) }
 {
-    match read_bundle(alloc, bytes) {
+    match read_bundle(alloc, Kind::Check, bytes) {
         Ok(bundle) => check_plan(alloc, bundle.ring, bundle.plan, &bundle.cert),
         Err(e) => Err(e),
     }
@@ -102,7 +71,9 @@ fn write_migrated(alloc: Global, bundle: Bundle) -> Result<Vec<u8>, Refusal>
     ensures text { IfOk result (λ v. v.items ≡ migrated_text bundle) }
     ensures memory { IfErr result (λ e. e ≡ OutOfMemory) }
 {
-    let Bundle { ring, plan, cert } = bundle;
+    let Bundle {
+        ring, plan, cert, ..
+    } = bundle;
     let steps = write_plan(alloc, &ring, &plan)?;
     let ring = ring.migrate();
     write_parts(alloc, &ring, steps.as_slice(), &cert)
@@ -114,10 +85,38 @@ fn write_migrated(alloc: Global, bundle: Bundle) -> Result<Vec<u8>, Refusal>
 pub fn migrate_bundle(alloc: Global, bytes: &[u8]) -> Result<Vec<u8>, Refusal>
     ensures read { Gives (texts_of result) (migration bytes.now) }
     // Memory may run out only if the first four lines have no fault.
-    ensures late { IfErr result (λ e. e ≡ OutOfMemory → NoFaultBefore 5 (whole_text bundle_at bytes.now)) }
+    ensures late { IfErr result (λ e. e ≡ OutOfMemory → NoFaultBefore 5 (whole_text (bundle_at Check) bytes.now)) }
 {
-    match read_bundle(alloc, bytes) {
+    match read_bundle(alloc, Kind::Check, bytes) {
         Ok(bundle) => write_migrated(alloc, bundle),
+        Err(e) => Err(e),
+    }
+}
+
+// What a play of the bundle's script prints, where the checker accepts its plan.
+fn play_checked(alloc: Global, bundle: Bundle) -> Result<Vec<u8>, Refusal>
+    requires { IsOfRing bundle }
+    ensures { Gives (texts_of result) (shown bundle) }
+{
+    match check(alloc, bundle.ring, bundle.plan, &bundle.cert) {
+        Ok(approved) => play(alloc, &approved, &bundle.script),
+        Err(turned) => {
+            let refusal = turned.refusal;
+            Err(refusal)
+        }
+    }
+}
+
+/// What a play of a bundle with a script prints, where it is a ring with a plan that the checker accepts by its certificate: `yes`, a line for
+/// each event, the owners behind the last, and `end`. Else the first fault of the texts, and where there is none the checker's first refusal.
+/// `OutOfMemory` comes only where memory ran out, at whatever event, behind the first four lines of the ring.
+pub fn play_bundle(alloc: Global, bytes: &[u8]) -> Result<Vec<u8>, Refusal>
+    ensures read { Gives (texts_of result) (plays bytes.now) }
+    // Memory may run out only if the first four lines have no fault.
+    ensures late { IfErr result (λ e. e ≡ OutOfMemory → NoFaultBefore 5 (whole_text (bundle_at Play) bytes.now)) }
+{
+    match read_bundle(alloc, Kind::Play, bytes) {
+        Ok(bundle) => play_checked(alloc, bundle),
         Err(e) => Err(e),
     }
 }
@@ -141,5 +140,6 @@ pub fn make(alloc: Global, job: Job, bytes: &[u8]) -> Result<Vec<u8>, Refusal>
             yes(alloc)
         }
         Job::Migrate => migrate_bundle(alloc, bytes),
+        Job::Play => play_bundle(alloc, bytes),
     }
 }

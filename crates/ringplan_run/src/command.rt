@@ -12,20 +12,24 @@ use std::alloc::{AllocError, Global};
 use std::convert::AsStr;
 
 const ABOUT: &str =
-    "Checks a plan that moves the keys of a ring, or brings its texts to a later format";
+    "Checks a plan that moves the keys of a ring, plays a script over it, or brings its texts to a later format";
 
 const CHECK: &str = "Checks the bundle on standard input";
 
 const MIGRATE: &str =
     "Prints the bundle on standard input with a ring of format 1 in format 2; checks nothing";
 
+const PLAY: &str =
+    "Checks the bundle on standard input, and runs the events of its script over a store of all nodes";
+
 const STREAMS: &str = "\
-Standard input: a bundle, which is the text of a ring, then that of a plan, then that of its certificate.
-Standard output: of `check` the line `yes`, of `migrate` the bundle; else one line of `no`, the refusal's number and its values.
+Standard input: a bundle, which is the text of a ring, then that of a plan, then that of its certificate; of `play` then that of a script.
+Standard output: of `check` the line `yes`, of `migrate` the bundle, of `play` what each event is answered and then the owners; else one
+line of `no`, the refusal's number and its values.
 
 Exit status:
-  0  yes, or the bundle was printed
-  1  the plan is refused (`check` alone)
+  0  yes, or the bundle was printed, or the script was played
+  1  the plan is refused (`check` and `play`)
   2  a text or the command line is refused
   3  out of memory, or the input or the output failed";
 
@@ -48,6 +52,17 @@ Exit status:
   0  the bundle was printed
   2  a text or the command line is refused
   3  out of memory, or the input or the output failed";
+
+const PLAY_STREAMS: &str = "\
+Standard input: a bundle, which is the text of a ring, then that of a plan, that of its certificate, and that of a script.
+Standard output: `yes`; for each event of the script its place, counted from 0, and its reply, or `no`, the refusal's number and its values;
+then the owners of each partition's slots, and `end`. A refused event changes nothing. Where the plan or a text is refused, one line of `no`.
+
+Exit status:
+  0  the script was played, whatever its events were answered
+  1  the plan is refused
+  2  a text or the command line is refused
+  3  out of memory (at an event too), or the input or the output failed";
 
 /// What a command line asks for.
 #[derive(Debug, Drop)]
@@ -94,6 +109,9 @@ fn try_parse<S: AsStr>(alloc: Global, words: &[S]) -> Result<CommandLine, AllocE
 fn job_of(matches: &ArgMatches) -> Job
     ensures { result ≡ job_named (subcommand_rows_of matches.now) }
 {
+    if matches.subcommand_matches("play").is_some() {
+        return Job::Play;
+    }
     match matches.subcommand_matches("migrate") {
         Some(_) => Job::Migrate,
         None => Job::Check,
@@ -110,10 +128,14 @@ fn command<'a>(alloc: Global) -> Result<Command<'a>, AllocError>
     let migrate = Command::new(alloc, "migrate")
         .about(MIGRATE)
         .after_help(MIGRATE_STREAMS);
+    let play = Command::new(alloc, "play")
+        .about(PLAY)
+        .after_help(PLAY_STREAMS);
     Command::new(alloc, "ringplan")
         .about(ABOUT)
         .after_help(STREAMS)
         .subcommand_required(true)
         .subcommand(check)?
-        .subcommand(migrate)
+        .subcommand(migrate)?
+        .subcommand(play)
 }

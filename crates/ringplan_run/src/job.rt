@@ -7,4 +7,6 @@ pub enum Job {
     Check,
     /// To print the texts with the ring in its next format.
     Migrate,
+    /// To print what the events of a script are answered.
+    Play,
 }

@@ -1,0 +1,3 @@
+pub mod Bundles
+pub mod Play
+pub mod Steps

@@ -1,0 +1,44 @@
+-- What a play of a script prints: each event's answer, one event behind the other, and the owners that there are behind the last.
+use Rattle.std.specs.Prelude.{ℕ, ◌+◌, List, [], ◌∷◌, ◌++◌, codes, Result, Ok, Err}
+use Rattle.std.specs.Fmt.{decimal}
+use Rattle.ring_names.specs.declared.refusal.Refusal.{Refusal}
+use Rattle.ring_names.specs.Refusals.{line_of}
+use Rattle.ring_text.specs.Parts.{text_of}
+use Rattle.ring_text.specs.Frames.{end_fields}
+use Rattle.ring_table.specs.Value.{RingValue, names_of}
+use Rattle.ring_table.specs.Spelling.{rows_lines}
+use Rattle.plan_text.specs.declared.step.Planned.{Planned}
+use Rattle.plan_check.specs.declared.event.Event.{Event}
+use Rattle.plan_check.specs.declared.event.Reply.{Reply}
+use Rattle.plan_check.specs.Answers.{answer}
+use Rattle.plan_check.specs.Replies.{reply_text}
+use Rattle.plan_check.specs.World.{World, opening_world}
+use Rattle.ring_core.specs.Tables.{owners_now}
+
+-- the world behind an event: the same where it is refused
+abbrev pub behind : World → Result (World × Reply) Refusal → World
+behind w (Ok x) = x.0
+behind w (Err e) = w
+
+-- what is said of an event: its reply, or the line of its refusal
+abbrev pub said : Result (World × Reply) Refusal → List ℕ
+said (Ok x) = reply_text x.1 ++ 10 ∷ []
+said (Err e) = line_of e
+
+-- the world behind the events
+abbrev pub world_after : RingValue → List Planned → World → List Event → World
+world_after ring plan w [] = w
+world_after ring plan w (e ∷ es) = world_after ring plan (behind w (answer ring plan w e)) es
+
+-- a line for each event: its place, from k on, and what is said of it
+abbrev pub event_lines : RingValue → List Planned → World → ℕ → List Event → List ℕ
+event_lines ring plan w k [] = []
+event_lines ring plan w k (e ∷ es) = decimal k ++ (32 ∷ said (answer ring plan w e)) ++ event_lines ring plan (behind w (answer ring plan w e)) (k + 1) es
+
+-- the lines of the owners in a world, and `end`
+abbrev pub owners_text : RingValue → List Planned → World → List ℕ
+owners_text ring plan w = text_of (rows_lines (names_of ring) 0 (owners_now ring plan w) ++ end_fields ∷ [])
+
+-- `yes`, the events' lines from the opening world on, and the owners behind them
+unfoldable pub play_text : RingValue → List Planned → List Event → List ℕ
+play_text ring plan events = codes "yes" ++ 10 ∷ (event_lines ring plan (opening_world ring) 0 events ++ owners_text ring plan (world_after ring plan (opening_world ring) events))

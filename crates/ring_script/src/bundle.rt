@@ -1,0 +1,90 @@
+//! Bundles: the texts that a command is given.
+
+ghost use Rattle.std.specs.Prelude.{◌≡◌, [], IfOk, IfErr};
+ghost use Rattle.ring_names.specs.declared.refusal.Refusal.TheVariants.{OutOfMemory};
+ghost use Rattle.ring_text.specs.Judging.{Gives, map_ok};
+ghost use Rattle.ring_text.specs.Left.{Reads, whole_text};
+ghost use Rattle.ring_text.specs.Late.{Late, NoFaultBefore};
+ghost use Rattle.ring_script.specs.Bundles.{IsOfRing, bundle_at, events_of};
+
+use plan_cert::{Cert, read_cert_section};
+use plan_text::{Plan, read_plan_section};
+use ring_events::{Script, read_script_section};
+use ring_names::{Names, Refusal};
+use ring_table::{Ring, read_ring_section};
+use ring_text::Lines;
+use std::alloc::Global;
+
+/// Which sections a bundle has.
+#[derive(Clone, Copy, Debug, PartialEq, Eq)]
+pub enum Kind {
+    /// A ring, a plan of it and the plan's certificate.
+    Check,
+    /// The same, and a script.
+    Play,
+}
+
+/// A ring, a plan of it, the plan's certificate, and the events of a script with the names of their writers. A bundle without a script has no
+/// events.
+#[derive(Drop)]
+pub struct Bundle {
+    pub ring: Ring,
+    pub plan: Plan,
+    pub cert: Cert,
+    pub writers: Names,
+    pub script: Script,
+}
+
+// The events of the script, if the bundle has one.
+fn read_events(
+    alloc: Global,
+    kind: Kind,
+    ring: &Ring,
+    writers: &mut Names,
+    lines: &mut Lines,
+) -> Result<Script, Refusal>
+    requires { writers.old ≡ [] }
+    ensures read { Reads (map_ok (λ s. (s, writers.new)) result) lines.new (events_of kind ring.now lines.old) }
+    ensures late { Late 2 result lines.old lines.new (events_of kind ring.now lines.old) }
+{
+    match kind {
+        Kind::Check => Ok(Script::new(alloc)),
+        Kind::Play => read_script_section(alloc, ring, writers, lines),
+    }
+}
+
+// The parts of a bundle. A ring's fault comes before a plan's, that before a certificate's, and that before a script's.
+#[tactic(auto, unfolding(crate::specs::Bundles::bundle_at))]
+fn read_parts(alloc: Global, kind: Kind, lines: &mut Lines) -> Result<Bundle, Refusal>
+    ensures read { Reads result lines.new (bundle_at kind lines.old) }
+    ensures parts { IfOk result IsOfRing }
+    ensures late { Late 4 result lines.old lines.new (bundle_at kind lines.old) }
+{
+    let ring = read_ring_section(alloc, lines)?;
+    let plan = read_plan_section(alloc, &ring, lines)?;
+    let cert = read_cert_section(alloc, &ring, lines)?;
+    let mut writers = Names::new(alloc);
+    let script = read_events(alloc, kind, &ring, &mut writers, lines)?;
+    Ok(Bundle {
+        ring,
+        plan,
+        cert,
+        writers,
+        script,
+    })
+}
+
+/// The parts of a bundle of that kind, and nothing behind them. Writers are numbered in order of first sight. The first line at fault decides.
+/// `OutOfMemory` comes only where memory ran out, behind the first four lines of the ring.
+pub fn read_bundle(alloc: Global, kind: Kind, bytes: &[u8]) -> Result<Bundle, Refusal>
+    // Which bundle it is, or which fault.
+    ensures read { Gives result (whole_text (bundle_at kind) bytes.now) }
+    ensures parts { IfOk result IsOfRing }
+    // Memory may run out only if the first four lines have no fault.
+    ensures late { IfErr result (λ e. e ≡ OutOfMemory → NoFaultBefore 5 (whole_text (bundle_at kind) bytes.now)) }
+{
+    let mut lines = Lines::of(bytes);
+    let bundle = read_parts(alloc, kind, &mut lines)?;
+    lines.ended()?;
+    Ok(bundle)
+}
