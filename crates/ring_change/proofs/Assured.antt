@@ -18,8 +18,8 @@ use Rattle.plan_check.specs.Guards.{has_copy, has_other, guards}
 use Rattle.plan_check.proofs.Passed.{all_met}
 use Rattle.ring_state.specs.declared.slots.SlotNow.{SlotNow}
 use Rattle.ring_state.specs.Slots.{slot_now, ChangesSlot}
-use Rattle.ring_meets.proofs.SlotsFit.{may_raise, may_raise_mirrored}
-use Rattle.ring_meets.proofs.StepsNow.{step_within, other_within, copy_within}
+use Rattle.ring_parts.proofs.SlotsFit.{may_raise, may_raise_mirrored}
+use Rattle.ring_parts.proofs.StepsNow.{step_within, other_within, copy_within}
 use Rattle.ring_parts.specs.declared.parts.Parts.{Parts}
 use Rattle.ring_parts.specs.Parts.{Meets, IsSound, Passes, ring_of, plan_of, kept_of}
 use Rattle.ring_parts.proofs.Known.{holds, reached_of}

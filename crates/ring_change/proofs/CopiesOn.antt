@@ -10,9 +10,9 @@ use Rattle.plan_check.specs.World.{World}
 use Rattle.plan_check.specs.Guards.{guards}
 use Rattle.plan_check.specs.Effects.{changed, effect}
 use Rattle.ring_state.specs.declared.steps.StepNow.{StepNow}
-use Rattle.ring_meets.proofs.NodesNow.{nodes_stay}
-use Rattle.ring_meets.proofs.StepsNow.{steps_open, steps_close, steps_abort}
-use Rattle.ring_meets.proofs.SlotsNow.{slots_stay}
+use Rattle.ring_parts.proofs.NodesNow.{nodes_stay}
+use Rattle.ring_parts.proofs.StepsNow.{steps_open, steps_close, steps_abort}
+use Rattle.ring_parts.proofs.SlotsNow.{slots_stay}
 use Rattle.ring_parts.specs.Kept.{Kept, Tells}
 use Rattle.ring_parts.proofs.Known.{reached_of}
 use Rattle.ring_change.proofs.Onward.{LeadsOn, leads_on, stored_on, hinted_on}

@@ -9,8 +9,8 @@ use Rattle.plan_stage.proofs.Truth.{all_of, either, first_of_two, second_of_two,
 use Rattle.plan_check.proofs.Prefix.{order}
 use Rattle.ring_state.specs.declared.slots.SlotNow.{SlotNow}
 use Rattle.ring_state.specs.Slots.{slot_now, ChangesSlot}
-use Rattle.ring_meets.specs.Kept.{is_served_kept}
-use Rattle.ring_meets.proofs.NodesDone.{alike}
+use Rattle.ring_parts.specs.GuardsKept.{is_served_kept}
+use Rattle.ring_parts.proofs.NodesDone.{alike}
 use Rattle.ring_change.specs.Groups.{raised, RaisesGroup, RaisesGroups}
 
 -- what it says of a slot, over what holds of the slot before and after

@@ -16,11 +16,11 @@ use Rattle.plan_check.specs.Effects.{changed, effect}
 use Rattle.ring_state.specs.declared.nodes.NodeNow.{NodeNow}
 use Rattle.ring_state.specs.declared.slots.SlotNow.{SlotNow}
 use Rattle.ring_state.specs.Slots.{slot_now}
-use Rattle.ring_meets.specs.Kept.{is_served_kept}
-use Rattle.ring_meets.proofs.NodesNow as now
-use Rattle.ring_meets.proofs.StepsNow.{steps_stay}
-use Rattle.ring_meets.proofs.SlotsNow.{slots_stay}
-use Rattle.ring_meets.proofs.SlotsGuards.{slots_lose_kept}
+use Rattle.ring_parts.specs.GuardsKept.{is_served_kept}
+use Rattle.ring_parts.proofs.NodesNow as now
+use Rattle.ring_parts.proofs.StepsNow.{steps_stay}
+use Rattle.ring_parts.proofs.SlotsNow.{slots_stay}
+use Rattle.ring_parts.proofs.SlotsGuards.{slots_lose_kept}
 use Rattle.ring_parts.specs.Kept.{Kept, Tells}
 use Rattle.ring_parts.proofs.Known.{reached_of}
 use Rattle.ring_parts.proofs.Hinted.{both_tell, keeps_tells}

@@ -20,16 +20,16 @@ use Rattle.ring_state.specs.declared.steps.StepNow.{StepNow}
 use Rattle.ring_model.specs.Shows.{ArePutsOf}
 use Rattle.ring_model.specs.Stored.{ShowAll}
 use Rattle.ring_model.proofs.Lasting.{all_stay}
-use Rattle.ring_meets.specs.NodesTold.{NodesTell}
-use Rattle.ring_meets.specs.Steps.{StepsMeet}
-use Rattle.ring_meets.specs.Slots.{SlotsMeet}
-use Rattle.ring_meets.specs.Puts.{clock_at}
-use Rattle.ring_meets.specs.PutsChange.{changes_puts}
-use Rattle.ring_meets.specs.GetsChange.{changes_gets}
-use Rattle.ring_meets.proofs.SlotsFit.{losses_stay}
-use Rattle.ring_meets.proofs.PutsFrames.{puts_stay}
-use Rattle.ring_meets.proofs.GetsFrames.{gets_stay}
-use Rattle.ring_meets.proofs.GetsTests.{reads_stay}
+use Rattle.ring_parts.specs.NodesTold.{NodesTell}
+use Rattle.ring_parts.specs.Steps.{StepsMeet}
+use Rattle.ring_parts.specs.Slots.{SlotsMeet}
+use Rattle.ring_parts.specs.Puts.{clock_at}
+use Rattle.ring_parts.specs.PutsChange.{changes_puts}
+use Rattle.ring_parts.specs.GetsChange.{changes_gets}
+use Rattle.ring_parts.proofs.SlotsFit.{losses_stay}
+use Rattle.ring_parts.proofs.PutsFrames.{puts_stay}
+use Rattle.ring_parts.proofs.GetsFrames.{gets_stay}
+use Rattle.ring_parts.proofs.GetsTests.{reads_stay}
 use Rattle.ring_parts.specs.Kept.{Kept, Tells}
 use Rattle.ring_parts.proofs.Known.{reached_of, run_on}
 use Rattle.ring_parts.proofs.HintsFit.{hints_stay}

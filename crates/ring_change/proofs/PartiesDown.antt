@@ -31,9 +31,9 @@ use Rattle.plan_check.proofs.Partakers.{own_count, owner_same}
 use Rattle.plan_check.proofs.Prefix.{order}
 use Rattle.ring_state.specs.declared.slots.SlotNow.{SlotNow}
 use Rattle.ring_state.specs.Nodes.{is_up_at}
-use Rattle.ring_meets.proofs.NodesNow.{nodes_meet}
-use Rattle.ring_meets.proofs.StageGuards.{parties_kept}
-use Rattle.ring_meets.proofs.StageSuits.{step_suiting}
+use Rattle.ring_parts.proofs.NodesNow.{nodes_meet}
+use Rattle.ring_parts.proofs.StageGuards.{parties_kept}
+use Rattle.ring_parts.proofs.StageSuits.{step_suiting}
 use Rattle.ring_parts.specs.Kept.{Kept, Tells}
 use Rattle.ring_parts.proofs.Known.{reached_of, suits_of}
 use Rattle.ring_change.specs.Parties.{owner_kept, mirror_kept, party_kept, lesser, with_down, least_down}

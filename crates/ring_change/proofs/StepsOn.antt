@@ -20,12 +20,12 @@ use Rattle.plan_check.specs.Effects.{changed, with_number, step_effect, effect}
 use Rattle.plan_check.proofs.Passed.{all_met}
 use Rattle.ring_state.specs.declared.nodes.NodeNow.{NodeNow}
 use Rattle.ring_state.specs.declared.slots.SlotNow.{SlotNow}
-use Rattle.ring_meets.specs.NodesTold.{NodesTell, step_leaves_nodes}
-use Rattle.ring_meets.specs.Slots.{SlotsMeet}
-use Rattle.ring_meets.specs.SlotsStepped.{StepsSlots, step_leaves_slots}
-use Rattle.ring_meets.proofs.NodesNow.{nodes_join, nodes_retire, nodes_stay_do}
-use Rattle.ring_meets.proofs.StepsNow.{steps_do}
-use Rattle.ring_meets.proofs.SlotsNow.{slots_do, slots_stay_do}
+use Rattle.ring_parts.specs.NodesTold.{NodesTell, step_leaves_nodes}
+use Rattle.ring_parts.specs.Slots.{SlotsMeet}
+use Rattle.ring_parts.specs.SlotsStepped.{StepsSlots, step_leaves_slots}
+use Rattle.ring_parts.proofs.NodesNow.{nodes_join, nodes_retire, nodes_stay_do}
+use Rattle.ring_parts.proofs.StepsNow.{steps_do}
+use Rattle.ring_parts.proofs.SlotsNow.{slots_do, slots_stay_do}
 use Rattle.ring_parts.specs.Kept.{Kept, Tells}
 use Rattle.ring_parts.proofs.Known.{reached_of, suits_of}
 use Rattle.ring_change.specs.Acts.{Forgets, Acts}

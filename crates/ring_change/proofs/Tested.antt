@@ -19,9 +19,9 @@ use Rattle.ring_state.specs.Nodes.{is_up_at}
 use Rattle.ring_state.specs.declared.steps.StepNow.{StepNow}
 use Rattle.ring_state.specs.Steps.{is_done_at, is_open_at, is_marked_at}
 use Rattle.ring_state.proofs.Counting.{count_most}
-use Rattle.ring_meets.specs.Kept.{down_guards_kept, up_guards_kept, lose_guards_kept, close_copy_guards_kept, abort_copy_guards_kept, is_ready_kept}
-use Rattle.ring_meets.proofs.NodesNow.{nodes_meet}
-use Rattle.ring_meets.proofs.StageGuards.{down_kept, up_kept, lose_kept, close_kept, abort_kept, ready_kept}
+use Rattle.ring_parts.specs.GuardsKept.{down_guards_kept, up_guards_kept, lose_guards_kept, close_copy_guards_kept, abort_copy_guards_kept, is_ready_kept}
+use Rattle.ring_parts.proofs.NodesNow.{nodes_meet}
+use Rattle.ring_parts.proofs.StageGuards.{down_kept, up_kept, lose_kept, close_kept, abort_kept, ready_kept}
 use Rattle.ring_parts.specs.declared.parts.Parts.{Parts}
 use Rattle.ring_parts.specs.Parts.{Meets, Tests, ring_of, plan_of, kept_of}
 use Rattle.ring_parts.proofs.Hinted.{both_tell, other_tells, any_tells}

@@ -6,7 +6,7 @@ use Rattle.plan_text.specs.declared.step.Step.{Step}
 use Rattle.plan_text.specs.declared.step.Step.TheVariants as step
 use Rattle.plan_text.specs.Steps.{is_slot}
 use Rattle.plan_check.specs.Effects.{changed}
-use Rattle.ring_meets.specs.SlotsStepped.{StepsSlots}
+use Rattle.ring_parts.specs.SlotsStepped.{StepsSlots}
 use Rattle.ring_parts.specs.Kept.{Kept}
 
 -- versions by node, slot and key: those that pass the test are gone, and all others are as before

@@ -4,7 +4,7 @@ use Rattle.ring_names.specs.declared.ids.Slot.{Slot}
 use Rattle.ring_versions.specs.declared.version.Version.{Version}
 use Rattle.ring_state.specs.declared.slots.SlotNow.{SlotNow}
 use Rattle.ring_state.specs.Slots.{slot_now}
-use Rattle.ring_meets.specs.Kept.{is_served_kept}
+use Rattle.ring_parts.specs.GuardsKept.{is_served_kept}
 
 -- of the next generation
 abbrev pub raised : SlotNow → SlotNow

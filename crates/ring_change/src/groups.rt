@@ -6,7 +6,7 @@ ghost use Rattle.plan_text.specs.Steps.{is_slot};
 ghost use Rattle.plan_text.specs.Valid.{is_ring_slot};
 ghost use Rattle.ring_hints.specs.Hints.{hinted_at};
 ghost use Rattle.ring_state.specs.Slots.{slot_now};
-ghost use Rattle.ring_meets.specs.Kept.{is_served_kept};
+ghost use Rattle.ring_parts.specs.GuardsKept.{is_served_kept};
 ghost use Rattle.ring_change.specs.Groups.{RaisesGroups};
 
 use ring_hints::Hints;

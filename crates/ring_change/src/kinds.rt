@@ -5,7 +5,7 @@ ghost use Rattle.std.specs.List.{list_all};
 ghost use Rattle.plan_text.specs.Steps.{copy_of};
 ghost use Rattle.plan_check.specs.Guards.{has_copy, has_other};
 ghost use Rattle.ring_state.specs.Steps.{is_done_at};
-ghost use Rattle.ring_meets.specs.Kept.{is_ready_kept};
+ghost use Rattle.ring_parts.specs.GuardsKept.{is_ready_kept};
 ghost use Rattle.ring_parts.specs.Parts.{plan_of};
 
 use plan_text::Step;

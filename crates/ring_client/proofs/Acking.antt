@@ -25,13 +25,13 @@ use Rattle.ring_model.specs.Stored.{ShowAll}
 use Rattle.ring_state.specs.declared.puts.PutNow.{PutNow}
 use Rattle.ring_state.specs.declared.slots.SlotNow.{SlotNow}
 use Rattle.ring_state.specs.Puts.{ticket_at}
-use Rattle.ring_meets.specs.Gets.{GetsMeet}
-use Rattle.ring_meets.specs.Puts.{clock_in, clock_at, PutMeets}
-use Rattle.ring_meets.specs.PutsTests.{is_acked_at, is_current_at, current_count}
-use Rattle.ring_meets.proofs.GetsFrames.{gets_stay}
-use Rattle.ring_meets.proofs.GetsGuards.{ack_tested}
-use Rattle.ring_meets.proofs.PutsChanges.{puts_acked}
-use Rattle.ring_meets.proofs.PutsTests.{both_puts, same_passing}
+use Rattle.ring_parts.specs.Gets.{GetsMeet}
+use Rattle.ring_parts.specs.Puts.{clock_in, clock_at, PutMeets}
+use Rattle.ring_parts.specs.PutsTests.{is_acked_at, is_current_at, current_count}
+use Rattle.ring_parts.proofs.GetsFrames.{gets_stay}
+use Rattle.ring_parts.proofs.GetsGuards.{ack_tested}
+use Rattle.ring_parts.proofs.PutsChanges.{puts_acked}
+use Rattle.ring_parts.proofs.PutsTests.{both_puts, same_passing}
 use Rattle.ring_parts.specs.Kept.{Kept, Tells}
 use Rattle.ring_parts.proofs.Known.{reached_of, slot_there}
 use Rattle.ring_client.specs.Acks.{generation_in, is_current_in}

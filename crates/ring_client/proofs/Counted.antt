@@ -19,9 +19,9 @@ use Rattle.ring_model.specs.Clocks.{AreClocksOf}
 use Rattle.ring_model.specs.Found.{IsJoinOfFound}
 use Rattle.ring_state.specs.declared.gets.GetNow.{GetNow}
 use Rattle.ring_state.specs.declared.puts.PutNow.{PutNow}
-use Rattle.ring_meets.specs.GetsChange.{found_at}
-use Rattle.ring_meets.specs.Puts.{clock_in, clock_at}
-use Rattle.ring_meets.proofs.GetsChanges.{kept_get}
+use Rattle.ring_parts.specs.GetsChange.{found_at}
+use Rattle.ring_parts.specs.Puts.{clock_in, clock_at}
+use Rattle.ring_parts.proofs.GetsChanges.{kept_get}
 use Rattle.ring_parts.specs.Kept.{Kept, Tells}
 use Rattle.ring_parts.proofs.Known.{reached_of}
 

@@ -16,11 +16,11 @@ use Rattle.plan_check.proofs.Answered.{allowed}
 use Rattle.plan_check.proofs.Passed.{all_met}
 use Rattle.ring_state.specs.declared.gets.GetNow.{GetNow}
 use Rattle.ring_state.specs.Gets.{is_read}
-use Rattle.ring_meets.specs.Puts.{clock_at}
-use Rattle.ring_meets.proofs.GetsChanges.{gets_started, gets_answered, gets_ended}
-use Rattle.ring_meets.proofs.GetsGuards.{end_get_tested}
-use Rattle.ring_meets.proofs.PutsFrames.{puts_stay}
-use Rattle.ring_meets.proofs.PutsLists.{there}
+use Rattle.ring_parts.specs.Puts.{clock_at}
+use Rattle.ring_parts.proofs.GetsChanges.{gets_started, gets_answered, gets_ended}
+use Rattle.ring_parts.proofs.GetsGuards.{end_get_tested}
+use Rattle.ring_parts.proofs.PutsFrames.{puts_stay}
+use Rattle.ring_parts.proofs.PutsLists.{there}
 use Rattle.ring_parts.specs.Kept.{Kept, Tells}
 use Rattle.ring_parts.proofs.Known.{reached_of}
 use Rattle.ring_client.specs.Gets.{end_guards_kept}

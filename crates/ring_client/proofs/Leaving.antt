@@ -17,20 +17,20 @@ use Rattle.ring_model.specs.Stored.{ShowAll}
 use Rattle.ring_model.proofs.Lasting.{all_stay}
 use Rattle.ring_state.specs.declared.gets.GetNow.{GetNow}
 use Rattle.ring_state.specs.declared.puts.PutNow.{PutNow}
-use Rattle.ring_meets.specs.Gets.{GetsMeet}
-use Rattle.ring_meets.specs.NodesTold.{NodesTell, leaves_nodes}
-use Rattle.ring_meets.specs.Puts.{PutsMeet, clock_at}
-use Rattle.ring_meets.specs.PutsChange.{AreNumbered, NoneBehind}
-use Rattle.ring_meets.specs.Slots.{SlotsMeet}
-use Rattle.ring_meets.specs.SlotsLost.{LossesFit}
-use Rattle.ring_meets.specs.SlotsStepped.{leaves_slots}
-use Rattle.ring_meets.specs.Steps.{StepsMeet}
-use Rattle.ring_meets.specs.StepsLeft.{leaves_steps}
-use Rattle.ring_meets.proofs.GetsTests.{reads_stay}
-use Rattle.ring_meets.proofs.NodesNow.{nodes_stay}
-use Rattle.ring_meets.proofs.SlotsFit.{losses_stay}
-use Rattle.ring_meets.proofs.SlotsNow.{slots_stay}
-use Rattle.ring_meets.proofs.StepsNow.{steps_stay}
+use Rattle.ring_parts.specs.Gets.{GetsMeet}
+use Rattle.ring_parts.specs.NodesTold.{NodesTell, leaves_nodes}
+use Rattle.ring_parts.specs.Puts.{PutsMeet, clock_at}
+use Rattle.ring_parts.specs.PutsChange.{AreNumbered, NoneBehind}
+use Rattle.ring_parts.specs.Slots.{SlotsMeet}
+use Rattle.ring_parts.specs.SlotsLost.{LossesFit}
+use Rattle.ring_parts.specs.SlotsStepped.{leaves_slots}
+use Rattle.ring_parts.specs.Steps.{StepsMeet}
+use Rattle.ring_parts.specs.StepsLeft.{leaves_steps}
+use Rattle.ring_parts.proofs.GetsTests.{reads_stay}
+use Rattle.ring_parts.proofs.NodesNow.{nodes_stay}
+use Rattle.ring_parts.proofs.SlotsFit.{losses_stay}
+use Rattle.ring_parts.proofs.SlotsNow.{slots_stay}
+use Rattle.ring_parts.proofs.StepsNow.{steps_stay}
 use Rattle.ring_parts.specs.HintsFit.{KeysFit}
 use Rattle.ring_parts.specs.Kept.{Kept, Tells}
 use Rattle.ring_parts.proofs.HintsFit.{hints_stay}

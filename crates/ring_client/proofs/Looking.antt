@@ -27,9 +27,9 @@ use Rattle.ring_model.proofs.Showing.{with_none}
 use Rattle.ring_state.specs.declared.gets.GetNow.{GetNow}
 use Rattle.ring_state.specs.declared.slots.SlotNow.{SlotNow}
 use Rattle.ring_state.specs.Slots.{slot_now}
-use Rattle.ring_meets.specs.Puts.{clock_at}
-use Rattle.ring_meets.proofs.GetsChanges.{kept_get}
-use Rattle.ring_meets.proofs.PutsLists.{there}
+use Rattle.ring_parts.specs.Puts.{clock_at}
+use Rattle.ring_parts.proofs.GetsChanges.{kept_get}
+use Rattle.ring_parts.proofs.PutsLists.{there}
 use Rattle.ring_parts.specs.Kept.{Kept, Tells}
 use Rattle.ring_parts.proofs.Known.{slot_there}
 use Rattle.ring_client.specs.Keepers.{MergesOthers}

@@ -22,10 +22,10 @@ use Rattle.plan_check.proofs.Answered.{allowed}
 use Rattle.ring_model.specs.Clocks.{IsInputOf}
 use Rattle.ring_clock.specs.Built.{IsNext}
 use Rattle.ring_state.specs.declared.puts.PutNow.{PutNow}
-use Rattle.ring_meets.specs.Puts.{clock_at}
-use Rattle.ring_meets.proofs.GetsGuards.{start_put_tested}
-use Rattle.ring_meets.proofs.GetsTests.{none_of_key}
-use Rattle.ring_meets.proofs.PutsStarts.{inputs_join, none_behind_set, puts_started, put_numbered, gets_with_put, stored_with_put}
+use Rattle.ring_parts.specs.Puts.{clock_at}
+use Rattle.ring_parts.proofs.GetsGuards.{start_put_tested}
+use Rattle.ring_parts.proofs.GetsTests.{none_of_key}
+use Rattle.ring_parts.proofs.PutsStarts.{inputs_join, none_behind_set, puts_started, put_numbered, gets_with_put, stored_with_put}
 use Rattle.ring_parts.specs.Kept.{Kept, Tells}
 use Rattle.ring_parts.proofs.Known.{reached_of}
 use Rattle.ring_client.specs.Puts.{IsNewPut, seen_guards_kept}

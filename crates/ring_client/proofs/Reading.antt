@@ -32,11 +32,11 @@ use Rattle.ring_state.specs.Gets.{is_read, is_read_at}
 use Rattle.ring_state.specs.Marks.{with_mark}
 use Rattle.ring_state.specs.Nodes.{is_up_at}
 use Rattle.ring_state.specs.Slots.{slot_now}
-use Rattle.ring_meets.specs.GetsTests.{has_get, has_ended_at}
-use Rattle.ring_meets.specs.Puts.{clock_at}
-use Rattle.ring_meets.proofs.GetsChanges.{gets_read}
-use Rattle.ring_meets.proofs.GetsGuards.{read_tested}
-use Rattle.ring_meets.proofs.PutsFrames.{puts_stay}
+use Rattle.ring_parts.specs.GetsTests.{has_get, has_ended_at}
+use Rattle.ring_parts.specs.Puts.{clock_at}
+use Rattle.ring_parts.proofs.GetsChanges.{gets_read}
+use Rattle.ring_parts.proofs.GetsGuards.{read_tested}
+use Rattle.ring_parts.proofs.PutsFrames.{puts_stay}
 use Rattle.ring_parts.specs.Kept.{Kept, Tells}
 use Rattle.ring_parts.proofs.Hinted.{keeps_key}
 use Rattle.ring_parts.proofs.Known.{reached_of, slot_there}

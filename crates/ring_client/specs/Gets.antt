@@ -3,7 +3,7 @@ use Rattle.std.specs.Prelude.{ℕ, not, nat_lt, nat_le, List, [], ◌∷◌, len
 use Rattle.ring_names.specs.declared.refusal.Refusal.TheVariants.{UnknownNumber, AlreadyDone, TooFewSlots}
 use Rattle.plan_stage.specs.Clauses.{Guard}
 use Rattle.ring_state.specs.declared.gets.GetNow.{GetNow}
-use Rattle.ring_meets.specs.GetsTests.{has_ended_at, read_count}
+use Rattle.ring_parts.specs.GetsTests.{has_ended_at, read_count}
 
 -- the get has not ended and has read so many slots
 abbrev pub end_guards_kept : List GetNow → ℕ → ℕ → List Guard

@@ -12,7 +12,7 @@ use Rattle.ring_model.specs.Gets.{can_find}
 use Rattle.ring_state.specs.declared.gets.GetNow.{GetNow}
 use Rattle.ring_state.specs.declared.slots.SlotNow.{SlotNow}
 use Rattle.ring_state.specs.Slots.{slot_now}
-use Rattle.ring_meets.specs.Puts.{clock_at}
+use Rattle.ring_parts.specs.Puts.{clock_at}
 use Rattle.ring_parts.specs.Kept.{Kept}
 
 -- what the owner of the slot stores of the key, nothing where the ring does not have the slot

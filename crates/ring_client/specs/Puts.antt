@@ -7,9 +7,9 @@ use Rattle.plan_stage.specs.Clauses.{Guard}
 use Rattle.ring_state.specs.declared.gets.GetNow.{GetNow}
 use Rattle.ring_state.specs.declared.puts.PutNow.{PutNow}
 use Rattle.ring_state.specs.Puts.{ticket_at}
-use Rattle.ring_meets.specs.Puts.{clock_at}
-use Rattle.ring_meets.specs.GetsChange.{found_at}
-use Rattle.ring_meets.specs.GetsTests.{is_of_number, has_ended_at}
+use Rattle.ring_parts.specs.Puts.{clock_at}
+use Rattle.ring_parts.specs.GetsChange.{found_at}
+use Rattle.ring_parts.specs.GetsTests.{is_of_number, has_ended_at}
 use Rattle.ring_client.specs.Clocks.{IsNextOfFound}
 
 -- the gets that are named are of the key of that number, and have ended

@@ -5,8 +5,8 @@ ghost use Rattle.ring_names.specs.declared.refusal.Refusal.TheVariants.{OutOfMem
 ghost use Rattle.ring_clock.specs.declared.entry.Entry.{Entry as TheEntry};
 ghost use Rattle.ring_clock.specs.Clock.{counter};
 ghost use Rattle.ring_model.specs.Found.{IsJoinOfFound};
-ghost use Rattle.ring_meets.specs.Puts.{clock_at};
-ghost use Rattle.ring_meets.specs.GetsChange.{found_at};
+ghost use Rattle.ring_parts.specs.Puts.{clock_at};
+ghost use Rattle.ring_parts.specs.GetsChange.{found_at};
 ghost use Rattle.ring_client.specs.Clocks.{RaisesTo, IsClockIn, IsFoundClock, IsNextOfFound};
 
 use ring_clock::Clock;

@@ -9,9 +9,9 @@ ghost use Rattle.plan_stage.specs.Clauses.{first_failing};
 ghost use Rattle.plan_check.specs.declared.event.Event.TheVariants.{StartPut};
 ghost use Rattle.ring_state.specs.Lasts.{last_of};
 ghost use Rattle.ring_model.specs.Found.{IsJoinOfFound};
-ghost use Rattle.ring_meets.specs.Puts.{clock_at};
-ghost use Rattle.ring_meets.specs.GetsChange.{found_at};
-ghost use Rattle.ring_meets.specs.GetsTests.{is_of_number, has_ended_at};
+ghost use Rattle.ring_parts.specs.Puts.{clock_at};
+ghost use Rattle.ring_parts.specs.GetsChange.{found_at};
+ghost use Rattle.ring_parts.specs.GetsTests.{is_of_number, has_ended_at};
 ghost use Rattle.ring_parts.specs.Parts.{IsSound, Follows, Tests, Answers, Passes, Stays};
 ghost use Rattle.ring_client.specs.Puts.{IsNewPut, seen_guards_kept};
 

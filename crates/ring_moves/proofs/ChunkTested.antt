@@ -21,7 +21,7 @@ use Rattle.plan_check.specs.World.{World, some_below, slot_at}
 use Rattle.plan_check.proofs.Passing.{some_found}
 use Rattle.ring_state.specs.Nodes.{is_up_at}
 use Rattle.ring_state.specs.Steps.{is_open_at, is_marked_at}
-use Rattle.ring_meets.proofs.NodesNow.{nodes_meet}
+use Rattle.ring_parts.proofs.NodesNow.{nodes_meet}
 use Rattle.ring_parts.specs.Parts.{ring_of, plan_of, kept_of, Meets, Tests}
 use Rattle.ring_parts.specs.declared.parts.Parts.{Parts}
 use Rattle.ring_parts.proofs.Declared.{keeper_within}

@@ -47,12 +47,12 @@ use Rattle.ring_model.specs.Shows.{Shows}
 use Rattle.ring_model.specs.Stored.{ShowAll, MergeAll, at_mirror, copied}
 use Rattle.ring_model.proofs.Coming.{copied_more}
 use Rattle.ring_model.proofs.Showing.{none, other_test, with_none}
-use Rattle.ring_meets.specs.Puts.{clock_at}
-use Rattle.ring_meets.proofs.NodesDone.{alike}
-use Rattle.ring_meets.proofs.PutsFrames.{puts_stay}
-use Rattle.ring_meets.proofs.SlotsFit.{kept_is}
-use Rattle.ring_meets.proofs.StageSuits.{step_suiting}
-use Rattle.ring_meets.proofs.StepsNow.{steps_mark}
+use Rattle.ring_parts.specs.Puts.{clock_at}
+use Rattle.ring_parts.proofs.NodesDone.{alike}
+use Rattle.ring_parts.proofs.PutsFrames.{puts_stay}
+use Rattle.ring_parts.proofs.SlotsFit.{kept_is}
+use Rattle.ring_parts.proofs.StageSuits.{step_suiting}
+use Rattle.ring_parts.proofs.StepsNow.{steps_mark}
 use Rattle.ring_parts.specs.Kept.{Kept, Tells}
 use Rattle.ring_parts.specs.Parts.{ring_of, plan_of, kept_of, IsSound, Passes}
 use Rattle.ring_parts.specs.declared.parts.Parts.{Parts}

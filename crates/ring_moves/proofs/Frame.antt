@@ -22,17 +22,17 @@ use Rattle.ring_model.specs.Shows.{ArePutsOf}
 use Rattle.ring_model.specs.Stored.{ShowAll, MergeAll}
 use Rattle.ring_model.proofs.Coming.{grown}
 use Rattle.ring_model.proofs.Lasting.{all_stay}
-use Rattle.ring_meets.specs.GetsChange.{changes_gets}
-use Rattle.ring_meets.specs.Gets.{GetsMeet}
-use Rattle.ring_meets.specs.NodesTold.{leaves_nodes}
-use Rattle.ring_meets.specs.Puts.{clock_at, PutsMeet}
-use Rattle.ring_meets.specs.SlotsStepped.{leaves_slots}
-use Rattle.ring_meets.specs.Steps.{StepsMeet}
-use Rattle.ring_meets.proofs.GetsFrames.{gets_stay}
-use Rattle.ring_meets.proofs.GetsTests.{reads_stay}
-use Rattle.ring_meets.proofs.NodesNow.{nodes_stay}
-use Rattle.ring_meets.proofs.SlotsFit.{losses_stay}
-use Rattle.ring_meets.proofs.SlotsNow.{slots_stay}
+use Rattle.ring_parts.specs.GetsChange.{changes_gets}
+use Rattle.ring_parts.specs.Gets.{GetsMeet}
+use Rattle.ring_parts.specs.NodesTold.{leaves_nodes}
+use Rattle.ring_parts.specs.Puts.{clock_at, PutsMeet}
+use Rattle.ring_parts.specs.SlotsStepped.{leaves_slots}
+use Rattle.ring_parts.specs.Steps.{StepsMeet}
+use Rattle.ring_parts.proofs.GetsFrames.{gets_stay}
+use Rattle.ring_parts.proofs.GetsTests.{reads_stay}
+use Rattle.ring_parts.proofs.NodesNow.{nodes_stay}
+use Rattle.ring_parts.proofs.SlotsFit.{losses_stay}
+use Rattle.ring_parts.proofs.SlotsNow.{slots_stay}
 use Rattle.ring_parts.specs.Kept.{Kept, Tells}
 use Rattle.ring_parts.proofs.HintsFit.{hints_stay}
 use Rattle.ring_parts.proofs.Known.{reached_of, run_on}

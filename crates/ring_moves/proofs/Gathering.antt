@@ -27,9 +27,9 @@ use Rattle.ring_state.specs.declared.slots.SlotNow.{SlotNow}
 use Rattle.ring_state.specs.Slots.{slot_now}
 use Rattle.ring_model.specs.Shows.{Shows}
 use Rattle.ring_model.proofs.Showing.{merge, none, with_none, other_test}
-use Rattle.ring_meets.specs.Puts.{clock_at}
-use Rattle.ring_meets.proofs.NodesDone.{alike}
-use Rattle.ring_meets.proofs.SlotsFit.{kept_is}
+use Rattle.ring_parts.specs.Puts.{clock_at}
+use Rattle.ring_parts.proofs.NodesDone.{alike}
+use Rattle.ring_parts.proofs.SlotsFit.{kept_is}
 use Rattle.ring_parts.specs.Kept.{Kept, Tells}
 use Rattle.ring_parts.specs.Parts.{ring_of, plan_of, Meets}
 use Rattle.ring_parts.specs.declared.parts.Parts.{Parts}

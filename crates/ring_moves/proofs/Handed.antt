@@ -29,11 +29,11 @@ use Rattle.ring_model.specs.Shows.{Shows}
 use Rattle.ring_model.specs.Stored.{at_mirror}
 use Rattle.ring_model.specs.Stored as stored
 use Rattle.ring_model.proofs.Coming.{served_more}
-use Rattle.ring_meets.specs.Puts.{clock_at}
-use Rattle.ring_meets.specs.Slots.{IsNow}
-use Rattle.ring_meets.proofs.PutsFrames.{puts_stay}
-use Rattle.ring_meets.proofs.SlotsFit.{kept_is}
-use Rattle.ring_meets.proofs.StepsNow.{steps_stay}
+use Rattle.ring_parts.specs.Puts.{clock_at}
+use Rattle.ring_parts.specs.Slots.{IsNow}
+use Rattle.ring_parts.proofs.PutsFrames.{puts_stay}
+use Rattle.ring_parts.proofs.SlotsFit.{kept_is}
+use Rattle.ring_parts.proofs.StepsNow.{steps_stay}
 use Rattle.ring_parts.specs.Kept.{Kept, Tells}
 use Rattle.ring_parts.proofs.Hinted.{keeps_tells}
 use Rattle.ring_parts.proofs.Known.{reached_of}

@@ -26,11 +26,11 @@ use Rattle.ring_state.specs.declared.puts.PutNow.{PutNow}
 use Rattle.ring_state.specs.declared.slots.SlotNow.{SlotNow}
 use Rattle.ring_state.specs.Slots.{slot_now}
 use Rattle.ring_model.specs.Stored as stored
-use Rattle.ring_meets.specs.Puts.{clock_at}
-use Rattle.ring_meets.specs.Slots.{IsNow}
-use Rattle.ring_meets.proofs.PutsChanges.{puts_hinted}
-use Rattle.ring_meets.proofs.SlotsFit.{kept_is}
-use Rattle.ring_meets.proofs.StepsNow.{steps_stay}
+use Rattle.ring_parts.specs.Puts.{clock_at}
+use Rattle.ring_parts.specs.Slots.{IsNow}
+use Rattle.ring_parts.proofs.PutsChanges.{puts_hinted}
+use Rattle.ring_parts.proofs.SlotsFit.{kept_is}
+use Rattle.ring_parts.proofs.StepsNow.{steps_stay}
 use Rattle.ring_parts.specs.Kept.{Kept, Tells}
 use Rattle.ring_parts.proofs.Known.{reached_of}
 use Rattle.ring_moves.proofs.Frame.{comes, lasts, goes_on}

@@ -23,7 +23,7 @@ use Rattle.plan_check.specs.Versions.{is_in_chunk}
 use Rattle.plan_check.specs.World.{World, some_below, passing_below, slot_at}
 use Rattle.plan_check.proofs.Passing.{below_is, is_below, passing_ascend, ascending_rest, first_least}
 use Rattle.ring_state.specs.Nodes.{is_up_at}
-use Rattle.ring_meets.proofs.NodesDone.{alike}
+use Rattle.ring_parts.proofs.NodesDone.{alike}
 use Rattle.ring_parts.specs.Kept.{Kept, Tells}
 use Rattle.ring_parts.specs.Parts.{ring_of, Meets}
 use Rattle.ring_parts.specs.declared.parts.Parts.{Parts}

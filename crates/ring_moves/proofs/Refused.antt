@@ -14,9 +14,9 @@ use Rattle.plan_check.specs.World.{World, keeps, keeps_other}
 use Rattle.plan_check.specs.Guards.{guards, put_exists, serves_in}
 use Rattle.plan_check.specs.Versions.{put_slot}
 use Rattle.ring_state.specs.Nodes.{is_up_at, is_member_at}
-use Rattle.ring_meets.specs.Kept.{serves_in_kept, served_up_kept}
-use Rattle.ring_meets.proofs.NodesNow.{nodes_meet}
-use Rattle.ring_meets.proofs.SlotsGuards.{serves_kept, hint_kept, handoff_kept}
+use Rattle.ring_parts.specs.GuardsKept.{serves_in_kept, served_up_kept}
+use Rattle.ring_parts.proofs.NodesNow.{nodes_meet}
+use Rattle.ring_parts.proofs.SlotsGuards.{serves_kept, hint_kept, handoff_kept}
 use Rattle.ring_parts.specs.Kept.{Kept, Tells}
 
 -- a test that fails is the first that does, where it comes first

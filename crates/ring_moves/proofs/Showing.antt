@@ -15,7 +15,7 @@ use Rattle.ring_maps.specs.Merges.{at_key}
 use Rattle.ring_store.specs.Nodes.{at_nodes, at_node}
 use Rattle.ring_store.specs.Slots.{at_slot}
 use Rattle.ring_hints.specs.Views.{is_of, pair_of}
-use Rattle.ring_meets.proofs.NodesDone.{alike}
+use Rattle.ring_parts.proofs.NodesDone.{alike}
 use Rattle.ring_model.specs.Shows.{Shows}
 use Rattle.ring_model.specs.Stored.{ShowAll, at_mirror}
 use Rattle.ring_model.specs.Stored as stored

@@ -19,7 +19,7 @@ use Rattle.plan_check.specs.Versions.{put_slot}
 use Rattle.ring_state.specs.declared.puts.PutNow.{PutNow}
 use Rattle.ring_state.specs.declared.slots.SlotNow.{SlotNow}
 use Rattle.ring_state.specs.Slots.{slot_now}
-use Rattle.ring_meets.proofs.PutsTests.{both_puts, same_has_put}
+use Rattle.ring_parts.proofs.PutsTests.{both_puts, same_has_put}
 use Rattle.ring_parts.specs.Kept.{Kept, Tells}
 use Rattle.ring_parts.proofs.Known.{slot_there, mirror_within, mirror_apart}
 

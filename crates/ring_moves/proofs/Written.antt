@@ -31,12 +31,12 @@ use Rattle.ring_model.specs.Shows.{Shows}
 use Rattle.ring_model.specs.Stored.{at_mirror, at_served}
 use Rattle.ring_model.specs.Stored as stored
 use Rattle.ring_model.proofs.Coming.{served_more}
-use Rattle.ring_meets.specs.Puts.{clock_in, clock_at, PutMeets}
-use Rattle.ring_meets.specs.Slots.{IsNow}
-use Rattle.ring_meets.proofs.PutsChanges.{puts_written}
-use Rattle.ring_meets.proofs.PutsTests.{both_puts}
-use Rattle.ring_meets.proofs.SlotsFit.{kept_is}
-use Rattle.ring_meets.proofs.StepsNow.{steps_stay}
+use Rattle.ring_parts.specs.Puts.{clock_in, clock_at, PutMeets}
+use Rattle.ring_parts.specs.Slots.{IsNow}
+use Rattle.ring_parts.proofs.PutsChanges.{puts_written}
+use Rattle.ring_parts.proofs.PutsTests.{both_puts}
+use Rattle.ring_parts.proofs.SlotsFit.{kept_is}
+use Rattle.ring_parts.proofs.StepsNow.{steps_stay}
 use Rattle.ring_parts.specs.Kept.{Kept, Tells}
 use Rattle.ring_parts.proofs.Known.{reached_of}
 use Rattle.ring_moves.proofs.Frame.{comes, lasts, goes_on}

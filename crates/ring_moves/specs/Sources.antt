@@ -9,7 +9,7 @@ use Rattle.plan_text.specs.declared.step.Source.TheVariants.{Owner, Slots}
 use Rattle.ring_names.specs.declared.ids.Slot.{Slot}
 use Rattle.plan_check.specs.World.{World, is_of_key, slot_at}
 use Rattle.ring_model.specs.Shows.{Shows}
-use Rattle.ring_meets.specs.Puts.{clock_at}
+use Rattle.ring_parts.specs.Puts.{clock_at}
 use Rattle.ring_state.specs.declared.slots.SlotNow.{SlotNow}
 use Rattle.ring_state.specs.Slots.{slot_now}
 use Rattle.ring_parts.specs.Parts.{ring_of, Meets}

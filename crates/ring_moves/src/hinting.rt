@@ -3,7 +3,7 @@
 ghost use Rattle.std.specs.Prelude.{◌≡◌, IfOk, IfErr, OnErr};
 ghost use Rattle.ring_names.specs.declared.refusal.Refusal.TheVariants.{OutOfMemory};
 ghost use Rattle.plan_check.specs.declared.event.Event.TheVariants.{Hint};
-ghost use Rattle.ring_meets.specs.Kept.{is_served_kept, serves_in_kept};
+ghost use Rattle.ring_parts.specs.GuardsKept.{is_served_kept, serves_in_kept};
 ghost use Rattle.ring_parts.specs.Parts.{ring_of, IsSound, Follows, Tests, Passes, Answers, Stays};
 
 use crate::targets::put_slot;

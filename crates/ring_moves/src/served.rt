@@ -2,7 +2,7 @@
 
 ghost use Rattle.std.specs.Prelude.{◌≡◌};
 ghost use Rattle.plan_stage.specs.Clauses.{first_failing};
-ghost use Rattle.ring_meets.specs.Kept.{served_up_kept};
+ghost use Rattle.ring_parts.specs.GuardsKept.{served_up_kept};
 
 use ring_names::{Refusal, Slot};
 use ring_parts::Parts;

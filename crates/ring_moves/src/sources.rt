@@ -7,7 +7,7 @@ ghost use Rattle.ring_maps.specs.Chunks.{chunk_of};
 ghost use Rattle.ring_maps.specs.Held.{held, has_place};
 ghost use Rattle.ring_maps.specs.Merges.{MergesAll};
 ghost use Rattle.ring_maps.specs.Slots.{space_of, held_for};
-ghost use Rattle.ring_meets.specs.Puts.{clock_at};
+ghost use Rattle.ring_parts.specs.Puts.{clock_at};
 ghost use Rattle.plan_check.specs.Effects.{source_has};
 ghost use Rattle.plan_check.specs.Versions.{some_hinted, slot_has};
 ghost use Rattle.plan_check.specs.World.{World, slot_at, stage_now};

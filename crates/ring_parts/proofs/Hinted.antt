@@ -17,8 +17,8 @@ use Rattle.plan_check.specs.Versions.{is_in_chunk}
 use Rattle.plan_check.specs.World.{World, some_below, key_of_put, is_of_key, slot_at, keeps, keeps_other, keeps_any}
 use Rattle.plan_check.proofs.Passing.{some_found, some_is}
 use Rattle.ring_maps.specs.Chunks.{chunk_of}
-use Rattle.ring_meets.specs.Puts.{clock_at}
-use Rattle.ring_meets.proofs.PutsFrames.{put_key}
+use Rattle.ring_parts.specs.Puts.{clock_at}
+use Rattle.ring_parts.proofs.PutsFrames.{put_key}
 use Rattle.ring_parts.specs.Kept.{Kept, Tells}
 use Rattle.ring_parts.proofs.Known.{reached_of}
 

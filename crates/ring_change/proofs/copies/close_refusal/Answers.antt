@@ -1,6 +1,6 @@
 use Rattle.std.proofs.Common.{◌≡◌, ◌∙◌, ◌-◌, ℕ, true, false, sym, ap, refl, eq-eqb, ne_eqb}
 use Rattle.std.specs.Prelude.{◌==◌}
-use Rattle.ring_meets.specs.Kept.{chunks_left_kept}
+use Rattle.ring_parts.specs.GuardsKept.{chunks_left_kept}
 use Rattle.ring_change.proofs.Tested.{close_tested, marked_most}
 use Rattle.ring_change.proofs.copies.close_refusal.Goals as goal
 

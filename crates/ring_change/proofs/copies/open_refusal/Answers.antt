@@ -2,7 +2,7 @@ use Rattle.std.proofs.Common.{◌∙◌, sym}
 use Rattle.plan_stage.proofs.Truth.{first_of_two, second_of_two}
 use Rattle.plan_check.proofs.Passed.{ready}
 use Rattle.ring_state.specs.Steps.{is_done_at, is_open_at}
-use Rattle.ring_meets.proofs.StageGuards.{ready_kept}
+use Rattle.ring_parts.proofs.StageGuards.{ready_kept}
 use Rattle.ring_parts.specs.Parts.{plan_of}
 use Rattle.ring_change.proofs.Assured.{copy_there}
 use Rattle.ring_change.proofs.Tested.{open_unknown, open_done, open_unready, open_ready, neither}

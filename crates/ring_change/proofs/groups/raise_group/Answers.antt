@@ -1,7 +1,7 @@
 use Rattle.std.proofs.Common.{◌∙◌, sym, refl}
 use Rattle.plan_stage.proofs.Truth.{first_of_two, second_of_two}
 use Rattle.ring_hints.specs.Hints.{hinted_at}
-use Rattle.ring_meets.specs.Kept.{is_served_kept}
+use Rattle.ring_parts.specs.GuardsKept.{is_served_kept}
 use Rattle.ring_change.proofs.GroupsRaised.{group_raised, group_left}
 use Rattle.ring_change.proofs.groups.raise_group.Goals.{then-keeps-via-then-keeps, then-keeps-via-else-keeps+then-is_served}
 use Rattle.ring_change.proofs.groups.raise_group.Goals as goal

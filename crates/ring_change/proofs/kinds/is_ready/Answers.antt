@@ -1,6 +1,6 @@
 use Rattle.std.proofs.Common.{◌≡◌, ◌∙◌, List, subst}
 use Rattle.plan_text.specs.declared.step.Planned.{Planned}
-use Rattle.ring_meets.specs.Kept.{is_ready_kept}
+use Rattle.ring_parts.specs.GuardsKept.{is_ready_kept}
 use Rattle.ring_change.proofs.Tested.{ready_is}
 use Rattle.ring_change.proofs.kinds.is_ready.Goals as goal
 

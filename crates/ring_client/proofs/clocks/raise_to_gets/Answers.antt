@@ -1,4 +1,4 @@
-use Rattle.ring_meets.specs.GetsChange.{found_at}
+use Rattle.ring_parts.specs.GetsChange.{found_at}
 use Rattle.ring_client.specs.Clocks.{IsFoundClock}
 use Rattle.ring_client.proofs.Raising.{raised_none, raised_all, none_found, get_raised}
 use Rattle.ring_client.proofs.clocks.raise_to_gets.Goals as goal

@@ -1,5 +1,5 @@
 use Rattle.std.proofs.Common.{length}
-use Rattle.ring_meets.specs.GetsChange.{found_at}
+use Rattle.ring_parts.specs.GetsChange.{found_at}
 use Rattle.ring_client.specs.Clocks.{IsFoundClock}
 use Rattle.ring_client.proofs.Raising.{RaisedBut}
 use Rattle.ring_client.proofs.clocks.raise_to_gets.Given as goal

@@ -1,7 +1,7 @@
 use Rattle.std.proofs.Common.{◌∙◌, ◌<◌, sym, ap, subst}
 use Rattle.plan_check.specs.World.{slot_at}
 use Rattle.plan_check.proofs.Passing.{some_is}
-use Rattle.ring_meets.specs.Kept.{is_served_kept}
+use Rattle.ring_parts.specs.GuardsKept.{is_served_kept}
 use Rattle.ring_parts.specs.Parts.{ring_of}
 use Rattle.ring_moves.proofs.hinting.serves_in.Goals as goal
 

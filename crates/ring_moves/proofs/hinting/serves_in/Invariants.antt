@@ -1,6 +1,6 @@
 use Rattle.std.proofs.Common.{◌≡◌, false}
 use Rattle.plan_check.specs.World.{some_below, slot_at}
-use Rattle.ring_meets.specs.Kept.{is_served_kept}
+use Rattle.ring_parts.specs.GuardsKept.{is_served_kept}
 use Rattle.ring_moves.proofs.hinting.serves_in.Given as goal
 
 abbrev pub invariant-indexes : goal.invariant-indexes

@@ -3,7 +3,7 @@ use Rattle.ring_maps.specs.Slots.{held_for}
 use Rattle.plan_text.specs.declared.step.Source.{Source}
 use Rattle.plan_check.specs.Effects.{source_has}
 use Rattle.plan_check.specs.World.{World, stage_now}
-use Rattle.ring_meets.specs.Puts.{clock_at}
+use Rattle.ring_parts.specs.Puts.{clock_at}
 use Rattle.ring_parts.specs.Parts.{ring_of, plan_of, Meets}
 use Rattle.ring_moves.specs.Sources.{ShowsChunk}
 use Rattle.ring_moves.proofs.Gathering.{from_nothing, from_slots}

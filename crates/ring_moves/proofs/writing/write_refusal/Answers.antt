@@ -1,7 +1,7 @@
 use Rattle.std.proofs.Common.{◌∙◌, true, false, sym}
 use Rattle.plan_check.specs.World.{slot_at}
-use Rattle.ring_meets.proofs.NodesNow.{nodes_meet}
-use Rattle.ring_meets.proofs.SlotsGuards.{write_kept}
+use Rattle.ring_parts.proofs.NodesNow.{nodes_meet}
+use Rattle.ring_parts.proofs.SlotsGuards.{write_kept}
 use Rattle.ring_parts.specs.Parts.{ring_of, plan_of}
 use Rattle.ring_moves.proofs.writing.write_refusal.Goals as goal
 

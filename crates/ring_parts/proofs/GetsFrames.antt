@@ -21,9 +21,9 @@ use Rattle.ring_model.specs.Shows.{Shows}
 use Rattle.ring_model.specs.Gets.{found_by}
 use Rattle.ring_model.proofs.Showing.{other_clock}
 use Rattle.ring_state.specs.declared.gets.GetNow.{GetNow}
-use Rattle.ring_meets.specs.Gets.{GetsMeet}
-use Rattle.ring_meets.specs.GetsChange.{changes_gets}
-use Rattle.ring_meets.proofs.PutsLists.{stays_there}
+use Rattle.ring_parts.specs.Gets.{GetsMeet}
+use Rattle.ring_parts.specs.GetsChange.{changes_gets}
+use Rattle.ring_parts.proofs.PutsLists.{stays_there}
 
 -- no gets are those of the world at the start
 pub gets_open : (ring : RingValue) (clock : ℕ → List Entry) (keys : List (List ℕ)) → GetsMeet ring clock keys [] (opening_world ring)

@@ -22,10 +22,10 @@ use Rattle.ring_state.specs.declared.nodes.NodeNow.{NodeNow}
 use Rattle.ring_state.specs.declared.steps.StepNow.{StepNow}
 use Rattle.ring_state.specs.Nodes.{is_up_at}
 use Rattle.ring_state.specs.Steps.{is_done_at, is_open_at, is_marked_at}
-use Rattle.ring_meets.specs.Nodes.{NodesMeet}
-use Rattle.ring_meets.specs.Steps.{StepsMeet}
-use Rattle.ring_meets.specs.Kept.{down_guards_kept, up_guards_kept, lose_guards_kept}
-use Rattle.ring_meets.specs.Kept.{is_ready_kept, step_guards_kept, do_guards_kept, parties_up_kept, keepers_up_kept, chunks_left_kept, open_copy_guards_kept, chunk_copy_guards_kept, close_copy_guards_kept, abort_copy_guards_kept}
+use Rattle.ring_parts.specs.Nodes.{NodesMeet}
+use Rattle.ring_parts.specs.Steps.{StepsMeet}
+use Rattle.ring_parts.specs.GuardsKept.{down_guards_kept, up_guards_kept, lose_guards_kept}
+use Rattle.ring_parts.specs.GuardsKept.{is_ready_kept, step_guards_kept, do_guards_kept, parties_up_kept, keepers_up_kept, chunks_left_kept, open_copy_guards_kept, chunk_copy_guards_kept, close_copy_guards_kept, abort_copy_guards_kept}
 
 -- ---- the parts as tests
 

@@ -32,8 +32,8 @@ use Rattle.ring_state.specs.declared.gets.GetNow.{GetNow}
 use Rattle.ring_state.specs.Marks.{has_mark, with_mark}
 use Rattle.ring_state.specs.Gets.{is_read}
 use Rattle.ring_state.proofs.Bits.{has_with}
-use Rattle.ring_meets.specs.Gets.{GetMeets, GetsMeet}
-use Rattle.ring_meets.proofs.PutsLists.{changed_at, appended_at, there}
+use Rattle.ring_parts.specs.Gets.{GetMeets, GetsMeet}
+use Rattle.ring_parts.proofs.PutsLists.{changed_at, appended_at, there}
 
 -- a get that is kept is one of the world's
 pub kept_get : (ring : RingValue) (clock : ℕ → List Entry) (keys : List (List ℕ)) (gets : List GetNow) (w : World) (g : ℕ) (get : GetNow) → GetsMeet ring clock keys gets w → slice_get gets g ≡ Some get

@@ -14,13 +14,13 @@ use Rattle.plan_check.specs.Guards.{up_guard, nodes_up, has_ended, keeps_of_key,
 use Rattle.ring_state.specs.declared.puts.PutNow.{PutNow}
 use Rattle.ring_state.specs.declared.gets.GetNow.{GetNow}
 use Rattle.ring_state.specs.Gets.{is_read_at}
-use Rattle.ring_meets.specs.Puts.{PutsMeet}
-use Rattle.ring_meets.specs.Gets.{GetsMeet}
-use Rattle.ring_meets.specs.PutsChange.{AreNumbered}
-use Rattle.ring_meets.specs.PutsTests.{is_acked_at, current_count}
-use Rattle.ring_meets.specs.GetsTests.{has_get, is_of_number, has_ended_at, read_count, ReadsFit}
-use Rattle.ring_meets.proofs.PutsTests.{same_put_number, same_acked, same_current_count}
-use Rattle.ring_meets.proofs.GetsTests.{same_get_number, same_has_get, same_read, same_of_key, same_ended, same_all, same_read_count}
+use Rattle.ring_parts.specs.Puts.{PutsMeet}
+use Rattle.ring_parts.specs.Gets.{GetsMeet}
+use Rattle.ring_parts.specs.PutsChange.{AreNumbered}
+use Rattle.ring_parts.specs.PutsTests.{is_acked_at, current_count}
+use Rattle.ring_parts.specs.GetsTests.{has_get, is_of_number, has_ended_at, read_count, ReadsFit}
+use Rattle.ring_parts.proofs.PutsTests.{same_put_number, same_acked, same_current_count}
+use Rattle.ring_parts.proofs.GetsTests.{same_get_number, same_has_get, same_read, same_of_key, same_ended, same_all, same_read_count}
 
 abbrev start_by : Bool → Bool → List Guard
 start_by a b = (a, UnknownNumber) ∷ (b, NotReady) ∷ []

@@ -23,11 +23,11 @@ use Rattle.plan_check.proofs.Passed.{all_met}
 use Rattle.plan_check.proofs.Suited.{retires-within}
 use Rattle.ring_state.specs.declared.nodes.NodeNow.{NodeNow}
 use Rattle.ring_state.specs.Nodes.{node_at_start, is_up_at}
-use Rattle.ring_meets.specs.Nodes.{NodesMeet}
-use Rattle.ring_meets.specs.NodesTold.{is_joined_at, is_retired_at, has_joined, NodesTell, step_leaves_nodes, leaves_nodes}
-use Rattle.ring_meets.proofs.NodesRead.{read_within, read_with, read_without}
-use Rattle.ring_meets.proofs.StageSuits.{joins_within}
-use Rattle.ring_meets.proofs.NodesDone.{none_done, some_with, some_without}
+use Rattle.ring_parts.specs.Nodes.{NodesMeet}
+use Rattle.ring_parts.specs.NodesTold.{is_joined_at, is_retired_at, has_joined, NodesTell, step_leaves_nodes, leaves_nodes}
+use Rattle.ring_parts.proofs.NodesRead.{read_within, read_with, read_without}
+use Rattle.ring_parts.proofs.StageSuits.{joins_within}
+use Rattle.ring_parts.proofs.NodesDone.{none_done, some_with, some_without}
 
 -- nodes that tell each fact by itself meet the world
 pub nodes_meet : (ring : RingValue) (plan : List Planned) (nodes : List NodeNow) (w : World) → NodesTell ring plan nodes w → NodesMeet ring plan nodes w

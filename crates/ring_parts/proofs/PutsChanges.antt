@@ -21,9 +21,9 @@ use Rattle.ring_state.specs.declared.puts.PutNow.{PutNow}
 use Rattle.ring_state.specs.Puts.{with_ticket}
 use Rattle.ring_state.proofs.Ticketing.{ticket_read}
 use Rattle.plan_check.specs.Succession.{is_direct}
-use Rattle.ring_meets.specs.Puts.{clock_in, clock_at, PutMeets, PutsMeet}
-use Rattle.ring_meets.proofs.PutsLists.{changed_at}
-use Rattle.ring_meets.proofs.PutsFrames.{last_stays}
+use Rattle.ring_parts.specs.Puts.{clock_in, clock_at, PutMeets, PutsMeet}
+use Rattle.ring_parts.proofs.PutsLists.{changed_at}
+use Rattle.ring_parts.proofs.PutsFrames.{last_stays}
 
 -- clocks that are the same are as well those of the world's puts
 pub same_clocks : (w : World) (clock other : ℕ → List Entry) → ((v : ℕ) → other v ≡ clock v) → AreClocksOf w clock → AreClocksOf w other

@@ -25,13 +25,13 @@ use Rattle.plan_check.proofs.Changed.{part_changed}
 use Rattle.plan_check.proofs.Passed.{AllMet, all_met}
 use Rattle.ring_state.specs.declared.gets.GetNow.{GetNow}
 use Rattle.ring_state.specs.Gets.{is_read, is_read_at}
-use Rattle.ring_meets.specs.Gets.{GetMeets, GetsMeet}
-use Rattle.ring_meets.specs.GetsChange.{changes_gets}
-use Rattle.ring_meets.specs.GetsTests.{has_get, is_of_number, has_ended_at, read_count, ReadsFit}
-use Rattle.ring_meets.specs.PutsChange.{AreNumbered}
-use Rattle.ring_meets.proofs.PutsLists.{absent, one_number, there}
-use Rattle.ring_meets.proofs.PutsTests.{same_passing, more_passing}
-use Rattle.ring_meets.proofs.GetsFrames.{same_gets}
+use Rattle.ring_parts.specs.Gets.{GetMeets, GetsMeet}
+use Rattle.ring_parts.specs.GetsChange.{changes_gets}
+use Rattle.ring_parts.specs.GetsTests.{has_get, is_of_number, has_ended_at, read_count, ReadsFit}
+use Rattle.ring_parts.specs.PutsChange.{AreNumbered}
+use Rattle.ring_parts.proofs.PutsLists.{absent, one_number, there}
+use Rattle.ring_parts.proofs.PutsTests.{same_passing, more_passing}
+use Rattle.ring_parts.proofs.GetsFrames.{same_gets}
 
 -- there is no get of the number here and there, or one, and it is that of the world
 pub both_gets : (ring : RingValue) (clock : ℕ → List Entry) (keys : List (List ℕ)) (gets : List GetNow) (w : World) (g : ℕ) → GetsMeet ring clock keys gets w

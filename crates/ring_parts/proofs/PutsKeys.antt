@@ -7,13 +7,13 @@ use Rattle.ring_clock.specs.declared.entry.Entry.{Entry}
 use Rattle.plan_check.specs.World.{World}
 use Rattle.ring_state.specs.declared.puts.PutNow.{PutNow}
 use Rattle.ring_state.specs.declared.gets.GetNow.{GetNow}
-use Rattle.ring_meets.specs.Puts.{PutsMeet}
-use Rattle.ring_meets.specs.Gets.{GetsMeet}
-use Rattle.ring_meets.specs.PutsChange.{AreNumbered, NoneBehind}
-use Rattle.ring_meets.proofs.PutsLists.{numbered_with_key}
-use Rattle.ring_meets.proofs.PutsFrames.{puts_stay_with_key}
-use Rattle.ring_meets.proofs.PutsStarts.{none_behind_more}
-use Rattle.ring_meets.proofs.GetsFrames.{gets_stay_with_key}
+use Rattle.ring_parts.specs.Puts.{PutsMeet}
+use Rattle.ring_parts.specs.Gets.{GetsMeet}
+use Rattle.ring_parts.specs.PutsChange.{AreNumbered, NoneBehind}
+use Rattle.ring_parts.proofs.PutsLists.{numbered_with_key}
+use Rattle.ring_parts.proofs.PutsFrames.{puts_stay_with_key}
+use Rattle.ring_parts.proofs.PutsStarts.{none_behind_more}
+use Rattle.ring_parts.proofs.GetsFrames.{gets_stay_with_key}
 
 -- what holds of the keys, and with a new key behind them, holds where a key was added
 named : (P : List (List ℕ) → Type 0) (keys : List (List ℕ)) (key : List ℕ) → P keys → (place keys key ≡ None → P (keys ++ key ∷ [])) → P (with_name keys key)

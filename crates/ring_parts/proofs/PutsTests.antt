@@ -10,9 +10,9 @@ use Rattle.plan_check.specs.Versions.{put_slot}
 use Rattle.plan_check.specs.Guards.{put_exists, is_current, current_tickets}
 use Rattle.ring_state.specs.declared.puts.PutNow.{PutNow}
 use Rattle.ring_state.specs.Puts.{ticket_at, ticket_of}
-use Rattle.ring_meets.specs.Puts.{PutMeets, PutsMeet}
-use Rattle.ring_meets.specs.PutsTests.{has_put, is_acked_at, is_current_at, current_count}
-use Rattle.ring_meets.proofs.PutsLists.{there}
+use Rattle.ring_parts.specs.Puts.{PutMeets, PutsMeet}
+use Rattle.ring_parts.specs.PutsTests.{has_put, is_acked_at, is_current_at, current_count}
+use Rattle.ring_parts.proofs.PutsLists.{there}
 
 -- ---- numbers that pass
 

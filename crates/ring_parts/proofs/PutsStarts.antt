@@ -36,13 +36,13 @@ use Rattle.ring_model.proofs.Showing.{other_clock}
 use Rattle.ring_state.specs.declared.puts.PutNow.{PutNow}
 use Rattle.ring_state.specs.declared.gets.GetNow.{GetNow}
 use Rattle.ring_state.specs.Puts.{ticket_at}
-use Rattle.ring_meets.specs.Puts.{clock_in, clock_at, PutMeets, PutsMeet}
-use Rattle.ring_meets.specs.PutsChange.{AreNumbered, NoneBehind}
-use Rattle.ring_meets.specs.Gets.{GetsMeet}
-use Rattle.ring_meets.specs.GetsChange.{found_at}
-use Rattle.ring_meets.proofs.PutsLists.{appended_at, there, one_number}
-use Rattle.ring_meets.proofs.PutsChanges.{same_clocks}
-use Rattle.ring_meets.proofs.GetsFrames.{gets_stay, gets_stay_with_clocks}
+use Rattle.ring_parts.specs.Puts.{clock_in, clock_at, PutMeets, PutsMeet}
+use Rattle.ring_parts.specs.PutsChange.{AreNumbered, NoneBehind}
+use Rattle.ring_parts.specs.Gets.{GetsMeet}
+use Rattle.ring_parts.specs.GetsChange.{found_at}
+use Rattle.ring_parts.proofs.PutsLists.{appended_at, there, one_number}
+use Rattle.ring_parts.proofs.PutsChanges.{same_clocks}
+use Rattle.ring_parts.proofs.GetsFrames.{gets_stay, gets_stay_with_clocks}
 
 -- ---- clocks
 

@@ -19,10 +19,10 @@ use Rattle.plan_check.specs.Effects.{with_number, step_effect, effect}
 use Rattle.plan_check.specs.Reached.{Reached}
 use Rattle.ring_state.specs.declared.slots.SlotNow.{SlotNow}
 use Rattle.ring_state.specs.Slots.{slot_now, ChangesSlot}
-use Rattle.ring_meets.specs.Slots.{IsNow, SlotsMeet}
-use Rattle.ring_meets.specs.SlotsLost.{LossesFit}
-use Rattle.ring_meets.proofs.StageCounts.{count_within}
-use Rattle.ring_meets.proofs.StageNodes.{stage_declared}
+use Rattle.ring_parts.specs.Slots.{IsNow, SlotsMeet}
+use Rattle.ring_parts.specs.SlotsLost.{LossesFit}
+use Rattle.ring_parts.proofs.StageCounts.{count_within}
+use Rattle.ring_parts.proofs.StageNodes.{stage_declared}
 
 -- ---- losses
 

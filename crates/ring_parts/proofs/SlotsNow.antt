@@ -29,10 +29,10 @@ use Rattle.plan_check.proofs.Passed.{all_met, ready}
 use Rattle.plan_check.proofs.Suited.{owner-within}
 use Rattle.ring_state.specs.declared.slots.SlotNow.{SlotNow}
 use Rattle.ring_state.specs.Slots.{slot_at_start, slot_now, switched, ChangesSlot}
-use Rattle.ring_meets.specs.Slots.{IsNow, SlotsMeet}
-use Rattle.ring_meets.specs.SlotsStepped.{stepped, StepsSlots, step_leaves_slots, leaves_slots}
-use Rattle.ring_meets.proofs.SlotsDone.{same_slots, slots_stepped, mirror_steps, switch_steps}
-use Rattle.ring_meets.proofs.StageCounts.{count_none, count_zero}
+use Rattle.ring_parts.specs.Slots.{IsNow, SlotsMeet}
+use Rattle.ring_parts.specs.SlotsStepped.{stepped, StepsSlots, step_leaves_slots, leaves_slots}
+use Rattle.ring_parts.proofs.SlotsDone.{same_slots, slots_stepped, mirror_steps, switch_steps}
+use Rattle.ring_parts.proofs.StageCounts.{count_none, count_zero}
 
 -- ---- the start
 

@@ -8,7 +8,7 @@ use Rattle.ring_names.specs.Names.{place}
 use Rattle.ring_names.proofs.Places.{place-push}
 use Rattle.plan_check.specs.Effects.{changed}
 use Rattle.plan_check.proofs.Changed.{get_changed, get_other}
-use Rattle.ring_meets.specs.PutsChange.{AreNumbered}
+use Rattle.ring_parts.specs.PutsChange.{AreNumbered}
 
 mapped : {A : Type 0} (f : A → A) (o : Option A) (y : A) → option_map f o ≡ Some y → (x : A) × (o ≡ Some x) × (f x ≡ y)
 mapped f None y e = absurd cc

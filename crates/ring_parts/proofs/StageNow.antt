@@ -17,7 +17,7 @@ use Rattle.plan_check.specs.Reached.{Closed}
 use Rattle.plan_check.proofs.Groups.{on_steps, steps_on}
 use Rattle.plan_check.proofs.Mirrored.{Known, rises, down}
 use Rattle.plan_check.proofs.Prefix.{found, one_more, count_same}
-use Rattle.ring_meets.proofs.StageCounts.{count_apart, count_failing, count_one}
+use Rattle.ring_parts.proofs.StageCounts.{count_apart, count_failing, count_one}
 
 -- ---- which steps are the slot's
 

@@ -21,11 +21,11 @@ use Rattle.ring_state.specs.declared.nodes.NodeNow.{NodeNow}
 use Rattle.ring_state.specs.declared.slots.SlotNow.{SlotNow}
 use Rattle.ring_state.specs.Nodes.{is_up_at, is_member_at}
 use Rattle.ring_state.specs.Slots.{slot_now}
-use Rattle.ring_meets.specs.Nodes.{NodesMeet}
-use Rattle.ring_meets.specs.Slots.{SlotsMeet}
-use Rattle.ring_meets.proofs.SlotsNow.{slots_lose}
-use Rattle.ring_meets.proofs.StageGuards.{pair_is}
-use Rattle.ring_meets.specs.Kept.{owner_up_kept, read_guards_kept, served_up_kept, is_served_kept, serves_in_kept, write_guards_kept, hint_guards_kept, handoff_guards_kept}
+use Rattle.ring_parts.specs.Nodes.{NodesMeet}
+use Rattle.ring_parts.specs.Slots.{SlotsMeet}
+use Rattle.ring_parts.proofs.SlotsNow.{slots_lose}
+use Rattle.ring_parts.proofs.StageGuards.{pair_is}
+use Rattle.ring_parts.specs.GuardsKept.{owner_up_kept, read_guards_kept, served_up_kept, is_served_kept, serves_in_kept, write_guards_kept, hint_guards_kept, handoff_guards_kept}
 
 -- ---- who serves a slot
 

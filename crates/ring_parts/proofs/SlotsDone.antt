@@ -18,10 +18,10 @@ use Rattle.plan_check.specs.Reached.{Closed}
 use Rattle.plan_check.proofs.Mirrored.{Known}
 use Rattle.ring_state.specs.declared.slots.SlotNow.{SlotNow}
 use Rattle.ring_state.specs.Slots.{slot_now, switched, ChangesSlot}
-use Rattle.ring_meets.specs.Slots.{IsNow, SlotsMeet}
-use Rattle.ring_meets.specs.SlotsStepped.{stepped, StepsSlots}
-use Rattle.ring_meets.proofs.NodesDone.{alike}
-use Rattle.ring_meets.proofs.StageNow.{stage_on, stage_off, mirrors_on, mirrors_off}
+use Rattle.ring_parts.specs.Slots.{IsNow, SlotsMeet}
+use Rattle.ring_parts.specs.SlotsStepped.{stepped, StepsSlots}
+use Rattle.ring_parts.proofs.NodesDone.{alike}
+use Rattle.ring_parts.proofs.StageNow.{stage_on, stage_off, mirrors_on, mirrors_off}
 
 -- ---- one slot
 

@@ -17,9 +17,9 @@ use Rattle.plan_stage.specs.declared.stage.Stage.{Stage}
 use Rattle.plan_stage.specs.Stage.{opening, stage, next}
 use Rattle.plan_stage.proofs.Places.{placed, step_at-is}
 use Rattle.plan_stage.proofs.Stages.{stage-more, after-next}
-use Rattle.ring_meets.proofs.NodesRead.{read_within}
-use Rattle.ring_meets.proofs.StageSuits.{mirrors_within}
-use Rattle.ring_meets.proofs.SlotsNow.{first_owner}
+use Rattle.ring_parts.proofs.NodesRead.{read_within}
+use Rattle.ring_parts.proofs.StageSuits.{mirrors_within}
+use Rattle.ring_parts.proofs.SlotsNow.{first_owner}
 
 -- ---- owners at the start
 

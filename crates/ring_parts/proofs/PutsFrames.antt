@@ -18,9 +18,9 @@ use Rattle.plan_check.proofs.Answered.{answered}
 use Rattle.ring_model.specs.Clocks.{AreClocksOf, IsOwn, IsLastOf, starts_put}
 use Rattle.ring_model.proofs.Kept.{opening_clocks, clocks_stay}
 use Rattle.ring_state.specs.declared.puts.PutNow.{PutNow}
-use Rattle.ring_meets.specs.Puts.{clock_at, PutsMeet}
-use Rattle.ring_meets.specs.PutsChange.{changes_puts}
-use Rattle.ring_meets.proofs.PutsLists.{appended_at, stays_there, there, absent}
+use Rattle.ring_parts.specs.Puts.{clock_at, PutsMeet}
+use Rattle.ring_parts.specs.PutsChange.{changes_puts}
+use Rattle.ring_parts.proofs.PutsLists.{appended_at, stays_there, there, absent}
 
 -- ---- the start
 

@@ -25,9 +25,9 @@ use Rattle.plan_check.proofs.Passed.{all_met}
 use Rattle.ring_state.specs.declared.steps.StepNow.{StepNow}
 use Rattle.ring_state.specs.Marks.{with_mark}
 use Rattle.ring_state.specs.Steps.{step_at_start, is_marked, is_marked_at}
-use Rattle.ring_meets.specs.Steps.{StepsMeet}
-use Rattle.ring_meets.specs.StepsLeft.{leaves_steps}
-use Rattle.ring_meets.proofs.NodesRead.{read_within, read_with, read_without}
+use Rattle.ring_parts.specs.Steps.{StepsMeet}
+use Rattle.ring_parts.specs.StepsLeft.{leaves_steps}
+use Rattle.ring_parts.proofs.NodesRead.{read_within, read_with, read_without}
 
 -- ---- the start
 
