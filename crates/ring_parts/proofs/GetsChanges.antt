@@ -48,7 +48,8 @@ some_same : (n : ℕ) (f h : ℕ → Bool) → ((i : ℕ) → f i ≡ h i) → s
 some_same zero f h e = refl
 some_same (suc n) f h e = rw (some_same n f h e, e n) refl
 
-some_none : (n : ℕ) (f : ℕ → Bool) → ((i : ℕ) → f i ≡ false) → some_below n f ≡ false
+-- no number passes what none passes
+pub some_none : (n : ℕ) (f : ℕ → Bool) → ((i : ℕ) → f i ≡ false) → some_below n f ≡ false
 some_none zero f e = refl
 some_none (suc n) f e = rw (some_none n f e, e n) refl
 
