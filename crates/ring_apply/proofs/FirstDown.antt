@@ -1,5 +1,5 @@
 -- The refusal of the first of some nodes that is down.
-use Rattle.std.proofs.Common.{◌≡◌, inl, inr, ◌∙◌, ℕ, ◌<◌, Bool, true, false, List, [], ◌∷◌, map, sym, ap, eqb-true}
+use Rattle.std.proofs.Common.{◌≡◌, inl, inr, ◌∙◌, ℕ, ◌<◌, Bool, true, false, List, [], ◌∷◌, map, refl, sym, ap, eqb-true}
 use Rattle.std.specs.Prelude.{◌↔◌, ◌==◌, Option, Some, None, option_map}
 use Rattle.std.proofs.lemmas.Bool.{cases_Bool}
 use Rattle.ring_names.specs.Lists.{has}
@@ -53,7 +53,11 @@ first_down_is up test held n None tells within down = sym (keepers_refused up n 
 first_down_is up test held n (Some f) tells within down =
     let x : NodeId = record { 0 = down.0 } in
     let passes : test x.0 ≡ true = elim (cases_Bool (test x.0)) [ inl t ↦ t | inr t ↦ absurd (down.3 ((tells x.0).0 t)) ] in
-    ap (λ (z : Refusal). Some z) down.1 ∙ sym (keepers_refused up n test (Some x) within (passes, down.2, λ y l t. elim (down.4 y l) [
-      | inl none ↦ absurd (let g = (tells y).1 none in cc)
-      | inr is ↦ is
-    ]))
+    ap (λ (z : Refusal). Some z) down.1 ∙ sym (keepers_refused up n test (Some x) within (
+      passes,
+      down.2,
+      λ y l t. elim (down.4 y l) [
+        | inl none ↦ absurd (let g = (tells y).1 none in cc)
+        | inr is ↦ is
+      ],
+    ))
