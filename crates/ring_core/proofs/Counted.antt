@@ -5,7 +5,7 @@ use Rattle.plan_text.specs.declared.step.Planned.{Planned}
 use Rattle.plan_check.specs.World.{World, passing_from, passing_below}
 use Rattle.ring_state.specs.declared.steps.StepNow.{StepNow}
 use Rattle.ring_state.specs.Steps.{steps_left, is_done_at}
-use Rattle.ring_meets.specs.Steps.{StepsMeet}
+use Rattle.ring_parts.specs.Steps.{StepsMeet}
 use Rattle.ring_core.specs.Tables.{left_of}
 
 -- how many of these are not done

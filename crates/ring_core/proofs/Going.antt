@@ -13,10 +13,10 @@ use Rattle.plan_check.specs.Effects.{effect}
 use Rattle.plan_check.specs.World.{PutRecord, GetRecord, World}
 use Rattle.plan_check.proofs.Answered.{answered}
 use Rattle.plan_check.proofs.Changed.{length_changed}
-use Rattle.ring_meets.specs.PutsChange.{changes_puts}
-use Rattle.ring_meets.specs.GetsChange.{changes_gets}
-use Rattle.ring_meets.proofs.PutsFrames.{same_puts}
-use Rattle.ring_meets.proofs.GetsFrames.{same_gets}
+use Rattle.ring_parts.specs.PutsChange.{changes_puts}
+use Rattle.ring_parts.specs.GetsChange.{changes_gets}
+use Rattle.ring_parts.proofs.PutsFrames.{same_puts}
+use Rattle.ring_parts.proofs.GetsFrames.{same_gets}
 use Rattle.ring_parts.specs.declared.parts.Parts.{Parts}
 use Rattle.ring_parts.specs.Parts.{ring_of, plan_of, IsSound, Answers, Stays, Follows}
 use Rattle.ring_parts.proofs.Known.{holds}

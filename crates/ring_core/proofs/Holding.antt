@@ -19,8 +19,8 @@ use Rattle.ring_state.specs.KeyTable.{KeyTable}
 use Rattle.ring_state.specs.declared.puts.PutNow.{PutNow}
 use Rattle.ring_space.specs.Place.{place_of}
 use Rattle.ring_space.specs.declared.found.Place.{Place}
-use Rattle.ring_meets.specs.Puts.{PutMeets, clock_in, clock_at}
-use Rattle.ring_meets.proofs.PutsTests.{both_puts}
+use Rattle.ring_parts.specs.Puts.{PutMeets, clock_in, clock_at}
+use Rattle.ring_parts.proofs.PutsTests.{both_puts}
 use Rattle.ring_parts.specs.Kept.{Kept, Tells}
 use Rattle.ring_parts.proofs.Known.{reached_of}
 use Rattle.ring_core.specs.Tables.{owner_kept}

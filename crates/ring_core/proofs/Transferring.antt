@@ -21,9 +21,9 @@ use Rattle.plan_stage.proofs.Truth.{all_of}
 use Rattle.plan_check.specs.Safe.{open_copies, is_open_copy, takes_part_now, gives_now}
 use Rattle.plan_check.specs.World.{World, passing_below, stage_now, mirrors}
 use Rattle.ring_state.specs.declared.slots.SlotNow.{SlotNow}
-use Rattle.ring_meets.proofs.SlotsNow.{within_ring}
-use Rattle.ring_meets.proofs.PutsTests.{same_passing}
-use Rattle.ring_meets.proofs.StageSuits.{step_suiting}
+use Rattle.ring_parts.proofs.SlotsNow.{within_ring}
+use Rattle.ring_parts.proofs.PutsTests.{same_passing}
+use Rattle.ring_parts.proofs.StageSuits.{step_suiting}
 use Rattle.ring_parts.specs.Kept.{Kept, Tells}
 use Rattle.ring_parts.proofs.Known.{slot_there, suits_of}
 use Rattle.ring_core.specs.Transfers.{owns_kept, mirrors_kept, part_kept, is_open_kept}

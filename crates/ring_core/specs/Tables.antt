@@ -9,7 +9,7 @@ use Rattle.plan_stage.specs.Stage.{stage}
 use Rattle.ring_state.specs.declared.steps.StepNow.{StepNow}
 use Rattle.ring_state.specs.Slots.{slot_now}
 use Rattle.ring_state.specs.Steps.{is_done_at, is_open_at}
-use Rattle.ring_meets.specs.Kept.{is_ready_kept}
+use Rattle.ring_parts.specs.GuardsKept.{is_ready_kept}
 use Rattle.ring_parts.specs.Kept.{Kept}
 use Rattle.plan_check.specs.Guards.{is_ready}
 use Rattle.plan_check.specs.World.{World, passing_below, stage_now, slot_at}

@@ -6,15 +6,11 @@ ghost use Rattle.ring_parts.specs.Parts.{IsSound, Tests, Passes, Answers, Stays,
 ghost use Rattle.ring_core.specs.Numbers.{HasNumber, may_need_memory};
 
 use plan_check::{Event, Reply};
-use ring_change::{
-    abort_copy, abort_refusal, close_copy, close_refusal, do_refusal, do_step, down, down_refusal,
-    lose, lose_refusal, open_copy, open_refusal, up, up_refusal,
-};
-use ring_client::{
-    ack, ack_refusal, end_get, end_refusal, put_refusal, read, read_refusal, start_get, start_put,
-};
-use ring_moves::{
-    chunk_copy, chunk_refusal, handoff, handoff_refusal, hint, hint_refusal, write, write_refusal,
+use ring_apply::{
+    abort_copy, abort_refusal, ack, ack_refusal, chunk_copy, chunk_refusal, close_copy,
+    close_refusal, do_refusal, do_step, down, down_refusal, end_get, end_refusal, handoff,
+    handoff_refusal, hint, hint_refusal, lose, lose_refusal, open_copy, open_refusal, put_refusal,
+    read, read_refusal, start_get, start_put, up, up_refusal, write, write_refusal,
 };
 use ring_names::Refusal;
 use ring_parts::Parts;

@@ -1,7 +1,7 @@
 //! What is asked of a running store without changing it.
 
 use crate::world::World;
-use ring_change::is_ready;
+use ring_apply::is_ready;
 use ring_clock::Clock;
 use ring_hints::KeptFor;
 use ring_names::{Listed, NodeId, Refusal, Slot};

@@ -23,8 +23,8 @@ use Rattle.plan_check.specs.Effects.{effect, step_effect, with_number}
 use Rattle.plan_check.specs.Runs.{Leads}
 use Rattle.plan_check.proofs.Answered.{answered}
 use Rattle.plan_check.proofs.Passed.{AllMet, all_met}
-use Rattle.ring_meets.proofs.NodesRead.{read_within}
-use Rattle.ring_meets.proofs.StageSuits.{joins_within}
+use Rattle.ring_parts.proofs.NodesRead.{read_within}
+use Rattle.ring_parts.proofs.StageSuits.{joins_within}
 use Rattle.ring_parts.specs.Kept.{Kept, Tells}
 use Rattle.ring_parts.proofs.Known.{suits_of}
 

@@ -1,5 +1,5 @@
 -- Who keeps hints for what, by the versions that are kept.
-use Rattle.std.proofs.Common.{◌≡◌, inl, ◌∙◌, ℕ, zero, suc, ◌<◌, Bool, true, false, not, List, [], ◌∷◌, length, refl, sym, ap, subst, eqb-true, eq-eqb}
+use Rattle.std.proofs.Common.{◌≡◌, inl, ◌∙◌, ℕ, ◌<◌, Bool, true, false, not, List, [], ◌∷◌, length, refl, sym, ap, subst, eqb-true, eq-eqb}
 use Rattle.std.specs.Prelude.{◌≢◌, ◌↔◌, ◌==◌, ◌&&◌}
 use Rattle.std.proofs.lemmas.Bool.{and_parts}
 use Rattle.std.proofs.lemmas.Slice.Eq.{bytes_eq-Decides}
@@ -17,15 +17,11 @@ use Rattle.plan_check.specs.Versions.{is_in_chunk}
 use Rattle.plan_check.specs.World.{World, some_below, key_of_put, is_of_key, slot_at, keeps, keeps_other, keeps_any}
 use Rattle.plan_check.proofs.Passing.{some_found, some_is}
 use Rattle.ring_maps.specs.Chunks.{chunk_of}
-use Rattle.ring_meets.specs.Puts.{clock_at}
-use Rattle.ring_meets.proofs.PutsFrames.{put_key}
+use Rattle.ring_parts.specs.Puts.{clock_at}
+use Rattle.ring_parts.proofs.PutsFrames.{put_key}
 use Rattle.ring_parts.specs.Kept.{Kept, Tells}
+use Rattle.ring_parts.proofs.GetsChanges.{some_none}
 use Rattle.ring_parts.proofs.Known.{reached_of}
-
--- no number passes what none passes
-pub some_none : (n : ℕ) (test : ℕ → Bool) → ((i : ℕ) → test i ≡ false) → some_below n test ≡ false
-some_none zero test e = refl
-some_none (suc n) test e = rw (some_none n test e, e n) refl
 
 -- two tests are one where each is failed in the same case
 pub both_tell : {P : Type 0} → (a b : Bool) → (a ≡ false) ↔ P → (b ≡ false) ↔ P → a ≡ b

@@ -22,10 +22,10 @@ use Rattle.plan_check.proofs.Reached.{reached}
 use Rattle.plan_check.proofs.Split.{joined}
 use Rattle.ring_state.specs.declared.slots.SlotNow.{SlotNow}
 use Rattle.ring_state.specs.Slots.{slot_now}
-use Rattle.ring_meets.specs.Slots.{IsNow}
-use Rattle.ring_meets.proofs.StageCounts.{count_within}
-use Rattle.ring_meets.proofs.SlotsNow.{within_ring}
-use Rattle.ring_meets.proofs.SlotsFit.{kept_within, kept_is, owner_kept, mirror_kept}
+use Rattle.ring_parts.specs.Slots.{IsNow}
+use Rattle.ring_parts.proofs.StageCounts.{count_within}
+use Rattle.ring_parts.proofs.SlotsNow.{within_ring}
+use Rattle.ring_parts.proofs.SlotsFit.{kept_within, kept_is, owner_kept, mirror_kept}
 use Rattle.ring_parts.specs.declared.parts.Parts.{Parts}
 use Rattle.ring_parts.specs.Kept.{Kept, Tells}
 use Rattle.ring_parts.specs.Parts.{Meets, IsSound}

@@ -16,15 +16,15 @@ use Rattle.ring_model.specs.Shows.{Shows}
 use Rattle.ring_model.specs.Stored.{ShowAll}
 use Rattle.ring_model.proofs.Showing.{none}
 use Rattle.ring_clock.specs.declared.entry.Entry.{Entry}
-use Rattle.ring_meets.specs.Puts.{clock_at}
-use Rattle.ring_meets.proofs.NodesNow.{nodes_start}
-use Rattle.ring_meets.proofs.StepsNow.{steps_start}
-use Rattle.ring_meets.proofs.SlotsNow.{slots_start}
-use Rattle.ring_meets.proofs.SlotsFit.{losses_start}
-use Rattle.ring_meets.proofs.PutsLists.{none_numbered}
-use Rattle.ring_meets.proofs.PutsFrames.{puts_open}
-use Rattle.ring_meets.proofs.GetsFrames.{gets_open}
-use Rattle.ring_meets.proofs.GetsTests.{reads_open}
+use Rattle.ring_parts.specs.Puts.{clock_at}
+use Rattle.ring_parts.proofs.NodesNow.{nodes_start}
+use Rattle.ring_parts.proofs.StepsNow.{steps_start}
+use Rattle.ring_parts.proofs.SlotsNow.{slots_start}
+use Rattle.ring_parts.proofs.SlotsFit.{losses_start}
+use Rattle.ring_parts.proofs.PutsLists.{none_numbered}
+use Rattle.ring_parts.proofs.PutsFrames.{puts_open}
+use Rattle.ring_parts.proofs.GetsFrames.{gets_open}
+use Rattle.ring_parts.proofs.GetsTests.{reads_open}
 use Rattle.ring_parts.specs.Kept.{Kept, Tells}
 use Rattle.ring_parts.proofs.HintsFit.{hints_open}
 

@@ -9,9 +9,9 @@ use Rattle.ring_space.specs.Place.{place_of}
 use Rattle.ring_versions.specs.declared.version.Version.{Version}
 use Rattle.plan_text.specs.declared.step.Planned.{Planned}
 use Rattle.plan_check.specs.World.{World}
-use Rattle.ring_meets.specs.Puts.{clock_at}
-use Rattle.ring_meets.proofs.PutsLists.{appended_at}
-use Rattle.ring_meets.proofs.PutsKeys.{numbered_named, none_behind_named, puts_stay_named, gets_stay_named}
+use Rattle.ring_parts.specs.Puts.{clock_at}
+use Rattle.ring_parts.proofs.PutsLists.{appended_at}
+use Rattle.ring_parts.proofs.PutsKeys.{numbered_named, none_behind_named, puts_stay_named, gets_stay_named}
 use Rattle.ring_parts.specs.HintsFit.{KeysFit}
 use Rattle.ring_parts.specs.Kept.{Kept, Tells}
 

@@ -16,14 +16,14 @@ use Rattle.ring_state.specs.declared.puts.PutNow.{PutNow}
 use Rattle.ring_state.specs.declared.slots.SlotNow.{SlotNow}
 use Rattle.ring_state.specs.declared.steps.StepNow.{StepNow}
 use Rattle.ring_model.specs.Stored.{ShowAll}
-use Rattle.ring_meets.specs.NodesTold.{NodesTell}
-use Rattle.ring_meets.specs.Steps.{StepsMeet}
-use Rattle.ring_meets.specs.Slots.{SlotsMeet}
-use Rattle.ring_meets.specs.SlotsLost.{LossesFit}
-use Rattle.ring_meets.specs.Puts.{PutsMeet, clock_at}
-use Rattle.ring_meets.specs.PutsChange.{AreNumbered, NoneBehind}
-use Rattle.ring_meets.specs.Gets.{GetsMeet}
-use Rattle.ring_meets.specs.GetsTests.{ReadsFit}
+use Rattle.ring_parts.specs.NodesTold.{NodesTell}
+use Rattle.ring_parts.specs.Steps.{StepsMeet}
+use Rattle.ring_parts.specs.Slots.{SlotsMeet}
+use Rattle.ring_parts.specs.SlotsLost.{LossesFit}
+use Rattle.ring_parts.specs.Puts.{PutsMeet, clock_at}
+use Rattle.ring_parts.specs.PutsChange.{AreNumbered, NoneBehind}
+use Rattle.ring_parts.specs.Gets.{GetsMeet}
+use Rattle.ring_parts.specs.GetsTests.{ReadsFit}
 use Rattle.ring_parts.specs.HintsFit.{HintsFit, KeysFit}
 
 -- nodes, steps, slots by partition, keys by number, each writer's last put on each key, puts, gets, the number of losses, and the versions

@@ -1,3 +1,17 @@
+pub mod Nodes
+pub mod Steps
+pub mod Slots
+pub mod Puts
+pub mod Gets
+pub mod NodesTold
+pub mod StepsLeft
+pub mod SlotsLost
+pub mod SlotsStepped
+pub mod GuardsKept
+pub mod PutsChange
+pub mod GetsChange
+pub mod PutsTests
+pub mod GetsTests
 pub mod HintsFit
 pub mod Kept
 pub mod Parts

@@ -1,4 +1,5 @@
-//! All that a running store keeps, as one value, and what it says of a world.
+//! All that a running store keeps, as one value; for each part what it says of a world, and that it goes on to say so when an event
+//! changes both.
 #![tactic(auto)]
 
 mod parts;

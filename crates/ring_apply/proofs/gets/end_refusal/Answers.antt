@@ -1,0 +1,13 @@
+use Rattle.std.proofs.Common.{◌≡◌, ◌∙◌, ℕ, ap}
+use Rattle.ring_table.specs.Value.{RingValue}
+use Rattle.plan_stage.specs.Clauses.{first_failing}
+use Rattle.ring_parts.specs.Parts.{ring_of, plan_of, kept_of}
+use Rattle.ring_apply.specs.Gets.{end_guards_kept}
+use Rattle.ring_apply.proofs.Getting.{end_tested}
+use Rattle.ring_apply.proofs.gets.end_refusal.Goals as goal
+
+pub returns : goal.returns
+returns c w m =
+    let a = c.args.parts.now in
+    let needed : c.r.result ≡ (ring_of a).r = c.r.ensures.value ∙ ap (λ (x : RingValue). x.r) c.ring.ensures.value in
+    c.refusal_of.ensures ∙ ap (λ (n : ℕ). first_failing (end_guards_kept a.gets n c.args.get)) needed ∙ end_tested (ring_of a) (plan_of a) (kept_of a) w c.args.get m

@@ -1,9 +1,0 @@
-pub mod Onward
-pub mod Shown
-pub mod Tested
-pub mod NodesOn
-pub mod GroupsRaised
-pub mod CopiesOn
-pub mod StepsOn
-pub mod Assured
-pub mod PartiesDown

@@ -1,3 +1,0 @@
-pub mod Targets
-pub mod Sources
-pub mod Keeping
