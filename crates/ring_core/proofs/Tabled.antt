@@ -1,5 +1,5 @@
 -- The owners of all slots, by the slots that are kept, now and once every step is done.
-use Rattle.std.proofs.Common.{◌≡◌, ◌∙◌, ℕ, zero, suc, ◌<◌, Bool, true, List, [], ◌∷◌, length, get_or, refl, ap, arith, lt-ltb}
+use Rattle.std.proofs.Common.{◌≡◌, ◌∙◌, ℕ, zero, suc, ◌<◌, Bool, true, List, [], ◌∷◌, ◌++◌, length, length-append, get_or, refl, ap, arith, lt-ltb}
 use Rattle.std.specs.Prelude.{nat_lt, Option, Some, None}
 use Rattle.std.proofs.lemmas.Option.{slice_get_within}
 use Rattle.ring_names.specs.declared.ids.NodeId.{NodeId}
@@ -21,6 +21,11 @@ use Rattle.ring_core.specs.Tables.{values_below, table_of, owner_kept, owners_no
 pub same_values : {A : Type 0} → (n : ℕ) (f g : ℕ → A) → ((i : ℕ) → i < n → f i ≡ g i) → values_below n f ≡ values_below n g
 same_values zero f g e = refl
 same_values (suc n) f g e = rw (same_values n f g (λ i l. e i (omega arith)), e n (omega arith)) refl
+
+-- as many values as numbers
+pub length_values : {A : Type 0} → (n : ℕ) (f : ℕ → A) → length (values_below n f) ≡ n
+length_values zero f = refl
+length_values (suc n) f = (let tail = length-append (values_below n f) (f n ∷ []) in let front = length_values n f in omega arith)
 
 -- a slot by its numbers
 pub in_ring : (ring : RingValue) (p i : ℕ) → p < ring.q → i < ring.n → is_ring_slot ring (slot_at p i) ≡ true

@@ -1,6 +1,6 @@
 //! Scripts as values.
 
-ghost use Rattle.std.specs.Prelude.{◌≡◌, ◌<◌, ◌++◌, ◌∷◌, [], length, OnOk, OnErr, IfErr};
+ghost use Rattle.std.specs.Prelude.{◌≡◌, ◌<◌, ◌≤◌, ◌++◌, ◌∷◌, [], length, OnOk, OnErr, IfErr};
 ghost use Rattle.std.specs.List.{list_all};
 ghost use Rattle.ring_names.specs.declared.refusal.Refusal.TheVariants.{OutOfMemory};
 ghost use Rattle.ring_events.specs.Client.{is_client_event};
@@ -48,6 +48,7 @@ impl Script {
     /// The events, the first one first.
     pub fn events(&self) -> &[Event]
         ensures value { result.now ≡ self.now }
+        ensures few { length self.now ≤ 1000000 }
     {
         self.events.as_slice()
     }

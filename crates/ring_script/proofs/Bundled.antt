@@ -1,9 +1,10 @@
 -- Where a fault of a bundle lies, by its parts.
-use Rattle.std.proofs.Common.{ℕ, ◌≤◌, List, [], Result, Ok, Err, codes, sym, arith}
+use Rattle.std.proofs.Common.{◌≡◌, ◌≢◌, ℕ, ◌≤◌, Bool, true, false, cond, List, [], Result, Ok, Err, IsErrAnd, IfErr, codes, refl, sym, ◌∙◌, arith}
 use Rattle.ring_names.specs.declared.refusal.Refusal.{Refusal}
-use Rattle.ring_text.specs.Left.{Left, lines_on, is_word, then_part, one_line}
-use Rattle.ring_text.specs.Frames.{header_at, end_line_at}
-use Rattle.ring_text.specs.Late.{ReadsTo}
+use Rattle.ring_names.specs.declared.refusal.Refusal.TheVariants.{BadLine, OutOfMemory}
+use Rattle.ring_text.specs.Left.{Left, Reads, lines_on, is_over, is_word, over_at, then_part}
+use Rattle.ring_text.specs.Frames.{end_line_at}
+use Rattle.ring_text.specs.Late.{NoFaultBefore, ReadsTo}
 use Rattle.ring_text.proofs.Lates.{Advances, advances-line, advances-then, advances-map, to-first, to-second, to-map, many-on, next-after}
 use Rattle.ring_text.proofs.FrameLaws.{header-at, end-at}
 use Rattle.ring_table.specs.Value.{RingValue}
@@ -15,9 +16,9 @@ use Rattle.plan_cert.specs.declared.cert.Cert.{Cert}
 use Rattle.plan_cert.specs.Reading.{fact_at, chain_at, begins_chain, facts_at, chains_at, cert_at}
 use Rattle.plan_cert.specs.Spelling.{cert_format}
 use Rattle.plan_cert.proofs.CertLates.{fact-at, chain-at}
-use Rattle.plan_check.specs.declared.event.Event.{Event}
 use Rattle.ring_events.specs.Reading.{events_at, script_at}
 use Rattle.ring_events.proofs.ScriptLates.{events-on, events-at}
+use Rattle.ring_script.specs.declared.bundle.Bundle.{Bundle}
 use Rattle.ring_script.specs.declared.bundle.Kind.{Kind}
 use Rattle.ring_script.specs.declared.bundle.Kind.TheVariants.{Check, Play}
 use Rattle.ring_script.specs.Bundles.{Events, events_of, bundle_of, bundle_at}
@@ -102,3 +103,19 @@ past-plan ring s t plan e = (let on = (plan-on ring).on s in rw e at on)
 -- and a certificate
 pub past-cert : (ring : RingValue) (s t : Left) (cert : Cert) → cert_at ring s ≡ Ok (cert, t) → s.line ≤ t.line
 past-cert ring s t cert e = (let on = (cert-on ring).on s in rw e at on)
+
+-- a script's fault is the bundle's
+pub bad-script : (kind : Kind) (r : Result Bundle Refusal) (e : Refusal) (s t u v new : Left) (ring : RingValue) (plan : List Planned) (cert : Cert) → IsErrAnd r (λ x. x ≡ e) → ring_at s ≡ Ok (ring, t)
+    → plan_at ring t ≡ Ok (plan, u) → cert_at ring u ≡ Ok (cert, v) → (e ≢ OutOfMemory → events_of kind ring v ≡ Err e) → Reads r new (bundle_at kind s)
+unfolding bundle_at
+bad-script kind (Ok b) e s t u v new ring plan cert is a b' c d = absurd is
+bad-script kind (Err x) e s t u v new ring plan cert is a b c d = rw is (λ other. rw (a, b, c, d other) refl)
+
+-- a text that goes on behind its last section is refused for that
+pub over-late : {A B : Type 0} (n : ℕ) (r : Result A Refusal) (e : Refusal) (s : Left) (read : Result B Refusal) → IsErrAnd r (λ x. x ≡ e) → over_at s ≡ Err e → IfErr r (λ x. x ≡ OutOfMemory → NoFaultBefore n read)
+over-late n (Ok x) e s read is h = tt
+over-late n (Err x) e s read is h = λ memory. absurd (by (is_over s) h (sym is ∙ memory))
+  where
+    by : (t : Bool) → cond {A = Result (Unit {0}) Refusal} t (Ok tt) (Err (BadLine s.line)) ≡ Err e → e ≢ OutOfMemory
+    by true h = λ same. absurd cc
+    by false h = λ same. absurd cc

@@ -1,18 +1,33 @@
 -- Events that are played one behind the other.
-use Rattle.std.proofs.Common.{◌≡◌, ◌∙◌, ℕ, ◌+◌, ◌≤◌, ◌<◌, List, [], ◌∷◌, ◌++◌, length, take, append_assoc, append-nil, refl, sym, ap, subst, arith}
-use Rattle.std.specs.Prelude.{Result, Ok, Err}
+use Rattle.std.proofs.Common.{◌≡◌, ◌∙◌, ℕ, ◌+◌, List, [], ◌∷◌, ◌++◌, length, codes, append_assoc, append-nil, length-append, refl, sym, ap, subst, arith}
+use Rattle.std.specs.Prelude.{Result}
 use Rattle.std.specs.Fmt.{decimal}
+use Rattle.std.proofs.lemmas.Grind.{flat_map-append}
+use Rattle.ring_names.specs.declared.ids.NodeId.{NodeId}
 use Rattle.ring_names.specs.declared.refusal.Refusal.{Refusal}
-use Rattle.ring_table.specs.Value.{RingValue}
+use Rattle.ring_text.specs.Parts.{line_text, text_of}
+use Rattle.ring_text.specs.Frames.{end_fields}
+use Rattle.ring_table.specs.Value.{RingValue, names_of}
+use Rattle.ring_table.specs.Spelling.{rows_lines}
 use Rattle.plan_text.specs.declared.step.Planned.{Planned}
 use Rattle.plan_check.specs.declared.event.Event.{Event}
 use Rattle.plan_check.specs.declared.event.Reply.{Reply}
 use Rattle.plan_check.specs.Answers.{answer}
-use Rattle.plan_check.specs.World.{World as TheWorld}
+use Rattle.plan_check.specs.World.{World as TheWorld, opening_world}
 use Rattle.ring_core.specs.declared.world.World.{World}
-use Rattle.ring_core.specs.World.{ring_of, plan_of, Meets, put_count, get_count}
-use Rattle.ring_script.specs.Play.{behind, said, world_after, event_lines}
+use Rattle.ring_core.specs.Tables.{owners_now}
+use Rattle.ring_core.specs.World.{ring_of, plan_of, Meets}
+use Rattle.ring_script.specs.Play.{behind, said, event_line, world_after, event_lines, owners_text, play_text}
 use Rattle.ring_script.specs.Steps.{Happens, Plays}
+
+plus-zero : (k : ℕ) → k + 0 ≡ k
+plus-zero k = omega arith
+
+zero-plus : (k : ℕ) → 0 + k ≡ k
+zero-plus k = omega arith
+
+plus-one : (k : ℕ) (d : Event) (es : List Event) → (k + 1) + length es ≡ k + length (d ∷ es)
+plus-one k d es = omega arith
 
 module _ (ring : RingValue) (plan : List Planned) where
   -- the world behind one event more
@@ -21,10 +36,16 @@ module _ (ring : RingValue) (plan : List Planned) where
   after_one w (d ∷ es) e = after_one (behind w (answer ring plan w d)) es e
 
   -- and its line
-  pub lines_one : (w : TheWorld) (k : ℕ) (es : List Event) (e : Event) → event_lines ring plan w k (es ++ e ∷ [])
-      ≡ event_lines ring plan w k es ++ decimal (k + length es) ++ 32 ∷ said (answer ring plan (world_after ring plan w es) e)
-  lines_one w k [] e = rw (append-nil (32 ∷ said (answer ring plan w e))) refl
-  lines_one w k (d ∷ es) e = rw lines_one (behind w (answer ring plan w d)) (k + 1) es e refl
+  pub lines_one : (w : TheWorld) (k : ℕ) (es : List Event) (e : Event)
+      → event_lines ring plan w k (es ++ e ∷ []) ≡ event_lines ring plan w k es ++ event_line (k + length es) (answer ring plan (world_after ring plan w es) e)
+  lines_one w k [] e = append-nil (event_line k (answer ring plan w e)) ∙ ap (λ (n : ℕ). event_line n (answer ring plan w e)) (sym (plus-zero k))
+  lines_one w k (d ∷ es) e =
+      let next = behind w (answer ring plan w d) in
+      let line = event_line k (answer ring plan w d) in
+      let last = answer ring plan (world_after ring plan next es) e in
+      ap (λ (l : List ℕ). line ++ l) (lines_one next (k + 1) es e)
+      ∙ (ap (λ (n : ℕ). line ++ (event_lines ring plan next (k + 1) es ++ event_line n last)) (plus-one k d es)
+      ∙ sym (append_assoc line (event_lines ring plan next (k + 1) es) (event_line (k + length (d ∷ es)) last)))
 
 -- nothing was played yet
 pub plays_none : (a : World) (out : List ℕ) → Plays a [] a out out
@@ -36,3 +57,59 @@ plays_none a out = record {
   world = λ w m. m;
   text = λ w m. sym (append-nil out);
 }
+
+-- one event more was played
+pub plays_one : (start old new : World) (es : List Event) (e : Event) (before out after : List ℕ) → Plays start es old before out → Happens old e new out (length es) after → Plays start (es ++ e ∷ []) new before after
+plays_one start old new es e before out after p h = record {
+  ring = h.ring ∙ p.ring;
+  plan = h.plan ∙ p.plan;
+  puts = (let a = h.puts in let b = p.puts in let n = length-append es (e ∷ []) in omega arith);
+  gets = (let a = h.gets in let b = p.gets in let n = length-append es (e ∷ []) in omega arith);
+  world = λ w m. subst (λ (u : TheWorld). Meets new u) (same w) (h.world (there w) (p.world w m));
+  text = λ w m. h.text (there w) (p.world w m)
+      ∙ (append_assoc out (decimal (length es)) (32 ∷ said (answer (ring_of old) (plan_of old) (there w) e))
+      ∙ (ap (λ (r : Result (TheWorld × Reply) Refusal). out ++ event_line (length es) r) (answered w)
+      ∙ (ap (λ (l : List ℕ). l ++ event_line (length es) (answer (ring_of start) (plan_of start) (there w) e)) (p.text w m)
+      ∙ (append_assoc before (event_lines (ring_of start) (plan_of start) w 0 es) (event_line (length es) (answer (ring_of start) (plan_of start) (there w) e))
+      ∙ ap (λ (l : List ℕ). before ++ l) (sym (first_lines w))))));
+}
+  where
+    there : TheWorld → TheWorld
+    there w = world_after (ring_of start) (plan_of start) w es
+
+    answered : (w : TheWorld) → answer (ring_of old) (plan_of old) (there w) e ≡ answer (ring_of start) (plan_of start) (there w) e
+    answered w = ap (λ (r : RingValue). answer r (plan_of old) (there w) e) p.ring ∙ ap (λ (s : List Planned). answer (ring_of start) s (there w) e) p.plan
+
+    first_lines : (w : TheWorld) → event_lines (ring_of start) (plan_of start) w 0 (es ++ e ∷ [])
+        ≡ event_lines (ring_of start) (plan_of start) w 0 es ++ event_line (length es) (answer (ring_of start) (plan_of start) (there w) e)
+    first_lines w = lines_one (ring_of start) (plan_of start) w 0 es e
+        ∙ ap (λ (n : ℕ). event_lines (ring_of start) (plan_of start) w 0 es ++ event_line n (answer (ring_of start) (plan_of start) (there w) e)) (zero-plus (length es))
+
+    same : (w : TheWorld) → behind (there w) (answer (ring_of old) (plan_of old) (there w) e) ≡ world_after (ring_of start) (plan_of start) w (es ++ e ∷ [])
+    same w = ap (λ (r : Result (TheWorld × Reply) Refusal). behind (there w) r) (answered w) ∙ sym (after_one (ring_of start) (plan_of start) w es e)
+
+-- `yes`, all events, and the owners behind them
+pub all_shown : (start new : World) (es : List Event) (rows : List (List NodeId)) (a b c d : List ℕ) → Meets start (opening_world (ring_of start)) → a ≡ codes "yes" ++ 10 ∷ [] → Plays start es new a b
+    → ((w : TheWorld) → Meets new w → rows ≡ owners_now (ring_of new) (plan_of new) w) → c ≡ b ++ text_of (rows_lines (names_of (ring_of start)) 0 rows) → d ≡ c ++ (codes "end" ++ 10 ∷ [])
+    → d ≡ play_text (ring_of start) (plan_of start) es
+unfolding play_text
+all_shown start new es rows a b c d m start_text p table owners last =
+    last
+    ∙ (ap (λ (l : List ℕ). l ++ (codes "end" ++ 10 ∷ [])) owners
+    ∙ (append_assoc b (text_of (rows_lines names 0 rows)) (codes "end" ++ 10 ∷ [])
+    ∙ (ap (λ (l : List ℕ). b ++ l) (sym (flat_map-append line_text (rows_lines names 0 rows) (end_fields ∷ [])))
+    ∙ (ap (λ (rs : List (List NodeId)). b ++ text_of (rows_lines names 0 rs ++ end_fields ∷ [])) (table there (p.world opening m))
+    ∙ (ap (λ (r : RingValue). b ++ text_of (rows_lines names 0 (owners_now r (plan_of new) there) ++ end_fields ∷ [])) p.ring
+    ∙ (ap (λ (s : List Planned). b ++ text_of (rows_lines names 0 (owners_now (ring_of start) s there) ++ end_fields ∷ [])) p.plan
+    ∙ (ap (λ (l : List ℕ). l ++ owners_text (ring_of start) (plan_of start) there) (p.text opening m)
+    ∙ (ap (λ (l : List ℕ). l ++ event_lines (ring_of start) (plan_of start) opening 0 es ++ owners_text (ring_of start) (plan_of start) there) start_text
+    ∙ append_assoc (codes "yes" ++ 10 ∷ []) (event_lines (ring_of start) (plan_of start) opening 0 es) (owners_text (ring_of start) (plan_of start) there)))))))))
+  where
+    opening : TheWorld
+    opening = opening_world (ring_of start)
+
+    names : List (List ℕ)
+    names = names_of (ring_of start)
+
+    there : TheWorld
+    there = world_after (ring_of start) (plan_of start) opening es

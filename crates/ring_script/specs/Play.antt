@@ -25,15 +25,19 @@ abbrev pub said : Result (World × Reply) Refusal → List ℕ
 said (Ok x) = reply_text x.1 ++ 10 ∷ []
 said (Err e) = line_of e
 
+-- the line of the event at place k
+abbrev pub event_line : ℕ → Result (World × Reply) Refusal → List ℕ
+event_line k answered = decimal k ++ 32 ∷ said answered
+
 -- the world behind the events
 abbrev pub world_after : RingValue → List Planned → World → List Event → World
 world_after ring plan w [] = w
 world_after ring plan w (e ∷ es) = world_after ring plan (behind w (answer ring plan w e)) es
 
--- a line for each event: its place, from k on, and what is said of it
+-- a line for each event, the first one at place k
 abbrev pub event_lines : RingValue → List Planned → World → ℕ → List Event → List ℕ
 event_lines ring plan w k [] = []
-event_lines ring plan w k (e ∷ es) = decimal k ++ (32 ∷ said (answer ring plan w e)) ++ event_lines ring plan (behind w (answer ring plan w e)) (k + 1) es
+event_lines ring plan w k (e ∷ es) = event_line k (answer ring plan w e) ++ event_lines ring plan (behind w (answer ring plan w e)) (k + 1) es
 
 -- the lines of the owners in a world, and `end`
 abbrev pub owners_text : RingValue → List Planned → World → List ℕ

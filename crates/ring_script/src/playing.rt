@@ -57,11 +57,7 @@ fn play_events(world: &mut World, out: &mut Vec<u8>, events: &[Event]) -> Result
 }
 
 // The lines of owners, from partition 0 on.
-fn push_owners(
-    out: &mut Vec<u8>,
-    nodes: &[Node],
-    rows: &[Listed<NodeId>],
-) -> Result<(), AllocError>
+fn push_owners(out: &mut Vec<u8>, nodes: &[Node], rows: &[Listed<NodeId>]) -> Result<(), AllocError>
     requires { length rows.now ≤ 4096 }
     ensures { OnOk result (out.new.items ≡ out.old.items ++ text_of (rows_lines (map (λ x. x.name) nodes.now) 0 rows.now)) }
 {

@@ -1,11 +1,11 @@
-use Rattle.std.proofs.Common.{◌≡◌, ◌∙◌, ℕ, List, ap, arith}
+use Rattle.std.proofs.Common.{◌≡◌, ◌∙◌, ℕ, List, length, ap, arith}
 use Rattle.ring_names.specs.declared.ids.NodeId.{NodeId}
 use Rattle.ring_table.specs.Value.{RingValue}
 use Rattle.plan_check.specs.World.{slot_at}
 use Rattle.ring_parts.specs.Parts.{kept_of}
 use Rattle.ring_core.specs.Tables.{values_below, table_of, owner_kept}
 use Rattle.ring_core.specs.World.{ring_of, plan_of}
-use Rattle.ring_core.proofs.Tabled.{table_told, table_last}
+use Rattle.ring_core.proofs.Tabled.{length_values, table_told, table_last}
 use Rattle.ring_core.proofs.world.World.table.Goals as goal
 
 -- the rows are the table of the kept owners
@@ -22,3 +22,7 @@ returns-clause-now c w m = rows_are c ∙ table_told (ring_of c.args.self.now) (
 -- src/reads.rt:82:5
 pub returns-clause-last : goal.returns-clause-last
 returns-clause-last c w m all = rows_are c ∙ (table_told (ring_of c.args.self.now) (plan_of c.args.self.now) (kept_of c.args.self.now.parts) w m ∙ table_last (ring_of c.args.self.now) (plan_of c.args.self.now) w all)
+
+-- src/reads.rt:82:5
+pub returns-clause-size : goal.returns-clause-size
+returns-clause-size c = ap (λ (rows : List (List NodeId)). length rows) (rows_are c) ∙ length_values {A = List NodeId} (ring_of c.args.self.now).q _

@@ -1,0 +1,7 @@
+use Rattle.std.proofs.Common.{◌≡◌, ◌++◌, map, take}
+use Rattle.ring_text.specs.Parts.{text_of}
+use Rattle.ring_table.specs.Spelling.{rows_lines}
+use Rattle.ring_script.proofs.playing.push_owners.Given as goal
+
+abbrev pub invariant-loop-partition : goal.invariant-loop-partition
+invariant-loop-partition l = l.out.items ≡ l.fn.out.items ++ text_of (rows_lines (map (λ y. y.name) l.nodes) 0 (take l.partition l.rows))
