@@ -1,15 +1,17 @@
 -- What a job makes of a bundle, by its parts.
-use Rattle.std.proofs.Common.{◌≡◌, ◌==◌, if◌then◌else◌, Bool, true, false, ℕ, List, Option, Some, None, Result, Ok, Err, IfOk, IfErr, ap, sym, ◌∙◌}
+use Rattle.std.proofs.Common.{◌≡◌, ◌==◌, if◌then◌else◌, Bool, true, false, ℕ, List, Option, Some, None, Result, Ok, Err, IfOk, IfErr, refl, ap, sym, ◌∙◌}
 use Rattle.std.specs.Global.{Vec}
 use Rattle.ring_names.specs.declared.refusal.Refusal.{Refusal}
 use Rattle.ring_names.specs.declared.refusal.Refusal.TheVariants.{OutOfMemory}
 use Rattle.ring_text.specs.Judging.{Gives}
 use Rattle.ring_text.specs.Left.{whole_text}
 use Rattle.ring_table.specs.Value.{RingValue, migrated}
+use Rattle.plan_text.specs.declared.step.Planned.{Planned}
 use Rattle.plan_cert.specs.declared.cert.Cert.{Cert}
 use Rattle.plan_cert.specs.Valid.{Suits}
 use Rattle.plan_check.specs.First.{first_refusal}
 use Rattle.ring_script.specs.Bundles.{bundle_at}
+use Rattle.ring_script.specs.Play.{play_text}
 use Rattle.ring_script.specs.declared.bundle.Bundle.{Bundle}
 use Rattle.ring_script.specs.declared.bundle.Kind.TheVariants.{Check, Play}
 use Rattle.ringplan_run.specs.Answers.{texts_of}
@@ -44,6 +46,14 @@ pub gives-migration : (bytes : List ℕ) (b : Bundle) (r : Result (Vec ℕ) Refu
     → Gives (texts_of r) (migration bytes)
 gives-migration bytes b (Ok v) h p q = migration-good bytes b h ∙ ap Ok (sym p)
 gives-migration bytes b (Err e) h p q = λ other. absurd (other q)
+
+-- what plays the script of what was read and accepted, memory aside, gives what is shown
+pub gives-play : (b : Bundle) (ring : RingValue) (plan : List Planned) (r : Result (Vec ℕ) Refusal) → first_refusal b.ring b.plan b.cert ≡ None → (ring ≡ b.ring) × (plan ≡ b.plan) → IfOk r (λ v. v.items ≡ play_text ring plan b.script)
+    → IfErr r (λ e. e ≡ OutOfMemory) → Gives (texts_of r) (shown b)
+gives-play b ring plan (Ok v) accepted same p q =
+    let text = p ∙ (ap (λ (x : RingValue). play_text x plan b.script) same.0 ∙ ap (λ (x : List Planned). play_text b.ring x b.script) same.1) in
+    rw accepted (ap Ok (sym text))
+gives-play b ring plan (Err e) accepted same p q = λ other. absurd (other q)
 
 -- a certificate of a ring is one of the ring migrated: the nodes are the same
 pub cert-migrated : (ring : RingValue) (v : Cert) → Suits ring v → Suits (migrated ring) v

@@ -16,15 +16,17 @@ word_of Check = codes "check"
 word_of Migrate = codes "migrate"
 word_of Play = codes "play"
 
--- a command with one subcommand more, that of a job
+-- the program's name, behind which it wants a subcommand
+abbrev pub wanting : App
+wanting = let app = new_app (codes "ringplan") in record app { top = record app.top { subcommand_required = true } }
+
+-- with one subcommand more, that of a job
 abbrev pub with_job : App → Job → App
 with_job app job = with_subcommand app (new_app (word_of job)).top
 
 -- `ringplan`, which wants one of its subcommands `check`, `migrate` and `play`
 abbrev pub ringplan : App
-ringplan =
-    let app = with_job (with_job (with_job (new_app (codes "ringplan")) Check) Migrate) Play in
-    record app { top = record app.top { subcommand_required = true } }
+ringplan = with_job (with_job (with_job wanting Check) Migrate) Play
 
 -- what the words of a command line ask: how they fail, and where they do not, the job
 pub record Asked : Type 0 where

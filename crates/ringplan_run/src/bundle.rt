@@ -72,7 +72,10 @@ fn write_migrated(alloc: Global, bundle: Bundle) -> Result<Vec<u8>, Refusal>
     ensures memory { IfErr result (λ e. e ≡ OutOfMemory) }
 {
     let Bundle {
-        ring, plan, cert, ..
+        ring,
+        plan,
+        cert,
+        ..
     } = bundle;
     let steps = write_plan(alloc, &ring, &plan)?;
     let ring = ring.migrate();

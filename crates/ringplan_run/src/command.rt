@@ -1,8 +1,8 @@
 //! The command line.
 
 ghost use Rattle.std.specs.Prelude.{◌≡◌, ◌⊎◌, ◌∷◌, [], IfOk, drop, map};
-ghost use Rattle.clap.specs.Words.{app_of, subcommand_rows_of};
-ghost use Rattle.ringplan_run.specs.Command.{Answers, asked, job_named, ringplan, word_of};
+ghost use Rattle.clap.specs.Words.{app_of, new_app, subcommand_rows_of, with_subcommand};
+ghost use Rattle.ringplan_run.specs.Command.{Answers, asked, job_named, ringplan, wanting, word_of};
 ghost use Rattle.ringplan_run.specs.declared.job.Job.{Job};
 
 use crate::job::Job;
@@ -118,24 +118,35 @@ fn job_of(matches: &ArgMatches) -> Job
     }
 }
 
-// The command lines that there are.
-fn command<'a>(alloc: Global) -> Result<Command<'a>, AllocError>
-    ensures { IfOk result (λ command. app_of command ≡ ringplan) }
+// The program's own line, which wants a subcommand.
+fn alone<'a>(alloc: Global) -> Command<'a>
+    ensures { app_of result ≡ wanting }
 {
-    let check = Command::new(alloc, "check")
-        .about(CHECK)
-        .after_help(CHECK_STREAMS);
-    let migrate = Command::new(alloc, "migrate")
-        .about(MIGRATE)
-        .after_help(MIGRATE_STREAMS);
-    let play = Command::new(alloc, "play")
-        .about(PLAY)
-        .after_help(PLAY_STREAMS);
     Command::new(alloc, "ringplan")
         .about(ABOUT)
         .after_help(STREAMS)
         .subcommand_required(true)
-        .subcommand(check)?
-        .subcommand(migrate)?
-        .subcommand(play)
+}
+
+// A command with one subcommand more: its word, what it does, and what it reads and prints.
+fn with_job<'a>(
+    alloc: Global,
+    command: Command<'a>,
+    word: &'a str,
+    about: &'a str,
+    streams: &'a str,
+) -> Result<Command<'a>, AllocError>
+    ensures { IfOk result (λ c. app_of c ≡ with_subcommand (app_of command.entry) (new_app word.entry.now).top) }
+{
+    let job = Command::new(alloc, word).about(about).after_help(streams);
+    command.subcommand(job)
+}
+
+// The command lines that there are.
+fn command<'a>(alloc: Global) -> Result<Command<'a>, AllocError>
+    ensures { IfOk result (λ command. app_of command ≡ ringplan) }
+{
+    let checks = with_job(alloc, alone(alloc), "check", CHECK, CHECK_STREAMS)?;
+    let migrates = with_job(alloc, checks, "migrate", MIGRATE, MIGRATE_STREAMS)?;
+    with_job(alloc, migrates, "play", PLAY, PLAY_STREAMS)
 }
