@@ -2,3 +2,5 @@ pub mod DigitLaws
 pub mod ScriptLates
 pub mod NextLaws
 pub mod WriteLaws
+pub mod ValueLaws
+pub mod FieldLaws
