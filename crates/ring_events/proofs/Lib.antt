@@ -4,3 +4,4 @@ pub mod NextLaws
 pub mod WriteLaws
 pub mod ValueLaws
 pub mod FieldLaws
+pub mod KindLaws
