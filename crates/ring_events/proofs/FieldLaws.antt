@@ -97,7 +97,8 @@ named-at [] i name all e = absurd cc
 named-at (x ∷ xs) zero name all e = let same : x ≡ name = cc in ap is_name (sym same) ∙ (and_parts (is_name x) (list_all is_name xs) all).0
 named-at (x ∷ xs) (suc i) name all e = named-at xs i name (and_parts (is_name x) (list_all is_name xs) all).1 e
 
-writer_at-is : (names : List (List ℕ)) (w : WriterId) (name : List ℕ) → slice_get names w.0 ≡ Some name → writer_at names w ≡ name
+-- the name that stands at the number
+pub writer_at-is : (names : List (List ℕ)) (w : WriterId) (name : List ℕ) → slice_get names w.0 ≡ Some name → writer_at names w ≡ name
 writer_at-is names w name e = rw (e, writer_at) refl
 
 -- the name of a writer that a line says

@@ -5,3 +5,5 @@ pub mod WriteLaws
 pub mod ValueLaws
 pub mod FieldLaws
 pub mod KindLaws
+pub mod WriterLaws
+pub mod SaidLines
