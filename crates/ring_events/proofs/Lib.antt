@@ -7,3 +7,4 @@ pub mod FieldLaws
 pub mod KindLaws
 pub mod WriterLaws
 pub mod SaidLines
+pub mod SightLaws
