@@ -8,3 +8,4 @@ pub mod KindLaws
 pub mod WriterLaws
 pub mod SaidLines
 pub mod SightLaws
+pub mod ScriptLaws
