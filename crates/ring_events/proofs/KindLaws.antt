@@ -1,5 +1,5 @@
 -- An event's line is read only if it is spelled so.
-use Rattle.std.proofs.Common.{◌≡◌, ℕ, suc, ◌<◌, Bool, true, false, cond, nat_lt, List, [], ◌∷◌, ◌++◌, length, codes, Result, Ok, Err, refl, sym, ap, subst, ◌∙◌, arith, length-append}
+use Rattle.std.proofs.Common.{◌≡◌, ℕ, ◌<◌, Bool, true, false, cond, nat_lt, List, [], ◌∷◌, ◌++◌, length, codes, Result, Ok, Err, refl, sym, ap, subst, ◌∙◌, arith, length-append}
 use Rattle.std.specs.Fmt.{decimal}
 use Rattle.std.specs.Str.{bytes_eq}
 use Rattle.std.proofs.lemmas.Bool.{ltb-true, lt-ltb}
@@ -19,7 +19,6 @@ use Rattle.plan_check.specs.declared.event.Event.{Event}
 use Rattle.ring_events.specs.Said.{writer_of, with_writer, event_of, names_after}
 use Rattle.ring_events.specs.declared.said.SaidWriter.{SaidWriter}
 use Rattle.ring_events.specs.declared.said.SaidWriter.TheVariants.{Known, New}
-use Rattle.ring_events.specs.declared.said.SaidPut.{SaidPut}
 use Rattle.ring_events.specs.declared.said.SaidEvent.{SaidEvent}
 use Rattle.ring_events.specs.declared.said.SaidEvent.TheVariants.{Do, OpenCopy, ChunkCopy, CloseCopy, AbortCopy, StartPut, Write, Hint, Ack, StartGet, Read, EndGet, Down, Up, Handoff, Lose}
 use Rattle.ring_events.specs.Known.{IsKnown}
@@ -43,6 +42,7 @@ pub record IsSaid (ring : RingValue) (names : List (List ℕ)) (x : SaidEvent) :
 abbrev pub said_fields : RingValue → List (List ℕ) → SaidEvent → List (List ℕ)
 said_fields ring names x = event_fields (names_of ring) (names_after names x) (event_of names x)
 
+-- the writer of a put is known behind it
 writer-known : (names : List (List ℕ)) (x : SaidWriter) → IsWriter names x → (writer_of names x).0 < length (with_writer names x)
 writer-known names (Known w) p = p
 writer-known names (New name) p = let more = length-append names (name ∷ []) in omega arith
@@ -60,6 +60,7 @@ choose G word z w x y e f g = by (bytes_eq word w) refl e
     by false h i = g i
 
 module _ (ring : RingValue) (names : List (List ℕ)) (k : ℕ) (nodes : AreNames (names_of ring)) (writers : AreWriters names) where
+  -- the fields are the line of what was read, and it is allowed
   abbrev Found : List (List ℕ) → List (List ℕ) → SaidEvent → Type 0
   Found fields rest x = (fields ≡ said_fields ring names x ++ rest) × IsSaid ring names x
 
@@ -72,24 +73,31 @@ module _ (ring : RingValue) (names : List (List ℕ)) (k : ℕ) (nodes : AreName
       let start : Found (word ∷ fields) rest (f g.0) = (g.2 ∙ ap (λ (y : List ℕ). (y ∷ s g.0) ++ rest) e.0 ∙ ap (λ (r : List (List ℕ)). r ++ rest) (sym (spelled g.0)), is g.0 g.3) in
       subst (Found (word ∷ fields) rest) g.1 start
 
+  -- a number of 32 bits
   counts : IsFront Last (count_at k) (λ n. decimal n ∷ []) IsCount
   counts = front-item Last _ _ _ (item-count k)
 
+  -- two numbers of 32 bits
   pairs : IsFront Last (pair_at k) pair_fields AreCounts
   pairs = front-item Last _ _ _ (item-pair k)
 
+  -- a declared node
   declared : IsFront Last (declared_at ring k) (node_fields ring) (IsNode ring)
   declared = front-item Last _ _ _ (item-node ring k nodes)
 
+  -- two numbers and a node
   hints : IsFront Last (hint_at ring k) (λ x. pair_fields x.0 ++ node_fields ring x.1) (λ x. AreCounts x.0 × IsNode ring x.1)
   hints = front-item Last _ _ _ (item-hint ring k nodes)
 
+  -- a node and two numbers
   handoffs : IsFront Last (handoff_at ring k) (λ x. node_fields ring x.0 ++ pair_fields x.1) (λ x. IsNode ring x.0 × AreCounts x.1)
   handoffs = front-item Last _ _ _ (item-handoff ring k nodes)
 
+  -- a key
   keys : IsFront Last (field_at k (judge_key k)) (λ key. key ∷ []) (λ key. is_key key ≡ true)
   keys = front-item Last _ _ _ (item-key k)
 
+  -- a put
   puts : IsFront Last (put_at names k) (put_fields names) (IsPut names)
   puts = front-put names k writers
 
@@ -98,14 +106,17 @@ module _ (ring : RingValue) (names : List (List ℕ)) (k : ℕ) (nodes : AreName
       → (word ≡ w) × (◌≡◌ {A = Pair} (map_item f (count_at k) fields) (Ok v, rest)) → Found (word ∷ fields) rest v
   one f word w fields rest v = found (count_at k) (λ n. decimal n ∷ []) IsCount f word w fields rest v counts
 
+  -- an event of two numbers
   two : (f : ℕ → ℕ → SaidEvent) (word w : List ℕ) (fields rest : List (List ℕ)) (v : SaidEvent) → ((n m : ℕ) → said_fields ring names (f n m) ≡ w ∷ decimal n ∷ decimal m ∷ []) → ((n m : ℕ) → IsCount n × IsCount m → IsSaid ring names (f n m))
       → (word ≡ w) × (◌≡◌ {A = Pair} (map_item (λ (x : ℕ × ℕ). f x.0 x.1) (pair_at k) fields) (Ok v, rest)) → Found (word ∷ fields) rest v
   two f word w fields rest v spelled is = found (pair_at k) pair_fields AreCounts (λ (x : ℕ × ℕ). f x.0 x.1) word w fields rest v pairs (λ x. spelled x.0 x.1) (λ x p. is x.0 x.1 p)
 
+  -- an event of a node
   node : (f : NodeId → SaidEvent) (word w : List ℕ) (fields rest : List (List ℕ)) (v : SaidEvent) → ((x : NodeId) → said_fields ring names (f x) ≡ w ∷ node_fields ring x) → ((x : NodeId) → IsNode ring x → IsSaid ring names (f x))
       → (word ≡ w) × (◌≡◌ {A = Pair} (map_item f (declared_at ring k) fields) (Ok v, rest)) → Found (word ∷ fields) rest v
   node f word w fields rest v = found (declared_at ring k) (node_fields ring) (IsNode ring) f word w fields rest v declared
 
+  -- a line that has a word is read only if it is spelled so
   take-word : (word : List ℕ) (fields rest : List (List ℕ)) (v : SaidEvent) → kind_at ring names k (word ∷ fields) ≡ (Ok v, rest) → Found (word ∷ fields) rest v
   unfolding kind_at
   take-word word fields rest v e =
@@ -116,7 +127,7 @@ module _ (ring : RingValue) (names : List (List ℕ)) (k : ℕ) (nodes : AreName
       on (codes "close") _ _ e3 (one CloseCopy word (codes "close") fields rest v (λ n. refl) (λ n p. record { event = p; known = tt; writer = tt })) (λ e4.
       on (codes "abort") _ _ e4 (one AbortCopy word (codes "abort") fields rest v (λ n. refl) (λ n p. record { event = p; known = tt; writer = tt })) (λ e5.
       on (codes "put") _ _ e5 (found (put_at names k) (put_fields names) (IsPut names) StartPut word (codes "put") fields rest v puts (λ p. refl)
-          (λ p q. record { event = (q.key, q.value, q.gets); known = writer-known names p.writer q.writer; writer = q.writer })) (λ e6.
+      (λ p q. record { event = (q.key, q.value, q.gets); known = writer-known names p.writer q.writer; writer = q.writer })) (λ e6.
       on (codes "write") _ _ e6 (two Write word (codes "write") fields rest v (λ n m. refl) (λ n m p. record { event = p; known = tt; writer = tt })) (λ e7.
       on (codes "hint") _ _ e7 (found (hint_at ring k) _ _ (λ x. Hint x.0.0 x.0.1 x.1) word (codes "hint") fields rest v hints (λ x. refl) (λ x p. record { event = p.0; known = p.1; writer = tt })) (λ e8.
       on (codes "ack") _ _ e8 (one Ack word (codes "ack") fields rest v (λ n. refl) (λ n p. record { event = p; known = tt; writer = tt })) (λ e9.
@@ -126,13 +137,15 @@ module _ (ring : RingValue) (names : List (List ℕ)) (k : ℕ) (nodes : AreName
       on (codes "down") _ _ e12 (node Down word (codes "down") fields rest v (λ x. refl) (λ x p. record { event = tt; known = p; writer = tt })) (λ e13.
       on (codes "up") _ _ e13 (node Up word (codes "up") fields rest v (λ x. refl) (λ x p. record { event = tt; known = p; writer = tt })) (λ e14.
       on (codes "handoff") _ _ e14 (found (handoff_at ring k) _ _ (λ x. Handoff x.0 (record { partition = x.1.0; index = x.1.1 })) word (codes "handoff") fields rest v handoffs (λ x. refl)
-          (λ x p. record { event = p.1; known = p.0; writer = tt })) (λ e15.
+      (λ x p. record { event = p.1; known = p.0; writer = tt })) (λ e15.
       on (codes "lose") _ (Err (BadLine k), fields) e15 (node Lose word (codes "lose") fields rest v (λ x. refl) (λ x p. record { event = tt; known = p; writer = tt })) (λ e16.
       (let h = pair_is {A = Result SaidEvent Refusal} (Err (BadLine k), fields) (Ok v) rest e16 in absurd cc)))))))))))))))))
 
+  -- a value that was read, made into what the line says
   made : {A : Type 0} (f : A → SaidEvent) (x : A) (r : Result A Refusal × List (List ℕ)) (rest : List (List ℕ)) → r ≡ (Ok x, rest) → ◌≡◌ {A = Pair} (map_ok f r.0, r.1) (Ok (f x), rest)
   made {A = A} f x r rest e = ap (λ (p : Result A Refusal × List (List ℕ)). (map_ok f p.0, p.1)) e
 
+  -- what a line says is read from just its spelling
   pub front-kind : IsFront Last (kind_at ring names k) (said_fields ring names) (IsSaid ring names)
   unfolding kind_at
   front-kind = record { takes = take; gives = give }
@@ -166,6 +179,7 @@ pub record IsSaidLine (ring : RingValue) (events : List Event) (names : List (Li
   pub room : length events < 1000000
   pub said : IsSaid ring names x
 
+-- the line of an event is read from just its spelling
 pub said-line : (ring : RingValue) (events : List Event) (names : List (List ℕ)) (k : ℕ) → AreNames (names_of ring) → AreWriters names → IsLine (said_at ring events names k) (said_fields ring names) (IsSaidLine ring events names)
 unfolding said_at
 said-line ring events names k nodes writers =

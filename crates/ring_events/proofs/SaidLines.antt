@@ -1,8 +1,7 @@
 -- The lines of a script, one behind the other, are read only if they are spelled so.
-use Rattle.std.proofs.Common.{◌≡◌, ℕ, ◌+◌, ◌<◌, ◌≤◌, Bool, true, false, cond, List, [], ◌∷◌, ◌++◌, length, map, codes, Result, Ok, Err, refl, sym, ap, subst, ◌∙◌, arith, append_assoc, length-append}
+use Rattle.std.proofs.Common.{◌≡◌, ℕ, Bool, true, false, cond, List, [], ◌∷◌, ◌++◌, codes, Result, Ok, refl, sym, ap, subst, ◌∙◌, append_assoc}
 use Rattle.std.proofs.lemmas.List.{append-nil}
 use Rattle.ring_names.specs.declared.refusal.Refusal.{Refusal}
-use Rattle.ring_names.specs.declared.refusal.Refusal.TheVariants.{BadLine}
 use Rattle.ring_text.specs.Left.{Left, ◌>>=◌, next_number, begins_with, first_line}
 use Rattle.ring_text.specs.Laws.{SomeLeft}
 use Rattle.ring_text.proofs.Items.{ok_is, bind_ok, first_is, some_lines}
@@ -42,6 +41,7 @@ EachSaid ring seen names (x ∷ xs) = IsSaidLine ring seen names x × EachSaid r
 abbrev pub Ends : List (List ℕ) → Type 0
 Ends line = begins_with (codes "end") (line ∷ []) ≡ true
 
+-- such a line begins with `end` whatever follows it
 ends-any : (line : List (List ℕ)) (more : List (List (List ℕ))) → Ends line → begins_with (codes "end") (line ∷ more) ≡ true
 ends-any [] more h = absurd cc
 ends-any (f ∷ fs) more h = h
@@ -51,9 +51,11 @@ goes-on : (nodes names : List (List ℕ)) (e : Event) (more : List (List (List �
 goes-on nodes names (event.Do s) more = refl
 goes-on nodes names e more = refl
 
+-- what is left behind the first line is one thing
 tail_is : (a b : List (List ℕ)) (xs ys : List (List (List ℕ))) → a ∷ xs ≡ b ∷ ys → xs ≡ ys
 tail_is a b xs ys h = cc
 
+-- a line behind which another stands is ended
 first-ok : (k : ℕ) (line : List (List ℕ)) (rest : List (List (List ℕ))) (z : List (List ℕ)) (zs : List (List (List ℕ))) → rest ≡ z ∷ zs → first_line k (line ∷ rest) ≡ Ok (line, record { line = next_number k; lines = rest })
 first-ok k line rest z zs e = rw e refl
 
@@ -67,12 +69,15 @@ pub record Read (ring : RingValue) (seen : List Event) (names : List (List ℕ))
   pub some : SomeLeft t
 
 module _ (ring : RingValue) (nodes : AreNames (names_of ring)) where
+  -- events, and the writers behind them
   abbrev Script : Type 0
   Script = List Event × List (List ℕ)
 
+  -- the same of what reading gave
   abbrev IsRead : List Event → List (List ℕ) → List (List (List ℕ)) → Script × Left → Type 0
   IsRead seen names lines w = Read ring seen names w.0.0 w.0.1 lines w.1
 
+  -- whether the next line ends the script or is one of its events
   read-by : (b : Bool) (seen : List Event) (names : List (List ℕ)) (k : ℕ) (line : List (List ℕ)) (more : List (List (List ℕ))) (w : Script × Left) → AreWriters names
       → ((ys : List Event) (ns : List (List ℕ)) → AreWriters ns → events_from ring ys ns (next_number k) more ≡ Ok w → (x : List (List ℕ)) × (zs : List (List (List ℕ))) × (more ≡ x ∷ zs) → IsRead ys ns more w)
       → ◌≡◌ {A = Result (Script × Left) Refusal} (cond b (Ok ((seen, names), record { line = k; lines = line ∷ more })) (first_line k (line ∷ more) >>= λ _. said_at ring seen names k line

@@ -1,5 +1,5 @@
 -- New writers are numbered in order of first sight: what lines say is a script, and a script is what some lines say.
-use Rattle.std.proofs.Common.{◌≡◌, ℕ, zero, suc, ◌+◌, ◌<◌, ◌≤◌, List, [], ◌∷◌, ◌++◌, length, map, Some, None, refl, sym, ap, subst, ◌∙◌, arith, append_assoc, length-append, inl, inr, ◌⊎◌}
+use Rattle.std.proofs.Common.{◌≡◌, ℕ, zero, suc, ◌+◌, ◌<◌, ◌≤◌, List, [], ◌∷◌, ◌++◌, length, map, Some, refl, sym, ap, subst, ◌∙◌, arith, append_assoc, length-append, inl, inr}
 use Rattle.std.specs.Prelude.{slice_get}
 use Rattle.std.specs.List.{AllByRecursion}
 use Rattle.std.proofs.lemmas.Bool.{cases_lt}
@@ -19,8 +19,8 @@ use Rattle.ring_events.specs.Known.{IsKnown, AreKnown}
 use Rattle.ring_events.specs.Spelling.{event_fields}
 use Rattle.ring_events.specs.Valid.{AreWriters, WritesAt, IsEvent}
 use Rattle.ring_events.proofs.FieldLaws.{get-last, get-front, named-at, IsWriter}
-use Rattle.ring_events.proofs.KindLaws.{NamesWriter, IsSaid, IsSaidLine}
-use Rattle.ring_events.proofs.WriterLaws.{not-before, front-writers, writer-more, after-writers}
+use Rattle.ring_events.proofs.KindLaws.{NamesWriter, IsSaid}
+use Rattle.ring_events.proofs.WriterLaws.{not-before, writer-more, after-writers}
 use Rattle.ring_events.proofs.SaidLines.{events_of, names_behind, lines_of, EachSaid}
 
 -- ---- one event
@@ -29,9 +29,11 @@ use Rattle.ring_events.proofs.SaidLines.{events_of, names_behind, lines_of, Each
 abbrev Puts : Event → ℕ → Type 0
 Puts e w = (key : List ℕ) × (value : List ℕ) × (gets : List ℕ) × (e ≡ event.StartPut (record { 0 = w }) key value gets)
 
+-- the first event is that writer's put
 puts-at : (e : Event) (es : List Event) (w : ℕ) → Puts e w → WritesAt (e ∷ es) 0 w
 puts-at e es w p = (p.0, p.1, p.2, ap (λ (x : Event). Some x) p.3)
 
+-- and the other way round
 at-puts : (e : Event) (es : List Event) (w : ℕ) → WritesAt (e ∷ es) 0 w → Puts e w
 at-puts e es w p = let same = p.3 in (p.0, p.1, p.2, cc)
 
@@ -42,15 +44,18 @@ record Grows (names next : List (List ℕ)) (e : Event) : Type 0 where
   pub least : (w : ℕ) → Puts e w → w ≤ length names
   pub kept : (w : ℕ) → Puts e w → w < length next
 
+-- an event that names no new writer
 still : (names : List (List ℕ)) (e : Event) → ((w : ℕ) → Puts e w → w < length names) → Grows names names e
 still names e below = record { grown = ([], sym (append-nil names)); first = λ w le lt. absurd (omega arith); least = λ w p. omega (arith, below w p); kept = below }
 
+-- a put is of one writer
 same-writer : (x : WriterId) (key value gets : List ℕ) (w : ℕ) → Puts (event.StartPut x key value gets) w → x.0 ≡ w
 same-writer x key value gets w p =
     let e = p.3 in
     let same : x ≡ record { 0 = w } = cc in
     ap (λ (y : WriterId). y.0) same
 
+-- the writers behind a put
 grows-put : (names : List (List ℕ)) (p : SaidPut) (x : SaidWriter) → IsWriter names x → Grows names (names_after names (said.StartPut (record p { writer = x }))) (event_of names (said.StartPut (record p { writer = x })))
 grows-put names p (Known n) is = still names (event.StartPut n p.key p.value p.seen) (λ w h. let same = same-writer n p.key p.value p.seen w h in omega arith)
 grows-put names p (New name) is =
@@ -62,6 +67,7 @@ grows-put names p (New name) is =
       kept = λ w h. (let same = same-writer (record { 0 = length names }) p.key p.value p.seen w h in omega arith);
     }
 
+-- the writers behind what a line says
 grows-said : (names : List (List ℕ)) (x : SaidEvent) → NamesWriter names x → Grows names (names_after names x) (event_of names x)
 grows-said names (said.StartPut p) is = grows-put names p p.writer is
 grows-said names x is = still names (event_of names x) (λ w h. let e = h.3 in absurd cc)
@@ -76,6 +82,7 @@ pub record IsRest (ring : RingValue) (names last : List (List ℕ)) (events : Li
   pub seen : (w : ℕ) → length names ≤ w → w < length last → (n : ℕ) × WritesAt events n w
   pub ordered : (n w v : ℕ) → WritesAt events n w → length names ≤ v → v < w → (m : ℕ) × (m < n) × WritesAt events m v
 
+-- names that grow are no fewer
 longer : (names next : List (List ℕ)) → (more : List (List ℕ)) × (next ≡ names ++ more) → length names ≤ length next
 longer names next g =
     let same = ap (λ (xs : List (List ℕ)). length xs) g.1 in
@@ -95,16 +102,16 @@ rest-more ring names next last e es g is knows r =
   where
     seen : (w : ℕ) → length names ≤ w → w < length last → (n : ℕ) × WritesAt (e ∷ es) n w
     seen w le lt = elim (cases_lt w (length next)) [
-        | inl now ↦ (0, puts-at e es w (g.first w le now))
-        | inr later ↦ (let s = r.seen w later lt in (suc s.0, s.1))
-      ]
+      | inl now ↦ (0, puts-at e es w (g.first w le now))
+      | inr later ↦ (let s = r.seen w later lt in (suc s.0, s.1))
+    ]
 
     ordered : (n w v : ℕ) → WritesAt (e ∷ es) n w → length names ≤ v → v < w → (m : ℕ) × (m < n) × WritesAt (e ∷ es) m v
     ordered zero w v at le lt = absurd (omega (arith, g.least w (at-puts e es w at)))
     ordered (suc n) w v at le lt = elim (cases_lt v (length next)) [
-        | inl now ↦ (0, omega arith, puts-at e es v (g.first v le now))
-        | inr later ↦ (let o = r.ordered n w v at later lt in (suc o.0, omega (arith, o.1), o.2))
-      ]
+      | inl now ↦ (0, omega arith, puts-at e es v (g.first v le now))
+      | inr later ↦ (let o = r.ordered n w v at later lt in (suc o.0, omega (arith, o.1), o.2))
+    ]
 
 -- and one event less
 rest-less : (ring : RingValue) (names next last : List (List ℕ)) (e : Event) (es : List Event) → Grows names next e → (more : List (List ℕ)) × (last ≡ next ++ more) → IsRest ring names last (e ∷ es) → IsRest ring next last es
@@ -137,6 +144,7 @@ rest-none ring names = record {
   ordered = λ n w v at le lt. (let e = at.3 in absurd cc);
 }
 
+-- behind no events no writer is new
 none-rest : (ring : RingValue) (names last : List (List ℕ)) → IsRest ring names last [] → last ≡ names
 none-rest ring names last r = by r.grown.0 r.grown.1
   where
@@ -149,12 +157,14 @@ none-rest ring names last r = by r.grown.0 r.grown.1
         let none = s.1.3 in
         absurd cc
 
+-- who is known is known with more writers
 known-more : (nodes n m : ℕ) (e : Event) → n ≤ m → IsKnown nodes n e → IsKnown nodes m e
 known-more nodes n m (event.StartPut w key value gets) le p = omega arith
 known-more nodes n m e le p = p
 
 -- ---- what lines say
 
+-- what lines say is within its limits, with new writers in order of first sight
 pub rest-of : (ring : RingValue) (xs : List SaidEvent) (seen : List Event) (names : List (List ℕ)) → EachSaid ring seen names xs → IsRest ring names (names_behind names xs) (events_of names xs)
 rest-of ring [] seen names each = rest-none ring names
 rest-of ring (x ∷ xs) seen names each =
@@ -165,6 +175,7 @@ rest-of ring (x ∷ xs) seen names each =
     let said = each.0.said in
     rest-more ring names next last now (events_of next xs) (grows-said names x said.writer) said.event (known-more (length (names_of ring)) (length next) (length last) now (longer next last rest.grown) said.known) rest
 
+-- lines say at most 1,000,000 events
 pub few-said : (ring : RingValue) (xs : List SaidEvent) (seen : List Event) (names : List (List ℕ)) → length seen ≤ 1000000 → EachSaid ring seen names xs → length seen + length (events_of names xs) ≤ 1000000
 few-said ring [] seen names le each = omega arith
 few-said ring (x ∷ xs) seen names le each =
@@ -173,6 +184,7 @@ few-said ring (x ∷ xs) seen names le each =
     let rest = few-said ring xs (seen ++ event_of names x ∷ []) (names_after names x) (omega arith) each.1 in
     omega arith
 
+-- the writers behind lines are writers
 pub behind-writers : (ring : RingValue) (xs : List SaidEvent) (seen : List Event) (names : List (List ℕ)) → AreWriters names → EachSaid ring seen names xs → AreWriters (names_behind names xs)
 behind-writers ring [] seen names good each = good
 behind-writers ring (x ∷ xs) seen names good each = behind-writers ring xs (seen ++ event_of names x ∷ []) (names_after names x) (after-writers names x good each.0.said.writer) each.1
@@ -182,6 +194,7 @@ fields-more : (nodes names more : List (List ℕ)) (n : ℕ) (e : Event) → IsK
 fields-more nodes names more n (event.StartPut w key value gets) p = rw (writer-more names more w p) refl
 fields-more nodes names more n e p = refl
 
+-- the lines are spelled with the writers that are known in the end
 pub lines-same : (ring : RingValue) (xs : List SaidEvent) (seen : List Event) (names : List (List ℕ)) → EachSaid ring seen names xs → lines_of ring names xs ≡ map (event_fields (names_of ring) (names_behind names xs)) (events_of names xs)
 lines-same ring [] seen names each = refl
 lines-same ring (x ∷ xs) seen names each =
@@ -219,29 +232,33 @@ new-put ring names last (name ∷ more) w key value gets good e same lt is =
       on = (more, joined);
     }
 
+-- a put's line, whose writer is known or the next new one
 next-put : (ring : RingValue) (names last : List (List ℕ)) (w : WriterId) (key value gets : List ℕ) → AreWriters last → (more : List (List ℕ)) × (last ≡ names ++ more) → (length names ≤ w.0 → w.0 ≡ length names) → w.0 < length last → IsEvent (event.StartPut w key value gets) → Next ring names last (event.StartPut w key value gets)
 next-put ring names last w key value gets good grown low lt is = elim (cases_lt w.0 (length names)) [
-    | inl known ↦ record { item = said.StartPut (record { writer = Known w; key = key; value = value; seen = gets }); event = refl; said = record { event = is; known = known; writer = known }; on = grown }
-    | inr high ↦ new-put ring names last grown.0 w key value gets good grown.1 (low high) lt is
-  ]
+  | inl known ↦ record { item = said.StartPut (record { writer = Known w; key = key; value = value; seen = gets }); event = refl; said = record { event = is; known = known; writer = known }; on = grown }
+  | inr high ↦ new-put ring names last grown.0 w key value gets good grown.1 (low high) lt is
+]
 
-next-of : (ring : RingValue) (names last : List (List ℕ)) (e : Event) → AreWriters last → (more : List (List ℕ)) × (last ≡ names ++ more) → ((w : ℕ) → Puts e w → length names ≤ w → w ≡ length names) → IsEvent e → IsKnown (length (names_of ring)) (length last) e → Next ring names last e
-next-of ring names last (event.Do s) good grown low is known = record { item = said.Do s; event = refl; said = record { event = is; known = tt; writer = tt }; on = grown }
-next-of ring names last (event.OpenCopy s) good grown low is known = record { item = said.OpenCopy s; event = refl; said = record { event = is; known = tt; writer = tt }; on = grown }
-next-of ring names last (event.ChunkCopy s c) good grown low is known = record { item = said.ChunkCopy s c; event = refl; said = record { event = is; known = tt; writer = tt }; on = grown }
-next-of ring names last (event.CloseCopy s) good grown low is known = record { item = said.CloseCopy s; event = refl; said = record { event = is; known = tt; writer = tt }; on = grown }
-next-of ring names last (event.AbortCopy s) good grown low is known = record { item = said.AbortCopy s; event = refl; said = record { event = is; known = tt; writer = tt }; on = grown }
-next-of ring names last (event.StartPut w key value gets) good grown low is known = next-put ring names last w key value gets good grown (λ high. low w.0 (key, value, gets, refl) high) known is
-next-of ring names last (event.Write u i) good grown low is known = record { item = said.Write u i; event = refl; said = record { event = is; known = tt; writer = tt }; on = grown }
-next-of ring names last (event.Hint u i x) good grown low is known = record { item = said.Hint u i x; event = refl; said = record { event = is; known = known; writer = tt }; on = grown }
-next-of ring names last (event.Ack u) good grown low is known = record { item = said.Ack u; event = refl; said = record { event = is; known = tt; writer = tt }; on = grown }
-next-of ring names last (event.StartGet key) good grown low is known = record { item = said.StartGet key; event = refl; said = record { event = is; known = tt; writer = tt }; on = grown }
-next-of ring names last (event.Read g i) good grown low is known = record { item = said.Read g i; event = refl; said = record { event = is; known = tt; writer = tt }; on = grown }
-next-of ring names last (event.EndGet g) good grown low is known = record { item = said.EndGet g; event = refl; said = record { event = is; known = tt; writer = tt }; on = grown }
-next-of ring names last (event.Down x) good grown low is known = record { item = said.Down x; event = refl; said = record { event = is; known = known; writer = tt }; on = grown }
-next-of ring names last (event.Up x) good grown low is known = record { item = said.Up x; event = refl; said = record { event = is; known = known; writer = tt }; on = grown }
-next-of ring names last (event.Handoff x s) good grown low is known = record { item = said.Handoff x s; event = refl; said = record { event = is; known = known; writer = tt }; on = grown }
-next-of ring names last (event.Lose x) good grown low is known = record { item = said.Lose x; event = refl; said = record { event = is; known = known; writer = tt }; on = grown }
+module _ (ring : RingValue) (names last : List (List ℕ)) (good : AreWriters last) (grown : (more : List (List ℕ)) × (last ≡ names ++ more)) where
+  -- each event is what one line says
+  next-of : (e : Event) → ((w : ℕ) → Puts e w → length names ≤ w → w ≡ length names) → IsEvent e → IsKnown (length (names_of ring)) (length last) e
+      → Next ring names last e
+  next-of (event.Do s) low is known = record { item = said.Do s; event = refl; said = record { event = is; known = tt; writer = tt }; on = grown }
+  next-of (event.OpenCopy s) low is known = record { item = said.OpenCopy s; event = refl; said = record { event = is; known = tt; writer = tt }; on = grown }
+  next-of (event.ChunkCopy s c) low is known = record { item = said.ChunkCopy s c; event = refl; said = record { event = is; known = tt; writer = tt }; on = grown }
+  next-of (event.CloseCopy s) low is known = record { item = said.CloseCopy s; event = refl; said = record { event = is; known = tt; writer = tt }; on = grown }
+  next-of (event.AbortCopy s) low is known = record { item = said.AbortCopy s; event = refl; said = record { event = is; known = tt; writer = tt }; on = grown }
+  next-of (event.StartPut w key value gets) low is known = next-put ring names last w key value gets good grown (λ high. low w.0 (key, value, gets, refl) high) known is
+  next-of (event.Write u i) low is known = record { item = said.Write u i; event = refl; said = record { event = is; known = tt; writer = tt }; on = grown }
+  next-of (event.Hint u i x) low is known = record { item = said.Hint u i x; event = refl; said = record { event = is; known = known; writer = tt }; on = grown }
+  next-of (event.Ack u) low is known = record { item = said.Ack u; event = refl; said = record { event = is; known = tt; writer = tt }; on = grown }
+  next-of (event.StartGet key) low is known = record { item = said.StartGet key; event = refl; said = record { event = is; known = tt; writer = tt }; on = grown }
+  next-of (event.Read g i) low is known = record { item = said.Read g i; event = refl; said = record { event = is; known = tt; writer = tt }; on = grown }
+  next-of (event.EndGet g) low is known = record { item = said.EndGet g; event = refl; said = record { event = is; known = tt; writer = tt }; on = grown }
+  next-of (event.Down x) low is known = record { item = said.Down x; event = refl; said = record { event = is; known = known; writer = tt }; on = grown }
+  next-of (event.Up x) low is known = record { item = said.Up x; event = refl; said = record { event = is; known = known; writer = tt }; on = grown }
+  next-of (event.Handoff x s) low is known = record { item = said.Handoff x s; event = refl; said = record { event = is; known = known; writer = tt }; on = grown }
+  next-of (event.Lose x) low is known = record { item = said.Lose x; event = refl; said = record { event = is; known = known; writer = tt }; on = grown }
 
 -- what the lines say of some events
 pub record Lines (ring : RingValue) (seen : List Event) (names last : List (List ℕ)) (script : List Event) : Type 0 where
@@ -250,11 +267,11 @@ pub record Lines (ring : RingValue) (seen : List Event) (names last : List (List
   pub writers : names_behind names items ≡ last
   pub each : EachSaid ring seen names items
 
+-- each script is what some lines say
 pub lines-for : (ring : RingValue) (es seen : List Event) (names last : List (List ℕ)) → AreWriters last → length seen + length es ≤ 1000000 → IsRest ring names last es → Lines ring seen names last es
 lines-for ring [] seen names last good few r = record { items = []; events = refl; writers = sym (none-rest ring names last r); each = tt }
 lines-for ring (e ∷ es) seen names last good few r =
-    let low = λ (w : ℕ) (p : Puts e w) (high : length names ≤ w). lowest w p high in
-    let x = next-of ring names last e good r.grown low r.each.0 r.known.0 in
+    let x = next-of ring names last good r.grown e lowest r.each.0 r.known.0 in
     let next = names_after names x.item in
     let now = event_of names x.item in
     let grows = subst (Grows names next) x.event (grows-said names x.item x.said.writer) in
@@ -269,6 +286,6 @@ lines-for ring (e ∷ es) seen names last good few r =
   where
     lowest : (w : ℕ) → Puts e w → length names ≤ w → w ≡ length names
     lowest w p high = elim (cases_lt (length names) w) [
-        | inl above ↦ absurd (omega (arith, (r.ordered 0 w (length names) (puts-at e es w p) (omega arith) above).1))
-        | inr le ↦ omega arith
-      ]
+      | inl above ↦ absurd (omega (arith, (r.ordered 0 w (length names) (puts-at e es w p) (omega arith) above).1))
+      | inr le ↦ omega arith
+    ]

@@ -1,5 +1,5 @@
 -- Names of writers that grow, each at its own number.
-use Rattle.std.proofs.Common.{◌≡◌, ℕ, suc, ◌+◌, ◌<◌, ◌≤◌, Bool, true, false, cond, nat_lt, List, [], ◌∷◌, ◌++◌, length, Option, Some, None, refl, sym, ap, ◌∙◌, arith, length-append, inl, inr}
+use Rattle.std.proofs.Common.{◌≡◌, ℕ, suc, ◌<◌, Bool, true, false, cond, List, [], ◌∷◌, ◌++◌, length, Option, Some, None, refl, sym, ap, ◌∙◌, arith, length-append, inl, inr}
 use Rattle.std.specs.Prelude.{slice_get, option_map}
 use Rattle.std.specs.List.{list_all}
 use Rattle.std.specs.Str.{bytes_eq}
@@ -24,6 +24,7 @@ use Rattle.ring_events.proofs.KindLaws.{NamesWriter}
 
 -- ---- the places of names that grow
 
+-- a place behind one more name in front, where later names change none
 place-step : (b : Bool) (o p : Option ℕ) (n : ℕ) → ((m : ℕ) → o ≡ Some m → p ≡ Some m) → cond b (Some 0) (option_map (λ m. suc m) o) ≡ Some n → cond b (Some 0) (option_map (λ m. suc m) p) ≡ Some n
 place-step true o p n on e = e
 place-step false None p n on e = absurd cc
@@ -34,6 +35,7 @@ pub place-more : (names more : List (List ℕ)) (name : List ℕ) (n : ℕ) → 
 place-more [] more name n e = absurd cc
 place-more (x ∷ xs) more name n e = place-step (bytes_eq name x) (place xs name) (place (xs ++ more) name) n (λ m f. place-more xs more name m f) e
 
+-- the same, where the later names are left away
 less-step : (b : Bool) (o p : Option ℕ) (n l : ℕ) → ((m : ℕ) → o ≡ Some m → m < l → p ≡ Some m) → n < suc l → cond b (Some 0) (option_map (λ m. suc m) o) ≡ Some n → cond b (Some 0) (option_map (λ m. suc m) p) ≡ Some n
 less-step true o p n l on lt e = e
 less-step false None p n l on lt e = absurd cc
@@ -60,6 +62,7 @@ not-before names more name e = by (place names name) refl
 
 -- ---- writers
 
+-- names with a new one are names of writers
 with-new : (names : List (List ℕ)) (name : List ℕ) → AreWriters names → IsWriter names (New name) → AreWriters (names ++ name ∷ [])
 with-new names name good p =
     let more = length-append names (name ∷ []) in
@@ -72,16 +75,17 @@ with-new names name good p =
   where
     different : (n : ℕ) (x : List ℕ) → slice_get (names ++ name ∷ []) n ≡ Some x → place (names ++ name ∷ []) x ≡ Some n
     different n x e = elim (cases_lt n (length names)) [
-        | inl lt ↦ place-more names (name ∷ []) x n (good.different n x (sym (get-front names (name ∷ []) n lt) ∙ e))
-        | inr le ↦
-            (let more = length-append names (name ∷ []) in
-            let within = slice_get_within (names ++ name ∷ []) n x e in
-            let last : n ≡ length names = omega arith in
-            let same : Some name ≡ Some x = sym (get-last names name) ∙ ap (λ (i : ℕ). slice_get (names ++ name ∷ []) i) (sym last) ∙ e in
-            let is : name ≡ x = cc in
-            ap (λ (y : List ℕ). place (names ++ name ∷ []) y) (sym is) ∙ place-push names name p.1 ∙ ap (λ (i : ℕ). Some i) (sym last))
-      ]
+      | inl lt ↦ place-more names (name ∷ []) x n (good.different n x (sym (get-front names (name ∷ []) n lt) ∙ e))
+      | inr le ↦
+          (let more = length-append names (name ∷ []) in
+          let within = slice_get_within (names ++ name ∷ []) n x e in
+          let last : n ≡ length names = omega arith in
+          let same : Some name ≡ Some x = sym (get-last names name) ∙ ap (λ (i : ℕ). slice_get (names ++ name ∷ []) i) (sym last) ∙ e in
+          let is : name ≡ x = cc in
+          ap (λ (y : List ℕ). place (names ++ name ∷ []) y) (sym is) ∙ place-push names name p.1 ∙ ap (λ (i : ℕ). Some i) (sym last))
+    ]
 
+-- names behind a put's writer are names of writers
 with-writers : (names : List (List ℕ)) (x : SaidWriter) → AreWriters names → IsWriter names x → AreWriters (with_writer names x)
 with-writers names (Known w) good p = good
 with-writers names (New name) good p = with-new names name good p

@@ -1,5 +1,3 @@
-use Rattle.std.proofs.Common.{List}
-use Rattle.plan_check.specs.declared.event.Event.{Event}
 use Rattle.ring_events.specs.Reading.{script_at}
 use Rattle.ring_events.specs.Valid.{AreWriters, IsScriptOf}
 use Rattle.ring_events.proofs.ScriptLaws.{mapped-reads, section-found}
