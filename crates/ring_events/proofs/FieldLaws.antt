@@ -1,5 +1,6 @@
 -- The fields of an event's line are read only if they are spelled so.
-use Rattle.std.proofs.Common.{◌≡◌, ℕ, zero, suc, ◌<◌, Bool, true, false, cond, not, eqb, nat_lt, nat_le, List, [], ◌∷◌, ◌++◌, length, map, codes, Option, Some, None, Result, Ok, Err, refl, sym, ap, subst, ◌∙◌, arith}
+use Rattle.std.proofs.Common.{◌≡◌, ℕ, zero, suc, ◌<◌, Bool, true, false, cond, not, eqb, nat_lt, nat_le, List, [], ◌∷◌, ◌++◌, length, map, codes, Option}
+use Rattle.std.proofs.Common.{Some, None, Result, Ok, Err, refl, sym, ap, subst, ◌∙◌, arith}
 use Rattle.std.specs.Prelude.{slice_get}
 use Rattle.std.specs.Fmt.{decimal}
 use Rattle.std.specs.List.{list_all}
@@ -66,14 +67,17 @@ unfolding declared_at
 item-node ring k good = IsItem-declared k (names_of ring) good
 
 -- two numbers and a declared node
-pub item-hint : (ring : RingValue) (k : ℕ) → AreNames (names_of ring) → IsItem (hint_at ring k) (λ x. pair_fields x.0 ++ node_fields ring x.1) (λ x. AreCounts x.0 × IsNode ring x.1)
+pub item-hint : (ring : RingValue) (k : ℕ) → AreNames (names_of ring)
+    → IsItem (hint_at ring k) (λ x. pair_fields x.0 ++ node_fields ring x.1) (λ x. AreCounts x.0 × IsNode ring x.1)
 unfolding hint_at
 item-hint ring k good = IsItem-⊗ (pair_at k) (declared_at ring k) pair_fields (node_fields ring) AreCounts (IsNode ring) (item-pair k) (item-node ring k good)
 
 -- a declared node and two numbers
-pub item-handoff : (ring : RingValue) (k : ℕ) → AreNames (names_of ring) → IsItem (handoff_at ring k) (λ x. node_fields ring x.0 ++ pair_fields x.1) (λ x. IsNode ring x.0 × AreCounts x.1)
+pub item-handoff : (ring : RingValue) (k : ℕ) → AreNames (names_of ring)
+    → IsItem (handoff_at ring k) (λ x. node_fields ring x.0 ++ pair_fields x.1) (λ x. IsNode ring x.0 × AreCounts x.1)
 unfolding handoff_at
-item-handoff ring k good = IsItem-⊗ (declared_at ring k) (pair_at k) (node_fields ring) pair_fields (IsNode ring) AreCounts (item-node ring k good) (item-pair k)
+item-handoff ring k good = IsItem-⊗ (declared_at ring k) (pair_at k) (node_fields ring) pair_fields (IsNode ring) AreCounts (item-node ring k good)
+    (item-pair k)
 
 -- ---- keys
 
@@ -133,14 +137,17 @@ abbrev WriterIs : List (List ℕ) → List ℕ → SaidWriter → Type 0
 WriterIs names field x = (field ≡ said_name names x) × IsWriter names x
 
 -- a new name for which there is room
-new-is : (names : List (List ℕ)) (k : ℕ) (field : List ℕ) (x : SaidWriter) (t : Bool) → is_name field ≡ true → place names field ≡ None → nat_lt (length names) 1024 ≡ t → cond t (Ok (New field)) (Err (TooLarge k)) ≡ Ok x → WriterIs names field x
+new-is : (names : List (List ℕ)) (k : ℕ) (field : List ℕ) (x : SaidWriter) (t : Bool) → is_name field ≡ true → place names field ≡ None
+    → nat_lt (length names) 1024 ≡ t → cond t (Ok (New field)) (Err (TooLarge k)) ≡ Ok x → WriterIs names field x
 new-is names k field x true name none room e =
     let mine : WriterIs names field (New field) = (sym (new-name names field), (name, none, ltb-true (length names) 1024 room)) in
     subst (WriterIs names field) (ok_is (New field) x e) mine
 new-is names k field x false name none room e = absurd cc
 
 -- a name that has a number, or a new one
-room-is : (names : List (List ℕ)) (k : ℕ) (field : List ℕ) (x : SaidWriter) (o : Option ℕ) → is_name field ≡ true → place names field ≡ o → ◌≡◌ {A = Result SaidWriter Refusal} (elim o [ Some n ↦ Ok (Known (record { 0 = n })) | None ↦ new_writer names k field ]) (Ok x) → WriterIs names field x
+room-is : (names : List (List ℕ)) (k : ℕ) (field : List ℕ) (x : SaidWriter) (o : Option ℕ) → is_name field ≡ true → place names field ≡ o
+    → ◌≡◌ {A = Result SaidWriter Refusal} (elim o [ Some n ↦ Ok (Known (record { 0 = n })) | None ↦ new_writer names k field ]) (Ok x)
+    → WriterIs names field x
 room-is names k field x None name at e = new-is names k field x (nat_lt (length names) 1024) name at refl e
 room-is names k field x (Some n) name at e =
     let got = get-place names n field at in
@@ -148,7 +155,10 @@ room-is names k field x (Some n) name at e =
     subst (WriterIs names field) (ok_is (Known (record { 0 = n })) x e) mine
 
 -- a field that is judged to be a writer is the name
-writer-is : (names : List (List ℕ)) (k : ℕ) (field : List ℕ) (x : SaidWriter) (t : Bool) → is_name field ≡ t → ◌≡◌ {A = Result SaidWriter Refusal} (cond t (elim (place names field) [ Some n ↦ Ok (Known (record { 0 = n })) | None ↦ new_writer names k field ]) (Err (BadLine k))) (Ok x) → WriterIs names field x
+writer-is : (names : List (List ℕ)) (k : ℕ) (field : List ℕ) (x : SaidWriter) (t : Bool) → is_name field ≡ t
+    → ◌≡◌ {A = Result SaidWriter Refusal}
+    (cond t (elim (place names field) [ Some n ↦ Ok (Known (record { 0 = n })) | None ↦ new_writer names k field ]) (Err (BadLine k))) (Ok x)
+    → WriterIs names field x
 writer-is names k field x true name e = room-is names k field x (place names field) name refl e
 writer-is names k field x false name e = absurd cc
 
@@ -161,14 +171,17 @@ writer-given names k good (Known w) p =
 writer-given names k good (New name) p = ap (judge_writer names k) (new-name names name) ∙ rw (p.0, p.1, lt-ltb (length names) 1024 p.2) refl
 
 -- one field that is a writer
-pub item-writer : (names : List (List ℕ)) (k : ℕ) → AreWriters names → IsItem (field_at k (judge_writer names k)) (λ x. said_name names x ∷ []) (IsWriter names)
-item-writer names k good = IsItem-field k (judge_writer names k) (said_name names) (IsWriter names) (λ f x e. writer-is names k f x (is_name f) refl e) (writer-given names k good)
+pub item-writer : (names : List (List ℕ)) (k : ℕ) → AreWriters names
+    → IsItem (field_at k (judge_writer names k)) (λ x. said_name names x ∷ []) (IsWriter names)
+item-writer names k good = IsItem-field k (judge_writer names k) (said_name names) (IsWriter names) (λ f x e. writer-is names k f x (is_name f) refl e)
+    (writer-given names k good)
 
 -- ---- the gets that a put knows
 
 -- what is tested of the gets that a put knows
 abbrev Tests : ℕ → List ℕ → List (Bool × Refusal)
-Tests k xs = (eqb (length xs) 0, BadLine k) ∷ (not (ascending xs), BadLine k) ∷ (not (nat_le (length xs) 16), TooLarge k) ∷ (not (list_all (λ x. nat_lt x 4294967296) xs), TooLarge k) ∷ []
+Tests k xs = (eqb (length xs) 0, BadLine k) ∷ (not (ascending xs), BadLine k) ∷ (not (nat_le (length xs) 16), TooLarge k) ∷
+    (not (list_all (λ x. nat_lt x 4294967296) xs), TooLarge k) ∷ []
 
 -- gets that are some are spelled with the word in front
 filled : (xs : List ℕ) → eqb (length xs) 0 ≡ false → seen_fields xs ≡ codes "seen" ∷ map decimal xs
@@ -180,7 +193,15 @@ gets-are : (k : ℕ) (xs v : List ℕ) → judge_seen k xs ≡ Ok v → (xs ≡ 
 gets-are k xs v e =
     let u = unless_is (Tests k xs) xs v e in
     let G : List ℕ → Type 0 = λ y. (xs ≡ y) × AreGets y × (seen_fields y ≡ codes "seen" ∷ map decimal y) in
-    let mine : G xs = (refl, record { ascend = and_from (nat_le (length xs) 16) (ascending xs) (not-false (nat_le (length xs) 16) u.1.1.1.0) (not-false (ascending xs) u.1.1.0); counts = not-false (are_small xs) u.1.1.1.1.0 }, filled xs u.1.0) in
+    let mine : G xs = (
+      refl,
+      record {
+        ascend = and_from (nat_le (length xs) 16) (ascending xs) (not-false (nat_le (length xs) 16) u.1.1.1.0)
+            (not-false (ascending xs) u.1.1.0);
+        counts = not-false (are_small xs) u.1.1.1.1.0;
+      },
+      filled xs u.1.0,
+    ) in
     subst G u.0 mine
 
 -- gets are judged to be gets
@@ -201,13 +222,19 @@ front-seen k = record { takes = take; gives = give }
         subst (λ (xs : List ℕ). ([] ≡ seen_fields xs ++ rest) × AreGets xs) (ok_is [] v h.0) start
     take (word ∷ fields) rest v e = by (bytes_eq word (codes "seen")) refl e
       where
-        by : (b : Bool) → bytes_eq word (codes "seen") ≡ b → ◌≡◌ {A = Result (List ℕ) Refusal × List (List ℕ)} (cond b (judge_seen k (numbers_of fields), beyond fields) (Err (BadLine k), fields)) (Ok v, rest) → (word ∷ fields ≡ seen_fields v ++ rest) × AreGets v
+        by : (b : Bool) → bytes_eq word (codes "seen") ≡ b → ◌≡◌ {A = Result (List ℕ) Refusal × List (List ℕ)}
+            (cond b (judge_seen k (numbers_of fields), beyond fields) (Err (BadLine k), fields)) (Ok v, rest)
+            → (word ∷ fields ≡ seen_fields v ++ rest) × AreGets v
         by true w g =
             let h = pair_is (judge_seen k (numbers_of fields), beyond fields) (Ok v) rest g in
             let a = gets-are k (numbers_of fields) v h.0 in
             let small : are_small (numbers_of fields) ≡ true = ap are_small a.0 ∙ a.1.counts in
-            let t : fields ≡ map decimal v ++ rest = numbers-taken fields small ∙ ap (λ (xs : List ℕ). map decimal xs ++ beyond fields) a.0 ∙ ap (λ (r : List (List ℕ)). map decimal v ++ r) h.1 in
-            (ap (λ (x : List ℕ). x ∷ fields) ((bytes_eq-Decides word (codes "seen")).0 w) ∙ ap (λ (r : List (List ℕ)). codes "seen" ∷ r) t ∙ ap (λ (r : List (List ℕ)). r ++ rest) (sym a.2), a.1)
+            let t : fields ≡ map decimal v ++ rest = numbers-taken fields small ∙ ap (λ (xs : List ℕ). map decimal xs ++ beyond fields) a.0 ∙
+            ap (λ (r : List (List ℕ)). map decimal v ++ r) h.1 in (
+              ap (λ (x : List ℕ). x ∷ fields) ((bytes_eq-Decides word (codes "seen")).0 w) ∙ ap (λ (r : List (List ℕ)). codes "seen" ∷ r) t ∙
+                  ap (λ (r : List (List ℕ)). r ++ rest) (sym a.2),
+              a.1,
+            )
         by false w g = let h = pair_is (Err (BadLine k), fields) (Ok v) rest g in absurd cc
 
     give : (v : List ℕ) (rest : List (List ℕ)) → AreGets v → Last rest → seen_at k (seen_fields v ++ rest) ≡ (Ok v, rest)
@@ -234,10 +261,12 @@ pub record IsPut (names : List (List ℕ)) (p : SaidPut) : Type 0 where
 pub front-put : (names : List (List ℕ)) (k : ℕ) → AreWriters names → IsFront Last (put_at names k) (put_fields names) (IsPut names)
 unfolding put_at
 front-put names k good =
-    let p1 = IsItem-⊗ (field_at k (judge_writer names k)) (field_at k (judge_key k)) (λ x. said_name names x ∷ []) (λ key. key ∷ []) (IsWriter names) (λ key. is_key key ≡ true) (item-writer names k good) (item-key k) in
+    let p1 = IsItem-⊗ (field_at k (judge_writer names k)) (field_at k (judge_key k)) (λ x. said_name names x ∷ []) (λ key. key ∷ []) (IsWriter names)
+    (λ key. is_key key ≡ true) (item-writer names k good) (item-key k) in
     let p2 = IsItem-⊗ _ (field_at k (judge_value k)) _ (λ v. value_text v ∷ []) _ IsBytes p1 (item-value k) in
     let p3 = front-⊗ (λ _. Unit {0}) Last _ (seen_at k) _ seen_fields _ AreGets (front-item (λ _. Unit {0}) _ _ _ p2) (front-seen k) (λ y rest d. tt) in
-    let p4 = front-map {B = SaidPut} Last _ _ _ (λ x. record { writer = x.0.0.0; key = x.0.0.1; value = x.0.1; seen = x.1 }) (λ p. (((p.writer, p.key), p.value), p.seen)) (λ a. refl) (λ b. refl) p3 in
+    let p4 = front-map {B = SaidPut} Last _ _ _ (λ x. record { writer = x.0.0.0; key = x.0.0.1; value = x.0.1; seen = x.1 })
+    (λ p. (((p.writer, p.key), p.value), p.seen)) (λ a. refl {a = a}) (λ b. refl {a = b}) p3 in
     record {
       takes = λ fields rest v e. let t = p4.takes fields rest v e in (t.0, record { writer = t.1.0.0.0; key = t.1.0.0.1; value = t.1.0.1; gets = t.1.1 });
       gives = λ v rest p last. p4.gives v rest (((p.writer, p.key), p.value), p.gets) last;

@@ -56,11 +56,13 @@ tail_is : (a b : List (List ℕ)) (xs ys : List (List (List ℕ))) → a ∷ xs 
 tail_is a b xs ys h = cc
 
 -- a line behind which another stands is ended
-first-ok : (k : ℕ) (line : List (List ℕ)) (rest : List (List (List ℕ))) (z : List (List ℕ)) (zs : List (List (List ℕ))) → rest ≡ z ∷ zs → first_line k (line ∷ rest) ≡ Ok (line, record { line = next_number k; lines = rest })
+first-ok : (k : ℕ) (line : List (List ℕ)) (rest : List (List (List ℕ))) (z : List (List ℕ)) (zs : List (List (List ℕ))) → rest ≡ z ∷ zs
+    → first_line k (line ∷ rest) ≡ Ok (line, record { line = next_number k; lines = rest })
 first-ok k line rest z zs e = rw e refl
 
 -- what was read of some lines: what they say, and what is left
-pub record Read (ring : RingValue) (seen : List Event) (names : List (List ℕ)) (all : List Event) (behind : List (List ℕ)) (lines : List (List (List ℕ))) (t : Left) : Type 0 where
+pub record Read (ring : RingValue) (seen : List Event) (names : List (List ℕ)) (all : List Event) (behind : List (List ℕ)) (lines : List (List (List ℕ)))
+    (t : Left) : Type 0 where
   pub items : List SaidEvent
   pub events : all ≡ seen ++ events_of names items
   pub writers : behind ≡ names_behind names items
@@ -78,16 +80,29 @@ module _ (ring : RingValue) (nodes : AreNames (names_of ring)) where
   IsRead seen names lines w = Read ring seen names w.0.0 w.0.1 lines w.1
 
   -- whether the next line ends the script or is one of its events
-  read-by : (b : Bool) (seen : List Event) (names : List (List ℕ)) (k : ℕ) (line : List (List ℕ)) (more : List (List (List ℕ))) (w : Script × Left) → AreWriters names
-      → ((ys : List Event) (ns : List (List ℕ)) → AreWriters ns → events_from ring ys ns (next_number k) more ≡ Ok w → (x : List (List ℕ)) × (zs : List (List (List ℕ))) × (more ≡ x ∷ zs) → IsRead ys ns more w)
-      → ◌≡◌ {A = Result (Script × Left) Refusal} (cond b (Ok ((seen, names), record { line = k; lines = line ∷ more })) (first_line k (line ∷ more) >>= λ _. said_at ring seen names k line
+  read-by : (b : Bool) (seen : List Event) (names : List (List ℕ)) (k : ℕ) (line : List (List ℕ)) (more : List (List (List ℕ))) (w : Script × Left)
+      → AreWriters names
+      → ((ys : List Event) (ns : List (List ℕ)) → AreWriters ns → events_from ring ys ns (next_number k) more ≡ Ok w
+      → (x : List (List ℕ)) × (zs : List (List (List ℕ))) × (more ≡ x ∷ zs) → IsRead ys ns more w)
+      → ◌≡◌ {A = Result (Script × Left) Refusal}
+      (cond b (Ok ((seen, names), record { line = k; lines = line ∷ more })) (first_line k (line ∷ more) >>= λ _. said_at ring seen names k line
       >>= λ x. events_from ring (seen ++ event_of names x ∷ []) (names_after names x) (next_number k) more)) (Ok w) → IsRead seen names (line ∷ more) w
   read-by true seen names k line more w good later e =
-      let start : IsRead seen names (line ∷ more) ((seen, names), record { line = k; lines = line ∷ more }) = record { items = []; events = sym (append-nil seen); writers = refl; parts = refl; each = tt; some = (line, more, refl) } in
+      let start : IsRead seen names (line ∷ more)
+      ((seen, names), record { line = k; lines = line ∷ more }) = record {
+        items = [];
+        events = sym (append-nil seen);
+        writers = refl;
+        parts = refl;
+        each = tt;
+        some = (line, more, refl);
+      } in
       subst (IsRead seen names (line ∷ more)) (ok_is _ w e) start
   read-by false seen names k line more w good later e =
-      let b = bind_ok (first_line k (line ∷ more)) (λ _. said_at ring seen names k line >>= λ x. events_from ring (seen ++ event_of names x ∷ []) (names_after names x) (next_number k) more) w e in
-      let c = bind_ok (said_at ring seen names k line) (λ x. events_from ring (seen ++ event_of names x ∷ []) (names_after names x) (next_number k) more) w b.2 in
+      let b = bind_ok (first_line k (line ∷ more))
+      (λ _. said_at ring seen names k line >>= λ x. events_from ring (seen ++ event_of names x ∷ []) (names_after names x) (next_number k) more) w e in
+      let c = bind_ok (said_at ring seen names k line)
+      (λ x. events_from ring (seen ++ event_of names x ∷ []) (names_after names x) (next_number k) more) w b.2 in
       let f = first_is k (line ∷ more) b.0.0 b.0.1 b.1 in
       let law = (said-line ring seen names k nodes good).takes line c.0 c.1 in
       let some : (x : List (List ℕ)) × (zs : List (List (List ℕ))) × (more ≡ x ∷ zs) = (f.1.0, f.1.1, tail_is line b.0.0 more b.0.1.lines f.0 ∙ f.1.2) in
@@ -102,13 +117,17 @@ module _ (ring : RingValue) (nodes : AreNames (names_of ring)) where
       }
 
   -- what is read was spelled so
-  pub lines-read : (seen : List Event) (names : List (List ℕ)) (k : ℕ) (lines : List (List (List ℕ))) (w : Script × Left) → AreWriters names → (x : List (List ℕ)) × (zs : List (List (List ℕ))) × (lines ≡ x ∷ zs) → events_from ring seen names k lines ≡ Ok w → IsRead seen names lines w
+  pub lines-read : (seen : List Event) (names : List (List ℕ)) (k : ℕ) (lines : List (List (List ℕ))) (w : Script × Left) → AreWriters names
+      → (x : List (List ℕ)) × (zs : List (List (List ℕ))) × (lines ≡ x ∷ zs) → events_from ring seen names k lines ≡ Ok w → IsRead seen names lines w
   lines-read seen names k [] w good some e = absurd cc
-  lines-read seen names k (line ∷ more) w good some e = read-by (begins_with (codes "end") (line ∷ more)) seen names k line more w good (λ ys ns g h s. lines-read ys ns (next_number k) more w g s h) e
+  lines-read seen names k (line ∷ more) w good some e = read-by (begins_with (codes "end") (line ∷ more)) seen names k line more w good
+      (λ ys ns g h s. lines-read ys ns (next_number k) more w g s h) e
 
   -- what is spelled so is read
-  pub lines-given : (xs : List SaidEvent) (seen : List Event) (names : List (List ℕ)) (k : ℕ) (x : List (List ℕ)) (more : List (List (List ℕ))) → AreWriters names → EachSaid ring seen names xs → Ends x
-      → (m : ℕ) × (events_from ring seen names k (lines_of ring names xs ++ x ∷ more) ≡ Ok ((seen ++ events_of names xs, names_behind names xs), record { line = m; lines = x ∷ more }))
+  pub lines-given : (xs : List SaidEvent) (seen : List Event) (names : List (List ℕ)) (k : ℕ) (x : List (List ℕ)) (more : List (List (List ℕ)))
+      → AreWriters names → EachSaid ring seen names xs → Ends x
+      → (m : ℕ) × (events_from ring seen names k (lines_of ring names xs ++ x ∷ more) ≡ Ok
+      ((seen ++ events_of names xs, names_behind names xs), record { line = m; lines = x ∷ more }))
   lines-given [] seen names k x more good each ends = (k, rw (ends-any x more ends, append-nil seen) refl)
   lines-given (y ∷ ys) seen names k x more good each ends =
       let now = event_of names y in
@@ -117,5 +136,8 @@ module _ (ring : RingValue) (nodes : AreNames (names_of ring)) where
       let line = (said-line ring seen names k nodes good).gives y each.0 in
       let sh = some_lines (lines_of ring next ys) x more in
       let first = first-ok k (said_fields ring names y) (lines_of ring next ys ++ x ∷ more) sh.0 sh.1 sh.2 in
-      let on = goes-on (names_of ring) next now (lines_of ring next ys ++ x ∷ more) in
-      (rest.0, rw (on, first, line) (rest.1 ∙ ap (λ (z : List Event). Ok ((z, names_behind next ys), record { line = rest.0; lines = x ∷ more })) (append_assoc seen (now ∷ []) (events_of next ys))))
+      let on = goes-on (names_of ring) next now (lines_of ring next ys ++ x ∷ more) in (
+        rest.0,
+        rw (on, first, line) (rest.1 ∙ ap (λ (z : List Event). Ok ((z, names_behind next ys), record { line = rest.0; lines = x ∷ more }))
+            (append_assoc seen (now ∷ []) (events_of next ys))),
+      )

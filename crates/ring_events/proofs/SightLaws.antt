@@ -1,5 +1,6 @@
 -- New writers are numbered in order of first sight: what lines say is a script, and a script is what some lines say.
-use Rattle.std.proofs.Common.{◌≡◌, ℕ, zero, suc, ◌+◌, ◌<◌, ◌≤◌, List, [], ◌∷◌, ◌++◌, length, map, Some, refl, sym, ap, subst, ◌∙◌, arith, append_assoc, length-append, inl, inr}
+use Rattle.std.proofs.Common.{◌≡◌, ℕ, zero, suc, ◌+◌, ◌<◌, ◌≤◌, List, [], ◌∷◌, ◌++◌, length, map, Some, refl, sym, ap, subst, ◌∙◌, arith, append_assoc}
+use Rattle.std.proofs.Common.{length-append, inl, inr}
 use Rattle.std.specs.Prelude.{slice_get}
 use Rattle.std.specs.List.{AllByRecursion}
 use Rattle.std.proofs.lemmas.Bool.{cases_lt}
@@ -46,7 +47,12 @@ record Grows (names next : List (List ℕ)) (e : Event) : Type 0 where
 
 -- an event that names no new writer
 still : (names : List (List ℕ)) (e : Event) → ((w : ℕ) → Puts e w → w < length names) → Grows names names e
-still names e below = record { grown = ([], sym (append-nil names)); first = λ w le lt. absurd (omega arith); least = λ w p. omega (arith, below w p); kept = below }
+still names e below = record {
+  grown = ([], sym (append-nil names));
+  first = λ w le lt. absurd (omega arith);
+  least = λ w p. omega (arith, below w p);
+  kept = below;
+}
 
 -- a put is of one writer
 same-writer : (x : WriterId) (key value gets : List ℕ) (w : ℕ) → Puts (event.StartPut x key value gets) w → x.0 ≡ w
@@ -56,13 +62,15 @@ same-writer x key value gets w p =
     ap (λ (y : WriterId). y.0) same
 
 -- the writers behind a put
-grows-put : (names : List (List ℕ)) (p : SaidPut) (x : SaidWriter) → IsWriter names x → Grows names (names_after names (said.StartPut (record p { writer = x }))) (event_of names (said.StartPut (record p { writer = x })))
+grows-put : (names : List (List ℕ)) (p : SaidPut) (x : SaidWriter) → IsWriter names x
+    → Grows names (names_after names (said.StartPut (record p { writer = x }))) (event_of names (said.StartPut (record p { writer = x })))
 grows-put names p (Known n) is = still names (event.StartPut n p.key p.value p.seen) (λ w h. let same = same-writer n p.key p.value p.seen w h in omega arith)
 grows-put names p (New name) is =
     let more = length-append names (name ∷ []) in
     record {
       grown = (name ∷ [], refl);
-      first = λ w le lt. (let same : length names ≡ w = omega arith in (p.key, p.value, p.seen, ap (λ (n : ℕ). event.StartPut (record { 0 = n }) p.key p.value p.seen) same));
+      first = λ w le lt. (let same : length names ≡ w = omega arith in
+          (p.key, p.value, p.seen, ap (λ (n : ℕ). event.StartPut (record { 0 = n }) p.key p.value p.seen) same));
       least = λ w h. (let same = same-writer (record { 0 = length names }) p.key p.value p.seen w h in omega arith);
       kept = λ w h. (let same = same-writer (record { 0 = length names }) p.key p.value p.seen w h in omega arith);
     }
@@ -90,7 +98,8 @@ longer names next g =
     omega arith
 
 -- one event more in front
-rest-more : (ring : RingValue) (names next last : List (List ℕ)) (e : Event) (es : List Event) → Grows names next e → IsEvent e → IsKnown (length (names_of ring)) (length last) e → IsRest ring next last es → IsRest ring names last (e ∷ es)
+rest-more : (ring : RingValue) (names next last : List (List ℕ)) (e : Event) (es : List Event) → Grows names next e → IsEvent e
+    → IsKnown (length (names_of ring)) (length last) e → IsRest ring next last es → IsRest ring names last (e ∷ es)
 rest-more ring names next last e es g is knows r =
     record {
       each = (is, r.each);
@@ -114,7 +123,8 @@ rest-more ring names next last e es g is knows r =
     ]
 
 -- and one event less
-rest-less : (ring : RingValue) (names next last : List (List ℕ)) (e : Event) (es : List Event) → Grows names next e → (more : List (List ℕ)) × (last ≡ next ++ more) → IsRest ring names last (e ∷ es) → IsRest ring next last es
+rest-less : (ring : RingValue) (names next last : List (List ℕ)) (e : Event) (es : List Event) → Grows names next e
+    → (more : List (List ℕ)) × (last ≡ next ++ more) → IsRest ring names last (e ∷ es) → IsRest ring next last es
 rest-less ring names next last e es g on r = record { each = r.each.1; known = r.known.1; grown = on; seen = seen; ordered = ordered }
   where
     le : length names ≤ length next
@@ -165,7 +175,8 @@ known-more nodes n m e le p = p
 -- ---- what lines say
 
 -- what lines say is within its limits, with new writers in order of first sight
-pub rest-of : (ring : RingValue) (xs : List SaidEvent) (seen : List Event) (names : List (List ℕ)) → EachSaid ring seen names xs → IsRest ring names (names_behind names xs) (events_of names xs)
+pub rest-of : (ring : RingValue) (xs : List SaidEvent) (seen : List Event) (names : List (List ℕ)) → EachSaid ring seen names xs
+    → IsRest ring names (names_behind names xs) (events_of names xs)
 rest-of ring [] seen names each = rest-none ring names
 rest-of ring (x ∷ xs) seen names each =
     let now = event_of names x in
@@ -173,10 +184,12 @@ rest-of ring (x ∷ xs) seen names each =
     let last = names_behind next xs in
     let rest = rest-of ring xs (seen ++ now ∷ []) next each.1 in
     let said = each.0.said in
-    rest-more ring names next last now (events_of next xs) (grows-said names x said.writer) said.event (known-more (length (names_of ring)) (length next) (length last) now (longer next last rest.grown) said.known) rest
+    rest-more ring names next last now (events_of next xs) (grows-said names x said.writer) said.event
+    (known-more (length (names_of ring)) (length next) (length last) now (longer next last rest.grown) said.known) rest
 
 -- lines say at most 1,000,000 events
-pub few-said : (ring : RingValue) (xs : List SaidEvent) (seen : List Event) (names : List (List ℕ)) → length seen ≤ 1000000 → EachSaid ring seen names xs → length seen + length (events_of names xs) ≤ 1000000
+pub few-said : (ring : RingValue) (xs : List SaidEvent) (seen : List Event) (names : List (List ℕ)) → length seen ≤ 1000000 → EachSaid ring seen names xs
+    → length seen + length (events_of names xs) ≤ 1000000
 few-said ring [] seen names le each = omega arith
 few-said ring (x ∷ xs) seen names le each =
     let room = each.0.room in
@@ -185,17 +198,21 @@ few-said ring (x ∷ xs) seen names le each =
     omega arith
 
 -- the writers behind lines are writers
-pub behind-writers : (ring : RingValue) (xs : List SaidEvent) (seen : List Event) (names : List (List ℕ)) → AreWriters names → EachSaid ring seen names xs → AreWriters (names_behind names xs)
+pub behind-writers : (ring : RingValue) (xs : List SaidEvent) (seen : List Event) (names : List (List ℕ)) → AreWriters names → EachSaid ring seen names xs
+    → AreWriters (names_behind names xs)
 behind-writers ring [] seen names good each = good
-behind-writers ring (x ∷ xs) seen names good each = behind-writers ring xs (seen ++ event_of names x ∷ []) (names_after names x) (after-writers names x good each.0.said.writer) each.1
+behind-writers ring (x ∷ xs) seen names good each = behind-writers ring xs (seen ++ event_of names x ∷ []) (names_after names x)
+    (after-writers names x good each.0.said.writer) each.1
 
 -- later writers change no line in front of them
-fields-more : (nodes names more : List (List ℕ)) (n : ℕ) (e : Event) → IsKnown n (length names) e → event_fields nodes (names ++ more) e ≡ event_fields nodes names e
+fields-more : (nodes names more : List (List ℕ)) (n : ℕ) (e : Event) → IsKnown n (length names) e
+    → event_fields nodes (names ++ more) e ≡ event_fields nodes names e
 fields-more nodes names more n (event.StartPut w key value gets) p = rw (writer-more names more w p) refl
 fields-more nodes names more n e p = refl
 
 -- the lines are spelled with the writers that are known in the end
-pub lines-same : (ring : RingValue) (xs : List SaidEvent) (seen : List Event) (names : List (List ℕ)) → EachSaid ring seen names xs → lines_of ring names xs ≡ map (event_fields (names_of ring) (names_behind names xs)) (events_of names xs)
+pub lines-same : (ring : RingValue) (xs : List SaidEvent) (seen : List Event) (names : List (List ℕ)) → EachSaid ring seen names xs
+    → lines_of ring names xs ≡ map (event_fields (names_of ring) (names_behind names xs)) (events_of names xs)
 lines-same ring [] seen names each = refl
 lines-same ring (x ∷ xs) seen names each =
     let now = event_of names x in
@@ -203,8 +220,11 @@ lines-same ring (x ∷ xs) seen names each =
     let last = names_behind next xs in
     let more = (rest-of ring xs (seen ++ now ∷ []) next each.1).grown in
     let rest = lines-same ring xs (seen ++ now ∷ []) next each.1 in
-    let first : event_fields (names_of ring) next now ≡ event_fields (names_of ring) last now = sym (ap (λ (ns : List (List ℕ)). event_fields (names_of ring) ns now) more.1 ∙ fields-more (names_of ring) next more.0 (length (names_of ring)) now each.0.said.known) in
-    ap (λ (ls : List (List (List ℕ))). event_fields (names_of ring) next now ∷ ls) rest ∙ ap (λ (l : List (List ℕ)). l ∷ map (event_fields (names_of ring) last) (events_of next xs)) first
+    let first : event_fields (names_of ring) next now ≡ event_fields (names_of ring) last now = sym
+    (ap (λ (ns : List (List ℕ)). event_fields (names_of ring) ns now) more.1 ∙
+    fields-more (names_of ring) next more.0 (length (names_of ring)) now each.0.said.known) in
+    ap (λ (ls : List (List (List ℕ))). event_fields (names_of ring) next now ∷ ls) rest ∙
+    ap (λ (l : List (List ℕ)). l ∷ map (event_fields (names_of ring) last) (events_of next xs)) first
 
 -- ---- the lines that say some events
 
@@ -216,11 +236,14 @@ record Next (ring : RingValue) (names last : List (List ℕ)) (e : Event) : Type
   pub on : (more : List (List ℕ)) × (last ≡ names_after names item ++ more)
 
 -- a new writer's put
-new-put : (ring : RingValue) (names last more : List (List ℕ)) (w : WriterId) (key value gets : List ℕ) → AreWriters last → last ≡ names ++ more → w.0 ≡ length names → w.0 < length last → IsEvent (event.StartPut w key value gets) → Next ring names last (event.StartPut w key value gets)
-new-put ring names last [] w key value gets good e same lt is = absurd (let f = ap (λ (ys : List (List ℕ)). length ys) e in omega (arith, length-append names []))
+new-put : (ring : RingValue) (names last more : List (List ℕ)) (w : WriterId) (key value gets : List ℕ) → AreWriters last → last ≡ names ++ more
+    → w.0 ≡ length names → w.0 < length last → IsEvent (event.StartPut w key value gets) → Next ring names last (event.StartPut w key value gets)
+new-put ring names last [] w key value gets good e same lt is =
+    absurd (let f = ap (λ (ys : List (List ℕ)). length ys) e in omega (arith, length-append names []))
 new-put ring names last (name ∷ more) w key value gets good e same lt is =
     let joined : last ≡ (names ++ name ∷ []) ++ more = e ∙ sym (append_assoc names (name ∷ []) more) in
-    let at : slice_get last (length names) ≡ Some name = ap (λ (ns : List (List ℕ)). slice_get ns (length names)) joined ∙ get-front (names ++ name ∷ []) more (length names) (let sum = length-append names (name ∷ []) in omega arith) ∙ get-last names name in
+    let at : slice_get last (length names) ≡ Some name = ap (λ (ns : List (List ℕ)). slice_get ns (length names)) joined ∙
+    get-front (names ++ name ∷ []) more (length names) (let sum = length-append names (name ∷ []) in omega arith) ∙ get-last names name in
     let named = named-at last (length names) name good.names at in
     let new = not-before names (name ∷ more) name (ap (λ (ns : List (List ℕ)). place ns name) (sym e) ∙ good.different (length names) name at) in
     let few = good.few in
@@ -233,32 +256,44 @@ new-put ring names last (name ∷ more) w key value gets good e same lt is =
     }
 
 -- a put's line, whose writer is known or the next new one
-next-put : (ring : RingValue) (names last : List (List ℕ)) (w : WriterId) (key value gets : List ℕ) → AreWriters last → (more : List (List ℕ)) × (last ≡ names ++ more) → (length names ≤ w.0 → w.0 ≡ length names) → w.0 < length last → IsEvent (event.StartPut w key value gets) → Next ring names last (event.StartPut w key value gets)
+next-put : (ring : RingValue) (names last : List (List ℕ)) (w : WriterId) (key value gets : List ℕ) → AreWriters last
+    → (more : List (List ℕ)) × (last ≡ names ++ more) → (length names ≤ w.0 → w.0 ≡ length names) → w.0 < length last
+    → IsEvent (event.StartPut w key value gets) → Next ring names last (event.StartPut w key value gets)
 next-put ring names last w key value gets good grown low lt is = elim (cases_lt w.0 (length names)) [
-  | inl known ↦ record { item = said.StartPut (record { writer = Known w; key = key; value = value; seen = gets }); event = refl; said = record { event = is; known = known; writer = known }; on = grown }
+  | inl known ↦ record {
+    item = said.StartPut (record { writer = Known w; key = key; value = value; seen = gets });
+    event = refl;
+    said = record { event = is; known = known; writer = known };
+    on = grown;
+  }
   | inr high ↦ new-put ring names last grown.0 w key value gets good grown.1 (low high) lt is
 ]
 
 module _ (ring : RingValue) (names last : List (List ℕ)) (good : AreWriters last) (grown : (more : List (List ℕ)) × (last ≡ names ++ more)) where
+  -- an event that is of no writer
+  other : (x : SaidEvent) → IsSaid ring names x → last ≡ names_after names x ++ grown.0 → Next ring names last (event_of names x)
+  other x is on = record { item = x; event = refl; said = is; on = (grown.0, on) }
+
   -- each event is what one line says
   next-of : (e : Event) → ((w : ℕ) → Puts e w → length names ≤ w → w ≡ length names) → IsEvent e → IsKnown (length (names_of ring)) (length last) e
       → Next ring names last e
-  next-of (event.Do s) low is known = record { item = said.Do s; event = refl; said = record { event = is; known = tt; writer = tt }; on = grown }
-  next-of (event.OpenCopy s) low is known = record { item = said.OpenCopy s; event = refl; said = record { event = is; known = tt; writer = tt }; on = grown }
-  next-of (event.ChunkCopy s c) low is known = record { item = said.ChunkCopy s c; event = refl; said = record { event = is; known = tt; writer = tt }; on = grown }
-  next-of (event.CloseCopy s) low is known = record { item = said.CloseCopy s; event = refl; said = record { event = is; known = tt; writer = tt }; on = grown }
-  next-of (event.AbortCopy s) low is known = record { item = said.AbortCopy s; event = refl; said = record { event = is; known = tt; writer = tt }; on = grown }
-  next-of (event.StartPut w key value gets) low is known = next-put ring names last w key value gets good grown (λ high. low w.0 (key, value, gets, refl) high) known is
-  next-of (event.Write u i) low is known = record { item = said.Write u i; event = refl; said = record { event = is; known = tt; writer = tt }; on = grown }
-  next-of (event.Hint u i x) low is known = record { item = said.Hint u i x; event = refl; said = record { event = is; known = known; writer = tt }; on = grown }
-  next-of (event.Ack u) low is known = record { item = said.Ack u; event = refl; said = record { event = is; known = tt; writer = tt }; on = grown }
-  next-of (event.StartGet key) low is known = record { item = said.StartGet key; event = refl; said = record { event = is; known = tt; writer = tt }; on = grown }
-  next-of (event.Read g i) low is known = record { item = said.Read g i; event = refl; said = record { event = is; known = tt; writer = tt }; on = grown }
-  next-of (event.EndGet g) low is known = record { item = said.EndGet g; event = refl; said = record { event = is; known = tt; writer = tt }; on = grown }
-  next-of (event.Down x) low is known = record { item = said.Down x; event = refl; said = record { event = is; known = known; writer = tt }; on = grown }
-  next-of (event.Up x) low is known = record { item = said.Up x; event = refl; said = record { event = is; known = known; writer = tt }; on = grown }
-  next-of (event.Handoff x s) low is known = record { item = said.Handoff x s; event = refl; said = record { event = is; known = known; writer = tt }; on = grown }
-  next-of (event.Lose x) low is known = record { item = said.Lose x; event = refl; said = record { event = is; known = known; writer = tt }; on = grown }
+  next-of (event.Do s) low is known = other (said.Do s) (record { event = is; known = tt; writer = tt }) grown.1
+  next-of (event.OpenCopy s) low is known = other (said.OpenCopy s) (record { event = is; known = tt; writer = tt }) grown.1
+  next-of (event.ChunkCopy s c) low is known = other (said.ChunkCopy s c) (record { event = is; known = tt; writer = tt }) grown.1
+  next-of (event.CloseCopy s) low is known = other (said.CloseCopy s) (record { event = is; known = tt; writer = tt }) grown.1
+  next-of (event.AbortCopy s) low is known = other (said.AbortCopy s) (record { event = is; known = tt; writer = tt }) grown.1
+  next-of (event.StartPut w key value gets) low is known =
+      next-put ring names last w key value gets good grown (λ high. low w.0 (key, value, gets, refl) high) known is
+  next-of (event.Write u i) low is known = other (said.Write u i) (record { event = is; known = tt; writer = tt }) grown.1
+  next-of (event.Hint u i x) low is known = other (said.Hint u i x) (record { event = is; known = known; writer = tt }) grown.1
+  next-of (event.Ack u) low is known = other (said.Ack u) (record { event = is; known = tt; writer = tt }) grown.1
+  next-of (event.StartGet key) low is known = other (said.StartGet key) (record { event = is; known = tt; writer = tt }) grown.1
+  next-of (event.Read g i) low is known = other (said.Read g i) (record { event = is; known = tt; writer = tt }) grown.1
+  next-of (event.EndGet g) low is known = other (said.EndGet g) (record { event = is; known = tt; writer = tt }) grown.1
+  next-of (event.Down x) low is known = other (said.Down x) (record { event = is; known = known; writer = tt }) grown.1
+  next-of (event.Up x) low is known = other (said.Up x) (record { event = is; known = known; writer = tt }) grown.1
+  next-of (event.Handoff x s) low is known = other (said.Handoff x s) (record { event = is; known = known; writer = tt }) grown.1
+  next-of (event.Lose x) low is known = other (said.Lose x) (record { event = is; known = known; writer = tt }) grown.1
 
 -- what the lines say of some events
 pub record Lines (ring : RingValue) (seen : List Event) (names last : List (List ℕ)) (script : List Event) : Type 0 where
@@ -268,7 +303,8 @@ pub record Lines (ring : RingValue) (seen : List Event) (names last : List (List
   pub each : EachSaid ring seen names items
 
 -- each script is what some lines say
-pub lines-for : (ring : RingValue) (es seen : List Event) (names last : List (List ℕ)) → AreWriters last → length seen + length es ≤ 1000000 → IsRest ring names last es → Lines ring seen names last es
+pub lines-for : (ring : RingValue) (es seen : List Event) (names last : List (List ℕ)) → AreWriters last → length seen + length es ≤ 1000000
+    → IsRest ring names last es → Lines ring seen names last es
 lines-for ring [] seen names last good few r = record { items = []; events = refl; writers = sym (none-rest ring names last r); each = tt }
 lines-for ring (e ∷ es) seen names last good few r =
     let x = next-of ring names last good r.grown e lowest r.each.0 r.known.0 in

@@ -1,5 +1,6 @@
 -- A value is read from just the text that is written of it.
-use Rattle.std.proofs.Common.{◌≡◌, ℕ, ◌+◌, ◌*◌, ◌/◌, ◌%◌, ◌<◌, ◌≤◌, Bool, true, false, cond, not, ◌&&◌, ◌||◌, eqb, nat_le, List, [], ◌∷◌, ◌++◌, length, Ok, Err, refl, ap, ◌∙◌, arith, inl, inr}
+use Rattle.std.proofs.Common.{◌≡◌, ℕ, ◌+◌, ◌*◌, ◌/◌, ◌%◌, ◌<◌, ◌≤◌, Bool, true, false, cond, not, ◌&&◌, ◌||◌, eqb, nat_le, List, [], ◌∷◌, ◌++◌, length, Ok}
+use Rattle.std.proofs.Common.{Err, refl, ap, ◌∙◌, arith, inl, inr}
 use Rattle.std.specs.List.{flat_map, AllByRecursion}
 use Rattle.std.proofs.lemmas.Bool.{agree_below_at, and_parts, or_cases, eqb-true, leb-true, le-leb}
 use Rattle.std.proofs.lemmas.List.Concat.{flat_map-cons}
@@ -41,11 +42,14 @@ either-of false b e f = absurd cc
 
 -- what is written of what a digit counts is the digit
 text-value : (c : ℕ) → is_digit c ≡ true → digit_text (digit_value c) ≡ c
-text-value c e = eqb-true _ _ (either-of (is_digit c) (eqb (digit_text (digit_value c)) c) e (agree_below_at (λ x. not (is_digit x) || eqb (digit_text (digit_value x)) x) (λ x. true) 103 c refl (few-digit c e)))
+text-value c e = eqb-true _ _ (either-of (is_digit c) (eqb (digit_text (digit_value c)) c) e
+    (agree_below_at (λ x. not (is_digit x) || eqb (digit_text (digit_value x)) x) (λ x. true) 103 c refl (few-digit c e)))
 
 -- a digit counts at most 15
 value-few : (c : ℕ) → is_digit c ≡ true → digit_value c ≤ 15
-value-few c e = leb-true (digit_value c) 15 (either-of (is_digit c) (nat_le (digit_value c) 15) e (agree_below_at (λ x. not (is_digit x) || nat_le (digit_value x) 15) (λ x. true) 103 c refl (few-digit c e)))
+value-few c e = leb-true (digit_value c) 15
+    (either-of (is_digit c) (nat_le (digit_value c) 15) e
+    (agree_below_at (λ x. not (is_digit x) || nat_le (digit_value x) 15) (λ x. true) 103 c refl (few-digit c e)))
 
 -- ---- bytes
 
@@ -85,8 +89,10 @@ digits-of (a ∷ b ∷ cs) e =
     let n = 16 * digit_value a + digit_value b in
     let rest = digits-of cs p.1 in
     let first : n / 16 ≡ digit_value a = omega arith in
-    let second : n % 16 ≡ digit_value b = omega arith in
-    (rw (flat_map-cons byte_text n (bytes_of cs), first, second, text-value a q.0, text-value b q.1) (ap (λ (ds : List ℕ). a ∷ b ∷ ds) rest.0), (omega arith, rest.1))
+    let second : n % 16 ≡ digit_value b = omega arith in (
+      rw (flat_map-cons byte_text n (bytes_of cs), first, second, text-value a q.0, text-value b q.1) (ap (λ (ds : List ℕ). a ∷ b ∷ ds) rest.0),
+      (omega arith, rest.1),
+    )
 
 -- what is written of bytes is plain
 bytes-plain : (bytes : List ℕ) → AllByRecursion (λ b. b < 256) bytes → IsPlain (flat_map byte_text bytes)
@@ -105,11 +111,14 @@ text-is [] e = absurd cc
 text-is (x ∷ digits) e =
     let p = and_parts (eqb x 120 && nat_le (length digits) 2048) (are_pairs digits) e in
     let q = and_parts (eqb x 120) (nat_le (length digits) 2048) p.0 in
-    let d = digits-of digits p.1 in
-    (ap (λ (c : ℕ). c ∷ digits) (eqb-true x 120 q.0) ∙ ap (λ (ds : List ℕ). 120 ∷ ds) d.0, record { few = few_bytes digits (leb-true (length digits) 2048 q.1); bytes = d.1 })
+    let d = digits-of digits p.1 in (
+      ap (λ (c : ℕ). c ∷ digits) (eqb-true x 120 q.0) ∙ ap (λ (ds : List ℕ). 120 ∷ ds) d.0,
+      record { few = few_bytes digits (leb-true (length digits) 2048 q.1); bytes = d.1 },
+    )
 
 -- a field that is judged to be a value is its text
-judged : (k : ℕ) (field value : List ℕ) (t : Bool) → is_value_text field ≡ t → cond t (Ok (value_of field)) (Err (BadLine k)) ≡ Ok value → (field ≡ value_text value) × IsBytes value
+judged : (k : ℕ) (field value : List ℕ) (t : Bool) → is_value_text field ≡ t → cond t (Ok (value_of field)) (Err (BadLine k)) ≡ Ok value
+    → (field ≡ value_text value) × IsBytes value
 judged k field value true h e = let same : value_of field ≡ value = ok_is (value_of field) value e in rw (← same) (text-is field h)
 judged k field value false h e = absurd cc
 

@@ -1,5 +1,6 @@
 -- Names of writers that grow, each at its own number.
-use Rattle.std.proofs.Common.{◌≡◌, ℕ, suc, ◌<◌, Bool, true, false, cond, List, [], ◌∷◌, ◌++◌, length, Option, Some, None, refl, sym, ap, ◌∙◌, arith, length-append, inl, inr}
+use Rattle.std.proofs.Common.{◌≡◌, ℕ, suc, ◌<◌, Bool, true, false, cond, List, [], ◌∷◌, ◌++◌, length, Option, Some, None, refl, sym, ap, ◌∙◌, arith}
+use Rattle.std.proofs.Common.{length-append, inl, inr}
 use Rattle.std.specs.Prelude.{slice_get, option_map}
 use Rattle.std.specs.List.{list_all}
 use Rattle.std.specs.Str.{bytes_eq}
@@ -25,7 +26,8 @@ use Rattle.ring_events.proofs.KindLaws.{NamesWriter}
 -- ---- the places of names that grow
 
 -- a place behind one more name in front, where later names change none
-place-step : (b : Bool) (o p : Option ℕ) (n : ℕ) → ((m : ℕ) → o ≡ Some m → p ≡ Some m) → cond b (Some 0) (option_map (λ m. suc m) o) ≡ Some n → cond b (Some 0) (option_map (λ m. suc m) p) ≡ Some n
+place-step : (b : Bool) (o p : Option ℕ) (n : ℕ) → ((m : ℕ) → o ≡ Some m → p ≡ Some m) → cond b (Some 0) (option_map (λ m. suc m) o) ≡ Some n
+    → cond b (Some 0) (option_map (λ m. suc m) p) ≡ Some n
 place-step true o p n on e = e
 place-step false None p n on e = absurd cc
 place-step false (Some m) p n on e = rw (on m refl) e
@@ -36,7 +38,8 @@ place-more [] more name n e = absurd cc
 place-more (x ∷ xs) more name n e = place-step (bytes_eq name x) (place xs name) (place (xs ++ more) name) n (λ m f. place-more xs more name m f) e
 
 -- the same, where the later names are left away
-less-step : (b : Bool) (o p : Option ℕ) (n l : ℕ) → ((m : ℕ) → o ≡ Some m → m < l → p ≡ Some m) → n < suc l → cond b (Some 0) (option_map (λ m. suc m) o) ≡ Some n → cond b (Some 0) (option_map (λ m. suc m) p) ≡ Some n
+less-step : (b : Bool) (o p : Option ℕ) (n l : ℕ) → ((m : ℕ) → o ≡ Some m → m < l → p ≡ Some m) → n < suc l
+    → cond b (Some 0) (option_map (λ m. suc m) o) ≡ Some n → cond b (Some 0) (option_map (λ m. suc m) p) ≡ Some n
 less-step true o p n l on lt e = e
 less-step false None p n l on lt e = absurd cc
 less-step false (Some m) p n l on lt e =
@@ -46,7 +49,8 @@ less-step false (Some m) p n l on lt e =
 -- a place among the first names is one without the others
 pub place-less : (names more : List (List ℕ)) (name : List ℕ) (n : ℕ) → place (names ++ more) name ≡ Some n → n < length names → place names name ≡ Some n
 place-less [] more name n e lt = absurd (omega arith)
-place-less (x ∷ xs) more name n e lt = less-step (bytes_eq name x) (place (xs ++ more) name) (place xs name) n (length xs) (λ m f below. place-less xs more name m f below) lt e
+place-less (x ∷ xs) more name n e lt = less-step (bytes_eq name x) (place (xs ++ more) name) (place xs name) n (length xs)
+    (λ m f below. place-less xs more name m f below) lt e
 
 -- a name that stands behind some is none of them
 pub not-before : (names more : List (List ℕ)) (name : List ℕ) → place (names ++ more) name ≡ Some (length names) → place names name ≡ None

@@ -8,4 +8,5 @@ returns-clause-found c =
     let ring = c.args.ring.now in
     let old = c.args.writers.now in
     let new = c.read_parts.new.writers in
-    mapped-reads c.read_parts.result new c.read_parts.new.lines (script_at ring old c.args.lines.now) (λ s ns. AreWriters old → IsScriptOf ring old ns s) c.read_parts.ensures.read (section-found ring old c.args.lines.now c.n-slots.ensures.valid)
+    mapped-reads c.read_parts.result new c.read_parts.new.lines (script_at ring old c.args.lines.now)
+    (λ s ns. AreWriters old → IsScriptOf ring old ns s) c.read_parts.ensures.read (section-found ring old c.args.lines.now c.n-slots.ensures.valid)
