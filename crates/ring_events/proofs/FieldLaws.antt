@@ -1,11 +1,12 @@
 -- The fields of an event's line are read only if they are spelled so.
-use Rattle.std.proofs.Common.{◌≡◌, ℕ, zero, suc, ◌<◌, Bool, true, false, cond, not, eqb, nat_lt, nat_le, List, [], ◌∷◌, ◌++◌, length, map, codes, Option}
+use Rattle.std.proofs.Common.{◌≡◌, ℕ, zero, suc, ◌<◌, Bool, true, false, cond, not, eqb, nat_lt, nat_le, List, [], ◌∷◌, ◌++◌, length, map, codes, get_or, Option}
 use Rattle.std.proofs.Common.{Some, None, Result, Ok, Err, refl, sym, ap, subst, ◌∙◌, arith}
 use Rattle.std.specs.Prelude.{slice_get}
 use Rattle.std.specs.Fmt.{decimal}
 use Rattle.std.specs.List.{list_all}
 use Rattle.std.specs.Str.{bytes_eq}
 use Rattle.std.proofs.lemmas.Bool.{ne_eqb, not-false, and_parts, and_from, ltb-true, lt-ltb}
+use Rattle.std.proofs.lemmas.Option.{slice_get-get_or}
 use Rattle.std.proofs.lemmas.Slice.Eq.{bytes_eq-Decides}
 use Rattle.ring_names.specs.Names.{place}
 use Rattle.ring_names.specs.declared.ids.NodeId.{NodeId}
@@ -105,9 +106,7 @@ get-front (x ∷ xs) more (suc i) lt = get-front xs more i (omega arith)
 
 -- each number below their count has a name
 pub get-some : (names : List (List ℕ)) (i : ℕ) → i < length names → (name : List ℕ) × (slice_get names i ≡ Some name)
-get-some [] i lt = absurd (omega arith)
-get-some (x ∷ xs) zero lt = (x, refl)
-get-some (x ∷ xs) (suc i) lt = get-some xs i (omega arith)
+get-some names i lt = (get_or names i [], slice_get-get_or names i [] lt)
 
 -- each of some names is a name
 pub named-at : (names : List (List ℕ)) (i : ℕ) (name : List ℕ) → list_all is_name names ≡ true → slice_get names i ≡ Some name → is_name name ≡ true

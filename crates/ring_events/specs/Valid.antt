@@ -63,6 +63,7 @@ pub record IsScriptOf (ring : RingValue) (old names : List (List ℕ)) (script :
   pub known : AreKnown ring names script
   pub writers : AreWriters names
   pub grown : (more : List (List ℕ)) × (names ≡ old ++ more)
-  -- each new writer is named by some put, and behind the first puts of all new writers before it
+  -- each new writer is named by some put
   pub seen : (w : ℕ) → length old ≤ w → w < length names → (n : ℕ) × WritesAt script n w
+  -- and behind the first puts of all new writers before it
   pub ordered : (n w v : ℕ) → WritesAt script n w → length old ≤ v → v < w → (m : ℕ) × (m < n) × WritesAt script m v
