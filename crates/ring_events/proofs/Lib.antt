@@ -2,3 +2,10 @@ pub mod DigitLaws
 pub mod ScriptLates
 pub mod NextLaws
 pub mod WriteLaws
+pub mod ValueLaws
+pub mod FieldLaws
+pub mod KindLaws
+pub mod WriterLaws
+pub mod SaidLines
+pub mod SightLaws
+pub mod ScriptLaws

@@ -4,3 +4,4 @@ pub mod Said
 pub mod Reading
 pub mod Spelling
 pub mod Known
+pub mod Valid

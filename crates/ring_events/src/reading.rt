@@ -1,12 +1,15 @@
 //! Reading a script.
 
-ghost use Rattle.std.specs.Prelude.{◌≡◌, ◌<◌, [], length, Ok, IfOk, IfErr, OnOk};
+ghost use Rattle.std.specs.Prelude.{◌≡◌, ◌<◌, ℕ, List, [], length, Ok, IfOk, IfErr, OnOk};
 ghost use Rattle.ring_names.specs.declared.refusal.Refusal.TheVariants.{OutOfMemory};
 ghost use Rattle.ring_text.specs.Left.{Reads};
 ghost use Rattle.ring_text.specs.Late.{IsAt, Late, NoFaultBefore};
 ghost use Rattle.ring_text.specs.Judging.{Gives, map_ok};
 ghost use Rattle.ring_events.specs.Said.{IsNext};
+ghost use Rattle.plan_check.specs.declared.event.Event.{Event};
 ghost use Rattle.ring_events.specs.Reading.{said_at, events_from, events_at, script_at, script_reading};
+ghost use Rattle.ring_events.specs.Spelling.{script_text};
+ghost use Rattle.ring_events.specs.Valid.{AreWriters, IsScriptOf};
 
 use crate::kind::kind;
 use crate::said::SaidEvent;
@@ -83,9 +86,25 @@ fn read_events(
     Ok(script)
 }
 
+// Reads the lines of a script.
+#[tactic(auto, unfolding(crate::specs::Reading::script_at))]
+fn read_parts(
+    alloc: Global,
+    ring: &Ring,
+    writers: &mut Names,
+    lines: &mut Lines,
+) -> Result<Script, Refusal>
+    ensures read { Reads (map_ok (λ s. (s, writers.new)) result) lines.new (script_at ring.now writers.old lines.old) }
+    ensures late { Late 2 result lines.old lines.new (script_at ring.now writers.old lines.old) }
+{
+    header(lines, b"script", b"1")?;
+    let script = read_events(alloc, ring, writers, lines)?;
+    end(lines)?;
+    Ok(script)
+}
+
 /// Reads the lines of a script, up to its line `end`, and leaves what follows them. New writers are added behind those that were seen.
 /// Refused as `read_script` is; then some of the new writers may have been added.
-#[tactic(auto, unfolding(crate::specs::Reading::script_at))]
 pub fn read_script_section(
     alloc: Global,
     ring: &Ring,
@@ -93,12 +112,30 @@ pub fn read_script_section(
     lines: &mut Lines,
 ) -> Result<Script, Refusal>
     ensures read { Reads (map_ok (λ s. (s, writers.new)) result) lines.new (script_at ring.now writers.old lines.old) }
+    // What is read is a script over the ring, if the writers that were seen are at most 1,024 names.
+    ensures found { IfOk result (λ s. AreWriters writers.old → IsScriptOf ring.now writers.old writers.new s) }
     // Memory may run out behind its first two lines, if these have no fault, and later only behind lines that have none.
     ensures late { Late 2 result lines.old lines.new (script_at ring.now writers.old lines.old) }
 {
-    header(lines, b"script", b"1")?;
-    let script = read_events(alloc, ring, writers, lines)?;
-    end(lines)?;
+    // Names of a ring are names.
+    let slots = ring.n();
+    prove!(slots <= 7);
+    read_parts(alloc, ring, writers, lines)
+}
+
+// Reads a script from its whole text.
+fn read_whole(
+    alloc: Global,
+    ring: &Ring,
+    writers: &mut Names,
+    text: &[u8],
+) -> Result<Script, Refusal>
+    ensures exact { Gives (map_ok (λ s. (s, writers.new)) result) (script_reading ring.now writers.old text.now) }
+    ensures late { IfErr result (λ e. e ≡ OutOfMemory → NoFaultBefore 3 (script_reading ring.now writers.old text.now)) }
+{
+    let mut lines = Lines::of(text);
+    let script = read_script_section(alloc, ring, writers, &mut lines)?;
+    lines.ended()?;
     Ok(script)
 }
 
@@ -111,13 +148,19 @@ pub fn read_script(
     writers: &mut Names,
     text: &[u8],
 ) -> Result<Script, Refusal>
+    // What is read was spelled so.
+    ensures found { IfOk result (λ s. AreWriters writers.old
+        → IsScriptOf ring.now writers.old writers.new s × (text.now ≡ script_text ring.now writers.new s)) }
+    // What is spelled so is read, unless memory runs out.
+    ensures only { (s : List Event) (names : List (List ℕ)) → IsScriptOf ring.now writers.old names s → text.now ≡ script_text ring.now names s
+        → Gives {A = List Event × List (List ℕ)} (map_ok (λ s. (s, writers.new)) result) (Ok (s, names)) }
     // Which fault it is.
     ensures exact { Gives (map_ok (λ s. (s, writers.new)) result) (script_reading ring.now writers.old text.now) }
     // Memory may run out only if the first two lines have no fault.
     ensures late { IfErr result (λ e. e ≡ OutOfMemory → NoFaultBefore 3 (script_reading ring.now writers.old text.now)) }
 {
-    let mut lines = Lines::of(text);
-    let script = read_script_section(alloc, ring, writers, &mut lines)?;
-    lines.ended()?;
-    Ok(script)
+    // Names of a ring are plain.
+    let slots = ring.n();
+    prove!(slots <= 7);
+    read_whole(alloc, ring, writers, text)
 }

@@ -1,6 +1,20 @@
-use Rattle.ring_text.proofs.Lates.{late-whole, two-lines}
-use Rattle.ring_events.specs.Reading.{script_at}
+use Rattle.std.proofs.Common.{◌≡◌, subst}
+use Rattle.ring_text.specs.Judging.{Gives, map_ok}
+use Rattle.ring_events.specs.Reading.{script_reading}
+use Rattle.ring_events.specs.Spelling.{script_text}
+use Rattle.ring_events.specs.Valid.{AreWriters, IsScriptOf}
+use Rattle.ring_events.proofs.ScriptLaws.{mapped-gives, read-found, read-only}
 use Rattle.ring_events.proofs.reading.read_script.Goals as goal
 
-pub returns-in_err-script-clause-late : goal.returns-in_err-script-clause-late
-returns-in_err-script-clause-late c = late-whole 2 3 c.from_residual.result c.in_err-script.field-0.0 c.args.text.now c.of-lines.result c.read_script_section.new.lines (script_at c.args.ring.now c.args.writers.now) two-lines c.from_residual.ensures.1 c.of-lines.ensures c.in_err-script.ensures.late
+pub returns-clause-found : goal.returns-clause-found
+returns-clause-found c =
+    let ring = c.args.ring.now in
+    let old = c.args.writers.now in
+    let new = c.read_whole.new.writers in
+    mapped-gives c.read_whole.result new (script_reading ring old c.args.text.now)
+    (λ s ns. AreWriters old → IsScriptOf ring old ns s × (c.args.text.now ≡ script_text ring ns s)) c.read_whole.ensures.exact
+    (read-found ring old c.args.text.now c.n-slots.ensures.valid)
+
+pub returns-clause-only : goal.returns-clause-only
+returns-clause-only c = λ s names p e. subst (Gives (map_ok (λ x. (x, c.read_whole.new.writers)) c.read_whole.result))
+    (read-only c.args.ring.now c.args.writers.now names c.args.text.now s c.n-slots.ensures.valid p e) c.read_whole.ensures.exact
