@@ -1,6 +1,6 @@
 -- What calls need of a store that is sound, and of an event that passes its tests.
-use Rattle.std.proofs.Common.{◌≡◌, ◌∙◌, ℕ, ◌<◌, ◌≤◌, Bool, true, false, cond, List, length, refl, sym, ap, arith, eqb-true, ltb-true, leb-true}
-use Rattle.std.specs.Prelude.{◌==◌, nat_lt, nat_le, Option, Some, None, is_some, option_and_then, IfSome}
+use Rattle.std.proofs.Common.{◌≡◌, ◌∙◌, ℕ, ◌<◌, ◌≤◌, Bool, true, false, cond, List, length, refl, sym, ap, subst, arith, eqb-true, ltb-true, leb-true}
+use Rattle.std.specs.Prelude.{◌≢◌, ◌==◌, nat_lt, nat_le, Option, Some, None, is_some, option_and_then, IfSome}
 use Rattle.std.proofs.Props.{props}
 use Rattle.ring_names.specs.declared.ids.NodeId.{NodeId}
 use Rattle.ring_names.specs.declared.ids.Slot.{Slot}
@@ -16,14 +16,16 @@ use Rattle.plan_check.specs.declared.event.Event.TheVariants.{Do, Lose}
 use Rattle.plan_check.specs.World.{World}
 use Rattle.plan_check.specs.Guards.{has_copy, has_other, guards}
 use Rattle.plan_check.proofs.Passed.{all_met}
+use Rattle.ring_store.specs.Stores.{node_count}
 use Rattle.ring_state.specs.declared.slots.SlotNow.{SlotNow}
 use Rattle.ring_state.specs.Slots.{slot_now, ChangesSlot}
 use Rattle.ring_parts.proofs.SlotsFit.{may_raise, may_raise_mirrored}
 use Rattle.ring_parts.proofs.StepsNow.{step_within, other_within, copy_within}
 use Rattle.ring_parts.specs.declared.parts.Parts.{Parts}
 use Rattle.ring_parts.specs.Parts.{Meets, IsSound, Passes, ring_of, plan_of, kept_of}
-use Rattle.ring_parts.proofs.Known.{holds, reached_of}
+use Rattle.ring_parts.proofs.Known.{holds, reached_of, owner_within}
 use Rattle.ring_apply.proofs.StepsOn.{no_copy, is_other}
+use Rattle.ring_apply.proofs.There.{mirror_prop, mirror_fits}
 
 -- there is one way alone in which a number of what is there is less
 less_prop : (o : Option SlotNow) → IsProp (IfSome o (λ x. x.generation < 4294967295))
@@ -72,6 +74,14 @@ module _ (a : Parts) (s : IsSound a) where
   pub may_be_mirrored : (mid : List (List SlotNow)) (t : Slot) (y : NodeId) → ChangesSlot a.slots mid t (λ x. record x { mirror = Some y }) → IfSome (slot_now mid t) (λ x. x.generation < 4294967295)
   may_be_mirrored mid t y change = holds a s (less_prop (slot_now mid t))
       (λ w m. may_raise_mirrored (ring_of a) (plan_of a) a.slots mid w t y m.is_ring m.is_plan (reached_of (ring_of a) (plan_of a) (kept_of a) w m) m.lost m.slots change)
+
+  -- the owner of a slot is one of the nodes that store
+  pub owner_ready : (t : Slot) (x : SlotNow) → Some x ≡ slot_now a.slots t → x.owner.0 < node_count a.stores
+  owner_ready t x at = holds a s (hlevel props) (λ w m. subst (λ (n : ℕ). x.owner.0 < n) (sym s.sized.nodes) (owner_within (ring_of a) (plan_of a) (kept_of a) w m t x (sym at)))
+
+  -- so is its mirror, and another one
+  pub mirror_ready : (t : Slot) (x : SlotNow) → Some x ≡ slot_now a.slots t → IfSome x.mirror (λ y. (y.0 < node_count a.stores) × (y.0 ≢ x.owner.0))
+  mirror_ready t x at = holds a s (mirror_prop x.mirror (node_count a.stores) x.owner.0) (λ w m. mirror_fits (ring_of a) (plan_of a) (kept_of a) w m t x (node_count a.stores) s.sized.nodes (sym at))
 
   -- ---- losses
 

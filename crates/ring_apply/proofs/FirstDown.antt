@@ -16,10 +16,12 @@ use Rattle.plan_check.proofs.Passing.{below_is, is_below, passing_ascend, ascend
 use Rattle.ring_apply.specs.ChunkKeepers.{IsLeastDown}
 use Rattle.ring_apply.specs.Keepers.{IsFirstDown}
 
+-- where all these nodes are up none is refused
 all_up : (up : ℕ → Bool) (xs : List ℕ) → ((x : ℕ) → has x xs ≡ true → up x ≡ true) → first_failing (map (λ x. (up x, NodeDown x)) xs) ≡ None
 all_up up [] are = refl
 all_up up (x ∷ xs) are = (let e = are x (first_of_two (x == x) (has x xs) (same x)) in rw e (all_up up xs (λ y h. are y (second_of_two (y == x) (has y xs) h))))
 
+-- of ascending nodes the one that is down, where those before it are up, is refused
 first_down : (up : ℕ → Bool) (xs : List ℕ) (y : ℕ) → ascending xs ≡ true → has y xs ≡ true → up y ≡ false → ((x : ℕ) → x < y → has x xs ≡ true → up x ≡ true)
     → first_failing (map (λ x. (up x, NodeDown x)) xs) ≡ Some (NodeDown y)
 first_down up [] y rise there down before = absurd cc
@@ -44,8 +46,8 @@ keepers_refused up n test (Some y) within h =
     first_down up (passing_below n test) y.0 (passing_ascend 0 n test) (is_below n test y.0 (within y.0 h.0) h.0) h.1 (λ x l t. h.2 x l (below_is n test x t).1)
 
 -- the first node that is down and has versions is the first of those that pass, where these have versions
-pub first_down_is : (up test : ℕ → Bool) (held : ℕ → List Version) (n : ℕ) (o : Option Refusal) → ((x : ℕ) → (test x ≡ false) ↔ (held x ≡ [])) → ((x : ℕ) → test x ≡ true → x < n)
-    → IsFirstDown up held o → o ≡ first_failing (nodes_up up n test)
+pub first_down_is : (up test : ℕ → Bool) (held : ℕ → List Version) (n : ℕ) (o : Option Refusal) → ((x : ℕ) → (test x ≡ false) ↔ (held x ≡ []))
+    → ((x : ℕ) → test x ≡ true → x < n) → IsFirstDown up held o → o ≡ first_failing (nodes_up up n test)
 first_down_is up test held n None tells within down = sym (keepers_refused up n test None within (λ x t. elim (down x) [
   | inl none ↦ absurd (let f = (tells x).1 none in cc)
   | inr is ↦ is

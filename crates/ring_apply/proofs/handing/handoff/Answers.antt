@@ -1,11 +1,12 @@
-use Rattle.std.proofs.Common.{◌<◌, length, sym, subst}
+use Rattle.std.proofs.Common.{sym}
 use Rattle.std.proofs.Props.{props}
 use Rattle.ring_maps.specs.Slots.{held_for}
 use Rattle.ring_store.specs.Stores.{held_at}
 use Rattle.ring_hints.specs.Hints.{hinted_at}
 use Rattle.ring_parts.specs.Parts.{ring_of, plan_of, kept_of}
-use Rattle.ring_parts.proofs.Known.{holds, owner_within}
-use Rattle.ring_apply.proofs.There.{mirror_prop, slot_kept, mirror_fits}
+use Rattle.ring_parts.proofs.Known.{holds}
+use Rattle.ring_apply.proofs.Assured.{owner_ready, mirror_ready}
+use Rattle.ring_apply.proofs.There.{slot_kept}
 use Rattle.ring_apply.proofs.Handed.{handoff_slot, handoff_keeps, handed}
 use Rattle.ring_apply.proofs.handing.handoff.Goals as goal
 
@@ -22,18 +23,10 @@ unreachable-requires-in_default-map c =
     handoff_keeps (ring_of a) (plan_of a) (kept_of a) w m c.args.node c.args.slot (sym (c.requires.passes w m)) (c.in_default-map.ensures).none)
 
 pub give_slot-requires-clause-owner : goal.give_slot-requires-clause-owner
-give_slot-requires-clause-owner c =
-    let a = c.args.parts.now in
-    let served = c.in-Some.served in
-    holds a c.requires.sound (hlevel props) (λ w m. subst (λ n. served.owner.0 < n) (sym c.requires.sound.sized.nodes)
-    (owner_within (ring_of a) (plan_of a) (kept_of a) w m c.args.slot served (sym c.in-Some.ensures)))
+give_slot-requires-clause-owner c = owner_ready c.args.parts.now c.requires.sound c.args.slot c.in-Some.served c.in-Some.ensures
 
 pub give_slot-requires-clause-mirror : goal.give_slot-requires-clause-mirror
-give_slot-requires-clause-mirror c =
-    let a = c.args.parts.now in
-    let served = c.in-Some.served in
-    holds a c.requires.sound (mirror_prop served.mirror (length a.stores.list.items) served.owner.0) (λ w m.
-    mirror_fits (ring_of a) (plan_of a) (kept_of a) w m c.args.slot served (length a.stores.list.items) c.requires.sound.sized.nodes (sym c.in-Some.ensures))
+give_slot-requires-clause-mirror c = mirror_ready c.args.parts.now c.requires.sound c.args.slot c.in-Some.served c.in-Some.ensures
 
 pub returns-clause-ok : goal.returns-clause-ok
 returns-clause-ok c w m =

@@ -1,4 +1,4 @@
-use Rattle.std.proofs.Common.{◌≡◌, ◌∙◌, ◌<◌, List, length, sym, ap, subst}
+use Rattle.std.proofs.Common.{◌≡◌, ◌∙◌, List, sym, ap, subst}
 use Rattle.std.specs.Prelude.{Ok}
 use Rattle.std.proofs.Props.{props}
 use Rattle.plan_check.specs.declared.event.Event.TheVariants.{Write}
@@ -10,8 +10,9 @@ use Rattle.ring_store.specs.Stores.{held_at}
 use Rattle.ring_state.specs.declared.puts.PutNow.{PutNow}
 use Rattle.ring_parts.specs.Kept.{Tells}
 use Rattle.ring_parts.specs.Parts.{ring_of, plan_of, kept_of}
-use Rattle.ring_parts.proofs.Known.{holds, owner_within}
-use Rattle.ring_apply.proofs.There.{mirror_prop, key_within, put_kept, put_slot_in_ring, partition_within, chunk_is, slot_is, slot_kept, mirror_fits, index_few}
+use Rattle.ring_parts.proofs.Known.{holds}
+use Rattle.ring_apply.proofs.Assured.{owner_ready, mirror_ready}
+use Rattle.ring_apply.proofs.There.{key_within, put_kept, put_slot_in_ring, partition_within, chunk_is, slot_is, slot_kept, index_few}
 use Rattle.ring_apply.proofs.Written.{write_exists, written}
 use Rattle.ring_apply.proofs.writing.write.Goals as goal
 
@@ -42,18 +43,10 @@ key-key-requires c =
     holds a c.requires.sound (hlevel props) (λ w m. key_within (ring_of a) (plan_of a) (kept_of a) w m c.args.put c.in-Some.now.now (sym c.in-Some.ensures))
 
 pub give-requires-clause-owner : goal.give-requires-clause-owner
-give-requires-clause-owner c =
-    let a = c.args.parts.now in
-    let served = c.in-Some-at.served in
-    holds a c.requires.sound (hlevel props) (λ w m. subst (λ n. served.owner.0 < n) (sym c.requires.sound.sized.nodes)
-    (owner_within (ring_of a) (plan_of a) (kept_of a) w m (slot_at c.place-place.result.partition c.args.index) served (sym c.in-Some-at.ensures)))
+give-requires-clause-owner c = owner_ready c.args.parts.now c.requires.sound (slot_at c.place-place.result.partition c.args.index) c.in-Some-at.served c.in-Some-at.ensures
 
 pub give-requires-clause-mirror : goal.give-requires-clause-mirror
-give-requires-clause-mirror c =
-    let a = c.args.parts.now in
-    let served = c.in-Some-at.served in
-    holds a c.requires.sound (mirror_prop served.mirror (length a.stores.list.items) served.owner.0) (λ w m.
-    mirror_fits (ring_of a) (plan_of a) (kept_of a) w m (slot_at c.place-place.result.partition c.args.index) served (length a.stores.list.items) c.requires.sound.sized.nodes (sym c.in-Some-at.ensures))
+give-requires-clause-mirror c = mirror_ready c.args.parts.now c.requires.sound (slot_at c.place-place.result.partition c.args.index) c.in-Some-at.served c.in-Some-at.ensures
 
 pub give-requires-clause-chunk : goal.give-requires-clause-chunk
 give-requires-clause-chunk c =
