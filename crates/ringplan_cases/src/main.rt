@@ -1,50 +1,77 @@
 //! Runs the program on the bundles that its arguments name, and prints the name, the answer and the exit status of each. The words
-//! `check` and `migrate` among them say which subcommand is meant from there on, at first `check`. Of a bundle that is accepted, no
-//! first part may be: how many are is printed where it is not none.
+//! `check`, `migrate` and `play` among them say which subcommand is meant from there on, at first `check`. Of a bundle whose plan is
+//! accepted, no first part may be: how many are is printed where it is not none.
 #![tactic(auto)]
 
-use ringplan_run::{check_bundle, run};
+use ringplan_run::{check_bundle, play_bundle, run};
+use std::alloc::Global;
 use std::fs::File;
 use std::{env, fs, io};
 
+// What the program is asked to do with a bundle.
+#[derive(Clone, Copy)]
+enum Asked {
+    Check,
+    Migrate,
+    Play,
+}
+
 fn main(rt: HostRuntime) -> io::Result<()> {
-    let mut migrates = false;
+    let mut asked = Asked::Check;
     for word in env::args(&rt)?.skip(1) {
         match word.as_str() {
-            "check" => migrates = false,
-            "migrate" => migrates = true,
-            name => show(&rt, migrates, name)?,
+            "check" => asked = Asked::Check,
+            "migrate" => asked = Asked::Migrate,
+            "play" => asked = Asked::Play,
+            name => show(&rt, asked, name)?,
         }
     }
     Ok(())
 }
 
 // Prints the name of a bundle, the program's answer to it and the exit status.
-fn show(rt: &HostRuntime, migrates: bool, name: &str) -> io::Result<()> {
-    let subcommand = if migrates { "migrate" } else { "check" };
+fn show(rt: &HostRuntime, asked: Asked, name: &str) -> io::Result<()> {
     let path = format!(in rt.alloc(); "{name}.bundle")?;
     println!(rt; "{name}")?;
-    let status = answer(rt, subcommand, path.as_str())?;
+    let status = answer(rt, asked, path.as_str())?;
     println!(rt; "{status}")?;
-    if status == 0 && !migrates {
-        check_fronts(rt, path.as_str())?;
+    if status == 0 {
+        check_fronts(rt, asked, path.as_str())?;
     }
     Ok(())
 }
 
+// The subcommand.
+fn subcommand(asked: Asked) -> &'static str {
+    match asked {
+        Asked::Check => "check",
+        Asked::Migrate => "migrate",
+        Asked::Play => "play",
+    }
+}
+
 // Prints the program's answer to the bundle, and gives its exit status.
-fn answer(rt: &HostRuntime, subcommand: &str, path: &str) -> io::Result<u8> {
+fn answer(rt: &HostRuntime, asked: Asked, path: &str) -> io::Result<u8> {
     let mut bundle = File::open(rt, path)?;
-    let words = ["ringplan", subcommand];
+    let words = ["ringplan", subcommand(asked)];
     Ok(run(rt, words.as_slice(), &mut bundle, &mut rt.stdout()))
 }
 
+// Whether a first part of a bundle is accepted. A migration accepts none, since it asks for no plan that is.
+fn accepts(alloc: Global, asked: Asked, front: &[u8]) -> bool {
+    match asked {
+        Asked::Check => check_bundle(alloc, front).is_ok(),
+        Asked::Migrate => false,
+        Asked::Play => play_bundle(alloc, front).is_ok(),
+    }
+}
+
 // Says how many first parts of the bundle are accepted, if some are.
-fn check_fronts(rt: &HostRuntime, path: &str) -> io::Result<()> {
+fn check_fronts(rt: &HostRuntime, asked: Asked, path: &str) -> io::Result<()> {
     let bundle = fs::read(rt, path)?;
     let mut accepted = 0u64;
     for end in 0..bundle.len() {
-        if check_bundle(rt.alloc(), &bundle[..end]).is_ok() {
+        if accepts(rt.alloc(), asked, &bundle[..end]) {
             accepted = accepted.saturating_add(1);
         }
     }
