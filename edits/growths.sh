@@ -1,7 +1,7 @@
 #!/usr/bin/env bash
 # Refuses each growth of memory in turn, one to a run: edits/growths.sh, once `rt run` has built crates/ringplan and crates/ringplan_growths.
-# The store that runs through every kind of event prints the same, or fails where a growth outside an event was refused. `ringplan play` of
-# each play's bundle prints the same, or `no 60` with status 3.
+# The store that runs through every kind of event prints the same, or fails where a growth outside an event was refused. `ringplan` prints the
+# same of each case's bundle, or `no 60` with status 3.
 set -eu
 top=$(cd "$(dirname "$0")/.." && pwd)
 scratch=$(mktemp -d)
@@ -69,6 +69,8 @@ refuse_each() {
 }
 
 refuse_each ringplan_growths 1 "" "$top/crates/ringplan_growths/stdin" "$top/crates/ringplan_growths/out/ringplan_growths"
-for bundle in "$top"/crates/ringplan_cases/data/play_*.bundle; do
-    refuse_each "$(basename "$bundle" .bundle)" 3 "no 60" "$bundle" "$top/crates/ringplan/out/ringplan" play
+for bundle in "$top"/crates/ringplan_cases/data/*.bundle; do
+    name=$(basename "$bundle" .bundle)
+    case $name in play_*) word=play ;; *) word=check ;; esac
+    refuse_each "$name" 3 "no 60" "$bundle" "$top/crates/ringplan/out/ringplan" $word
 done

@@ -11,8 +11,28 @@ use std::process::Abort;
 use std::test::Fail;
 
 // Each kind of event.
-const SCRIPT: &[u8] =
-    b"script 1\ndo 0\nopen 1\nchunk 1 2\nclose 1\nabort 1\nput w1 a x\nput w2 b x00ff seen 0 3\nput w1 c x31\nwrite 0 1\nhint 0 1 d\nack 0\nget a\nread 0 1\nendget 0\ndown b\nup b\nhandoff d 0 1\nlose b\nend\n";
+const SCRIPT: &[u8] = b"\
+script 1
+do 0
+open 1
+chunk 1 2
+close 1
+abort 1
+put w1 a x
+put w2 b x00ff seen 0 3
+put w1 c x31
+write 0 1
+hint 0 1 d
+ack 0
+get a
+read 0 1
+endget 0
+down b
+up b
+handoff d 0 1
+lose b
+end
+";
 
 // A script is written as it was read, and its writers are numbered in order of first sight.
 fn script_written<RT: AllocGlobal + Abort>(rt: &RT, ring: &Ring) -> Result<(), Fail> {
@@ -50,8 +70,26 @@ fn scripts_made(rt: HostRuntime) -> Result<(), Fail> {
     Ok(())
 }
 
-const BUNDLE: &[u8] =
-    b"ring 1\nspace 1\nquorum 1 1 1\nnode a 1 in\nslots 0 a\nend\nplan 1\nend\ncert 1\nend\nscript 1\nput w1 k x31\nwrite 0 0\nack 0\ndown a\nget k\nread 0 0\nend\n";
+const BUNDLE: &[u8] = b"\
+ring 1
+space 1
+quorum 1 1 1
+node a 1 in
+slots 0 a
+end
+plan 1
+end
+cert 1
+end
+script 1
+put w1 k x31
+write 0 0
+ack 0
+down a
+get k
+read 0 0
+end
+";
 
 // What is printed of the bundle's events.
 fn played(alloc: Global, bytes: &[u8]) -> Result<Vec<u8>, Refusal> {
