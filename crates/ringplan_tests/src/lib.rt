@@ -15,8 +15,12 @@ mod plans;
 #[cfg(test)]
 mod program;
 #[cfg(test)]
+mod scripts;
+#[cfg(test)]
 mod stores;
 #[cfg(test)]
 mod texts;
 #[cfg(test)]
 mod words;
+#[cfg(test)]
+mod worlds;
