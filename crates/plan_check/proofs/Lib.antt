@@ -31,3 +31,6 @@ pub mod Reached
 pub mod Ticketed
 pub mod Lasting
 pub mod Migrating
+pub mod Replying
+pub mod GetsSteady
+pub mod Fresh
