@@ -31,3 +31,5 @@ pub mod Reached
 pub mod Ticketed
 pub mod Lasting
 pub mod Migrating
+pub mod Serial
+pub mod Standing
