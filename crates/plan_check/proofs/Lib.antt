@@ -33,3 +33,6 @@ pub mod Lasting
 pub mod Migrating
 pub mod Serial
 pub mod Standing
+pub mod Numbering
+pub mod Staging
+pub mod Given
