@@ -36,3 +36,5 @@ pub mod Standing
 pub mod Numbering
 pub mod Staging
 pub mod Given
+pub mod Filling
+pub mod Quiet
