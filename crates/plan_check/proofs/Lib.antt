@@ -38,3 +38,4 @@ pub mod Staging
 pub mod Given
 pub mod Filling
 pub mod Quiet
+pub mod Putting
