@@ -70,3 +70,7 @@ kept_or_gone n f x s t a e = by ((k.0 == x.0) && is_slot s t) refl
         let i : s ≡ t = slot-is s t p.1 in
         inl (sym i, subst (λ (z : Slot). f x.0 z a ≡ true) (sym i) (subst (λ z. f z t a ≡ true) (eqb-true k.0 x.0 p.0) k.2))
     by false g = inr (some_is n (λ y. without_puts f x s y t a) k.0 k.1 (all_of (not ((k.0 == x.0) && is_slot s t)) (f k.0 t a) (rw g refl) k.2))
+
+pub from_mirror : (o : Option NodeId) (f : ℕ → Bool) (x : NodeId) → o ≡ Some x → (elim o [ Some y ↦ f y.0 | None ↦ false ]) ≡ true → f x.0 ≡ true
+from_mirror None f x is e = absurd cc
+from_mirror (Some y) f x is e = (let same : y ≡ x = cc in subst (λ (z : NodeId). f z.0 ≡ true) same e)

@@ -39,3 +39,4 @@ pub mod Given
 pub mod Filling
 pub mod Quiet
 pub mod Putting
+pub mod Stepping
