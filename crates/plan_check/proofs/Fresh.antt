@@ -35,7 +35,8 @@ use Rattle.plan_check.proofs.Quorums.{meet}
 use Rattle.plan_check.proofs.Succeeding.{same_or_put}
 use Rattle.plan_check.proofs.Lasting.{Extends, event_extends, names_ended, succeeds_stays}
 use Rattle.plan_check.proofs.Replying.{IsTopped, read_finds, reply_tops}
-use Rattle.plan_check.proofs.GetsSteady.{Steady, event_steady, acked_exists, event_acked}
+use Rattle.plan_check.proofs.Serial.{acked_exists}
+use Rattle.plan_check.proofs.GetsSteady.{Steady, event_steady, event_acked}
 
 -- a test that all members of a list pass
 all_pass : (test : ℕ → Bool) (xs : List ℕ) → ((m : ℕ) → has m xs ≡ true → test m ≡ true) → list_all test xs ≡ true

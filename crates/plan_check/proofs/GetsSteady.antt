@@ -119,12 +119,6 @@ acked_before [] qs v e = absurd cc
 acked_before (x ∷ ps) qs zero e = e
 acked_before (x ∷ ps) qs (suc v) e = acked_before ps qs v e
 
--- an acknowledged put exists
-pub acked_exists : (ps : List PutRecord) (v : ℕ) → read_at (λ (x : PutRecord). x.acked) false ps v ≡ true → v < length ps
-acked_exists [] v e = absurd cc
-acked_exists (x ∷ ps) zero e = omega arith
-acked_exists (x ∷ ps) (suc v) e = (let l = acked_exists ps v e in omega arith)
-
 done_acked : (w : World) (n v : ℕ) (t : Option Step) → is_acked w v ≡ true → is_acked (done_world w n t) v ≡ true
 done_acked w n v None e = e
 done_acked w n v (Some (Join x)) e = e

@@ -34,3 +34,12 @@ pub mod Migrating
 pub mod Replying
 pub mod GetsSteady
 pub mod Fresh
+pub mod Serial
+pub mod Standing
+pub mod Numbering
+pub mod Staging
+pub mod Given
+pub mod Filling
+pub mod Quiet
+pub mod Putting
+pub mod Stepping
