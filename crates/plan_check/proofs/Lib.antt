@@ -40,3 +40,4 @@ pub mod Filling
 pub mod Quiet
 pub mod Putting
 pub mod Stepping
+pub mod Places
