@@ -41,3 +41,5 @@ pub mod Quiet
 pub mod Putting
 pub mod Stepping
 pub mod Places
+pub mod Chunks
+pub mod Losing
