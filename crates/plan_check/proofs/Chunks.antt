@@ -34,7 +34,7 @@ use Rattle.plan_check.proofs.Suited.{suits-at}
 use Rattle.plan_stage.proofs.Truth.{all_of, either, first_of_two, second_of_two}
 
 -- every read meets every write, with as many slots to spare as stores may be lost
-quorum_more : (n r w loss : ℕ) → is_quorum n r w loss ≡ true → n + loss < r + w
+pub quorum_more : (n r w loss : ℕ) → is_quorum n r w loss ≡ true → n + loss < r + w
 unfolding is_quorum
 quorum_more n r w loss h = ltb-true (n + loss) (r + w) (and_parts (nat_le 1 r && nat_le r n && nat_le 1 w && nat_le w n) (nat_lt (n + loss) (r + w)) h).1
 

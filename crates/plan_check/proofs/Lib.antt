@@ -43,3 +43,4 @@ pub mod Stepping
 pub mod Places
 pub mod Chunks
 pub mod Losing
+pub mod Holdings
