@@ -43,3 +43,7 @@ pub mod Filling
 pub mod Quiet
 pub mod Putting
 pub mod Stepping
+pub mod Places
+pub mod Chunks
+pub mod Losing
+pub mod Holdings
