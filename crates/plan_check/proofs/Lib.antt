@@ -47,3 +47,4 @@ pub mod Places
 pub mod Chunks
 pub mod Losing
 pub mod Holdings
+pub mod Promised
