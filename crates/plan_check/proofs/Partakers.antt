@@ -38,7 +38,7 @@ below_prefix n ss r = subst (λ (k : ℕ). IsPrefix (λ s. nat_lt s n) ss k) (sy
     (prefix (λ s. nat_lt s n) ss (λ k m e. (let a = ltb-true (get_or ss (suc k) 0) n e in let b = r k m in lt-ltb (get_or ss k 0) n (omega arith))))
 
 -- a slot's steps come one before the other
-in_turn : (ring : RingValue) (plan : List Planned) → Known ring plan → (slot : Slot) (i j : ℕ) → i < j → j < length (steps_of plan slot) → Before plan (get_or (steps_of plan slot) i 0) (get_or (steps_of plan slot) j 0)
+pub in_turn : (ring : RingValue) (plan : List Planned) → Known ring plan → (slot : Slot) (i j : ℕ) → i < j → j < length (steps_of plan slot) → Before plan (get_or (steps_of plan slot) i 0) (get_or (steps_of plan slot) j 0)
 in_turn ring plan k slot i zero l m = absurd (omega arith)
 in_turn ring plan k slot i (suc j) l m = elim (order i j) [
   | inl h ↦ join plan _ _ _ (in_turn ring plan k slot i j h (omega arith)) (k.meets.in_order slot j m)
@@ -241,7 +241,7 @@ module _ (ring : RingValue) (plan : List Planned) (k : Known ring plan) (w : Wor
   copy_party Give part = is_read part
 
 -- the copy that a step is
-copy_is : (o : Option Step) (slot : Slot) (source : Source) → option_and_then copy_of o ≡ Some (slot, source) → o ≡ Some (Copy slot source)
+pub copy_is : (o : Option Step) (slot : Slot) (source : Source) → option_and_then copy_of o ≡ Some (slot, source) → o ≡ Some (Copy slot source)
 copy_is None slot source e = absurd cc
 copy_is (Some (Join x)) slot source e = absurd cc
 copy_is (Some (Mirror s x)) slot source e = absurd cc

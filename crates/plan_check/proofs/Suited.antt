@@ -20,10 +20,10 @@ use Rattle.plan_stage.proofs.Truth.{slot-is}
 
 -- ---- a step, and the slot of a step
 
-abbrev all_suit : RingValue → List Planned → Bool
+abbrev pub all_suit : RingValue → List Planned → Bool
 all_suit ring plan = list_all (λ (x : Planned). step_suits ring x.step) plan
 
-suits-at : (ring : RingValue) (plan : List Planned) → all_suit ring plan ≡ true → (m : ℕ) (s : Step) → step_at plan m ≡ Some s → step_suits ring s ≡ true
+pub suits-at : (ring : RingValue) (plan : List Planned) → all_suit ring plan ≡ true → (m : ℕ) (s : Step) → step_at plan m ≡ Some s → step_suits ring s ≡ true
 suits-at ring [] h m s at = absurd cc
 suits-at ring (x ∷ xs) h zero s at =
     let e : x.step ≡ s = cc in

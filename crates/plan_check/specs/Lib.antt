@@ -16,3 +16,4 @@ pub mod Headline
 pub mod First
 pub mod Occupies
 pub mod Causes
+pub mod Firm

@@ -7,8 +7,8 @@ use ring_names::Refusal;
 use ring_table::Ring;
 use std::marker::Model;
 
-/// A ring with a plan that the checker accepted: the plan is sound, so that in every run of it two slots of a partition share
-/// no node, and no node takes part in more open copies than its allowance. Only the checker makes one.
+/// A ring with a plan that the checker accepted: the plan is sound, and so every run of it keeps the promises that
+/// `sound_plans_keep_promises` states. Only the checker makes one.
 #[derive(Drop)]
 pub struct Approved {
     ring: Ring,

@@ -12,7 +12,7 @@ ghost use Rattle.plan_check.specs.First.{fact_clauses, rest_clauses, all_clauses
 
 use crate::approval::{Approved, Turned};
 use crate::laws::{
-    certified_is_sound, first_is_none_where_certified, groups_stay_apart, transfers_stay_few,
+    certified_is_sound, first_is_none_where_certified, sound_plans_keep_promises,
 };
 use plan_cert::Cert;
 use plan_cover::check_nodes;
@@ -25,8 +25,9 @@ use std::alloc::Global;
 
 /// Checks a plan against the ring that it suits, by a certificate: its facts by number, then the partitions, then the nodes.
 ///
-/// A plan that is accepted is sound, and so in every run of it two slots of a partition share no node, and no node takes part
-/// in more open copies than its allowance. Any other plan is refused by the first clause that does not hold, and comes back
+/// A plan that is accepted is sound, and so it keeps its promises: at every moment of every run of it any R slots of a partition include one that holds
+/// each acknowledged put or a causal successor, no two slots of a partition share a node, and no node has more transfers open than its allowance; and
+/// gets see what was acknowledged before they started. Any other plan is refused by the first clause that does not hold, and comes back
 /// with its ring as it was. So does one for which there was no memory, once all facts are verified. The cost is about that of
 /// reading the texts: of each two steps that a clause compares one comes directly before the other or by a fact, or the check ends.
 pub fn check(alloc: Global, ring: Ring, plan: Plan, cert: &Cert) -> Result<Approved, Turned>
@@ -42,8 +43,7 @@ pub fn check(alloc: Global, ring: Ring, plan: Plan, cert: &Cert) -> Result<Appro
 {
     first_is_none_where_certified(&ring, &plan, cert);
     certified_is_sound();
-    groups_stay_apart(&ring, &plan);
-    transfers_stay_few(&ring, &plan);
+    sound_plans_keep_promises(&ring, &plan);
     match check_all(alloc, &ring, &plan, cert) {
         Ok(()) => Ok(Approved::new(ring, plan)),
         Err(refusal) => Err(Turned {

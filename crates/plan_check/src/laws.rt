@@ -20,7 +20,7 @@ ghost use Rattle.plan_check.specs.First.{first_refusal};
 ghost use Rattle.plan_check.specs.Reached.{Reached};
 ghost use Rattle.plan_check.specs.Runs.{SplitAnywhere};
 ghost use Rattle.plan_check.specs.Safe.{GroupsAreApart, TransfersAreFew};
-ghost use Rattle.plan_check.specs.Headline.{Always, AreFinishedFirst};
+ghost use Rattle.plan_check.specs.Headline.{Always, AreFinishedFirst, KeepsPromises};
 ghost use Rattle.plan_check.specs.Occupies.{ServersOccupy, OccupantsServe, AreGoodStages};
 
 use plan_cert::Cert;
@@ -83,6 +83,16 @@ pub fn groups_stay_apart(ring: &Ring, plan: &Plan)
 /// In every run of a sound plan no node takes part in more open copies than its allowance, on any side that this counts.
 pub fn transfers_stay_few(ring: &Ring, plan: &Plan)
     ensures { Sound ring.now plan.now → Always ring.now plan.now (TransfersAreFew ring.now plan.now) }
+{
+    let _ = (ring.n(), plan.len());
+}
+
+/// The headline: a sound plan keeps its promises. At every moment of every run of it, with any puts, gets, outages, hints and handoffs between and as
+/// many lost stores as the ring allows, any R slots of a partition include one whose owner or hint keeper holds each acknowledged put or a causal
+/// successor, no two slots of a partition share a node, and no node has more transfers open than its allowance; and the reply of each get has, for each
+/// put of its key that was acknowledged before the get started, that put or a causal successor.
+pub fn sound_plans_keep_promises(ring: &Ring, plan: &Plan)
+    ensures { Sound ring.now plan.now → KeepsPromises ring.now plan.now }
 {
     let _ = (ring.n(), plan.len());
 }
