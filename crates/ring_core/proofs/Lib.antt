@@ -8,3 +8,4 @@ pub mod Masks
 pub mod Beginning
 pub mod Going
 pub mod Transferring
+pub mod Promised

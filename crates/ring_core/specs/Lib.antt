@@ -2,3 +2,4 @@ pub mod Tables
 pub mod Numbers
 pub mod Transfers
 pub mod World
+pub mod Promises

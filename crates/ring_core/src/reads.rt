@@ -22,6 +22,7 @@ impl<'a> World<'a> {
     ghost use Rattle.ring_core.specs.World.{ring_of, plan_of, Meets, put_count, get_count, clock_of};
     ghost use Rattle.ring_clock.specs.Clock.{IsAtMost};
     ghost use Rattle.plan_check.specs.Succession.{Succeeds};
+    ghost use Rattle.plan_check.specs.Safe.{GroupsAreApart};
 
     /// How many puts there are. Takes no memory.
     pub fn puts(&self) -> u32
@@ -36,6 +37,13 @@ impl<'a> World<'a> {
     pub fn clocks_tell_succession(&self)
         ensures { (w : TheWorld) → Meets self.now w → (u v : ℕ) → u < length w.puts → v < length w.puts → key_of_put w u ≡ key_of_put w v
             → IsAtMost (clock_of self.now v) (clock_of self.now u) ↔ Succeeds w u v }
+    {
+        let _ = self.parts.losses;
+    }
+
+    /// A law, which costs nothing: two slots of a partition share no node, keepers of hints included.
+    pub fn groups_stay_apart(&self)
+        ensures { (w : TheWorld) → Meets self.now w → GroupsAreApart (ring_of self.now) (plan_of self.now) w }
     {
         let _ = self.parts.losses;
     }

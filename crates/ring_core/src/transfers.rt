@@ -6,9 +6,10 @@ use ring_names::{NodeId, Slot};
 use ring_table::Side;
 
 impl<'a> World<'a> {
-    ghost use Rattle.std.specs.Prelude.{◌≡◌, ◌<◌, false, length, Some, None};
+    ghost use Rattle.std.specs.Prelude.{◌≡◌, ℕ, ◌<◌, ◌≤◌, false, length, Some, None};
     ghost use Rattle.std.specs.List.{list_any};
     ghost use Rattle.ring_table.specs.declared.allowance.Side.TheVariants.{Both, Take, Give};
+    ghost use Rattle.ring_table.specs.Value.{allowance_of};
     ghost use Rattle.plan_stage.specs.Parties.{source_slots};
     ghost use Rattle.plan_check.specs.Safe.{open_copies, takes_part_now};
     ghost use Rattle.plan_check.specs.World.{World as TheWorld, copy_at, passing_below, slot_at};
@@ -104,25 +105,31 @@ impl<'a> World<'a> {
         count
     }
 
-    /// How many open copies the node takes part in now, receiving or being read. Takes no memory, and looks at each step of the plan.
+    /// How many open copies the node takes part in now, receiving or being read: never more than its one allowance, if it has one. Takes no
+    /// memory, and looks at each step of the plan.
     pub fn open_transfers(&self, node: NodeId) -> u32
-        ensures { (w : TheWorld) → Meets self.now w
+        ensures most { (a : ℕ) → allowance_of (ring_of self.now) node.0 Both ≡ Some a → result ≤ a }
+        ensures now { (w : TheWorld) → Meets self.now w
             → result ≡ open_copies (plan_of self.now) w (takes_part_now (ring_of self.now) (plan_of self.now) w node.0 Both) }
     {
         self.transfers(node, Side::Both)
     }
 
-    /// How many open copies the node receives now. Takes no memory, and looks at each step of the plan.
+    /// How many open copies the node receives now: never more than its allowance for that, if it has one of its own. Takes no memory, and looks at
+    /// each step of the plan.
     pub fn open_take(&self, node: NodeId) -> u32
-        ensures { (w : TheWorld) → Meets self.now w
+        ensures most { (a : ℕ) → allowance_of (ring_of self.now) node.0 Take ≡ Some a → result ≤ a }
+        ensures now { (w : TheWorld) → Meets self.now w
             → result ≡ open_copies (plan_of self.now) w (takes_part_now (ring_of self.now) (plan_of self.now) w node.0 Take) }
     {
         self.transfers(node, Side::Take)
     }
 
-    /// How many open copies read from the node now. Takes no memory, and looks at each step of the plan.
+    /// How many open copies read from the node now: never more than its allowance for that, if it has one of its own. Takes no memory, and looks at
+    /// each step of the plan.
     pub fn open_give(&self, node: NodeId) -> u32
-        ensures { (w : TheWorld) → Meets self.now w
+        ensures most { (a : ℕ) → allowance_of (ring_of self.now) node.0 Give ≡ Some a → result ≤ a }
+        ensures now { (w : TheWorld) → Meets self.now w
             → result ≡ open_copies (plan_of self.now) w (takes_part_now (ring_of self.now) (plan_of self.now) w node.0 Give) }
     {
         self.transfers(node, Side::Give)
