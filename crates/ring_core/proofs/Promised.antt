@@ -1,7 +1,8 @@
 -- What runs of an approved plan promise, of a running store.
 use Rattle.std.proofs.Common.{◌≡◌, ◌∙◌, ℕ, ◌+◌, ◌<◌, ◌≤◌, Bool, true, false, List, [], ◌∷◌, length, refl, sym, arith, eqb-true, ltb-true}
-use Rattle.std.specs.Prelude.{◌==◌, ◌&&◌, nat_lt}
+use Rattle.std.specs.Prelude.{◌==◌, ◌&&◌, nat_lt, Result, Ok, Err, IfOk}
 use Rattle.std.specs.Int.{bit_at}
+use Rattle.ring_names.specs.declared.refusal.Refusal.{Refusal}
 use Rattle.ring_table.specs.Value.{RingValue}
 use Rattle.plan_text.specs.declared.step.Planned.{Planned}
 use Rattle.plan_check.specs.declared.event.Event.{Event}
@@ -29,9 +30,13 @@ mask_meets a put mask k few is w m acked slots different within count =
     (one.0, one.1, eqb-true (bit_at mask one.0) 1 bit)
 
 -- a get that ends is answered what was acknowledged before it started
-pub ends_fresh : (a : World) (g : ℕ) (found : List ℕ) → KeepsPromises (ring_of a) (plan_of a) → SeesAcknowledged a g found
-ends_fresh a g found k before between start mid u key run leads m last v of_key acked = k.fresh before between start mid u key g found run leads last v of_key acked
+ends_fresh : (a : World) (g : ℕ) (found : List ℕ) → SeesAcknowledged a g found
+ends_fresh a g found before between start mid u key run leads m last v of_key acked = m.approved.keeps.fresh before between start mid u key g found run leads last v of_key acked
 
-pub fresh : (a : World) (e : Event) (r : Reply) → KeepsPromises (ring_of a) (plan_of a) → IsFresh a e r
-fresh a (EndGet g) (Answer found) k = ends_fresh a g found k
-fresh a e r k = tt
+fresh : (a : World) (e : Event) (r : Reply) → IsFresh a e r
+fresh a (EndGet g) (Answer found) = ends_fresh a g found
+fresh a e r = tt
+
+pub all_fresh : (a : World) (e : Event) (o : Result Reply Refusal) → IfOk o (λ r. IsFresh a e r)
+all_fresh a e (Ok r) = fresh a e r
+all_fresh a e (Err x) = tt

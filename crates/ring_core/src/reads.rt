@@ -12,7 +12,7 @@ impl<'a> World<'a> {
     ghost use Rattle.ring_names.specs.declared.refusal.Refusal.TheVariants.{OutOfMemory};
     ghost use Rattle.plan_text.specs.Valid.{is_ring_slot};
     ghost use Rattle.plan_check.specs.Versions.{put_slot, is_held};
-    ghost use Rattle.plan_check.specs.World.{World as TheWorld, key_of_put, stage_now, keeps, slot_at};
+    ghost use Rattle.plan_check.specs.World.{World as TheWorld, is_acked, key_of_put, stage_now, keeps, slot_at};
     ghost use Rattle.ring_hints.specs.Hints.{hinted_at, kept_count, kept_pairs};
     ghost use Rattle.ring_maps.specs.Chunks.{chunk_of};
     ghost use Rattle.ring_parts.specs.Parts.{kept_of};
@@ -23,6 +23,7 @@ impl<'a> World<'a> {
     ghost use Rattle.ring_clock.specs.Clock.{IsAtMost};
     ghost use Rattle.plan_check.specs.Succession.{Succeeds};
     ghost use Rattle.plan_check.specs.Safe.{GroupsAreApart};
+    ghost use Rattle.ring_core.specs.Promises.{MeetsEveryRead};
 
     /// How many puts there are. Takes no memory.
     pub fn puts(&self) -> u32
@@ -177,11 +178,12 @@ impl<'a> World<'a> {
         by_owner | by_hints
     }
 
-    /// The slots that hold the put or one that succeeds it: bit i is set where the slot of index i of the put's partition does. Takes no
-    /// memory, and looks at each slot's owner and at the keepers of hints for it.
+    /// The slots that hold the put or one that succeeds it: bit i is set where the slot of index i of the put's partition does. Once the
+    /// put is acknowledged, any R slots include one whose bit is set. Takes no memory, and looks at each slot's owner and at the keepers of hints for it.
     pub fn held_slots(&self, put: u32) -> u32
         requires { put < length self.now.parts.puts }
-        ensures { (w : TheWorld) → Meets self.now w → (i : ℕ) → i < 32 → (bit_at result i == 1) ≡ (nat_lt i (ring_of self.now).n
+        ensures acknowledged { (w : TheWorld) → Meets self.now w → is_acked w put ≡ true → MeetsEveryRead (ring_of self.now) result }
+        ensures now { (w : TheWorld) → Meets self.now w → (i : ℕ) → i < 32 → (bit_at result i == 1) ≡ (nat_lt i (ring_of self.now).n
             && is_held (ring_of self.now) (plan_of self.now) w put (put_slot (ring_of self.now) w put i)) }
     {
         let n = self.parts.approved.ring().n();

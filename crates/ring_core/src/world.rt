@@ -24,6 +24,7 @@ impl<'a> World<'a> {
     ghost use Rattle.plan_check.specs.World.{World as TheWorld, opening_world};
     ghost use Rattle.ring_core.specs.World.{ring_of, plan_of, Meets, Passes, Answers, Refuses, Stays, HasNumber, IsOneMore, put_count, get_count};
     ghost use Rattle.ring_core.specs.Numbers.{may_need_memory};
+    ghost use Rattle.ring_core.specs.Promises.{IsFresh};
 
     /// The store before the first event: members are up, nothing is stored, and no step is done.
     pub fn start(alloc: Global, approved: &'a Approved) -> Result<World<'a>, Refusal>
@@ -48,11 +49,13 @@ impl<'a> World<'a> {
         }
     }
 
-    /// The event's reply, where nothing refuses it, and the store has changed by it; else the refusal, and the store is as it was. Out of memory
+    /// The event's reply, where nothing refuses it, and the store has changed by it; else the refusal, and the store is as it was. The reply of a get
+    /// that ends has each put of its key that was acknowledged before the get started, or one that succeeds it. Out of memory
     /// comes last, and only of a chunk, a put, a write, a hint, a get, a read, the end of a get or a handoff.
     pub fn apply(&mut self, event: &Event) -> Result<Reply, Refusal>
         requires { HasNumber self.old event.now }
         ensures ok { IfOk result (λ r. Answers self.old event.now r self.new) }
+        ensures fresh { IfOk result (λ r. IsFresh self.old event.now r) }
         ensures err { IfErr result (λ e. (e ≡ OutOfMemory) ⊎ Refuses self.old event.now e) }
         ensures same { OnErr result (Stays self.old self.new) }
         ensures unchanged { IfErr result (λ e. e ≢ OutOfMemory → self.new ≡ self.old) }

@@ -1,4 +1,5 @@
 use Rattle.ring_core.proofs.Going.{sound_still, puts_few, gets_few, counts_grow}
+use Rattle.ring_core.proofs.Promised.{all_fresh}
 use Rattle.ring_core.proofs.world.World.apply.Goals as goal
 
 -- src/world.rt:62:9
@@ -15,3 +16,6 @@ invariant_of-self c =
 -- src/world.rt:53:5
 pub returns-clause-counts : goal.returns-clause-counts
 returns-clause-counts c = counts_grow c.args.self.now.parts c.happen.new.parts c.args.event.now c.happen.result c.args.self.now.sound c.happen.ensures.ok c.happen.ensures.same
+
+pub returns-clause-fresh : goal.returns-clause-fresh
+returns-clause-fresh c = all_fresh c.args.self.now c.args.event.now c.happen.result

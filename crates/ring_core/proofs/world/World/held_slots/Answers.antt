@@ -2,6 +2,7 @@ use Rattle.std.proofs.Common.{◌≡◌, ◌∙◌, ℕ, ◌+◌, ap, sym, subst
 use Rattle.ring_table.specs.Value.{RingValue}
 use Rattle.ring_core.specs.World.{ring_of}
 use Rattle.ring_core.proofs.Masks.{Masked, mask_with, mask_without}
+use Rattle.ring_core.proofs.Promised.{mask_meets}
 use Rattle.ring_core.proofs.world.World.held_slots.Goals as goal
 use Rattle.ring_core.proofs.world.World.held_slots.Goals.{then-holds, else-holds}
 
@@ -17,9 +18,15 @@ loop-index-preserved c =
           (mask_without c.args.self.now c.args.put c.loop-index.mask c.loop-index.index (λ u m. sym (c.holds.ensures u m) ∙ w.if-holds.false) c.loop-index.invariant)
     ]
 
--- src/reads.rt:157:5
-pub returns : goal.returns
-returns c =
+-- what the mask says once all slots were looked at
+masked : (c : goal.After-loop-index) → Masked c.args.self.now c.args.put c.loop-index.mask (ring_of c.args.self.now).n
+masked c =
     let n : c.loop-index.index ≡ (ring_of c.args.self.now).n =
     (let a = c.loop-index-test.false in let b = c.loop-index.auto.index-end in omega arith) ∙ (c.n-n.ensures.value ∙ ap (λ (r : RingValue). r.n) c.ring.ensures.value) in
     subst (λ (k : ℕ). Masked c.args.self.now c.args.put c.loop-index.mask k) n c.loop-index.invariant
+
+pub returns-clause-now : goal.returns-clause-now
+returns-clause-now c = masked c
+
+pub returns-clause-acknowledged : goal.returns-clause-acknowledged
+returns-clause-acknowledged c w m acked = mask_meets c.args.self.now c.args.put c.loop-index.mask m.approved.keeps m.is_ring.slots (masked c) w m acked
