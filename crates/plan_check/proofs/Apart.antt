@@ -60,7 +60,7 @@ no_mirror m s x c e =
 
 -- ---- one event
 
-pub event_apart : (ring : RingValue) (plan : List Planned) → Known ring plan → (w : World) → Inv ring plan w → (e : Event) → AllMet (guards ring plan w e) → Apart ring plan (effect ring plan w e)
+event_apart : (ring : RingValue) (plan : List Planned) → Known ring plan → (w : World) → Inv ring plan w → (e : Event) → AllMet (guards ring plan w e) → Apart ring plan (effect ring plan w e)
 unfolding guards effect
 event_apart ring plan k w i (Do n) g =
     do_apart ring plan k w n (step_at plan n) i (ready plan w n g.1.1.0) (λ s x at. (not_is (w.done n) g.1.0, may_do ring w (step_at plan n) s x at g.1.1.1))

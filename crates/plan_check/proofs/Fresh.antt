@@ -1,181 +1,183 @@
--- A get sees what was acknowledged before it started, although its slots are read at different moments: at every moment there is a set of slots, all of which
--- hold the put, as many as W without the losses so far, and what the get found at those of them that it has read has the put or one that succeeds it. This stands
--- on what is known of such slots (`HoldsFirm`), and on nothing else of stores.
-use Rattle.std.proofs.Common.{◌≡◌, ◌⊎◌, inl, inr, ◌∙◌, ℕ, ◌+◌, ◌<◌, ◌≤◌, Bool, true, false, List, [], ◌∷◌, ◌++◌, length, length-append, refl, sym, ap, subst, arith, eq-eqb, leb-true, lt-ltb, ltb-true}
-use Rattle.std.specs.Prelude.{◌&&◌, ◌==◌, nat_lt, nat_le, Option, Some, None, is_some, Ok}
-use Rattle.std.specs.List.{list_all}
+-- In every run of a sound plan a get sees the puts of its key that were acknowledged before it started.
+use Rattle.std.proofs.Common.{◌≡◌, inl, inr, ◌∙◌, ℕ, zero, suc, ◌+◌, ◌<◌, ◌≤◌, Bool, true, false, List, [], ◌∷◌, length, Some, refl, sym, subst, arith}
+use Rattle.std.specs.Prelude.{◌&&◌}
 use Rattle.std.specs.Str.{bytes_eq}
-use Rattle.std.proofs.lemmas.Bool.{and_parts}
 use Rattle.std.proofs.lemmas.Slice.Eq.{bytes_eq-Decides}
-use Rattle.ring_names.specs.Lists.{has, all_different}
+use Rattle.std.proofs.lemmas.Bool.Decides.{eqb_tells}
+use Rattle.ring_names.specs.Lists.{has}
+use Rattle.ring_names.specs.declared.ids.NodeId.{NodeId}
 use Rattle.ring_table.specs.Value.{RingValue}
-use Rattle.ring_table.specs.Valid.{IsRing, is_quorum}
 use Rattle.plan_text.specs.declared.step.Planned.{Planned}
 use Rattle.plan_check.specs.declared.event.Event.{Event}
-use Rattle.plan_check.specs.declared.event.Event.TheVariants.{StartGet, EndGet}
+use Rattle.plan_check.specs.declared.event.Event.TheVariants.{Lose}
 use Rattle.plan_check.specs.declared.event.Entry.{Entry}
-use Rattle.plan_check.specs.declared.event.Reply.{Reply}
-use Rattle.plan_check.specs.declared.event.Reply.TheVariants as reply
-use Rattle.plan_check.specs.declared.words.Key.{Key}
-use Rattle.plan_check.specs.World.{GetRecord, World, passing_below, opening_world, is_acked, key_of_put, key_of_get, found_at, is_of_key}
-use Rattle.plan_check.specs.Succession.{Succeeds}
-use Rattle.plan_check.specs.Versions.{put_slot, IsHeld}
-use Rattle.plan_check.specs.Guards.{slots_read, guards}
-use Rattle.plan_check.specs.Effects.{finds, answers, effect}
-use Rattle.plan_check.specs.Answers.{answer, reply_to}
+use Rattle.plan_check.specs.World.{World, passing_below, is_of_key, is_acked, key_of_put, key_of_get, found_at, slot_of}
+use Rattle.plan_check.specs.Succession.{Succeeds, itself, some_succeeds, latest}
+use Rattle.plan_check.specs.Versions.{put_slot, get_slot, slot_has, IsHeld}
+use Rattle.plan_check.specs.Guards.{guards}
+use Rattle.plan_check.specs.Effects.{finds, effect}
+use Rattle.plan_check.specs.Firm.{FirmSlots, Holding}
 use Rattle.plan_check.specs.Reached.{Reached}
-use Rattle.plan_check.specs.Runs.{Leads, IsRun}
-use Rattle.plan_check.specs.Headline.{IsAnswered, GetsAreFresh}
-use Rattle.plan_stage.proofs.Truth.{first_of_two, second_of_two}
+use Rattle.plan_check.specs.Runs.{Leads}
 use Rattle.plan_check.proofs.Answered.{answered}
+use Rattle.plan_check.proofs.Asking.{StaysAsked, event_asked, event_acked}
+use Rattle.plan_check.proofs.Entering.{Inv}
+use Rattle.plan_check.proofs.Doing.{event_keeps}
+use Rattle.plan_check.proofs.Holdings.{lose_or_not, next_inv, next_holding}
+use Rattle.plan_check.proofs.Lasting.{Extends, event_extends, names_ended, succeeds_stays, succeeds_same_key}
+use Rattle.plan_check.proofs.Latest.{some_succeeds_found, latest_of_is, is_latest_of}
+use Rattle.plan_check.proofs.Losing.{lose_slots}
+use Rattle.plan_check.proofs.Mirrored.{Known}
 use Rattle.plan_check.proofs.Passed.{AllMet, all_met}
-use Rattle.plan_check.proofs.Passing.{below_is, passing_ascend, none_twice}
-use Rattle.plan_check.proofs.Changed.{part_new}
-use Rattle.plan_check.proofs.Quorums.{meet}
-use Rattle.plan_check.proofs.Succeeding.{same_or_put}
-use Rattle.plan_check.proofs.Lasting.{Extends, event_extends, names_ended, succeeds_stays}
-use Rattle.plan_check.proofs.Replying.{IsTopped, read_finds, reply_tops}
+use Rattle.plan_check.proofs.Passing.{below_is, is_below}
 use Rattle.plan_check.proofs.Serial.{acked_exists}
-use Rattle.plan_check.proofs.GetsSteady.{Steady, event_steady, event_acked}
+use Rattle.plan_check.proofs.Standing.{KeepsFirm, held_exists, slots_stay}
+use Rattle.plan_check.proofs.Succeeding.{not_less, succeeds_through}
+use Rattle.plan_stage.proofs.Truth.{all_of}
 
--- a test that all members of a list pass
-all_pass : (test : ℕ → Bool) (xs : List ℕ) → ((m : ℕ) → has m xs ≡ true → test m ≡ true) → list_all test xs ≡ true
-all_pass test [] h = refl
-all_pass test (x ∷ xs) h = rw (h x (first_of_two (x == x) (has x xs) (eq-eqb x x refl)), all_pass test xs (λ m e. h m (second_of_two (m == x) (has m xs) e))) refl
+-- ---- the latest of some puts
 
--- numbers below n that pass a test are below n
-all_within : (n : ℕ) (test : ℕ → Bool) → list_all (λ i. nat_lt i n) (passing_below n test) ≡ true
-all_within n test = all_pass (λ i. nat_lt i n) (passing_below n test) (λ m h. lt-ltb m n (below_is n test m h).0)
+-- of puts below a bound, for each there is one among the latest that succeeds it
+pub some_latest : (w : World) (vs : List ℕ) (most left a : ℕ) → ((u : ℕ) → has u vs ≡ true → u < most) → has a vs ≡ true → most ≤ a + left
+    → (u : ℕ) × (has u (latest w vs) ≡ true) × Succeeds w u a
+some_latest w vs most zero a below h l = absurd (let m = below a h in omega arith)
+some_latest w vs most (suc left) a below h l = by (some_succeeds w a vs) refl (λ u i m. some_latest w vs most left u below i m)
+  where
+    by : (b : Bool) → some_succeeds w a vs ≡ b → ((u : ℕ) → has u vs ≡ true → most ≤ u + left → (x : ℕ) × (has x (latest w vs) ≡ true) × Succeeds w x u)
+        → (u : ℕ) × (has u (latest w vs) ≡ true) × Succeeds w u a
+    by false e more = (a, is_latest_of w vs vs a h e, itself a)
+    by true e more =
+        let s = some_succeeds_found w a vs e in
+        let up = not_less w s.0 a s.3 in
+        elim (eqb_tells s.0 a) [
+          | inl t ↦ absurd (let same = t.0 in let other = s.2 in cc)
+          | inr t ↦ (let ne = t.1 in let r = more s.0 s.1 (omega arith) in (r.0, r.1, succeeds_through w r.0 s.0 a r.2 s.3))
+        ]
 
--- reads and writes meet, and still do where as many stores are lost as may be
-quorum_less : (ring : RingValue) → IsRing ring → ring.n + ring.loss < ring.r + ring.w
-unfolding is_quorum
-quorum_less ring r =
-    let a = and_parts (nat_le 1 ring.r && nat_le ring.r ring.n && nat_le 1 ring.w && nat_le ring.w ring.n) (nat_lt (ring.n + ring.loss) (ring.r + ring.w)) r.quorum in
-    ltb-true (ring.n + ring.loss) (ring.r + ring.w) a.1
+-- ---- a get between its start and its end
 
--- what is known of the worlds of a run (`Kept`), and of slots that are firm for a put
-pub record HoldsFirm (ring : RingValue) (plan : List Planned) (Firm : World → ℕ → List ℕ → Type 0) (Kept : World → Type 0) : Type 0 where
-  pub is_ring : IsRing ring
-  pub reached : (w : World) → Kept w → Reached ring plan w
-  pub kept : (w : World) (e : Event) → Kept w → AllMet (guards ring plan w e) → Kept (effect ring plan w e)
-  pub different : (w : World) (v : ℕ) (slots : List ℕ) → Firm w v slots → all_different slots ≡ true
-  pub within : (w : World) (v : ℕ) (slots : List ℕ) → Firm w v slots → list_all (λ i. nat_lt i ring.n) slots ≡ true
-  pub held : (w : World) (v : ℕ) (slots : List ℕ) → Firm w v slots → (i : ℕ) → has i slots ≡ true → IsHeld ring plan w v (put_slot ring w v i)
-  pub acked : (w : World) → Kept w → (v : ℕ) → is_acked w v ≡ true → (slots : List ℕ) × Firm w v slots × (ring.w ≤ length slots + w.losses)
-  -- an event leaves them firm, but for at most as many as it loses stores
-  pub lasts : (w : World) (e : Event) → Kept w → AllMet (guards ring plan w e) → (v : ℕ) → is_acked w v ≡ true → (slots : List ℕ) → Firm w v slots
-      → (left : List ℕ) × ((i : ℕ) → has i left ≡ true → has i slots ≡ true) × Firm (effect ring plan w e) v left × (length slots + w.losses ≤ length left + (effect ring plan w e).losses)
+-- among these puts is one that is there and succeeds v
+abbrev pub SeesPut : World → ℕ → List ℕ → Type 0
+SeesPut w v vs = (u : ℕ) × (has u vs ≡ true) × (u < length w.puts) × Succeeds w u v
 
-module _ (ring : RingValue) (plan : List Planned) (Firm : World → ℕ → List ℕ → Type 0) (Kept : World → Type 0) (k : HoldsFirm ring plan Firm Kept) where
-  -- the get sees the put
-  record Sees (w : World) (g v : ℕ) : Type 0 where
-    acked : is_acked w v ≡ true
-    get : g < length w.gets
-    key : key_of_get w g ≡ key_of_put w v
-    slots : List ℕ
-    firm : Firm w v slots
-    enough : ring.w ≤ length slots + w.losses
-    found : (i : ℕ) → has i slots ≡ true → (vs : List ℕ) → found_at w g i ≡ Some vs → IsTopped w vs v
+-- an acknowledged put of the get's key is firm at enough slots, of which each that the get has read showed it
+pub record Watched (ring : RingValue) (plan : List Planned) (w : World) (v g : ℕ) : Type 0 where
+  pub exists : g < length w.gets
+  pub key : key_of_get w g ≡ key_of_put w v
+  pub acked : is_acked w v ≡ true
+  pub slots : List ℕ
+  pub firm : FirmSlots ring plan w v slots
+  pub enough : ring.w ≤ length slots + w.losses
+  pub read : (i : ℕ) → has i slots ≡ true → (vs : List ℕ) → found_at w g i ≡ Some vs → SeesPut w v vs
 
-  -- what tops a put goes on to
-  topped_still : (w : World) (e : Event) → Kept w → AllMet (guards ring plan w e) → (v : ℕ) → v < length w.puts → (vs : List ℕ) → IsTopped w vs v → IsTopped (effect ring plan w e) vs v
-  topped_still w e i g v l vs t =
-      let exists : t.0 < length w.puts = elim (same_or_put w t.0 v t.2) [ inl same ↦ subst (λ (m : ℕ). m < length w.puts) (sym same) l | inr m ↦ m ] in
-      (t.0, t.1, succeeds_stays w (effect ring plan w e) (event_extends ring plan w e g) (names_ended ring plan w (k.reached w i)) t.0 v exists t.2)
+-- equal keys pass the test
+same_bytes : (xs ys : List ℕ) → xs ≡ ys → bytes_eq xs ys ≡ true
+same_bytes xs ys e = (bytes_eq-Decides xs ys).1 e
 
-  sees_still : (w : World) (e : Event) (g v : ℕ) → Kept w → AllMet (guards ring plan w e) → Sees w g v → Sees (effect ring plan w e) g v
-  sees_still w e g v i met s = record {
-    acked = event_acked ring plan w e v s.acked;
-    get = steady.get;
-    key = steady.key ∙ (s.key ∙ sym (extends.key v put));
-    slots = after.0;
-    firm = after.2;
-    enough = (let a = after.3 in let b = s.enough in omega arith);
-    found = λ j h vs at. topped_still w e i met v put vs (elim (steady.found j vs at) [
-      | inl old ↦ s.found j (after.1 j h) vs old
-      | inr new ↦ subst (λ (us : List ℕ). IsTopped w us v) (sym new) (read_finds ring plan w g j v put s.key (k.held w v s.slots s.firm j (after.1 j h)))
-    ]);
-  }
-    where
-      put : v < length w.puts
-      put = acked_exists w.puts v s.acked
+-- a read of a slot that holds the put sees it
+finds_it : (ring : RingValue) (plan : List Planned) (w : World) (v g i : ℕ) → Reached ring plan w → key_of_get w g ≡ key_of_put w v
+    → IsHeld ring plan w v (put_slot ring w v i) → SeesPut w v (finds ring plan w g i)
+finds_it ring plan w v g i r key held = (s.0, s.1, inside s.0 (latest_of_is w all all s.0 s.1).0, succeeds_through w s.0 held.0 v s.2 held.1)
+  where
+    test : ℕ → Bool
+    test u = is_of_key w (key_of_get w g) u && slot_has ring plan w (get_slot ring w g i) u
 
-      steady : Steady ring plan w (effect ring plan w e) g
-      steady = event_steady ring plan w e g s.get
+    all : List ℕ
+    all = passing_below (length w.puts) test
 
-      extends : Extends w (effect ring plan w e)
-      extends = event_extends ring plan w e met
+    inside : (u : ℕ) → has u all ≡ true → u < length w.puts
+    inside u h = (below_is (length w.puts) test u h).0
 
-      after : (left : List ℕ) × ((j : ℕ) → has j left ≡ true → has j s.slots ≡ true) × Firm (effect ring plan w e) v left × (length s.slots + w.losses ≤ length left + (effect ring plan w e).losses)
-      after = k.lasts w e i met v s.acked s.slots s.firm
+    passes : test held.0 ≡ true
+    passes = all_of (is_of_key w (key_of_get w g) held.0) (slot_has ring plan w (get_slot ring w g i) held.0)
+        (same_bytes (key_of_put w held.0) (key_of_get w g) (succeeds_same_key w held.0 v held.1 ∙ sym key))
+        (subst (λ (k : List ℕ). slot_has ring plan w (slot_of ring k i) held.0 ≡ true) (sym key) held.2)
 
-  -- over a run
-  sees_on : (run : List Entry) (w u : World) (g v : ℕ) → Kept w → Leads ring plan w run u → Sees w g v → Kept u × Sees u g v
-  sees_on [] w u g v i l s = subst (λ (x : World). Kept x × Sees x g v) (sym l) (i, s)
-  sees_on (x ∷ xs) w u g v i l s =
-      let a = answered ring plan w l.0 x.event x.reply l.1 in
-      let met = all_met (guards ring plan w x.event) a.0 in
-      let next : Kept l.0 × Sees l.0 g v = subst (λ (y : World). Kept y × Sees y g v) a.1 (k.kept w x.event i met, sees_still w x.event g v i met s) in
-      sees_on xs l.0 u g v next.0 l.2 next.1
+    s : (u : ℕ) × (has u (latest w all) ≡ true) × Succeeds w u held.0
+    s =
+        some_latest w all (length w.puts) (length w.puts) held.0 inside
+        (is_below (length w.puts) test held.0 (held_exists ring plan w r (put_slot ring w v i) held.0 held.2) passes) (omega arith)
 
-  kept_on : (run : List Entry) (w u : World) → Kept w → Leads ring plan w run u → Kept u
-  kept_on [] w u i l = subst Kept (sym l) i
-  kept_on (x ∷ xs) w u i l =
-      let a = answered ring plan w l.0 x.event x.reply l.1 in
-      kept_on xs l.0 u (subst Kept a.1 (k.kept w x.event i (all_met (guards ring plan w x.event) a.0))) l.2
+-- ---- one event
 
-  -- a get that starts sees each put of its key that is acknowledged
-  sees_first : (w : World) (key : Key) (v : ℕ) → Kept w → is_of_key w key v ≡ true → is_acked w v ≡ true → Sees (effect ring plan w (StartGet key)) (length w.gets) v
-  unfolding guards effect
-  sees_first w key v i of_key acked =
-      let first = k.acked w i v acked in
-      let after = k.lasts w (StartGet key) i tt v acked first.0 first.1 in
-      let new : GetRecord = record { key = key; found = λ j. None; reply = None } in
-      record {
-        acked = acked;
-        get = (let n = length-append w.gets (new ∷ []) in omega arith);
-        key = part_new (λ (x : GetRecord). x.key) [] w.gets new (length w.gets) refl ∙ sym ((bytes_eq-Decides (key_of_put w v) key).0 of_key);
-        slots = after.0;
-        firm = after.2;
-        enough = (let a = after.3 in let b = first.2 in omega arith);
-        found = λ j h vs at. (let none = part_new (λ (x : GetRecord). x.found j) None w.gets new (length w.gets) refl in let bad : None ≡ Some vs = sym none ∙ at in absurd cc);
-      }
+-- slots after the event: at each the put is firm, it was one before, and no more are missing than stores were lost
+pub record Rest (ring : RingValue) (plan : List Planned) (w u : World) (v : ℕ) (slots : List ℕ) : Type 0 where
+  pub rest : List ℕ
+  pub firm : FirmSlots ring plan u v rest
+  pub enough : length slots + w.losses ≤ length rest + u.losses
+  pub among : (i : ℕ) → has i rest ≡ true → has i slots ≡ true
 
-  -- and what it is answered has them
-  sees_last : (w : World) (g v : ℕ) → Kept w → AllMet (guards ring plan w (EndGet g)) → Sees w g v → IsTopped w (answers ring w g) v
-  unfolding guards
-  sees_last w g v i met s =
-      let read : ℕ → Bool = λ j. is_some (found_at w g j) in
-      let reads = passing_below ring.n read in
-      let many : ring.r ≤ length reads = leb-true ring.r (slots_read ring w g) met.1.1.0 in
-      let spent = (k.reached w i).spent in
-      let quorum = quorum_less ring k.is_ring in
-      let enough = s.enough in
-      let shared = meet ring.n s.slots reads (k.different w v s.slots s.firm) (none_twice reads (passing_ascend 0 ring.n read)) (k.within w v s.slots s.firm) (all_within ring.n read) (omega arith) in
-      let at = below_is ring.n read shared.0 shared.2 in
-      by shared.0 at.0 shared.1 (found_at w g shared.0) refl at.1
-    where
-      by : (j : ℕ) → j < ring.n → has j s.slots ≡ true → (o : Option (List ℕ)) → found_at w g j ≡ o → is_some o ≡ true → IsTopped w (answers ring w g) v
-      by j l h None e t = absurd cc
-      by j l h (Some vs) e t = reply_tops ring w g j v vs (acked_exists w.puts v s.acked) l e (s.found j h vs e)
+-- all of them, where the event is no loss
+kept_rest : (ring : RingValue) (plan : List Planned) (w u : World) (v : ℕ) (slots : List ℕ) → KeepsFirm ring plan w u → is_acked w v ≡ true
+    → FirmSlots ring plan w v slots → Rest ring plan w u v slots
+kept_rest ring plan w u v slots k a f =
+    record { rest = slots; firm = slots_stay ring plan w u v slots k a f; enough = (let same = k.losses in omega arith); among = λ i h. h }
 
-  -- each get's reply has, for each put of its key that was acknowledged before it started, that put or one that succeeds it
-  pub gets_fresh : Kept (opening_world ring) → GetsAreFresh ring plan
-  gets_fresh first before between start mid w key g found run leads last v of_key acked =
-      let i = kept_on before (opening_world ring) start first run in
-      let a = answered ring plan start leads.0 (StartGet key) (reply.Get g) leads.1 in
-      let met = all_met (guards ring plan start (StartGet key)) a.0 in
-      let number : length start.gets ≡ g = same_number (length start.gets) g a.2 in
-      let begun : Kept leads.0 × Sees leads.0 (length start.gets) v = subst (λ (x : World). Kept x × Sees x (length start.gets) v) a.1 (k.kept start (StartGet key) i met, sees_first start key v i of_key acked) in
-      let on = sees_on between leads.0 mid g v begun.0 leads.2 (subst (λ (n : ℕ). Sees leads.0 n v) number begun.1) in
-      let b = answered ring plan mid w (EndGet g) (reply.Answer found) last in
-      let end_met = all_met (guards ring plan mid (EndGet g)) b.0 in
-      let top = topped_still mid (EndGet g) on.0 end_met v (acked_exists mid.puts v on.1.acked) (answers ring mid g) (sees_last mid g v on.0 end_met on.1) in
-      subst (λ (us : List ℕ). IsAnswered w v us) (same_answer (answers ring mid g) found b.2) (subst (λ (x : World). IsAnswered x v (answers ring mid g)) b.1 top)
-    where
-      same_number : (m n : ℕ) → reply.Get m ≡ reply.Get n → m ≡ n
-      same_number m n e = cc
+-- all but one, where it is
+loss_rest : (ring : RingValue) (plan : List Planned) → Known ring plan → (w : World) → Inv ring plan w → (x : NodeId) → AllMet (guards ring plan w (Lose x))
+    → (v : ℕ) (slots : List ℕ) → is_acked w v ≡ true → FirmSlots ring plan w v slots
+    → Rest ring plan w (effect ring plan w (Lose x)) v slots
+unfolding effect
+loss_rest ring plan k w i x g v slots a f =
+    let s = lose_slots ring plan w x i.reached (event_extends ring plan w (Lose x) g) k i v slots (acked_exists w.puts v a) f in
+    record { rest = s.0; firm = s.1; enough = (let m : length slots ≤ length s.0 + 1 = s.2 in omega arith); among = s.3 }
 
-      same_answer : (us vs : List ℕ) → reply.Answer us ≡ reply.Answer vs → us ≡ vs
-      same_answer us vs e = cc
+-- so after any event
+rest_after : (ring : RingValue) (plan : List Planned) → Known ring plan → (w : World) → Inv ring plan w → Holding ring plan w → (e : Event)
+    → AllMet (guards ring plan w e) → (v : ℕ) (slots : List ℕ) → is_acked w v ≡ true → FirmSlots ring plan w v slots
+    → Rest ring plan w (effect ring plan w e) v slots
+rest_after ring plan k w i h e g v slots a f = elim (lose_or_not e) [
+  | inl l ↦
+      subst (λ (q : Event). AllMet (guards ring plan w q) → Rest ring plan w (effect ring plan w q) v slots) (sym l.1)
+      (λ m. loss_rest ring plan k w i l.0 m v slots a f) g
+  | inr other ↦ kept_rest ring plan w (effect ring plan w e) v slots (event_keeps ring plan k w i.reached h e other g) a f
+]
+
+-- so the put goes on to be watched
+pub watched_after : (ring : RingValue) (plan : List Planned) → Known ring plan → (w : World) → Inv ring plan w → Holding ring plan w → (e : Event)
+    → AllMet (guards ring plan w e) → (v g : ℕ) → Watched ring plan w v g → Watched ring plan (effect ring plan w e) v g
+watched_after ring plan k w i h e met v g c = record {
+  exists = a.exists;
+  key = a.key ∙ c.key ∙ sym (x.key v (acked_exists w.puts v c.acked));
+  acked = event_acked ring plan w e v c.acked;
+  slots = s.rest;
+  firm = s.firm;
+  enough = (let old = c.enough in let new = s.enough in omega arith);
+  read = read;
+}
+  where
+    u : World
+    u = effect ring plan w e
+
+    x : Extends w u
+    x = event_extends ring plan w e met
+
+    a : StaysAsked ring plan w u g
+    a = event_asked ring plan w e g c.exists
+
+    s : Rest ring plan w u v c.slots
+    s = rest_after ring plan k w i h e met v c.slots c.acked c.firm
+
+    still : (vs : List ℕ) → SeesPut w v vs → SeesPut u v vs
+    still vs f =
+        let l : f.0 < length w.puts = f.2 in
+        let m = x.puts in
+        (f.0, f.1, omega arith, succeeds_stays w u x (names_ended ring plan w i.reached) f.0 v l f.3)
+
+    read : (j : ℕ) → has j s.rest ≡ true → (vs : List ℕ) → found_at u g j ≡ Some vs → SeesPut u v vs
+    read j is vs f = elim (a.found j vs f) [
+      | inl old ↦ still vs (c.read j (s.among j is) vs old)
+      | inr new ↦ still vs (subst (λ (z : List ℕ). SeesPut w v z) (sym new) (finds_it ring plan w v g j i.reached c.key (c.firm.firm j (s.among j is)).0))
+    ]
+
+-- ---- a run
+
+-- through a run from the get's start
+pub watched_through : (ring : RingValue) (plan : List Planned) → Known ring plan → (run : List Entry) (w u : World) → Inv ring plan w → Holding ring plan w
+    → (v g : ℕ) → Watched ring plan w v g → Leads ring plan w run u → Inv ring plan u × Watched ring plan u v g
+watched_through ring plan k [] w u i h v g c l = (subst (λ (z : World). Inv ring plan z) (sym l) i, subst (λ (z : World). Watched ring plan z v g) (sym l) c)
+watched_through ring plan k (x ∷ xs) w u i h v g c l =
+    let a = answered ring plan w l.0 x.event x.reply l.1 in
+    let after = watched_after ring plan k w i h x.event (all_met (guards ring plan w x.event) a.0) v g c in
+    let next : Watched ring plan l.0 v g = subst (λ (z : World). Watched ring plan z v g) a.1 after in
+    watched_through ring plan k xs l.0 u (next_inv ring plan k x w l.0 l.1 i) (next_holding ring plan k x w l.0 l.1 i h) v g next l.2

@@ -1,8 +1,8 @@
 -- All chunks of a copied stage are given, and none is once a mirror has begun.
-use Rattle.std.proofs.Common.{◌≡◌, ◌∙◌, inl, inr, ℕ, zero, suc, ◌+◌, ◌<◌, ◌≤◌, Bool, true, false, List, length, get_or, Option, Some, None, refl, sym, ap, subst, arith, add-one, ltb-true, lt-ltb}
-use Rattle.std.specs.Prelude.{◌==◌, ◌&&◌, nat_lt, slice_get, option_map, option_and_then, is_some}
+use Rattle.std.proofs.Common.{◌≡◌, ◌∙◌, inl, inr, ℕ, zero, suc, ◌<◌, ◌≤◌, Bool, true, false, List, length, get_or, Option, Some, None, refl, sym, ap, subst}
+use Rattle.std.proofs.Common.{arith, add-one, ltb-true, lt-ltb}
+use Rattle.std.specs.Prelude.{◌&&◌, nat_lt, slice_get, option_map, option_and_then, is_some}
 use Rattle.ring_names.specs.Lists.{has}
-use Rattle.ring_names.specs.declared.ids.NodeId.{NodeId}
 use Rattle.ring_names.specs.declared.ids.Slot.{Slot}
 use Rattle.ring_table.specs.Value.{RingValue}
 use Rattle.plan_text.specs.declared.step.Source.{Source}
@@ -11,13 +11,12 @@ use Rattle.plan_text.specs.declared.step.Step.TheVariants.{Join, Mirror, Copy, S
 use Rattle.plan_text.specs.declared.step.Planned.{Planned}
 use Rattle.plan_text.specs.Steps.{steps_of, is_on, copy_of, mirror_of}
 use Rattle.plan_stage.specs.declared.stage.Stage.{Stage}
-use Rattle.plan_stage.specs.Stage.{stage, after, next}
+use Rattle.plan_stage.specs.Stage.{stage, next}
 use Rattle.plan_stage.specs.Each.{step_at}
 use Rattle.plan_stage.proofs.Stages.{after-next, stage-more}
 use Rattle.plan_stage.proofs.Places.{placed}
 use Rattle.plan_stage.proofs.Truth.{slot-is, slot-same}
 use Rattle.plan_check.specs.World.{World, count, copy_at, mirror_at, stage_now, mirrors_done}
-use Rattle.plan_check.specs.Guards.{has_copy}
 use Rattle.plan_check.specs.Effects.{with_number}
 use Rattle.plan_check.specs.Firm.{mirrors_before, IsGiven}
 use Rattle.plan_check.specs.Reached.{Ready, Closed, CopiesFit}
@@ -38,7 +37,8 @@ pub record CopiedAt (plan : List Planned) (slot : Slot) (k : ℕ) : Type 0 where
   pub behind : (i : ℕ) → place ≤ i → i < k → is_some (mirror_at plan (get_or (steps_of plan slot) i 0)) ≡ false
 
 -- one more step, which is no mirror
-further : (plan : List Planned) (slot : Slot) (k : ℕ) → is_some (mirror_at plan (get_or (steps_of plan slot) k 0)) ≡ false → CopiedAt plan slot k → CopiedAt plan slot (suc k)
+further : (plan : List Planned) (slot : Slot) (k : ℕ) → is_some (mirror_at plan (get_or (steps_of plan slot) k 0)) ≡ false → CopiedAt plan slot k
+    → CopiedAt plan slot (suc k)
 further plan slot k none c = record { place = c.place; less = (let l = c.less in omega arith); from = c.from; copy = c.copy; behind = behind }
   where
     behind : (i : ℕ) → c.place ≤ i → i < suc k → is_some (mirror_at plan (get_or (steps_of plan slot) i 0)) ≡ false
@@ -48,7 +48,8 @@ further plan slot k none c = record { place = c.place; less = (let l = c.less in
     ]
 
 -- the last step is the copy
-last : (plan : List Planned) (slot : Slot) (k : ℕ) (from : Source) → step_at plan (get_or (steps_of plan slot) k 0) ≡ Some (Copy slot from) → CopiedAt plan slot (suc k)
+last : (plan : List Planned) (slot : Slot) (k : ℕ) (from : Source) → step_at plan (get_or (steps_of plan slot) k 0) ≡ Some (Copy slot from)
+    → CopiedAt plan slot (suc k)
 last plan slot k from at = record { place = k; less = omega arith; from = from; copy = at; behind = behind }
   where
     behind : (i : ℕ) → k ≤ i → i < suc k → is_some (mirror_at plan (get_or (steps_of plan slot) i 0)) ≡ false
@@ -56,7 +57,9 @@ last plan slot k from at = record { place = k; less = omega arith; from = from; 
         let e : k ≡ i = omega arith in
         subst (λ j. is_some (mirror_at plan (get_or (steps_of plan slot) j 0)) ≡ false) e (ap (λ (o : Option Step). is_some (option_and_then mirror_of o)) at)
 
-pub copied_at : (ring : RingValue) (plan : List Planned) (slot : Slot) (k : ℕ) → k ≤ length (steps_of plan slot) → (stage ring plan slot k).copied ≡ true → CopiedAt plan slot k
+-- so it is after the first k steps where the stage is copied
+pub copied_at : (ring : RingValue) (plan : List Planned) (slot : Slot) (k : ℕ) → k ≤ length (steps_of plan slot) → (stage ring plan slot k).copied ≡ true
+    → CopiedAt plan slot k
 copied_at ring plan slot zero le c = absurd cc
 copied_at ring plan slot (suc k) le c = by on.0.step refl (λ e. copied_at ring plan slot k (omega arith) e)
   where
@@ -70,7 +73,9 @@ copied_at ring plan slot (suc k) le c = by on.0.step refl (λ e. copied_at ring 
     at = ap (λ (o : Option Planned). elim o as (λ _. Option Step) [ Some z ↦ Some z.step | None ↦ None ]) on.1
 
     more : stage ring plan slot (suc k) ≡ next (stage ring plan slot k) on.0.step
-    more = ap (stage ring plan slot) (sym (add-one k)) ∙ stage-more ring plan slot k (omega arith) ∙ after-next plan (stage ring plan slot k) n on.0.step (ap (λ (o : Option Planned). option_map (λ (z : Planned). z.step) o) on.1)
+    more =
+        ap (stage ring plan slot) (sym (add-one k)) ∙ stage-more ring plan slot k (omega arith) ∙ after-next plan (stage ring plan slot k) n on.0.step
+        (ap (λ (o : Option Planned). option_map (λ (z : Planned). z.step) o) on.1)
 
     copied_by : (t : Step) → on.0.step ≡ t → (next (stage ring plan slot k) t).copied ≡ true
     copied_by t e = subst (λ (s : Step). (next (stage ring plan slot k) s).copied ≡ true) e (subst (λ (a : Stage). a.copied ≡ true) more c)
@@ -89,6 +94,7 @@ copied_at ring plan slot (suc k) le c = by on.0.step refl (λ e. copied_at ring 
 
 -- ---- given chunks
 
+-- the test of less fails where it is not so
 not_less : (a b : ℕ) → b ≤ a → nat_lt a b ≡ false
 not_less a b l = by (nat_lt a b) refl
   where
@@ -97,9 +103,17 @@ not_less a b l = by (nat_lt a b) refl
     by true e = absurd (let m = ltb-true a b e in omega arith)
 
 -- each chunk of a slot whose stage is copied is given
-pub copied_given : (ring : RingValue) (plan : List Planned) → Known ring plan → (w : World) (slot : Slot) (c : ℕ) → Closed plan w.done → CopiesFit plan w.done w.is_open w.marked → (stage_now ring plan w slot).copied ≡ true → c < 16
+pub copied_given : (ring : RingValue) (plan : List Planned) → Known ring plan → (w : World) (slot : Slot) (c : ℕ) → Closed plan w.done
+    → CopiesFit plan w.done w.is_open w.marked → (stage_now ring plan w slot).copied ≡ true → c < 16
     → IsGiven plan w slot c
-copied_given ring plan k w slot c closed fit copied l = (n, a.from, ap (option_and_then copy_of) a.copy, fit.copied n c (ap (λ (o : Option Step). is_some (option_and_then copy_of o)) a.copy) (p.below a.place a.less) l, same)
+copied_given ring plan k w slot c closed fit copied l = (
+  n,
+  a.from,
+  ap (option_and_then copy_of) a.copy,
+  fit.copied n c (ap (λ (o : Option Step). is_some (option_and_then copy_of o)) a.copy)
+      (p.below a.place a.less) l,
+  same,
+)
   where
     ss : List ℕ
     ss = steps_of plan slot
@@ -131,10 +145,13 @@ copied_given ring plan k w slot c closed fit copied l = (n, a.from, ap (option_a
     ]
 
     same : mirrors_before plan slot n ≡ mirrors_done plan w slot
-    same = count_same (λ s. w.done s && is_some (mirror_at plan s)) (λ s. nat_lt s n && is_some (mirror_at plan s)) ss (λ m i. (let q = found m ss i in at_place m q.0 q.1 q.2))
+    same =
+        count_same (λ s. w.done s && is_some (mirror_at plan s)) (λ s. nat_lt s n && is_some (mirror_at plan s)) ss
+        (λ m i. (let q = found m ss i in at_place m q.0 q.1 q.2))
 
 -- once a mirror of the slot has begun, no chunk is given
-pub none_given : (ring : RingValue) (plan : List Planned) → Known ring plan → (D : ℕ → Bool) (marked : ℕ → ℕ → Bool) (n m c : ℕ) (slot : Slot) (from : Source) → Closed plan D → ((a b : ℕ) → marked a b ≡ true → Ready plan D a)
+pub none_given : (ring : RingValue) (plan : List Planned) → Known ring plan
+    → (D : ℕ → Bool) (marked : ℕ → ℕ → Bool) (n m c : ℕ) (slot : Slot) (from : Source) → Closed plan D → ((a b : ℕ) → marked a b ≡ true → Ready plan D a)
     → D n ≡ false → has n (steps_of plan slot) ≡ true → is_some (mirror_at plan n) ≡ true → copy_at plan m ≡ Some (slot, from) → marked m c ≡ true
     → mirrors_before plan slot m ≡ count (λ s. with_number D n s && is_some (mirror_at plan s)) (steps_of plan slot) → ⊥
 none_given ring plan k D marked n m c slot from closed ready off h is copy mark same =

@@ -31,9 +31,6 @@ pub mod Reached
 pub mod Ticketed
 pub mod Lasting
 pub mod Migrating
-pub mod Replying
-pub mod GetsSteady
-pub mod Fresh
 pub mod Serial
 pub mod Standing
 pub mod Numbering
@@ -46,5 +43,9 @@ pub mod Stepping
 pub mod Places
 pub mod Chunks
 pub mod Losing
+pub mod Members
+pub mod Doing
 pub mod Holdings
+pub mod Asking
+pub mod Fresh
 pub mod Promised

@@ -1,30 +1,30 @@
 -- A store that is lost takes at most one of the slots at which a put is firm.
-use Rattle.std.proofs.Common.{◌≡◌, ◌≢◌, ◌⊎◌, inl, inr, ◌∙◌, ℕ, ◌+◌, ◌<◌, ◌≤◌, Bool, true, false, cond, not, List, [], ◌∷◌, length, Option, Some, None, refl, sym, ap, subst, arith, ltb-true, eqb-true, eq-eqb}
-use Rattle.std.specs.Prelude.{◌==◌, ◌&&◌, ◌||◌, nat_lt}
-use Rattle.std.specs.List.{list_all}
+use Rattle.std.proofs.Common.{◌≡◌, ◌≢◌, ◌⊎◌, inl, inr, ◌∙◌, ℕ, ◌+◌, ◌<◌, ◌≤◌, Bool, true, false, cond, not, List, [], ◌∷◌, length, Option, Some, None, refl}
+use Rattle.std.proofs.Common.{sym, ap, subst, arith, ltb-true, eqb-true, eq-eqb}
+use Rattle.std.specs.Prelude.{◌==◌, nat_lt}
 use Rattle.std.proofs.lemmas.Bool.Decides.{eqb_tells}
 use Rattle.ring_names.specs.Lists.{has, all_different}
 use Rattle.ring_names.specs.declared.ids.NodeId.{NodeId}
 use Rattle.ring_names.specs.declared.ids.Slot.{Slot}
 use Rattle.ring_table.specs.Value.{RingValue}
 use Rattle.plan_text.specs.declared.step.Planned.{Planned}
-use Rattle.plan_check.specs.World.{World, some_below, key_of_put, is_acked, stage_now, keeps, is_served, is_in_group, mirrors_done, generation}
+use Rattle.plan_check.specs.World.{World, key_of_put, stage_now, keeps, is_served, is_in_group, mirrors_done, generation}
 use Rattle.plan_check.specs.Versions.{put_slot, some_hinted}
 use Rattle.plan_check.specs.Guards.{is_current}
 use Rattle.plan_check.specs.Effects.{without_node, lose_effect}
-use Rattle.plan_check.specs.Firm.{mirror_has, IsTwice, IsFirm, FirmSlots, IsFirmEnough, Holding}
+use Rattle.plan_check.specs.Firm.{IsTwice, FirmSlots, Holding}
 use Rattle.plan_check.specs.Reached.{Reached}
 use Rattle.plan_check.proofs.Entering.{Inv}
 use Rattle.plan_check.proofs.Filling.{at_mirror_more}
-use Rattle.plan_check.proofs.Groups.{Served, Keeps, InGroup, served_is, in_group}
+use Rattle.plan_check.proofs.Groups.{InGroup, served_is, in_group}
 use Rattle.plan_check.proofs.Lasting.{Extends}
 use Rattle.plan_check.proofs.Mirrored.{Known}
 use Rattle.plan_check.proofs.Passing.{some_found, some_is}
 use Rattle.plan_check.proofs.Places.{partition_within}
 use Rattle.plan_check.proofs.Quiet.{tickets_keep}
-use Rattle.plan_check.proofs.Quorums.{without, by_equal, kept-in, different-without, one-taken}
+use Rattle.plan_check.proofs.Quorums.{without, kept-in, different-without, one-taken}
 use Rattle.plan_check.proofs.Serial.{acked_exists}
-use Rattle.plan_check.proofs.Standing.{SlotKeeps, twice_stays, firm_stays, same_slot}
+use Rattle.plan_check.proofs.Standing.{SlotKeeps, twice_stays, firm_stays}
 use Rattle.plan_check.proofs.Ticketed.{generation_more, lose_more}
 use Rattle.plan_stage.proofs.Truth.{all_of, either, first_of_two, second_of_two, list_all-met, list_all-all}
 
@@ -35,7 +35,8 @@ pub one_or_none : (test : ℕ → Bool) (xs : List ℕ) → ((i : ℕ) × (has i
 one_or_none test [] = inr (λ i h. absurd cc)
 one_or_none test (x ∷ xs) = by (test x) refl (one_or_none test xs)
   where
-    by : (b : Bool) → test x ≡ b → ((i : ℕ) × (has i xs ≡ true) × (test i ≡ true)) ⊎ ((i : ℕ) → has i xs ≡ true → test i ≡ false) → ((i : ℕ) × (has i (x ∷ xs) ≡ true) × (test i ≡ true)) ⊎ ((i : ℕ) → has i (x ∷ xs) ≡ true → test i ≡ false)
+    by : (b : Bool) → test x ≡ b → ((i : ℕ) × (has i xs ≡ true) × (test i ≡ true)) ⊎ ((i : ℕ) → has i xs ≡ true → test i ≡ false)
+        → ((i : ℕ) × (has i (x ∷ xs) ≡ true) × (test i ≡ true)) ⊎ ((i : ℕ) → has i (x ∷ xs) ≡ true → test i ≡ false)
     by true e rest = inl (x, first_of_two (x == x) (has x xs) (eq-eqb x x refl), e)
     by false e (inl f) = inl (f.0, second_of_two (f.0 == x) (has f.0 xs) f.1, f.2)
     by false e (inr f) = inr (λ i h. elim (either (i == x) (has i xs) h) [
@@ -60,6 +61,7 @@ group_is ring plan w s x g = elim g [
   | inr h ↦ second_of_two (is_served (stage_now ring plan w s) x) (keeps w x s) (some_is (length w.puts) (λ v. w.hinted x s v) h.0 h.1 h.2)
 ]
 
+-- another node keeps what it has
 stays_at : (f : ℕ → Slot → ℕ → Bool) (x : NodeId) (y : ℕ) (s : Slot) (v : ℕ) → y ≢ x.0 → f y s v ≡ true → without_node f x y s v ≡ true
 stays_at f x y s v ne e = elim (eqb_tells y x.0) [
   | inl t ↦ absurd (ne t.1)
@@ -68,9 +70,11 @@ stays_at f x y s v ne e = elim (eqb_tells y x.0) [
 
 -- node x loses what it stores and keeps
 module _ (ring : RingValue) (plan : List Planned) (w : World) (x : NodeId) (r : Reached ring plan w) (e : Extends w (lose_effect ring plan w x)) where
+  -- the world after that
   abbrev lost : World
   lost = lose_effect ring plan w x
 
+  -- a slot whose group does not have it keeps what it has
   other_slots : (s : Slot) → is_in_group ring plan w s x.0 ≡ false → SlotKeeps ring plan w lost s
   other_slots s out = record {
     held = λ v f. elim (either (w.stored owner.0 s v) (some_hinted ring w s v) f) [
@@ -81,7 +85,7 @@ module _ (ring : RingValue) (plan : List Planned) (w : World) (x : NodeId) (r : 
     mirrored = λ m is v f. elim (either (elim mirror [ Some z ↦ w.stored z.0 s v | None ↦ false ]) (some_hinted ring w s v) f) [
       | inl g ↦ first_of_two (elim mirror [ Some z ↦ lost.stored z.0 s v | None ↦ false ]) (some_hinted ring lost s v)
           (at_mirror_more mirror (λ z. w.stored z s v) (λ z. lost.stored z s v)
-            (λ z i d. stays_at w.stored x z.0 s v (λ j. apart (inl (inr (i ∙ ap (λ (q : ℕ). Some (record { 0 = q })) j)))) d) g)
+          (λ z i d. stays_at w.stored x z.0 s v (λ j. apart (inl (inr (i ∙ ap (λ (q : ℕ). Some (record { 0 = q })) j)))) d) g)
       | inr g ↦ second_of_two (elim mirror [ Some z ↦ lost.stored z.0 s v | None ↦ false ]) (some_hinted ring lost s v) (kept v g)
     ];
   }
@@ -99,21 +103,26 @@ module _ (ring : RingValue) (plan : List Planned) (w : World) (x : NodeId) (r : 
       kept v g =
           let y = some_found (length ring.nodes) (λ z. w.hinted z s v) g in
           some_is (length ring.nodes) (λ z. lost.hinted z s v) y.0 y.1 (stays_at w.hinted x y.0 s v
-            (λ i. apart (inr (v, (r.hinted y.0 s v y.2).0, subst (λ (z : ℕ). w.hinted z s v ≡ true) i y.2))) y.2)
+          (λ i. apart (inr (v, (r.hinted y.0 s v y.2).0, subst (λ (z : ℕ). w.hinted z s v ≡ true) i y.2))) y.2)
 
   -- a slot of the node's group has a new generation, and the others keep what is at owner and mirror
   twice_or_new : (s : Slot) (v : ℕ) → generation plan lost s ≡ generation plan w s → IsTwice ring plan w v s → IsTwice ring plan lost v s
   twice_or_new s v same t = by (is_in_group ring plan w s x.0) refl same
     where
-      by : (b : Bool) → is_in_group ring plan w s x.0 ≡ b → mirrors_done plan w s + cond b (w.lost s + 1) (w.lost s) ≡ mirrors_done plan w s + w.lost s → IsTwice ring plan lost v s
+      by : (b : Bool) → is_in_group ring plan w s x.0 ≡ b → mirrors_done plan w s + cond b (w.lost s + 1) (w.lost s) ≡ mirrors_done plan w s + w.lost s
+          → IsTwice ring plan lost v s
       by true g f = absurd (omega arith)
       by false g f = twice_stays ring plan w lost s r e (other_slots s g) v t
 
-  pub lose_tickets : Holding ring plan w → (v i : ℕ) → v < length w.puts → is_current ring plan lost v i ≡ true → IsTwice ring plan lost v (put_slot ring lost v i)
-  lose_tickets h = tickets_keep ring plan w lost r h e (λ s. generation_more plan w lost s (λ m d. d) (lose_more ring plan w x s)) twice_or_new (λ v i g d. inl d)
+  -- so current tickets are of puts at owner and mirror
+  pub lose_tickets : Holding ring plan w → (v i : ℕ) → v < length w.puts → is_current ring plan lost v i ≡ true
+      → IsTwice ring plan lost v (put_slot ring lost v i)
+  lose_tickets h =
+      tickets_keep ring plan w lost r h e (λ s. generation_more plan w lost s (λ m d. d) (lose_more ring plan w x s)) twice_or_new (λ v i g d. inl d)
 
   -- slots whose groups do not have the node
-  spared : (v : ℕ) (slots rest : List ℕ) → v < length w.puts → FirmSlots ring plan w v slots → all_different rest ≡ true → ((i : ℕ) → has i rest ≡ true → has i slots ≡ true)
+  spared : (v : ℕ) (slots rest : List ℕ) → v < length w.puts → FirmSlots ring plan w v slots → all_different rest ≡ true
+      → ((i : ℕ) → has i rest ≡ true → has i slots ≡ true)
       → ((i : ℕ) → has i rest ≡ true → is_in_group ring plan w (put_slot ring w v i) x.0 ≡ false) → FirmSlots ring plan lost v rest
   spared v slots rest l f different among out = record {
     different = different;
@@ -126,28 +135,39 @@ module _ (ring : RingValue) (plan : List Planned) (w : World) (x : NodeId) (r : 
       → (rest : List ℕ) × FirmSlots ring plan lost v rest × (length slots ≤ length rest + 1) × ((i : ℕ) → has i rest ≡ true → has i slots ≡ true)
   lose_slots k i v slots l f = elim (one_or_none (λ j. is_in_group ring plan w (put_slot ring w v j) x.0) slots) [
     | inr none ↦ (slots, spared v slots slots l f f.different (λ j h. h) none, omega arith, λ j h. h)
-    | inl one ↦ (without one.0 slots, spared v slots (without one.0 slots) l f (different-without one.0 slots f.different) (λ j h. kept-in one.0 j slots h) (others one.0 one.1 one.2), one-taken one.0 slots f.different, λ j h. kept-in one.0 j slots h)
+    | inl one ↦ (
+      without one.0 slots,
+      spared v slots (without one.0 slots) l f (different-without one.0 slots f.different) (λ j h. kept-in one.0 j slots h)
+          (others one.0 one.1 one.2),
+      one-taken one.0 slots f.different,
+      λ j h. kept-in one.0 j slots h,
+    )
   ]
     where
       inside : (j : ℕ) → has j slots ≡ true → j < ring.n
       inside j h = ltb-true j ring.n (list_all-met (λ z. nat_lt z ring.n) slots f.within j h)
 
-      others : (n : ℕ) → has n slots ≡ true → is_in_group ring plan w (put_slot ring w v n) x.0 ≡ true → (j : ℕ) → has j (without n slots) ≡ true → is_in_group ring plan w (put_slot ring w v j) x.0 ≡ false
+      others : (n : ℕ) → has n slots ≡ true → is_in_group ring plan w (put_slot ring w v n) x.0 ≡ true → (j : ℕ) → has j (without n slots) ≡ true
+          → is_in_group ring plan w (put_slot ring w v j) x.0 ≡ false
       others n at group j h = by (is_in_group ring plan w (put_slot ring w v j) x.0) refl
         where
           by : (b : Bool) → is_in_group ring plan w (put_slot ring w v j) x.0 ≡ b → b ≡ false
           by false g = refl
-          by true g = absurd (i.apart (put_slot ring w v n).partition n j x.0 (partition_within ring.q (key_of_put w v) k.is_ring.space) (inside n at) (inside j (kept-in n j slots h))
-              (λ same. (let o = gone n slots in let m : has n (without n slots) ≡ true = subst (λ z. has z (without n slots) ≡ true) (sym same) h in absurd cc))
+          by true g =
+              absurd (i.apart (put_slot ring w v n).partition n j x.0 (partition_within ring.q (key_of_put w v) k.is_ring.space) (inside n at)
+              (inside j (kept-in n j slots h))
+              (λ same. (let o = gone n slots in let m : has n (without n slots) ≡ true = subst (λ z. has z (without n slots) ≡ true) (sym same) h in absurd
+              cc))
               (in_group ring plan w (put_slot ring w v n) x.0 group) (in_group ring plan w (put_slot ring w v j) x.0 g))
 
+  -- and acknowledged puts stay firm enough, with one loss more
   pub lose_holding : Known ring plan → Inv ring plan w → Holding ring plan w → Holding ring plan lost
   lose_holding k i h = record {
     tickets = lose_tickets h;
     acked = λ v a. (
-      let f = h.acked v a in
-      let g = lose_slots k i v f.0 (acked_exists w.puts v a) f.1 in
-      let enough : ring.w ≤ length f.0 + w.losses = f.2 in
-      let fewer : length f.0 ≤ length g.0 + 1 = g.2 in
-      (g.0, g.1, omega arith));
+        let f = h.acked v a in
+        let g = lose_slots k i v f.0 (acked_exists w.puts v a) f.1 in
+        let enough : ring.w ≤ length f.0 + w.losses = f.2 in
+        let fewer : length f.0 ≤ length g.0 + 1 = g.2 in
+        (g.0, g.1, omega arith));
   }

@@ -1,5 +1,6 @@
 -- How many mirrors of a slot are finished, and how many are in front of a step.
-use Rattle.std.proofs.Common.{◌≡◌, inl, inr, ℕ, ◌+◌, ◌<◌, ◌≤◌, Bool, true, false, cond, List, [], ◌∷◌, length, get_or, refl, sym, ap, subst, arith, ltb-true, eqb-true, eq-eqb}
+use Rattle.std.proofs.Common.{◌≡◌, inl, inr, ℕ, ◌+◌, ◌<◌, ◌≤◌, Bool, true, false, cond, List, [], ◌∷◌, get_or, refl, sym, ap, subst, arith, ltb-true}
+use Rattle.std.proofs.Common.{eqb-true, eq-eqb}
 use Rattle.std.specs.Prelude.{◌==◌, ◌&&◌, nat_lt, is_some}
 use Rattle.std.proofs.lemmas.Bool.{and_parts}
 use Rattle.std.proofs.lemmas.Bool.Decides.{eqb_tells}
@@ -32,7 +33,8 @@ count_in D E (s ∷ ss) h = by (D s) (E s) (h s (rw (eq-eqb s s refl) refl)) (co
     by true true f l = omega arith
 
 -- and more do where one passes the other alone
-pub count_less : (D E : ℕ → Bool) (n : ℕ) (ss : List ℕ) → ((m : ℕ) → has m ss ≡ true → D m ≡ true → E m ≡ true) → has n ss ≡ true → D n ≡ false → E n ≡ true → count D ss < count E ss
+pub count_less : (D E : ℕ → Bool) (n : ℕ) (ss : List ℕ) → ((m : ℕ) → has m ss ≡ true → D m ≡ true → E m ≡ true) → has n ss ≡ true → D n ≡ false → E n ≡ true
+    → count D ss < count E ss
 count_less D E n [] h i off on = absurd cc
 count_less D E n (s ∷ ss) h i off on = elim (either (n == s) (has n ss) i) [
   | inl f ↦ (
@@ -54,6 +56,7 @@ count_less D E n (s ∷ ss) h i off on = elim (either (n == s) (has n ss) i) [
 
 -- ---- mirrors
 
+-- with a test that fails two tests fail alike
 pub both_off : (a b c : Bool) → c ≡ false → (a && c) ≡ (b && c)
 both_off true true c h = refl
 both_off true false c h = h
@@ -63,22 +66,30 @@ both_off false false c h = refl
 -- a step that is no mirror of the slot leaves the number of its finished mirrors
 pub mirrors_left : (plan : List Planned) (D : ℕ → Bool) (n : ℕ) (slot : Slot) → (has n (steps_of plan slot) ≡ true → is_some (mirror_at plan n) ≡ false)
     → count (λ s. with_number D n s && is_some (mirror_at plan s)) (steps_of plan slot) ≡ count (λ s. D s && is_some (mirror_at plan s)) (steps_of plan slot)
-mirrors_left plan D n slot never = count_same (λ s. D s && is_some (mirror_at plan s)) (λ s. with_number D n s && is_some (mirror_at plan s)) (steps_of plan slot) (λ m i. elim (eqb_tells m n) [
-  | inl t ↦ both_off (with_number D n m) (D m) (is_some (mirror_at plan m)) (subst (λ z. is_some (mirror_at plan z) ≡ false) (sym t.1) (never (subst (λ z. has z (steps_of plan slot) ≡ true) t.1 i)))
-  | inr t ↦ rw t.0 refl
-])
+mirrors_left plan D n slot never = count_same (λ s. D s && is_some (mirror_at plan s)) (λ s. with_number D n s && is_some (mirror_at plan s))
+    (steps_of plan slot) (λ m i. elim (eqb_tells m n) [
+      | inl t ↦
+          both_off (with_number D n m) (D m) (is_some (mirror_at plan m))
+          (subst (λ z. is_some (mirror_at plan z) ≡ false) (sym t.1) (never (subst (λ z. has z (steps_of plan slot) ≡ true) t.1 i)))
+      | inr t ↦ rw t.0 refl
+    ])
 
 -- a mirror of the slot that is new makes it greater
-pub mirrors_up : (plan : List Planned) (D : ℕ → Bool) (n : ℕ) (slot : Slot) → has n (steps_of plan slot) ≡ true → D n ≡ false → is_some (mirror_at plan n) ≡ true
+pub mirrors_up : (plan : List Planned) (D : ℕ → Bool) (n : ℕ) (slot : Slot) → has n (steps_of plan slot) ≡ true → D n ≡ false
+    → is_some (mirror_at plan n) ≡ true
     → count (λ s. D s && is_some (mirror_at plan s)) (steps_of plan slot) < count (λ s. with_number D n s && is_some (mirror_at plan s)) (steps_of plan slot)
-mirrors_up plan D n slot i off on = count_less (λ s. D s && is_some (mirror_at plan s)) (λ s. with_number D n s && is_some (mirror_at plan s)) n (steps_of plan slot)
-    (λ m g e. (let b = and_parts (D m) (is_some (mirror_at plan m)) e in all_of (with_number D n m) (is_some (mirror_at plan m)) (second_of_two (m == n) (D m) b.0) b.1))
+mirrors_up plan D n slot i off on =
+    count_less (λ s. D s && is_some (mirror_at plan s)) (λ s. with_number D n s && is_some (mirror_at plan s)) n (steps_of plan slot)
+    (λ m g e. (let b = and_parts (D m) (is_some (mirror_at plan m)) e in all_of (with_number D n m) (is_some (mirror_at plan m))
+    (second_of_two (m == n) (D m) b.0) b.1))
     i (rw off refl) (all_of (with_number D n n) (is_some (mirror_at plan n)) (rw (eq-eqb n n refl) refl) on)
 
 -- the mirrors of the slot in front of a step of it that is ready are finished
-pub mirrors_ahead : (ring : RingValue) (plan : List Planned) → Known ring plan → (D : ℕ → Bool) (n : ℕ) (slot : Slot) → Closed plan D → Ready plan D n → has n (steps_of plan slot) ≡ true
+pub mirrors_ahead : (ring : RingValue) (plan : List Planned) → Known ring plan → (D : ℕ → Bool) (n : ℕ) (slot : Slot) → Closed plan D → Ready plan D n
+    → has n (steps_of plan slot) ≡ true
     → mirrors_before plan slot n ≤ count (λ s. D s && is_some (mirror_at plan s)) (steps_of plan slot)
-mirrors_ahead ring plan k D n slot c y h = count_in (λ s. nat_lt s n && is_some (mirror_at plan s)) (λ s. D s && is_some (mirror_at plan s)) (steps_of plan slot)
+mirrors_ahead ring plan k D n slot c y h =
+    count_in (λ s. nat_lt s n && is_some (mirror_at plan s)) (λ s. D s && is_some (mirror_at plan s)) (steps_of plan slot)
     (λ m i e. (let b = and_parts (nat_lt m n) (is_some (mirror_at plan m)) e in all_of (D m) (is_some (mirror_at plan m)) (ahead m i (ltb-true m n b.0)) b.1))
   where
     ss : List ℕ
@@ -91,7 +102,9 @@ mirrors_ahead ring plan k D n slot c y h = count_in (λ s. nat_lt s n && is_some
         let at : get_or ss p.0 0 ≡ m = p.2 in
         let to : get_or ss q.0 0 ≡ n = q.2 in
         elim (order p.0 q.0) [
-          | inl less ↦ subst (λ z. D z ≡ true) at (before_ready plan D (get_or ss p.0 0) n c y (subst (λ z. Before plan (get_or ss p.0 0) z) to (in_turn ring plan k slot p.0 q.0 less q.1)))
+          | inl less ↦
+              subst (λ z. D z ≡ true) at (before_ready plan D (get_or ss p.0 0) n c y
+              (subst (λ z. Before plan (get_or ss p.0 0) z) to (in_turn ring plan k slot p.0 q.0 less q.1)))
           | inr more ↦ absurd (elim (order q.0 p.0) [
             | inl g ↦ (let r = rising ss (rises ring plan k slot) q.0 p.0 g p.1 in omega arith)
             | inr g ↦ (let s : p.0 ≡ q.0 = omega arith in let z : get_or ss p.0 0 ≡ get_or ss q.0 0 = ap (λ j. get_or ss j 0) s in omega arith)

@@ -1,37 +1,36 @@
 -- What an event keeps that is about no step and no chunk: what nodes have for slots only grows, and goes from keepers to those who serve.
-use Rattle.std.proofs.Common.{◌≡◌, ◌⊎◌, inl, inr, ◌∙◌, ℕ, ◌+◌, ◌<◌, ◌≤◌, Bool, true, false, List, length, Option, Some, None, refl, sym, ap, subst, arith}
-use Rattle.std.specs.Prelude.{◌||◌}
+use Rattle.std.proofs.Common.{◌≡◌, inl, inr, ◌∙◌, ℕ, ◌<◌, ◌≤◌, Bool, true, false, List, length, Option, Some, None, refl, sym, ap, subst, arith}
 use Rattle.ring_names.specs.declared.ids.NodeId.{NodeId}
 use Rattle.ring_names.specs.declared.ids.Slot.{Slot}
 use Rattle.ring_table.specs.Value.{RingValue}
 use Rattle.plan_text.specs.declared.step.Planned.{Planned}
-use Rattle.plan_check.specs.World.{PutRecord, GetRecord, World, some_below, is_acked, stage_now, generation, ticket_of}
-use Rattle.plan_check.specs.Succession.{Succeeds, itself}
-use Rattle.plan_check.specs.Versions.{put_slot, some_hinted, slot_has}
+use Rattle.plan_check.specs.World.{PutRecord, GetRecord, World, some_below, stage_now, generation}
+use Rattle.plan_check.specs.Versions.{put_slot, some_hinted}
 use Rattle.plan_check.specs.Guards.{is_current}
 use Rattle.plan_check.specs.Effects.{without_puts, served_puts}
-use Rattle.plan_check.specs.Firm.{mirror_has, IsTwice, IsFirm, IsFirmEnough, Holding}
+use Rattle.plan_check.specs.Firm.{IsTwice, Holding}
 use Rattle.plan_check.specs.Reached.{Reached}
 use Rattle.plan_check.proofs.Lasting.{Extends}
 use Rattle.plan_check.proofs.Filling.{served_more, served_owner, served_mirror, at_mirror_more, at_mirror, some_more, kept_or_gone}
 use Rattle.plan_check.proofs.Serial.{acked_exists, ticket_exists, current_ticket, is_current_by}
-use Rattle.plan_check.proofs.Standing.{SlotKeeps, Keeps, twice_stays, firm_stays, same_slot}
+use Rattle.plan_check.proofs.Standing.{SlotKeeps, KeepsFirm, TicketsAreDue, AcksAreDue, twice_stays, firm_stays, same_slot}
 use Rattle.plan_stage.proofs.Truth.{either, first_of_two, second_of_two}
 
 -- ---- tickets and acknowledged puts
 
 -- current tickets are of puts at owner and mirror where generations only rise, and where they stay what is at both stays so
-pub tickets_keep : (ring : RingValue) (plan : List Planned) (w u : World) → Reached ring plan w → Holding ring plan w → Extends w u → ((s : Slot) → generation plan w s ≤ generation plan u s)
+pub tickets_keep : (ring : RingValue) (plan : List Planned) (w u : World) → Reached ring plan w → Holding ring plan w → Extends w u
+    → ((s : Slot) → generation plan w s ≤ generation plan u s)
     → ((s : Slot) (v : ℕ) → generation plan u s ≡ generation plan w s → IsTwice ring plan w v s → IsTwice ring plan u v s)
-    → ((v i g : ℕ) → ticket_of u v i ≡ Some g → (ticket_of w v i ≡ Some g) ⊎ IsTwice ring plan u v (put_slot ring u v i))
-    → (v i : ℕ) → v < length u.puts → is_current ring plan u v i ≡ true → IsTwice ring plan u v (put_slot ring u v i)
+    → TicketsAreDue ring plan w u → (v i : ℕ) → v < length u.puts → is_current ring plan u v i ≡ true → IsTwice ring plan u v (put_slot ring u v i)
 tickets_keep ring plan w u r h x rises twice tickets v i l e = elim (tickets v i (generation plan u (put_slot ring u v i)) (current_ticket ring plan u v i e)) [
   | inr t ↦ t
   | inl old ↦ (
       let exists : v < length w.puts = ticket_exists w.puts v i (generation plan u (put_slot ring u v i)) old in
       let same : put_slot ring u v i ≡ put_slot ring w v i = same_slot ring w u v i x exists in
       let moved : generation plan u (put_slot ring u v i) ≡ generation plan u (put_slot ring w v i) = ap (λ (s : Slot). generation plan u s) same in
-      let most : generation plan u (put_slot ring u v i) ≤ generation plan w (put_slot ring w v i) = (r.tickets v i (generation plan u (put_slot ring u v i)) old).1 in
+      let most : generation plan u (put_slot ring u v i) ≤ generation plan w (put_slot ring w v i) =
+      (r.tickets v i (generation plan u (put_slot ring u v i)) old).1 in
       let least : generation plan w (put_slot ring w v i) ≤ generation plan u (put_slot ring w v i) = rises (put_slot ring w v i) in
       let equal : generation plan u (put_slot ring w v i) ≡ generation plan w (put_slot ring w v i) = omega arith in
       let current : is_current ring plan w v i ≡ true = is_current_by ring plan w v i (old ∙ ap (λ (g : ℕ). Some g) (moved ∙ equal)) in
@@ -40,15 +39,15 @@ tickets_keep ring plan w u r h x rises twice tickets v i l e = elim (tickets v i
 
 -- ---- events that are about no step and no chunk
 
--- where every slot goes on to have what it had, and only tickets and acknowledgements come that are due
-pub quiet_keeps : (ring : RingValue) (plan : List Planned) (w : World) (o a : ℕ → Bool) (ps : List PutRecord) (gs : List GetRecord) (b f : ℕ → Slot → ℕ → Bool) → Reached ring plan w → Holding ring plan w
-    → Extends w (record w { is_open = o; up = a; puts = ps; gets = gs; stored = b; hinted = f })
-    → ((s : Slot) → SlotKeeps ring plan w (record w { is_open = o; up = a; puts = ps; gets = gs; stored = b; hinted = f }) s)
-    → ((v i g : ℕ) → ticket_of (record w { is_open = o; up = a; puts = ps; gets = gs; stored = b; hinted = f }) v i ≡ Some g
-        → (ticket_of w v i ≡ Some g) ⊎ IsTwice ring plan (record w { is_open = o; up = a; puts = ps; gets = gs; stored = b; hinted = f }) v (put_slot ring (record w { is_open = o; up = a; puts = ps; gets = gs; stored = b; hinted = f }) v i))
-    → ((v : ℕ) → is_acked (record w { is_open = o; up = a; puts = ps; gets = gs; stored = b; hinted = f }) v ≡ true
-        → (is_acked w v ≡ true) ⊎ IsFirmEnough ring plan (record w { is_open = o; up = a; puts = ps; gets = gs; stored = b; hinted = f }) v)
-    → Keeps ring plan w (record w { is_open = o; up = a; puts = ps; gets = gs; stored = b; hinted = f })
+-- with other open copies, other nodes up, and other puts, gets and stores
+abbrev pub quiet : World → (ℕ → Bool) → (ℕ → Bool) → List PutRecord → List GetRecord → (ℕ → Slot → ℕ → Bool) → (ℕ → Slot → ℕ → Bool) → World
+quiet w o a ps gs b f = record w { is_open = o; up = a; puts = ps; gets = gs; stored = b; hinted = f }
+
+-- all is kept where every slot goes on to have what it had, and only tickets and acknowledgements come that are due
+pub quiet_keeps : (ring : RingValue) (plan : List Planned) (w : World) (o a : ℕ → Bool) (ps : List PutRecord) (gs : List GetRecord)
+    (b f : ℕ → Slot → ℕ → Bool) → Reached ring plan w → Holding ring plan w → Extends w (quiet w o a ps gs b f)
+    → ((s : Slot) → SlotKeeps ring plan w (quiet w o a ps gs b f) s) → TicketsAreDue ring plan w (quiet w o a ps gs b f)
+    → AcksAreDue ring plan w (quiet w o a ps gs b f) → KeepsFirm ring plan w (quiet w o a ps gs b f)
 quiet_keeps ring plan w o a ps gs b f r h x slots tickets acked = record {
   extends = x;
   losses = refl;
@@ -58,12 +57,13 @@ quiet_keeps ring plan w o a ps gs b f r h x slots tickets acked = record {
 }
   where
     u : World
-    u = record w { is_open = o; up = a; puts = ps; gets = gs; stored = b; hinted = f }
+    u = quiet w o a ps gs b f
 
 -- ---- what slots have
 
 -- nodes store and keep what they did, and maybe more
-pub more_slots : (ring : RingValue) (plan : List Planned) (w : World) (o a : ℕ → Bool) (m : ℕ → ℕ → Bool) (ps : List PutRecord) (gs : List GetRecord) (b f : ℕ → Slot → ℕ → Bool)
+pub more_slots : (ring : RingValue) (plan : List Planned) (w : World) (o a : ℕ → Bool) (m : ℕ → ℕ → Bool) (ps : List PutRecord) (gs : List GetRecord)
+    (b f : ℕ → Slot → ℕ → Bool)
     → ((y : ℕ) (t : Slot) (v : ℕ) → w.stored y t v ≡ true → b y t v ≡ true) → ((y : ℕ) (t : Slot) (v : ℕ) → w.hinted y t v ≡ true → f y t v ≡ true)
     → (s : Slot) → SlotKeeps ring plan w (record w { is_open = o; marked = m; up = a; puts = ps; gets = gs; stored = b; hinted = f }) s
 more_slots ring plan w o a m ps gs b f stored hinted s = record {
@@ -73,7 +73,9 @@ more_slots ring plan w o a m ps gs b f stored hinted s = record {
   ];
   alone = λ e. e;
   mirrored = λ x is v e. elim (either (elim mirror [ Some z ↦ w.stored z.0 s v | None ↦ false ]) (some_hinted ring w s v) e) [
-    | inl g ↦ first_of_two (elim mirror [ Some z ↦ b z.0 s v | None ↦ false ]) (some_below (length ring.nodes) (λ y. f y s v)) (at_mirror_more mirror (λ y. w.stored y s v) (λ y. b y s v) (λ y i d. stored y.0 s v d) g)
+    | inl g ↦
+        first_of_two (elim mirror [ Some z ↦ b z.0 s v | None ↦ false ]) (some_below (length ring.nodes) (λ y. f y s v))
+        (at_mirror_more mirror (λ y. w.stored y s v) (λ y. b y s v) (λ y i d. stored y.0 s v d) g)
     | inr g ↦ second_of_two (elim mirror [ Some z ↦ b z.0 s v | None ↦ false ]) (some_below (length ring.nodes) (λ y. f y s v)) (kept v g)
   ];
 }
@@ -94,13 +96,17 @@ handed_slots ring plan w x s t = record {
   held = λ v e. elim (either (w.stored owner t v) (some_hinted ring w t v) e) [
     | inl g ↦ first_of_two (b owner t v) (kept v) (served_more ring plan w s (w.hinted x.0 s) owner t v g)
     | inr g ↦ elim (kept_or_gone (length ring.nodes) w.hinted x s t v g) [
-      | inl d ↦ first_of_two (b owner t v) (kept v) (subst (λ (z : Slot). b (stage_now ring plan w z).owner.0 z v ≡ true) (sym d.0) (served_owner ring plan w s (w.hinted x.0 s) v d.1))
+      | inl d ↦
+          first_of_two (b owner t v) (kept v) (subst (λ (z : Slot). b (stage_now ring plan w z).owner.0 z v ≡ true) (sym d.0)
+          (served_owner ring plan w s (w.hinted x.0 s) v d.1))
       | inr d ↦ second_of_two (b owner t v) (kept v) d
     ]
   ];
   alone = λ e. e;
   mirrored = λ y is v e. elim (either (elim mirror [ Some z ↦ w.stored z.0 t v | None ↦ false ]) (some_hinted ring w t v) e) [
-    | inl g ↦ first_of_two (elim mirror [ Some z ↦ b z.0 t v | None ↦ false ]) (kept v) (at_mirror_more mirror (λ z. w.stored z t v) (λ z. b z t v) (λ z i d. served_more ring plan w s (w.hinted x.0 s) z.0 t v d) g)
+    | inl g ↦
+        first_of_two (elim mirror [ Some z ↦ b z.0 t v | None ↦ false ]) (kept v)
+        (at_mirror_more mirror (λ z. w.stored z t v) (λ z. b z t v) (λ z i d. served_more ring plan w s (w.hinted x.0 s) z.0 t v d) g)
     | inr g ↦ elim (kept_or_gone (length ring.nodes) w.hinted x s t v g) [
       | inl d ↦ first_of_two (elim mirror [ Some z ↦ b z.0 t v | None ↦ false ]) (kept v) (at_mirror mirror (λ z. b z t v) y is (at_it y v (d.0) is d.1))
       | inr d ↦ second_of_two (elim mirror [ Some z ↦ b z.0 t v | None ↦ false ]) (kept v) d

@@ -1,6 +1,6 @@
 -- What a step that is done makes of the stages of slots.
-use Rattle.std.proofs.Common.{◌≡◌, ◌∙◌, ℕ, suc, ◌+◌, ◌<◌, ◌≤◌, inl, inr, Bool, true, false, List, length, get_or, Option, Some, None, refl, sym, ap, subst, arith, add-one}
-use Rattle.std.specs.Prelude.{◌==◌, slice_get, option_map}
+use Rattle.std.proofs.Common.{◌≡◌, ◌∙◌, ℕ, suc, ◌+◌, inl, inr, Bool, true, false, List, get_or, Option, Some, None, refl, sym, ap, subst, arith, add-one}
+use Rattle.std.specs.Prelude.{slice_get, option_map}
 use Rattle.std.proofs.lemmas.Bool.Decides.{eqb_tells}
 use Rattle.ring_names.specs.Lists.{has}
 use Rattle.ring_names.specs.declared.ids.Slot.{Slot}
@@ -8,7 +8,7 @@ use Rattle.ring_table.specs.Value.{RingValue}
 use Rattle.plan_text.specs.declared.step.Step.{Step}
 use Rattle.plan_text.specs.declared.step.Planned.{Planned}
 use Rattle.plan_text.specs.Steps.{steps_of, is_on}
-use Rattle.plan_stage.specs.Stage.{stage, after, next, fits, fits_at}
+use Rattle.plan_stage.specs.Stage.{stage, next, fits}
 use Rattle.plan_stage.specs.Each.{step_at}
 use Rattle.plan_stage.proofs.Stages.{after-next, fits_at-fits, stage-more}
 use Rattle.plan_check.specs.World.{count}
@@ -39,18 +39,29 @@ count_left D n ss out = count_same D (with_number D n) ss (λ m i. elim (eqb_tel
   | inr t ↦ rw t.0 refl
 ])
 
-mapped : (o : Option Planned) (t : Step) → (elim o as (λ _. Option Step) [ Some z ↦ Some z.step | None ↦ None ]) ≡ Some t → option_map (λ (z : Planned). z.step) o ≡ Some t
+-- the step of a number, read in two ways
+mapped : (o : Option Planned) (t : Step) → (elim o as (λ _. Option Step) [ Some z ↦ Some z.step | None ↦ None ]) ≡ Some t
+    → option_map (λ (z : Planned). z.step) o ≡ Some t
 mapped None t e = absurd cc
 mapped (Some z) t e = e
 
 -- the stage after a step of the slot that is done now, and that the step fits the one before it
-pub stage_done : (ring : RingValue) (plan : List Planned) → Known ring plan → (D : ℕ → Bool) (n : ℕ) (t : Step) (slot : Slot) → Closed plan D → Ready plan D n → D n ≡ false → step_at plan n ≡ Some t → is_on slot t ≡ true
-    → (stage ring plan slot (count (with_number D n) (steps_of plan slot)) ≡ next (stage ring plan slot (count D (steps_of plan slot))) t) × (fits (stage ring plan slot (count D (steps_of plan slot))) t ≡ true)
+pub stage_done : (ring : RingValue) (plan : List Planned) → Known ring plan → (D : ℕ → Bool) (n : ℕ) (t : Step) (slot : Slot) → Closed plan D
+    → Ready plan D n → D n ≡ false → step_at plan n ≡ Some t → is_on slot t ≡ true
+    → (stage ring plan slot (count (with_number D n) (steps_of plan slot)) ≡ next (stage ring plan slot (count D (steps_of plan slot))) t)
+    × (fits (stage ring plan slot (count D (steps_of plan slot))) t ≡ true)
 stage_done ring plan k D n t slot c y off at on =
     let ss = steps_of plan slot in
     let p = found n ss (has_step plan slot n t at on) in
-    let e = one_more D n p.0 ss (rises ring plan k slot) (down ring plan k D c slot) (down ring plan k (with_number D n) (closed_with plan D n c y) slot) off p.1 p.2 in
-    let is : option_map (λ (z : Planned). z.step) (slice_get plan (get_or ss p.0 0)) ≡ Some t = mapped (slice_get plan (get_or ss p.0 0)) t (ap (step_at plan) p.2 ∙ at) in
-    let more : stage ring plan slot (suc p.0) ≡ next (stage ring plan slot p.0) t = ap (stage ring plan slot) (sym (add-one p.0)) ∙ stage-more ring plan slot p.0 p.1 ∙ after-next plan (stage ring plan slot p.0) (get_or ss p.0 0) t is in
-    let fit : fits (stage ring plan slot p.0) t ≡ true = sym (fits_at-fits plan (stage ring plan slot p.0) (get_or ss p.0 0) t is) ∙ k.meets.staged slot p.0 p.1 in
-    (ap (stage ring plan slot) e.1 ∙ more ∙ ap (λ (j : ℕ). next (stage ring plan slot j) t) (sym e.0), ap (λ (j : ℕ). fits (stage ring plan slot j) t) e.0 ∙ fit)
+    let e = one_more D n p.0 ss (rises ring plan k slot) (down ring plan k D c slot) (down ring plan k (with_number D n) (closed_with plan D n c y) slot) off
+    p.1 p.2 in
+    let is : option_map (λ (z : Planned). z.step) (slice_get plan (get_or ss p.0 0)) ≡ Some t = mapped (slice_get plan (get_or ss p.0 0)) t
+    (ap (step_at plan) p.2 ∙ at) in
+    let more : stage ring plan slot (suc p.0) ≡ next (stage ring plan slot p.0) t = ap (stage ring plan slot) (sym (add-one p.0)) ∙ stage-more ring plan slot
+    p.0 p.1 ∙ after-next plan (stage ring plan slot p.0) (get_or ss p.0 0) t is in
+    let fit : fits (stage ring plan slot p.0) t ≡ true = sym (fits_at-fits plan (stage ring plan slot p.0) (get_or ss p.0 0) t is) ∙ k.meets.staged slot p.0
+    p.1 in (
+      ap (stage ring plan slot) e.1 ∙ more ∙ ap (λ (j : ℕ). next (stage ring plan slot j) t) (sym e.0),
+      ap (λ (j : ℕ). fits (stage ring plan slot j) t) e.0
+          ∙ fit,
+    )

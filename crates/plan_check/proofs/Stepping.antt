@@ -1,12 +1,11 @@
 -- A step that is done keeps what is held at each slot.
-use Rattle.std.proofs.Common.{◌≡◌, ◌⊎◌, inl, inr, ◌∙◌, ℕ, ◌+◌, ◌<◌, ◌≤◌, Bool, true, false, not, List, length, Option, Some, None, refl, sym, ap, subst, arith}
-use Rattle.std.specs.Prelude.{◌==◌, ◌&&◌, ◌||◌, ◌%◌, is_some, unwrap_or, option_and_then}
+use Rattle.std.proofs.Common.{◌≡◌, inl, inr, ◌∙◌, ℕ, ◌<◌, Bool, true, false, List, length, Option, Some, None, refl, sym, ap, subst, arith}
+use Rattle.std.specs.Prelude.{◌&&◌, ◌%◌, is_some, unwrap_or, option_and_then}
 use Rattle.std.proofs.lemmas.Bool.{and_parts}
 use Rattle.ring_names.specs.Lists.{has}
 use Rattle.ring_names.specs.declared.ids.NodeId.{NodeId}
 use Rattle.ring_names.specs.declared.ids.Slot.{Slot}
 use Rattle.ring_table.specs.Value.{RingValue}
-use Rattle.plan_text.specs.declared.step.Source.{Source}
 use Rattle.plan_text.specs.declared.step.Step.{Step}
 use Rattle.plan_text.specs.declared.step.Step.TheVariants.{Join, Mirror, Copy, Switch, Drop, Retire}
 use Rattle.plan_text.specs.declared.step.Planned.{Planned}
@@ -15,8 +14,8 @@ use Rattle.plan_stage.specs.declared.stage.Stage.{Stage}
 use Rattle.plan_stage.specs.Stage.{stage, is_among, switched}
 use Rattle.plan_stage.specs.Each.{step_at}
 use Rattle.plan_check.specs.World.{World, count, stage_now, mirror_at, mirrors_done, generation}
-use Rattle.plan_check.specs.Versions.{slot_has, some_hinted, IsHeld}
-use Rattle.plan_check.specs.Firm.{IsGiven, mirror_has, IsMirrored, IsTwice, chunk_of_put, IsFirm}
+use Rattle.plan_check.specs.Versions.{slot_has, some_hinted}
+use Rattle.plan_check.specs.Firm.{mirror_has, IsMirrored, IsTwice, chunk_of_put, IsFirm}
 use Rattle.plan_check.specs.Occupies.{IsGoodStage, IsGoodMirror}
 use Rattle.plan_check.specs.Reached.{Ready, Reached}
 use Rattle.plan_check.proofs.Entering.{with_done}
@@ -29,7 +28,7 @@ use Rattle.plan_check.proofs.Mirrored.{Known, down}
 use Rattle.plan_check.proofs.Numbering.{mirrors_left, mirrors_up}
 use Rattle.plan_check.proofs.Prefix.{prefix}
 use Rattle.plan_check.proofs.Staging.{has_step, on_it, count_left, stage_done}
-use Rattle.plan_check.proofs.Standing.{Successor, SlotKeeps, held_stays, mirrored_by, twice_stays, firm_stays}
+use Rattle.plan_check.proofs.Standing.{SlotKeeps, held_stays, mirrored_by, twice_stays, firm_stays}
 use Rattle.plan_check.proofs.Suited.{step-within}
 use Rattle.plan_stage.proofs.Truth.{either, first_of_two, second_of_two, slot-same}
 
@@ -38,31 +37,43 @@ pub record Goes (ring : RingValue) (plan : List Planned) (w u : World) (s : Slot
   pub twice : (v : ℕ) → generation plan u s ≡ generation plan w s → IsTwice ring plan w v s → IsTwice ring plan u v s
   pub firm : (v : ℕ) → v < length w.puts → IsFirm ring plan w v s → IsFirm ring plan u v s
 
+-- a mirror that is there
 some_of : (o : Option NodeId) → is_some o ≡ true → (m : NodeId) × (o ≡ Some m)
 some_of None e = absurd cc
 some_of (Some m) e = (m, refl)
 
+-- a chunk's number is below 16
 below_sixteen : (x : ℕ) → x % 16 < 16
 below_sixteen x = omega arith
 
 -- step n, new and ready, is done, and nodes store b
-module _ (ring : RingValue) (plan : List Planned) (k : Known ring plan) (w : World) (n : ℕ) (o a : ℕ → Bool) (b : ℕ → Slot → ℕ → Bool) (r : Reached ring plan w) (x : Extends w (with_done w n o a b)) (y : Ready plan w.done n) (off : w.done n ≡ false) where
+module _ (ring : RingValue) (plan : List Planned) (k : Known ring plan) (w : World) (n : ℕ) (o a : ℕ → Bool) (b : ℕ → Slot → ℕ → Bool)
+    (r : Reached ring plan w) (x : Extends w (with_done w n o a b)) (y : Ready plan w.done n) (off : w.done n ≡ false) where
+  -- the world after it
   abbrev u : World
   u = with_done w n o a b
 
+  -- the slot's stage before
   abbrev was : Slot → Stage
   was s = stage_now ring plan w s
 
+  -- and after
   abbrev is : Slot → Stage
   is s = stage_now ring plan u s
 
-  -- the slot keeps its owner and its mirror, and these what they had
-  still : (s : Slot) → (is s).owner ≡ (was s).owner → (is s).mirror ≡ (was s).mirror → ((z : ℕ) → Served (was s) z → (v : ℕ) → w.stored z s v ≡ true → b z s v ≡ true) → SlotKeeps ring plan w u s
+  -- the slot keeps its owner, and the owner what it had
+  owned : (s : Slot) → (is s).owner ≡ (was s).owner → ((v : ℕ) → w.stored (was s).owner.0 s v ≡ true → b (was s).owner.0 s v ≡ true)
+      → (v : ℕ) → slot_has ring plan w s v ≡ true → slot_has ring plan u s v ≡ true
+  owned s owner kept v e = elim (either (w.stored (was s).owner.0 s v) (some_hinted ring w s v) e) [
+    | inl g ↦ first_of_two (b (is s).owner.0 s v) (some_hinted ring w s v) (subst (λ (z : NodeId). b z.0 s v ≡ true) (sym owner) (kept v g))
+    | inr g ↦ second_of_two (b (is s).owner.0 s v) (some_hinted ring w s v) g
+  ]
+
+  -- its mirror too
+  still : (s : Slot) → (is s).owner ≡ (was s).owner → (is s).mirror ≡ (was s).mirror
+      → ((z : ℕ) → Served (was s) z → (v : ℕ) → w.stored z s v ≡ true → b z s v ≡ true) → SlotKeeps ring plan w u s
   still s owner mirror kept = record {
-    held = λ v e. elim (either (w.stored (was s).owner.0 s v) (some_hinted ring w s v) e) [
-      | inl g ↦ first_of_two (b (is s).owner.0 s v) (some_hinted ring w s v) (subst (λ (z : NodeId). b z.0 s v ≡ true) (sym owner) (kept (was s).owner.0 (inl refl) v g))
-      | inr g ↦ second_of_two (b (is s).owner.0 s v) (some_hinted ring w s v) g
-    ];
+    held = owned s owner (kept (was s).owner.0 (inl refl));
     alone = λ e. mirror ∙ e;
     mirrored = λ m e v f. elim (either (elim (was s).mirror [ Some z ↦ w.stored z.0 s v | None ↦ false ]) (some_hinted ring w s v) f) [
       | inl g ↦ first_of_two (elim (is s).mirror [ Some z ↦ b z.0 s v | None ↦ false ]) (some_hinted ring w s v)
@@ -86,12 +97,15 @@ module _ (ring : RingValue) (plan : List Planned) (k : Known ring plan) (w : Wor
       (mirrors_left plan w.done n s (λ h. absurd (out h)))
 
   -- a mirror begins: no ticket of the slot is current, and no chunk is given
-  begun : (s t : Slot) (m : NodeId) → step_at plan n ≡ Some (Mirror t m) → is_on s (Mirror t m) ≡ true → ((z v : ℕ) → w.stored z s v ≡ true → b z s v ≡ true) → Goes ring plan w u s
+  begun : (s t : Slot) (m : NodeId) → step_at plan n ≡ Some (Mirror t m) → is_on s (Mirror t m) ≡ true → ((z v : ℕ) → w.stored z s v ≡ true → b z s v ≡ true)
+      → Goes ring plan w u s
   begun s t m at on kept = record {
     twice = λ v e f. absurd (let l = mirrors_up plan w.done n s inside off is_mirror in omega arith);
     firm = λ v l f. (
-      held_stays ring plan w u s r x held v f.0,
-      λ g. absurd (none_given ring plan k w.done w.marked n g.0 (chunk_of_put ring u v) s g.1 r.closed (λ c d e. (r.copies.marks c d e).2) off inside is_mirror g.2 g.3 g.4));
+      held_stays ring plan w u s r x (owned s owner (kept (was s).owner.0)) v f.0,
+      λ g. absurd (none_given ring plan k w.done w.marked n g.0 (chunk_of_put ring u v) s g.1 r.closed (λ c d e. (r.copies.marks c d e).2) off inside
+          is_mirror g.2 g.3 g.4),
+    );
   }
     where
       inside : has n (steps_of plan s) ≡ true
@@ -103,17 +117,13 @@ module _ (ring : RingValue) (plan : List Planned) (k : Known ring plan) (w : Wor
       owner : (is s).owner ≡ (was s).owner
       owner = ap (λ (c : Stage). c.owner) (stage_done ring plan k w.done n (Mirror t m) s r.closed y off at on).0
 
-      held : (v : ℕ) → slot_has ring plan w s v ≡ true → slot_has ring plan u s v ≡ true
-      held v e = elim (either (w.stored (was s).owner.0 s v) (some_hinted ring w s v) e) [
-        | inl g ↦ first_of_two (b (is s).owner.0 s v) (some_hinted ring w s v) (subst (λ (z : NodeId). b z.0 s v ≡ true) (sym owner) (kept (was s).owner.0 v g))
-        | inr g ↦ second_of_two (b (is s).owner.0 s v) (some_hinted ring w s v) g
-      ]
-
   -- the mirror becomes the owner: all chunks were given to it
-  switched_over : (s t : Slot) → step_at plan n ≡ Some (Switch t) → is_on s (Switch t) ≡ true → ((z v : ℕ) → w.stored z s v ≡ true → b z s v ≡ true) → Goes ring plan w u s
+  switched_over : (s t : Slot) → step_at plan n ≡ Some (Switch t) → is_on s (Switch t) ≡ true → ((z v : ℕ) → w.stored z s v ≡ true → b z s v ≡ true)
+      → Goes ring plan w u s
   switched_over s t at on kept = record {
     twice = λ v e f. over v f.1;
-    firm = λ v l f. (let g = over v (f.1 (copied_given ring plan k w s (chunk_of_put ring w v) r.closed r.copies fit.1 (below_sixteen _))) in (g.0, λ h. g.1));
+    firm =
+        λ v l f. (let g = over v (f.1 (copied_given ring plan k w s (chunk_of_put ring w v) r.closed r.copies fit.1 (below_sixteen _))) in (g.0, λ h. g.1));
   }
     where
       done : (is s ≡ switched (was s)) × ((is_some (was s).mirror && (was s).copied) ≡ true)
@@ -133,7 +143,9 @@ module _ (ring : RingValue) (plan : List Planned) (k : Known ring plan) (w : Wor
 
       moved : (v : ℕ) → mirror_has ring plan w s v ≡ true → slot_has ring plan u s v ≡ true
       moved v e = elim (either (elim (was s).mirror [ Some z ↦ w.stored z.0 s v | None ↦ false ]) (some_hinted ring w s v) e) [
-        | inl g ↦ first_of_two (b (is s).owner.0 s v) (some_hinted ring w s v) (subst (λ (z : NodeId). b z.0 s v ≡ true) (sym owner) (kept m.0.0 v (from_mirror (was s).mirror (λ z. w.stored z s v) m.0 m.1 g)))
+        | inl g ↦ (
+            let there = kept m.0.0 v (from_mirror (was s).mirror (λ z. w.stored z s v) m.0 m.1 g) in
+            first_of_two (b (is s).owner.0 s v) (some_hinted ring w s v) (subst (λ (z : NodeId). b z.0 s v ≡ true) (sym owner) there))
         | inr g ↦ second_of_two (b (is s).owner.0 s v) (some_hinted ring w s v) g
       ]
 
@@ -142,18 +154,20 @@ module _ (ring : RingValue) (plan : List Planned) (k : Known ring plan) (w : Wor
       over v (inr f) = (mirrored_by ring plan w u s r x v (slot_has ring plan u s) moved f, inl alone)
 
   -- no node that serves the slot has to drop what it holds of it
-  no_leftover : (s : Slot) (m : NodeId) (z : ℕ) → s.partition < ring.q → s.index < ring.n → is_among m (was s).leftovers ≡ true → Served (was s) z → z ≡ m.0 → ⊥
+  no_leftover : (s : Slot) (m : NodeId) (z : ℕ) → s.partition < ring.q → s.index < ring.n → is_among m (was s).leftovers ≡ true → Served (was s) z → z ≡ m.0
+      → ⊥
   no_leftover s m z p i among served same =
       let le = (prefix w.done (steps_of plan s) (down ring plan k w.done r.closed s)).within in
       let good : IsGoodStage (was s) = good-stages ring plan s (λ q f g. k.meets.staged q) p i (count w.done (steps_of plan s)) le in
-      let is_one : is_among (record { 0 = z }) (was s).leftovers ≡ true = subst (λ (q : ℕ). is_among (record { 0 = q }) (was s).leftovers ≡ true) (sym same) among in
+      let listed : is_among (record { 0 = z }) (was s).leftovers ≡ true = subst (λ (q : ℕ). is_among (record { 0 = q }) (was s).leftovers ≡ true) (sym same) among in
       elim served [
-        | inl e ↦ (let f : is_among (record { 0 = z }) (was s).leftovers ≡ false = subst (λ (q : ℕ). is_among (record { 0 = q }) (was s).leftovers ≡ false) (sym e) good.0 in cc)
+        | inl e ↦ (let f = subst (λ (q : ℕ). is_among (record { 0 = q }) (was s).leftovers ≡ false) (sym e) good.0 in cc)
         | inr e ↦ (let f = (subst (λ (q : Option NodeId). IsGoodMirror (was s) q) e good.1).1 in cc)
       ]
 
   -- the step is on the slot
-  here : (t : Step) (s : Slot) → step_at plan n ≡ Some t → is_on s t ≡ true → ((z v : ℕ) → ((m : NodeId) → t ≡ Drop s m → z ≡ m.0 → ⊥) → w.stored z s v ≡ true → b z s v ≡ true) → Goes ring plan w u s
+  here : (t : Step) (s : Slot) → step_at plan n ≡ Some t → is_on s t ≡ true
+      → ((z v : ℕ) → ((m : NodeId) → t ≡ Drop s m → z ≡ m.0 → ⊥) → w.stored z s v ≡ true → b z s v ≡ true) → Goes ring plan w u s
   here (Join m) s at on kept = absurd cc
   here (Mirror t m) s at on kept = begun s t m at on (λ z v e. kept z v (λ q f. absurd cc) e)
   here (Copy t from) s at on kept =
@@ -165,14 +179,17 @@ module _ (ring : RingValue) (plan : List Planned) (k : Known ring plan) (w : Wor
       let d = stage_done ring plan k w.done n (Drop t m) s r.closed y off at on in
       let i = step-within ring plan k.meets.suits s n (Drop t m) at on in
       keeping s (still s (ap (λ (c : Stage). c.owner) d.0) (ap (λ (c : Stage). c.mirror) d.0)
-          (λ z g v e. kept z v (λ q f h. no_leftover s m z i.0 i.1 d.1 g (h ∙ (let j : m ≡ q = cc in ap (λ (c : NodeId). c.0) (sym j)))) e))
+      (λ z g v e. kept z v (λ q f h. no_leftover s m z i.0 i.1 d.1 g (h ∙ (let j : m ≡ q = cc in ap (λ (c : NodeId). c.0) (sym j)))) e))
       (mirrors_left plan w.done n s (λ h. ap (λ (q : Option Step). is_some (option_and_then mirror_of q)) at))
   here (Retire m) s at on kept = absurd cc
 
   -- so at every slot
-  pub stepped : (t : Step) → step_at plan n ≡ Some t → ((s : Slot) (z v : ℕ) → ((m : NodeId) → t ≡ Drop s m → z ≡ m.0 → ⊥) → w.stored z s v ≡ true → b z s v ≡ true) → (s : Slot) → Goes ring plan w u s
+  pub stepped : (t : Step) → step_at plan n ≡ Some t
+      → ((s : Slot) (z v : ℕ) → ((m : NodeId) → t ≡ Drop s m → z ≡ m.0 → ⊥) → w.stored z s v ≡ true → b z s v ≡ true) → (s : Slot) → Goes ring plan w u s
   stepped t at kept s = by (is_on s t) refl
     where
       by : (c : Bool) → is_on s t ≡ c → Goes ring plan w u s
       by true on = here t s at on (kept s)
-      by false on = elsewhere s (λ h. (let e = on_it plan s n t at h in absurd cc)) (λ z v e. kept s z v (λ m f g. (let h = ap (is_on s) f in let i = slot-same s in absurd cc)) e)
+      by false on =
+          elsewhere s (λ h. (let e = on_it plan s n t at h in absurd cc))
+          (λ z v e. kept s z v (λ m f g. (let h = ap (is_on s) f in let i = slot-same s in absurd cc)) e)

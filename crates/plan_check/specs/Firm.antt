@@ -19,7 +19,8 @@ mirrors_before plan slot n = count (λ s. nat_lt s n && is_some (mirror_at plan 
 
 -- some copy of the slot has the chunk marked, and no mirror of the slot has begun since
 abbrev pub IsGiven : List Planned → World → Slot → ℕ → Type 0
-IsGiven plan w slot c = (n : ℕ) × (from : Source) × (copy_at plan n ≡ Some (slot, from)) × (w.marked n c ≡ true) × (mirrors_before plan slot n ≡ mirrors_done plan w slot)
+IsGiven plan w slot c =
+    (n : ℕ) × (from : Source) × (copy_at plan n ≡ Some (slot, from)) × (w.marked n c ≡ true) × (mirrors_before plan slot n ≡ mirrors_done plan w slot)
 
 -- whether the mirror of the slot has the put, or a hint for the slot has it
 abbrev pub mirror_has : RingValue → List Planned → World → Slot → ℕ → Bool

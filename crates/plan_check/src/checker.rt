@@ -11,9 +11,7 @@ ghost use Rattle.plan_check.specs.Certified.{IsCertified};
 ghost use Rattle.plan_check.specs.First.{fact_clauses, rest_clauses, all_clauses, first_refusal};
 
 use crate::approval::{Approved, Turned};
-use crate::laws::{
-    certified_is_sound, first_is_none_where_certified, sound_plans_keep_promises,
-};
+use crate::laws::{certified_is_sound, first_is_none_where_certified, sound_plans_keep_promises};
 use plan_cert::Cert;
 use plan_cover::check_nodes;
 use plan_order::Facts;

@@ -13,7 +13,7 @@ pub use event::{Entry, Event, Reply};
 pub use laws::{
     certified_is_sound, finished_steps_come_first, first_is_none_where_certified,
     groups_stay_apart, holding_is_tested, migration_changes_no_refusal, quorums_meet, runs_reach,
-    runs_split, servers_occupy, stages_are_good, succession_is_of_causes, succession_is_tested,
-    sound_plans_keep_promises, transfers_stay_few,
+    runs_split, servers_occupy, sound_plans_keep_promises, stages_are_good,
+    succession_is_of_causes, succession_is_tested, transfers_stay_few,
 };
 pub use words::{Key, Seen};
