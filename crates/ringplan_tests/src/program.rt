@@ -33,6 +33,7 @@ fn helps_printed(rt: HostRuntime) -> Result<(), Fail> {
     told(&rt, &["ringplan", "--help", "-h"], 0, "migrate")?;
     told(&rt, &["ringplan", "migrate", "-h"], 0, "checks nothing")?;
     told(&rt, &["ringplan", "check", "--help"], 0, "Exit status")?;
+    told(&rt, &["ringplan", "play", "--help"], 0, "for each event")?;
     told(&rt, &["ringplan", "help", "check"], 0, "Exit status")
 }
 
