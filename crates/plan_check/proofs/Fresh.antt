@@ -1,4 +1,4 @@
--- In every run of a sound plan a get sees the puts of its key that were acknowledged before it started.
+-- What a get that is under way has read shows the puts of its key that were acknowledged before it started.
 use Rattle.std.proofs.Common.{◌≡◌, inl, inr, ◌∙◌, ℕ, zero, suc, ◌+◌, ◌<◌, ◌≤◌, Bool, true, false, List, [], ◌∷◌, length, Some, refl, sym, subst, arith}
 use Rattle.std.specs.Prelude.{◌&&◌}
 use Rattle.std.specs.Str.{bytes_eq}

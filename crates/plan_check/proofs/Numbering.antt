@@ -1,6 +1,6 @@
 -- How many mirrors of a slot are finished, and how many are in front of a step.
-use Rattle.std.proofs.Common.{◌≡◌, inl, inr, ℕ, ◌+◌, ◌<◌, ◌≤◌, Bool, true, false, cond, List, [], ◌∷◌, get_or, refl, sym, ap, subst, arith, ltb-true}
-use Rattle.std.proofs.Common.{eqb-true, eq-eqb}
+use Rattle.std.proofs.Common.{◌≡◌, inl, inr, ℕ, ◌<◌, ◌≤◌, Bool, true, false, List, get_or, refl, sym, ap, subst, arith, ltb-true}
+use Rattle.std.proofs.Common.{eq-eqb}
 use Rattle.std.specs.Prelude.{◌==◌, ◌&&◌, nat_lt, is_some}
 use Rattle.std.proofs.lemmas.Bool.{and_parts}
 use Rattle.std.proofs.lemmas.Bool.Decides.{eqb_tells}
@@ -14,45 +14,10 @@ use Rattle.plan_check.specs.World.{count, mirror_at}
 use Rattle.plan_check.specs.Effects.{with_number}
 use Rattle.plan_check.specs.Firm.{mirrors_before}
 use Rattle.plan_check.specs.Reached.{Ready, Closed}
-use Rattle.plan_check.proofs.Prefix.{order, found, rising, count_same}
+use Rattle.plan_check.proofs.Prefix.{order, found, rising, count_same, count_in, count_less}
 use Rattle.plan_check.proofs.Mirrored.{Known, before_ready, rises}
 use Rattle.plan_check.proofs.Partakers.{in_turn}
-use Rattle.plan_stage.proofs.Truth.{all_of, either, second_of_two}
-
--- ---- numbers of a list that pass
-
--- where each that passes the one test passes the other, no fewer pass the other
-pub count_in : (D E : ℕ → Bool) (ss : List ℕ) → ((m : ℕ) → has m ss ≡ true → D m ≡ true → E m ≡ true) → count D ss ≤ count E ss
-count_in D E [] h = omega arith
-count_in D E (s ∷ ss) h = by (D s) (E s) (h s (rw (eq-eqb s s refl) refl)) (count_in D E ss (λ m e. h m (second_of_two (m == s) (has m ss) e)))
-  where
-    by : (a b : Bool) → (a ≡ true → b ≡ true) → count D ss ≤ count E ss → cond a (count D ss + 1) (count D ss) ≤ cond b (count E ss + 1) (count E ss)
-    by false false f l = l
-    by false true f l = omega arith
-    by true false f l = absurd (let g = f refl in cc)
-    by true true f l = omega arith
-
--- and more do where one passes the other alone
-pub count_less : (D E : ℕ → Bool) (n : ℕ) (ss : List ℕ) → ((m : ℕ) → has m ss ≡ true → D m ≡ true → E m ≡ true) → has n ss ≡ true → D n ≡ false → E n ≡ true
-    → count D ss < count E ss
-count_less D E n [] h i off on = absurd cc
-count_less D E n (s ∷ ss) h i off on = elim (either (n == s) (has n ss) i) [
-  | inl f ↦ (
-      let e = eqb-true n s f in
-      first (D s) (E s) (subst (λ z. D z ≡ false) e off) (subst (λ z. E z ≡ true) e on) (count_in D E ss (λ m g. h m (second_of_two (m == s) (has m ss) g))))
-  | inr f ↦ later (D s) (E s) (h s (rw (eq-eqb s s refl) refl)) (count_less D E n ss (λ m g. h m (second_of_two (m == s) (has m ss) g)) f off on)
-]
-  where
-    first : (a b : Bool) → a ≡ false → b ≡ true → count D ss ≤ count E ss → cond a (count D ss + 1) (count D ss) < cond b (count E ss + 1) (count E ss)
-    first true b f g l = absurd cc
-    first false true f g l = omega arith
-    first false false f g l = absurd cc
-
-    later : (a b : Bool) → (a ≡ true → b ≡ true) → count D ss < count E ss → cond a (count D ss + 1) (count D ss) < cond b (count E ss + 1) (count E ss)
-    later false false f l = l
-    later false true f l = omega arith
-    later true false f l = absurd (let g = f refl in cc)
-    later true true f l = omega arith
+use Rattle.plan_stage.proofs.Truth.{all_of, second_of_two}
 
 -- ---- mirrors
 

@@ -1,5 +1,5 @@
 -- The finished steps of a slot are its first ones.
-use Rattle.std.proofs.Common.{◌≡◌, ◌⊎◌, inl, inr, ◌∙◌, ℕ, zero, suc, ◌+◌, ◌<◌, ◌≤◌, Bool, true, false, cond, List, [], ◌∷◌, length, get_or, drop, refl, sym, arith, ltb-true, ltb-false, lt-ltb, get_or-drop, length-drop, eqb-true, eq-eqb}
+use Rattle.std.proofs.Common.{◌≡◌, ◌⊎◌, inl, inr, ◌∙◌, ℕ, zero, suc, ◌+◌, ◌<◌, ◌≤◌, Bool, true, false, cond, List, [], ◌∷◌, length, get_or, drop, refl, sym, subst, arith, ltb-true, ltb-false, lt-ltb, get_or-drop, length-drop, eqb-true, eq-eqb}
 use Rattle.std.specs.Prelude.{◌==◌, nat_lt}
 use Rattle.ring_names.specs.Lists.{has}
 use Rattle.plan_stage.specs.Parties.{count_below}
@@ -94,6 +94,39 @@ count_same D E (s ∷ ss) h =
     let first : E s ≡ D s = h s (rw (eq-eqb s s refl) refl) in
     let rest : count E ss ≡ count D ss = count_same D E ss (λ m e. h m (second_of_two (m == s) (has m ss) e)) in
     rw (first, rest) refl
+
+-- where each that passes the one test passes the other, no fewer pass the other
+pub count_in : (D E : ℕ → Bool) (ss : List ℕ) → ((m : ℕ) → has m ss ≡ true → D m ≡ true → E m ≡ true) → count D ss ≤ count E ss
+count_in D E [] h = omega arith
+count_in D E (s ∷ ss) h = by (D s) (E s) (h s (rw (eq-eqb s s refl) refl)) (count_in D E ss (λ m e. h m (second_of_two (m == s) (has m ss) e)))
+  where
+    by : (a b : Bool) → (a ≡ true → b ≡ true) → count D ss ≤ count E ss → cond a (count D ss + 1) (count D ss) ≤ cond b (count E ss + 1) (count E ss)
+    by false false f l = l
+    by false true f l = omega arith
+    by true false f l = absurd (let g = f refl in cc)
+    by true true f l = omega arith
+
+-- and more do where one passes the other alone
+pub count_less : (D E : ℕ → Bool) (n : ℕ) (ss : List ℕ) → ((m : ℕ) → has m ss ≡ true → D m ≡ true → E m ≡ true) → has n ss ≡ true → D n ≡ false → E n ≡ true
+    → count D ss < count E ss
+count_less D E n [] h i off on = absurd cc
+count_less D E n (s ∷ ss) h i off on = elim (either (n == s) (has n ss) i) [
+  | inl f ↦ (
+      let e = eqb-true n s f in
+      first (D s) (E s) (subst (λ z. D z ≡ false) e off) (subst (λ z. E z ≡ true) e on) (count_in D E ss (λ m g. h m (second_of_two (m == s) (has m ss) g))))
+  | inr f ↦ later (D s) (E s) (h s (rw (eq-eqb s s refl) refl)) (count_less D E n ss (λ m g. h m (second_of_two (m == s) (has m ss) g)) f off on)
+]
+  where
+    first : (a b : Bool) → a ≡ false → b ≡ true → count D ss ≤ count E ss → cond a (count D ss + 1) (count D ss) < cond b (count E ss + 1) (count E ss)
+    first true b f g l = absurd cc
+    first false true f g l = omega arith
+    first false false f g l = absurd cc
+
+    later : (a b : Bool) → (a ≡ true → b ≡ true) → count D ss < count E ss → cond a (count D ss + 1) (count D ss) < cond b (count E ss + 1) (count E ss)
+    later false false f l = l
+    later false true f l = omega arith
+    later true false f l = absurd (let g = f refl in cc)
+    later true true f l = omega arith
 
 -- with one more, at place j, the count is one more
 pub one_more : (D : ℕ → Bool) (n j : ℕ) (ss : List ℕ) → Rises ss → Down D ss → Down (with_number D n) ss → D n ≡ false → j < length ss → get_or ss j 0 ≡ n → (count D ss ≡ j) × (count (with_number D n) ss ≡ suc j)

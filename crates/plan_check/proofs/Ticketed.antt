@@ -1,5 +1,5 @@
 -- What every event leaves true of tickets.
-use Rattle.std.proofs.Common.{◌≡◌, ◌⊎◌, inl, inr, ◌∙◌, ℕ, zero, suc, ◌+◌, ◌<◌, ◌≤◌, Bool, true, false, cond, List, [], ◌∷◌, ◌++◌, length, refl, sym, ap, subst, arith, eqb-true}
+use Rattle.std.proofs.Common.{◌≡◌, ◌⊎◌, inl, inr, ◌∙◌, ℕ, zero, suc, ◌<◌, ◌≤◌, Bool, true, false, cond, List, [], ◌∷◌, ◌++◌, length, refl, sym, ap, subst, arith, eqb-true}
 use Rattle.std.specs.Prelude.{◌&&◌, ◌==◌, Some, None, is_some}
 use Rattle.ring_names.specs.declared.ids.NodeId.{NodeId}
 use Rattle.ring_names.specs.declared.ids.Slot.{Slot}
@@ -8,10 +8,11 @@ use Rattle.std.proofs.lemmas.Bool.{and_parts}
 use Rattle.std.proofs.lemmas.Bool.Decides.{nat_tests}
 use Rattle.plan_text.specs.declared.step.Planned.{Planned}
 use Rattle.plan_text.specs.Steps.{steps_of}
-use Rattle.plan_check.specs.World.{PutRecord, World, count, key_of_put, ticket_of, mirror_at, mirrors_done, generation, slot_of}
+use Rattle.plan_check.specs.World.{PutRecord, World, key_of_put, ticket_of, mirror_at, mirrors_done, generation, slot_of}
 use Rattle.plan_check.specs.Versions.{put_slot}
 use Rattle.plan_check.specs.Effects.{changed, with_value, lose_effect}
 use Rattle.plan_check.proofs.Changed.{read_at}
+use Rattle.plan_check.proofs.Prefix.{count_in}
 use Rattle.plan_stage.proofs.Truth.{all_of}
 
 abbrev pub TicketFits : RingValue → List Planned → World → ℕ → ℕ → ℕ → Type 0
@@ -22,19 +23,9 @@ TicketsFit ring plan w = (v i g : ℕ) → ticket_of w v i ≡ Some g → Ticket
 
 -- ---- generations rise
 
-pub count_more : (D E : ℕ → Bool) (ss : List ℕ) → ((m : ℕ) → D m ≡ true → E m ≡ true) → count D ss ≤ count E ss
-count_more D E [] h = omega arith
-count_more D E (s ∷ ss) h = by (D s) (E s) (h s) (count_more D E ss h)
-  where
-    by : (a b : Bool) → (a ≡ true → b ≡ true) → count D ss ≤ count E ss → cond a (count D ss + 1) (count D ss) ≤ cond b (count E ss + 1) (count E ss)
-    by false false f l = l
-    by false true f l = omega arith
-    by true false f l = absurd (let g = f refl in cc)
-    by true true f l = omega arith
-
 pub mirrors_more : (plan : List Planned) (w u : World) (slot : Slot) → ((m : ℕ) → w.done m ≡ true → u.done m ≡ true) → mirrors_done plan w slot ≤ mirrors_done plan u slot
-mirrors_more plan w u slot h = count_more (λ s. w.done s && is_some (mirror_at plan s)) (λ s. u.done s && is_some (mirror_at plan s)) (steps_of plan slot)
-    (λ m e. (let b = and_parts (w.done m) (is_some (mirror_at plan m)) e in all_of (u.done m) (is_some (mirror_at plan m)) (h m b.0) b.1))
+mirrors_more plan w u slot h = count_in (λ s. w.done s && is_some (mirror_at plan s)) (λ s. u.done s && is_some (mirror_at plan s)) (steps_of plan slot)
+    (λ m i e. (let b = and_parts (w.done m) (is_some (mirror_at plan m)) e in all_of (u.done m) (is_some (mirror_at plan m)) (h m b.0) b.1))
 
 pub generation_more : (plan : List Planned) (w u : World) (slot : Slot) → ((m : ℕ) → w.done m ≡ true → u.done m ≡ true) → w.lost slot ≤ u.lost slot → generation plan w slot ≤ generation plan u slot
 generation_more plan w u slot h l = (let m = mirrors_more plan w u slot h in omega arith)
