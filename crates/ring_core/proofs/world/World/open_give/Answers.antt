@@ -16,4 +16,4 @@ pub returns-clause-most : goal.returns-clause-most
 returns-clause-most c a e =
     let now = c.args.self.now in
     holds now.parts now.sound (hlevel props) (λ w m.
-        (subst (λ (n : ℕ). n ≤ a) (sym (c.transfers.ensures ∙ transfers_told (ring_of now) (plan_of now) (kept_of now.parts) w m c.args.node.0 Give)) ((m.approved.keeps.safe m.run.0 w m.run.1).few c.args.node.0 Give a e)))
+    (subst (λ (n : ℕ). n ≤ a) (sym (c.transfers.ensures ∙ transfers_told (ring_of now) (plan_of now) (kept_of now.parts) w m c.args.node.0 Give)) ((m.approved.keeps.safe m.run.0 w m.run.1).few c.args.node.0 Give a e)))
