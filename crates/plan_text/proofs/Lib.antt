@@ -10,3 +10,4 @@ pub mod SuitLaws
 pub mod TextLaws
 pub mod WriteLaws
 pub mod PlanLates
+pub mod ChangeLaws

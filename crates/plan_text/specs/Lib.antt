@@ -6,3 +6,4 @@ pub mod Said
 pub mod Spelling
 pub mod Reading
 pub mod Fits
+pub mod Changes

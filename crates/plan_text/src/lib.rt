@@ -2,6 +2,7 @@
 #![tactic(auto)]
 
 mod after;
+mod fulfils;
 mod index;
 mod indexes;
 mod kind;

@@ -5,6 +5,7 @@ ghost use Rattle.std.specs.List.{list_all};
 ghost use Rattle.ring_names.specs.Lists.{has};
 ghost use Rattle.ring_names.specs.declared.refusal.Refusal.TheVariants.{OutOfMemory};
 
+use crate::fulfils::all_name_only;
 use crate::index::Index;
 use crate::step::Step;
 use crate::suits::all_suit;
@@ -47,6 +48,7 @@ impl Model for Plan {
 impl Plan {
     ghost use Rattle.plan_text.specs.Steps.{steps_of, depends, dependencies, joined, retired, join_of, retirement_of};
     ghost use Rattle.plan_text.specs.Valid.{IsPlanned, IsPlan, Suits, step_suits};
+    ghost use Rattle.plan_text.specs.Changes.{fulfils, step_names};
 
     /// A plan of no steps.
     pub fn new(alloc: Global) -> Plan
@@ -173,5 +175,40 @@ impl Plan {
         ensures { result ≡ list_all (λ x. step_suits ring.now x.step) self.now }
     {
         all_suit(ring, self.steps.as_slice())
+    }
+
+    /// Whether the plan's join steps name exactly the nodes of `joins`, and its retire steps exactly those of `leaves`, in any order
+    /// and however often each is named. Takes no memory.
+    pub fn fulfils(&self, joins: &[NodeId], leaves: &[NodeId]) -> bool
+        ensures { result ≡ fulfils self.now joins.now leaves.now }
+    {
+        if !self.joins_all(joins) {
+            return false;
+        }
+        if !self.retires_all(leaves) {
+            return false;
+        }
+        self.names_only(joins, leaves)
+    }
+
+    // Whether some step joins each of the nodes.
+    fn joins_all(&self, nodes: &[NodeId]) -> bool
+        ensures { result ≡ list_all (λ x. has x.0 (joined self.now)) nodes.now }
+    {
+        nodes.iter().all(|x| self.is_joined(*x))
+    }
+
+    // Whether some step retires each of the nodes.
+    fn retires_all(&self, nodes: &[NodeId]) -> bool
+        ensures { result ≡ list_all (λ x. has x.0 (retired self.now)) nodes.now }
+    {
+        nodes.iter().all(|x| self.is_retired(*x))
+    }
+
+    // Whether the steps join and retire no other nodes.
+    fn names_only(&self, joins: &[NodeId], leaves: &[NodeId]) -> bool
+        ensures { result ≡ list_all (λ x. step_names joins.now leaves.now x.step) self.now }
+    {
+        all_name_only(joins, leaves, self.steps.as_slice())
     }
 }

@@ -1,0 +1,100 @@
+-- A plan makes a change where its steps name no other nodes, and each of the change's is named.
+use Rattle.std.proofs.Common.{◌≡◌, ℕ, Bool, true, false, ◌&&◌, List, [], ◌∷◌, refl, sym, ap, ◌∙◌}
+use Rattle.std.specs.List.{list_all, list_any}
+use Rattle.std.specs.Prelude.{◌||◌, ◌==◌}
+use Rattle.std.proofs.lemmas.List.Concat.{flat_map-cons}
+use Rattle.std.proofs.lemmas.List.Folds.{list_all-append, list_all-map}
+use Rattle.ring_names.specs.Lists.{has}
+use Rattle.ring_names.specs.declared.ids.NodeId.{NodeId}
+use Rattle.plan_text.specs.declared.step.Step.{Step}
+use Rattle.plan_text.specs.declared.step.Step.TheVariants.{Join, Mirror, Copy, Switch, Drop, Retire}
+use Rattle.plan_text.specs.declared.step.Planned.{Planned}
+use Rattle.plan_text.specs.Steps.{joins, retires, joined, retired}
+use Rattle.plan_text.specs.Changes.{numbers, fulfils, step_names}
+
+-- a node is one of these where its number is one of theirs
+pub among : (n : ℕ) (nodes : List NodeId) → list_any (λ (x : NodeId). n == x.0) nodes ≡ has n (numbers nodes)
+among n [] = refl
+among n (x ∷ xs) = ap (λ (b : Bool). (n == x.0) || b) (among n xs)
+
+one_joins : (h a b : Bool) → (h && (a && b)) ≡ (((h && true) && a) && b)
+one_joins true a b = refl
+one_joins false a b = refl
+
+one_leaves : (h a b : Bool) → (h && (a && b)) ≡ (a && ((h && true) && b))
+one_leaves true a b = refl
+one_leaves false true b = refl
+one_leaves false false b = refl
+
+shuffled : (a b c d : Bool) → ((a && b) && (c && d)) ≡ ((c && a) && (d && b))
+shuffled true true true true = refl
+shuffled true true true false = refl
+shuffled true true false d = refl
+shuffled true false true true = refl
+shuffled true false true false = refl
+shuffled true false false d = refl
+shuffled false b true d = refl
+shuffled false b false d = refl
+
+-- all of them are among these
+abbrev all_in : List ℕ → List ℕ → Bool
+all_in ys xs = list_all (λ x. has x ys) xs
+
+step_names-parts : (js ls : List NodeId) (s : Step) (a b : Bool) → (step_names js ls s && (a && b)) ≡ ((all_in (numbers js) (joins s) && a) && (all_in (numbers ls) (retires s) && b))
+step_names-parts js ls (Join x) a b = one_joins (has x.0 (numbers js)) a b
+step_names-parts js ls (Mirror s x) a b = refl
+step_names-parts js ls (Copy s from) a b = refl
+step_names-parts js ls (Switch s) a b = refl
+step_names-parts js ls (Drop s x) a b = refl
+step_names-parts js ls (Retire x) a b = one_leaves (has x.0 (numbers ls)) a b
+
+joined-more : (ys : List ℕ) (x : Planned) (xs : List Planned) → all_in ys (joined (x ∷ xs)) ≡ (all_in ys (joins x.step) && all_in ys (joined xs))
+joined-more ys x xs = ap (all_in ys) (flat_map-cons (λ (y : Planned). joins y.step) x xs) ∙ list_all-append (λ (y : ℕ). has y ys) (joins x.step) (joined xs)
+
+retired-more : (ys : List ℕ) (x : Planned) (xs : List Planned) → all_in ys (retired (x ∷ xs)) ≡ (all_in ys (retires x.step) && all_in ys (retired xs))
+retired-more ys x xs = ap (all_in ys) (flat_map-cons (λ (y : Planned). retires y.step) x xs) ∙ list_all-append (λ (y : ℕ). has y ys) (retires x.step) (retired xs)
+
+names-parts : (js ls : List NodeId) (plan : List Planned) → list_all (λ (x : Planned). step_names js ls x.step) plan ≡ (all_in (numbers js) (joined plan) && all_in (numbers ls) (retired plan))
+names-parts js ls [] = refl
+names-parts js ls (x ∷ xs) =
+    ap (λ (b : Bool). step_names js ls x.step && b) (names-parts js ls xs)
+    ∙ step_names-parts js ls x.step (all_in (numbers js) (joined xs)) (all_in (numbers ls) (retired xs))
+    ∙ sym (ap (λ (b : Bool). b && all_in (numbers ls) (retired (x ∷ xs))) (joined-more (numbers js) x xs)
+    ∙ ap (λ (b : Bool). (all_in (numbers js) (joins x.step) && all_in (numbers js) (joined xs)) && b) (retired-more (numbers ls) x xs))
+
+fulfils-parts : (plan : List Planned) (js ls : List NodeId) → ((all_in (joined plan) (numbers js) && all_in (retired plan) (numbers ls)) && list_all (λ (x : Planned). step_names js ls x.step) plan) ≡ fulfils plan js ls
+fulfils-parts plan js ls =
+    ap (λ (b : Bool). (all_in (joined plan) (numbers js) && all_in (retired plan) (numbers ls)) && b) (names-parts js ls plan)
+    ∙ shuffled (all_in (joined plan) (numbers js)) (all_in (retired plan) (numbers ls)) (all_in (numbers js) (joined plan)) (all_in (numbers ls) (retired plan))
+
+-- each of them is among these
+abbrev each_in : List ℕ → List NodeId → Bool
+each_in ys nodes = list_all (λ x. has x.0 ys) nodes
+
+numbered : (ys : List ℕ) (nodes : List NodeId) → each_in ys nodes ≡ all_in ys (numbers nodes)
+numbered ys nodes = sym (list_all-map (λ (x : ℕ). has x ys) (λ (x : NodeId). x.0) nodes)
+
+-- a node that shall join is not named
+pub lacks_a_join : (plan : List Planned) (js ls : List NodeId) → list_all (λ (x : NodeId). has x.0 (joined plan)) js ≡ false → false ≡ fulfils plan js ls
+lacks_a_join plan js ls e =
+    ap (λ (b : Bool). (b && all_in (retired plan) (numbers ls)) && list_all (λ (x : Planned). step_names js ls x.step) plan) (sym e ∙ numbered (joined plan) js)
+    ∙ fulfils-parts plan js ls
+
+no_second : (a c : Bool) → false ≡ ((a && false) && c)
+no_second true c = refl
+no_second false c = refl
+
+-- a node that shall leave is not named
+pub lacks_a_leave : (plan : List Planned) (js ls : List NodeId) → list_all (λ (x : NodeId). has x.0 (retired plan)) ls ≡ false → false ≡ fulfils plan js ls
+lacks_a_leave plan js ls e =
+    no_second (all_in (joined plan) (numbers js)) (list_all (λ (x : Planned). step_names js ls x.step) plan)
+    ∙ ap (λ (b : Bool). (all_in (joined plan) (numbers js) && b) && list_all (λ (x : Planned). step_names js ls x.step) plan) (sym e ∙ numbered (retired plan) ls)
+    ∙ fulfils-parts plan js ls
+
+-- all that the change names are named, so that it is fulfilled where no other is
+pub lacks_none : (plan : List Planned) (js ls : List NodeId) → list_all (λ (x : NodeId). has x.0 (joined plan)) js ≡ true → list_all (λ (x : NodeId). has x.0 (retired plan)) ls ≡ true
+    → list_all (λ (x : Planned). step_names js ls x.step) plan ≡ fulfils plan js ls
+lacks_none plan js ls e f =
+    ap (λ (b : Bool). (b && true) && list_all (λ (x : Planned). step_names js ls x.step) plan) (sym e ∙ numbered (joined plan) js)
+    ∙ ap (λ (b : Bool). (all_in (joined plan) (numbers js) && b) && list_all (λ (x : Planned). step_names js ls x.step) plan) (sym f ∙ numbered (retired plan) ls)
+    ∙ fulfils-parts plan js ls

@@ -1,0 +1,42 @@
+//! Whether a plan makes a change.
+
+ghost use Rattle.std.specs.Prelude.{◌≡◌, ◌==◌};
+ghost use Rattle.std.specs.List.{list_all, list_any};
+ghost use Rattle.ring_names.specs.Lists.{has};
+ghost use Rattle.plan_text.specs.Changes.{numbers, step_names};
+
+use crate::plan::Kept;
+use crate::step::Step;
+use ring_names::NodeId;
+
+// Whether the number is that of one of these.
+fn is_number_of(nodes: &[NodeId], number: u32) -> bool
+    ensures { result ≡ list_any (λ x. number == x.0) nodes.now }
+{
+    nodes.iter().any(|x| number == x.0)
+}
+
+// Whether the node is one of these.
+fn is_among(nodes: &[NodeId], node: NodeId) -> bool
+    ensures { result ≡ has node.0 (numbers nodes.now) }
+{
+    is_number_of(nodes, node.0)
+}
+
+// Whether the node that the step joins is one of `joins`, and the one that it retires one of `leaves`.
+fn names_only(joins: &[NodeId], leaves: &[NodeId], step: &Step) -> bool
+    ensures { result ≡ step_names joins.now leaves.now step.now }
+{
+    match step {
+        Step::Join(node) => is_among(joins, *node),
+        Step::Retire(node) => is_among(leaves, *node),
+        Step::Mirror(..) | Step::Copy(..) | Step::Switch(..) | Step::Drop(..) => true,
+    }
+}
+
+/// Whether the steps join none but these nodes, and retire none but those.
+pub fn all_name_only(joins: &[NodeId], leaves: &[NodeId], steps: &[Kept]) -> bool
+    ensures { result ≡ list_all (λ x. step_names joins.now leaves.now x.step) steps.now }
+{
+    steps.iter().all(|x| names_only(joins, leaves, &x.step))
+}
