@@ -36,13 +36,21 @@ join_at ring seen k fields = map_ok (λ x. x.1) (whole k (word_at k (codes "join
 unfoldable pub leave_at : RingValue → List NodeId → List NodeId → ℕ → List (List ℕ) → Result NodeId Refusal
 leave_at ring joins seen k fields = map_ok (λ x. x.1) (whole k (word_at k (codes "leave") ⊗ leaving_at ring joins seen k) fields)
 
--- the joins: lines as long as they begin so
-abbrev pub joins_at : RingValue → Left → Result (List NodeId × Left) Refusal
-joins_at ring s = many_from (is_word (codes "join")) (join_at ring) [] s.line s.lines
+-- joins behind those seen: lines as long as they begin so
+abbrev pub joins_from : RingValue → List NodeId → Left → Result (List NodeId × Left) Refusal
+joins_from ring seen s = many_from (is_word (codes "join")) (join_at ring) seen s.line s.lines
 
--- the leaves behind them, likewise
+-- leaves behind all joins and the leaves seen, likewise
+abbrev pub leaves_from : RingValue → List NodeId → List NodeId → Left → Result (List NodeId × Left) Refusal
+leaves_from ring joins seen s = many_from (is_word (codes "leave")) (leave_at ring joins) seen s.line s.lines
+
+-- all joins
+abbrev pub joins_at : RingValue → Left → Result (List NodeId × Left) Refusal
+joins_at ring s = joins_from ring [] s
+
+-- all leaves behind them
 abbrev pub leaves_at : RingValue → List NodeId → Left → Result (List NodeId × Left) Refusal
-leaves_at ring joins s = many_from (is_word (codes "leave")) (leave_at ring joins) [] s.line s.lines
+leaves_at ring joins s = leaves_from ring joins [] s
 
 -- what the parts of a change say together
 abbrev pub change_of : Unit {0} × (List NodeId × (List NodeId × Unit {0})) → Change

@@ -1,11 +1,11 @@
 //! Reading a change.
 
-ghost use Rattle.std.specs.Prelude.{◌≡◌, [], codes, Ok, IfOk, IfErr, OnOk};
+ghost use Rattle.std.specs.Prelude.{◌≡◌, [], Ok, IfOk, IfErr, OnOk};
 ghost use Rattle.ring_names.specs.declared.refusal.Refusal.TheVariants.{OutOfMemory};
-ghost use Rattle.ring_text.specs.Left.{Reads, is_word, many_from};
+ghost use Rattle.ring_text.specs.Left.{Reads};
 ghost use Rattle.ring_text.specs.Late.{Late, NoFaultBefore};
 ghost use Rattle.ring_text.specs.Judging.{Gives, map_ok};
-ghost use Rattle.plan_change.specs.Reading.{join_at, leave_at, change_at, change_reading};
+ghost use Rattle.plan_change.specs.Reading.{joins_from, leaves_from, change_at, change_reading};
 ghost use Rattle.plan_change.specs.Spelling.{change_text};
 ghost use Rattle.plan_change.specs.Valid.{IsChange};
 ghost use Rattle.plan_change.specs.declared.change.Change.{Change};
@@ -21,9 +21,9 @@ use std::alloc::Global;
 // Reads joins, as long as lines begin so.
 fn read_joins(ring: &Ring, draft: &mut Draft, lines: &mut Lines) -> Result<(), Refusal>
     requires { draft.old.leaves ≡ [] }
-    ensures read { Reads (map_ok (λ _. draft.new.joins) result) lines.new (many_from (is_word (codes "join")) (join_at ring.now) draft.old.joins lines.old.line lines.old.lines) }
+    ensures read { Reads (map_ok (λ _. draft.new.joins) result) lines.new (joins_from ring.now draft.old.joins lines.old) }
     ensures leaves { OnOk result (draft.new.leaves ≡ []) }
-    ensures late { Late 1 result lines.old lines.new (many_from (is_word (codes "join")) (join_at ring.now) draft.old.joins lines.old.line lines.old.lines) }
+    ensures late { Late 1 result lines.old lines.new (joins_from ring.now draft.old.joins lines.old) }
 {
     'joins: while lines.begins(b"join") {
         let fields = lines.next()?;
@@ -35,9 +35,9 @@ fn read_joins(ring: &Ring, draft: &mut Draft, lines: &mut Lines) -> Result<(), R
 
 // Reads leaves behind the joins, as long as lines begin so.
 fn read_leaves(ring: &Ring, draft: &mut Draft, lines: &mut Lines) -> Result<(), Refusal>
-    ensures read { Reads (map_ok (λ _. draft.new.leaves) result) lines.new (many_from (is_word (codes "leave")) (leave_at ring.now draft.old.joins) draft.old.leaves lines.old.line lines.old.lines) }
+    ensures read { Reads (map_ok (λ _. draft.new.leaves) result) lines.new (leaves_from ring.now draft.old.joins draft.old.leaves lines.old) }
     ensures joins { OnOk result (draft.new.joins ≡ draft.old.joins) }
-    ensures late { Late 1 result lines.old lines.new (many_from (is_word (codes "leave")) (leave_at ring.now draft.old.joins) draft.old.leaves lines.old.line lines.old.lines) }
+    ensures late { Late 1 result lines.old lines.new (leaves_from ring.now draft.old.joins draft.old.leaves lines.old) }
 {
     'leaves: while lines.begins(b"leave") {
         let fields = lines.next()?;
