@@ -1,0 +1,5 @@
+pub mod Named
+pub mod Different
+pub mod ChangeLines
+pub mod ChangeLaws
+pub mod ChangeLates

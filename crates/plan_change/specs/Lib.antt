@@ -1,0 +1,5 @@
+pub mod Marks
+pub mod Draft
+pub mod Valid
+pub mod Spelling
+pub mod Reading

@@ -1,0 +1,13 @@
+//! Changes of a ring's members: which nodes shall join, and which shall leave.
+#![tactic(auto)]
+
+mod change;
+mod draft;
+mod lines;
+mod marks;
+mod reading;
+mod writing;
+
+pub use change::Change;
+pub use reading::{read_change, read_change_section};
+pub use writing::write_change;
