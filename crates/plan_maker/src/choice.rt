@@ -1,0 +1,174 @@
+//! Which slots move, and which nodes enter their partitions.
+
+use crate::groups::Groups;
+use crate::members::{Members, Role};
+use crate::numbers::{at, lower, raise, set};
+use ring_names::Refusal;
+use ring_table::Ring;
+use std::alloc::Global;
+
+/// Which slots move, and which nodes enter each partition in their place.
+#[derive(Drop)]
+pub struct Choice {
+    /// How many partitions there are, and how many slots each of them has.
+    pub partitions: usize,
+    pub slots: usize,
+    // the owners of all slots, partition by partition
+    owners: Vec<u32>,
+    // of each slot 1 where it moves, and else 0
+    moving: Vec<u32>,
+    // the nodes that enter, in as many places for each partition as it has slots
+    entering: Vec<u32>,
+    // how many enter each partition
+    entered: Vec<u32>,
+    // the slots that each member owns in the end
+    load: Vec<u32>,
+    // the copies of each group
+    copies: Vec<u32>,
+}
+
+impl Choice {
+    /// The slots of the nodes that leave move, and nobody enters yet.
+    pub fn new(
+        alloc: Global,
+        ring: &Ring,
+        members: &Members,
+        groups: &Groups,
+    ) -> Result<Choice, Refusal> {
+        let mut owners = Vec::new(alloc);
+        for row in ring.rows() {
+            for owner in row.as_slice() {
+                owners.push(owner.0)?;
+            }
+        }
+        let partitions = ring.rows().len();
+        let total = owners.len();
+        let mut choice = Choice {
+            partitions,
+            slots: ring.n() as usize,
+            owners,
+            moving: vec![in alloc; 0u32; total]?,
+            entering: vec![in alloc; 0u32; total]?,
+            entered: vec![in alloc; 0u32; partitions]?,
+            load: vec![in alloc; 0u32; ring.nodes().len()]?,
+            copies: vec![in alloc; 0u32; groups.len()]?,
+        };
+        for place in 0..total {
+            choice.begin(members, groups, place);
+        }
+        Ok(choice)
+    }
+
+    // Counts a slot to its owner's load, and lets it move where the owner leaves.
+    fn begin(&mut self, members: &Members, groups: &Groups, place: usize) {
+        let owner = at(&self.owners, place);
+        raise(&mut self.load, owner as usize);
+        if members.role(owner) == Role::Leaves {
+            self.give(groups, place);
+        }
+    }
+
+    /// The place of a slot among all.
+    pub fn place(&self, partition: usize, index: usize) -> usize {
+        partition.saturating_mul(self.slots).saturating_add(index)
+    }
+
+    /// The partition of the slot at the place.
+    pub fn partition(&self, place: usize) -> usize {
+        match place.checked_div(self.slots) {
+            Some(partition) => partition,
+            None => 0,
+        }
+    }
+
+    /// How many slots there are.
+    pub fn total(&self) -> usize {
+        self.owners.len()
+    }
+
+    /// The owner of the slot at the place.
+    pub fn owner(&self, place: usize) -> u32 {
+        at(&self.owners, place)
+    }
+
+    /// Whether the slot at the place moves.
+    pub fn moves(&self, place: usize) -> bool {
+        at(&self.moving, place) != 0
+    }
+
+    /// Lets the slot at the place move away from its owner.
+    pub fn give(&mut self, groups: &Groups, place: usize) {
+        let owner = at(&self.owners, place);
+        set(&mut self.moving, place, 1);
+        lower(&mut self.load, owner as usize);
+        raise(&mut self.copies, groups.giver(owner));
+    }
+
+    /// Lets the slot at the place stay with its owner after all.
+    pub fn keep(&mut self, groups: &Groups, place: usize) {
+        let owner = at(&self.owners, place);
+        set(&mut self.moving, place, 0);
+        raise(&mut self.load, owner as usize);
+        lower(&mut self.copies, groups.giver(owner));
+    }
+
+    /// Lets the node enter the partition.
+    pub fn enter(&mut self, groups: &Groups, partition: usize, node: u32) {
+        let count = at(&self.entered, partition);
+        let place = self.place(partition, count as usize);
+        set(&mut self.entering, place, node);
+        raise(&mut self.entered, partition);
+        raise(&mut self.load, node as usize);
+        raise(&mut self.copies, groups.taker(node));
+    }
+
+    /// Whether the node owns a slot of the partition, one that moves too.
+    pub fn owns(&self, partition: usize, node: u32) -> bool {
+        for index in 0..self.slots {
+            if at(&self.owners, self.place(partition, index)) == node {
+                return true;
+            }
+        }
+        false
+    }
+
+    /// How many nodes enter the partition.
+    pub fn entered(&self, partition: usize) -> u32 {
+        at(&self.entered, partition)
+    }
+
+    /// The node that enters the partition at that place among those that do.
+    pub fn entering(&self, partition: usize, place: usize) -> u32 {
+        at(&self.entering, self.place(partition, place))
+    }
+
+    /// How many slots of the partition move.
+    pub fn moving(&self, partition: usize) -> u32 {
+        let mut count = 0u32;
+        for index in 0..self.slots {
+            if self.moves(self.place(partition, index)) {
+                count = count.saturating_add(1);
+            }
+        }
+        count
+    }
+
+    /// How many slots the member owns in the end.
+    pub fn load(&self, node: u32) -> u32 {
+        at(&self.load, node as usize)
+    }
+
+    /// How many copies the group has.
+    pub fn copies(&self, group: usize) -> u32 {
+        at(&self.copies, group)
+    }
+
+    /// How much of its allowance a group with one copy more uses, in parts of 64: of two that are as good otherwise the lesser is taken.
+    pub fn crowd(&self, groups: &Groups, group: usize) -> u32 {
+        let copies = self.copies(group).saturating_add(1).saturating_mul(64);
+        match copies.checked_div(groups.most(group)) {
+            Some(crowd) => crowd,
+            None => copies,
+        }
+    }
+}

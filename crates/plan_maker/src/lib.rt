@@ -1,0 +1,19 @@
+//! The planner: a plan that changes a ring's members, and its certificate. Nothing is promised of what it makes but that the checker
+//! can be asked: it moves as few slots as the change needs, spreads them evenly, and lets as many transfers run at once as allowances permit.
+#![tactic(auto)]
+
+mod choice;
+mod colours;
+mod givers;
+mod groups;
+mod maker;
+mod members;
+mod moves;
+mod numbers;
+mod round_sets;
+mod rounds;
+mod steps;
+mod takers;
+mod writing;
+
+pub use maker::make;

@@ -1,0 +1,84 @@
+//! Sets of rounds, one for each group.
+
+use ring_names::Refusal;
+use std::alloc::Global;
+
+// How many rounds one word of a set has.
+const WORD: usize = 64;
+
+/// Of each group a set of rounds.
+#[derive(Drop)]
+pub struct RoundSets {
+    // how many words each set has
+    words: usize,
+    // the sets, one behind the other, a bit for each round
+    bits: Vec<u64>,
+}
+
+// The first rounds of a word, so many of them.
+fn first_rounds(count: usize) -> u64 {
+    if count >= WORD {
+        return u64::MAX;
+    }
+    (1u64 << (count as u32 % 64)).saturating_sub(1)
+}
+
+// The bit of a round in its word.
+fn bit(round: usize) -> u64 {
+    1u64 << ((round % WORD) as u32 % 64)
+}
+
+impl RoundSets {
+    /// All rounds of all groups.
+    pub fn new(alloc: Global, groups: usize, rounds: usize) -> Result<RoundSets, Refusal> {
+        let words = rounds.saturating_add(63) / WORD;
+        let mut bits = Vec::new(alloc);
+        for _ in 0..groups {
+            for word in 0..words {
+                let before = word.saturating_mul(WORD);
+                bits.push(first_rounds(rounds.saturating_sub(before)))?;
+            }
+        }
+        Ok(RoundSets { words, bits })
+    }
+
+    fn place(&self, group: usize, word: usize) -> usize {
+        group.saturating_mul(self.words).saturating_add(word)
+    }
+
+    fn word(&self, group: usize, word: usize) -> u64 {
+        match self.bits.get(self.place(group, word)) {
+            Some(bits) => *bits,
+            None => 0,
+        }
+    }
+
+    /// Puts the round into the group's set, or takes it out.
+    pub fn put(&mut self, group: usize, round: usize, is_in: bool) {
+        let place = self.place(group, round / WORD);
+        if let Some(bits) = self.bits.get_mut(place) {
+            if is_in {
+                *bits |= bit(round);
+            } else {
+                *bits &= !bit(round);
+            }
+        }
+    }
+
+    /// The least round that is in the sets of both groups.
+    pub fn common(&self, first: usize, second: usize) -> Option<usize> {
+        for word in 0..self.words {
+            let both = self.word(first, word) & self.word(second, word);
+            if both != 0 {
+                let before = word.saturating_mul(WORD);
+                return Some(before.saturating_add(both.trailing_zeros() as usize));
+            }
+        }
+        None
+    }
+
+    /// The least round in the group's set.
+    pub fn least(&self, group: usize) -> Option<usize> {
+        self.common(group, group)
+    }
+}
