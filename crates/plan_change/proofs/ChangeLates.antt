@@ -7,8 +7,8 @@ use Rattle.ring_names.specs.declared.refusal.Refusal.TheVariants.{Repeated, NotM
 use Rattle.ring_text.specs.Left.{Left, is_word, next_number, one_line, then_part}
 use Rattle.ring_text.specs.Frames.{header_at, end_line_at}
 use Rattle.ring_text.specs.Late.{ReadsTo}
-use Rattle.ring_text.proofs.Lates.{At, at-map, at-bind, at-unless, at-whole, Judges, judges-⊗, judges-word, Advances, advances-line, advances-then, to-first, to-second, to-map, many-on, next-monotone}
-use Rattle.ring_text.proofs.FrameLaws.{end-at}
+use Rattle.ring_text.proofs.Lates.{At, at-map, at-bind, at-unless, at-whole, Judges, judges-⊗, judges-word, Advances, advances-line, advances-then, advances-map, to-first, to-second, to-map, many-on, next-monotone}
+use Rattle.ring_text.proofs.FrameLaws.{header-at, end-at}
 use Rattle.ring_table.specs.Value.{RingValue, is_member}
 use Rattle.ring_table.specs.Reading.{declared_at}
 use Rattle.ring_table.proofs.RingLates.{judges-declared}
@@ -57,6 +57,11 @@ module _ (ring : RingValue) where
 
   last-on : (leaves : List NodeId) → Advances (last leaves)
   last-on leaves = advances-line end_line_at end-at
+
+  -- reading a change does not go back
+  pub change-on : Advances (change_at ring)
+  unfolding change_at
+  change-on = advances-map change_of _ (advances-then _ joins_on (advances-line _ (header-at (codes "change") (codes "1"))) (λ _. advances-then (joins_at ring) leaves_on joins-on (λ joins. advances-then (leaves_at ring joins) last (leaves-on joins) last-on)))
 
   -- behind the first line: a place among the joins, or among the leaves
   module _ (s t : Left) (u : Unit {0}) (start : one_line (header_at (codes "change") (codes "1")) s ≡ Ok (u, t)) where

@@ -3,3 +3,4 @@ pub mod Different
 pub mod ChangeLines
 pub mod ChangeLaws
 pub mod ChangeLates
+pub mod Wanting

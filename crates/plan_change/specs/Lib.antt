@@ -3,3 +3,4 @@ pub mod Draft
 pub mod Valid
 pub mod Spelling
 pub mod Reading
+pub mod Wanted

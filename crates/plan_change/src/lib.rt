@@ -6,8 +6,10 @@ mod draft;
 mod lines;
 mod marks;
 mod reading;
+mod wanted;
 mod writing;
 
 pub use change::Change;
 pub use reading::{read_change, read_change_section};
+pub use wanted::{Wanted, read_wanted};
 pub use writing::write_change;
