@@ -1,5 +1,6 @@
--- Steps that join the nodes of a change alone are a plan of the ring that makes the change, where nobody leaves, and the certificate that says nothing certifies it.
-use Rattle.std.proofs.Common.{◌≡◌, ◌⊎◌, inl, inr, ℕ, zero, suc, ◌+◌, ◌<◌, ◌≤◌, Bool, true, false, not, ◌&&◌, ◌||◌, List, [], ◌∷◌, length, map, refl, sym, ap, subst, ◌∙◌, arith, Some, None}
+-- Steps that join a change's nodes alone are a plan of the ring that makes the change, where nobody leaves, and it needs no claims.
+use Rattle.std.proofs.Common.{◌≡◌, ◌⊎◌, inl, inr, ℕ, zero, suc, ◌+◌, ◌<◌, ◌≤◌, true, false, not, List, [], ◌∷◌, length}
+use Rattle.std.proofs.Common.{refl, sym, ap, subst, ◌∙◌, arith, Some, None}
 use Rattle.std.specs.Prelude.{slice_get, nat_lt}
 use Rattle.std.specs.List.{list_all}
 use Rattle.std.proofs.lemmas.Bool.{and_parts, cases_order}
@@ -10,17 +11,16 @@ use Rattle.ring_names.specs.declared.ids.NodeId.{NodeId}
 use Rattle.ring_names.specs.declared.ids.Slot.{Slot}
 use Rattle.ring_table.specs.declared.allowance.Side.{Side}
 use Rattle.ring_table.specs.declared.allowance.Side.TheVariants.{Both, Take, Give}
-use Rattle.ring_table.specs.Value.{RingValue, allowance_of, is_member}
+use Rattle.ring_table.specs.Value.{RingValue, is_member}
 use Rattle.ring_table.specs.Valid.{IsRing}
 use Rattle.plan_text.specs.declared.step.Step.{Step}
-use Rattle.plan_text.specs.declared.step.Step.TheVariants.{Join, Mirror, Copy, Switch, Drop, Retire}
+use Rattle.plan_text.specs.declared.step.Step.TheVariants.{Join, Mirror, Copy, Retire}
 use Rattle.plan_text.specs.declared.step.Source.TheVariants.{Slots}
 use Rattle.plan_text.specs.declared.step.Planned.{Planned}
 use Rattle.plan_text.specs.Changes.{numbers, same_nodes, fulfils}
 use Rattle.plan_text.specs.Steps.{dependencies, joins, retires, joined, retired, steps_from, steps_of}
 use Rattle.plan_text.specs.Valid.{step_suits, Suits as PlanSuits}
 use Rattle.plan_cert.specs.declared.cert.Cert.{Cert}
-use Rattle.plan_cert.specs.Valid.{Suits as CertSuits}
 use Rattle.plan_change.specs.declared.change.Change.{Change}
 use Rattle.plan_change.specs.Valid.{IsChange, is_declared, may_join}
 use Rattle.plan_stage.specs.Each.{step_at}
@@ -28,7 +28,7 @@ use Rattle.plan_stage.specs.Stage.{is_among}
 use Rattle.plan_stage.specs.Parties.{on_side, target_of, sources_of}
 use Rattle.plan_stage.proofs.Truth.{all_of, list_all-all}
 use Rattle.plan_check.specs.Certified.{IsCertified, ordered_by}
-use Rattle.plan_check.specs.Sound.{Order, Covers, Meets, NeedsMember, is_party_of}
+use Rattle.plan_check.specs.Sound.{Order, Meets, NeedsMember, is_party_of}
 use Rattle.plan_check.proofs.Quorums.{meet}
 use Rattle.plan_proposal.specs.Joins.{join_alone, joins_alone, no_claims}
 use Rattle.plan_proposal.specs.Proposals.{Makes}
@@ -82,7 +82,8 @@ party-none ring nodes x side n = ap (is_among (record { 0 = x })) (parties-none 
 
 -- ---- the plan suits the ring and makes the change
 
-each-suits : (ring : RingValue) (nodes : List NodeId) → list_all (may_join ring) nodes ≡ true → list_all (λ (x : Planned). step_suits ring x.step) (joins_alone nodes) ≡ true
+each-suits : (ring : RingValue) (nodes : List NodeId) → list_all (may_join ring) nodes ≡ true
+    → list_all (λ (x : Planned). step_suits ring x.step) (joins_alone nodes) ≡ true
 each-suits ring [] h = refl
 each-suits ring (x ∷ xs) h =
     let b = and_parts (may_join ring x) (list_all (may_join ring) xs) h in
@@ -101,9 +102,11 @@ same-all xs =
     all_of (list_all (λ x. has x xs) xs) (list_all (λ x. has x xs) xs) h h
 
 joins-fulfil : (nodes leaves : List NodeId) → leaves ≡ [] → fulfils (joins_alone nodes) nodes leaves ≡ true
-joins-fulfil nodes leaves e = rw (e, joined-all nodes, retired-none nodes) (all_of (same_nodes (numbers nodes) (numbers nodes)) true (same-all (numbers nodes)) refl)
+joins-fulfil nodes leaves e = rw (e, joined-all nodes, retired-none nodes)
+    (all_of (same_nodes (numbers nodes) (numbers nodes)) true (same-all (numbers nodes)) refl)
 
-pub joins-make : (ring : RingValue) (change : Change) → IsChange ring change → change.leaves ≡ [] → Makes ring change (joins_alone change.joins) no_claims
+pub joins-make : (ring : RingValue) (change : Change) → IsChange ring change → change.leaves ≡ []
+    → Makes ring change (joins_alone change.joins) no_claims
 joins-make ring change is e = record {
   plan_suits = joins-suit ring change is;
   cert_suits = record { few_facts = omega arith; facts = refl; few_chains = omega arith; chains = refl };
@@ -112,7 +115,8 @@ joins-make ring change is e = record {
 
 -- ---- there are few
 
-declared-below : (ring : RingValue) (nodes : List NodeId) → list_all (may_join ring) nodes ≡ true → list_all (λ x. nat_lt x (length ring.nodes)) (numbers nodes) ≡ true
+declared-below : (ring : RingValue) (nodes : List NodeId) → list_all (may_join ring) nodes ≡ true
+    → list_all (λ x. nat_lt x (length ring.nodes)) (numbers nodes) ≡ true
 declared-below ring [] h = refl
 declared-below ring (x ∷ xs) h =
     let b = and_parts (may_join ring x) (list_all (may_join ring) xs) h in
@@ -126,11 +130,13 @@ joins-few ring change ring_is is = by (cases_order (length change.joins) (length
     same : length (numbers change.joins) ≡ length change.joins
     same = simp length-map
 
-    by : (length change.joins ≡ length ring.nodes) ⊎ ((length change.joins < length ring.nodes) ⊎ (length ring.nodes < length change.joins)) → length change.joins ≤ 131072
+    by : (length change.joins ≡ length ring.nodes) ⊎ ((length change.joins < length ring.nodes) ⊎ (length ring.nodes < length change.joins))
+        → length change.joins ≤ 131072
     by (inl as_many) = omega (arith, ring_is.nodes)
     by (inr (inl fewer)) = omega (arith, ring_is.nodes)
     by (inr (inr many)) =
-        let shared = meet (length ring.nodes) (numbers change.joins) [] is.joins_differ refl (declared-below ring change.joins is.joins) refl (omega (arith, same)) in
+        let below = declared-below ring change.joins is.joins in
+        let shared = meet (length ring.nodes) (numbers change.joins) [] is.joins_differ refl below refl (omega (arith, same)) in
         absurd (let h : false ≡ true = shared.2 in cc)
 
 -- ---- the plan is certified
@@ -184,8 +190,8 @@ joins-certified ring change is = record {
 }
 
 -- such a plan with such a certificate passes every test
-pub joins-pass : (ring : RingValue) (change : Change) (plan : List Planned) (cert : Cert) → IsChange ring change → change.leaves ≡ [] → plan ≡ joins_alone change.joins → cert ≡ no_claims
-    → Makes ring change plan cert × IsCertified ring plan cert
+pub joins-pass : (ring : RingValue) (change : Change) (plan : List Planned) (cert : Cert) → IsChange ring change → change.leaves ≡ []
+    → plan ≡ joins_alone change.joins → cert ≡ no_claims → Makes ring change plan cert × IsCertified ring plan cert
 joins-pass ring change plan cert is e p q =
     let G : List Planned → Cert → Type 0 = λ x y. Makes ring change x y × IsCertified ring x y in
     subst (λ x. G x cert) (sym p) (subst (λ y. G (joins_alone change.joins) y) (sym q) (joins-make ring change is e, joins-certified ring change is))

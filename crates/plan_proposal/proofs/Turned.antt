@@ -9,6 +9,7 @@ use Rattle.plan_change.specs.declared.change.Change.{Change}
 use Rattle.plan_check.specs.First.{first_refusal}
 use Rattle.plan_proposal.specs.Proposals.{IsTurnedAway, no_memory, not_accepted}
 
-pub turned-away : (ring : RingValue) (change : Change) (plan : List Planned) (cert : Cert) (e : Refusal) → ((e ≡ OutOfMemory → ⊥) → first_refusal ring plan cert ≡ Some e) → IsTurnedAway ring change e
+pub turned-away : (ring : RingValue) (change : Change) (plan : List Planned) (cert : Cert) (e : Refusal)
+    → ((e ≡ OutOfMemory → ⊥) → first_refusal ring plan cert ≡ Some e) → IsTurnedAway ring change e
 turned-away ring change plan cert OutOfMemory h = no_memory refl
 turned-away ring change plan cert e h = not_accepted plan cert (h (λ o. cc))

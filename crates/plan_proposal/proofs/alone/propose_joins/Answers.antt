@@ -8,5 +8,6 @@ joins_alone-requires c = rw c.as_slice.ensures (joins-few c.args.ring c.args.cha
 
 pub returns-in-Err-clause-memory : goal.returns-in-Err-clause-memory
 returns-in-Err-clause-memory c =
-    let passed = joins-pass c.args.ring c.args.change.now c.in_ok-plan.plan c.no_claims.result c.requires.change c.requires.nobody (c.in_ok-plan.ensures.plan ∙ ap joins_alone c.as_slice.ensures) c.no_claims.ensures in
+    let made = c.in_ok-plan.ensures.plan ∙ ap joins_alone c.as_slice.ensures in
+    let passed = joins-pass c.args.ring c.args.change.now c.in_ok-plan.plan c.no_claims.result c.requires.change c.requires.nobody made c.no_claims.ensures in
     c.in-Err.ensures.memory passed.0 passed.1
