@@ -1,0 +1,5 @@
+use Rattle.plan_proposal.proofs.Turned.{turned-away}
+use Rattle.plan_proposal.proofs.judging.judge.Goals as goal
+
+pub returns-clause-refused : goal.returns-clause-refused
+returns-clause-refused c = turned-away c.args.ring c.args.change.now c.args.plan c.args.cert c.in-Err-check.turned.refusal c.in-Err-check.ensures.refused

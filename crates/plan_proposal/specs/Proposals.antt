@@ -1,0 +1,37 @@
+-- What is proposed for a change, and why nothing is.
+use Rattle.std.specs.Prelude.{◌≡◌, ℕ, true, List, ◌++◌, Some}
+use Rattle.ring_names.specs.declared.refusal.Refusal.{Refusal}
+use Rattle.ring_names.specs.declared.refusal.Refusal.TheVariants.{NoPlan, OutOfMemory}
+use Rattle.ring_table.specs.Value.{RingValue}
+use Rattle.plan_text.specs.declared.step.Planned.{Planned}
+use Rattle.plan_text.specs.Changes.{fulfils}
+use Rattle.plan_text.specs.Spelling.{plan_text}
+use Rattle.plan_text.specs.Valid.{IsPlan, Suits as PlanSuits}
+use Rattle.plan_cert.specs.declared.cert.Cert.{Cert}
+use Rattle.plan_cert.specs.Spelling.{cert_text}
+use Rattle.plan_cert.specs.Valid.{Suits as CertSuits}
+use Rattle.plan_change.specs.declared.change.Change.{Change}
+use Rattle.plan_check.specs.Certified.{IsCertified}
+use Rattle.plan_check.specs.First.{first_refusal}
+
+-- the plan is one of the ring that makes the change, and the certificate is one of the ring
+pub record Makes (ring : RingValue) (change : Change) (plan : List Planned) (cert : Cert) : Type 0 where
+  pub plan_suits : PlanSuits ring plan
+  pub cert_suits : CertSuits ring cert
+  pub fulfils : fulfils plan change.joins change.leaves ≡ true
+
+-- the bytes are the text of a plan that makes the change, and of a certificate by which the checker accepts the plan
+pub record IsProposed (ring : RingValue) (change : Change) (bytes : List ℕ) : Type 0 where
+  pub plan : List Planned
+  pub cert : Cert
+  pub is_plan : IsPlan plan
+  pub suits : CertSuits ring cert
+  pub certified : IsCertified ring plan cert
+  pub fulfils : fulfils plan change.joins change.leaves ≡ true
+  pub text : bytes ≡ plan_text ring plan ++ cert_text ring cert
+
+-- why there is none: memory ran out, no plan was found, or the checker refused the one that was found, for this reason
+pub data IsTurnedAway (ring : RingValue) (change : Change) (e : Refusal) : Type 0 where
+  no_memory : e ≡ OutOfMemory → IsTurnedAway ring change e
+  none_found : e ≡ NoPlan → IsTurnedAway ring change e
+  not_accepted : (plan : List Planned) (cert : Cert) → first_refusal ring plan cert ≡ Some e → IsTurnedAway ring change e
