@@ -34,12 +34,12 @@ said asked (Some xs) text status h = (xs, refl, h xs)
 
 says_found : (asked : Asked) (job : Job) (bytes : List ℕ) (found : Result (List ℕ) Refusal) (text : List ℕ) (status : ℕ) → asked ≡ only job → Finds job bytes found
     → text ≡ output_of found → status ≡ status_of found → Says asked bytes text status
-says_found asked job bytes (Ok x) text status e h p q = answered job e (p ∙ ap output_of (sym h)) (q ∙ ap status_of (sym h))
+says_found asked job bytes (Ok x) text status e h p q = answered job (Ok x) e h p q
 says_found asked job bytes (Err OutOfMemory) text status e h p q = out_of_memory p q
 says_found asked job bytes (Err ReadFailed) text status e h p q = unread job e p q
 says_found asked job bytes (Err r) text status e h p q =
     let is = h (λ same. absurd cc) (λ same. absurd cc) in
-    answered job e (p ∙ ap output_of (sym is)) (q ∙ ap status_of (sym is))
+    answered job (Err r) e is p q
 
 -- the answer that tells what a job found
 pub said_found : {E : Type 0} (asked : Asked) (job : Job) (told : Option (List ℕ)) (found : Result (List ℕ) Refusal) (r : Result Answer E) → asked ≡ only job

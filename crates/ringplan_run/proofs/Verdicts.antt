@@ -1,5 +1,5 @@
 -- What a job makes of a bundle, by its parts.
-use Rattle.std.proofs.Common.{◌≡◌, ◌==◌, if◌then◌else◌, Bool, true, false, ℕ, List, Option, Some, None, Result, Ok, Err, IfOk, IfErr, refl, ap, sym, ◌∙◌}
+use Rattle.std.proofs.Common.{◌≡◌, ◌==◌, if◌then◌else◌, Bool, true, false, ℕ, List, Option, Some, None, Result, Ok, Err, IfOk, IfErr, [], refl, ap, sym, ◌∙◌, subst}
 use Rattle.std.specs.Global.{Vec}
 use Rattle.ring_names.specs.declared.refusal.Refusal.{Refusal}
 use Rattle.ring_names.specs.declared.refusal.Refusal.TheVariants.{OutOfMemory}
@@ -9,13 +9,17 @@ use Rattle.ring_table.specs.Value.{RingValue, migrated}
 use Rattle.plan_text.specs.declared.step.Planned.{Planned}
 use Rattle.plan_cert.specs.declared.cert.Cert.{Cert}
 use Rattle.plan_cert.specs.Valid.{Suits}
+use Rattle.plan_change.specs.declared.wanted.Wanted.{Wanted}
+use Rattle.plan_change.specs.Wanted.{wanted_at}
 use Rattle.plan_check.specs.First.{first_refusal}
+use Rattle.plan_proposal.specs.Proposals.{IsProposed, IsTurnedAway}
 use Rattle.ring_script.specs.Bundles.{bundle_at}
 use Rattle.ring_script.specs.Play.{play_text}
 use Rattle.ring_script.specs.declared.bundle.Bundle.{Bundle}
 use Rattle.ring_script.specs.declared.bundle.Kind.TheVariants.{Check, Play}
+use Rattle.ringplan_run.specs.declared.job.Job.TheVariants.{Plan}
 use Rattle.ringplan_run.specs.Answers.{texts_of}
-use Rattle.ringplan_run.specs.Verdict.{judged, migrated_text, migration, plays, shown, verdict}
+use Rattle.ringplan_run.specs.Verdict.{IsAnswerTo, MakesIf, judged, migrated_text, migration, plays, shown, verdict}
 
 pub verdict-bad : (bytes : List ℕ) (e : Refusal) → whole_text (bundle_at Check) bytes ≡ Err e → verdict bytes ≡ Err e
 unfolding verdict
@@ -54,6 +58,12 @@ gives-play b ring plan (Ok v) accepted same p q =
     let text = p ∙ (ap (λ (x : RingValue). play_text x plan b.script) same.0 ∙ ap (λ (x : List Planned). play_text b.ring x b.script) same.1) in
     rw accepted (ap Ok (sym text))
 gives-play b ring plan (Err e) accepted same p q = λ other. absurd (other q)
+
+-- what proposes a plan for the change that was read makes what is wanted, memory aside
+pub gives-plan : (bytes : List ℕ) (w : Wanted) (r : Result (Vec ℕ) Refusal) → whole_text wanted_at bytes ≡ Ok w → IfOk r (λ v. IsProposed w.ring w.change v.items) → IfErr r (IsTurnedAway w.ring w.change)
+    → (w.change.leaves ≡ [] → IfErr r (λ e. e ≡ OutOfMemory)) → MakesIf Plan bytes (texts_of r)
+gives-plan bytes w (Ok v) h p q j = subst (λ (x : Result Wanted Refusal). IsAnswerTo x (Ok v.items)) (sym h) p
+gives-plan bytes w (Err e) h p q j = λ other. subst (λ (x : Result Wanted Refusal). IsAnswerTo x (Err e)) (sym h) (q, j)
 
 -- a certificate of a ring is one of the ring migrated: the nodes are the same
 pub cert-migrated : (ring : RingValue) (v : Cert) → Suits ring v → Suits (migrated ring) v

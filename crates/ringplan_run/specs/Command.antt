@@ -8,13 +8,14 @@ use Rattle.clap.specs.declared.error.kind.ErrorKind.TheVariants.{DisplayHelp}
 use Rattle.ringplan_run.specs.declared.command.CommandLine.{CommandLine}
 use Rattle.ringplan_run.specs.declared.command.CommandLine.TheVariants.{Do, Help, Refused, OutOfMemory}
 use Rattle.ringplan_run.specs.declared.job.Job.{Job}
-use Rattle.ringplan_run.specs.declared.job.Job.TheVariants.{Check, Migrate, Play}
+use Rattle.ringplan_run.specs.declared.job.Job.TheVariants.{Check, Migrate, Plan, Play}
 
 -- the word that asks for a job
 abbrev pub word_of : Job → List ℕ
 word_of Check = codes "check"
 word_of Migrate = codes "migrate"
 word_of Play = codes "play"
+word_of Plan = codes "plan"
 
 -- the program's name, behind which it wants a subcommand
 abbrev pub wanting : App
@@ -24,9 +25,9 @@ wanting = let app = new_app (codes "ringplan") in record app { top = record app.
 abbrev pub with_job : App → Job → App
 with_job app job = with_subcommand app (new_app (word_of job)).top
 
--- `ringplan`, which wants one of its subcommands `check`, `migrate` and `play`
+-- `ringplan`, which wants one of its subcommands `plan`, `check`, `play` and `migrate`
 abbrev pub ringplan : App
-ringplan = with_job (with_job (with_job wanting Check) Migrate) Play
+ringplan = with_job (with_job (with_job (with_job wanting Plan) Check) Play) Migrate
 
 -- what the words of a command line ask: how they fail, and where they do not, the job
 pub record Asked : Type 0 where
@@ -39,7 +40,7 @@ is_named job subcommand = option_map_or (λ x. bytes_eq x.0 (word_of job)) subco
 
 -- the job of a subcommand, by its name
 abbrev pub job_named : Option (List ℕ × List Row) → Job
-job_named subcommand = if is_named Play subcommand then Play else (if is_named Migrate subcommand then Migrate else Check)
+job_named subcommand = if is_named Play subcommand then Play else (if is_named Plan subcommand then Plan else (if is_named Migrate subcommand then Migrate else Check))
 
 -- what these words ask
 abbrev pub asked : List (List ℕ) → Asked

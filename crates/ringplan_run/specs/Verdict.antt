@@ -1,19 +1,23 @@
 -- What a job makes of a bundle.
-use Rattle.std.specs.Prelude.{ℕ, List, [], ◌∷◌, ◌++◌, Option, Some, None, Result, Ok, Err, codes}
+use Rattle.std.specs.Prelude.{◌≡◌, ◌≢◌, ℕ, List, [], ◌∷◌, ◌++◌, Option, Some, None, Result, Ok, Err, codes}
 use Rattle.ring_names.specs.declared.refusal.Refusal.{Refusal}
+use Rattle.ring_names.specs.declared.refusal.Refusal.TheVariants.{OutOfMemory}
 use Rattle.ring_text.specs.Judging.{map_ok}
 use Rattle.ring_text.specs.Left.{◌>>=◌, whole_text}
 use Rattle.ring_table.specs.Value.{migrated}
 use Rattle.ring_table.specs.Spelling.{ring_text}
 use Rattle.plan_text.specs.Spelling.{plan_text}
 use Rattle.plan_cert.specs.Spelling.{cert_text}
+use Rattle.plan_change.specs.declared.wanted.Wanted.{Wanted}
+use Rattle.plan_change.specs.Wanted.{wanted_at}
 use Rattle.plan_check.specs.First.{first_refusal}
+use Rattle.plan_proposal.specs.Proposals.{IsProposed, IsTurnedAway}
 use Rattle.ring_script.specs.Bundles.{bundle_at}
 use Rattle.ring_script.specs.Play.{play_text}
 use Rattle.ring_script.specs.declared.bundle.Bundle.{Bundle}
 use Rattle.ring_script.specs.declared.bundle.Kind.TheVariants as kind
 use Rattle.ringplan_run.specs.declared.job.Job.{Job}
-use Rattle.ringplan_run.specs.declared.job.Job.TheVariants.{Check, Migrate, Play}
+use Rattle.ringplan_run.specs.declared.job.Job.TheVariants.{Check, Migrate, Plan, Play}
 
 -- yes, or the first clause that does not hold
 abbrev pub judged : Option Refusal → Result (Unit {0}) Refusal
@@ -40,8 +44,28 @@ shown b = map_ok (λ _. play_text b.ring b.plan b.script) (judged (first_refusal
 unfoldable pub plays : List ℕ → Result (List ℕ) Refusal
 plays bytes = whole_text (bundle_at kind.Play) bytes >>= shown
 
--- the text that a job makes of a bundle: `yes` and the byte 0A, the migrated texts, or what a play prints
-abbrev pub made_by : Job → List ℕ → Result (List ℕ) Refusal
-made_by Check bytes = map_ok (λ _. codes "yes" ++ 10 ∷ []) (verdict bytes)
-made_by Migrate bytes = migration bytes
-made_by Play bytes = plays bytes
+-- the text of a plan that makes the change, and of its certificate; or why there is none, and where nobody leaves that is want of memory
+abbrev pub IsAnswer : Wanted → Result (List ℕ) Refusal → Type 0
+IsAnswer w (Ok text) = IsProposed w.ring w.change text
+IsAnswer w (Err e) = IsTurnedAway w.ring w.change e × (w.change.leaves ≡ [] → e ≡ OutOfMemory)
+
+-- the first fault of what was read, and where there is none an answer to the change
+abbrev pub IsAnswerTo : Result Wanted Refusal → Result (List ℕ) Refusal → Type 0
+IsAnswerTo (Ok w) r = IsAnswer w r
+IsAnswerTo (Err e) r = r ≡ Err e
+
+-- the same of a text
+abbrev pub Plans : List ℕ → Result (List ℕ) Refusal → Type 0
+Plans bytes r = IsAnswerTo (whole_text wanted_at bytes) r
+
+-- what a job makes of a bundle: `yes` and the byte 0A, the migrated texts, what a play prints, or a plan for a change
+abbrev pub Makes : Job → List ℕ → Result (List ℕ) Refusal → Type 0
+Makes Check bytes r = map_ok (λ _. codes "yes" ++ 10 ∷ []) (verdict bytes) ≡ r
+Makes Migrate bytes r = migration bytes ≡ r
+Makes Play bytes r = plays bytes ≡ r
+Makes Plan bytes r = Plans bytes r
+
+-- the same, unless memory ran out
+abbrev pub MakesIf : Job → List ℕ → Result (List ℕ) Refusal → Type 0
+MakesIf job bytes (Ok text) = Makes job bytes (Ok text)
+MakesIf job bytes (Err e) = e ≢ OutOfMemory → Makes job bytes (Err e)

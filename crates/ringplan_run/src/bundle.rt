@@ -12,12 +12,16 @@ ghost use Rattle.plan_cert.specs.Valid.{Suits as IsCertOf};
 ghost use Rattle.plan_check.specs.First.{first_refusal};
 ghost use Rattle.ring_script.specs.Bundles.{IsOfRing, bundle_at};
 ghost use Rattle.ring_script.specs.declared.bundle.Kind.TheVariants.{Check, Play};
+ghost use Rattle.plan_change.specs.Wanted.{wanted_at};
+ghost use Rattle.ringplan_run.specs.declared.job.Job.TheVariants.{Plan as Planning};
 ghost use Rattle.ringplan_run.specs.Answers.{texts_of};
-ghost use Rattle.ringplan_run.specs.Verdict.{judged, made_by, migrated_text, migration, plays, shown, verdict};
+ghost use Rattle.ringplan_run.specs.Verdict.{MakesIf, judged, migrated_text, migration, plays, shown, verdict};
 
 use crate::job::Job;
 use plan_cert::{Cert, write_cert};
+use plan_change::read_wanted;
 use plan_check::check;
+use plan_proposal::propose;
 use plan_text::{Plan, write_plan};
 use ring_names::Refusal;
 use ring_script::{Bundle, Kind, play, read_bundle};
@@ -124,6 +128,20 @@ pub fn play_bundle(alloc: Global, bytes: &[u8]) -> Result<Vec<u8>, Refusal>
     }
 }
 
+/// The texts of a plan that makes the change of a bundle of a ring and a change, and of the plan's certificate, where the checker accepts the plan.
+/// Else the first fault of the texts, and where there is none `NoPlan` or the checker's refusal; where nobody leaves there is always a plan.
+/// `OutOfMemory` comes only where memory ran out, behind the first four lines of the ring.
+pub fn plan_bundle(alloc: Global, bytes: &[u8]) -> Result<Vec<u8>, Refusal>
+    ensures plans { MakesIf Planning bytes.now (texts_of result) }
+    // Memory may run out only if the first four lines have no fault.
+    ensures late { IfErr result (λ e. e ≡ OutOfMemory → NoFaultBefore 5 (whole_text wanted_at bytes.now)) }
+{
+    match read_wanted(alloc, bytes) {
+        Ok(wanted) => propose(alloc, wanted.ring, &wanted.change),
+        Err(e) => Err(e),
+    }
+}
+
 // What is printed where a plan is accepted.
 fn yes(alloc: Global) -> Result<Vec<u8>, Refusal>
     ensures text { IfOk result (λ v. v.items ≡ codes "yes" ++ 10 ∷ []) }
@@ -135,7 +153,7 @@ fn yes(alloc: Global) -> Result<Vec<u8>, Refusal>
 
 /// The text that a job makes of a bundle, or the refusal.
 pub fn make(alloc: Global, job: Job, bytes: &[u8]) -> Result<Vec<u8>, Refusal>
-    ensures { Gives (texts_of result) (made_by job bytes.now) }
+    ensures { MakesIf job bytes.now (texts_of result) }
 {
     match job {
         Job::Check => {
@@ -144,5 +162,6 @@ pub fn make(alloc: Global, job: Job, bytes: &[u8]) -> Result<Vec<u8>, Refusal>
         }
         Job::Migrate => migrate_bundle(alloc, bytes),
         Job::Play => play_bundle(alloc, bytes),
+        Job::Plan => plan_bundle(alloc, bytes),
     }
 }

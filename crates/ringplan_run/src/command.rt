@@ -12,7 +12,10 @@ use std::alloc::{AllocError, Global};
 use std::convert::AsStr;
 
 const ABOUT: &str =
-    "Checks a plan that moves the keys of a ring, plays a script over it, or brings its texts to a later format";
+    "Plans a change of a ring's members, checks a plan, plays a script over it, or brings its texts to a later format";
+
+const PLAN: &str =
+    "Prints a plan for the change on standard input, with its certificate, once the checker has accepted it";
 
 const CHECK: &str = "Checks the bundle on standard input";
 
@@ -23,13 +26,27 @@ const PLAY: &str =
     "Checks the bundle on standard input, and runs the events of its script over a store of all nodes";
 
 const STREAMS: &str = "\
-Standard input: a bundle, which is the text of a ring, then that of a plan, then that of its certificate; of `play` then that of a script.
-Standard output: of `check` the line `yes`, of `migrate` the bundle, of `play` what each event is answered and then the owners; else one
-line of `no`, the refusal's number and its values.
+Standard input: a bundle, which is the text of a ring, then that of a plan, then that of its certificate; of `play` then that of a script; of
+`plan` the text of a ring, then that of a change.
+Standard output: of `plan` the texts of a plan and its certificate, of `check` the line `yes`, of `play` what each event is answered and then
+the owners, of `migrate` the bundle; else one line of `no`, the refusal's number and its values.
 
 Exit status:
-  0  yes, or the bundle was printed, or the script was played
-  1  the plan is refused (`check` and `play`)
+  0  a plan was printed, or yes, or the script was played, or the bundle was printed
+  1  the plan is refused (`check` and `play`), or there is none (`plan`)
+  2  a text or the command line is refused
+  3  out of memory, or the input or the output failed";
+
+const PLAN_STREAMS: &str = "\
+Standard input: the text of a ring, then that of a change: `change 1`, a line `join <node>` for each node that shall join, then a line
+`leave <node>` for each member that shall leave, `end`.
+Standard output: the text of a plan that makes the change, then that of its certificate; behind the ring's text they are what `check` and
+`play` read. Or one line of `no`, the refusal's number and its values: `no 28` where there is no plan, as where fewer members would be left
+than a partition has slots. A change without `leave` lines always has a plan.
+
+Exit status:
+  0  a plan was printed
+  1  there is no plan
   2  a text or the command line is refused
   3  out of memory, or the input or the output failed";
 
@@ -112,6 +129,9 @@ fn job_of(matches: &ArgMatches) -> Job
     if matches.subcommand_matches("play").is_some() {
         return Job::Play;
     }
+    if matches.subcommand_matches("plan").is_some() {
+        return Job::Plan;
+    }
     match matches.subcommand_matches("migrate") {
         Some(_) => Job::Migrate,
         None => Job::Check,
@@ -146,7 +166,8 @@ fn with_job<'a>(
 fn command<'a>(alloc: Global) -> Result<Command<'a>, AllocError>
     ensures { IfOk result (λ command. app_of command ≡ ringplan) }
 {
-    let checks = with_job(alloc, alone(alloc), "check", CHECK, CHECK_STREAMS)?;
-    let migrates = with_job(alloc, checks, "migrate", MIGRATE, MIGRATE_STREAMS)?;
-    with_job(alloc, migrates, "play", PLAY, PLAY_STREAMS)
+    let plans = with_job(alloc, alone(alloc), "plan", PLAN, PLAN_STREAMS)?;
+    let checks = with_job(alloc, plans, "check", CHECK, CHECK_STREAMS)?;
+    let plays = with_job(alloc, checks, "play", PLAY, PLAY_STREAMS)?;
+    with_job(alloc, plays, "migrate", MIGRATE, MIGRATE_STREAMS)
 }

@@ -9,4 +9,6 @@ pub enum Job {
     Migrate,
     /// To print what the events of a script are answered.
     Play,
+    /// To print a plan for a change, and its certificate.
+    Plan,
 }

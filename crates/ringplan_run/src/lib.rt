@@ -10,5 +10,5 @@ mod job;
 mod output;
 mod program;
 
-pub use bundle::{check_bundle, migrate_bundle, play_bundle};
+pub use bundle::{check_bundle, migrate_bundle, plan_bundle, play_bundle};
 pub use program::{end_without_memory, end_without_words, run};

@@ -32,9 +32,9 @@ const FAILED: u8 = 3;
 // The exit status where the command line is refused.
 const REFUSED: u8 = 2;
 
-/// Runs a command line, whose first word is the program's name, and returns the exit status: 0 for
-/// yes, for migrated texts and for help, 1 for a plan that is refused, 2 for a text or a command line
-/// that is refused, and 3 where memory, the input or the output failed.
+/// Runs a command line, whose first word is the program's name, and returns the exit status: 0 for a plan that
+/// was found, for yes, for what a play prints, for migrated texts and for help, 1 for a plan that is refused or that there is none of, 2 for a
+/// text or a command line that is refused, and 3 where memory, the input or the output failed.
 pub fn run<RT: AllocGlobal, S: AsStr, R: Read + Drop, W: Write>(
     rt: &RT,
     words: &[S],
