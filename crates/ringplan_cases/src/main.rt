@@ -1,9 +1,9 @@
 //! Runs the program on the bundles that its arguments name, and prints the name, the answer and the exit status of each. The words
-//! `check`, `migrate` and `play` among them say which subcommand is meant from there on, at first `check`. Of a bundle whose plan is
+//! `check`, `migrate`, `play` and `plan` among them say which subcommand is meant from there on, at first `check`. Of a bundle that is
 //! accepted, no first part may be: how many are is printed where it is not none.
 #![tactic(auto)]
 
-use ringplan_run::{check_bundle, play_bundle, run};
+use ringplan_run::{check_bundle, plan_bundle, play_bundle, run};
 use std::alloc::Global;
 use std::fs::File;
 use std::{env, fs, io};
@@ -14,6 +14,7 @@ enum Asked {
     Check,
     Migrate,
     Play,
+    Plan,
 }
 
 fn main(rt: HostRuntime) -> io::Result<()> {
@@ -23,6 +24,7 @@ fn main(rt: HostRuntime) -> io::Result<()> {
             "check" => asked = Asked::Check,
             "migrate" => asked = Asked::Migrate,
             "play" => asked = Asked::Play,
+            "plan" => asked = Asked::Plan,
             name => show(&rt, asked, name)?,
         }
     }
@@ -47,6 +49,7 @@ fn subcommand(asked: Asked) -> &'static str {
         Asked::Check => "check",
         Asked::Migrate => "migrate",
         Asked::Play => "play",
+        Asked::Plan => "plan",
     }
 }
 
@@ -63,6 +66,7 @@ fn accepts(alloc: Global, asked: Asked, front: &[u8]) -> bool {
         Asked::Check => check_bundle(alloc, front).is_ok(),
         Asked::Migrate => false,
         Asked::Play => play_bundle(alloc, front).is_ok(),
+        Asked::Plan => plan_bundle(alloc, front).is_ok(),
     }
 }
 
