@@ -132,6 +132,31 @@ impl Choice {
         false
     }
 
+    /// Whether the node owns a slot of the partition, or enters it.
+    pub fn holds(&self, partition: usize, node: u32) -> bool {
+        for place in 0..at(&self.entered, partition) as usize {
+            if self.entering(partition, place) == node {
+                return true;
+            }
+        }
+        self.owns(partition, node)
+    }
+
+    /// Lets one node enter the partition in the place of another.
+    pub fn replace(&mut self, groups: &Groups, partition: usize, old: u32, new: u32) {
+        for turn in 0..at(&self.entered, partition) as usize {
+            let place = self.place(partition, turn);
+            if at(&self.entering, place) == old {
+                set(&mut self.entering, place, new);
+                lower(&mut self.load, old as usize);
+                raise(&mut self.load, new as usize);
+                lower(&mut self.copies, groups.taker(old));
+                raise(&mut self.copies, groups.taker(new));
+                return;
+            }
+        }
+    }
+
     /// How many nodes enter the partition.
     pub fn entered(&self, partition: usize) -> u32 {
         at(&self.entered, partition)

@@ -4,9 +4,11 @@
 //! what gives and what takes are apart, the graph has two sides, and as many rounds do as the fullest seat has copies (Kőnig 1916).
 
 use crate::groups::Groups;
+use crate::listed::fewest;
 use crate::moves::Move;
-use crate::numbers::{at, parts, raise, set, small};
+use crate::numbers::{at, parts, set, small};
 use crate::round_sets::RoundSets;
+use crate::rounds::counts;
 use ring_names::Refusal;
 use std::alloc::Global;
 
@@ -26,25 +28,6 @@ struct Seated {
     giver: End,
     taker: End,
     round: usize,
-}
-
-// How many copies each group has.
-fn counts(alloc: Global, groups: &Groups, moves: &[Move]) -> Result<Vec<u32>, Refusal> {
-    let mut counts = vec![in alloc; 0u32; groups.len()]?;
-    for step in moves {
-        raise(&mut counts, groups.giver(step.from));
-        raise(&mut counts, groups.taker(step.to));
-    }
-    Ok(counts)
-}
-
-// The fewest rounds that allowances permit.
-fn fewest(groups: &Groups, counts: &[u32]) -> u32 {
-    let mut most = 0u32;
-    for group in 0..groups.len() {
-        most = most.max(parts(at(counts, group), groups.most(group)));
-    }
-    most
 }
 
 /// Seats of all groups, and the copy that each has in each round.

@@ -6,14 +6,17 @@ mod choice;
 mod colours;
 mod givers;
 mod groups;
+mod listed;
 mod maker;
 mod members;
+mod mending;
 mod moves;
 mod numbers;
 mod round_sets;
 mod rounds;
 mod steps;
 mod takers;
+mod urgency;
 mod writing;
 
 pub use maker::make;

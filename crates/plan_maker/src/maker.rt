@@ -3,22 +3,53 @@
 use crate::choice::Choice;
 use crate::groups::Groups;
 use crate::members::Members;
-use crate::moves::moves;
-use crate::numbers::small;
-use crate::rounds::{Placed, in_rounds};
+use crate::moves::{Move, moves};
+use crate::rounds::Schedule;
 use crate::writing::Writer;
 use plan_cert::Cert;
 use plan_text::{Plan, Source};
-use ring_names::{NodeId, Refusal};
+use ring_names::{Listed, NodeId, Refusal};
 use ring_table::Ring;
 use std::alloc::Global;
 
-// The groups that take part in a move's copy from the owner.
-fn parties(alloc: Global, groups: &Groups, placed: &Placed) -> Result<Vec<u32>, Refusal> {
-    let mut parties = Vec::new(alloc);
-    parties.push(small(groups.giver(placed.step.from)))?;
-    parties.push(small(groups.taker(placed.step.to)))?;
-    Ok(parties)
+// Where a move's copy reads.
+fn source(alloc: Global, listed: &[u32]) -> Result<Source, Refusal> {
+    if listed.is_empty() {
+        return Ok(Source::Owner);
+    }
+    let slots = Vec::from_slice(alloc, listed)?;
+    Ok(Source::Slots(Listed::from_vec(slots)))
+}
+
+// The groups that take part in a move's copy.
+fn parties(schedule: &Schedule, number: u32) -> &[u32] {
+    let place = number as usize;
+    if place < schedule.parties.len() {
+        return schedule.parties.row(place);
+    }
+    &[]
+}
+
+// Writes the moves and what comes behind them.
+fn write_moves(
+    alloc: Global,
+    writer: &mut Writer,
+    groups: &Groups,
+    moves: &[Move],
+    schedule: &Schedule,
+) -> Result<(), Refusal> {
+    let placed = schedule.placed(alloc, moves)?;
+    for placed in placed.iter() {
+        let source = source(alloc, schedule.listed(placed.number))?;
+        writer.add_move(
+            alloc,
+            groups,
+            placed,
+            source,
+            parties(schedule, placed.number),
+        )?;
+    }
+    Ok(())
 }
 
 /// A plan after which the nodes of `joins` are members and those of `leaves` are none, with its certificate.
@@ -36,12 +67,9 @@ pub fn make(
     let groups = Groups::new(alloc, ring)?;
     let mut choice = Choice::new(alloc, ring, &members, &groups)?;
     let moves = moves(alloc, &mut choice, &members, &groups)?;
-    let placed = in_rounds(alloc, &groups, &moves)?;
+    let schedule = Schedule::new(alloc, &choice, &groups, &moves, ring.r())?;
     let mut writer = Writer::new(alloc, &members)?;
-    for placed in placed.iter() {
-        let parties = parties(alloc, &groups, placed)?;
-        writer.add_move(alloc, &groups, placed, Source::Owner, &parties)?;
-    }
+    write_moves(alloc, &mut writer, &groups, &moves, &schedule)?;
     writer.retire(&members)?;
     writer.finish(alloc, &groups)
 }

@@ -4,6 +4,7 @@ use crate::choice::Choice;
 use crate::givers::Givers;
 use crate::groups::Groups;
 use crate::members::Members;
+use crate::mending::Mending;
 use crate::numbers::small;
 use crate::takers::Takers;
 use ring_names::{Refusal, Slot};
@@ -49,7 +50,7 @@ fn spread(
         let count = choice.moving(partition);
         takers.enter(alloc, choice, members, groups, partition, count)?;
     }
-    Ok(())
+    Mending::new(alloc, choice, members, groups, fair, true)?.mend(choice)
 }
 
 // Slots of nodes that leave for which those that join are too few go to other members.
@@ -100,6 +101,7 @@ fn choose(
     overflow(alloc, choice, members, groups)?;
     let mut givers = Givers::new(alloc, choice, members, groups)?;
     givers.give(choice, groups, wanted.saturating_sub(handed))?;
+    Mending::new(alloc, choice, members, groups, fair, false)?.mend(choice)?;
     join_in_turn(choice, members, groups);
     Ok(())
 }

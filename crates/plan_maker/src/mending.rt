@@ -1,0 +1,299 @@
+//! Shifts that even out how many slots the members own, and move no slot more.
+//!
+//! A member hands a slot to another where the other enters a partition in its place, or where it gives in the other's place. Shifts along paths of
+//! such exchanges, from a member with at least two slots more, end at the most even choice that the number of moves allows.
+
+use crate::choice::Choice;
+use crate::groups::Groups;
+use crate::members::{Members, Role};
+use crate::numbers::{at, lower, raise, set, small};
+use ring_names::{Lists, Refusal};
+use std::alloc::Global;
+
+// How one member hands a slot to another.
+#[derive(Clone, Copy, Debug, PartialEq, Eq)]
+enum Exchange {
+    // The other enters the partition in its place.
+    Enters(usize),
+    // It gives the slot at the first place, and the other keeps that at the second.
+    Gives(usize, usize),
+}
+
+// A member from which a path leads on: to whom it hands a slot, and how.
+#[derive(Clone, Copy, Debug, PartialEq, Eq)]
+struct Link {
+    to: u32,
+    by: Exchange,
+}
+
+/// What a search knows, and what stays between searches.
+#[derive(Drop)]
+pub struct Mending<'a> {
+    alloc: Global,
+    members: &'a Members,
+    groups: &'a Groups,
+    // the share of each member that joins
+    fair: u32,
+    // whether those that join take part
+    with_joiners: bool,
+    // the places of the slots of each owner
+    owned: Lists<u32, u32>,
+    // how many more may enter each partition
+    room: Vec<u32>,
+    // of each node 1 where no path ends or goes on
+    frozen: Vec<u32>,
+    // of each node that a search met the next one on the path
+    links: Vec<Option<Link>>,
+    // the nodes that a search met, in order
+    met: Vec<u32>,
+    // the partitions that a search has not used
+    unused: Vec<u32>,
+    // whether a search may yet use the partitions with room
+    has_room: bool,
+}
+
+impl<'a> Mending<'a> {
+    /// Nothing is frozen.
+    pub fn new(
+        alloc: Global,
+        choice: &Choice,
+        members: &'a Members,
+        groups: &'a Groups,
+        fair: u32,
+        with_joiners: bool,
+    ) -> Result<Mending<'a>, Refusal> {
+        let mut owned = Lists::new(alloc);
+        let mut place = 0u32;
+        for _ in 0..choice.total() {
+            owned.add(choice.owner(place as usize), place)?;
+            place = place.saturating_add(1);
+        }
+        let mut mending = Mending {
+            alloc,
+            members,
+            groups,
+            fair,
+            with_joiners,
+            owned,
+            room: vec![in alloc; 0u32; choice.partitions]?,
+            frozen: vec![in alloc; 0u32; members.count() as usize]?,
+            links: Vec::new(alloc),
+            met: Vec::new(alloc),
+            unused: Vec::new(alloc),
+            has_room: false,
+        };
+        mending.count_room(choice);
+        Ok(mending)
+    }
+
+    // How many more of those that join may enter each partition, where others give slots for them.
+    fn count_room(&mut self, choice: &Choice) {
+        if self.with_joiners {
+            return;
+        }
+        let most = small(self.members.joiners.len()).min(small(choice.slots));
+        for partition in 0..choice.partitions {
+            set(
+                &mut self.room,
+                partition,
+                most.saturating_sub(choice.moving(partition)),
+            );
+        }
+    }
+
+    // Whether the node can be on a path.
+    fn takes_part(&self, node: u32) -> bool {
+        match self.members.role(node) {
+            Role::Stays => true,
+            Role::Joins => self.with_joiners,
+            Role::Absent | Role::Leaves => false,
+        }
+    }
+
+    // The member with the fewest slots of those that are not frozen.
+    fn poorest(&self, choice: &Choice) -> Option<u32> {
+        let mut found: Option<u32> = None;
+        for node in 0..self.members.count() {
+            if self.takes_part(node) && at(&self.frozen, node as usize) == 0 {
+                found = match found {
+                    Some(other) if choice.load(other) <= choice.load(node) => Some(other),
+                    _ => Some(node),
+                };
+            }
+        }
+        found
+    }
+
+    // Whether the member can lose a slot to one of that load.
+    fn can_spare(&self, choice: &Choice, node: u32, load: u32) -> bool {
+        let own = choice.load(node);
+        let enough = self.members.role(node) != Role::Joins || own > self.fair;
+        enough && own >= load.saturating_add(2)
+    }
+
+    // Begins a search at a member.
+    fn begin(&mut self, choice: &Choice, node: u32) -> Result<(), Refusal> {
+        self.links.clear();
+        for _ in 0..self.members.count() {
+            self.links.push(None)?;
+        }
+        self.met.clear();
+        self.met.push(node)?;
+        self.unused.clear();
+        for partition in 0..small(choice.partitions) {
+            if choice.entered(partition as usize) > 0 {
+                self.unused.push(partition)?;
+            }
+        }
+        self.has_room = true;
+        Ok(())
+    }
+
+    // Meets a member that can hand a slot to another, if it is new.
+    fn meet(&mut self, first: u32, node: u32, link: Link) -> Result<(), Refusal> {
+        if node == first || !self.takes_part(node) || at(&self.frozen, node as usize) != 0 {
+            return Ok(());
+        }
+        if let Some(old) = self.links.get_mut(node as usize) {
+            if old.is_none() {
+                *old = Some(link);
+                self.met.push(node)?;
+            }
+        }
+        Ok(())
+    }
+
+    // Meets those in whose place the node could enter a partition.
+    fn meet_entering(&mut self, choice: &Choice, first: u32, node: u32) -> Result<(), Refusal> {
+        let mut left = Vec::new(self.alloc);
+        let mut used = Vec::new(self.alloc);
+        for partition in self.unused.iter() {
+            if choice.holds(*partition as usize, node) {
+                left.push(*partition)?;
+            } else {
+                used.push(*partition)?;
+            }
+        }
+        self.unused = left;
+        for partition in used.iter() {
+            let partition = *partition as usize;
+            for place in 0..choice.entered(partition) as usize {
+                let other = choice.entering(partition, place);
+                let by = Exchange::Enters(partition);
+                self.meet(first, other, Link { to: node, by })?;
+            }
+        }
+        Ok(())
+    }
+
+    // Meets those that could give a slot of the partition in place of the one that the node gives.
+    fn meet_givers(
+        &mut self,
+        choice: &Choice,
+        first: u32,
+        node: u32,
+        partition: usize,
+        given: usize,
+    ) -> Result<(), Refusal> {
+        for index in 0..choice.slots {
+            let place = choice.place(partition, index);
+            if !choice.moves(place) {
+                let by = Exchange::Gives(place, given);
+                self.meet(first, choice.owner(place), Link { to: node, by })?;
+            }
+        }
+        Ok(())
+    }
+
+    // Meets those that could give in place of the node, where it gives.
+    fn meet_giving(&mut self, choice: &Choice, first: u32, node: u32) -> Result<(), Refusal> {
+        if self.with_joiners || self.members.role(node) != Role::Stays {
+            return Ok(());
+        }
+        let mut given = Vec::new(self.alloc);
+        for place in self.owned.items(&node) {
+            if choice.moves(*place as usize) {
+                given.push(*place)?;
+            }
+        }
+        for place in given.iter() {
+            let place = *place as usize;
+            self.meet_givers(choice, first, node, choice.partition(place), place)?;
+        }
+        let Some(place) = given.first() else {
+            return Ok(());
+        };
+        if self.has_room {
+            self.has_room = false;
+            for partition in 0..choice.partitions {
+                if at(&self.room, partition) > 0 {
+                    self.meet_givers(choice, first, node, partition, *place as usize)?;
+                }
+            }
+        }
+        Ok(())
+    }
+
+    // The member with at least two slots more from which a path leads to the first, if there is one.
+    fn search(&mut self, choice: &Choice, first: u32) -> Result<Option<u32>, Refusal> {
+        self.begin(choice, first)?;
+        let load = choice.load(first);
+        for turn in 0..self.members.count() as usize {
+            if turn >= self.met.len() {
+                break;
+            }
+            let node = at(&self.met, turn);
+            if self.can_spare(choice, node, load) {
+                return Ok(Some(node));
+            }
+            self.meet_entering(choice, first, node)?;
+            self.meet_giving(choice, first, node)?;
+        }
+        Ok(None)
+    }
+
+    // Carries out one exchange.
+    fn exchange(&mut self, choice: &mut Choice, node: u32, link: Link) {
+        match link.by {
+            Exchange::Enters(partition) => choice.replace(self.groups, partition, node, link.to),
+            Exchange::Gives(place, kept) => {
+                choice.keep(self.groups, kept);
+                choice.give(self.groups, place);
+                raise(&mut self.room, choice.partition(kept));
+                lower(&mut self.room, choice.partition(place));
+            }
+        }
+    }
+
+    // Carries out all exchanges of the path from a member to the first.
+    fn shift(&mut self, choice: &mut Choice, from: u32) {
+        let mut node = from;
+        for _ in 0..self.members.count() {
+            let link = match self.links.get(node as usize) {
+                Some(Some(link)) => *link,
+                _ => break,
+            };
+            self.exchange(choice, node, link);
+            node = link.to;
+        }
+    }
+
+    /// Shifts slots as long as some path leads from a member to one with at least two fewer.
+    pub fn mend(&mut self, choice: &mut Choice) -> Result<(), Refusal> {
+        let turns = choice.total().saturating_add(self.members.count() as usize);
+        for _ in 0..turns {
+            let Some(first) = self.poorest(choice) else {
+                break;
+            };
+            match self.search(choice, first)? {
+                Some(from) => self.shift(choice, from),
+                None => {
+                    for node in self.met.iter() {
+                        set(&mut self.frozen, *node as usize, 1);
+                    }
+                }
+            }
+        }
+        Ok(())
+    }
+}
