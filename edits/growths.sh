@@ -69,8 +69,10 @@ refuse_each() {
 }
 
 refuse_each ringplan_growths 1 "" "$top/crates/ringplan_growths/stdin" "$top/crates/ringplan_growths/out/ringplan_growths"
-for bundle in "$top"/crates/ringplan_cases/data/*.bundle; do
-    name=$(basename "$bundle" .bundle)
-    case $name in play_*) word=play ;; *) word=check ;; esac
-    refuse_each "$name" 3 "no 60" "$bundle" "$top/crates/ringplan/out/ringplan" $word
-done
+word=check
+while read -r name; do
+    case $name in
+    check | migrate | play | plan) word=$name ;;
+    *) refuse_each "$name" 3 "no 60" "$top/crates/ringplan_cases/data/$name.bundle" "$top/crates/ringplan/out/ringplan" "$word" ;;
+    esac
+done < "$top/crates/ringplan_cases/args"
