@@ -34,6 +34,7 @@ fn helps_printed(rt: HostRuntime) -> Result<(), Fail> {
     told(&rt, &["ringplan", "migrate", "-h"], 0, "checks nothing")?;
     told(&rt, &["ringplan", "check", "--help"], 0, "Exit status")?;
     told(&rt, &["ringplan", "play", "--help"], 0, "for each event")?;
+    told(&rt, &["ringplan", "plan", "--help"], 0, "change 1")?;
     told(&rt, &["ringplan", "help", "check"], 0, "Exit status")
 }
 
@@ -41,9 +42,9 @@ fn helps_printed(rt: HostRuntime) -> Result<(), Fail> {
 fn mistakes_told(rt: HostRuntime) -> Result<(), Fail> {
     told(
         &rt,
-        &["ringplan", "plan"],
+        &["ringplan", "drive"],
         2,
-        "error: unrecognized subcommand 'plan'",
+        "error: unrecognized subcommand 'drive'",
     )?;
     told(
         &rt,
