@@ -7,9 +7,13 @@ mod checks;
 #[cfg(test)]
 mod clocks;
 #[cfg(test)]
+mod figures;
+#[cfg(test)]
 mod memory;
 #[cfg(test)]
 mod names;
+#[cfg(test)]
+mod planning;
 #[cfg(test)]
 mod plans;
 #[cfg(test)]
