@@ -1,6 +1,6 @@
 //! What a change does to each node.
 
-use crate::numbers::at;
+use crate::numbers::{at, small};
 use ring_names::{NodeId, Refusal};
 use ring_table::Ring;
 use std::alloc::Global;
@@ -73,11 +73,7 @@ impl Members {
 
     /// How many nodes there are.
     pub fn count(&self) -> u32 {
-        let mut count = 0u32;
-        for _ in self.roles.iter() {
-            count = count.saturating_add(1);
-        }
-        count
+        small(self.roles.len())
     }
 
     /// The joiner whose turn it is, where they take turns.
