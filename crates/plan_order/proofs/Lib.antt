@@ -1,3 +1,4 @@
 pub mod Left
 pub mod Reaching
 pub mod Keeping
+mod Found

@@ -1,5 +1,5 @@
 -- Paths of dependencies.
-use Rattle.std.specs.Prelude.{ℕ, ◌+◌, Bool, true, ◌&&◌, nat_le, List, [], ◌∷◌, length, min, Option, Some, None, if◌then◌else◌}
+use Rattle.std.specs.Prelude.{ℕ, ◌+◌, Bool, true, not, ◌&&◌, nat_le, List, [], ◌∷◌, length, min, Option, Some, None, slice_index_or, if◌then◌else◌}
 use Rattle.ring_names.specs.declared.refusal.Refusal.{Refusal}
 use Rattle.ring_names.specs.declared.refusal.Refusal.TheVariants.{BadPath}
 use Rattle.plan_text.specs.declared.step.Planned.{Planned}
@@ -14,6 +14,10 @@ are_links plan (a ∷ b ∷ rest) = depends plan a b && are_links plan (b ∷ re
 -- at least two steps, each a direct dependency of the next
 abbrev pub is_path : List Planned → List ℕ → Bool
 is_path plan path = nat_le 2 (length path) && are_links plan path
+
+-- whether that of number n is no path
+abbrev pub is_bad_at : List Planned → List (List ℕ) → ℕ → Bool
+is_bad_at plan paths n = not (is_path plan (slice_index_or paths n []))
 
 -- the refusal of the first of these that is no path; the first has number n, and all from 2 ^ 32 - 1 on have that number
 abbrev pub first_bad : List Planned → ℕ → List (List ℕ) → Option Refusal

@@ -1,18 +1,20 @@
 //! Facts of order: the ends of verified paths.
 
-ghost use Rattle.std.specs.Prelude.{◌≡◌, ◌||◌, ℕ, IsTrue, IfOk, IfErr, OnOk, None, Some, Err, option_map};
+ghost use Rattle.std.specs.Prelude.{◌≡◌, ◌||◌, ◌<◌, ℕ, IsTrue, IfOk, IfErr, OnOk, None, Some, Err, length, option_map};
 ghost use Rattle.ring_names.specs.declared.refusal.Refusal.{Refusal as TheRefusal};
 ghost use Rattle.ring_names.specs.declared.refusal.Refusal.TheVariants.{BadPath, OutOfMemory};
 ghost use Rattle.plan_order.specs.Before.{Before};
-ghost use Rattle.plan_order.specs.Paths.{first_bad};
+ghost use Rattle.plan_order.specs.Paths.{first_bad, is_bad_at};
 ghost use Rattle.plan_order.specs.Facts.{AreFactsOf, is_ordered, has_ends, leads, some_leads};
 
 use crate::path::{is_link, verify_fact};
 use plan_text::Plan;
+use rayon::prelude::*;
 use ring_names::{Refusal, Rows};
 use std::alloc::Global;
 use std::collections::BTreeSet;
 use std::marker::Model;
+use std::thread::Threads;
 
 /// The first and the last step of a path.
 #[derive(Clone, Copy, Debug, PartialEq, Eq, PartialOrd, Ord)]
@@ -46,6 +48,31 @@ fn first_bad_path(plan: &Plan, paths: &Rows) -> Option<u32>
         }
     }
     None
+}
+
+// Whether the path of that number is none.
+fn is_bad_path(plan: &Plan, paths: &Rows, number: usize) -> bool
+    requires { number < length paths.now }
+    ensures { result ≡ is_bad_at plan.now paths.now number }
+{
+    !verify_fact(plan, paths.row(number))
+}
+
+// The same number as `first_bad_path` gives, found by threads.
+fn first_bad_path_by_threads(rt: &(impl Threads + Sync), plan: &Plan, paths: &Rows) -> Option<u32>
+    ensures { first_bad plan.now 0 paths.now ≡ option_map (λ n. BadPath n) result }
+{
+    let found = (0..paths.len()).into_par_iter().position_first(
+        rt,
+        |number: usize| -> bool
+            requires { number < length paths.now }
+            ensures { result ≡ is_bad_at plan.entry.now paths.entry.now number }
+        { is_bad_path(plan, paths, number) },
+    );
+    match found {
+        Some(number) => Some(number.min(4294967295) as u32),
+        None => None,
+    }
 }
 
 // Adds the ends of a path; one without steps has none.
@@ -82,9 +109,38 @@ impl Facts {
         ensures ends { IfOk result (λ f. (a b : ℕ) → has_ends a b f ≡ some_leads a b paths.now) }
         ensures facts { IfOk result (λ f. AreFactsOf plan.now f) }
     {
-        if let Some(number) = first_bad_path(plan, paths) {
-            return Err(Refusal::BadPath(number));
+        match first_bad_path(plan, paths) {
+            Some(number) => Err(Refusal::BadPath(number)),
+            None => Facts::of_paths(alloc, plan, paths),
         }
+    }
+
+    /// The same, each path by one of as many threads as there are processors; no answer tells how many these were. Every path is looked at.
+    pub fn verify_parallel(
+        rt: &(impl Threads + Sync),
+        alloc: Global,
+        plan: &Plan,
+        paths: &Rows,
+    ) -> Result<Facts, Refusal>
+        ensures bad { (e : TheRefusal) → first_bad plan.now 0 paths.now ≡ Some e → result ≡ Err e }
+        ensures good { IfErr result (λ e. first_bad plan.now 0 paths.now ≡ None → e ≡ OutOfMemory) }
+        ensures late { IfErr result (λ e. e ≡ OutOfMemory → first_bad plan.now 0 paths.now ≡ None) }
+        ensures ends { IfOk result (λ f. (a b : ℕ) → has_ends a b f ≡ some_leads a b paths.now) }
+        ensures facts { IfOk result (λ f. AreFactsOf plan.now f) }
+    {
+        match first_bad_path_by_threads(rt, plan, paths) {
+            Some(number) => Err(Refusal::BadPath(number)),
+            None => Facts::of_paths(alloc, plan, paths),
+        }
+    }
+
+    // The ends of paths, none of which is bad.
+    fn of_paths(alloc: Global, plan: &Plan, paths: &Rows) -> Result<Facts, Refusal>
+        requires { first_bad plan.now 0 paths.now ≡ None }
+        ensures memory { IfErr result (λ e. e ≡ OutOfMemory) }
+        ensures ends { IfOk result (λ f. (a b : ℕ) → has_ends a b f ≡ some_leads a b paths.now) }
+        ensures facts { IfOk result (λ f. AreFactsOf plan.now f) }
+    {
         let mut ends = BTreeSet::new(alloc);
         add_all_ends(&mut ends, paths)?;
         Ok(Facts { ends })
