@@ -10,13 +10,14 @@ use Rattle.plan_order.specs.Paths.{is_path, first_bad}
 use Rattle.plan_order.specs.declared.facts.Ends.{Ends}
 use Rattle.plan_order.specs.Facts.{has_ends, some_leads, is_ordered}
 use Rattle.plan_cert.specs.declared.cert.Cert.{Cert}
-use Rattle.plan_stage.specs.Clauses.{Guard, first_failing, below}
+use Rattle.plan_stage.specs.Clauses.{Guard, Gives, first_failing, below}
 use Rattle.plan_stage.specs.Partition.{partition_clauses}
 use Rattle.plan_cover.specs.Clauses.{node_clauses}
 use Rattle.plan_stage.proofs.Alike.{parts-alike, partition-alike, below-alike}
 use Rattle.plan_cover.proofs.Alike.{node-alike}
 use Rattle.plan_check.specs.Certified.{ordered_by}
-use Rattle.plan_check.specs.First.{fact_clauses, rest_clauses}
+use Rattle.plan_stage.proofs.Partitions.{gives-behind, gives-front, gives-same}
+use Rattle.plan_check.specs.First.{fact_clauses, rest_clauses, all_clauses}
 
 -- ---- facts
 
@@ -87,3 +88,24 @@ facts-late {X} plan fs r d bad is memory = by (first_bad plan 0 fs) refl
 pub late-behind : (r : Result (Unit {0}) Refusal) (o : Option Refusal) → o ≡ None → IfErr r (λ e. e ≡ OutOfMemory → o ≡ None)
 late-behind (Ok x) o h = tt
 late-behind (Err e) o h = λ m. h
+
+-- ---- facts and what comes behind them
+
+-- facts that are refused
+pub unverified : {X : Type 0} → (ring : RingValue) (plan : List Planned) (cert : Cert) (r : Result X Refusal) (d : Refusal)
+    → ((e : Refusal) → first_bad plan 0 cert.facts ≡ Some e → r ≡ Err e) → (first_bad plan 0 cert.facts ≡ None → d ≡ OutOfMemory) → r ≡ Err d
+    → Gives (Err d) (all_clauses ring plan cert)
+unverified ring plan cert r d bad good is =
+    gives-front d (fact_clauses plan 0 cert.facts) (rest_clauses ring plan cert (ordered_by plan cert)) (λ ne. facts-first plan 0 cert.facts ∙ facts-bad (first_bad plan 0 cert.facts) r d bad good is ne)
+
+-- facts that are verified
+pub verified : {X : Type 0} → (plan : List Planned) (fs : List (List ℕ)) (r : Result X Refusal) (f : X) → ((e : Refusal) → first_bad plan 0 fs ≡ Some e → r ≡ Err e) → r ≡ Ok f
+    → first_failing (fact_clauses plan 0 fs) ≡ None
+verified plan fs r f bad is = facts-first plan 0 fs ∙ facts-good (first_bad plan 0 fs) r f bad is
+
+-- behind them, what the other clauses give is what all give
+pub behind-facts : (ring : RingValue) (plan : List Planned) (facts : List Ends) (cert : Cert) → first_failing (fact_clauses plan 0 cert.facts) ≡ None
+    → ((a b : ℕ) → has_ends a b facts ≡ some_leads a b cert.facts) → (r : Result (Unit {0}) Refusal) → Gives r (rest_clauses ring plan cert (is_ordered plan facts)) → Gives r (all_clauses ring plan cert)
+behind-facts ring plan facts cert none ends r given =
+    gives-behind r (fact_clauses plan 0 cert.facts) (rest_clauses ring plan cert (ordered_by plan cert)) none
+    (gives-same r (rest_clauses ring plan cert (is_ordered plan facts)) (rest_clauses ring plan cert (ordered_by plan cert)) (rest-alike ring plan facts cert ends) given)

@@ -49,3 +49,5 @@ pub mod Holdings
 pub mod Asking
 pub mod Fresh
 pub mod Promised
+mod Shared
+mod Spent

@@ -17,3 +17,4 @@ pub mod First
 pub mod Occupies
 pub mod Causes
 pub mod Firm
+pub mod Shares

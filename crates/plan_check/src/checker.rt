@@ -1,7 +1,7 @@
 //! The check itself.
 
-ghost use Rattle.std.specs.Prelude.{◌≡◌, None, Some, IfOk, IfErr, OnOk, length};
-ghost use Rattle.ring_names.specs.declared.refusal.Refusal.TheVariants.{OutOfMemory};
+ghost use Rattle.std.specs.Prelude.{◌≡◌, ◌⊎◌, None, Some, IfOk, IfErr, IfNone, IfSome, OnOk, length};
+ghost use Rattle.ring_names.specs.declared.refusal.Refusal.TheVariants.{OutOfMemory, TurnsSpent};
 ghost use Rattle.plan_text.specs.Valid.{Suits};
 ghost use Rattle.plan_order.specs.Facts.{AreFactsOf, is_ordered};
 ghost use Rattle.plan_stage.specs.Clauses.{Gives, below, first_failing};
@@ -9,17 +9,21 @@ ghost use Rattle.plan_stage.specs.Partition.{partition_clauses};
 ghost use Rattle.plan_check.specs.Approval.{IsApproved};
 ghost use Rattle.plan_check.specs.Certified.{IsCertified};
 ghost use Rattle.plan_check.specs.First.{fact_clauses, rest_clauses, all_clauses, first_refusal};
+ghost use Rattle.plan_check.specs.Shares.{MayStop};
 
 use crate::approval::{Approved, Turned};
+use crate::gate::Gate;
 use crate::laws::{certified_is_sound, first_is_none_where_certified, sound_plans_keep_promises};
+use crate::shares::{check_share, check_shares};
 use plan_cert::Cert;
 use plan_cover::check_nodes;
 use plan_order::Facts;
-use plan_stage::check_partition;
 use plan_text::Plan;
 use ring_names::Refusal;
 use ring_table::Ring;
 use std::alloc::Global;
+use std::sync::Wait;
+use std::thread::Threads;
 
 /// Checks a plan against the ring that it suits, by a certificate: its facts by number, then the partitions, then the nodes.
 ///
@@ -52,40 +56,104 @@ pub fn check(alloc: Global, ring: Ring, plan: Plan, cert: &Cert) -> Result<Appro
     }
 }
 
+/// Checks as `check` does, the facts by as many threads as there are processors and the partitions in shares, by as many workers as are asked for but
+/// not more than there are partitions; none is as one. Of Q partitions and m shares, share s begins with partition s Q / m, rounded down: worker s passes
+/// the gate with that number for its mark, and then checks its share. Where no thread can be started, the calling thread does the shares in turn.
+///
+/// The answer is that of `check`, the first refusal included, whatever the number of workers and whoever was first. But where the gate does not let a
+/// worker pass, it is `TurnsSpent`, whatever else was found. After a path that is none no share is begun.
+pub fn check_parallel<R: Threads + Wait + Sync, G: Gate + Sync>(
+    rt: &R,
+    alloc: Global,
+    workers: u32,
+    gate: &G,
+    ring: Ring,
+    plan: Plan,
+    cert: &Cert,
+) -> Result<Approved, Turned>
+    requires { Suits ring plan }
+    ensures same { IfOk result (λ a. (a.ring ≡ ring) × (a.plan ≡ plan)) }
+    ensures approved { OnOk result (IsApproved ring plan) }
+    ensures certified { OnOk result (IsCertified ring plan cert.now) }
+    ensures accepted { OnOk result (first_refusal ring plan cert.now ≡ None) }
+    ensures refused { IfErr result (λ t. (t.refusal ≡ OutOfMemory → ⊥) → (t.refusal ≡ TurnsSpent → ⊥) → first_refusal ring plan cert.now ≡ Some t.refusal) }
+    ensures stopped { IfErr result (λ t. t.refusal ≡ TurnsSpent → MayStop (G.may_refuse gate.now) workers ring.q) }
+    ensures unchanged { IfErr result (λ t. (t.ring ≡ ring) × (t.plan ≡ plan)) }
+    ensures memory { IsCertified ring plan cert.now → IfErr result (λ t. (t.refusal ≡ OutOfMemory) ⊎ (t.refusal ≡ TurnsSpent)) }
+    ensures late { IfErr result (λ t. (t.refusal ≡ OutOfMemory) ⊎ (t.refusal ≡ TurnsSpent) → first_failing (fact_clauses plan 0 cert.now.facts) ≡ None) }
+{
+    first_is_none_where_certified(&ring, &plan, cert);
+    certified_is_sound();
+    sound_plans_keep_promises(&ring, &plan);
+    match check_all_by_workers(rt, alloc, workers, gate, &ring, &plan, cert) {
+        Some(Ok(())) => Ok(Approved::new(ring, plan)),
+        Some(Err(refusal)) => Err(Turned {
+            ring,
+            plan,
+            refusal,
+        }),
+        None => Err(Turned {
+            ring,
+            plan,
+            refusal: Refusal::TurnsSpent,
+        }),
+    }
+}
+
 // Tests all clauses in their order.
 fn check_all(alloc: Global, ring: &Ring, plan: &Plan, cert: &Cert) -> Result<(), Refusal>
     requires { Suits ring.now plan.now }
     ensures first { Gives result (all_clauses ring.now plan.now cert.now) }
     ensures late { IfErr result (λ e. e ≡ OutOfMemory → first_failing (fact_clauses plan.now 0 cert.now.facts) ≡ None) }
 {
-    let facts = Facts::verify(alloc, plan, &cert.facts)?;
-    check_rest(alloc, ring, plan, &facts, cert)
+    match Facts::verify(alloc, plan, &cert.facts) {
+        Ok(facts) => {
+            let found = check_share(alloc, ring, plan, &facts, 0, ring.q());
+            check_rest(alloc, ring, plan, &facts, cert, found)
+        }
+        Err(refusal) => Err(refusal),
+    }
 }
 
-// Tests the clauses of the partitions, and then those of the nodes.
+// Tests all clauses, those of the partitions by workers. None where the gate stopped one.
+fn check_all_by_workers<R: Threads + Wait + Sync, G: Gate + Sync>(
+    rt: &R,
+    alloc: Global,
+    workers: u32,
+    gate: &G,
+    ring: &Ring,
+    plan: &Plan,
+    cert: &Cert,
+) -> Option<Result<(), Refusal>>
+    requires { Suits ring.now plan.now }
+    ensures stopped { IfNone result (MayStop (G.may_refuse gate.now) workers ring.now.q) }
+    ensures facts { IfNone result (first_failing (fact_clauses plan.now 0 cert.now.facts) ≡ None) }
+    ensures first { IfSome result (λ r. Gives r (all_clauses ring.now plan.now cert.now)) }
+    ensures late { IfSome result (λ r. IfErr r (λ e. e ≡ OutOfMemory → first_failing (fact_clauses plan.now 0 cert.now.facts) ≡ None)) }
+{
+    match Facts::verify_parallel(rt, alloc, plan, &cert.facts) {
+        Ok(facts) => match check_shares(rt, alloc, workers, gate, ring, plan, &facts) {
+            Some(found) => Some(check_rest(alloc, ring, plan, &facts, cert, found)),
+            None => None,
+        },
+        Err(refusal) => Some(Err(refusal)),
+    }
+}
+
+// Tests the clauses of the nodes, behind what those of the partitions gave.
 fn check_rest(
     alloc: Global,
     ring: &Ring,
     plan: &Plan,
     facts: &Facts,
     cert: &Cert,
+    found: Result<(), Refusal>,
 ) -> Result<(), Refusal>
     requires suits { Suits ring.now plan.now }
     requires facts { AreFactsOf plan.now facts.now }
+    requires found { Gives found (below (partition_clauses ring.now plan.now (is_ordered plan.now facts.now)) ring.now.q) }
     ensures { Gives result (rest_clauses ring.now plan.now cert.now (is_ordered plan.now facts.now)) }
 {
-    check_partitions(alloc, ring, plan, facts)?;
+    found?;
     check_nodes(alloc, ring, plan, facts, cert)
-}
-
-// Tests the clauses of every partition.
-fn check_partitions(alloc: Global, ring: &Ring, plan: &Plan, facts: &Facts) -> Result<(), Refusal>
-    requires suits { Suits ring.now plan.now }
-    requires facts { AreFactsOf plan.now facts.now }
-    ensures { Gives result (below (partition_clauses ring.now plan.now (is_ordered plan.now facts.now)) ring.now.q) }
-{
-    for partition in 0..ring.q() {
-        check_partition(alloc, ring, plan, facts, partition)?;
-    }
-    Ok(())
 }

@@ -7,14 +7,15 @@ use Rattle.plan_cover.specs.Clauses.{node_clauses}
 use Rattle.plan_stage.proofs.Partitions.{gives-behind, gives-front}
 use Rattle.plan_check.proofs.checker.check_rest.Goals as goal
 
-pub returns-in_err-check_partitions : goal.returns-in_err-check_partitions
-returns-in_err-check_partitions c =
+pub returns-in_err-found : goal.returns-in_err-found
+returns-in_err-found c =
     let ring = c.args.ring.now in
     let plan = c.args.plan.now in
     let O = is_ordered plan c.args.facts.now in
     let nodes : List Guard = below (λ x. node_clauses ring plan c.args.cert.now O (record { 0 = x })) (length ring.nodes) in
     let p = err_from_is_err_and c.from_residual.result c.from_residual.ensures.1 in
-    rw (p.1, p.2) (gives-front c.in_err-check_partitions.field-0.0 (below (partition_clauses ring plan O) ring.q) nodes c.in_err-check_partitions.ensures)
+    let given = rw c.in_err-found.was at c.requires.found in
+    rw (p.1, p.2) (gives-front c.in_err-found.field-0.0 (below (partition_clauses ring plan O) ring.q) nodes given)
 
 pub returns : goal.returns
 returns c =
@@ -22,4 +23,5 @@ returns c =
     let plan = c.args.plan.now in
     let O = is_ordered plan c.args.facts.now in
     let nodes : List Guard = below (λ x. node_clauses ring plan c.args.cert.now O (record { 0 = x })) (length ring.nodes) in
-    gives-behind c.check_nodes.result (below (partition_clauses ring plan O) ring.q) nodes c.in_ok-check_partitions.ensures c.check_nodes.ensures
+    let given = rw c.in_ok-found.was at c.requires.found in
+    gives-behind c.check_nodes.result (below (partition_clauses ring plan O) ring.q) nodes given c.check_nodes.ensures

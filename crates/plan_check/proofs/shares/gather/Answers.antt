@@ -1,0 +1,39 @@
+use Rattle.std.proofs.Common.{◌≡◌, ◌+◌, ◌<◌, ◌≤◌, ℕ, List, length, subst, sym, ap, arith}
+use Rattle.plan_order.specs.Facts.{is_ordered}
+use Rattle.plan_stage.specs.Clauses.{Guard, Gives, below}
+use Rattle.plan_stage.specs.Partition.{partition_clauses}
+use Rattle.plan_check.specs.Shares.{IsOutcome, first_of}
+use Rattle.plan_check.specs.declared.shares.ShareOutcome.{ShareOutcome}
+use Rattle.plan_check.specs.declared.shares.ShareOutcome.TheVariants.{Stopped}
+use Rattle.plan_check.proofs.Shared.{joined, first-grows, first-last, none-before, some-share}
+use Rattle.plan_check.proofs.shares.gather.Goals as goal
+
+pub loop-share-init : goal.loop-share-init
+loop-share-init g c =
+    let some = some-share c.args.workers c.args.ring.now.q in
+    none-before (partition_clauses c.args.ring.now c.args.plan.now (is_ordered c.args.plan.now c.args.facts.now)) c.args.ring.now.q (length c.args.found.now) (rw c.requires.count some)
+
+pub loop-share-preserved : goal.loop-share-preserved
+loop-share-preserved g c =
+    let q = c.args.ring.now.q in
+    let m = length c.args.found.now in
+    let s = c.loop-share.share in
+    let C : ℕ → List Guard = partition_clauses c.args.ring.now c.args.plan.now (is_ordered c.args.plan.now c.args.facts.now) in
+    let some = some-share c.args.workers q in
+    let some' : 0 < m = rw c.requires.count some in
+    let grows : first_of q m s ≤ first_of q m (s + 1) = first-grows q m s (s + 1) some' (omega arith) in
+    let within : s < m = omega arith in
+    let outcome = c.requires.outcomes s Stopped within in
+    let told = rw c.in-Checked.is at outcome in
+    rw c.and-first.ensures (joined C (first_of q m s) (first_of q m (s + 1)) grows c.loop-share.first c.in-Checked.next c.loop-share.invariant told)
+
+pub returns-clause-first : goal.returns-clause-first
+returns-clause-first g c =
+    let q = c.args.ring.now.q in
+    let m = length c.args.found.now in
+    let C : ℕ → List Guard = partition_clauses c.args.ring.now c.args.plan.now (is_ordered c.args.plan.now c.args.facts.now) in
+    let some = some-share c.args.workers q in
+    let some' : 0 < m = rw c.requires.count some in
+    let end : c.loop-share.share ≡ m = omega arith in
+    let whole = first-last q m some' in
+    subst (λ (n : ℕ). Gives c.loop-share.first (below C n)) whole (subst (λ (s : ℕ). Gives c.loop-share.first (below C (first_of q m s))) end c.loop-share.invariant)
