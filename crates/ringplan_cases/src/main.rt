@@ -1,11 +1,13 @@
 //! Runs the program on the bundles that its arguments name, and prints the name, the answer and the exit status of each. The words
 //! `check`, `migrate`, `play` and `plan` among them say which subcommand is meant from there on, at first `check`. Of a bundle that is
-//! accepted, no first part may be: how many are is printed where it is not none.
+//! accepted, no first part may be: how many are is printed where it is not none. A check is also made by 1, 3 and 64 workers: how many of them
+//! say otherwise is printed where it is not none.
 #![tactic(auto)]
 
 use ringplan_run::{check_bundle, plan_bundle, play_bundle, run};
 use std::alloc::Global;
 use std::fs::File;
+use std::io::Write;
 use std::{env, fs, io};
 
 // What the program is asked to do with a bundle.
@@ -40,7 +42,10 @@ fn show(rt: &HostRuntime, asked: Asked, name: &str) -> io::Result<()> {
     if status == 0 {
         check_fronts(rt, asked, path.as_str())?;
     }
-    Ok(())
+    match asked {
+        Asked::Check => check_workers(rt, path.as_str()),
+        _ => Ok(()),
+    }
 }
 
 // The subcommand.
@@ -81,6 +86,50 @@ fn check_fronts(rt: &HostRuntime, asked: Asked, path: &str) -> io::Result<()> {
     }
     if accepted > 0 {
         println!(rt; "{accepted} first parts are accepted")?;
+    }
+    Ok(())
+}
+
+// What was written, and the exit status.
+#[derive(PartialEq, Eq, Drop)]
+struct Said {
+    bytes: Vec<u8>,
+    status: u8,
+}
+
+impl Write for Said {
+    fn write(&mut self, part: &[u8]) -> io::Result<usize> {
+        self.bytes.extend_from_slice(part)?;
+        Ok(part.len())
+    }
+
+    fn flush(&mut self) -> io::Result<()> {
+        Ok(())
+    }
+}
+
+// What the program says of the bundle to these words.
+fn said(rt: &HostRuntime, words: &[&str], path: &str) -> io::Result<Said> {
+    let mut bundle = File::open(rt, path)?;
+    let mut said = Said {
+        bytes: Vec::new(rt.alloc()),
+        status: 0,
+    };
+    said.status = run(rt, words, &mut bundle, &mut said);
+    Ok(said)
+}
+
+// Says of how many numbers of workers the check says otherwise than without, if it does of some.
+fn check_workers(rt: &HostRuntime, path: &str) -> io::Result<()> {
+    let alone = said(rt, &["ringplan", "check"], path)?;
+    let mut others = 0u32;
+    for workers in ["1", "3", "64"] {
+        if said(rt, &["ringplan", "check", "--workers", workers], path)? != alone {
+            others = others.saturating_add(1);
+        }
+    }
+    if others > 0 {
+        println!(rt; "{others} numbers of workers say otherwise")?;
     }
     Ok(())
 }

@@ -1,6 +1,8 @@
 -- What `clap` makes of the program's command lines.
-use Rattle.std.proofs.Common.{◌≡◌, ◌≢◌, ◌⊎◌, ℕ, [], ◌∷◌, List, Result, true, refl, sym, ap, ◌∙◌, subst, drop, inl, inr}
-use Rattle.clap.specs.Words.{App, FailsBy, IsAmong, Kinds, fault_of, is_simple, is_simple_and_free, built, subcommand_of, subcommand_rows_of, HasMatchesOf}
+use Rattle.std.proofs.Common.{◌≡◌, ◌≢◌, ◌⊎◌, ℕ, ◌≤◌, ◌<◌, [], ◌∷◌, List, Result, Ok, Err, Option, Some, None, IfOk, true, codes, option_map, refl, sym, ap, ◌∙◌, subst, drop, inl, inr, arith}
+use Rattle.std.specs.Str.Parse.{ParsesUnsigned}
+use Rattle.std.specs.Global.{Vec}
+use Rattle.clap.specs.Words.{App, FailsBy, IsAmong, Kinds, Row, TriesOne, fault_of, is_simple, is_simple_and_free, built, one_of, subcommand_of, subcommand_rows_of, HasMatchesOf}
 use Rattle.clap.specs.Simple.{names_of, entered}
 use Rattle.clap.specs.Walk.{stop_after}
 use Rattle.clap.specs.Faults.{built_fault}
@@ -12,10 +14,10 @@ use Rattle.clap.specs.declared.error.kind.ErrorKind.TheVariants as kind
 use Rattle.clap.specs.declared.parser.matches.ArgMatches.{ArgMatches}
 use Rattle.clap.proofs.OnLiterals.{clap_on_literals}
 use Rattle.ringplan_run.specs.declared.command.CommandLine.{CommandLine}
-use Rattle.ringplan_run.specs.declared.command.CommandLine.TheVariants.{Do, Help, Refused, OutOfMemory}
+use Rattle.ringplan_run.specs.declared.command.CommandLine.TheVariants.{Do, CheckBy, Help, Refused, OutOfMemory}
 use Rattle.ringplan_run.specs.declared.job.Job.{Job}
 use Rattle.ringplan_run.specs.declared.job.Job.TheVariants.{Check, Migrate, Plan, Play}
-use Rattle.ringplan_run.specs.Command.{Answers, Asked, IsMistaken, WantsHelp, asked, job_named, only, ringplan, word_of}
+use Rattle.ringplan_run.specs.Command.{Answers, Asked, AsksBy, HasNoNumber, IsMistaken, IsRefused, IsWorkers, WantsHelp, asked, asked_by, by_workers, job_named, only, ringplan, word_of}
 
 is_free : is_simple_and_free ringplan ≡ true
 unfolding clap_on_literals
@@ -27,10 +29,7 @@ is_plain = refl
 
 -- what is asked by the words behind the program's name
 behind : List (List ℕ) → Asked
-behind rest = record {
-  faults = built_fault (built ringplan) nothing_held rest;
-  job = job_named (entered (built ringplan) (stop_after (built ringplan).top.rules (names_of (built ringplan)) rest));
-}
+behind rest = asked_by (built_fault (built ringplan) nothing_held rest) (entered (built ringplan) (stop_after (built ringplan).top.rules (names_of (built ringplan)) rest))
 
 by_word : (job : Job) → behind (word_of job ∷ []) ≡ only job
 unfolding clap_on_literals behind
@@ -52,9 +51,95 @@ parsed app words r e h = let P : App → Type 0 = λ a. is_simple_and_free a ≡
 pub entered_by : (app : App) (words : List (List ℕ)) (m : ArgMatches) → app ≡ ringplan → HasMatchesOf app words m → subcommand_rows_of m ≡ subcommand_of ringplan words
 entered_by app words m e h = (let P : App → Type 0 = λ a. HasMatchesOf a words m in subst P e h is_plain).1
 
--- a line with no fault asks for the job of the subcommand that was entered
-pub asks_job : (words : List (List ℕ)) (m : ArgMatches) (job : Job) → fault_of ringplan words ≡ [] → subcommand_rows_of m ≡ subcommand_of ringplan words → job ≡ job_named (subcommand_rows_of m) → asked words ≡ only job
-asks_job words m job none met is = let same : job_named (subcommand_of ringplan words) ≡ job = sym (is ∙ ap job_named met) in rw (none, same) refl
+-- a refused line answers whatever is refused
+pub refused_line : {E : Type 0} → (asked : Asked) (r : Result CommandLine E) → IsRefused asked → IfOk r (λ line. (text : Vec ℕ) × (line ≡ Refused text)) → IfOk r (Answers asked)
+refused_line asked (Ok line) is (text, e) = rw e is
+refused_line asked (Err e) is h = tt
+
+-- what answers a line with no fault and the subcommand that was entered answers the words
+pub answers_words : {E : Type 0} → (words : List (List ℕ)) (m : ArgMatches) (r : Result CommandLine E) → fault_of ringplan words ≡ [] → subcommand_rows_of m ≡ subcommand_of ringplan words
+    → IfOk r (Answers (asked_by [] (subcommand_rows_of m))) → IfOk r (Answers (asked words))
+answers_words words m r none met h =
+    let same : asked_by [] (subcommand_rows_of m) ≡ asked words = λ i. asked_by (sym none i) (met i) in
+    subst (λ (a : Asked). IfOk r (Answers a)) same h
+
+-- ---- the workers that `check` names
+
+-- no subcommand names none
+pub none_named : (sub : Option (List ℕ × List Row)) → None ≡ option_map (λ p. p.1) sub → job_named sub ≡ Check → asked_by [] sub ≡ only Check
+none_named None e is = refl
+none_named (Some x) e is = absurd cc
+
+-- one without the option names none
+pub none_given : (sub : Option (List ℕ × List Row)) (rows : List Row) → Some rows ≡ option_map (λ p. p.1) sub → job_named sub ≡ Check → one_of (codes "workers") rows ≡ None
+    → asked_by [] sub ≡ only Check
+none_given None rows e is none = absurd cc
+none_given (Some x) rows e is none =
+    let same : rows ≡ x.1 = cc in
+    let none' = rw same at none in
+    rw (is, none') refl
+
+-- one with the option names its text
+pub some_given : (sub : Option (List ℕ × List Row)) (rows : List Row) (text : List ℕ) → Some rows ≡ option_map (λ p. p.1) sub → job_named sub ≡ Check → one_of (codes "workers") rows ≡ Some text
+    → asked_by [] sub ≡ by_workers text
+some_given None rows text e is some = absurd cc
+some_given (Some x) rows text e is some =
+    let same : rows ≡ x.1 = cc in
+    let some' = rw same at some in
+    rw (is, some') refl
+
+-- one whose text is no number is refused
+pub bad_given : (sub : Option (List ℕ × List Row)) (rows : List Row) (o : Option (List ℕ)) → Some rows ≡ option_map (λ p. p.1) sub → job_named sub ≡ Check → o ≡ one_of (codes "workers") rows
+    → HasNoNumber o → IsRefused (asked_by [] sub)
+bad_given None rows o e is same h = absurd cc
+bad_given (Some x) rows o e is same h =
+    let there : rows ≡ x.1 = cc in
+    let same' = rw there at same in
+    let h' = rw same' at h in
+    inr (rw is h')
+
+module _ {E : Type 0} (G : List ℕ → Result ℕ E → Type 0) (parses : (bs : List ℕ) (s : Result ℕ E) → G bs s → ParsesUnsigned 32 10 bs s) (o : Option (List ℕ)) (r : Result (Option ℕ) E)
+    (none : o ≡ None → r ≡ Ok None) (value : (t : List ℕ) → o ≡ Some t → TriesOne G t r) where
+  -- nothing is read where there is no text
+  pub nothing_read : r ≡ Ok None → o ≡ None
+  nothing_read is = by o refl
+    where
+      by : (p : Option (List ℕ)) → o ≡ p → o ≡ None
+      by None e = e
+      by (Some t) e = let bad = rw is at (value t e) in absurd bad
+
+  -- a number that is read is that of the text
+  pub number_read : (k : ℕ) → r ≡ Ok (Some k) → 1 ≤ k → k ≤ 64 → (t : List ℕ) × (o ≡ Some t) × IsWorkers t k
+  number_read k is low high = by o refl
+    where
+      by : (p : Option (List ℕ)) → o ≡ p → (t : List ℕ) × (o ≡ Some t) × IsWorkers t k
+      by None e = let bad : Ok None ≡ Ok (Some k) = sym (none e) ∙ is in absurd cc
+      by (Some t) e =
+          let given = rw is at (value t e) in
+          let got = parses t (Ok k) given in
+          (t, e, (got.0.0, sym got.1, low, high))
+
+  -- a number beyond the limits is none of workers
+  pub beyond_read : (k : ℕ) → r ≡ Ok (Some k) → (1 ≤ k → k ≤ 64 → ⊥) → HasNoNumber o
+  beyond_read k is out = by o refl
+    where
+      by : (p : Option (List ℕ)) → o ≡ p → HasNoNumber o
+      by None e = let bad : Ok None ≡ Ok (Some k) = sym (none e) ∙ is in absurd cc
+      by (Some t) e =
+          let given = rw is at (value t e) in
+          let got = parses t (Ok k) given in
+          (t, e, λ j h. let same : k ≡ j = got.1 ∙ h.1 in out (rw same h.2) (rw same h.3))
+
+  -- nor is a text that is no number
+  pub nonsense_read : (d : E) → r ≡ Err d → HasNoNumber o
+  nonsense_read d is = by o refl
+    where
+      by : (p : Option (List ℕ)) → o ≡ p → HasNoNumber o
+      by None e = let bad : Ok None ≡ Err d = sym (none e) ∙ is in absurd cc
+      by (Some t) e =
+          let given = rw is at (value t e) in
+          let got = parses t (Err d) given in
+          (t, e, λ j h. got (h.0, let v = h.1 in let m = h.3 in omega arith))
 
 pub helped : (kinds : Kinds) (k : ErrorKind) → k ≡ DisplayHelp → (k ≡ kind.OutOfMemory) ⊎ IsAmong k kinds → WantsHelp kinds
 helped kinds k e (inl h) = let bad : DisplayHelp ≡ kind.OutOfMemory = cc in absurd cc
@@ -70,6 +155,8 @@ none_mistaken kinds e (k, n, h) = let P : Kinds → Type 0 = IsAmong k in subst 
 -- a line that asks for a job alone is taken for that
 pub job_asked : (job : Job) (asked : Asked) (line : CommandLine) → asked ≡ only job → Answers asked line → (line ≡ Do job) ⊎ (line ≡ OutOfMemory)
 job_asked job asked (Do other) e h = let same : only other ≡ only job = sym h ∙ e in inl (ap (λ x. Do x.job) same)
+job_asked job asked (CheckBy k) e (text, is, h) = let same : by_workers text ≡ only job = sym is ∙ e in let none : Some text ≡ None = ap (λ x. x.workers) same in absurd cc
 job_asked job asked (Help text) e h = let P : Kinds → Type 0 = WantsHelp in absurd (subst P (ap (λ x. x.faults) e) h)
-job_asked job asked (Refused text) e h = absurd (none_mistaken _ (ap (λ x. x.faults) e) h)
+job_asked job asked (Refused text) e (inl h) = absurd (none_mistaken _ (ap (λ x. x.faults) e) h)
+job_asked job asked (Refused text) e (inr (t, is, h)) = let none : Some t ≡ None = sym is ∙ ap (λ x. x.workers) e in absurd cc
 job_asked job asked OutOfMemory e h = inr refl

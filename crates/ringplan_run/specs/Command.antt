@@ -1,12 +1,14 @@
 -- The command lines of the program.
-use Rattle.std.specs.Prelude.{◌≡◌, ◌≢◌, ℕ, Bool, true, false, List, Option, [], codes, ⊤, if◌then◌else◌}
+use Rattle.std.specs.Prelude.{◌≡◌, ◌≢◌, ◌⊎◌, ℕ, ◌≤◌, Bool, true, false, List, Option, Some, None, [], pos, codes, ⊤, if◌then◌else◌, option_and_then}
 use Rattle.std.specs.Option.{option_map_or}
 use Rattle.std.specs.Str.{bytes_eq}
-use Rattle.clap.specs.Words.{App, IsAmong, Kinds, Row, fault_of, new_app, subcommand_of, with_subcommand}
+use Rattle.std.specs.Str.Parse.{IsNumeral, digits_value, without_leading_plus}
+use Rattle.clap.specs.Words.{App, IsAmong, Kinds, Row, Rule, Shape, fault_of, new_app, new_rule, one_of, subcommand_of, with_rule, with_subcommand}
+use Rattle.clap.specs.declared.builder.value_parser.ValueParser.TheVariants as parser
 use Rattle.clap.specs.declared.error.kind.ErrorKind.{ErrorKind}
 use Rattle.clap.specs.declared.error.kind.ErrorKind.TheVariants.{DisplayHelp}
 use Rattle.ringplan_run.specs.declared.command.CommandLine.{CommandLine}
-use Rattle.ringplan_run.specs.declared.command.CommandLine.TheVariants.{Do, Help, Refused, OutOfMemory}
+use Rattle.ringplan_run.specs.declared.command.CommandLine.TheVariants.{Do, CheckBy, Help, Refused, OutOfMemory}
 use Rattle.ringplan_run.specs.declared.job.Job.{Job}
 use Rattle.ringplan_run.specs.declared.job.Job.TheVariants.{Check, Migrate, Plan, Play}
 
@@ -25,14 +27,23 @@ wanting = let app = new_app (codes "ringplan") in record app { top = record app.
 abbrev pub with_job : App → Job → App
 with_job app job = with_subcommand app (new_app (word_of job)).top
 
+-- `--workers K`, with K from 1 to 64
+abbrev pub workers_option : Rule
+workers_option = record (new_rule (codes "workers")) { long = Some (codes "workers"); value_names = 1; parser = Some (parser.Signed (pos 1) (pos 64)) }
+
+-- `check`, which may name workers
+abbrev pub checking : App
+checking = with_rule (new_app (word_of Check)) workers_option
+
 -- `ringplan`, which wants one of its subcommands `plan`, `check`, `play` and `migrate`
 abbrev pub ringplan : App
-ringplan = with_job (with_job (with_job (with_job wanting Plan) Check) Play) Migrate
+ringplan = with_job (with_job (with_subcommand (with_job wanting Plan) checking.top) Play) Migrate
 
--- what the words of a command line ask: how they fail, and where they do not, the job
+-- what the words of a command line ask: how they fail, and where they do not, the job, and the text of the workers that `check` names
 pub record Asked : Type 0 where
   pub faults : Kinds
   pub job : Job
+  pub workers : Option (List ℕ)
 
 -- the subcommand is that of the job
 abbrev pub is_named : Job → Option (List ℕ × List Row) → Bool
@@ -42,13 +53,38 @@ is_named job subcommand = option_map_or (λ x. bytes_eq x.0 (word_of job)) subco
 abbrev pub job_named : Option (List ℕ × List Row) → Job
 job_named subcommand = if is_named Play subcommand then Play else (if is_named Plan subcommand then Plan else (if is_named Migrate subcommand then Migrate else Check))
 
+-- the text of the workers that a subcommand names; but for `check`, none does
+abbrev pub workers_named : Job → Option (List ℕ × List Row) → Option (List ℕ)
+workers_named Check subcommand = option_and_then (λ x. one_of (codes "workers") x.1) subcommand
+workers_named job subcommand = None
+
+-- what a line with these faults and this subcommand asks
+abbrev pub asked_by : Kinds → Option (List ℕ × List Row) → Asked
+asked_by faults subcommand = record { faults = faults; job = job_named subcommand; workers = workers_named (job_named subcommand) subcommand }
+
 -- what these words ask
 abbrev pub asked : List (List ℕ) → Asked
-asked words = record { faults = fault_of ringplan words; job = job_named (subcommand_of ringplan words) }
+asked words = asked_by (fault_of ringplan words) (subcommand_of ringplan words)
 
 -- just that job
 abbrev pub only : Job → Asked
-only job = record { faults = []; job = job }
+only job = record { faults = []; job = job; workers = None }
+
+-- a check by workers, of which the text tells how many
+abbrev pub by_workers : List ℕ → Asked
+by_workers text = record { faults = []; job = Check; workers = Some text }
+
+-- the text is k in decimal digits, perhaps behind a plus, and k is from 1 to 64
+abbrev pub IsWorkers : List ℕ → ℕ → Type 0
+IsWorkers text k = IsNumeral 10 (without_leading_plus text) × (digits_value 10 (without_leading_plus text) ≡ k) × (1 ≤ k) × (k ≤ 64)
+
+-- what is asked is a check by k workers
+abbrev pub AsksBy : Asked → ℕ → Type 0
+AsksBy asked k = (text : List ℕ) × (asked ≡ by_workers text) × IsWorkers text k
+
+-- what is asked is that job; a check may be by workers
+abbrev pub Asks : Asked → Job → Type 0
+Asks asked job = (asked ≡ only job) ⊎ ((job ≡ Check) × ((k : ℕ) × AsksBy asked k))
 
 -- the faults ask for help
 abbrev pub WantsHelp : Kinds → Type 0
@@ -58,9 +94,18 @@ WantsHelp kinds = IsAmong DisplayHelp kinds
 abbrev pub IsMistaken : Kinds → Type 0
 IsMistaken kinds = (k : ErrorKind) × (k ≢ DisplayHelp) × IsAmong k kinds
 
+-- workers are named, and not by a number from 1 to 64
+abbrev pub HasNoNumber : Option (List ℕ) → Type 0
+HasNoNumber workers = (text : List ℕ) × (workers ≡ Some text) × ((k : ℕ) → IsWorkers text k → ⊥)
+
+-- the line is refused
+abbrev pub IsRefused : Asked → Type 0
+IsRefused asked = IsMistaken asked.faults ⊎ HasNoNumber asked.workers
+
 -- what a command line that asks so is taken for, memory aside
 abbrev pub Answers : Asked → CommandLine → Type 0
 Answers asked (Do job) = asked ≡ only job
+Answers asked (CheckBy workers) = AsksBy asked workers
 Answers asked (Help text) = WantsHelp asked.faults
-Answers asked (Refused text) = IsMistaken asked.faults
+Answers asked (Refused text) = IsRefused asked
 Answers asked OutOfMemory = ⊤

@@ -5,7 +5,7 @@ use Rattle.ring_names.specs.declared.refusal.Refusal.{Refusal}
 use Rattle.ring_names.specs.declared.refusal.Refusal.TheVariants.{TooLarge, OutOfMemory, ReadFailed}
 use Rattle.ring_names.specs.Refusals.{line_of}
 use Rattle.ringplan_run.specs.Answers.{output_of, status_of}
-use Rattle.ringplan_run.specs.Command.{Asked, IsMistaken, WantsHelp, only}
+use Rattle.ringplan_run.specs.Command.{Asked, Asks, IsRefused, WantsHelp}
 use Rattle.ringplan_run.specs.Io.{AppendsPart, max_input}
 use Rattle.ringplan_run.specs.Verdict.{Makes}
 use Rattle.ringplan_run.specs.declared.job.Job.{Job}
@@ -22,9 +22,9 @@ Finds job bytes (Err e) = e ≢ OutOfMemory → e ≢ ReadFailed → Outcome job
 -- the text and the status of a run, by what its command line asks and the bytes of its input
 pub data Says (asked : Asked) (bytes : List ℕ) (text : List ℕ) (status : ℕ) : Type 0 where
   help : WantsHelp asked.faults → status ≡ 0 → Says asked bytes text status
-  refused : IsMistaken asked.faults → status ≡ 2 → Says asked bytes text status
-  answered : (job : Job) (r : Result (List ℕ) Refusal) → asked ≡ only job → Outcome job bytes r → text ≡ output_of r → status ≡ status_of r → Says asked bytes text status
-  unread : (job : Job) → asked ≡ only job → text ≡ line_of ReadFailed → status ≡ 3 → Says asked bytes text status
+  refused : IsRefused asked → status ≡ 2 → Says asked bytes text status
+  answered : (job : Job) (r : Result (List ℕ) Refusal) → Asks asked job → Outcome job bytes r → text ≡ output_of r → status ≡ status_of r → Says asked bytes text status
+  unread : (job : Job) → Asks asked job → text ≡ line_of ReadFailed → status ≡ 3 → Says asked bytes text status
   out_of_memory : text ≡ line_of OutOfMemory → status ≡ 3 → Says asked bytes text status
 
 -- the text was written and the status is the one that goes with it, or some first part was and the status is 3
@@ -34,3 +34,7 @@ Prints old new text status result = (Appends old new text × (result ≡ status)
 -- a run says something and prints it
 abbrev pub Runs : Asked → List ℕ → Option (List ℕ) → Option (List ℕ) → ℕ → Type 0
 Runs asked bytes old new result = (text : List ℕ) × (status : ℕ) × Says asked bytes text status × Prints old new text status result
+
+-- what was found is printed with its status, or that memory was refused is
+abbrev pub PrintsFound : Option (List ℕ) → Option (List ℕ) → Result (List ℕ) Refusal → ℕ → Type 0
+PrintsFound old new found result = Prints old new (output_of found) (status_of found) result ⊎ Prints old new (line_of OutOfMemory) 3 result

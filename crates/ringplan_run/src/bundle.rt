@@ -13,20 +13,22 @@ ghost use Rattle.plan_check.specs.First.{first_refusal};
 ghost use Rattle.ring_script.specs.Bundles.{IsOfRing, bundle_at};
 ghost use Rattle.ring_script.specs.declared.bundle.Kind.TheVariants.{Check, Play};
 ghost use Rattle.plan_change.specs.Wanted.{wanted_at};
-ghost use Rattle.ringplan_run.specs.declared.job.Job.TheVariants.{Plan as Planning};
+ghost use Rattle.ringplan_run.specs.declared.job.Job.TheVariants.{Check as Checking, Plan as Planning};
 ghost use Rattle.ringplan_run.specs.Answers.{texts_of};
 ghost use Rattle.ringplan_run.specs.Verdict.{MakesIf, judged, migrated_text, migration, plays, shown, verdict};
 
 use crate::job::Job;
 use plan_cert::{Cert, write_cert};
 use plan_change::read_wanted;
-use plan_check::check;
+use plan_check::{OpenGate, check, check_parallel};
 use plan_proposal::propose;
 use plan_text::{Plan, write_plan};
 use ring_names::Refusal;
 use ring_script::{Bundle, Kind, play, read_bundle};
 use ring_table::{Ring, write_ring};
 use std::alloc::Global;
+use std::sync::Wait;
+use std::thread::Threads;
 
 // The checker's answer to a plan of the ring with its certificate.
 fn check_plan(alloc: Global, ring: Ring, plan: Plan, cert: &Cert) -> Result<(), Refusal>
@@ -52,6 +54,44 @@ pub fn check_bundle(alloc: Global, bytes: &[u8]) -> Result<(), Refusal>
 {
     match read_bundle(alloc, Kind::Check, bytes) {
         Ok(bundle) => check_plan(alloc, bundle.ring, bundle.plan, &bundle.cert),
+        Err(e) => Err(e),
+    }
+}
+
+// The same answer, by workers.
+fn check_plan_by<RT: Threads + Wait + Sync>(
+    rt: &RT,
+    alloc: Global,
+    workers: u32,
+    ring: Ring,
+    plan: Plan,
+    cert: &Cert,
+) -> Result<(), Refusal>
+    requires { Suits ring plan }
+    ensures { Gives result (judged (first_refusal ring plan cert.now)) }
+{
+    match check_parallel(rt, alloc, workers, &OpenGate, ring, plan, cert) {
+        Ok(_) => Ok(()),
+        Err(turned) => {
+            let refusal = turned.refusal;
+            Err(refusal)
+        }
+    }
+}
+
+/// The same verdict as that of `check_bundle`, by that many workers, each with a share of the partitions; none is as one. May wait for them.
+pub fn check_bundle_by<RT: Threads + Wait + Sync>(
+    rt: &RT,
+    alloc: Global,
+    workers: u32,
+    bytes: &[u8],
+) -> Result<(), Refusal>
+    ensures read { Gives result (verdict bytes.now) }
+    // Memory may run out only if the first four lines have no fault.
+    ensures late { IfErr result (λ e. e ≡ OutOfMemory → NoFaultBefore 5 (whole_text (bundle_at Check) bytes.now)) }
+{
+    match read_bundle(alloc, Kind::Check, bytes) {
+        Ok(bundle) => check_plan_by(rt, alloc, workers, bundle.ring, bundle.plan, &bundle.cert),
         Err(e) => Err(e),
     }
 }
@@ -164,4 +204,17 @@ pub fn make(alloc: Global, job: Job, bytes: &[u8]) -> Result<Vec<u8>, Refusal>
         Job::Play => play_bundle(alloc, bytes),
         Job::Plan => plan_bundle(alloc, bytes),
     }
+}
+
+/// The text that a check by workers makes of a bundle, or the refusal.
+pub fn make_check_by<RT: Threads + Wait + Sync>(
+    rt: &RT,
+    alloc: Global,
+    workers: u32,
+    bytes: &[u8],
+) -> Result<Vec<u8>, Refusal>
+    ensures { MakesIf Checking bytes.now (texts_of result) }
+{
+    check_bundle_by(rt, alloc, workers, bytes)?;
+    yes(alloc)
 }

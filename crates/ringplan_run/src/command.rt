@@ -2,12 +2,12 @@
 
 ghost use Rattle.std.specs.Prelude.{◌≡◌, ◌⊎◌, ◌∷◌, [], IfOk, drop, map};
 ghost use Rattle.clap.specs.Words.{app_of, new_app, subcommand_rows_of, with_subcommand};
-ghost use Rattle.ringplan_run.specs.Command.{Answers, asked, job_named, ringplan, wanting, word_of};
+ghost use Rattle.ringplan_run.specs.Command.{Answers, asked, asked_by, checking, job_named, ringplan, wanting, word_of};
 ghost use Rattle.ringplan_run.specs.declared.job.Job.{Job};
 
 use crate::job::Job;
 use clap::error::ErrorKind;
-use clap::{ArgMatches, Command};
+use clap::{Arg, ArgMatches, Command, value_parser};
 use std::alloc::{AllocError, Global};
 use std::convert::AsStr;
 
@@ -18,6 +18,12 @@ const PLAN: &str =
     "Prints a plan for the change on standard input, with its certificate, once the checker has accepted it";
 
 const CHECK: &str = "Checks the bundle on standard input";
+
+const WORKERS: &str =
+    "Checks the partitions by K threads, 1 to 64, and the paths by as many as there are processors; the answer is the same";
+
+const NO_WORKERS: &[u8; 105] =
+    b"error: invalid value for '--workers <K>': not a number from 1 to 64\n\nFor more information, try '--help'.\n";
 
 const MIGRATE: &str =
     "Prints the bundle on standard input with a ring of format 1 in format 2; checks nothing";
@@ -86,6 +92,8 @@ Exit status:
 pub enum CommandLine {
     /// To do something with a bundle.
     Do(Job),
+    /// To check a bundle by that many workers, 1 to 64.
+    CheckBy(u32),
     /// To be told how to use the program, by this text.
     Help(Vec<u8>),
     /// Nothing that there is, as this text says.
@@ -110,7 +118,7 @@ fn try_parse<S: AsStr>(alloc: Global, words: &[S]) -> Result<CommandLine, AllocE
     ensures { IfOk result (Answers (asked (map S.text words.now))) }
 {
     match command(alloc)?.try_get_matches_from(words) {
-        Ok(matches) => Ok(CommandLine::Do(job_of(&matches))),
+        Ok(matches) => line_of(alloc, &matches),
         Err(error) => {
             let text = format!(in alloc; "{error}")?.into_bytes();
             match error.kind() {
@@ -120,6 +128,47 @@ fn try_parse<S: AsStr>(alloc: Global, words: &[S]) -> Result<CommandLine, AllocE
             }
         }
     }
+}
+
+// What a line without a fault asks for.
+fn line_of(alloc: Global, matches: &ArgMatches) -> Result<CommandLine, AllocError>
+    ensures { IfOk result (Answers (asked_by [] (subcommand_rows_of matches.now))) }
+{
+    match job_of(matches) {
+        Job::Check => check_line(alloc, matches),
+        job => Ok(CommandLine::Do(job)),
+    }
+}
+
+// What a line that asks for a check asks for, by the workers that it names.
+fn check_line(alloc: Global, matches: &ArgMatches) -> Result<CommandLine, AllocError>
+    requires { job_named (subcommand_rows_of matches.now) ≡ Job.Check }
+    ensures { IfOk result (Answers (asked_by [] (subcommand_rows_of matches.now))) }
+{
+    let Some((_, options)) = matches.subcommand() else {
+        return Ok(CommandLine::Do(Job::Check));
+    };
+    match options.try_get_one::<u32>("workers") {
+        Ok(None) => Ok(CommandLine::Do(Job::Check)),
+        Ok(Some(workers)) => {
+            if workers < 1 {
+                return no_number(alloc);
+            }
+            if workers > 64 {
+                return no_number(alloc);
+            }
+            Ok(CommandLine::CheckBy(workers))
+        }
+        Err(_) => no_number(alloc),
+    }
+}
+
+// A line whose workers are no number from 1 to 64.
+fn no_number(alloc: Global) -> Result<CommandLine, AllocError>
+    ensures { IfOk result (λ line. (text : _) × (line ≡ CommandLine.Refused text)) }
+{
+    let text = Vec::from_slice(alloc, NO_WORKERS)?;
+    Ok(CommandLine::Refused(text))
 }
 
 // The job that is named by the subcommand.
@@ -162,12 +211,28 @@ fn with_job<'a>(
     command.subcommand(job)
 }
 
+// A command with the subcommand `check` more.
+fn with_check<'a>(alloc: Global, command: Command<'a>) -> Result<Command<'a>, AllocError>
+    ensures { IfOk result (λ c. app_of c ≡ with_subcommand (app_of command.entry) checking.top) }
+{
+    let workers = Arg::new(alloc, "workers")
+        .long("workers")
+        .value_name("K")
+        .help(WORKERS)
+        .value_parser(value_parser!(u32).range(1..=64));
+    let check = Command::new(alloc, "check")
+        .about(CHECK)
+        .after_help(CHECK_STREAMS)
+        .arg(workers)?;
+    command.subcommand(check)
+}
+
 // The command lines that there are.
 fn command<'a>(alloc: Global) -> Result<Command<'a>, AllocError>
     ensures { IfOk result (λ command. app_of command ≡ ringplan) }
 {
     let plans = with_job(alloc, alone(alloc), "plan", PLAN, PLAN_STREAMS)?;
-    let checks = with_job(alloc, plans, "check", CHECK, CHECK_STREAMS)?;
+    let checks = with_check(alloc, plans)?;
     let plays = with_job(alloc, checks, "play", PLAY, PLAY_STREAMS)?;
     with_job(alloc, plays, "migrate", MIGRATE, MIGRATE_STREAMS)
 }

@@ -10,5 +10,6 @@ mod job;
 mod output;
 mod program;
 
-pub use bundle::{check_bundle, migrate_bundle, plan_bundle, play_bundle};
-pub use program::{end_without_memory, end_without_words, run};
+pub use bundle::{check_bundle, check_bundle_by, migrate_bundle, plan_bundle, play_bundle};
+pub use job::Job;
+pub use program::{end_without_memory, end_without_words, run, run_alone};

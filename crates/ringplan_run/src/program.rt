@@ -5,19 +5,22 @@ ghost use Rattle.ring_names.specs.Refusals.{line_of};
 ghost use Rattle.ringplan_run.specs.Answers.{texts_of};
 ghost use Rattle.ringplan_run.specs.Command.{asked, only, word_of};
 ghost use Rattle.ringplan_run.specs.Io.{Tells};
-ghost use Rattle.ringplan_run.specs.Run.{Finds, Prints, Runs, Says};
+ghost use Rattle.ringplan_run.specs.Run.{Finds, Prints, PrintsFound, Runs};
 ghost use Rattle.ringplan_run.specs.declared.job.Job.{Job};
+ghost use Rattle.ringplan_run.specs.declared.job.Job.TheVariants.{Check};
 
-use crate::answer::{Answer, answer_of};
-use crate::bundle::make;
+use crate::answer::answer_of;
+use crate::bundle::{make, make_check_by};
 use crate::command::{CommandLine, parse};
 use crate::input::read_all;
 use crate::job::Job;
 use crate::output::write_all;
 use ring_names::Refusal;
-use std::alloc::{AllocError, Global};
+use std::alloc::Global;
 use std::convert::AsStr;
 use std::io::{Read, Write};
+use std::sync::Wait;
+use std::thread::Threads;
 
 // The line of a refusal for want of memory, which itself needs none.
 const NO_MEMORY: &[u8; 6] = b"no 60\n";
@@ -34,8 +37,9 @@ const REFUSED: u8 = 2;
 
 /// Runs a command line, whose first word is the program's name, and returns the exit status: 0 for a plan that
 /// was found, for yes, for what a play prints, for migrated texts and for help, 1 for a plan that is refused or that there is none of, 2 for a
-/// text or a command line that is refused, and 3 where memory, the input or the output failed.
-pub fn run<RT: AllocGlobal, S: AsStr, R: Read + Drop, W: Write>(
+/// text or a command line that is refused, and 3 where memory, the input or the output failed. It waits for the threads that `check --workers` asks
+/// for; every other line that names a job is done by `run_alone`.
+pub fn run<RT: AllocGlobal + Threads + Wait + Sync, S: AsStr, R: Read + Drop, W: Write>(
     rt: &RT,
     words: &[S],
     input: &mut R,
@@ -48,10 +52,31 @@ pub fn run<RT: AllocGlobal, S: AsStr, R: Read + Drop, W: Write>(
         → (bytes : List ℕ) × Tells (R.remaining input.old) bytes
         × Runs (only job) bytes (W.contents output.old) (W.contents output.new) result }
 {
-    match decide(rt.alloc(), words, input) {
-        Ok(answer) => finish(output, answer.output.as_slice(), answer.status),
-        Err(_) => end_without_memory(output),
+    let alloc = rt.alloc();
+    match parse(alloc, words) {
+        CommandLine::Do(job) => run_alone(alloc, job, input, output),
+        CommandLine::CheckBy(workers) => {
+            let found = make_of_by(rt, alloc, workers, input);
+            tell(alloc, found, output)
+        }
+        CommandLine::Help(text) => finish(output, text.as_slice(), 0),
+        CommandLine::Refused(text) => finish(output, text.as_slice(), REFUSED),
+        CommandLine::OutOfMemory => end_without_memory(output),
     }
+}
+
+/// Does a job with the whole input, prints what comes of it, and returns the exit status, as `run` does. It waits for no thread.
+pub fn run_alone<R: Read + Drop, W: Write>(
+    alloc: Global,
+    job: Job,
+    input: &mut R,
+    output: &mut W,
+) -> u8
+    ensures { (bytes : List ℕ) × Tells (R.remaining input.old) bytes
+        × Runs (only job) bytes (W.contents output.old) (W.contents output.new) result }
+{
+    let found = make_of(alloc, job, input);
+    tell(alloc, found, output)
 }
 
 /// Says that memory was refused, and returns the exit status of that, 3.
@@ -68,20 +93,13 @@ pub fn end_without_words<W: Write>(output: &mut W) -> u8
     finish(output, NO_WORDS, REFUSED)
 }
 
-// What the command line and the input ask to be printed. Refused where memory is.
-fn decide<S: AsStr, R: Read + Drop>(
-    alloc: Global,
-    words: &[S],
-    input: &mut R,
-) -> Result<Answer, AllocError>
-    ensures { IfOk result (λ answer. (bytes : List ℕ) × Tells (R.remaining input.old) bytes
-        × Says (asked (map S.text words.now)) bytes answer.output.items answer.status) }
+// Prints what was found, and returns the exit status of that.
+fn tell<W: Write>(alloc: Global, found: Result<Vec<u8>, Refusal>, output: &mut W) -> u8
+    ensures { PrintsFound (W.contents output.old) (W.contents output.new) (texts_of found) result }
 {
-    match parse(alloc, words) {
-        CommandLine::Do(job) => answer_of(alloc, make_of(alloc, job, input)),
-        CommandLine::Help(output) => Ok(Answer { output, status: 0 }),
-        CommandLine::Refused(output) => Ok(Answer { output, status: 2 }),
-        CommandLine::OutOfMemory => Err(AllocError),
+    match answer_of(alloc, found) {
+        Ok(answer) => finish(output, answer.output.as_slice(), answer.status),
+        Err(_) => end_without_memory(output),
     }
 }
 
@@ -91,6 +109,19 @@ fn make_of<R: Read + Drop>(alloc: Global, job: Job, input: &mut R) -> Result<Vec
 {
     let bytes = read_all(alloc, input)?;
     make(alloc, job, bytes.as_slice())
+}
+
+// The text that a check by workers makes of the whole input.
+fn make_of_by<RT: Threads + Wait + Sync, R: Read + Drop>(
+    rt: &RT,
+    alloc: Global,
+    workers: u32,
+    input: &mut R,
+) -> Result<Vec<u8>, Refusal>
+    ensures { (bytes : List ℕ) × Tells (R.remaining input.old) bytes × Finds Check bytes (texts_of result) }
+{
+    let bytes = read_all(alloc, input)?;
+    make_check_by(rt, alloc, workers, bytes.as_slice())
 }
 
 // Prints the text, and ends with the status, or with 3 where the output fails.

@@ -27,4 +27,6 @@ mod texts;
 #[cfg(test)]
 mod words;
 #[cfg(test)]
+mod workers;
+#[cfg(test)]
 mod worlds;

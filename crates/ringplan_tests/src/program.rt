@@ -6,7 +6,9 @@ use crate::memory::{Endless, MemoryReader, MemoryWriter};
 use ringplan_run::{end_without_words, run};
 use std::process::Abort;
 use std::str;
+use std::sync::Wait;
 use std::test::Fail;
+use std::thread::Threads;
 
 const CHECK: [&str; 2] = ["ringplan", "check"];
 
@@ -14,7 +16,7 @@ const BUNDLE: &[u8] =
     b"ring 1\nspace 1\nquorum 1 1 1\nnode a 1 in\nslots 0 a\nend\nplan 1\nend\ncert 1\nend\n";
 
 // The command line ends with this status, and prints a text that contains the other.
-fn told<RT: AllocGlobal + Abort>(
+fn told<RT: AllocGlobal + Threads + Wait + Sync + Abort>(
     rt: &RT,
     words: &[&str],
     status: u8,
@@ -61,6 +63,21 @@ fn mistakes_told(rt: HostRuntime) -> Result<(), Fail> {
 }
 
 #[test]
+fn workers_limited(rt: HostRuntime) -> Result<(), Fail> {
+    told(&rt, &["ringplan", "check", "-h"], 0, "--workers <K>")?;
+    told(&rt, &["ringplan", "check", "--workers"], 2, "error:")?;
+    told(&rt, &["ringplan", "check", "--workers", "0"], 2, "1..=64")?;
+    told(&rt, &["ringplan", "check", "--workers=65"], 2, "1..=64")?;
+    told(&rt, &["ringplan", "check", "--workers", "two"], 2, "error: invalid value 'two'")?;
+    told(
+        &rt,
+        &["ringplan", "play", "--workers", "2"],
+        2,
+        "error: unexpected argument '--workers'",
+    )
+}
+
+#[test]
 fn words_that_are_no_text(rt: HostRuntime) -> Result<(), Fail> {
     let mut output = MemoryWriter::new(rt.alloc(), 4096, 2);
     assert_eq!(rt; end_without_words(&mut output), 2);
@@ -70,7 +87,7 @@ fn words_that_are_no_text(rt: HostRuntime) -> Result<(), Fail> {
 }
 
 // The answer to the least bundle, where a read gives and a write takes so many bytes at most.
-fn answered<RT: AllocGlobal + Abort>(rt: &RT, step: usize)
+fn answered<RT: AllocGlobal + Threads + Wait + Sync + Abort>(rt: &RT, step: usize)
     requires { 0 < step }
 {
     let mut input = MemoryReader {

@@ -1,20 +1,36 @@
-use Rattle.std.proofs.Common.{map}
+use Rattle.std.proofs.Common.{map, refl}
+use Rattle.ringplan_run.specs.Answers.{texts_of}
 use Rattle.ringplan_run.specs.Command.{asked}
-use Rattle.ringplan_run.proofs.Runs.{ran, ran_alone, ran_out}
+use Rattle.ringplan_run.specs.Run.{help, refused}
+use Rattle.ringplan_run.proofs.Runs.{Ran, ran, ran_alone, ran_asked, ran_by, ran_out, said}
 use Rattle.ringplan_run.proofs.program.run.Goals as goal
 
-pub returns-in-Ok-clause-job : goal.returns-in-Ok-clause-job
-returns-in-Ok-clause-job g c = λ job e.
+pub returns-in-Do-clause-job : goal.returns-in-Do-clause-job
+returns-in-Do-clause-job g c = λ job e.
     let words = map g.S.AsStr.text c.args.words.now in
     let told = g.R.Read.remaining c.args.input.now in
-    let old = g.W.Write.contents c.args.output.now in
-    let new = g.W.Write.contents c.finish.new.output in
-    ran_alone job words told old new c.finish.result e (ran (asked words) told old new c.in-Ok.answer.output.items c.as_slice.result.now c.in-Ok.answer.status c.finish.result c.in-Ok.ensures c.as_slice.ensures.value c.finish.ensures)
+    let done = ran_asked c.in-Do.job (asked words) told _ _ c.run_alone.result c.in-Do.ensures.kinds c.run_alone.ensures in
+    ran_alone job words told _ _ c.run_alone.result e done
 
-pub returns-in-Err-clause-line : goal.returns-in-Err-clause-line
-returns-in-Err-clause-line g c =
+pub returns-in-CheckBy-clause-line : goal.returns-in-CheckBy-clause-line
+returns-in-CheckBy-clause-line g c =
+    let words = map g.S.AsStr.text c.args.words.now in
+    ran_by (asked words) c.in-CheckBy.workers (g.R.Read.remaining c.args.input.now) _ _ (texts_of c.make_of_by-found.result) c.tell.result c.in-CheckBy.ensures.kinds c.make_of_by-found.ensures c.tell.ensures
+
+pub returns-in-Help-clause-line : goal.returns-in-Help-clause-line
+returns-in-Help-clause-line g c =
+    let told = g.R.Read.remaining c.args.input.now in
+    ran _ told _ _ c.in-Help.text.items c.as_slice.result.now 0 c.finish.result (said _ told c.in-Help.text.items 0 (λ bytes. help c.in-Help.ensures.kinds refl)) c.as_slice.ensures.value c.finish.ensures
+
+pub returns-in-Refused-clause-line : goal.returns-in-Refused-clause-line
+returns-in-Refused-clause-line g c =
+    let told = g.R.Read.remaining c.args.input.now in
+    ran _ told _ _ c.in-Refused.text.items c.as_slice-in-Refused.result.now 2 c.finish-in-Refused.result (said _ told c.in-Refused.text.items 2 (λ bytes. refused c.in-Refused.ensures.kinds refl)) c.as_slice-in-Refused.ensures.value c.finish-in-Refused.ensures
+
+pub returns-in-OutOfMemory-clause-line : goal.returns-in-OutOfMemory-clause-line
+returns-in-OutOfMemory-clause-line g c =
     ran_out _ (g.R.Read.remaining c.args.input.now) _ _ _ c.end_without_memory.ensures
 
-pub returns-in-Err-clause-job : goal.returns-in-Err-clause-job
-returns-in-Err-clause-job g c = λ job e.
+pub returns-in-OutOfMemory-clause-job : goal.returns-in-OutOfMemory-clause-job
+returns-in-OutOfMemory-clause-job g c = λ job e.
     ran_out _ (g.R.Read.remaining c.args.input.now) _ _ _ c.end_without_memory.ensures

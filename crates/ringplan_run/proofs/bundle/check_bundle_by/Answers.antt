@@ -1,0 +1,10 @@
+use Rattle.std.proofs.Common.{sym, subst}
+use Rattle.ring_text.specs.Judging.{Gives}
+use Rattle.ringplan_run.proofs.Verdicts.{verdict-bad, verdict-good}
+use Rattle.ringplan_run.proofs.bundle.check_bundle_by.Goals as goal
+
+pub returns-in-Ok-clause-read : goal.returns-in-Ok-clause-read
+returns-in-Ok-clause-read g c = subst (λ v. Gives c.check_plan_by.result v) (sym (verdict-good c.args.bytes.now c.in-Ok.bundle c.in-Ok.ensures.read)) c.check_plan_by.ensures
+
+pub returns-in-Err-clause-read : goal.returns-in-Err-clause-read
+returns-in-Err-clause-read g c = λ other. verdict-bad c.args.bytes.now c.in-Err.e (c.in-Err.ensures.read other)

@@ -1,0 +1,132 @@
+//! The check by workers: that they overlap, and what a gate that stops one makes of it.
+
+ghost use Rattle.plan_text.specs.Valid.{Suits};
+
+use crate::texts::{RING, two_moves};
+use plan_cert::{Cert, read_cert};
+use plan_check::{Gate, check_parallel};
+use plan_order::Facts;
+use plan_text::Plan;
+use ring_names::Refusal;
+use ring_table::{Ring, read_ring};
+use std::sync::{Mutex, Wait};
+use std::test::Fail;
+use std::thread;
+use std::thread::Threads;
+
+const CERT: &[u8] = b"cert 1\nfact 2 3 4 5\nchain b 2 5\nchain d 2 5\nend\n";
+
+// Holds workers until as many have come as it waits for, and looks a million times.
+struct Turnstile {
+    come: Mutex<u32>,
+    awaited: u32,
+}
+
+impl Turnstile {
+    fn new(awaited: u32) -> Turnstile {
+        Turnstile {
+            come: Mutex::new(0),
+            awaited,
+        }
+    }
+
+    // One more has come.
+    fn count<R: Wait>(&self, rt: &R) {
+        let mut come = self.come.lock(rt);
+        *come = come.saturating_add(1);
+    }
+
+    // Whether as many have come as it waits for.
+    fn is_met<R: Wait>(&self, rt: &R) -> bool {
+        *self.come.lock(rt) >= self.awaited
+    }
+}
+
+impl Gate for Turnstile {
+    ghost may_refuse = { λ gate worker mark. ⊤ };
+
+    fn pass<R: Wait>(&self, rt: &R, _worker: u32, _mark: u64) -> bool {
+        self.count(rt);
+        for _ in 0..1_000_000 {
+            if self.is_met(rt) {
+                return true;
+            }
+            thread::yield_now();
+        }
+        false
+    }
+}
+
+// How many steps of the plan are approved.
+fn approved<RT: AllocGlobal + Threads + Wait + Sync>(
+    rt: &RT,
+    workers: u32,
+    gate: &Turnstile,
+    ring: Ring,
+    plan: Plan,
+    cert: &Cert,
+) -> Result<u32, Refusal>
+    requires { Suits ring plan }
+{
+    match check_parallel(rt, rt.alloc(), workers, gate, ring, plan, cert) {
+        Ok(approved) => Ok(approved.plan().len()),
+        Err(turned) => Err(turned.refusal),
+    }
+}
+
+// What the check of the two moves says by so many workers, under a gate that waits for so many.
+fn whole<RT: AllocGlobal + Threads + Wait + Sync>(
+    rt: &RT,
+    workers: u32,
+    awaited: u32,
+    cert: &[u8],
+) -> Result<u32, Refusal> {
+    let ring = read_ring(rt.alloc(), RING)?;
+    let plan = two_moves(rt.alloc(), &ring)?;
+    let cert = read_cert(rt.alloc(), &ring, cert)?;
+    approved(rt, workers, &Turnstile::new(awaited), ring, plan, &cert)
+}
+
+#[test]
+fn two_workers_overlap(rt: HostRuntime) {
+    assert_eq!(rt; whole(&rt, 2, 2, CERT), Ok(7));
+}
+
+#[test]
+fn one_worker_waits_in_vain(rt: HostRuntime) {
+    assert_eq!(rt; whole(&rt, 1, 2, CERT), Err(Refusal::TurnsSpent));
+}
+
+#[test]
+fn any_number_of_workers(rt: HostRuntime) {
+    assert_eq!(rt; whole(&rt, 0, 1, CERT), Ok(7));
+    assert_eq!(rt; whole(&rt, 3, 3, CERT), Ok(7));
+    assert_eq!(rt; whole(&rt, 64, 1, CERT), Ok(7));
+}
+
+#[test]
+fn no_share_is_begun_after_a_bad_path(rt: HostRuntime) {
+    assert_eq!(rt;
+        whole(&rt, 2, 3, b"cert 1\nfact 2 5\nend\n"),
+        Err(Refusal::BadPath(0))
+    );
+}
+
+// Whether the paths of the certificate say that one step is before another.
+fn ordered<RT: AllocGlobal + Threads + Sync>(
+    rt: &RT,
+    plan: &Plan,
+    cert: &Cert,
+) -> Result<bool, Refusal> {
+    let facts = Facts::verify_parallel(rt, rt.alloc(), plan, &cert.facts)?;
+    Ok(facts.ordered(plan, 2, 5))
+}
+
+#[test]
+fn paths_by_threads(rt: HostRuntime) -> Result<(), Fail> {
+    let ring = read_ring(rt.alloc(), RING)?;
+    let plan = two_moves(rt.alloc(), &ring)?;
+    let cert = read_cert(rt.alloc(), &ring, CERT)?;
+    assert_eq!(rt; ordered(&rt, &plan, &cert), Ok(true));
+    Ok(())
+}
