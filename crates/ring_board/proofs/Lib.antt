@@ -1,0 +1,4 @@
+pub mod Counts
+pub mod Steps
+pub mod Seats
+pub mod Closing

@@ -1,0 +1,87 @@
+//! What the seats of a board know, and the rule that ties it to the words. No value of a view is made.
+
+use atomic_table::{Join, Play, Split, TableRule};
+use std::collections::LinkedList;
+
+/// How many steps and workers a board has.
+#[derive(Clone, Copy)]
+pub struct Size {
+    pub steps: u32,
+    pub workers: u32,
+}
+
+/// A step, and the worker that has it.
+pub struct Mark {
+    pub step: u32,
+    pub worker: u32,
+}
+
+/// What a seat holds, what it finished, and the steps that it knows done.
+pub struct View {
+    pub held: LinkedList<Mark>,
+    pub finished: LinkedList<Mark>,
+    pub known: LinkedList<u32>,
+}
+
+pub(crate) struct Rule;
+
+impl TableRule<Option<()>, View, Size> for Rule {
+    ghost use Rattle.ring_board.specs.Views.{nothing};
+    ghost use Rattle.ring_board.specs.Kept.{Kept};
+
+    ghost holds = { Kept };
+
+    ghost first = { λ _. nothing };
+}
+
+pub(crate) struct Claiming;
+
+impl Play<Option<()>, View> for Claiming {
+    ghost use Rattle.ring_board.specs.Kept.{claims};
+
+    ghost then = { claims };
+}
+
+pub(crate) struct GivingBack;
+
+impl Play<Option<()>, View> for GivingBack {
+    ghost use Rattle.ring_board.specs.Kept.{gives_back};
+
+    ghost then = { gives_back };
+}
+
+pub(crate) struct Finishing;
+
+impl Play<Option<()>, View> for Finishing {
+    ghost use Rattle.ring_board.specs.Kept.{finishes};
+
+    ghost then = { finishes };
+}
+
+pub(crate) struct Looking;
+
+impl Play<Option<()>, View> for Looking {
+    ghost use Rattle.ring_board.specs.Kept.{looks};
+
+    ghost then = { looks };
+}
+
+pub(crate) struct Seating;
+
+impl Split<View> for Seating {
+    ghost use Rattle.ring_board.specs.Views.{nothing};
+
+    ghost left = { λ v. v };
+
+    ghost right = { λ _. nothing };
+}
+
+pub(crate) struct Closing;
+
+impl Join<View> for Closing {
+    ghost use Rattle.ring_board.specs.Views.{nothing, together};
+
+    ghost both = { together };
+
+    ghost spent = { nothing };
+}
