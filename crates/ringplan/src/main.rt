@@ -1,4 +1,4 @@
-//! Checks a bundle: its bytes on standard input, the verdict on standard output.
+//! Checks a bundle, plans a change, or plays a script: bytes on standard input, what comes of them on standard output.
 #![tactic(auto)]
 
 use ringplan_run::{end_without_memory, end_without_words, run};
@@ -7,23 +7,22 @@ use std::io::ErrorKind;
 use std::process::ExitCode;
 
 fn main(rt: HostRuntime) -> ExitCode {
-    ExitCode::from(run_words(&rt))
+    let mut output = rt.stdout();
+    let status = match words(&rt) {
+        Ok(words) => run(&rt, words.as_slice(), &mut rt.stdin(), &mut output),
+        Err(ErrorKind::InvalidData) => end_without_words(&mut output),
+        Err(_) => end_without_memory(&mut output),
+    };
+    ExitCode::from(status)
 }
 
-// Runs the words of the process over its standard input and output.
-fn run_words(rt: &HostRuntime) -> u8 {
-    let mut output = rt.stdout();
-    let arguments = match env::args(rt) {
-        Ok(arguments) => arguments,
-        Err(error) => {
-            return match error.kind() {
-                ErrorKind::InvalidData => end_without_words(&mut output),
-                _ => end_without_memory(&mut output),
-            };
-        }
-    };
-    let Ok(words) = arguments.collect::<Vec<String>>(rt.alloc()) else {
-        return end_without_memory(&mut output);
-    };
-    run(rt, words.as_slice(), &mut rt.stdin(), &mut output)
+// The words of the command line. They may be no text, and memory may be refused.
+fn words(rt: &HostRuntime) -> Result<Vec<String>, ErrorKind> {
+    match env::args(rt) {
+        Ok(arguments) => match arguments.collect::<Vec<String>>(rt.alloc()) {
+            Ok(words) => Ok(words),
+            Err(_) => Err(ErrorKind::OutOfMemory),
+        },
+        Err(error) => Err(error.kind()),
+    }
 }

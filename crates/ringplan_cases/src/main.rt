@@ -8,7 +8,10 @@ use ringplan_run::{check_bundle, plan_bundle, play_bundle, run};
 use std::alloc::Global;
 use std::fs::File;
 use std::io::Write;
-use std::{env, fs, io};
+use std::rt::Runtime;
+use std::sync::Wait;
+use std::thread::Threads;
+use std::{env, fs, io, str};
 
 // What the program is asked to do with a bundle.
 #[derive(Clone, Copy)]
@@ -33,17 +36,63 @@ fn main(rt: HostRuntime) -> io::Result<()> {
     Ok(())
 }
 
+// What was written, and the exit status.
+#[derive(PartialEq, Eq, Drop)]
+struct Answer {
+    bytes: Vec<u8>,
+    status: u8,
+}
+
+// Keeps what is written.
+#[derive(Drop)]
+struct Kept {
+    bytes: Vec<u8>,
+}
+
+impl Write for Kept {
+    fn write(&mut self, part: &[u8]) -> io::Result<usize> {
+        self.bytes.extend_from_slice(part)?;
+        Ok(part.len())
+    }
+
+    fn flush(&mut self) -> io::Result<()> {
+        Ok(())
+    }
+}
+
+// What the program says of the bundle to these words.
+fn said<RT: Runtime + AllocGlobal + Threads + Wait + Sync>(
+    rt: &RT,
+    words: &[&str],
+    path: &str,
+) -> io::Result<Answer> {
+    let mut bundle = File::open(rt, path)?;
+    let mut kept = Kept {
+        bytes: Vec::new(rt.alloc()),
+    };
+    let status = run(rt, words, &mut bundle, &mut kept);
+    Ok(Answer {
+        bytes: kept.bytes,
+        status,
+    })
+}
+
 // Prints the name of a bundle, the program's answer to it and the exit status.
-fn show(rt: &HostRuntime, asked: Asked, name: &str) -> io::Result<()> {
+fn show<RT: Runtime + AllocGlobal + Threads + Wait + Sync>(
+    rt: &RT,
+    asked: Asked,
+    name: &str,
+) -> io::Result<()> {
     let path = format!(in rt.alloc(); "{name}.bundle")?;
-    println!(rt; "{name}")?;
-    let status = answer(rt, asked, path.as_str())?;
-    println!(rt; "{status}")?;
+    let said = said(rt, &["ringplan", subcommand(asked)], path.as_str())?;
+    let text = str::from_utf8(said.bytes.as_slice()).unwrap_or("no text\n");
+    let status = said.status;
+    print!(rt; "{name}\n{text}{status}\n")?;
     if status == 0 {
         check_fronts(rt, asked, path.as_str())?;
     }
     match asked {
-        Asked::Check => check_workers(rt, path.as_str()),
+        Asked::Check => check_workers(rt, path.as_str(), &said),
         _ => Ok(()),
     }
 }
@@ -58,13 +107,6 @@ fn subcommand(asked: Asked) -> &'static str {
     }
 }
 
-// Prints the program's answer to the bundle, and gives its exit status.
-fn answer(rt: &HostRuntime, asked: Asked, path: &str) -> io::Result<u8> {
-    let mut bundle = File::open(rt, path)?;
-    let words = ["ringplan", subcommand(asked)];
-    Ok(run(rt, words.as_slice(), &mut bundle, &mut rt.stdout()))
-}
-
 // Whether a first part of a bundle is accepted. A migration accepts none, since it asks for no plan that is.
 fn accepts(alloc: Global, asked: Asked, front: &[u8]) -> bool {
     match asked {
@@ -76,7 +118,7 @@ fn accepts(alloc: Global, asked: Asked, front: &[u8]) -> bool {
 }
 
 // Says how many first parts of the bundle are accepted, if some are.
-fn check_fronts(rt: &HostRuntime, asked: Asked, path: &str) -> io::Result<()> {
+fn check_fronts<RT: Runtime + AllocGlobal>(rt: &RT, asked: Asked, path: &str) -> io::Result<()> {
     let bundle = fs::read(rt, path)?;
     let mut accepted = 0u64;
     for end in 0..bundle.len() {
@@ -90,41 +132,15 @@ fn check_fronts(rt: &HostRuntime, asked: Asked, path: &str) -> io::Result<()> {
     Ok(())
 }
 
-// What was written, and the exit status.
-#[derive(PartialEq, Eq, Drop)]
-struct Said {
-    bytes: Vec<u8>,
-    status: u8,
-}
-
-impl Write for Said {
-    fn write(&mut self, part: &[u8]) -> io::Result<usize> {
-        self.bytes.extend_from_slice(part)?;
-        Ok(part.len())
-    }
-
-    fn flush(&mut self) -> io::Result<()> {
-        Ok(())
-    }
-}
-
-// What the program says of the bundle to these words.
-fn said(rt: &HostRuntime, words: &[&str], path: &str) -> io::Result<Said> {
-    let mut bundle = File::open(rt, path)?;
-    let mut said = Said {
-        bytes: Vec::new(rt.alloc()),
-        status: 0,
-    };
-    said.status = run(rt, words, &mut bundle, &mut said);
-    Ok(said)
-}
-
 // Says of how many numbers of workers the check says otherwise than without, if it does of some.
-fn check_workers(rt: &HostRuntime, path: &str) -> io::Result<()> {
-    let alone = said(rt, &["ringplan", "check"], path)?;
+fn check_workers<RT: Runtime + AllocGlobal + Threads + Wait + Sync>(
+    rt: &RT,
+    path: &str,
+    alone: &Answer,
+) -> io::Result<()> {
     let mut others = 0u32;
     for workers in ["1", "3", "64"] {
-        if said(rt, &["ringplan", "check", "--workers", workers], path)? != alone {
+        if said(rt, &["ringplan", "check", "--workers", workers], path)? != *alone {
             others = others.saturating_add(1);
         }
     }

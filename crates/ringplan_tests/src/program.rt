@@ -68,7 +68,12 @@ fn workers_limited(rt: HostRuntime) -> Result<(), Fail> {
     told(&rt, &["ringplan", "check", "--workers"], 2, "error:")?;
     told(&rt, &["ringplan", "check", "--workers", "0"], 2, "1..=64")?;
     told(&rt, &["ringplan", "check", "--workers=65"], 2, "1..=64")?;
-    told(&rt, &["ringplan", "check", "--workers", "two"], 2, "error: invalid value 'two'")?;
+    told(
+        &rt,
+        &["ringplan", "check", "--workers", "two"],
+        2,
+        "error: invalid value 'two'",
+    )?;
     told(
         &rt,
         &["ringplan", "play", "--workers", "2"],

@@ -17,6 +17,7 @@ use std::thread::Threads;
 const CERT: &[u8] = b"cert 1\nfact 2 3 4 5\nchain b 2 5\nchain d 2 5\nend\n";
 
 // Holds workers until as many have come as it waits for, and looks a million times.
+#[derive(Drop)]
 struct Turnstile {
     come: Mutex<u32>,
     awaited: u32,
