@@ -91,6 +91,7 @@ impl Board {
         requires step { step < self.now.steps }
         ensures won { result ≡ Claim.Won → (seat.new ≡ record seat.old { held = step ∷ seat.old.held }) × Fits seat.old step 0 }
         ensures taken { (word : ℕ) → result ≡ Claim.Taken word → (word ≢ 0) × IsWord self.now.workers word × Fits seat.old step word × (seat.new ≡ seat.old) }
+        ensures same { (seat.new.board ≡ seat.old.board) × (seat.new.worker ≡ seat.old.worker) }
     {
         let Some(worker) = seat.worker else {
             unreachable!()

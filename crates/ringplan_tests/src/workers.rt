@@ -44,7 +44,7 @@ impl Turnstile {
 }
 
 impl Gate for Turnstile {
-    ghost may_refuse = { λ gate worker mark. ⊤ };
+    ghost may_refuse = { λ gate worker mark. Unit {0} };
 
     fn pass<R: Wait>(&self, rt: &R, _worker: u32, _mark: u64) -> bool {
         self.count(rt);
