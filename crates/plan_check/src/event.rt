@@ -1,14 +1,15 @@
 //! What can happen to a store, and what it answers.
 
-ghost use Rattle.std.specs.Prelude.{◌≡◌, ◌++◌, OnOk, map};
+ghost use Rattle.std.specs.Prelude.{◌≡◌, ◌++◌, IfOk, OnOk, map};
 ghost use Rattle.std.specs.Fmt.{decimal};
 ghost use Rattle.ring_text.specs.Parts.{spaced};
 ghost use Rattle.plan_check.specs.Replies.{reply_text};
+ghost use Rattle.plan_check.specs.declared.event.Event.TheVariants.{StartPut};
 
 use crate::words::{Key, Seen};
 use ring_names::{Listed, NodeId, Slot, Value, WriterId};
 use ring_text::push_numbers;
-use std::alloc::AllocError;
+use std::alloc::{AllocError, Global};
 
 /// One event. Steps, puts and gets are named by their numbers, puts and gets in order of their start.
 #[derive(Debug, Drop)]
@@ -69,6 +70,50 @@ pub enum Reply {
 pub struct Entry {
     pub event: Event,
     pub reply: Reply,
+}
+
+impl Event {
+    /// The same event once more. Only a put and the start of a get take memory.
+    pub fn try_copy(&self, alloc: Global) -> Result<Event, AllocError>
+        ensures { IfOk result (λ event. event ≡ self.now) }
+    {
+        Ok(match self {
+            Event::Do(step) => Event::Do(*step),
+            Event::OpenCopy(step) => Event::OpenCopy(*step),
+            Event::ChunkCopy(step, chunk) => Event::ChunkCopy(*step, *chunk),
+            Event::CloseCopy(step) => Event::CloseCopy(*step),
+            Event::AbortCopy(step) => Event::AbortCopy(*step),
+            Event::StartPut(writer, key, value, seen) => {
+                return copied_put(alloc, *writer, key, value, seen);
+            }
+            Event::Write(put, index) => Event::Write(*put, *index),
+            Event::Hint(put, index, node) => Event::Hint(*put, *index, *node),
+            Event::Ack(put) => Event::Ack(*put),
+            Event::StartGet(key) => Event::StartGet(key.try_copy(alloc)?),
+            Event::Read(get, index) => Event::Read(*get, *index),
+            Event::EndGet(get) => Event::EndGet(*get),
+            Event::Down(node) => Event::Down(*node),
+            Event::Up(node) => Event::Up(*node),
+            Event::Handoff(node, slot) => Event::Handoff(*node, *slot),
+            Event::Lose(node) => Event::Lose(*node),
+        })
+    }
+}
+
+// The start of a put, of the same words.
+fn copied_put(
+    alloc: Global,
+    writer: WriterId,
+    key: &Key,
+    value: &Value,
+    seen: &Seen,
+) -> Result<Event, AllocError>
+    ensures { IfOk result (λ event. event ≡ StartPut writer key.now value.now seen.now) }
+{
+    let key = key.try_copy(alloc)?;
+    let value = value.try_copy(alloc)?;
+    let seen = seen.try_copy(alloc)?;
+    Ok(Event::StartPut(writer, key, value, seen))
 }
 
 impl Reply {

@@ -1,11 +1,12 @@
 //! The words of an event, which keep their limits by their types.
 
-ghost use Rattle.std.specs.Prelude.{◌≡◌, IfSome, is_some};
+ghost use Rattle.std.specs.Prelude.{◌≡◌, IfOk, IfSome, is_some};
 ghost use Rattle.std.specs.List.{list_all};
 ghost use Rattle.ring_text.specs.Numbers.{ascending};
 ghost use Rattle.plan_check.specs.Words.{is_key, is_seen};
 
 use ring_text::are_name_bytes;
+use std::alloc::{AllocError, Global};
 use std::marker::Model;
 
 /// A key: 1 to 64 bytes of `a-z0-9_.:-`.
@@ -42,6 +43,15 @@ impl Key {
         ensures { result.now ≡ self.now }
     {
         self.bytes.as_slice()
+    }
+
+    /// The same key once more.
+    pub fn try_copy(&self, alloc: Global) -> Result<Key, AllocError>
+        ensures { IfOk result (λ key. key ≡ self.now) }
+    {
+        Ok(Key {
+            bytes: Vec::from_slice(alloc, self.bytes.as_slice())?,
+        })
     }
 }
 
@@ -97,5 +107,14 @@ impl Seen {
         ensures { result.now ≡ self.now }
     {
         self.gets.as_slice()
+    }
+
+    /// The same gets once more.
+    pub fn try_copy(&self, alloc: Global) -> Result<Seen, AllocError>
+        ensures { IfOk result (λ seen. seen ≡ self.now) }
+    {
+        Ok(Seen {
+            gets: Vec::from_slice(alloc, self.gets.as_slice())?,
+        })
     }
 }

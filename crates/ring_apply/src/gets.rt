@@ -79,3 +79,23 @@ pub fn end_get(parts: &mut Parts, get: u32) -> Result<Reply, Refusal>
     parts.gets.end(get, Listed::from_vec(kept));
     Ok(Reply::Answer(reply))
 }
+
+/// As `end_get`, with a copy of the reply beside it.
+pub fn end_get_with_copy(parts: &mut Parts, get: u32) -> Result<(Reply, Reply), Refusal>
+    requires sound { IsSound parts.old }
+    requires passes { Passes parts.old (EndGet get) }
+    ensures ok { IfOk result (λ r. Answers parts.old (EndGet get) r.0 parts.new) }
+    ensures copy { IfOk result (λ r. r.1 ≡ r.0) }
+    ensures same { OnErr result (Stays parts.old parts.new) }
+    ensures memory { IfErr result (λ e. e ≡ OutOfMemory) }
+    ensures follows { Follows parts.old parts.new }
+{
+    let Some(now) = parts.gets.get(get) else {
+        unreachable!();
+    };
+    let reply = now.found.puts()?;
+    let kept = Vec::from_slice(parts.alloc, reply.as_slice())?;
+    let copy = Vec::from_slice(parts.alloc, reply.as_slice())?;
+    parts.gets.end(get, Listed::from_vec(kept));
+    Ok((Reply::Answer(reply), Reply::Answer(Listed::from_vec(copy))))
+}

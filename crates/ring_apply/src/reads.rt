@@ -12,7 +12,7 @@ ghost use Rattle.ring_apply.specs.Reads.{StopsRead};
 use crate::keepers::keeper_refusal;
 use crate::looks::look;
 use plan_check::Reply;
-use ring_names::{Refusal, Slot};
+use ring_names::{Listed, Refusal, Slot};
 use ring_parts::Parts;
 
 // Why the slot is not read for the key now, if it is not: its owner is down, or a node that keeps versions of the key for it.
@@ -67,4 +67,20 @@ pub fn read(parts: &mut Parts, get: u32, index: u32) -> Result<Reply, Refusal>
     let (found, puts) = look(parts, get, index)?;
     parts.gets.set_found(get, index, found);
     Ok(Reply::Found(puts))
+}
+
+/// As `read`, with a copy of the reply beside it.
+pub fn read_with_copy(parts: &mut Parts, get: u32, index: u32) -> Result<(Reply, Reply), Refusal>
+    requires sound { IsSound parts.old }
+    requires passes { Passes parts.old (Read get index) }
+    ensures ok { IfOk result (λ r. Answers parts.old (Read get index) r.0 parts.new) }
+    ensures copy { IfOk result (λ r. r.1 ≡ r.0) }
+    ensures same { OnErr result (Stays parts.old parts.new) }
+    ensures memory { IfErr result (λ e. e ≡ OutOfMemory) }
+    ensures follows { Follows parts.old parts.new }
+{
+    let (found, puts) = look(parts, get, index)?;
+    let copy = Vec::from_slice(parts.alloc, puts.as_slice())?;
+    parts.gets.set_found(get, index, found);
+    Ok((Reply::Found(puts), Reply::Found(Listed::from_vec(copy))))
 }

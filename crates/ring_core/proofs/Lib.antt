@@ -9,3 +9,4 @@ pub mod Beginning
 pub mod Going
 pub mod Transferring
 pub mod Promised
+pub mod Copied

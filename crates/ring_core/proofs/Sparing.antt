@@ -1,12 +1,12 @@
--- No guard's refusal is out of memory.
+-- No guard's refusal is out of memory, or that a history is full.
 use Rattle.std.proofs.Common.{◌≡◌, ℕ, Bool, true, false, not, cond, List, [], ◌∷◌, ◌++◌, length, map, refl, ap, subst}
-use Rattle.std.specs.Prelude.{◌≢◌, ◌==◌, Option, Some, None}
+use Rattle.std.specs.Prelude.{◌≢◌, ◌==◌, ◌&&◌, Option, Some, None}
 use Rattle.std.specs.List.{list_all}
 use Rattle.std.proofs.lemmas.Bool.{and_parts}
 use Rattle.ring_names.specs.declared.ids.NodeId.{NodeId}
 use Rattle.ring_names.specs.declared.ids.Slot.{Slot}
 use Rattle.ring_names.specs.declared.refusal.Refusal.{Refusal}
-use Rattle.ring_names.specs.declared.refusal.Refusal.TheVariants.{OutOfMemory, NodeDown}
+use Rattle.ring_names.specs.declared.refusal.Refusal.TheVariants.{OutOfMemory, HistoryFull, NodeDown}
 use Rattle.ring_names.specs.Refusals.{number_of}
 use Rattle.ring_table.specs.Value.{RingValue}
 use Rattle.plan_text.specs.declared.step.Source.{Source}
@@ -25,7 +25,7 @@ use Rattle.plan_check.specs.Guards.{guards, step_guards, parties_up, keepers_up,
 
 -- the refusal is another one
 is_other : Refusal → Bool
-is_other e = not (number_of e == 60)
+is_other e = not (number_of e == 60) && not (number_of e == 51)
 
 -- each of these refusals is
 spare : List Guard → Bool
@@ -103,3 +103,8 @@ all_spare ring plan w (Lose x) = refl
 pub never_memory : (ring : RingValue) (plan : List Planned) (w : World) (e : Event) (refusal : Refusal) → first_failing (guards ring plan w e) ≡ Some refusal → refusal ≢ OutOfMemory
 unfolding is_other
 never_memory ring plan w e refusal h is = absurd (let o = first_spared (guards ring plan w e) refusal (all_spare ring plan w e) h in let f = ap is_other is in cc)
+
+-- nor is the history full for it
+pub never_full : (ring : RingValue) (plan : List Planned) (w : World) (e : Event) (refusal : Refusal) → first_failing (guards ring plan w e) ≡ Some refusal → refusal ≢ HistoryFull
+unfolding is_other
+never_full ring plan w e refusal h is = absurd (let o = first_spared (guards ring plan w e) refusal (all_spare ring plan w e) h in let f = ap is_other is in cc)

@@ -1,8 +1,10 @@
--- Which events need a number, and which may need memory.
+-- Which events need a number, which may need memory, and which replies list puts.
 use Rattle.std.specs.Prelude.{◌<◌, Bool, true, false, length}
 use Rattle.plan_check.specs.declared.event.Event.{Event}
 use Rattle.plan_check.specs.declared.event.Event.TheVariants.{Do, OpenCopy, ChunkCopy, CloseCopy, AbortCopy, StartPut, Write, Hint}
 use Rattle.plan_check.specs.declared.event.Event.TheVariants.{Ack, StartGet, Read, EndGet, Down, Up, Handoff, Lose}
+use Rattle.plan_check.specs.declared.event.Reply.{Reply}
+use Rattle.plan_check.specs.declared.event.Reply.TheVariants.{Found, Answer}
 use Rattle.ring_parts.specs.declared.parts.Parts.{Parts}
 
 -- a put or get that starts has a number below 4,294,967,295
@@ -29,3 +31,9 @@ may_need_memory (Down x) = false
 may_need_memory (Up x) = false
 may_need_memory (Handoff x s) = true
 may_need_memory (Lose x) = false
+
+-- the reply is a list of puts
+abbrev pub lists_puts : Reply → Bool
+lists_puts (Found puts) = true
+lists_puts (Answer puts) = true
+lists_puts r = false

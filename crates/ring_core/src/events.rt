@@ -3,14 +3,15 @@
 ghost use Rattle.std.specs.Prelude.{◌≡◌, false, IfOk, IfErr, OnErr};
 ghost use Rattle.ring_names.specs.declared.refusal.Refusal.TheVariants.{OutOfMemory};
 ghost use Rattle.ring_parts.specs.Parts.{IsSound, Tests, Passes, Answers, Stays, Follows};
-ghost use Rattle.ring_core.specs.Numbers.{HasNumber, may_need_memory};
+ghost use Rattle.ring_core.specs.Numbers.{HasNumber, may_need_memory, lists_puts};
 
 use plan_check::{Event, Reply};
 use ring_apply::{
     abort_copy, abort_refusal, ack, ack_refusal, chunk_copy, chunk_refusal, close_copy,
-    close_refusal, do_refusal, do_step, down, down_refusal, end_get, end_refusal, handoff,
-    handoff_refusal, hint, hint_refusal, lose, lose_refusal, open_copy, open_refusal, put_refusal,
-    read, read_refusal, start_get, start_put, up, up_refusal, write, write_refusal,
+    close_refusal, do_refusal, do_step, down, down_refusal, end_get, end_get_with_copy,
+    end_refusal, handoff, handoff_refusal, hint, hint_refusal, lose, lose_refusal, open_copy,
+    open_refusal, put_refusal, read, read_refusal, read_with_copy, start_get, start_put, up,
+    up_refusal, write, write_refusal,
 };
 use ring_names::Refusal;
 use ring_parts::Parts;
@@ -68,5 +69,41 @@ pub(crate) fn happen(parts: &mut Parts, event: &Event) -> Result<Reply, Refusal>
         Event::Up(node) => Ok(up(parts, *node)),
         Event::Handoff(node, slot) => handoff(parts, *node, *slot),
         Event::Lose(node) => Ok(lose(parts, *node)),
+    }
+}
+
+// A reply that lists no puts, once more.
+fn copy_of(reply: &Reply) -> Reply
+    requires { lists_puts reply.now ≡ false }
+    ensures { result ≡ reply.now }
+{
+    match reply {
+        Reply::Plain => Reply::Plain,
+        Reply::Put(number) => Reply::Put(*number),
+        Reply::Ticket(slot, generation) => Reply::Ticket(*slot, *generation),
+        Reply::Get(number) => Reply::Get(*number),
+        Reply::Found(_) | Reply::Answer(_) => unreachable!(),
+    }
+}
+
+/// As `happen`, with a copy of the reply beside it.
+pub(crate) fn happen_with_copy(parts: &mut Parts, event: &Event) -> Result<(Reply, Reply), Refusal>
+    requires sound { IsSound parts.old }
+    requires number { HasNumber parts.old event.now }
+    requires passes { Passes parts.old event.now }
+    ensures ok { IfOk result (λ r. Answers parts.old event.now r.0 parts.new) }
+    ensures copy { IfOk result (λ r. r.1 ≡ r.0) }
+    ensures memory { IfErr result (λ e. e ≡ OutOfMemory) }
+    ensures same { OnErr result (Stays parts.old parts.new) }
+    ensures follows { Follows parts.old parts.new }
+{
+    match event {
+        Event::Read(get, index) => read_with_copy(parts, *get, *index),
+        Event::EndGet(get) => end_get_with_copy(parts, *get),
+        _ => {
+            let reply = happen(parts, event)?;
+            let copy = copy_of(&reply);
+            Ok((reply, copy))
+        }
     }
 }

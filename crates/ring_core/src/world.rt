@@ -3,7 +3,7 @@
 ghost use Rattle.std.specs.Prelude.{◌≤◌, length};
 ghost use Rattle.ring_parts.specs.Parts.{IsSound};
 
-use crate::events::{happen, refusal};
+use crate::events::{happen, happen_with_copy, refusal};
 use plan_check::{Approved, Event, Reply};
 use ring_names::Refusal;
 use ring_parts::Parts;
@@ -67,5 +67,22 @@ impl<'a> World<'a> {
     {
         self.allows(event)?;
         happen(&mut self.parts, event)
+    }
+
+    /// As `apply` of an event that is allowed now, with a copy of the reply beside it, so that one can be noted and the other given. Refused only
+    /// where there is no memory, and the store is as it was.
+    pub fn apply_with_copy(&mut self, event: &Event) -> Result<(Reply, Reply), Refusal>
+        requires number { HasNumber self.old event.now }
+        requires passes { Passes self.old event.now }
+        ensures ok { IfOk result (λ r. Answers self.old event.now r.0 self.new) }
+        ensures copy { IfOk result (λ r. r.1 ≡ r.0) }
+        ensures fresh { IfOk result (λ r. IsFresh self.old event.now r.0) }
+        ensures memory { IfErr result (λ e. e ≡ OutOfMemory) }
+        ensures same { OnErr result (Stays self.old self.new) }
+        ensures counts { IsOneMore self.old self.new }
+        ensures ring { ring_of self.new ≡ ring_of self.old }
+        ensures plan { plan_of self.new ≡ plan_of self.old }
+    {
+        happen_with_copy(&mut self.parts, event)
     }
 }

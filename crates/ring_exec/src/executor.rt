@@ -1,0 +1,94 @@
+//! The lock round a running store and its history.
+
+use crate::ledgered::Ledgered;
+use crate::receipt::Receipt;
+use crate::run_ledger::RunLedger;
+use crate::share::Share;
+use plan_check::{Approved, Event};
+use ring_names::{NodeId, Refusal, Slot};
+use std::alloc::Global;
+use std::sync::ledger::Blank;
+use std::sync::{Mutex, Wait};
+
+/// A running store with its history, which threads share by `&`: each event is applied by one thread at a time.
+#[derive(Drop)]
+pub struct Executor<'a, L: RunLedger> {
+    inside: Mutex<Ledgered<'a, L>>,
+}
+
+impl<'a, L: RunLedger> Executor<'a, L> {
+    ghost use Rattle.std.specs.Prelude.{◌≡◌, ◌<◌, ◌≤◌, ◌+◌, length, vec_len, IfOk, IfErr, IfSome, OnOk, OnErr};
+    ghost use Rattle.std.specs.List.{sum_by};
+    ghost use Rattle.ring_names.specs.declared.refusal.Refusal.TheVariants.{OutOfMemory, Disagree};
+
+    /// A store before the first event, and the one share of its ledger, which counts none and has all of the ledger's parts.
+    pub fn new(
+        alloc: Global,
+        blank: Blank,
+        approved: &'a Approved,
+    ) -> Result<(Executor<'a, L>, Share<L>), Refusal>
+        requires name { blank.name ≡ L.name }
+        requires parts { blank.parts ≡ L.parts }
+        requires some { 0 < blank.parts }
+        requires ring { approved.now.ring ≡ L.ring }
+        requires plan { approved.now.plan ≡ L.plan }
+        ensures share { IfOk result (λ r. (r.1.count ≡ 0) × (r.1.token.parts ≡ L.parts)) }
+        ensures memory { IfErr result (λ e. e ≡ OutOfMemory) }
+    {
+        let (ledgered, share) = Ledgered::new(alloc, blank, approved)?;
+        let executor = Executor {
+            inside: Mutex::new(ledgered),
+        };
+        Ok((executor, share))
+    }
+
+    /// The event under the lock, as `Ledgered::apply`: its receipt, and the share counts it. Refused, the share is as it was.
+    pub fn submit<R: Wait>(
+        &self,
+        rt: &R,
+        event: &Event,
+        share: &mut Share<L>,
+    ) -> Result<Receipt, Refusal>
+        ensures event { IfOk result (λ r. r.event ≡ event.now) }
+        ensures index { IfOk result (λ r. r.index < 1000000) }
+        ensures count { OnOk result (share.new.count ≡ share.old.count + 1) }
+        ensures same { OnErr result (share.new.count ≡ share.old.count) }
+        ensures parts { share.new.token.parts ≡ share.old.token.parts }
+    {
+        self.inside.lock(rt).apply(event, share)
+    }
+
+    /// The least step from that number on that could begin when it was looked at, if there was one: it was neither done nor open, and its direct
+    /// dependencies were done.
+    pub fn ready<R: Wait>(&self, rt: &R, from: u32) -> Option<u32>
+        ensures { IfSome result (λ n. (from ≤ n) × (n < length L.plan)) }
+    {
+        self.inside.lock(rt).world().ready(from)
+    }
+
+    /// How many steps were not done when it was looked at.
+    pub fn left<R: Wait>(&self, rt: &R) -> u32
+        ensures { result ≤ length L.plan }
+    {
+        self.inside.lock(rt).world().left()
+    }
+
+    /// The n-th node with a slot for which it kept a hint when it was looked at, if there was one.
+    pub fn hint_at<R: Wait>(&self, rt: &R, n: u32) -> Option<(NodeId, Slot)> {
+        self.inside.lock(rt).world().hint_at(n)
+    }
+
+    /// The store and its history, where the shares count as many events as the history has; else 70. Where they have all parts of the ledger
+    /// they do.
+    pub fn finish(self, shares: Vec<Share<L>>) -> Result<Ledgered<'a, L>, Refusal>
+        ensures ok { IfOk result (λ a. vec_len a.history ≡ sum_by (λ s. s.count) shares.items) }
+        ensures err { IfErr result (λ e. e ≡ Disagree) }
+        ensures whole { 0 < L.parts → sum_by (λ s. s.token.parts) shares.items ≡ L.parts → IfErr result (λ e. ⊥) }
+    {
+        let mut ledgered = self.inside.into_inner();
+        if ledgered.is_counted_by(shares) {
+            return Ok(ledgered);
+        }
+        Err(Refusal::Disagree)
+    }
+}

@@ -1,0 +1,134 @@
+//! A running store with its history and its book.
+
+ghost use Rattle.std.specs.Prelude.{◌≡◌, ◌≤◌, vec_len};
+ghost use Rattle.ring_core.specs.World.{ring_of, plan_of, put_count, get_count};
+ghost use Rattle.ring_exec.specs.Ledgers.{Replays};
+
+use crate::receipt::Receipt;
+use crate::run_ledger::RunLedger;
+use crate::share::{Share, count_of};
+use plan_check::{Approved, Entry, Event};
+use ring_core::World;
+use ring_names::Refusal;
+use std::alloc::Global;
+use std::sync::ledger::{Blank, Book};
+
+/// The most entries that a history may have.
+pub const MAX_ENTRIES: usize = 1_000_000;
+
+/// A store that follows an approved plan, with its history: every event that it was answered, with the reply. The history is a run of the plan
+/// which leads to a world that the store is in, and the book counts its entries.
+#[derive(Drop)]
+pub struct Ledgered<'a, L: RunLedger> {
+    alloc: Global,
+    world: World<'a>,
+    history: Vec<Entry>,
+    book: Book<L>,
+    ghost ring: { ring_of world ≡ L.ring },
+    ghost plan: { plan_of world ≡ L.plan },
+    ghost replays: { Replays L.ring L.plan world history.items },
+    ghost counted: { book.total ≡ vec_len history },
+    ghost few: { vec_len history ≤ 1000000 },
+    ghost puts: { put_count world ≤ vec_len history },
+    ghost gets: { get_count world ≤ vec_len history },
+}
+
+impl<'a, L: RunLedger> Ledgered<'a, L> {
+    ghost use Rattle.std.specs.Prelude.{◌≡◌, ◌≢◌, ◌<◌, ◌≤◌, ◌+◌, ◌++◌, ◌∷◌, ◌↔◌, [], length, vec_len, IfOk, IfErr, OnOk, OnErr, IsTrue};
+    ghost use Rattle.std.specs.List.{sum_by};
+    ghost use Rattle.ring_names.specs.declared.refusal.Refusal.TheVariants.{OutOfMemory, HistoryFull};
+    ghost use Rattle.plan_check.specs.World.{opening_world};
+    ghost use Rattle.ring_core.specs.World.{Meets, Passes, Answers, Refuses, Stays};
+    ghost use Rattle.ring_exec.specs.Ledgers.{Replays, entry};
+
+    /// The store before the first event, with an empty history, and the one share of its ledger, which has all of its parts.
+    pub fn new(
+        alloc: Global,
+        blank: Blank,
+        approved: &'a Approved,
+    ) -> Result<(Ledgered<'a, L>, Share<L>), Refusal>
+        requires name { blank.name ≡ L.name }
+        requires parts { blank.parts ≡ L.parts }
+        requires some { 0 < blank.parts }
+        requires ring { approved.now.ring ≡ L.ring }
+        requires plan { approved.now.plan ≡ L.plan }
+        ensures history { IfOk result (λ r. r.0.history.items ≡ []) }
+        ensures opening { IfOk result (λ r. Meets r.0.world (opening_world L.ring)) }
+        ensures share { IfOk result (λ r. (r.1.count ≡ 0) × (r.1.token.parts ≡ L.parts)) }
+        ensures memory { IfErr result (λ e. e ≡ OutOfMemory) }
+    {
+        let world = World::start(alloc, approved)?;
+        let (book, token) = blank.open::<L>();
+        let ledgered = Ledgered {
+            alloc,
+            world,
+            history: Vec::new(alloc),
+            book,
+        };
+        Ok((ledgered, Share { count: 0, token }))
+    }
+
+    /// The store.
+    pub fn world(&self) -> &World<'a>
+        ensures { result.now ≡ self.now.world }
+    {
+        &self.world
+    }
+
+    /// The history, in the order of its events: a run of the plan, of at most 1,000,000 entries, which leads to a world that the store is in.
+    pub fn entries(&self) -> &[Entry]
+        ensures items { result.now ≡ self.now.history.items }
+        ensures run { Replays L.ring L.plan self.now.world result.now }
+        ensures few { length result.now ≤ 1000000 }
+    {
+        self.history.as_slice()
+    }
+
+    /// The event, which the share counts and which then stands last in the history with its reply. Refused, all is as it was. A history of
+    /// 1,000,000 entries comes before all other refusals, and is the only one there; out of memory comes last.
+    pub fn apply(&mut self, event: &Event, share: &mut Share<L>) -> Result<Receipt, Refusal>
+        ensures entry { IfOk result (λ r. self.new.history.items ≡ self.old.history.items ++ entry event.now r.reply ∷ []) }
+        ensures receipt { IfOk result (λ r. (r.event ≡ event.now) × (r.index ≡ vec_len self.old.history)) }
+        ensures answer { IfOk result (λ r. Answers self.old.world event.now r.reply self.new.world) }
+        ensures count { OnOk result (share.new.count ≡ share.old.count + 1) }
+        ensures room { OnOk result (vec_len self.old.history < 1000000) }
+        ensures full { IfErr result (λ e. (e ≡ HistoryFull) ↔ (vec_len self.old.history ≡ 1000000)) }
+        ensures err { IfErr result (λ e. e ≢ HistoryFull → e ≢ OutOfMemory → Refuses self.old.world event.now e) }
+        ensures late { IfErr result (λ e. e ≡ OutOfMemory → Passes self.old.world event.now) }
+        ensures same { OnErr result ((self.new.history.items ≡ self.old.history.items) × (share.new.count ≡ share.old.count) × Stays self.old.world self.new.world) }
+        ensures unchanged { IfErr result (λ e. e ≢ OutOfMemory → self.new.world ≡ self.old.world) }
+        ensures parts { share.new.token.parts ≡ share.old.token.parts }
+    {
+        if self.history.len() >= MAX_ENTRIES {
+            return Err(Refusal::HistoryFull);
+        }
+        self.world.allows(event)?;
+        let noted = event.try_copy(self.alloc)?;
+        let given = event.try_copy(self.alloc)?;
+        self.history.reserve(1)?;
+        let (reply, copy) = self.world.apply_with_copy(event)?;
+        let index = self.history.len() as u32;
+        let entry = Entry {
+            event: noted,
+            reply: copy,
+        };
+        self.history.push_reserved(entry);
+        self.book.audit(&mut share.token);
+        self.book.add(&mut share.token, 1);
+        share.count += 1;
+        Ok(Receipt {
+            index,
+            event: given,
+            reply,
+        })
+    }
+
+    /// Whether the shares count as many events as the history has.
+    pub(crate) fn is_counted_by(&mut self, shares: Vec<Share<L>>) -> bool
+        ensures count { IsTrue result → vec_len self.old.history ≡ sum_by (λ s. s.count) shares.items }
+        ensures whole { 0 < L.parts → sum_by (λ s. s.token.parts) shares.items ≡ L.parts → IsTrue result }
+        ensures same { (self.new.history.items ≡ self.old.history.items) × (self.new.world ≡ self.old.world) }
+    {
+        count_of(&mut self.book, shares) == self.history.len() as u64
+    }
+}

@@ -1,0 +1,11 @@
+//! What an event was answered, and where it stands.
+
+use plan_check::{Event, Reply};
+
+/// The place of an event in the history, from 0, the event and its reply.
+#[derive(Debug, Drop)]
+pub struct Receipt {
+    pub index: u32,
+    pub event: Event,
+    pub reply: Reply,
+}
