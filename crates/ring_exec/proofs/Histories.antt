@@ -11,7 +11,7 @@ use Rattle.plan_check.specs.declared.event.Entry.{Entry}
 use Rattle.plan_check.specs.declared.event.Event.{Event}
 use Rattle.plan_check.specs.declared.event.Reply.{Reply}
 use Rattle.plan_check.specs.Answers.{answer}
-use Rattle.plan_check.specs.World.{World as TheWorld, opening_world}
+use Rattle.plan_check.specs.World.{opening_world}
 use Rattle.plan_check.proofs.Answered.{first_refused}
 use Rattle.plan_check.proofs.Split.{joined}
 use Rattle.ring_parts.proofs.Known.{holds}

@@ -1,5 +1,5 @@
 -- What a look at a store under the lock shows.
-use Rattle.std.proofs.Common.{◌≡◌, ◌<◌, ◌≤◌, ℕ, List, length, sym, subst, arith}
+use Rattle.std.proofs.Common.{◌≡◌, ◌<◌, ◌≤◌, ℕ, List, length, subst, arith}
 use Rattle.std.proofs.Props.{props}
 use Rattle.std.specs.Prelude.{not, Option, Some, None, IfSome}
 use Rattle.plan_text.specs.declared.step.Planned.{Planned}

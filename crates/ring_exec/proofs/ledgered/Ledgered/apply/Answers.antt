@@ -1,4 +1,4 @@
-use Rattle.std.proofs.Common.{rules, ◌≡◌, ◌∙◌, ◌<◌, List, [], ◌∷◌, ◌++◌, vec_len, Err, sym, ap, subst, arith}
+use Rattle.std.proofs.Common.{rules, ◌≡◌, ◌∙◌, ◌<◌, List, [], ◌∷◌, ◌++◌, vec_len, Err, sym, subst, arith}
 use Rattle.plan_check.specs.declared.event.Entry.{Entry}
 use Rattle.ring_exec.specs.Ledgers.{Replays, entry}
 use Rattle.ring_exec.proofs.Histories.{replays_on, replays_still, puts_still, gets_still, never_full_there, full_alone}
