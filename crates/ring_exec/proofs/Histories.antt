@@ -33,11 +33,11 @@ replays_on ring plan old new history e r of_ring of_plan answers replays = ∥�
 pub replays_still : (ring : RingValue) (plan : List Planned) (old new : World) (history : List Entry) → Stays old new → Replays ring plan old history → Replays ring plan new history
 replays_still ring plan old new history stays replays = ∥∥₁_map replays (λ x. (x.0, stays x.0 x.1, x.2))
 
--- a store refuses no event because a history is full
 -- before the first event
 pub replays_none : (ring : RingValue) (plan : List Planned) (a : World) → Meets a (opening_world ring) → Replays ring plan a []
 replays_none ring plan a m = ∣ (opening_world ring, m, refl) ∣₁
 
+-- a store refuses no event because a history is full
 pub never_full_there : (a : World) (e : Event) (refusal : Refusal) → Refuses a e refusal → refusal ≢ HistoryFull
 never_full_there a e refusal refuses =
     holds a.parts a.sound (hlevel props) (λ w m. never_full (ring_of a) (plan_of a) w e refusal (first_refused (ring_of a) (plan_of a) w e refusal (refuses w m)))
