@@ -165,7 +165,7 @@ pub fn chain_line<'a>(
     ensures room { OnOk result (length seen.now < 65536) }
     ensures at { IfErr result (λ e. IsAt fields.entry.number e) }
 {
-    // Names of a ring are names.
+    // A ring is valid, which the prover knows once a number of it is read.
     let slots = ring.n();
     prove!(slots <= 7);
     judge_chain(ring, seen, fields)

@@ -119,7 +119,7 @@ pub fn read_cert_section(alloc: Global, ring: &Ring, lines: &mut Lines) -> Resul
     // Memory may run out behind its first two lines, if these have no fault, and later only behind lines that have none.
     ensures late { Late 2 result lines.old lines.new (cert_at ring.now lines.old) }
 {
-    // Names of a ring are names.
+    // A ring is valid, which the prover knows once a number of it is read.
     let slots = ring.n();
     prove!(slots <= 7);
     read_parts(alloc, ring, lines)
@@ -149,7 +149,7 @@ pub fn read_cert(alloc: Global, ring: &Ring, text: &[u8]) -> Result<Cert, Refusa
     // Memory may run out only if the first two lines have no fault.
     ensures late { IfErr result (λ e. e ≡ OutOfMemory → NoFaultBefore 3 (cert_reading ring.now text.now)) }
 {
-    // Names of a ring are plain.
+    // A ring is valid, which the prover knows once a number of it is read.
     let slots = ring.n();
     prove!(slots <= 7);
     read_whole(alloc, ring, text)

@@ -55,7 +55,7 @@ pub fn join_line(ring: &Ring, draft: &Draft, fields: Fields) -> Result<NodeId, R
     ensures small { IfOk result (λ x. x.0 < 1024) }
     ensures at { IfErr result (λ e. IsAt fields.entry.number e) }
 {
-    // Names of a ring are names, of at most 1,024 nodes.
+    // A ring is valid, which the prover knows once a number of it is read.
     let slots = ring.n();
     prove!(slots <= 7);
     judge_join(ring, draft, fields)
@@ -78,7 +78,7 @@ pub fn leave_line(ring: &Ring, draft: &Draft, fields: Fields) -> Result<NodeId, 
     ensures small { IfOk result (λ x. x.0 < 1024) }
     ensures at { IfErr result (λ e. IsAt fields.entry.number e) }
 {
-    // Names of a ring are names, of at most 1,024 nodes.
+    // A ring is valid, which the prover knows once a number of it is read.
     let slots = ring.n();
     prove!(slots <= 7);
     judge_leave(ring, draft, fields)

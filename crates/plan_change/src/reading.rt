@@ -69,7 +69,7 @@ pub fn read_change_section(alloc: Global, ring: &Ring, lines: &mut Lines) -> Res
     // Memory may run out behind its first two lines, if these have no fault, and later only behind lines that have none.
     ensures late { Late 2 result lines.old lines.new (change_at ring.now lines.old) }
 {
-    // Names of a ring are names.
+    // A ring is valid, which the prover knows once a number of it is read.
     let slots = ring.n();
     prove!(slots <= 7);
     read_parts(alloc, ring, lines)
@@ -99,7 +99,7 @@ pub fn read_change(alloc: Global, ring: &Ring, text: &[u8]) -> Result<Change, Re
     // Memory may run out only if the first two lines have no fault.
     ensures late { IfErr result (λ e. e ≡ OutOfMemory → NoFaultBefore 3 (change_reading ring.now text.now)) }
 {
-    // Names of a ring are plain.
+    // A ring is valid, which the prover knows once a number of it is read.
     let slots = ring.n();
     prove!(slots <= 7);
     read_whole(alloc, ring, text)

@@ -32,7 +32,7 @@ fn step_line<'a>(
     ensures next { IfOk result (λ x. IsNext plan.now x) }
     ensures at { IfErr result (λ e. IsAt fields.entry.number e) }
 {
-    // Listed slots are small numbers.
+    // A ring is valid, which the prover knows once a number of it is read.
     let slots = ring.n();
     prove!(slots <= 7);
     let room = need(plan.len() < 131072, &fields);
@@ -100,7 +100,7 @@ pub fn read_plan_section(alloc: Global, ring: &Ring, lines: &mut Lines) -> Resul
     // Memory may run out behind its first two lines, if these have no fault, and later only behind lines that have none.
     ensures late { Late 2 result lines.old lines.new (plan_at ring.now lines.old) }
 {
-    // Names and numbers of a ring are plain.
+    // A ring is valid, which the prover knows once a number of it is read.
     let slots = ring.n();
     prove!(slots <= 7);
     read_parts(alloc, ring, lines)
@@ -130,7 +130,7 @@ pub fn read_plan(alloc: Global, ring: &Ring, text: &[u8]) -> Result<Plan, Refusa
     // Memory may run out only if the first two lines have no fault.
     ensures late { IfErr result (λ e. e ≡ OutOfMemory → NoFaultBefore 3 (plan_reading ring.now text.now)) }
 {
-    // Names and numbers of a ring are plain.
+    // A ring is valid, which the prover knows once a number of it is read.
     let slots = ring.n();
     prove!(slots <= 7);
     read_whole(alloc, ring, text)

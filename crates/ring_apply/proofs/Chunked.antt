@@ -13,7 +13,7 @@ use Rattle.ring_clock.specs.declared.entry.Entry.{Entry}
 use Rattle.ring_versions.specs.declared.version.Version.{Version}
 use Rattle.ring_maps.specs.Chunks.{chunk_of}
 use Rattle.ring_maps.specs.Held.{held, has_place}
-use Rattle.ring_maps.specs.Places.{value_at}
+use Rattle.ring_names.specs.AtBytes.{value_at}
 use Rattle.ring_maps.specs.declared.key_map.KeyMap.{KeyMap}
 use Rattle.ring_store.specs.Nodes.{MergesAtAll, at_node}
 use Rattle.ring_store.specs.Slots.{at_slot}

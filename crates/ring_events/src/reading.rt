@@ -117,7 +117,7 @@ pub fn read_script_section(
     // Memory may run out behind its first two lines, if these have no fault, and later only behind lines that have none.
     ensures late { Late 2 result lines.old lines.new (script_at ring.now writers.old lines.old) }
 {
-    // Names of a ring are names.
+    // A ring is valid, which the prover knows once a number of it is read.
     let slots = ring.n();
     prove!(slots <= 7);
     read_parts(alloc, ring, writers, lines)
@@ -159,7 +159,7 @@ pub fn read_script(
     // Memory may run out only if the first two lines have no fault.
     ensures late { IfErr result (λ e. e ≡ OutOfMemory → NoFaultBefore 3 (script_reading ring.now writers.old text.now)) }
 {
-    // Names of a ring are plain.
+    // A ring is valid, which the prover knows once a number of it is read.
     let slots = ring.n();
     prove!(slots <= 7);
     read_whole(alloc, ring, writers, text)

@@ -8,13 +8,13 @@ use Rattle.ring_versions.specs.declared.version.Version.{Version}
 use Rattle.ring_versions.specs.Versions.{Covers, IsApart, IsMerge}
 use Rattle.ring_maps.specs.Chunks.{chunk_of}
 use Rattle.ring_maps.specs.Held.{held, has_place}
-use Rattle.ring_maps.specs.Places.{value_at}
+use Rattle.ring_names.specs.AtBytes.{value_at}
 use Rattle.ring_maps.specs.declared.key_map.KeyMap.{KeyMap}
 use Rattle.ring_maps.specs.Merges.{MergesAll, at_key}
 use Rattle.ring_maps.specs.Slots.{space_of, held_for, has_place_for}
 use Rattle.ring_maps.specs.declared.slot_map.SlotMap.{SlotMap}
 use Rattle.ring_maps.proofs.Answered.{none_from_empty, false_from}
-use Rattle.ring_maps.proofs.Bytes.{same_bytes}
+use Rattle.ring_names.proofs.AtBytes.{same_bytes}
 use Rattle.ring_maps.proofs.Chunks.{slot_apart}
 use Rattle.ring_maps.proofs.Merging.{merge_none}
 use Rattle.ring_maps.proofs.Slots.{bare_held}

@@ -14,8 +14,8 @@ use Rattle.std.proofs.lemmas.Map.Views.{Contains-from_any, list_any-from_Contain
 use Rattle.ring_versions.specs.declared.version.Version.{Version}
 use Rattle.ring_maps.specs.declared.key_map.KeyMap.{KeyMap}
 use Rattle.ring_maps.specs.Held.{held, AreKeys}
-use Rattle.ring_maps.specs.Places.{value_in, value_at, Puts}
-use Rattle.ring_maps.proofs.Bytes.{same_bytes, bytes_same, by_bytes}
+use Rattle.ring_names.specs.AtBytes.{value_in, value_at, Puts}
+use Rattle.ring_names.proofs.AtBytes.{same_bytes, bytes_same, by_bytes}
 use Rattle.ring_maps.proofs.Rest.{by_items, later_in}
 
 -- ---- a copy

@@ -1,5 +1,4 @@
 pub mod Answered
-pub mod Bytes
 pub mod Chunks
 pub mod Keys
 pub mod Maps

@@ -6,9 +6,10 @@ use Rattle.std.specs.Str.{bytes_eq}
 use Rattle.std.specs.declared.vec.Vec.{Vec}
 use Rattle.ring_versions.specs.declared.version.Version.{Version}
 use Rattle.ring_versions.specs.Versions.{IsApart, IsMerge}
-use Rattle.ring_maps.specs.Places.{value_at, held_in, Puts, AreApart}
+use Rattle.ring_names.specs.AtBytes.{value_at, Puts}
+use Rattle.ring_maps.specs.Places.{held_in, AreApart}
 use Rattle.ring_maps.specs.Merges.{MergesAll, at_key}
-use Rattle.ring_maps.proofs.Bytes.{same_bytes, by_bytes}
+use Rattle.ring_names.proofs.AtBytes.{same_bytes, by_bytes}
 use Rattle.ring_maps.proofs.Merging.{merge_none}
 
 pub at_here : (bs : List ℕ) (v : List Version) → at_key bs v bs ≡ v

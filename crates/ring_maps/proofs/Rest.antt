@@ -16,8 +16,8 @@ use Rattle.std.proofs.lemmas.Map.Text.{is_eq-slice_cmp}
 use Rattle.std.proofs.lemmas.Cmp.{nat_list_cmp_total, on_total}
 use Rattle.std.proofs.lemmas.Map.Iter.{btree_map_turn}
 use Rattle.std.proofs.lemmas.Slice.Eq.{bytes_eq-Decides}
-use Rattle.ring_maps.specs.Places.{value_in, value_at}
-use Rattle.ring_maps.proofs.Bytes.{same_bytes, bytes_same}
+use Rattle.ring_names.specs.AtBytes.{value_in, value_at}
+use Rattle.ring_names.proofs.AtBytes.{same_bytes, bytes_same}
 
 -- the order by which the map has its keys
 abbrev pub by_items : {A : Type 0} → Vec ℕ A → Vec ℕ A → Ordering

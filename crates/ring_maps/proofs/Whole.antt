@@ -14,10 +14,11 @@ use Rattle.ring_versions.specs.Versions.{IsMerge}
 use Rattle.ring_maps.specs.declared.fresh_keys.FreshKeys.{FreshKeys}
 use Rattle.ring_maps.specs.declared.key_map.KeyMap.{KeyMap}
 use Rattle.ring_maps.specs.Held.{held, has_place, IsReady}
-use Rattle.ring_maps.specs.Places.{value_in, value_at, held_in, Puts}
+use Rattle.ring_names.specs.AtBytes.{value_in, value_at, Puts}
+use Rattle.ring_maps.specs.Places.{held_in}
 use Rattle.ring_maps.specs.Merges.{MergesAll, at_key, has_fresh, AreFreshFor, AreReady}
 use Rattle.ring_maps.proofs.Answered.{on_option, at_some, at_none, none_to, some_to}
-use Rattle.ring_maps.proofs.Bytes.{same_bytes, by_bytes}
+use Rattle.ring_names.proofs.AtBytes.{same_bytes, by_bytes}
 use Rattle.ring_maps.proofs.Merging.{merge_none, merge_twice, merge_then_none, merge_after_none}
 use Rattle.ring_maps.proofs.Puts.{at_here, at_other}
 use Rattle.ring_maps.proofs.Rest.{by_items, first_in, later_in, none_later}

@@ -8,7 +8,8 @@ use Rattle.ring_versions.specs.Fresh.{FitsIn}
 use Rattle.ring_versions.specs.declared.fresh.Fresh.{Fresh}
 use Rattle.ring_versions.specs.declared.version.Version.{Version}
 use Rattle.ring_maps.specs.declared.key_map.KeyMap.{KeyMap}
-use Rattle.ring_maps.specs.Places.{value_at, held_in}
+use Rattle.ring_names.specs.AtBytes.{value_at}
+use Rattle.ring_maps.specs.Places.{held_in}
 
 -- the versions of the key, none where it has no place
 abbrev pub held : KeyMap → List ℕ → List Version

@@ -9,7 +9,7 @@ use Rattle.ring_maps.specs.declared.fresh_keys.FreshKeys.{FreshKeys}
 use Rattle.ring_maps.specs.declared.fresh_maps.FreshMaps.{FreshMaps}
 use Rattle.ring_maps.specs.declared.key_map.KeyMap.{KeyMap}
 use Rattle.ring_maps.specs.Held.{IsReady}
-use Rattle.ring_maps.specs.Places.{value_at}
+use Rattle.ring_names.specs.AtBytes.{value_at}
 
 -- in every key what comes is merged in
 abbrev pub MergesAll : (List ℕ → List Version) → (List ℕ → List Version) → (List ℕ → List Version) → Type 0

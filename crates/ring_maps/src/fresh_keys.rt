@@ -16,7 +16,7 @@ pub struct FreshKeys {
 }
 
 impl FreshKeys {
-    ghost use Rattle.ring_maps.specs.Places.{value_at, Puts};
+    ghost use Rattle.ring_names.specs.AtBytes.{value_at, Puts};
 
     // Nothing for any key.
     pub(crate) fn new(alloc: Global) -> FreshKeys

@@ -22,7 +22,7 @@ impl KeyMap {
     ghost use Rattle.ring_names.specs.declared.refusal.Refusal.TheVariants.{OutOfMemory};
     ghost use Rattle.ring_versions.specs.Versions.{IsApart};
     ghost use Rattle.ring_maps.specs.Held.{held, has_place, AreKeys};
-    ghost use Rattle.ring_maps.specs.Places.{value_at, Puts};
+    ghost use Rattle.ring_names.specs.AtBytes.{value_at, Puts};
 
     /// No versions.
     pub fn new(alloc: Global) -> KeyMap

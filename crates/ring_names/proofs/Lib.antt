@@ -1,2 +1,3 @@
+pub mod AtBytes
 pub mod Places
 pub mod RowLaws

@@ -1,4 +1,4 @@
--- The number of a name, as a set in order of insertion has it.
+-- The number of a name, among names in order of first sight.
 use Rattle.std.proofs.Common.{◌≡◌, ℕ, suc, zero, ◌+◌, ◌<◌, Bool, true, false, not, cond, nat_lt, List, [], ◌∷◌, ◌++◌, length, map, Option, Some, None, refl, sym, ap, ◌∙◌, arith, append_assoc, length-append, inl, inr, ◌⊎◌}
 use Rattle.std.specs.Prelude.{option_map, slice_get}
 use Rattle.std.specs.List.{position, position_or_len, list_any}
@@ -10,20 +10,11 @@ use Rattle.std.proofs.lemmas.Slice.Eq.{bytes_eq-Decides}
 use Rattle.std.proofs.lemmas.List.{map_push}
 use Rattle.ring_names.specs.Lists.{AllNew}
 use Rattle.ring_names.specs.Names.{place}
-
-found : (k n : ℕ) (t s : Bool) → t ≡ nat_lt k n → s ≡ nat_lt (1 + k) (suc n) → cond s (Some (1 + k)) None ≡ option_map (λ m. suc m) (cond t (Some k) None)
-found k n true true e f = ap (λ (m : ℕ). Some m) (omega arith)
-found k n false false e f = refl
-found k n true false e f = grind (arith, nat_tests)
-found k n false true e f = grind (arith, nat_tests)
-
-step : (b : Bool) (k n : ℕ) → cond (nat_lt (cond (not b) (1 + k) 0) (suc n)) (Some (cond (not b) (1 + k) 0)) None ≡ cond b (Some 0) (option_map (λ m. suc m) (cond (nat_lt k n) (Some k) None))
-step true k n = rw (lt-ltb 0 (suc n) (omega arith)) refl
-step false k n = found k n _ _ refl refl
-
-pub position-place : (ks : List (Vec ℕ)) (x : List ℕ) → position (λ v. bytes_eq x v.items) ks ≡ place (map (λ v. v.items) ks) x
-position-place [] x = refl
-position-place (k ∷ ks) x = step (bytes_eq x k.items) (position_or_len (λ v. bytes_eq x v.items) ks) (length ks) ∙ ap (λ (o : Option ℕ). cond (bytes_eq x k.items) (Some 0) (option_map (λ m. suc m) o)) (position-place ks x)
+use Rattle.ring_names.specs.AtBytes.{value_at, Puts}
+use Rattle.ring_names.proofs.AtBytes.{by_bytes}
+use Rattle.std.specs.BTreeMap.{BTreeMap}
+use Rattle.std.specs.declared.vec.Vec.{Vec as AnyVec}
+use Rattle.std.specs.Cmp.Lexicographic.{nat_list_eq_equiv}
 
 bytes_eq-same : (x : List ℕ) → bytes_eq x x ≡ true
 bytes_eq-same x = (bytes_eq-Decides x x).1 refl
@@ -40,18 +31,20 @@ place-push (n ∷ ns) x e =
     let s = absent-step (bytes_eq x n) (place ns x) e in
     rw (s.0, place-push ns x s.1) refl
 
-pub absent-any : (ks : List (Vec ℕ)) (x : List ℕ) → place (map (λ v. v.items) ks) x ≡ None → list_any (λ v. bytes_eq x v.items) ks ≡ false
-absent-any [] x e = refl
-absent-any (k ∷ ks) x e =
-    let s = absent-step (bytes_eq x k.items) (place (map (λ v. v.items) ks) x) e in
-    rw (s.0, absent-any ks x s.1) refl
+-- and every other name keeps its own
+pub place-other : (ns : List (List ℕ)) (x k : List ℕ) → bytes_eq k x ≡ false → place (ns ++ x ∷ []) k ≡ place ns k
+place-other [] x k e = rw e refl
+place-other (n ∷ ns) x k e = ap (λ (o : Option ℕ). cond (bytes_eq k n) (Some 0) (option_map (λ m. suc m) o)) (place-other ns x k e)
 
 -- the names once a new one was put last
-pub new-names : (ks later : List (Vec ℕ)) (v : Vec ℕ) (ns : List (List ℕ)) (x : List ℕ) → map (λ k. k.items) ks ≡ ns → v.items ≡ x → place ns x ≡ None → later ≡ cond (list_any (λ k. bytes_eq v.items k.items) ks) ks (ks ++ v ∷ []) → map (λ k. k.items) later ≡ ns ++ x ∷ []
-new-names ks later v ns x e f absent h =
-    let none : list_any (λ k. bytes_eq v.items k.items) ks ≡ false = rw f (absent-any ks x (rw e absent)) in
-    let is : later ≡ ks ++ v ∷ [] = h ∙ ap (λ (b : Bool). cond b ks (ks ++ v ∷ [])) none in
-    ap (λ (l : List (Vec ℕ)). map (λ k. k.items) l) is ∙ map_push (λ (k : Vec ℕ). k.items) ks v ∙ rw (e, f) refl
+pub names-push : (old new : List (Vec ℕ)) (v : Vec ℕ) (ns : List (List ℕ)) (x : List ℕ) → map (λ k. k.items) old ≡ ns → v.items ≡ x → new ≡ old ++ v ∷ [] → map (λ k. k.items) new ≡ ns ++ x ∷ []
+names-push old new v ns x e f is = ap (λ (l : List (Vec ℕ)). map (λ k. k.items) l) is ∙ map_push (λ (k : Vec ℕ). k.items) old v ∙ rw (e, f) refl
+
+-- and their numbers at the names
+pub numbers-push : {A : Type 0} (old new : BTreeMap (AnyVec ℕ A) ℕ) (ns : List (List ℕ)) (x : List ℕ) → ((k : List ℕ) → value_at old k ≡ place ns k) → place ns x ≡ None → Puts old new x (length ns) → (k : List ℕ) → value_at new k ≡ place (ns ++ x ∷ []) k
+numbers-push old new ns x at absent put = by_bytes x (λ (k : List ℕ). value_at new k ≡ place (ns ++ x ∷ []) k)
+    (put.here ∙ sym (place-push ns x absent))
+    (λ k e. put.others k e ∙ at k ∙ sym (place-other ns x k (nat_list_eq_equiv.symm k x ∙ e)))
 
 -- ---- names of which each is new
 

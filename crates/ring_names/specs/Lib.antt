@@ -1,6 +1,8 @@
 pub mod ByKey
 pub mod Lists
 pub mod Names
+pub mod AtBytes
+pub mod Numbered
 pub mod Refusals
 pub mod Space
 pub mod Values

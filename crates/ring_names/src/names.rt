@@ -5,25 +5,28 @@ ghost use Rattle.ring_names.specs.Names.{place, with_name};
 ghost use Rattle.ring_names.specs.declared.refusal.Refusal.TheVariants.{OutOfMemory};
 
 use crate::refusal::Refusal;
-use indexmap::IndexSet;
 use std::alloc::Global;
+use std::collections::BTreeMap;
 use std::marker::Model;
 
-/// Names, each numbered by its place in order of first sight, from 0. Looking one up costs its length.
+/// Names, each numbered by its place in order of first sight, from 0. Texts choose the names, so these are ordered and not hashed: looking one up
+/// costs its length times the logarithm of how many there are, whatever they are.
 #[derive(Drop)]
 pub struct Names {
     alloc: Global,
-    set: IndexSet<Vec<u8>>,
+    names: Vec<Vec<u8>>,
+    numbers: BTreeMap<Vec<u8>, u32>,
 }
 
 impl Model for Names {
-    ghost use Rattle.std.specs.Prelude.{List, ℕ, map, length, ◌<◌, ◌^◌};
+    ghost use Rattle.std.specs.Prelude.{List, ℕ};
+    ghost use Rattle.ring_names.specs.Numbered.{names_of, IsNumbered};
 
     ghost Value = { List (List ℕ) };
 
-    ghost view = { λ a. map (λ name. name.items) a.set.keys };
+    ghost view = { names_of };
 
-    ghost invariant = { λ a. length a.set.keys < 2 ^ 32 };
+    ghost invariant = { IsNumbered };
 }
 
 impl Names {
@@ -33,7 +36,8 @@ impl Names {
     {
         Names {
             alloc,
-            set: IndexSet::new(alloc),
+            names: Vec::new(alloc),
+            numbers: BTreeMap::new(alloc),
         }
     }
 
@@ -41,7 +45,7 @@ impl Names {
     pub fn len(&self) -> u32
         ensures { result ≡ length self.now }
     {
-        self.set.len() as u32
+        self.names.len() as u32
     }
 
     /// The number of `name`: the one that it has, or the next. Out of memory is answered for a new name alone.
@@ -57,7 +61,10 @@ impl Names {
         }
         let number = self.len();
         let kept = Vec::from_slice(self.alloc, name)?;
-        self.set.insert(kept)?;
+        let key = Vec::from_slice(self.alloc, name)?;
+        self.names.reserve(1)?;
+        self.numbers.insert(key, number)?;
+        self.names.push_reserved(kept);
         Ok(number)
     }
 
@@ -65,8 +72,8 @@ impl Names {
     pub fn number_of(&self, name: &[u8]) -> Option<u32>
         ensures { result ≡ place self.now name.now }
     {
-        match self.set.get_index_of(name) {
-            Some(number) => Some(number as u32),
+        match self.numbers.get(name) {
+            Some(number) => Some(*number),
             None => None,
         }
     }
@@ -75,7 +82,7 @@ impl Names {
     pub fn name_of(&self, number: u32) -> Option<&[u8]>
         ensures { option_map (λ name. name.now) result ≡ slice_get self.now number }
     {
-        match self.set.get_index(number as usize) {
+        match self.names.get(number as usize) {
             Some(name) => Some(name.as_slice()),
             None => None,
         }

@@ -88,28 +88,38 @@ plays_one start old new es e before out after p h = record {
     same : (w : TheWorld) → behind (there w) (answer (ring_of old) (plan_of old) (there w) e) ≡ world_after (ring_of start) (plan_of start) w (es ++ e ∷ [])
     same w = ap (λ (r : Result (TheWorld × Reply) Refusal). behind (there w) r) (answered w) ∙ sym (after_one (ring_of start) (plan_of start) w es e)
 
--- `yes`, all events, and the owners behind them
-pub all_shown : (start new : World) (es : List Event) (rows : List (List NodeId)) (a b c d : List ℕ) → Meets start (opening_world (ring_of start)) → a ≡ codes "yes" ++ 10 ∷ [] → Plays start es new a b
-    → ((w : TheWorld) → Meets new w → rows ≡ owners_now (ring_of new) (plan_of new) w) → c ≡ b ++ text_of (rows_lines (names_of (ring_of start)) 0 rows) → d ≡ c ++ (codes "end" ++ 10 ∷ [])
-    → d ≡ play_text (ring_of start) (plan_of start) es
-unfolding play_text
-all_shown start new es rows a b c d m start_text p table owners last =
+-- the lines of the owners, and `end` behind them
+pub ending_shown : (new : World) (ring : RingValue) (rows : List (List NodeId)) (b c d : List ℕ) → ring_of new ≡ ring
+    → ((w : TheWorld) → Meets new w → rows ≡ owners_now (ring_of new) (plan_of new) w) → c ≡ b ++ text_of (rows_lines (names_of ring) 0 rows) → d ≡ c ++ (codes "end" ++ 10 ∷ [])
+    → (w : TheWorld) → Meets new w → d ≡ b ++ owners_text ring (plan_of new) w
+ending_shown new ring rows b c d same table owners last w m =
     last
     ∙ (ap (λ (l : List ℕ). l ++ (codes "end" ++ 10 ∷ [])) owners
     ∙ (append_assoc b (text_of (rows_lines names 0 rows)) (codes "end" ++ 10 ∷ [])
     ∙ (ap (λ (l : List ℕ). b ++ l) (sym (flat_map-append line_text (rows_lines names 0 rows) (end_fields ∷ [])))
-    ∙ (ap (λ (rs : List (List NodeId)). b ++ text_of (rows_lines names 0 rs ++ end_fields ∷ [])) (table there (p.world opening m))
-    ∙ (ap (λ (r : RingValue). b ++ text_of (rows_lines names 0 (owners_now r (plan_of new) there) ++ end_fields ∷ [])) p.ring
-    ∙ (ap (λ (s : List Planned). b ++ text_of (rows_lines names 0 (owners_now (ring_of start) s there) ++ end_fields ∷ [])) p.plan
-    ∙ (ap (λ (l : List ℕ). l ++ owners_text (ring_of start) (plan_of start) there) (p.text opening m)
-    ∙ (ap (λ (l : List ℕ). l ++ event_lines (ring_of start) (plan_of start) opening 0 es ++ owners_text (ring_of start) (plan_of start) there) start_text
-    ∙ append_assoc (codes "yes" ++ 10 ∷ []) (event_lines (ring_of start) (plan_of start) opening 0 es) (owners_text (ring_of start) (plan_of start) there)))))))))
+    ∙ (ap (λ (rs : List (List NodeId)). b ++ text_of (rows_lines names 0 rs ++ end_fields ∷ [])) (table w m)
+    ∙ ap (λ (r : RingValue). b ++ text_of (rows_lines names 0 (owners_now r (plan_of new) w) ++ end_fields ∷ [])) same))))
+  where
+    names : List (List ℕ)
+    names = names_of ring
+
+-- `yes`, all events, and what stands behind them
+pub all_shown : (start new : World) (ring : RingValue) (es : List Event) (a b d : List ℕ) → ring_of start ≡ ring → Meets start (opening_world ring) → a ≡ codes "yes" ++ 10 ∷ [] → Plays start es new a b
+    → ((w : TheWorld) → Meets new w → d ≡ b ++ owners_text ring (plan_of new) w)
+    → d ≡ play_text ring (plan_of start) es
+unfolding play_text
+all_shown start new ring es a b d same m start_text p ending =
+    ending there meets
+    ∙ (ap (λ (s : List Planned). b ++ owners_text ring s there) p.plan
+    ∙ (ap (λ (l : List ℕ). l ++ owners_text ring (plan_of start) there) (subst (λ (r : RingValue). b ≡ a ++ event_lines r (plan_of start) opening 0 es) same (p.text opening m))
+    ∙ (ap (λ (l : List ℕ). l ++ event_lines ring (plan_of start) opening 0 es ++ owners_text ring (plan_of start) there) start_text
+    ∙ append_assoc (codes "yes" ++ 10 ∷ []) (event_lines ring (plan_of start) opening 0 es) (owners_text ring (plan_of start) there))))
   where
     opening : TheWorld
-    opening = opening_world (ring_of start)
-
-    names : List (List ℕ)
-    names = names_of (ring_of start)
+    opening = opening_world ring
 
     there : TheWorld
-    there = world_after (ring_of start) (plan_of start) opening es
+    there = world_after ring (plan_of start) opening es
+
+    meets : Meets new there
+    meets = subst (λ (r : RingValue). Meets new (world_after r (plan_of start) opening es)) same (p.world opening m)

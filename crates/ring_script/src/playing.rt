@@ -4,15 +4,16 @@ ghost use Rattle.std.specs.Prelude.{◌≡◌, ◌≤◌, ◌++◌, length, map,
 ghost use Rattle.ring_names.specs.declared.refusal.Refusal.TheVariants.{OutOfMemory};
 ghost use Rattle.ring_text.specs.Parts.{text_of};
 ghost use Rattle.ring_table.specs.Spelling.{rows_lines};
-ghost use Rattle.ring_core.specs.World.{put_count, get_count, HasNumber};
-ghost use Rattle.ring_script.specs.Play.{play_text};
+ghost use Rattle.plan_check.specs.World.{World as TheWorld, opening_world};
+ghost use Rattle.ring_core.specs.World.{ring_of, plan_of, Meets, put_count, get_count, HasNumber};
+ghost use Rattle.ring_script.specs.Play.{owners_text, play_text};
 ghost use Rattle.ring_script.specs.Steps.{Happens, Plays};
 
 use plan_check::{Approved, Event};
 use ring_core::World;
 use ring_events::Script;
 use ring_names::{Listed, NodeId, Refusal, push_decimal};
-use ring_table::{Node, push_row};
+use ring_table::{Node, Ring, push_row};
 use std::alloc::{AllocError, Global};
 
 // The event at that place, and its line.
@@ -67,6 +68,39 @@ fn push_owners(out: &mut Vec<u8>, nodes: &[Node], rows: &[Listed<NodeId>]) -> Re
     Ok(())
 }
 
+// The line of the owners of each partition now, and `end`.
+fn push_ending(world: &World, ring: &Ring, out: &mut Vec<u8>) -> Result<(), Refusal>
+    requires { ring_of world.now ≡ ring.now }
+    ensures ok { OnOk result ((w : TheWorld) → Meets world.now w → out.new.items ≡ out.old.items ++ owners_text ring.now (plan_of world.now) w) }
+    ensures memory { IfErr result (λ e. e ≡ OutOfMemory) }
+{
+    let rows = world.table()?;
+    push_owners(out, ring.nodes(), rows.as_slice())?;
+    out.extend_from_slice(b"end\n")?;
+    Ok(())
+}
+
+// What is printed of the events and behind them, over a store that nothing has happened to.
+fn played(
+    alloc: Global,
+    ring: &Ring,
+    world: &mut World,
+    events: &[Event],
+) -> Result<Vec<u8>, Refusal>
+    requires ring { ring_of world.old ≡ ring.now }
+    requires opening { Meets world.old (opening_world ring.now) }
+    requires few { length events.now ≤ 1000000 }
+    requires puts { put_count world.old ≡ 0 }
+    requires gets { get_count world.old ≡ 0 }
+    ensures text { IfOk result (λ v. v.items ≡ play_text ring.now (plan_of world.old) events.now) }
+    ensures memory { IfErr result (λ e. e ≡ OutOfMemory) }
+{
+    let mut out = Vec::from_slice(alloc, b"yes\n")?;
+    play_events(world, &mut out, events)?;
+    push_ending(world, ring, &mut out)?;
+    Ok(out)
+}
+
 /// What a play of the script prints: `yes`; for each event its place, counted from 0, and its reply or its refusal's line; the line of owners of
 /// each partition behind the last event; and `end`. A refused event changes nothing, and the next one follows. The only refusal is `OutOfMemory`,
 /// where memory ran out at whatever event.
@@ -75,10 +109,5 @@ pub fn play(alloc: Global, approved: &Approved, script: &Script) -> Result<Vec<u
     ensures memory { IfErr result (λ e. e ≡ OutOfMemory) }
 {
     let mut world = World::start(alloc, approved)?;
-    let mut out = Vec::from_slice(alloc, b"yes\n")?;
-    play_events(&mut world, &mut out, script.events())?;
-    let rows = world.table()?;
-    push_owners(&mut out, approved.ring().nodes(), rows.as_slice())?;
-    out.extend_from_slice(b"end\n")?;
-    Ok(out)
+    played(alloc, approved.ring(), &mut world, script.events())
 }

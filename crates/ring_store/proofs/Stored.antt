@@ -12,7 +12,7 @@ use Rattle.ring_versions.specs.declared.version.Version.{Version}
 use Rattle.ring_versions.specs.Versions.{IsApart, IsMerge}
 use Rattle.ring_maps.specs.Chunks.{chunk_of}
 use Rattle.ring_maps.specs.Held.{held, has_place, AreKeys}
-use Rattle.ring_maps.specs.Places.{value_at}
+use Rattle.ring_names.specs.AtBytes.{value_at}
 use Rattle.ring_maps.specs.declared.key_map.KeyMap.{KeyMap}
 use Rattle.ring_maps.proofs.Answered.{none_from_empty, false_from, on_some, none_where}
 use Rattle.ring_maps.specs.Merges.{MergesAll, AreFreshMaps, fresh_in}

@@ -25,6 +25,9 @@ const WORKERS: &str =
 const NO_WORKERS: &[u8; 105] =
     b"error: invalid value for '--workers <K>': not a number from 1 to 64\n\nFor more information, try '--help'.\n";
 
+const STANDARD_INPUT: &[u8] =
+    b"\nA bundle is read from standard input and from no file that is named: ringplan check < FILE\n";
+
 const MIGRATE: &str =
     "Prints the bundle on standard input with a ring of format 1 in format 2; checks nothing";
 
@@ -32,6 +35,8 @@ const PLAY: &str =
     "Checks the bundle on standard input, and runs the events of its script over a store of all nodes";
 
 const STREAMS: &str = "\
+Example: ringplan check < examples/move_one_slot.bundle
+
 Standard input: a bundle, which is the text of a ring, then that of a plan, then that of its certificate; of `play` then that of a script; of
 `plan` the text of a ring, then that of a change.
 Standard output: of `plan` the texts of a plan and its certificate, of `check` the line `yes`, of `play` what each event is answered and then
@@ -44,6 +49,8 @@ Exit status:
   3  out of memory, or the input or the output failed";
 
 const PLAN_STREAMS: &str = "\
+Example: ringplan plan < examples/plan_replace.bundle
+
 Standard input: the text of a ring, then that of a change: `change 1`, a line `join <node>` for each node that shall join, then a line
 `leave <node>` for each member that shall leave, `end`.
 Standard output: the text of a plan that makes the change, then that of its certificate; behind the ring's text they are what `check` and
@@ -57,6 +64,8 @@ Exit status:
   3  out of memory, or the input or the output failed";
 
 const CHECK_STREAMS: &str = "\
+Example: ringplan check < examples/move_one_slot.bundle
+
 Standard input: a bundle, which is the text of a ring, then that of a plan, then that of its certificate.
 Standard output: `yes`, or one line of `no`, the refusal's number and its values.
 
@@ -67,6 +76,8 @@ Exit status:
   3  out of memory, or the input or the output failed";
 
 const MIGRATE_STREAMS: &str = "\
+Example: ringplan migrate < examples/move_one_slot.bundle
+
 Standard input: a bundle, which is the text of a ring, then that of a plan, then that of its certificate.
 Standard output: the bundle, with `ring 2` and `cert 2` where the ring was of format 1, and else as it was; or one
 line of `no`, the number of the first fault of the texts and its line. Whether the plan may run is not asked.
@@ -77,6 +88,8 @@ Exit status:
   3  out of memory, or the input or the output failed";
 
 const PLAY_STREAMS: &str = "\
+Example: ringplan play < examples/play_a_move_under_traffic.bundle
+
 Standard input: a bundle, which is the text of a ring, then that of a plan, that of its certificate, and that of a script.
 Standard output: `yes`; for each event of the script its place, counted from 0, and its reply, or `no`, the refusal's number and its values;
 then the owners of each partition's slots, and `end`. A refused event changes nothing. Where the plan or a text is refused, one line of `no`.
@@ -124,10 +137,19 @@ fn try_parse<S: AsStr>(alloc: Global, words: &[S]) -> Result<CommandLine, AllocE
             match error.kind() {
                 ErrorKind::OutOfMemory => Ok(CommandLine::OutOfMemory),
                 ErrorKind::DisplayHelp => Ok(CommandLine::Help(text)),
+                ErrorKind::UnknownArgument => refused_with(text, STANDARD_INPUT),
                 _ => Ok(CommandLine::Refused(text)),
             }
         }
     }
+}
+
+// A refused line, with a word of advice behind its text.
+fn refused_with(mut text: Vec<u8>, advice: &[u8]) -> Result<CommandLine, AllocError>
+    ensures { IfOk result (λ line. (told : _) × (line ≡ CommandLine.Refused told)) }
+{
+    text.extend_from_slice(advice)?;
+    Ok(CommandLine::Refused(text))
 }
 
 // What a line without a fault asks for.

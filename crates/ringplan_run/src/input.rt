@@ -5,7 +5,7 @@ ghost use Rattle.ringplan_run.specs.Io.{Reads, Tells};
 
 use ring_names::Refusal;
 use std::alloc::Global;
-use std::io::Read;
+use std::io::{ErrorKind, Read};
 
 /// The most bytes that an input may have: 64 MiB.
 pub const MAX_INPUT: usize = 67_108_864;
@@ -14,23 +14,27 @@ pub const MAX_INPUT: usize = 67_108_864;
 const CHUNK: usize = 65_536;
 
 /// Reads until the input ends. Refused are an input of more than `MAX_INPUT` bytes (`TooLarge(0)`),
-/// a read that fails (`ReadFailed`), and a growth of memory (`OutOfMemory`).
+/// a read that fails (`ReadFailed`), and a growth of memory (`OutOfMemory`). A read that a signal interrupted is tried again.
 pub fn read_all<R: Read + Drop>(alloc: Global, input: &mut R) -> Result<Vec<u8>, Refusal>
     ensures { (bytes : List ℕ) × Tells (R.remaining input.old) bytes × Reads bytes result }
 {
     let mut chunk = vec![in alloc; 0u8; CHUNK]?;
     let mut bytes = Vec::new(alloc);
-    for turn in 0..=MAX_INPUT {
-        let Ok(count) = input.read(chunk.as_mut_slice()) else {
-            return Err(Refusal::ReadFailed);
-        };
-        if count == 0 {
-            return Ok(bytes);
+    for turn in 0..u64::MAX {
+        match input.read(chunk.as_mut_slice()) {
+            Ok(0) => return Ok(bytes),
+            Ok(count) => {
+                if count > MAX_INPUT - bytes.len() {
+                    return Err(Refusal::TooLarge(0));
+                }
+                bytes.extend_from_slice(&chunk[..count])?;
+            }
+            Err(error) => {
+                if error.kind() != ErrorKind::Interrupted {
+                    return Err(Refusal::ReadFailed);
+                }
+            }
         }
-        if count > MAX_INPUT - bytes.len() {
-            return Err(Refusal::TooLarge(0));
-        }
-        bytes.extend_from_slice(&chunk[..count])?;
     }
-    unreachable!()
+    Err(Refusal::ReadFailed)
 }

@@ -1,6 +1,6 @@
 use Rattle.std.proofs.Common.{ℕ, List, subst}
-use Rattle.ring_maps.specs.Places.{Puts}
-use Rattle.ring_maps.proofs.Bytes.{puts}
+use Rattle.ring_names.specs.AtBytes.{Puts}
+use Rattle.ring_names.proofs.AtBytes.{puts}
 use Rattle.ring_maps.proofs.fresh_keys.FreshKeys.put.Goals as goal
 
 pub returns-clause-ok : goal.returns-clause-ok

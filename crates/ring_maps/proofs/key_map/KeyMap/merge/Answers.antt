@@ -2,9 +2,10 @@ use Rattle.std.proofs.Common.{refl, inl, ◌≡◌, ◌∙◌, List, [], sym, ap
 use Rattle.std.specs.Prelude.{unwrap_or, IsSome}
 use Rattle.ring_versions.specs.declared.version.Version.{Version}
 use Rattle.ring_versions.specs.Versions.{IsMerge}
-use Rattle.ring_maps.specs.Places.{Puts, held_in, AreApart}
+use Rattle.ring_names.specs.AtBytes.{Puts}
+use Rattle.ring_maps.specs.Places.{held_in, AreApart}
 use Rattle.ring_maps.proofs.Answered.{on_ok, on_err, on_either}
-use Rattle.ring_maps.proofs.Bytes.{puts}
+use Rattle.ring_names.proofs.AtBytes.{puts}
 use Rattle.ring_maps.proofs.Merging.{merge_first}
 use Rattle.ring_maps.proofs.Puts.{apart_put, apart_same, merged_put, unchanged_put, stays_put, places_put}
 use Rattle.ring_maps.proofs.key_map.KeyMap.merge.Goals as goal

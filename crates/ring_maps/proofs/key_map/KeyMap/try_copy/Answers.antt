@@ -2,7 +2,7 @@ use Rattle.std.proofs.Common.{◌∙◌, ℕ, List, [], sym, ap, subst, Option}
 use Rattle.std.specs.Prelude.{unwrap_or, is_some}
 use Rattle.ring_versions.specs.declared.version.Version.{Version}
 use Rattle.ring_versions.specs.Versions.{IsApart}
-use Rattle.ring_maps.specs.Places.{Puts, value_in, value_at}
+use Rattle.ring_names.specs.AtBytes.{Puts, value_in, value_at}
 use Rattle.ring_maps.proofs.Answered.{none_from_empty}
 use Rattle.ring_maps.proofs.Keys.{copying_more}
 use Rattle.ring_maps.proofs.Rest.{found}

@@ -6,7 +6,7 @@ use Rattle.ring_versions.specs.declared.version.Version.{Version}
 use Rattle.ring_versions.specs.Versions.{IsMerge}
 use Rattle.ring_maps.specs.Chunks.{chunk_of}
 use Rattle.ring_maps.specs.Held.{held}
-use Rattle.ring_maps.specs.Places.{value_at}
+use Rattle.ring_names.specs.AtBytes.{value_at}
 use Rattle.ring_store.specs.Slots.{held_by, placed_by, maps_of, AreOf, PutsSlot}
 use Rattle.ring_store.proofs.Stored.{puts_slot, same_by, stays_by, spaces_by, space_at, all_ready_at}
 use Rattle.ring_store.proofs.store.NodeStore.prepare_chunk.Goals as goal

@@ -10,7 +10,7 @@ use Rattle.std.specs.declared.vec.Vec.{Vec}
 use Rattle.std.proofs.lemmas.Bool.{cases_Bool}
 use Rattle.std.proofs.lemmas.Map.Text.{is_eq-slice_cmp}
 use Rattle.std.proofs.lemmas.Slice.Eq.{bytes_eq-Decides}
-use Rattle.ring_maps.specs.Places.{Puts}
+use Rattle.ring_names.specs.AtBytes.{Puts}
 
 pub same_bytes : (k : List ℕ) → bytes_eq k k ≡ true
 same_bytes k = nat_list_eq_equiv.refl k
