@@ -61,6 +61,52 @@ impl Write for MemoryWriter {
     }
 }
 
+/// Reads what the inner reader gives, and is interrupted by a signal in front of each read.
+#[derive(Drop)]
+pub struct InterruptedReader<'a> {
+    pub inner: MemoryReader<'a>,
+    pub was_told: bool,
+}
+
+impl<'a> Read for InterruptedReader<'a> {
+    ghost remaining = { λ r. Some r.inner.rest.now };
+
+    fn read(&mut self, buf: &mut [u8]) -> io::Result<usize> {
+        self.was_told = !self.was_told;
+        if self.was_told {
+            return Err(io::Error::from(ErrorKind::Interrupted));
+        }
+        self.inner.read(buf)
+    }
+}
+
+/// Writes to the inner writer, and is interrupted by a signal in front of each write and each flush.
+#[derive(Drop)]
+pub struct InterruptedWriter {
+    pub inner: MemoryWriter,
+    pub was_told: bool,
+}
+
+impl Write for InterruptedWriter {
+    ghost contents = { λ w. Some w.inner.bytes.items };
+
+    fn write(&mut self, buf: &[u8]) -> io::Result<usize> {
+        self.was_told = !self.was_told;
+        if self.was_told {
+            return Err(io::Error::from(ErrorKind::Interrupted));
+        }
+        self.inner.write(buf)
+    }
+
+    fn flush(&mut self) -> io::Result<()> {
+        self.was_told = !self.was_told;
+        if self.was_told {
+            return Err(io::Error::from(ErrorKind::Interrupted));
+        }
+        self.inner.flush()
+    }
+}
+
 /// Gives zeros without end.
 #[derive(Drop)]
 pub struct Endless;

@@ -2,7 +2,7 @@
 
 ghost use Rattle.std.specs.Prelude.{◌<◌};
 
-use crate::memory::{Endless, MemoryReader, MemoryWriter};
+use crate::memory::{Endless, InterruptedReader, InterruptedWriter, MemoryReader, MemoryWriter};
 use ringplan_run::{end_without_words, run};
 use std::process::Abort;
 use std::str;
@@ -37,6 +37,12 @@ fn helps_printed(rt: HostRuntime) -> Result<(), Fail> {
     told(&rt, &["ringplan", "check", "--help"], 0, "Exit status")?;
     told(&rt, &["ringplan", "play", "--help"], 0, "for each event")?;
     told(&rt, &["ringplan", "plan", "--help"], 0, "change 1")?;
+    told(
+        &rt,
+        &["ringplan", "play", "-h"],
+        0,
+        "Example: ringplan play <",
+    )?;
     told(&rt, &["ringplan", "help", "check"], 0, "Exit status")
 }
 
@@ -53,6 +59,12 @@ fn mistakes_told(rt: HostRuntime) -> Result<(), Fail> {
         &["ringplan", "check", "--fast"],
         2,
         "error: unexpected argument '--fast'",
+    )?;
+    told(
+        &rt,
+        &["ringplan", "check", "move_one_slot.bundle"],
+        2,
+        "ringplan check < FILE",
     )?;
     told(
         &rt,
@@ -110,6 +122,25 @@ fn answered<RT: AllocGlobal + Threads + Wait + Sync + Abort>(rt: &RT, step: usiz
 fn short_reads_and_writes(rt: HostRuntime) {
     answered(&rt, 1);
     answered(&rt, 4096);
+}
+
+#[test]
+fn interrupted_reads_and_writes(rt: HostRuntime) {
+    let mut input = InterruptedReader {
+        inner: MemoryReader {
+            rest: BUNDLE,
+            step: 7,
+            calls: 4096,
+        },
+        was_told: false,
+    };
+    let mut output = InterruptedWriter {
+        inner: MemoryWriter::new(rt.alloc(), 1, 64),
+        was_told: false,
+    };
+    let ended = run(&rt, CHECK.as_slice(), &mut input, &mut output);
+    assert_eq!(rt; output.inner.bytes.as_slice(), b"yes\n".as_slice());
+    assert_eq!(rt; ended, 0);
 }
 
 #[test]
