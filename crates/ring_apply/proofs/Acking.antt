@@ -50,7 +50,7 @@ acked_on ring plan k w v m p =
       h,
       tells_next ring plan k w u (Ack v) reply.Plain m refl h k.keys k.last new k.gets m.numbered m.placed m.behind
           (puts_acked ring plan w u v reply.Plain k.keys k.last k.puts (reached_of ring plan k w m) h m.puts)
-          (subst (λ (clock : ℕ → List Entry). GetsMeet ring clock k.keys k.gets u) same (gets_stay ring plan w u (Ack v) reply.Plain (clock_at k.puts) k.keys k.gets h refl m.gets))
+          (subst (λ (clock : ℕ → List Entry). GetsMeet ring clock k.keys k.gets u) same (gets_stay ring plan w u (Ack v) reply.Plain (clock_at k.puts) k.keys k.gets (reached_of ring plan k w m) h refl m.gets))
           (subst (λ (clock : ℕ → List Entry). ShowAll u clock k.stored u.stored) same (stored_on ring plan k w u (Ack v) reply.Plain m refl h))
           (subst (λ (clock : ℕ → List Entry). ShowAll u clock k.hinted u.hinted) same (hinted_on ring plan k w u (Ack v) reply.Plain m refl h)),
     )

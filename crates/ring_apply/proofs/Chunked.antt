@@ -43,7 +43,7 @@ use Rattle.ring_state.specs.declared.steps.StepNow.{StepNow}
 use Rattle.ring_state.specs.Marks.{with_mark}
 use Rattle.ring_state.specs.Slots.{slot_now}
 use Rattle.ring_state.specs.Steps.{is_marked_at}
-use Rattle.ring_model.specs.Shows.{Shows}
+use Rattle.ring_model.specs.Shows.{Shows, value_of}
 use Rattle.ring_model.specs.Stored.{ShowAll, MergeAll, at_mirror, copied}
 use Rattle.ring_model.proofs.Coming.{copied_more}
 use Rattle.ring_model.proofs.Showing.{none, other_test, with_none}
@@ -135,18 +135,18 @@ module _ (ring : RingValue) (plan : List Planned) (k : Kept) (w : World) (m : Te
             out (sym (of_chunk v p.1) ∙ eqb-true ((place_of ring.q (key_of_put w v)).chunk) c t.1))
 
     whole : (clock : ℕ → List Entry) (read versions : List ℕ → List Version) → ShowsChunk ring.q w clock c read (source_has ring plan w slot source) → (chunk_of ring.q key ≡ c → versions key ≡ read key)
-        → ((chunk_of ring.q key ≡ c → ⊥) → versions key ≡ []) → Shows clock (versions key) (λ v. is_copied ring plan w slot source c v && is_of_key w key v)
+        → ((chunk_of ring.q key ≡ c → ⊥) → versions key ≡ []) → Shows clock (value_of w) (versions key) (λ v. is_copied ring plan w slot source c v && is_of_key w key v)
     whole clock read versions shows same others = by (chunk_of ring.q key == c) refl
       where
-        by : (b : Bool) → (chunk_of ring.q key == c) ≡ b → Shows clock (versions key) (λ v. is_copied ring plan w slot source c v && is_of_key w key v)
+        by : (b : Bool) → (chunk_of ring.q key == c) ≡ b → Shows clock (value_of w) (versions key) (λ v. is_copied ring plan w slot source c v && is_of_key w key v)
         by true e =
             let lies = eqb-true (chunk_of ring.q key) c e in
-            subst (λ (vs : List Version). Shows clock vs (λ v. is_copied ring plan w slot source c v && is_of_key w key v)) (sym (same lies))
-            (other_test clock (read key) (λ v. source_has ring plan w slot source v && is_of_key w key v) (λ v. is_copied ring plan w slot source c v && is_of_key w key v) (here lies) (shows key lies))
+            subst (λ (vs : List Version). Shows clock (value_of w) vs (λ v. is_copied ring plan w slot source c v && is_of_key w key v)) (sym (same lies))
+            (other_test clock (value_of w) (read key) (λ v. source_has ring plan w slot source v && is_of_key w key v) (λ v. is_copied ring plan w slot source c v && is_of_key w key v) (here lies) (shows key lies))
         by false e =
             let out : chunk_of ring.q key ≡ c → ⊥ = λ lies. (let f = eq-eqb (chunk_of ring.q key) c lies in cc) in
-            subst (λ (vs : List Version). Shows clock vs (λ v. is_copied ring plan w slot source c v && is_of_key w key v)) (sym (others out))
-            (other_test clock [] (λ v. false) (λ v. is_copied ring plan w slot source c v && is_of_key w key v) (apart out) (none clock))
+            subst (λ (vs : List Version). Shows clock (value_of w) vs (λ v. is_copied ring plan w slot source c v && is_of_key w key v)) (sym (others out))
+            (other_test clock (value_of w) [] (λ v. false) (λ v. is_copied ring plan w slot source c v && is_of_key w key v) (apart out) (none clock (value_of w)))
 
   mirror_come : (o : Option NodeId) (slot : Slot) (source : Source) (c : ℕ) (y : ℕ) (t : Slot) (v : ℕ) → at_mirror o slot (is_copied ring plan w slot source c) y t v ≡ true → v < length w.puts
   mirror_come None slot source c y t v h = absurd cc
@@ -227,7 +227,7 @@ module _ (ring : RingValue) (plan : List Planned) (k : Kept) (w : World) (m : Te
       pub copied_nowhere : served.mirror ≡ None → (u : World) × (answer ring plan w (ChunkCopy n c) ≡ Ok (u, reply.Plain)) × Tells ring plan (record k { steps = steps }) u
       copied_nowhere mirrored =
           chunked (λ y t key. []) k.stored
-          (subst (λ (o : Option NodeId). ShowAll w (clock_at k.puts) (λ y t key. []) (at_mirror o slot (is_copied ring plan w slot source c))) (sym mirrored) (λ y t key. none (clock_at k.puts)))
+          (subst (λ (o : Option NodeId). ShowAll w (clock_at k.puts) (λ y t key. []) (at_mirror o slot (is_copied ring plan w slot source c))) (sym mirrored) (λ y t key. none (clock_at k.puts) (value_of w)))
           (λ y t key. with_none (k.stored y t key) (m.stored y t key).apart)
 
 -- ---- of a store that is sound

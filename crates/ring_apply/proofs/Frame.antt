@@ -80,7 +80,7 @@ module _ (ring : RingValue) (plan : List Planned) (w : World) (e : Event) (passe
         behind = m.behind;
         puts = puts_meet;
         reads = reads_stay ring plan w u e r h m.reads;
-        gets = subst (λ (f : ℕ → List Entry). GetsMeet ring f k.keys k.gets u) (sym same) (gets_stay ring plan w u e r (clock_at k.puts) k.keys k.gets h gets m.gets);
+        gets = subst (λ (f : ℕ → List Entry). GetsMeet ring f k.keys k.gets u) (sym same) (gets_stay ring plan w u e r (clock_at k.puts) k.keys k.gets (reached_of ring plan k w m) h gets m.gets);
         stored = subst (λ (f : ℕ → List Entry). ShowAll u f stored u.stored) (sym same) shown;
         hints = hints_stay ring plan w u e r h m.hints;
         hinted = subst (λ (f : ℕ → List Entry). ShowAll u f hinted u.hinted) (sym same) kept;

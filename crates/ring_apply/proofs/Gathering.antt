@@ -25,7 +25,7 @@ use Rattle.plan_check.specs.World.{World, is_of_key, stage_now, key_of_put, slot
 use Rattle.plan_check.proofs.Passing.{some_found, some_is}
 use Rattle.ring_state.specs.declared.slots.SlotNow.{SlotNow}
 use Rattle.ring_state.specs.Slots.{slot_now}
-use Rattle.ring_model.specs.Shows.{Shows}
+use Rattle.ring_model.specs.Shows.{Shows, value_of}
 use Rattle.ring_model.proofs.Showing.{merge, none, with_none, other_test}
 use Rattle.ring_parts.specs.Puts.{clock_at}
 use Rattle.ring_parts.proofs.NodesDone.{alike}
@@ -63,30 +63,30 @@ or_no false = refl
 
 module _ (q : ℕ) (w : World) (clock : ℕ → List Entry) (c : ℕ) where
   pub other_puts : (held : List ℕ → List Version) (f g : ℕ → Bool) → ((v : ℕ) → f v ≡ g v) → ShowsChunk q w clock c held f → ShowsChunk q w clock c held g
-  other_puts held f g same shows k e = other_test clock (held k) (λ v. f v && is_of_key w k v) (λ v. g v && is_of_key w k v) (λ v. ap (λ (b : Bool). b && is_of_key w k v) (same v)) (shows k e)
+  other_puts held f g same shows k e = other_test clock (value_of w) (held k) (λ v. f v && is_of_key w k v) (λ v. g v && is_of_key w k v) (λ v. ap (λ (b : Bool). b && is_of_key w k v) (same v)) (shows k e)
 
   -- where more comes, more is shown
   pub more_shown : (old more new : List ℕ → List Version) (f g : ℕ → Bool) → ShowsChunk q w clock c old f → ShowsChunk q w clock c more g → MergesAll old more new → ShowsChunk q w clock c new (λ v. f v || g v)
   more_shown old more new f g shows brings merges k e =
-      other_test clock (new k) (λ v. (f v && is_of_key w k v) || (g v && is_of_key w k v)) (λ v. (f v || g v) && is_of_key w k v) (λ v. either_of (f v) (g v) (is_of_key w k v))
-      (merge clock (old k) (more k) (new k) (λ v. f v && is_of_key w k v) (λ v. g v && is_of_key w k v) (shows k e) (brings k e) (merges k))
+      other_test clock (value_of w) (new k) (λ v. (f v && is_of_key w k v) || (g v && is_of_key w k v)) (λ v. (f v || g v) && is_of_key w k v) (λ v. either_of (f v) (g v) (is_of_key w k v))
+      (merge clock (value_of w) (old k) (more k) (new k) (λ v. f v && is_of_key w k v) (λ v. g v && is_of_key w k v) (shows k e) (brings k e) (merges k))
 
   -- where nothing comes that shows something, there was nothing
   pub nothing_shown : (held : List ℕ → List Version) (f g : ℕ → Bool) → ShowsChunk q w clock c held f → ShowsChunk q w clock c (λ k. []) g → ShowsChunk q w clock c held (λ v. f v || g v)
   nothing_shown held f g shows brings k e =
-      other_test clock (held k) (λ v. (f v && is_of_key w k v) || (g v && is_of_key w k v)) (λ v. (f v || g v) && is_of_key w k v) (λ v. either_of (f v) (g v) (is_of_key w k v))
-      (merge clock (held k) [] (held k) (λ v. f v && is_of_key w k v) (λ v. g v && is_of_key w k v) (shows k e) (brings k e) (with_none (held k) (shows k e).apart))
+      other_test clock (value_of w) (held k) (λ v. (f v && is_of_key w k v) || (g v && is_of_key w k v)) (λ v. (f v || g v) && is_of_key w k v) (λ v. either_of (f v) (g v) (is_of_key w k v))
+      (merge clock (value_of w) (held k) [] (held k) (λ v. f v && is_of_key w k v) (λ v. g v && is_of_key w k v) (shows k e) (brings k e) (with_none (held k) (shows k e).apart))
 
   -- no versions show no puts
   pub none_shown : (held : List ℕ → List Version) → ((k : List ℕ) → held k ≡ []) → ShowsChunk q w clock c held (λ v. false)
-  none_shown held empty k e = subst (λ (vs : List Version). Shows clock vs (λ v. false)) (sym (empty k)) (none clock)
+  none_shown held empty k e = subst (λ (vs : List Version). Shows clock (value_of w) vs (λ v. false)) (sym (empty k)) (none clock (value_of w))
 
   -- the part of a chunk shows the same puts of its keys
-  pub part_shown : (p : ℕ) (kept held : List ℕ → List Version) (f : ℕ → Bool) → p ≡ q → ((k : List ℕ) → Shows clock (kept k) (λ v. f v && is_of_key w k v))
+  pub part_shown : (p : ℕ) (kept held : List ℕ → List Version) (f : ℕ → Bool) → p ≡ q → ((k : List ℕ) → Shows clock (value_of w) (kept k) (λ v. f v && is_of_key w k v))
       → ((k : List ℕ) → held k ≡ cond (chunk_of p k == c) (kept k) []) → ShowsChunk q w clock c held f
   part_shown p kept held f space shows part k e =
       let here : (chunk_of p k == c) ≡ true = eq-eqb (chunk_of p k) c (ap (λ (n : ℕ). chunk_of n k) space ∙ e) in
-      subst (λ (vs : List Version). Shows clock vs (λ v. f v && is_of_key w k v)) (sym (part k ∙ ap (λ (b : Bool). cond b (kept k) []) here)) (shows k)
+      subst (λ (vs : List Version). Shows clock (value_of w) vs (λ v. f v && is_of_key w k v)) (sym (part k ∙ ap (λ (b : Bool). cond b (kept k) []) here)) (shows k)
 
 -- ---- one source after the other
 
@@ -98,14 +98,14 @@ Visits a c read all old new rest = (w : World) → Meets a w → (test : ℕ →
 module _ (a : Parts) (c : ℕ) where
   -- a source that shows these puts is merged in
   pub gathers : (p : ℕ) (kept : World → List ℕ → List Version) (old more new : List ℕ → List Version) (read : World → ℕ → Bool) → p ≡ (ring_of a).q
-      → ((w : World) → Meets a w → (k : List ℕ) → Shows (clock_at a.puts) (kept w k) (λ v. read w v && is_of_key w k v)) → ((w : World) (k : List ℕ) → more k ≡ cond (chunk_of p k == c) (kept w k) [])
+      → ((w : World) → Meets a w → (k : List ℕ) → Shows (clock_at a.puts) (value_of w) (kept w k) (λ v. read w v && is_of_key w k v)) → ((w : World) (k : List ℕ) → more k ≡ cond (chunk_of p k == c) (kept w k) [])
       → MergesAll old more new → Gathers a c old new read
   gathers p kept old more new read space shows part merges w m test had =
       more_shown (ring_of a).q w (clock_at a.puts) c old more new test (read w) had (part_shown (ring_of a).q w (clock_at a.puts) c p (kept w) more (read w) space (shows w m) (part w)) merges
 
   -- a source that has nothing is left out
   pub gathers_none : (p : ℕ) (kept : World → List ℕ → List Version) (old : List ℕ → List Version) (read : World → ℕ → Bool) → p ≡ (ring_of a).q
-      → ((w : World) → Meets a w → (k : List ℕ) → Shows (clock_at a.puts) (kept w k) (λ v. read w v && is_of_key w k v)) → ((w : World) (k : List ℕ) → cond (chunk_of p k == c) (kept w k) [] ≡ [])
+      → ((w : World) → Meets a w → (k : List ℕ) → Shows (clock_at a.puts) (value_of w) (kept w k) (λ v. read w v && is_of_key w k v)) → ((w : World) (k : List ℕ) → cond (chunk_of p k == c) (kept w k) [] ≡ [])
       → Gathers a c old old read
   gathers_none p kept old read space shows part w m test had =
       nothing_shown (ring_of a).q w (clock_at a.puts) c old test (read w) had (part_shown (ring_of a).q w (clock_at a.puts) c p (kept w) (λ k. []) (read w) space (shows w m) (λ k. sym (part w k)))
@@ -187,8 +187,8 @@ module _ (ring : RingValue) (plan : List Planned) (k : Kept) (w : World) (m : Te
       by (Some x) at = (let f : Some owner ≡ Some x.owner = e ∙ ap (option_map (λ (x : SlotNow). x.owner)) at in let same : owner ≡ x.owner = cc in same ∙ (kept_is ring plan k.rows w slot x m.slots at).owner)
 
   pub owner_shows : (owner : NodeId) → Some owner ≡ option_map (λ x. x.owner) (slot_now k.rows slot) → (key : List ℕ)
-      → Shows (clock_at k.puts) (k.stored owner.0 slot key) (λ v. w.stored (stage_now ring plan w slot).owner.0 slot v && is_of_key w key v)
-  owner_shows owner e key = subst (λ (x : NodeId). Shows (clock_at k.puts) (k.stored owner.0 slot key) (λ v. w.stored x.0 slot v && is_of_key w key v)) (owner_now owner e) (m.stored owner.0 slot key)
+      → Shows (clock_at k.puts) (value_of w) (k.stored owner.0 slot key) (λ v. w.stored (stage_now ring plan w slot).owner.0 slot v && is_of_key w key v)
+  owner_shows owner e key = subst (λ (x : NodeId). Shows (clock_at k.puts) (value_of w) (k.stored owner.0 slot key) (λ v. w.stored x.0 slot v && is_of_key w key v)) (owner_now owner e) (m.stored owner.0 slot key)
 
 -- ---- lists of slots
 

@@ -25,7 +25,7 @@ use Rattle.plan_check.proofs.Answered.{allowed}
 use Rattle.plan_check.proofs.Passed.{all_met}
 use Rattle.ring_state.specs.declared.slots.SlotNow.{SlotNow}
 use Rattle.ring_state.specs.Slots.{slot_now}
-use Rattle.ring_model.specs.Shows.{Shows}
+use Rattle.ring_model.specs.Shows.{Shows, value_of}
 use Rattle.ring_model.specs.Stored.{at_mirror}
 use Rattle.ring_model.specs.Stored as stored
 use Rattle.ring_model.proofs.Coming.{served_more}
@@ -74,7 +74,7 @@ module _ (ring : RingValue) (plan : List Planned) (k : Kept) (w : World) (m : Te
             (λ y t u. served_more ring plan w s (w.hinted x.0 s) y t u ∙ ap (λ (b : Bool). b || w.stored y t u) (served_is ring plan w s served (w.hinted x.0 s) y t u now))
             m.stored
             (served_shows w (clock_at k.puts) served.owner served.mirror s versions (w.hinted x.0 s)
-            (λ bs. subst (λ (vs : List Version). Shows (clock_at k.puts) vs (λ v. w.hinted x.0 s v && is_of_key w bs v)) (sym (reads bs)) (m.hinted x.0 s bs)))
+            (λ bs. subst (λ (vs : List Version). Shows (clock_at k.puts) (value_of w) vs (λ v. w.hinted x.0 s v && is_of_key w bs v)) (sym (reads bs)) (m.hinted x.0 s bs)))
             merges)
             (lasts ring plan w e passes (clock_at k.puts) hints (without_puts w.hinted x s)
             (λ y t u b. (reached.hinted y t u (and_parts (not ((y == x.0) && is_slot s t)) (w.hinted y t u) b).1).0)

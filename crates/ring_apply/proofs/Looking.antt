@@ -21,7 +21,7 @@ use Rattle.plan_check.specs.Versions.{get_slot, some_hinted, slot_has}
 use Rattle.plan_check.specs.Guards.{guards}
 use Rattle.plan_check.proofs.Passed.{all_met}
 use Rattle.plan_check.proofs.Passing.{some_found, some_is}
-use Rattle.ring_model.specs.Shows.{Shows}
+use Rattle.ring_model.specs.Shows.{Shows, value_of}
 use Rattle.ring_model.specs.Gets.{can_find}
 use Rattle.ring_model.proofs.Showing.{with_none}
 use Rattle.ring_state.specs.declared.gets.GetNow.{GetNow}
@@ -72,7 +72,7 @@ module _ (ring : RingValue) (plan : List Planned) (k : Kept) (w : World) (m : Te
 
   -- the versions of its owner and of all keepers show what it has of the key
   slot_shown : (slot : Slot) (key : List ℕ) (all : List Version) → is_ring_slot ring slot ≡ true → MergesOthers (owned_at k.rows k.stored slot key) (λ x. true) (λ x. k.hinted x slot key) all
-      → Shows (clock_at k.puts) all (λ v. is_of_key w key v && slot_has ring plan w slot v)
+      → Shows (clock_at k.puts) (value_of w) all (λ v. is_of_key w key v && slot_has ring plan w slot v)
   slot_shown slot key all is g =
       let o = (stage_now ring plan w slot).owner.0 in
       let mine = owned_is slot key is in
@@ -81,12 +81,12 @@ module _ (ring : RingValue) (plan : List Planned) (k : Kept) (w : World) (m : Te
           | inl old ↦ (
               let d = (m.stored o slot key).drawn x (subst (λ (xs : List Version). IsIn x xs) mine old) in
               let b = and_parts (w.stored o slot x.put) (is_of_key w key x.put) d.0 in
-              (all_of (is_of_key w key x.put) (slot_has ring plan w slot x.put) b.1 (first_of_two (w.stored o slot x.put) (some_hinted ring w slot x.put) b.0), d.1))
+              (all_of (is_of_key w key x.put) (slot_has ring plan w slot x.put) b.1 (first_of_two (w.stored o slot x.put) (some_hinted ring w slot x.put) b.0), d.1, d.2))
           | inr h ↦ (
               let d = (m.hinted h.0 slot key).drawn x h.1 in
               let b = and_parts (w.hinted h.0 slot x.put) (is_of_key w key x.put) d.0 in
               let some : some_hinted ring w slot x.put ≡ true = some_is (length ring.nodes) (λ y. w.hinted y slot x.put) h.0 (keeper_within ring plan k w m h.0 slot x.put b.0) b.0 in
-              (all_of (is_of_key w key x.put) (slot_has ring plan w slot x.put) b.1 (second_of_two (w.stored o slot x.put) (some_hinted ring w slot x.put) some), d.1))
+              (all_of (is_of_key w key x.put) (slot_has ring plan w slot x.put) b.1 (second_of_two (w.stored o slot x.put) (some_hinted ring w slot x.put) some), d.1, d.2))
         ];
         covers = λ v t. (
             let b = and_parts (is_of_key w key v) (slot_has ring plan w slot v) t in
@@ -103,14 +103,14 @@ module _ (ring : RingValue) (plan : List Planned) (k : Kept) (w : World) (m : Te
   pub finds_shown : (g i : ℕ) (get : GetNow) (place : Place) (key : List ℕ) (all : List Version) → slice_get k.gets g ≡ Some get → option_map (place_of ring.q) (slice_get k.keys get.key) ≡ Some place
       → slice_get k.keys get.key ≡ Some key → i < ring.n
       → MergesOthers (owned_at k.rows k.stored (slot_at place.partition i) key) (λ x. true) (λ x. k.hinted x (slot_at place.partition i) key) all
-      → Shows (clock_at k.puts) all (can_find ring plan w g i)
+      → Shows (clock_at k.puts) (value_of w) all (can_find ring plan w g i)
   finds_shown g i get place key all is lies at l merged =
       let f = get_key_is g get place is lies in
       let own : key ≡ key_of_get w g = (let e = f.0 in cc) in
       let within : is_ring_slot ring (slot_at place.partition i) ≡ true = all_of (nat_lt place.partition ring.q) (nat_lt i ring.n) (is_less place.partition ring.q f.2) (is_less i ring.n l) in
       let shown = slot_shown (slot_at place.partition i) key all within merged in
-      let by_slot = subst (λ (z : Place). Shows (clock_at k.puts) all (λ v. is_of_key w key v && slot_has ring plan w (slot_at z.partition i) v)) (sym f.1) shown in
-      subst (λ (z : List ℕ). Shows (clock_at k.puts) all (λ v. is_of_key w z v && slot_has ring plan w (get_slot ring w g i) v)) own by_slot
+      let by_slot = subst (λ (z : Place). Shows (clock_at k.puts) (value_of w) all (λ v. is_of_key w key v && slot_has ring plan w (slot_at z.partition i) v)) (sym f.1) shown in
+      subst (λ (z : List ℕ). Shows (clock_at k.puts) (value_of w) all (λ v. is_of_key w z v && slot_has ring plan w (get_slot ring w g i) v)) own by_slot
 
 -- ---- the owner that was looked up
 

@@ -80,7 +80,7 @@ module _ (ring : RingValue) (plan : List Planned) (k : Kept) (w : World) (e : Ev
           behind = m.behind;
           puts = puts_stay ring plan w u e r k.keys k.last k.puts reached h no_put m.puts;
           reads = reads_stay ring plan w u e r h m.reads;
-          gets = gets_stay ring plan w u e r (clock_at k.puts) k.keys k.gets h no_get m.gets;
+          gets = gets_stay ring plan w u e r (clock_at k.puts) k.keys k.gets reached h no_get m.gets;
           stored = t.stored;
           hints = hints_stay ring plan w u e r h m.hints;
           hinted = t.hinted;

@@ -25,6 +25,7 @@ use Rattle.plan_check.specs.Effects.{changed, effect}
 use Rattle.plan_check.specs.Answers.{answer, reply_to}
 use Rattle.plan_check.proofs.Answered.{allowed}
 use Rattle.plan_check.proofs.Passing.{some_found}
+use Rattle.ring_model.specs.Shows.{value_of}
 use Rattle.ring_model.proofs.Asked.{read_reply}
 use Rattle.ring_state.specs.declared.gets.GetNow.{GetNow}
 use Rattle.ring_state.specs.declared.slots.SlotNow.{SlotNow}
@@ -148,7 +149,7 @@ read_on ring plan k w g i found ns m p few f =
     let u = effect ring plan w (Read g i) in
     let first : answer ring plan w (Read g i) ≡ Ok (u, reply_to ring plan w (Read g i)) = allowed ring plan w (Read g i) p in
     let reached = reached_of ring plan k w m in
-    let same = read_reply ring plan w u (clock_at k.puts) g (reply_to ring plan w (Read g i)) reached m.puts.clocks i f.at_slot ns first f.shows f.numbers in
+    let same = read_reply ring plan w u (clock_at k.puts) (value_of w) g (reply_to ring plan w (Read g i)) reached m.puts.clocks i f.at_slot ns first f.shows f.numbers in
     let h : answer ring plan w (Read g i) ≡ Ok (u, reply.Found ns) = first ∙ ap (λ (z : Reply). Ok (u, z)) same in
     let r = reply.Found ns in (
       u,

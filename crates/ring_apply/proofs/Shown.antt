@@ -8,7 +8,7 @@ use Rattle.ring_versions.specs.declared.version.Version.{Version}
 use Rattle.plan_text.specs.Steps.{is_slot}
 use Rattle.plan_stage.proofs.Truth.{slot-is, slot-same}
 use Rattle.plan_check.specs.World.{World, is_of_key}
-use Rattle.ring_model.specs.Shows.{Shows}
+use Rattle.ring_model.specs.Shows.{Shows, value_of}
 use Rattle.ring_model.specs.Stored.{ShowAll}
 use Rattle.ring_model.proofs.Showing.{none}
 use Rattle.ring_apply.specs.Acts.{Forgets}
@@ -19,10 +19,10 @@ left gone test y t v = not (gone y t) && test y t v
 
 pub forgotten : (w : World) (clock : ℕ → List Entry) (gone : ℕ → Slot → Bool) (old new : ℕ → Slot → List ℕ → List Version) (test : ℕ → Slot → ℕ → Bool)
     → Forgets gone old new → ShowAll w clock old test → ShowAll w clock new (left gone test)
-forgotten w clock gone old new test forgets shows y t key = subst (λ (held : List Version). Shows clock held (λ v. left gone test y t v && is_of_key w key v)) (sym (forgets y t key)) (by (gone y t))
+forgotten w clock gone old new test forgets shows y t key = subst (λ (held : List Version). Shows clock (value_of w) held (λ v. left gone test y t v && is_of_key w key v)) (sym (forgets y t key)) (by (gone y t))
   where
-    by : (b : Bool) → Shows clock (cond b [] (old y t key)) (λ v. (not b && test y t v) && is_of_key w key v)
-    by true = none clock
+    by : (b : Bool) → Shows clock (value_of w) (cond b [] (old y t key)) (λ v. (not b && test y t v) && is_of_key w key v)
+    by true = none clock (value_of w)
     by false = shows y t key
 
 -- ---- what a node drops of a slot, and what it has of all

@@ -14,7 +14,7 @@ use Rattle.plan_stage.specs.Clauses.{first_failing}
 use Rattle.plan_check.specs.declared.event.Event.{Event}
 use Rattle.plan_check.specs.declared.event.Event.TheVariants.{Write}
 use Rattle.plan_check.specs.declared.event.Reply.TheVariants as reply
-use Rattle.plan_check.specs.World.{World, stage_now, key_of_put, is_of_key}
+use Rattle.plan_check.specs.World.{PutRecord, World, stage_now, key_of_put, is_of_key}
 use Rattle.plan_check.specs.Versions.{put_slot}
 use Rattle.plan_check.specs.Guards.{guards, put_exists}
 use Rattle.plan_check.specs.Effects.{changed, effect}
@@ -27,7 +27,7 @@ use Rattle.ring_state.specs.declared.puts.PutNow.{PutNow}
 use Rattle.ring_state.specs.declared.slots.SlotNow.{SlotNow}
 use Rattle.ring_state.specs.Puts.{with_ticket}
 use Rattle.ring_state.specs.Slots.{slot_now}
-use Rattle.ring_model.specs.Shows.{Shows}
+use Rattle.ring_model.specs.Shows.{Shows, value_of}
 use Rattle.ring_model.specs.Stored.{at_mirror, at_served}
 use Rattle.ring_model.specs.Stored as stored
 use Rattle.ring_model.proofs.Coming.{served_more}
@@ -60,7 +60,7 @@ served_is ring plan w slot x more y t v now =
 
 -- the version of a put that is kept shows the put
 pub kept_shows : (ring : RingValue) (plan : List Planned) (k : Kept) (w : World) (m : Tells ring plan k w) (v : ℕ) (put : PutNow) (key : List ℕ) → slice_get k.puts v ≡ Some put → slice_get k.keys put.key ≡ Some key
-    → (bs : List ℕ) → Shows (clock_at k.puts) (at_key key put.version bs) (λ u. (u == v) && is_of_key w bs u)
+    → (bs : List ℕ) → Shows (clock_at k.puts) (value_of w) (at_key key put.version bs) (λ u. (u == v) && is_of_key w bs u)
 kept_shows ring plan k w m v put key at named bs = elim (both_puts k.keys k.last k.puts w v m.puts) [
   | inl n ↦ absurd (let none = n.0 in cc)
   | inr s ↦ (
@@ -69,8 +69,9 @@ kept_shows ring plan k w m v put key at named bs = elim (both_puts k.keys k.last
       let of : key_of_put w v ≡ key = (let is = key_of ring plan k w m v put at in cc) in
       let one : Version = record { put = v; clock = clock_in put.version; value = s.1.value } in
       let clock : clock_in put.version ≡ clock_at k.puts v = ap (λ (o : Option PutNow). elim o [ Some p ↦ clock_in p.version | None ↦ [] ]) (sym at) in
-      subst (λ (vs : List Version). Shows (clock_at k.puts) (at_key key vs bs) (λ u. (u == v) && is_of_key w bs u)) (sym meets.version)
-      (put_shows w (clock_at k.puts) v one key of refl clock bs))
+      let value : s.1.value ≡ value_of w v = ap (λ (o : Option PutRecord). elim o [ Some x ↦ x.value | None ↦ [] ]) (sym s.3) in
+      subst (λ (vs : List Version). Shows (clock_at k.puts) (value_of w) (at_key key vs bs) (λ u. (u == v) && is_of_key w bs u)) (sym meets.version)
+      (put_shows w (clock_at k.puts) v one key of refl clock value bs))
 ]
 
 module _ (ring : RingValue) (plan : List Planned) (k : Kept) (w : World) (m : Tells ring plan k w) (v i : ℕ) (passes : first_failing (guards ring plan w (Write v i)) ≡ None) where

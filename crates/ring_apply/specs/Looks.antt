@@ -7,7 +7,7 @@ use Rattle.ring_versions.specs.Versions.{IsMerge}
 use Rattle.ring_versions.specs.Puts.{ArePuts}
 use Rattle.plan_text.specs.declared.step.Planned.{Planned}
 use Rattle.plan_check.specs.World.{World}
-use Rattle.ring_model.specs.Shows.{Shows}
+use Rattle.ring_model.specs.Shows.{Shows, value_of}
 use Rattle.ring_model.specs.Gets.{can_find}
 use Rattle.ring_state.specs.declared.gets.GetNow.{GetNow}
 use Rattle.ring_state.specs.declared.slots.SlotNow.{SlotNow}
@@ -24,6 +24,6 @@ pub record FindsAt (ring : RingValue) (plan : List Planned) (k : Kept) (w : Worl
   pub get : GetNow
   pub is : slice_get k.gets g ≡ Some get
   pub at_slot : List Version
-  pub shows : Shows (clock_at k.puts) at_slot (can_find ring plan w g i)
+  pub shows : Shows (clock_at k.puts) (value_of w) at_slot (can_find ring plan w g i)
   pub merged : IsMerge get.found at_slot found
   pub numbers : ArePuts at_slot puts

@@ -8,7 +8,7 @@ use Rattle.plan_text.specs.declared.step.Source.{Source}
 use Rattle.plan_text.specs.declared.step.Source.TheVariants.{Owner, Slots}
 use Rattle.ring_names.specs.declared.ids.Slot.{Slot}
 use Rattle.plan_check.specs.World.{World, is_of_key, slot_at}
-use Rattle.ring_model.specs.Shows.{Shows}
+use Rattle.ring_model.specs.Shows.{Shows, value_of}
 use Rattle.ring_parts.specs.Puts.{clock_at}
 use Rattle.ring_state.specs.declared.slots.SlotNow.{SlotNow}
 use Rattle.ring_state.specs.Slots.{slot_now}
@@ -17,7 +17,7 @@ use Rattle.ring_parts.specs.declared.parts.Parts.{Parts}
 
 -- for each key of the chunk, among q partitions, the versions show those puts of the key that pass the test
 abbrev pub ShowsChunk : ℕ → World → (ℕ → List Entry) → ℕ → (List ℕ → List Version) → (ℕ → Bool) → Type 0
-ShowsChunk q w clock c held test = (k : List ℕ) → chunk_of q k ≡ c → Shows clock (held k) (λ v. test v && is_of_key w k v)
+ShowsChunk q w clock c held test = (k : List ℕ) → chunk_of q k ≡ c → Shows clock (value_of w) (held k) (λ v. test v && is_of_key w k v)
 
 -- in whatever world the store is: whatever puts the old versions show, the new ones show these and those that are read there
 abbrev pub Gathers : Parts → ℕ → (List ℕ → List Version) → (List ℕ → List Version) → (World → ℕ → Bool) → Type 0

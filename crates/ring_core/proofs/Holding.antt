@@ -13,7 +13,7 @@ use Rattle.plan_text.specs.declared.step.Planned.{Planned}
 use Rattle.plan_text.specs.Valid.{is_ring_slot}
 use Rattle.plan_check.specs.World.{PutRecord, World, slot_at, stage_now, key_of_put, is_of_key}
 use Rattle.plan_check.specs.Versions.{put_slot, is_held}
-use Rattle.ring_model.specs.Shows.{Shows}
+use Rattle.ring_model.specs.Shows.{Shows, value_of}
 use Rattle.ring_model.proofs.Held.{held}
 use Rattle.ring_state.specs.KeyTable.{KeyTable}
 use Rattle.ring_state.specs.declared.puts.PutNow.{PutNow}
@@ -77,11 +77,11 @@ module _ (ring : RingValue) (plan : List Planned) (k : Kept) (w : World) (m : Te
       o : NodeId
       o = (stage_now ring plan w slot).owner
 
-      owners : Shows (clock_at k.puts) (k.stored o.0 slot (key_of_put w v)) (λ u. w.stored o.0 slot u && is_of_key w (key_of_put w v) u)
+      owners : Shows (clock_at k.puts) (value_of w) (k.stored o.0 slot (key_of_put w v)) (λ u. w.stored o.0 slot u && is_of_key w (key_of_put w v) u)
       owners = m.stored o.0 slot (key_of_put w v)
 
       law : (is_held ring plan w v slot ≡ true) ↔ (Covers (k.stored o.0 slot (key_of_put w v)) (clock_at k.puts v) ⊎ ((x : ℕ) × (x < length ring.nodes) × Covers (k.hinted x slot (key_of_put w v)) (clock_at k.puts v)))
-      law = held ring plan w (clock_at k.puts) v slot (k.stored o.0 slot (key_of_put w v)) (λ x. k.hinted x slot (key_of_put w v)) (reached_of ring plan k w m) m.puts.clocks exists owners (λ x l. m.hinted x slot (key_of_put w v))
+      law = held ring plan w (clock_at k.puts) (value_of w) v slot (k.stored o.0 slot (key_of_put w v)) (λ x. k.hinted x slot (key_of_put w v)) (reached_of ring plan k w m) m.puts.clocks exists owners (λ x l. m.hinted x slot (key_of_put w v))
 
       is_owner : owner_kept k slot ≡ o
       is_owner = owner_told ring plan k w m slot there

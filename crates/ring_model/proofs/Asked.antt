@@ -115,22 +115,22 @@ of_read ring plan w g i v met =
     (not_yet (found_at w g i) v none)
     (read_found w.gets g i v (finds ring plan w g i) (ltb-true g (length w.gets) b.0))
 
-module _ (ring : RingValue) (plan : List Planned) (w u : World) (clock : ℕ → List Entry) (g : ℕ) (r : Reply) (reached : Reached ring plan w) (made : AreClocksOf w clock) where
-  pub read_shows : (i : ℕ) (found at_slot new : List Version) → answer ring plan w (Read g i) ≡ Ok (u, r) → Shows clock found (found_by ring w g) → Shows clock at_slot (can_find ring plan w g i) → IsMerge found at_slot new → Shows clock new (found_by ring u g)
+module _ (ring : RingValue) (plan : List Planned) (w u : World) (clock : ℕ → List Entry) (value : ℕ → List ℕ) (g : ℕ) (r : Reply) (reached : Reached ring plan w) (made : AreClocksOf w clock) where
+  pub read_shows : (i : ℕ) (found at_slot new : List Version) → answer ring plan w (Read g i) ≡ Ok (u, r) → Shows clock value found (found_by ring w g) → Shows clock value at_slot (can_find ring plan w g i) → IsMerge found at_slot new → Shows clock value new (found_by ring u g)
   read_shows i found at_slot new h s t m =
       let a = answered ring plan w u (Read g i) r h in
       let met = all_met (guards ring plan w (Read g i)) a.0 in
       let all = can_fit ring plan w g i reached in
-      let latest_too : Shows clock at_slot (λ v. has v (finds ring plan w g i)) = shows_latest w clock at_slot (can_find ring plan w g i) made (λ v e. (all v e).0) (one_key w g (can_find ring plan w g i) all) t in
-      other_test clock new (λ v. found_by ring w g v || has v (finds ring plan w g i)) (found_by ring u g)
+      let latest_too : Shows clock value at_slot (λ v. has v (finds ring plan w g i)) = shows_latest w clock value at_slot (can_find ring plan w g i) made (λ v e. (all v e).0) (one_key w g (can_find ring plan w g i) all) t in
+      other_test clock value new (λ v. found_by ring w g v || has v (finds ring plan w g i)) (found_by ring u g)
       (λ v. sym (of_read ring plan w g i v met) ∙ ap (λ (z : World). found_by ring z g v) a.1)
-      (merge clock found at_slot new (found_by ring w g) (λ v. has v (finds ring plan w g i)) s latest_too m)
+      (merge clock value found at_slot new (found_by ring w g) (λ v. has v (finds ring plan w g i)) s latest_too m)
 
-  pub read_reply : (i : ℕ) (at_slot : List Version) (ns : List ℕ) → answer ring plan w (Read g i) ≡ Ok (u, r) → Shows clock at_slot (can_find ring plan w g i) → ArePuts at_slot ns → r ≡ reply.Found ns
+  pub read_reply : (i : ℕ) (at_slot : List Version) (ns : List ℕ) → answer ring plan w (Read g i) ≡ Ok (u, r) → Shows clock value at_slot (can_find ring plan w g i) → ArePuts at_slot ns → r ≡ reply.Found ns
   read_reply i at_slot ns h t p =
       let a = answered ring plan w u (Read g i) r h in
       let all = can_fit ring plan w g i reached in
-      sym a.2 ∙ ap (λ (z : List ℕ). reply.Found z) (sym (numbers w clock at_slot (can_find ring plan w g i) made (λ v e. (all v e).0) (one_key w g (can_find ring plan w g i) all) t ns p))
+      sym a.2 ∙ ap (λ (z : List ℕ). reply.Found z) (sym (numbers w clock value at_slot (can_find ring plan w g i) made (λ v e. (all v e).0) (one_key w g (can_find ring plan w g i) all) t ns p))
 
 -- ---- the end of a get
 
@@ -143,22 +143,22 @@ of_end : (ring : RingValue) (plan : List Planned) (w : World) (g v : ℕ) → Al
 unfolding guards effect
 of_end ring plan w g v met = end_replied w.gets g v (answers ring w g) (ltb-true g (length w.gets) met.0)
 
-module _ (ring : RingValue) (plan : List Planned) (w u : World) (clock : ℕ → List Entry) (g : ℕ) (r : Reply) (found : List Version) (reached : Reached ring plan w) (made : AreClocksOf w clock) (h : answer ring plan w (EndGet g) ≡ Ok (u, r)) (s : Shows clock found (found_by ring w g)) where
+module _ (ring : RingValue) (plan : List Planned) (w u : World) (clock : ℕ → List Entry) (value : ℕ → List ℕ) (g : ℕ) (r : Reply) (found : List Version) (reached : Reached ring plan w) (made : AreClocksOf w clock) (h : answer ring plan w (EndGet g) ≡ Ok (u, r)) (s : Shows clock value found (found_by ring w g)) where
   all : (v : ℕ) → found_by ring w g v ≡ true → IsPutForGet w g v
   all = found_fits ring plan w g reached
 
-  pub end_shows : Shows clock found (replied u.gets g)
+  pub end_shows : Shows clock value found (replied u.gets g)
   end_shows =
       let a = answered ring plan w u (EndGet g) r h in
       let met = all_met (guards ring plan w (EndGet g)) a.0 in
-      other_test clock found (λ v. has v (answers ring w g)) (replied u.gets g)
+      other_test clock value found (λ v. has v (answers ring w g)) (replied u.gets g)
       (λ v. sym (of_end ring plan w g v met) ∙ ap (λ (z : World). replied z.gets g v) a.1)
-      (shows_latest w clock found (found_by ring w g) made (λ v e. (all v e).0) (one_key w g (found_by ring w g) all) s)
+      (shows_latest w clock value found (found_by ring w g) made (λ v e. (all v e).0) (one_key w g (found_by ring w g) all) s)
 
   pub end_reply : (ns : List ℕ) → ArePuts found ns → r ≡ reply.Answer ns
   end_reply ns p =
       let a = answered ring plan w u (EndGet g) r h in
-      sym a.2 ∙ ap (λ (z : List ℕ). reply.Answer z) (sym (numbers w clock found (found_by ring w g) made (λ v e. (all v e).0) (one_key w g (found_by ring w g) all) s ns p))
+      sym a.2 ∙ ap (λ (z : List ℕ). reply.Answer z) (sym (numbers w clock value found (found_by ring w g) made (λ v e. (all v e).0) (one_key w g (found_by ring w g) all) s ns p))
 
 -- ---- other events
 

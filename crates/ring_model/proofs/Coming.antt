@@ -10,6 +10,7 @@ use Rattle.ring_clock.specs.declared.entry.Entry.{Entry}
 use Rattle.ring_versions.specs.declared.version.Version.{Version}
 use Rattle.plan_check.specs.World.{World, is_of_key, copy_at, stage_now}
 use Rattle.plan_check.specs.Effects.{with_puts, with_mirror_puts, served_puts, is_copied, copied_puts}
+use Rattle.ring_model.specs.Shows.{value_of}
 use Rattle.ring_model.specs.Stored.{ShowAll, MergeAll, at_node, at_mirror, at_served, copied}
 use Rattle.ring_model.proofs.Showing.{merge, other_test}
 
@@ -27,9 +28,9 @@ of_both false false false = refl
 pub grown : (w : World) (clock : ℕ → List Entry) (old more new : ℕ → Slot → List ℕ → List Version) (test extra : ℕ → Slot → ℕ → Bool) → ShowAll w clock old test → ShowAll w clock more extra → MergeAll old more new
     → ShowAll w clock new (λ x s v. extra x s v || test x s v)
 grown w clock old more new test extra a b m x s k =
-    other_test clock (new x s k) (λ v. (test x s v && is_of_key w k v) || (extra x s v && is_of_key w k v)) (λ v. (extra x s v || test x s v) && is_of_key w k v)
+    other_test clock (value_of w) (new x s k) (λ v. (test x s v && is_of_key w k v) || (extra x s v && is_of_key w k v)) (λ v. (extra x s v || test x s v) && is_of_key w k v)
     (λ v. of_both (test x s v) (extra x s v) (is_of_key w k v))
-    (merge clock (old x s k) (more x s k) (new x s k) (λ v. test x s v && is_of_key w k v) (λ v. extra x s v && is_of_key w k v) (a x s k) (b x s k) (m x s k))
+    (merge clock (value_of w) (old x s k) (more x s k) (new x s k) (λ v. test x s v && is_of_key w k v) (λ v. extra x s v && is_of_key w k v) (a x s k) (b x s k) (m x s k))
 
 -- ---- what comes stands in front of what was there
 

@@ -22,9 +22,9 @@ in_replies gets (x ∷ gs) g v h e = elim (either (g == x) (has g gs) h) [
   | inr f ↦ second_of_two (replied gets x v) (some_replied gets gs v) (in_replies gets gs g v f e)
 ]
 
-pub join_is : (w : World) (clock : ℕ → List Entry) (found : ℕ → List Version) (seen : List ℕ) (last : Option ℕ) (d : List Entry) → ((g : ℕ) → has g seen ≡ true → Shows clock (found g) (replied w.gets g))
+pub join_is : (w : World) (clock : ℕ → List Entry) (value : ℕ → List ℕ) (found : ℕ → List Version) (seen : List ℕ) (last : Option ℕ) (d : List Entry) → ((g : ℕ) → has g seen ≡ true → Shows clock value (found g) (replied w.gets g))
     → IsJoinOfFound clock found seen last d → IsJoinOf clock (IsInputOf w seen last) d
-join_is w clock found seen last d shows j = record {
+join_is w clock value found seen last d shows j = record {
   above = λ v h. elim h [
     | inl e ↦ (
         let g = some_reply w.gets seen v e in

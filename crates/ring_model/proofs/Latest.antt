@@ -33,15 +33,15 @@ apart_two (z ∷ zs) a x y h k = elim h [
 ]
 
 -- no put that is shown has a greater clock than a version's
-no_greater : (clock : ℕ → List Entry) (held : List Version) (test : ℕ → Bool) → Shows clock held test → (x : Version) → IsIn x held → (v : ℕ) → test v ≡ true → IsAtMost x.clock (clock v) → IsAtMost (clock v) x.clock
-no_greater clock held test s x h v t le =
+no_greater : (clock : ℕ → List Entry) (value : ℕ → List ℕ) (held : List Version) (test : ℕ → Bool) → Shows clock value held test → (x : Version) → IsIn x held → (v : ℕ) → test v ≡ true → IsAtMost x.clock (clock v) → IsAtMost (clock v) x.clock
+no_greater clock value held test s x h v t le =
     let c = s.covers v t in
     elim (apart_two held s.apart x c.0 h c.1) [
       | inl e ↦ subst (λ (z : Version). IsAtMost (clock v) z.clock) (sym e) c.2
       | inr two ↦ absurd (two.0 (λ w. (let a = le w in let b = c.2 w in omega arith)))
     ]
 
-module _ (w : World) (clock : ℕ → List Entry) (held : List Version) (test : ℕ → Bool) (made : AreClocksOf w clock) (are : ArePutsOf w test) (one_key : OfOneKey w test) (s : Shows clock held test) where
+module _ (w : World) (clock : ℕ → List Entry) (value : ℕ → List ℕ) (held : List Version) (test : ℕ → Bool) (made : AreClocksOf w clock) (are : ArePutsOf w test) (one_key : OfOneKey w test) (s : Shows clock value held test) where
   abbrev ps : List ℕ
   ps = passing_below (length w.puts) test
 
@@ -54,7 +54,7 @@ module _ (w : World) (clock : ℕ → List Entry) (held : List Version) (test : 
       is_latest w ps x.put (is_below (length w.puts) test x.put (are x.put d.0) d.0) (λ u e ne succeeds.
       let t = (below_is (length w.puts) test u e).1 in
       let le : IsAtMost x.clock (clock u) = subst (λ (c : List Entry). IsAtMost c (clock u)) (sym d.1) ((ordered u x.put t d.0).1 succeeds) in
-      let back : IsAtMost (clock u) (clock x.put) = subst (λ (c : List Entry). IsAtMost (clock u) c) d.1 (no_greater clock held test s x h u t le) in
+      let back : IsAtMost (clock u) (clock x.put) = subst (λ (c : List Entry). IsAtMost (clock u) c) d.1 (no_greater clock value held test s x h u t le) in
       let l = not_less w u x.put succeeds in
       let m = not_less w x.put u ((ordered x.put u d.0 t).0 back) in
       let f : (u == x.put) ≡ true = eq-eqb u x.put (omega arith) in
@@ -78,9 +78,9 @@ module _ (w : World) (clock : ℕ → List Entry) (held : List Version) (test : 
       (λ m e. (let o = p.only m e in subst (λ (z : ℕ). has z (latest w ps) ≡ true) o.2 (shown_latest o.0 o.1)))
       (λ m e. (let x = latest_shown m e in subst (λ (z : ℕ). has z ns ≡ true) x.2 (p.each x.0 x.1)))
 
-  pub shows_latest : Shows clock held (λ v. has v (latest w ps))
+  pub shows_latest : Shows clock value held (λ v. has v (latest w ps))
   shows_latest = record {
-    drawn = λ x h. (shown_latest x h, (s.drawn x h).1);
+    drawn = λ x h. (let d = s.drawn x h in (shown_latest x h, d.1, d.2));
     covers = λ v h. s.covers v (below_is (length w.puts) test v (latest_is w ps v h).0).1;
     apart = s.apart;
   }

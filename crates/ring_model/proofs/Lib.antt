@@ -7,4 +7,5 @@ pub mod Inputs
 pub mod Asked
 pub mod Held
 pub mod Coming
+pub mod Values
 pub mod Lasting

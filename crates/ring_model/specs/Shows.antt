@@ -1,13 +1,17 @@
 -- What a set of versions shows of a set of puts.
-use Rattle.std.specs.Prelude.{◌≡◌, ℕ, ◌<◌, Bool, true, List, length}
+use Rattle.std.specs.Prelude.{◌≡◌, ℕ, ◌<◌, Bool, true, List, [], length, Some, None, slice_get}
 use Rattle.ring_clock.specs.declared.entry.Entry.{Entry}
 use Rattle.ring_versions.specs.declared.version.Version.{Version}
 use Rattle.ring_versions.specs.Versions.{IsIn, Covers, IsApart}
 use Rattle.plan_check.specs.World.{World, key_of_put}
 
--- a set of versions without ancestors shows a set of puts: each version is one of them with its clock, each of them is covered
-pub record Shows (clock : ℕ → List Entry) (held : List Version) (test : ℕ → Bool) : Type 0 where
-  pub drawn : (x : Version) → IsIn x held → (test x.put ≡ true) × (x.clock ≡ clock x.put)
+-- the put's value
+abbrev pub value_of : World → ℕ → List ℕ
+value_of w v = elim (slice_get w.puts v) [ Some x ↦ x.value | None ↦ [] ]
+
+-- a set of versions without ancestors shows a set of puts: each version is one of them with its clock and its value, each of them is covered
+pub record Shows (clock : ℕ → List Entry) (value : ℕ → List ℕ) (held : List Version) (test : ℕ → Bool) : Type 0 where
+  pub drawn : (x : Version) → IsIn x held → (test x.put ≡ true) × (x.clock ≡ clock x.put) × (x.value ≡ value x.put)
   pub covers : (v : ℕ) → test v ≡ true → Covers held (clock v)
   pub apart : IsApart held
 

@@ -11,13 +11,13 @@ use Rattle.ring_versions.specs.Versions.{IsMerge}
 use Rattle.plan_check.specs.World.{World, is_of_key, copy_at, stage_now}
 use Rattle.plan_check.specs.Versions.{put_slot}
 use Rattle.plan_check.specs.Effects.{is_copied}
-use Rattle.ring_model.specs.Shows.{Shows}
+use Rattle.ring_model.specs.Shows.{Shows, value_of}
 
 -- ---- versions by node, slot and key
 
 -- for each node, slot and key the versions there show the puts of the key that are there
 abbrev pub ShowAll : World → (ℕ → List Entry) → (ℕ → Slot → List ℕ → List Version) → (ℕ → Slot → ℕ → Bool) → Type 0
-ShowAll w clock held test = (x : ℕ) (slot : Slot) (key : List ℕ) → Shows clock (held x slot key) (λ v. test x slot v && is_of_key w key v)
+ShowAll w clock held test = (x : ℕ) (slot : Slot) (key : List ℕ) → Shows clock (value_of w) (held x slot key) (λ v. test x slot v && is_of_key w key v)
 
 -- for each of them the new versions are a merge of the old ones and of those that come
 abbrev pub MergeAll : (ℕ → Slot → List ℕ → List Version) → (ℕ → Slot → List ℕ → List Version)

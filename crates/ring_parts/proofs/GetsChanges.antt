@@ -23,11 +23,11 @@ use Rattle.plan_check.proofs.Answered.{answered}
 use Rattle.plan_check.proofs.Changed.{length_changed, part_changed}
 use Rattle.plan_check.proofs.Passed.{all_met}
 use Rattle.plan_stage.proofs.Truth.{not_is}
-use Rattle.ring_model.specs.Shows.{Shows}
+use Rattle.ring_model.specs.Shows.{Shows, value_of}
 use Rattle.ring_model.specs.Clocks.{AreClocksOf}
 use Rattle.ring_model.specs.Gets.{can_find, found_by}
 use Rattle.ring_model.proofs.Asked.{read_shows, end_shows, end_reply, get_stays}
-use Rattle.ring_model.proofs.Showing.{none, other_test}
+use Rattle.ring_model.proofs.Showing.{none, other_test, other_value}
 use Rattle.ring_state.specs.declared.gets.GetNow.{GetNow}
 use Rattle.ring_state.specs.Marks.{has_mark, with_mark}
 use Rattle.ring_state.specs.Gets.{is_read}
@@ -53,15 +53,15 @@ pub some_none : (n : ℕ) (f : ℕ → Bool) → ((i : ℕ) → f i ≡ false) �
 some_none zero f e = refl
 some_none (suc n) f e = rw (some_none n f e, e n) refl
 
--- a get of which nothing changes stays the same
+-- a get of which nothing changes stays the same where all puts have the same values
 stays_get : (ring : RingValue) (clock : ℕ → List Entry) (keys : List (List ℕ)) (w u : World) (h : ℕ) (get : GetNow) (x : GetRecord)
-    → ((v : ℕ) → (found_by ring u h v ≡ found_by ring w h v) × (replied u.gets h v ≡ replied w.gets h v)) → GetMeets ring clock w keys h get x → GetMeets ring clock u keys h get x
-stays_get ring clock keys w u h get x same p = record {
+    → ((v : ℕ) → (found_by ring u h v ≡ found_by ring w h v) × (replied u.gets h v ≡ replied w.gets h v)) → ((v : ℕ) → value_of u v ≡ value_of w v) → GetMeets ring clock w keys h get x → GetMeets ring clock u keys h get x
+stays_get ring clock keys w u h get x same values p = record {
   key = p.key;
   reads = p.reads;
-  found = other_test clock get.found (found_by ring w h) (found_by ring u h) (λ v. sym (same v).0) p.found;
+  found = other_test clock (value_of u) get.found (found_by ring w h) (found_by ring u h) (λ v. sym (same v).0) (other_value clock (value_of w) (value_of u) get.found (found_by ring w h) (λ v t. values v) p.found);
   reply = p.reply;
-  answered = λ e. other_test clock get.found (replied w.gets h) (replied u.gets h) (λ v. sym (same v).1) (p.answered e);
+  answered = λ e. other_test clock (value_of u) get.found (replied w.gets h) (replied u.gets h) (λ v. sym (same v).1) (other_value clock (value_of w) (value_of u) get.found (replied w.gets h) (λ v t. values v) (p.answered e));
 }
 
 apart : (h g : ℕ) → h ≢ g → (h == g) ≡ false
@@ -82,11 +82,12 @@ gets_started ring plan w u key r clock keys gets get h of unread empty blank m =
     let a = answered ring plan w u (StartGet key) r h in
     let is : u.gets ≡ w.gets ++ x ∷ [] = ap (λ (z : World). z.gets) (sym a.1) in
     let same : (g v : ℕ) → (found_by ring u g v ≡ found_by ring w g v) × (replied u.gets g v ≡ replied w.gets g v) = λ g. get_stays ring plan w u (StartGet key) r g h refl in
+    let values : (v : ℕ) → value_of u v ≡ value_of w v = λ v. ap (λ (z : World). value_of z v) (sym a.1) in
     let fresh : (g : ℕ) → g ≡ length w.gets → GetMeets ring clock u keys g get x = λ g e. record {
       key = of;
       reads = unread;
-      found = subst (λ (vs : List Version). Shows clock vs (found_by ring u g)) (sym empty)
-          (other_test clock [] (λ v. false) (found_by ring u g) (λ v. sym (past_found ring w g v (slice_get_past w.gets g (omega arith))) ∙ sym (same g v).0) (none clock));
+      found = subst (λ (vs : List Version). Shows clock (value_of u) vs (found_by ring u g)) (sym empty)
+          (other_test clock (value_of u) [] (λ v. false) (found_by ring u g) (λ v. sym (past_found ring w g v (slice_get_past w.gets g (omega arith))) ∙ sym (same g v).0) (none clock (value_of u)));
       reply = blank;
       answered = λ t. absurd cc;
     } in
@@ -99,7 +100,7 @@ gets_started ring plan w u key r clock keys gets get h of unread empty blank m =
         ]
         | inr s ↦ elim (appended_at w.gets x g y (ap (λ (xs : List GetRecord). slice_get xs g) (sym is) ∙ c)) [
           | inl t ↦ absurd (let l = s.0 in let e = t.0 in let f = m.each in omega arith)
-          | inr t ↦ stays_get ring clock keys w u g now y (same g) (m.at g now y s.1 t.1)
+          | inr t ↦ stays_get ring clock keys w u g now y (same g) values (m.at g now y s.1 t.1)
         ]
       ];
     }
@@ -107,11 +108,11 @@ gets_started ring plan w u key r clock keys gets get h of unread empty blank m =
 -- ---- one get changes
 
 -- the gets that are kept are those of the world where one is changed here and there alike
-changes : (ring : RingValue) (clock : ℕ → List Entry) (keys : List (List ℕ)) (gets : List GetNow) (w u : World) (n : ℕ) (f : GetNow → GetNow) (h : GetRecord → GetRecord) → u.gets ≡ changed w.gets n h
+changes : (ring : RingValue) (clock : ℕ → List Entry) (keys : List (List ℕ)) (gets : List GetNow) (w u : World) (n : ℕ) (f : GetNow → GetNow) (h : GetRecord → GetRecord) → u.gets ≡ changed w.gets n h → ((v : ℕ) → value_of u v ≡ value_of w v)
     → ((g : ℕ) → (g == n) ≡ false → (v : ℕ) → (found_by ring u g v ≡ found_by ring w g v) × (replied u.gets g v ≡ replied w.gets g v))
     → ((get : GetNow) (x : GetRecord) → slice_get gets n ≡ Some get → slice_get w.gets n ≡ Some x → GetMeets ring clock w keys n get x → GetMeets ring clock u keys n (f get) (h x))
     → GetsMeet ring clock keys gets w → GetsMeet ring clock keys (changed gets n f) u
-changes ring clock keys gets w u n f h is same both m = record {
+changes ring clock keys gets w u n f h is values same both m = record {
   each = length_changed gets n f ∙ m.each ∙ sym (length_changed w.gets n h) ∙ sym (ap (λ (xs : List GetRecord). length xs) is);
   at = λ g get x a b. elim (changed_at gets n g f get a) [
     | inl s ↦ elim (changed_at w.gets n g h x (ap (λ (xs : List GetRecord). slice_get xs g) (sym is) ∙ b)) [
@@ -123,7 +124,7 @@ changes ring clock keys gets w u n f h is same both m = record {
     ]
     | inr s ↦ elim (changed_at w.gets n g h x (ap (λ (xs : List GetRecord). slice_get xs g) (sym is) ∙ b)) [
       | inl t ↦ absurd (s.0 t.1)
-      | inr t ↦ stays_get ring clock keys w u g get x (same g (apart g n s.0)) (m.at g get x s.1 t.1)
+      | inr t ↦ stays_get ring clock keys w u g get x (same g (apart g n s.0)) values (m.at g get x s.1 t.1)
     ]
   ];
 }
@@ -140,14 +141,15 @@ read_more false c o vs e = e
 -- the get has read the slot, and found a merge of what it had found and of what shows the slot's puts of its key
 pub gets_read : (ring : RingValue) (plan : List Planned) (w u : World) (g i : ℕ) (r : Reply) (clock : ℕ → List Entry) (keys : List (List ℕ)) (gets : List GetNow) (get : GetNow) (at_slot new : List Version)
     → Reached ring plan w → AreClocksOf w clock → answer ring plan w (Read g i) ≡ Ok (u, r) → i < 7 → slice_get gets g ≡ Some get
-    → Shows clock at_slot (can_find ring plan w g i) → IsMerge get.found at_slot new
+    → Shows clock (value_of w) at_slot (can_find ring plan w g i) → IsMerge get.found at_slot new
     → GetsMeet ring clock keys gets w → GetsMeet ring clock keys (changed gets g (λ x. record x { read = with_mark x.read i; found = new })) u
 unfolding effect guards
 gets_read ring plan w u g i r clock keys gets get at_slot new reached made h small there shows merge m =
     let a = answered ring plan w u (Read g i) r h in
+    let values : (v : ℕ) → value_of u v ≡ value_of w v = λ v. ap (λ (z : World). value_of z v) (sym a.1) in
     let going : has_ended w g ≡ false = not_is (has_ended w g) (all_met (guards ring plan w (Read g i)) a.0).1.0 in
     changes ring clock keys gets w u g (λ x. record x { read = with_mark x.read i; found = new }) (λ x. record x { found = with_value x.found i (finds ring plan w g i) })
-    (ap (λ (z : World). z.gets) (sym a.1))
+    (ap (λ (z : World). z.gets) (sym a.1)) values
     (λ k ne. get_stays ring plan w u (Read g i) r k h ne)
     (λ now x b c p. (
     let is : Some now ≡ Some get = sym b ∙ there in
@@ -155,7 +157,8 @@ gets_read ring plan w u g i r clock keys gets get at_slot new reached made h sma
     record {
       key = p.key;
       reads = λ j. has_with now.read i j (omega arith) ∙ read_more (j == i) (has_mark now.read j) (x.found j) (finds ring plan w g i) (p.reads j);
-      found = read_shows ring plan w u clock g r reached made i now.found at_slot new h p.found shows (subst (λ (z : GetNow). IsMerge z.found at_slot new) (sym s) merge);
+      found = other_value clock (value_of w) (value_of u) new (found_by ring u g) (λ v t. values v)
+          (read_shows ring plan w u clock (value_of w) g r reached made i now.found at_slot new h p.found shows (subst (λ (z : GetNow). IsMerge z.found at_slot new) (sym s) merge));
       reply = p.reply;
       answered = λ e. absurd (let f = ended_is w g x c in cc);
     }))
@@ -174,7 +177,7 @@ pub gets_answered : (ring : RingValue) (plan : List Planned) (w u : World) (g : 
     → Reached ring plan w → AreClocksOf w clock → answer ring plan w (EndGet g) ≡ Ok (u, r) → slice_get gets g ≡ Some get → ArePuts get.found ns → GetsMeet ring clock keys gets w → r ≡ reply.Answer ns
 gets_answered ring plan w u g r clock keys gets get ns reached made h there puts m =
     let x = kept_get ring clock keys gets w g get m there in
-    end_reply ring plan w u clock g r get.found reached made h x.2.found ns puts
+    end_reply ring plan w u clock (value_of w) g r get.found reached made h x.2.found ns puts
 
 -- and these are its reply
 pub gets_ended : (ring : RingValue) (plan : List Planned) (w u : World) (g : ℕ) (r : Reply) (clock : ℕ → List Entry) (keys : List (List ℕ)) (gets : List GetNow) (get : GetNow) (ns : List ℕ)
@@ -185,15 +188,16 @@ gets_ended ring plan w u g r clock keys gets get ns reached made h there puts m 
     let a = answered ring plan w u (EndGet g) r h in
     let said : reply.Answer (answers ring w g) ≡ reply.Answer ns = a.2 ∙ gets_answered ring plan w u g r clock keys gets get ns reached made h there puts m in
     let same : answers ring w g ≡ ns = cc in
+    let values : (v : ℕ) → value_of u v ≡ value_of w v = λ v. ap (λ (z : World). value_of z v) (sym a.1) in
     changes ring clock keys gets w u g (λ x. record x { reply = Some ns }) (λ x. record x { reply = Some (answers ring w g) })
-    (ap (λ (z : World). z.gets) (sym a.1))
+    (ap (λ (z : World). z.gets) (sym a.1)) values
     (λ k ne. get_stays ring plan w u (EndGet g) r k h ne)
     (λ now x b c p. record {
       key = p.key;
       reads = p.reads;
-      found = subst (λ (z : World). Shows clock now.found (found_by ring z g)) a.1
-          (other_test clock now.found (found_by ring w g) (found_by ring (effect ring plan w (EndGet g)) g) (λ v. sym (found_ended ring w g (answers ring w g) v)) p.found);
+      found = subst (λ (z : World). Shows clock (value_of z) now.found (found_by ring z g)) a.1
+          (other_test clock (value_of w) now.found (found_by ring w g) (found_by ring (effect ring plan w (EndGet g)) g) (λ v. sym (found_ended ring w g (answers ring w g) v)) p.found);
       reply = ap (λ (vs : List ℕ). Some vs) (sym same);
-      answered = λ e. end_shows ring plan w u clock g r now.found reached made h p.found;
+      answered = λ e. other_value clock (value_of w) (value_of u) now.found (replied u.gets g) (λ v t. values v) (end_shows ring plan w u clock (value_of w) g r now.found reached made h p.found);
     })
     m

@@ -1,5 +1,5 @@
 -- Gets that are kept meet the world at its start, and stay its gets through events that change no get, where keys come and where one more put has a clock.
-use Rattle.std.proofs.Common.{◌≡◌, ◌∙◌, ℕ, ◌<◌, false, List, [], ◌∷◌, ◌++◌, length, refl, sym, ap, subst}
+use Rattle.std.proofs.Common.{◌≡◌, ◌∙◌, ℕ, ◌<◌, true, false, List, [], ◌∷◌, ◌++◌, length, refl, sym, ap, subst}
 use Rattle.std.specs.Prelude.{Option, Some, None, Ok, slice_get}
 use Rattle.ring_table.specs.Value.{RingValue}
 use Rattle.ring_clock.specs.declared.entry.Entry.{Entry}
@@ -17,9 +17,10 @@ use Rattle.plan_check.specs.Answers.{answer}
 use Rattle.plan_check.specs.Reached.{Reached}
 use Rattle.plan_check.proofs.Answered.{answered}
 use Rattle.plan_check.proofs.Passing.{some_found}
-use Rattle.ring_model.specs.Shows.{Shows}
+use Rattle.ring_model.specs.Shows.{Shows, value_of}
 use Rattle.ring_model.specs.Gets.{found_by}
-use Rattle.ring_model.proofs.Showing.{other_clock}
+use Rattle.ring_model.proofs.Showing.{other_clock, other_value}
+use Rattle.ring_model.proofs.Values.{values_stay}
 use Rattle.ring_state.specs.declared.gets.GetNow.{GetNow}
 use Rattle.ring_parts.specs.Gets.{GetsMeet}
 use Rattle.ring_parts.specs.GetsChange.{changes_gets}
@@ -34,18 +35,25 @@ gets_open ring clock keys = record {
 
 -- ---- events that change no get
 
--- the gets that are kept are those of each world that has the same records
-pub gets_as_before : (ring : RingValue) (clock : ℕ → List Entry) (keys : List (List ℕ)) (gets : List GetNow) (w u : World) → u.gets ≡ w.gets → GetsMeet ring clock keys gets w → GetsMeet ring clock keys gets u
-gets_as_before ring clock keys gets w u same m = record {
+-- what a get found, and what its reply had, are puts of the world
+found_there : (ring : RingValue) (plan : List Planned) (w : World) (g v : ℕ) → Reached ring plan w → found_by ring w g v ≡ true → v < length w.puts
+found_there ring plan w g v reached h = (let s = some_found ring.n (has_found w g v) h in (reached.found g s.0 v s.2).0)
+
+-- the gets that are kept are those of each world that has the same records, and the values of the puts that are there
+pub gets_as_before : (ring : RingValue) (plan : List Planned) (clock : ℕ → List Entry) (keys : List (List ℕ)) (gets : List GetNow) (w u : World)
+    → Reached ring plan w → u.gets ≡ w.gets → ((v : ℕ) → v < length w.puts → value_of u v ≡ value_of w v) → GetsMeet ring clock keys gets w → GetsMeet ring clock keys gets u
+gets_as_before ring plan clock keys gets w u reached same values m = record {
   each = m.each ∙ sym (ap (λ (xs : List GetRecord). length xs) same);
   at = λ g get x a b. (
       let p = m.at g get x a (ap (λ (xs : List GetRecord). slice_get xs g) (sym same) ∙ b) in
       record {
         key = p.key;
         reads = p.reads;
-        found = subst (λ (xs : List GetRecord). Shows clock get.found (found_by ring (record w { gets = xs }) g)) (sym same) p.found;
+        found = subst (λ (xs : List GetRecord). Shows clock (value_of u) get.found (found_by ring (record w { gets = xs }) g)) (sym same)
+            (other_value clock (value_of w) (value_of u) get.found (found_by ring w g) (λ v h. values v (found_there ring plan w g v reached h)) p.found);
         reply = p.reply;
-        answered = λ h. subst (λ (xs : List GetRecord). Shows clock get.found (replied xs g)) (sym same) (p.answered h);
+        answered = λ h. subst (λ (xs : List GetRecord). Shows clock (value_of u) get.found (replied xs g)) (sym same)
+            (other_value clock (value_of w) (value_of u) get.found (replied w.gets g) (λ v k. values v (reached.replied g v k).0) (p.answered h));
       });
 }
 
@@ -80,10 +88,10 @@ same_gets ring plan w (Lose x) c = refl
 
 -- the gets that are kept stay those of the world through each event that changes no get
 pub gets_stay : (ring : RingValue) (plan : List Planned) (w u : World) (e : Event) (r : Reply) (clock : ℕ → List Entry) (keys : List (List ℕ)) (gets : List GetNow)
-    → answer ring plan w e ≡ Ok (u, r) → changes_gets e ≡ false → GetsMeet ring clock keys gets w → GetsMeet ring clock keys gets u
-gets_stay ring plan w u e r clock keys gets h none m =
+    → Reached ring plan w → answer ring plan w e ≡ Ok (u, r) → changes_gets e ≡ false → GetsMeet ring clock keys gets w → GetsMeet ring clock keys gets u
+gets_stay ring plan w u e r clock keys gets reached h none m =
     let a = answered ring plan w u e r h in
-    gets_as_before ring clock keys gets w u (ap (λ (z : World). z.gets) (sym a.1) ∙ same_gets ring plan w e none) m
+    gets_as_before ring plan clock keys gets w u reached (ap (λ (z : World). z.gets) (sym a.1) ∙ same_gets ring plan w e none) (values_stay ring plan w u e r h) m
 
 -- ---- keys and clocks that come
 
@@ -108,8 +116,8 @@ gets_stay_with_clocks ring plan clock other keys gets w reached same m = record 
   at = λ g get x a b. (let p = m.at g get x a b in record {
     key = p.key;
     reads = p.reads;
-    found = other_clock clock other get.found (found_by ring w g) (λ v h. same v (let s = some_found ring.n (has_found w g v) h in (reached.found g s.0 v s.2).0)) p.found;
+    found = other_clock clock other (value_of w) get.found (found_by ring w g) (λ v h. same v (found_there ring plan w g v reached h)) p.found;
     reply = p.reply;
-    answered = λ h. other_clock clock other get.found (replied w.gets g) (λ v k. same v (reached.replied g v k).0) (p.answered h);
+    answered = λ h. other_clock clock other (value_of w) get.found (replied w.gets g) (λ v k. same v (reached.replied g v k).0) (p.answered h);
   });
 }

@@ -25,7 +25,7 @@ use Rattle.plan_check.specs.Reached.{Reached}
 use Rattle.plan_check.proofs.Answered.{answered}
 use Rattle.plan_check.proofs.Changed.{part_before, part_new, part_past}
 use Rattle.plan_check.proofs.Passed.{all_met, among}
-use Rattle.ring_model.specs.Shows.{Shows, ArePutsOf}
+use Rattle.ring_model.specs.Shows.{Shows, ArePutsOf, value_of}
 use Rattle.ring_model.specs.Clocks.{AreClocksOf, IsOwn, IsLastOf, IsInputOf}
 use Rattle.ring_model.specs.Found.{IsJoinOfFound}
 use Rattle.ring_model.specs.Stored.{ShowAll}
@@ -66,23 +66,23 @@ clock_with_put puts put c is v = elim (eqb_tells v (length puts)) [
 
 -- the gets that a put names have ended, so what they found shows their replies
 pub seen_show : (ring : RingValue) (plan : List Planned) (w : World) (writer : WriterId) (key value seen : List ℕ) (clock : ℕ → List Entry) (keys : List (List ℕ)) (gets : List GetNow)
-    → first_failing (guards ring plan w (StartPut writer key value seen)) ≡ None → GetsMeet ring clock keys gets w → (g : ℕ) → has g seen ≡ true → Shows clock (found_at gets g) (replied w.gets g)
+    → first_failing (guards ring plan w (StartPut writer key value seen)) ≡ None → GetsMeet ring clock keys gets w → (g : ℕ) → has g seen ≡ true → Shows clock (value_of w) (found_at gets g) (replied w.gets g)
 unfolding guards
 seen_show ring plan w writer key value seen clock keys gets none m g named = by (slice_get w.gets g) refl (among (has_ended w) g seen (all_met (guards ring plan w (StartPut writer key value seen)) none).1.0 named)
   where
-    by : (o : Option GetRecord) → slice_get w.gets g ≡ o → is_some (elim o as (λ _. Option (List ℕ)) [ Some x ↦ x.reply | None ↦ None ]) ≡ true → Shows clock (found_at gets g) (replied w.gets g)
+    by : (o : Option GetRecord) → slice_get w.gets g ≡ o → is_some (elim o as (λ _. Option (List ℕ)) [ Some x ↦ x.reply | None ↦ None ]) ≡ true → Shows clock (value_of w) (found_at gets g) (replied w.gets g)
     by None e ended = absurd cc
     by (Some x) e ended = (
         let l = slice_get_within w.gets g x e in
         let s = m.each in
         let get = there gets g (omega arith) in
-        subst (λ (held : List Version). Shows clock held (replied w.gets g)) (ap (λ (o : Option GetNow). elim o as (λ _. List Version) [ Some y ↦ y.found | None ↦ [] ]) (sym get.1))
+        subst (λ (held : List Version). Shows clock (value_of w) held (replied w.gets g)) (ap (λ (o : Option GetNow). elim o as (λ _. List Version) [ Some y ↦ y.found | None ↦ [] ]) (sym get.1))
         ((m.at g get.0 x get.1 e).answered ended))
 
 -- the least clock above those of what they found and of the writer's last put is the join of the clocks of the put's inputs
 pub inputs_join : (ring : RingValue) (plan : List Planned) (w : World) (writer : WriterId) (key value seen : List ℕ) (clock : ℕ → List Entry) (keys : List (List ℕ)) (gets : List GetNow) (last : Option ℕ) (d : List Entry)
     → first_failing (guards ring plan w (StartPut writer key value seen)) ≡ None → GetsMeet ring clock keys gets w → IsJoinOfFound clock (found_at gets) seen last d → IsJoinOf clock (IsInputOf w seen last) d
-inputs_join ring plan w writer key value seen clock keys gets last d none m join = join_is w clock (found_at gets) seen last d (seen_show ring plan w writer key value seen clock keys gets none m) join
+inputs_join ring plan w writer key value seen clock keys gets last d none m join = join_is w clock (value_of w) (found_at gets) seen last d (seen_show ring plan w writer key value seen clock keys gets none m) join
 
 -- ---- last puts of writers
 
@@ -214,7 +214,7 @@ put_numbered ring plan w u writer key value seen r keys last puts h m = sym (ans
 pub gets_with_put : (ring : RingValue) (plan : List Planned) (w u : World) (writer : WriterId) (key value seen : List ℕ) (r : Reply) (keys : List (List ℕ)) (last : ℕ → ℕ → Option ℕ) (puts : List PutNow) (put : PutNow) (gets : List GetNow)
     → Reached ring plan w → answer ring plan w (StartPut writer key value seen) ≡ Ok (u, r) → PutsMeet keys last puts w → GetsMeet ring (clock_at puts) keys gets w → GetsMeet ring (clock_at (puts ++ put ∷ [])) keys gets u
 gets_with_put ring plan w u writer key value seen r keys last puts put gets reached h m g =
-    gets_stay ring plan w u (StartPut writer key value seen) r (clock_at (puts ++ put ∷ [])) keys gets h refl
+    gets_stay ring plan w u (StartPut writer key value seen) r (clock_at (puts ++ put ∷ [])) keys gets reached h refl
     (gets_stay_with_clocks ring plan (clock_at puts) (clock_at (puts ++ put ∷ [])) keys gets w reached (λ v l. clock_before puts put v (let e = m.each in omega arith)) g)
 
 -- versions by node, slot and key show what they showed, by the clocks with the put's
@@ -223,5 +223,5 @@ pub stored_with_put : (ring : RingValue) (plan : List Planned) (w u : World) (wr
     → answer ring plan w (StartPut writer key value seen) ≡ Ok (u, r) → ((x : ℕ) (s : Slot) → ArePutsOf w (test x s)) → PutsMeet keys last puts w → ShowAll w (clock_at puts) held test → ShowAll u (clock_at (puts ++ put ∷ [])) held test
 stored_with_put ring plan w u writer key value seen r keys last puts put held test h are m shows =
     all_stay ring plan w u (StartPut writer key value seen) r (clock_at (puts ++ put ∷ [])) held test h are
-    (λ x s k. other_clock (clock_at puts) (clock_at (puts ++ put ∷ [])) (held x s k) (λ v. test x s v && is_of_key w k v)
+    (λ x s k. other_clock (clock_at puts) (clock_at (puts ++ put ∷ [])) (value_of w) (held x s k) (λ v. test x s v && is_of_key w k v)
     (λ v e. clock_before puts put v (let l = are x s v (and_parts (test x s v) (is_of_key w k v) e).0 in let n = m.each in omega arith)) (shows x s k))

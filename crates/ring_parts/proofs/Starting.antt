@@ -12,7 +12,7 @@ use Rattle.plan_check.specs.World.{opening_world}
 use Rattle.ring_state.specs.Nodes.{node_at_start}
 use Rattle.ring_state.specs.Slots.{slot_now, slot_at_start}
 use Rattle.ring_state.specs.Steps.{step_at_start}
-use Rattle.ring_model.specs.Shows.{Shows}
+use Rattle.ring_model.specs.Shows.{Shows, value_of}
 use Rattle.ring_model.specs.Stored.{ShowAll}
 use Rattle.ring_model.proofs.Showing.{none}
 use Rattle.ring_clock.specs.declared.entry.Entry.{Entry}
@@ -30,7 +30,7 @@ use Rattle.ring_parts.proofs.HintsFit.{hints_open}
 
 -- no versions show no puts
 nothing : (ring : RingValue) (clock : ℕ → List Entry) (held : ℕ → Slot → List ℕ → List Version) → ((x : ℕ) (s : Slot) (key : List ℕ) → held x s key ≡ []) → ShowAll (opening_world ring) clock held (λ x s v. false)
-nothing ring clock held e x s key = subst (λ (vs : List Version). Shows clock vs (λ v. false)) (sym (e x s key)) (none clock)
+nothing ring clock held e x s key = subst (λ (vs : List Version). Shows clock (value_of (opening_world ring)) vs (λ v. false)) (sym (e x s key)) (none clock (value_of (opening_world ring)))
 
 pub tells_start : (ring : RingValue) (plan : List Planned) (k : Kept) → IsRing ring → IsPlan plan → IsApproved ring plan
     → k.nodes ≡ map node_at_start ring.nodes → k.steps ≡ replicate (length plan) step_at_start → ((t : Slot) → slot_now k.rows t ≡ option_map slot_at_start (owner_of ring t))

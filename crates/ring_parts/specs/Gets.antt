@@ -4,7 +4,7 @@ use Rattle.ring_clock.specs.declared.entry.Entry.{Entry}
 use Rattle.ring_table.specs.Value.{RingValue}
 use Rattle.plan_check.specs.World.{GetRecord, World}
 use Rattle.plan_check.specs.Succession.{replied}
-use Rattle.ring_model.specs.Shows.{Shows}
+use Rattle.ring_model.specs.Shows.{Shows, value_of}
 use Rattle.ring_model.specs.Gets.{found_by}
 use Rattle.ring_state.specs.declared.gets.GetNow.{GetNow}
 use Rattle.ring_state.specs.Gets.{is_read}
@@ -13,10 +13,10 @@ use Rattle.ring_state.specs.Gets.{is_read}
 pub record GetMeets (ring : RingValue) (clock : ℕ → List Entry) (w : World) (keys : List (List ℕ)) (g : ℕ) (get : GetNow) (x : GetRecord) : Type 0 where
   pub key : slice_get keys get.key ≡ Some x.key
   pub reads : (i : ℕ) → is_read get i ≡ is_some (x.found i)
-  pub found : Shows clock get.found (found_by ring w g)
+  pub found : Shows clock (value_of w) get.found (found_by ring w g)
   pub reply : get.reply ≡ x.reply
   -- once it has ended, what it found shows its reply
-  pub answered : is_some x.reply ≡ true → Shows clock get.found (replied w.gets g)
+  pub answered : is_some x.reply ≡ true → Shows clock (value_of w) get.found (replied w.gets g)
 
 -- they are the gets
 pub record GetsMeet (ring : RingValue) (clock : ℕ → List Entry) (keys : List (List ℕ)) (gets : List GetNow) (w : World) : Type 0 where

@@ -19,5 +19,8 @@ returns-clause-other_test c = showing.other_test
 pub returns-clause-other_clock : goal.returns-clause-other_clock
 returns-clause-other_clock c = showing.other_clock
 
+pub returns-clause-other_value : goal.returns-clause-other_value
+returns-clause-other_value c = showing.other_value
+
 pub returns-clause-new_clock : goal.returns-clause-new_clock
 returns-clause-new_clock c = showing.new_clock
