@@ -1,6 +1,6 @@
 -- Partitions in shares: where shares begin, and what they come to together.
-use Rattle.std.proofs.Common.{◌≡◌, ℕ, suc, zero, ◌+◌, ◌-◌, ◌*◌, ◌/◌, ◌<◌, ◌≤◌, List, [], ◌∷◌, ◌++◌, refl, sym, ap, ◌∙◌, subst, arith, min, max, Result, Ok, Err}
-use Rattle.std.proofs.Math.Nat.{div-mul-le_self, mul-div_cancel_left, div-eq_of_lt-le, mul-le-mul_right}
+use Rattle.std.proofs.Common.{◌≡◌, ◌⊎◌, inl, inr, ℕ, suc, zero, ◌+◌, ◌-◌, ◌*◌, ◌/◌, ◌<◌, ◌≤◌, List, [], ◌∷◌, ◌++◌, refl, sym, ap, ◌∙◌, subst, arith, min, max, Result, Ok, Err}
+use Rattle.std.proofs.Math.Nat.{eq-or-lt_of_le, div-mul-le_self, mul-div_cancel_left, div-eq_of_lt-le, mul-le-mul_right}
 use Rattle.std.proofs.lemmas.Nat.{le-div}
 use Rattle.std.specs.Result.{result_and}
 use Rattle.ring_names.specs.declared.refusal.Refusal.{Refusal}
@@ -42,6 +42,14 @@ joined f a b l (Err x) s front back =
     let parts = below-parts f a (b - a) in
     let parts' = rw e at parts in
     subst (λ (cs : List Guard). Gives (Err x) cs) (sym parts') (gives-front x (below f a) (below (λ p. f (a + p)) (b - a)) front)
+
+-- ---- what each share keeps
+
+-- what holds below n and at n holds below n + 1
+pub below-next : (P : ℕ → Type 0) (n : ℕ) → ((t : ℕ) → t < n → P t) → P n → (t : ℕ) → t < n + 1 → P t
+below-next P n before here t l =
+    let at_most : t ≤ n = omega arith in
+    elim (eq-or-lt_of_le at_most) [ inl e ↦ subst P (sym e) here | inr less ↦ before t less ]
 
 -- ---- where shares begin
 

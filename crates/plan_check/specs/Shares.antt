@@ -23,7 +23,11 @@ share_clauses ring plan O a b = below (λ p. partition_clauses ring plan O (a + 
 abbrev pub MayStop : (ℕ → ℕ → Type 0) → ℕ → ℕ → Type 0
 MayStop may_refuse workers q = (s : ℕ) × (s < share_count workers q) × may_refuse s (first_of q (share_count workers q) s)
 
--- what may come of share s: its pass was refused, or what was found is what its partitions give
-abbrev pub IsOutcome : RingValue → List Planned → Test → (ℕ → ℕ → Type 0) → ℕ → ℕ → ShareOutcome → Type 0
-IsOutcome ring plan O may_refuse shares s Stopped = may_refuse s (first_of ring.q shares s)
-IsOutcome ring plan O may_refuse shares s (Checked r) = Gives r (share_clauses ring plan O (first_of ring.q shares s) (first_of ring.q shares (s + 1)))
+-- one of the passes with which workers begin their shares is refused for certain
+abbrev pub MustStop : (ℕ → ℕ → Type 0) → ℕ → ℕ → Type 0
+MustStop must_refuse workers q = (s : ℕ) × (s < share_count workers q) × must_refuse s (first_of q (share_count workers q) s)
+
+-- what may come of share s: its pass was refused; or it was let through, and what was found is what its partitions give
+abbrev pub IsOutcome : RingValue → List Planned → Test → (ℕ → ℕ → Type 0) → (ℕ → ℕ → Type 0) → ℕ → ℕ → ShareOutcome → Type 0
+IsOutcome ring plan O may_refuse must_refuse shares s Stopped = may_refuse s (first_of ring.q shares s)
+IsOutcome ring plan O may_refuse must_refuse shares s (Checked r) = (must_refuse s (first_of ring.q shares s) → ⊥) × Gives r (share_clauses ring plan O (first_of ring.q shares s) (first_of ring.q shares (s + 1)))

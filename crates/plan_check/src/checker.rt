@@ -1,6 +1,6 @@
 //! The check itself.
 
-ghost use Rattle.std.specs.Prelude.{◌≡◌, ◌⊎◌, None, Some, IfOk, IfErr, IfNone, IfSome, OnOk, length};
+ghost use Rattle.std.specs.Prelude.{◌≡◌, ◌⊎◌, None, Some, Err, IfOk, IfErr, IfNone, IfSome, OnOk, length};
 ghost use Rattle.ring_names.specs.declared.refusal.Refusal.TheVariants.{OutOfMemory, TurnsSpent};
 ghost use Rattle.plan_text.specs.Valid.{Suits};
 ghost use Rattle.plan_order.specs.Facts.{AreFactsOf, is_ordered};
@@ -9,7 +9,7 @@ ghost use Rattle.plan_stage.specs.Partition.{partition_clauses};
 ghost use Rattle.plan_check.specs.Approval.{IsApproved};
 ghost use Rattle.plan_check.specs.Certified.{IsCertified};
 ghost use Rattle.plan_check.specs.First.{fact_clauses, rest_clauses, all_clauses, first_refusal};
-ghost use Rattle.plan_check.specs.Shares.{MayStop};
+ghost use Rattle.plan_check.specs.Shares.{MayStop, MustStop};
 
 use crate::approval::{Approved, Turned};
 use crate::gate::Gate;
@@ -61,7 +61,9 @@ pub fn check(alloc: Global, ring: Ring, plan: Plan, cert: &Cert) -> Result<Appro
 /// the gate with that number for its mark, and then checks its share. Where no thread can be started, the calling thread does the shares in turn.
 ///
 /// The answer is that of `check`, the first refusal included, whatever the number of workers and whoever was first. But where the gate does not let a
-/// worker pass, it is `TurnsSpent`, whatever else was found. After a path that is none no share is begun.
+/// worker pass, it is `TurnsSpent`, whatever else was found. After a path that is none no share is begun. Where the gate must refuse one of
+/// the passes with which shares begin, and all facts are paths, no plan is accepted: the answer is `TurnsSpent`, or `OutOfMemory` where memory ran out
+/// before the shares had been done.
 pub fn check_parallel<R: Threads + Wait + Sync, G: Gate + Sync>(
     rt: &R,
     alloc: Global,
@@ -78,6 +80,8 @@ pub fn check_parallel<R: Threads + Wait + Sync, G: Gate + Sync>(
     ensures accepted { OnOk result (first_refusal ring plan cert.now ≡ None) }
     ensures refused { IfErr result (λ t. (t.refusal ≡ OutOfMemory → ⊥) → (t.refusal ≡ TurnsSpent → ⊥) → first_refusal ring plan cert.now ≡ Some t.refusal) }
     ensures stopped { IfErr result (λ t. t.refusal ≡ TurnsSpent → MayStop (G.may_refuse gate.now) workers ring.q) }
+    ensures turned { MustStop (G.must_refuse gate.now) workers ring.q → first_failing (fact_clauses plan 0 cert.now.facts) ≡ None → OnOk result ⊥ }
+    ensures spent { MustStop (G.must_refuse gate.now) workers ring.q → first_failing (fact_clauses plan 0 cert.now.facts) ≡ None → IfErr result (λ t. (t.refusal ≡ TurnsSpent) ⊎ (t.refusal ≡ OutOfMemory)) }
     ensures unchanged { IfErr result (λ t. (t.ring ≡ ring) × (t.plan ≡ plan)) }
     ensures memory { IsCertified ring plan cert.now → IfErr result (λ t. (t.refusal ≡ OutOfMemory) ⊎ (t.refusal ≡ TurnsSpent)) }
     ensures late { IfErr result (λ t. (t.refusal ≡ OutOfMemory) ⊎ (t.refusal ≡ TurnsSpent) → first_failing (fact_clauses plan 0 cert.now.facts) ≡ None) }
@@ -127,6 +131,7 @@ fn check_all_by_workers<R: Threads + Wait + Sync, G: Gate + Sync>(
 ) -> Option<Result<(), Refusal>>
     requires { Suits ring.now plan.now }
     ensures stopped { IfNone result (MayStop (G.may_refuse gate.now) workers ring.now.q) }
+    ensures turned { MustStop (G.must_refuse gate.now) workers ring.now.q → first_failing (fact_clauses plan.now 0 cert.now.facts) ≡ None → IfSome result (λ r. r ≡ Err OutOfMemory) }
     ensures facts { IfNone result (first_failing (fact_clauses plan.now 0 cert.now.facts) ≡ None) }
     ensures first { IfSome result (λ r. Gives r (all_clauses ring.now plan.now cert.now)) }
     ensures late { IfSome result (λ r. IfErr r (λ e. e ≡ OutOfMemory → first_failing (fact_clauses plan.now 0 cert.now.facts) ≡ None)) }
@@ -152,7 +157,8 @@ fn check_rest(
     requires suits { Suits ring.now plan.now }
     requires facts { AreFactsOf plan.now facts.now }
     requires found { Gives found (below (partition_clauses ring.now plan.now (is_ordered plan.now facts.now)) ring.now.q) }
-    ensures { Gives result (rest_clauses ring.now plan.now cert.now (is_ordered plan.now facts.now)) }
+    ensures first { Gives result (rest_clauses ring.now plan.now cert.now (is_ordered plan.now facts.now)) }
+    ensures handed_on { IfErr found (λ e. result ≡ Err e) }
 {
     found?;
     check_nodes(alloc, ring, plan, facts, cert)

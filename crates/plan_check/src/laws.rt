@@ -97,6 +97,16 @@ pub fn sound_plans_keep_promises(ring: &Ring, plan: &Plan)
     let _ = (ring.n(), plan.len());
 }
 
+/// Where the checker has no refusal, the plan keeps its promises.
+pub fn accepted_plans_keep_promises(ring: &Ring, plan: &Plan, cert: &Cert)
+    requires { Suits ring.now plan.now }
+    ensures { first_refusal ring.now plan.now cert.now ≡ None → KeepsPromises ring.now plan.now }
+{
+    first_is_none_where_certified(ring, plan, cert);
+    certified_is_sound();
+    sound_plans_keep_promises(ring, plan);
+}
+
 /// A run in two parts is a run of the first, and then of the second from the world to which the first leads.
 pub fn runs_split()
     ensures { (ring : RingValue) (plan : List Planned) → SplitAnywhere ring plan }

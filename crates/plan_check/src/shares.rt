@@ -1,11 +1,12 @@
 //! The partitions in shares, which workers check side by side.
 
-ghost use Rattle.std.specs.Prelude.{◌≡◌, ◌^◌, ◌<◌, ◌≤◌, ℕ, IfNone, IfSome, length, slice_index_or};
+ghost use Rattle.std.specs.Prelude.{◌≡◌, ◌^◌, ◌<◌, ◌≤◌, ℕ, Err, IfNone, IfSome, length, slice_index_or};
+ghost use Rattle.ring_names.specs.declared.refusal.Refusal.TheVariants.{OutOfMemory};
 ghost use Rattle.plan_text.specs.Valid.{Suits};
 ghost use Rattle.plan_order.specs.Facts.{AreFactsOf, is_ordered};
 ghost use Rattle.plan_stage.specs.Clauses.{Gives, below};
 ghost use Rattle.plan_stage.specs.Partition.{partition_clauses};
-ghost use Rattle.plan_check.specs.Shares.{IsOutcome, MayStop, first_of, share_clauses, share_count};
+ghost use Rattle.plan_check.specs.Shares.{IsOutcome, MayStop, MustStop, first_of, share_clauses, share_count};
 ghost use Rattle.plan_check.specs.declared.shares.ShareOutcome.{ShareOutcome};
 
 use crate::gate::Gate;
@@ -72,7 +73,7 @@ fn work_share<R: Wait, G: Gate>(
     requires share { share < shares }
     requires suits { Suits ring.now plan.now }
     requires facts { AreFactsOf plan.now facts.now }
-    ensures { IsOutcome ring.now plan.now (is_ordered plan.now facts.now) (G.may_refuse gate.now) shares share result }
+    ensures { IsOutcome ring.now plan.now (is_ordered plan.now facts.now) (G.may_refuse gate.now) (G.must_refuse gate.now) shares share result }
 {
     let from = first_partition(ring.q(), shares, share);
     if !gate.pass(rt, share, u64::from(from)) {
@@ -92,8 +93,9 @@ fn gather<G: Gate>(
     found: &[ShareOutcome],
 ) -> Option<Result<(), Refusal>>
     requires count { length found.now ≡ share_count workers ring.now.q }
-    requires outcomes { (s : ℕ) (d : ShareOutcome) → s < length found.now → IsOutcome ring.now plan.now (is_ordered plan.now facts.now) (G.may_refuse gate.now) (length found.now) s (slice_index_or found.now s d) }
+    requires outcomes { (s : ℕ) (d : ShareOutcome) → s < length found.now → IsOutcome ring.now plan.now (is_ordered plan.now facts.now) (G.may_refuse gate.now) (G.must_refuse gate.now) (length found.now) s (slice_index_or found.now s d) }
     ensures stopped { IfNone result (MayStop (G.may_refuse gate.now) workers ring.now.q) }
+    ensures passed { IfSome result (λ r. MustStop (G.must_refuse gate.now) workers ring.now.q → ⊥) }
     ensures first { IfSome result (λ r. Gives r (below (partition_clauses ring.now plan.now (is_ordered plan.now facts.now)) ring.now.q)) }
 {
     let mut first = Ok(());
@@ -121,6 +123,8 @@ pub(crate) fn check_shares<R: Threads + Wait + Sync, G: Gate + Sync>(
     requires suits { Suits ring.now plan.now }
     requires facts { AreFactsOf plan.now facts.now }
     ensures stopped { IfNone result (MayStop (G.may_refuse gate.now) workers ring.now.q) }
+    // Where a pass must be refused and yet none was, memory for the threads' answers ran out.
+    ensures turned { MustStop (G.must_refuse gate.now) workers ring.now.q → IfSome result (λ r. r ≡ Err OutOfMemory) }
     ensures first { IfSome result (λ r. Gives r (below (partition_clauses ring.now plan.now (is_ordered plan.now facts.now)) ring.now.q)) }
 {
     let shares = workers.min(ring.q()).max(1);
@@ -130,7 +134,7 @@ pub(crate) fn check_shares<R: Threads + Wait + Sync, G: Gate + Sync>(
         shares as usize,
         &|share: usize| -> ShareOutcome
             requires { (share < shares) × (shares < 2 ^ 32) × Suits ring.now plan.now × AreFactsOf plan.now facts.now }
-            ensures { IsOutcome ring.entry.now plan.entry.now (is_ordered plan.entry.now facts.entry.now) (G.may_refuse gate.entry.now) shares share result }
+            ensures { IsOutcome ring.entry.now plan.entry.now (is_ordered plan.entry.now facts.entry.now) (G.may_refuse gate.entry.now) (G.must_refuse gate.entry.now) shares share result }
         { work_share(rt, alloc, gate, ring, plan, facts, shares, share as u32) },
     );
     match found {

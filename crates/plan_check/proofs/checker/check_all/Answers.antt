@@ -14,7 +14,7 @@ check_rest-requires-clause-found c =
 pub returns-in-Ok-clause-first : goal.returns-in-Ok-clause-first
 returns-in-Ok-clause-first c =
     let none = verified c.args.plan.now c.args.cert.now.facts c.verify.result c.in-Ok.facts c.verify.ensures.bad c.in-Ok.is in
-    behind-facts c.args.ring.now c.args.plan.now c.in-Ok.facts c.args.cert.now none c.in-Ok.ensures.ends c.check_rest.result c.check_rest.ensures
+    behind-facts c.args.ring.now c.args.plan.now c.in-Ok.facts c.args.cert.now none c.in-Ok.ensures.ends c.check_rest.result c.check_rest.ensures.first
 
 pub returns-in-Ok-clause-late : goal.returns-in-Ok-clause-late
 returns-in-Ok-clause-late c =

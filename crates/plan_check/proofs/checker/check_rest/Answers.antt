@@ -7,8 +7,8 @@ use Rattle.plan_cover.specs.Clauses.{node_clauses}
 use Rattle.plan_stage.proofs.Partitions.{gives-behind, gives-front}
 use Rattle.plan_check.proofs.checker.check_rest.Goals as goal
 
-pub returns-in_err-found : goal.returns-in_err-found
-returns-in_err-found c =
+pub returns-in_err-found-clause-first : goal.returns-in_err-found-clause-first
+returns-in_err-found-clause-first c =
     let ring = c.args.ring.now in
     let plan = c.args.plan.now in
     let O = is_ordered plan c.args.facts.now in
@@ -17,8 +17,8 @@ returns-in_err-found c =
     let given = rw c.in_err-found.was at c.requires.found in
     rw (p.1, p.2) (gives-front c.in_err-found.field-0.0 (below (partition_clauses ring plan O) ring.q) nodes given)
 
-pub returns : goal.returns
-returns c =
+pub returns-clause-first : goal.returns-clause-first
+returns-clause-first c =
     let ring = c.args.ring.now in
     let plan = c.args.plan.now in
     let O = is_ordered plan c.args.facts.now in

@@ -5,13 +5,16 @@ use Rattle.plan_stage.specs.Partition.{partition_clauses}
 use Rattle.plan_check.specs.Shares.{IsOutcome, first_of}
 use Rattle.plan_check.specs.declared.shares.ShareOutcome.{ShareOutcome}
 use Rattle.plan_check.specs.declared.shares.ShareOutcome.TheVariants.{Stopped}
-use Rattle.plan_check.proofs.Shared.{joined, first-grows, first-last, none-before, some-share}
+use Rattle.plan_check.proofs.Shared.{joined, below-next, first-grows, first-last, none-before, some-share}
 use Rattle.plan_check.proofs.shares.gather.Goals as goal
 
 pub loop-share-init : goal.loop-share-init
 loop-share-init g c =
     let some = some-share c.args.workers c.args.ring.now.q in
-    none-before (partition_clauses c.args.ring.now c.args.plan.now (is_ordered c.args.plan.now c.args.facts.now)) c.args.ring.now.q (length c.args.found.now) (rw c.requires.count some)
+    record {
+      given = none-before (partition_clauses c.args.ring.now c.args.plan.now (is_ordered c.args.plan.now c.args.facts.now)) c.args.ring.now.q (length c.args.found.now) (rw c.requires.count some);
+      passed = λ s l m. absurd (omega (arith, l));
+    }
 
 pub loop-share-preserved : goal.loop-share-preserved
 loop-share-preserved g c =
@@ -25,7 +28,10 @@ loop-share-preserved g c =
     let within : s < m = omega arith in
     let outcome = c.requires.outcomes s Stopped within in
     let told = rw c.in-Checked.is at outcome in
-    rw c.and-first.ensures (joined C (first_of q m s) (first_of q m (s + 1)) grows c.loop-share.first c.in-Checked.next c.loop-share.invariant told)
+    record {
+      given = rw c.and-first.ensures (joined C (first_of q m s) (first_of q m (s + 1)) grows c.loop-share.first c.in-Checked.next c.loop-share.invariant.given told.1);
+      passed = below-next (λ (t : ℕ). g.G.Gate.must_refuse c.args.gate.now t (first_of q m t) → ⊥) s c.loop-share.invariant.passed told.0;
+    }
 
 pub returns-clause-first : goal.returns-clause-first
 returns-clause-first g c =
@@ -36,4 +42,14 @@ returns-clause-first g c =
     let some' : 0 < m = rw c.requires.count some in
     let end : c.loop-share.share ≡ m = omega arith in
     let whole = first-last q m some' in
-    subst (λ (n : ℕ). Gives c.loop-share.first (below C n)) whole (subst (λ (s : ℕ). Gives c.loop-share.first (below C (first_of q m s))) end c.loop-share.invariant)
+    subst (λ (n : ℕ). Gives c.loop-share.first (below C n)) whole (subst (λ (s : ℕ). Gives c.loop-share.first (below C (first_of q m s))) end c.loop-share.invariant.given)
+
+pub returns-clause-passed : goal.returns-clause-passed
+returns-clause-passed g c = λ must.
+    let q = c.args.ring.now.q in
+    let m = length c.args.found.now in
+    let s = must.0 in
+    let count = c.requires.count in
+    let last : c.loop-share.share ≡ m = omega arith in
+    let within : s < c.loop-share.share = rw (last, count) must.1 in
+    c.loop-share.invariant.passed s within (rw count must.2)

@@ -1,4 +1,4 @@
-use Rattle.std.proofs.Common.{◌≡◌, length}
+use Rattle.std.proofs.Common.{◌≡◌, ◌<◌, ℕ, length}
 use Rattle.plan_order.specs.Facts.{is_ordered}
 use Rattle.plan_stage.specs.Clauses.{Gives, below}
 use Rattle.plan_stage.specs.Partition.{partition_clauses}
@@ -6,4 +6,7 @@ use Rattle.plan_check.specs.Shares.{first_of}
 use Rattle.plan_check.proofs.shares.gather.Given as goal
 
 abbrev pub invariant-loop-share : goal.invariant-loop-share
-invariant-loop-share g l = Gives l.first (below (partition_clauses l.ring l.plan (is_ordered l.plan l.facts)) (first_of l.ring.q (length l.found) l.share))
+invariant-loop-share g l = record {
+  given : Gives l.first (below (partition_clauses l.ring l.plan (is_ordered l.plan l.facts)) (first_of l.ring.q (length l.found) l.share));
+  passed : (s : ℕ) → s < l.share → g.G.Gate.must_refuse l.gate s (first_of l.ring.q (length l.found) s) → ⊥;
+}
