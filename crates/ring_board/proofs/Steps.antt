@@ -15,7 +15,7 @@ use Rattle.ring_board.specs.declared.view.Size.{Size}
 use Rattle.ring_board.specs.declared.view.View.{View}
 use Rattle.ring_board.specs.Words.{claimed, finished_word, IsWord}
 use Rattle.ring_board.specs.Seats.{times}
-use Rattle.ring_board.specs.Views.{mark, marked, unmarked, with_held, without_held, with_finished, with_known, nothing, together}
+use Rattle.ring_board.specs.Views.{mark, marked, unmarked, with_held, without_held, with_finished, with_known, with_seen, nothing, together}
 use Rattle.ring_board.specs.Kept.{once, word_of, Matches, Kept, Sees, Claims, Looks, claims, gives_back, finishes, looks}
 use Rattle.ring_board.proofs.Counts.{sum-set, part-le, once-else, same-once, marked-here, marked-there, marked-append, marked-mine, marked-less, marked-kept, has-times, has-append, or-either, once-said, claimed-differ, finished-differ}
 
@@ -173,12 +173,13 @@ module _ (size : Size) (slots id k : ℕ) (below : k < size.steps) where
         subst (λ b. Kept size (stepped s (k + 1) (either b (w + 1) n) id c u keeps)) (sym (eq-eqb n 0 free)) (won size s id k w v c kept at below own small free),
         λ i x e f. spelled (λ i x. Claims slots (v, c) i x n (u, c)) k w (record { proper = word; sees = told; won = λ _. refl; taken = λ not. absurd (not free) }) i x (omega arith) (omega arith),
       ))
-      (λ taken. (
-        v,
+      (λ taken.
+      let u : View = with_seen k n v in (
+        u,
         keeps,
         tt,
-        subst (λ b. Kept size (stepped s (k + 1) (either b (w + 1) n) id c v keeps)) (sym (ne_eqb n 0 taken)) (stood size s id k v v c kept at below refl refl (kept.known id v at)),
-        λ i x e f. spelled (λ i x. Claims slots (v, c) i x n (v, c)) k w (record { proper = word; sees = told; won = λ free. absurd (taken free); taken = λ _. refl }) i x (omega arith) (omega arith),
+        subst (λ b. Kept size (stepped s (k + 1) (either b (w + 1) n) id c u keeps)) (sym (ne_eqb n 0 taken)) (stood size s id k v u c kept at below refl refl (kept.known id v at)),
+        λ i x e f. spelled (λ i x. Claims slots (v, c) i x n (u, c)) k w (record { proper = word; sees = told; won = λ free. absurd (taken free); taken = λ _. refl }) i x (omega arith) (omega arith),
       ))
 
   -- a look by load

@@ -8,7 +8,7 @@ use Rattle.ring_board.specs.declared.view.Mark.{Mark}
 use Rattle.ring_board.specs.declared.view.Size.{Size}
 use Rattle.ring_board.specs.declared.view.View.{View}
 use Rattle.ring_board.specs.Words.{claimed, finished_word, IsWord}
-use Rattle.ring_board.specs.Views.{marked, with_held, without_held, with_finished, with_known}
+use Rattle.ring_board.specs.Views.{marked, with_held, without_held, with_finished, with_known, with_seen}
 
 -- once where the numbers are the same, and else never
 abbrev pub once : ℕ → ℕ → ℕ
@@ -45,12 +45,12 @@ Knower = Me (Option (Unit {0})) View
 abbrev pub Turn : Type 0
 Turn = Step (Option (Unit {0}))
 
--- what a claim of step k by worker w finds: it wins where the step is free, and else it changes nothing
+-- what a claim of step k by worker w finds: it wins where the step is free, and else it changes nothing but that the word was seen
 pub record Claims (slots : ℕ) (m : Knower) (k w word : ℕ) (after : Knower) : Type 0 where
   pub proper : IsWord slots word
   pub sees : Sees m.0 k word
   pub won : word ≡ 0 → after ≡ (with_held k w m.0, m.1)
-  pub taken : word ≢ 0 → after ≡ m
+  pub taken : word ≢ 0 → after ≡ (with_seen k word m.0, m.1)
 
 -- what a look at step k finds: a step that is finished is known done from then on
 pub record Looks (m : Knower) (k word : ℕ) (after : Knower) : Type 0 where

@@ -13,6 +13,7 @@ shown a =
       held = map (λ m. m.step) a.seat.me.0.held;
       finished = map (λ m. m.step) a.seat.me.0.finished;
       known = a.seat.me.0.known;
+      seen = a.seat.me.0.seen;
     }
 
 -- what holds of the fields together: each step is the seat's own worker's, and the seat has no slot of the table

@@ -2,6 +2,7 @@
 use Rattle.std.specs.Prelude.{◌≡◌, ◌==◌, ℕ, ◌≤◌, true, List, [], ◌∷◌, Option, Some, count_by, sum_by, if◌then◌else◌}
 use Rattle.atomic_table.specs.Seated.{TableId}
 use Rattle.ring_names.specs.Lists.{has}
+use Rattle.ring_board.specs.declared.view.Sight.{Sight}
 use Rattle.ring_board.specs.Words.{claimed, finished_word}
 
 -- a board: which one it is, how many steps it has, and how many workers
@@ -10,17 +11,23 @@ pub record BoardView : Type 0 where
   pub steps : ℕ
   pub workers : ℕ
 
--- a seat: the board that it belongs to, its worker if it is one's, and the steps that it holds, that it finished and that it knows done
+-- a seat: the board that it belongs to, its worker if it is one's, the steps that it holds, that it finished and that it knows done, and
+-- the steps whose claims it lost, each with the word that the claim read, the last one first
 pub record SeatView : Type 0 where
   pub board : TableId
   pub worker : Option ℕ
   pub held : List ℕ
   pub finished : List ℕ
   pub known : List ℕ
+  pub seen : List Sight
 
--- a seat that holds, finished and knows no step
+-- of step k this word was read
+abbrev pub sight : ℕ → ℕ → Sight
+sight k word = record { step = k; word = word }
+
+-- a seat that holds, finished and knows no step, and lost no claim
 abbrev pub fresh : TableId → Option ℕ → SeatView
-fresh id worker = record { board = id; worker = worker; held = []; finished = []; known = [] }
+fresh id worker = record { board = id; worker = worker; held = []; finished = []; known = []; seen = [] }
 
 -- the word of step k fits what the seat says of it: its worker claimed a step that it holds, and finished one that it finished, and a
 -- step that it knows done is finished

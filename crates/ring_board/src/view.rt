@@ -16,11 +16,18 @@ pub struct Mark {
     pub worker: u32,
 }
 
-/// What a seat holds, what it finished, and the steps that it knows done.
+/// A step, and the word of it that a lost claim read.
+pub struct Sight {
+    pub step: u32,
+    pub word: u64,
+}
+
+/// What a seat holds, what it finished, the steps that it knows done, and what its lost claims read.
 pub struct View {
     pub held: LinkedList<Mark>,
     pub finished: LinkedList<Mark>,
     pub known: LinkedList<u32>,
+    pub seen: LinkedList<Sight>,
 }
 
 pub(crate) struct Rule;
