@@ -1,5 +1,5 @@
 -- A step on the table, seen as one of a seat on its board.
-use Rattle.std.proofs.Common.{◌≡◌, ◌≢◌, ◌⊎◌, inl, inr, ⊎_elim, ℕ, ◌+◌, ◌<◌, ◌≤◌, ◌||◌, true, false, cond, leb, eqb, List, [], ◌∷◌, map, refl, sym, ap, ◌∙◌, subst, arith, Option, Some, None}
+use Rattle.std.proofs.Common.{◌≡◌, ◌≢◌, ◌⊎◌, inl, inr, ⊎_elim, ℕ, ◌+◌, ◌<◌, ◌≤◌, ◌||◌, true, false, cond, leb, eqb, List, [], ◌∷◌, map, slice_index, refl, sym, ap, ◌∙◌, subst, arith, Option, Some, None}
 use mathlib.Core.Logic.{dite}
 use mathlib.Core.Option.{none}
 use native.Mathlib.Decide.{dec_le}
@@ -42,6 +42,7 @@ seated a s board worker me is =
       finished = (ap (λ (m : Knower). map (λ (m : Mark). m.step) m.0.finished) me ∙ steps-of s.worker s.finished (λ e. (is.idle e).1)) t;
       known = (me t).0.known;
       seen = (me t).0.seen;
+      share = slice_index (me t).0.parts 0;
     } in
     (same, record { own = me ∙ ap (λ (z : SeatView). (view_of z, [])) (sym same); seat = subst IsSeat (sym same) is })
 
@@ -103,19 +104,19 @@ module _ (a : Inside) (s : SeatView) (b : board.Inside) (v : BoardView) (k : ℕ
       × Allows (Kept b.table.shared.key) b.table.shared.table_id.slots a.seat.id a.seat.me (k + 1) (λ n. either (eqb n 0) (w + 1) n) (claims (step b.table.shared.table_id.slots (k + 1) 0 (w + 1) none) a.seat.me)
   may-claim w e =
       asked (λ n. either (eqb n 0) (w + 1) n) (λ m. claims (step b.table.shared.table_id.slots (k + 1) 0 (w + 1) none) m)
-      (claiming b.table.shared.key b.table.shared.table_id.slots a.seat.id k h.below w (view_of s) [] h.slots (mine w e) (h.is.worker w e).1)
+      (claiming b.table.shared.key b.table.shared.table_id.slots a.seat.id k h.below w (view_of s) [] h.slots (mine w e) (h.is.worker w e).1 (λ none_left. absurd cc))
 
   pub may-give : (w : ℕ) → s.worker ≡ Some w → has k s.held ≡ true → (a.seat.table_id ≡ b.table.shared.table_id) × (k + 1 < b.table.shared.table_id.words)
       × Allows (Kept b.table.shared.key) b.table.shared.table_id.slots a.seat.id a.seat.me (k + 1) (λ _. 0) (λ _. gives_back (step b.table.shared.table_id.slots (k + 1) 0 0 none) a.seat.me 0)
   may-give w e held =
       asked (λ _. 0) (λ m _. gives_back (step b.table.shared.table_id.slots (k + 1) 0 0 none) m 0)
-      (giving b.table.shared.key b.table.shared.table_id.slots a.seat.id k w h.below (h.is.worker w e).1 (view_of s) [] s.held (ap (λ o. marks_of o s.held) e) held)
+      (giving b.table.shared.key b.table.shared.table_id.slots a.seat.id k w h.below (h.is.worker w e).1 (view_of s) [] s.held (ap (λ o. marks_of o s.held) e) held (λ none_left. absurd cc))
 
   pub may-finish : (w : ℕ) → s.worker ≡ Some w → has k s.held ≡ true → (a.seat.table_id ≡ b.table.shared.table_id) × (k + 1 < b.table.shared.table_id.words)
       × Allows (Kept b.table.shared.key) b.table.shared.table_id.slots a.seat.id a.seat.me (k + 1) (λ _. 128 + w) (λ _. finishes (step b.table.shared.table_id.slots (k + 1) (128 + w) 0 none) a.seat.me (128 + w))
   may-finish w e held =
       asked (λ _. 128 + w) (λ m _. finishes (step b.table.shared.table_id.slots (k + 1) (128 + w) 0 none) m (128 + w))
-      (finishing b.table.shared.key b.table.shared.table_id.slots a.seat.id k w h.below (h.is.worker w e).1 (view_of s) [] s.held (ap (λ o. marks_of o s.held) e) held (mine w e))
+      (finishing b.table.shared.key b.table.shared.table_id.slots a.seat.id k w h.below (h.is.worker w e).1 (view_of s) [] s.held (ap (λ o. marks_of o s.held) e) held (λ none_left. absurd cc) (mine w e))
 
   pub may-look : (a.seat.table_id ≡ b.table.shared.table_id) × (k + 1 < b.table.shared.table_id.words)
       × Allows (Kept b.table.shared.key) b.table.shared.table_id.slots a.seat.id a.seat.me (k + 1) (λ n. n) (looks (step b.table.shared.table_id.slots (k + 1) 0 0 none) a.seat.me)
