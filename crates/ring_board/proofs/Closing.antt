@@ -1,6 +1,6 @@
 -- What the words say of the seats that were joined, and that no step stands twice.
-use Rattle.std.proofs.Common.{◌≡◌, ℕ, zero, suc, ◌+◌, ◌<◌, ◌≤◌, List, [], ◌∷◌, ◌++◌, map, length, get_or, refl, sym, ap, ◌∙◌, subst, arith, Option, Some, None}
-use Rattle.std.specs.Prelude.{sum_by, All, Result, Ok, Err, IfOk}
+use Rattle.std.proofs.Common.{◌≡◌, ◌≢◌, inl, inr, ⊎_elim, true, cond, eqb, eq-eqb, ne_eqb, ℕ, zero, suc, ◌+◌, ◌<◌, ◌≤◌, List, [], ◌∷◌, ◌++◌, map, length, get_or, refl, sym, ap, ◌∙◌, subst, arith, Option, Some, None}
+use Rattle.std.specs.Prelude.{sum_by, All, Any, Result, Ok, Err, IfOk}
 use Rattle.std.specs.List.{AllByRecursion}
 use mathlib.Core.Logic.{dite}
 use mathlib.Core.Option.{some, some-injective, some-ne-none}
@@ -15,10 +15,11 @@ use Rattle.ring_board.specs.declared.view.Mark.{Mark}
 use Rattle.ring_board.specs.declared.view.Size.{Size}
 use Rattle.ring_board.specs.declared.view.View.{View}
 use Rattle.ring_board.specs.Words.{claimed, finished_word, IsWord}
-use Rattle.ring_board.specs.Seats.{SeatView, Fits, times, held_times, finished_times}
+use Rattle.ring_board.specs.Seats.{SeatView, Fits, parts, AreAll, Tells, IsTold, times, held_times, finished_times}
 use Rattle.ring_board.specs.Views.{mark, marked, marks_of, view_of, joined, IsSeat}
-use Rattle.ring_board.specs.Kept.{once, word_of, Kept, Sees, Knower}
-use Rattle.ring_board.proofs.Counts.{claimed-differ, finished-differ, once-le, once-same, once-else, same-once, marked-here, marked-there, marked-append, times-cons, times-append, has-append, or-right, or-left}
+use Rattle.ring_board.specs.Kept.{once, word_of, amount, Matches, Kept, Sees, Knower}
+use Rattle.ring_board.proofs.Counts.{claimed-differ, finished-differ, once-le, once-same, once-else, same-once, marked-here, marked-there, marked-append, marked-own, times-cons, times-append, has-append, or-right, or-left}
+use Rattle.ring_board.proofs.Parts.{alone, parts-joined, sum-alone, two-le}
 use Rattle.ring_board.proofs.Steps.{sees}
 use Rattle.ring_board.proofs.Seats.{steps-of, fits}
 
@@ -143,6 +144,45 @@ same-finished : (ss : List SeatView) → marks (λ s. s.finished) ss ≡ (joined
 same-finished [] = refl
 same-finished (s ∷ ss) = ap (λ l. l ++ marks_of s.worker s.finished) (same-finished ss)
 
+-- a step that stands in the list is there
+times-has : (k : ℕ) (ks : List ℕ) → 0 < times k ks → has k ks ≡ true
+times-has k [] h = absurd (omega arith)
+times-has k (x ∷ xs) h =
+    dite (ℕ_discrete k x)
+    (λ e. or-left (eqb k x) (has k xs) (eq-eqb k x e))
+    (λ e.
+    let first = once-else k x e in
+    let all = times-cons k x xs in
+    or-right (eqb k x) (has k xs) (times-has k xs (omega arith)))
+
+-- a mark of worker w among those of one worker
+own-mark : (o : Option ℕ) (ks : List ℕ) (k w : ℕ) → 0 < marked k w (marks_of o ks) → (o ≡ Some w) × (has k ks ≡ true)
+own-mark None ks k w h = absurd (omega arith)
+own-mark (Some x) ks k w h =
+    let all = marked-own k w x ks in
+    dite (ℕ_discrete w x)
+    (λ e.
+    let mine : marked k w (marks_of (Some x) ks) ≡ times k ks = all ∙ ap (λ b. cond b (times k ks) 0) (eq-eqb w x e) in
+    (ap Some (sym e), times-has k ks (omega arith)))
+    (λ e.
+    let none : marked k w (marks_of (Some x) ks) ≡ 0 = all ∙ ap (λ b. cond b (times k ks) 0) (ne_eqb w x e) in
+    absurd (omega arith))
+
+any-more : {X : Type 0} (P : X → Type 0) (y : X) (xs : List X) → Any P xs → Any P (y ∷ xs)
+any-more P y xs t = (suc t.0, t.1, (let near = t.2 in omega arith), t.3, t.4)
+
+-- a mark among those of all seats is one of a seat
+some-seat : (list : SeatView → List ℕ) (k w : ℕ) (ss : List SeatView) → 0 < marked k w (marks list ss) → Any (λ s. (s.worker ≡ Some w) × (has k (list s) ≡ true)) ss
+some-seat list k w [] h = absurd (omega arith)
+some-seat list k w (s ∷ ss) h =
+    let both = marked-append k w (marks list ss) (marks_of s.worker (list s)) in
+    dite (ℕ_discrete (marked k w (marks_of s.worker (list s))) 0)
+    (λ e. any-more (λ s. (s.worker ≡ Some w) × (has k (list s) ≡ true)) s ss (some-seat list k w ss (omega arith)))
+    (λ e. (0, s, omega arith, refl, own-mark s.worker (list s) k w (omega arith)))
+
+any-as : {X : Type 0} (P Q : X → Type 0) (xs : List X) → ((x : X) → P x → Q x) → Any P xs → Any Q xs
+any-as P Q xs f t = (t.0, t.1, t.2, t.3, f t.1 t.4)
+
 -- a board that was closed with one seat, which knew what all of its seats knew
 module _ (size : Size) (id : ℕ) (m : Knower) (words : List ℕ) (homes : List (Option (Unit {0}))) (last : Final (Seen (Kept size) id m.0) words homes)
     (ss : List SeatView) (all : AllByRecursion IsSeat ss) (whole : m ≡ (joined ss, [])) where
@@ -162,6 +202,50 @@ module _ (size : Size) (id : ℕ) (m : Knower) (words : List ℕ) (homes : List 
       let once_each = at-most-once finished_word finished-differ k (word_of words k) (marks (λ s. s.finished) ss) (few-all (λ s. s.finished) ss all)
       (λ w small. subst (λ ms. marked k w ms ≤ once (word_of words k) (finished_word w)) (sym (same-finished ss)) ((seen k).finished w small)) in
       omega arith
+
+  -- where these are all seats, the others have no part of the board, and so no step
+  module _ (few : size.workers ≤ 65) (are_all : AreAll ss) where
+    others : (i : ℕ) (x : View) → i ≢ id → get_elem? last.0.views i ≡ some x → (x.held ≡ []) × (x.finished ≡ [])
+    others i x ne at =
+        let own : (d : ℕ) → amount d m.0.parts ≡ sum_by (λ s. parts d s.share) ss = λ d. ap (λ (z : Knower). amount d z.0.parts) whole ∙ parts-joined d ss in
+        let all_parts = are_all.1 in
+        let equal = own are_all.0 in
+        last.1.0.spent i x at
+        (alone are_all.0 m.0.parts x.parts (omega arith)
+        (λ n. (let most = last.1.0.once_all n in let two = two-le (λ (v : View). amount n v.parts) last.0.views id i m.0 x ne last.1.1 at in omega arith)))
+
+    all-marks : (list : View → List Mark) (says : ℕ → ℕ) → Matches list says last.0.words last.0.views
+        → ((i : ℕ) (x : View) → i ≢ id → get_elem? last.0.views i ≡ some x → list x ≡ []) → (k w : ℕ) → w < 65 → marked k w (list (joined ss)) ≡ once (word_of words k) (says w)
+    all-marks list says match none k w small =
+        ap (λ (z : Knower). marked k w (list z.0)) (sym whole)
+        ∙ sym (sum-alone (λ (v : View). marked k w (list v)) last.0.views id m.0 last.1.1 (λ i x ne at. ap (marked k w) (none i x ne at)))
+        ∙ match k w small
+        ∙ ap (λ (z : List ℕ). once (word_of z k) (says w)) last.2
+
+    pub each-told : (k : ℕ) → IsTold ss k (word_of words k)
+    each-told k =
+        let word : IsWord size.workers (word_of words k) = subst (λ (z : List ℕ). IsWord size.workers (word_of z k)) last.2 (last.1.0.words k) in
+        ⊎_elim
+        (λ e. inl e)
+        (λ t.
+        let below = t.1 in
+        let small : t.0 < 65 = omega arith in
+        ⊎_elim
+        (λ e.
+        let one = once-same (word_of words k) (claimed t.0) e in
+        let marks_there = all-marks (λ v. v.held) claimed last.1.0.held (λ i x ne at. (others i x ne at).0) k t.0 small in
+        let joined_there = ap (marked k t.0) (same-held ss) in
+        inr (any-as (λ s. (s.worker ≡ Some t.0) × (has k s.held ≡ true)) (Tells k (word_of words k)) ss (λ s p. (t.0, p.0, inl (p.1, e))) (some-seat (λ s. s.held) k t.0 ss (omega arith))))
+        (λ e.
+        let one = once-same (word_of words k) (finished_word t.0) e in
+        let marks_there = all-marks (λ v. v.finished) finished_word last.1.0.finished (λ i x ne at. (others i x ne at).1) k t.0 small in
+        let joined_there = ap (marked k t.0) (same-finished ss) in
+        inr (any-as (λ s. (s.worker ≡ Some t.0) × (has k s.finished ≡ true)) (Tells k (word_of words k)) ss (λ s p. (t.0, p.0, inr (p.1, e))) (some-seat (λ s. s.finished) k t.0 ss (omega arith))))
+        t.2)
+        word
+
+    pub known-words : (steps : ℕ) (shown : List ℕ) (copied : (k : ℕ) → k < steps → get_or shown k 0 ≡ word_of words k) (k : ℕ) → k < steps → IsTold ss k (get_or shown k 0)
+    known-words steps shown copied k below = subst (IsTold ss k) (sym (copied k below)) (each-told k)
 
   module _ (steps : ℕ) (shown : List ℕ) (copied : (k : ℕ) → k < steps → get_or shown k 0 ≡ word_of words k) where
     pub told : All (λ s. (k : ℕ) → k < steps → Fits s k (get_or shown k 0)) ss

@@ -1,4 +1,5 @@
 pub mod Counts
+pub mod Parts
 pub mod Steps
 pub mod Seats
 pub mod Closing

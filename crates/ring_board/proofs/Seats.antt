@@ -1,5 +1,5 @@
 -- A step on the table, seen as one of a seat on its board.
-use Rattle.std.proofs.Common.{◌≡◌, ◌≢◌, ◌⊎◌, inl, inr, ⊎_elim, ℕ, ◌+◌, ◌<◌, ◌≤◌, ◌||◌, true, false, cond, leb, eqb, List, [], ◌∷◌, map, refl, sym, ap, ◌∙◌, subst, arith, Option, Some, None}
+use Rattle.std.proofs.Common.{◌≡◌, ◌≢◌, ◌⊎◌, inl, inr, ⊎_elim, ℕ, ◌+◌, ◌<◌, ◌≤◌, ◌||◌, true, false, cond, leb, eqb, List, [], ◌∷◌, map, slice_index, refl, sym, ap, ◌∙◌, subst, arith, Option, Some, None}
 use mathlib.Core.Logic.{dite}
 use mathlib.Core.Option.{none}
 use native.Mathlib.Decide.{dec_le}
@@ -11,8 +11,8 @@ use Rattle.ring_board.specs.declared.view.Mark.{Mark}
 use Rattle.ring_board.specs.declared.seat.Seat.TheInside.{Inside}
 use Rattle.ring_board.specs.declared.board.Board.TheInside as board
 use Rattle.ring_board.specs.Words.{claimed, finished_word, IsWord}
-use Rattle.ring_board.specs.Seats.{BoardView, SeatView, Fits, removed}
-use Rattle.ring_board.specs.Views.{mark, unmarked, with_held, without_held, with_finished, with_known, marks_of, view_of, IsSeat}
+use Rattle.ring_board.specs.Seats.{BoardView, SeatView, Fits, removed, sight}
+use Rattle.ring_board.specs.Views.{mark, unmarked, with_held, without_held, with_finished, with_known, with_seen, marks_of, view_of, IsSeat}
 use Rattle.ring_board.specs.Kept.{Kept, Sees, Knower, claims, gives_back, finishes, looks}
 use Rattle.ring_board.specs.Seated.{shown, IsSeated}
 use Rattle.ring_board.specs.Boarded.{board_of, IsBoard}
@@ -41,6 +41,8 @@ seated a s board worker me is =
       held = (ap (λ (m : Knower). map (λ (m : Mark). m.step) m.0.held) me ∙ steps-of s.worker s.held (λ e. (is.idle e).0)) t;
       finished = (ap (λ (m : Knower). map (λ (m : Mark). m.step) m.0.finished) me ∙ steps-of s.worker s.finished (λ e. (is.idle e).1)) t;
       known = (me t).0.known;
+      seen = (me t).0.seen;
+      share = slice_index (me t).0.parts 0;
     } in
     (same, record { own = me ∙ ap (λ (z : SeatView). (view_of z, [])) (sym same); seat = subst IsSeat (sym same) is })
 
@@ -102,19 +104,19 @@ module _ (a : Inside) (s : SeatView) (b : board.Inside) (v : BoardView) (k : ℕ
       × Allows (Kept b.table.shared.key) b.table.shared.table_id.slots a.seat.id a.seat.me (k + 1) (λ n. either (eqb n 0) (w + 1) n) (claims (step b.table.shared.table_id.slots (k + 1) 0 (w + 1) none) a.seat.me)
   may-claim w e =
       asked (λ n. either (eqb n 0) (w + 1) n) (λ m. claims (step b.table.shared.table_id.slots (k + 1) 0 (w + 1) none) m)
-      (claiming b.table.shared.key b.table.shared.table_id.slots a.seat.id k h.below w (view_of s) [] h.slots (mine w e) (h.is.worker w e).1)
+      (claiming b.table.shared.key b.table.shared.table_id.slots a.seat.id k h.below w (view_of s) [] h.slots (mine w e) (h.is.worker w e).1 (λ none_left. absurd cc))
 
   pub may-give : (w : ℕ) → s.worker ≡ Some w → has k s.held ≡ true → (a.seat.table_id ≡ b.table.shared.table_id) × (k + 1 < b.table.shared.table_id.words)
       × Allows (Kept b.table.shared.key) b.table.shared.table_id.slots a.seat.id a.seat.me (k + 1) (λ _. 0) (λ _. gives_back (step b.table.shared.table_id.slots (k + 1) 0 0 none) a.seat.me 0)
   may-give w e held =
       asked (λ _. 0) (λ m _. gives_back (step b.table.shared.table_id.slots (k + 1) 0 0 none) m 0)
-      (giving b.table.shared.key b.table.shared.table_id.slots a.seat.id k w h.below (h.is.worker w e).1 (view_of s) [] s.held (ap (λ o. marks_of o s.held) e) held)
+      (giving b.table.shared.key b.table.shared.table_id.slots a.seat.id k w h.below (h.is.worker w e).1 (view_of s) [] s.held (ap (λ o. marks_of o s.held) e) held (λ none_left. absurd cc))
 
   pub may-finish : (w : ℕ) → s.worker ≡ Some w → has k s.held ≡ true → (a.seat.table_id ≡ b.table.shared.table_id) × (k + 1 < b.table.shared.table_id.words)
       × Allows (Kept b.table.shared.key) b.table.shared.table_id.slots a.seat.id a.seat.me (k + 1) (λ _. 128 + w) (λ _. finishes (step b.table.shared.table_id.slots (k + 1) (128 + w) 0 none) a.seat.me (128 + w))
   may-finish w e held =
       asked (λ _. 128 + w) (λ m _. finishes (step b.table.shared.table_id.slots (k + 1) (128 + w) 0 none) m (128 + w))
-      (finishing b.table.shared.key b.table.shared.table_id.slots a.seat.id k w h.below (h.is.worker w e).1 (view_of s) [] s.held (ap (λ o. marks_of o s.held) e) held (mine w e))
+      (finishing b.table.shared.key b.table.shared.table_id.slots a.seat.id k w h.below (h.is.worker w e).1 (view_of s) [] s.held (ap (λ o. marks_of o s.held) e) held (λ none_left. absurd cc) (mine w e))
 
   pub may-look : (a.seat.table_id ≡ b.table.shared.table_id) × (k + 1 < b.table.shared.table_id.words)
       × Allows (Kept b.table.shared.key) b.table.shared.table_id.slots a.seat.id a.seat.me (k + 1) (λ n. n) (looks (step b.table.shared.table_id.slots (k + 1) 0 0 none) a.seat.me)
@@ -133,14 +135,14 @@ module _ (a : Inside) (s : SeatView) (b : board.Inside) (v : BoardView) (k : ℕ
     unchanged e = become s refl refl (e ∙ h.own) h.is
 
     pub after-claim : (w word : ℕ) → s.worker ≡ Some w → claims (step b.table.shared.table_id.slots (k + 1) 0 (w + 1) none) a.seat.me word a'.seat.me
-        → (word ≡ 0 → (shown a' ≡ record s { held = k ∷ s.held }) × IsSeated a') × (word ≢ 0 → (shown a' ≡ s) × IsSeated a') × Fits s k word × IsWord v.workers word
+        → (word ≡ 0 → (shown a' ≡ record s { held = k ∷ s.held }) × IsSeated a') × (word ≢ 0 → (shown a' ≡ record s { seen = sight k word ∷ s.seen }) × IsSeated a') × Fits s k word × IsWord v.workers word
     after-claim w word e told =
         let now = told k w refl refl in (
           (λ free.
               let view : (with_held k w a.seat.me.0, a.seat.me.1) ≡ (view_of (record s { held = k ∷ s.held }), []) =
               ap (λ (m : Knower). let after : Knower = (with_held k w m.0, m.1) in after) h.own ∙ ap (λ (l : List Mark). let after : Knower = (record (view_of s) { held = l }, []) in after) (marks-more s.worker k w s.held e) in
               become (record s { held = k ∷ s.held }) refl refl (now.won free ∙ view) (still w e (k ∷ s.held) s.finished)),
-          (λ taken. unchanged (now.taken taken)),
+          (λ taken. become (record s { seen = sight k word ∷ s.seen }) refl refl (now.taken taken ∙ ap (λ (m : Knower). let after : Knower = (with_seen k word m.0, m.1) in after) h.own) (record { idle = h.is.idle; worker = h.is.worker })),
           fits s k word h.is (subst (λ (m : Knower). Sees m.0 k word) h.own now.sees),
           subst (λ n. IsWord n word) h.workers now.proper,
         )

@@ -7,7 +7,7 @@ use native.Mathlib.Decide.{ℕ_discrete, dec_le}
 use lib.ListN.{get_elem?}
 use prog.Atomic.{either}
 use Rattle.atomic_table.specs.Table.{State, step, keeps, stepped, Allows, Splits, Joins}
-use Rattle.atomic_table.proofs.Lists.{at_set, set_else, set_again, at_snoc}
+use Rattle.atomic_table.proofs.Lists.{at_set, set_else, at_snoc}
 use Rattle.std.proofs.lemmas.List.Sums.{sum_by_push}
 use Rattle.ring_names.specs.Lists.{has}
 use Rattle.ring_board.specs.declared.view.Mark.{Mark}
@@ -15,8 +15,9 @@ use Rattle.ring_board.specs.declared.view.Size.{Size}
 use Rattle.ring_board.specs.declared.view.View.{View}
 use Rattle.ring_board.specs.Words.{claimed, finished_word, IsWord}
 use Rattle.ring_board.specs.Seats.{times}
-use Rattle.ring_board.specs.Views.{mark, marked, unmarked, with_held, without_held, with_finished, with_known, nothing, together}
-use Rattle.ring_board.specs.Kept.{once, word_of, Matches, Kept, Sees, Claims, Looks, claims, gives_back, finishes, looks}
+use Rattle.ring_board.specs.Views.{mark, marked, unmarked, with_held, without_held, with_finished, with_known, with_seen, with_half, half_of, nothing, together}
+use Rattle.ring_board.specs.Kept.{once, word_of, Matches, amount, Kept, Sees, Claims, Looks, claims, gives_back, finishes, looks}
+use Rattle.ring_board.proofs.Parts.{halves-le, amount-append, none-left, no-halves}
 use Rattle.ring_board.proofs.Counts.{sum-set, part-le, once-else, same-once, marked-here, marked-there, marked-append, marked-mine, marked-less, marked-kept, has-times, has-append, or-either, once-said, claimed-differ, finished-differ}
 
 abbrev pub Board : Type 0
@@ -94,8 +95,10 @@ moved : (size : Size) (s : Board) (id k n : ℕ) (v u : View) (c : Taken) → Ke
     → Turns (λ (x : View). x.finished) finished_word s.words (set s.words (k + 1) n) v u
     → (128 ≤ word_of s.words k → 128 ≤ n)
     → ((j : ℕ) → has j u.known ≡ true → 128 ≤ word_of s.words j)
+    → u.parts ≡ v.parts
+    → (u.parts ≡ [] → (u.held ≡ []) × (u.finished ≡ []))
     → Kept size (stepped s (k + 1) n id c u keeps)
-moved size s id k n v u c kept at below word held finished stays known =
+moved size s id k n v u c kept at below word held finished stays known same spent =
     let count = kept.count in
     let long : k + 1 < length s.words = omega arith in
     let later : (j : ℕ) → 128 ≤ word_of s.words j → 128 ≤ word_of (set s.words (k + 1) n) j = λ j. done-later s.words k n j long stays in
@@ -109,6 +112,11 @@ moved size s id k n v u c kept at below word held finished stays known =
           (λ t. later j (known j (subst (λ (y : View). has j y.known ≡ true) (sym t.1) has_it)))
           (λ t. later j (kept.known i x t.1 j has_it))
           (at_set s.views id i u x there);
+      once_all = λ d. (let sum = sum-set (λ (x : View). amount d x.parts) s.views id v u at in let own = ap (amount d) same in let all = kept.once_all d in omega arith);
+      spent = λ i x there none. ⊎_elim
+          (λ t. subst (λ (y : View). (y.held ≡ []) × (y.finished ≡ [])) t.1 (spent (ap (λ (y : View). y.parts) t.1 ∙ none)))
+          (λ t. kept.spent i x t.1 none)
+          (at_set s.views id i u x there);
     }
 
 -- marks that stay, where the word says the same of each worker as before
@@ -121,9 +129,9 @@ unturned list says words k n v u long same again =
 
 -- where the word stays, what is known done may change
 stood : (size : Size) (s : Board) (id k : ℕ) (v u : View) (c : Taken) → Kept size s → get_elem? s.views id ≡ some v → k < size.steps
-    → u.held ≡ v.held → u.finished ≡ v.finished → ((j : ℕ) → has j u.known ≡ true → 128 ≤ word_of s.words j)
+    → u.held ≡ v.held → u.finished ≡ v.finished → ((j : ℕ) → has j u.known ≡ true → 128 ≤ word_of s.words j) → u.parts ≡ v.parts
     → Kept size (stepped s (k + 1) (word_of s.words k) id c u keeps)
-stood size s id k v u c kept at below held finished known =
+stood size s id k v u c kept at below held finished known same =
     let count = kept.count in
     let long : k + 1 < length s.words = omega arith in
     let n : ℕ = word_of s.words k in
@@ -132,14 +140,16 @@ stood size s id k v u c kept at below held finished known =
     (unturned (λ (x : View). x.finished) finished_word s.words k n v u long finished (λ w _. refl))
     (λ h. h)
     known
+    same
+    (λ e. (let none = kept.spent id v at (sym same ∙ e) in (held ∙ none.0, finished ∙ none.1)))
 
 spelled : (P : ℕ → ℕ → Type 0) (k w : ℕ) → P k w → (i x : ℕ) → k ≡ i → w ≡ x → P i x
 spelled P k w p i x e f = subst (λ (z : ℕ × ℕ). P z.0 z.1) (λ t. (e t, f t)) p
 
 -- the step k is worker w's now, and was nobody's
 won : (size : Size) (s : Board) (id k w : ℕ) (v : View) (c : Taken) → Kept size s → get_elem? s.views id ≡ some v → k < size.steps → w < size.workers → w < 65
-    → word_of s.words k ≡ 0 → Kept size (stepped s (k + 1) (w + 1) id c (with_held k w v) keeps)
-won size s id k w v c kept at below own small free =
+    → v.parts ≢ [] → word_of s.words k ≡ 0 → Kept size (stepped s (k + 1) (w + 1) id c (with_held k w v) keeps)
+won size s id k w v c kept at below own small some_part free =
     let count = kept.count in
     let long : k + 1 < length s.words = omega arith in
     let u : View = with_held k w v in
@@ -155,12 +165,14 @@ won size s id k w v c kept at below own small free =
     (λ x _. once-else (word_of s.words k) (128 + x) (λ e. omega arith) ∙ sym (once-else (w + 1) (128 + x) (λ e. omega arith))))
     (λ h. absurd (omega arith))
     (λ j h. kept.known id v at j h)
+    refl
+    (λ e. absurd (some_part e))
 
 module _ (size : Size) (slots id k : ℕ) (below : k < size.steps) where
   -- a claim by compare-exchange
-  pub claiming : (w : ℕ) (v : View) (c : Taken) → slots ≡ size.workers → w < size.workers → w < 65
+  pub claiming : (w : ℕ) (v : View) (c : Taken) → slots ≡ size.workers → w < size.workers → w < 65 → v.parts ≢ []
       → Allows (Kept size) slots id (v, c) (k + 1) (λ n. either (eqb n 0) (w + 1) n) (claims (step slots (k + 1) 0 (w + 1) none) (v, c))
-  claiming w v c same own small s kept _ at _ =
+  claiming w v c same own small some_part s kept _ at _ =
       let n : ℕ = word_of s.words k in
       let word : IsWord slots n = subst (λ m. IsWord m n) (sym same) (kept.words k) in
       let told = sees size s id v k kept at in
@@ -170,15 +182,16 @@ module _ (size : Size) (slots id k : ℕ) (below : k < size.steps) where
         u,
         keeps,
         tt,
-        subst (λ b. Kept size (stepped s (k + 1) (either b (w + 1) n) id c u keeps)) (sym (eq-eqb n 0 free)) (won size s id k w v c kept at below own small free),
+        subst (λ b. Kept size (stepped s (k + 1) (either b (w + 1) n) id c u keeps)) (sym (eq-eqb n 0 free)) (won size s id k w v c kept at below own small some_part free),
         λ i x e f. spelled (λ i x. Claims slots (v, c) i x n (u, c)) k w (record { proper = word; sees = told; won = λ _. refl; taken = λ not. absurd (not free) }) i x (omega arith) (omega arith),
       ))
-      (λ taken. (
-        v,
+      (λ taken.
+      let u : View = with_seen k n v in (
+        u,
         keeps,
         tt,
-        subst (λ b. Kept size (stepped s (k + 1) (either b (w + 1) n) id c v keeps)) (sym (ne_eqb n 0 taken)) (stood size s id k v v c kept at below refl refl (kept.known id v at)),
-        λ i x e f. spelled (λ i x. Claims slots (v, c) i x n (v, c)) k w (record { proper = word; sees = told; won = λ free. absurd (taken free); taken = λ _. refl }) i x (omega arith) (omega arith),
+        subst (λ b. Kept size (stepped s (k + 1) (either b (w + 1) n) id c u keeps)) (sym (ne_eqb n 0 taken)) (stood size s id k v u c kept at below refl refl (kept.known id v at) refl),
+        λ i x e f. spelled (λ i x. Claims slots (v, c) i x n (u, c)) k w (record { proper = word; sees = told; won = λ free. absurd (taken free); taken = λ _. refl }) i x (omega arith) (omega arith),
       ))
 
   -- a look by load
@@ -192,14 +205,14 @@ module _ (size : Size) (slots id k : ℕ) (below : k < size.steps) where
         u,
         keeps,
         tt,
-        stood size s id k v u c kept at below refl refl (known-more s.words k v.known done (kept.known id v at)),
+        stood size s id k v u c kept at below refl refl (known-more s.words k v.known done (kept.known id v at)) refl,
         λ i e. spelled (λ i _. Looks (v, c) i n (u, c)) k 0 (record { sees = told; done = λ _. refl; undone = λ less. absurd (omega arith) }) i 0 (omega arith) refl,
       ))
       (λ undone. (
         v,
         keeps,
         tt,
-        stood size s id k v v c kept at below refl refl (kept.known id v at),
+        stood size s id k v v c kept at below refl refl (kept.known id v at) refl,
         λ i e. spelled (λ i _. Looks (v, c) i n (v, c)) k 0 (record { sees = told; done = λ h. absurd (undone h); undone = λ _. refl }) i 0 (omega arith) refl,
       ))
 
@@ -210,7 +223,7 @@ had-word says ms k w word ks most own h =
     let some = has-times k ks h in
     same-once word (says w) (omega arith)
 
-module _ (size : Size) (s : Board) (id k w : ℕ) (v : View) (c : Taken) (ks : List ℕ) (own : v.held ≡ map (λ j. mark j w) ks) (here : has k ks ≡ true) (kept : Kept size s) (at : get_elem? s.views id ≡ some v) (below : k < size.steps) (small : w < 65) where
+module _ (size : Size) (s : Board) (id k w : ℕ) (v : View) (c : Taken) (ks : List ℕ) (own : v.held ≡ map (λ j. mark j w) ks) (here : has k ks ≡ true) (kept : Kept size s) (at : get_elem? s.views id ≡ some v) (below : k < size.steps) (small : w < 65) (some_part : v.parts ≢ []) where
   was : word_of s.words k ≡ w + 1
   was = had-word claimed v.held k w (word_of s.words k) ks ((sees size s id v k kept at).held w small) own here
 
@@ -238,6 +251,8 @@ module _ (size : Size) (s : Board) (id k w : ℕ) (v : View) (c : Taken) (ks : L
       (λ x _. once-else (word_of s.words k) (128 + x) (λ e. omega arith) ∙ sym (once-else 0 (128 + x) (λ e. omega arith))))
       (λ h. absurd (omega arith))
       (kept.known id v at)
+      refl
+      (λ e. absurd (some_part e))
 
   done : w < size.workers → Kept size (stepped s (k + 1) (128 + w) id c (with_finished k w v) keeps)
   done mine =
@@ -256,15 +271,17 @@ module _ (size : Size) (s : Board) (id k w : ℕ) (v : View) (c : Taken) (ks : L
       (λ j x ne. marked-there j k w x v.finished ne))
       (λ h. omega arith)
       (kept.known id v at)
+      refl
+      (λ e. absurd (some_part e))
 
-module _ (size : Size) (slots id k w : ℕ) (below : k < size.steps) (small : w < 65) (v : View) (c : Taken) (ks : List ℕ) (own : v.held ≡ map (λ j. mark j w) ks) (here : has k ks ≡ true) where
+module _ (size : Size) (slots id k w : ℕ) (below : k < size.steps) (small : w < 65) (v : View) (c : Taken) (ks : List ℕ) (own : v.held ≡ map (λ j. mark j w) ks) (here : has k ks ≡ true) (some_part : v.parts ≢ []) where
   -- a step that is held is given back by store
   pub giving : Allows (Kept size) slots id (v, c) (k + 1) (λ _. 0) (λ _. gives_back (step slots (k + 1) 0 0 none) (v, c) 0)
   giving s kept _ at _ = (
     without_held k v,
     keeps,
     tt,
-    freed size s id k w v c ks own here kept at below small,
+    freed size s id k w v c ks own here kept at below small some_part,
     λ i e. (let k_is : k ≡ i = omega arith in λ t. (without_held (k_is t) v, c)),
   )
 
@@ -274,23 +291,44 @@ module _ (size : Size) (slots id k w : ℕ) (below : k < size.steps) (small : w 
     with_finished k w v,
     keeps,
     tt,
-    done size s id k w v c ks own here kept at below small mine,
+    done size s id k w v c ks own here kept at below small some_part mine,
     λ i x e f. (let k_is : k ≡ i = omega arith in let w_is : w ≡ x = omega arith in λ t. (with_finished (k_is t) (w_is t) v, c)),
   )
 
--- a seat more, which knows nothing
-pub seating : (size : Size) (id : ℕ) (v : View) → Splits (Kept size) id v v nothing
+-- the sum where a view gives a part to a new one
+sum-split : (f : View → ℕ) (views : List View) (id : ℕ) (v left right : View) → get_elem? views id ≡ some v → sum_by f (set views id left ++ right ∷ []) + f v ≡ sum_by f views + f left + f right
+sum-split f views id v left right at =
+    let first = sum-set f views id v left at in
+    let second = sum_by_push f (set views id left) right in
+    omega arith
+
+-- a seat more, which knows nothing, and has half of what the other has of the board
+pub seating : (size : Size) (id : ℕ) (v : View) → Splits (Kept size) id v (with_half v) (half_of v)
 seating size id v s kept at =
-    let same : set s.views id v ≡ s.views = set_again s.views id v at in
-    let more = λ (f : View → ℕ). sum_by_push f s.views nothing in
-    subst (λ (vs : List View). Kept size (record { words = s.words; homes = s.homes; views = vs ++ nothing ∷ [] })) (sym same) (record {
+    let left : View = with_half v in
+    let right : View = half_of v in
+    record {
       spare = kept.spare;
       count = kept.count;
       words = kept.words;
-      held = λ k w small. (let sum = more (λ x. marked k w x.held) in let all = kept.held k w small in omega arith);
-      finished = λ k w small. (let sum = more (λ x. marked k w x.finished) in let all = kept.finished k w small in omega arith);
-      known = λ i x there k h. ⊎_elim (λ t. kept.known i x t k h) (λ e. let empty : has k nothing.known ≡ true = subst (λ (y : View). has k y.known ≡ true) (sym e) h in absurd cc) (at_snoc s.views nothing x i there);
-    })
+      held = λ k w small. (let sum = sum-split (λ (x : View). marked k w x.held) s.views id v left right at in let all = kept.held k w small in omega arith);
+      finished = λ k w small. (let sum = sum-split (λ (x : View). marked k w x.finished) s.views id v left right at in let all = kept.finished k w small in omega arith);
+      known = λ i x there k h. ⊎_elim
+          (λ t. ⊎_elim
+          (λ r. kept.known id v at k (subst (λ (y : View). has k y.known ≡ true) (sym r.1) h))
+          (λ r. kept.known i x r.1 k h)
+          (at_set s.views id i left x t))
+          (λ e. let empty : has k right.known ≡ true = subst (λ (y : View). has k y.known ≡ true) (sym e) h in absurd cc)
+          (at_snoc (set s.views id left) right x i there);
+      once_all = λ d. (let sum = sum-split (λ (x : View). amount d x.parts) s.views id v left right at in let cut = halves-le d v.parts in let all = kept.once_all d in omega arith);
+      spent = λ i x there none. ⊎_elim
+          (λ t. ⊎_elim
+          (λ r. subst (λ (y : View). (y.held ≡ []) × (y.finished ≡ [])) r.1 (kept.spent id v at (no-halves v.parts (ap (λ (y : View). y.parts) r.1 ∙ none))))
+          (λ r. kept.spent i x r.1 none)
+          (at_set s.views id i left x t))
+          (λ e. subst (λ (y : View). (y.held ≡ []) × (y.finished ≡ [])) e (refl, refl))
+          (at_snoc (set s.views id left) right x i there);
+    }
 
 -- the sum where one view takes in another
 sum-joined : (f : View → ℕ) (views : List View) (id other : ℕ) (v u b n : View) → get_elem? views id ≡ some v → get_elem? (set views id b) other ≡ some u → f b ≡ f v + f u → f n ≡ 0
@@ -318,6 +356,18 @@ joining size id v other u s kept at ne there =
           let all : has k (v.known ++ u.known) ≡ true = subst (λ (y : View). has k y.known ≡ true) (sym r.1) h in
           ⊎_elim (kept.known id v at k) (kept.known other u before k) (or-either (has k v.known) (has k u.known) (sym (has-append k v.known u.known) ∙ all)))
           (λ r. kept.known i x r.1 k h)
+          (at_set s.views id i b x t.1))
+          (at_set (set s.views id b) other i nothing x at_i);
+      once_all = λ d. (let sum = sum-joined (λ (x : View). amount d x.parts) s.views id other v u b nothing at there (amount-append d v.parts u.parts) refl in let all = kept.once_all d in omega arith);
+      spent = λ i x at_i none. ⊎_elim
+          (λ t. subst (λ (y : View). (y.held ≡ []) × (y.finished ≡ [])) t.1 (refl, refl))
+          (λ t. ⊎_elim
+          (λ r.
+          let apart = none-left v.parts u.parts (ap (λ (y : View). y.parts) r.1 ∙ none) in
+          let first = kept.spent id v at apart.0 in
+          let second = kept.spent other u before apart.1 in
+          subst (λ (y : View). (y.held ≡ []) × (y.finished ≡ [])) r.1 (λ j. first.0 j ++ second.0 j, λ j. first.1 j ++ second.1 j))
+          (λ r. kept.spent i x r.1 none)
           (at_set s.views id i b x t.1))
           (at_set (set s.views id b) other i nothing x at_i);
     }

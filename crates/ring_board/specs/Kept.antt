@@ -1,5 +1,5 @@
 -- The rule of a board, and what each atomic step tells its seat.
-use Rattle.std.specs.Prelude.{◌≡◌, ◌≢◌, ◌==◌, ℕ, ◌+◌, ◌<◌, ◌≤◌, true, List, Option, length, slice_index, sum_by, if◌then◌else◌}
+use Rattle.std.specs.Prelude.{◌≡◌, ◌≢◌, ◌==◌, ℕ, ◌+◌, ◌<◌, ◌≤◌, true, List, [], Option, length, slice_index, sum_by, if◌then◌else◌}
 use mathlib.Core.Option.{some}
 use lib.ListN.{get_elem?}
 use Rattle.atomic_table.specs.Table.{State, Me, Step}
@@ -7,8 +7,9 @@ use Rattle.ring_names.specs.Lists.{has}
 use Rattle.ring_board.specs.declared.view.Mark.{Mark}
 use Rattle.ring_board.specs.declared.view.Size.{Size}
 use Rattle.ring_board.specs.declared.view.View.{View}
+use Rattle.ring_board.specs.Seats.{parts}
 use Rattle.ring_board.specs.Words.{claimed, finished_word, IsWord}
-use Rattle.ring_board.specs.Views.{marked, with_held, without_held, with_finished, with_known}
+use Rattle.ring_board.specs.Views.{marked, with_held, without_held, with_finished, with_known, with_seen}
 
 -- once where the numbers are the same, and else never
 abbrev pub once : ℕ → ℕ → ℕ
@@ -22,7 +23,12 @@ word_of words k = slice_index words (k + 1)
 abbrev pub Matches : (View → List Mark) → (ℕ → ℕ) → List ℕ → List View → Type 0
 Matches list says words views = (k w : ℕ) → w < 65 → sum_by (λ v. marked k w (list v)) views ≡ once (word_of words k) (says w)
 
--- The rule. No slot of the table is used: it has one for each worker, so that which table it is tells how many there are
+-- how much of the board the parts are, in parts of 2 ^ d
+abbrev pub amount : ℕ → List ℕ → ℕ
+amount d es = sum_by (λ e. parts d e) es
+
+-- The rule. No slot of the table is used: it has one for each worker, so that which table it is tells how many there are. All views
+-- together have the board at most once, and one that has no part of it has no step
 pub record Kept (size : Size) (s : State (Option (Unit {0})) View) : Type 0 where
   pub spare : slice_index s.words 0 ≡ 0
   pub count : length s.words ≡ size.steps + 1
@@ -30,6 +36,8 @@ pub record Kept (size : Size) (s : State (Option (Unit {0})) View) : Type 0 wher
   pub held : Matches (λ v. v.held) claimed s.words s.views
   pub finished : Matches (λ v. v.finished) finished_word s.words s.views
   pub known : (id : ℕ) (v : View) → get_elem? s.views id ≡ some v → (k : ℕ) → has k v.known ≡ true → 128 ≤ word_of s.words k
+  pub once_all : (d : ℕ) → sum_by (λ v. amount d v.parts) s.views ≤ parts d 0
+  pub spent : (id : ℕ) (v : View) → get_elem? s.views id ≡ some v → v.parts ≡ [] → (v.held ≡ []) × (v.finished ≡ [])
 
 -- the word of step k is as the view says of it
 pub record Sees (v : View) (k word : ℕ) : Type 0 where
@@ -45,12 +53,12 @@ Knower = Me (Option (Unit {0})) View
 abbrev pub Turn : Type 0
 Turn = Step (Option (Unit {0}))
 
--- what a claim of step k by worker w finds: it wins where the step is free, and else it changes nothing
+-- what a claim of step k by worker w finds: it wins where the step is free, and else it changes nothing but that the word was seen
 pub record Claims (slots : ℕ) (m : Knower) (k w word : ℕ) (after : Knower) : Type 0 where
   pub proper : IsWord slots word
   pub sees : Sees m.0 k word
   pub won : word ≡ 0 → after ≡ (with_held k w m.0, m.1)
-  pub taken : word ≢ 0 → after ≡ m
+  pub taken : word ≢ 0 → after ≡ (with_seen k word m.0, m.1)
 
 -- what a look at step k finds: a step that is finished is known done from then on
 pub record Looks (m : Knower) (k word : ℕ) (after : Knower) : Type 0 where

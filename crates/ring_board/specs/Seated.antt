@@ -1,5 +1,5 @@
 -- What a seat is seen as.
-use Rattle.std.specs.Prelude.{◌≡◌, [], map}
+use Rattle.std.specs.Prelude.{◌≡◌, [], map, slice_index}
 use Rattle.ring_board.specs.declared.seat.Seat.TheInside.{Inside}
 use Rattle.ring_board.specs.Seats.{SeatView}
 use Rattle.ring_board.specs.Views.{view_of, IsSeat}
@@ -13,6 +13,8 @@ shown a =
       held = map (λ m. m.step) a.seat.me.0.held;
       finished = map (λ m. m.step) a.seat.me.0.finished;
       known = a.seat.me.0.known;
+      seen = a.seat.me.0.seen;
+      share = slice_index a.seat.me.0.parts 0;
     }
 
 -- what holds of the fields together: each step is the seat's own worker's, and the seat has no slot of the table

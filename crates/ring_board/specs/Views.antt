@@ -1,8 +1,8 @@
 -- What the seats of a board know, with the worker of each step.
-use Rattle.std.specs.Prelude.{◌≡◌, ◌==◌, ◌&&◌, ℕ, ◌<◌, List, [], ◌∷◌, ◌++◌, map, Option, Some, None, count_by, if◌then◌else◌}
+use Rattle.std.specs.Prelude.{◌≡◌, ◌==◌, ◌&&◌, ℕ, suc, ◌<◌, List, [], ◌∷◌, ◌++◌, map, Option, Some, None, count_by, if◌then◌else◌}
 use Rattle.ring_board.specs.declared.view.Mark.{Mark}
 use Rattle.ring_board.specs.declared.view.View.{View}
-use Rattle.ring_board.specs.Seats.{SeatView}
+use Rattle.ring_board.specs.Seats.{SeatView, sight}
 
 -- the step k, which worker w has
 abbrev pub mark : ℕ → ℕ → Mark
@@ -17,13 +17,29 @@ abbrev pub unmarked : ℕ → List Mark → List Mark
 unmarked k [] = []
 unmarked k (m ∷ ms) = if k == m.step then ms else m ∷ unmarked k ms
 
--- holds, finished and knows no step
+-- holds, finished and knows no step, lost no claim, and has no part of the board
 abbrev pub nothing : View
-nothing = record { held = []; finished = []; known = [] }
+nothing = record { held = []; finished = []; known = []; seen = []; parts = [] }
+
+-- the first seat's: it has all of the board
+abbrev pub first_view : View
+first_view = record nothing { parts = 0 ∷ [] }
+
+-- half of each part
+abbrev pub halves : List ℕ → List ℕ
+halves es = map suc es
+
+-- has half of its parts of the board
+abbrev pub with_half : View → View
+with_half v = record v { parts = halves v.parts }
+
+-- has half of that view's parts of the board, and nothing else
+abbrev pub half_of : View → View
+half_of v = record nothing { parts = halves v.parts }
 
 -- what two seats know together
 abbrev pub together : View → View → View
-together v u = record { held = v.held ++ u.held; finished = v.finished ++ u.finished; known = v.known ++ u.known }
+together v u = record { held = v.held ++ u.held; finished = v.finished ++ u.finished; known = v.known ++ u.known; seen = v.seen ++ u.seen; parts = v.parts ++ u.parts }
 
 -- worker w holds step k too
 abbrev pub with_held : ℕ → ℕ → View → View
@@ -41,6 +57,10 @@ with_finished k w v = record v { held = unmarked k v.held; finished = mark k w �
 abbrev pub with_known : ℕ → View → View
 with_known k v = record v { known = k ∷ v.known }
 
+-- a claim of step k read this word and was lost
+abbrev pub with_seen : ℕ → ℕ → View → View
+with_seen k word v = record v { seen = sight k word ∷ v.seen }
+
 -- these steps of one worker
 abbrev pub marks_of : Option ℕ → List ℕ → List Mark
 marks_of None ks = []
@@ -48,7 +68,7 @@ marks_of (Some w) ks = map (λ k. mark k w) ks
 
 -- what a seat knows
 abbrev pub view_of : SeatView → View
-view_of s = record { held = marks_of s.worker s.held; finished = marks_of s.worker s.finished; known = s.known }
+view_of s = record { held = marks_of s.worker s.held; finished = marks_of s.worker s.finished; known = s.known; seen = s.seen; parts = s.share ∷ [] }
 
 -- what seats know together
 abbrev pub joined : List SeatView → View

@@ -1,9 +1,9 @@
 //! The board, and its steps.
 
-ghost use Rattle.std.specs.Prelude.{◌≡◌, ◌≢◌, ◌<◌, ◌≤◌, ◌||◌, ℕ, ◌∷◌, true, false, Some, None, is_some, IfOk, IfErr, if◌then◌else◌};
+ghost use Rattle.std.specs.Prelude.{◌≡◌, ◌≢◌, ◌<◌, ◌≤◌, ◌+◌, ◌||◌, ℕ, ◌∷◌, true, false, Some, None, is_some, IfOk, IfErr, if◌then◌else◌};
 ghost use Rattle.ring_names.specs.declared.refusal.Refusal.TheVariants.{OutOfMemory};
 ghost use Rattle.ring_names.specs.Lists.{has};
-ghost use Rattle.ring_board.specs.Seats.{Fits, fresh, removed};
+ghost use Rattle.ring_board.specs.Seats.{Fits, fresh, removed, sight};
 ghost use Rattle.ring_board.specs.Words.{IsWord};
 
 use crate::claim::Claim;
@@ -45,7 +45,7 @@ impl Board {
     pub fn new(alloc: Global, steps: u32, workers: u32) -> Result<(Board, Seat), Refusal>
         requires { workers ≤ 65 }
         ensures board { IfOk result (λ r. (r.0.steps ≡ steps) × (r.0.workers ≡ workers)) }
-        ensures seat { IfOk result (λ r. r.1 ≡ fresh r.0.id None) }
+        ensures seat { IfOk result (λ r. r.1 ≡ fresh r.0.id None 0) }
         ensures memory { IfErr result (λ e. e ≡ OutOfMemory) }
     {
         let size = Size { steps, workers };
@@ -70,12 +70,12 @@ impl Board {
         self.size.workers
     }
 
-    /// A seat more, of that worker. It takes no memory, and is never refused.
+    /// A seat more, of that worker, with half of what the other seat has of the board. It takes no memory, and is never refused.
     pub fn seat(&self, seat: &mut Seat, worker: u32) -> Result<Seat, Refusal>
         requires board { seat.old.board ≡ self.now.id }
         requires worker { worker < self.now.workers }
-        ensures new { IfOk result (λ s. s ≡ fresh self.now.id (Some worker)) }
-        ensures same { seat.new ≡ seat.old }
+        ensures new { IfOk result (λ s. s ≡ fresh self.now.id (Some worker) (seat.old.share + 1)) }
+        ensures same { seat.new ≡ record seat.old { share = seat.old.share + 1 } }
         ensures never { IfErr result (λ e. ⊥) }
     {
         Ok(Seat {
@@ -90,7 +90,8 @@ impl Board {
         requires worker { is_some seat.old.worker ≡ true }
         requires step { step < self.now.steps }
         ensures won { result ≡ Claim.Won → (seat.new ≡ record seat.old { held = step ∷ seat.old.held }) × Fits seat.old step 0 }
-        ensures taken { (word : ℕ) → result ≡ Claim.Taken word → (word ≢ 0) × IsWord self.now.workers word × Fits seat.old step word × (seat.new ≡ seat.old) }
+        ensures read { (word : ℕ) → result ≡ Claim.Taken word → seat.new ≡ record seat.old { seen = sight step word ∷ seat.old.seen } }
+        ensures taken { (word : ℕ) → result ≡ Claim.Taken word → (word ≢ 0) × IsWord self.now.workers word × Fits seat.old step word }
         ensures same { (seat.new.board ≡ seat.old.board) × (seat.new.worker ≡ seat.old.worker) }
     {
         let Some(worker) = seat.worker else {

@@ -4,7 +4,7 @@ ghost use Rattle.std.specs.Prelude.{◌≡◌, ◌+◌, ◌<◌, ◌≤◌, ℕ,
 ghost use Rattle.std.specs.List.{AllByRecursion};
 ghost use Rattle.std.specs.Slots.{slots_items, slots_len, IsFull};
 ghost use Rattle.ring_names.specs.declared.refusal.Refusal.TheVariants.{OutOfMemory};
-ghost use Rattle.ring_board.specs.Seats.{Fits, held_times, finished_times};
+ghost use Rattle.ring_board.specs.Seats.{AreAll, Fits, IsTold, held_times, finished_times};
 ghost use Rattle.ring_board.specs.Views.{IsSeat, joined};
 ghost use Rattle.ring_board.specs.Words.{IsWord};
 
@@ -79,6 +79,7 @@ impl Board {
         requires boards { All (λ s. s.board ≡ self.id) seats.items }
         ensures words { IfOk result (λ v. (vec_len v ≡ self.steps) × All (IsWord self.workers) v.items) }
         ensures told { IfOk result (λ v. All (λ s. (k : ℕ) → k < self.steps → Fits s k (slice_index v.items k)) seats.items) }
+        ensures known { IfOk result (λ v. AreAll seats.items → (k : ℕ) → k < self.steps → IsTold seats.items k (slice_index v.items k)) }
         ensures held_once { (k : ℕ) → held_times k seats.items ≤ 1 }
         ensures finished_once { (k : ℕ) → finished_times k seats.items ≤ 1 }
         ensures memory { IfErr result (λ e. e ≡ OutOfMemory) }

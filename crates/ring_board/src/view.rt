@@ -16,22 +16,31 @@ pub struct Mark {
     pub worker: u32,
 }
 
-/// What a seat holds, what it finished, and the steps that it knows done.
+/// A step, and the word of it that a lost claim read.
+pub struct Sight {
+    pub step: u32,
+    pub word: u64,
+}
+
+/// What a seat holds, what it finished, the steps that it knows done, what its lost claims read, and its parts of the board: the number e stands
+/// for one of 2 to the e equal parts. All seats together have the board once.
 pub struct View {
     pub held: LinkedList<Mark>,
     pub finished: LinkedList<Mark>,
     pub known: LinkedList<u32>,
+    pub seen: LinkedList<Sight>,
+    pub parts: LinkedList<u32>,
 }
 
 pub(crate) struct Rule;
 
 impl TableRule<Option<()>, View, Size> for Rule {
-    ghost use Rattle.ring_board.specs.Views.{nothing};
+    ghost use Rattle.ring_board.specs.Views.{first_view};
     ghost use Rattle.ring_board.specs.Kept.{Kept};
 
     ghost holds = { Kept };
 
-    ghost first = { λ _. nothing };
+    ghost first = { λ _. first_view };
 }
 
 pub(crate) struct Claiming;
@@ -69,11 +78,11 @@ impl Play<Option<()>, View> for Looking {
 pub(crate) struct Seating;
 
 impl Split<View> for Seating {
-    ghost use Rattle.ring_board.specs.Views.{nothing};
+    ghost use Rattle.ring_board.specs.Views.{with_half, half_of};
 
-    ghost left = { λ v. v };
+    ghost left = { with_half };
 
-    ghost right = { λ _. nothing };
+    ghost right = { half_of };
 }
 
 pub(crate) struct Closing;

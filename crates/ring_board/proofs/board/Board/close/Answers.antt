@@ -1,9 +1,17 @@
 -- What the last state of the table says of the words and of the seats.
-use Rattle.std.proofs.Common.{◌≡◌, ap, ◌∙◌, arith}
+use Rattle.std.proofs.Common.{◌≡◌, ◌≤◌, ap, ◌∙◌, arith}
 use Rattle.std.specs.Slots.{slots_items}
 use Rattle.ring_board.specs.Seats.{BoardView}
-use Rattle.ring_board.proofs.Closing.{both-ok, held-once, finished-once, told, proper}
+use Rattle.ring_board.proofs.Closing.{both-ok, held-once, finished-once, told, proper, known-words}
 use Rattle.ring_board.proofs.board.Board.close.Goals as goal
+
+pub returns-clause-known : goal.returns-clause-known
+returns-clause-known c =
+    let steps : c.self.inside.size.steps ≡ c.args.self.steps = ap (λ (z : BoardView). z.steps) c.self.view_is in
+    let few : c.self.inside.table.shared.key.workers ≤ 65 = (let most = c.self.invariant.few in let same = ap (λ z. z.workers) c.self.invariant.key in omega arith) in
+    both-ok _ _ _ c.step_words-words.result
+    (λ v len copied are_all. known-words c.self.inside.table.shared.key c.join-seat.result.id c.join-seat.result.me (slots_items c.close_with-closed.result.words) (slots_items c.close_with-closed.result.slots) c.close_with-closed.ensures.values.2 c.args.seats.items c.join-seat.ensures.seats c.join-seat.ensures.seat.1 few are_all c.args.self.steps v.items (λ k below. copied k (omega arith)))
+    c.step_words-words.ensures.len c.step_words-words.ensures.words
 
 pub returns-clause-words : goal.returns-clause-words
 returns-clause-words c =
