@@ -14,8 +14,8 @@ use Rattle.ring_parts.proofs.NodesNow.{nodes_stay}
 use Rattle.ring_parts.proofs.StepsNow.{steps_open, steps_close, steps_abort}
 use Rattle.ring_parts.proofs.SlotsNow.{slots_stay}
 use Rattle.ring_parts.specs.Kept.{Kept, Tells}
-use Rattle.ring_parts.proofs.Known.{reached_of}
-use Rattle.ring_apply.proofs.Onward.{LeadsOn, leads_on, stored_on, hinted_on}
+use Rattle.ring_parts.proofs.StoreInWorld.{reached_of}
+use Rattle.ring_apply.proofs.TellsOnSteps.{LeadsOn, leads_on, stored_on, hinted_on}
 
 module _ (ring : RingValue) (plan : List Planned) (k : Kept) (w : World) (n : ℕ) (m : Tells ring plan k w) (steps : List StepNow) where
   pub open_on : first_failing (guards ring plan w (OpenCopy n)) ≡ None → steps ≡ changed k.steps n (λ a. record a { is_open = true }) → LeadsOn ring plan w (OpenCopy n) Plain (record k { steps = steps })

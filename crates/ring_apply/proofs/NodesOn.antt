@@ -22,11 +22,11 @@ use Rattle.ring_parts.proofs.StepsNow.{steps_stay}
 use Rattle.ring_parts.proofs.SlotsNow.{slots_stay}
 use Rattle.ring_parts.proofs.SlotsGuards.{slots_lose_kept}
 use Rattle.ring_parts.specs.Kept.{Kept, Tells}
-use Rattle.ring_parts.proofs.Known.{reached_of}
-use Rattle.ring_parts.proofs.Hinted.{both_tell, keeps_tells}
+use Rattle.ring_parts.proofs.StoreInWorld.{reached_of}
+use Rattle.ring_parts.proofs.WhoKeepsHints.{both_tell, keeps_tells}
 use Rattle.ring_apply.specs.Acts.{Forgets}
 use Rattle.ring_apply.specs.Groups.{raised, RaisesGroups}
-use Rattle.ring_apply.proofs.Onward.{LeadsOn, leads_on, stored_on, hinted_on, stored_left, hinted_left}
+use Rattle.ring_apply.proofs.TellsOnSteps.{LeadsOn, leads_on, stored_on, hinted_on, stored_left, hinted_left}
 
 module _ (ring : RingValue) (plan : List Planned) (k : Kept) (w : World) (x : NodeId) (m : Tells ring plan k w) where
   pub down_on : (nodes : List NodeNow) → first_failing (guards ring plan w (Down x)) ≡ None → nodes ≡ changed k.nodes x.0 (λ a. record a { up = false }) → LeadsOn ring plan w (Down x) Plain (record k { nodes = nodes })

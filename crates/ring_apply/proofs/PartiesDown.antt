@@ -35,7 +35,7 @@ use Rattle.ring_parts.proofs.NodesNow.{nodes_meet}
 use Rattle.ring_parts.proofs.StageGuards.{parties_kept}
 use Rattle.ring_parts.proofs.StageSuits.{step_suiting}
 use Rattle.ring_parts.specs.Kept.{Kept, Tells}
-use Rattle.ring_parts.proofs.Known.{reached_of, suits_of}
+use Rattle.ring_parts.proofs.StoreInWorld.{reached_of, suits_of}
 use Rattle.ring_apply.specs.Parties.{owner_kept, mirror_kept, party_kept, lesser, with_down, least_down}
 
 -- ---- the first of a list that is down

@@ -27,9 +27,9 @@ use Rattle.ring_parts.proofs.NodesNow.{nodes_join, nodes_retire, nodes_stay_do}
 use Rattle.ring_parts.proofs.StepsNow.{steps_do}
 use Rattle.ring_parts.proofs.SlotsNow.{slots_do, slots_stay_do}
 use Rattle.ring_parts.specs.Kept.{Kept, Tells}
-use Rattle.ring_parts.proofs.Known.{reached_of, suits_of}
+use Rattle.ring_parts.proofs.StoreInWorld.{reached_of, suits_of}
 use Rattle.ring_apply.specs.Acts.{Forgets, Acts}
-use Rattle.ring_apply.proofs.Onward.{LeadsOn, leads_on, stored_on, hinted_on, stored_left}
+use Rattle.ring_apply.proofs.TellsOnSteps.{LeadsOn, leads_on, stored_on, hinted_on, stored_left}
 
 -- what a step that is done passes: it is no copy
 pub no_copy : (ring : RingValue) (plan : List Planned) (w : World) (n : ℕ) → first_failing (guards ring plan w (Do n)) ≡ None → has_other plan n ≡ true

@@ -6,7 +6,7 @@ use Rattle.ring_clock.specs.Built.{Bumps}
 use Rattle.ring_clock.specs.Clock.{counter, IsAtMost}
 use Rattle.ring_versions.specs.declared.version.Version.{Version}
 use Rattle.ring_versions.specs.Versions.{IsIn}
-use Rattle.ring_model.specs.Found.{IsJoinOfFound}
+use Rattle.ring_parts.specs.Found.{IsJoinOfFound}
 
 -- new is the least clock above old and these: each counter is the greatest of theirs
 pub record RaisesTo (old : List Entry) (These : List Entry → Type 0) (new : List Entry) : Type 0 where

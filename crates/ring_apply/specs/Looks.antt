@@ -7,8 +7,8 @@ use Rattle.ring_versions.specs.Versions.{IsMerge}
 use Rattle.ring_versions.specs.Puts.{ArePuts}
 use Rattle.plan_text.specs.declared.step.Planned.{Planned}
 use Rattle.plan_check.specs.World.{World}
-use Rattle.ring_model.specs.Shows.{Shows, value_of}
-use Rattle.ring_model.specs.Gets.{can_find}
+use Rattle.ring_parts.specs.Shows.{Shows, value_of}
+use Rattle.ring_parts.specs.GetsFind.{can_find}
 use Rattle.ring_state.specs.declared.gets.GetNow.{GetNow}
 use Rattle.ring_state.specs.declared.slots.SlotNow.{SlotNow}
 use Rattle.ring_state.specs.Slots.{slot_now}

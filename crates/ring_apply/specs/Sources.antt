@@ -8,7 +8,7 @@ use Rattle.plan_text.specs.declared.step.Source.{Source}
 use Rattle.plan_text.specs.declared.step.Source.TheVariants.{Owner, Slots}
 use Rattle.ring_names.specs.declared.ids.Slot.{Slot}
 use Rattle.plan_check.specs.World.{World, is_of_key, slot_at}
-use Rattle.ring_model.specs.Shows.{Shows, value_of}
+use Rattle.ring_parts.specs.Shows.{Shows, value_of}
 use Rattle.ring_parts.specs.Puts.{clock_at}
 use Rattle.ring_state.specs.declared.slots.SlotNow.{SlotNow}
 use Rattle.ring_state.specs.Slots.{slot_now}

@@ -4,7 +4,7 @@ ghost use Rattle.std.specs.Prelude.{◌≡◌, ◌<◌, ℕ, List, max, IfOk, If
 ghost use Rattle.ring_names.specs.declared.refusal.Refusal.TheVariants.{OutOfMemory};
 ghost use Rattle.ring_clock.specs.declared.entry.Entry.{Entry as TheEntry};
 ghost use Rattle.ring_clock.specs.Clock.{counter};
-ghost use Rattle.ring_model.specs.Found.{IsJoinOfFound};
+ghost use Rattle.ring_parts.specs.Found.{IsJoinOfFound};
 ghost use Rattle.ring_parts.specs.Puts.{clock_at};
 ghost use Rattle.ring_parts.specs.GetsChange.{found_at};
 ghost use Rattle.ring_apply.specs.Clocks.{RaisesTo, IsClockIn, IsFoundClock, IsNextOfFound};

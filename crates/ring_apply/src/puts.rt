@@ -8,7 +8,7 @@ ghost use Rattle.ring_clock.specs.Clock.{counter};
 ghost use Rattle.plan_stage.specs.Clauses.{first_failing};
 ghost use Rattle.plan_check.specs.declared.event.Event.TheVariants.{StartPut};
 ghost use Rattle.ring_state.specs.Lasts.{last_of};
-ghost use Rattle.ring_model.specs.Found.{IsJoinOfFound};
+ghost use Rattle.ring_parts.specs.Found.{IsJoinOfFound};
 ghost use Rattle.ring_parts.specs.Puts.{clock_at};
 ghost use Rattle.ring_parts.specs.GetsChange.{found_at};
 ghost use Rattle.ring_parts.specs.GetsTests.{is_of_number, has_ended_at};

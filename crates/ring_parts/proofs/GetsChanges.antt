@@ -23,11 +23,11 @@ use Rattle.plan_check.proofs.Answered.{answered}
 use Rattle.plan_check.proofs.Changed.{length_changed, part_changed}
 use Rattle.plan_check.proofs.Passed.{all_met}
 use Rattle.plan_stage.proofs.Truth.{not_is}
-use Rattle.ring_model.specs.Shows.{Shows, value_of}
-use Rattle.ring_model.specs.Clocks.{AreClocksOf}
-use Rattle.ring_model.specs.Gets.{can_find, found_by}
-use Rattle.ring_model.proofs.Asked.{read_shows, end_shows, end_reply, get_stays}
-use Rattle.ring_model.proofs.Showing.{none, other_test, other_value}
+use Rattle.ring_parts.specs.Shows.{Shows, value_of}
+use Rattle.ring_parts.specs.Clocks.{AreClocksOf}
+use Rattle.ring_parts.specs.GetsFind.{can_find, found_by}
+use Rattle.ring_parts.proofs.GetsFound.{read_shows, end_shows, end_reply, get_stays}
+use Rattle.ring_parts.proofs.ShownSets.{none, other_test, other_value}
 use Rattle.ring_state.specs.declared.gets.GetNow.{GetNow}
 use Rattle.ring_state.specs.Marks.{has_mark, with_mark}
 use Rattle.ring_state.specs.Gets.{is_read}

@@ -17,10 +17,10 @@ use Rattle.plan_check.specs.Answers.{answer}
 use Rattle.plan_check.specs.Reached.{Reached}
 use Rattle.plan_check.proofs.Answered.{answered}
 use Rattle.plan_check.proofs.Passing.{some_found}
-use Rattle.ring_model.specs.Shows.{Shows, value_of}
-use Rattle.ring_model.specs.Gets.{found_by}
-use Rattle.ring_model.proofs.Showing.{other_clock, other_value}
-use Rattle.ring_model.proofs.Values.{values_stay}
+use Rattle.ring_parts.specs.Shows.{Shows, value_of}
+use Rattle.ring_parts.specs.GetsFind.{found_by}
+use Rattle.ring_parts.proofs.ShownSets.{other_clock, other_value}
+use Rattle.ring_parts.proofs.ValuesStay.{values_stay}
 use Rattle.ring_state.specs.declared.gets.GetNow.{GetNow}
 use Rattle.ring_parts.specs.Gets.{GetsMeet}
 use Rattle.ring_parts.specs.GetsChange.{changes_gets}

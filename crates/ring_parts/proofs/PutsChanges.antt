@@ -14,9 +14,9 @@ use Rattle.plan_check.specs.Answers.{answer}
 use Rattle.plan_check.specs.Reached.{Reached}
 use Rattle.plan_check.proofs.Answered.{answered}
 use Rattle.plan_check.proofs.Changed.{length_changed, part_changed}
-use Rattle.ring_model.specs.Clocks.{AreClocksOf}
-use Rattle.ring_model.proofs.Kept.{clocks_stay}
-use Rattle.ring_model.proofs.Started.{next_same}
+use Rattle.ring_parts.specs.Clocks.{AreClocksOf}
+use Rattle.ring_parts.proofs.ClocksStay.{clocks_stay}
+use Rattle.ring_parts.proofs.ClocksGrow.{next_same}
 use Rattle.ring_state.specs.declared.puts.PutNow.{PutNow}
 use Rattle.ring_state.specs.Puts.{with_ticket}
 use Rattle.ring_state.proofs.Ticketing.{ticket_read}

@@ -15,8 +15,8 @@ use Rattle.plan_check.specs.Effects.{with_number, step_effect, effect}
 use Rattle.plan_check.specs.Answers.{answer}
 use Rattle.plan_check.specs.Reached.{Reached}
 use Rattle.plan_check.proofs.Answered.{answered}
-use Rattle.ring_model.specs.Clocks.{AreClocksOf, IsOwn, IsLastOf, starts_put}
-use Rattle.ring_model.proofs.Kept.{opening_clocks, clocks_stay}
+use Rattle.ring_parts.specs.Clocks.{AreClocksOf, IsOwn, IsLastOf, starts_put}
+use Rattle.ring_parts.proofs.ClocksStay.{opening_clocks, clocks_stay}
 use Rattle.ring_state.specs.declared.puts.PutNow.{PutNow}
 use Rattle.ring_parts.specs.Puts.{clock_at, PutsMeet}
 use Rattle.ring_parts.specs.PutsChange.{changes_puts}

@@ -25,14 +25,14 @@ use Rattle.plan_check.specs.Reached.{Reached}
 use Rattle.plan_check.proofs.Answered.{answered}
 use Rattle.plan_check.proofs.Changed.{part_before, part_new, part_past}
 use Rattle.plan_check.proofs.Passed.{all_met, among}
-use Rattle.ring_model.specs.Shows.{Shows, ArePutsOf, value_of}
-use Rattle.ring_model.specs.Clocks.{AreClocksOf, IsOwn, IsLastOf, IsInputOf}
-use Rattle.ring_model.specs.Found.{IsJoinOfFound}
-use Rattle.ring_model.specs.Stored.{ShowAll}
-use Rattle.ring_model.proofs.Inputs.{join_is}
-use Rattle.ring_model.proofs.Kept.{clocks_grow}
-use Rattle.ring_model.proofs.Lasting.{all_stay}
-use Rattle.ring_model.proofs.Showing.{other_clock}
+use Rattle.ring_parts.specs.Shows.{Shows, ArePutsOf, value_of}
+use Rattle.ring_parts.specs.Clocks.{AreClocksOf, IsOwn, IsLastOf, IsInputOf}
+use Rattle.ring_parts.specs.Found.{IsJoinOfFound}
+use Rattle.ring_parts.specs.Stored.{ShowAll}
+use Rattle.ring_parts.proofs.ClocksJoin.{join_is}
+use Rattle.ring_parts.proofs.ClocksStay.{clocks_grow}
+use Rattle.ring_parts.proofs.StoredLasts.{all_stay}
+use Rattle.ring_parts.proofs.ShownSets.{other_clock}
 use Rattle.ring_state.specs.declared.puts.PutNow.{PutNow}
 use Rattle.ring_state.specs.declared.gets.GetNow.{GetNow}
 use Rattle.ring_state.specs.Puts.{ticket_at}

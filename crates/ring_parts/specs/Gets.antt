@@ -4,8 +4,8 @@ use Rattle.ring_clock.specs.declared.entry.Entry.{Entry}
 use Rattle.ring_table.specs.Value.{RingValue}
 use Rattle.plan_check.specs.World.{GetRecord, World}
 use Rattle.plan_check.specs.Succession.{replied}
-use Rattle.ring_model.specs.Shows.{Shows, value_of}
-use Rattle.ring_model.specs.Gets.{found_by}
+use Rattle.ring_parts.specs.Shows.{Shows, value_of}
+use Rattle.ring_parts.specs.GetsFind.{found_by}
 use Rattle.ring_state.specs.declared.gets.GetNow.{GetNow}
 use Rattle.ring_state.specs.Gets.{is_read}
 

@@ -15,7 +15,7 @@ use Rattle.ring_state.specs.declared.nodes.NodeNow.{NodeNow}
 use Rattle.ring_state.specs.declared.puts.PutNow.{PutNow}
 use Rattle.ring_state.specs.declared.slots.SlotNow.{SlotNow}
 use Rattle.ring_state.specs.declared.steps.StepNow.{StepNow}
-use Rattle.ring_model.specs.Stored.{ShowAll}
+use Rattle.ring_parts.specs.Stored.{ShowAll}
 use Rattle.ring_parts.specs.NodesTold.{NodesTell}
 use Rattle.ring_parts.specs.Steps.{StepsMeet}
 use Rattle.ring_parts.specs.Slots.{SlotsMeet}

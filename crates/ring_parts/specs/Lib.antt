@@ -1,3 +1,8 @@
+pub mod Shows
+pub mod Clocks
+pub mod GetsFind
+pub mod Found
+pub mod Stored
 pub mod Nodes
 pub mod Steps
 pub mod Slots

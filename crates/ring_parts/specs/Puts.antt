@@ -3,7 +3,7 @@ use Rattle.std.specs.Prelude.{◌≡◌, ℕ, List, [], ◌∷◌, length, Optio
 use Rattle.ring_clock.specs.declared.entry.Entry.{Entry}
 use Rattle.ring_versions.specs.declared.version.Version.{Version}
 use Rattle.plan_check.specs.World.{PutRecord, World}
-use Rattle.ring_model.specs.Clocks.{AreClocksOf, IsLastOf}
+use Rattle.ring_parts.specs.Clocks.{AreClocksOf, IsLastOf}
 use Rattle.ring_state.specs.declared.puts.PutNow.{PutNow}
 use Rattle.ring_state.specs.Puts.{ticket_at}
 

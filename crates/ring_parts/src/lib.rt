@@ -1,7 +1,16 @@
-//! All that a running store keeps, as one value; for each part what it says of a world, and that it goes on to say so when an event
-//! changes both.
+//! What pruned sets of versions show of the puts of a world, and the clocks of its puts; all that a running store keeps, as one
+//! value; for each part what it says of a world, and that it goes on to say so when an event changes both. The laws are between the
+//! code's sets of versions and the world of the definitions, which has no clocks.
 #![tactic(auto)]
 
+mod clocks;
+mod gets;
 mod parts;
+mod shows;
+mod stored;
 
+pub use clocks::{clocks_are_kept, clocks_tell_succession};
+pub use gets::{ended_gets_show_replies, found_clocks_join, gets_are_kept, reads_are_merged};
 pub use parts::Parts;
+pub use shows::{shown_numbers_are_the_latest, shown_sets_merge, slot_is_held_where_covered};
+pub use stored::{puts_come_in_front, stored_sets_grow, stored_sets_last};

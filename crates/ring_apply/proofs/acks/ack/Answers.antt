@@ -2,7 +2,7 @@ use Rattle.std.proofs.Common.{sym, subst, List}
 use Rattle.ring_parts.specs.Kept.{Tells}
 use Rattle.ring_parts.specs.Parts.{ring_of, plan_of, kept_of}
 use Rattle.ring_state.specs.declared.puts.PutNow.{PutNow}
-use Rattle.ring_apply.proofs.Acking.{acked_on}
+use Rattle.ring_apply.proofs.Acknowledgements.{acked_on}
 use Rattle.ring_apply.proofs.acks.ack.Goals as goal
 
 pub returns-clause-next : goal.returns-clause-next

@@ -7,9 +7,9 @@ use Rattle.ring_table.specs.Value.{RingValue}
 use Rattle.plan_stage.specs.Clauses.{first_failing}
 use Rattle.plan_check.specs.World.{passing_below}
 use Rattle.ring_parts.specs.Parts.{ring_of, plan_of, kept_of}
-use Rattle.ring_parts.proofs.Known.{holds}
+use Rattle.ring_parts.proofs.StoreInWorld.{holds}
 use Rattle.ring_apply.specs.Acks.{is_current_in}
-use Rattle.ring_apply.proofs.Acking.{no_put, put_key_there, put_tested}
+use Rattle.ring_apply.proofs.Acknowledgements.{no_put, put_key_there, put_tested}
 use Rattle.ring_apply.proofs.acks.ack_refusal.Goals as goal
 
 pub returns-in_default : goal.returns-in_default

@@ -1,4 +1,4 @@
-use Rattle.ring_apply.proofs.Lessened.{least_in_slots}
+use Rattle.ring_apply.proofs.LeastKeeperDown.{least_in_slots}
 use Rattle.ring_apply.proofs.chunk_keepers.least_keeper.Goals as goal
 
 pub returns-in-Slots : goal.returns-in-Slots

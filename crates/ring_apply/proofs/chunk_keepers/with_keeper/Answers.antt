@@ -4,7 +4,7 @@ use Rattle.ring_names.specs.declared.ids.NodeId.{NodeId}
 use Rattle.ring_state.specs.Nodes.{is_up_at}
 use Rattle.ring_parts.specs.Parts.{ring_of, plan_of, kept_of}
 use Rattle.ring_apply.specs.ChunkKeepers.{keeps_part, IsLeastDown}
-use Rattle.ring_apply.proofs.Lessened.{less_none, less_first, less_old, less_new, part_kept}
+use Rattle.ring_apply.proofs.LeastKeeperDown.{less_none, less_first, less_old, less_new, part_kept}
 use Rattle.ring_apply.proofs.chunk_keepers.with_keeper.Goals as goal
 
 pub returns-then-not-keeps_chunk : goal.returns-then-not-keeps_chunk

@@ -4,7 +4,7 @@ use Rattle.ring_names.specs.declared.ids.NodeId.{NodeId}
 use Rattle.plan_check.specs.World.{World}
 use Rattle.ring_parts.specs.Parts.{ring_of}
 use Rattle.ring_apply.specs.ChunkKeepers.{keeps_part}
-use Rattle.ring_apply.proofs.Lessened.{Lessening, lessening_first, lessening_more, lessening_all}
+use Rattle.ring_apply.proofs.LeastKeeperDown.{Lessening, lessening_first, lessening_more, lessening_all}
 use Rattle.ring_apply.proofs.chunk_keepers.with_keepers.Goals as goal
 
 pub keepers-init : goal.keepers-init

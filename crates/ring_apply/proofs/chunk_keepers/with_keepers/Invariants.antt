@@ -1,7 +1,7 @@
 use Rattle.std.specs.Prelude.{◌&&◌, ◌==◌}
 use Rattle.ring_parts.specs.Parts.{ring_of}
 use Rattle.ring_apply.specs.ChunkKeepers.{keeps_part}
-use Rattle.ring_apply.proofs.Lessened.{Lessening}
+use Rattle.ring_apply.proofs.LeastKeeperDown.{Lessening}
 use Rattle.ring_apply.proofs.chunk_keepers.with_keepers.Given as goal
 
 abbrev pub invariant-keepers : goal.invariant-keepers

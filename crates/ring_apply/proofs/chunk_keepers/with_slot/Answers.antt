@@ -2,7 +2,7 @@ use Rattle.std.specs.List.{list_any}
 use Rattle.std.specs.Prelude.{◌&&◌, ◌==◌}
 use Rattle.ring_parts.specs.Parts.{ring_of, plan_of, kept_of}
 use Rattle.ring_apply.specs.ChunkKeepers.{keeps_part}
-use Rattle.ring_apply.proofs.Lessened.{lessens_same, lessens_no, keepers_keep, none_keep}
+use Rattle.ring_apply.proofs.LeastKeeperDown.{lessens_same, lessens_no, keepers_keep, none_keep}
 use Rattle.ring_apply.proofs.chunk_keepers.with_slot.Goals as goal
 
 pub returns-in-Some : goal.returns-in-Some

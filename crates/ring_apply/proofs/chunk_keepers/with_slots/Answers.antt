@@ -2,8 +2,8 @@ use Rattle.std.specs.Prelude.{ℕ, None}
 use Rattle.plan_check.specs.World.{World, slot_at}
 use Rattle.ring_parts.specs.Parts.{ring_of}
 use Rattle.ring_apply.specs.ChunkKeepers.{keeps_part}
-use Rattle.ring_apply.proofs.Gathering.{none_left}
-use Rattle.ring_apply.proofs.Lessened.{lessening_first, lessening_more, lessening_all}
+use Rattle.ring_apply.proofs.ChunkSources.{none_left}
+use Rattle.ring_apply.proofs.LeastKeeperDown.{lessening_first, lessening_more, lessening_all}
 use Rattle.ring_apply.proofs.chunk_keepers.with_slots.Goals as goal
 
 pub slots-init : goal.slots-init

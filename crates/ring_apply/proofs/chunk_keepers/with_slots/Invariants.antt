@@ -3,7 +3,7 @@ use Rattle.std.specs.Prelude.{None}
 use Rattle.plan_check.specs.World.{slot_at}
 use Rattle.ring_parts.specs.Parts.{ring_of}
 use Rattle.ring_apply.specs.ChunkKeepers.{keeps_part}
-use Rattle.ring_apply.proofs.Lessened.{Lessening}
+use Rattle.ring_apply.proofs.LeastKeeperDown.{Lessening}
 use Rattle.ring_apply.proofs.chunk_keepers.with_slots.Given as goal
 
 abbrev pub invariant-slots : goal.invariant-slots

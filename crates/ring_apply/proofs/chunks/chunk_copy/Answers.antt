@@ -7,10 +7,10 @@ use Rattle.ring_maps.specs.Held.{held, has_place}
 use Rattle.ring_maps.specs.Slots.{held_for}
 use Rattle.ring_store.specs.Stores.{held_at}
 use Rattle.ring_parts.specs.Parts.{ring_of, plan_of, kept_of}
-use Rattle.ring_parts.proofs.Known.{holds, mirror_within}
-use Rattle.ring_apply.proofs.Assured.{copy_there, is_no_other}
+use Rattle.ring_parts.proofs.StoreInWorld.{holds, mirror_within}
+use Rattle.ring_apply.proofs.RequiresMet.{copy_there, is_no_other}
 use Rattle.ring_apply.proofs.StepsOn.{read_at, read_within}
-use Rattle.ring_apply.proofs.Chunked.{copy_known, chunk_few, slot_known, source_known, kept_there, nothing_apart, copied_to, copied_nowhere}
+use Rattle.ring_apply.proofs.ChunkCopies.{copy_known, chunk_few, slot_known, source_known, kept_there, nothing_apart, copied_to, copied_nowhere}
 use Rattle.ring_apply.proofs.chunks.chunk_copy.Goals as goal
 
 pub step-requires : goal.step-requires

@@ -3,7 +3,7 @@ use Rattle.std.specs.Prelude.{nat_lt}
 use Rattle.std.proofs.lemmas.Bool.{and_parts}
 use Rattle.plan_check.specs.Guards.{has_copy}
 use Rattle.ring_parts.specs.Parts.{plan_of}
-use Rattle.ring_apply.proofs.ChunkTested.{chunk_unknown, chunk_not_open, chunk_ready, chunk_done, chunk_party, chunk_keepers}
+use Rattle.ring_apply.proofs.ChunkTests.{chunk_unknown, chunk_not_open, chunk_ready, chunk_done, chunk_party, chunk_keepers}
 use Rattle.ring_apply.proofs.chunks.chunk_refusal.Goals as goal
 
 pub returns-then-not-has_chunk : goal.returns-then-not-has_chunk

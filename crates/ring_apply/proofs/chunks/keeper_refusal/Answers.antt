@@ -4,9 +4,9 @@ use Rattle.ring_names.specs.declared.ids.NodeId.{NodeId}
 use Rattle.ring_names.specs.declared.refusal.Refusal.TheVariants.{NodeDown}
 use Rattle.plan_text.specs.declared.step.Step.{Step}
 use Rattle.ring_parts.specs.Parts.{plan_of}
-use Rattle.ring_apply.proofs.Assured.{copy_there, is_no_other}
+use Rattle.ring_apply.proofs.RequiresMet.{copy_there, is_no_other}
 use Rattle.ring_apply.proofs.StepsOn.{read_at, read_within}
-use Rattle.ring_apply.proofs.ChunkTested.{keepers_tested}
+use Rattle.ring_apply.proofs.ChunkTests.{keepers_tested}
 use Rattle.ring_apply.proofs.chunks.keeper_refusal.Goals as goal
 
 pub step-requires : goal.step-requires

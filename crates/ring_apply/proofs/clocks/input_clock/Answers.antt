@@ -1,9 +1,9 @@
 use Rattle.std.proofs.Common.{List, sym, subst}
 use Rattle.ring_clock.specs.declared.entry.Entry.{Entry}
-use Rattle.ring_model.specs.Found.{IsJoinOfFound}
+use Rattle.ring_parts.specs.Found.{IsJoinOfFound}
 use Rattle.ring_parts.specs.GetsChange.{found_at}
 use Rattle.ring_parts.specs.Puts.{clock_at}
-use Rattle.ring_apply.proofs.Raising.{joined_found, joined_last}
+use Rattle.ring_apply.proofs.ClocksRaised.{joined_found, joined_last}
 use Rattle.ring_apply.proofs.clocks.input_clock.Goals.{in-Some+in_ok-raise_to_put, in_default}
 use Rattle.ring_apply.proofs.clocks.input_clock.Goals as goal
 

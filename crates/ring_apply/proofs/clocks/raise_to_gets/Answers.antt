@@ -1,6 +1,6 @@
 use Rattle.ring_parts.specs.GetsChange.{found_at}
 use Rattle.ring_apply.specs.Clocks.{IsFoundClock}
-use Rattle.ring_apply.proofs.Raising.{raised_none, raised_all, none_found, get_raised}
+use Rattle.ring_apply.proofs.ClocksRaised.{raised_none, raised_all, none_found, get_raised}
 use Rattle.ring_apply.proofs.clocks.raise_to_gets.Goals as goal
 
 pub gets-init : goal.gets-init

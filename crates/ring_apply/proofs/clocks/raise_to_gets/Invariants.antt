@@ -1,7 +1,7 @@
 use Rattle.std.proofs.Common.{length}
 use Rattle.ring_parts.specs.GetsChange.{found_at}
 use Rattle.ring_apply.specs.Clocks.{IsFoundClock}
-use Rattle.ring_apply.proofs.Raising.{RaisedBut}
+use Rattle.ring_apply.proofs.ClocksRaised.{RaisedBut}
 use Rattle.ring_apply.proofs.clocks.raise_to_gets.Given as goal
 
 abbrev pub invariant-gets : goal.invariant-gets

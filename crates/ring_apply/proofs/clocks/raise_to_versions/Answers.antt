@@ -1,5 +1,5 @@
 use Rattle.ring_apply.specs.Clocks.{IsClockIn}
-use Rattle.ring_apply.proofs.Raising.{raised_none, raised_all, none_in, version_raised}
+use Rattle.ring_apply.proofs.ClocksRaised.{raised_none, raised_all, none_in, version_raised}
 use Rattle.ring_apply.proofs.clocks.raise_to_versions.Goals as goal
 
 pub versions-init : goal.versions-init

@@ -1,6 +1,6 @@
 use Rattle.std.proofs.Common.{length}
 use Rattle.ring_apply.specs.Clocks.{IsClockIn}
-use Rattle.ring_apply.proofs.Raising.{RaisedBut}
+use Rattle.ring_apply.proofs.ClocksRaised.{RaisedBut}
 use Rattle.ring_apply.proofs.clocks.raise_to_versions.Given as goal
 
 abbrev pub invariant-versions : goal.invariant-versions

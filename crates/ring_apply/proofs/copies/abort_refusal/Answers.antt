@@ -1,5 +1,5 @@
 use Rattle.std.proofs.Common.{◌∙◌, sym, refl}
-use Rattle.ring_apply.proofs.Tested.{abort_tested}
+use Rattle.ring_apply.proofs.EventTests.{abort_tested}
 use Rattle.ring_apply.proofs.copies.abort_refusal.Goals as goal
 
 pub returns-then-not-has_copy : goal.returns-then-not-has_copy

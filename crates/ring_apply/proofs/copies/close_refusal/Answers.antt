@@ -1,7 +1,7 @@
 use Rattle.std.proofs.Common.{◌≡◌, ◌∙◌, ◌-◌, ℕ, true, false, sym, ap, refl, eq-eqb, ne_eqb}
 use Rattle.std.specs.Prelude.{◌==◌}
 use Rattle.ring_parts.specs.GuardsKept.{chunks_left_kept}
-use Rattle.ring_apply.proofs.Tested.{close_tested, marked_most}
+use Rattle.ring_apply.proofs.EventTests.{close_tested, marked_most}
 use Rattle.ring_apply.proofs.copies.close_refusal.Goals as goal
 
 pub returns-then-not-has_copy : goal.returns-then-not-has_copy

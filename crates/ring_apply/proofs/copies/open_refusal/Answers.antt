@@ -4,8 +4,8 @@ use Rattle.plan_check.proofs.Passed.{ready}
 use Rattle.ring_state.specs.Steps.{is_done_at, is_open_at}
 use Rattle.ring_parts.proofs.StageGuards.{ready_kept}
 use Rattle.ring_parts.specs.Parts.{plan_of}
-use Rattle.ring_apply.proofs.Assured.{copy_there}
-use Rattle.ring_apply.proofs.Tested.{open_unknown, open_done, open_unready, open_ready, neither}
+use Rattle.ring_apply.proofs.RequiresMet.{copy_there}
+use Rattle.ring_apply.proofs.EventTests.{open_unknown, open_done, open_unready, open_ready, neither}
 use Rattle.ring_apply.proofs.copies.open_refusal.Goals.{then-is_done-via-then-is_done, then-is_done-via-else-is_done+then-is_open}
 use Rattle.ring_apply.proofs.copies.open_refusal.Goals as goal
 

@@ -5,8 +5,8 @@ use Rattle.plan_check.specs.Effects.{changed}
 use Rattle.ring_state.specs.declared.gets.GetNow.{GetNow}
 use Rattle.ring_parts.specs.Kept.{Tells}
 use Rattle.ring_parts.specs.Parts.{ring_of, plan_of, kept_of}
-use Rattle.ring_parts.proofs.Known.{holds}
-use Rattle.ring_apply.proofs.Getting.{ends_there, ended_on}
+use Rattle.ring_parts.proofs.StoreInWorld.{holds}
+use Rattle.ring_apply.proofs.GetsStartEnd.{ends_there, ended_on}
 use Rattle.ring_apply.proofs.gets.end_get.Goals as goal
 
 pub unreachable-requires : goal.unreachable-requires

@@ -3,7 +3,7 @@ use Rattle.ring_table.specs.Value.{RingValue}
 use Rattle.plan_stage.specs.Clauses.{first_failing}
 use Rattle.ring_parts.specs.Parts.{ring_of, plan_of, kept_of}
 use Rattle.ring_apply.specs.Gets.{end_guards_kept}
-use Rattle.ring_apply.proofs.Getting.{end_tested}
+use Rattle.ring_apply.proofs.GetsStartEnd.{end_tested}
 use Rattle.ring_apply.proofs.gets.end_refusal.Goals as goal
 
 pub returns : goal.returns

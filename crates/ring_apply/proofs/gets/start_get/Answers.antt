@@ -5,8 +5,8 @@ use Rattle.ring_state.specs.declared.gets.GetNow.{GetNow}
 use Rattle.ring_hints.proofs.Kept.{always_err}
 use Rattle.ring_parts.specs.Kept.{Tells}
 use Rattle.ring_parts.specs.Parts.{ring_of, plan_of, kept_of}
-use Rattle.ring_apply.proofs.Getting.{started_on}
-use Rattle.ring_apply.proofs.Naming.{named_still}
+use Rattle.ring_apply.proofs.GetsStartEnd.{started_on}
+use Rattle.ring_apply.proofs.KeysNumbered.{named_still}
 use Rattle.ring_apply.proofs.gets.start_get.Goals as goal
 
 pub returns-in_err-push-clause-same : goal.returns-in_err-push-clause-same

@@ -4,10 +4,10 @@ use Rattle.ring_maps.specs.Slots.{held_for}
 use Rattle.ring_store.specs.Stores.{held_at}
 use Rattle.ring_hints.specs.Hints.{hinted_at}
 use Rattle.ring_parts.specs.Parts.{ring_of, plan_of, kept_of}
-use Rattle.ring_parts.proofs.Known.{holds}
-use Rattle.ring_apply.proofs.Assured.{owner_ready, mirror_ready}
-use Rattle.ring_apply.proofs.There.{slot_kept}
-use Rattle.ring_apply.proofs.Handed.{handoff_slot, handoff_keeps, handed}
+use Rattle.ring_parts.proofs.StoreInWorld.{holds}
+use Rattle.ring_apply.proofs.RequiresMet.{owner_ready, mirror_ready}
+use Rattle.ring_apply.proofs.PutAndSlot.{slot_kept}
+use Rattle.ring_apply.proofs.Handoffs.{handoff_slot, handoff_keeps, handed}
 use Rattle.ring_apply.proofs.handing.handoff.Goals as goal
 
 pub unreachable-requires : goal.unreachable-requires

@@ -2,9 +2,9 @@ use Rattle.std.proofs.Common.{◌∙◌, not, sym, ap}
 use Rattle.std.specs.Prelude.{is_some}
 use Rattle.plan_check.specs.World.{keeps}
 use Rattle.ring_parts.specs.Parts.{ring_of, plan_of, kept_of}
-use Rattle.ring_parts.proofs.Hinted.{keeps_tells, both_tell}
-use Rattle.ring_apply.proofs.There.{kept_in_ring}
-use Rattle.ring_apply.proofs.Refused.{handoff_no_slot, handoff_not_kept, handoff_down, handoff_last}
+use Rattle.ring_parts.proofs.WhoKeepsHints.{keeps_tells, both_tell}
+use Rattle.ring_apply.proofs.PutAndSlot.{kept_in_ring}
+use Rattle.ring_apply.proofs.FirstRefusal.{handoff_no_slot, handoff_not_kept, handoff_down, handoff_last}
 use Rattle.ring_apply.proofs.handing.handoff_refusal.Goals as goal
 
 pub returns-then-is_none : goal.returns-then-is_none

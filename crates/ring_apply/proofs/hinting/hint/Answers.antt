@@ -10,9 +10,9 @@ use Rattle.ring_hints.specs.Hints.{hinted_at}
 use Rattle.ring_state.specs.declared.puts.PutNow.{PutNow}
 use Rattle.ring_parts.specs.Kept.{Tells}
 use Rattle.ring_parts.specs.Parts.{ring_of, plan_of, kept_of}
-use Rattle.ring_parts.proofs.Known.{holds}
-use Rattle.ring_apply.proofs.There.{key_within, version_some, put_kept, put_slot_in_ring, partition_within, chunk_is, slot_is, slot_kept, index_few}
-use Rattle.ring_apply.proofs.Hinted.{hint_exists, hinted}
+use Rattle.ring_parts.proofs.StoreInWorld.{holds}
+use Rattle.ring_apply.proofs.PutAndSlot.{key_within, version_some, put_kept, put_slot_in_ring, partition_within, chunk_is, slot_is, slot_kept, index_few}
+use Rattle.ring_apply.proofs.Hints.{hint_exists, hinted}
 use Rattle.ring_apply.proofs.hinting.hint.Goals as goal
 
 pub unreachable-requires : goal.unreachable-requires

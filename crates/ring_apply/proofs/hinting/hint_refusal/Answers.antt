@@ -2,8 +2,8 @@ use Rattle.std.proofs.Common.{◌∙◌, refl, not, sym, ap, []}
 use Rattle.plan_check.specs.World.{keeps_other}
 use Rattle.ring_names.specs.declared.refusal.Refusal.TheVariants.{KeeperTaken}
 use Rattle.ring_parts.specs.Parts.{ring_of, plan_of, kept_of}
-use Rattle.ring_parts.proofs.Hinted.{other_tells, both_tell}
-use Rattle.ring_apply.proofs.Refused.{hint_of_none, hint_no_member, hint_down, hint_serves, hint_last, fails, passes_on}
+use Rattle.ring_parts.proofs.WhoKeepsHints.{other_tells, both_tell}
+use Rattle.ring_apply.proofs.FirstRefusal.{hint_of_none, hint_no_member, hint_down, hint_serves, hint_last, fails, passes_on}
 use Rattle.ring_apply.proofs.hinting.hint_refusal.Goals as goal
 
 pub returns-in_default : goal.returns-in_default

@@ -1,6 +1,6 @@
 use Rattle.ring_hints.specs.Hints.{hinted_at}
 use Rattle.ring_state.specs.Nodes.{is_up_at}
-use Rattle.ring_apply.proofs.Keeping.{Passing}
+use Rattle.ring_apply.proofs.SlotKeepers.{Passing}
 use Rattle.ring_apply.proofs.keepers.first_down.Given as goal
 
 abbrev pub invariant-keepers : goal.invariant-keepers

@@ -2,9 +2,9 @@ use Rattle.std.proofs.Common.{ℕ, List, sym, subst}
 use Rattle.ring_names.specs.declared.ids.NodeId.{NodeId}
 use Rattle.ring_versions.specs.declared.version.Version.{Version}
 use Rattle.ring_versions.specs.Versions.{IsMerge}
-use Rattle.ring_model.proofs.Showing.{with_none}
+use Rattle.ring_parts.proofs.ShownSets.{with_none}
 use Rattle.ring_hints.specs.Hints.{hinted_at}
-use Rattle.ring_apply.proofs.Keeping.{Merging, merging_none, merging_more, merging_all}
+use Rattle.ring_apply.proofs.SlotKeepers.{Merging, merging_none, merging_more, merging_all}
 use Rattle.ring_apply.proofs.keepers.merge_hints.Goals as goal
 
 pub keepers-init : goal.keepers-init

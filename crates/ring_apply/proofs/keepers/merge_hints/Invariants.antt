@@ -1,5 +1,5 @@
 use Rattle.ring_hints.specs.Hints.{hinted_at}
-use Rattle.ring_apply.proofs.Keeping.{Merging}
+use Rattle.ring_apply.proofs.SlotKeepers.{Merging}
 use Rattle.ring_apply.proofs.keepers.merge_hints.Given as goal
 
 abbrev pub invariant-keepers : goal.invariant-keepers

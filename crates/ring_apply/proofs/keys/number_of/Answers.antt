@@ -1,5 +1,5 @@
 use Rattle.ring_names.proofs.Places.{get-place, place-below}
-use Rattle.ring_apply.proofs.Naming.{lies_in}
+use Rattle.ring_apply.proofs.KeysNumbered.{lies_in}
 use Rattle.ring_apply.proofs.keys.number_of.Goals as goal
 
 pub place-place-requires : goal.place-place-requires

@@ -1,7 +1,7 @@
 use Rattle.std.proofs.Common.{◌≡◌, ◌∙◌, List, subst}
 use Rattle.plan_text.specs.declared.step.Planned.{Planned}
 use Rattle.ring_parts.specs.GuardsKept.{is_ready_kept}
-use Rattle.ring_apply.proofs.Tested.{ready_is}
+use Rattle.ring_apply.proofs.EventTests.{ready_is}
 use Rattle.ring_apply.proofs.kinds.is_ready.Goals as goal
 
 pub returns : goal.returns

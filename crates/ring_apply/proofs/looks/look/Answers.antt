@@ -5,8 +5,8 @@ use Rattle.ring_space.specs.Place.{place_of}
 use Rattle.ring_versions.specs.declared.version.Version.{Version}
 use Rattle.ring_versions.specs.Versions.{IsMerge}
 use Rattle.ring_parts.specs.Parts.{ring_of, plan_of, kept_of}
-use Rattle.ring_parts.proofs.Known.{holds}
-use Rattle.ring_apply.proofs.Looking.{get_key_there, reads_there, finds_shown, chunk_is}
+use Rattle.ring_parts.proofs.StoreInWorld.{holds}
+use Rattle.ring_apply.proofs.SlotHasOfKey.{get_key_there, reads_there, finds_shown, chunk_is}
 use Rattle.ring_apply.proofs.looks.look.Goals as goal
 
 pub unreachable-requires : goal.unreachable-requires

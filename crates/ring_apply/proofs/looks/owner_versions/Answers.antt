@@ -3,7 +3,7 @@ use Rattle.ring_store.specs.Stores.{held_at}
 use Rattle.ring_versions.specs.declared.version.Version.{Version}
 use Rattle.ring_versions.specs.Versions.{IsMerge}
 use Rattle.ring_apply.specs.Looks.{owned_at}
-use Rattle.ring_apply.proofs.Looking.{owner_merged, owner_has_none, no_owner}
+use Rattle.ring_apply.proofs.SlotHasOfKey.{owner_merged, owner_has_none, no_owner}
 use Rattle.ring_apply.proofs.looks.owner_versions.Goals.{in-Some+in-Some-key_versions_in+in_ok-merge, in-Some+in_default-key_versions_in, in_default}
 use Rattle.ring_apply.proofs.looks.owner_versions.Goals as goal
 

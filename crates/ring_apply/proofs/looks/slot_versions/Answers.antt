@@ -5,7 +5,7 @@ use Rattle.ring_hints.specs.Views.{in_keepers}
 use Rattle.ring_versions.specs.declared.version.Version.{Version}
 use Rattle.ring_apply.specs.Keepers.{MergesOthers}
 use Rattle.ring_apply.specs.Looks.{owned_at}
-use Rattle.ring_apply.proofs.Keeping.{among_all, none_among, under_copy}
+use Rattle.ring_apply.proofs.SlotKeepers.{among_all, none_among, under_copy}
 use Rattle.ring_apply.proofs.looks.slot_versions.Goals.{in-Some+in_ok-merge_hints, in_default}
 use Rattle.ring_apply.proofs.looks.slot_versions.Goals as goal
 

@@ -1,5 +1,5 @@
 use Rattle.std.proofs.Common.{◌∙◌, sym, refl}
-use Rattle.ring_apply.proofs.Tested.{down_tested}
+use Rattle.ring_apply.proofs.EventTests.{down_tested}
 use Rattle.ring_apply.proofs.nodes.down_refusal.Goals as goal
 
 pub returns-then-not-is_member : goal.returns-then-not-is_member

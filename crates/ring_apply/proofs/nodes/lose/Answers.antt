@@ -5,8 +5,8 @@ use Rattle.ring_store.specs.Stores.{held_at}
 use Rattle.ring_hints.specs.Hints.{hinted_at}
 use Rattle.ring_parts.specs.Parts.{ring_of, plan_of, kept_of}
 use Rattle.ring_apply.specs.Groups.{RaisesGroups}
-use Rattle.ring_apply.proofs.Assured.{may_be_raised, few_lost}
-use Rattle.ring_apply.proofs.Shown.{clears}
+use Rattle.ring_apply.proofs.RequiresMet.{may_be_raised, few_lost}
+use Rattle.ring_apply.proofs.ShownLeft.{clears}
 use Rattle.ring_apply.proofs.NodesOn.{lose_on}
 use Rattle.ring_apply.proofs.nodes.lose.Goals as goal
 

@@ -1,7 +1,7 @@
 use Rattle.std.proofs.Common.{◌∙◌, ◌≡◌, false, true, nat_lt, sym, ap, refl, arith, le-ltb, lt-ltb}
 use Rattle.ring_table.specs.Value.{RingValue}
 use Rattle.ring_parts.specs.Parts.{ring_of}
-use Rattle.ring_apply.proofs.Tested.{lose_tested}
+use Rattle.ring_apply.proofs.EventTests.{lose_tested}
 use Rattle.ring_apply.proofs.nodes.lose_refusal.Goals as goal
 
 pub returns-then-not-is_member : goal.returns-then-not-is_member

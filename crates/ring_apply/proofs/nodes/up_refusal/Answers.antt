@@ -1,5 +1,5 @@
 use Rattle.std.proofs.Common.{◌∙◌, sym, refl}
-use Rattle.ring_apply.proofs.Tested.{up_tested}
+use Rattle.ring_apply.proofs.EventTests.{up_tested}
 use Rattle.ring_apply.proofs.nodes.up_refusal.Goals as goal
 
 pub returns-then-not-is_member : goal.returns-then-not-is_member

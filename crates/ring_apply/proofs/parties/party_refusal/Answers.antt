@@ -4,7 +4,7 @@ use Rattle.ring_names.specs.declared.ids.NodeId.{NodeId}
 use Rattle.ring_names.specs.declared.refusal.Refusal.TheVariants.{NodeDown}
 use Rattle.plan_text.specs.declared.step.Step.{Step}
 use Rattle.ring_parts.specs.Parts.{ring_of, plan_of, kept_of}
-use Rattle.ring_apply.proofs.Assured.{known_copy, copy_there, is_no_other}
+use Rattle.ring_apply.proofs.RequiresMet.{known_copy, copy_there, is_no_other}
 use Rattle.ring_apply.proofs.StepsOn.{read_at, read_within}
 use Rattle.ring_apply.proofs.PartiesDown.{party_tested}
 use Rattle.ring_apply.proofs.parties.party_refusal.Goals as goal

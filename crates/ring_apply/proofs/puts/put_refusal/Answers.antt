@@ -3,8 +3,8 @@ use Rattle.ring_names.specs.Names.{place}
 use Rattle.plan_stage.specs.Clauses.{first_failing}
 use Rattle.ring_parts.specs.Parts.{ring_of, plan_of, kept_of}
 use Rattle.ring_apply.specs.Puts.{seen_guards_kept}
-use Rattle.ring_apply.proofs.Putting.{known_key, none_named, some_named}
-use Rattle.ring_apply.proofs.Testing.{none_listed, some_listed}
+use Rattle.ring_apply.proofs.PutStarts.{known_key, none_named, some_named}
+use Rattle.ring_apply.proofs.NumberTests.{none_listed, some_listed}
 use Rattle.ring_apply.proofs.puts.put_refusal.Goals as goal
 
 pub returns-in-Some : goal.returns-in-Some

@@ -7,11 +7,11 @@ use Rattle.ring_state.specs.Lasts.{last_of}
 use Rattle.ring_hints.proofs.Kept.{always_err}
 use Rattle.ring_parts.specs.Kept.{Tells}
 use Rattle.ring_parts.specs.Parts.{ring_of, plan_of, kept_of}
-use Rattle.ring_parts.proofs.Known.{holds}
+use Rattle.ring_parts.proofs.StoreInWorld.{holds}
 use Rattle.ring_apply.specs.Puts.{IsNewPut}
-use Rattle.ring_apply.proofs.Counted.{few_joined}
-use Rattle.ring_apply.proofs.Naming.{named_still}
-use Rattle.ring_apply.proofs.Putting.{put_on, lasts_same}
+use Rattle.ring_apply.proofs.CountersFew.{few_joined}
+use Rattle.ring_apply.proofs.KeysNumbered.{named_still}
+use Rattle.ring_apply.proofs.PutStarts.{put_on, lasts_same}
 use Rattle.ring_apply.proofs.puts.start_put.Goals as goal
 
 pub new_put-requires-clause-clocks : goal.new_put-requires-clause-clocks

@@ -4,9 +4,9 @@ use Rattle.std.proofs.Props.{props}
 use Rattle.ring_space.specs.Place.{place_of}
 use Rattle.ring_table.specs.Value.{RingValue}
 use Rattle.ring_parts.specs.Parts.{ring_of, plan_of, kept_of}
-use Rattle.ring_parts.proofs.Known.{holds}
-use Rattle.ring_apply.proofs.Looking.{get_key_there, chunk_is}
-use Rattle.ring_apply.proofs.Reading.{no_get, no_slot, get_ended, slot_read, nodes_stop}
+use Rattle.ring_parts.proofs.StoreInWorld.{holds}
+use Rattle.ring_apply.proofs.SlotHasOfKey.{get_key_there, chunk_is}
+use Rattle.ring_apply.proofs.SlotReads.{no_get, no_slot, get_ended, slot_read, nodes_stop}
 use Rattle.ring_apply.proofs.reads.read_refusal.Goals.{In-Some, After-n}
 use Rattle.ring_apply.proofs.reads.read_refusal.Goals as goal
 

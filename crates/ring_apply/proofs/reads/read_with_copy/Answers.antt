@@ -3,9 +3,9 @@ use Rattle.std.proofs.Props.{props}
 use Rattle.ring_state.specs.declared.gets.GetNow.{GetNow}
 use Rattle.ring_parts.specs.Kept.{Tells}
 use Rattle.ring_parts.specs.Parts.{ring_of, plan_of, kept_of}
-use Rattle.ring_parts.proofs.Known.{holds}
-use Rattle.ring_apply.proofs.Looking.{reads_there}
-use Rattle.ring_apply.proofs.Reading.{read_on}
+use Rattle.ring_parts.proofs.StoreInWorld.{holds}
+use Rattle.ring_apply.proofs.SlotHasOfKey.{reads_there}
+use Rattle.ring_apply.proofs.SlotReads.{read_on}
 use Rattle.ring_apply.proofs.reads.read_with_copy.Goals as goal
 
 pub set_found-requires : goal.set_found-requires

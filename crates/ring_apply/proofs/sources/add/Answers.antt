@@ -1,6 +1,6 @@
 use Rattle.ring_maps.specs.Held.{held}
 use Rattle.ring_maps.specs.Slots.{held_for}
-use Rattle.ring_apply.proofs.Gathering.{fresh_still, merged_still}
+use Rattle.ring_apply.proofs.ChunkSources.{fresh_still, merged_still}
 use Rattle.ring_apply.proofs.sources.add.Goals as goal
 
 pub returns-clause-ok : goal.returns-clause-ok

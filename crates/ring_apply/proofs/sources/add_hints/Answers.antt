@@ -2,7 +2,7 @@ use Rattle.std.specs.List.{list_any}
 use Rattle.ring_maps.specs.Slots.{held_for}
 use Rattle.plan_check.specs.Versions.{some_hinted}
 use Rattle.ring_parts.specs.Parts.{ring_of, plan_of, kept_of}
-use Rattle.ring_apply.proofs.Gathering.{gathers_same, gathers_no, keepers_have, none_have}
+use Rattle.ring_apply.proofs.ChunkSources.{gathers_same, gathers_no, keepers_have, none_have}
 use Rattle.ring_apply.proofs.sources.add_hints.Goals as goal
 
 pub returns-in_ok-add_keepers-clause-ok : goal.returns-in_ok-add_keepers-clause-ok

@@ -5,7 +5,7 @@ use Rattle.ring_maps.specs.Held.{held}
 use Rattle.ring_maps.specs.Slots.{held_for}
 use Rattle.ring_hints.specs.Hints.{hinted_at}
 use Rattle.plan_check.specs.World.{World}
-use Rattle.ring_apply.proofs.Gathering.{Visits, visits_first, visits_more, visits_all, gathers, gathers_none}
+use Rattle.ring_apply.proofs.ChunkSources.{Visits, visits_first, visits_more, visits_all, gathers, gathers_none}
 use Rattle.ring_apply.proofs.sources.add_keepers.Goals as goal
 
 pub keepers-init : goal.keepers-init

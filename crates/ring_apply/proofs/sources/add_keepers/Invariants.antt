@@ -1,6 +1,6 @@
 use Rattle.std.proofs.Common.{◌≡◌}
 use Rattle.ring_maps.specs.Slots.{space_of, held_for}
-use Rattle.ring_apply.proofs.Gathering.{Visits}
+use Rattle.ring_apply.proofs.ChunkSources.{Visits}
 use Rattle.ring_apply.proofs.sources.add_keepers.Given as goal
 
 abbrev pub invariant-keepers : goal.invariant-keepers

@@ -3,7 +3,7 @@ use Rattle.ring_maps.specs.Slots.{held_for}
 use Rattle.ring_store.specs.Stores.{held_at}
 use Rattle.plan_check.specs.World.{stage_now}
 use Rattle.ring_parts.specs.Parts.{ring_of, plan_of, kept_of}
-use Rattle.ring_apply.proofs.Gathering.{gathers, gathers_none, owner_shows, owner_there}
+use Rattle.ring_apply.proofs.ChunkSources.{gathers, gathers_none, owner_shows, owner_there}
 use Rattle.ring_apply.proofs.sources.add_owner.Goals as goal
 
 pub unreachable-requires : goal.unreachable-requires

@@ -3,7 +3,7 @@ use Rattle.ring_maps.specs.Slots.{held_for}
 use Rattle.plan_check.specs.Versions.{slot_has, some_hinted}
 use Rattle.plan_check.specs.World.{World, slot_at, stage_now}
 use Rattle.ring_parts.specs.Parts.{ring_of, plan_of}
-use Rattle.ring_apply.proofs.Gathering.{visits_first, visits_more, visits_all, gathers_both, kept_later, none_left}
+use Rattle.ring_apply.proofs.ChunkSources.{visits_first, visits_more, visits_all, gathers_both, kept_later, none_left}
 use Rattle.ring_apply.proofs.sources.add_slots.Goals as goal
 
 pub slots-init : goal.slots-init

@@ -4,7 +4,7 @@ use Rattle.plan_check.specs.World.{slot_at}
 use Rattle.ring_maps.specs.Slots.{space_of, held_for}
 use Rattle.ring_parts.specs.Parts.{ring_of, plan_of}
 use Rattle.ring_apply.specs.Sources.{are_kept}
-use Rattle.ring_apply.proofs.Gathering.{Visits}
+use Rattle.ring_apply.proofs.ChunkSources.{Visits}
 use Rattle.ring_apply.proofs.sources.add_slots.Given as goal
 
 abbrev pub invariant-slots : goal.invariant-slots

@@ -6,7 +6,7 @@ use Rattle.plan_check.specs.World.{World, stage_now}
 use Rattle.ring_parts.specs.Puts.{clock_at}
 use Rattle.ring_parts.specs.Parts.{ring_of, plan_of, Meets}
 use Rattle.ring_apply.specs.Sources.{ShowsChunk}
-use Rattle.ring_apply.proofs.Gathering.{from_nothing, from_slots}
+use Rattle.ring_apply.proofs.ChunkSources.{from_nothing, from_slots}
 use Rattle.ring_apply.proofs.sources.read_source.Goals as goal
 
 pub returns-in_ok-add_owner-in-Owner-clause-shows : goal.returns-in_ok-add_owner-in-Owner-clause-shows

@@ -1,4 +1,4 @@
-use Rattle.ring_apply.proofs.Assured.{may_be_mirrored}
+use Rattle.ring_apply.proofs.RequiresMet.{may_be_mirrored}
 use Rattle.ring_apply.proofs.steps.act.Goals as goal
 
 pub raise-requires : goal.raise-requires

@@ -1,8 +1,8 @@
 use Rattle.std.proofs.Common.{◌∙◌, sym}
 use Rattle.ring_parts.specs.Parts.{plan_of}
-use Rattle.ring_apply.proofs.Assured.{other_there}
+use Rattle.ring_apply.proofs.RequiresMet.{other_there}
 use Rattle.ring_apply.proofs.StepsOn.{read_at, read_within}
-use Rattle.ring_apply.proofs.Tested.{do_unknown, do_done, do_unready, do_ready}
+use Rattle.ring_apply.proofs.EventTests.{do_unknown, do_done, do_unready, do_ready}
 use Rattle.ring_apply.proofs.steps.do_refusal.Goals as goal
 
 pub returns-then-not-has_other : goal.returns-then-not-has_other

@@ -3,7 +3,7 @@ use Rattle.plan_check.specs.Approval.{Approval}
 use Rattle.ring_state.specs.declared.steps.StepNow.{StepNow}
 use Rattle.ring_parts.specs.Kept.{Tells}
 use Rattle.ring_parts.specs.Parts.{ring_of, plan_of, kept_of}
-use Rattle.ring_apply.proofs.Assured.{done_there, done_other}
+use Rattle.ring_apply.proofs.RequiresMet.{done_there, done_other}
 use Rattle.ring_apply.proofs.StepsOn.{read_at, read_within, do_on}
 use Rattle.ring_apply.proofs.steps.do_step.Goals as goal
 

@@ -1,5 +1,5 @@
 use Rattle.std.proofs.Common.{◌∙◌, sym, refl}
-use Rattle.ring_apply.proofs.Tested.{mirror_tested, retire_tested}
+use Rattle.ring_apply.proofs.EventTests.{mirror_tested, retire_tested}
 use Rattle.ring_apply.proofs.steps.kind_refusal.Goals as goal
 
 pub returns-then-keeps_other : goal.returns-then-keeps_other

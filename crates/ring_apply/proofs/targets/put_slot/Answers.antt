@@ -1,8 +1,8 @@
 use Rattle.std.proofs.Common.{◌∙◌, ◌<◌, sym, ap, subst}
 use Rattle.std.proofs.Props.{props}
 use Rattle.ring_parts.specs.Parts.{ring_of, plan_of, kept_of}
-use Rattle.ring_parts.proofs.Known.{holds}
-use Rattle.ring_apply.proofs.There.{key_within, slot_is, partition_within, exists}
+use Rattle.ring_parts.proofs.StoreInWorld.{holds}
+use Rattle.ring_apply.proofs.PutAndSlot.{key_within, slot_is, partition_within, exists}
 use Rattle.ring_apply.proofs.targets.put_slot.Goals as goal
 
 pub place-place-requires : goal.place-place-requires

@@ -10,10 +10,10 @@ use Rattle.ring_store.specs.Stores.{held_at}
 use Rattle.ring_state.specs.declared.puts.PutNow.{PutNow}
 use Rattle.ring_parts.specs.Kept.{Tells}
 use Rattle.ring_parts.specs.Parts.{ring_of, plan_of, kept_of}
-use Rattle.ring_parts.proofs.Known.{holds}
-use Rattle.ring_apply.proofs.Assured.{owner_ready, mirror_ready}
-use Rattle.ring_apply.proofs.There.{key_within, put_kept, put_slot_in_ring, partition_within, chunk_is, slot_is, slot_kept, index_few}
-use Rattle.ring_apply.proofs.Written.{write_exists, written}
+use Rattle.ring_parts.proofs.StoreInWorld.{holds}
+use Rattle.ring_apply.proofs.RequiresMet.{owner_ready, mirror_ready}
+use Rattle.ring_apply.proofs.PutAndSlot.{key_within, put_kept, put_slot_in_ring, partition_within, chunk_is, slot_is, slot_kept, index_few}
+use Rattle.ring_apply.proofs.Writes.{write_exists, written}
 use Rattle.ring_apply.proofs.writing.write.Goals as goal
 
 pub unreachable-requires : goal.unreachable-requires

@@ -1,4 +1,4 @@
-use Rattle.ring_core.proofs.Copied.{lists_none, not_asked}
+use Rattle.ring_core.proofs.ReplyCopies.{lists_none, not_asked}
 use Rattle.ring_core.proofs.events.happen_with_copy.Goals as goal
 
 pub copy_of-copy-requires : goal.copy_of-copy-requires

@@ -1,9 +1,9 @@
 use Rattle.std.proofs.Common.{sym}
 use Rattle.std.proofs.Props.{props}
 use Rattle.plan_check.proofs.Answered.{refused}
-use Rattle.ring_parts.proofs.Known.{holds}
+use Rattle.ring_parts.proofs.StoreInWorld.{holds}
 use Rattle.ring_core.specs.World.{ring_of, plan_of}
-use Rattle.ring_core.proofs.Sparing.{never_memory}
+use Rattle.ring_core.proofs.GuardRefusals.{never_memory}
 use Rattle.ring_core.proofs.world.World.allows.Goals as goal
 
 -- src/world.rt:40:5

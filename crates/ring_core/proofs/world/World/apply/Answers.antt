@@ -1,5 +1,5 @@
-use Rattle.ring_core.proofs.Going.{sound_still, puts_few, gets_few, counts_grow}
-use Rattle.ring_core.proofs.Promised.{all_fresh}
+use Rattle.ring_core.proofs.SoundAfterEvent.{sound_still, puts_few, gets_few, counts_grow}
+use Rattle.ring_core.proofs.RunPromises.{all_fresh}
 use Rattle.ring_core.proofs.world.World.apply.Goals as goal
 
 -- src/world.rt:62:9

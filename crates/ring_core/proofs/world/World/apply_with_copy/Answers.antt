@@ -1,9 +1,9 @@
 use Rattle.std.specs.Prelude.{length}
 use Rattle.ring_parts.specs.Parts.{Answers, Stays}
-use Rattle.ring_core.proofs.Going.{sound_still, puts_few, gets_few, counts_grow}
-use Rattle.ring_core.proofs.Copied.{alone, ok_alone, err_alone, ok_beside}
+use Rattle.ring_core.proofs.SoundAfterEvent.{sound_still, puts_few, gets_few, counts_grow}
+use Rattle.ring_core.proofs.ReplyCopies.{alone, ok_alone, err_alone, ok_beside}
 use Rattle.ring_core.specs.Promises.{IsFresh}
-use Rattle.ring_core.proofs.Promised.{all_fresh}
+use Rattle.ring_core.proofs.RunPromises.{all_fresh}
 use Rattle.ring_core.proofs.world.World.apply_with_copy.Goals as goal
 
 pub invariant_of-self : goal.invariant_of-self

@@ -4,7 +4,7 @@ use Rattle.plan_text.specs.declared.step.Source.{Source}
 use Rattle.plan_stage.specs.Parties.{source_slots}
 use Rattle.plan_check.specs.World.{slot_at}
 use Rattle.ring_core.specs.Transfers.{owns_kept}
-use Rattle.ring_core.proofs.Transferring.{any_index}
+use Rattle.ring_core.proofs.OpenCopies.{any_index}
 use Rattle.ring_core.proofs.world.World.gives.Goals as goal
 
 pub returns-in-Slots : goal.returns-in-Slots

@@ -2,7 +2,7 @@ use Rattle.std.proofs.Common.{◌≡◌, ◌∙◌, ℕ, ◌+◌, ap, sym, subst
 use Rattle.ring_table.specs.Value.{RingValue}
 use Rattle.ring_core.specs.World.{ring_of}
 use Rattle.ring_core.proofs.Masks.{Masked, mask_with, mask_without}
-use Rattle.ring_core.proofs.Promised.{mask_meets}
+use Rattle.ring_core.proofs.RunPromises.{mask_meets}
 use Rattle.ring_core.proofs.world.World.held_slots.Goals as goal
 use Rattle.ring_core.proofs.world.World.held_slots.Goals.{then-holds, else-holds}
 

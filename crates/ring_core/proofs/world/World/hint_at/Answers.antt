@@ -1,4 +1,4 @@
-use Rattle.ring_core.proofs.Kept.{hint_kept}
+use Rattle.ring_core.proofs.HintsKept.{hint_kept}
 use Rattle.ring_core.proofs.world.World.hint_at.Goals as goal
 
 pub returns-clause-some : goal.returns-clause-some

@@ -1,4 +1,4 @@
-use Rattle.ring_core.proofs.Covering.{NoneBefore}
+use Rattle.ring_core.proofs.KeepersCover.{NoneBefore}
 use Rattle.ring_core.proofs.world.World.hints_cover.Given as goal
 
 abbrev pub invariant-keepers : goal.invariant-keepers

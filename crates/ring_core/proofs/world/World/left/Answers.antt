@@ -1,5 +1,5 @@
 use Rattle.std.proofs.Common.{◌∙◌}
-use Rattle.ring_core.proofs.Counted.{left_is}
+use Rattle.ring_core.proofs.StepsLeft.{left_is}
 use Rattle.ring_core.specs.World.{plan_of}
 use Rattle.ring_core.proofs.world.World.left.Goals as goal
 

@@ -2,9 +2,9 @@ use Rattle.std.proofs.Common.{◌∙◌, ℕ, ◌≤◌, sym, subst}
 use Rattle.std.proofs.Props.{props}
 use Rattle.ring_table.specs.declared.allowance.Side.TheVariants.{Both}
 use Rattle.ring_parts.specs.Parts.{kept_of}
-use Rattle.ring_parts.proofs.Known.{holds}
+use Rattle.ring_parts.proofs.StoreInWorld.{holds}
 use Rattle.ring_core.specs.World.{ring_of, plan_of}
-use Rattle.ring_core.proofs.Transferring.{transfers_told}
+use Rattle.ring_core.proofs.OpenCopies.{transfers_told}
 use Rattle.ring_core.proofs.world.World.open_transfers.Goals as goal
 
 pub returns-clause-now : goal.returns-clause-now

@@ -5,7 +5,7 @@ use Rattle.plan_check.specs.World.{slot_at}
 use Rattle.ring_parts.specs.Parts.{kept_of}
 use Rattle.ring_core.specs.Tables.{values_below, table_of, owner_kept}
 use Rattle.ring_core.specs.World.{ring_of, plan_of}
-use Rattle.ring_core.proofs.Tabled.{length_values, table_told, table_last}
+use Rattle.ring_core.proofs.SlotOwners.{length_values, table_told, table_last}
 use Rattle.ring_core.proofs.world.World.table.Goals as goal
 
 -- the rows are the table of the kept owners

@@ -8,7 +8,7 @@ use Rattle.ring_state.specs.KeyTable.{KeyTable}
 use Rattle.ring_state.specs.Nodes.{node_at_start}
 use Rattle.ring_state.specs.Slots.{slot_at_start}
 use Rattle.ring_state.specs.Steps.{step_at_start}
-use Rattle.ring_parts.proofs.Starting.{tells_start}
+use Rattle.ring_parts.proofs.TellsStart.{tells_start}
 use Rattle.ring_parts.proofs.parts.Parts.start.Goals as goal
 
 -- src/parts.rt:37:5
