@@ -1,19 +1,27 @@
-//! Rounds by urgency: in each the copies whose groups have most left come first. It takes copies with any number of parties.
+//! Rounds by urgency: in each the groups that have most left come first. It takes copies with any number of parties.
+//!
+//! A copy waits in the queue of the group that needed most rounds when the copy came there. In a round the groups with a queue are served by their
+//! needs, each until it has as many copies as its allowance, or until some copies in turn found another group full. So a round looks at few copies that do not
+//! get a place in it, and all of them together at few more than there are.
 
 use crate::groups::Groups;
 use crate::numbers::{at, lower, raise, set, small};
 use ring_names::{Refusal, Rows};
 use std::alloc::Global;
 use std::cmp::Reverse;
+use std::collections::VecDeque;
 
-// How often copies may be looked at in all.
-const LOOKS: usize = 4_000_000;
+// How often groups and copies may be looked at in all.
+const LOOKS: usize = 16_000_000;
 
-// A copy, by how many rounds its parties need at least: the most first.
+// How many copies of a group may find no place in a round before the next group is served.
+const MISSES: u32 = 16;
+
+// A group, by how many rounds it needs at least: the most first.
 #[derive(Clone, Copy, Debug, PartialEq, Eq, PartialOrd, Ord, Drop)]
 struct Urgent {
     needs: Reverse<u32>,
-    copy: u32,
+    group: u32,
 }
 
 // Copies that wait for their round.
@@ -24,10 +32,15 @@ struct Waiting<'a> {
     parties: &'a Rows,
     // how many copies of each group wait
     left: Vec<u32>,
-    // the copies that wait
-    copies: Vec<u32>,
+    // how many copies of each group are in the round
+    used: Vec<u32>,
+    // the copies that wait, by group
+    queues: Vec<VecDeque<u32>>,
     // the round of each copy that has one
     rounds: Vec<u32>,
+    // how many copies wait
+    count: usize,
+    looks: usize,
 }
 
 // The row of that place, and none where there is none.
@@ -38,91 +51,178 @@ fn row(rows: &Rows, place: usize) -> &[u32] {
     &[]
 }
 
+// How many copies of each group there are.
+fn totals(alloc: Global, groups: &Groups, parties: &Rows) -> Result<Vec<u32>, Refusal> {
+    let mut totals = vec![in alloc; 0u32; groups.len()]?;
+    for copy in 0..parties.len() {
+        for group in row(parties, copy) {
+            raise(&mut totals, *group as usize);
+        }
+    }
+    Ok(totals)
+}
+
+// An empty queue for each group.
+fn empty(alloc: Global, count: usize) -> Result<Vec<VecDeque<u32>>, Refusal> {
+    let mut queues = Vec::new(alloc);
+    for _ in 0..count {
+        queues.push(VecDeque::new(alloc))?;
+    }
+    Ok(queues)
+}
+
 impl<'a> Waiting<'a> {
     // All copies wait.
     fn new(alloc: Global, groups: &'a Groups, parties: &'a Rows) -> Result<Waiting<'a>, Refusal> {
-        let mut left = vec![in alloc; 0u32; groups.len()]?;
-        let mut copies = Vec::new(alloc);
         let count = parties.len();
-        for copy in 0..count {
-            copies.push(small(copy))?;
-            for group in row(parties, copy) {
-                raise(&mut left, *group as usize);
-            }
-        }
-        let rounds = vec![in alloc; 0u32; count]?;
-        Ok(Waiting {
+        let mut waiting = Waiting {
             groups,
             parties,
-            left,
-            copies,
-            rounds,
-        })
+            left: totals(alloc, groups, parties)?,
+            used: vec![in alloc; 0u32; groups.len()]?,
+            queues: empty(alloc, groups.len())?,
+            rounds: vec![in alloc; 0u32; count]?,
+            count,
+            looks: 0,
+        };
+        for copy in 0..count {
+            waiting.queue(small(copy))?;
+        }
+        Ok(waiting)
     }
 
-    // How many rounds the parties of a copy need at least, in parts of 64.
-    fn needs(&self, copy: u32) -> u32 {
-        let mut most = 0u32;
+    // How many rounds a group needs at least, in parts of 64.
+    fn needs(&self, group: usize) -> u32 {
+        let left = at(&self.left, group).saturating_mul(64);
+        match left.checked_div(self.groups.most(group)) {
+            Some(rounds) => rounds,
+            None => 0,
+        }
+    }
+
+    // The copy's group that needs most rounds.
+    fn leader(&self, copy: u32) -> usize {
+        let mut leader = 0usize;
+        let mut most = None;
         for group in row(self.parties, copy as usize) {
-            let left = at(&self.left, *group as usize).saturating_mul(64);
-            if let Some(rounds) = left.checked_div(self.groups.most(*group as usize)) {
-                most = most.max(rounds);
+            let needs = Some(self.needs(*group as usize));
+            if most < needs {
+                most = needs;
+                leader = *group as usize;
             }
         }
-        most
+        leader
+    }
+
+    // The copy waits behind the others of its leader.
+    fn queue(&mut self, copy: u32) -> Result<(), Refusal> {
+        let leader = self.leader(copy);
+        if let Some(queue) = self.queues.get_mut(leader) {
+            queue.push_back(copy)?;
+        }
+        Ok(())
+    }
+
+    // How many copies wait in the group's queue.
+    fn queued(&self, group: usize) -> usize {
+        match self.queues.get(group) {
+            Some(queue) => queue.len(),
+            None => 0,
+        }
+    }
+
+    // The first copy of the group's queue, which waits there no longer.
+    fn next(&mut self, group: usize) -> Option<u32> {
+        match self.queues.get_mut(group) {
+            Some(queue) => queue.pop_front(),
+            None => None,
+        }
+    }
+
+    // Whether the group may have one more in the round.
+    fn is_free(&self, group: usize) -> bool {
+        at(&self.used, group) < self.groups.most(group)
     }
 
     // Whether each of the copy's groups may have one more in the round.
-    fn has_place(&self, used: &[u32], copy: u32) -> bool {
+    fn has_place(&self, copy: u32) -> bool {
         for group in row(self.parties, copy as usize) {
-            if at(used, *group as usize) >= self.groups.most(*group as usize) {
+            if !self.is_free(*group as usize) {
                 return false;
             }
         }
         true
     }
 
-    // Gives the copies a place in the round, those that need most rounds first.
-    fn fill(&mut self, alloc: Global, round: u32) -> Result<(), Refusal> {
-        let mut order = Vec::new(alloc);
-        for copy in self.copies.iter() {
-            order.push(Urgent {
-                needs: Reverse(self.needs(*copy)),
-                copy: *copy,
-            })?;
+    // Gives the copy a place in the round.
+    fn place(&mut self, copy: u32, round: u32) {
+        set(&mut self.rounds, copy as usize, round);
+        for group in row(self.parties, copy as usize) {
+            raise(&mut self.used, *group as usize);
+            lower(&mut self.left, *group as usize);
         }
-        order.sort_unstable();
-        let mut used = vec![in alloc; 0u32; self.groups.len()]?;
-        let mut rest = Vec::new(alloc);
-        for urgent in order.iter() {
-            if self.has_place(&used, urgent.copy) {
-                set(&mut self.rounds, urgent.copy as usize, round);
-                for group in row(self.parties, urgent.copy as usize) {
-                    raise(&mut used, *group as usize);
-                    lower(&mut self.left, *group as usize);
-                }
+        self.count = self.count.saturating_sub(1);
+    }
+
+    // Gives copies of the group's queue a place in the round, while the group is free.
+    fn serve(&mut self, group: usize, round: u32) -> Result<(), Refusal> {
+        let mut misses = 0u32;
+        for _ in 0..self.queued(group) {
+            if misses > MISSES || !self.is_free(group) {
+                break;
+            }
+            let Some(copy) = self.next(group) else {
+                break;
+            };
+            self.looks = self.looks.saturating_add(1);
+            if self.has_place(copy) {
+                self.place(copy, round);
             } else {
-                rest.push(urgent.copy)?;
+                misses = misses.saturating_add(1);
+                self.queue(copy)?;
             }
         }
-        self.copies = rest;
+        Ok(())
+    }
+
+    // The groups with a queue, by what they need.
+    fn order(&self, alloc: Global) -> Result<Vec<Urgent>, Refusal> {
+        let mut order = Vec::new(alloc);
+        for group in 0..self.groups.len() {
+            if self.queued(group) > 0 {
+                order.push(Urgent {
+                    needs: Reverse(self.needs(group)),
+                    group: small(group),
+                })?;
+            }
+        }
+        order.sort_unstable();
+        Ok(order)
+    }
+
+    // Fills the round.
+    fn fill(&mut self, alloc: Global, round: u32) -> Result<(), Refusal> {
+        self.used = vec![in alloc; 0u32; self.groups.len()]?;
+        let order = self.order(alloc)?;
+        self.looks = self.looks.saturating_add(order.len());
+        for urgent in order.iter() {
+            self.serve(urgent.group as usize, round)?;
+        }
         Ok(())
     }
 
     // Gives rounds to all copies, and answers how many rounds these are; none where it would take too long.
     fn all(&mut self, alloc: Global) -> Result<Option<u32>, Refusal> {
-        let mut looks = 0usize;
         for round in 0..small(self.rounds.len()) {
-            if self.copies.is_empty() {
+            if self.count == 0 {
                 return Ok(Some(round));
             }
-            looks = looks.saturating_add(self.copies.len());
-            if looks > LOOKS {
+            if self.looks > LOOKS {
                 return Ok(None);
             }
             self.fill(alloc, round)?;
         }
-        if self.copies.is_empty() {
+        if self.count == 0 {
             return Ok(Some(small(self.rounds.len())));
         }
         Ok(None)
