@@ -6,8 +6,7 @@ use std::sync::Wait;
 
 /// A gate, which each worker of a call passes before a piece of its work, at a mark that tells which piece that is. A gate may hold a
 /// worker until others have come as far, for a number of turns that it sets itself; a test shows by it that threads overlap. It tells which
-/// passes it may refuse, and which it refuses for certain; a call that asks a gate has to heed its answer, for a worker checks nothing
-/// where its pass is refused.
+/// passes it may refuse and which it refuses for certain, so that the contract of a call that asks it can say what follows.
 pub trait Gate {
     /// Whether the pass of that worker at that mark may be refused.
     ghost may_refuse: { Self → ℕ → ℕ → Type 0 };

@@ -1,5 +1,5 @@
 -- What a job makes of a bundle.
-use Rattle.std.specs.Prelude.{◌≡◌, ◌≢◌, ℕ, List, [], ◌∷◌, ◌++◌, Option, Some, None, Result, Ok, Err, codes}
+use Rattle.std.specs.Prelude.{◌≡◌, ◌≢◌, ℕ, List, [], ◌∷◌, ◌++◌, Option, Some, None, Result, Ok, Err, OnOk, codes}
 use Rattle.ring_names.specs.declared.refusal.Refusal.{Refusal}
 use Rattle.ring_names.specs.declared.refusal.Refusal.TheVariants.{OutOfMemory}
 use Rattle.ring_text.specs.Judging.{map_ok}
@@ -11,6 +11,7 @@ use Rattle.plan_cert.specs.Spelling.{cert_text}
 use Rattle.plan_change.specs.declared.wanted.Wanted.{Wanted}
 use Rattle.plan_change.specs.Wanted.{wanted_at}
 use Rattle.plan_check.specs.First.{first_refusal}
+use Rattle.plan_check.specs.Headline.{KeepsPromises}
 use Rattle.plan_proposal.specs.Proposals.{IsProposed, IsTurnedAway}
 use Rattle.ring_script.specs.Bundles.{bundle_at}
 use Rattle.ring_script.specs.Play.{play_text}
@@ -27,6 +28,10 @@ judged (Some e) = Err e
 -- the first fault of the text, and where there is none the checker's answer
 unfoldable pub verdict : List ℕ → Result (Unit {0}) Refusal
 verdict bytes = whole_text (bundle_at kind.Check) bytes >>= λ b. judged (first_refusal b.ring b.plan b.cert)
+
+-- the bytes are the texts of a ring, a plan and a certificate, and the plan keeps its promises
+abbrev pub TextsKeepPromises : List ℕ → Type 0
+TextsKeepPromises bytes = (b : Bundle) × (whole_text (bundle_at kind.Check) bytes ≡ Ok b) × KeepsPromises b.ring b.plan
 
 -- the texts of a bundle, the ring migrated and the certificate in the format that goes with it
 abbrev pub migrated_text : Bundle → List ℕ
@@ -58,9 +63,9 @@ IsAnswerTo (Err e) r = r ≡ Err e
 abbrev pub Plans : List ℕ → Result (List ℕ) Refusal → Type 0
 Plans bytes r = IsAnswerTo (whole_text wanted_at bytes) r
 
--- what a job makes of a bundle: `yes` and the byte 0A, the migrated texts, what a play prints, or a plan for a change
+-- what a job makes of a bundle: `yes` and the byte 0A, and then the plan keeps its promises; the migrated texts, what a play prints, or a plan for a change
 abbrev pub Makes : Job → List ℕ → Result (List ℕ) Refusal → Type 0
-Makes Check bytes r = map_ok (λ _. codes "yes" ++ 10 ∷ []) (verdict bytes) ≡ r
+Makes Check bytes r = (map_ok (λ _. codes "yes" ++ 10 ∷ []) (verdict bytes) ≡ r) × OnOk r (TextsKeepPromises bytes)
 Makes Migrate bytes r = migration bytes ≡ r
 Makes Play bytes r = plays bytes ≡ r
 Makes Plan bytes r = Plans bytes r

@@ -1,6 +1,6 @@
 //! What a job makes of a bundle.
 
-ghost use Rattle.std.specs.Prelude.{◌≡◌, ◌++◌, ◌∷◌, [], IfOk, IfErr, codes};
+ghost use Rattle.std.specs.Prelude.{◌≡◌, ◌++◌, ◌∷◌, [], IfOk, IfErr, OnOk, codes};
 ghost use Rattle.ring_names.specs.declared.refusal.Refusal.TheVariants.{OutOfMemory};
 ghost use Rattle.ring_text.specs.Judging.{Gives};
 ghost use Rattle.ring_text.specs.Left.{whole_text};
@@ -10,12 +10,13 @@ ghost use Rattle.plan_text.specs.Valid.{Suits};
 ghost use Rattle.plan_cert.specs.Spelling.{cert_text};
 ghost use Rattle.plan_cert.specs.Valid.{Suits as IsCertOf};
 ghost use Rattle.plan_check.specs.First.{first_refusal};
+ghost use Rattle.plan_check.specs.Headline.{KeepsPromises};
 ghost use Rattle.ring_script.specs.Bundles.{IsOfRing, bundle_at};
 ghost use Rattle.ring_script.specs.declared.bundle.Kind.TheVariants.{Check, Play};
 ghost use Rattle.plan_change.specs.Wanted.{wanted_at};
 ghost use Rattle.ringplan_run.specs.declared.job.Job.TheVariants.{Check as Checking, Plan as Planning};
 ghost use Rattle.ringplan_run.specs.Answers.{texts_of};
-ghost use Rattle.ringplan_run.specs.Verdict.{MakesIf, judged, migrated_text, migration, plays, shown, verdict};
+ghost use Rattle.ringplan_run.specs.Verdict.{TextsKeepPromises, MakesIf, judged, migrated_text, migration, plays, shown, verdict};
 
 use crate::job::Job;
 use plan_cert::{Cert, write_cert};
@@ -33,7 +34,8 @@ use std::thread::Threads;
 // The checker's answer to a plan of the ring with its certificate.
 fn check_plan(alloc: Global, ring: Ring, plan: Plan, cert: &Cert) -> Result<(), Refusal>
     requires { Suits ring plan }
-    ensures { Gives result (judged (first_refusal ring plan cert.now)) }
+    ensures answer { Gives result (judged (first_refusal ring plan cert.now)) }
+    ensures keeps { OnOk result (KeepsPromises ring plan) }
 {
     match check(alloc, ring, plan, cert) {
         Ok(_) => Ok(()),
@@ -44,11 +46,13 @@ fn check_plan(alloc: Global, ring: Ring, plan: Plan, cert: &Cert) -> Result<(), 
     }
 }
 
-/// The verdict on a bundle: `Ok` where it is a ring with a plan that the checker accepts by its certificate. Else the first
+/// The verdict on a bundle: `Ok` where it is a ring with a plan that the checker accepts by its certificate, which then keeps its promises. Else the first
 /// fault of the texts, and where there is none the checker's first refusal. `OutOfMemory` comes only where memory ran out, behind
 /// the first four lines of the ring.
 pub fn check_bundle(alloc: Global, bytes: &[u8]) -> Result<(), Refusal>
     ensures read { Gives result (verdict bytes.now) }
+    // The headline.
+    ensures keeps { OnOk result (TextsKeepPromises bytes.now) }
     // Memory may run out only if the first four lines have no fault.
     ensures late { IfErr result (λ e. e ≡ OutOfMemory → NoFaultBefore 5 (whole_text (bundle_at Check) bytes.now)) }
 {
@@ -68,7 +72,8 @@ fn check_plan_by<RT: Threads + Wait + Sync>(
     cert: &Cert,
 ) -> Result<(), Refusal>
     requires { Suits ring plan }
-    ensures { Gives result (judged (first_refusal ring plan cert.now)) }
+    ensures answer { Gives result (judged (first_refusal ring plan cert.now)) }
+    ensures keeps { OnOk result (KeepsPromises ring plan) }
 {
     match check_parallel(rt, alloc, workers, &OpenGate, ring, plan, cert) {
         Ok(_) => Ok(()),
@@ -79,7 +84,7 @@ fn check_plan_by<RT: Threads + Wait + Sync>(
     }
 }
 
-/// The same verdict as that of `check_bundle`, by that many workers, each with a share of the partitions; none is as one. May wait for them.
+/// The same verdict as that of `check_bundle`, the headline with it, by that many workers, each with a share of the partitions; none is as one. May wait for them.
 pub fn check_bundle_by<RT: Threads + Wait + Sync>(
     rt: &RT,
     alloc: Global,
@@ -87,6 +92,8 @@ pub fn check_bundle_by<RT: Threads + Wait + Sync>(
     bytes: &[u8],
 ) -> Result<(), Refusal>
     ensures read { Gives result (verdict bytes.now) }
+    // The headline.
+    ensures keeps { OnOk result (TextsKeepPromises bytes.now) }
     // Memory may run out only if the first four lines have no fault.
     ensures late { IfErr result (λ e. e ≡ OutOfMemory → NoFaultBefore 5 (whole_text (bundle_at Check) bytes.now)) }
 {
@@ -191,7 +198,7 @@ fn yes(alloc: Global) -> Result<Vec<u8>, Refusal>
     Ok(text)
 }
 
-/// The text that a job makes of a bundle, or the refusal.
+/// The text that a job makes of a bundle, or the refusal. Where a check makes one, the plan keeps its promises.
 pub fn make(alloc: Global, job: Job, bytes: &[u8]) -> Result<Vec<u8>, Refusal>
     ensures { MakesIf job bytes.now (texts_of result) }
 {
@@ -206,7 +213,7 @@ pub fn make(alloc: Global, job: Job, bytes: &[u8]) -> Result<Vec<u8>, Refusal>
     }
 }
 
-/// The text that a check by workers makes of a bundle, or the refusal.
+/// The text that a check by workers makes of a bundle, or the refusal. Where it makes one, the plan keeps its promises.
 pub fn make_check_by<RT: Threads + Wait + Sync>(
     rt: &RT,
     alloc: Global,

@@ -46,6 +46,8 @@ impl Turnstile {
 impl Gate for Turnstile {
     ghost may_refuse = { λ gate worker mark. Unit {0} };
 
+    ghost must_refuse = { λ gate worker mark. ⊥ };
+
     fn pass<R: Wait>(&self, rt: &R, _worker: u32, _mark: u64) -> bool {
         self.count(rt);
         for _ in 0..1_000_000 {
