@@ -5,6 +5,8 @@
 #[cfg(test)]
 mod checks;
 #[cfg(test)]
+mod drains;
+#[cfg(test)]
 mod figures;
 #[cfg(test)]
 mod planning;
