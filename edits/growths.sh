@@ -1,5 +1,5 @@
 #!/usr/bin/env bash
-# Refuses each growth of memory in turn, one to a run: edits/growths.sh, once `rt run` has built crates/ringplan and crates/ringplan_growths.
+# Refuses each growth of memory in turn, one to a run: edits/growths.sh, once `rt run` has built crates/ringplan and crates/tests_growths.
 # The store that runs through every kind of event prints the same, or fails where a growth outside an event was refused. `ringplan` prints the
 # same of each case's bundle, or `no 60` with status 3.
 set -eu
@@ -78,11 +78,11 @@ refuse_each() {
     echo "$name: $count growths, $same with the same output, $failed with status $status"
 }
 
-refuse_each ringplan_growths 1 "" "$top/crates/ringplan_growths/stdin" "$top/crates/ringplan_growths/out/ringplan_growths"
+refuse_each tests_growths 1 "" "$top/crates/tests_growths/stdin" "$top/crates/tests_growths/out/tests_growths"
 word=check
 while read -r name; do
     case $name in
     check | migrate | play | plan) word=$name ;;
-    *) refuse_each "$name" 3 "no 60" "$top/crates/ringplan_cases/data/$name.bundle" "$top/crates/ringplan/out/ringplan" "$word" ;;
+    *) refuse_each "$name" 3 "no 60" "$top/crates/tests_cases/data/$name.bundle" "$top/crates/ringplan/out/ringplan" "$word" ;;
     esac
-done < "$top/crates/ringplan_cases/args"
+done < "$top/crates/tests_cases/args"

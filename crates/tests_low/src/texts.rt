@@ -1,10 +1,7 @@
 //! Texts that are written as they were read, and the limits of texts.
 
-ghost use Rattle.std.specs.Prelude.{IfOk};
-ghost use Rattle.plan_text.specs.Valid.{Suits};
-
 use plan_cert::{Cert, Chains, read_cert, write_cert};
-use plan_text::{Plan, read_plan, write_plan};
+use plan_text::{read_plan, write_plan};
 use ring_names::{NodeId, Refusal, Rows};
 use ring_table::{NodeSide, Ring, Side, push_row, read_ring, write_ring};
 use std::alloc::{AllocError, Global};
@@ -15,7 +12,7 @@ pub const RING: &[u8] =
     b"ring 1\nspace 4\nquorum 3 2 2\nnode a 4 in\nnode b 1 in\nnode c 4 in\nnode d 4 out\nslots 0 a b c\nslots 1 a b c\nslots 2 a b c\nslots 3 a b c\nend\n";
 
 // Moves slot 1 of two partitions from b to d, one after the other.
-pub const TWO_MOVES: &[u8] =
+const TWO_MOVES: &[u8] =
     b"plan 1\njoin d\nmirror 0 1 d after 0\ncopy 0 1 owner after 1\nswitch 0 1 after 2\nmirror 1 1 d after 0 3\ncopy 1 1 owner after 4\nswitch 1 1 after 5\nend\n";
 
 const CERTS: [&str; 5] = [
@@ -264,11 +261,4 @@ fn a_strange_chain(rt: HostRuntime) -> Result<(), Fail> {
     let cert = strange_cert(rt.alloc())?;
     assert!(rt; !cert.suits(&ring));
     Ok(())
-}
-
-// The ring and the plan of the two moves.
-pub fn two_moves(alloc: Global, ring: &Ring) -> Result<Plan, Refusal>
-    ensures { IfOk result (λ plan. Suits ring.now plan) }
-{
-    read_plan(alloc, ring, TWO_MOVES)
 }

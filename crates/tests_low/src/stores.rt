@@ -1,14 +1,11 @@
-//! What a running store keeps: each call that may run out of memory succeeds where there is enough.
+//! What nodes store and keep: each call that may run out of memory succeeds where there is enough.
 
 use crate::clocks::set_of;
-use crate::texts::RING;
 use ring_clock::Clock;
 use ring_hints::{Hints, KeptFor, Pairs, Sets};
 use ring_maps::KeyMap;
-use ring_names::{Listed, NodeId, Slot, WriterId};
-use ring_state::{GetNow, Gets, Keys, Lasts, Marks, Nodes, PutNow, Puts, Slots, Steps};
+use ring_names::{NodeId, Slot, WriterId};
 use ring_store::{NodeStore, Stores};
-use ring_table::{Ring, read_ring};
 use ring_versions::Versions;
 use std::process::Abort;
 use std::test::Fail;
@@ -76,58 +73,6 @@ fn keepers_of_slots(rt: HostRuntime) -> Result<(), Fail> {
     let mut sets: Sets<u32, u32> = Sets::new(rt.alloc());
     sets.add(1, 2)?;
     assert!(rt; sets.values(&1).is_some());
-    Ok(())
-}
-
-// The nodes, steps and slots of a ring at the start.
-fn started<RT: AllocGlobal + Abort>(rt: &RT, ring: &Ring) -> Result<(), Fail> {
-    assert!(rt; Nodes::start(rt.alloc(), ring)?.is_up(NodeId(0)));
-    assert_eq!(rt; Steps::start(rt.alloc(), 5)?.left(), 5);
-    assert_eq!(rt;
-        Slots::start(rt.alloc(), ring)?.owner(SLOT),
-        Some(NodeId(1))
-    );
-    Ok(())
-}
-
-#[test]
-fn parts_at_the_start(rt: HostRuntime) -> Result<(), Fail> {
-    let ring = read_ring(rt.alloc(), RING)?;
-    started(&rt, &ring)
-}
-
-#[test]
-#[tactic(auto, unfolding(ring_names::specs::Space::is_space))]
-fn keys_numbered(rt: HostRuntime) -> Result<(), Fail> {
-    let mut keys = Keys::new(rt.alloc(), 4);
-    assert_eq!(rt; keys.add(b"a")?, 0);
-    assert_eq!(rt; keys.add(b"abc")?, 1);
-    assert_eq!(rt; keys.add(b"a")?, 0);
-    let mut lasts = Lasts::new(rt.alloc());
-    lasts.set(0, WriterId(2), 9)?;
-    assert_eq!(rt; lasts.get(0, WriterId(2)), Some(9));
-    Ok(())
-}
-
-#[test]
-fn puts_and_gets(rt: HostRuntime) -> Result<(), Fail> {
-    let mut puts = Puts::new(rt.alloc());
-    puts.push(PutNow {
-        key: 0,
-        version: Versions::new(rt.alloc()),
-        tickets: [None; 7],
-        acked: false,
-    })?;
-    assert_eq!(rt; puts.len(), 1);
-    let mut gets = Gets::new(rt.alloc());
-    gets.push(GetNow {
-        key: 0,
-        read: Marks::none(),
-        found: Versions::new(rt.alloc()),
-        reply: None,
-    })?;
-    gets.end(0, Listed::from_vec(Vec::new(rt.alloc())));
-    assert_eq!(rt; gets.len(), 1);
     Ok(())
 }
 

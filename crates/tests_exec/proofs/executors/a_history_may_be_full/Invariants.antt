@@ -1,5 +1,5 @@
 -- The ledger of this run.
-use Rattle.ring_exec_tests.proofs.executors.a_history_may_be_full.Given as goal
+use Rattle.tests_exec.proofs.executors.a_history_may_be_full.Given as goal
 
 abbrev pub ghosts-full-L-RunLedger : goal.ghosts-full-L-RunLedger
 ghosts-full-L-RunLedger g a = record { ring = a.approved.now.ring; plan = a.approved.now.plan }

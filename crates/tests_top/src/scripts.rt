@@ -1,6 +1,6 @@
 //! Scripts: texts that are written as they were read, scripts that are made event by event, and a play of a bundle.
 
-use crate::texts::RING;
+use crate::worlds::RING;
 use plan_check::{Event, check};
 use ring_events::{Script, read_script, write_script};
 use ring_names::{Names, NodeId, Refusal};

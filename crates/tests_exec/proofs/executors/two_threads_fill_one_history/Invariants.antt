@@ -1,5 +1,5 @@
 -- The ledger of this run.
-use Rattle.ring_exec_tests.proofs.executors.two_threads_fill_one_history.Given as goal
+use Rattle.tests_exec.proofs.executors.two_threads_fill_one_history.Given as goal
 
 abbrev pub ghosts-by_two-L-RunLedger : goal.ghosts-by_two-L-RunLedger
 ghosts-by_two-L-RunLedger g a = record { ring = a.approved.now.ring; plan = a.approved.now.plan }

@@ -1,6 +1,5 @@
 //! Stores that run plans, by scripts and what each of their events is answered.
 
-use crate::texts::RING;
 use plan_cert::read_cert;
 use plan_check::{Approved, Event, check};
 use plan_text::read_plan;
@@ -11,6 +10,9 @@ use ring_table::read_ring;
 use std::alloc::Global;
 use std::process::Abort;
 use std::test::Fail;
+
+pub const RING: &[u8] =
+    b"ring 1\nspace 4\nquorum 3 2 2\nnode a 4 in\nnode b 1 in\nnode c 4 in\nnode d 4 out\nslots 0 a b c\nslots 1 a b c\nslots 2 a b c\nslots 3 a b c\nend\n";
 
 // One store may be lost.
 const LOSSY: &[u8] =

@@ -3,18 +3,18 @@
 ghost use Rattle.plan_text.specs.Valid.{Suits};
 
 use crate::figures::{depth, fewest_moves, moves, owned, reads_owners, rounds};
-use crate::texts::RING;
-use plan_cert::Cert;
+use crate::rings::RING;
+use plan_cert::{Cert, read_cert};
 use plan_change::{Change, read_change, read_wanted, write_change};
 use plan_check::check;
 use plan_maker::make;
 use plan_proposal::propose;
 use plan_text::{Plan, read_plan};
 use ring_names::{NodeId, Refusal};
-use ring_script::{Bundle, Kind, read_bundle};
 use ring_table::{Ring, read_ring};
 use std::alloc::{AllocError, Global};
 use std::process::Abort;
+use std::str;
 use std::test::Fail;
 
 const CHANGE: &[u8] = b"change 1\njoin d\nleave b\nend\n";
@@ -119,15 +119,15 @@ fn exchanged<RT: AllocGlobal + Abort>(rt: &RT, ring: &Ring, plan: &Plan) -> Resu
     Ok(())
 }
 
-// What the checker says of a bundle that makes the exchange.
-fn bundle_checked<RT: AllocGlobal + Abort>(rt: &RT, text: &[u8]) -> Result<(), Fail> {
-    let Bundle {
-        ring,
-        plan,
-        cert,
-        writers: _,
-        script: _,
-    } = read_bundle(rt.alloc(), Kind::Check, text)?;
+// What the checker says of a plan and its certificate, one behind the other, which make the exchange.
+fn proposal_checked<RT: AllocGlobal + Abort>(rt: &RT, text: &str) -> Result<(), Fail> {
+    let Some((plan, chains)) = text.split_once("cert 1\n") else {
+        panic!(rt; "no certificate in {text}");
+    };
+    let ring = read_ring(rt.alloc(), RING)?;
+    let plan = read_plan(rt.alloc(), &ring, plan.as_bytes())?;
+    let cert = format!(in rt.alloc(); "cert 1\n{chains}")?;
+    let cert = read_cert(rt.alloc(), &ring, cert.as_bytes())?;
     exchanged(rt, &ring, &plan)?;
     assert_eq!(rt; verdict(rt.alloc(), ring, plan, &cert), 0);
     Ok(())
@@ -143,8 +143,10 @@ fn proposal(alloc: Global, ring: Ring) -> Result<Vec<u8>, Refusal> {
 fn an_exchange_proposed(rt: HostRuntime) -> Result<(), Fail> {
     let ring = read_ring(rt.alloc(), RING)?;
     let text = proposal(rt.alloc(), ring)?;
-    let text = behind_ring(rt.alloc(), text.as_slice())?;
-    bundle_checked(&rt, text.as_slice())
+    let Ok(text) = str::from_utf8(text.as_slice()) else {
+        panic!(rt; "a proposal that is no text");
+    };
+    proposal_checked(&rt, text)
 }
 
 // The number of the refusal of a plan for the change, or 0.

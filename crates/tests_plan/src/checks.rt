@@ -2,7 +2,7 @@
 
 ghost use Rattle.plan_text.specs.Valid.{Suits};
 
-use crate::texts::{RING, two_moves};
+use crate::rings::{RING, two_moves};
 use plan_cert::{Cert, read_cert};
 use plan_check::check;
 use plan_cover::{check_node, check_nodes};

@@ -17,15 +17,16 @@ use std::test::Fail;
 use std::thread;
 use std::thread::Threads;
 
-const RING: &[u8] =
+pub const RING: &[u8] =
     b"ring 1\nspace 4\nquorum 3 2 2\nnode a 4 in\nnode b 1 in\nnode c 4 in\nnode d 4 out\nslots 0 a b c\nslots 1 a b c\nslots 2 a b c\nslots 3 a b c\nend\n";
 
-const MOVE: &[u8] =
+pub const MOVE: &[u8] =
     b"plan 1\njoin d\nmirror 0 1 d after 0\ncopy 0 1 owner after 1\nswitch 0 1 after 2\ndrop 0 1 b after 3\nend\n";
 
-const CHAINS: &[u8] = b"cert 1\nchain b 2\nchain d 2\nend\n";
+pub const CHAINS: &[u8] = b"cert 1\nchain b 2\nchain d 2\nend\n";
 
-fn approved(alloc: Global, ring: &[u8], plan: &[u8], cert: &[u8]) -> Result<Approved, Refusal> {
+/// The plan of the ring, where its certificate shows that it is sound.
+pub fn approved(alloc: Global, ring: &[u8], plan: &[u8], cert: &[u8]) -> Result<Approved, Refusal> {
     let ring = read_ring(alloc, ring)?;
     let plan = read_plan(alloc, &ring, plan)?;
     let cert = read_cert(alloc, &ring, cert)?;

@@ -1,6 +1,0 @@
-//! Tests of the lock round a store and its history: that its calls succeed where there is memory enough, that two threads fill one history, and
-//! that a history may be full. Nothing is exported.
-#![tactic(auto)]
-
-#[cfg(test)]
-mod executors;

@@ -1,0 +1,8 @@
+//! Tests of the lock round a store and its history: that its calls succeed where there is memory enough, that two threads fill one history, that
+//! each receipt has its entry's event and reply, and that a history may be full. Nothing is exported.
+#![tactic(auto)]
+
+#[cfg(test)]
+mod executors;
+#[cfg(test)]
+mod receipts;
