@@ -15,7 +15,7 @@ use Rattle.ring_maps.specs.Chunks.{chunk_of}
 use Rattle.ring_maps.specs.Merges.{MergesAll, AreFreshFor, fresh_at}
 use Rattle.ring_maps.specs.declared.fresh_keys.FreshKeys.{FreshKeys}
 use Rattle.ring_hints.specs.Views.{in_keepers}
-use Rattle.ring_hints.proofs.Viewed.{node_tie, equal}
+use Rattle.ring_hints.proofs.KeeperSets.{node_tie, equal}
 use Rattle.plan_text.specs.declared.step.Planned.{Planned}
 use Rattle.plan_text.specs.declared.step.Source.TheVariants.{Slots}
 use Rattle.plan_stage.proofs.Truth.{either, first_of_two, second_of_two}

@@ -15,7 +15,7 @@ use Rattle.ring_versions.specs.declared.version.Version.{Version}
 use Rattle.ring_versions.specs.Versions.{IsIn, Covers, IsApart, IsMerge}
 use Rattle.plan_stage.proofs.Truth.{either}
 use Rattle.ring_hints.specs.Views.{in_keepers}
-use Rattle.ring_hints.proofs.Viewed.{node_tie, equal}
+use Rattle.ring_hints.proofs.KeeperSets.{node_tie, equal}
 use Rattle.ring_apply.specs.Keepers.{IsFirstDown, MergesOthers}
 
 -- ---- the first that is down, among keepers in order

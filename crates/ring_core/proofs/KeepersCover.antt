@@ -9,7 +9,7 @@ use Rattle.ring_versions.specs.Versions.{Covers}
 use Rattle.ring_hints.specs.declared.hints.Hints.{Hints}
 use Rattle.ring_hints.specs.Hints.{hinted_at}
 use Rattle.ring_hints.specs.Views.{in_keepers}
-use Rattle.ring_hints.proofs.Viewed.{node_tie, equal}
+use Rattle.ring_hints.proofs.KeeperSets.{node_tie, equal}
 
 -- none of the keepers that are not left covers the clock
 abbrev pub NoneBefore : Hints → Slot → List ℕ → List Entry → List NodeId → List NodeId → Type 0

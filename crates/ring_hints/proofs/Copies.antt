@@ -10,7 +10,7 @@ use Rattle.std.specs.Map.Iter.{TakesFirst, deref_pair}
 use Rattle.std.proofs.lemmas.Map.Iter.{hash_map_turn}
 use Rattle.std.proofs.lemmas.Bool.{cases_Bool}
 use Rattle.ring_names.specs.declared.ids.Slot.{Slot}
-use Rattle.ring_maps.proofs.Answered.{none_from_empty, false_from}
+use Rattle.ring_maps.proofs.OneAnswer.{none_from_empty, false_from}
 use Rattle.ring_maps.specs.Slots.{space_of, held_for, has_place_for}
 use Rattle.ring_maps.specs.declared.slot_map.SlotMap.{SlotMap}
 use Rattle.ring_hints.specs.Hints.{partitions, hinted_at}
@@ -19,8 +19,8 @@ use Rattle.ring_hints.specs.Views.{is_of}
 use Rattle.ring_hints.specs.contracts.kept_for.KeptForPartialEq.TheImpl as pair_eq
 use Rattle.ring_hints.specs.declared.hints.Hints.{Hints}
 use Rattle.ring_hints.specs.declared.kept_for.KeptFor.{KeptFor}
-use Rattle.ring_hints.proofs.Kept.{pair_is, some_held}
-use Rattle.ring_hints.proofs.Viewed.{pair_same}
+use Rattle.ring_hints.proofs.PairChanged.{pair_is, some_held}
+use Rattle.ring_hints.proofs.KeeperSets.{pair_same}
 
 -- the map of the pair among the entries that are left
 abbrev pub left_of : List (KeptFor × SlotMap) → KeptFor → Option SlotMap

@@ -1,6 +1,6 @@
 pub mod Copies
-pub mod Gathered
-pub mod Kept
+pub mod KeepersMerged
+pub mod PairChanged
 pub mod Members
 pub mod Others
-pub mod Viewed
+pub mod KeeperSets

@@ -5,14 +5,14 @@ use Rattle.std.specs.HashMap.{HashMap}
 use Rattle.std.proofs.lemmas.Bool.{cases_Bool}
 use Rattle.std.proofs.lemmas.Bool.Decides.{nat_tests}
 use Rattle.ring_names.specs.declared.ids.Slot.{Slot}
-use Rattle.ring_maps.proofs.Answered.{false_from}
+use Rattle.ring_maps.proofs.OneAnswer.{false_from}
 use Rattle.ring_maps.specs.declared.slot_map.SlotMap.{SlotMap}
 use Rattle.ring_hints.specs.Kept.{map_of, held_by, AreKept, ArePaired}
 use Rattle.ring_hints.specs.Pairs.{is_pair}
 use Rattle.ring_hints.specs.Views.{pair_of}
 use Rattle.ring_hints.specs.declared.kept_for.KeptFor.{KeptFor}
 use Rattle.ring_hints.specs.declared.pairs.Pairs.{Pairs}
-use Rattle.ring_hints.proofs.Kept.{keeps_is, pair_few}
+use Rattle.ring_hints.proofs.PairChanged.{keeps_is, pair_few}
 
 same_or : (i n : ℕ) → i < n + 1 → (i ≡ n) ⊎ (i < n)
 same_or i n l = elim (cases_Bool (i == n)) [ inl y ↦ inl (grind (arith, nat_tests)) | inr other ↦ inr (grind (arith, nat_tests)) ]

@@ -18,9 +18,9 @@ use Rattle.ring_maps.specs.Chunks.{chunk_of, held_of, place_in, ArePlaced}
 use Rattle.ring_maps.specs.Held.{held, has_place, IsReady}
 use Rattle.ring_maps.specs.Merges.{MergesAll, at_key, has_fresh, AreFreshFor, AreReady}
 use Rattle.ring_names.specs.AtBytes.{value_at}
-use Rattle.ring_maps.proofs.Answered.{none_from_empty, at_none, none_to, false_from}
+use Rattle.ring_maps.proofs.OneAnswer.{none_from_empty, at_none, none_to, false_from}
 use Rattle.ring_names.proofs.AtBytes.{bytes_same}
-use Rattle.ring_maps.proofs.Merging.{merge_none}
+use Rattle.ring_maps.proofs.MergesInTurn.{merge_none}
 use Rattle.ring_maps.proofs.Puts.{at_other}
 
 pub chunk_below : (q : ℕ) (k : List ℕ) (c : ℕ) → chunk_of q k ≡ c → c < 16

@@ -16,7 +16,7 @@ use Rattle.ring_maps.specs.declared.key_map.KeyMap.{KeyMap}
 use Rattle.ring_maps.specs.Held.{held, AreKeys}
 use Rattle.ring_names.specs.AtBytes.{value_in, value_at, Puts}
 use Rattle.ring_names.proofs.AtBytes.{same_bytes, bytes_same, by_bytes}
-use Rattle.ring_maps.proofs.Rest.{by_items, later_in}
+use Rattle.ring_maps.proofs.EntriesLeft.{by_items, later_in}
 
 -- ---- a copy
 

@@ -1,9 +1,9 @@
-pub mod Answered
+pub mod OneAnswer
 pub mod Chunks
 pub mod Keys
 pub mod Maps
-pub mod Merging
+pub mod MergesInTurn
 pub mod Puts
-pub mod Rest
-pub mod Whole
+pub mod EntriesLeft
+pub mod WholeMaps
 pub mod Slots

@@ -14,9 +14,9 @@ use Rattle.ring_maps.specs.Chunks.{chunk_of}
 use Rattle.ring_maps.specs.Held.{held}
 use Rattle.ring_maps.specs.Merges.{MergesAll, AreFreshFor, AreFreshMaps, fresh_at, fresh_of, fresh_in}
 use Rattle.ring_maps.specs.Slots.{space_of, held_for, has_place_for, IsReadyFor, AreReadyFor, AllReadyFor}
-use Rattle.ring_maps.proofs.Answered.{at_none, none_to, on_some, some_of, none_where}
+use Rattle.ring_maps.proofs.OneAnswer.{at_none, none_to, on_some, some_of, none_where}
 use Rattle.ring_maps.proofs.Chunks.{chunk_below, get_back, get_last, pushed, same_or, slot_apart, chosen, chosen_here, chosen_other}
-use Rattle.ring_maps.proofs.Merging.{merge_none}
+use Rattle.ring_maps.proofs.MergesInTurn.{merge_none}
 
 -- ---- the first half
 

@@ -10,7 +10,7 @@ use Rattle.ring_names.specs.AtBytes.{value_at, Puts}
 use Rattle.ring_maps.specs.Places.{held_in, AreApart}
 use Rattle.ring_maps.specs.Merges.{MergesAll, at_key}
 use Rattle.ring_names.proofs.AtBytes.{same_bytes, by_bytes}
-use Rattle.ring_maps.proofs.Merging.{merge_none}
+use Rattle.ring_maps.proofs.MergesInTurn.{merge_none}
 
 pub at_here : (bs : List ℕ) (v : List Version) → at_key bs v bs ≡ v
 at_here bs v = let e = same_bytes bs in rw e refl

@@ -7,7 +7,7 @@ use Rattle.ring_maps.specs.declared.key_map.KeyMap.{KeyMap}
 use Rattle.ring_maps.specs.Chunks.{chunk_of, held_of, place_in, ArePlaced}
 use Rattle.ring_maps.specs.Held.{held, has_place}
 use Rattle.ring_names.specs.AtBytes.{value_at}
-use Rattle.ring_maps.proofs.Answered.{none_from_empty, false_from}
+use Rattle.ring_maps.proofs.OneAnswer.{none_from_empty, false_from}
 
 -- no key has a place
 abbrev pub AreBare : List KeyMap → Type 0

@@ -11,11 +11,11 @@ use Rattle.std.proofs.lemmas.Bool.{cases_Bool}
 use Rattle.ring_names.specs.declared.ids.Slot.{Slot}
 use Rattle.ring_maps.specs.Slots.{held_for}
 use Rattle.ring_maps.specs.declared.slot_map.SlotMap.{SlotMap}
-use Rattle.ring_maps.proofs.Answered.{false_from}
+use Rattle.ring_maps.proofs.OneAnswer.{false_from}
 use Rattle.ring_store.specs.declared.store.NodeStore.{NodeStore}
 use Rattle.ring_store.specs.Slots.{same_slot, maps_of, held_by, PutsSlot}
 use Rattle.ring_store.specs.Store.{partitions, versions_at}
-use Rattle.ring_store.proofs.Stored.{slot_same, same_itself}
+use Rattle.ring_store.proofs.SlotMapsChanged.{slot_same, same_itself}
 
 -- the maps of the slot among the entries that are left
 abbrev pub left_of : List (Slot × SlotMap) → Slot → Option SlotMap

@@ -1,4 +1,4 @@
 pub mod Copies
 pub mod Nodes
-pub mod Stored
-pub mod Coming
+pub mod SlotMapsChanged
+pub mod MergesAtNodes

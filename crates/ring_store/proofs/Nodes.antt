@@ -10,16 +10,16 @@ use Rattle.ring_maps.specs.Chunks.{chunk_of}
 use Rattle.ring_maps.specs.Merges.{fresh_at, fresh_in}
 use Rattle.ring_maps.specs.declared.fresh_keys.FreshKeys.{FreshKeys}
 use Rattle.ring_maps.specs.declared.fresh_maps.FreshMaps.{FreshMaps}
-use Rattle.ring_maps.proofs.Answered.{on_some}
+use Rattle.ring_maps.proofs.OneAnswer.{on_some}
 use Rattle.ring_maps.proofs.Chunks.{get_here, get_other, pushed, same_or, chosen_here, chosen_other}
-use Rattle.ring_maps.proofs.Merging.{merge_none}
+use Rattle.ring_maps.proofs.MergesInTurn.{merge_none}
 use Rattle.ring_store.specs.Nodes.{stored_in, has_place_in, AreOfSpace, MergesAtAll, at_node}
 use Rattle.ring_store.specs.Slots.{maps_of, MergesInAll}
 use Rattle.ring_store.specs.Store.{partitions, versions_at, has_place_at, IsReadyAt, AreReadyAt, AllReadyAt}
 use Rattle.ring_store.specs.Stores.{shared_space, held_at, has_place_on, KeepsReady}
 use Rattle.ring_store.specs.declared.store.NodeStore.{NodeStore}
 use Rattle.ring_store.specs.declared.stores.Stores.{Stores}
-use Rattle.ring_store.proofs.Stored.{apart_by}
+use Rattle.ring_store.proofs.SlotMapsChanged.{apart_by}
 
 apart_in : (o : Option NodeStore) (s : Slot) (k : List ℕ) → IsApart (stored_in o s k)
 apart_in None s k = tt

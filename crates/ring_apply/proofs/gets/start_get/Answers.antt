@@ -2,7 +2,7 @@ use Rattle.std.proofs.Common.{◌∙◌, ℕ, List, refl, sym, ap, subst}
 use Rattle.std.specs.Prelude.{Some, None, Ok}
 use Rattle.plan_check.specs.declared.event.Reply.TheVariants as reply
 use Rattle.ring_state.specs.declared.gets.GetNow.{GetNow}
-use Rattle.ring_hints.proofs.Kept.{always_err}
+use Rattle.ring_hints.proofs.PairChanged.{always_err}
 use Rattle.ring_parts.specs.Kept.{Tells}
 use Rattle.ring_parts.specs.Parts.{ring_of, plan_of, kept_of}
 use Rattle.ring_apply.proofs.GetsStartEnd.{started_on}

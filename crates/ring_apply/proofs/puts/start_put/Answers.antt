@@ -4,7 +4,7 @@ use Rattle.std.proofs.Props.{props}
 use Rattle.plan_check.specs.declared.event.Reply.TheVariants as reply
 use Rattle.ring_state.specs.declared.puts.PutNow.{PutNow}
 use Rattle.ring_state.specs.Lasts.{last_of}
-use Rattle.ring_hints.proofs.Kept.{always_err}
+use Rattle.ring_hints.proofs.PairChanged.{always_err}
 use Rattle.ring_parts.specs.Kept.{Tells}
 use Rattle.ring_parts.specs.Parts.{ring_of, plan_of, kept_of}
 use Rattle.ring_parts.proofs.StoreInWorld.{holds}

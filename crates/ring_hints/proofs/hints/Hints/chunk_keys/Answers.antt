@@ -1,5 +1,5 @@
 use Rattle.std.proofs.lemmas.Result.{IfOk-weaker}
-use Rattle.ring_hints.proofs.Gathered.{gathered_keys, no_keys}
+use Rattle.ring_hints.proofs.KeepersMerged.{gathered_keys, no_keys}
 use Rattle.ring_hints.proofs.hints.Hints.chunk_keys.Goals as goal
 
 pub gather-requires : goal.gather-requires

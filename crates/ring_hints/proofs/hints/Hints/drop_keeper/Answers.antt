@@ -1,7 +1,7 @@
 use Rattle.std.proofs.Common.{◌∙◌}
 use Rattle.ring_hints.specs.Hints.{hinted_at, kept_count}
 use Rattle.ring_hints.specs.Views.{pair_of}
-use Rattle.ring_hints.proofs.Kept.{keeps_is, others_stay, fewer, was_some}
+use Rattle.ring_hints.proofs.PairChanged.{keeps_is, others_stay, fewer, was_some}
 use Rattle.ring_hints.proofs.hints.Hints.drop_keeper.Goals as goal
 
 pub slots-preserved : goal.slots-preserved

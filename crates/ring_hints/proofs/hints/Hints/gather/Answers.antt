@@ -1,7 +1,7 @@
 use Rattle.std.proofs.Common.{sym, subst, ap}
 use Rattle.ring_hints.specs.Hints.{chunk_hints}
 use Rattle.ring_hints.specs.Views.{pair_of, in_keepers}
-use Rattle.ring_hints.proofs.Gathered.{Gathering, gathering_none, gathering_more, merged_empty}
+use Rattle.ring_hints.proofs.KeepersMerged.{Gathering, gathering_none, gathering_more, merged_empty}
 use Rattle.ring_hints.proofs.hints.Hints.gather.Goals as goal
 
 pub keepers-init : goal.keepers-init

@@ -1,4 +1,4 @@
-use Rattle.ring_hints.proofs.Gathered.{Gathering}
+use Rattle.ring_hints.proofs.KeepersMerged.{Gathering}
 use Rattle.ring_hints.proofs.hints.Hints.gather.Given as goal
 
 abbrev pub invariant-keepers : goal.invariant-keepers

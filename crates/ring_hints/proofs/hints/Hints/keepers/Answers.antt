@@ -1,8 +1,8 @@
 use Rattle.std.proofs.Common.{◌≡◌, ◌∙◌, ap, sym}
-use Rattle.ring_maps.proofs.Answered.{on_some, on_none}
+use Rattle.ring_maps.proofs.OneAnswer.{on_some, on_none}
 use Rattle.ring_hints.specs.Pairs.{is_pair}
 use Rattle.ring_hints.specs.Views.{in_keepers}
-use Rattle.ring_hints.proofs.Kept.{keeps_is}
+use Rattle.ring_hints.proofs.PairChanged.{keeps_is}
 use Rattle.ring_hints.proofs.hints.Hints.keepers.Goals as goal
 
 pub returns-clause-some : goal.returns-clause-some

@@ -1,5 +1,5 @@
 use Rattle.std.proofs.Common.{◌∙◌, sym}
-use Rattle.ring_hints.proofs.Kept.{keeps_is}
+use Rattle.ring_hints.proofs.PairChanged.{keeps_is}
 use Rattle.ring_hints.proofs.hints.Hints.keeps.Goals as goal
 
 pub returns : goal.returns

@@ -1,6 +1,6 @@
-use Rattle.ring_maps.proofs.Answered.{false_from}
+use Rattle.ring_maps.proofs.OneAnswer.{false_from}
 use Rattle.ring_hints.specs.Pairs.{is_pair}
-use Rattle.ring_hints.proofs.Kept.{keeps_is}
+use Rattle.ring_hints.proofs.PairChanged.{keeps_is}
 use Rattle.ring_hints.proofs.hints.Hints.keeps_any.Goals as goal
 
 pub returns : goal.returns

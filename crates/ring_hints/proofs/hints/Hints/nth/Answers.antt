@@ -1,4 +1,4 @@
-use Rattle.ring_hints.proofs.Kept.{keeps_is}
+use Rattle.ring_hints.proofs.PairChanged.{keeps_is}
 use Rattle.ring_hints.proofs.hints.Hints.nth.Goals as goal
 
 pub returns-in-Some-clause-some : goal.returns-in-Some-clause-some

@@ -2,7 +2,7 @@ use Rattle.std.proofs.Common.{◌≡◌, ◌+◌, ◌∙◌, Bool, cond, refl, a
 use Rattle.std.specs.Prelude.{is_some}
 use Rattle.ring_hints.specs.Pairs.{is_pair, pair_count}
 use Rattle.ring_hints.specs.Views.{is_of, pair_of}
-use Rattle.ring_hints.proofs.Kept.{puts_map, kept_by, paired_by, without_pair, gone_by}
+use Rattle.ring_hints.proofs.PairChanged.{puts_map, kept_by, paired_by, without_pair, gone_by}
 use Rattle.ring_hints.proofs.hints.Hints.take.Goals as goal
 
 pub invariant_of-self : goal.invariant_of-self

@@ -1,6 +1,6 @@
 use Rattle.std.proofs.Common.{sym, ap, ◌∙◌}
 use Rattle.ring_hints.specs.Views.{has_slot, has_keeper, has_pair, is_of, in_keepers, in_order}
-use Rattle.ring_hints.proofs.Viewed.{slot_added, keeper_added, slot_removed, keeper_removed, added_and_removed, with_it}
+use Rattle.ring_hints.proofs.KeeperSets.{slot_added, keeper_added, slot_removed, keeper_removed, added_and_removed, with_it}
 use Rattle.ring_hints.proofs.pairs.Pairs.add.Goals as goal
 
 pub invariant_of-self-in-Err : goal.invariant_of-self-in-Err

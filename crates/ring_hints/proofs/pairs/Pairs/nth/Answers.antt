@@ -2,7 +2,7 @@ use Rattle.std.proofs.Common.{◌≡◌, ◌∙◌, sym, subst, true}
 use Rattle.std.specs.Prelude.{Option, IfSome}
 use Rattle.ring_hints.specs.declared.kept_for.KeptFor.{KeptFor}
 use Rattle.ring_hints.specs.Pairs.{is_pair}
-use Rattle.ring_hints.proofs.Viewed.{at_place}
+use Rattle.ring_hints.proofs.KeeperSets.{at_place}
 use Rattle.ring_hints.proofs.pairs.Pairs.nth.Goals as goal
 
 pub returns-clause-some : goal.returns-clause-some

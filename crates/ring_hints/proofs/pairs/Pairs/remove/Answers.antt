@@ -2,7 +2,7 @@ use Rattle.std.proofs.Common.{◌≡◌, ◌+◌, ◌∙◌, Bool, subst, cond}
 use Rattle.indexmap.specs.IndexSet.{index_set_len}
 use Rattle.ring_hints.specs.Pairs.{pair_count}
 use Rattle.ring_hints.specs.Views.{has_slot, has_keeper, has_pair, is_of}
-use Rattle.ring_hints.proofs.Viewed.{slot_removed, keeper_removed, without_it}
+use Rattle.ring_hints.proofs.KeeperSets.{slot_removed, keeper_removed, without_it}
 use Rattle.ring_hints.proofs.pairs.Pairs.remove.Goals as goal
 
 pub invariant_of-self : goal.invariant_of-self

@@ -1,4 +1,4 @@
-use Rattle.ring_maps.proofs.Rest.{no_places}
+use Rattle.ring_maps.proofs.EntriesLeft.{no_places}
 use Rattle.ring_maps.proofs.key_map.KeyMap.is_empty.Goals as goal
 
 pub returns : goal.returns

@@ -4,7 +4,7 @@ use Rattle.std.proofs.lemmas.List.{nil_from_length}
 use Rattle.std.specs.Prelude.{◌==◌, length}
 use Rattle.ring_versions.specs.declared.version.Version.{Version}
 use Rattle.ring_maps.proofs.Keys.{Listing, listing_none, listing_empty, listing_more, listed}
-use Rattle.ring_maps.proofs.Rest.{found}
+use Rattle.ring_maps.proofs.EntriesLeft.{found}
 use Rattle.ring_maps.proofs.key_map.KeyMap.keys.Goals as goal
 
 pub keys-init : goal.keys-init

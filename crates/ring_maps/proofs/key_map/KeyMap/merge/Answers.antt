@@ -4,9 +4,9 @@ use Rattle.ring_versions.specs.declared.version.Version.{Version}
 use Rattle.ring_versions.specs.Versions.{IsMerge}
 use Rattle.ring_names.specs.AtBytes.{Puts}
 use Rattle.ring_maps.specs.Places.{held_in, AreApart}
-use Rattle.ring_maps.proofs.Answered.{on_ok, on_err, on_either}
+use Rattle.ring_maps.proofs.OneAnswer.{on_ok, on_err, on_either}
 use Rattle.ring_names.proofs.AtBytes.{puts}
-use Rattle.ring_maps.proofs.Merging.{merge_first}
+use Rattle.ring_maps.proofs.MergesInTurn.{merge_first}
 use Rattle.ring_maps.proofs.Puts.{apart_put, apart_same, merged_put, unchanged_put, stays_put, places_put}
 use Rattle.ring_maps.proofs.key_map.KeyMap.merge.Goals as goal
 

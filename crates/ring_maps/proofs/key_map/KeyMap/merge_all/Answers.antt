@@ -2,8 +2,8 @@ use Rattle.std.proofs.Common.{ℕ, List, sym, ap, subst}
 use Rattle.ring_maps.specs.Held.{held}
 use Rattle.ring_maps.specs.Merges.{MergesAll, at_key}
 use Rattle.ring_names.specs.AtBytes.{value_in}
-use Rattle.ring_maps.proofs.Rest.{found}
-use Rattle.ring_maps.proofs.Whole.{Merging, merging_none, merging_more}
+use Rattle.ring_maps.proofs.EntriesLeft.{found}
+use Rattle.ring_maps.proofs.WholeMaps.{Merging, merging_none, merging_more}
 use Rattle.ring_maps.proofs.key_map.KeyMap.merge_all.Goals as goal
 
 pub keys-init : goal.keys-init

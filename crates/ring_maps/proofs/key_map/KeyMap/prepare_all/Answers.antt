@@ -2,8 +2,8 @@ use Rattle.std.proofs.Common.{◌≡◌, ◌⊎◌, true, ℕ, List, sym, subst}
 use Rattle.ring_versions.specs.Fresh.{IsFreshFor}
 use Rattle.ring_maps.specs.Held.{held, has_place, IsReady}
 use Rattle.ring_names.specs.AtBytes.{Puts}
-use Rattle.ring_maps.proofs.Rest.{found}
-use Rattle.ring_maps.proofs.Whole.{Preparing, preparing_none, preparing_same, preparing_more, more_places, prepared_fresh, prepared_ready}
+use Rattle.ring_maps.proofs.EntriesLeft.{found}
+use Rattle.ring_maps.proofs.WholeMaps.{Preparing, preparing_none, preparing_same, preparing_more, more_places, prepared_fresh, prepared_ready}
 use Rattle.ring_maps.proofs.key_map.KeyMap.prepare_all.Goals as goal
 
 pub keys-init : goal.keys-init

@@ -1,4 +1,4 @@
-use Rattle.ring_maps.proofs.Whole.{Preparing}
+use Rattle.ring_maps.proofs.WholeMaps.{Preparing}
 use Rattle.ring_maps.proofs.key_map.KeyMap.prepare_all.Given as goal
 
 abbrev pub invariant-keys : goal.invariant-keys

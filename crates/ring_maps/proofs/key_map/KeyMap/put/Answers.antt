@@ -1,7 +1,7 @@
 use Rattle.std.proofs.Common.{ℕ, List, subst, ap}
 use Rattle.ring_names.specs.AtBytes.{Puts, value_in}
 use Rattle.ring_maps.specs.Places.{AreApart}
-use Rattle.ring_maps.proofs.Answered.{on_either}
+use Rattle.ring_maps.proofs.OneAnswer.{on_either}
 use Rattle.ring_names.proofs.AtBytes.{puts}
 use Rattle.ring_maps.proofs.Puts.{apart_put, apart_same, only_put}
 use Rattle.ring_maps.proofs.key_map.KeyMap.put.Goals as goal

@@ -3,7 +3,7 @@ use Rattle.std.specs.Prelude.{unwrap_or, IsSome}
 use Rattle.ring_versions.specs.declared.version.Version.{Version}
 use Rattle.ring_maps.specs.Places.{held_in}
 use Rattle.ring_names.proofs.AtBytes.{puts}
-use Rattle.ring_maps.proofs.Merging.{merge_of}
+use Rattle.ring_maps.proofs.MergesInTurn.{merge_of}
 use Rattle.ring_maps.proofs.Puts.{apart_put, merged_put, others_put, places_put}
 use Rattle.ring_maps.proofs.key_map.KeyMap.settle.Goals as goal
 

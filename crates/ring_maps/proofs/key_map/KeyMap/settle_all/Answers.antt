@@ -3,7 +3,7 @@ use Rattle.ring_versions.specs.Fresh.{IsFreshFor}
 use Rattle.ring_versions.specs.declared.version.Version.{Version}
 use Rattle.ring_maps.specs.Held.{held, IsReady}
 use Rattle.ring_maps.specs.Merges.{MergesAll, at_key}
-use Rattle.ring_maps.proofs.Whole.{Settling, settling_none, settling_ready, settling_more, settled}
+use Rattle.ring_maps.proofs.WholeMaps.{Settling, settling_none, settling_ready, settling_more, settled}
 use Rattle.ring_maps.proofs.key_map.KeyMap.settle_all.Goals as goal
 
 pub keys-init : goal.keys-init

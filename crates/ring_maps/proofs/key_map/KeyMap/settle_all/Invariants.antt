@@ -1,4 +1,4 @@
-use Rattle.ring_maps.proofs.Whole.{Settling}
+use Rattle.ring_maps.proofs.WholeMaps.{Settling}
 use Rattle.ring_maps.proofs.key_map.KeyMap.settle_all.Given as goal
 
 abbrev pub invariant-keys : goal.invariant-keys

@@ -3,9 +3,9 @@ use Rattle.std.specs.Prelude.{unwrap_or, is_some}
 use Rattle.ring_versions.specs.declared.version.Version.{Version}
 use Rattle.ring_versions.specs.Versions.{IsApart}
 use Rattle.ring_names.specs.AtBytes.{Puts, value_in, value_at}
-use Rattle.ring_maps.proofs.Answered.{none_from_empty}
+use Rattle.ring_maps.proofs.OneAnswer.{none_from_empty}
 use Rattle.ring_maps.proofs.Keys.{copying_more}
-use Rattle.ring_maps.proofs.Rest.{found}
+use Rattle.ring_maps.proofs.EntriesLeft.{found}
 use Rattle.ring_maps.proofs.key_map.KeyMap.try_copy.Goals as goal
 
 pub keys-init : goal.keys-init

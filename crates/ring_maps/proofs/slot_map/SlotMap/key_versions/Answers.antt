@@ -1,5 +1,5 @@
 use Rattle.std.proofs.Common.{◌∙◌, sym}
-use Rattle.ring_maps.proofs.Answered.{on_none, on_some}
+use Rattle.ring_maps.proofs.OneAnswer.{on_none, on_some}
 use Rattle.ring_maps.proofs.Chunks.{chunk_below}
 use Rattle.ring_maps.proofs.slot_map.SlotMap.key_versions.Goals as goal
 

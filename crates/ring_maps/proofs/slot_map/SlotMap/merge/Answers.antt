@@ -1,6 +1,6 @@
 use Rattle.std.proofs.Common.{refl, ◌∙◌, inl, inr, ap, arith}
 use Rattle.std.proofs.Math.ListN.{length-set}
-use Rattle.ring_maps.proofs.Answered.{on_ok, on_err}
+use Rattle.ring_maps.proofs.OneAnswer.{on_ok, on_err}
 use Rattle.ring_maps.proofs.Chunks.{chunk_below, within, lent, placed_set, lies_old, same_set, stays_set, filled_set, places_set, merged_key}
 use Rattle.ring_maps.specs.Chunks.{chunk_of}
 use Rattle.ring_maps.proofs.slot_map.SlotMap.merge.Goals as goal

@@ -1,7 +1,7 @@
 use Rattle.std.proofs.Common.{refl, ◌∙◌, inl, inr, arith}
 use Rattle.std.proofs.Math.ListN.{length-set}
 use Rattle.std.proofs.lemmas.Result.{IfOk-weaker}
-use Rattle.ring_maps.proofs.Answered.{both_ok}
+use Rattle.ring_maps.proofs.OneAnswer.{both_ok}
 use Rattle.ring_maps.proofs.Chunks.{within, lent, placed_set, lies_old, same_set, stays_set, fresh_chunk, ready_chunk}
 use Rattle.ring_maps.proofs.slot_map.SlotMap.prepare_chunk.Goals as goal
 

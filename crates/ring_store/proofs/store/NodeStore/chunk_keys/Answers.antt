@@ -1,7 +1,7 @@
 use Rattle.ring_maps.specs.Held.{held}
 use Rattle.std.proofs.lemmas.Result.{IfOk-weaker}
 use Rattle.ring_store.specs.Store.{chunk_versions}
-use Rattle.ring_store.proofs.Stored.{keys_same, keys_none}
+use Rattle.ring_store.proofs.SlotMapsChanged.{keys_same, keys_none}
 use Rattle.ring_store.proofs.store.NodeStore.chunk_keys.Goals as goal
 
 pub chunk_map-requires : goal.chunk_map-requires

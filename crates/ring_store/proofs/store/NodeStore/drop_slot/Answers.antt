@@ -1,6 +1,6 @@
 use Rattle.std.proofs.Common.{ap, None}
 use Rattle.ring_store.specs.Slots.{held_by}
-use Rattle.ring_store.proofs.Stored.{puts_slot, spaces_by, others_by}
+use Rattle.ring_store.proofs.SlotMapsChanged.{puts_slot, spaces_by, others_by}
 use Rattle.ring_store.proofs.store.NodeStore.drop_slot.Goals as goal
 
 pub invariant_of-self : goal.invariant_of-self

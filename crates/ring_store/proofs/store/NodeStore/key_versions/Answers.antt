@@ -1,4 +1,4 @@
-use Rattle.ring_store.proofs.Stored.{chunk_at}
+use Rattle.ring_store.proofs.SlotMapsChanged.{chunk_at}
 use Rattle.ring_store.proofs.store.NodeStore.key_versions.Goals as goal
 
 pub place-chunk-requires : goal.place-chunk-requires

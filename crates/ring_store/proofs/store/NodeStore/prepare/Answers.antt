@@ -4,7 +4,7 @@ use Rattle.std.proofs.lemmas.Result.{IfOk-weaker}
 use Rattle.ring_versions.specs.Fresh.{IsFreshFor}
 use Rattle.ring_versions.specs.declared.version.Version.{Version}
 use Rattle.ring_store.specs.Slots.{held_by, placed_by, maps_of, AreOf, PutsSlot}
-use Rattle.ring_store.proofs.Stored.{chunk_in, puts_slot, same_by, stays_by, spaces_by, space_at, ready_at}
+use Rattle.ring_store.proofs.SlotMapsChanged.{chunk_in, puts_slot, same_by, stays_by, spaces_by, space_at, ready_at}
 use Rattle.ring_store.proofs.store.NodeStore.prepare.Goals as goal
 
 pub prepare-requires : goal.prepare-requires

@@ -8,7 +8,7 @@ use Rattle.ring_maps.specs.Chunks.{chunk_of}
 use Rattle.ring_maps.specs.Held.{held}
 use Rattle.ring_names.specs.AtBytes.{value_at}
 use Rattle.ring_store.specs.Slots.{held_by, placed_by, maps_of, AreOf, PutsSlot}
-use Rattle.ring_store.proofs.Stored.{puts_slot, same_by, stays_by, spaces_by, space_at, all_ready_at}
+use Rattle.ring_store.proofs.SlotMapsChanged.{puts_slot, same_by, stays_by, spaces_by, space_at, all_ready_at}
 use Rattle.ring_store.proofs.store.NodeStore.prepare_chunk.Goals as goal
 
 pub prepare_chunk-requires-clause-chunk : goal.prepare_chunk-requires-clause-chunk

@@ -3,7 +3,7 @@ use Rattle.std.specs.Prelude.{IsSome}
 use Rattle.std.proofs.lemmas.Result.{IfOk-weaker}
 use Rattle.ring_maps.specs.Slots.{held_for}
 use Rattle.ring_store.specs.Slots.{held_by, placed_by, maps_of, AreOf, PutsSlot}
-use Rattle.ring_store.proofs.Stored.{puts_slot, same_by, stays_by, spaces_by, space_at, maps_ready_at, fresh_maps_same}
+use Rattle.ring_store.proofs.SlotMapsChanged.{puts_slot, same_by, stays_by, spaces_by, space_at, maps_ready_at, fresh_maps_same}
 use Rattle.ring_store.proofs.store.NodeStore.prepare_slot.Goals as goal
 
 pub prepare_map-requires : goal.prepare_map-requires

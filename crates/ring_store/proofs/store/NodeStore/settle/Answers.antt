@@ -4,7 +4,7 @@ use Rattle.ring_versions.specs.Fresh.{IsFreshFor}
 use Rattle.ring_versions.specs.declared.version.Version.{Version}
 use Rattle.ring_maps.specs.Merges.{at_key}
 use Rattle.ring_store.specs.Slots.{held_by, placed_by, maps_of, AreOf}
-use Rattle.ring_store.proofs.Stored.{chunk_in, puts_slot, merged_by, spaces_by, space_at, merged_at, ready_of}
+use Rattle.ring_store.proofs.SlotMapsChanged.{chunk_in, puts_slot, merged_by, spaces_by, space_at, merged_at, ready_of}
 use Rattle.ring_store.proofs.store.NodeStore.settle.Goals as goal
 
 pub settle-requires-clause-chunk : goal.settle-requires-clause-chunk

@@ -6,7 +6,7 @@ use Rattle.ring_versions.specs.declared.version.Version.{Version}
 use Rattle.ring_store.specs.Nodes.{at_node}
 use Rattle.ring_store.specs.Slots.{at_slot}
 use Rattle.ring_store.specs.Stores.{held_at}
-use Rattle.ring_store.proofs.Coming.{merges_same, merges_both}
+use Rattle.ring_store.proofs.MergesAtNodes.{merges_same, merges_both}
 use Rattle.ring_store.proofs.stores.Stores.give_to_both.Goals as goal
 
 pub settle-requires-clause-ready : goal.settle-requires-clause-ready

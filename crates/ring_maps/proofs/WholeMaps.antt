@@ -17,11 +17,11 @@ use Rattle.ring_maps.specs.Held.{held, has_place, IsReady}
 use Rattle.ring_names.specs.AtBytes.{value_in, value_at, Puts}
 use Rattle.ring_maps.specs.Places.{held_in}
 use Rattle.ring_maps.specs.Merges.{MergesAll, at_key, has_fresh, AreFreshFor, AreReady}
-use Rattle.ring_maps.proofs.Answered.{on_option, at_some, at_none, none_to, some_to}
+use Rattle.ring_maps.proofs.OneAnswer.{on_option, at_some, at_none, none_to, some_to}
 use Rattle.ring_names.proofs.AtBytes.{same_bytes, by_bytes}
-use Rattle.ring_maps.proofs.Merging.{merge_none, merge_twice, merge_then_none, merge_after_none}
+use Rattle.ring_maps.proofs.MergesInTurn.{merge_none, merge_twice, merge_then_none, merge_after_none}
 use Rattle.ring_maps.proofs.Puts.{at_here, at_other}
-use Rattle.ring_maps.proofs.Rest.{by_items, first_in, later_in, none_later}
+use Rattle.ring_maps.proofs.EntriesLeft.{by_items, first_in, later_in, none_later}
 
 -- what comes to a key is at its place
 more_at : {A : Type 0} (m : BTreeMap (Vec ℕ A) (List Version)) (k : List ℕ) (v : List Version) → value_at m k ≡ Some v → held_in m k ≡ v

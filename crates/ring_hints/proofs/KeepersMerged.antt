@@ -13,8 +13,8 @@ use Rattle.ring_maps.specs.declared.key_map.KeyMap.{KeyMap}
 use Rattle.ring_hints.specs.Hints.{chunk_hints, hinted_at, IsUnhinted, AreKeysBut}
 use Rattle.ring_hints.specs.Views.{in_keepers, pair_of}
 use Rattle.ring_hints.specs.declared.hints.Hints.{Hints}
-use Rattle.ring_hints.proofs.Kept.{not_emptied}
-use Rattle.ring_hints.proofs.Viewed.{node_tie, equal}
+use Rattle.ring_hints.proofs.PairChanged.{not_emptied}
+use Rattle.ring_hints.proofs.KeeperSets.{node_tie, equal}
 
 emptied : (a b c : List Version) → IsMerge a b c → c ≡ [] → (a ≡ []) × (b ≡ [])
 emptied [] [] c m e = (refl, refl)

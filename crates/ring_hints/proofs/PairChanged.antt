@@ -13,10 +13,10 @@ use Rattle.ring_maps.specs.declared.key_map.KeyMap.{KeyMap}
 use Rattle.ring_maps.specs.Merges.{MergesAll, at_key}
 use Rattle.ring_maps.specs.Slots.{space_of, held_for, has_place_for}
 use Rattle.ring_maps.specs.declared.slot_map.SlotMap.{SlotMap}
-use Rattle.ring_maps.proofs.Answered.{none_from_empty, false_from}
+use Rattle.ring_maps.proofs.OneAnswer.{none_from_empty, false_from}
 use Rattle.ring_names.proofs.AtBytes.{same_bytes}
 use Rattle.ring_maps.proofs.Chunks.{slot_apart}
-use Rattle.ring_maps.proofs.Merging.{merge_none}
+use Rattle.ring_maps.proofs.MergesInTurn.{merge_none}
 use Rattle.ring_maps.proofs.Slots.{bare_held}
 use Rattle.ring_space.specs.Place.{place_of}
 use Rattle.ring_space.specs.declared.found.Place.{Place}
@@ -26,7 +26,7 @@ use Rattle.ring_hints.specs.declared.pairs.Pairs.{Pairs}
 use Rattle.ring_hints.specs.Kept.{map_of, held_by, IsKept, AreKept, ArePaired, PutsMap}
 use Rattle.ring_hints.specs.Pairs.{is_pair}
 use Rattle.ring_hints.specs.Views.{is_of, pair_of}
-use Rattle.ring_hints.proofs.Viewed.{differ, equal, pair_same, or_cond}
+use Rattle.ring_hints.proofs.KeeperSets.{differ, equal, pair_same, or_cond}
 
 -- the chunk of a place that was computed
 pub chunk_at : (q : ℕ) (k : List ℕ) (p : Place) → p ≡ place_of q k → chunk_of q k ≡ p.chunk
