@@ -1,7 +1,7 @@
 -- What reads and writes in turn do to the bytes that are told.
 use Rattle.std.proofs.Common.{◌≡◌, ℕ, ◌+◌, ◌<◌, ◌≤◌, List, [], ◌++◌, length, take, drop, Option, Some, None, Result, Ok, Err, IsErr, IsErrAnd, refl, sym, ap, ◌∙◌, subst, arith, append_assoc, append-nil, length-append, take-append-drop, take_all, drop_of_length-le}
 use Rattle.std.specs.Global.{Vec}
-use Rattle.std.specs.Io.KnownBytes.{Consumes, IsAtEnd}
+use Rattle.std.specs.Io.KnownBytes.{Appends, Consumes, IsAtEnd, Keeps}
 use Rattle.std.proofs.KnownBytes.{Consumes-trans}
 use Rattle.ring_names.specs.declared.refusal.Refusal.{Refusal}
 use Rattle.ring_names.specs.declared.refusal.Refusal.TheVariants.{TooLarge, OutOfMemory, ReadFailed}
@@ -63,3 +63,28 @@ pub refilled : (n : ℕ) (new old : List ℕ) → n ≡ length old → length ne
 refilled n new old e f =
     let none : drop (length new) old ≡ [] = drop_of_length-le old (omega arith) in
     ap (λ l. take n (new ++ l)) none ∙ ap (λ l. take n l) (append-nil new) ∙ take_all n new (omega arith)
+
+-- a read that failed took nothing
+pub nothing_read : (a b c : Option (List ℕ)) (bs : List ℕ) → Consumes a b bs → Keeps b c → Consumes a c bs
+nothing_read None b c bs p q = tt
+nothing_read (Some x) None c bs p q = absurd p
+nothing_read (Some x) (Some y) None bs p q = absurd q
+nothing_read (Some x) (Some y) (Some z) bs p q = p ∙ ap (λ (l : List ℕ). bs ++ l) (sym q)
+
+-- a write that failed wrote nothing
+pub nothing_written : (a b c : Option (List ℕ)) (bs : List ℕ) → Appends a b bs → Keeps b c → Appends a c bs
+nothing_written None b c bs p q = tt
+nothing_written (Some x) None c bs p q = absurd p
+nothing_written (Some x) (Some y) None bs p q = absurd q
+nothing_written (Some x) (Some y) (Some z) bs p q = q ∙ p
+
+-- nor did a flush
+pub still_kept : (a b c : Option (List ℕ)) → Keeps a b → Keeps b c → Keeps a c
+still_kept None b c p q = tt
+still_kept (Some x) None c p q = absurd p
+still_kept (Some x) (Some y) None p q = absurd q
+still_kept (Some x) (Some y) (Some z) p q = q ∙ p
+
+pub kept_at_first : (a : Option (List ℕ)) → Keeps a a
+kept_at_first None = tt
+kept_at_first (Some x) = refl

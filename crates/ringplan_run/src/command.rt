@@ -7,7 +7,7 @@ ghost use Rattle.ringplan_run.specs.declared.job.Job.{Job};
 
 use crate::job::Job;
 use clap::error::ErrorKind;
-use clap::{Arg, ArgMatches, Command, value_parser};
+use clap::{Arg, ArgMatches, Command, Error, value_parser};
 use std::alloc::{AllocError, Global};
 use std::convert::AsStr;
 
@@ -133,23 +133,23 @@ fn try_parse<S: AsStr>(alloc: Global, words: &[S]) -> Result<CommandLine, AllocE
     match command(alloc)?.try_get_matches_from(words) {
         Ok(matches) => line_of(alloc, &matches),
         Err(error) => {
-            let text = format!(in alloc; "{error}")?.into_bytes();
+            let text = said_of(alloc, &error)?;
             match error.kind() {
                 ErrorKind::OutOfMemory => Ok(CommandLine::OutOfMemory),
                 ErrorKind::DisplayHelp => Ok(CommandLine::Help(text)),
-                ErrorKind::UnknownArgument => refused_with(text, STANDARD_INPUT),
                 _ => Ok(CommandLine::Refused(text)),
             }
         }
     }
 }
 
-// A refused line, with a word of advice behind its text.
-fn refused_with(mut text: Vec<u8>, advice: &[u8]) -> Result<CommandLine, AllocError>
-    ensures { IfOk result (λ line. (told : _) × (line ≡ CommandLine.Refused told)) }
-{
-    text.extend_from_slice(advice)?;
-    Ok(CommandLine::Refused(text))
+// What is said of a line that asks for nothing, or for help. A word that is no argument may be meant as a file's name.
+fn said_of(alloc: Global, error: &Error) -> Result<Vec<u8>, AllocError> {
+    let mut text = format!(in alloc; "{error}")?.into_bytes();
+    if matches!(error.kind(), ErrorKind::UnknownArgument) {
+        text.extend_from_slice(STANDARD_INPUT)?;
+    }
+    Ok(text)
 }
 
 // What a line without a fault asks for.
