@@ -1,5 +1,5 @@
 #!/usr/bin/env bash
-# Tries the edits of these crates that the gate leaves out, in a clone: edits/try.sh ring_text plan_order
+# Tries the edits of these crates that the gate leaves out, in a clone: edits/try.sh texts plan_order
 set -eu
 top=$(cd "$(dirname "$0")/.." && pwd)
 scratch=$(mktemp -d)

@@ -5,12 +5,12 @@ use Rattle.std.specs.Str.{bytes_eq}
 use Rattle.plan_cert.specs.Spelling.{cert_format}
 use Rattle.ring_names.specs.declared.refusal.Refusal.{Refusal}
 use Rattle.ring_names.specs.declared.refusal.Refusal.TheVariants.{BadLine, TooLarge}
-use Rattle.ring_text.specs.Numbers.{numbers_of, are_small}
-use Rattle.ring_text.specs.Left.{Left, is_word, next_number, one_line, then_part}
-use Rattle.ring_text.specs.Frames.{header_at, end_line_at}
-use Rattle.ring_text.specs.Late.{ReadsTo}
-use Rattle.ring_text.proofs.Lates.{At, at-map, at-bind, at-if, at-unless, at-whole, Judges, judges-⊗, judges-field, judges-word, judges-need, Advances, advances-line, advances-then, to-first, to-second, to-map, many-on, next-monotone}
-use Rattle.ring_text.proofs.FrameLaws.{end-at}
+use Rattle.texts.specs.Numbers.{numbers_of, are_small}
+use Rattle.texts.specs.Left.{Left, is_word, next_number, one_line, then_part}
+use Rattle.texts.specs.Frames.{header_at, end_line_at}
+use Rattle.texts.specs.Late.{ReadsTo}
+use Rattle.texts.proofs.Lates.{At, at-map, at-bind, at-if, at-unless, at-whole, Judges, judges-⊗, judges-field, judges-word, judges-need, Advances, advances-line, advances-then, to-first, to-second, to-map, many-on, next-monotone}
+use Rattle.texts.proofs.FrameLaws.{end-at}
 use Rattle.ring_table.specs.declared.allowance.NodeSide.{NodeSide}
 use Rattle.ring_table.specs.declared.allowance.Side.TheVariants.{Both, Take, Give}
 use Rattle.ring_table.specs.Value.{RingValue, allowance_of}

@@ -5,15 +5,15 @@ use Rattle.std.specs.Str.{bytes_eq}
 use Rattle.std.specs.List.{list_all, AllByRecursion}
 use Rattle.std.proofs.lemmas.Bool.{eqb-true, and_parts}
 use Rattle.std.proofs.lemmas.List.{length-map}
-use Rattle.ring_text.specs.Numbers.{are_small}
-use Rattle.ring_text.specs.Left.{Left, is_word, one_line, then_part}
-use Rattle.ring_text.specs.Frames.{header_fields, header_at, end_fields, end_line_at}
-use Rattle.ring_text.proofs.FrameLaws.{Nothing, header-line, end-line}
-use Rattle.ring_text.specs.Laws.{IsPart, SomeLeft, Any, IsPlain, IsPlainLine, EachNext, BeginsOther}
-use Rattle.ring_text.proofs.Items.{IsPart-line, IsPart-then, IsPart-map, IsPart-as, some_lines}
-use Rattle.ring_text.proofs.Many.{many-part}
-use Rattle.ring_text.proofs.Rows.{numbers-plain}
-use Rattle.ring_text.proofs.Wholes.{whole-takes, whole-gives}
+use Rattle.texts.specs.Numbers.{are_small}
+use Rattle.texts.specs.Left.{Left, is_word, one_line, then_part}
+use Rattle.texts.specs.Frames.{header_fields, header_at, end_fields, end_line_at}
+use Rattle.texts.proofs.FrameLaws.{Nothing, header-line, end-line}
+use Rattle.texts.specs.Laws.{IsPart, SomeLeft, Any, IsPlain, IsPlainLine, EachNext, BeginsOther}
+use Rattle.texts.proofs.Items.{IsPart-line, IsPart-then, IsPart-map, IsPart-as, some_lines}
+use Rattle.texts.proofs.Many.{many-part}
+use Rattle.texts.proofs.Rows.{numbers-plain}
+use Rattle.texts.proofs.Wholes.{whole-takes, whole-gives}
 use Rattle.ring_table.specs.declared.node.Node.{Node}
 use Rattle.ring_table.specs.declared.allowance.Side.{Side}
 use Rattle.ring_table.specs.declared.allowance.Side.TheVariants.{Both, Take, Give}

@@ -9,13 +9,13 @@ use Rattle.std.proofs.lemmas.Bool.Decides.{nat_tests}
 use Rattle.ring_names.specs.declared.ids.NodeId.{NodeId}
 use Rattle.ring_names.specs.declared.refusal.Refusal.{Refusal}
 use Rattle.ring_names.specs.declared.refusal.Refusal.TheVariants.{BadLine, TooLarge}
-use Rattle.ring_text.specs.Numbers.{numbers_of, beyond, are_small}
-use Rattle.ring_text.specs.Judging.{Item, field_at, word_at, need_at, map_ok}
-use Rattle.ring_text.specs.Left.{◌>>=◌}
-use Rattle.ring_text.specs.Laws.{IsItem, IsLine}
-use Rattle.ring_text.proofs.FrameLaws.{Nothing}
-use Rattle.ring_text.proofs.Items.{IsItem-⊗, IsItem-word, IsItem-field, IsItem-need, IsLine-map, IsLine-as, ok_is, bind_ok, unless_is, unless_ok}
-use Rattle.ring_text.proofs.Fronts.{Free, Last, IsFront, front-item, front-⊗, front-whole, numbers-taken, numbers-given, pair_is, pair_of}
+use Rattle.texts.specs.Numbers.{numbers_of, beyond, are_small}
+use Rattle.texts.specs.Judging.{Item, field_at, word_at, need_at, map_ok}
+use Rattle.texts.specs.Left.{◌>>=◌}
+use Rattle.texts.specs.Laws.{IsItem, IsLine}
+use Rattle.texts.proofs.FrameLaws.{Nothing}
+use Rattle.texts.proofs.Items.{IsItem-⊗, IsItem-word, IsItem-field, IsItem-need, IsLine-map, IsLine-as, ok_is, bind_ok, unless_is, unless_ok}
+use Rattle.texts.proofs.Fronts.{Free, Last, IsFront, front-item, front-⊗, front-whole, numbers-taken, numbers-given, pair_is, pair_of}
 use Rattle.ring_table.specs.declared.allowance.NodeSide.{NodeSide}
 use Rattle.ring_table.specs.declared.allowance.Side.{Side}
 use Rattle.ring_table.specs.declared.allowance.Side.TheVariants.{Both, Take, Give}

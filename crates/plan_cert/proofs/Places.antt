@@ -5,7 +5,7 @@ use Rattle.std.specs.List.{list_all}
 use Rattle.std.proofs.lemmas.List.{take_more, flat_map_more, map_push}
 use Rattle.std.proofs.lemmas.List.Folds.{list_all_more, list_all_at}
 use Rattle.std.proofs.lemmas.Option.{slice_get_within, get_or_from_slice_get}
-use Rattle.ring_text.specs.Parts.{line_text, text_of}
+use Rattle.texts.specs.Parts.{line_text, text_of}
 
 module _ {X : Type 0} (xs : List X) (place : ℕ) (x : X) (e : slice_get xs place ≡ Some x) where
   -- the test passes at one place more

@@ -2,8 +2,8 @@
 use Rattle.std.proofs.Common.{◌≡◌, ℕ, List, [], ◌∷◌, ◌++◌, map, codes, sym, ap, ◌∙◌, append_assoc}
 use Rattle.std.specs.Fmt.{decimal}
 use Rattle.std.proofs.lemmas.List.Concat.{flat_map-cons}
-use Rattle.ring_text.specs.Parts.{line_text, spaced}
-use Rattle.ring_text.proofs.Spaced.{join-spaced}
+use Rattle.texts.specs.Parts.{line_text, spaced}
+use Rattle.texts.proofs.Spaced.{join-spaced}
 use Rattle.ring_table.specs.Spelling.{name_at}
 use Rattle.plan_cert.specs.declared.cert.Chain.{Chain}
 use Rattle.plan_cert.specs.Spelling.{fact_fields, side_word, chain_fields}

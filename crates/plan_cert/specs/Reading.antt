@@ -4,10 +4,10 @@ use Rattle.std.specs.Str.{bytes_eq}
 use Rattle.ring_names.specs.declared.ids.NodeId.{NodeId}
 use Rattle.ring_names.specs.declared.refusal.Refusal.{Refusal}
 use Rattle.ring_names.specs.declared.refusal.Refusal.TheVariants.{BadLine, TooLarge}
-use Rattle.ring_text.specs.Numbers.{numbers_of, beyond, are_small}
-use Rattle.ring_text.specs.Judging.{Item, ◌⊗◌, field_at, word_at, need_at, map_ok, whole, unless}
-use Rattle.ring_text.specs.Left.{Left, ◌>>=◌, is_word, one_line, many_from, then_part, map_part, whole_text}
-use Rattle.ring_text.specs.Frames.{header_at, end_line_at}
+use Rattle.texts.specs.Numbers.{numbers_of, beyond, are_small}
+use Rattle.texts.specs.Judging.{Item, ◌⊗◌, field_at, word_at, need_at, map_ok, whole, unless}
+use Rattle.texts.specs.Left.{Left, ◌>>=◌, is_word, one_line, many_from, then_part, map_part, whole_text}
+use Rattle.texts.specs.Frames.{header_at, end_line_at}
 use Rattle.ring_table.specs.declared.allowance.NodeSide.{NodeSide}
 use Rattle.ring_table.specs.declared.allowance.Side.{Side}
 use Rattle.ring_table.specs.declared.allowance.Side.TheVariants.{Both, Take, Give}

@@ -1,8 +1,8 @@
 -- The one text of each certificate.
 use Rattle.std.specs.Prelude.{ℕ, ◌==◌, List, [], ◌∷◌, ◌++◌, map, codes, if◌then◌else◌}
 use Rattle.std.specs.Fmt.{decimal}
-use Rattle.ring_text.specs.Parts.{text_of}
-use Rattle.ring_text.specs.Frames.{header_fields, end_fields}
+use Rattle.texts.specs.Parts.{text_of}
+use Rattle.texts.specs.Frames.{header_fields, end_fields}
 use Rattle.ring_table.specs.Value.{RingValue, names_of}
 use Rattle.ring_table.specs.declared.allowance.Side.{Side}
 use Rattle.ring_table.specs.declared.allowance.Side.TheVariants.{Both, Take, Give}

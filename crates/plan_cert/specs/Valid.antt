@@ -1,7 +1,7 @@
 -- Which certificates a text can say.
 use Rattle.std.specs.Prelude.{◌≡◌, ℕ, ◌≤◌, Bool, true, ◌&&◌, nat_le, List, length, is_some}
 use Rattle.std.specs.List.{list_all}
-use Rattle.ring_text.specs.Numbers.{are_small}
+use Rattle.texts.specs.Numbers.{are_small}
 use Rattle.ring_table.specs.Value.{RingValue, allowance_of}
 use Rattle.plan_cert.specs.declared.cert.Chain.{Chain}
 use Rattle.plan_cert.specs.declared.cert.Cert.{Cert}

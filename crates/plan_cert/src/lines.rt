@@ -1,16 +1,16 @@
 //! The lines of a certificate.
 
 ghost use Rattle.std.specs.Prelude.{◌≡◌, ◌<◌, ◌-◌, IfOk, IfErr, OnOk, length, slice_get, option_map, true};
-ghost use Rattle.ring_text.specs.Numbers.{are_small};
-ghost use Rattle.ring_text.specs.Judging.{Does, field_at, map_ok};
-ghost use Rattle.ring_text.specs.Late.{IsAt};
+ghost use Rattle.texts.specs.Numbers.{are_small};
+ghost use Rattle.texts.specs.Judging.{Does, field_at, map_ok};
+ghost use Rattle.texts.specs.Late.{IsAt};
 ghost use Rattle.plan_cert.specs.Reading.{path_at, steps_at, fact_at, judge_side, side_node_at, node_side_at, chain_at};
 ghost use Rattle.plan_cert.specs.Said.{chain_said};
 
 use crate::chains::Chains;
 use ring_names::{NodeId, Refusal, Rows};
 use ring_table::{NodeSide, Ring, Side, node_field};
-use ring_text::{CAP, Fields, NumberRow, both, finish_both, need};
+use texts::{CAP, Fields, NumberRow, both, finish_both, need};
 
 // All numbers in front, as the steps of a fact.
 #[tactic(auto, unfolding(crate::specs::Reading::path_at))]

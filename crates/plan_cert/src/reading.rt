@@ -2,10 +2,10 @@
 
 ghost use Rattle.std.specs.Prelude.{◌≡◌, ◌≤◌, ◌+◌, ◌<◌, ◌++◌, ◌∷◌, [], length, codes, true, Ok, IfOk, IfErr, OnOk};
 ghost use Rattle.ring_names.specs.declared.refusal.Refusal.TheVariants.{OutOfMemory};
-ghost use Rattle.ring_text.specs.Left.{Reads, begins_so, is_word, many_from};
-ghost use Rattle.ring_text.specs.Late.{Late, NoFaultBefore};
-ghost use Rattle.ring_text.specs.Judging.{Gives, map_ok};
-ghost use Rattle.ring_text.specs.Numbers.{are_small};
+ghost use Rattle.texts.specs.Left.{Reads, begins_so, is_word, many_from};
+ghost use Rattle.texts.specs.Late.{Late, NoFaultBefore};
+ghost use Rattle.texts.specs.Judging.{Gives, map_ok};
+ghost use Rattle.texts.specs.Numbers.{are_small};
 ghost use Rattle.plan_cert.specs.Reading.{fact_at, chain_at, begins_chain, cert_at, cert_reading};
 ghost use Rattle.plan_cert.specs.Said.{chain_said};
 ghost use Rattle.plan_cert.specs.Spelling.{cert_format, cert_text};
@@ -17,8 +17,8 @@ use crate::chains::Chains;
 use crate::lines::{ChainLine, chain_line, fact_line};
 use ring_names::{Refusal, Rows};
 use ring_table::Ring;
-use ring_text::{Lines, NumberRow, end, header};
 use std::alloc::Global;
+use texts::{Lines, NumberRow, end, header};
 
 // Adds the fact of a line that was judged.
 fn add_fact(alloc: Global, facts: &mut Rows, path: NumberRow) -> Result<(), Refusal>

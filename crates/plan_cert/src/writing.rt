@@ -2,7 +2,7 @@
 
 ghost use Rattle.std.specs.Prelude.{◌≡◌, ◌++◌, map, IfOk, IfErr, OnOk};
 ghost use Rattle.ring_names.specs.declared.refusal.Refusal.TheVariants.{OutOfMemory};
-ghost use Rattle.ring_text.specs.Parts.{line_text, text_of};
+ghost use Rattle.texts.specs.Parts.{line_text, text_of};
 ghost use Rattle.ring_table.specs.Value.{names_of};
 ghost use Rattle.plan_cert.specs.Spelling.{fact_fields, side_word, chain_fields, cert_text};
 ghost use Rattle.plan_cert.specs.Chains.{chain_of};
@@ -13,8 +13,8 @@ use crate::chains::Chains;
 use crate::reading::format_of;
 use ring_names::{Refusal, Rows};
 use ring_table::{NodeSide, Ring, Side, push_name};
-use ring_text::push_numbers;
 use std::alloc::{AllocError, Global};
+use texts::push_numbers;
 
 // The line of a fact.
 fn push_fact(out: &mut Vec<u8>, path: &[u32]) -> Result<(), AllocError>

@@ -3,7 +3,7 @@ use Rattle.std.proofs.Common.{◌≡◌, ◌⊎◌, inl, inr, ℕ, ◌+◌, ◌�
 use Rattle.std.specs.Prelude.{◌&&◌, ◌==◌, nat_lt}
 use Rattle.std.proofs.lemmas.Bool.Decides.{eqb_tells}
 use Rattle.ring_names.specs.Lists.{has}
-use Rattle.ring_text.specs.Numbers.{ascending}
+use Rattle.texts.specs.Numbers.{ascending}
 use Rattle.std.proofs.lemmas.Bool.{and_parts}
 use Rattle.plan_check.specs.World.{World}
 use Rattle.plan_check.specs.Succession.{Succeeds, succeeds, some_succeeds, latest_of, latest}

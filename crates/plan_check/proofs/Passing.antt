@@ -3,7 +3,7 @@ use Rattle.std.proofs.Common.{◌≡◌, ◌⊎◌, inl, inr, ℕ, zero, suc, �
 use Rattle.std.specs.Prelude.{◌==◌, nat_lt}
 use Rattle.std.proofs.lemmas.Bool.Decides.{eqb_tells}
 use Rattle.ring_names.specs.Lists.{has, all_different}
-use Rattle.ring_text.specs.Numbers.{ascending}
+use Rattle.texts.specs.Numbers.{ascending}
 use Rattle.std.proofs.lemmas.Bool.{and_parts}
 use Rattle.plan_check.specs.World.{some_below, passing_from, passing_below}
 use Rattle.plan_stage.proofs.Truth.{all_of, either, second_of_two}

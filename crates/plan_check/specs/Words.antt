@@ -1,8 +1,8 @@
 -- The limits of an event's words.
 use Rattle.std.specs.Prelude.{ℕ, Bool, ◌&&◌, nat_le, List, length}
 use Rattle.std.specs.List.{list_all}
-use Rattle.ring_text.specs.Name.{is_name_byte}
-use Rattle.ring_text.specs.Numbers.{ascending}
+use Rattle.texts.specs.Name.{is_name_byte}
+use Rattle.texts.specs.Numbers.{ascending}
 
 -- 1 to 64 bytes of `a-z0-9_.:-`
 abbrev pub is_key : List ℕ → Bool

@@ -2,14 +2,14 @@
 
 ghost use Rattle.std.specs.Prelude.{◌≡◌, ◌++◌, IfOk, OnOk, map};
 ghost use Rattle.std.specs.Fmt.{decimal};
-ghost use Rattle.ring_text.specs.Parts.{spaced};
+ghost use Rattle.texts.specs.Parts.{spaced};
 ghost use Rattle.plan_check.specs.Replies.{reply_text};
 ghost use Rattle.plan_check.specs.declared.event.Event.TheVariants.{StartPut};
 
 use crate::words::{Key, Seen};
 use ring_names::{Listed, NodeId, Slot, Value, WriterId};
-use ring_text::push_numbers;
 use std::alloc::{AllocError, Global};
+use texts::push_numbers;
 
 /// One event. Steps, puts and gets are named by their numbers, puts and gets in order of their start.
 #[derive(Debug, Drop)]

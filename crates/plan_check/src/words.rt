@@ -2,12 +2,12 @@
 
 ghost use Rattle.std.specs.Prelude.{◌≡◌, IfOk, IfSome, is_some};
 ghost use Rattle.std.specs.List.{list_all};
-ghost use Rattle.ring_text.specs.Numbers.{ascending};
+ghost use Rattle.texts.specs.Numbers.{ascending};
 ghost use Rattle.plan_check.specs.Words.{is_key, is_seen};
 
-use ring_text::are_name_bytes;
 use std::alloc::{AllocError, Global};
 use std::marker::Model;
+use texts::are_name_bytes;
 
 /// A key: 1 to 64 bytes of `a-z0-9_.:-`.
 #[derive(Debug, Drop)]

@@ -11,7 +11,7 @@ use Rattle.ring_names.specs.declared.ids.NodeId.{NodeId}
 use Rattle.ring_names.specs.declared.refusal.Refusal.{Refusal}
 use Rattle.ring_names.specs.declared.refusal.Refusal.TheVariants.{ChainBroken, CoverMissing, TooManyChains}
 use Rattle.ring_names.specs.declared.lists.Lists.{Lists}
-use Rattle.ring_text.specs.Numbers.{ascending}
+use Rattle.texts.specs.Numbers.{ascending}
 use Rattle.ring_table.specs.declared.allowance.NodeSide.{NodeSide}
 use Rattle.ring_table.specs.declared.allowance.Side.{Side}
 use Rattle.ring_table.specs.declared.allowance.Side.TheVariants.{Both, Take, Give}

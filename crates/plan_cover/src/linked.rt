@@ -2,7 +2,7 @@
 
 ghost use Rattle.std.specs.Prelude.{◌≡◌, true, map, min};
 ghost use Rattle.ring_names.specs.Lists.{has};
-ghost use Rattle.ring_text.specs.Numbers.{ascending};
+ghost use Rattle.texts.specs.Numbers.{ascending};
 ghost use Rattle.plan_order.specs.Order.{order};
 ghost use Rattle.plan_stage.specs.Clauses.{Gives};
 ghost use Rattle.plan_cover.specs.Looking.Guards.{leads_on, is_linked_in, steps_at, side_at, chain_guard};

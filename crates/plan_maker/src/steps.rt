@@ -2,7 +2,7 @@
 
 ghost use Rattle.std.specs.Prelude.{◌≡◌, ◌≤◌, ◌<◌, ◌+◌, true, length, nat_lt};
 ghost use Rattle.std.specs.List.{list_all};
-ghost use Rattle.ring_text.specs.Numbers.{ascending};
+ghost use Rattle.texts.specs.Numbers.{ascending};
 ghost use Rattle.plan_text.specs.Steps.{dependencies};
 ghost use Rattle.plan_text.specs.Valid.{HasSources, IsPlanned};
 

@@ -21,8 +21,8 @@ use Rattle.plan_text.specs.Changes.{numbers, same_nodes, fulfils}
 use Rattle.plan_text.specs.Steps.{dependencies, joins, retires, joined, retired, steps_from, steps_of}
 use Rattle.plan_text.specs.Valid.{step_suits, Suits as PlanSuits}
 use Rattle.plan_cert.specs.declared.cert.Cert.{Cert}
-use Rattle.plan_change.specs.declared.change.Change.{Change}
-use Rattle.plan_change.specs.Valid.{IsChange, is_declared, may_join}
+use Rattle.change_text.specs.declared.change.Change.{Change}
+use Rattle.change_text.specs.Valid.{IsChange, is_declared, may_join}
 use Rattle.plan_stage.specs.Each.{step_at}
 use Rattle.plan_stage.specs.Stage.{is_among}
 use Rattle.plan_stage.specs.Parties.{on_side, target_of, sources_of}

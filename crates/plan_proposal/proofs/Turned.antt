@@ -6,7 +6,7 @@ use Rattle.ring_table.specs.Value.{RingValue}
 use Rattle.plan_text.specs.declared.step.Planned.{Planned}
 use Rattle.plan_text.specs.Valid.{IsPlan}
 use Rattle.plan_cert.specs.declared.cert.Cert.{Cert}
-use Rattle.plan_change.specs.declared.change.Change.{Change}
+use Rattle.change_text.specs.declared.change.Change.{Change}
 use Rattle.plan_check.specs.First.{first_refusal}
 use Rattle.plan_proposal.specs.Proposals.{Makes, IsTurnedAway, no_memory, not_accepted}
 

@@ -10,7 +10,7 @@ use Rattle.plan_text.specs.Valid.{IsPlan, Suits as PlanSuits}
 use Rattle.plan_cert.specs.declared.cert.Cert.{Cert}
 use Rattle.plan_cert.specs.Spelling.{cert_text}
 use Rattle.plan_cert.specs.Valid.{Suits as CertSuits}
-use Rattle.plan_change.specs.declared.change.Change.{Change}
+use Rattle.change_text.specs.declared.change.Change.{Change}
 use Rattle.plan_check.specs.Certified.{IsCertified}
 use Rattle.plan_check.specs.First.{first_refusal}
 

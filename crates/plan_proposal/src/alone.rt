@@ -2,13 +2,13 @@
 
 ghost use Rattle.std.specs.Prelude.{◌≡◌, ◌≤◌, [], length, IfOk, IfErr};
 ghost use Rattle.ring_names.specs.declared.refusal.Refusal.TheVariants.{OutOfMemory};
-ghost use Rattle.plan_change.specs.Valid.{IsChange};
+ghost use Rattle.change_text.specs.Valid.{IsChange};
 ghost use Rattle.plan_proposal.specs.Joins.{joins_alone, no_claims};
 ghost use Rattle.plan_proposal.specs.Proposals.{IsProposed};
 
 use crate::judging::{Rejected, judge};
+use change_text::Change;
 use plan_cert::{Cert, Chains};
-use plan_change::Change;
 use plan_text::{Plan, Step};
 use ring_names::{NodeId, Refusal, Rows};
 use ring_table::Ring;

@@ -9,8 +9,8 @@ ghost use Rattle.plan_cert.specs.Valid.{Suits as CertSuits};
 ghost use Rattle.plan_check.specs.Certified.{IsCertified};
 ghost use Rattle.plan_proposal.specs.Proposals.{Makes, IsProposed, IsTurnedAway};
 
+use change_text::Change;
 use plan_cert::{Cert, write_cert};
-use plan_change::Change;
 use plan_check::{Turned, check};
 use plan_text::{Plan, write_plan};
 use ring_names::Refusal;

@@ -2,12 +2,12 @@
 
 ghost use Rattle.std.specs.Prelude.{◌≡◌, ◌⊎◌, [], IfOk, IfErr};
 ghost use Rattle.ring_names.specs.declared.refusal.Refusal.TheVariants.{NoPlan, OutOfMemory};
-ghost use Rattle.plan_change.specs.Valid.{IsChange};
+ghost use Rattle.change_text.specs.Valid.{IsChange};
 ghost use Rattle.plan_proposal.specs.Proposals.{IsProposed, IsTurnedAway};
 
 use crate::alone::propose_joins;
 use crate::judging::{Rejected, judge};
-use plan_change::Change;
+use change_text::Change;
 use plan_maker::make;
 use ring_names::Refusal;
 use ring_table::Ring;

@@ -12,7 +12,7 @@ use Rattle.plan_text.specs.declared.step.Step.TheVariants.{Join, Mirror, Copy, S
 use Rattle.plan_text.specs.declared.step.Planned.{Planned}
 use Rattle.plan_text.specs.Steps.{is_slot, retires, retired, is_retire_of, first_step, retirement_of}
 use Rattle.plan_text.specs.Valid.{Suits, step_suits, source_suits, is_ring_slot, is_declared}
-use Rattle.ring_text.specs.Numbers.{ascending}
+use Rattle.texts.specs.Numbers.{ascending}
 use Rattle.plan_stage.specs.Each.{step_at}
 use Rattle.plan_stage.specs.Occupancy.{is_node}
 use Rattle.plan_stage.specs.Holdings.{holdings, is_none}

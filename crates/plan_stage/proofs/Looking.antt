@@ -12,7 +12,7 @@ use Rattle.plan_text.specs.declared.step.Step.{Step}
 use Rattle.plan_text.specs.declared.step.Step.TheVariants.{Join, Mirror, Copy, Switch, Drop, Retire}
 use Rattle.plan_text.specs.declared.step.Source.TheVariants.{Owner, Slots}
 use Rattle.plan_text.specs.declared.step.Planned.{Planned}
-use Rattle.ring_text.specs.Numbers.{ascending}
+use Rattle.texts.specs.Numbers.{ascending}
 use Rattle.plan_stage.specs.Clauses.{Guard, first_failing}
 use Rattle.plan_stage.specs.Occupancy.{first_drop, mirror_drop}
 use Rattle.plan_stage.specs.Each.{step_at, each_step, is_mirror_of, owns_first, slot_in, place_in}

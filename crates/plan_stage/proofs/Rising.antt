@@ -10,7 +10,7 @@ use Rattle.ring_names.specs.declared.ids.Slot.{Slot}
 use Rattle.ring_table.specs.Value.{RingValue}
 use Rattle.plan_text.specs.declared.step.Planned.{Planned}
 use Rattle.plan_text.specs.Steps.{steps_of, steps_from, is_on}
-use Rattle.ring_text.specs.Numbers.{ascending}
+use Rattle.texts.specs.Numbers.{ascending}
 use Rattle.plan_stage.specs.declared.holding.Holding.{Holding}
 use Rattle.plan_stage.specs.declared.stage.Stage.{Stage}
 use Rattle.plan_stage.specs.Stage.{after, opening}

@@ -4,7 +4,7 @@ ghost use Rattle.std.specs.Prelude.{◌≡◌, ℕ, ◌<◌, IfOk, IfErr, OnOk, 
 ghost use Rattle.ring_names.specs.Lists.{has};
 ghost use Rattle.ring_names.specs.declared.refusal.Refusal.TheVariants.{OutOfMemory};
 ghost use Rattle.plan_text.specs.Valid.{Suits};
-ghost use Rattle.ring_text.specs.Numbers.{ascending};
+ghost use Rattle.texts.specs.Numbers.{ascending};
 ghost use Rattle.plan_stage.specs.Looking.Concerned.{AreConcerned};
 ghost use Rattle.plan_stage.specs.Looking.Gathered.{Grows, HasRetirement, HasStep, HasSlot, IsGathered};
 

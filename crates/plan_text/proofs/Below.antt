@@ -4,11 +4,11 @@ use Rattle.std.specs.Fmt.{decimal}
 use Rattle.std.proofs.lemmas.Bool.{lt-ltb, ltb-true}
 use Rattle.ring_names.specs.declared.refusal.Refusal.{Refusal}
 use Rattle.ring_names.specs.declared.refusal.Refusal.TheVariants.{BadLine, TooLarge}
-use Rattle.ring_text.specs.Number.{decimal_value}
-use Rattle.ring_text.specs.Judging.{field_at}
-use Rattle.ring_text.specs.Laws.{IsItem}
-use Rattle.ring_text.proofs.Items.{IsItem-field, ok_is}
-use Rattle.ring_text.proofs.Decimals.{decimal-value, value-decimal}
+use Rattle.texts.specs.Number.{decimal_value}
+use Rattle.texts.specs.Judging.{field_at}
+use Rattle.texts.specs.Laws.{IsItem}
+use Rattle.texts.proofs.Items.{IsItem-field, ok_is}
+use Rattle.texts.proofs.Decimals.{decimal-value, value-decimal}
 use Rattle.plan_text.specs.Reading.{judge_below}
 
 abbrev within : ℕ → ℕ → Option ℕ → Result ℕ Refusal

@@ -8,9 +8,9 @@ use Rattle.ring_names.specs.declared.ids.NodeId.{NodeId}
 use Rattle.ring_names.specs.declared.ids.Slot.{Slot}
 use Rattle.ring_names.specs.declared.refusal.Refusal.{Refusal}
 use Rattle.ring_names.specs.declared.refusal.Refusal.TheVariants.{BadLine, TooLarge, LaterDependency}
-use Rattle.ring_text.specs.Numbers.{numbers_of, beyond, ascending, are_small}
-use Rattle.ring_text.specs.Judging.{Item, ◌⊗◌, need_at, end_at, map_ok, map_item, whole}
-use Rattle.ring_text.proofs.Items.{both_is, map_is, ok_is, unless_is}
+use Rattle.texts.specs.Numbers.{numbers_of, beyond, ascending, are_small}
+use Rattle.texts.specs.Judging.{Item, ◌⊗◌, need_at, end_at, map_ok, map_item, whole}
+use Rattle.texts.proofs.Items.{both_is, map_is, ok_is, unless_is}
 use Rattle.ring_table.specs.Value.{RingValue}
 use Rattle.plan_text.specs.declared.said.Said.{Said}
 use Rattle.plan_text.specs.declared.said.Said.TheVariants.{Join, Mirror, Copy, Switch, Drop, Retire}

@@ -7,14 +7,14 @@ use Rattle.ring_names.specs.declared.ids.NodeId.{NodeId}
 use Rattle.ring_names.specs.declared.ids.Slot.{Slot}
 use Rattle.ring_names.specs.declared.refusal.Refusal.{Refusal}
 use Rattle.ring_names.specs.declared.refusal.Refusal.TheVariants.{BadLine, TooLarge, Repeated, LaterDependency}
-use Rattle.ring_text.specs.Number.{decimal_value}
-use Rattle.ring_text.specs.Numbers.{numbers_of, beyond, ascending}
-use Rattle.ring_text.specs.Judging.{map_ok, map_item}
-use Rattle.ring_text.specs.Left.{Left, ◌>>=◌, next_number, begins_with, first_line, next_line, one_line, then_part}
-use Rattle.ring_text.specs.Frames.{header_at, end_line_at}
-use Rattle.ring_text.specs.Late.{ReadsTo}
-use Rattle.ring_text.proofs.Lates.{At, at-map, at-bind, at-if, at-unless, at-whole, Judges, judges-⊗, judges-map, judges-field, judges-need, advances-line, to-first, to-second, to-map, reads-less, next-after, next-line, next-monotone}
-use Rattle.ring_text.proofs.FrameLaws.{end-at}
+use Rattle.texts.specs.Number.{decimal_value}
+use Rattle.texts.specs.Numbers.{numbers_of, beyond, ascending}
+use Rattle.texts.specs.Judging.{map_ok, map_item}
+use Rattle.texts.specs.Left.{Left, ◌>>=◌, next_number, begins_with, first_line, next_line, one_line, then_part}
+use Rattle.texts.specs.Frames.{header_at, end_line_at}
+use Rattle.texts.specs.Late.{ReadsTo}
+use Rattle.texts.proofs.Lates.{At, at-map, at-bind, at-if, at-unless, at-whole, Judges, judges-⊗, judges-map, judges-field, judges-need, advances-line, to-first, to-second, to-map, reads-less, next-after, next-line, next-monotone}
+use Rattle.texts.proofs.FrameLaws.{end-at}
 use Rattle.ring_table.specs.Value.{RingValue, is_member}
 use Rattle.ring_table.specs.Reading.{declared_at}
 use Rattle.ring_table.proofs.RingLates.{judges-declared}

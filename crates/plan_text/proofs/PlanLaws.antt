@@ -3,11 +3,11 @@ use Rattle.std.proofs.Common.{◌≡◌, ℕ, ◌≤◌, Bool, true, false, cond
 use Rattle.std.proofs.lemmas.List.{append-nil}
 use Rattle.std.proofs.lemmas.List.Sums.{sum_by_push}
 use Rattle.ring_names.specs.declared.refusal.Refusal.{Refusal}
-use Rattle.ring_text.specs.Left.{Left, ◌>>=◌, next_number, first_line, begins_with, one_line}
-use Rattle.ring_text.specs.Frames.{header_fields, header_at, end_fields, end_line_at}
-use Rattle.ring_text.proofs.FrameLaws.{Nothing, header-line, end-line}
-use Rattle.ring_text.specs.Laws.{IsLine, IsPart, SomeLeft, Any}
-use Rattle.ring_text.proofs.Items.{IsLine-map, IsLine-as, IsPart-line, IsPart-then, IsPart-map, IsPart-as, ok_is, bind_ok, first_is, some_lines}
+use Rattle.texts.specs.Left.{Left, ◌>>=◌, next_number, first_line, begins_with, one_line}
+use Rattle.texts.specs.Frames.{header_fields, header_at, end_fields, end_line_at}
+use Rattle.texts.proofs.FrameLaws.{Nothing, header-line, end-line}
+use Rattle.texts.specs.Laws.{IsLine, IsPart, SomeLeft, Any}
+use Rattle.texts.proofs.Items.{IsLine-map, IsLine-as, IsPart-line, IsPart-then, IsPart-map, IsPart-as, ok_is, bind_ok, first_is, some_lines}
 use Rattle.ring_table.specs.Value.{RingValue, names_of}
 use Rattle.ring_table.proofs.RowLaws.{AreNames}
 use Rattle.plan_text.specs.declared.said.Said.{Said}

@@ -11,10 +11,10 @@ use Rattle.ring_names.specs.declared.ids.NodeId.{NodeId}
 use Rattle.ring_names.specs.declared.ids.Slot.{Slot}
 use Rattle.ring_names.specs.declared.refusal.Refusal.{Refusal}
 use Rattle.ring_names.specs.declared.refusal.Refusal.TheVariants.{BadLine, TooLarge, Repeated, LaterDependency}
-use Rattle.ring_text.specs.Numbers.{numbers_of, beyond, ascending, are_small}
-use Rattle.ring_text.specs.Judging.{Item, need_at, map_ok, map_item}
-use Rattle.ring_text.specs.Laws.{IsItem, IsLine}
-use Rattle.ring_text.proofs.Items.{IsItem-⊗, IsItem-map, IsItem-as, IsItem-need, IsLine-map, IsLine-as, map_is, ok_is, unless_ok}
+use Rattle.texts.specs.Numbers.{numbers_of, beyond, ascending, are_small}
+use Rattle.texts.specs.Judging.{Item, need_at, map_ok, map_item}
+use Rattle.texts.specs.Laws.{IsItem, IsLine}
+use Rattle.texts.proofs.Items.{IsItem-⊗, IsItem-map, IsItem-as, IsItem-need, IsLine-map, IsLine-as, map_is, ok_is, unless_ok}
 use Rattle.ring_table.specs.Value.{RingValue, names_of, is_member}
 use Rattle.ring_table.specs.Spelling.{name_at}
 use Rattle.ring_table.proofs.RowLaws.{AreNames, IsItem-declared}
@@ -29,7 +29,7 @@ use Rattle.plan_text.specs.Steps.{dependencies, joined, retired}
 use Rattle.plan_text.specs.Spelling.{slot_fields, source_fields, kind_fields, after_fields}
 use Rattle.plan_text.specs.Reading.{slot_at, slot_node_at, joining_at, retiring_at, judge_indexes, source_at, copy_at, kind_at, judge_after, after_at, said_at}
 use Rattle.plan_text.proofs.NextLaws.{small_all, IsSource, IsAfter, indexes-are, after-are}
-use Rattle.ring_text.proofs.Fronts.{Free, Last, IsFront, front-item, front-⊗, front-whole, front-word, item-unless, numbers-taken, numbers-given, pair_is}
+use Rattle.texts.proofs.Fronts.{Free, Last, IsFront, front-item, front-⊗, front-whole, front-word, item-unless, numbers-taken, numbers-given, pair_is}
 use Rattle.plan_text.proofs.Below.{item-below}
 
 -- ---- the steps that a step waits for

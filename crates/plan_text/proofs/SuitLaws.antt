@@ -17,7 +17,7 @@ use Rattle.plan_text.specs.declared.step.Source.TheVariants.{Owner, Slots}
 use Rattle.plan_text.specs.declared.step.Planned.{Planned}
 use Rattle.plan_text.specs.Steps.{dependencies, joins, retires, joined, retired}
 use Rattle.plan_text.specs.Valid.{HasSources, IsPlanned, EachPlanned, IsPlan, step_suits, Suits}
-use Rattle.ring_text.specs.Numbers.{are_small}
+use Rattle.texts.specs.Numbers.{are_small}
 use Rattle.plan_text.proofs.Pushed.{IsPlan-push, joined-push, retired-push, all_different-push}
 use Rattle.plan_text.proofs.StepLaws.{SaidSuits, IsStepLine}
 use Rattle.plan_text.proofs.PlanLaws.{said_of, line_of, AreNext}

@@ -3,11 +3,11 @@ use Rattle.std.proofs.Common.{◌≡◌, ℕ, ◌<◌, ◌≤◌, true, List, []
 use Rattle.std.specs.Fmt.{decimal}
 use Rattle.std.specs.List.{AllByRecursion}
 use Rattle.ring_names.specs.declared.ids.NodeId.{NodeId}
-use Rattle.ring_text.specs.Left.{Left}
-use Rattle.ring_text.specs.Frames.{end_fields}
-use Rattle.ring_text.specs.Laws.{SomeLeft, IsPlain, IsPlainLine}
-use Rattle.ring_text.proofs.Wholes.{whole-takes, whole-gives, decimal-plain}
-use Rattle.ring_text.proofs.Rows.{numbers-plain}
+use Rattle.texts.specs.Left.{Left}
+use Rattle.texts.specs.Frames.{end_fields}
+use Rattle.texts.specs.Laws.{SomeLeft, IsPlain, IsPlainLine}
+use Rattle.texts.proofs.Wholes.{whole-takes, whole-gives, decimal-plain}
+use Rattle.texts.proofs.Rows.{numbers-plain}
 use Rattle.ring_table.specs.Value.{RingValue, names_of}
 use Rattle.ring_table.specs.Valid.{IsRing}
 use Rattle.ring_table.specs.Spelling.{name_at}
@@ -20,7 +20,7 @@ use Rattle.plan_text.specs.declared.step.Step.TheVariants.{Join, Mirror, Copy, S
 use Rattle.plan_text.specs.declared.step.Source.TheVariants.{Owner, Slots}
 use Rattle.plan_text.specs.declared.step.Planned.{Planned}
 use Rattle.plan_text.specs.Valid.{IsPlan, Suits}
-use Rattle.ring_text.specs.Numbers.{are_small}
+use Rattle.texts.specs.Numbers.{are_small}
 use Rattle.plan_text.specs.Spelling.{kind_fields, after_fields, step_fields, plan_lines, plan_text}
 use Rattle.plan_text.specs.Reading.{plan_at, plan_reading}
 use Rattle.plan_text.proofs.NextLaws.{small_all}

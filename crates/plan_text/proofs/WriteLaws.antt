@@ -3,12 +3,12 @@ use Rattle.std.proofs.Common.{◌≡◌, ℕ, zero, suc, ◌+◌, List, [], ◌�
 use Rattle.std.specs.Prelude.{slice_get, option_map, Some}
 use Rattle.std.proofs.lemmas.List.{flat_map_more, map_push}
 use Rattle.std.specs.List.{join_with_byte}
-use Rattle.ring_text.specs.Parts.{line_text, text_of, spaced}
+use Rattle.texts.specs.Parts.{line_text, text_of, spaced}
 use Rattle.plan_text.specs.declared.step.Step.{Step}
 use Rattle.plan_text.specs.declared.step.Step.TheVariants.{Join, Mirror, Copy, Switch, Drop, Retire}
 use Rattle.plan_text.specs.declared.step.Planned.{Planned}
 use Rattle.ring_table.specs.Spelling.{name_at}
-use Rattle.ring_text.proofs.Spaced.{join-more}
+use Rattle.texts.proofs.Spaced.{join-more}
 use Rattle.plan_text.specs.Spelling.{slot_fields, source_fields, kind_fields, after_fields, step_fields}
 
 pub step-text : (names : List (List ℕ)) (s : Step) (after : List ℕ) → line_text (kind_fields names s ++ after_fields after) ≡ (join_with_byte 32 (kind_fields names s) ++ spaced (after_fields after)) ++ 10 ∷ []

@@ -1,6 +1,6 @@
 -- Which lines' steps can be kept.
 use Rattle.std.specs.Prelude.{◌≡◌, ℕ, ◌+◌, ◌<◌, ◌≤◌, true, List, length}
-use Rattle.ring_text.specs.Numbers.{are_small}
+use Rattle.texts.specs.Numbers.{are_small}
 use Rattle.plan_text.specs.declared.said.Said.{Said}
 use Rattle.plan_text.specs.declared.step.Planned.{Planned}
 use Rattle.plan_text.specs.Said.{planned_of}

@@ -7,11 +7,11 @@ use Rattle.ring_names.specs.declared.ids.NodeId.{NodeId}
 use Rattle.ring_names.specs.declared.ids.Slot.{Slot}
 use Rattle.ring_names.specs.declared.refusal.Refusal.{Refusal}
 use Rattle.ring_names.specs.declared.refusal.Refusal.TheVariants.{BadLine, TooLarge, Repeated, LaterDependency}
-use Rattle.ring_text.specs.Number.{decimal_value}
-use Rattle.ring_text.specs.Numbers.{numbers_of, beyond, ascending}
-use Rattle.ring_text.specs.Judging.{Item, ◌⊗◌, field_at, need_at, map_ok, map_item, whole, unless}
-use Rattle.ring_text.specs.Left.{Left, ◌>>=◌, next_number, begins_with, first_line, one_line, then_part, map_part, whole_text}
-use Rattle.ring_text.specs.Frames.{header_at, end_line_at}
+use Rattle.texts.specs.Number.{decimal_value}
+use Rattle.texts.specs.Numbers.{numbers_of, beyond, ascending}
+use Rattle.texts.specs.Judging.{Item, ◌⊗◌, field_at, need_at, map_ok, map_item, whole, unless}
+use Rattle.texts.specs.Left.{Left, ◌>>=◌, next_number, begins_with, first_line, one_line, then_part, map_part, whole_text}
+use Rattle.texts.specs.Frames.{header_at, end_line_at}
 use Rattle.ring_table.specs.Value.{RingValue, is_member}
 use Rattle.ring_table.specs.Reading.{declared_at}
 use Rattle.plan_text.specs.declared.said.Said.{Said}

@@ -2,8 +2,8 @@
 use Rattle.std.specs.Prelude.{ℕ, List, [], ◌∷◌, ◌++◌, map, codes}
 use Rattle.std.specs.Fmt.{decimal}
 use Rattle.ring_names.specs.declared.ids.Slot.{Slot}
-use Rattle.ring_text.specs.Parts.{text_of}
-use Rattle.ring_text.specs.Frames.{header_fields, end_fields}
+use Rattle.texts.specs.Parts.{text_of}
+use Rattle.texts.specs.Frames.{header_fields, end_fields}
 use Rattle.ring_table.specs.Value.{RingValue, names_of}
 use Rattle.ring_table.specs.Spelling.{name_at}
 use Rattle.plan_text.specs.declared.step.Step.{Step}

@@ -1,12 +1,12 @@
 //! The steps that a step waits for.
 
 ghost use Rattle.std.specs.Prelude.{◌≡◌};
-ghost use Rattle.ring_text.specs.Judging.{Does};
+ghost use Rattle.texts.specs.Judging.{Does};
 ghost use Rattle.plan_text.specs.Reading.{judge_after, after_at};
 
 use crate::plan::Plan;
 use ring_names::Refusal;
-use ring_text::{CAP, Fields, NumberRow};
+use texts::{CAP, Fields, NumberRow};
 
 // Steps that the next one of the plan waits for.
 fn dependencies<'a>(

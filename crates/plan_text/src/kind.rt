@@ -1,7 +1,7 @@
 //! What a step is, by its line.
 
 ghost use Rattle.std.specs.Prelude.{◌≡◌, ◌≤◌};
-ghost use Rattle.ring_text.specs.Judging.{map_item, Does};
+ghost use Rattle.texts.specs.Judging.{map_item, Does};
 ghost use Rattle.plan_text.specs.Reading.{judge_indexes, source_at, copy_at, kind_at};
 
 use crate::indexes::Indexes;
@@ -10,7 +10,7 @@ use crate::plan::Plan;
 use crate::said::{Said, SaidSource};
 use ring_names::{Refusal, Slot};
 use ring_table::Ring;
-use ring_text::{Fields, NumberRow, both};
+use texts::{Fields, NumberRow, both};
 
 // Listed slots of a ring of n slots.
 fn indexes(n: u32, fields: &Fields, row: &NumberRow) -> Result<Indexes, Refusal>

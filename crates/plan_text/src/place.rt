@@ -1,13 +1,13 @@
 //! The nodes and slots of a step's line.
 
 ghost use Rattle.std.specs.Prelude.{◌≡◌};
-ghost use Rattle.ring_text.specs.Judging.{field_at, Does};
+ghost use Rattle.texts.specs.Judging.{field_at, Does};
 ghost use Rattle.plan_text.specs.Reading.{judge_below, slot_at, slot_node_at, joining_at, retiring_at};
 
 use crate::plan::Plan;
 use ring_names::{NodeId, Refusal, Slot};
 use ring_table::{Ring, node_field};
-use ring_text::{Fields, both};
+use texts::{Fields, both};
 
 // A number below a limit.
 fn below(limit: u32, fields: &mut Fields) -> Result<u32, Refusal>

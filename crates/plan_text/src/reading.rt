@@ -2,9 +2,9 @@
 
 ghost use Rattle.std.specs.Prelude.{◌≡◌, ◌≤◌, ◌+◌, ◌++◌, ◌∷◌, [], length, List, ℕ, nat_lt, Ok, IfOk, IfErr, OnOk};
 ghost use Rattle.ring_names.specs.declared.refusal.Refusal.TheVariants.{OutOfMemory};
-ghost use Rattle.ring_text.specs.Left.{Reads};
-ghost use Rattle.ring_text.specs.Late.{IsAt, Late, NoFaultBefore};
-ghost use Rattle.ring_text.specs.Judging.{Gives, map_ok};
+ghost use Rattle.texts.specs.Left.{Reads};
+ghost use Rattle.texts.specs.Late.{IsAt, Late, NoFaultBefore};
+ghost use Rattle.texts.specs.Judging.{Gives, map_ok};
 ghost use Rattle.plan_text.specs.Said.{planned_of};
 ghost use Rattle.plan_text.specs.Fits.{IsNext};
 ghost use Rattle.plan_text.specs.Reading.{said_at, steps_from, steps_at, plan_at, plan_reading};
@@ -18,8 +18,8 @@ use crate::plan::Plan;
 use crate::said::{Said, to_step};
 use ring_names::Refusal;
 use ring_table::Ring;
-use ring_text::{Fields, Lines, NumberRow, end, finish_both, header, need};
 use std::alloc::Global;
+use texts::{Fields, Lines, NumberRow, end, finish_both, header, need};
 
 // What a step's line says, behind the steps of the plan. Takes no memory.
 #[tactic(auto, unfolding(crate::specs::Reading::said_at))]

@@ -3,7 +3,7 @@
 ghost use Rattle.std.specs.Prelude.{◌≡◌, ◌++◌, ◌∷◌, [], map, IfOk, IfErr, OnOk};
 ghost use Rattle.std.specs.List.{join_with_byte};
 ghost use Rattle.ring_names.specs.declared.refusal.Refusal.TheVariants.{OutOfMemory};
-ghost use Rattle.ring_text.specs.Parts.{line_text, text_of, spaced};
+ghost use Rattle.texts.specs.Parts.{line_text, text_of, spaced};
 ghost use Rattle.ring_table.specs.Value.{names_of};
 ghost use Rattle.plan_text.specs.Spelling.{slot_fields, source_fields, kind_fields, after_fields, step_fields, plan_text};
 ghost use Rattle.plan_text.specs.Valid.{Suits};
@@ -12,8 +12,8 @@ use crate::plan::Plan;
 use crate::step::{Source, Step};
 use ring_names::{Refusal, Slot};
 use ring_table::{Ring, push_name};
-use ring_text::push_numbers;
 use std::alloc::{AllocError, Global};
+use texts::push_numbers;
 
 // `<p> <i>`, behind a space.
 fn push_slot(out: &mut Vec<u8>, slot: Slot) -> Result<(), AllocError>

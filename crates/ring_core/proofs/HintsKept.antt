@@ -5,9 +5,9 @@ use Rattle.ring_names.specs.declared.ids.NodeId.{NodeId}
 use Rattle.ring_names.specs.declared.ids.Slot.{Slot}
 use Rattle.plan_check.specs.World.{World, keeps}
 use Rattle.ring_hints.specs.Hints.{Keeps}
-use Rattle.ring_parts.specs.declared.parts.Parts.{Parts}
-use Rattle.ring_parts.specs.Parts.{ring_of, plan_of, kept_of, Meets}
-use Rattle.ring_parts.proofs.WhoKeepsHints.{keeps_tells}
+use Rattle.store_tells.specs.declared.parts.Parts.{Parts}
+use Rattle.store_tells.specs.Parts.{ring_of, plan_of, kept_of, Meets}
+use Rattle.store_tells.proofs.WhoKeepsHints.{keeps_tells}
 
 -- a node that keeps some version keeps a hint
 pub hint_kept : (a : Parts) (o : Option (NodeId × Slot)) → IfSome o (λ pair. Keeps a.hints pair.0.0 pair.1) → IfSome o (λ pair. (w : World) → Meets a w → keeps w pair.0.0 pair.1 ≡ true)

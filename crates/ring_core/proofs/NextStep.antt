@@ -2,9 +2,9 @@
 use Rattle.std.proofs.Common.{◌≡◌, ◌∙◌, ℕ, ◌<◌, ◌≤◌, true, false, List, length, refl, sym}
 use Rattle.plan_text.specs.declared.step.Planned.{Planned}
 use Rattle.plan_check.specs.World.{World}
-use Rattle.ring_state.specs.declared.steps.StepNow.{StepNow}
-use Rattle.ring_parts.specs.Steps.{StepsMeet}
-use Rattle.ring_parts.proofs.StageGuards.{ready_kept}
+use Rattle.store_tables.specs.declared.steps.StepNow.{StepNow}
+use Rattle.store_tells.specs.Steps.{StepsMeet}
+use Rattle.store_tells.proofs.StageGuards.{ready_kept}
 use Rattle.ring_core.specs.Tables.{can_begin, can_begin_kept, IsNextStep, NoNextStep}
 
 begin_told : (plan : List Planned) (steps : List StepNow) (w : World) (n : ℕ) → StepsMeet plan steps w → can_begin_kept plan steps n ≡ can_begin plan w n

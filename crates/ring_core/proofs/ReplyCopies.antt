@@ -12,9 +12,9 @@ use Rattle.plan_check.specs.Answers.{reply_to, answer}
 use Rattle.plan_check.specs.World.{World}
 use Rattle.plan_check.proofs.Answered.{answered}
 use Rattle.ring_core.specs.Numbers.{lists_puts}
-use Rattle.ring_parts.specs.declared.parts.Parts.{Parts}
-use Rattle.ring_parts.specs.Parts.{ring_of, plan_of, IsSound, Answers, Stays}
-use Rattle.ring_parts.proofs.StoreInWorld.{holds}
+use Rattle.store_tells.specs.declared.parts.Parts.{Parts}
+use Rattle.store_tells.specs.Parts.{ring_of, plan_of, IsSound, Answers, Stays}
+use Rattle.store_tells.proofs.StoreInWorld.{holds}
 
 -- the event is answered by a list of puts
 abbrev pub is_asked : Event → Bool

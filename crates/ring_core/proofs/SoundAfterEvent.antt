@@ -13,13 +13,13 @@ use Rattle.plan_check.specs.Effects.{effect}
 use Rattle.plan_check.specs.World.{PutRecord, GetRecord, World}
 use Rattle.plan_check.proofs.Answered.{answered}
 use Rattle.plan_check.proofs.Changed.{length_changed}
-use Rattle.ring_parts.specs.PutsChange.{changes_puts}
-use Rattle.ring_parts.specs.GetsChange.{changes_gets}
-use Rattle.ring_parts.proofs.PutsFrames.{same_puts}
-use Rattle.ring_parts.proofs.GetsFrames.{same_gets}
-use Rattle.ring_parts.specs.declared.parts.Parts.{Parts}
-use Rattle.ring_parts.specs.Parts.{ring_of, plan_of, IsSound, Answers, Stays, Follows}
-use Rattle.ring_parts.proofs.StoreInWorld.{holds}
+use Rattle.store_tells.specs.PutsChange.{changes_puts}
+use Rattle.store_tells.specs.GetsChange.{changes_gets}
+use Rattle.store_tells.proofs.PutsFrames.{same_puts}
+use Rattle.store_tells.proofs.GetsFrames.{same_gets}
+use Rattle.store_tells.specs.declared.parts.Parts.{Parts}
+use Rattle.store_tells.specs.Parts.{ring_of, plan_of, IsSound, Answers, Stays, Follows}
+use Rattle.store_tells.proofs.StoreInWorld.{holds}
 use Rattle.ring_core.specs.Numbers.{HasNumber}
 
 -- it is sound still

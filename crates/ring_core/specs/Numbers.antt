@@ -5,7 +5,7 @@ use Rattle.plan_check.specs.declared.event.Event.TheVariants.{Do, OpenCopy, Chun
 use Rattle.plan_check.specs.declared.event.Event.TheVariants.{Ack, StartGet, Read, EndGet, Down, Up, Handoff, Lose}
 use Rattle.plan_check.specs.declared.event.Reply.{Reply}
 use Rattle.plan_check.specs.declared.event.Reply.TheVariants.{Found, Answer}
-use Rattle.ring_parts.specs.declared.parts.Parts.{Parts}
+use Rattle.store_tells.specs.declared.parts.Parts.{Parts}
 
 -- a put or get that starts has a number below 4,294,967,295
 abbrev pub HasNumber : Parts → Event → Type 0

@@ -8,8 +8,8 @@ use Rattle.plan_check.specs.declared.event.Reply.{Reply}
 use Rattle.plan_check.specs.Answers.{answer}
 use Rattle.plan_check.specs.World.{World as TheWorld}
 use Rattle.ring_clock.specs.declared.entry.Entry.{Entry}
-use Rattle.ring_parts.specs.Puts.{clock_at}
-use Rattle.ring_parts.specs.Parts as parts
+use Rattle.store_tells.specs.Puts.{clock_at}
+use Rattle.store_tells.specs.Parts as parts
 use Rattle.ring_core.specs.Numbers as numbers
 use Rattle.ring_core.specs.declared.world.World.{World}
 

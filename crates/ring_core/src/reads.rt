@@ -1,10 +1,10 @@
 //! What is asked of a running store without changing it.
 
 use crate::world::World;
-use ring_apply::is_ready;
 use ring_clock::Clock;
 use ring_hints::KeptFor;
 use ring_names::{Listed, NodeId, Refusal, Slot};
+use store_events::is_ready;
 
 impl<'a> World<'a> {
     ghost use Rattle.std.specs.Prelude.{◌≡◌, ℕ, ◌<◌, ◌≤◌, ◌&&◌, ◌==◌, true, false, List, length, slice_get, option_map, nat_lt, IsTrue, ◌↔◌, Some, IfOk, IfErr, IfSome, IfNone};
@@ -14,8 +14,8 @@ impl<'a> World<'a> {
     ghost use Rattle.plan_check.specs.Versions.{put_slot, is_held};
     ghost use Rattle.plan_check.specs.World.{World as TheWorld, is_acked, key_of_put, stage_now, keeps, slot_at};
     ghost use Rattle.ring_hints.specs.Hints.{hinted_at, kept_count, kept_pairs};
-    ghost use Rattle.ring_maps.specs.Chunks.{chunk_of};
-    ghost use Rattle.ring_parts.specs.Parts.{kept_of};
+    ghost use Rattle.store_maps.specs.Chunks.{chunk_of};
+    ghost use Rattle.store_tells.specs.Parts.{kept_of};
     ghost use Rattle.ring_versions.specs.Versions.{Covers};
     ghost use Rattle.ring_store.specs.Stores.{held_at};
     ghost use Rattle.ring_core.specs.Tables.{values_below, owner_kept, owners_now, owners_last, AllDone, left_of, can_begin_kept, IsNextStep, NoNextStep};

@@ -90,7 +90,7 @@ impl<'a> World<'a> {
     }
 
     // How many open copies the node takes part in on that side.
-    #[tactic(auto, using(ring_state::proofs::Counting::count_next, ring_state::proofs::Counting::count_most))]
+    #[tactic(auto, using(store_tables::proofs::Counting::count_next, store_tables::proofs::Counting::count_most))]
     fn transfers(&self, node: NodeId, side: Side) -> u32
         ensures { result ≡ length (passing_below (length (plan_of self.now))
             (is_open_kept (plan_of self.now) self.now.parts.steps self.now.parts.slots node.0 side)) }

@@ -1,13 +1,13 @@
 //! A running store.
 
 ghost use Rattle.std.specs.Prelude.{◌≤◌, length};
-ghost use Rattle.ring_parts.specs.Parts.{IsSound};
+ghost use Rattle.store_tells.specs.Parts.{IsSound};
 
 use crate::events::{happen, happen_with_copy, refusal};
 use plan_check::{Approved, Event, Reply};
 use ring_names::Refusal;
-use ring_parts::Parts;
 use std::alloc::Global;
+use store_tells::Parts;
 
 /// A store of all nodes of a ring in one process, which follows an approved plan.
 #[derive(Drop)]

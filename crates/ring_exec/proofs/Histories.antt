@@ -14,7 +14,7 @@ use Rattle.plan_check.specs.Answers.{answer}
 use Rattle.plan_check.specs.World.{opening_world}
 use Rattle.plan_check.proofs.Answered.{first_refused}
 use Rattle.plan_check.proofs.Split.{joined}
-use Rattle.ring_parts.proofs.StoreInWorld.{holds}
+use Rattle.store_tells.proofs.StoreInWorld.{holds}
 use Rattle.ring_core.specs.declared.world.World.{World}
 use Rattle.ring_core.specs.World.{ring_of, plan_of, put_count, get_count, Meets, Answers, Refuses, Stays}
 use Rattle.ring_core.proofs.GuardRefusals.{never_full}

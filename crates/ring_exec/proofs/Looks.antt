@@ -4,8 +4,8 @@ use Rattle.std.proofs.Props.{props}
 use Rattle.std.specs.Prelude.{not, Option, Some, None, IfSome}
 use Rattle.plan_text.specs.declared.step.Planned.{Planned}
 use Rattle.plan_check.specs.World.{World as TheWorld}
-use Rattle.ring_state.proofs.Counting.{count_most}
-use Rattle.ring_parts.proofs.StoreInWorld.{holds}
+use Rattle.store_tables.proofs.Counting.{count_most}
+use Rattle.store_tells.proofs.StoreInWorld.{holds}
 use Rattle.ring_core.specs.declared.world.World.{World}
 use Rattle.ring_core.specs.World.{plan_of, Meets}
 use Rattle.ring_core.specs.Tables.{left_of, IsNextStep}

@@ -10,9 +10,9 @@ use Rattle.std.specs.Map.Iter.{TakesFirst, deref_pair}
 use Rattle.std.proofs.lemmas.Map.Iter.{hash_map_turn}
 use Rattle.std.proofs.lemmas.Bool.{cases_Bool}
 use Rattle.ring_names.specs.declared.ids.Slot.{Slot}
-use Rattle.ring_maps.proofs.OneAnswer.{none_from_empty, false_from}
-use Rattle.ring_maps.specs.Slots.{space_of, held_for, has_place_for}
-use Rattle.ring_maps.specs.declared.slot_map.SlotMap.{SlotMap}
+use Rattle.store_maps.proofs.OneAnswer.{none_from_empty, false_from}
+use Rattle.store_maps.specs.Slots.{space_of, held_for, has_place_for}
+use Rattle.store_maps.specs.declared.slot_map.SlotMap.{SlotMap}
 use Rattle.ring_hints.specs.Hints.{partitions, hinted_at}
 use Rattle.ring_hints.specs.Kept.{map_of, held_by, IsKept, PutsMap}
 use Rattle.ring_hints.specs.Views.{is_of}

@@ -7,9 +7,9 @@ use Rattle.ring_names.specs.declared.ids.NodeId.{NodeId}
 use Rattle.ring_names.specs.declared.ids.Slot.{Slot}
 use Rattle.ring_versions.specs.declared.version.Version.{Version}
 use Rattle.ring_versions.specs.Versions.{IsMerge}
-use Rattle.ring_maps.specs.Held.{held, AreKeys}
-use Rattle.ring_maps.specs.Merges.{MergesAll}
-use Rattle.ring_maps.specs.declared.key_map.KeyMap.{KeyMap}
+use Rattle.store_maps.specs.Held.{held, AreKeys}
+use Rattle.store_maps.specs.Merges.{MergesAll}
+use Rattle.store_maps.specs.declared.key_map.KeyMap.{KeyMap}
 use Rattle.ring_hints.specs.Hints.{chunk_hints, hinted_at, IsUnhinted, AreKeysBut}
 use Rattle.ring_hints.specs.Views.{in_keepers, pair_of}
 use Rattle.ring_hints.specs.declared.hints.Hints.{Hints}

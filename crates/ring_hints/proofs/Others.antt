@@ -5,8 +5,8 @@ use Rattle.std.specs.HashMap.{HashMap}
 use Rattle.std.proofs.lemmas.Bool.{cases_Bool}
 use Rattle.std.proofs.lemmas.Bool.Decides.{nat_tests}
 use Rattle.ring_names.specs.declared.ids.Slot.{Slot}
-use Rattle.ring_maps.proofs.OneAnswer.{false_from}
-use Rattle.ring_maps.specs.declared.slot_map.SlotMap.{SlotMap}
+use Rattle.store_maps.proofs.OneAnswer.{false_from}
+use Rattle.store_maps.specs.declared.slot_map.SlotMap.{SlotMap}
 use Rattle.ring_hints.specs.Kept.{map_of, held_by, AreKept, ArePaired}
 use Rattle.ring_hints.specs.Pairs.{is_pair}
 use Rattle.ring_hints.specs.Views.{pair_of}

@@ -6,18 +6,18 @@ use Rattle.std.proofs.lemmas.Bool.{cases_Bool, and_parts, eqb-true, eq-eqb}
 use Rattle.ring_names.specs.declared.ids.Slot.{Slot}
 use Rattle.ring_versions.specs.declared.version.Version.{Version}
 use Rattle.ring_versions.specs.Versions.{Covers, IsApart, IsMerge}
-use Rattle.ring_maps.specs.Chunks.{chunk_of}
-use Rattle.ring_maps.specs.Held.{held, has_place}
+use Rattle.store_maps.specs.Chunks.{chunk_of}
+use Rattle.store_maps.specs.Held.{held, has_place}
 use Rattle.ring_names.specs.AtBytes.{value_at}
-use Rattle.ring_maps.specs.declared.key_map.KeyMap.{KeyMap}
-use Rattle.ring_maps.specs.Merges.{MergesAll, at_key}
-use Rattle.ring_maps.specs.Slots.{space_of, held_for, has_place_for}
-use Rattle.ring_maps.specs.declared.slot_map.SlotMap.{SlotMap}
-use Rattle.ring_maps.proofs.OneAnswer.{none_from_empty, false_from}
+use Rattle.store_maps.specs.declared.key_map.KeyMap.{KeyMap}
+use Rattle.store_maps.specs.Merges.{MergesAll, at_key}
+use Rattle.store_maps.specs.Slots.{space_of, held_for, has_place_for}
+use Rattle.store_maps.specs.declared.slot_map.SlotMap.{SlotMap}
+use Rattle.store_maps.proofs.OneAnswer.{none_from_empty, false_from}
 use Rattle.ring_names.proofs.AtBytes.{same_bytes}
-use Rattle.ring_maps.proofs.Chunks.{slot_apart}
-use Rattle.ring_maps.proofs.MergesInTurn.{merge_none}
-use Rattle.ring_maps.proofs.Slots.{bare_held}
+use Rattle.store_maps.proofs.Chunks.{slot_apart}
+use Rattle.store_maps.proofs.MergesInTurn.{merge_none}
+use Rattle.store_maps.proofs.Slots.{bare_held}
 use Rattle.ring_space.specs.Place.{place_of}
 use Rattle.ring_space.specs.declared.found.Place.{Place}
 use Rattle.ring_hints.specs.contracts.kept_for.KeptForPartialEq.TheImpl as pair_eq

@@ -7,7 +7,7 @@ use Rattle.std.specs.Ordering.{nat_cmp}
 use Rattle.ring_names.specs.declared.ids.Slot.{Slot}
 use Rattle.ring_versions.specs.Versions.{IsMerge}
 use Rattle.ring_versions.specs.declared.version.Version.{Version}
-use Rattle.ring_maps.specs.Chunks.{chunk_of}
+use Rattle.store_maps.specs.Chunks.{chunk_of}
 use Rattle.ring_hints.specs.declared.hints.Hints.{Hints}
 use Rattle.ring_hints.specs.declared.kept_for.KeptFor.{KeptFor}
 use Rattle.ring_hints.specs.Kept.{map_of, held_by}

@@ -5,8 +5,8 @@ use Rattle.std.specs.HashMap.{HashMap}
 use Rattle.std.proofs.Props.{props}
 use Rattle.ring_names.specs.declared.ids.Slot.{Slot}
 use Rattle.ring_versions.specs.declared.version.Version.{Version}
-use Rattle.ring_maps.specs.declared.slot_map.SlotMap.{SlotMap}
-use Rattle.ring_maps.specs.Slots.{space_of, held_for, has_place_for}
+use Rattle.store_maps.specs.declared.slot_map.SlotMap.{SlotMap}
+use Rattle.store_maps.specs.Slots.{space_of, held_for, has_place_for}
 use Rattle.ring_hints.specs.contracts.kept_for.KeptForPartialEq.TheImpl as pair_eq
 use Rattle.ring_hints.specs.declared.kept_for.KeptFor.{KeptFor}
 use Rattle.ring_hints.specs.declared.pairs.Pairs.{Pairs}

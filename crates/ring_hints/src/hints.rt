@@ -6,12 +6,12 @@ ghost use Rattle.ring_hints.specs.Kept.{AreKept, AreKept-prop, ArePaired};
 
 use crate::kept_for::KeptFor;
 use crate::pairs::Pairs;
-use ring_maps::{KeyMap, SlotMap};
 use ring_names::{Listed, NodeId, Refusal, Slot};
 use ring_space::place;
 use ring_versions::{Version, Versions};
 use std::alloc::Global;
 use std::collections::{BTreeSet, HashMap};
+use store_maps::{KeyMap, SlotMap};
 
 /// The versions that nodes keep for slots whose nodes were out of reach, by keeper, slot and key. A look-up costs the key's length times
 /// the logarithm of the number of keys of its chunk, and its digest where the call takes no chunk. A refused growth leaves every reading
@@ -32,10 +32,10 @@ impl Hints {
     ghost use Rattle.std.specs.Prelude.{IfSome, IfNone, IfOk, IfErr, OnOk, OnErr};
     ghost use Rattle.ring_names.specs.declared.ids.Slot.{Slot};
     ghost use Rattle.ring_names.specs.declared.refusal.Refusal.TheVariants.{OutOfMemory};
-    ghost use Rattle.ring_maps.specs.Chunks.{chunk_of};
-    ghost use Rattle.ring_maps.specs.Held.{held, has_place};
-    ghost use Rattle.ring_maps.specs.Merges.{at_key};
-    ghost use Rattle.ring_maps.specs.Slots.{held_for, space_of};
+    ghost use Rattle.store_maps.specs.Chunks.{chunk_of};
+    ghost use Rattle.store_maps.specs.Held.{held, has_place};
+    ghost use Rattle.store_maps.specs.Merges.{at_key};
+    ghost use Rattle.store_maps.specs.Slots.{held_for, space_of};
     ghost use Rattle.ring_hints.specs.Hints.{partitions, hinted_at, chunk_hints, kept_count, kept_pairs};
     ghost use Rattle.ring_hints.specs.Hints.{AddsHints, AreKeysBut, AreSameHints, IsUnhinted, Keeps, TakesHints};
     ghost use Rattle.ring_hints.specs.Kept.{map_of, IsKept, PutsMap};

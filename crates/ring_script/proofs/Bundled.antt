@@ -2,11 +2,11 @@
 use Rattle.std.proofs.Common.{◌≡◌, ◌≢◌, ℕ, ◌≤◌, Bool, true, false, cond, List, [], Result, Ok, Err, IsErrAnd, IfErr, codes, refl, sym, ◌∙◌, arith}
 use Rattle.ring_names.specs.declared.refusal.Refusal.{Refusal}
 use Rattle.ring_names.specs.declared.refusal.Refusal.TheVariants.{BadLine, OutOfMemory}
-use Rattle.ring_text.specs.Left.{Left, Reads, lines_on, is_over, is_word, over_at, then_part}
-use Rattle.ring_text.specs.Frames.{end_line_at}
-use Rattle.ring_text.specs.Late.{NoFaultBefore, ReadsTo}
-use Rattle.ring_text.proofs.Lates.{Advances, advances-line, advances-then, advances-map, to-first, to-second, to-map, many-on, next-after}
-use Rattle.ring_text.proofs.FrameLaws.{header-at, end-at}
+use Rattle.texts.specs.Left.{Left, Reads, lines_on, is_over, is_word, over_at, then_part}
+use Rattle.texts.specs.Frames.{end_line_at}
+use Rattle.texts.specs.Late.{NoFaultBefore, ReadsTo}
+use Rattle.texts.proofs.Lates.{Advances, advances-line, advances-then, advances-map, to-first, to-second, to-map, many-on, next-after}
+use Rattle.texts.proofs.FrameLaws.{header-at, end-at}
 use Rattle.ring_table.specs.Value.{RingValue}
 use Rattle.ring_table.specs.Reading.{ring_at}
 use Rattle.plan_text.specs.declared.step.Planned.{Planned}
@@ -16,8 +16,8 @@ use Rattle.plan_cert.specs.declared.cert.Cert.{Cert}
 use Rattle.plan_cert.specs.Reading.{fact_at, chain_at, begins_chain, facts_at, chains_at, cert_at}
 use Rattle.plan_cert.specs.Spelling.{cert_format}
 use Rattle.plan_cert.proofs.CertLates.{fact-at, chain-at}
-use Rattle.ring_events.specs.Reading.{events_at, script_at}
-use Rattle.ring_events.proofs.ScriptLates.{events-on, events-at}
+use Rattle.script_text.specs.Reading.{events_at, script_at}
+use Rattle.script_text.proofs.ScriptLates.{events-on, events-at}
 use Rattle.ring_script.specs.declared.bundle.Bundle.{Bundle}
 use Rattle.ring_script.specs.declared.bundle.Kind.{Kind}
 use Rattle.ring_script.specs.declared.bundle.Kind.TheVariants.{Check, Play}

@@ -1,7 +1,7 @@
 -- What a bundle is.
 use Rattle.std.specs.Prelude.{ℕ, List, [], Result, Ok}
 use Rattle.ring_names.specs.declared.refusal.Refusal.{Refusal}
-use Rattle.ring_text.specs.Left.{Left, then_part, map_part}
+use Rattle.texts.specs.Left.{Left, then_part, map_part}
 use Rattle.ring_table.specs.Value.{RingValue}
 use Rattle.ring_table.specs.Reading.{ring_at}
 use Rattle.plan_text.specs.declared.step.Planned.{Planned}
@@ -11,7 +11,7 @@ use Rattle.plan_cert.specs.declared.cert.Cert.{Cert}
 use Rattle.plan_cert.specs.Reading.{cert_at}
 use Rattle.plan_cert.specs.Valid as cert
 use Rattle.plan_check.specs.declared.event.Event.{Event}
-use Rattle.ring_events.specs.Reading.{script_at}
+use Rattle.script_text.specs.Reading.{script_at}
 use Rattle.ring_script.specs.declared.bundle.Bundle.{Bundle}
 use Rattle.ring_script.specs.declared.bundle.Kind.{Kind}
 use Rattle.ring_script.specs.declared.bundle.Kind.TheVariants.{Check, Play}

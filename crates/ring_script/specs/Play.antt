@@ -3,8 +3,8 @@ use Rattle.std.specs.Prelude.{ℕ, ◌+◌, List, [], ◌∷◌, ◌++◌, codes
 use Rattle.std.specs.Fmt.{decimal}
 use Rattle.ring_names.specs.declared.refusal.Refusal.{Refusal}
 use Rattle.ring_names.specs.Refusals.{line_of}
-use Rattle.ring_text.specs.Parts.{text_of}
-use Rattle.ring_text.specs.Frames.{end_fields}
+use Rattle.texts.specs.Parts.{text_of}
+use Rattle.texts.specs.Frames.{end_fields}
 use Rattle.ring_table.specs.Value.{RingValue, names_of}
 use Rattle.ring_table.specs.Spelling.{rows_lines}
 use Rattle.plan_text.specs.declared.step.Planned.{Planned}

@@ -2,18 +2,18 @@
 
 ghost use Rattle.std.specs.Prelude.{◌≡◌, [], IfOk, IfErr};
 ghost use Rattle.ring_names.specs.declared.refusal.Refusal.TheVariants.{OutOfMemory};
-ghost use Rattle.ring_text.specs.Judging.{Gives, map_ok};
-ghost use Rattle.ring_text.specs.Left.{Reads, whole_text};
-ghost use Rattle.ring_text.specs.Late.{Late, NoFaultBefore};
+ghost use Rattle.texts.specs.Judging.{Gives, map_ok};
+ghost use Rattle.texts.specs.Left.{Reads, whole_text};
+ghost use Rattle.texts.specs.Late.{Late, NoFaultBefore};
 ghost use Rattle.ring_script.specs.Bundles.{IsOfRing, bundle_at, events_of};
 
 use plan_cert::{Cert, read_cert_section};
 use plan_text::{Plan, read_plan_section};
-use ring_events::{Script, read_script_section};
 use ring_names::{Names, Refusal};
 use ring_table::{Ring, read_ring_section};
-use ring_text::Lines;
+use script_text::{Script, read_script_section};
 use std::alloc::Global;
+use texts::Lines;
 
 /// Which sections a bundle has.
 #[derive(Clone, Copy, Debug, PartialEq, Eq)]

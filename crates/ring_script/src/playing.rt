@@ -2,7 +2,7 @@
 
 ghost use Rattle.std.specs.Prelude.{◌≡◌, ◌≤◌, ◌++◌, length, map, IfOk, IfErr, OnOk};
 ghost use Rattle.ring_names.specs.declared.refusal.Refusal.TheVariants.{OutOfMemory};
-ghost use Rattle.ring_text.specs.Parts.{text_of};
+ghost use Rattle.texts.specs.Parts.{text_of};
 ghost use Rattle.ring_table.specs.Spelling.{rows_lines};
 ghost use Rattle.plan_check.specs.World.{World as TheWorld, opening_world};
 ghost use Rattle.ring_core.specs.World.{ring_of, plan_of, Meets, put_count, get_count, HasNumber};
@@ -11,9 +11,9 @@ ghost use Rattle.ring_script.specs.Steps.{Happens, Plays};
 
 use plan_check::{Approved, Event};
 use ring_core::World;
-use ring_events::Script;
 use ring_names::{Listed, NodeId, Refusal, push_decimal};
 use ring_table::{Node, Ring, push_row};
+use script_text::Script;
 use std::alloc::{AllocError, Global};
 
 // The event at that place, and its line.

@@ -9,9 +9,9 @@ use Rattle.std.proofs.lemmas.Map.Iter.{hash_map_turn}
 use Rattle.std.specs.Prelude.{cond}
 use Rattle.std.proofs.lemmas.Bool.{cases_Bool}
 use Rattle.ring_names.specs.declared.ids.Slot.{Slot}
-use Rattle.ring_maps.specs.Slots.{held_for}
-use Rattle.ring_maps.specs.declared.slot_map.SlotMap.{SlotMap}
-use Rattle.ring_maps.proofs.OneAnswer.{false_from}
+use Rattle.store_maps.specs.Slots.{held_for}
+use Rattle.store_maps.specs.declared.slot_map.SlotMap.{SlotMap}
+use Rattle.store_maps.proofs.OneAnswer.{false_from}
 use Rattle.ring_store.specs.declared.store.NodeStore.{NodeStore}
 use Rattle.ring_store.specs.Slots.{same_slot, maps_of, held_by, PutsSlot}
 use Rattle.ring_store.specs.Store.{partitions, versions_at}

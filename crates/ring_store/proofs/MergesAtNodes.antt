@@ -6,7 +6,7 @@ use Rattle.ring_names.specs.declared.ids.NodeId.{NodeId}
 use Rattle.ring_names.specs.declared.ids.Slot.{Slot}
 use Rattle.ring_versions.specs.declared.version.Version.{Version}
 use Rattle.ring_versions.specs.Versions.{IsMerge}
-use Rattle.ring_maps.proofs.MergesInTurn.{merge_then_none, merge_after_none}
+use Rattle.store_maps.proofs.MergesInTurn.{merge_then_none, merge_after_none}
 use Rattle.ring_store.specs.Nodes.{MergesAtAll, at_node, at_nodes}
 
 -- stores that read the same are one to read

@@ -6,13 +6,13 @@ use Rattle.ring_versions.specs.Fresh.{FitsIn}
 use Rattle.ring_versions.specs.declared.fresh.Fresh.{Fresh}
 use Rattle.ring_versions.specs.declared.version.Version.{Version}
 use Rattle.ring_versions.specs.Versions.{IsApart, IsMerge}
-use Rattle.ring_maps.specs.Chunks.{chunk_of}
-use Rattle.ring_maps.specs.Merges.{fresh_at, fresh_in}
-use Rattle.ring_maps.specs.declared.fresh_keys.FreshKeys.{FreshKeys}
-use Rattle.ring_maps.specs.declared.fresh_maps.FreshMaps.{FreshMaps}
-use Rattle.ring_maps.proofs.OneAnswer.{on_some}
-use Rattle.ring_maps.proofs.Chunks.{get_here, get_other, pushed, same_or, chosen_here, chosen_other}
-use Rattle.ring_maps.proofs.MergesInTurn.{merge_none}
+use Rattle.store_maps.specs.Chunks.{chunk_of}
+use Rattle.store_maps.specs.Merges.{fresh_at, fresh_in}
+use Rattle.store_maps.specs.declared.fresh_keys.FreshKeys.{FreshKeys}
+use Rattle.store_maps.specs.declared.fresh_maps.FreshMaps.{FreshMaps}
+use Rattle.store_maps.proofs.OneAnswer.{on_some}
+use Rattle.store_maps.proofs.Chunks.{get_here, get_other, pushed, same_or, chosen_here, chosen_other}
+use Rattle.store_maps.proofs.MergesInTurn.{merge_none}
 use Rattle.ring_store.specs.Nodes.{stored_in, has_place_in, AreOfSpace, MergesAtAll, at_node}
 use Rattle.ring_store.specs.Slots.{maps_of, MergesInAll}
 use Rattle.ring_store.specs.Store.{partitions, versions_at, has_place_at, IsReadyAt, AreReadyAt, AllReadyAt}

@@ -10,18 +10,18 @@ use Rattle.ring_versions.specs.Fresh.{FitsIn, IsFreshFor}
 use Rattle.ring_versions.specs.declared.fresh.Fresh.{Fresh}
 use Rattle.ring_versions.specs.declared.version.Version.{Version}
 use Rattle.ring_versions.specs.Versions.{IsApart, IsMerge}
-use Rattle.ring_maps.specs.Chunks.{chunk_of}
-use Rattle.ring_maps.specs.Held.{held, has_place, AreKeys}
+use Rattle.store_maps.specs.Chunks.{chunk_of}
+use Rattle.store_maps.specs.Held.{held, has_place, AreKeys}
 use Rattle.ring_names.specs.AtBytes.{value_at}
-use Rattle.ring_maps.specs.declared.key_map.KeyMap.{KeyMap}
-use Rattle.ring_maps.proofs.OneAnswer.{none_from_empty, false_from, on_some, none_where}
-use Rattle.ring_maps.specs.Merges.{MergesAll, AreFreshMaps, fresh_in}
-use Rattle.ring_maps.specs.Slots.{space_of, held_for, has_place_for, AreReadyFor, AllReadyFor}
-use Rattle.ring_maps.specs.declared.fresh_keys.FreshKeys.{FreshKeys}
-use Rattle.ring_maps.specs.declared.fresh_maps.FreshMaps.{FreshMaps}
-use Rattle.ring_maps.specs.declared.slot_map.SlotMap.{SlotMap}
-use Rattle.ring_maps.proofs.Chunks.{slot_apart}
-use Rattle.ring_maps.proofs.MergesInTurn.{merge_none}
+use Rattle.store_maps.specs.declared.key_map.KeyMap.{KeyMap}
+use Rattle.store_maps.proofs.OneAnswer.{none_from_empty, false_from, on_some, none_where}
+use Rattle.store_maps.specs.Merges.{MergesAll, AreFreshMaps, fresh_in}
+use Rattle.store_maps.specs.Slots.{space_of, held_for, has_place_for, AreReadyFor, AllReadyFor}
+use Rattle.store_maps.specs.declared.fresh_keys.FreshKeys.{FreshKeys}
+use Rattle.store_maps.specs.declared.fresh_maps.FreshMaps.{FreshMaps}
+use Rattle.store_maps.specs.declared.slot_map.SlotMap.{SlotMap}
+use Rattle.store_maps.proofs.Chunks.{slot_apart}
+use Rattle.store_maps.proofs.MergesInTurn.{merge_none}
 use Rattle.ring_space.specs.Place.{place_of}
 use Rattle.ring_space.specs.declared.found.Place.{Place}
 use Rattle.ring_store.specs.Slots.{same_slot, maps_of, held_by, placed_by, AreOf, PutsSlot, MergesInAll, at_slot}

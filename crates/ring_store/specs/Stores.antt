@@ -4,10 +4,10 @@ use Rattle.ring_names.specs.declared.ids.Slot.{Slot}
 use Rattle.ring_versions.specs.Fresh.{FitsIn}
 use Rattle.ring_versions.specs.declared.fresh.Fresh.{Fresh}
 use Rattle.ring_versions.specs.declared.version.Version.{Version}
-use Rattle.ring_maps.specs.declared.fresh_keys.FreshKeys.{FreshKeys}
-use Rattle.ring_maps.specs.declared.fresh_maps.FreshMaps.{FreshMaps}
-use Rattle.ring_maps.specs.Chunks.{chunk_of}
-use Rattle.ring_maps.specs.Merges.{fresh_at, fresh_in}
+use Rattle.store_maps.specs.declared.fresh_keys.FreshKeys.{FreshKeys}
+use Rattle.store_maps.specs.declared.fresh_maps.FreshMaps.{FreshMaps}
+use Rattle.store_maps.specs.Chunks.{chunk_of}
+use Rattle.store_maps.specs.Merges.{fresh_at, fresh_in}
 use Rattle.ring_store.specs.Nodes.{stored_in, has_place_in}
 use Rattle.ring_store.specs.declared.stores.Stores.{Stores}
 

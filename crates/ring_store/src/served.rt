@@ -1,18 +1,18 @@
 //! Merges into what a slot's owner and its mirror have.
 
 use crate::stores::Stores;
-use ring_maps::{KeyMap, SlotMap};
 use ring_names::{NodeId, Refusal, Slot};
 use ring_versions::Versions;
+use store_maps::{KeyMap, SlotMap};
 
 impl Stores {
     ghost use Rattle.std.specs.Prelude.{◌≡◌, ◌≢◌, ◌<◌, ℕ, true, List, Some, IfSome, IfErr, OnOk, OnErr};
     ghost use Rattle.ring_names.specs.declared.ids.Slot.{Slot};
     ghost use Rattle.ring_names.specs.declared.refusal.Refusal.TheVariants.{OutOfMemory};
-    ghost use Rattle.ring_maps.specs.Chunks.{chunk_of};
-    ghost use Rattle.ring_maps.specs.Held.{held, has_place};
-    ghost use Rattle.ring_maps.specs.Merges.{at_key};
-    ghost use Rattle.ring_maps.specs.Slots.{space_of, held_for};
+    ghost use Rattle.store_maps.specs.Chunks.{chunk_of};
+    ghost use Rattle.store_maps.specs.Held.{held, has_place};
+    ghost use Rattle.store_maps.specs.Merges.{at_key};
+    ghost use Rattle.store_maps.specs.Slots.{space_of, held_for};
     ghost use Rattle.ring_store.specs.Nodes.{MergesAtAll, at_node, at_nodes};
     ghost use Rattle.ring_store.specs.Slots.{at_slot};
     ghost use Rattle.ring_store.specs.Stores.{node_count, shared_space, held_at};

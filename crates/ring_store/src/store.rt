@@ -4,12 +4,12 @@ ghost use Rattle.std.specs.Prelude.{◌≡◌, true};
 ghost use Rattle.ring_names.specs.Space.{is_space};
 ghost use Rattle.ring_store.specs.Slots.{AreOf};
 
-use ring_maps::{FreshKeys, FreshMaps, KeyMap, SlotMap};
 use ring_names::{Listed, Refusal, Slot};
 use ring_space::place;
 use ring_versions::{Fresh, Versions};
 use std::alloc::Global;
 use std::collections::HashMap;
+use store_maps::{FreshKeys, FreshMaps, KeyMap, SlotMap};
 
 /// The versions that a node stores, by slot and key. A look-up costs the key's length times the logarithm of the number of keys of its
 /// chunk, and its digest where the call takes no chunk. A refused growth leaves every reading as it was.
@@ -28,10 +28,10 @@ impl NodeStore {
     ghost use Rattle.ring_names.specs.declared.refusal.Refusal.TheVariants.{OutOfMemory};
     ghost use Rattle.ring_versions.specs.Fresh.{IsFreshFor};
     ghost use Rattle.ring_versions.specs.declared.version.Version.{Version};
-    ghost use Rattle.ring_maps.specs.Chunks.{chunk_of};
-    ghost use Rattle.ring_maps.specs.Held.{held, has_place, AreKeys};
-    ghost use Rattle.ring_maps.specs.Merges.{at_key, AreFreshFor, AreFreshMaps};
-    ghost use Rattle.ring_maps.specs.Slots.{space_of, held_for};
+    ghost use Rattle.store_maps.specs.Chunks.{chunk_of};
+    ghost use Rattle.store_maps.specs.Held.{held, has_place, AreKeys};
+    ghost use Rattle.store_maps.specs.Merges.{at_key, AreFreshFor, AreFreshMaps};
+    ghost use Rattle.store_maps.specs.Slots.{space_of, held_for};
     ghost use Rattle.ring_store.specs.Slots.{MergesInAll, PutsSlot, at_slot};
     ghost use Rattle.ring_store.specs.Store.{partitions, versions_at, chunk_versions, has_place_at, IsReadyAt, AreReadyAt, AllReadyAt};
 

@@ -5,10 +5,10 @@ ghost use Rattle.ring_names.specs.Space.{is_space};
 ghost use Rattle.ring_store.specs.Nodes.{AreOfSpace};
 
 use crate::store::NodeStore;
-use ring_maps::{FreshKeys, FreshMaps, KeyMap, SlotMap};
 use ring_names::{NodeId, Refusal, Slot};
 use ring_versions::{Fresh, Versions};
 use std::alloc::Global;
+use store_maps::{FreshKeys, FreshMaps, KeyMap, SlotMap};
 
 /// The versions that the nodes store, by node, slot and key. A change that touches two nodes is made in halves: first all that it needs is
 /// made ready at both, which may be refused and changes no reading, and then all is taken in, which cannot fail.
@@ -27,10 +27,10 @@ impl Stores {
     ghost use Rattle.ring_names.specs.declared.refusal.Refusal.TheVariants.{OutOfMemory};
     ghost use Rattle.ring_versions.specs.Fresh.{IsFreshFor};
     ghost use Rattle.ring_versions.specs.declared.version.Version.{Version};
-    ghost use Rattle.ring_maps.specs.Chunks.{chunk_of};
-    ghost use Rattle.ring_maps.specs.Held.{held, has_place};
-    ghost use Rattle.ring_maps.specs.Merges.{at_key, AreFreshFor, AreFreshMaps};
-    ghost use Rattle.ring_maps.specs.Slots.{space_of, held_for};
+    ghost use Rattle.store_maps.specs.Chunks.{chunk_of};
+    ghost use Rattle.store_maps.specs.Held.{held, has_place};
+    ghost use Rattle.store_maps.specs.Merges.{at_key, AreFreshFor, AreFreshMaps};
+    ghost use Rattle.store_maps.specs.Slots.{space_of, held_for};
     ghost use Rattle.ring_store.specs.Nodes.{MergesAtAll, at_node};
     ghost use Rattle.ring_store.specs.Slots.{at_slot};
     ghost use Rattle.ring_store.specs.Stores.{node_count, shared_space, held_at, chunk_held_at, IsReadyOn, AreReadyOn, AllReadyOn, KeepsReady};

@@ -11,15 +11,15 @@ use Rattle.ring_names.specs.Lists.{has}
 use Rattle.ring_names.specs.Names.{place}
 use Rattle.ring_names.specs.declared.refusal.Refusal.{Refusal}
 use Rattle.ring_names.specs.declared.refusal.Refusal.TheVariants.{BadLine, Repeated, QuorumTooSmall}
-use Rattle.ring_text.specs.Name.{is_name}
-use Rattle.ring_text.specs.Number.{value_from, is_number, decimal_value}
-use Rattle.ring_text.specs.Numbers.{first_value, numbers_of}
-use Rattle.ring_text.specs.Judging.{◌⊗◌, field_at, word_at, number_at, need_at, limited, map_ok, map_item}
-use Rattle.ring_text.specs.Laws.{IsItem, IsLine}
-use Rattle.ring_text.proofs.Items.{IsItem-⊗, IsItem-word, IsItem-field, IsItem-need, IsLine-whole, IsLine-map, IsLine-judged, IsLine-as, ok_is, map_is, bind_ok}
-use Rattle.ring_text.proofs.Fronts.{Free, IsFront, front-item, front-⊗, front-map, front-whole, pair_is, pair_of}
-use Rattle.ring_text.proofs.FrameLaws.{Nothing}
-use Rattle.ring_text.proofs.Decimals.{IsItem-number, decimal-value, value-decimal, limited_is}
+use Rattle.texts.specs.Name.{is_name}
+use Rattle.texts.specs.Number.{value_from, is_number, decimal_value}
+use Rattle.texts.specs.Numbers.{first_value, numbers_of}
+use Rattle.texts.specs.Judging.{◌⊗◌, field_at, word_at, number_at, need_at, limited, map_ok, map_item}
+use Rattle.texts.specs.Laws.{IsItem, IsLine}
+use Rattle.texts.proofs.Items.{IsItem-⊗, IsItem-word, IsItem-field, IsItem-need, IsLine-whole, IsLine-map, IsLine-judged, IsLine-as, ok_is, map_is, bind_ok}
+use Rattle.texts.proofs.Fronts.{Free, IsFront, front-item, front-⊗, front-map, front-whole, pair_is, pair_of}
+use Rattle.texts.proofs.FrameLaws.{Nothing}
+use Rattle.texts.proofs.Decimals.{IsItem-number, decimal-value, value-decimal, limited_is}
 use Rattle.ring_table.specs.declared.allowance.Allowance.{Allowance}
 use Rattle.ring_table.specs.declared.allowance.Allowance.TheVariants.{Joint, Split}
 use Rattle.ring_table.specs.declared.head.Quorum.{Quorum}

@@ -2,8 +2,8 @@
 use Rattle.std.proofs.Common.{◌≡◌, ℕ, Bool, List, [], length, map, nat_lt, codes, Result, refl, sym, ap, ◌∙◌}
 use Rattle.std.specs.Borrow.{Bor}
 use Rattle.ring_names.specs.declared.refusal.Refusal.{Refusal}
-use Rattle.ring_text.specs.Judging.{Line, Does, both_of, map_ok, need_at, word_at, field_at, end_at}
-use Rattle.ring_text.proofs.Items.{both-map_left, both-map_right, map-map}
+use Rattle.texts.specs.Judging.{Line, Does, both_of, map_ok, need_at, word_at, field_at, end_at}
+use Rattle.texts.proofs.Items.{both-map_left, both-map_right, map-map}
 use Rattle.ring_table.specs.declared.allowance.Allowance.{Allowance}
 use Rattle.ring_table.specs.declared.node.Node.{Node}
 use Rattle.ring_table.specs.Reading.{judge_new, allowance_at, judge_membership, node_at}

@@ -9,12 +9,12 @@ use Rattle.ring_names.specs.Lists.{AllNew}
 use Rattle.ring_names.specs.Names.{place}
 use Rattle.ring_names.proofs.Places.{get-place, place-get}
 use Rattle.ring_names.specs.declared.refusal.Refusal.TheVariants.{BadLine}
-use Rattle.ring_text.specs.Name.{is_name}
-use Rattle.ring_text.specs.Judging.{unless}
-use Rattle.ring_text.specs.Left.{Left, is_word, many_from}
-use Rattle.ring_text.specs.Laws.{IsPart, SomeLeft, EachNext, BeginsOther}
-use Rattle.ring_text.proofs.Items.{bind_ok, unless_is}
-use Rattle.ring_text.proofs.Many.{many-part}
+use Rattle.texts.specs.Name.{is_name}
+use Rattle.texts.specs.Judging.{unless}
+use Rattle.texts.specs.Left.{Left, is_word, many_from}
+use Rattle.texts.specs.Laws.{IsPart, SomeLeft, EachNext, BeginsOther}
+use Rattle.texts.proofs.Items.{bind_ok, unless_is}
+use Rattle.texts.proofs.Many.{many-part}
 use Rattle.ring_table.specs.declared.allowance.Allowance.{Allowance}
 use Rattle.ring_table.specs.declared.allowance.Allowance.TheVariants.{Joint, Split}
 use Rattle.ring_table.specs.declared.allowance.Side.{Side}

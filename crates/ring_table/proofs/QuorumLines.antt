@@ -1,8 +1,8 @@
 -- A line of the quorum, read number by number.
 use Rattle.std.proofs.Common.{◌≡◌, ℕ, codes, Result, refl}
 use Rattle.ring_names.specs.declared.refusal.Refusal.{Refusal}
-use Rattle.ring_text.specs.Judging.{Line, Does, both_of, map_ok, word_at, number_at, end_at}
-use Rattle.ring_text.specs.Left.{◌>>=◌}
+use Rattle.texts.specs.Judging.{Line, Does, both_of, map_ok, word_at, number_at, end_at}
+use Rattle.texts.specs.Left.{◌>>=◌}
 use Rattle.ring_table.specs.declared.head.Quorum.{Quorum}
 use Rattle.ring_table.specs.Reading.{judge_quorum, loss_at, quorum_at}
 

@@ -9,15 +9,15 @@ use Rattle.ring_names.specs.Names.{place}
 use Rattle.ring_names.specs.declared.ids.NodeId.{NodeId}
 use Rattle.ring_names.specs.declared.refusal.Refusal.{Refusal}
 use Rattle.ring_names.specs.declared.refusal.Refusal.TheVariants.{BadLine, UnknownNode, Repeated, QuorumTooSmall, SharedNode, NotMember}
-use Rattle.ring_text.specs.Name.{is_name}
-use Rattle.ring_text.specs.Number.{decimal_value}
-use Rattle.ring_text.specs.Numbers.{first_value}
-use Rattle.ring_text.specs.Judging.{field_at, number_at, limited, map_item, unless}
-use Rattle.ring_text.specs.Left.{Left, ◌>>=◌, is_word, next_number, next_line, one_line, then_part, many_from}
-use Rattle.ring_text.specs.Frames.{end_line_at}
-use Rattle.ring_text.specs.Late.{ReadsTo}
-use Rattle.ring_text.proofs.Lates.{At, at-map, at-bind, at-if, at-unless, at-limited, at-whole, Judges, judges-⊗, judges-map, judges-field, judges-word, judges-number, judges-need, Advances, advances-line, advances-then, advances-map, to-first, to-second, to-map, many-on, next-line, next-monotone}
-use Rattle.ring_text.proofs.FrameLaws.{end-at}
+use Rattle.texts.specs.Name.{is_name}
+use Rattle.texts.specs.Number.{decimal_value}
+use Rattle.texts.specs.Numbers.{first_value}
+use Rattle.texts.specs.Judging.{field_at, number_at, limited, map_item, unless}
+use Rattle.texts.specs.Left.{Left, ◌>>=◌, is_word, next_number, next_line, one_line, then_part, many_from}
+use Rattle.texts.specs.Frames.{end_line_at}
+use Rattle.texts.specs.Late.{ReadsTo}
+use Rattle.texts.proofs.Lates.{At, at-map, at-bind, at-if, at-unless, at-limited, at-whole, Judges, judges-⊗, judges-map, judges-field, judges-word, judges-number, judges-need, Advances, advances-line, advances-then, advances-map, to-first, to-second, to-map, many-on, next-line, next-monotone}
+use Rattle.texts.proofs.FrameLaws.{end-at}
 use Rattle.ring_table.specs.declared.head.Head.{Head}
 use Rattle.ring_table.specs.declared.head.Quorum.{Quorum}
 use Rattle.ring_table.specs.declared.node.Node.{Node}

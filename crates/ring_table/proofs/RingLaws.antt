@@ -3,14 +3,14 @@ use Rattle.std.proofs.Common.{◌≡◌, ℕ, zero, suc, ◌+◌, ◌≤◌, Boo
 use Rattle.std.specs.Prelude.{slice_get}
 use Rattle.std.specs.List.{AllByRecursion}
 use Rattle.std.proofs.lemmas.List.Concat.{flat_map-append}
-use Rattle.ring_text.specs.Left.{Left, one_line, then_part}
-use Rattle.ring_text.specs.Frames.{end_fields, end_line_at}
-use Rattle.ring_text.specs.Laws.{IsPart, SomeLeft, Any, IsPlain, IsPlainLine}
-use Rattle.ring_text.proofs.FrameLaws.{Nothing, end-line}
-use Rattle.ring_text.specs.Name.{is_name}
-use Rattle.ring_text.proofs.Wholes.{decimal-plain, name-plain, whole-takes, whole-gives}
-use Rattle.ring_text.specs.Parts.{line_text, text_of}
-use Rattle.ring_text.proofs.Items.{IsPart-line, IsPart-then, IsPart-map, IsPart-as, some_lines}
+use Rattle.texts.specs.Left.{Left, one_line, then_part}
+use Rattle.texts.specs.Frames.{end_fields, end_line_at}
+use Rattle.texts.specs.Laws.{IsPart, SomeLeft, Any, IsPlain, IsPlainLine}
+use Rattle.texts.proofs.FrameLaws.{Nothing, end-line}
+use Rattle.texts.specs.Name.{is_name}
+use Rattle.texts.proofs.Wholes.{decimal-plain, name-plain, whole-takes, whole-gives}
+use Rattle.texts.specs.Parts.{line_text, text_of}
+use Rattle.texts.proofs.Items.{IsPart-line, IsPart-then, IsPart-map, IsPart-as, some_lines}
 use Rattle.ring_names.specs.declared.ids.NodeId.{NodeId}
 use Rattle.std.specs.Fmt.{decimal}
 use Rattle.ring_table.specs.declared.allowance.Allowance.{Allowance}

@@ -3,18 +3,18 @@ use Rattle.std.proofs.Common.{◌≡◌, ℕ, zero, suc, ◌+◌, ◌<◌, ◌�
 use Rattle.std.specs.Prelude.{slice_get}
 use Rattle.std.specs.Fmt.{decimal}
 use Rattle.std.specs.List.{list_all, list_any, AllByRecursion, join_with_byte, flat_map}
-use Rattle.ring_text.specs.Parts.{text_of, line_text}
+use Rattle.texts.specs.Parts.{text_of, line_text}
 use Rattle.ring_names.specs.Lists.{has, all_different, AllNew}
 use Rattle.ring_names.specs.Names.{place}
 use Rattle.ring_names.specs.declared.ids.NodeId.{NodeId}
 use Rattle.ring_names.specs.declared.refusal.Refusal.{Refusal}
 use Rattle.ring_names.specs.declared.refusal.Refusal.TheVariants.{BadLine, UnknownNode, SharedNode, NotMember}
 use Rattle.ring_names.proofs.Places.{place-get, get-place, place-below}
-use Rattle.ring_text.specs.Name.{is_name}
-use Rattle.ring_text.specs.Judging.{field_at, word_at}
-use Rattle.ring_text.specs.Left.{Left, ◌>>=◌, next_line}
-use Rattle.ring_text.specs.Laws.{IsItem, IsLine, IsPart, Any}
-use Rattle.ring_text.proofs.Items.{IsItem-⊗, IsItem-word, IsItem-field, IsLine-whole, IsLine-judged, IsLine-as, ok_is, IsItem-nil, IsItem-cons, IsPart-nil, IsPart-cons}
+use Rattle.texts.specs.Name.{is_name}
+use Rattle.texts.specs.Judging.{field_at, word_at}
+use Rattle.texts.specs.Left.{Left, ◌>>=◌, next_line}
+use Rattle.texts.specs.Laws.{IsItem, IsLine, IsPart, Any}
+use Rattle.texts.proofs.Items.{IsItem-⊗, IsItem-word, IsItem-field, IsLine-whole, IsLine-judged, IsLine-as, ok_is, IsItem-nil, IsItem-cons, IsPart-nil, IsPart-cons}
 use Rattle.std.proofs.lemmas.List.{length-map, append-nil, take_more, length-take}
 use Rattle.std.proofs.lemmas.List.Concat.{flat_map-cons}
 use Rattle.ring_table.specs.declared.node.Node.{Node}

@@ -9,12 +9,12 @@ use Rattle.ring_names.specs.Names.{place}
 use Rattle.ring_names.specs.declared.ids.NodeId.{NodeId}
 use Rattle.ring_names.specs.declared.refusal.Refusal.{Refusal}
 use Rattle.ring_names.specs.declared.refusal.Refusal.TheVariants.{BadLine, UnknownNode, Repeated, QuorumTooSmall, SharedNode, NotMember}
-use Rattle.ring_text.specs.Name.{is_name}
-use Rattle.ring_text.specs.Number.{decimal_value}
-use Rattle.ring_text.specs.Numbers.{first_value}
-use Rattle.ring_text.specs.Judging.{Item, ◌⊗◌, field_at, word_at, number_at, need_at, limited, map_ok, map_item, whole, unless}
-use Rattle.ring_text.specs.Left.{Left, ◌>>=◌, is_word, one_line, then_part, many_from, map_part, whole_text}
-use Rattle.ring_text.specs.Frames.{end_line_at}
+use Rattle.texts.specs.Name.{is_name}
+use Rattle.texts.specs.Number.{decimal_value}
+use Rattle.texts.specs.Numbers.{first_value}
+use Rattle.texts.specs.Judging.{Item, ◌⊗◌, field_at, word_at, number_at, need_at, limited, map_ok, map_item, whole, unless}
+use Rattle.texts.specs.Left.{Left, ◌>>=◌, is_word, one_line, then_part, many_from, map_part, whole_text}
+use Rattle.texts.specs.Frames.{end_line_at}
 use Rattle.ring_table.specs.declared.head.Quorum.{Quorum}
 use Rattle.ring_table.specs.declared.head.Head.{Head}
 use Rattle.ring_table.specs.declared.allowance.Allowance.{Allowance}

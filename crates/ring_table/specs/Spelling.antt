@@ -2,8 +2,8 @@
 use Rattle.std.specs.Prelude.{ℕ, ◌+◌, Bool, true, false, List, [], ◌∷◌, ◌++◌, map, codes, slice_get, Some, None, nat_lt, if◌then◌else◌}
 use Rattle.std.specs.Fmt.{decimal}
 use Rattle.ring_names.specs.declared.ids.NodeId.{NodeId}
-use Rattle.ring_text.specs.Parts.{text_of}
-use Rattle.ring_text.specs.Frames.{end_fields}
+use Rattle.texts.specs.Parts.{text_of}
+use Rattle.texts.specs.Frames.{end_fields}
 use Rattle.ring_table.specs.declared.allowance.Allowance.{Allowance}
 use Rattle.ring_table.specs.declared.allowance.Allowance.TheVariants.{Joint, Split}
 use Rattle.ring_table.specs.declared.node.Node.{Node}

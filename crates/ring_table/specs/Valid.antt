@@ -1,7 +1,7 @@
 -- Which rings are valid.
 use Rattle.std.specs.Prelude.{◌≡◌, ℕ, ◌+◌, ◌<◌, ◌≤◌, ◌&&◌, ◌==◌, Bool, true, nat_le, nat_lt, List, [], length, map, None, if◌then◌else◌}
 use Rattle.std.specs.List.{AllByRecursion, list_all}
-use Rattle.ring_text.specs.Name.{is_name}
+use Rattle.texts.specs.Name.{is_name}
 use Rattle.ring_names.specs.Lists.{all_different, AllNew}
 use Rattle.ring_names.specs.Names.{place}
 use Rattle.ring_names.specs.Space.{is_space}

@@ -3,17 +3,17 @@
 ghost use Rattle.std.specs.Prelude.{◌≡◌, ◌<◌, ◌≤◌, ◌+◌, ◌++◌, ◌∷◌, [], length, map, OnOk, OnErr, IfErr, codes, IfOk, None, not, nat_lt};
 ghost use Rattle.ring_names.specs.declared.refusal.Refusal.TheVariants.{OutOfMemory};
 ghost use Rattle.ring_names.specs.Names.{place};
-ghost use Rattle.ring_text.specs.Judging.{Does, map_ok, field_at};
-ghost use Rattle.ring_text.specs.Left.{Reads, is_word, many_from};
-ghost use Rattle.ring_text.specs.Late.{IsAt, Late};
+ghost use Rattle.texts.specs.Judging.{Does, map_ok, field_at};
+ghost use Rattle.texts.specs.Left.{Reads, is_word, many_from};
+ghost use Rattle.texts.specs.Late.{IsAt, Late};
 ghost use Rattle.ring_table.specs.Reading.{judge_new, judge_most, second_at, made, allowance_at, judge_membership, node_at, nodes_at};
 
 use crate::allowance::Allowance;
 use crate::node::Node;
 use ring_names::{Listed, Names, Refusal};
-use ring_text::{Fields, Lines, both, finish, is_name, need};
 use std::alloc::Global;
 use std::marker::Model;
+use texts::{Fields, Lines, both, finish, is_name, need};
 
 /// The nodes that were declared, and their names.
 #[derive(Drop)]

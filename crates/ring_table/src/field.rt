@@ -2,14 +2,14 @@
 
 ghost use Rattle.std.specs.Prelude.{◌≡◌, true, Some};
 ghost use Rattle.ring_names.specs.Names.{place};
-ghost use Rattle.ring_text.specs.Judging.{Does};
-ghost use Rattle.ring_text.specs.Name.{is_name};
+ghost use Rattle.texts.specs.Judging.{Does};
+ghost use Rattle.texts.specs.Name.{is_name};
 ghost use Rattle.ring_table.specs.Value.{names_of};
 ghost use Rattle.ring_table.specs.Reading.{declared_at};
 
 use crate::ring::Ring;
 use ring_names::{NodeId, Refusal};
-use ring_text::{Fields, is_name};
+use texts::{Fields, is_name};
 
 // Whether that is the name of the node.
 fn is_named(ring: &Ring, node: NodeId, name: &[u8]) -> bool

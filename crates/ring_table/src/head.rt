@@ -3,13 +3,13 @@
 ghost use Rattle.std.specs.Prelude.{◌≡◌, ◌≢◌, OnOk, IfOk, IfErr};
 ghost use Rattle.ring_names.specs.Space.{is_space as is_valid_space};
 ghost use Rattle.ring_names.specs.declared.refusal.Refusal.TheVariants.{OutOfMemory};
-ghost use Rattle.ring_text.specs.Left.{Answers, lines_on};
-ghost use Rattle.ring_text.specs.Judging.{Does, field_at};
+ghost use Rattle.texts.specs.Left.{Answers, lines_on};
+ghost use Rattle.texts.specs.Judging.{Does, field_at};
 ghost use Rattle.ring_table.specs.Valid.{is_quorum as is_valid_quorum, IsHead};
 ghost use Rattle.ring_table.specs.Reading.{judge_format, format_at, space_at, judge_quorum, loss_at, quorum_at, head_at};
 
 use ring_names::Refusal;
-use ring_text::{Fields, Lines, both, finish};
+use texts::{Fields, Lines, both, finish};
 
 /// How many slots a partition has, how many of them answer a read and a write, and how many stores may be lost.
 #[derive(Clone, Copy)]

@@ -2,9 +2,9 @@
 
 ghost use Rattle.std.specs.Prelude.{◌≡◌, ◌≤◌, Ok, IfOk, IfErr, OnOk};
 ghost use Rattle.ring_names.specs.declared.refusal.Refusal.TheVariants.{OutOfMemory};
-ghost use Rattle.ring_text.specs.Left.{Reads, next_number, lines_on};
-ghost use Rattle.ring_text.specs.Late.{Late, NoFaultBefore};
-ghost use Rattle.ring_text.specs.Judging.{Gives, map_ok};
+ghost use Rattle.texts.specs.Left.{Reads, next_number, lines_on};
+ghost use Rattle.texts.specs.Late.{Late, NoFaultBefore};
+ghost use Rattle.texts.specs.Judging.{Gives, map_ok};
 ghost use Rattle.ring_table.specs.Value.{RingValue};
 ghost use Rattle.ring_table.specs.Valid.{IsRing};
 ghost use Rattle.ring_table.specs.Spelling.{ring_text};
@@ -16,8 +16,8 @@ use crate::head::{Head, read_head};
 use crate::ring::Ring;
 use crate::row::read_rows;
 use ring_names::{Listed, NodeId, Refusal};
-use ring_text::{Lines, end};
 use std::alloc::Global;
+use texts::{Lines, end};
 
 // The nodes of a ring, and the owners of the slots of each partition.
 #[derive(Drop)]

@@ -2,7 +2,7 @@
 
 ghost use Rattle.std.specs.Prelude.{◌≡◌, ◌<◌, true, Some, IfSome, length, slice_get, option_map};
 ghost use Rattle.ring_names.specs.Names.{place};
-ghost use Rattle.ring_text.specs.Name.{is_name};
+ghost use Rattle.texts.specs.Name.{is_name};
 
 use crate::allowance::NodeSide;
 use crate::declared::Declared;

@@ -3,9 +3,9 @@
 ghost use Rattle.std.specs.Prelude.{◌≡◌, ◌<◌, ◌≤◌, ◌∷◌, [], length, map, IfOk, IfErr, ◌==◌};
 ghost use Rattle.std.specs.List.{list_all, list_any};
 ghost use Rattle.ring_names.specs.Lists.{all_different as differ};
-ghost use Rattle.ring_text.specs.Judging.{Does, field_at, map_ok};
-ghost use Rattle.ring_text.specs.Left.{Reads, map_part};
-ghost use Rattle.ring_text.specs.Late.{IsAt, Late};
+ghost use Rattle.texts.specs.Judging.{Does, field_at, map_ok};
+ghost use Rattle.texts.specs.Left.{Reads, map_part};
+ghost use Rattle.texts.specs.Late.{IsAt, Late};
 ghost use Rattle.ring_table.specs.Value.{is_member as is_member_of};
 ghost use Rattle.ring_table.specs.Reading.{judge_declared, owners_at, row_at, rows_at};
 
@@ -13,9 +13,9 @@ use crate::declared::Declared;
 use crate::node::{Node, is_member};
 use itoa::Buffer;
 use ring_names::{Listed, Names, NodeId, Refusal};
-use ring_text::{Fields, Lines, both, finish, is_name};
 use std::alloc::Global;
 use std::marker::Model;
+use texts::{Fields, Lines, both, finish, is_name};
 
 // Up to 7 owners, kept from the back: the first one read is put in last.
 #[derive(Drop)]

@@ -3,7 +3,7 @@
 ghost use Rattle.std.specs.Prelude.{◌≡◌, ◌++◌, ◌∷◌, [], ◌<◌, ◌≤◌, length, map, List, ℕ, IfOk, IfErr, OnOk, slice_get, Some};
 ghost use Rattle.ring_names.specs.declared.refusal.Refusal.TheVariants.{OutOfMemory};
 ghost use Rattle.std.specs.List.{flat_map};
-ghost use Rattle.ring_text.specs.Parts.{line_text, text_of, spaced};
+ghost use Rattle.texts.specs.Parts.{line_text, text_of, spaced};
 ghost use Rattle.ring_table.specs.Spelling.{ring_text, format_fields, space_fields, loss_fields, quorum_fields, allowance_fields, node_fields, name_at, row_fields, rows_lines};
 ghost use Rattle.ring_table.specs.Value.{names_of};
 
@@ -11,8 +11,8 @@ use crate::allowance::Allowance;
 use crate::node::Node;
 use crate::ring::Ring;
 use ring_names::{Listed, NodeId, Refusal, push_decimal};
-use ring_text::push_numbers;
 use std::alloc::{AllocError, Global};
+use texts::push_numbers;
 
 // `ring <format>`
 fn push_format(out: &mut Vec<u8>, format: u32) -> Result<(), AllocError>

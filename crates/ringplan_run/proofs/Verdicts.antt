@@ -3,14 +3,14 @@ use Rattle.std.proofs.Common.{◌≡◌, ◌==◌, if◌then◌else◌, Bool, tr
 use Rattle.std.specs.Global.{Vec}
 use Rattle.ring_names.specs.declared.refusal.Refusal.{Refusal}
 use Rattle.ring_names.specs.declared.refusal.Refusal.TheVariants.{OutOfMemory}
-use Rattle.ring_text.specs.Judging.{Gives}
-use Rattle.ring_text.specs.Left.{whole_text}
+use Rattle.texts.specs.Judging.{Gives}
+use Rattle.texts.specs.Left.{whole_text}
 use Rattle.ring_table.specs.Value.{RingValue, migrated}
 use Rattle.plan_text.specs.declared.step.Planned.{Planned}
 use Rattle.plan_cert.specs.declared.cert.Cert.{Cert}
 use Rattle.plan_cert.specs.Valid.{Suits}
-use Rattle.plan_change.specs.declared.wanted.Wanted.{Wanted}
-use Rattle.plan_change.specs.Wanted.{wanted_at}
+use Rattle.change_text.specs.declared.wanted.Wanted.{Wanted}
+use Rattle.change_text.specs.Wanted.{wanted_at}
 use Rattle.plan_check.specs.First.{first_refusal}
 use Rattle.plan_proposal.specs.Proposals.{IsProposed, IsTurnedAway}
 use Rattle.ring_script.specs.Bundles.{bundle_at}

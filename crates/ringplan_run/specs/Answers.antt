@@ -3,7 +3,7 @@ use Rattle.std.specs.Prelude.{ℕ, List, ◌&&◌, Result, Ok, Err, if◌then◌
 use Rattle.std.specs.Global.{Vec}
 use Rattle.ring_names.specs.declared.refusal.Refusal.{Refusal}
 use Rattle.ring_names.specs.Refusals.{line_of, number_of}
-use Rattle.ring_text.specs.Judging.{map_ok}
+use Rattle.texts.specs.Judging.{map_ok}
 
 -- the bytes of a text that was found
 abbrev pub texts_of : Result (Vec ℕ) Refusal → Result (List ℕ) Refusal

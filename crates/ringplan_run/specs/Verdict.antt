@@ -2,14 +2,14 @@
 use Rattle.std.specs.Prelude.{◌≡◌, ◌≢◌, ℕ, List, [], ◌∷◌, ◌++◌, Option, Some, None, Result, Ok, Err, OnOk, codes}
 use Rattle.ring_names.specs.declared.refusal.Refusal.{Refusal}
 use Rattle.ring_names.specs.declared.refusal.Refusal.TheVariants.{OutOfMemory}
-use Rattle.ring_text.specs.Judging.{map_ok}
-use Rattle.ring_text.specs.Left.{◌>>=◌, whole_text}
+use Rattle.texts.specs.Judging.{map_ok}
+use Rattle.texts.specs.Left.{◌>>=◌, whole_text}
 use Rattle.ring_table.specs.Value.{migrated}
 use Rattle.ring_table.specs.Spelling.{ring_text}
 use Rattle.plan_text.specs.Spelling.{plan_text}
 use Rattle.plan_cert.specs.Spelling.{cert_text}
-use Rattle.plan_change.specs.declared.wanted.Wanted.{Wanted}
-use Rattle.plan_change.specs.Wanted.{wanted_at}
+use Rattle.change_text.specs.declared.wanted.Wanted.{Wanted}
+use Rattle.change_text.specs.Wanted.{wanted_at}
 use Rattle.plan_check.specs.First.{first_refusal}
 use Rattle.plan_check.specs.Headline.{KeepsPromises}
 use Rattle.plan_proposal.specs.Proposals.{IsProposed, IsTurnedAway}

@@ -2,9 +2,9 @@
 
 ghost use Rattle.std.specs.Prelude.{◌≡◌, ◌++◌, ◌∷◌, [], IfOk, IfErr, OnOk, codes};
 ghost use Rattle.ring_names.specs.declared.refusal.Refusal.TheVariants.{OutOfMemory};
-ghost use Rattle.ring_text.specs.Judging.{Gives};
-ghost use Rattle.ring_text.specs.Left.{whole_text};
-ghost use Rattle.ring_text.specs.Late.{NoFaultBefore};
+ghost use Rattle.texts.specs.Judging.{Gives};
+ghost use Rattle.texts.specs.Left.{whole_text};
+ghost use Rattle.texts.specs.Late.{NoFaultBefore};
 ghost use Rattle.ring_table.specs.Spelling.{ring_text};
 ghost use Rattle.plan_text.specs.Valid.{Suits};
 ghost use Rattle.plan_cert.specs.Spelling.{cert_text};
@@ -13,14 +13,14 @@ ghost use Rattle.plan_check.specs.First.{first_refusal};
 ghost use Rattle.plan_check.specs.Headline.{KeepsPromises};
 ghost use Rattle.ring_script.specs.Bundles.{IsOfRing, bundle_at};
 ghost use Rattle.ring_script.specs.declared.bundle.Kind.TheVariants.{Check, Play};
-ghost use Rattle.plan_change.specs.Wanted.{wanted_at};
+ghost use Rattle.change_text.specs.Wanted.{wanted_at};
 ghost use Rattle.ringplan_run.specs.declared.job.Job.TheVariants.{Check as Checking, Plan as Planning};
 ghost use Rattle.ringplan_run.specs.Answers.{texts_of};
 ghost use Rattle.ringplan_run.specs.Verdict.{TextsKeepPromises, MakesIf, judged, migrated_text, migration, plays, shown, verdict};
 
 use crate::job::Job;
+use change_text::read_wanted;
 use plan_cert::{Cert, write_cert};
-use plan_change::read_wanted;
 use plan_check::{OpenGate, check, check_parallel};
 use plan_proposal::propose;
 use plan_text::{Plan, write_plan};

@@ -11,6 +11,6 @@ mod names;
 #[cfg(test)]
 mod plans;
 #[cfg(test)]
-mod stores;
+mod readers;
 #[cfg(test)]
-mod texts;
+mod stores;

@@ -3,12 +3,12 @@
 use crate::clocks::set_of;
 use ring_clock::Clock;
 use ring_hints::{Hints, KeptFor, Pairs, Sets};
-use ring_maps::KeyMap;
 use ring_names::{NodeId, Slot, WriterId};
 use ring_store::{NodeStore, Stores};
 use ring_versions::Versions;
 use std::process::Abort;
 use std::test::Fail;
+use store_maps::KeyMap;
 
 const SLOT: Slot = Slot {
     partition: 0,

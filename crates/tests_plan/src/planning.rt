@@ -4,8 +4,8 @@ ghost use Rattle.plan_text.specs.Valid.{Suits};
 
 use crate::figures::{depth, fewest_moves, moves, owned, reads_owners, rounds};
 use crate::rings::RING;
+use change_text::{Change, read_change, read_wanted, write_change};
 use plan_cert::{Cert, read_cert};
-use plan_change::{Change, read_change, read_wanted, write_change};
 use plan_check::check;
 use plan_maker::make;
 use plan_proposal::propose;

@@ -2,11 +2,11 @@
 
 use crate::rings::RING;
 use ring_names::{Listed, NodeId, Slot, WriterId};
-use ring_state::{GetNow, Gets, Keys, Lasts, Marks, Nodes, PutNow, Puts, Slots, Steps};
 use ring_table::{Ring, read_ring};
 use ring_versions::Versions;
 use std::process::Abort;
 use std::test::Fail;
+use store_tables::{GetNow, Gets, Keys, Lasts, Marks, Nodes, PutNow, Puts, Slots, Steps};
 
 const SLOT: Slot = Slot {
     partition: 0,

@@ -2,10 +2,10 @@
 
 use crate::worlds::RING;
 use plan_check::{Event, check};
-use ring_events::{Script, read_script, write_script};
 use ring_names::{Names, NodeId, Refusal};
 use ring_script::{Kind, play, read_bundle};
 use ring_table::{Ring, read_ring};
+use script_text::{Script, read_script, write_script};
 use std::alloc::Global;
 use std::process::Abort;
 use std::test::Fail;

@@ -5,7 +5,7 @@ use Rattle.ring_names.specs.contracts.ids.NodeIdPartialEq.TheImpl as node_eq
 use Rattle.ring_table.specs.contracts.allowance.NodeSidePartialEq.TheImpl as side_eq
 use Rattle.ring_table.specs.declared.allowance.NodeSide.{NodeSide}
 use Rattle.ring_table.specs.declared.allowance.Side.{Side}
-use Rattle.ring_text.specs.Numbers.{ascending}
+use Rattle.texts.specs.Numbers.{ascending}
 use Rattle.ring_names.specs.declared.ids.NodeId.{NodeId}
 use Rattle.ring_names.specs.declared.lists.Lists.{Lists}
 use Rattle.ring_table.specs.Value.{RingValue}

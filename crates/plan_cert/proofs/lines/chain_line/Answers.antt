@@ -1,4 +1,4 @@
-use Rattle.ring_text.proofs.Lates.{at-mapped}
+use Rattle.texts.proofs.Lates.{at-mapped}
 use Rattle.plan_cert.specs.Said.{chain_said}
 use Rattle.plan_cert.specs.Reading.{chain_at}
 use Rattle.plan_cert.proofs.CertLines.{chain-said, names-of}

@@ -1,6 +1,6 @@
 use Rattle.std.proofs.Common.{◌≡◌, subst}
-use Rattle.ring_text.specs.Judging.{Gives}
-use Rattle.ring_text.proofs.Wholes.{gives-found}
+use Rattle.texts.specs.Judging.{Gives}
+use Rattle.texts.proofs.Wholes.{gives-found}
 use Rattle.plan_cert.specs.Reading.{cert_reading}
 use Rattle.plan_cert.specs.Spelling.{cert_text}
 use Rattle.plan_cert.specs.Valid.{IsCert, Suits}

@@ -1,4 +1,4 @@
-use Rattle.ring_text.proofs.Wholes.{reads-found}
+use Rattle.texts.proofs.Wholes.{reads-found}
 use Rattle.plan_cert.specs.Reading.{cert_at}
 use Rattle.plan_cert.specs.Valid.{IsCert, Suits}
 use Rattle.plan_cert.proofs.CertLaws.{section-found}

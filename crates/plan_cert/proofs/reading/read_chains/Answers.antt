@@ -1,6 +1,6 @@
 use Rattle.std.proofs.Common.{sym, ◌∙◌}
-use Rattle.ring_text.specs.Left.{many_from}
-use Rattle.ring_text.proofs.Lates.{late-here, many-late}
+use Rattle.texts.specs.Left.{many_from}
+use Rattle.texts.proofs.Lates.{late-here, many-late}
 use Rattle.plan_cert.specs.Said.{chain_said}
 use Rattle.plan_cert.specs.Reading.{chain_at, begins_chain}
 use Rattle.plan_cert.proofs.CertLates.{chain-at}

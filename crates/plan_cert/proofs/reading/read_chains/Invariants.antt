@@ -1,5 +1,5 @@
 use Rattle.std.proofs.Common.{◌≡◌, ◌-◌, ◌≤◌, length}
-use Rattle.ring_text.specs.Left.{many_from}
+use Rattle.texts.specs.Left.{many_from}
 use Rattle.plan_cert.specs.Reading.{chain_at, begins_chain}
 use Rattle.plan_cert.proofs.reading.read_chains.Given as goal
 

@@ -1,6 +1,6 @@
 use Rattle.std.proofs.Common.{codes, sym, ◌∙◌}
-use Rattle.ring_text.specs.Left.{is_word, many_from}
-use Rattle.ring_text.proofs.Lates.{late-here, many-late}
+use Rattle.texts.specs.Left.{is_word, many_from}
+use Rattle.texts.proofs.Lates.{late-here, many-late}
 use Rattle.plan_cert.specs.Reading.{fact_at}
 use Rattle.plan_cert.proofs.CertLates.{fact-at}
 use Rattle.plan_cert.proofs.reading.read_facts.Goals as goal

@@ -1,5 +1,5 @@
 use Rattle.std.proofs.Common.{◌≡◌, ◌-◌, ◌≤◌, length, codes}
-use Rattle.ring_text.specs.Left.{is_word, many_from}
+use Rattle.texts.specs.Left.{is_word, many_from}
 use Rattle.plan_cert.specs.Reading.{fact_at}
 use Rattle.plan_cert.proofs.reading.read_facts.Given as goal
 

@@ -1,5 +1,5 @@
 use Rattle.std.proofs.Common.{rules}
-use Rattle.ring_text.proofs.Lates.{late-part}
+use Rattle.texts.proofs.Lates.{late-part}
 use Rattle.plan_cert.specs.Reading.{cert_at}
 use Rattle.plan_cert.proofs.CertLates.{cert-facts, cert-chains, behind-facts}
 use Rattle.plan_cert.proofs.reading.read_parts.Goals as goal

@@ -1,5 +1,5 @@
 use Rattle.std.proofs.Common.{rules}
-use Rattle.ring_text.proofs.Lates.{late-whole, two-lines}
+use Rattle.texts.proofs.Lates.{late-whole, two-lines}
 use Rattle.plan_cert.specs.Reading.{cert_at}
 use Rattle.plan_cert.proofs.reading.read_whole.Goals as goal
 

@@ -1,5 +1,5 @@
 use Rattle.std.proofs.Common.{◌≡◌, ◌∷◌, length}
-use Rattle.ring_text.specs.Numbers.{ascending}
+use Rattle.texts.specs.Numbers.{ascending}
 use Rattle.plan_check.proofs.words.are_ascending.Given as goal
 
 abbrev pub invariant-numbers : goal.invariant-numbers

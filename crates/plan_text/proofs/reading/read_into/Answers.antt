@@ -1,5 +1,5 @@
 use Rattle.std.proofs.Common.{sym, ◌∙◌}
-use Rattle.ring_text.proofs.Lates.{late-here}
+use Rattle.texts.proofs.Lates.{late-here}
 use Rattle.plan_text.specs.Reading.{steps_from}
 use Rattle.plan_text.proofs.PlanLates.{steps-late}
 use Rattle.plan_text.proofs.reading.read_into.Goals as goal

@@ -1,4 +1,4 @@
-use Rattle.ring_text.proofs.Lates.{late-part}
+use Rattle.texts.proofs.Lates.{late-part}
 use Rattle.plan_text.specs.Reading.{plan_at}
 use Rattle.plan_text.proofs.PlanLates.{plan-steps}
 use Rattle.plan_text.proofs.reading.read_parts.Goals as goal

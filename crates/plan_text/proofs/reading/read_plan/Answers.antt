@@ -1,6 +1,6 @@
 use Rattle.std.proofs.Common.{◌≡◌, subst}
-use Rattle.ring_text.specs.Judging.{Gives}
-use Rattle.ring_text.proofs.Wholes.{gives-found}
+use Rattle.texts.specs.Judging.{Gives}
+use Rattle.texts.proofs.Wholes.{gives-found}
 use Rattle.plan_text.specs.Reading.{plan_reading}
 use Rattle.plan_text.specs.Spelling.{plan_text}
 use Rattle.plan_text.specs.Valid.{IsPlan, Suits}

@@ -1,4 +1,4 @@
-use Rattle.ring_text.proofs.Wholes.{reads-found}
+use Rattle.texts.proofs.Wholes.{reads-found}
 use Rattle.plan_text.specs.Reading.{plan_at}
 use Rattle.plan_text.specs.Valid.{IsPlan, Suits}
 use Rattle.plan_text.proofs.TextLaws.{section-found}

@@ -1,4 +1,4 @@
-use Rattle.ring_text.proofs.Lates.{late-part}
+use Rattle.texts.proofs.Lates.{late-part}
 use Rattle.plan_text.specs.Reading.{steps_at}
 use Rattle.plan_text.proofs.PlanLates.{steps-at}
 use Rattle.plan_text.proofs.reading.read_steps.Goals as goal

@@ -1,4 +1,4 @@
-use Rattle.ring_text.proofs.Lates.{late-whole, two-lines}
+use Rattle.texts.proofs.Lates.{late-whole, two-lines}
 use Rattle.plan_text.specs.Reading.{plan_at}
 use Rattle.plan_text.proofs.reading.read_whole.Goals as goal
 

@@ -5,7 +5,7 @@ use Rattle.std.proofs.lemmas.Result.{on_ok_weaker}
 use Rattle.ring_table.specs.Value.{names_of}
 use Rattle.plan_text.specs.declared.step.Step.{Step}
 use Rattle.plan_text.specs.Spelling.{slot_fields, source_fields, kind_fields}
-use Rattle.ring_text.proofs.Spaced.{two-parts}
+use Rattle.texts.proofs.Spaced.{two-parts}
 use Rattle.plan_text.proofs.writing.push_kind.Goals as goal
 
 pub returns-in_ok-push_slot-in-Mirror : goal.returns-in_ok-push_slot-in-Mirror

@@ -1,5 +1,5 @@
 use Rattle.std.proofs.Common.{◌≡◌, ◌++◌, map, take}
-use Rattle.ring_text.specs.Parts.{text_of}
+use Rattle.texts.specs.Parts.{text_of}
 use Rattle.ring_table.specs.Value.{names_of}
 use Rattle.plan_text.specs.Spelling.{step_fields}
 use Rattle.plan_text.proofs.writing.push_steps.Given as goal

@@ -1,6 +1,6 @@
 use Rattle.std.proofs.Common.{sym}
-use Rattle.ring_text.proofs.Lates.{late-whole, four-lines}
-use Rattle.ring_text.specs.Left.{whole_text}
+use Rattle.texts.proofs.Lates.{late-whole, four-lines}
+use Rattle.texts.specs.Left.{whole_text}
 use Rattle.ring_script.specs.Bundles.{bundle_at}
 use Rattle.ring_script.proofs.Bundled.{over-late}
 use Rattle.ring_script.proofs.bundle.read_bundle.Goals as goal

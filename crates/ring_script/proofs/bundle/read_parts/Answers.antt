@@ -1,5 +1,5 @@
 use Rattle.std.proofs.Common.{arith}
-use Rattle.ring_text.proofs.Lates.{late-part}
+use Rattle.texts.proofs.Lates.{late-part}
 use Rattle.ring_script.specs.Bundles.{bundle_at}
 use Rattle.ring_script.proofs.Bundled.{bad-script, in-ring, in-plan, in-cert, in-events, two-on, past-plan, past-cert}
 use Rattle.ring_script.proofs.bundle.read_parts.Goals as goal

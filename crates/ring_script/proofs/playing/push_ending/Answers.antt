@@ -1,6 +1,6 @@
 use Rattle.std.proofs.Common.{◌∙◌, List, ◌++◌, map, ap, arith}
 use Rattle.ring_names.specs.declared.ids.NodeId.{NodeId}
-use Rattle.ring_text.specs.Parts.{text_of}
+use Rattle.texts.specs.Parts.{text_of}
 use Rattle.ring_table.specs.declared.node.Node.{Node}
 use Rattle.ring_table.specs.Value.{RingValue, names_of}
 use Rattle.ring_table.specs.Spelling.{rows_lines}
@@ -21,7 +21,7 @@ returns-clause-ok c =
     let ring = c.args.ring.now in
     let out = c.args.out.now.items in
     ending_shown c.args.world.now ring c.in_ok-rows.rows.items out c.push_owners.new.out.items c.extend_from_slice.new.self.items c.requires c.in_ok-rows.ensures.now
-      (c.in_ok-push_owners.ensures
-      ∙ (ap (λ (ns : List Node). out ++ text_of (rows_lines (map (λ x. x.name) ns) 0 c.as_slice.result.now)) c.nodes.ensures.value
-      ∙ ap (λ (rs : List (List NodeId)). out ++ text_of (rows_lines (names_of ring) 0 rs)) c.as_slice.ensures.value))
-      c.in_ok-extend_from_slice.ensures.items
+    (c.in_ok-push_owners.ensures
+    ∙ (ap (λ (ns : List Node). out ++ text_of (rows_lines (map (λ x. x.name) ns) 0 c.as_slice.result.now)) c.nodes.ensures.value
+    ∙ ap (λ (rs : List (List NodeId)). out ++ text_of (rows_lines (names_of ring) 0 rs)) c.as_slice.ensures.value))
+    c.in_ok-extend_from_slice.ensures.items

@@ -1,5 +1,5 @@
 use Rattle.std.proofs.Common.{◌≡◌, ◌++◌, map, take}
-use Rattle.ring_text.specs.Parts.{text_of}
+use Rattle.texts.specs.Parts.{text_of}
 use Rattle.ring_table.specs.Spelling.{rows_lines}
 use Rattle.ring_script.proofs.playing.push_owners.Given as goal
 

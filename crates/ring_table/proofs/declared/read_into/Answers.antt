@@ -1,6 +1,6 @@
 use Rattle.std.proofs.Common.{codes, sym, ◌∙◌}
-use Rattle.ring_text.proofs.Lates.{late-here, many-late}
-use Rattle.ring_text.specs.Left.{is_word, many_from}
+use Rattle.texts.proofs.Lates.{late-here, many-late}
+use Rattle.texts.specs.Left.{is_word, many_from}
 use Rattle.ring_table.specs.Kept.{node_of}
 use Rattle.ring_table.specs.Reading.{node_at}
 use Rattle.ring_table.proofs.RingLates.{node-at}

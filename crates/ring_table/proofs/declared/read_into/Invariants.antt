@@ -1,5 +1,5 @@
 use Rattle.std.proofs.Common.{◌≡◌, ◌-◌, ◌≤◌, length, codes}
-use Rattle.ring_text.specs.Left.{is_word, many_from}
+use Rattle.texts.specs.Left.{is_word, many_from}
 use Rattle.ring_table.specs.Reading.{node_at}
 use Rattle.ring_table.proofs.declared.read_into.Given as goal
 

@@ -1,4 +1,4 @@
-use Rattle.ring_text.proofs.Lates.{late-part}
+use Rattle.texts.proofs.Lates.{late-part}
 use Rattle.ring_table.specs.Reading.{nodes_at}
 use Rattle.ring_table.proofs.RingLates.{nodes-to}
 use Rattle.ring_table.proofs.declared.read_nodes.Goals as goal

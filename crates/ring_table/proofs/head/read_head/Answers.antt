@@ -1,5 +1,5 @@
 use Rattle.std.proofs.Common.{sym, ◌∙◌}
-use Rattle.ring_text.proofs.Lates.{at-is, residual-at}
+use Rattle.texts.proofs.Lates.{at-is, residual-at}
 use Rattle.ring_table.specs.Reading.{format_at, space_at, quorum_at}
 use Rattle.ring_table.proofs.LineLaws.{format-line, space-line, quorum-line}
 use Rattle.ring_table.proofs.RingLates.{format-at, space-at, quorum-at}

@@ -1,5 +1,5 @@
 use Rattle.std.proofs.Common.{◌≤◌, arith}
-use Rattle.ring_text.proofs.Lates.{late-part, next-monotone}
+use Rattle.texts.proofs.Lates.{late-part, next-monotone}
 use Rattle.ring_table.specs.Reading.{body_at}
 use Rattle.ring_table.proofs.RingLates.{nodes-on, rows-on, body-nodes, body-rows}
 use Rattle.ring_table.proofs.reading.read_body.Goals as goal

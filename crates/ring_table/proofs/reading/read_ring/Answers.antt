@@ -1,6 +1,6 @@
 use Rattle.std.proofs.Common.{◌≡◌, subst}
-use Rattle.ring_text.specs.Judging.{Gives}
-use Rattle.ring_text.proofs.Wholes.{gives-found}
+use Rattle.texts.specs.Judging.{Gives}
+use Rattle.texts.proofs.Wholes.{gives-found}
 use Rattle.ring_table.specs.Valid.{IsRing}
 use Rattle.ring_table.specs.Spelling.{ring_text}
 use Rattle.ring_table.specs.Reading.{ring_reading}

@@ -1,4 +1,4 @@
-use Rattle.ring_text.proofs.Lates.{late-part}
+use Rattle.texts.proofs.Lates.{late-part}
 use Rattle.ring_table.specs.Kept.{body_of}
 use Rattle.ring_table.specs.Reading.{ring_at}
 use Rattle.ring_table.proofs.RingLaws.{ring-valid}

@@ -1,4 +1,4 @@
-use Rattle.ring_text.proofs.Lates.{late-whole, four-lines}
+use Rattle.texts.proofs.Lates.{late-whole, four-lines}
 use Rattle.ring_table.specs.Reading.{ring_at}
 use Rattle.ring_table.proofs.reading.read_whole.Goals as goal
 

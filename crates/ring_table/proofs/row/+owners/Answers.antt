@@ -1,5 +1,5 @@
 use Rattle.std.proofs.Common.{sym, ◌∙◌, arith}
-use Rattle.ring_text.proofs.Items.{both_is}
+use Rattle.texts.proofs.Items.{both_is}
 use Rattle.ring_table.proofs.row.+owners.Goals as goal
 
 pub push_front-requires : goal.push_front-requires

@@ -1,6 +1,6 @@
 use Rattle.std.proofs.Common.{◌≡◌, sym, ◌∙◌, arith}
 use Rattle.std.proofs.lemmas.Result.{err_from_is_err_and}
-use Rattle.ring_text.proofs.Lates.{late-here}
+use Rattle.texts.proofs.Lates.{late-here}
 use Rattle.ring_table.specs.Reading.{rows_at}
 use Rattle.ring_table.proofs.RowLaws.{rows-goes_on, rows-missing, rows-bad, rows-done}
 use Rattle.ring_table.proofs.RingLates.{rows-late}

@@ -1,5 +1,5 @@
 use Rattle.std.proofs.Common.{◌≡◌, ◌++◌, map, take}
-use Rattle.ring_text.specs.Parts.{text_of}
+use Rattle.texts.specs.Parts.{text_of}
 use Rattle.ring_table.specs.Spelling.{node_fields}
 use Rattle.ring_table.proofs.writing.push_nodes.Given as goal
 

@@ -1,7 +1,7 @@
 use Rattle.std.proofs.Common.{ℕ, List, [], ◌∷◌, ◌++◌, codes, ap, ◌∙◌, append_assoc}
 use Rattle.std.specs.Fmt.{decimal}
 use Rattle.std.specs.List.{join_with_byte}
-use Rattle.ring_text.proofs.Spaced.{two-parts}
+use Rattle.texts.proofs.Spaced.{two-parts}
 use Rattle.ring_table.specs.Spelling.{loss_fields, quorum_fields}
 use Rattle.ring_table.proofs.writing.push_quorum.Goals as goal
 

@@ -1,7 +1,7 @@
 use Rattle.std.proofs.Common.{sym, subst}
 use Rattle.std.proofs.lemmas.Result.{on_ok_weaker}
 use Rattle.plan_check.specs.Headline.{KeepsPromises}
-use Rattle.ring_text.specs.Judging.{Gives}
+use Rattle.texts.specs.Judging.{Gives}
 use Rattle.ringplan_run.proofs.Verdicts.{verdict-bad, verdict-good}
 use Rattle.ringplan_run.proofs.bundle.check_bundle_by.Goals as goal
 

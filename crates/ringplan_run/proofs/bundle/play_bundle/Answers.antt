@@ -1,5 +1,5 @@
 use Rattle.std.proofs.Common.{sym, subst}
-use Rattle.ring_text.specs.Judging.{Gives}
+use Rattle.texts.specs.Judging.{Gives}
 use Rattle.ringplan_run.specs.Answers.{texts_of}
 use Rattle.ringplan_run.proofs.Verdicts.{plays-bad, plays-good}
 use Rattle.ringplan_run.proofs.bundle.play_bundle.Goals as goal

@@ -2,9 +2,9 @@ use Rattle.std.proofs.Common.{◌∙◌, ℕ, ◌<◌, length, List, sym, ap, su
 use Rattle.std.proofs.Props.{props}
 use Rattle.ring_versions.specs.declared.version.Version.{Version}
 use Rattle.ring_space.specs.declared.found.Place.{Place}
-use Rattle.ring_maps.specs.Chunks.{chunk_of}
-use Rattle.ring_parts.specs.Parts.{ring_of, plan_of, kept_of}
-use Rattle.ring_parts.proofs.StoreInWorld.{holds}
+use Rattle.store_maps.specs.Chunks.{chunk_of}
+use Rattle.store_tells.specs.Parts.{ring_of, plan_of, kept_of}
+use Rattle.store_tells.proofs.StoreInWorld.{holds}
 use Rattle.ring_core.proofs.SlotHoldsPut.{lies_there, one_of, none_of_one, put_key_within, one_version, held_kept}
 use Rattle.ring_core.proofs.world.World.holds.Goals as goal
 

@@ -1,8 +1,8 @@
 use Rattle.std.proofs.Common.{◌∙◌, ℕ, ◌≤◌, sym, subst}
 use Rattle.std.proofs.Props.{props}
 use Rattle.ring_table.specs.declared.allowance.Side.TheVariants.{Both}
-use Rattle.ring_parts.specs.Parts.{kept_of}
-use Rattle.ring_parts.proofs.StoreInWorld.{holds}
+use Rattle.store_tells.specs.Parts.{kept_of}
+use Rattle.store_tells.proofs.StoreInWorld.{holds}
 use Rattle.ring_core.specs.World.{ring_of, plan_of}
 use Rattle.ring_core.proofs.OpenCopies.{transfers_told}
 use Rattle.ring_core.proofs.world.World.open_transfers.Goals as goal

@@ -1,8 +1,8 @@
 use Rattle.std.proofs.Common.{◌≢◌, ◌∙◌, inl, ℕ, List, [], refl, sym, ap, subst, Some}
 use Rattle.std.specs.Prelude.{IsSome, is_some}
-use Rattle.ring_maps.specs.Merges.{at_key}
-use Rattle.ring_maps.specs.Slots.{held_for}
-use Rattle.ring_maps.proofs.OneAnswer.{on_ok, on_err, on_either}
+use Rattle.store_maps.specs.Merges.{at_key}
+use Rattle.store_maps.specs.Slots.{held_for}
+use Rattle.store_maps.proofs.OneAnswer.{on_ok, on_err, on_either}
 use Rattle.ring_hints.specs.Kept.{map_of, held_by, AreKept, ArePaired, PutsMap}
 use Rattle.ring_hints.specs.Views.{pair_of}
 use Rattle.ring_hints.proofs.PairChanged.{chunk_in, puts_map, same_by, merged_by, kept_by, kept_at, kept_merged, kept_first, not_emptied, paired_stays, merged_at, always_err}

@@ -1,6 +1,6 @@
 use Rattle.std.proofs.Common.{◌∙◌, [], refl, sym, ap}
-use Rattle.ring_maps.specs.Chunks.{chunk_of}
-use Rattle.ring_maps.specs.Held.{held}
+use Rattle.store_maps.specs.Chunks.{chunk_of}
+use Rattle.store_maps.specs.Held.{held}
 use Rattle.ring_hints.specs.Kept.{held_by}
 use Rattle.ring_hints.proofs.PairChanged.{in_chunk, no_place, chunk_in}
 use Rattle.ring_hints.proofs.hints.Hints.chunk_map.Goals as goal

@@ -1,5 +1,5 @@
 use Rattle.std.proofs.Common.{◌≡◌, ◌∙◌, ap, sym}
-use Rattle.ring_maps.proofs.OneAnswer.{on_some, on_none}
+use Rattle.store_maps.proofs.OneAnswer.{on_some, on_none}
 use Rattle.ring_hints.specs.Pairs.{is_pair}
 use Rattle.ring_hints.specs.Views.{in_keepers}
 use Rattle.ring_hints.proofs.PairChanged.{keeps_is}

@@ -1,4 +1,4 @@
-use Rattle.ring_maps.proofs.OneAnswer.{false_from}
+use Rattle.store_maps.proofs.OneAnswer.{false_from}
 use Rattle.ring_hints.specs.Pairs.{is_pair}
 use Rattle.ring_hints.proofs.PairChanged.{keeps_is}
 use Rattle.ring_hints.proofs.hints.Hints.keeps_any.Goals as goal

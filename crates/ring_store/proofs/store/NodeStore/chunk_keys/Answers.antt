@@ -1,4 +1,4 @@
-use Rattle.ring_maps.specs.Held.{held}
+use Rattle.store_maps.specs.Held.{held}
 use Rattle.std.proofs.lemmas.Result.{IfOk-weaker}
 use Rattle.ring_store.specs.Store.{chunk_versions}
 use Rattle.ring_store.proofs.SlotMapsChanged.{keys_same, keys_none}

@@ -1,6 +1,6 @@
 use Rattle.std.proofs.Common.{◌∙◌, [], refl, sym, ap}
-use Rattle.ring_maps.specs.Chunks.{chunk_of}
-use Rattle.ring_maps.specs.Held.{held}
+use Rattle.store_maps.specs.Chunks.{chunk_of}
+use Rattle.store_maps.specs.Held.{held}
 use Rattle.ring_store.specs.Slots.{held_by}
 use Rattle.ring_store.proofs.SlotMapsChanged.{in_chunk, no_place, chunk_in}
 use Rattle.ring_store.proofs.store.NodeStore.chunk_map.Goals as goal

@@ -1,5 +1,5 @@
 use Rattle.std.proofs.Common.{◌∙◌, sym, ap}
-use Rattle.ring_maps.proofs.OneAnswer.{on_some, on_none}
+use Rattle.store_maps.proofs.OneAnswer.{on_some, on_none}
 use Rattle.ring_store.specs.Slots.{held_by}
 use Rattle.ring_store.proofs.SlotMapsChanged.{chunk_in}
 use Rattle.ring_store.proofs.store.NodeStore.key_versions_in.Goals as goal

@@ -1,7 +1,7 @@
 use Rattle.std.proofs.Common.{◌∙◌, ℕ, List, refl, sym, ap, subst, Some}
 use Rattle.std.specs.Prelude.{IsSome}
-use Rattle.ring_maps.specs.Merges.{at_key}
-use Rattle.ring_maps.proofs.OneAnswer.{on_ok, on_err}
+use Rattle.store_maps.specs.Merges.{at_key}
+use Rattle.store_maps.proofs.OneAnswer.{on_ok, on_err}
 use Rattle.ring_store.specs.Slots.{held_by, maps_of, AreOf, PutsSlot}
 use Rattle.ring_store.proofs.SlotMapsChanged.{chunk_at, chunk_in, puts_slot, same_by, merged_by, spaces_by, space_at, always_err, merged_at}
 use Rattle.ring_store.proofs.store.NodeStore.merge_key.Goals as goal

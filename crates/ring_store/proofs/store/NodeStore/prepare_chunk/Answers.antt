@@ -4,8 +4,8 @@ use Rattle.std.proofs.lemmas.Result.{IfOk-weaker}
 use Rattle.ring_versions.specs.Fresh.{IsFreshFor}
 use Rattle.ring_versions.specs.declared.version.Version.{Version}
 use Rattle.ring_versions.specs.Versions.{IsMerge}
-use Rattle.ring_maps.specs.Chunks.{chunk_of}
-use Rattle.ring_maps.specs.Held.{held}
+use Rattle.store_maps.specs.Chunks.{chunk_of}
+use Rattle.store_maps.specs.Held.{held}
 use Rattle.ring_names.specs.AtBytes.{value_at}
 use Rattle.ring_store.specs.Slots.{held_by, placed_by, maps_of, AreOf, PutsSlot}
 use Rattle.ring_store.proofs.SlotMapsChanged.{puts_slot, same_by, stays_by, spaces_by, space_at, all_ready_at}

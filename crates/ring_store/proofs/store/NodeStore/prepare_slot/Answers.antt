@@ -1,7 +1,7 @@
 use Rattle.std.proofs.Common.{◌≡◌, ◌∙◌, false, ℕ, List, refl, sym, ap, subst, Some}
 use Rattle.std.specs.Prelude.{IsSome}
 use Rattle.std.proofs.lemmas.Result.{IfOk-weaker}
-use Rattle.ring_maps.specs.Slots.{held_for}
+use Rattle.store_maps.specs.Slots.{held_for}
 use Rattle.ring_store.specs.Slots.{held_by, placed_by, maps_of, AreOf, PutsSlot}
 use Rattle.ring_store.proofs.SlotMapsChanged.{puts_slot, same_by, stays_by, spaces_by, space_at, maps_ready_at, fresh_maps_same}
 use Rattle.ring_store.proofs.store.NodeStore.prepare_slot.Goals as goal

@@ -1,7 +1,7 @@
 use Rattle.std.proofs.Common.{◌∙◌, refl, sym, ap, Some}
 use Rattle.std.specs.Map.{lookup}
 use Rattle.ring_names.specs.contracts.ids.SlotPartialEq.TheImpl as slot_eq
-use Rattle.ring_maps.proofs.OneAnswer.{on_either}
+use Rattle.store_maps.proofs.OneAnswer.{on_either}
 use Rattle.ring_store.specs.Slots.{AreOf}
 use Rattle.ring_store.proofs.SlotMapsChanged.{puts_slot, spaces_by, space_at}
 use Rattle.ring_store.proofs.store.NodeStore.put.Goals as goal

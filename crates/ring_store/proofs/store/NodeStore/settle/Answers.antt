@@ -2,7 +2,7 @@ use Rattle.std.proofs.Common.{◌≡◌, ◌∙◌, ℕ, List, refl, sym, ap, su
 use Rattle.std.specs.Prelude.{IsSome}
 use Rattle.ring_versions.specs.Fresh.{IsFreshFor}
 use Rattle.ring_versions.specs.declared.version.Version.{Version}
-use Rattle.ring_maps.specs.Merges.{at_key}
+use Rattle.store_maps.specs.Merges.{at_key}
 use Rattle.ring_store.specs.Slots.{held_by, placed_by, maps_of, AreOf}
 use Rattle.ring_store.proofs.SlotMapsChanged.{chunk_in, puts_slot, merged_by, spaces_by, space_at, merged_at, ready_of}
 use Rattle.ring_store.proofs.store.NodeStore.settle.Goals as goal

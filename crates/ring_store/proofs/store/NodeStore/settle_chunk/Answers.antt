@@ -4,7 +4,7 @@ use Rattle.ring_versions.specs.Fresh.{IsFreshFor}
 use Rattle.ring_versions.specs.declared.version.Version.{Version}
 use Rattle.ring_versions.specs.Versions.{IsMerge}
 use Rattle.ring_names.specs.AtBytes.{value_at}
-use Rattle.ring_maps.proofs.OneAnswer.{at_none}
+use Rattle.store_maps.proofs.OneAnswer.{at_none}
 use Rattle.ring_store.specs.Slots.{held_by, maps_of, AreOf, MergesInAll, at_slot}
 use Rattle.ring_store.proofs.SlotMapsChanged.{puts_slot, merged_by, spaces_by, space_at, merged_at, all_ready_of, none_ready, nothing_put}
 use Rattle.ring_store.proofs.store.NodeStore.settle_chunk.Goals as goal

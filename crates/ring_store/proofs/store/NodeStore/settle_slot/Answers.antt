@@ -1,6 +1,6 @@
 use Rattle.std.proofs.Common.{◌∙◌, ℕ, List, refl, sym, ap, subst, Some}
 use Rattle.std.specs.Prelude.{IsSome}
-use Rattle.ring_maps.specs.Slots.{held_for}
+use Rattle.store_maps.specs.Slots.{held_for}
 use Rattle.ring_store.specs.Slots.{held_by, maps_of, AreOf, MergesInAll, at_slot}
 use Rattle.ring_store.proofs.SlotMapsChanged.{puts_slot, merged_by, spaces_by, space_at, merged_at, maps_ready_of, fresh_maps_same, no_maps_ready, nothing_put}
 use Rattle.ring_store.proofs.store.NodeStore.settle_slot.Goals as goal

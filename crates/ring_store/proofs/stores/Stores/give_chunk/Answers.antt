@@ -1,7 +1,7 @@
 use Rattle.std.proofs.Common.{ℕ, List, sym, subst}
 use Rattle.std.proofs.Math.Path.{fun_ext}
-use Rattle.ring_maps.specs.Held.{held}
-use Rattle.ring_maps.specs.Merges.{AreFreshFor}
+use Rattle.store_maps.specs.Held.{held}
+use Rattle.store_maps.specs.Merges.{AreFreshFor}
 use Rattle.ring_versions.specs.declared.version.Version.{Version}
 use Rattle.ring_store.specs.Nodes.{at_node}
 use Rattle.ring_store.specs.Slots.{at_slot}

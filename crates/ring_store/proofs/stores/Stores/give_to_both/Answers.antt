@@ -1,7 +1,7 @@
 use Rattle.std.proofs.Common.{◌∙◌, ℕ, List, sym, subst}
 use Rattle.ring_names.specs.declared.ids.Slot.{Slot}
 use Rattle.ring_versions.specs.Fresh.{IsFreshFor}
-use Rattle.ring_maps.specs.Merges.{at_key}
+use Rattle.store_maps.specs.Merges.{at_key}
 use Rattle.ring_versions.specs.declared.version.Version.{Version}
 use Rattle.ring_store.specs.Nodes.{at_node}
 use Rattle.ring_store.specs.Slots.{at_slot}

@@ -3,8 +3,8 @@ use Rattle.std.specs.Prelude.{slice_get}
 use Rattle.std.proofs.Math.ListN.{length-set, set}
 use Rattle.std.proofs.lemmas.Result.{IfOk-weaker}
 use Rattle.ring_versions.specs.Fresh.{IsFreshFor}
-use Rattle.ring_maps.specs.Chunks.{chunk_of}
-use Rattle.ring_maps.proofs.Chunks.{lent, get_here}
+use Rattle.store_maps.specs.Chunks.{chunk_of}
+use Rattle.store_maps.proofs.Chunks.{lent, get_here}
 use Rattle.ring_store.specs.Nodes.{stored_in}
 use Rattle.ring_store.proofs.Nodes.{spaces_set, at_old, same_set, stays_set, keeps_ready, ready_in}
 use Rattle.ring_store.proofs.stores.Stores.prepare.Goals as goal

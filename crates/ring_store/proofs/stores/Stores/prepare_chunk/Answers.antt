@@ -2,10 +2,10 @@ use Rattle.std.proofs.Common.{◌∙◌, ap, refl, arith}
 use Rattle.std.specs.Prelude.{slice_get}
 use Rattle.std.proofs.Math.ListN.{length-set, set}
 use Rattle.std.proofs.lemmas.Result.{IfOk-weaker}
-use Rattle.ring_maps.specs.Chunks.{chunk_of}
-use Rattle.ring_maps.specs.Held.{held}
-use Rattle.ring_maps.specs.Merges.{AreFreshFor}
-use Rattle.ring_maps.proofs.Chunks.{lent, get_here}
+use Rattle.store_maps.specs.Chunks.{chunk_of}
+use Rattle.store_maps.specs.Held.{held}
+use Rattle.store_maps.specs.Merges.{AreFreshFor}
+use Rattle.store_maps.proofs.Chunks.{lent, get_here}
 use Rattle.ring_store.specs.Nodes.{stored_in}
 use Rattle.ring_store.proofs.Nodes.{spaces_set, at_old, same_set, stays_set, keeps_ready, are_ready_in}
 use Rattle.ring_store.proofs.stores.Stores.prepare_chunk.Goals as goal

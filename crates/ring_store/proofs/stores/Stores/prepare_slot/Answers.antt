@@ -2,9 +2,9 @@ use Rattle.std.proofs.Common.{◌∙◌, sym, refl, arith}
 use Rattle.std.specs.Prelude.{slice_get}
 use Rattle.std.proofs.Math.ListN.{length-set, set}
 use Rattle.std.proofs.lemmas.Result.{IfOk-weaker}
-use Rattle.ring_maps.specs.Merges.{AreFreshMaps}
-use Rattle.ring_maps.specs.Slots.{held_for}
-use Rattle.ring_maps.proofs.Chunks.{lent, get_here}
+use Rattle.store_maps.specs.Merges.{AreFreshMaps}
+use Rattle.store_maps.specs.Slots.{held_for}
+use Rattle.store_maps.proofs.Chunks.{lent, get_here}
 use Rattle.ring_store.specs.Nodes.{stored_in}
 use Rattle.ring_store.proofs.Nodes.{spaces_set, at_old, same_set, stays_set, keeps_ready, all_ready_in}
 use Rattle.ring_store.proofs.stores.Stores.prepare_slot.Goals as goal

@@ -2,9 +2,9 @@ use Rattle.std.proofs.Common.{◌∙◌, ap, refl, arith}
 use Rattle.std.specs.Prelude.{slice_get}
 use Rattle.std.proofs.Math.ListN.{length-set}
 use Rattle.ring_versions.specs.Fresh.{IsFreshFor}
-use Rattle.ring_maps.specs.Chunks.{chunk_of}
-use Rattle.ring_maps.specs.Merges.{at_key}
-use Rattle.ring_maps.proofs.Chunks.{lent}
+use Rattle.store_maps.specs.Chunks.{chunk_of}
+use Rattle.store_maps.specs.Merges.{at_key}
+use Rattle.store_maps.proofs.Chunks.{lent}
 use Rattle.ring_store.specs.Nodes.{stored_in}
 use Rattle.ring_store.specs.Slots.{at_slot}
 use Rattle.ring_store.proofs.Nodes.{spaces_set, of_old, merged_set, others_set, other_places, keeps_ready, ready_at}

@@ -1,8 +1,8 @@
 use Rattle.std.proofs.Common.{◌∙◌, refl, arith}
 use Rattle.std.specs.Prelude.{slice_get}
 use Rattle.std.proofs.Math.ListN.{length-set}
-use Rattle.ring_maps.specs.Merges.{AreFreshMaps}
-use Rattle.ring_maps.proofs.Chunks.{lent}
+use Rattle.store_maps.specs.Merges.{AreFreshMaps}
+use Rattle.store_maps.proofs.Chunks.{lent}
 use Rattle.ring_store.specs.Nodes.{stored_in}
 use Rattle.ring_store.specs.Slots.{at_slot}
 use Rattle.ring_store.proofs.Nodes.{spaces_set, of_old, merged_set, others_set, other_places, keeps_ready, all_ready_at}

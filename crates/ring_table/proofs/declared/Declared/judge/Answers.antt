@@ -1,6 +1,6 @@
 use Rattle.std.proofs.Common.{◌≡◌, sym, ap, ◌∙◌, rules}
-use Rattle.ring_text.specs.Judging.{map_ok}
-use Rattle.ring_text.proofs.Lates.{at-is}
+use Rattle.texts.specs.Judging.{map_ok}
+use Rattle.texts.proofs.Lates.{at-is}
 use Rattle.ring_table.specs.Reading.{node_at}
 use Rattle.ring_table.proofs.NodeLines.{node-line, made_from}
 use Rattle.ring_table.proofs.LineLaws.{node-line-law}

@@ -1,0 +1,106 @@
+//! Reading a change.
+
+ghost use Rattle.std.specs.Prelude.{◌≡◌, [], Ok, IfOk, IfErr, OnOk};
+ghost use Rattle.ring_names.specs.declared.refusal.Refusal.TheVariants.{OutOfMemory};
+ghost use Rattle.texts.specs.Left.{Reads};
+ghost use Rattle.texts.specs.Late.{Late, NoFaultBefore};
+ghost use Rattle.texts.specs.Judging.{Gives, map_ok};
+ghost use Rattle.change_text.specs.Reading.{joins_from, leaves_from, change_at, change_reading};
+ghost use Rattle.change_text.specs.Spelling.{change_text};
+ghost use Rattle.change_text.specs.Valid.{IsChange};
+ghost use Rattle.change_text.specs.declared.change.Change.{Change};
+
+use crate::change::Change;
+use crate::draft::Draft;
+use crate::lines::{join_line, leave_line};
+use ring_names::Refusal;
+use ring_table::Ring;
+use std::alloc::Global;
+use texts::{Lines, end, header};
+
+// Reads joins, as long as lines begin so.
+fn read_joins(ring: &Ring, draft: &mut Draft, lines: &mut Lines) -> Result<(), Refusal>
+    requires { draft.old.leaves ≡ [] }
+    ensures read { Reads (map_ok (λ _. draft.new.joins) result) lines.new (joins_from ring.now draft.old.joins lines.old) }
+    ensures leaves { OnOk result (draft.new.leaves ≡ []) }
+    ensures late { Late 1 result lines.old lines.new (joins_from ring.now draft.old.joins lines.old) }
+{
+    'joins: while lines.begins(b"join") {
+        let fields = lines.next()?;
+        let node = join_line(ring, draft, fields)?;
+        draft.join(node)?;
+    }
+    Ok(())
+}
+
+// Reads leaves behind the joins, as long as lines begin so.
+fn read_leaves(ring: &Ring, draft: &mut Draft, lines: &mut Lines) -> Result<(), Refusal>
+    ensures read { Reads (map_ok (λ _. draft.new.leaves) result) lines.new (leaves_from ring.now draft.old.joins draft.old.leaves lines.old) }
+    ensures joins { OnOk result (draft.new.joins ≡ draft.old.joins) }
+    ensures late { Late 1 result lines.old lines.new (leaves_from ring.now draft.old.joins draft.old.leaves lines.old) }
+{
+    'leaves: while lines.begins(b"leave") {
+        let fields = lines.next()?;
+        let node = leave_line(ring, draft, fields)?;
+        draft.leave(node)?;
+    }
+    Ok(())
+}
+
+// Reads the lines of a change.
+#[tactic(auto, unfolding(crate::specs::Reading::change_at))]
+fn read_parts(alloc: Global, ring: &Ring, lines: &mut Lines) -> Result<Change, Refusal>
+    ensures read { Reads result lines.new (change_at ring.now lines.old) }
+    ensures late { Late 2 result lines.old lines.new (change_at ring.now lines.old) }
+{
+    header(lines, b"change", b"1")?;
+    let mut draft = Draft::new(alloc);
+    read_joins(ring, &mut draft, lines)?;
+    read_leaves(ring, &mut draft, lines)?;
+    end(lines)?;
+    Ok(draft.into_change())
+}
+
+/// Reads the lines of a change, up to its line `end`, and leaves what follows them. Refused as `read_change` is.
+pub fn read_change_section(alloc: Global, ring: &Ring, lines: &mut Lines) -> Result<Change, Refusal>
+    ensures read { Reads result lines.new (change_at ring.now lines.old) }
+    // What is read is a change of the ring.
+    ensures found { IfOk result (IsChange ring.now) }
+    // Memory may run out behind its first two lines, if these have no fault, and later only behind lines that have none.
+    ensures late { Late 2 result lines.old lines.new (change_at ring.now lines.old) }
+{
+    // A ring is valid, which the prover knows once a number of it is read.
+    let slots = ring.n();
+    prove!(slots <= 7);
+    read_parts(alloc, ring, lines)
+}
+
+// Reads a change from its whole text.
+fn read_whole(alloc: Global, ring: &Ring, text: &[u8]) -> Result<Change, Refusal>
+    ensures exact { Gives result (change_reading ring.now text.now) }
+    ensures late { IfErr result (λ e. e ≡ OutOfMemory → NoFaultBefore 3 (change_reading ring.now text.now)) }
+{
+    let mut lines = Lines::of(text);
+    let change = read_change_section(alloc, ring, &mut lines)?;
+    lines.ended()?;
+    Ok(change)
+}
+
+/// Reads a change of the ring from its whole text. The first line at fault decides, and in it the fault of the least
+/// number: 1 `BadLine`, 3 `UnknownNode`, 4 `Repeated` (a node named twice, or a join of a member), 12 `NotMember` (a leave of a
+/// node that is no member). `OutOfMemory` comes only where memory ran out, behind lines that have no fault.
+pub fn read_change(alloc: Global, ring: &Ring, text: &[u8]) -> Result<Change, Refusal>
+    // What is read is a change of the ring, and is spelled so.
+    ensures found { IfOk result (λ v. IsChange ring.now v × (text.now ≡ change_text ring.now v)) }
+    // What is spelled so is read, unless memory runs out.
+    ensures only { (v : Change) → IsChange ring.now v → text.now ≡ change_text ring.now v → Gives result (Ok v) }
+    // Which fault it is.
+    ensures exact { Gives result (change_reading ring.now text.now) }
+    // Memory may run out only if the first two lines have no fault.
+    ensures late { IfErr result (λ e. e ≡ OutOfMemory → NoFaultBefore 3 (change_reading ring.now text.now)) }
+{
+    // A ring is valid, which the prover knows once a number of it is read.
+    let slots = ring.n();
+    prove!(slots <= 7);
+    read_whole(alloc, ring, text)
+}

@@ -1,0 +1,50 @@
+//! A ring and a change of its members, in one text.
+
+ghost use Rattle.std.specs.Prelude.{◌≡◌, IfOk, IfErr};
+ghost use Rattle.ring_names.specs.declared.refusal.Refusal.TheVariants.{OutOfMemory};
+ghost use Rattle.texts.specs.Judging.{Gives};
+ghost use Rattle.texts.specs.Left.{Reads, whole_text};
+ghost use Rattle.texts.specs.Late.{Late, NoFaultBefore};
+ghost use Rattle.change_text.specs.Valid.{IsChange};
+ghost use Rattle.change_text.specs.Wanted.{wanted_at};
+
+use crate::change::Change;
+use crate::reading::read_change_section;
+use ring_names::Refusal;
+use ring_table::{Ring, read_ring_section};
+use std::alloc::Global;
+use texts::Lines;
+
+/// A ring, and the change of its members that is wanted.
+#[derive(Drop)]
+pub struct Wanted {
+    pub ring: Ring,
+    pub change: Change,
+}
+
+// The ring, and the change behind it. A ring's fault comes before a change's.
+#[tactic(auto, unfolding(crate::specs::Wanted::wanted_at))]
+fn read_both(alloc: Global, lines: &mut Lines) -> Result<Wanted, Refusal>
+    ensures read { Reads result lines.new (wanted_at lines.old) }
+    ensures found { IfOk result (λ w. IsChange w.ring w.change) }
+    ensures late { Late 4 result lines.old lines.new (wanted_at lines.old) }
+{
+    let ring = read_ring_section(alloc, lines)?;
+    let change = read_change_section(alloc, &ring, lines)?;
+    Ok(Wanted { ring, change })
+}
+
+/// The ring and the change of a bundle, and nothing behind them. The first line at fault decides. `OutOfMemory` comes only where memory ran out,
+/// behind the first four lines of the ring.
+pub fn read_wanted(alloc: Global, bytes: &[u8]) -> Result<Wanted, Refusal>
+    // Which ring and change they are, or which fault.
+    ensures read { Gives result (whole_text wanted_at bytes.now) }
+    ensures found { IfOk result (λ w. IsChange w.ring w.change) }
+    // Memory may run out only if the first four lines have no fault.
+    ensures late { IfErr result (λ e. e ≡ OutOfMemory → NoFaultBefore 5 (whole_text wanted_at bytes.now)) }
+{
+    let mut lines = Lines::of(bytes);
+    let wanted = read_both(alloc, &mut lines)?;
+    lines.ended()?;
+    Ok(wanted)
+}

@@ -1,8 +1,0 @@
-use Rattle.std.proofs.Common.{◌≡◌, ◌++◌, map, take}
-use Rattle.ring_text.specs.Parts.{text_of}
-use Rattle.ring_table.specs.Value.{names_of}
-use Rattle.plan_change.specs.Spelling.{node_fields}
-use Rattle.plan_change.proofs.writing.push_nodes.Given as goal
-
-abbrev pub invariant-loop-node : goal.invariant-loop-node
-invariant-loop-node l = l.out.items ≡ l.fn.out.items ++ text_of (map (node_fields l.word (names_of l.ring)) (take l.node-index l.nodes))

@@ -1,7 +1,0 @@
-use Rattle.std.proofs.Common.{◌≡◌, false}
-use Rattle.plan_check.specs.World.{some_below, slot_at}
-use Rattle.ring_parts.specs.GuardsKept.{is_served_kept}
-use Rattle.ring_apply.proofs.hinting.serves_in.Given as goal
-
-abbrev pub invariant-indexes : goal.invariant-indexes
-invariant-indexes l = some_below l.index (λ i. is_served_kept l.parts.slots (slot_at l.partition i) l.node.0) ≡ false

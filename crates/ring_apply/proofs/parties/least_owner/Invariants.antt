@@ -1,8 +1,0 @@
-use Rattle.std.proofs.Common.{◌≡◌, drop, map}
-use Rattle.plan_check.specs.World.{slot_at}
-use Rattle.ring_state.specs.Nodes.{is_up_at}
-use Rattle.ring_apply.specs.Parties.{owner_kept, least_down}
-use Rattle.ring_apply.proofs.parties.least_owner.Given as goal
-
-abbrev pub invariant-loop-k : goal.invariant-loop-k
-invariant-loop-k l = l.least ≡ least_down (is_up_at l.parts.nodes) (map (owner_kept l.parts.slots) (map (slot_at l.partition) (drop l.k l.from)))

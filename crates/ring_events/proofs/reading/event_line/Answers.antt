@@ -1,9 +1,0 @@
-use Rattle.ring_events.proofs.NextLaws.{next-if}
-use Rattle.ring_events.proofs.ScriptLates.{said-at}
-use Rattle.ring_events.proofs.reading.event_line.Goals as goal
-
-pub returns-clause-next : goal.returns-clause-next
-returns-clause-next c = next-if c.args.ring.now c.args.script.now c.args.names.now c.args.fields.number c.args.fields.fields _ c.judge_line.ensures
-
-pub returns-clause-at : goal.returns-clause-at
-returns-clause-at c = rw c.judge_line.ensures (said-at c.args.ring.now c.args.script.now c.args.names.now c.args.fields.number c.args.fields.fields)

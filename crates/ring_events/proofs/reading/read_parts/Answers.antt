@@ -1,8 +1,0 @@
-use Rattle.ring_text.proofs.Lates.{late-part}
-use Rattle.ring_events.specs.Reading.{script_at}
-use Rattle.ring_events.proofs.ScriptLates.{script-events}
-use Rattle.ring_events.proofs.reading.read_parts.Goals as goal
-
-pub returns-in_err-script-clause-late : goal.returns-in_err-script-clause-late
-returns-in_err-script-clause-late c = late-part 2 c.from_residual-in_err-script.result c.in_err-script.field-0.0 c.args.lines.now c.read_events.new.lines (script_at c.args.ring.now c.args.writers.now c.args.lines.now) c.from_residual-in_err-script.ensures.1 c.in_err-script.ensures.late
-    (λ p. (rw c.in_ok-header.ensures.line at p.0, script-events c.args.ring.now c.args.writers.now c.args.lines.now c.header.new.lines c.in_ok-header.field-0 c.in_ok-header.ensures.read c.read_events.new.lines.line p.1))

@@ -1,5 +1,0 @@
-use Rattle.ring_maps.proofs.Keys.{Listing}
-use Rattle.ring_maps.proofs.key_map.KeyMap.keys.Given as goal
-
-abbrev pub invariant-keys : goal.invariant-keys
-invariant-keys l = Listing l.self l.key-iterator l.keys.items

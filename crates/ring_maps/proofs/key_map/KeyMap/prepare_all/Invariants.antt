@@ -1,5 +1,0 @@
-use Rattle.ring_maps.proofs.WholeMaps.{Preparing}
-use Rattle.ring_maps.proofs.key_map.KeyMap.prepare_all.Given as goal
-
-abbrev pub invariant-keys : goal.invariant-keys
-invariant-keys l = Preparing l.initial.self l.self l.other l.keys l.key-iterator

@@ -1,5 +1,0 @@
-use Rattle.ring_maps.proofs.WholeMaps.{Settling}
-use Rattle.ring_maps.proofs.key_map.KeyMap.settle_all.Given as goal
-
-abbrev pub invariant-keys : goal.invariant-keys
-invariant-keys l = Settling l.initial.self l.self l.fn.fresh l.key-iterator

@@ -1,5 +1,0 @@
-use Rattle.ring_maps.proofs.Keys.{Copying}
-use Rattle.ring_maps.proofs.key_map.KeyMap.try_copy.Given as goal
-
-abbrev pub invariant-keys : goal.invariant-keys
-invariant-keys l = Copying l.self l.copy l.key-iterator

@@ -1,5 +1,0 @@
-use Rattle.ring_parts.proofs.ClocksOrder.{tells}
-use Rattle.ring_parts.proofs.clocks.clocks_tell_succession.Goals as goal
-
-pub returns : goal.returns
-returns c = tells

@@ -1,8 +1,0 @@
-use Rattle.ring_parts.proofs.GetsFound.{read_shows, read_reply}
-use Rattle.ring_parts.proofs.gets.reads_are_merged.Goals as goal
-
-pub returns-clause-shows : goal.returns-clause-shows
-returns-clause-shows c = read_shows
-
-pub returns-clause-reply : goal.returns-clause-reply
-returns-clause-reply c = read_reply

@@ -1,5 +1,0 @@
-use Rattle.std.proofs.Common.{rules}
-use Rattle.ring_text.proofs.number.are_number.Goals as goal
-
-pub returns-else-first-ne48 : goal.returns-else-first-ne48
-returns-else-first-ne48 c = search rules

@@ -1,0 +1,129 @@
+-- Reading a script: the events of a text and the writers known behind it, or its first fault.
+use Rattle.std.specs.Prelude.{ℕ, ◌==◌, not, nat_lt, nat_le, List, [], ◌∷◌, ◌++◌, length, codes, Some, None, Result, Ok, Err}
+use Rattle.std.specs.Prelude.{if◌then◌else◌}
+use Rattle.std.specs.List.{list_all}
+use Rattle.std.specs.Str.{bytes_eq}
+use Rattle.ring_names.specs.Names.{place}
+use Rattle.ring_names.specs.declared.ids.NodeId.{NodeId}
+use Rattle.ring_names.specs.declared.refusal.Refusal.{Refusal}
+use Rattle.ring_names.specs.declared.refusal.Refusal.TheVariants.{BadLine, TooLarge}
+use Rattle.texts.specs.Name.{is_name}
+use Rattle.texts.specs.Numbers.{numbers_of, beyond, ascending}
+use Rattle.texts.specs.Judging.{Item, ◌⊗◌, field_at, number_at, need_at, map_ok, map_item, whole, unless}
+use Rattle.texts.specs.Left.{Left, ◌>>=◌, next_number, begins_with, first_line, one_line, then_part, map_part, whole_text}
+use Rattle.texts.specs.Frames.{header_at, end_line_at}
+use Rattle.ring_table.specs.Value.{RingValue}
+use Rattle.ring_table.specs.Reading.{declared_at}
+use Rattle.plan_check.specs.Words.{is_key}
+use Rattle.plan_check.specs.declared.event.Event.{Event}
+use Rattle.script_text.specs.Digits.{is_value_text, value_of}
+use Rattle.script_text.specs.Said.{event_of, names_after}
+use Rattle.script_text.specs.declared.said.SaidWriter.{SaidWriter}
+use Rattle.script_text.specs.declared.said.SaidWriter.TheVariants.{Known, New}
+use Rattle.script_text.specs.declared.said.SaidPut.{SaidPut}
+use Rattle.script_text.specs.declared.said.SaidEvent.{SaidEvent}
+use Rattle.script_text.specs.declared.said.SaidEvent.TheVariants as said
+
+-- a number of 32 bits
+abbrev pub count_at : ℕ → Item ℕ
+count_at k = number_at k 4294967295
+
+-- two of them
+unfoldable pub pair_at : ℕ → Item (ℕ × ℕ)
+pair_at k = count_at k ⊗ count_at k
+
+-- a new writer, where there is room
+abbrev pub new_writer : List (List ℕ) → ℕ → List ℕ → Result SaidWriter Refusal
+new_writer names k field = if nat_lt (length names) 1024 then Ok (New field) else Err (TooLarge k)
+
+-- a writer that was seen, or a new one for which there is room
+abbrev pub judge_writer : List (List ℕ) → ℕ → List ℕ → Result SaidWriter Refusal
+judge_writer names k field = if is_name field
+    then elim (place names field) [ Some n ↦ Ok (Known (record { 0 = n })) | None ↦ new_writer names k field ]
+    else Err (BadLine k)
+
+-- 1 to 64 bytes of `a-z0-9_.:-`
+abbrev pub judge_key : ℕ → List ℕ → Result (List ℕ) Refusal
+judge_key k field = if is_key field then Ok field else Err (BadLine k)
+
+-- the bytes that a text spells
+abbrev pub judge_value : ℕ → List ℕ → Result (List ℕ) Refusal
+judge_value k field = if is_value_text field then Ok (value_of field) else Err (BadLine k)
+
+-- the gets that a put knows
+abbrev pub judge_seen : ℕ → List ℕ → Result (List ℕ) Refusal
+judge_seen k xs = unless (
+    (length xs == 0, BadLine k)
+    ∷ (not (ascending xs), BadLine k)
+    ∷ (not (nat_le (length xs) 16), TooLarge k)
+    ∷ (not (list_all (λ x. nat_lt x 4294967296) xs), TooLarge k)
+    ∷ []) xs
+
+-- nothing, or `seen` and the numbers behind it
+unfoldable pub seen_at : ℕ → Item (List ℕ)
+seen_at k [] = (Ok [], [])
+seen_at k (word ∷ fields) =
+    if bytes_eq word (codes "seen") then (judge_seen k (numbers_of fields), beyond fields)
+    else (Err (BadLine k), fields)
+
+-- `<writer> <key> <value>`, and the gets
+unfoldable pub put_at : List (List ℕ) → ℕ → Item SaidPut
+put_at names k = map_item (λ x. record { writer = x.0.0.0; key = x.0.0.1; value = x.0.1; seen = x.1 })
+    (field_at k (judge_writer names k) ⊗ field_at k (judge_key k) ⊗ field_at k (judge_value k) ⊗ seen_at k)
+
+-- `<put> <i> <node>`
+unfoldable pub hint_at : RingValue → ℕ → Item ((ℕ × ℕ) × NodeId)
+hint_at ring k = pair_at k ⊗ declared_at ring k
+
+-- `<node> <p> <i>`
+unfoldable pub handoff_at : RingValue → ℕ → Item (NodeId × (ℕ × ℕ))
+handoff_at ring k = declared_at ring k ⊗ pair_at k
+
+-- what the event is, behind the writers seen
+unfoldable pub kind_at : RingValue → List (List ℕ) → ℕ → Item SaidEvent
+kind_at ring names k [] = (Err (BadLine k), [])
+kind_at ring names k (word ∷ fields) =
+    if bytes_eq word (codes "do") then map_item said.Do (count_at k) fields
+    else if bytes_eq word (codes "open") then map_item said.OpenCopy (count_at k) fields
+    else if bytes_eq word (codes "chunk") then map_item (λ x. said.ChunkCopy x.0 x.1) (pair_at k) fields
+    else if bytes_eq word (codes "close") then map_item said.CloseCopy (count_at k) fields
+    else if bytes_eq word (codes "abort") then map_item said.AbortCopy (count_at k) fields
+    else if bytes_eq word (codes "put") then map_item said.StartPut (put_at names k) fields
+    else if bytes_eq word (codes "write") then map_item (λ x. said.Write x.0 x.1) (pair_at k) fields
+    else if bytes_eq word (codes "hint") then map_item (λ x. said.Hint x.0.0 x.0.1 x.1) (hint_at ring k) fields
+    else if bytes_eq word (codes "ack") then map_item said.Ack (count_at k) fields
+    else if bytes_eq word (codes "get") then map_item said.StartGet (field_at k (judge_key k)) fields
+    else if bytes_eq word (codes "read") then map_item (λ x. said.Read x.0 x.1) (pair_at k) fields
+    else if bytes_eq word (codes "endget") then map_item said.EndGet (count_at k) fields
+    else if bytes_eq word (codes "down") then map_item said.Down (declared_at ring k) fields
+    else if bytes_eq word (codes "up") then map_item said.Up (declared_at ring k) fields
+    else if bytes_eq word (codes "handoff") then map_item (λ x. said.Handoff x.0 (record { partition = x.1.0; index = x.1.1 })) (handoff_at ring k) fields
+    else if bytes_eq word (codes "lose") then map_item said.Lose (declared_at ring k) fields
+    else (Err (BadLine k), fields)
+
+-- the next event of a script
+unfoldable pub said_at : RingValue → List Event → List (List ℕ) → ℕ → List (List ℕ) → Result SaidEvent Refusal
+said_at ring events names k fields = map_ok (λ x. x.1) (whole k (need_at k (nat_lt (length events) 1000000) ⊗ kind_at ring names k) fields)
+
+-- events behind those seen, and the writers, up to a line that begins with `end`
+abbrev pub events_from : RingValue → List Event → List (List ℕ) → ℕ → List (List (List ℕ)) → Result ((List Event × List (List ℕ)) × Left) Refusal
+events_from ring seen names k [] = Err (BadLine k)
+events_from ring seen names k (line ∷ more) = if begins_with (codes "end") (line ∷ more)
+    then Ok ((seen, names), record { line = k; lines = line ∷ more })
+    else (first_line k (line ∷ more) >>= λ _. said_at ring seen names k line
+    >>= λ x. events_from ring (seen ++ event_of names x ∷ []) (names_after names x) (next_number k) more)
+
+-- the events of a script, from the first on
+unfoldable pub events_at : RingValue → List (List ℕ) → Left → Result ((List Event × List (List ℕ)) × Left) Refusal
+events_at ring names s = events_from ring [] names s.line s.lines
+
+-- the lines of a script, one part behind the other
+unfoldable pub script_at : RingValue → List (List ℕ) → Left → Result ((List Event × List (List ℕ)) × Left) Refusal
+script_at ring names = map_part (λ (x : Unit {0} × ((List Event × List (List ℕ)) × Unit {0})). x.1.0)
+    (then_part (one_line (header_at (codes "script") (codes "1"))) (λ _.
+    then_part (events_at ring names) (λ _.
+    one_line end_line_at)))
+
+-- a whole text
+abbrev pub script_reading : RingValue → List (List ℕ) → List ℕ → Result (List Event × List (List ℕ)) Refusal
+script_reading ring names text = whole_text (script_at ring names) text

@@ -1,0 +1,69 @@
+//! What an event is, by its line.
+
+ghost use Rattle.std.specs.Prelude.{◌≡◌};
+ghost use Rattle.texts.specs.Judging.{Does};
+ghost use Rattle.script_text.specs.Reading.{kind_at};
+
+use crate::items::{handoff, hint, key, pair, put};
+use crate::said::SaidEvent;
+use ring_names::{Names, Refusal, Slot};
+use ring_table::{Ring, node_field};
+use texts::Fields;
+
+/// What the event is, behind the writers seen. Takes no memory.
+#[tactic(auto, unfolding(crate::specs::Reading::kind_at))]
+pub fn kind<'a>(
+    ring: &Ring,
+    names: &Names,
+    fields: &mut Fields<'a>,
+) -> Result<SaidEvent<'a>, Refusal>
+    ensures { Does (kind_at ring.now names.now) fields.old result fields.new }
+{
+    let Some(word) = fields.next() else {
+        return Err(Refusal::BadLine(fields.line()));
+    };
+    if word == b"do".as_slice() {
+        fields.number(u32::MAX).map(|step| SaidEvent::Do(step))
+    } else if word == b"open".as_slice() {
+        fields
+            .number(u32::MAX)
+            .map(|step| SaidEvent::OpenCopy(step))
+    } else if word == b"chunk".as_slice() {
+        pair(fields).map(|(step, chunk)| SaidEvent::ChunkCopy(step, chunk))
+    } else if word == b"close".as_slice() {
+        fields
+            .number(u32::MAX)
+            .map(|step| SaidEvent::CloseCopy(step))
+    } else if word == b"abort".as_slice() {
+        fields
+            .number(u32::MAX)
+            .map(|step| SaidEvent::AbortCopy(step))
+    } else if word == b"put".as_slice() {
+        let put = put(names, fields)?;
+        Ok(SaidEvent::StartPut(put))
+    } else if word == b"write".as_slice() {
+        pair(fields).map(|(put, index)| SaidEvent::Write(put, index))
+    } else if word == b"hint".as_slice() {
+        hint(ring, fields).map(|((put, index), node)| SaidEvent::Hint(put, index, node))
+    } else if word == b"ack".as_slice() {
+        fields.number(u32::MAX).map(|put| SaidEvent::Ack(put))
+    } else if word == b"get".as_slice() {
+        key(fields).map(|key| SaidEvent::StartGet(key))
+    } else if word == b"read".as_slice() {
+        pair(fields).map(|(get, index)| SaidEvent::Read(get, index))
+    } else if word == b"endget".as_slice() {
+        fields.number(u32::MAX).map(|get| SaidEvent::EndGet(get))
+    } else if word == b"down".as_slice() {
+        node_field(ring, None, fields).map(|node| SaidEvent::Down(node))
+    } else if word == b"up".as_slice() {
+        node_field(ring, None, fields).map(|node| SaidEvent::Up(node))
+    } else if word == b"handoff".as_slice() {
+        handoff(ring, fields).map(|(node, (partition, index))| {
+            SaidEvent::Handoff(node, Slot { partition, index })
+        })
+    } else if word == b"lose".as_slice() {
+        node_field(ring, None, fields).map(|node| SaidEvent::Lose(node))
+    } else {
+        Err(Refusal::BadLine(fields.line()))
+    }
+}

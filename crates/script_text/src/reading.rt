@@ -1,0 +1,166 @@
+//! Reading a script.
+
+ghost use Rattle.std.specs.Prelude.{◌≡◌, ◌<◌, ℕ, List, [], length, Ok, IfOk, IfErr, OnOk};
+ghost use Rattle.ring_names.specs.declared.refusal.Refusal.TheVariants.{OutOfMemory};
+ghost use Rattle.texts.specs.Left.{Reads};
+ghost use Rattle.texts.specs.Late.{IsAt, Late, NoFaultBefore};
+ghost use Rattle.texts.specs.Judging.{Gives, map_ok};
+ghost use Rattle.script_text.specs.Said.{IsNext};
+ghost use Rattle.plan_check.specs.declared.event.Event.{Event};
+ghost use Rattle.script_text.specs.Reading.{said_at, events_from, events_at, script_at, script_reading};
+ghost use Rattle.script_text.specs.Spelling.{script_text};
+ghost use Rattle.script_text.specs.Valid.{AreWriters, IsScriptOf};
+
+use crate::kind::kind;
+use crate::said::SaidEvent;
+use crate::script::Script;
+use crate::taken::add;
+use ring_names::{Names, Refusal};
+use ring_table::Ring;
+use std::alloc::Global;
+use texts::{Fields, Lines, both, end, finish, header, need};
+
+// What an event's line says, behind the events of the script and the writers known. Takes no memory.
+#[tactic(auto, unfolding(crate::specs::Reading::said_at))]
+fn judge_line<'a>(
+    ring: &Ring,
+    names: &Names,
+    script: &Script,
+    mut fields: Fields<'a>,
+) -> Result<SaidEvent<'a>, Refusal>
+    ensures { result ≡ said_at ring.now script.now names.now fields.entry.number fields.entry.fields }
+{
+    let room = need(script.len() < 1000000, &fields);
+    let said = kind(ring, names, &mut fields);
+    let (_, said) = finish(both(room, said), fields)?;
+    Ok(said)
+}
+
+// The same, and that it can be the next event.
+fn event_line<'a>(
+    ring: &Ring,
+    names: &Names,
+    script: &Script,
+    fields: Fields<'a>,
+) -> Result<SaidEvent<'a>, Refusal>
+    ensures value { result ≡ said_at ring.now script.now names.now fields.entry.number fields.entry.fields }
+    ensures next { IfOk result (λ x. IsNext script.now names.now x) }
+    ensures at { IfErr result (λ e. IsAt fields.entry.number e) }
+{
+    judge_line(ring, names, script, fields)
+}
+
+// Reads events behind those of the script, up to a line that begins with `end`.
+fn read_into(
+    alloc: Global,
+    ring: &Ring,
+    writers: &mut Names,
+    seen: &mut Script,
+    lines: &mut Lines,
+) -> Result<(), Refusal>
+    requires none { seen.old ≡ [] }
+    ensures read { Reads (map_ok (λ _. (seen.new, writers.new)) result) lines.new (events_from ring.now seen.old writers.old lines.old.line lines.old.lines) }
+    ensures late { Late 1 result lines.old lines.new (events_from ring.now seen.old writers.old lines.old.line lines.old.lines) }
+{
+    'events: while !lines.begins(b"end") {
+        let fields = lines.next()?;
+        let said = event_line(ring, writers, seen, fields)?;
+        add(alloc, writers, seen, said)?;
+    }
+    Ok(())
+}
+
+// Reads the events of a script.
+#[tactic(auto, unfolding(crate::specs::Reading::events_at))]
+fn read_events(
+    alloc: Global,
+    ring: &Ring,
+    writers: &mut Names,
+    lines: &mut Lines,
+) -> Result<Script, Refusal>
+    ensures read { Reads (map_ok (λ s. (s, writers.new)) result) lines.new (events_at ring.now writers.old lines.old) }
+    ensures late { Late 1 result lines.old lines.new (events_at ring.now writers.old lines.old) }
+{
+    let mut script = Script::new(alloc);
+    read_into(alloc, ring, writers, &mut script, lines)?;
+    Ok(script)
+}
+
+// Reads the lines of a script.
+#[tactic(auto, unfolding(crate::specs::Reading::script_at))]
+fn read_parts(
+    alloc: Global,
+    ring: &Ring,
+    writers: &mut Names,
+    lines: &mut Lines,
+) -> Result<Script, Refusal>
+    ensures read { Reads (map_ok (λ s. (s, writers.new)) result) lines.new (script_at ring.now writers.old lines.old) }
+    ensures late { Late 2 result lines.old lines.new (script_at ring.now writers.old lines.old) }
+{
+    header(lines, b"script", b"1")?;
+    let script = read_events(alloc, ring, writers, lines)?;
+    end(lines)?;
+    Ok(script)
+}
+
+/// Reads the lines of a script, up to its line `end`, and leaves what follows them. New writers are added behind those that were seen.
+/// Refused as `read_script` is; then some of the new writers may have been added.
+pub fn read_script_section(
+    alloc: Global,
+    ring: &Ring,
+    writers: &mut Names,
+    lines: &mut Lines,
+) -> Result<Script, Refusal>
+    ensures read { Reads (map_ok (λ s. (s, writers.new)) result) lines.new (script_at ring.now writers.old lines.old) }
+    // What is read is a script over the ring, if the writers that were seen are at most 1,024 names.
+    ensures found { IfOk result (λ s. AreWriters writers.old → IsScriptOf ring.now writers.old writers.new s) }
+    // Memory may run out behind its first two lines, if these have no fault, and later only behind lines that have none.
+    ensures late { Late 2 result lines.old lines.new (script_at ring.now writers.old lines.old) }
+{
+    // A ring is valid, which the prover knows once a number of it is read.
+    let slots = ring.n();
+    prove!(slots <= 7);
+    read_parts(alloc, ring, writers, lines)
+}
+
+// Reads a script from its whole text.
+fn read_whole(
+    alloc: Global,
+    ring: &Ring,
+    writers: &mut Names,
+    text: &[u8],
+) -> Result<Script, Refusal>
+    ensures exact { Gives (map_ok (λ s. (s, writers.new)) result) (script_reading ring.now writers.old text.now) }
+    ensures late { IfErr result (λ e. e ≡ OutOfMemory → NoFaultBefore 3 (script_reading ring.now writers.old text.now)) }
+{
+    let mut lines = Lines::of(text);
+    let script = read_script_section(alloc, ring, writers, &mut lines)?;
+    lines.ended()?;
+    Ok(script)
+}
+
+/// Reads a script from its whole text. New writers are numbered in order of first sight, behind those that were seen. The first line
+/// at fault decides, and in it the fault of the least number: 1 `BadLine`, 2 `TooLarge`, 3 `UnknownNode`. `OutOfMemory` comes only where
+/// memory ran out, behind lines that have no fault. Refused, some of the new writers may have been added.
+pub fn read_script(
+    alloc: Global,
+    ring: &Ring,
+    writers: &mut Names,
+    text: &[u8],
+) -> Result<Script, Refusal>
+    // What is read was spelled so.
+    ensures found { IfOk result (λ s. AreWriters writers.old
+        → IsScriptOf ring.now writers.old writers.new s × (text.now ≡ script_text ring.now writers.new s)) }
+    // What is spelled so is read, unless memory runs out.
+    ensures only { (s : List Event) (names : List (List ℕ)) → IsScriptOf ring.now writers.old names s → text.now ≡ script_text ring.now names s
+        → Gives {A = List Event × List (List ℕ)} (map_ok (λ s. (s, writers.new)) result) (Ok (s, names)) }
+    // Which fault it is.
+    ensures exact { Gives (map_ok (λ s. (s, writers.new)) result) (script_reading ring.now writers.old text.now) }
+    // Memory may run out only if the first two lines have no fault.
+    ensures late { IfErr result (λ e. e ≡ OutOfMemory → NoFaultBefore 3 (script_reading ring.now writers.old text.now)) }
+{
+    // A ring is valid, which the prover knows once a number of it is read.
+    let slots = ring.n();
+    prove!(slots <= 7);
+    read_whole(alloc, ring, writers, text)
+}

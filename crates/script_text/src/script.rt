@@ -1,0 +1,77 @@
+//! Scripts as values.
+
+ghost use Rattle.std.specs.Prelude.{◌≡◌, ◌<◌, ◌≤◌, ◌++◌, ◌∷◌, [], length, OnOk, OnErr, IfErr};
+ghost use Rattle.std.specs.List.{list_all};
+ghost use Rattle.ring_names.specs.declared.refusal.Refusal.TheVariants.{OutOfMemory};
+ghost use Rattle.script_text.specs.Client.{is_client_event};
+
+use crate::client::is_client_event;
+use plan_check::Event;
+use ring_names::Refusal;
+use std::alloc::Global;
+use std::marker::Model;
+
+/// Events in the order in which they are to happen, at most 1,000,000.
+#[derive(Debug, Drop)]
+pub struct Script {
+    events: Vec<Event>,
+}
+
+impl Model for Script {
+    ghost use Rattle.std.specs.Prelude.{List, length, ◌≤◌};
+    ghost use Rattle.plan_check.specs.declared.event.Event.{Event};
+
+    ghost Value = { List Event };
+
+    ghost view = { λ a. a.events.items };
+
+    ghost invariant = { λ a. length a.events.items ≤ 1000000 };
+}
+
+impl Script {
+    /// A script of no events.
+    pub fn new(alloc: Global) -> Script
+        ensures { result ≡ [] }
+    {
+        Script {
+            events: Vec::new(alloc),
+        }
+    }
+
+    /// The number of events, at most 1,000,000.
+    pub fn len(&self) -> usize
+        ensures { result ≡ length self.now }
+    {
+        self.events.len()
+    }
+
+    /// The events, the first one first.
+    pub fn events(&self) -> &[Event]
+        ensures value { result.now ≡ self.now }
+        ensures few { length self.now ≤ 1000000 }
+    {
+        self.events.as_slice()
+    }
+
+    /// Adds an event behind the others. Refused, the script is as before, and only for want of memory.
+    pub fn push(&mut self, event: Event) -> Result<(), Refusal>
+        requires { length self.old < 1000000 }
+        ensures ok { OnOk result (self.new ≡ self.old ++ event ∷ []) }
+        ensures err { OnErr result (self.new ≡ self.old) }
+        ensures memory { IfErr result (λ e. e ≡ OutOfMemory) }
+    {
+        self.events.reserve(1)?;
+        self.events.push_reserved(event);
+        Ok(())
+    }
+
+    /// Whether each event is one that a client can bring about: a put or a get that starts, a node that goes down or comes up.
+    pub fn is_client(&self) -> bool
+        ensures { result ≡ list_all is_client_event self.now }
+    {
+        self.events
+            .as_slice()
+            .iter()
+            .all(|event| is_client_event(event))
+    }
+}

@@ -1,0 +1,90 @@
+//! Keeping the event of a line that was judged.
+
+ghost use Rattle.std.specs.Prelude.{◌≡◌, ◌<◌, ◌+◌, ◌++◌, ◌∷◌, [], length, IfOk, IfErr, OnOk};
+ghost use Rattle.ring_names.specs.declared.refusal.Refusal.TheVariants.{OutOfMemory};
+ghost use Rattle.script_text.specs.declared.said.SaidEvent.TheVariants.{StartPut};
+ghost use Rattle.script_text.specs.Said.{writer_of, with_writer, FitsWriter, event_of, names_after, Fits, IsNext};
+
+use crate::said::{SaidEvent, SaidPut, SaidWriter};
+use crate::script::Script;
+use plan_check::Event;
+use ring_names::{Names, Refusal, WriterId};
+use std::alloc::Global;
+
+// The number of a writer, who is a new one or not.
+fn to_writer(names: &mut Names, writer: SaidWriter) -> Result<WriterId, Refusal>
+    requires { FitsWriter names.old writer }
+    ensures ok { IfOk result (λ number. number ≡ writer_of names.old writer.entry) }
+    ensures names { OnOk result (names.new ≡ with_writer names.old writer.entry) }
+    ensures memory { IfErr result (λ e. e ≡ OutOfMemory) }
+{
+    match writer {
+        SaidWriter::Known(number) => Ok(number),
+        SaidWriter::New(name) => {
+            let number = names.len();
+            names.add(name.bytes)?;
+            Ok(WriterId(number))
+        }
+    }
+}
+
+// The put, in memory of its own.
+fn to_put(alloc: Global, names: &mut Names, put: SaidPut) -> Result<Event, Refusal>
+    requires { FitsWriter names.old put.writer }
+    ensures ok { IfOk result (λ event. event ≡ event_of names.old (StartPut put.entry)) }
+    ensures names { OnOk result (names.new ≡ with_writer names.old put.entry.writer) }
+    ensures memory { IfErr result (λ e. e ≡ OutOfMemory) }
+{
+    let key = put.key.to_key(alloc)?;
+    let value = put.value.to_value(alloc)?;
+    let seen = put.seen.to_seen(alloc)?;
+    let writer = to_writer(names, put.writer)?;
+    Ok(Event::StartPut(writer, key, value, seen))
+}
+
+// The event, in memory of its own.
+fn to_event(alloc: Global, names: &mut Names, said: SaidEvent) -> Result<Event, Refusal>
+    requires { Fits names.old said }
+    ensures ok { IfOk result (λ event. event ≡ event_of names.old said.entry) }
+    ensures names { OnOk result (names.new ≡ names_after names.old said.entry) }
+    ensures memory { IfErr result (λ e. e ≡ OutOfMemory) }
+{
+    match said {
+        SaidEvent::Do(step) => Ok(Event::Do(step)),
+        SaidEvent::OpenCopy(step) => Ok(Event::OpenCopy(step)),
+        SaidEvent::ChunkCopy(step, chunk) => Ok(Event::ChunkCopy(step, chunk)),
+        SaidEvent::CloseCopy(step) => Ok(Event::CloseCopy(step)),
+        SaidEvent::AbortCopy(step) => Ok(Event::AbortCopy(step)),
+        SaidEvent::StartPut(put) => to_put(alloc, names, put),
+        SaidEvent::Write(put, index) => Ok(Event::Write(put, index)),
+        SaidEvent::Hint(put, index, node) => Ok(Event::Hint(put, index, node)),
+        SaidEvent::Ack(put) => Ok(Event::Ack(put)),
+        SaidEvent::StartGet(key) => {
+            let key = key.to_key(alloc)?;
+            Ok(Event::StartGet(key))
+        }
+        SaidEvent::Read(get, index) => Ok(Event::Read(get, index)),
+        SaidEvent::EndGet(get) => Ok(Event::EndGet(get)),
+        SaidEvent::Down(node) => Ok(Event::Down(node)),
+        SaidEvent::Up(node) => Ok(Event::Up(node)),
+        SaidEvent::Handoff(node, slot) => Ok(Event::Handoff(node, slot)),
+        SaidEvent::Lose(node) => Ok(Event::Lose(node)),
+    }
+}
+
+/// Adds the event of a line that was judged behind the events of the script and the writers known.
+pub fn add(
+    alloc: Global,
+    names: &mut Names,
+    script: &mut Script,
+    said: SaidEvent,
+) -> Result<(), Refusal>
+    requires { IsNext script.old names.old said }
+    ensures ok { OnOk result (script.new ≡ script.old ++ event_of names.old said.entry ∷ []) }
+    ensures names { OnOk result (names.new ≡ names_after names.old said.entry) }
+    ensures grows { OnOk result (length script.new ≡ length script.old + 1) }
+    ensures memory { IfErr result (λ e. e ≡ OutOfMemory) }
+{
+    let event = to_event(alloc, names, said)?;
+    script.push(event)
+}

@@ -1,0 +1,12 @@
+use Rattle.std.proofs.Common.{◌∙◌, sym, refl}
+use Rattle.store_events.proofs.EventTests.{down_tested}
+use Rattle.store_events.proofs.nodes.down_refusal.Goals as goal
+
+pub returns-then-not-is_member : goal.returns-then-not-is_member
+returns-then-not-is_member c = down_tested c.args.parts.now c.args.node _ (let e = sym c.is_member.ensures ∙ c.if-not-is_member.true in rw e refl)
+
+pub returns-then-not-is_up : goal.returns-then-not-is_up
+returns-then-not-is_up c = down_tested c.args.parts.now c.args.node _ (let e = sym c.is_member.ensures ∙ c.if-not-is_member.false in let f = sym c.is_up.ensures ∙ c.if-not-is_up.true in rw (e, f) refl)
+
+pub returns : goal.returns
+returns c = down_tested c.args.parts.now c.args.node _ (let e = sym c.is_member.ensures ∙ c.if-not-is_member.false in let f = sym c.is_up.ensures ∙ c.if-not-is_up.false in rw (e, f) refl)

@@ -1,0 +1,27 @@
+-- How the clock of a put is made of those of what it follows.
+use Rattle.std.specs.Prelude.{◌≡◌, ◌⊎◌, ℕ, true, List, Option}
+use Rattle.ring_names.specs.Lists.{has}
+use Rattle.ring_clock.specs.declared.entry.Entry.{Entry}
+use Rattle.ring_clock.specs.Built.{Bumps}
+use Rattle.ring_clock.specs.Clock.{counter, IsAtMost}
+use Rattle.ring_versions.specs.declared.version.Version.{Version}
+use Rattle.ring_versions.specs.Versions.{IsIn}
+use Rattle.store_tells.specs.Found.{IsJoinOfFound}
+
+-- new is the least clock above old and these: each counter is the greatest of theirs
+pub record RaisesTo (old : List Entry) (These : List Entry → Type 0) (new : List Entry) : Type 0 where
+  pub before : IsAtMost old new
+  pub above : (c : List Entry) → These c → IsAtMost c new
+  pub from : (w : ℕ) → (counter new w ≡ counter old w) ⊎ ((c : List Entry) × These c × (counter c w ≡ counter new w))
+
+-- it is the clock of one of these versions
+abbrev pub IsClockIn : List Version → List Entry → Type 0
+IsClockIn versions c = (x : Version) × IsIn x versions × (x.clock ≡ c)
+
+-- it is the clock of a version that one of these gets found
+abbrev pub IsFoundClock : (ℕ → List Version) → List ℕ → List Entry → Type 0
+IsFoundClock found seen c = (g : ℕ) × (x : Version) × (has g seen ≡ true) × IsIn x (found g) × (x.clock ≡ c)
+
+-- c is the join of the clocks of the versions that these gets found and of the writer's last put, with one more for the writer
+abbrev pub IsNextOfFound : (ℕ → List Entry) → (ℕ → List Version) → List ℕ → Option ℕ → ℕ → List Entry → Type 0
+IsNextOfFound clock found seen last writer c = (d : List Entry) × IsJoinOfFound clock found seen last d × Bumps writer d c

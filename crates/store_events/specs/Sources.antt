@@ -1,0 +1,38 @@
+-- What copies read of a chunk.
+use Rattle.std.specs.Prelude.{◌≡◌, ℕ, Bool, ◌&&◌, ◌||◌, List, is_some}
+use Rattle.std.specs.List.{list_all}
+use Rattle.ring_clock.specs.declared.entry.Entry.{Entry}
+use Rattle.ring_versions.specs.declared.version.Version.{Version}
+use Rattle.store_maps.specs.Chunks.{chunk_of}
+use Rattle.plan_text.specs.declared.step.Source.{Source}
+use Rattle.plan_text.specs.declared.step.Source.TheVariants.{Owner, Slots}
+use Rattle.ring_names.specs.declared.ids.Slot.{Slot}
+use Rattle.plan_check.specs.World.{World, is_of_key, slot_at}
+use Rattle.store_tells.specs.Shows.{Shows, value_of}
+use Rattle.store_tells.specs.Puts.{clock_at}
+use Rattle.store_tables.specs.declared.slots.SlotNow.{SlotNow}
+use Rattle.store_tables.specs.Slots.{slot_now}
+use Rattle.store_tells.specs.Parts.{ring_of, Meets}
+use Rattle.store_tells.specs.declared.parts.Parts.{Parts}
+
+-- for each key of the chunk, among q partitions, the versions show those puts of the key that pass the test
+abbrev pub ShowsChunk : ℕ → World → (ℕ → List Entry) → ℕ → (List ℕ → List Version) → (ℕ → Bool) → Type 0
+ShowsChunk q w clock c held test = (k : List ℕ) → chunk_of q k ≡ c → Shows clock (value_of w) (held k) (λ v. test v && is_of_key w k v)
+
+-- in whatever world the store is: whatever puts the old versions show, the new ones show these and those that are read there
+abbrev pub Gathers : Parts → ℕ → (List ℕ → List Version) → (List ℕ → List Version) → (World → ℕ → Bool) → Type 0
+Gathers a c old new read = (w : World) → Meets a w → (test : ℕ → Bool)
+    → ShowsChunk (ring_of a).q w (clock_at a.puts) c old test → ShowsChunk (ring_of a).q w (clock_at a.puts) c new (λ v. test v || read w v)
+
+-- whether the slot is kept
+abbrev pub is_kept : List (List SlotNow) → Slot → Bool
+is_kept rows slot = is_some (slot_now rows slot)
+
+-- whether each of these slots of a partition is
+abbrev pub are_kept : List (List SlotNow) → ℕ → List ℕ → Bool
+are_kept rows p from = list_all (λ i. is_kept rows (slot_at p i)) from
+
+-- whether each slot that a copy of the slot reads is
+abbrev pub reads_kept : List (List SlotNow) → Slot → Source → Bool
+reads_kept rows slot Owner = is_kept rows slot
+reads_kept rows slot (Slots from) = are_kept rows slot.partition from

@@ -1,0 +1,78 @@
+//! Hints.
+
+ghost use Rattle.std.specs.Prelude.{◌≡◌, IfOk, IfErr, OnErr};
+ghost use Rattle.ring_names.specs.declared.refusal.Refusal.TheVariants.{OutOfMemory};
+ghost use Rattle.plan_check.specs.declared.event.Event.TheVariants.{Hint};
+ghost use Rattle.store_tells.specs.GuardsKept.{serves_in_kept};
+ghost use Rattle.store_tells.specs.Parts.{ring_of, IsSound, Follows, Tests, Passes, Answers, Stays};
+
+use crate::served::is_served;
+use crate::targets::put_slot;
+use plan_check::Reply;
+use ring_hints::KeptFor;
+use ring_names::{NodeId, Refusal, Slot};
+use store_tells::Parts;
+
+// Whether the node owns or mirrors a slot of the partition.
+fn serves_in(parts: &Parts, partition: u32, node: NodeId) -> bool
+    ensures { result ≡ serves_in_kept (ring_of parts.now) parts.now.slots partition node.0 }
+{
+    'indexes: for index in 0..parts.approved.ring().n() {
+        if is_served(&parts.slots, Slot { partition, index }, node) {
+            return true;
+        }
+    }
+    false
+}
+
+/// Why a hint is refused now, if it is: there is no such put or no slot of that index, or else the node is no member, or is down, or owns
+/// or mirrors a slot of the put's partition, or keeps hints for another slot of it. Takes no memory.
+pub fn hint_refusal(parts: &Parts, put: u32, index: u32, node: NodeId) -> Option<Refusal>
+    requires { IsSound parts.now }
+    ensures { Tests parts.now (Hint put index node) result }
+{
+    let Some(slot) = put_slot(parts, put, index) else {
+        return Some(Refusal::UnknownNumber);
+    };
+    if !parts.nodes.is_member(node) {
+        return Some(Refusal::NotMember(node.0));
+    }
+    if !parts.nodes.is_up(node) {
+        return Some(Refusal::NodeDown(node.0));
+    }
+    if serves_in(parts, slot.partition, node) {
+        return Some(Refusal::KeeperInPartition);
+    }
+    if parts.hints.keeps_other(node, slot) {
+        return Some(Refusal::KeeperTaken);
+    }
+    None
+}
+
+/// Leaves a put with the node as a hint for the slot of that index: the node keeps it, and the put has a ticket of the slot's generation,
+/// which is the reply. Only a growth can be refused, and then nothing has changed. Costs one look-up of the key.
+pub fn hint(parts: &mut Parts, put: u32, index: u32, node: NodeId) -> Result<Reply, Refusal>
+    requires sound { IsSound parts.old }
+    requires passes { Passes parts.old (Hint put index node) }
+    ensures ok { IfOk result (λ r. Answers parts.old (Hint put index node) r parts.new) }
+    ensures same { OnErr result (Stays parts.old parts.new) }
+    ensures memory { IfErr result (λ e. e ≡ OutOfMemory) }
+    ensures follows { Follows parts.old parts.new }
+{
+    let Some(now) = parts.puts.get(put) else {
+        unreachable!()
+    };
+    let place = parts.keys.place(now.key);
+    let slot = Slot {
+        partition: place.partition,
+        index,
+    };
+    let Some(served) = parts.slots.at(slot) else {
+        unreachable!()
+    };
+    let key = parts.keys.key(now.key);
+    let pair = KeptFor { keeper: node, slot };
+    parts.hints.add_set(pair, place.chunk, key, &now.version)?;
+    parts.puts.set_ticket(put, index, served.generation);
+    Ok(Reply::Ticket(slot, served.generation))
+}

@@ -1,0 +1,55 @@
+//! What kind of step a number is, and whether it is ready.
+
+ghost use Rattle.std.specs.Prelude.{◌≡◌, ◌<◌, length, is_some};
+ghost use Rattle.std.specs.List.{list_all};
+ghost use Rattle.plan_text.specs.Steps.{copy_of};
+ghost use Rattle.plan_check.specs.Guards.{has_copy, has_other};
+ghost use Rattle.store_tables.specs.Steps.{is_done_at};
+ghost use Rattle.store_tells.specs.GuardsKept.{is_ready_kept};
+ghost use Rattle.store_tells.specs.Parts.{plan_of};
+
+use plan_text::Step;
+use store_tables::Steps;
+use store_tells::Parts;
+
+// Whether the step is a copy.
+fn is_copy(step: &Step) -> bool
+    ensures { result ≡ is_some (copy_of step.now) }
+{
+    match step {
+        Step::Copy(_, _) => true,
+        Step::Join(_) | Step::Mirror(_, _) | Step::Switch(_) | Step::Drop(_, _) | Step::Retire(_) =>
+            false,
+    }
+}
+
+// Whether there is a step of that number, and it is a copy.
+pub(crate) fn has_copy(parts: &Parts, step: u32) -> bool
+    ensures { result ≡ has_copy (plan_of parts.now) step }
+{
+    let plan = parts.approved.plan();
+    step < plan.len() && is_copy(plan.step(step))
+}
+
+// Whether there is a step of that number, and it is no copy.
+pub(crate) fn has_other(parts: &Parts, step: u32) -> bool
+    ensures { result ≡ has_other (plan_of parts.now) step }
+{
+    let plan = parts.approved.plan();
+    step < plan.len() && !is_copy(plan.step(step))
+}
+
+// Whether these steps are all finished.
+fn are_done(steps: &Steps, numbers: &[u32]) -> bool
+    ensures { result ≡ list_all (is_done_at steps.now) numbers.now }
+{
+    numbers.iter().all(|number| steps.is_done(*number))
+}
+
+/// Whether all steps for which the step waits are finished.
+pub fn is_ready(parts: &Parts, step: u32) -> bool
+    requires { step < length (plan_of parts.now) }
+    ensures { result ≡ is_ready_kept (plan_of parts.now) parts.now.steps step }
+{
+    are_done(&parts.steps, parts.approved.plan().deps(step))
+}

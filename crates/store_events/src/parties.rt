@@ -1,0 +1,76 @@
+//! The nodes of a copy, and which of them are down.
+
+ghost use Rattle.std.specs.Prelude.{◌≡◌, true, false, map};
+ghost use Rattle.plan_stage.specs.Clauses.{first_failing};
+ghost use Rattle.plan_check.specs.Guards.{has_copy, parties_up};
+ghost use Rattle.plan_check.specs.Reached.{Ready};
+ghost use Rattle.plan_check.specs.World.{World, slot_at};
+ghost use Rattle.store_tables.specs.Nodes.{is_up_at};
+ghost use Rattle.store_tells.specs.Parts.{Meets, IsSound, ring_of, plan_of};
+ghost use Rattle.store_events.specs.Parties.{owner_kept, party_kept, with_down, least_down};
+
+use plan_text::{Source, Step};
+use ring_names::{NodeId, Refusal, Slot};
+use store_tells::Parts;
+
+/// Why the nodes of a copy that is ready and not finished cannot take part in it now, if they cannot: `NodeDown` with the least of them that
+/// is down. They are the slot's mirror and the owners of the slots that the copy reads; takes no memory.
+pub(crate) fn party_refusal(parts: &Parts, step: u32) -> Option<Refusal>
+    requires sound { IsSound parts.now }
+    requires ready { (w : World) → Meets parts.now w
+        → (has_copy (plan_of parts.now) step ≡ true) × Ready (plan_of parts.now) w.done step × (w.done step ≡ false) }
+    ensures { (w : World) → Meets parts.now w → result ≡ first_failing (parties_up (ring_of parts.now) (plan_of parts.now) w step) }
+{
+    let Step::Copy(slot, source) = parts.approved.plan().step(step) else {
+        unreachable!();
+    };
+    match least_party(parts, *slot, source) {
+        Some(node) => Some(Refusal::NodeDown(node.0)),
+        None => None,
+    }
+}
+
+// The least node that is down among the slot's mirror and the owners of the slots that a copy of it reads.
+fn least_party(parts: &Parts, slot: Slot, source: &Source) -> Option<NodeId>
+    ensures { result ≡ least_down (is_up_at parts.now.nodes) (party_kept parts.now.slots slot source.now) }
+{
+    let owner = match source {
+        Source::Owner => with_down(parts, parts.slots.owner(slot), None),
+        Source::Slots(from) => least_owner(parts, slot.partition, from.as_slice()),
+    };
+    match parts.slots.at(slot) {
+        Some(now) => with_down(parts, now.mirror, owner),
+        None => owner,
+    }
+}
+
+// The least node that is down among the owners of these slots of a partition.
+fn least_owner(parts: &Parts, partition: u32, from: &[u32]) -> Option<NodeId>
+    ensures { result ≡ least_down (is_up_at parts.now.nodes) (map (owner_kept parts.now.slots) (map (slot_at partition) from.now)) }
+{
+    let mut least = None;
+    for k in (0..from.len()).rev() {
+        let slot = Slot {
+            partition,
+            index: from[k],
+        };
+        least = with_down(parts, parts.slots.owner(slot), least);
+    }
+    least
+}
+
+// The lesser of a node, if it is there and down, and one that was found so.
+fn with_down(parts: &Parts, node: Option<NodeId>, least: Option<NodeId>) -> Option<NodeId>
+    ensures { result ≡ with_down (is_up_at parts.now.nodes) node least }
+{
+    let Some(other) = node else {
+        return least;
+    };
+    if parts.nodes.is_up(other) {
+        return least;
+    }
+    match least {
+        Some(first) if first.0 < other.0 => least,
+        _ => node,
+    }
+}

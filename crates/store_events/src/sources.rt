@@ -1,0 +1,156 @@
+//! What a copy reads of a chunk.
+
+ghost use Rattle.std.specs.Prelude.{◌≡◌, ◌<◌, ℕ, true, List, IfOk, IfErr, OnOk};
+ghost use Rattle.std.specs.List.{list_any};
+ghost use Rattle.ring_names.specs.declared.refusal.Refusal.TheVariants.{OutOfMemory};
+ghost use Rattle.store_maps.specs.Chunks.{chunk_of};
+ghost use Rattle.store_maps.specs.Held.{held, has_place};
+ghost use Rattle.store_maps.specs.Merges.{MergesAll};
+ghost use Rattle.store_maps.specs.Slots.{space_of, held_for};
+ghost use Rattle.store_tells.specs.Puts.{clock_at};
+ghost use Rattle.plan_check.specs.Effects.{source_has};
+ghost use Rattle.plan_check.specs.Versions.{some_hinted, slot_has};
+ghost use Rattle.plan_check.specs.World.{World, slot_at, stage_now};
+ghost use Rattle.store_tells.specs.Parts.{ring_of, plan_of, Meets, IsSized};
+ghost use Rattle.store_events.specs.Sources.{ShowsChunk, Gathers, are_kept, is_kept, reads_kept};
+
+use plan_text::Source;
+use ring_hints::KeptFor;
+use ring_names::{NodeId, Refusal, Slot};
+use std::collections::BTreeSet;
+use store_maps::{KeyMap, SlotMap};
+use store_tells::Parts;
+
+// A map of keys of the chunk is merged into what was read.
+fn add(read: &mut SlotMap, chunk: u32, map: &KeyMap) -> Result<(), Refusal>
+    requires chunk { chunk < 16 }
+    requires lies { (k : List ℕ) → has_place map.now k ≡ true → chunk_of (space_of read.old) k ≡ chunk }
+    ensures space { space_of read.new ≡ space_of read.old }
+    ensures ok { OnOk result (MergesAll (held_for read.old) (held map.now) (held_for read.new)) }
+    ensures memory { IfErr result (λ e. e ≡ OutOfMemory) }
+{
+    let fresh = read.prepare_chunk(chunk, map)?;
+    read.settle_chunk(chunk, fresh);
+    Ok(())
+}
+
+// What the slot's owner has of the chunk is read.
+fn add_owner(parts: &Parts, read: &mut SlotMap, slot: Slot, chunk: u32) -> Result<(), Refusal>
+    requires chunk { chunk < 16 }
+    requires sized { IsSized parts.now }
+    requires space { space_of read.old ≡ (ring_of parts.now).q }
+    requires kept { is_kept parts.now.slots slot ≡ true }
+    ensures space { space_of read.new ≡ space_of read.old }
+    ensures ok { OnOk result (Gathers parts.now chunk (held_for read.old) (held_for read.new)
+        (λ w. w.stored (stage_now (ring_of parts.now) (plan_of parts.now) w slot).owner.0 slot)) }
+    ensures memory { IfErr result (λ e. e ≡ OutOfMemory) }
+{
+    let Some(owner) = parts.slots.owner(slot) else {
+        unreachable!()
+    };
+    if let Some(map) = parts.stores.chunk_map(owner, slot, chunk) {
+        add(read, chunk, map)?;
+    }
+    Ok(())
+}
+
+// What these nodes keep of the chunk for the slot is read.
+fn add_keepers(
+    parts: &Parts,
+    read: &mut SlotMap,
+    keepers: &BTreeSet<NodeId>,
+    slot: Slot,
+    chunk: u32,
+) -> Result<(), Refusal>
+    requires chunk { chunk < 16 }
+    requires sized { IsSized parts.now }
+    requires space { space_of read.old ≡ (ring_of parts.now).q }
+    ensures space { space_of read.new ≡ space_of read.old }
+    ensures ok { OnOk result (Gathers parts.now chunk (held_for read.old) (held_for read.new)
+        (λ w v. list_any (λ keeper. w.hinted keeper.0 slot v) keepers.now.keys)) }
+    ensures memory { IfErr result (λ e. e ≡ OutOfMemory) }
+{
+    'keepers: for keeper in keepers {
+        let pair = KeptFor {
+            keeper: *keeper,
+            slot,
+        };
+        if let Some(map) = parts.hints.chunk_map(pair, chunk) {
+            add(read, chunk, map)?;
+        }
+    }
+    Ok(())
+}
+
+// What nodes keep of the chunk for the slot is read.
+fn add_hints(parts: &Parts, read: &mut SlotMap, slot: Slot, chunk: u32) -> Result<(), Refusal>
+    requires chunk { chunk < 16 }
+    requires sized { IsSized parts.now }
+    requires space { space_of read.old ≡ (ring_of parts.now).q }
+    ensures space { space_of read.new ≡ space_of read.old }
+    ensures ok { OnOk result (Gathers parts.now chunk (held_for read.old) (held_for read.new) (λ w. some_hinted (ring_of parts.now) w slot)) }
+    ensures memory { IfErr result (λ e. e ≡ OutOfMemory) }
+{
+    if let Some(keepers) = parts.hints.keepers(slot) {
+        add_keepers(parts, read, keepers, slot, chunk)?;
+    }
+    Ok(())
+}
+
+// What the owners of these slots of a partition have of the chunk is read, and what nodes keep for the slots.
+fn add_slots(
+    parts: &Parts,
+    read: &mut SlotMap,
+    partition: u32,
+    from: &[u32],
+    chunk: u32,
+) -> Result<(), Refusal>
+    requires chunk { chunk < 16 }
+    requires sized { IsSized parts.now }
+    requires space { space_of read.old ≡ (ring_of parts.now).q }
+    requires kept { are_kept parts.now.slots partition from.now ≡ true }
+    ensures space { space_of read.new ≡ space_of read.old }
+    ensures ok { OnOk result (Gathers parts.now chunk (held_for read.old) (held_for read.new)
+        (λ w v. list_any (λ i. slot_has (ring_of parts.now) (plan_of parts.now) w (slot_at partition i) v) from.now)) }
+    ensures memory { IfErr result (λ e. e ≡ OutOfMemory) }
+{
+    let mut rest = from;
+    'slots: while let Some((index, later)) = rest.split_first() {
+        let slot = Slot {
+            partition,
+            index: *index,
+        };
+        add_owner(parts, read, slot, chunk)?;
+        add_hints(parts, read, slot, chunk)?;
+        rest = later;
+    }
+    Ok(())
+}
+
+/// What a copy of the slot reads of the chunk, merged aside. Costs a look-up and a merge for each key of the chunk at each place that is read.
+pub(crate) fn read_source(
+    parts: &Parts,
+    slot: Slot,
+    source: &Source,
+    chunk: u32,
+) -> Result<SlotMap, Refusal>
+    requires chunk { chunk < 16 }
+    requires sized { IsSized parts.now }
+    requires kept { reads_kept parts.now.slots slot source.now ≡ true }
+    ensures space { IfOk result (λ read. space_of read ≡ (ring_of parts.now).q) }
+    ensures shows { IfOk result (λ read. (w : World) → Meets parts.now w → ShowsChunk (ring_of parts.now).q w (clock_at parts.now.puts) chunk (held_for read)
+        (source_has (ring_of parts.now) (plan_of parts.now) w slot source.now)) }
+    ensures memory { IfErr result (λ e. e ≡ OutOfMemory) }
+{
+    let mut read = SlotMap::new(parts.alloc, parts.approved.ring().q())?;
+    match source {
+        Source::Owner => {
+            add_owner(parts, &mut read, slot, chunk)?;
+            Ok(read)
+        }
+        Source::Slots(from) => {
+            add_slots(parts, &mut read, slot.partition, from.as_slice(), chunk)?;
+            Ok(read)
+        }
+    }
+}

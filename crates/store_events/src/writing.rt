@@ -1,0 +1,58 @@
+//! Writes.
+
+ghost use Rattle.std.specs.Prelude.{◌≡◌, IfOk, IfErr, OnErr};
+ghost use Rattle.ring_names.specs.declared.refusal.Refusal.TheVariants.{OutOfMemory};
+ghost use Rattle.plan_check.specs.declared.event.Event.TheVariants.{Write};
+ghost use Rattle.store_tells.specs.Parts.{IsSound, Follows, Tests, Passes, Answers, Stays};
+
+use crate::served::served_refusal;
+use crate::targets::put_slot;
+use plan_check::Reply;
+use ring_names::{Refusal, Slot};
+use store_tells::Parts;
+
+/// Why a write is refused now, if it is: there is no such put or no slot of that index, or else the slot's owner is down, or its mirror.
+/// Takes no memory.
+pub fn write_refusal(parts: &Parts, put: u32, index: u32) -> Option<Refusal>
+    requires { IsSound parts.now }
+    ensures { Tests parts.now (Write put index) result }
+{
+    match put_slot(parts, put, index) {
+        Some(slot) => served_refusal(parts, slot),
+        None => Some(Refusal::UnknownNumber),
+    }
+}
+
+/// Writes a put to the slot of that index: the slot's owner and its mirror have it, and the put has a ticket of the slot's generation,
+/// which is the reply. Only a growth can be refused, and then nothing has changed. Costs one look-up of the key at each of the two.
+pub fn write(parts: &mut Parts, put: u32, index: u32) -> Result<Reply, Refusal>
+    requires sound { IsSound parts.old }
+    requires passes { Passes parts.old (Write put index) }
+    ensures ok { IfOk result (λ r. Answers parts.old (Write put index) r parts.new) }
+    ensures same { OnErr result (Stays parts.old parts.new) }
+    ensures memory { IfErr result (λ e. e ≡ OutOfMemory) }
+    ensures follows { Follows parts.old parts.new }
+{
+    let Some(now) = parts.puts.get(put) else {
+        unreachable!()
+    };
+    let place = parts.keys.place(now.key);
+    let slot = Slot {
+        partition: place.partition,
+        index,
+    };
+    let Some(served) = parts.slots.at(slot) else {
+        unreachable!()
+    };
+    let key = parts.keys.key(now.key);
+    parts.stores.give(
+        slot,
+        served.owner,
+        served.mirror,
+        place.chunk,
+        key,
+        &now.version,
+    )?;
+    parts.puts.set_ticket(put, index, served.generation);
+    Ok(Reply::Ticket(slot, served.generation))
+}

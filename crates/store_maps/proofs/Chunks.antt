@@ -1,0 +1,225 @@
+-- One of the maps of a slot's chunks changed.
+use Rattle.std.proofs.Common.{◌≡◌, ◌≢◌, ◌⊎◌, inl, inr, ◌∙◌, ℕ, zero, suc, ◌<◌, true, false, cond, nat_eq, List, [], ◌∷◌, ◌++◌, length, refl, sym, ap, subst, Option, Some, None, arith, set}
+use Rattle.std.specs.Prelude.{slice_get, is_some, IfSome, MatchOption, unwrap_or}
+use Rattle.std.specs.Str.{bytes_eq}
+use Rattle.std.proofs.Math.ListN.{get_or}
+use Rattle.std.proofs.lemmas.Bool.{cases_Bool, eqb-true, eq-eqb}
+use Rattle.std.proofs.lemmas.Option.{slice_get-get_or}
+use Rattle.ring_versions.specs.Fresh.{FitsIn}
+use Rattle.ring_versions.specs.Fresh.{IsFreshFor}
+use Rattle.ring_versions.specs.declared.fresh.Fresh.{Fresh}
+use Rattle.ring_versions.specs.declared.version.Version.{Version}
+use Rattle.ring_versions.specs.Versions.{IsApart, IsMerge}
+use Rattle.store_maps.specs.declared.fresh_keys.FreshKeys.{FreshKeys}
+use Rattle.store_maps.specs.declared.key_map.KeyMap.{KeyMap}
+use Rattle.store_maps.specs.declared.slot_map.SlotMap.{SlotMap}
+use Rattle.store_maps.specs.Slots.{held_for}
+use Rattle.store_maps.specs.Chunks.{chunk_of, held_of, place_in, ArePlaced}
+use Rattle.store_maps.specs.Held.{held, has_place, IsReady}
+use Rattle.store_maps.specs.Merges.{MergesAll, at_key, has_fresh, AreFreshFor, AreReady}
+use Rattle.ring_names.specs.AtBytes.{value_at}
+use Rattle.store_maps.proofs.OneAnswer.{none_from_empty, at_none, none_to, false_from}
+use Rattle.ring_names.proofs.AtBytes.{bytes_same}
+use Rattle.store_maps.proofs.MergesInTurn.{merge_none}
+use Rattle.store_maps.proofs.Puts.{at_other}
+
+pub chunk_below : (q : ℕ) (k : List ℕ) (c : ℕ) → chunk_of q k ≡ c → c < 16
+unfolding chunk_of
+chunk_below q k c e = omega arith
+
+-- ---- what stands where
+
+pub get_here : {X : Type 0} (xs : List X) (i : ℕ) (x : X) → i < length xs → slice_get (set xs i x) i ≡ Some x
+get_here [] i x l = absurd (omega arith)
+get_here (y ∷ ys) zero x l = refl
+get_here (y ∷ ys) (suc i) x l = get_here ys i x (omega arith)
+
+pub get_other : {X : Type 0} (xs : List X) (i j : ℕ) (x : X) → j ≢ i → slice_get (set xs i x) j ≡ slice_get xs j
+get_other [] i j x ne = refl
+get_other (y ∷ ys) zero zero x ne = absurd (ne refl)
+get_other (y ∷ ys) zero (suc j) x ne = refl
+get_other (y ∷ ys) (suc i) zero x ne = refl
+get_other (y ∷ ys) (suc i) (suc j) x ne = get_other ys i j x (λ e. ne (ap suc e))
+
+pub get_back : {X : Type 0} (xs : List X) (x : X) (i : ℕ) → i < length xs → slice_get (xs ++ x ∷ []) i ≡ slice_get xs i
+get_back [] x i l = absurd (omega arith)
+get_back (y ∷ ys) x zero l = refl
+get_back (y ∷ ys) x (suc i) l = get_back ys x i (omega arith)
+
+-- what stands after a push
+pub pushed : {X : Type 0} (xs : List X) (x : X) (i : ℕ) → ((i ≡ length xs) × (slice_get (xs ++ x ∷ []) i ≡ Some x)) ⊎ (slice_get (xs ++ x ∷ []) i ≡ slice_get xs i)
+pushed [] x zero = inl (refl, refl)
+pushed [] x (suc i) = inr refl
+pushed (y ∷ ys) x zero = inr refl
+pushed (y ∷ ys) x (suc i) = elim (pushed ys x i) [ inl h ↦ inl (ap suc h.0, h.1) | inr e ↦ inr e ]
+
+pub get_last : {X : Type 0} (xs : List X) (x : X) → slice_get (xs ++ x ∷ []) (length xs) ≡ Some x
+get_last [] x = refl
+get_last (y ∷ ys) x = get_last ys x
+
+-- what a borrow of the i-th lends
+pub lent : {X : Type 0} (xs : List X) (i : ℕ) (m : X) → i < length xs → m ≡ get_or xs i m → slice_get xs i ≡ Some m
+lent xs i m l e = slice_get-get_or xs i m l ∙ ap Some (sym e)
+
+pub within : (xs : List KeyMap) (i : ℕ) → length xs ≡ 16 → i < 16 → i < length xs
+within xs i whole l = omega arith
+
+-- the same number or another
+pub same_or : (i j : ℕ) → (i ≡ j) ⊎ (i ≢ j)
+same_or zero zero = inl refl
+same_or zero (suc j) = inr (λ e. cc)
+same_or (suc i) zero = inr (λ e. cc)
+same_or (suc i) (suc j) = elim (same_or i j) [ inl e ↦ inl (ap suc e) | inr ne ↦ inr (λ e. ne (omega arith)) ]
+
+pub apart_of : (o : Option KeyMap) (k : List ℕ) → IsApart (held_of o k)
+apart_of None k = tt
+apart_of (Some m) k = m.apart k
+
+-- what a slot holds of a key is apart
+pub slot_apart : (a : SlotMap) (k : List ℕ) → IsApart (held_for a k)
+slot_apart a k = apart_of (slice_get a.chunks.items (chunk_of a.q k)) k
+
+-- what comes to the keys of a chunk
+abbrev pub chosen : ℕ → ℕ → (List ℕ → List Version) → List ℕ → List Version
+chosen q c more k = cond (nat_eq (chunk_of q k) c) (more k) []
+
+pub chosen_here : (i j : ℕ) (v : List Version) → i ≡ j → cond (nat_eq i j) v [] ≡ v
+chosen_here i j v e = rw (eq-eqb i j e) refl
+
+pub chosen_other : (i j : ℕ) (v : List Version) → i ≢ j → cond (nat_eq i j) v [] ≡ []
+chosen_other i j v ne = rw (false_from (nat_eq i j) (λ h. ne (eqb-true i j h))) refl
+
+no_place : (m : KeyMap) (k : List ℕ) → has_place m k ≡ false → held m k ≡ []
+no_place m k e = ap (λ (o : Option (List Version)). unwrap_or o []) (none_from_empty (value_at m.map k) e)
+
+-- ---- the map m of chunk c becomes n
+
+module _ (q c : ℕ) (xs : List KeyMap) (m n : KeyMap) (is : slice_get xs c ≡ Some m) (room : c < length xs) where
+  -- what holds of the keys of the chunk and of all others
+  pub by_chunk : (P : List ℕ → Type 0) → ((k : List ℕ) → chunk_of q k ≡ c → P k) → ((k : List ℕ) → chunk_of q k ≢ c → P k) → (k : List ℕ) → P k
+  by_chunk P here other k = elim (same_or (chunk_of q k) c) [ inl e ↦ here k e | inr ne ↦ other k ne ]
+
+  pub old_at : (k : List ℕ) → chunk_of q k ≡ c → slice_get xs (chunk_of q k) ≡ Some m
+  old_at k e = ap (slice_get xs) e ∙ is
+
+  pub new_at : (k : List ℕ) → chunk_of q k ≡ c → slice_get (set xs c n) (chunk_of q k) ≡ Some n
+  new_at k e = ap (slice_get (set xs c n)) e ∙ get_here xs c n room
+
+  pub other_at : (k : List ℕ) → chunk_of q k ≢ c → slice_get (set xs c n) (chunk_of q k) ≡ slice_get xs (chunk_of q k)
+  other_at k ne = get_other xs c (chunk_of q k) n ne
+
+  pub old_held : (k : List ℕ) → chunk_of q k ≡ c → held m k ≡ held_of (slice_get xs (chunk_of q k)) k
+  old_held k e = sym (ap (λ o. held_of o k) (old_at k e))
+
+  pub new_held : (k : List ℕ) → chunk_of q k ≡ c → held n k ≡ held_of (slice_get (set xs c n) (chunk_of q k)) k
+  new_held k e = sym (ap (λ o. held_of o k) (new_at k e))
+
+  pub other_held : (k : List ℕ) → chunk_of q k ≢ c → held_of (slice_get (set xs c n) (chunk_of q k)) k ≡ held_of (slice_get xs (chunk_of q k)) k
+  other_held k ne = ap (λ o. held_of o k) (other_at k ne)
+
+  pub old_place : (k : List ℕ) → chunk_of q k ≡ c → has_place m k ≡ place_in (slice_get xs (chunk_of q k)) k
+  old_place k e = sym (ap (λ o. place_in o k) (old_at k e))
+
+  pub new_place : (k : List ℕ) → chunk_of q k ≡ c → has_place n k ≡ place_in (slice_get (set xs c n) (chunk_of q k)) k
+  new_place k e = sym (ap (λ o. place_in o k) (new_at k e))
+
+  pub other_place : (k : List ℕ) → chunk_of q k ≢ c → place_in (slice_get (set xs c n) (chunk_of q k)) k ≡ place_in (slice_get xs (chunk_of q k)) k
+  other_place k ne = ap (λ o. place_in o k) (other_at k ne)
+
+  pub placed_set : ArePlaced q xs → ((k : List ℕ) → has_place n k ≡ true → chunk_of q k ≡ c) → ArePlaced q (set xs c n)
+  placed_set placed lies d k h = elim (same_or d c) [
+    | inl e ↦ lies k (sym (ap (λ o. place_in o k) (ap (slice_get (set xs c n)) e ∙ get_here xs c n room)) ∙ h) ∙ sym e
+    | inr ne ↦ placed d k (sym (ap (λ o. place_in o k) (get_other xs c d n ne)) ∙ h)
+  ]
+
+  -- a key of the old map lies in the chunk
+  pub lies_old : ArePlaced q xs → (k : List ℕ) → has_place m k ≡ true → chunk_of q k ≡ c
+  lies_old placed k h = placed c k (ap (λ o. place_in o k) is ∙ h)
+
+  pub same_set : ((k : List ℕ) → held n k ≡ held m k) → (k : List ℕ) → held_of (slice_get (set xs c n) (chunk_of q k)) k ≡ held_of (slice_get xs (chunk_of q k)) k
+  same_set same = by_chunk (λ (k : List ℕ). held_of (slice_get (set xs c n) (chunk_of q k)) k ≡ held_of (slice_get xs (chunk_of q k)) k) (λ k e. sym (new_held k e) ∙ same k ∙ old_held k e) other_held
+
+  pub stays_set : ((k : List ℕ) → has_place m k ≡ true → has_place n k ≡ true) → (k : List ℕ) → place_in (slice_get xs (chunk_of q k)) k ≡ true → place_in (slice_get (set xs c n) (chunk_of q k)) k ≡ true
+  stays_set stays = by_chunk (λ (k : List ℕ). place_in (slice_get xs (chunk_of q k)) k ≡ true → place_in (slice_get (set xs c n) (chunk_of q k)) k ≡ true)
+      (λ k e h. sym (new_place k e) ∙ stays k (old_place k e ∙ h)) (λ k ne h. other_place k ne ∙ h)
+
+  pub places_set : ((k : List ℕ) → has_place n k ≡ has_place m k) → (k : List ℕ) → place_in (slice_get (set xs c n) (chunk_of q k)) k ≡ place_in (slice_get xs (chunk_of q k)) k
+  places_set same = by_chunk (λ (k : List ℕ). place_in (slice_get (set xs c n) (chunk_of q k)) k ≡ place_in (slice_get xs (chunk_of q k)) k) (λ k e. sym (new_place k e) ∙ same k ∙ old_place k e) other_place
+
+  pub filled_set : ((k : List ℕ) → has_place n k ≡ true → (has_place m k ≡ true) ⊎ (held n k ≢ []))
+      → (k : List ℕ) → place_in (slice_get (set xs c n) (chunk_of q k)) k ≡ true → (place_in (slice_get xs (chunk_of q k)) k ≡ true) ⊎ (held_of (slice_get (set xs c n) (chunk_of q k)) k ≢ [])
+  filled_set filled = by_chunk (λ (k : List ℕ). place_in (slice_get (set xs c n) (chunk_of q k)) k ≡ true → (place_in (slice_get xs (chunk_of q k)) k ≡ true) ⊎ (held_of (slice_get (set xs c n) (chunk_of q k)) k ≢ []))
+      (λ k e h. elim (filled k (new_place k e ∙ h)) [ inl was ↦ inl (sym (old_place k e) ∙ was) | inr some ↦ inr (λ none. some (new_held k e ∙ none)) ])
+      (λ k ne h. inl (sym (other_place k ne) ∙ h))
+
+  -- what came to the map came to the slot
+  pub merged_set : (more : List ℕ → List Version) → ((k : List ℕ) → chunk_of q k ≡ c → IsMerge (held m k) (more k) (held n k))
+      → ((k : List ℕ) → chunk_of q k ≢ c → IsMerge (held_of (slice_get xs (chunk_of q k)) k) (more k) (held_of (slice_get xs (chunk_of q k)) k))
+      → MergesAll (λ k. held_of (slice_get xs (chunk_of q k)) k) more (λ k. held_of (slice_get (set xs c n) (chunk_of q k)) k)
+  merged_set more here other = by_chunk (λ (k : List ℕ). IsMerge (held_of (slice_get xs (chunk_of q k)) k) (more k) (held_of (slice_get (set xs c n) (chunk_of q k)) k))
+      (λ k e. subst (λ (old : List Version). IsMerge old (more k) (held_of (slice_get (set xs c n) (chunk_of q k)) k)) (old_held k e) (subst (IsMerge (held m k) (more k)) (new_held k e) (here k e)))
+      (λ k ne. subst (IsMerge (held_of (slice_get xs (chunk_of q k)) k) (more k)) (sym (other_held k ne)) (other k ne))
+
+  pub merged_key : (key : List ℕ) (more : List Version) → chunk_of q key ≡ c → MergesAll (held m) (at_key key more) (held n)
+      → MergesAll (λ k. held_of (slice_get xs (chunk_of q k)) k) (at_key key more) (λ k. held_of (slice_get (set xs c n) (chunk_of q k)) k)
+  merged_key key more lies merged = merged_set (at_key key more) (λ k e. merged k) (λ k ne. elim (cases_Bool (bytes_eq key k)) [
+    | inl same ↦ absurd (ne (ap (chunk_of q) (sym (bytes_same key k same)) ∙ lies))
+    | inr e ↦ subst (λ (comes : List Version). IsMerge (held_of (slice_get xs (chunk_of q k)) k) comes (held_of (slice_get xs (chunk_of q k)) k)) (sym (at_other key k more e)) (merge_none (held_of (slice_get xs (chunk_of q k)) k) (apart_of (slice_get xs (chunk_of q k)) k))
+  ])
+
+  pub fresh_old : (key : List ℕ) (more : List Version) (f : Fresh) → chunk_of q key ≡ c → IsFreshFor (held m key) more f → IsFreshFor (held_of (slice_get xs (chunk_of q key)) key) more f
+  fresh_old key more f lies h = subst (λ (held : List Version). IsFreshFor held more f) (old_held key lies) h
+
+  pub old_fresh : (key : List ℕ) (more : List Version) (f : Fresh) → chunk_of q key ≡ c → IsFreshFor (held_of (slice_get xs (chunk_of q key)) key) more f → IsFreshFor (held m key) more f
+  old_fresh key more f lies h = subst (λ (held : List Version). IsFreshFor held more f) (sym (old_held key lies)) h
+
+  pub ready_new : (key : List ℕ) (f : Fresh) → chunk_of q key ≡ c → IsReady n key f → (place_in (slice_get (set xs c n) (chunk_of q key)) key ≡ true) × FitsIn (held_of (slice_get (set xs c n) (chunk_of q key)) key) f
+  ready_new key f lies h = (sym (new_place key lies) ∙ h.0, subst (λ (held : List Version). FitsIn held f) (new_held key lies) h.1)
+
+  pub ready_old : (key : List ℕ) (f : Fresh) → chunk_of q key ≡ c → (place_in (slice_get xs (chunk_of q key)) key ≡ true) × FitsIn (held_of (slice_get xs (chunk_of q key)) key) f → IsReady m key f
+  ready_old key f lies h = (old_place key lies ∙ h.0, subst (λ (held : List Version). FitsIn held f) (sym (old_held key lies)) h.1)
+
+  -- what comes from a map whose keys lie in the chunk
+  pub fresh_chunk : (other : KeyMap) (f : FreshKeys) → ((k : List ℕ) → has_place other k ≡ true → chunk_of q k ≡ c) → ((k : List ℕ) → has_fresh f k ≡ true → has_place other k ≡ true)
+      → AreFreshFor (held m) (held other) f → AreFreshFor (λ k. held_of (slice_get xs (chunk_of q k)) k) (held other) f
+  fresh_chunk other f lies drawn are = by_chunk (λ (k : List ℕ). MatchOption (value_at f.map k) (IsMerge (held_of (slice_get xs (chunk_of q k)) k) (held other k) (held_of (slice_get xs (chunk_of q k)) k)) (IsFreshFor (held_of (slice_get xs (chunk_of q k)) k) (held other k)))
+      (λ k e. subst (λ (old : List Version). MatchOption (value_at f.map k) (IsMerge old (held other k) old) (IsFreshFor old (held other k))) (old_held k e) (are k))
+      (λ k ne. none_to (value_at f.map k) _ _
+      (none_from_empty (value_at f.map k) (false_from (has_fresh f k) (λ h. ne (lies k (drawn k h)))))
+      (subst (λ (comes : List Version). IsMerge (held_of (slice_get xs (chunk_of q k)) k) comes (held_of (slice_get xs (chunk_of q k)) k)) (sym (no_place other k (false_from (has_place other k) (λ h. ne (lies k h)))))
+      (merge_none (held_of (slice_get xs (chunk_of q k)) k) (apart_of (slice_get xs (chunk_of q k)) k))))
+
+  pub ready_chunk : (other : KeyMap) (f : FreshKeys) → ((k : List ℕ) → has_place other k ≡ true → chunk_of q k ≡ c) → ((k : List ℕ) → has_fresh f k ≡ true → has_place other k ≡ true)
+      → AreReady n f → (k : List ℕ) → IfSome (value_at f.map k) (λ x. (chunk_of q k ≡ c) × ((place_in (slice_get (set xs c n) (chunk_of q k)) k ≡ true) × FitsIn (held_of (slice_get (set xs c n) (chunk_of q k)) k) x))
+  ready_chunk other f lies drawn are k = with_value (value_at f.map k) refl (are k)
+    where
+      with_value : (o : Option Fresh) → o ≡ value_at f.map k → IfSome o (IsReady n k) → IfSome o (λ x. (chunk_of q k ≡ c) × ((place_in (slice_get (set xs c n) (chunk_of q k)) k ≡ true) × FitsIn (held_of (slice_get (set xs c n) (chunk_of q k)) k) x))
+      with_value None e h = tt
+      with_value (Some x) e h = let l : chunk_of q k ≡ c = lies k (drawn k (sym (ap is_some e))) in (l, ready_new k x l h)
+
+  pub chunk_ready : (f : FreshKeys) → ((k : List ℕ) → IfSome (value_at f.map k) (λ x. (chunk_of q k ≡ c) × ((place_in (slice_get xs (chunk_of q k)) k ≡ true) × FitsIn (held_of (slice_get xs (chunk_of q k)) k) x))) → AreReady m f
+  chunk_ready f are k = with_value (value_at f.map k) (are k)
+    where
+      with_value : (o : Option Fresh) → IfSome o (λ x. (chunk_of q k ≡ c) × ((place_in (slice_get xs (chunk_of q k)) k ≡ true) × FitsIn (held_of (slice_get xs (chunk_of q k)) k) x)) → IfSome o (IsReady m k)
+      with_value None h = tt
+      with_value (Some x) h = ready_old k x h.0 h.1
+
+  pub merged_chunk : (f : FreshKeys) → ((k : List ℕ) → IfSome (value_at f.map k) (λ x. (chunk_of q k ≡ c) × ((place_in (slice_get xs (chunk_of q k)) k ≡ true) × FitsIn (held_of (slice_get xs (chunk_of q k)) k) x)))
+      → ((more : List ℕ → List Version) → AreFreshFor (held m) more f → MergesAll (held m) more (held n))
+      → (more : List ℕ → List Version) → AreFreshFor (λ k. held_of (slice_get xs (chunk_of q k)) k) more f → MergesAll (λ k. held_of (slice_get xs (chunk_of q k)) k) more (λ k. held_of (slice_get (set xs c n) (chunk_of q k)) k)
+  merged_chunk f ready merged more are = merged_set more
+      (λ k e. subst (λ (comes : List Version). IsMerge (held m k) comes (held n k)) (chosen_here (chunk_of q k) c (more k) e) (merged (chosen q c more) fresh k))
+      (λ k ne. at_none (value_at f.map k) _ _ (outside k ne) (are k))
+    where
+      outside : (k : List ℕ) → chunk_of q k ≢ c → value_at f.map k ≡ None
+      outside k ne = with_value (value_at f.map k) refl (ready k)
+        where
+          with_value : (o : Option Fresh) → o ≡ value_at f.map k → IfSome o (λ x. (chunk_of q k ≡ c) × ((place_in (slice_get xs (chunk_of q k)) k ≡ true) × FitsIn (held_of (slice_get xs (chunk_of q k)) k) x)) → value_at f.map k ≡ None
+          with_value None e h = sym e
+          with_value (Some x) e h = absurd (ne h.0)
+
+      fresh : AreFreshFor (held m) (chosen q c more) f
+      fresh = by_chunk (λ (k : List ℕ). MatchOption (value_at f.map k) (IsMerge (held m k) (chosen q c more k) (held m k)) (IsFreshFor (held m k) (chosen q c more k)))
+          (λ k e. subst (λ (comes : List Version). MatchOption (value_at f.map k) (IsMerge (held m k) comes (held m k)) (IsFreshFor (held m k) comes)) (sym (chosen_here (chunk_of q k) c (more k) e))
+          (subst (λ (old : List Version). MatchOption (value_at f.map k) (IsMerge old (more k) old) (IsFreshFor old (more k))) (sym (old_held k e)) (are k)))
+          (λ k ne. none_to (value_at f.map k) _ _ (outside k ne) (subst (λ (comes : List Version). IsMerge (held m k) comes (held m k)) (sym (chosen_other (chunk_of q k) c (more k) ne)) (merge_none (held m k) (m.apart k))))

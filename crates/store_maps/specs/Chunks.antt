@@ -1,0 +1,24 @@
+-- The maps of a slot's chunks, in order.
+use Rattle.std.specs.Prelude.{◌≡◌, ℕ, Bool, true, false, List, [], Option, Some, None, slice_get}
+use Rattle.ring_space.specs.Place.{place_of}
+use Rattle.ring_versions.specs.declared.version.Version.{Version}
+use Rattle.store_maps.specs.declared.key_map.KeyMap.{KeyMap}
+use Rattle.store_maps.specs.Held.{held, has_place}
+
+-- the chunk of a key among q partitions
+unfoldable pub chunk_of : ℕ → List ℕ → ℕ
+chunk_of q key = (place_of q key).chunk
+
+-- the versions of the key in the map, if there is a map
+abbrev pub held_of : Option KeyMap → List ℕ → List Version
+held_of None k = []
+held_of (Some m) k = held m k
+
+-- whether the key has a place in the map, if there is a map
+abbrev pub place_in : Option KeyMap → List ℕ → Bool
+place_in None k = false
+place_in (Some m) k = has_place m k
+
+-- each key has a place in the map of its chunk alone
+abbrev pub ArePlaced : ℕ → List KeyMap → Type 0
+ArePlaced q chunks = (c : ℕ) (k : List ℕ) → place_in (slice_get chunks c) k ≡ true → chunk_of q k ≡ c

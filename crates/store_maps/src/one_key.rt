@@ -1,0 +1,63 @@
+//! Merges at one key.
+
+use crate::key_map::KeyMap;
+use ring_names::Refusal;
+use ring_versions::{Fresh, Versions};
+
+impl KeyMap {
+    ghost use Rattle.std.specs.Prelude.{◌≡◌, ◌≢◌, ◌⊎◌, ℕ, true, [], List, IfOk, IfErr, OnOk, OnErr};
+    ghost use Rattle.ring_names.specs.declared.refusal.Refusal.TheVariants.{OutOfMemory};
+    ghost use Rattle.ring_versions.specs.Fresh.{IsFreshFor};
+    ghost use Rattle.ring_versions.specs.declared.version.Version.{Version};
+    ghost use Rattle.store_maps.specs.Held.{held, has_place, IsReady};
+    ghost use Rattle.store_maps.specs.Merges.{MergesAll, at_key};
+
+    /// The first half of a merge at one key: makes its place, where it has none, and what the other versions bring. No reading changes,
+    /// whatever the answer. Costs a comparison for each pair of versions of the two sets.
+    pub fn prepare(&mut self, key: &[u8], more: &Versions) -> Result<Fresh, Refusal>
+        ensures same { (k : List ℕ) → held self.new k ≡ held self.old k }
+        ensures stays { (k : List ℕ) → has_place self.old k ≡ true → has_place self.new k ≡ true }
+        ensures only { (k : List ℕ) → has_place self.new k ≡ true → (has_place self.old k ≡ true) ⊎ (k ≡ key.now) }
+        ensures ok { IfOk result (λ f. IsFreshFor (held self.old key.now) more.now f) }
+        ensures ready { IfOk result (λ f. IsReady self.new key.now f) }
+        ensures memory { IfErr result (λ e. e ≡ OutOfMemory) }
+    {
+        if let Some(versions) = self.map.get(key) {
+            return versions.fresh_of(more);
+        }
+        self.put(key, Versions::new(self.alloc))?;
+        Versions::new(self.alloc).fresh_of(more)
+    }
+
+    /// The second half of a merge at one key, which cannot fail.
+    pub fn settle(&mut self, key: &[u8], fresh: Fresh)
+        requires { IsReady self.old key.now fresh }
+        ensures merged { (more : List Version) → IsFreshFor (held self.old key.now) more fresh
+            → MergesAll (held self.old) (at_key key.now more) (held self.new) }
+        ensures others { (k : List ℕ) → k ≢ key.now → held self.new k ≡ held self.old k }
+        ensures places { (k : List ℕ) → has_place self.new k ≡ has_place self.old k }
+    {
+        if let Some(versions) = self.map.get_mut(key) {
+            versions.absorb(fresh);
+        }
+    }
+
+    /// A merge at one key in one call. Refused, it has changed nothing and made no place; it never makes an empty one.
+    pub fn merge(&mut self, key: &[u8], more: &Versions) -> Result<(), Refusal>
+        ensures ok { OnOk result (MergesAll (held self.old) (at_key key.now more.now) (held self.new)) }
+        ensures err { OnErr result ((k : List ℕ) → held self.new k ≡ held self.old k) }
+        ensures stays { (k : List ℕ) → has_place self.old k ≡ true → has_place self.new k ≡ true }
+        ensures only { (k : List ℕ) → has_place self.new k ≡ true → (has_place self.old k ≡ true) ⊎ (k ≡ key.now) }
+        ensures filled { (k : List ℕ) → has_place self.new k ≡ true → (has_place self.old k ≡ true) ⊎ (held self.new k ≢ []) }
+        ensures places { OnErr result ((k : List ℕ) → has_place self.new k ≡ has_place self.old k) }
+        ensures memory { IfErr result (λ e. e ≡ OutOfMemory) }
+    {
+        if let Some(versions) = self.map.get_mut(key) {
+            return versions.merge(more);
+        }
+        if more.list().is_empty() {
+            return Ok(());
+        }
+        self.put(key, more.try_copy()?)
+    }
+}

@@ -1,0 +1,167 @@
+//! The keys of one slot.
+
+ghost use Rattle.std.specs.Prelude.{◌≡◌, length};
+ghost use Rattle.store_maps.specs.Chunks.{ArePlaced};
+
+use crate::fresh_keys::FreshKeys;
+use crate::key_map::KeyMap;
+use ring_names::Refusal;
+use ring_versions::{Fresh, Versions};
+use std::alloc::Global;
+
+/// The versions of one slot's keys, in a map for each of the sixteen chunks of its partition. Calls take a key's chunk beside the key, so
+/// that its digest is made once for all of them.
+#[derive(Drop)]
+pub struct SlotMap {
+    q: u32,
+    chunks: Vec<KeyMap>,
+    ghost whole: { length chunks.items ≡ 16 },
+    ghost placed: { ArePlaced q chunks.items },
+}
+
+impl SlotMap {
+    ghost use Rattle.std.specs.Prelude.{◌≢◌, ◌↔◌, ◌⊎◌, ◌<◌, ℕ, true, false, [], List, IsTrue, IfSome, IfNone, IfOk, IfErr, OnOk, OnErr};
+    ghost use Rattle.ring_names.specs.declared.refusal.Refusal.TheVariants.{OutOfMemory};
+    ghost use Rattle.ring_versions.specs.Fresh.{IsFreshFor};
+    ghost use Rattle.ring_versions.specs.declared.version.Version.{Version};
+    ghost use Rattle.store_maps.specs.Chunks.{chunk_of};
+    ghost use Rattle.store_maps.specs.Held.{held, has_place};
+    ghost use Rattle.store_maps.specs.Merges.{MergesAll, at_key, AreFreshFor};
+    ghost use Rattle.store_maps.specs.Slots.{space_of, held_for, has_place_for, IsReadyFor, AreReadyFor};
+
+    /// No versions, in a hash space of q partitions.
+    pub fn new(alloc: Global, q: u32) -> Result<SlotMap, Refusal>
+        ensures space { IfOk result (λ a. space_of a ≡ q) }
+        ensures versions { IfOk result (λ a. (k : List ℕ) → held_for a k ≡ []) }
+        ensures places { IfOk result (λ a. (k : List ℕ) → has_place_for a k ≡ false) }
+        ensures memory { IfErr result (λ e. e ≡ OutOfMemory) }
+    {
+        let mut chunks = Vec::new(alloc);
+        'chunks: for _chunk in 0..16u32 {
+            chunks.push(KeyMap::new(alloc))?;
+        }
+        Ok(SlotMap { q, chunks })
+    }
+
+    /// The map of a chunk. Takes no memory.
+    pub fn chunk(&self, chunk: u32) -> &KeyMap
+        requires { chunk < 16 }
+        ensures lies { (k : List ℕ) → has_place result.now k ≡ true → chunk_of (space_of self.now) k ≡ chunk }
+        ensures same { (k : List ℕ) → chunk_of (space_of self.now) k ≡ chunk → held result.now k ≡ held_for self.now k }
+        ensures places { (k : List ℕ) → chunk_of (space_of self.now) k ≡ chunk → has_place result.now k ≡ has_place_for self.now k }
+    {
+        &self.chunks[chunk as usize]
+    }
+
+    /// The versions of a key of the chunk, if it has any. Takes no memory.
+    pub fn key_versions(&self, chunk: u32, key: &[u8]) -> Option<&Versions>
+        requires { chunk_of (space_of self.now) key.now ≡ chunk }
+        ensures some { IfSome result (λ v. (v.now ≡ held_for self.now key.now) × (v.now ≢ [])) }
+        ensures none { IfNone result (held_for self.now key.now ≡ []) }
+    {
+        self.chunk(chunk).key_versions(key)
+    }
+
+    /// The first half of a merge at one key of the chunk: makes its place, where it has none, and what the other versions bring. No reading
+    /// changes, whatever the answer.
+    pub fn prepare(&mut self, chunk: u32, key: &[u8], more: &Versions) -> Result<Fresh, Refusal>
+        requires { chunk_of (space_of self.old) key.now ≡ chunk }
+        ensures space { space_of self.new ≡ space_of self.old }
+        ensures same { (k : List ℕ) → held_for self.new k ≡ held_for self.old k }
+        ensures stays { (k : List ℕ) → has_place_for self.old k ≡ true → has_place_for self.new k ≡ true }
+        ensures ok { IfOk result (λ f. IsFreshFor (held_for self.old key.now) more.now f) }
+        ensures ready { IfOk result (λ f. IsReadyFor self.new key.now f) }
+        ensures memory { IfErr result (λ e. e ≡ OutOfMemory) }
+    {
+        let map = &mut self.chunks[chunk as usize];
+        map.prepare(key, more)
+    }
+
+    /// The second half of a merge at one key of the chunk, which cannot fail.
+    pub fn settle(&mut self, chunk: u32, key: &[u8], fresh: Fresh)
+        requires chunk { chunk_of (space_of self.old) key.now ≡ chunk }
+        requires ready { IsReadyFor self.old key.now fresh }
+        ensures space { space_of self.new ≡ space_of self.old }
+        ensures merged { (more : List Version) → IsFreshFor (held_for self.old key.now) more fresh
+            → MergesAll (held_for self.old) (at_key key.now more) (held_for self.new) }
+        ensures places { (k : List ℕ) → has_place_for self.new k ≡ has_place_for self.old k }
+    {
+        let map = &mut self.chunks[chunk as usize];
+        map.settle(key, fresh);
+    }
+
+    /// A merge at one key of the chunk in one call. Refused, it has changed nothing and made no place; it never makes an empty one.
+    pub fn merge(&mut self, chunk: u32, key: &[u8], more: &Versions) -> Result<(), Refusal>
+        requires { chunk_of (space_of self.old) key.now ≡ chunk }
+        ensures space { space_of self.new ≡ space_of self.old }
+        ensures ok { OnOk result (MergesAll (held_for self.old) (at_key key.now more.now) (held_for self.new)) }
+        ensures err { OnErr result ((k : List ℕ) → held_for self.new k ≡ held_for self.old k) }
+        ensures stays { (k : List ℕ) → has_place_for self.old k ≡ true → has_place_for self.new k ≡ true }
+        ensures filled { (k : List ℕ) → has_place_for self.new k ≡ true → (has_place_for self.old k ≡ true) ⊎ (held_for self.new k ≢ []) }
+        ensures places { OnErr result ((k : List ℕ) → has_place_for self.new k ≡ has_place_for self.old k) }
+        ensures memory { IfErr result (λ e. e ≡ OutOfMemory) }
+    {
+        let map = &mut self.chunks[chunk as usize];
+        map.merge(key, more)
+    }
+
+    /// The first half of a merge of a chunk with a whole map: makes the places that are missing, and what the other map brings. No reading
+    /// changes, whatever the answer.
+    pub fn prepare_chunk(&mut self, chunk: u32, other: &KeyMap) -> Result<FreshKeys, Refusal>
+        requires chunk { chunk < 16 }
+        requires lies { (k : List ℕ) → has_place other.now k ≡ true → chunk_of (space_of self.old) k ≡ chunk }
+        ensures space { space_of self.new ≡ space_of self.old }
+        ensures same { (k : List ℕ) → held_for self.new k ≡ held_for self.old k }
+        ensures stays { (k : List ℕ) → has_place_for self.old k ≡ true → has_place_for self.new k ≡ true }
+        ensures ok { IfOk result (λ f. AreFreshFor (held_for self.old) (held other.now) f) }
+        ensures ready { IfOk result (λ f. AreReadyFor self.new chunk f) }
+        ensures memory { IfErr result (λ e. e ≡ OutOfMemory) }
+    {
+        let map = &mut self.chunks[chunk as usize];
+        map.prepare_all(other)
+    }
+
+    /// The second half of a merge of a chunk with a whole map, which cannot fail.
+    pub fn settle_chunk(&mut self, chunk: u32, fresh: FreshKeys)
+        requires chunk { chunk < 16 }
+        requires ready { AreReadyFor self.old chunk fresh }
+        ensures space { space_of self.new ≡ space_of self.old }
+        ensures merged { (more : List ℕ → List Version) → AreFreshFor (held_for self.old) more fresh
+            → MergesAll (held_for self.old) more (held_for self.new) }
+        ensures others { (k : List ℕ) → chunk_of (space_of self.old) k ≢ chunk → held_for self.new k ≡ held_for self.old k }
+        ensures places { (k : List ℕ) → has_place_for self.new k ≡ has_place_for self.old k }
+    {
+        let map = &mut self.chunks[chunk as usize];
+        map.settle_all(fresh);
+    }
+
+    /// Whether no key has a place: for whoever never makes empty ones.
+    pub fn is_empty(&self) -> bool
+        ensures { IsTrue result ↔ ((k : List ℕ) → has_place_for self.now k ≡ false) }
+    {
+        let mut rest = self.chunks.as_slice();
+        'chunks: while let Some((map, later)) = rest.split_first() {
+            if !map.is_empty() {
+                return false;
+            }
+            rest = later;
+        }
+        true
+    }
+
+    /// The same maps once more: every key reads the same.
+    pub fn try_copy(&self, alloc: Global) -> Result<SlotMap, Refusal>
+        ensures space { IfOk result (λ a. space_of a ≡ space_of self.now) }
+        ensures same { IfOk result (λ a. (k : List ℕ) → held_for a k ≡ held_for self.now k) }
+        ensures places { IfOk result (λ a. (k : List ℕ) → has_place_for a k ≡ has_place_for self.now k) }
+        ensures memory { IfErr result (λ e. e ≡ OutOfMemory) }
+    {
+        let mut chunks = Vec::new(alloc);
+        let mut rest = self.chunks.as_slice();
+        'chunks: while let Some((map, later)) = rest.split_first() {
+            chunks.push(map.try_copy()?)?;
+            rest = later;
+        }
+        Ok(SlotMap { q: self.q, chunks })
+    }
+}

@@ -1,0 +1,123 @@
+//! The gets of a running store.
+
+ghost use Rattle.std.specs.Prelude.{◌≡◌, ◌<◌, ◌++◌, ◌∷◌, ◌||◌, ◌==◌, ℕ, [], length, slice_get, option_map, Some, IfErr, OnOk, OnErr};
+ghost use Rattle.ring_names.specs.declared.refusal.Refusal.TheVariants.{OutOfMemory};
+ghost use Rattle.plan_check.specs.World.{passing_below};
+ghost use Rattle.plan_check.specs.Effects.{changed};
+ghost use Rattle.store_tables.specs.Marks.{with_mark};
+ghost use Rattle.store_tables.specs.Gets.{is_read_at};
+
+use crate::marks::Marks;
+use ring_names::{Listed, Refusal};
+use ring_versions::Versions;
+use std::alloc::Global;
+use std::marker::Model;
+
+/// What holds of a get now.
+#[derive(Drop)]
+pub struct GetNow {
+    /// The number of its key.
+    pub key: usize,
+    /// The slots of the key's partition that it has read, by index.
+    pub read: Marks,
+    /// What it found at these, merged.
+    pub found: Versions,
+    /// The puts that it answered, ascending, once it has ended.
+    pub reply: Option<Listed<u32>>,
+}
+
+/// The gets in order of their start, numbered from 0.
+#[derive(Drop)]
+pub struct Gets {
+    gets: Vec<GetNow>,
+}
+
+impl Model for Gets {
+    ghost use Rattle.std.specs.Prelude.{List};
+    ghost use Rattle.store_tables.specs.declared.gets.GetNow.{GetNow};
+
+    ghost Value = { List GetNow };
+
+    ghost view = { λ a. a.gets.items };
+}
+
+impl Gets {
+    /// No get.
+    pub fn new(alloc: Global) -> Gets
+        ensures { result ≡ [] }
+    {
+        Gets {
+            gets: Vec::new(alloc),
+        }
+    }
+
+    /// How many gets there are.
+    pub fn len(&self) -> usize
+        ensures { result ≡ length self.now }
+    {
+        self.gets.len()
+    }
+
+    /// The get of that number, if there is one. Takes no memory.
+    pub fn get(&self, number: u32) -> Option<&GetNow>
+        ensures { option_map (λ get. get.now) result ≡ slice_get self.now number }
+    {
+        self.gets.get(number as usize)
+    }
+
+    /// Whether the get has read the slot of that index. Takes no memory.
+    pub fn is_read(&self, number: u32, index: u32) -> bool
+        ensures { result ≡ is_read_at self.now number index }
+    {
+        match self.gets.get(number as usize) {
+            Some(now) => now.read.has(index),
+            None => false,
+        }
+    }
+
+    /// How many of the 7 slots that a partition may have the get has read. Takes no memory.
+    pub fn read_count(&self, number: u32) -> u32
+        ensures { result ≡ length (passing_below 7 (is_read_at self.now number)) }
+    {
+        match self.gets.get(number as usize) {
+            Some(now) => now.read.count_below(7),
+            None => 0,
+        }
+    }
+
+    /// Adds a get behind the others. Refused, the gets are as before.
+    pub fn push(&mut self, get: GetNow) -> Result<(), Refusal>
+        ensures ok { OnOk result (self.new ≡ self.old ++ get ∷ []) }
+        ensures err { OnErr result (self.new ≡ self.old) }
+        ensures memory { IfErr result (λ e. e ≡ OutOfMemory) }
+    {
+        self.gets.push(get)?;
+        Ok(())
+    }
+
+    /// The get has read the slot of that index, and these are the versions that it found so far. Takes no memory.
+    #[tactic(auto, using(crate::proofs::Writing::writing))]
+    pub fn set_found(&mut self, number: u32, index: u32, found: Versions)
+        requires { index < 7 }
+        ensures get { self.new ≡ changed self.old number (λ x. record x { read = with_mark x.read index; found = found }) }
+        ensures reads { number < length self.old → (i : ℕ) → is_read_at self.new number i ≡ (i == index) || is_read_at self.old number i }
+    {
+        let place = number as usize;
+        if place < self.gets.len() {
+            let now = &mut self.gets[place];
+            now.read = now.read.with(index);
+            now.found = found;
+        }
+    }
+
+    /// The get has ended with that reply. Takes no memory.
+    #[tactic(auto, using(crate::proofs::Writing::writing))]
+    pub fn end(&mut self, number: u32, reply: Listed<u32>)
+        ensures { self.new ≡ changed self.old number (λ x. record x { reply = Some reply }) }
+    {
+        let place = number as usize;
+        if place < self.gets.len() {
+            self.gets[place].reply = Some(reply);
+        }
+    }
+}

@@ -1,0 +1,123 @@
+//! The nodes of a running store.
+
+ghost use Rattle.std.specs.Prelude.{◌≡◌, true, false, map, IfOk, IfErr};
+ghost use Rattle.ring_names.specs.declared.refusal.Refusal.TheVariants.{OutOfMemory};
+ghost use Rattle.plan_check.specs.Effects.{changed};
+ghost use Rattle.store_tables.specs.Nodes.{node_at_start, is_up_at, is_member_at};
+
+use ring_names::{NodeId, Refusal};
+use ring_table::Ring;
+use std::alloc::Global;
+use std::marker::Model;
+
+/// What holds of a node now.
+#[derive(Clone, Copy, Debug, PartialEq, Eq)]
+pub struct NodeNow {
+    /// Whether it can be reached; what it has stays while it is down.
+    pub up: bool,
+    /// Whether the ring declares it `in`, or it has joined since.
+    pub joined: bool,
+    /// Whether it has retired.
+    pub retired: bool,
+}
+
+/// The declared nodes of a ring, by number, 1 to 1,024 of them. Each call but `start` costs one look-up and takes no memory.
+#[derive(Drop)]
+pub struct Nodes {
+    nodes: Vec<NodeNow>,
+}
+
+impl Model for Nodes {
+    ghost use Rattle.std.specs.Prelude.{List};
+    ghost use Rattle.store_tables.specs.declared.nodes.NodeNow.{NodeNow};
+
+    ghost Value = { List NodeNow };
+
+    ghost view = { λ a. a.nodes.items };
+}
+
+impl Nodes {
+    /// The nodes before the first step of a plan: those that the ring declares `in` are up and joined.
+    pub fn start(alloc: Global, ring: &Ring) -> Result<Nodes, Refusal>
+        ensures start { IfOk result (λ nodes. nodes ≡ map node_at_start ring.now.nodes) }
+        ensures memory { IfErr result (λ e. e ≡ OutOfMemory) }
+    {
+        let mut nodes = Vec::with_capacity(alloc, ring.nodes().len())?;
+        for node in ring.nodes() {
+            nodes.push_reserved(NodeNow {
+                up: node.is_member,
+                joined: node.is_member,
+                retired: false,
+            });
+        }
+        Ok(Nodes { nodes })
+    }
+
+    /// Whether the node is up; one that is not declared is not.
+    pub fn is_up(&self, node: NodeId) -> bool
+        ensures { result ≡ is_up_at self.now node.0 }
+    {
+        match self.nodes.get(node.0 as usize) {
+            Some(now) => now.up,
+            None => false,
+        }
+    }
+
+    /// Whether the node has joined and has not retired; one that is not declared has not joined.
+    pub fn is_member(&self, node: NodeId) -> bool
+        ensures { result ≡ is_member_at self.now node.0 }
+    {
+        match self.nodes.get(node.0 as usize) {
+            Some(now) => now.joined && !now.retired,
+            None => false,
+        }
+    }
+
+    /// The node is up.
+    #[tactic(auto, using(crate::proofs::Writing::writing))]
+    pub fn raise(&mut self, node: NodeId)
+        ensures { self.new ≡ changed self.old node.0 (λ x. record x { up = true }) }
+    {
+        let place = node.0 as usize;
+        if place < self.nodes.len() {
+            let now = &mut self.nodes[place];
+            now.up = true;
+        }
+    }
+
+    /// The node is down.
+    #[tactic(auto, using(crate::proofs::Writing::writing))]
+    pub fn lower(&mut self, node: NodeId)
+        ensures { self.new ≡ changed self.old node.0 (λ x. record x { up = false }) }
+    {
+        let place = node.0 as usize;
+        if place < self.nodes.len() {
+            self.nodes[place].up = false;
+        }
+    }
+
+    /// The node has joined, and is up.
+    #[tactic(auto, using(crate::proofs::Writing::writing))]
+    pub fn join(&mut self, node: NodeId)
+        ensures { self.new ≡ changed self.old node.0 (λ x. record x { up = true; joined = true }) }
+    {
+        let place = node.0 as usize;
+        if place < self.nodes.len() {
+            let now = &mut self.nodes[place];
+            now.up = true;
+            now.joined = true;
+        }
+    }
+
+    /// The node has retired.
+    #[tactic(auto, using(crate::proofs::Writing::writing))]
+    pub fn retire(&mut self, node: NodeId)
+        ensures { self.new ≡ changed self.old node.0 (λ x. record x { retired = true }) }
+    {
+        let place = node.0 as usize;
+        if place < self.nodes.len() {
+            let now = &mut self.nodes[place];
+            now.retired = true;
+        }
+    }
+}

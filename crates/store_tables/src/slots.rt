@@ -1,0 +1,175 @@
+//! The slots of a running store.
+
+ghost use Rattle.std.specs.Prelude.{◌≡◌, ◌+◌, ◌<◌, map, option_map, slice_get, slice_set, Some, None, IfOk, IfErr, IfSome};
+ghost use Rattle.ring_names.specs.declared.ids.Slot.{Slot as TheSlot};
+ghost use Rattle.ring_names.specs.declared.refusal.Refusal.TheVariants.{OutOfMemory};
+ghost use Rattle.ring_table.specs.Value.{owner_of};
+ghost use Rattle.store_tables.specs.Slots.{slot_at_start, slot_now, switched, ChangesSlot};
+
+use ring_names::{NodeId, Refusal, Slot};
+use ring_table::Ring;
+use std::alloc::Global;
+use std::marker::Model;
+
+/// What holds of a slot now.
+#[derive(Clone, Copy, Debug, PartialEq, Eq)]
+pub struct SlotNow {
+    /// The node that serves it.
+    pub owner: NodeId,
+    /// The node that takes its writes too, and owns it once the plan switches it.
+    pub mirror: Option<NodeId>,
+    /// How many mirrors it has had.
+    pub generation: u32,
+}
+
+impl SlotNow {
+    // The mirror owns the slot, where there is one.
+    fn switched(self) -> SlotNow
+        ensures { result ≡ switched self }
+    {
+        match self.mirror {
+            Some(owner) => SlotNow {
+                owner,
+                mirror: None,
+                generation: self.generation,
+            },
+            None => self,
+        }
+    }
+}
+
+// The slots of one partition, by index.
+#[derive(Drop)]
+struct SlotRow {
+    slots: Vec<SlotNow>,
+}
+
+impl Model for SlotRow {
+    ghost use Rattle.std.specs.Prelude.{List};
+    ghost use Rattle.store_tables.specs.declared.slots.SlotNow.{SlotNow};
+
+    ghost Value = { List SlotNow };
+
+    ghost view = { λ a. a.slots.items };
+}
+
+impl SlotRow {
+    fn start(alloc: Global, owners: &[NodeId]) -> Result<SlotRow, Refusal>
+        ensures start { IfOk result (λ row. row ≡ map slot_at_start owners.now) }
+        ensures memory { IfErr result (λ e. e ≡ OutOfMemory) }
+    {
+        let mut slots = Vec::with_capacity(alloc, owners.len())?;
+        for owner in owners {
+            slots.push_reserved(SlotNow {
+                owner: *owner,
+                mirror: None,
+                generation: 0,
+            });
+        }
+        Ok(SlotRow { slots })
+    }
+
+    fn at(&self, index: u32) -> Option<SlotNow>
+        ensures { result ≡ slice_get self.now index }
+    {
+        self.slots.get(index as usize).copied()
+    }
+
+    fn put(&mut self, index: u32, now: SlotNow)
+        ensures { self.new ≡ slice_set self.old index now }
+    {
+        let place = index as usize;
+        if place < self.slots.len() {
+            self.slots[place] = now;
+        }
+    }
+}
+
+/// The slots of a ring, by partition and index. Each call but `start` costs at most two look-ups and takes no memory.
+#[derive(Drop)]
+pub struct Slots {
+    rows: Vec<SlotRow>,
+}
+
+impl Model for Slots {
+    ghost use Rattle.std.specs.Prelude.{List};
+    ghost use Rattle.store_tables.specs.declared.slots.SlotNow.{SlotNow};
+
+    ghost Value = { List (List SlotNow) };
+
+    ghost view = { λ a. a.rows.items };
+}
+
+impl Slots {
+    /// The slots before the first step of a plan: each has its owner by the ring, no mirror, and generation 0.
+    pub fn start(alloc: Global, ring: &Ring) -> Result<Slots, Refusal>
+        ensures start { IfOk result (λ slots. (t : TheSlot) → slot_now slots t ≡ option_map slot_at_start (owner_of ring.now t)) }
+        ensures memory { IfErr result (λ e. e ≡ OutOfMemory) }
+    {
+        let mut rows = Vec::with_capacity(alloc, ring.rows().len())?;
+        for owners in ring.rows() {
+            rows.push_reserved(SlotRow::start(alloc, owners.as_slice())?);
+        }
+        Ok(Slots { rows })
+    }
+
+    /// What holds of the slot, if the ring has it.
+    pub fn at(&self, slot: Slot) -> Option<SlotNow>
+        ensures { result ≡ slot_now self.now slot }
+    {
+        match self.rows.get(slot.partition as usize) {
+            Some(row) => row.at(slot.index),
+            None => None,
+        }
+    }
+
+    /// The node that owns the slot, if the ring has it.
+    pub fn owner(&self, slot: Slot) -> Option<NodeId>
+        ensures { result ≡ option_map (λ x. x.owner) (slot_now self.now slot) }
+    {
+        match self.at(slot) {
+            Some(now) => Some(now.owner),
+            None => None,
+        }
+    }
+
+    // Writes what holds of the slot.
+    fn put(&mut self, slot: Slot, now: SlotNow)
+        ensures { ChangesSlot self.old self.new slot (λ x. now) }
+    {
+        let place = slot.partition as usize;
+        if place < self.rows.len() {
+            self.rows[place].put(slot.index, now);
+        }
+    }
+
+    /// The node mirrors the slot.
+    pub fn set_mirror(&mut self, slot: Slot, node: NodeId)
+        ensures { ChangesSlot self.old self.new slot (λ x. record x { mirror = Some node }) }
+    {
+        if let Some(mut now) = self.at(slot) {
+            now.mirror = Some(node);
+            self.put(slot, now);
+        }
+    }
+
+    /// The slot's mirror owns it, and nothing mirrors it; one with no mirror is as before.
+    pub fn switch(&mut self, slot: Slot)
+        ensures { ChangesSlot self.old self.new slot switched }
+    {
+        if let Some(now) = self.at(slot) {
+            self.put(slot, now.switched());
+        }
+    }
+
+    /// The slot's generation is one more.
+    pub fn raise(&mut self, slot: Slot)
+        requires { IfSome (slot_now self.old slot) (λ x. x.generation < 4294967295) }
+        ensures { ChangesSlot self.old self.new slot (λ x. record x { generation = x.generation + 1 }) }
+    {
+        if let Some(mut now) = self.at(slot) {
+            now.generation += 1;
+            self.put(slot, now);
+        }
+    }
+}

@@ -1,0 +1,112 @@
+-- What each event leaves of the clocks of a world's puts.
+use Rattle.std.proofs.Common.{◌≡◌, inl, inr, ◌∙◌, ℕ, ◌<◌, Bool, true, false, List, [], ◌∷◌, length, refl, subst, arith, eq-eqb}
+use Rattle.std.specs.Prelude.{◌||◌, ◌==◌, Option, Some, None, Ok, slice_get}
+use Rattle.std.specs.Str.{bytes_eq}
+use Rattle.std.proofs.lemmas.Slice.Eq.{bytes_eq-Decides}
+use Rattle.ring_names.specs.Lists.{has}
+use Rattle.ring_names.specs.declared.ids.WriterId.{WriterId}
+use Rattle.ring_table.specs.Value.{RingValue}
+use Rattle.plan_text.specs.declared.step.Step.{Step}
+use Rattle.plan_text.specs.declared.step.Step.TheVariants.{Join, Mirror, Copy, Switch, Drop, Retire}
+use Rattle.plan_text.specs.declared.step.Planned.{Planned}
+use Rattle.plan_stage.specs.Each.{step_at}
+use Rattle.ring_clock.specs.declared.entry.Entry.{Entry}
+use Rattle.ring_clock.specs.Built.{IsNext, with_clock}
+use Rattle.plan_check.specs.declared.event.Event.{Event}
+use Rattle.plan_check.specs.declared.event.Event.TheVariants.{Do, OpenCopy, ChunkCopy, CloseCopy, AbortCopy, StartPut, Write, Hint, Ack, StartGet, Read, EndGet, Down, Up, Handoff, Lose}
+use Rattle.plan_check.specs.declared.event.Reply.{Reply}
+use Rattle.plan_check.specs.World.{GetRecord, World, opening_world, generation, key_of_put, key_of_get, is_get_of}
+use Rattle.plan_check.specs.Succession.{replied, some_replied}
+use Rattle.plan_check.specs.Versions.{put_slot}
+use Rattle.plan_check.specs.Guards.{guards}
+use Rattle.plan_check.specs.Effects.{with_number, with_value, step_effect, effect}
+use Rattle.plan_check.specs.Answers.{answer}
+use Rattle.plan_check.specs.Reached.{Reached}
+use Rattle.plan_check.proofs.Answered.{answered}
+use Rattle.plan_check.proofs.Changed.{length_changed}
+use Rattle.plan_check.proofs.Lasting.{event_extends, names_ended}
+use Rattle.plan_check.proofs.Passed.{AllMet, all_met, among}
+use Rattle.plan_stage.proofs.Truth.{either}
+use Rattle.store_tells.specs.Clocks.{AreClocksOf, IsLastOf, IsInputOf, starts_put}
+use Rattle.store_tells.proofs.ClocksGrow.{stays, put_clocks}
+
+pub opening_clocks : (ring : RingValue) (clock : ℕ → List Entry) → AreClocksOf (opening_world ring) clock
+opening_clocks ring clock k l = absurd (omega arith)
+
+-- ---- events that start no put
+
+do_length : (w : World) (n : ℕ) (t : Option Step) → length (elim t as (λ _. World) [ Some s ↦ step_effect (record w { done = with_number w.done n }) s | None ↦ w ]).puts ≡ length w.puts
+do_length w n None = refl
+do_length w n (Some (Join x)) = refl
+do_length w n (Some (Mirror s x)) = refl
+do_length w n (Some (Copy s from)) = refl
+do_length w n (Some (Switch s)) = refl
+do_length w n (Some (Drop s x)) = refl
+do_length w n (Some (Retire x)) = refl
+
+same_length : (ring : RingValue) (plan : List Planned) (w : World) (e : Event) → starts_put e ≡ false → length (effect ring plan w e).puts ≡ length w.puts
+unfolding effect
+same_length ring plan w (Do n) g = do_length w n (step_at plan n)
+same_length ring plan w (OpenCopy n) g = refl
+same_length ring plan w (ChunkCopy n c) g = refl
+same_length ring plan w (CloseCopy n) g = refl
+same_length ring plan w (AbortCopy n) g = refl
+same_length ring plan w (StartPut writer key value seen) g = absurd cc
+same_length ring plan w (Write v j) g = length_changed w.puts v (λ x. record x { ticket = with_value x.ticket j (generation plan w (put_slot ring w v j)) })
+same_length ring plan w (Hint v j x) g = length_changed w.puts v (λ x. record x { ticket = with_value x.ticket j (generation plan w (put_slot ring w v j)) })
+same_length ring plan w (Ack v) g = length_changed w.puts v (λ x. record x { acked = true })
+same_length ring plan w (StartGet key) g = refl
+same_length ring plan w (Read h j) g = refl
+same_length ring plan w (EndGet h) g = refl
+same_length ring plan w (Down x) g = refl
+same_length ring plan w (Up x) g = refl
+same_length ring plan w (Handoff x s) g = refl
+same_length ring plan w (Lose x) g = refl
+
+pub clocks_stay : (ring : RingValue) (plan : List Planned) (w u : World) (e : Event) (r : Reply) (clock : ℕ → List Entry) → Reached ring plan w → AreClocksOf w clock → answer ring plan w e ≡ Ok (u, r) → starts_put e ≡ false → AreClocksOf u clock
+clocks_stay ring plan w u e r clock reached made h none =
+    let a = answered ring plan w u e r h in
+    let x = event_extends ring plan w e (all_met (guards ring plan w e) a.0) in
+    subst (λ (z : World). AreClocksOf z clock) a.1 (λ k l. stays w (effect ring plan w e) clock clock x (names_ended ring plan w reached) (λ v m. refl) made k (let same = same_length ring plan w e none in omega arith))
+
+-- ---- an event that starts one
+
+-- a put that some reply had is in one of the gets' replies
+pub some_reply : (gets : List GetRecord) (gs : List ℕ) (v : ℕ) → some_replied gets gs v ≡ true → (g : ℕ) × (has g gs ≡ true) × (replied gets g v ≡ true)
+some_reply gets [] v h = absurd cc
+some_reply gets (g ∷ gs) v h = elim (either (replied gets g v) (some_replied gets gs v) h) [
+  | inl e ↦ (g, rw (eq-eqb g g refl) refl, e)
+  | inr e ↦ (let r = some_reply gets gs v e in (r.0, later (r.0 == g) (has r.0 gs) r.1, r.2))
+]
+  where
+    later : (a b : Bool) → b ≡ true → (a || b) ≡ true
+    later true b e = refl
+    later false b e = e
+
+get_key : (key : List ℕ) (o : Option GetRecord) → (elim o [ Some x ↦ bytes_eq x.key key | None ↦ false ]) ≡ true → (elim o [ Some x ↦ x.key | None ↦ [] ]) ≡ key
+get_key key None h = absurd cc
+get_key key (Some x) h = (bytes_eq-Decides x.key key).0 h
+
+-- what replies of gets of the key had are puts of the key
+fits : (ring : RingValue) (plan : List Planned) (w : World) (key seen : List ℕ) → Reached ring plan w → ((g : ℕ) → has g seen ≡ true → is_get_of w key g ≡ true) → (v : ℕ) → some_replied w.gets seen v ≡ true → (v < length w.puts) × (key_of_put w v ≡ key)
+fits ring plan w key seen reached of v h =
+    let g = some_reply w.gets seen v h in
+    let r = reached.replied g.0 v g.2 in
+    let k : key_of_get w g.0 ≡ key = get_key key (slice_get w.gets g.0) (of g.0 g.1) in
+    (r.0, (bytes_eq-Decides (key_of_put w v) (key_of_get w g.0)).0 r.1 ∙ k)
+
+of_start : (ring : RingValue) (plan : List Planned) (w : World) (writer : WriterId) (key value seen : List ℕ) (last : Option ℕ) (clock : ℕ → List Entry) (c : List Entry) → AllMet (guards ring plan w (StartPut writer key value seen))
+    → Reached ring plan w → AreClocksOf w clock → IsLastOf w writer.0 key last → IsNext clock (IsInputOf w seen last) writer.0 c → AreClocksOf (effect ring plan w (StartPut writer key value seen)) (with_clock clock (length w.puts) c)
+unfolding guards effect
+of_start ring plan w writer key value seen last clock c met reached made lasts next =
+    put_clocks w (record { writer = writer.0; key = key; value = value; seen = seen; ticket = λ i. None; acked = false }) last clock made lasts
+    (event_extends ring plan w (StartPut writer key value seen) met)
+    (fits ring plan w key seen reached (λ g e. among (is_get_of w key) g seen met.0 e))
+    c (names_ended ring plan w reached) next
+
+pub clocks_grow : (ring : RingValue) (plan : List Planned) (w u : World) (writer : WriterId) (key value seen : List ℕ) (r : Reply) (last : Option ℕ) (clock : ℕ → List Entry) (c : List Entry) → Reached ring plan w → AreClocksOf w clock
+    → IsLastOf w writer.0 key last → IsNext clock (IsInputOf w seen last) writer.0 c → answer ring plan w (StartPut writer key value seen) ≡ Ok (u, r) → AreClocksOf u (with_clock clock (length w.puts) c)
+clocks_grow ring plan w u writer key value seen r last clock c reached made lasts next h =
+    let a = answered ring plan w u (StartPut writer key value seen) r h in
+    subst (λ (z : World). AreClocksOf z (with_clock clock (length w.puts) c)) a.1
+    (of_start ring plan w writer key value seen last clock c (all_met (guards ring plan w (StartPut writer key value seen)) a.0) reached made lasts next)

@@ -1,0 +1,148 @@
+-- The owners and mirrors of slots that are kept are declared nodes, and their generations are small.
+use Rattle.std.proofs.Common.{◌≡◌, ◌∙◌, ℕ, ◌+◌, ◌<◌, ◌≤◌, Bool, true, false, cond, List, [], ◌∷◌, length, refl, sym, ap, subst, arith, eqb-true, leb-true}
+use Rattle.std.specs.Prelude.{◌==◌, ◌&&◌, nat_lt, nat_le, Option, Some, None, option_map, is_some, IfSome}
+use Rattle.ring_names.specs.declared.ids.NodeId.{NodeId}
+use Rattle.ring_names.specs.declared.ids.Slot.{Slot}
+use Rattle.ring_table.specs.Value.{RingValue}
+use Rattle.ring_table.specs.Valid.{IsRing, is_loss}
+use Rattle.plan_text.specs.declared.step.Step.{Step}
+use Rattle.plan_text.specs.declared.step.Step.TheVariants as step
+use Rattle.plan_text.specs.declared.step.Planned.{Planned}
+use Rattle.plan_text.specs.Steps.{steps_of, steps_from, is_on}
+use Rattle.plan_text.specs.Valid.{IsPlan, Suits, is_ring_slot}
+use Rattle.plan_stage.specs.Each.{step_at}
+use Rattle.plan_stage.proofs.Truth.{slot-same}
+use Rattle.plan_check.specs.declared.event.Event.{Event}
+use Rattle.plan_check.specs.declared.event.Event.TheVariants.{Do, OpenCopy, ChunkCopy, CloseCopy, AbortCopy, StartPut, Write, Hint, Ack, StartGet, Read, EndGet, Down, Up, Handoff, Lose}
+use Rattle.plan_check.specs.World.{World, opening_world, count, mirror_at, is_in_group}
+use Rattle.plan_check.specs.Effects.{with_number, step_effect, effect}
+use Rattle.plan_check.specs.Reached.{Reached}
+use Rattle.store_tables.specs.declared.slots.SlotNow.{SlotNow}
+use Rattle.store_tables.specs.Slots.{slot_now, ChangesSlot}
+use Rattle.store_tells.specs.Slots.{IsNow, SlotsMeet}
+use Rattle.store_tells.specs.SlotsLost.{LossesFit}
+use Rattle.store_tells.proofs.StageCounts.{count_within}
+use Rattle.store_tells.proofs.StageNodes.{stage_declared}
+
+-- ---- losses
+
+-- at the start there are none
+pub losses_start : (ring : RingValue) → LossesFit (opening_world ring)
+losses_start ring slot = omega arith
+
+do_losses : (w : World) (o : Option Step) (n : ℕ) → LossesFit w → LossesFit (elim o [ Some s ↦ step_effect (record w { done = with_number w.done n }) s | None ↦ w ])
+do_losses w None n f = f
+do_losses w (Some (step.Join x)) n f = f
+do_losses w (Some (step.Mirror s x)) n f = f
+do_losses w (Some (step.Copy s from)) n f = f
+do_losses w (Some (step.Switch s)) n f = f
+do_losses w (Some (step.Drop s x)) n f = f
+do_losses w (Some (step.Retire x)) n f = f
+
+-- every event keeps it so that no slot has had more losses than there were
+pub losses_stay : (ring : RingValue) (plan : List Planned) (w : World) (e : Event) → LossesFit w → LossesFit (effect ring plan w e)
+unfolding effect
+losses_stay ring plan w (Do n) f = do_losses w (step_at plan n) n f
+losses_stay ring plan w (OpenCopy n) f = f
+losses_stay ring plan w (ChunkCopy n c) f = f
+losses_stay ring plan w (CloseCopy n) f = f
+losses_stay ring plan w (AbortCopy n) f = f
+losses_stay ring plan w (StartPut writer key value seen) f = f
+losses_stay ring plan w (Write v i) f = f
+losses_stay ring plan w (Hint v i x) f = f
+losses_stay ring plan w (Ack v) f = f
+losses_stay ring plan w (StartGet key) f = f
+losses_stay ring plan w (Read k i) f = f
+losses_stay ring plan w (EndGet k) f = f
+losses_stay ring plan w (Down x) f = f
+losses_stay ring plan w (Up x) f = f
+losses_stay ring plan w (Handoff x s) f = f
+losses_stay ring plan w (Lose x) f = λ slot. by (is_in_group ring plan w slot x.0) (w.lost slot) (f slot)
+  where
+    by : (b : Bool) (l : ℕ) → l ≤ w.losses → cond b (l + 1) l ≤ w.losses + 1
+    by true l h = omega arith
+    by false l h = omega arith
+
+-- ---- generations
+
+steps_within : (k : ℕ) (plan : List Planned) (slot : Slot) → length (steps_from k plan slot) ≤ length plan
+steps_within k [] slot = omega arith
+steps_within k (x ∷ xs) slot = by (is_on slot x.step) (steps_within (k + 1) xs slot)
+  where
+    by : (b : Bool) → length (steps_from (k + 1) xs slot) ≤ length xs → length (cond b (k ∷ steps_from (k + 1) xs slot) (steps_from (k + 1) xs slot)) ≤ length (x ∷ xs)
+    by true l = omega arith
+    by false l = omega arith
+
+loss_within : (format loss : ℕ) → is_loss format loss ≡ true → loss ≤ 6
+loss_within format loss h = by (nat_lt format 3) h
+  where
+    by : (b : Bool) → cond b (loss == 0) (nat_le loss 6) ≡ true → loss ≤ 6
+    by true e = (let f = eqb-true loss 0 e in omega arith)
+    by false e = leb-true loss 6 e
+
+-- a slot that is kept is one of the ring
+pub kept_within : (ring : RingValue) (plan : List Planned) (rows : List (List SlotNow)) (w : World) (slot : Slot) (x : SlotNow) → SlotsMeet ring plan rows w → slot_now rows slot ≡ Some x → is_ring_slot ring slot ≡ true
+kept_within ring plan rows w slot x t at = by (is_ring_slot ring slot) refl
+  where
+    by : (b : Bool) → is_ring_slot ring slot ≡ b → b ≡ true
+    by true e = refl
+    by false e = absurd (let f = t.others slot e in cc)
+
+-- and it is that slot now
+pub kept_is : (ring : RingValue) (plan : List Planned) (rows : List (List SlotNow)) (w : World) (slot : Slot) (x : SlotNow) → SlotsMeet ring plan rows w → slot_now rows slot ≡ Some x → IsNow ring plan w slot x
+kept_is ring plan rows w slot x t at =
+    let e = t.each slot (kept_within ring plan rows w slot x t at) in
+    let f : e.0 ≡ x = (let g = e.1 in cc) in
+    subst (λ (z : SlotNow). IsNow ring plan w slot z) f e.2
+
+-- no generation is above the steps of a plan and the losses of a ring
+pub generation_most : (ring : RingValue) (plan : List Planned) (rows : List (List SlotNow)) (w : World) (slot : Slot) (x : SlotNow) → IsRing ring → IsPlan plan → Reached ring plan w → LossesFit w → SlotsMeet ring plan rows w
+    → slot_now rows slot ≡ Some x → x.generation ≤ 131078
+generation_most ring plan rows w slot x is_ring is_plan r fit t at =
+    let g = (kept_is ring plan rows w slot x t at).generation in
+    let a = count_within (λ s. w.done s && is_some (mirror_at plan s)) (steps_of plan slot) in
+    let b = steps_within 0 plan slot in
+    let c = is_plan.steps in
+    let d = fit slot in
+    let e = r.spent in
+    let f = loss_within ring.format ring.loss is_ring.loss in
+    omega arith
+
+-- so each may be one more
+pub may_raise : (ring : RingValue) (plan : List Planned) (rows : List (List SlotNow)) (w : World) (slot : Slot) → IsRing ring → IsPlan plan → Reached ring plan w → LossesFit w → SlotsMeet ring plan rows w
+    → IfSome (slot_now rows slot) (λ x. x.generation < 4294967295)
+may_raise ring plan rows w slot is_ring is_plan r fit t = by (slot_now rows slot) refl
+  where
+    by : (o : Option SlotNow) → slot_now rows slot ≡ o → IfSome o (λ x. x.generation < 4294967295)
+    by None e = tt
+    by (Some x) e = (let m = generation_most ring plan rows w slot x is_ring is_plan r fit t e in omega arith)
+
+-- that of a slot whose mirror was just set too
+pub may_raise_mirrored : (ring : RingValue) (plan : List Planned) (old mid : List (List SlotNow)) (w : World) (slot : Slot) (y : NodeId) → IsRing ring → IsPlan plan → Reached ring plan w → LossesFit w → SlotsMeet ring plan old w
+    → ChangesSlot old mid slot (λ a. record a { mirror = Some y }) → IfSome (slot_now mid slot) (λ x. x.generation < 4294967295)
+may_raise_mirrored ring plan old mid w slot y is_ring is_plan r fit t change =
+    subst (λ (o : Option SlotNow). IfSome o (λ x. x.generation < 4294967295))
+    (sym (change slot ∙ ap (λ (b : Bool). cond b (option_map (λ (a : SlotNow). record a { mirror = Some y }) (slot_now old slot)) (slot_now old slot)) (slot-same slot)))
+    (by (slot_now old slot) (may_raise ring plan old w slot is_ring is_plan r fit t))
+  where
+    by : (o : Option SlotNow) → IfSome o (λ x. x.generation < 4294967295) → IfSome (option_map (λ (a : SlotNow). record a { mirror = Some y }) o) (λ x. x.generation < 4294967295)
+    by None h = tt
+    by (Some x) h = h
+
+-- ---- nodes
+
+-- the owner of a slot that is kept is declared
+pub owner_kept : (ring : RingValue) (plan : List Planned) (rows : List (List SlotNow)) (w : World) (slot : Slot) (x : SlotNow) → IsRing ring → Suits ring plan → SlotsMeet ring plan rows w → slot_now rows slot ≡ Some x
+    → x.owner.0 < length ring.nodes
+owner_kept ring plan rows w slot x is_ring suits t at =
+    let d = stage_declared ring plan slot is_ring suits (kept_within ring plan rows w slot x t at) (count w.done (steps_of plan slot)) (count_within w.done (steps_of plan slot)) in
+    let o = ap (λ (y : NodeId). y.0) (kept_is ring plan rows w slot x t at).owner in
+    let l = d.owner in
+    omega arith
+
+-- and its mirror, if there is one
+pub mirror_kept : (ring : RingValue) (plan : List Planned) (rows : List (List SlotNow)) (w : World) (slot : Slot) (x : SlotNow) (y : NodeId) → IsRing ring → Suits ring plan → SlotsMeet ring plan rows w → slot_now rows slot ≡ Some x
+    → x.mirror ≡ Some y → y.0 < length ring.nodes
+mirror_kept ring plan rows w slot x y is_ring suits t at is =
+    let d = stage_declared ring plan slot is_ring suits (kept_within ring plan rows w slot x t at) (count w.done (steps_of plan slot)) (count_within w.done (steps_of plan slot)) in
+    d.mirror y (sym (kept_is ring plan rows w slot x t at).mirror ∙ is)

@@ -1,0 +1,76 @@
+-- What is known of a store that is in some world.
+use Rattle.std.proofs.Common.{◌≡◌, ◌∙◌, ℕ, ◌<◌, true, false, List, [], ◌∷◌, ◌++◌, length, refl, sym, ap, subst}
+use Rattle.std.specs.Prelude.{◌≢◌, ◌==◌, Option, Some, Ok}
+use Rattle.std.proofs.Math.Logic.{∥∥₁_elim}
+use Rattle.ring_names.specs.declared.ids.NodeId.{NodeId}
+use Rattle.ring_names.specs.declared.ids.Slot.{Slot}
+use Rattle.ring_table.specs.Value.{RingValue}
+use Rattle.plan_text.specs.declared.step.Planned.{Planned}
+use Rattle.plan_text.specs.Steps.{steps_of}
+use Rattle.plan_text.specs.Valid.{Suits, is_ring_slot}
+use Rattle.plan_stage.proofs.Truth.{same}
+use Rattle.plan_check.specs.declared.event.Event.{Event}
+use Rattle.plan_check.specs.declared.event.Reply.{Reply}
+use Rattle.plan_check.specs.declared.event.Entry.{Entry}
+use Rattle.plan_check.specs.Answers.{answer}
+use Rattle.plan_check.specs.Occupies.{IsGoodMirror}
+use Rattle.plan_check.specs.Reached.{Reached}
+use Rattle.plan_check.specs.Runs.{IsRun}
+use Rattle.plan_check.specs.World.{World, opening_world, count, stage_now}
+use Rattle.plan_check.proofs.Good.{good-stages}
+use Rattle.plan_check.proofs.Reached.{reached}
+use Rattle.plan_check.proofs.Split.{joined}
+use Rattle.store_tables.specs.declared.slots.SlotNow.{SlotNow}
+use Rattle.store_tables.specs.Slots.{slot_now}
+use Rattle.store_tells.specs.Slots.{IsNow}
+use Rattle.store_tells.proofs.StageCounts.{count_within}
+use Rattle.store_tells.proofs.SlotsNow.{within_ring}
+use Rattle.store_tells.proofs.SlotsFit.{kept_within, kept_is, owner_kept, mirror_kept}
+use Rattle.store_tells.specs.declared.parts.Parts.{Parts}
+use Rattle.store_tells.specs.Kept.{Kept, Tells}
+use Rattle.store_tells.specs.Parts.{Meets, IsSound}
+
+-- what follows from any world in which it may be, and can be so in one way alone, is so
+pub holds : (a : Parts) {P : Type 0} → IsSound a → IsProp P → ((w : World) → Meets a w → P) → P
+holds a s p f = ∥∥₁_elim s.met p (λ m. f m.0 m.1)
+
+module _ (ring : RingValue) (plan : List Planned) (k : Kept) (w : World) (m : Tells ring plan k w) where
+  -- the world is one of a run
+  pub reached_of : Reached ring plan w
+  reached_of = reached ring plan m.run.0 w m.run.1
+
+  -- the plan suits the ring
+  pub suits_of : Suits ring plan
+  suits_of = m.approved.sound.1.suits
+
+  -- an event that is answered prolongs the run
+  pub run_on : (u : World) (e : Event) (r : Reply) → answer ring plan w e ≡ Ok (u, r) → (run : List Entry) × IsRun ring plan run u
+  run_on u e r h =
+      let entry : Entry = record { event = e; reply = r } in
+      (m.run.0 ++ entry ∷ [], joined ring plan (opening_world ring) w u m.run.0 (entry ∷ []) m.run.1 (u, h, refl))
+
+  -- ---- slots
+
+  -- each slot of the ring is kept
+  pub slot_there : (s : Slot) → is_ring_slot ring s ≡ true → (x : SlotNow) × (slot_now k.rows s ≡ Some x) × IsNow ring plan w s x
+  slot_there = m.slots.each
+
+  -- its owner is declared
+  pub owner_within : (s : Slot) (x : SlotNow) → slot_now k.rows s ≡ Some x → x.owner.0 < length ring.nodes
+  owner_within s x e = owner_kept ring plan k.rows w s x m.is_ring suits_of m.slots e
+
+  -- its mirror is
+  pub mirror_within : (s : Slot) (x : SlotNow) (y : NodeId) → slot_now k.rows s ≡ Some x → x.mirror ≡ Some y → y.0 < length ring.nodes
+  mirror_within s x y e = mirror_kept ring plan k.rows w s x y m.is_ring suits_of m.slots e
+
+  -- and is another node than the owner
+  pub mirror_apart : (s : Slot) (x : SlotNow) (y : NodeId) → slot_now k.rows s ≡ Some x → x.mirror ≡ Some y → y.0 ≢ x.owner.0
+  mirror_apart s x y e of same_node =
+      let within = within_ring ring s (kept_within ring plan k.rows w s x m.slots e) in
+      let now = kept_is ring plan k.rows w s x m.slots e in
+      let good = good-stages ring plan s (λ t q j. m.approved.sound.1.staged t) within.0 within.1 (count w.done (steps_of plan s)) (count_within w.done (steps_of plan s)) in
+      let mirrored : IsGoodMirror (stage_now ring plan w s) (Some y) = subst (λ (o : Option NodeId). IsGoodMirror (stage_now ring plan w s) o) (sym now.mirror ∙ of) good.1 in
+      let apart : (y.0 == (stage_now ring plan w s).owner.0) ≡ false = mirrored.0 in
+      let one : y.0 ≡ (stage_now ring plan w s).owner.0 = same_node ∙ ap (λ (z : NodeId). z.0) now.owner in
+      let yes_it_is : (y.0 == (stage_now ring plan w s).owner.0) ≡ true = subst (λ (z : ℕ). (y.0 == z) ≡ true) one (same y.0) in
+      absurd cc

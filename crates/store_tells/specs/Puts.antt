@@ -1,0 +1,31 @@
+-- What the puts that are kept say of a world.
+use Rattle.std.specs.Prelude.{◌≡◌, ℕ, List, [], ◌∷◌, length, Option, Some, None, slice_get}
+use Rattle.ring_clock.specs.declared.entry.Entry.{Entry}
+use Rattle.ring_versions.specs.declared.version.Version.{Version}
+use Rattle.plan_check.specs.World.{PutRecord, World}
+use Rattle.store_tells.specs.Clocks.{AreClocksOf, IsLastOf}
+use Rattle.store_tables.specs.declared.puts.PutNow.{PutNow}
+use Rattle.store_tables.specs.Puts.{ticket_at}
+
+-- the clock of the first of these versions, the least one where there is none
+abbrev pub clock_in : List Version → List Entry
+clock_in [] = []
+clock_in (x ∷ xs) = x.clock
+
+-- the clock of the put of that number
+abbrev pub clock_at : List PutNow → ℕ → List Entry
+clock_at puts v = elim (slice_get puts v) [ Some put ↦ clock_in put.version | None ↦ [] ]
+
+-- it is put v of that record: its key by number, its one version, its tickets
+pub record PutMeets (keys : List (List ℕ)) (v : ℕ) (put : PutNow) (x : PutRecord) : Type 0 where
+  pub key : slice_get keys put.key ≡ Some x.key
+  pub version : put.version ≡ record { put = v; clock = clock_in put.version; value = x.value } ∷ []
+  pub tickets : (i : ℕ) → ticket_at put i ≡ x.ticket i
+  pub acked : put.acked ≡ x.acked
+
+-- they are the puts, their clocks are made of those that they directly succeed, and the last put of each writer on each key is known
+pub record PutsMeet (keys : List (List ℕ)) (last : ℕ → ℕ → Option ℕ) (puts : List PutNow) (w : World) : Type 0 where
+  pub each : length puts ≡ length w.puts
+  pub at : (v : ℕ) (put : PutNow) (x : PutRecord) → slice_get puts v ≡ Some put → slice_get w.puts v ≡ Some x → PutMeets keys v put x
+  pub clocks : AreClocksOf w (clock_at puts)
+  pub lasts : (k : ℕ) (key : List ℕ) (writer : ℕ) → slice_get keys k ≡ Some key → IsLastOf w writer key (last k writer)

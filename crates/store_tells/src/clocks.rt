@@ -1,0 +1,35 @@
+//! The clocks of a world's puts. Each function here is a law: it does nothing, and its contract holds of the definitions.
+
+ghost use Rattle.std.specs.Prelude.{◌≡◌, ◌↔◌, ℕ, ◌<◌, false, List, length, Option, Ok};
+ghost use Rattle.ring_names.specs.declared.ids.WriterId.{WriterId as TheWriter};
+ghost use Rattle.ring_table.specs.Value.{RingValue};
+ghost use Rattle.ring_clock.specs.declared.entry.Entry.{Entry as TheEntry};
+ghost use Rattle.ring_clock.specs.Clock.{IsAtMost};
+ghost use Rattle.ring_clock.specs.Built.{IsNext, with_clock};
+ghost use Rattle.plan_text.specs.declared.step.Planned.{Planned};
+ghost use Rattle.plan_check.specs.declared.event.Event.{Event as TheEvent};
+ghost use Rattle.plan_check.specs.declared.event.Event.TheVariants.{StartPut};
+ghost use Rattle.plan_check.specs.declared.event.Reply.{Reply as TheReply};
+ghost use Rattle.plan_check.specs.World.{World, opening_world, key_of_put};
+ghost use Rattle.plan_check.specs.Succession.{Succeeds};
+ghost use Rattle.plan_check.specs.Answers.{answer};
+ghost use Rattle.plan_check.specs.Reached.{Reached};
+ghost use Rattle.store_tells.specs.Clocks.{AreClocksOf, IsLastOf, IsInputOf, starts_put};
+
+/// Of two puts of one key the first one's clock is at most the second's exactly where the second succeeds the first.
+pub fn clocks_tell_succession()
+    ensures { (w : World) (clock : ℕ → List TheEntry) → AreClocksOf w clock
+        → (u v : ℕ) → u < length w.puts → v < length w.puts → key_of_put w u ≡ key_of_put w v → IsAtMost (clock v) (clock u) ↔ Succeeds w u v }
+{}
+
+/// At the start any clocks will do, an event that starts no put leaves all clocks as they are, and one that starts a put leaves
+/// those of the others, where its own is made of its inputs' clocks.
+pub fn clocks_are_kept()
+    ensures opening { (ring : RingValue) (clock : ℕ → List TheEntry) → AreClocksOf (opening_world ring) clock }
+    ensures stay { (ring : RingValue) (plan : List Planned) (w u : World) (e : TheEvent) (r : TheReply) (clock : ℕ → List TheEntry)
+        → Reached ring plan w → AreClocksOf w clock → answer ring plan w e ≡ Ok (u, r) → starts_put e ≡ false → AreClocksOf u clock }
+    ensures grow { (ring : RingValue) (plan : List Planned) (w u : World) (writer : TheWriter) (key value seen : List ℕ) (r : TheReply)
+        (last : Option ℕ) (clock : ℕ → List TheEntry) (c : List TheEntry)
+        → Reached ring plan w → AreClocksOf w clock → IsLastOf w writer.0 key last → IsNext clock (IsInputOf w seen last) writer.0 c
+        → answer ring plan w (StartPut writer key value seen) ≡ Ok (u, r) → AreClocksOf u (with_clock clock (length w.puts) c) }
+{}

@@ -1,0 +1,64 @@
+//! All that a running store keeps.
+
+ghost use Rattle.std.specs.Prelude.{◌≡◌, IfOk, IfErr};
+ghost use Rattle.ring_names.specs.declared.refusal.Refusal.TheVariants.{OutOfMemory};
+ghost use Rattle.plan_check.specs.World.{opening_world};
+ghost use Rattle.store_tells.specs.Parts.{Meets, IsSized};
+
+use plan_check::Approved;
+use ring_hints::Hints;
+use ring_names::Refusal;
+use ring_store::Stores;
+use std::alloc::Global;
+use store_tables::{Gets, Keys, Lasts, Nodes, Puts, Slots, Steps};
+
+/// What a running store keeps, part by part, with the approved plan that it follows.
+#[derive(Drop)]
+pub struct Parts<'a> {
+    pub alloc: Global,
+    pub approved: &'a Approved,
+    pub nodes: Nodes,
+    pub steps: Steps,
+    pub slots: Slots,
+    pub keys: Keys,
+    pub lasts: Lasts,
+    pub puts: Puts,
+    pub gets: Gets,
+    /// What the nodes store for slots.
+    pub stores: Stores,
+    /// What nodes keep for slots whose nodes were out of reach.
+    pub hints: Hints,
+    /// How many stores were lost.
+    pub losses: u32,
+}
+
+impl<'a> Parts<'a> {
+    /// What is kept before the first event: members are up, and there is nothing else.
+    pub fn start(alloc: Global, approved: &'a Approved) -> Result<Parts<'a>, Refusal>
+        ensures approved { IfOk result (λ a. a.approved.now ≡ approved.now) }
+        ensures opening { IfOk result (λ a. Meets a (opening_world approved.now.ring)) }
+        ensures sized { IfOk result IsSized }
+        ensures memory { IfErr result (λ e. e ≡ OutOfMemory) }
+    {
+        let ring = approved.ring();
+        let q = ring.q();
+        let nodes = Nodes::start(alloc, ring)?;
+        let steps = Steps::start(alloc, approved.plan().len())?;
+        let slots = Slots::start(alloc, ring)?;
+        let stores = Stores::start(alloc, q, ring.nodes().len() as u32)?;
+        Ok(Parts {
+            alloc,
+            approved,
+            nodes,
+            steps,
+            slots,
+            keys: Keys::new(alloc, q),
+            lasts: Lasts::new(alloc),
+            puts: Puts::new(alloc),
+            gets: Gets::new(alloc),
+            stores,
+            hints: Hints::new(alloc, q),
+            losses: 0,
+        })
+    }
+}

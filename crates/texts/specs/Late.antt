@@ -1,0 +1,25 @@
+-- Where memory may run out: behind lines in which reading finds no fault.
+use Rattle.std.specs.Prelude.{◌≡◌, ℕ, ◌≤◌, [], ◌∷◌, Result, Ok, Err}
+use Rattle.ring_names.specs.declared.refusal.Refusal.{Refusal}
+use Rattle.ring_names.specs.declared.refusal.Refusal.TheVariants.{OutOfMemory}
+use Rattle.ring_names.specs.Refusals.{values_of}
+use Rattle.texts.specs.Left.{Left, lines_on}
+
+-- a fault of line k
+abbrev pub IsAt : ℕ → Refusal → Type 0
+IsAt k e = values_of e ≡ k ∷ []
+
+-- reading finds no fault in front of line k
+abbrev pub NoFaultBefore : {A : Type 0} → ℕ → Result A Refusal → Type 0
+NoFaultBefore k (Ok x) = Unit {0}
+NoFaultBefore k (Err e) = (m : ℕ) × (k ≤ m) × IsAt m e
+
+-- the same of a part of a text, which moreover ends at line k or behind it
+abbrev pub ReadsTo : {A : Type 0} → ℕ → Result (A × Left) Refusal → Type 0
+ReadsTo k (Ok x) = k ≤ x.1.line
+ReadsTo k (Err e) = (m : ℕ) × (k ≤ m) × IsAt m e
+
+-- if memory ran out, n lines or more were taken, and reading finds no fault in those taken
+abbrev pub Late : {A B : Type 0} → ℕ → Result A Refusal → Left → Left → Result (B × Left) Refusal → Type 0
+Late n (Ok x) old new read = Unit {0}
+Late n (Err e) old new read = e ≡ OutOfMemory → (lines_on n old.line ≤ new.line) × ReadsTo new.line read

@@ -1,0 +1,113 @@
+//! The fields of a line, one after the other.
+
+ghost use Rattle.std.specs.Prelude.{◌≡◌, ◌∷◌, [], drop, option_map, is_some, MatchOption};
+ghost use Rattle.texts.specs.Parts.{fields_of};
+ghost use Rattle.texts.specs.Judging.{Does, word_at, number_at, end_at};
+ghost use Rattle.texts.specs.Number.{capped};
+ghost use Rattle.texts.specs.Numbers.{numbers_of, beyond, first_value};
+
+use crate::cursor::Cursor;
+use crate::number_row::NumberRow;
+use ring_names::Refusal;
+use std::marker::Model;
+
+/// The fields of a line that were not taken yet, and the number of the line.
+#[derive(Drop)]
+pub struct Fields<'a> {
+    line: u32,
+    rest: Cursor<'a>,
+}
+
+impl<'a> Model for Fields<'a> {
+    ghost use Rattle.texts.specs.Judging.{Line};
+
+    ghost Value = { Line };
+
+    ghost view = { λ a. record { number = a.line; fields = a.rest } };
+}
+
+impl<'a> Fields<'a> {
+    /// All fields of a line, given without its last byte 0A.
+    pub fn of(line: u32, text: &'a [u8]) -> Fields<'a>
+        ensures { result ≡ record { number = line; fields = fields_of text.now } }
+    {
+        Fields {
+            line,
+            rest: Cursor::of(text),
+        }
+    }
+
+    /// The number of the line.
+    pub fn line(&self) -> u32
+        ensures { result ≡ self.now.number }
+    {
+        self.line
+    }
+
+    /// Takes the next field, if there is one.
+    pub fn next(&mut self) -> Option<&'a [u8]>
+        ensures field { MatchOption result ((self.old.fields ≡ []) × (self.new.fields ≡ [])) (λ field. self.old.fields ≡ field.now ∷ self.new.fields) }
+        ensures line { self.new.number ≡ self.old.number }
+    {
+        self.rest.next()
+    }
+
+    /// Takes a field that must be this word. Else that is `BadLine`.
+    pub fn word(&mut self, word: &[u8]) -> Result<(), Refusal>
+        ensures { Does (λ k. word_at k word.now) self.old result self.new }
+    {
+        match self.next() {
+            Some(field) if field == word => Ok(()),
+            _ => Err(Refusal::BadLine(self.line)),
+        }
+    }
+
+    /// Takes the next field, if there is one, and tells the number that it spells: decimal, without sign and without leading zeros, of any
+    /// length, and at most `CAP`.
+    pub fn value(&mut self) -> Option<u64>
+        ensures value { result ≡ option_map capped (first_value self.old.fields) }
+        ensures rest { self.new ≡ record { number = self.old.number; fields = drop 1 self.old.fields } }
+    {
+        if let Some((_, value)) = self.rest.next_number() {
+            return Some(value);
+        }
+        let _ = self.rest.next();
+        None
+    }
+
+    /// Whether a number stands in front.
+    pub fn begins_number(&self) -> bool
+        ensures { result ≡ is_some (first_value self.now.fields) }
+    {
+        self.rest.again().next_number().is_some()
+    }
+
+    /// Takes a field that must be a number. Another field is `BadLine`, a number above the limit `TooLarge`.
+    pub fn number(&mut self, limit: u32) -> Result<u32, Refusal>
+        ensures { Does (λ k. number_at k limit) self.old result self.new }
+    {
+        match self.value() {
+            None => Err(Refusal::BadLine(self.line)),
+            Some(value) if value > u64::from(limit) => Err(Refusal::TooLarge(self.line)),
+            Some(value) => Ok(value as u32),
+        }
+    }
+
+    /// Takes the numbers that stand in front.
+    pub fn numbers(&mut self) -> NumberRow<'a>
+        ensures numbers { result ≡ numbers_of self.old.fields }
+        ensures rest { self.new ≡ record { number = self.old.number; fields = beyond self.old.fields } }
+    {
+        self.rest.numbers()
+    }
+
+    /// Asks that no field is left. Else that is `BadLine`.
+    pub fn ended(&mut self) -> Result<(), Refusal>
+        ensures { Does (λ k. end_at k) self.old result self.new }
+    {
+        match self.next() {
+            None => Ok(()),
+            Some(_) => Err(Refusal::BadLine(self.line)),
+        }
+    }
+}

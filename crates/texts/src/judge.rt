@@ -1,0 +1,74 @@
+//! Joining what was read of a line.
+
+ghost use Rattle.std.specs.Prelude.{◌≡◌, []};
+ghost use Rattle.texts.specs.Judging.{both_of, end_at, need_at, map_ok};
+
+use crate::fields::Fields;
+use ring_names::Refusal;
+
+/// Both values, or the refusal of the lesser number: of several faults in one line that one decides.
+#[tactic(auto, unfolding(crate::specs::Judging::both_of))]
+pub fn both<A: Drop, B: Drop>(
+    first: Result<A, Refusal>,
+    second: Result<B, Refusal>,
+) -> Result<(A, B), Refusal>
+    ensures { result ≡ both_of first second }
+{
+    match (first, second) {
+        (Ok(a), Ok(b)) => Ok((a, b)),
+        (Ok(_), Err(f)) => Err(f),
+        (Err(e), Ok(_)) => Err(e),
+        (Err(e), Err(f)) => Err(if f.number() < e.number() { f } else { e }),
+    }
+}
+
+// Whether something was read, without what it is.
+fn outcome<A>(item: &Result<A, Refusal>) -> Result<(), Refusal>
+    ensures { result ≡ map_ok (λ _. tt) item.now }
+{
+    match item {
+        Ok(_) => Ok(()),
+        Err(e) => Err(*e),
+    }
+}
+
+/// Room for what a line begins. Else that is `TooLarge`.
+pub fn need(room: bool, fields: &Fields) -> Result<(), Refusal>
+    ensures { result ≡ (need_at fields.now.number room []).0 }
+{
+    if room {
+        Ok(())
+    } else {
+        Err(Refusal::TooLarge(fields.line()))
+    }
+}
+
+/// What was read of a line, where no field is left behind it. Else that is `BadLine`.
+pub fn finish<A: Drop>(item: Result<A, Refusal>, fields: Fields) -> Result<A, Refusal>
+    ensures { result ≡ map_ok (λ x. x.0) (both_of item (end_at fields.entry.number fields.entry.fields).0) }
+{
+    let mut fields = fields;
+    let end = fields.ended();
+    match both(item, end) {
+        Ok((value, ())) => Ok(value),
+        Err(e) => Err(e),
+    }
+}
+
+/// Two values that were read of a line behind a value that is not asked for, where no field is left behind them. Joins their faults, and then moves
+/// the values once.
+#[tactic(auto, unfolding(crate::specs::Judging::both_of))]
+pub fn finish_both<Z: Drop, A: Drop, B: Drop>(
+    before: Result<Z, Refusal>,
+    first: Result<A, Refusal>,
+    second: Result<B, Refusal>,
+    fields: Fields,
+) -> Result<(A, B), Refusal>
+    ensures { result ≡ map_ok (λ x. (x.0.0.1, x.0.1)) (both_of (both_of (both_of before first) second) (end_at fields.entry.number fields.entry.fields).0) }
+{
+    let faults = both(both(before, outcome(&first)), outcome(&second));
+    match finish(faults, fields) {
+        Ok(_) => Ok((first?, second?)),
+        Err(e) => Err(e),
+    }
+}

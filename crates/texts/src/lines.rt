@@ -1,0 +1,100 @@
+//! The lines of a text, one after the other.
+
+ghost use Rattle.std.specs.Prelude.{◌≡◌, ◌≤◌, Ok, IfOk, IfErr, IsTrue, ◌↔◌};
+ghost use Rattle.texts.specs.Parts.{lines_of};
+ghost use Rattle.texts.specs.Late.{IsAt};
+ghost use Rattle.texts.specs.Left.{next_line, next_number, is_over, over_at, begins_with};
+
+use crate::cut::{cut, first_field};
+use crate::fields::Fields;
+use ring_names::Refusal;
+use std::marker::Model;
+
+// The number of the next line.
+#[tactic(auto, unfolding(crate::specs::Left::next_number))]
+fn behind(line: u32) -> u32
+    ensures value { result ≡ next_number line }
+    ensures forward { line ≤ result }
+{
+    if line < u32::MAX { line + 1 } else { line }
+}
+
+/// The lines of a text that were not taken yet, and the number of the next one, from 1. Lines from 2^32 - 1 on all have
+/// that number.
+#[derive(Drop)]
+pub struct Lines<'a> {
+    line: u32,
+    rest: &'a [u8],
+}
+
+impl<'a> Model for Lines<'a> {
+    ghost use Rattle.texts.specs.Left.{Left};
+    ghost use Rattle.texts.specs.Parts.{lines_of};
+
+    ghost Value = { Left };
+
+    ghost view = { λ a. record { line = a.line; lines = lines_of a.rest.now } };
+}
+
+impl<'a> Lines<'a> {
+    /// All lines of a text.
+    pub fn of(text: &'a [u8]) -> Lines<'a>
+        ensures { result ≡ record { line = 1; lines = lines_of text.now } }
+    {
+        Lines {
+            line: 1,
+            rest: text,
+        }
+    }
+
+    /// The number of the next line.
+    pub fn line(&self) -> u32
+        ensures { result ≡ self.now.line }
+    {
+        self.line
+    }
+
+    /// Takes a line that must come. Where there is none, or it is unfinished, that is `BadLine` at its number.
+    pub fn next(&mut self) -> Result<Fields<'a>, Refusal>
+        ensures found { IfOk result (λ x. (x.number ≡ self.old.line) × (next_line self.old ≡ Ok (x.fields, self.new))) }
+        ensures missing { IfErr result (λ e. next_line self.old ≡ Err e) }
+        ensures at { IfErr result (λ e. IsAt self.old.line e) }
+        ensures forward { self.old.line ≤ self.new.line }
+    {
+        let (line, rest) = cut(self.rest, b'\n');
+        match rest {
+            None => Err(Refusal::BadLine(self.line)),
+            Some(rest) => {
+                let fields = Fields::of(self.line, line);
+                self.rest = rest;
+                self.line = behind(self.line);
+                Ok(fields)
+            }
+        }
+    }
+
+    /// Whether the next line begins with the field `word`.
+    pub fn begins(&self, word: &[u8]) -> bool
+        ensures { result ≡ begins_with word.now self.now.lines }
+    {
+        first_field(self.rest) == word
+    }
+
+    /// Whether nothing is left.
+    pub fn is_over(&self) -> bool
+        ensures { result ≡ is_over self.now }
+    {
+        self.rest.is_empty()
+    }
+
+    /// Asks that the text is over. Else that is `BadLine` at the next line.
+    pub fn ended(&self) -> Result<(), Refusal>
+        ensures { result ≡ over_at self.now }
+    {
+        if self.is_over() {
+            Ok(())
+        } else {
+            Err(Refusal::BadLine(self.line))
+        }
+    }
+}

@@ -1,0 +1,69 @@
+//! What is kept of numbers that are taken one behind the other.
+
+ghost use Rattle.std.specs.Prelude.{◌≡◌, ◌≤◌, ◌<◌, ◌+◌, ◌++◌, ◌∷◌, ◌&&◌, [], ℕ, List, nat_le, length, take, is_some, IfSome};
+ghost use Rattle.texts.specs.Number.{capped};
+ghost use Rattle.texts.specs.Numbers.{are_small};
+ghost use Rattle.texts.specs.KeptRow.{Measures};
+
+use crate::number::CAP;
+
+/// How many numbers there were, how great, whether they ascend, and the first of them.
+#[derive(Clone, Copy, Drop)]
+pub(crate) struct Measure {
+    pub(crate) count: u64,
+    // one more than the greatest of them, those from `CAP` on taken for `CAP`; 0 where there are none
+    pub(crate) bound: u64,
+    // whether each is less than the next, told only where all are below `CAP`
+    pub(crate) ascends: bool,
+    // the first of them, those from `CAP` on not as they were
+    pub(crate) first: [u32; 8],
+}
+
+impl Measure {
+    /// Of no numbers.
+    pub(crate) fn new() -> Measure
+        ensures { Measures [] result }
+    {
+        Measure {
+            count: 0,
+            bound: 0,
+            ascends: true,
+            first: [0; 8],
+        }
+    }
+
+    // Keeps the next number, if it is one of the first.
+    fn keep(&mut self, value: u64)
+        requires { value ≤ 4294967296 }
+        ensures first { self.old.count < 8 → value < 4294967296 → take (self.old.count + 1) self.new.first ≡ take self.old.count self.old.first ++ value ∷ [] }
+        ensures count { self.new.count ≡ self.old.count }
+        ensures bound { self.new.bound ≡ self.old.bound }
+        ensures ascends { self.new.ascends ≡ self.old.ascends }
+    {
+        if self.count < 8 {
+            self.first[self.count as usize] = value.min(CAP - 1) as u32;
+        }
+    }
+
+    /// Takes the next number, given as at most `CAP`.
+    pub(crate) fn add(&mut self, value: u64)
+        requires { value ≤ 4294967296 }
+        ensures { (xs : List ℕ) (n : ℕ) → value ≡ capped n → Measures xs self.old → Measures (xs ++ n ∷ []) self.new }
+    {
+        self.keep(value);
+        self.count = self.count.saturating_add(1);
+        self.ascends = self.ascends & (self.bound <= value);
+        self.bound = self.bound.max(value + 1);
+    }
+
+    /// The numbers, where they are at most 8 and each is a `u32`.
+    pub(crate) fn kept(&self) -> Option<&[u32]>
+        ensures some { (xs : List ℕ) → Measures xs self.now → is_some result ≡ (nat_le (length xs) 8 && are_small xs) }
+        ensures same { IfSome result (λ s. (xs : List ℕ) → Measures xs self.now → s.now ≡ xs) }
+    {
+        if self.count <= 8 && self.bound <= CAP {
+            return Some(&self.first[..self.count as usize]);
+        }
+        None
+    }
+}

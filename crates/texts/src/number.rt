@@ -1,0 +1,67 @@
+//! Numbers in decimal.
+
+ghost use Rattle.std.specs.Prelude.{◌≡◌, ◌∷◌, [], true, ⊤, MatchOption, IfSome};
+ghost use Rattle.std.specs.Str.{all_ascii_digits};
+ghost use Rattle.texts.specs.Parts.{fields_of};
+ghost use Rattle.texts.specs.Kept.{fields_left};
+ghost use Rattle.texts.specs.Number.{value_from, is_number, capped};
+ghost use Rattle.texts.specs.Numbers.{numbers_of};
+
+/// Above every limit of a text: greater numbers are taken for this one.
+pub const CAP: u64 = 4_294_967_296;
+
+/// A number that stands in front of some bytes.
+#[derive(Drop)]
+pub(crate) struct Front<'a> {
+    /// Its digits: decimal, without sign and without leading zeros, of any length.
+    pub(crate) digits: &'a [u8],
+    /// Its value, at most `CAP`.
+    pub(crate) value: u64,
+    /// What stands behind the space that ends it, if there is one.
+    pub(crate) rest: Option<&'a [u8]>,
+}
+
+// Whether some digits are a number: there are some, and no leading zero.
+fn are_number(digits: &[u8]) -> bool
+    ensures { all_ascii_digits digits.now ≡ true → result ≡ is_number digits.now }
+{
+    match digits.first() {
+        Some(first) => *first != b'0' || digits.len() == 1,
+        None => false,
+    }
+}
+
+/// The number that the bytes up to the first space spell, in one walk over them.
+pub(crate) fn number_in_front(bytes: &[u8]) -> Option<Front<'_>>
+    ensures none { MatchOption result (numbers_of (fields_of bytes.now) ≡ []) (λ _. ⊤) }
+    ensures field { IfSome result (λ n. fields_of bytes.now ≡ n.digits.now ∷ fields_left n.rest) }
+    ensures number { IfSome result (λ n. is_number n.digits.now ≡ true) }
+    ensures value { IfSome result (λ n. n.value ≡ capped (value_from 0 n.digits.now)) }
+{
+    let mut value = 0u64;
+    for at in 0..bytes.len() {
+        let byte = bytes[at];
+        if !byte.is_ascii_digit() {
+            if byte != b' ' {
+                return None;
+            }
+            if !are_number(&bytes[..at]) {
+                return None;
+            }
+            return Some(Front {
+                digits: &bytes[..at],
+                value,
+                rest: Some(&bytes[at + 1..]),
+            });
+        }
+        value = (10 * value + (byte - b'0') as u64).min(CAP);
+    }
+    if !are_number(bytes) {
+        return None;
+    }
+    Some(Front {
+        digits: bytes,
+        value,
+        rest: None,
+    })
+}
