@@ -68,17 +68,16 @@ fn a_get(alloc: Global) -> Result<Event, Refusal> {
 }
 
 // A put that slots 0 and 2 take, and a get that reads them.
-fn put_and_get<'a, L: RunLedger, R: Wait>(
+fn put_and_get<'a, L: RunLedger, R: AllocGlobal + Wait>(
     rt: &R,
-    alloc: Global,
     executor: &Executor<'a, L>,
     client: &mut Client<L>,
 ) -> Result<(), Refusal> {
-    let put = submit(rt, executor, client, &a_put(alloc, WriterId(0))?)?;
+    let put = submit(rt, executor, client, &a_put(rt.alloc(), WriterId(0))?)?;
     submit(rt, executor, client, &Event::Write(put, 0))?;
     submit(rt, executor, client, &Event::Write(put, 2))?;
     submit(rt, executor, client, &Event::Ack(put))?;
-    let get = submit(rt, executor, client, &a_get(alloc)?)?;
+    let get = submit(rt, executor, client, &a_get(rt.alloc())?)?;
     submit(rt, executor, client, &Event::Read(get, 0))?;
     submit(rt, executor, client, &Event::Read(get, 2))?;
     submit(rt, executor, client, &Event::EndGet(get))?;
@@ -86,14 +85,13 @@ fn put_and_get<'a, L: RunLedger, R: Wait>(
 }
 
 // A put that b misses, whose hint d keeps and hands over.
-fn hint_and_handoff<'a, L: RunLedger, R: Wait>(
+fn hint_and_handoff<'a, L: RunLedger, R: AllocGlobal + Wait>(
     rt: &R,
-    alloc: Global,
     executor: &Executor<'a, L>,
     client: &mut Client<L>,
 ) -> Result<(), Refusal> {
     submit(rt, executor, client, &Event::Down(B))?;
-    let put = submit(rt, executor, client, &a_put(alloc, WriterId(1))?)?;
+    let put = submit(rt, executor, client, &a_put(rt.alloc(), WriterId(1))?)?;
     submit(rt, executor, client, &Event::Write(put, 0))?;
     submit(rt, executor, client, &Event::Hint(put, 1, D))?;
     submit(rt, executor, client, &Event::Ack(put))?;
@@ -103,15 +101,14 @@ fn hint_and_handoff<'a, L: RunLedger, R: Wait>(
 }
 
 // So many puts and gets. The thread's share and its receipts, or why an event was refused.
-fn writes<'a, L: RunLedger, R: Wait>(
+fn writes<'a, L: RunLedger, R: AllocGlobal + Wait>(
     rt: &R,
-    alloc: Global,
     executor: &Executor<'a, L>,
     mut client: Client<L>,
     times: u32,
 ) -> (Client<L>, Result<(), Refusal>) {
     for _ in 0..times {
-        if let Err(refusal) = put_and_get(rt, alloc, executor, &mut client) {
+        if let Err(refusal) = put_and_get(rt, executor, &mut client) {
             return (client, Err(refusal));
         }
     }
@@ -119,15 +116,14 @@ fn writes<'a, L: RunLedger, R: Wait>(
 }
 
 // So many hints and handoffs.
-fn hints<'a, L: RunLedger, R: Wait>(
+fn hints<'a, L: RunLedger, R: AllocGlobal + Wait>(
     rt: &R,
-    alloc: Global,
     executor: &Executor<'a, L>,
     mut client: Client<L>,
     times: u32,
 ) -> (Client<L>, Result<(), Refusal>) {
     for _ in 0..times {
-        if let Err(refusal) = hint_and_handoff(rt, alloc, executor, &mut client) {
+        if let Err(refusal) = hint_and_handoff(rt, executor, &mut client) {
             return (client, Err(refusal));
         }
     }
@@ -191,35 +187,43 @@ fn compared<L: RunLedger + Send + Sync, RT: AllocGlobal + Threads + Wait + Sync 
     requires ring { approved.now.ring ≡ L.ring }
     requires plan { approved.now.plan ≡ L.plan }
 {
-    let alloc = rt.alloc();
-    let (executor, mut share) = Executor::<L>::new(alloc, blank, approved)?;
-    let other = Client {
+    let (executor, mut share) = Executor::<L>::new(rt.alloc(), blank, approved)?;
+    let joined = executor.submit(rt, &Event::Do(0), &mut share)?;
+    let mut receipts = Vec::new(rt.alloc());
+    receipts.push(joined)?;
+    let second = Client {
         share: share.split(),
-        receipts: Vec::new(alloc),
+        receipts: Vec::new(rt.alloc()),
     };
-    let mut own = Client {
-        share,
-        receipts: Vec::new(alloc),
-    };
-    submit(rt, &executor, &mut own, &Event::Do(0))?;
+    let first = Client { share, receipts };
     let shared = &executor;
-    let (own, other) = thread::join(
+    let (one, other) = thread::join(
         rt,
-        || writes(rt, alloc, shared, own, 40),
-        || hints(rt, alloc, shared, other, 40),
+        || writes(rt, shared, first, 40),
+        || hints(rt, shared, second, 40),
     );
-    assert_eq!(rt; own.1, Ok(()));
-    assert_eq!(rt; other.1, Ok(()));
-    let mut shares = Vec::new(alloc);
-    shares.push(own.0.share)?;
-    shares.push(other.0.share)?;
+    let (one, first_end) = one;
+    let (other, second_end) = other;
+    assert_eq!(rt; first_end, Ok(()));
+    assert_eq!(rt; second_end, Ok(()));
+    let Client {
+        share: first_share,
+        receipts: first_receipts,
+    } = one;
+    let Client {
+        share: second_share,
+        receipts: second_receipts,
+    } = other;
+    let mut shares = Vec::new(rt.alloc());
+    shares.push(first_share)?;
+    shares.push(second_share)?;
     let ledgered = executor.finish(shares)?;
     assert_eq!(rt; ledgered.entries().len(), 601);
     all_stand(
         rt,
         ledgered.entries(),
-        own.0.receipts.as_slice(),
-        other.0.receipts.as_slice(),
+        first_receipts.as_slice(),
+        second_receipts.as_slice(),
     )
 }
 

@@ -51,7 +51,7 @@ fn answers(alloc: Global, approved: &Approved, events: &[Event]) -> Result<Vec<u
 }
 
 // What an event is answered, where it is applied once more if memory was refused.
-#[tactic(auto, using(ring_core::proofs::Going::has_number))]
+#[tactic(auto, using(ring_core::proofs::SoundAfterEvent::has_number))]
 fn apply(world: &mut World, event: &Event) -> Result<Reply, Refusal> {
     if world.puts() >= MOST || world.gets() >= MOST {
         return Err(Refusal::HistoryFull);

@@ -52,7 +52,7 @@ fn approved(alloc: Global, ring: &[u8], plan: &[u8], cert: &[u8]) -> Result<Appr
 }
 
 // Adds the line that the event is answered, which is what was allowed.
-#[tactic(auto, using(ring_core::proofs::Going::has_number))]
+#[tactic(auto, using(ring_core::proofs::SoundAfterEvent::has_number))]
 fn answer<RT: Abort>(
     rt: &RT,
     world: &mut World,
