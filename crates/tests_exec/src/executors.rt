@@ -5,10 +5,10 @@ ghost use Rattle.std.specs.Prelude.{◌≡◌, ◌≤◌};
 use plan_cert::read_cert;
 use plan_check::{Approved, Event, check};
 use plan_text::read_plan;
-use ring_exec::{Executor, RunLedger, Share};
+use ring_exec::{Executor, Ledgered, RunLedger, Share};
 use ring_names::{NodeId, Refusal};
 use ring_table::read_ring;
-use std::alloc::Global;
+use std::alloc::{AllocError, Global};
 use std::marker::Brand;
 use std::process::Abort;
 use std::sync::Wait;
@@ -36,6 +36,16 @@ pub fn approved(alloc: Global, ring: &[u8], plan: &[u8], cert: &[u8]) -> Result<
     }
 }
 
+// Whether the event is answered.
+fn is_answered<'a, L: RunLedger, R: Wait>(
+    rt: &R,
+    executor: &Executor<'a, L>,
+    event: Event,
+    share: &mut Share<L>,
+) -> bool {
+    executor.submit(rt, &event, share).is_ok()
+}
+
 // Turns the node off and on so many times. How many events were answered, with the share.
 fn flap<'a, L: RunLedger, R: Wait>(
     rt: &R,
@@ -46,14 +56,123 @@ fn flap<'a, L: RunLedger, R: Wait>(
 ) -> (Share<L>, u32) {
     let mut answered = 0u32;
     for _ in 0..times {
-        if executor.submit(rt, &Event::Down(node), &mut share).is_ok() {
+        if is_answered(rt, executor, Event::Down(node), &mut share) {
             answered = answered.saturating_add(1);
         }
-        if executor.submit(rt, &Event::Up(node), &mut share).is_ok() {
+        if is_answered(rt, executor, Event::Up(node), &mut share) {
             answered = answered.saturating_add(1);
         }
     }
     (share, answered)
+}
+
+// The event's place in the history.
+fn place_of<'a, L: RunLedger, R: Wait>(
+    rt: &R,
+    executor: &Executor<'a, L>,
+    event: Event,
+    share: &mut Share<L>,
+) -> Result<u32, Refusal>
+    ensures { share.new.token.parts ≡ share.old.token.parts }
+{
+    let receipt = executor.submit(rt, &event, share)?;
+    Ok(receipt.index)
+}
+
+// Why the event is refused, if it is.
+fn refusal_of<'a, L: RunLedger, R: Wait>(
+    rt: &R,
+    executor: &Executor<'a, L>,
+    event: Event,
+    share: &mut Share<L>,
+) -> Option<Refusal>
+    ensures { share.new.token.parts ≡ share.old.token.parts }
+{
+    match executor.submit(rt, &event, share) {
+        Ok(_) => None,
+        Err(refusal) => Some(refusal),
+    }
+}
+
+// The steps that are left, and the first one that can begin.
+fn can_begin<'a, L: RunLedger, RT: Wait + Abort>(
+    rt: &RT,
+    executor: &Executor<'a, L>,
+    left: u32,
+    step: u32,
+) -> Result<(), Fail> {
+    assert_eq!(rt; executor.left(rt), left);
+    assert_eq!(rt; executor.ready(rt, 0), Some(step));
+    Ok(())
+}
+
+// The first step is done, and the fourth waits for others.
+fn first_step<'a, L: RunLedger, RT: Wait + Abort>(
+    rt: &RT,
+    executor: &Executor<'a, L>,
+    share: &mut Share<L>,
+) -> Result<(), Fail>
+    ensures { share.new.token.parts ≡ share.old.token.parts }
+{
+    can_begin(rt, executor, 5, 0)?;
+    let place = place_of(rt, executor, Event::Do(0), share)?;
+    assert_eq!(rt; place, 0);
+    can_begin(rt, executor, 4, 1)?;
+    let waits = refusal_of(rt, executor, Event::Do(3), share);
+    assert_eq!(rt; waits, Some(Refusal::NotReady));
+    assert_eq!(rt; share.count(), 1);
+    Ok(())
+}
+
+/// The two shares.
+pub fn two<L: RunLedger>(
+    alloc: Global,
+    first: Share<L>,
+    second: Share<L>,
+) -> Result<Vec<Share<L>>, AllocError> {
+    let mut shares = Vec::new(alloc);
+    shares.push(first)?;
+    shares.push(second)?;
+    Ok(shares)
+}
+
+// The shares of two threads, which turn a node each off and on.
+fn flapped<'a, L: RunLedger + Send + Sync, RT: AllocGlobal + Threads + Wait + Sync + Abort>(
+    rt: &RT,
+    executor: &Executor<'a, L>,
+    first: Share<L>,
+    second: Share<L>,
+) -> Result<Vec<Share<L>>, Fail> {
+    let (one, other) = thread::join(
+        rt,
+        || flap(rt, executor, first, NodeId(0), 1000),
+        || flap(rt, executor, second, NodeId(1), 1000),
+    );
+    let (first, first_answers) = one;
+    let (second, second_answers) = other;
+    assert_eq!(rt; (first_answers, second_answers), (2000, 2000));
+    assert!(rt; executor.hint_at(rt, 0).is_none());
+    Ok(two(rt.alloc(), first, second)?)
+}
+
+// The shares of two threads, the first of which did the first step.
+fn run_two<'a, L: RunLedger + Send + Sync, RT: AllocGlobal + Threads + Wait + Sync + Abort>(
+    rt: &RT,
+    executor: &Executor<'a, L>,
+    mut first: Share<L>,
+) -> Result<Vec<Share<L>>, Fail>
+    requires { 2 ≤ first.token.parts }
+{
+    first_step(rt, executor, &mut first)?;
+    let second = first.split();
+    flapped(rt, executor, first, second)
+}
+
+// What stands in the end: the first step and 2,000 turns of each node.
+fn ended<'a, L: RunLedger, RT: Abort>(rt: &RT, ledgered: &Ledgered<'a, L>) -> Result<(), Fail> {
+    assert_eq!(rt; ledgered.entries().len(), 4001);
+    assert_eq!(rt; ledgered.world().left(), 4);
+    Ok(())
 }
 
 fn by_two<L: RunLedger + Send + Sync, RT: AllocGlobal + Threads + Wait + Sync + Abort>(
@@ -67,34 +186,31 @@ fn by_two<L: RunLedger + Send + Sync, RT: AllocGlobal + Threads + Wait + Sync + 
     requires ring { approved.now.ring ≡ L.ring }
     requires plan { approved.now.plan ≡ L.plan }
 {
-    let (executor, mut first) = Executor::<L>::new(rt.alloc(), blank, approved)?;
-    assert_eq!(rt; executor.left(rt), 5);
-    assert_eq!(rt; executor.ready(rt, 0), Some(0));
-    let receipt = executor.submit(rt, &Event::Do(0), &mut first)?;
-    assert_eq!(rt; receipt.index, 0);
-    assert_eq!(rt; executor.ready(rt, 0), Some(1));
-    assert_eq!(rt; executor.left(rt), 4);
-    let Err(Refusal::NotReady) = executor.submit(rt, &Event::Do(3), &mut first) else {
-        panic!(rt; "step 3 did not wait");
-    };
-    assert_eq!(rt; first.count(), 1);
-    let second = first.split();
-    let shared = &executor;
-    let (one, other) = thread::join(
-        rt,
-        || flap(rt, shared, first, NodeId(0), 1000),
-        || flap(rt, shared, second, NodeId(1), 1000),
-    );
-    assert_eq!(rt; one.1, 2000);
-    assert_eq!(rt; other.1, 2000);
-    assert_eq!(rt; executor.hint_at(rt, 0).is_some(), false);
-    let mut shares = Vec::new(rt.alloc());
-    shares.push(one.0)?;
-    shares.push(other.0)?;
+    let (executor, share) = Executor::<L>::new(rt.alloc(), blank, approved)?;
+    let shares = run_two(rt, &executor, share)?;
     let ledgered = executor.finish(shares)?;
-    assert_eq!(rt; ledgered.entries().len(), 4001);
-    assert_eq!(rt; ledgered.world().left(), 4);
+    ended(rt, &ledgered)
+}
+
+// Fills the history, so that the next event is refused.
+fn filled<'a, L: RunLedger, RT: AllocGlobal + Wait + Abort>(
+    rt: &RT,
+    executor: &Executor<'a, L>,
+    share: Share<L>,
+) -> Result<(), Fail> {
+    let (mut share, answered) = flap(rt, executor, share, NodeId(0), 500_000);
+    assert_eq!(rt; answered, 1_000_000);
+    let refused = refusal_of(rt, executor, Event::Up(NodeId(0)), &mut share);
+    assert_eq!(rt; refused, Some(Refusal::HistoryFull));
     Ok(())
+}
+
+// Whether no share at all is not enough.
+fn disagrees<'a, L: RunLedger>(alloc: Global, executor: Executor<'a, L>) -> bool {
+    match executor.finish(Vec::new(alloc)) {
+        Err(Refusal::Disagree) => true,
+        _ => false,
+    }
 }
 
 fn full<L: RunLedger, RT: AllocGlobal + Wait + Abort>(
@@ -108,15 +224,9 @@ fn full<L: RunLedger, RT: AllocGlobal + Wait + Abort>(
     requires ring { approved.now.ring ≡ L.ring }
     requires plan { approved.now.plan ≡ L.plan }
 {
-    let (executor, first) = Executor::<L>::new(rt.alloc(), blank, approved)?;
-    let (mut share, answered) = flap(rt, &executor, first, NodeId(0), 500_000);
-    assert_eq!(rt; answered, 1_000_000);
-    let Err(Refusal::HistoryFull) = executor.submit(rt, &Event::Up(NodeId(0)), &mut share) else {
-        panic!(rt; "the history was not full");
-    };
-    let Err(Refusal::Disagree) = executor.finish(Vec::new(rt.alloc())) else {
-        panic!(rt; "no share is not all");
-    };
+    let (executor, share) = Executor::<L>::new(rt.alloc(), blank, approved)?;
+    filled(rt, &executor, share)?;
+    assert!(rt; disagrees(rt.alloc(), executor), "no share is not all");
     Ok(())
 }
 

@@ -2,7 +2,7 @@
 
 ghost use Rattle.std.specs.Prelude.{◌≡◌, ◌≤◌};
 
-use crate::executors::{CHAINS, MOVE, RING, approved};
+use crate::executors::{CHAINS, MOVE, RING, approved, two};
 use plan_check::{Approved, Entry, Event, Key, Reply, Seen};
 use ring_exec::{Executor, Receipt, RunLedger, Share};
 use ring_names::{NodeId, Refusal, Slot, Value, WriterId};
@@ -37,9 +37,9 @@ fn submit<'a, L: RunLedger, R: Wait>(
     rt: &R,
     executor: &Executor<'a, L>,
     client: &mut Client<L>,
-    event: &Event,
+    event: Event,
 ) -> Result<u32, Refusal> {
-    let receipt = executor.submit(rt, event, &mut client.share)?;
+    let receipt = executor.submit(rt, &event, &mut client.share)?;
     let number = match &receipt.reply {
         Reply::Put(number) => *number,
         Reply::Get(number) => *number,
@@ -51,11 +51,15 @@ fn submit<'a, L: RunLedger, R: Wait>(
 
 // The start of a put of the key `a` that knows no get.
 fn a_put(alloc: Global, writer: WriterId) -> Result<Event, Refusal> {
-    let key = Key::of(Vec::from_slice(alloc, b"a")?);
-    let value = Value::of(Vec::from_slice(alloc, b"1")?);
-    match (key, value, Seen::of(Vec::new(alloc))) {
-        (Some(key), Some(value), Some(seen)) => Ok(Event::StartPut(writer, key, value, seen)),
-        _ => Err(Refusal::Disagree),
+    let Some(seen) = Seen::of(Vec::new(alloc)) else {
+        return Err(Refusal::Disagree);
+    };
+    let Some(value) = Value::of(Vec::from_slice(alloc, b"1")?) else {
+        return Err(Refusal::Disagree);
+    };
+    match Key::of(Vec::from_slice(alloc, b"a")?) {
+        Some(key) => Ok(Event::StartPut(writer, key, value, seen)),
+        None => Err(Refusal::Disagree),
     }
 }
 
@@ -67,20 +71,41 @@ fn a_get(alloc: Global) -> Result<Event, Refusal> {
     }
 }
 
+// Starts a put. Its number.
+fn start_put<'a, L: RunLedger, R: AllocGlobal + Wait>(
+    rt: &R,
+    executor: &Executor<'a, L>,
+    client: &mut Client<L>,
+    writer: WriterId,
+) -> Result<u32, Refusal> {
+    let start = a_put(rt.alloc(), writer)?;
+    submit(rt, executor, client, start)
+}
+
+// Starts a get. Its number.
+fn start_get<'a, L: RunLedger, R: AllocGlobal + Wait>(
+    rt: &R,
+    executor: &Executor<'a, L>,
+    client: &mut Client<L>,
+) -> Result<u32, Refusal> {
+    let start = a_get(rt.alloc())?;
+    submit(rt, executor, client, start)
+}
+
 // A put that slots 0 and 2 take, and a get that reads them.
 fn put_and_get<'a, L: RunLedger, R: AllocGlobal + Wait>(
     rt: &R,
     executor: &Executor<'a, L>,
     client: &mut Client<L>,
 ) -> Result<(), Refusal> {
-    let put = submit(rt, executor, client, &a_put(rt.alloc(), WriterId(0))?)?;
-    submit(rt, executor, client, &Event::Write(put, 0))?;
-    submit(rt, executor, client, &Event::Write(put, 2))?;
-    submit(rt, executor, client, &Event::Ack(put))?;
-    let get = submit(rt, executor, client, &a_get(rt.alloc())?)?;
-    submit(rt, executor, client, &Event::Read(get, 0))?;
-    submit(rt, executor, client, &Event::Read(get, 2))?;
-    submit(rt, executor, client, &Event::EndGet(get))?;
+    let put = start_put(rt, executor, client, WriterId(0))?;
+    submit(rt, executor, client, Event::Write(put, 0))?;
+    submit(rt, executor, client, Event::Write(put, 2))?;
+    submit(rt, executor, client, Event::Ack(put))?;
+    let get = start_get(rt, executor, client)?;
+    submit(rt, executor, client, Event::Read(get, 0))?;
+    submit(rt, executor, client, Event::Read(get, 2))?;
+    submit(rt, executor, client, Event::EndGet(get))?;
     Ok(())
 }
 
@@ -90,13 +115,13 @@ fn hint_and_handoff<'a, L: RunLedger, R: AllocGlobal + Wait>(
     executor: &Executor<'a, L>,
     client: &mut Client<L>,
 ) -> Result<(), Refusal> {
-    submit(rt, executor, client, &Event::Down(B))?;
-    let put = submit(rt, executor, client, &a_put(rt.alloc(), WriterId(1))?)?;
-    submit(rt, executor, client, &Event::Write(put, 0))?;
-    submit(rt, executor, client, &Event::Hint(put, 1, D))?;
-    submit(rt, executor, client, &Event::Ack(put))?;
-    submit(rt, executor, client, &Event::Up(B))?;
-    submit(rt, executor, client, &Event::Handoff(D, SLOT))?;
+    submit(rt, executor, client, Event::Down(B))?;
+    let put = start_put(rt, executor, client, WriterId(1))?;
+    submit(rt, executor, client, Event::Write(put, 0))?;
+    submit(rt, executor, client, Event::Hint(put, 1, D))?;
+    submit(rt, executor, client, Event::Ack(put))?;
+    submit(rt, executor, client, Event::Up(B))?;
+    submit(rt, executor, client, Event::Handoff(D, SLOT))?;
     Ok(())
 }
 
@@ -135,7 +160,14 @@ fn text(alloc: Global, event: &Event, reply: &Reply) -> Result<String, AllocErro
     format!(in alloc; "{event:?}, {reply:?}")
 }
 
-// The receipt's entry has its event and its reply, and the index is marked.
+// Whether the receipt's entry has its event and its reply.
+fn is_of(alloc: Global, entry: &Entry, receipt: &Receipt) -> Result<bool, AllocError> {
+    let noted = text(alloc, &entry.event, &entry.reply)?;
+    let given = text(alloc, &receipt.event, &receipt.reply)?;
+    Ok(noted.as_str() == given.as_str())
+}
+
+// The receipt is of an entry that has no other, and is marked.
 fn stands<RT: AllocGlobal + Abort>(
     rt: &RT,
     entries: &[Entry],
@@ -146,11 +178,33 @@ fn stands<RT: AllocGlobal + Abort>(
     let Some(entry) = entries.get(index) else {
         panic!(rt; "no entry {index}");
     };
-    let noted = text(rt.alloc(), &entry.event, &entry.reply)?;
-    assert_eq!(rt; text(rt.alloc(), &receipt.event, &receipt.reply)?, noted);
+    assert!(rt;
+        is_of(rt.alloc(), entry, receipt)?,
+        "entry {index} is another"
+    );
     if let Some(mark) = marks.get_mut(index) {
         assert!(rt; !*mark, "entry {index} has two receipts");
         *mark = true;
+    }
+    Ok(())
+}
+
+// Each receipt is of an entry of its own, which is marked.
+fn each_stands<RT: AllocGlobal + Abort>(
+    rt: &RT,
+    entries: &[Entry],
+    receipts: &[Receipt],
+    marks: &mut [bool],
+) -> Result<(), Fail> {
+    for receipt in receipts {
+        stands(rt, entries, receipt, marks)?;
+    }
+    Ok(())
+}
+
+fn all_marked<RT: Abort>(rt: &RT, marks: &[bool]) -> Result<(), Fail> {
+    for mark in marks {
+        assert!(rt; *mark);
     }
     Ok(())
 }
@@ -162,18 +216,94 @@ fn all_stand<RT: AllocGlobal + Abort>(
     first: &[Receipt],
     second: &[Receipt],
 ) -> Result<(), Fail> {
+    assert_eq!(rt; entries.len(), 601);
     assert_eq!(rt; first.len().saturating_add(second.len()), entries.len());
     let mut marks = vec![in rt.alloc(); false; entries.len()]?;
-    for receipt in first {
-        stands(rt, entries, receipt, &mut marks)?;
-    }
-    for receipt in second {
-        stands(rt, entries, receipt, &mut marks)?;
-    }
-    for mark in marks.iter() {
-        assert!(rt; *mark);
-    }
+    each_stands(rt, entries, first, &mut marks)?;
+    each_stands(rt, entries, second, &mut marks)?;
+    all_marked(rt, marks.as_slice())
+}
+
+// What two threads hand back.
+#[derive(Drop)]
+struct Both<L: RunLedger> {
+    shares: Vec<Share<L>>,
+    first: Vec<Receipt>,
+    second: Vec<Receipt>,
+}
+
+// The shares and the receipts of two clients whose events were all answered.
+fn together<L: RunLedger>(
+    alloc: Global,
+    one: Client<L>,
+    other: Client<L>,
+) -> Result<Both<L>, AllocError> {
+    let Client {
+        share: first_share,
+        receipts: first,
+    } = one;
+    let Client {
+        share: second_share,
+        receipts: second,
+    } = other;
+    let shares = two(alloc, first_share, second_share)?;
+    Ok(Both {
+        shares,
+        first,
+        second,
+    })
+}
+
+// A client with a receipt of the join of d.
+fn joined<'a, L: RunLedger, R: AllocGlobal + Wait>(
+    rt: &R,
+    executor: &Executor<'a, L>,
+    client: &mut Client<L>,
+) -> Result<(), Refusal>
+    ensures { client.new.share.token.parts ≡ client.old.share.token.parts }
+{
+    client.receipts.reserve(1)?;
+    let receipt = executor.submit(rt, &Event::Do(0), &mut client.share)?;
+    client.receipts.push_reserved(receipt);
     Ok(())
+}
+
+// Two threads put and get, hint and hand over.
+fn run_both<'a, L: RunLedger + Send + Sync, RT: AllocGlobal + Threads + Wait + Sync + Abort>(
+    rt: &RT,
+    executor: &Executor<'a, L>,
+    first: Client<L>,
+    second: Client<L>,
+) -> Result<Both<L>, Fail> {
+    let (one, other) = thread::join(
+        rt,
+        || writes(rt, executor, first, 40),
+        || hints(rt, executor, second, 40),
+    );
+    let (one, first_end) = one;
+    let (other, second_end) = other;
+    assert_eq!(rt; (first_end, second_end), (Ok(()), Ok(())));
+    Ok(together(rt.alloc(), one, other)?)
+}
+
+// The clients: the first one's has the join of d.
+fn by_clients<'a, L: RunLedger + Send + Sync, RT: AllocGlobal + Threads + Wait + Sync + Abort>(
+    rt: &RT,
+    executor: &Executor<'a, L>,
+    share: Share<L>,
+) -> Result<Both<L>, Fail>
+    requires { 2 ≤ share.token.parts }
+{
+    let mut first = Client {
+        share,
+        receipts: Vec::new(rt.alloc()),
+    };
+    joined(rt, executor, &mut first)?;
+    let second = Client {
+        share: first.share.split(),
+        receipts: Vec::new(rt.alloc()),
+    };
+    run_both(rt, executor, first, second)
 }
 
 fn compared<L: RunLedger + Send + Sync, RT: AllocGlobal + Threads + Wait + Sync + Abort>(
@@ -187,44 +317,14 @@ fn compared<L: RunLedger + Send + Sync, RT: AllocGlobal + Threads + Wait + Sync 
     requires ring { approved.now.ring ≡ L.ring }
     requires plan { approved.now.plan ≡ L.plan }
 {
-    let (executor, mut share) = Executor::<L>::new(rt.alloc(), blank, approved)?;
-    let joined = executor.submit(rt, &Event::Do(0), &mut share)?;
-    let mut receipts = Vec::new(rt.alloc());
-    receipts.push(joined)?;
-    let second = Client {
-        share: share.split(),
-        receipts: Vec::new(rt.alloc()),
-    };
-    let first = Client { share, receipts };
-    let shared = &executor;
-    let (one, other) = thread::join(
-        rt,
-        || writes(rt, shared, first, 40),
-        || hints(rt, shared, second, 40),
-    );
-    let (one, first_end) = one;
-    let (other, second_end) = other;
-    assert_eq!(rt; first_end, Ok(()));
-    assert_eq!(rt; second_end, Ok(()));
-    let Client {
-        share: first_share,
-        receipts: first_receipts,
-    } = one;
-    let Client {
-        share: second_share,
-        receipts: second_receipts,
-    } = other;
-    let mut shares = Vec::new(rt.alloc());
-    shares.push(first_share)?;
-    shares.push(second_share)?;
+    let (executor, share) = Executor::<L>::new(rt.alloc(), blank, approved)?;
+    let Both {
+        shares,
+        first,
+        second,
+    } = by_clients(rt, &executor, share)?;
     let ledgered = executor.finish(shares)?;
-    assert_eq!(rt; ledgered.entries().len(), 601);
-    all_stand(
-        rt,
-        ledgered.entries(),
-        first_receipts.as_slice(),
-        second_receipts.as_slice(),
-    )
+    all_stand(rt, ledgered.entries(), first.as_slice(), second.as_slice())
 }
 
 #[test]

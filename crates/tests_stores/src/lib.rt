@@ -1,0 +1,8 @@
+//! Tests of what no contract says of stores that run plans and of scripts: that calls which may run out of memory succeed where there is enough, and
+//! texts that are written. Nothing is exported.
+#![tactic(auto)]
+
+#[cfg(test)]
+mod scripts;
+#[cfg(test)]
+mod worlds;
