@@ -1,0 +1,104 @@
+//! Whether lists of receipts are those of a drive.
+
+ghost use Rattle.std.specs.Prelude.{◌≡◌, ◌↔◌, ◌+◌, ◌<◌, ◌≤◌, ℕ, [], true, length, slice_index_or, IfOk, IfErr, IsTrue};
+ghost use Rattle.std.specs.List.{list_all};
+ghost use Rattle.ring_names.specs.declared.refusal.Refusal.TheVariants.{OutOfMemory};
+ghost use Rattle.ring_receipts.specs.Kinds.{is_step};
+ghost use Rattle.ring_receipts.specs.Blocks.{IsClient};
+ghost use Rattle.ring_receipts.specs.Finishing.{list_at};
+ghost use Rattle.ring_receipts.specs.Agreed.{AgreesBehind, Agrees};
+
+use crate::clients::is_client;
+use crate::finishing::are_finishers;
+use crate::interleaving::interleaves;
+use crate::kinds::{are_of_handoffs, are_of_steps};
+use crate::outcome::Outcome;
+use plan_check::Approved;
+use ring_exec::Receipt;
+use ring_names::{Listed, Refusal};
+use script_text::Script;
+use std::alloc::Global;
+
+// Whether the lists of the workers, from that place on, are of steps of a plan.
+fn are_workers(lists: &[Listed<Receipt>], first: usize, workers: u32) -> bool
+    requires { first + workers ≤ length lists.now }
+    ensures { IsTrue result ↔ ((i : ℕ) → i < workers → list_all (λ r. is_step r.event) (list_at lists.now (first + i)) ≡ true) }
+{
+    for worker in 0..workers {
+        if !are_of_steps(lists[first + worker as usize].as_slice()) {
+            return false;
+        }
+    }
+    true
+}
+
+// Whether the lists of the clients, from that place on, are those of their scripts.
+fn are_clients(
+    alloc: Global,
+    scripts: &[Script],
+    lists: &[Listed<Receipt>],
+    first: usize,
+) -> Result<bool, Refusal>
+    requires { first + length scripts.now ≤ length lists.now }
+    ensures exactly { IfOk result (λ b. IsTrue b ↔ ((i : ℕ) → i < length scripts.now → IsClient (slice_index_or scripts.now i []) (list_at lists.now (first + i)))) }
+    ensures memory { IfErr result (λ e. e ≡ OutOfMemory) }
+{
+    for (place, script) in scripts.iter().enumerate() {
+        if !is_client(alloc, script.events(), lists[first + place].as_slice())? {
+            return Ok(false);
+        }
+    }
+    Ok(true)
+}
+
+// Whether the lists are those of a drive, where so many stand in front of the workers'.
+fn agrees_behind(
+    alloc: Global,
+    steps: u32,
+    scripts: &[Script],
+    workers: u32,
+    outcome: &Outcome,
+    front: usize,
+) -> Result<bool, Refusal>
+    requires { length outcome.now.receipts.items ≡ front + (workers + (length scripts.now + 1)) }
+    ensures exactly { IfOk result (λ b. IsTrue b ↔ AgreesBehind front steps scripts.now workers outcome.now.history.items outcome.now.receipts.items outcome.now.finishers.items) }
+    ensures memory { IfErr result (λ e. e ≡ OutOfMemory) }
+{
+    let lists = outcome.receipts.as_slice();
+    let finishers = outcome.finishers.as_slice();
+    let clients = front + workers as usize;
+    let interleaved = interleaves(alloc, outcome.history.as_slice(), lists)?;
+    let finished = are_finishers(alloc, finishers, front, workers, lists)?;
+    let served = are_clients(alloc, scripts, lists, clients)?;
+    let worked = are_workers(lists, front, workers);
+    let handed = are_of_handoffs(lists[clients + scripts.len()].as_slice());
+    let all = finishers.len() == steps as usize;
+    Ok(interleaved && finished && served && worked && handed && all)
+}
+
+/// Whether the lists of receipts are those of the threads of a drive: the last of them are the workers' by number, with events of steps alone,
+/// the clients' by script, each a block for each line of its script, and the one of handoffs; the history is an interleaving of all of them; and each
+/// step's finisher is the worker whose list has its `do` or `close`. Takes a byte for each entry and step, and the keys of a script's gets.
+pub fn agrees(
+    alloc: Global,
+    approved: &Approved,
+    scripts: &[Script],
+    workers: u32,
+    outcome: &Outcome,
+) -> Result<bool, Refusal>
+    ensures exactly { IfOk result (λ b. IsTrue b ↔ Agrees (length approved.now.plan) scripts.now workers outcome.now.history.items outcome.now.receipts.items outcome.now.finishers.items) }
+    ensures memory { IfErr result (λ e. e ≡ OutOfMemory) }
+{
+    let behind = (workers as usize).saturating_add(scripts.len());
+    let Some(front) = outcome.receipts.len().checked_sub(behind.saturating_add(1)) else {
+        return Ok(false);
+    };
+    agrees_behind(
+        alloc,
+        approved.plan().len(),
+        scripts,
+        workers,
+        outcome,
+        front,
+    )
+}

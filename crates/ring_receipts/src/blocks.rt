@@ -1,0 +1,153 @@
+//! The block of a line at the front of a list of receipts.
+
+ghost use Rattle.std.specs.Prelude.{◌≡◌, List, true, IfOk, IfErr, IfSome, IfNone};
+ghost use Rattle.ring_names.specs.declared.refusal.Refusal.TheVariants.{OutOfMemory};
+ghost use Rattle.plan_check.specs.declared.event.Event.TheVariants.{StartPut, StartGet};
+ghost use Rattle.ring_receipts.specs.declared.asked.Asked.{Asked as TheAsked};
+ghost use Rattle.ring_receipts.specs.Kinds.{sends, acknowledges, reads, ends};
+ghost use Rattle.ring_receipts.specs.Behind.{behind, behind_one, begins_with};
+ghost use Rattle.ring_receipts.specs.Blocks.{Leaves, HasNoBlock, moves_a_node};
+
+use crate::asked::Asked;
+use crate::kinds::{is_acknowledged, is_end, is_read, is_sent};
+use crate::same::same_event;
+use crate::starts::{all_ended, get_started, put_started};
+use plan_check::{Event, Key, Seen};
+use ring_exec::Receipt;
+use ring_names::{Refusal, Value, WriterId};
+use std::alloc::Global;
+
+// What is left behind the writes and hints of the put, and at most one acknowledgement of it.
+fn behind_put(put: u32, list: &[Receipt]) -> &[Receipt]
+    ensures { result.now ≡ behind_one (λ r. acknowledges put r.event) (behind (λ r. sends put r.event) list.now) }
+{
+    let mut rest = list;
+    'receipts: while let Some((first, later)) = rest.split_first() {
+        if !is_sent(put, &first.event) {
+            return if is_acknowledged(put, &first.event) {
+                later
+            } else {
+                rest
+            };
+        }
+        rest = later;
+    }
+    rest
+}
+
+// What is left behind the reads of the get.
+fn behind_reads(get: u32, list: &[Receipt]) -> &[Receipt]
+    ensures { result.now ≡ behind (λ r. reads get r.event) list.now }
+{
+    let mut rest = list;
+    'receipts: while let Some((first, later)) = rest.split_first() {
+        if !is_read(get, &first.event) {
+            return rest;
+        }
+        rest = later;
+    }
+    rest
+}
+
+// Whether the list begins with the get's end, and what is left behind it.
+fn behind_end(get: u32, list: &[Receipt]) -> (bool, &[Receipt])
+    ensures ends { result.0 ≡ begins_with (λ r. ends get r.event) list.now }
+    ensures rest { result.1.now ≡ behind_one (λ r. ends get r.event) list.now }
+{
+    let Some((first, later)) = list.split_first() else {
+        return (false, list);
+    };
+    if is_end(get, &first.event) {
+        (true, later)
+    } else {
+        (false, list)
+    }
+}
+
+// What is left of the list behind the block of a put's line, if there is one.
+fn behind_put_line<'a>(
+    asked: &[Asked],
+    writer: WriterId,
+    key: &Key,
+    value: &Value,
+    seen: &Seen,
+    list: &'a [Receipt],
+) -> Option<&'a [Receipt]>
+    ensures some { IfSome result (λ rest. Leaves asked.now (StartPut writer key.now value.now seen.now) list.now rest.now asked.now) }
+    ensures none { IfNone result (HasNoBlock asked.now (StartPut writer key.now value.now seen.now) list.now) }
+{
+    if !all_ended(asked, key, seen) {
+        return Some(list);
+    }
+    let Some((start, later)) = list.split_first() else {
+        return None;
+    };
+    match put_started(asked, writer, key, value, seen, start) {
+        Some(put) => Some(behind_put(put, later)),
+        None => None,
+    }
+}
+
+// The same of a get's line. The get is noted.
+fn behind_get_line<'a>(
+    alloc: Global,
+    asked: &mut Vec<Asked>,
+    key: &Key,
+    list: &'a [Receipt],
+) -> Result<Option<&'a [Receipt]>, Refusal>
+    ensures some { IfOk result (λ o. IfSome o (λ rest. Leaves asked.old.items (StartGet key.now) list.now rest.now asked.new.items)) }
+    ensures none { IfOk result (λ o. IfNone o (HasNoBlock asked.old.items (StartGet key.now) list.now)) }
+    ensures memory { IfErr result (λ e. e ≡ OutOfMemory) }
+{
+    let Some((start, later)) = list.split_first() else {
+        return Ok(None);
+    };
+    let Some(number) = get_started(key, start) else {
+        return Ok(None);
+    };
+    let (ended, rest) = behind_end(number, behind_reads(number, later));
+    let key = key.try_copy(alloc)?;
+    asked.push(Asked { number, key, ended })?;
+    Ok(Some(rest))
+}
+
+// The same of the line of a node that goes down or comes up: there is always one.
+fn behind_node_line<'a>(line: &Event, list: &'a [Receipt]) -> &'a [Receipt]
+    requires { moves_a_node line.now ≡ true }
+    ensures { (asked : List TheAsked) → Leaves asked line.now list.now result.now asked }
+{
+    let Some((first, later)) = list.split_first() else {
+        return list;
+    };
+    if same_event(&first.event, line) {
+        later
+    } else {
+        list
+    }
+}
+
+/// What is left of the list behind the line's block, if there is one. The get of a get's line is noted behind those that were asked.
+pub(crate) fn behind_line<'a>(
+    alloc: Global,
+    asked: &mut Vec<Asked>,
+    line: &Event,
+    list: &'a [Receipt],
+) -> Result<Option<&'a [Receipt]>, Refusal>
+    ensures some { IfOk result (λ o. IfSome o (λ rest. Leaves asked.old.items line.now list.now rest.now asked.new.items)) }
+    ensures none { IfOk result (λ o. IfNone o (HasNoBlock asked.old.items line.now list.now)) }
+    ensures memory { IfErr result (λ e. e ≡ OutOfMemory) }
+{
+    match line {
+        Event::StartPut(writer, key, value, seen) => Ok(behind_put_line(
+            asked.as_slice(),
+            *writer,
+            key,
+            value,
+            seen,
+            list,
+        )),
+        Event::StartGet(key) => behind_get_line(alloc, asked, key, list),
+        Event::Down(_) | Event::Up(_) => Ok(Some(behind_node_line(line, list))),
+        _ => Ok(None),
+    }
+}

@@ -1,0 +1,94 @@
+//! What the events of receipts are.
+
+ghost use Rattle.std.specs.Prelude.{◌≡◌};
+ghost use Rattle.std.specs.List.{list_all};
+ghost use Rattle.ring_receipts.specs.Kinds.{is_step, is_handoff, finished_by, sends, acknowledges, reads, ends};
+
+use plan_check::Event;
+use ring_exec::Receipt;
+
+fn is_of_step(event: &Event) -> bool
+    ensures { result ≡ is_step event.now }
+{
+    match event {
+        Event::Do(_)
+        | Event::OpenCopy(_)
+        | Event::ChunkCopy(_, _)
+        | Event::CloseCopy(_)
+        | Event::AbortCopy(_) => true,
+        _ => false,
+    }
+}
+
+fn is_of_handoff(event: &Event) -> bool
+    ensures { result ≡ is_handoff event.now }
+{
+    match event {
+        Event::Handoff(_, _) => true,
+        _ => false,
+    }
+}
+
+/// Whether all are of steps of a plan.
+pub(crate) fn are_of_steps(list: &[Receipt]) -> bool
+    ensures { result ≡ list_all (λ r. is_step r.event) list.now }
+{
+    list.iter().all(|receipt| is_of_step(&receipt.event))
+}
+
+/// Whether all hand hints off.
+pub(crate) fn are_of_handoffs(list: &[Receipt]) -> bool
+    ensures { result ≡ list_all (λ r. is_handoff r.event) list.now }
+{
+    list.iter().all(|receipt| is_of_handoff(&receipt.event))
+}
+
+/// The step that the event finishes, if it does.
+pub(crate) fn finished(event: &Event) -> Option<u32>
+    ensures { result ≡ finished_by event.now }
+{
+    match event {
+        Event::Do(step) | Event::CloseCopy(step) => Some(*step),
+        _ => None,
+    }
+}
+
+/// Whether the event writes the put, or leaves a hint of it.
+pub(crate) fn is_sent(put: u32, event: &Event) -> bool
+    ensures { result ≡ sends put event.now }
+{
+    match event {
+        Event::Write(other, _) | Event::Hint(other, _, _) => put == *other,
+        _ => false,
+    }
+}
+
+/// Whether the event acknowledges the put.
+pub(crate) fn is_acknowledged(put: u32, event: &Event) -> bool
+    ensures { result ≡ acknowledges put event.now }
+{
+    match event {
+        Event::Ack(other) => put == *other,
+        _ => false,
+    }
+}
+
+/// Whether the event is a read of the get.
+pub(crate) fn is_read(get: u32, event: &Event) -> bool
+    ensures { result ≡ reads get event.now }
+{
+    match event {
+        Event::Read(other, _) => get == *other,
+        _ => false,
+    }
+}
+
+/// Whether the event ends the get.
+pub(crate) fn is_end(get: u32, event: &Event) -> bool
+    ensures { result ≡ ends get event.now }
+{
+    match event {
+        Event::EndGet(other) => get == *other,
+        _ => false,
+    }
+}

@@ -1,0 +1,17 @@
+//! The lists of receipts that the threads of a drive hand back, and whether they are the drive's history: who was answered what, in which order,
+//! and who finished each step.
+#![tactic(auto)]
+
+mod agreeing;
+mod asked;
+mod blocks;
+mod clients;
+mod finishing;
+mod interleaving;
+mod kinds;
+mod outcome;
+mod same;
+mod starts;
+
+pub use agreeing::agrees;
+pub use outcome::Outcome;

@@ -1,0 +1,14 @@
+//! What comes of a drive.
+
+use plan_check::Entry;
+use ring_exec::Receipt;
+use ring_names::Listed;
+
+/// The history of a drive, the receipts of each of its threads, and the number of the worker that finished each step. The lists are those of
+/// the workers by number, of the clients by script, and of the thread that hands hints off; lists of what was there before stand in front.
+#[derive(Debug, Drop)]
+pub struct Outcome {
+    pub history: Vec<Entry>,
+    pub receipts: Vec<Listed<Receipt>>,
+    pub finishers: Vec<u32>,
+}

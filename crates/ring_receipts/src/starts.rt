@@ -1,0 +1,120 @@
+//! Whether a receipt is of the start of a line's put or get.
+
+ghost use Rattle.std.specs.Str.{bytes_eq};
+ghost use Rattle.std.specs.Prelude.{◌≡◌, ◌&&◌, ◌↔◌, ℕ, Some, None, false, slice_get, IfSome, IfNone, IsTrue};
+ghost use Rattle.plan_check.specs.declared.event.Event.TheVariants.{StartPut, StartGet};
+ghost use Rattle.plan_check.specs.declared.event.Reply.TheVariants.{Put, Get};
+ghost use Rattle.ring_receipts.specs.Blocks.{number_at, numbers_of, are_ended};
+
+use crate::asked::Asked;
+use plan_check::{Event, Key, Reply, Seen};
+use ring_exec::Receipt;
+use ring_names::{Value, WriterId};
+
+/// Whether each number is that of an earlier get of the script, of that key and with an end.
+pub(crate) fn all_ended(asked: &[Asked], key: &Key, seen: &Seen) -> bool
+    ensures { result ≡ are_ended asked.now key.now seen.now }
+{
+    seen.as_slice().iter().all(
+        |n: &u32| -> bool
+            ensures { result ≡ elim (slice_get asked.entry.now n.now) [ Some a ↦ bytes_eq a.key key.entry.now && a.ended | None ↦ false ] }
+        {
+            match asked.get(*n as usize) {
+                Some(get) => get.key.as_slice() == key.as_slice() && get.ended,
+                None => false,
+            }
+        },
+    )
+}
+
+// The number that the script's n-th get was answered; 0 where there is none.
+fn number_of(asked: &[Asked], n: u32) -> u32
+    ensures { result ≡ number_at asked.now n }
+{
+    match asked.get(n as usize) {
+        Some(get) => get.number,
+        None => 0,
+    }
+}
+
+// Whether the numbers are those of the gets.
+fn are_numbers(asked: &[Asked], seen: &[u32], numbers: &[u32]) -> bool
+    ensures { IsTrue result ↔ (numbers.now ≡ numbers_of asked.now seen.now) }
+{
+    let mut gets = seen;
+    let mut rest = numbers;
+    'gets: while let Some((get, gets_later)) = gets.split_first() {
+        let Some((number, later)) = rest.split_first() else {
+            return false;
+        };
+        if *number != number_of(asked, *get) {
+            return false;
+        }
+        gets = gets_later;
+        rest = later;
+    }
+    rest.is_empty()
+}
+
+// Whether the event starts a put of those words, whose gets have these numbers.
+fn is_start_of(
+    asked: &[Asked],
+    writer: WriterId,
+    key: &Key,
+    value: &Value,
+    seen: &Seen,
+    event: &Event,
+) -> bool
+    ensures { IsTrue result ↔ (event.now ≡ StartPut writer key.now value.now (numbers_of asked.now seen.now)) }
+{
+    match event {
+        Event::StartPut(by, of, with, knowing) => {
+            by.0 == writer.0
+                && of.as_slice() == key.as_slice()
+                && with.as_slice() == value.as_slice()
+                && are_numbers(asked, seen.as_slice(), knowing.as_slice())
+        }
+        _ => false,
+    }
+}
+
+/// The number of the put of those words that the receipt starts, if it does.
+pub(crate) fn put_started(
+    asked: &[Asked],
+    writer: WriterId,
+    key: &Key,
+    value: &Value,
+    seen: &Seen,
+    receipt: &Receipt,
+) -> Option<u32>
+    ensures some { IfSome result (λ v. (receipt.now.event ≡ StartPut writer key.now value.now (numbers_of asked.now seen.now)) × (receipt.now.reply ≡ Put v)) }
+    ensures none { IfNone result ((v : ℕ) → receipt.now.event ≡ StartPut writer key.now value.now (numbers_of asked.now seen.now) → receipt.now.reply ≡ Put v → ⊥) }
+{
+    match &receipt.reply {
+        Reply::Put(put) => {
+            if is_start_of(asked, writer, key, value, seen, &receipt.event) {
+                Some(*put)
+            } else {
+                None
+            }
+        }
+        _ => None,
+    }
+}
+
+/// The number of the get of that key that the receipt starts, if it does.
+pub(crate) fn get_started(key: &Key, receipt: &Receipt) -> Option<u32>
+    ensures some { IfSome result (λ g. (receipt.now.event ≡ StartGet key.now) × (receipt.now.reply ≡ Get g)) }
+    ensures none { IfNone result ((g : ℕ) → receipt.now.event ≡ StartGet key.now → receipt.now.reply ≡ Get g → ⊥) }
+{
+    match (&receipt.event, &receipt.reply) {
+        (Event::StartGet(of), Reply::Get(get)) => {
+            if of.as_slice() == key.as_slice() {
+                Some(*get)
+            } else {
+                None
+            }
+        }
+        _ => None,
+    }
+}
