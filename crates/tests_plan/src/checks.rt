@@ -2,15 +2,14 @@
 
 ghost use Rattle.plan_text.specs.Valid.{Suits};
 
-use crate::rings::{RING, two_moves};
-use plan_cert::{Cert, read_cert};
-use plan_check::check;
+use crate::rings::{RING, approved, cert_from, plan_from, ring_from, two_moves};
+use plan_cert::Cert;
 use plan_cover::{check_node, check_nodes};
 use plan_order::{Facts, verify_fact};
-use plan_stage::{check_partition, parties, sources, stage_at};
-use plan_text::{Plan, read_plan};
+use plan_stage::{Stage, check_partition, parties, sources, stage_at};
+use plan_text::Plan;
 use ring_names::{NodeId, Refusal, Slot};
-use ring_table::{Ring, read_ring};
+use ring_table::Ring;
 use std::alloc::Global;
 use std::process::Abort;
 use std::test::Fail;
@@ -39,31 +38,42 @@ fn facts_ordered<RT: AllocGlobal + Abort>(rt: &RT, plan: &Plan, cert: &Cert) -> 
     Ok(())
 }
 
+fn cert_ordered<RT: AllocGlobal + Abort>(rt: &RT, ring: &Ring, plan: &Plan) -> Result<(), Fail> {
+    let cert = cert_from(rt.alloc(), ring, CERT)?;
+    facts_ordered(rt, plan, &cert)
+}
+
 fn facts_of<RT: AllocGlobal + Abort>(rt: &RT, ring: &Ring) -> Result<(), Fail> {
     let plan = two_moves(rt.alloc(), ring)?;
     paths_verified(rt, &plan);
-    let cert = read_cert(rt.alloc(), ring, CERT)?;
-    facts_ordered(rt, &plan, &cert)
+    cert_ordered(rt, ring, &plan)
 }
 
 #[test]
 fn facts_by_paths(rt: HostRuntime) -> Result<(), Fail> {
-    let ring = read_ring(rt.alloc(), RING)?;
+    let ring = ring_from(rt.alloc(), RING)?;
     facts_of(&rt, &ring)
 }
 
 // ---- partitions
 
 // What the check of a partition says, by the facts of a certificate.
-fn partition(alloc: Global, ring: &Ring, plan: &Plan, cert: &[u8]) -> Result<(), Refusal>
+fn partition_by(alloc: Global, ring: &Ring, plan: &Plan, cert: &Cert) -> Result<(), Refusal>
     requires { Suits ring.now plan.now }
 {
-    let cert = read_cert(alloc, ring, cert)?;
-    let facts = Facts::verify(alloc, plan, &cert.facts)?;
     if ring.q() == 0 {
         return Err(Refusal::BadLine(0));
     }
+    let facts = Facts::verify(alloc, plan, &cert.facts)?;
     check_partition(alloc, ring, plan, &facts, 0)
+}
+
+// The same by the certificate's text.
+fn partition(alloc: Global, ring: &Ring, plan: &Plan, cert: &[u8]) -> Result<(), Refusal>
+    requires { Suits ring.now plan.now }
+{
+    let cert = cert_from(alloc, ring, cert)?;
+    partition_by(alloc, ring, plan, &cert)
 }
 
 // The copy from slot 1 needs the path from the switch of that slot.
@@ -76,21 +86,51 @@ fn listed_copy<RT: AllocGlobal + Abort>(rt: &RT, ring: &Ring, plan: &Plan)
     assert_eq!(rt; without, Err(Refusal::MovingSource(5)));
 }
 
+// These nodes take part in the step.
+fn parties_are<RT: AllocGlobal + Abort>(
+    rt: &RT,
+    ring: &Ring,
+    plan: &Plan,
+    step: u32,
+    nodes: &[NodeId],
+) -> Result<(), Fail>
+    requires { Suits ring.now plan.now }
+{
+    let found = parties(rt.alloc(), ring, plan, step)?;
+    assert_eq!(rt; found.as_slice(), nodes);
+    Ok(())
+}
+
+// From these nodes the step reads.
+fn sources_are<RT: AllocGlobal + Abort>(
+    rt: &RT,
+    ring: &Ring,
+    plan: &Plan,
+    step: u32,
+    nodes: &[NodeId],
+) -> Result<(), Fail>
+    requires { Suits ring.now plan.now }
+{
+    let found = sources(rt.alloc(), ring, plan, step)?;
+    assert_eq!(rt; found.as_slice(), nodes);
+    Ok(())
+}
+
 fn parties_of<RT: AllocGlobal + Abort>(rt: &RT, ring: &Ring, plan: &Plan) -> Result<(), Fail>
     requires { Suits ring.now plan.now }
 {
-    let first = parties(rt.alloc(), ring, plan, 2)?;
-    assert_eq!(rt; first.as_slice(), [NodeId(1), NodeId(3)].as_slice());
-    let second = parties(rt.alloc(), ring, plan, 5)?;
-    assert_eq!(rt;
-        second.as_slice(),
-        [NodeId(0), NodeId(1), NodeId(3)].as_slice()
-    );
-    let read = sources(rt.alloc(), ring, plan, 5)?;
-    assert_eq!(rt; read.as_slice(), [NodeId(0), NodeId(3)].as_slice());
-    let none = parties(rt.alloc(), ring, plan, 3)?;
-    assert!(rt; none.as_slice().is_empty());
-    Ok(())
+    parties_are(rt, ring, plan, 2, &[NodeId(1), NodeId(3)])?;
+    parties_are(rt, ring, plan, 5, &[NodeId(0), NodeId(1), NodeId(3)])?;
+    sources_are(rt, ring, plan, 5, &[NodeId(0), NodeId(3)])?;
+    parties_are(rt, ring, plan, 3, &[])
+}
+
+// The slot went from b to d, and b still has what it held.
+fn is_moved<RT: Abort>(rt: &RT, stage: &Stage) {
+    assert_eq!(rt; stage.owner, NodeId(3));
+    assert_eq!(rt; stage.mirror, None);
+    assert!(rt; !stage.copied);
+    assert_eq!(rt; stage.leftovers.as_slice(), [NodeId(1)].as_slice());
 }
 
 fn stage_of<RT: AllocGlobal + Abort>(rt: &RT, ring: &Ring, plan: &Plan) -> Result<(), Fail> {
@@ -100,79 +140,95 @@ fn stage_of<RT: AllocGlobal + Abort>(rt: &RT, ring: &Ring, plan: &Plan) -> Resul
         partition: 0,
         index: 1,
     };
-    let moved = stage_at(rt.alloc(), ring, plan, slot, 3)?;
-    assert_eq!(rt; moved.owner, NodeId(3));
-    assert_eq!(rt; moved.mirror, None);
-    assert!(rt; !moved.copied);
-    assert_eq!(rt; moved.leftovers.as_slice(), [NodeId(1)].as_slice());
+    let stage = stage_at(rt.alloc(), ring, plan, slot, 3)?;
+    is_moved(rt, &stage);
     Ok(())
 }
 
+fn parts_of<RT: AllocGlobal + Abort>(rt: &RT, ring: &Ring, plan: &Plan) -> Result<(), Fail>
+    requires { Suits ring.now plan.now }
+{
+    listed_copy(rt, ring, plan);
+    parties_of(rt, ring, plan)?;
+    stage_of(rt, ring, plan)
+}
+
 fn partition_of<RT: AllocGlobal + Abort>(rt: &RT, ring: &Ring) -> Result<(), Fail> {
-    let plan = read_plan(rt.alloc(), ring, READS_LISTED)?;
-    listed_copy(rt, ring, &plan);
-    parties_of(rt, ring, &plan)?;
-    stage_of(rt, ring, &plan)
+    let plan = plan_from(rt.alloc(), ring, READS_LISTED)?;
+    parts_of(rt, ring, &plan)
 }
 
 #[test]
 fn partitions_and_their_parts(rt: HostRuntime) -> Result<(), Fail> {
-    let ring = read_ring(rt.alloc(), RING)?;
+    let ring = ring_from(rt.alloc(), RING)?;
     partition_of(&rt, &ring)
 }
 
 // ---- nodes
 
 // What the check of node b says, and that of all nodes.
-fn nodes(alloc: Global, ring: &Ring, plan: &Plan, cert: &[u8]) -> Result<(), Refusal>
+fn nodes_by(alloc: Global, ring: &Ring, plan: &Plan, cert: &Cert) -> Result<(), Refusal>
     requires { Suits ring.now plan.now }
 {
-    let cert = read_cert(alloc, ring, cert)?;
-    let facts = Facts::verify(alloc, plan, &cert.facts)?;
     if ring.nodes().len() <= 1 {
         return Err(Refusal::BadLine(0));
     }
-    check_node(alloc, ring, plan, &facts, &cert, NodeId(1))?;
-    check_nodes(alloc, ring, plan, &facts, &cert)
+    let facts = Facts::verify(alloc, plan, &cert.facts)?;
+    check_node(alloc, ring, plan, &facts, cert, NodeId(1))?;
+    check_nodes(alloc, ring, plan, &facts, cert)
+}
+
+// The same by the certificate's text.
+fn nodes(alloc: Global, ring: &Ring, plan: &Plan, cert: &[u8]) -> Result<(), Refusal>
+    requires { Suits ring.now plan.now }
+{
+    let cert = cert_from(alloc, ring, cert)?;
+    nodes_by(alloc, ring, plan, &cert)
+}
+
+// Without the chain of d no chain covers its copies.
+const SHORT: &[u8] = b"cert 1\nfact 2 3 4 5\nchain b 2 5\nend\n";
+
+fn chains_needed<RT: AllocGlobal + Abort>(rt: &RT, ring: &Ring, plan: &Plan)
+    requires { Suits ring.now plan.now }
+{
+    assert_eq!(rt; nodes(rt.alloc(), ring, plan, CERT), Ok(()));
+    assert_eq!(rt;
+        nodes(rt.alloc(), ring, plan, SHORT),
+        Err(Refusal::CoverMissing(3, 2))
+    );
 }
 
 fn nodes_of<RT: AllocGlobal + Abort>(rt: &RT, ring: &Ring) -> Result<(), Fail> {
     let plan = two_moves(rt.alloc(), ring)?;
-    assert_eq!(rt; nodes(rt.alloc(), ring, &plan, CERT), Ok(()));
-    let short = nodes(
-        rt.alloc(),
-        ring,
-        &plan,
-        b"cert 1\nfact 2 3 4 5\nchain b 2 5\nend\n",
-    );
-    assert_eq!(rt; short, Err(Refusal::CoverMissing(3, 2)));
+    chains_needed(rt, ring, &plan);
     Ok(())
 }
 
 #[test]
 fn nodes_covered(rt: HostRuntime) -> Result<(), Fail> {
-    let ring = read_ring(rt.alloc(), RING)?;
+    let ring = ring_from(rt.alloc(), RING)?;
     nodes_of(&rt, &ring)
 }
 
 // ---- the whole check
 
-// How many steps of the plan are approved.
-fn approved(alloc: Global, ring: Ring, plan: Plan, cert: &Cert) -> Result<u32, Refusal>
-    requires { Suits ring plan }
-{
-    match check(alloc, ring, plan, cert) {
-        Ok(approved) => Ok(approved.plan().len()),
-        Err(turned) => Err(turned.refusal),
-    }
+// What the check of the two moves says, by the certificate.
+fn moves_by(alloc: Global, ring: Ring, cert: &Cert) -> Result<u32, Refusal> {
+    let plan = two_moves(alloc, &ring)?;
+    approved(alloc, ring, plan, cert)
 }
 
-// What the check of the two moves says.
+// The same by the certificate's text.
+fn moves(alloc: Global, ring: Ring, cert: &[u8]) -> Result<u32, Refusal> {
+    let cert = cert_from(alloc, &ring, cert)?;
+    moves_by(alloc, ring, &cert)
+}
+
+// What the check of the two moves over the ring says.
 fn whole(alloc: Global, cert: &[u8]) -> Result<u32, Refusal> {
-    let ring = read_ring(alloc, RING)?;
-    let plan = two_moves(alloc, &ring)?;
-    let cert = read_cert(alloc, &ring, cert)?;
-    approved(alloc, ring, plan, &cert)
+    let ring = ring_from(alloc, RING)?;
+    moves(alloc, ring, cert)
 }
 
 #[test]

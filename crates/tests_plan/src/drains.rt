@@ -1,10 +1,10 @@
 //! A few nodes that own most of the slots leave, and give one copy at a time.
 
-use crate::figures::{depth, moves, reads_owners};
-use plan_maker::make;
+use crate::figures::{depth, moves, plan_of, reads_owners};
+use crate::ring_texts::{push_nodes, push_numbered, push_owners};
+use crate::rings::ring_from;
 use plan_text::Plan;
-use ring_names::{NodeId, Refusal};
-use ring_table::{Ring, read_ring};
+use ring_table::Ring;
 use std::alloc::{AllocError, Global};
 use std::process::Abort;
 use std::test::Fail;
@@ -16,70 +16,62 @@ const STAYERS: u32 = 30;
 
 const JOINERS: u32 = 100;
 
-// The lines of so many nodes.
-fn push_nodes(
-    alloc: Global,
-    text: &mut String,
-    name: &str,
-    count: u32,
-    rest: &str,
-) -> Result<(), AllocError> {
-    for node in 0..count {
-        text.push_str(&format!(in alloc; "node {name}{node} {rest}\n")?)?;
-    }
-    Ok(())
+// The lines of the nodes. Leavers give one copy at a time.
+fn push_all_nodes(text: &mut Vec<u8>) -> Result<(), AllocError> {
+    push_nodes(text, b"node l", 0, LEAVERS, &[b" 1 in\n"])?;
+    push_nodes(text, b"node s", 0, STAYERS, &[b" 4 in\n"])?;
+    push_nodes(text, b"node j", 0, JOINERS, &[b" 4 out\n"])
 }
 
 // The line of a partition: five slots are the leavers', and two are owned by those that stay, in turn.
-fn push_row(alloc: Global, text: &mut String, row: u32) -> Result<(), AllocError> {
-    text.push_str(&format!(in alloc; "slots {row}")?)?;
-    for index in 0..LEAVERS {
-        let owner = row.saturating_add(index) % LEAVERS;
-        text.push_str(&format!(in alloc; " l{owner}")?)?;
+fn push_row(text: &mut Vec<u8>, row: u32) -> Result<(), AllocError> {
+    push_numbered(text, b"slots ", row)?;
+    push_owners(text, b" l", row, LEAVERS, LEAVERS)?;
+    push_owners(text, b" s", row.saturating_mul(2), 2, STAYERS)?;
+    text.extend_from_slice(b"\n")
+}
+
+// Adds the text of a ring of so many partitions.
+fn push_ring(text: &mut Vec<u8>, partitions: u32) -> Result<(), AllocError> {
+    push_numbered(text, b"ring 1\nspace ", partitions)?;
+    text.extend_from_slice(b"\nquorum 7 2 6\n")?;
+    push_all_nodes(text)?;
+    for row in 0..partitions {
+        push_row(text, row)?;
     }
-    for index in 0..2u32 {
-        let owner = row.saturating_mul(2).saturating_add(index) % STAYERS;
-        text.push_str(&format!(in alloc; " s{owner}")?)?;
-    }
-    text.push_str("\n")
+    text.extend_from_slice(b"end\n")
 }
 
 // The text of the ring.
-fn ring_text(alloc: Global, partitions: u32) -> Result<String, AllocError> {
-    let mut text = format!(in alloc; "ring 1\nspace {partitions}\nquorum 7 2 6\n")?;
-    push_nodes(alloc, &mut text, "l", LEAVERS, "1 in")?;
-    push_nodes(alloc, &mut text, "s", STAYERS, "4 in")?;
-    push_nodes(alloc, &mut text, "j", JOINERS, "4 out")?;
-    for row in 0..partitions {
-        push_row(alloc, &mut text, row)?;
-    }
-    text.push_str("end\n")?;
+fn ring_text(alloc: Global, partitions: u32) -> Result<Vec<u8>, AllocError> {
+    let mut text = Vec::new(alloc);
+    push_ring(&mut text, partitions)?;
     Ok(text)
 }
 
-// The plan by which the leavers leave.
-fn drained(alloc: Global, ring: &Ring) -> Result<Plan, Refusal> {
-    let mut leaves = Vec::new(alloc);
-    for node in 0..LEAVERS {
-        leaves.push(NodeId(node))?;
-    }
-    let mut joins = Vec::new(alloc);
-    for node in 0..JOINERS {
-        joins.push(NodeId(LEAVERS.saturating_add(STAYERS).saturating_add(node)))?;
-    }
-    let (plan, _) = make(alloc, ring, joins.as_slice(), leaves.as_slice())?;
-    Ok(plan)
+// The leavers' slots are copied in a quarter of the rounds that reading them from the leavers would take.
+fn is_quick<RT: AllocGlobal + Abort>(rt: &RT, plan: &Plan) -> Result<(), Fail> {
+    assert_eq!(rt; moves(plan), 22_000);
+    assert!(rt; !reads_owners(plan));
+    let depth = depth(rt.alloc(), plan)?;
+    assert!(rt; depth <= 1_024, "{depth}");
+    Ok(())
 }
 
-// From as many partitions as a ring may have the leavers' slots are copied in a quarter of the rounds that reading them from the leavers would take.
+fn drained<RT: AllocGlobal + Abort>(rt: &RT, ring: &Ring) -> Result<(), Fail> {
+    let first = LEAVERS.saturating_add(STAYERS);
+    let (plan, _) = plan_of(rt.alloc(), ring, LEAVERS, first, JOINERS)?;
+    is_quick(rt, &plan)
+}
+
+fn drain<RT: AllocGlobal + Abort>(rt: &RT, text: &[u8]) -> Result<(), Fail> {
+    let ring = ring_from(rt.alloc(), text)?;
+    drained(rt, &ring)
+}
+
+// From as many partitions as a ring may have.
 #[test]
 fn the_longest_drain(rt: HostRuntime) -> Result<(), Fail> {
     let text = ring_text(rt.alloc(), 4096)?;
-    let ring = read_ring(rt.alloc(), text.as_bytes())?;
-    let plan = drained(rt.alloc(), &ring)?;
-    assert_eq!(rt; moves(&plan), 22_000);
-    assert!(rt; !reads_owners(&plan));
-    let depth = depth(rt.alloc(), &plan)?;
-    assert!(rt; depth <= 1_024, "{depth}");
-    Ok(())
+    drain(&rt, text.as_slice())
 }

@@ -3,6 +3,8 @@
 ghost use Rattle.std.specs.Prelude.{◌<◌};
 ghost use Rattle.plan_text.specs.Valid.{Suits};
 
+use plan_cert::Cert;
+use plan_maker::make;
 use plan_stage::{parties, sources, stage_at};
 use plan_text::{Plan, Source, Step};
 use ring_names::{NodeId, Refusal, Slot};
@@ -32,6 +34,28 @@ fn count(counts: &mut [u32], node: NodeId) {
         Some(number) => *number = number.saturating_add(1),
         None => {}
     }
+}
+
+/// So many nodes from that number on.
+pub fn nodes_from(alloc: Global, first: u32, count: u32) -> Result<Vec<NodeId>, AllocError> {
+    let mut nodes = Vec::new(alloc);
+    for n in 0..count {
+        nodes.push(NodeId(first.saturating_add(n)))?;
+    }
+    Ok(nodes)
+}
+
+/// The planner's plan by which the nodes below `leavers` leave, and so many join from the number `first` on.
+pub fn plan_of(
+    alloc: Global,
+    ring: &Ring,
+    leavers: u32,
+    first: u32,
+    joiners: u32,
+) -> Result<(Plan, Cert), Refusal> {
+    let joins = nodes_from(alloc, first, joiners)?;
+    let leaves = nodes_from(alloc, 0, leavers)?;
+    make(alloc, ring, joins.as_slice(), leaves.as_slice())
 }
 
 /// The number divided by the other, rounded up; 0 where the other is 0.

@@ -11,6 +11,8 @@ mod figures;
 #[cfg(test)]
 mod planning;
 #[cfg(test)]
+mod ring_texts;
+#[cfg(test)]
 mod rings;
 #[cfg(test)]
 mod states;

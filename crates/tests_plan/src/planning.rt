@@ -1,17 +1,20 @@
 //! Changes, and the plans that are made for them.
 
 ghost use Rattle.plan_text.specs.Valid.{Suits};
+ghost use Rattle.change_text.specs.Valid.{IsChange};
 
-use crate::figures::{depth, fewest_moves, moves, owned, reads_owners, rounds};
-use crate::rings::RING;
+use crate::figures::{
+    depth, fewest_moves, moves, nodes_from, owned, plan_of, reads_owners, rounds,
+};
+use crate::ring_texts::{push_nodes, push_numbered, push_owners};
+use crate::rings::{RING, approved, cert_from, plan_from, ring_from};
 use change_text::{Change, read_change, read_wanted, write_change};
-use plan_cert::{Cert, read_cert};
-use plan_check::check;
+use plan_cert::Cert;
 use plan_maker::make;
 use plan_proposal::propose;
-use plan_text::{Plan, read_plan};
+use plan_text::Plan;
 use ring_names::{NodeId, Refusal};
-use ring_table::{Ring, read_ring};
+use ring_table::Ring;
 use std::alloc::{AllocError, Global};
 use std::process::Abort;
 use std::str;
@@ -36,18 +39,24 @@ fn exchanges<RT: Abort>(rt: &RT, change: &Change) {
     assert_eq!(rt; change.leaves.as_slice(), [B].as_slice());
 }
 
-// A change of the ring is written as it was read.
-fn change_written<RT: AllocGlobal + Abort>(rt: &RT, ring: &Ring) -> Result<(), Fail> {
-    let change = read_change(rt.alloc(), ring, CHANGE)?;
-    exchanges(rt, &change);
-    let text = write_change(rt.alloc(), ring, &change)?;
+fn is_written<RT: AllocGlobal + Abort>(rt: &RT, ring: &Ring, change: &Change) -> Result<(), Fail>
+    requires { IsChange ring.now change.now }
+{
+    let text = write_change(rt.alloc(), ring, change)?;
     assert_eq!(rt; text.as_slice(), CHANGE);
     Ok(())
 }
 
+// A change of the ring is written as it was read.
+fn change_written<RT: AllocGlobal + Abort>(rt: &RT, ring: &Ring) -> Result<(), Fail> {
+    let change = read_change(rt.alloc(), ring, CHANGE)?;
+    exchanges(rt, &change);
+    is_written(rt, ring, &change)
+}
+
 #[test]
 fn changes_written(rt: HostRuntime) -> Result<(), Fail> {
-    let ring = read_ring(rt.alloc(), RING)?;
+    let ring = ring_from(rt.alloc(), RING)?;
     change_written(&rt, &ring)
 }
 
@@ -58,14 +67,16 @@ fn behind_ring(alloc: Global, text: &[u8]) -> Result<Vec<u8>, AllocError> {
     Ok(both)
 }
 
+fn wanted_read<RT: AllocGlobal + Abort>(rt: &RT, text: &[u8]) -> Result<(), Fail> {
+    let wanted = read_wanted(rt.alloc(), text)?;
+    exchanges(rt, &wanted.change);
+    Ok(())
+}
+
 #[test]
 fn wanted_changes_read(rt: HostRuntime) -> Result<(), Fail> {
     let text = behind_ring(rt.alloc(), CHANGE)?;
-    match read_wanted(rt.alloc(), text.as_slice()) {
-        Ok(wanted) => exchanges(&rt, &wanted.change),
-        Err(refusal) => assert_eq!(&rt; refusal.number(), 0),
-    }
-    Ok(())
+    wanted_read(&rt, text.as_slice())
 }
 
 // ---- what a plan fulfils
@@ -78,28 +89,18 @@ fn fulfilled<RT: Abort>(rt: &RT, plan: &Plan) {
 }
 
 fn join_fulfilled<RT: AllocGlobal + Abort>(rt: &RT, ring: &Ring) -> Result<(), Fail> {
-    let plan = read_plan(rt.alloc(), ring, JOINS_D)?;
+    let plan = plan_from(rt.alloc(), ring, JOINS_D)?;
     fulfilled(rt, &plan);
     Ok(())
 }
 
 #[test]
 fn a_join_fulfilled(rt: HostRuntime) -> Result<(), Fail> {
-    let ring = read_ring(rt.alloc(), RING)?;
+    let ring = ring_from(rt.alloc(), RING)?;
     join_fulfilled(&rt, &ring)
 }
 
 // ---- proposals
-
-// The number of the refusal by which the checker turns the plan away, or 0.
-fn verdict(alloc: Global, ring: Ring, plan: Plan, cert: &Cert) -> u8
-    requires { Suits ring plan }
-{
-    match check(alloc, ring, plan, cert) {
-        Ok(_) => 0,
-        Err(turned) => turned.refusal.number(),
-    }
-}
 
 // How many slots the node owns behind the plan.
 fn owns(alloc: Global, ring: &Ring, plan: &Plan, node: NodeId) -> Result<u32, Refusal> {
@@ -119,30 +120,68 @@ fn exchanged<RT: AllocGlobal + Abort>(rt: &RT, ring: &Ring, plan: &Plan) -> Resu
     Ok(())
 }
 
-// What the checker says of a plan and its certificate, one behind the other, which make the exchange.
-fn proposal_checked<RT: AllocGlobal + Abort>(rt: &RT, text: &str) -> Result<(), Fail> {
-    let Some((plan, chains)) = text.split_once("cert 1\n") else {
-        panic!(rt; "no certificate in {text}");
-    };
-    let ring = read_ring(rt.alloc(), RING)?;
-    let plan = read_plan(rt.alloc(), &ring, plan.as_bytes())?;
-    let cert = format!(in rt.alloc(); "cert 1\n{chains}")?;
-    let cert = read_cert(rt.alloc(), &ring, cert.as_bytes())?;
-    exchanged(rt, &ring, &plan)?;
-    assert_eq!(rt; verdict(rt.alloc(), ring, plan, &cert), 0);
+// The checker accepts the plan.
+fn accepted<RT: AllocGlobal + Abort>(
+    rt: &RT,
+    ring: Ring,
+    plan: Plan,
+    cert: &Cert,
+) -> Result<(), Fail>
+    requires { Suits ring plan }
+{
+    approved(rt.alloc(), ring, plan, cert)?;
     Ok(())
 }
 
+// The plan of that text makes the exchange, and the checker accepts it.
+fn plan_checked<RT: AllocGlobal + Abort>(
+    rt: &RT,
+    ring: Ring,
+    plan: &[u8],
+    cert: &Cert,
+) -> Result<(), Fail> {
+    let plan = plan_from(rt.alloc(), &ring, plan)?;
+    exchanged(rt, &ring, &plan)?;
+    accepted(rt, ring, plan, cert)
+}
+
+// The same by the certificate's text.
+fn texts_checked<RT: AllocGlobal + Abort>(
+    rt: &RT,
+    ring: Ring,
+    plan: &[u8],
+    cert: &[u8],
+) -> Result<(), Fail> {
+    let cert = cert_from(rt.alloc(), &ring, cert)?;
+    plan_checked(rt, ring, plan, &cert)
+}
+
+// The same of a plan and its certificate, one behind the other.
+fn proposal_checked<RT: AllocGlobal + Abort>(rt: &RT, text: &str) -> Result<(), Fail> {
+    let Some((plan, _)) = text.split_once("cert 1\n") else {
+        panic!(rt; "no certificate in {text}");
+    };
+    let Some(cert) = text.as_bytes().get(plan.len()..) else {
+        panic!(rt; "no certificate behind {plan}");
+    };
+    let ring = ring_from(rt.alloc(), RING)?;
+    texts_checked(rt, ring, plan.as_bytes(), cert)
+}
+
 // The text of the plan for a change of the ring.
-fn proposal(alloc: Global, ring: Ring) -> Result<Vec<u8>, Refusal> {
+fn proposal_over(alloc: Global, ring: Ring) -> Result<Vec<u8>, Refusal> {
     let change = read_change(alloc, &ring, CHANGE)?;
     propose(alloc, ring, &change)
 }
 
+fn proposal(alloc: Global) -> Result<Vec<u8>, Refusal> {
+    let ring = ring_from(alloc, RING)?;
+    proposal_over(alloc, ring)
+}
+
 #[test]
 fn an_exchange_proposed(rt: HostRuntime) -> Result<(), Fail> {
-    let ring = read_ring(rt.alloc(), RING)?;
-    let text = proposal(rt.alloc(), ring)?;
+    let text = proposal(rt.alloc())?;
     let Ok(text) = str::from_utf8(text.as_slice()) else {
         panic!(rt; "a proposal that is no text");
     };
@@ -158,11 +197,15 @@ fn refused(alloc: Global, ring: &Ring, joins: &[NodeId], leaves: &[NodeId]) -> u
 }
 
 // Without b the ring has fewer members than a partition has slots.
+fn members_needed<RT: AllocGlobal + Abort>(rt: &RT, ring: &Ring) {
+    assert_eq!(rt; refused(rt.alloc(), ring, &[], &[B]), 28);
+    assert_eq!(rt; refused(rt.alloc(), ring, &[D], &[B]), 0);
+}
+
 #[test]
 fn too_few_members_left(rt: HostRuntime) -> Result<(), Fail> {
-    let ring = read_ring(rt.alloc(), RING)?;
-    assert_eq!(rt; refused(rt.alloc(), &ring, &[], &[B]), 28);
-    assert_eq!(rt; refused(rt.alloc(), &ring, &[D], &[B]), 0);
+    let ring = ring_from(rt.alloc(), RING)?;
+    members_needed(&rt, &ring);
     Ok(())
 }
 
@@ -197,56 +240,58 @@ fn plain(partitions: u32, allowance: &'static str, members: u32, joins: u32, lea
 }
 
 // The lines of the nodes.
-fn push_nodes(alloc: Global, text: &mut String, case: &Case) -> Result<(), AllocError> {
-    let allowance = case.allowance;
-    for node in 0..case.members.saturating_add(case.joins) {
-        let state = if node < case.members { "in" } else { "out" };
-        let line = format!(in alloc; "node n{node} {allowance} {state}\n")?;
-        text.push_str(&line)?;
-    }
-    Ok(())
+fn push_members(text: &mut Vec<u8>, case: &Case) -> Result<(), AllocError> {
+    let allowance = case.allowance.as_bytes();
+    let end = case.members.saturating_add(case.joins);
+    push_nodes(
+        text,
+        b"node n",
+        0,
+        case.members,
+        &[b" ", allowance, b" in\n"],
+    )?;
+    push_nodes(
+        text,
+        b"node n",
+        case.members,
+        end,
+        &[b" ", allowance, b" out\n"],
+    )
 }
 
 // The line of a partition: the members own slots in turn.
-fn push_row(alloc: Global, text: &mut String, case: &Case, row: u32) -> Result<(), AllocError> {
-    text.push_str(&format!(in alloc; "slots {row}")?)?;
+fn push_row(text: &mut Vec<u8>, case: &Case, row: u32) -> Result<(), AllocError> {
+    push_numbered(text, b"slots ", row)?;
     let first = row.saturating_mul(case.slots);
-    for index in 0..case.slots {
-        let owner = first.saturating_add(index).checked_rem(case.members);
-        if let Some(owner) = owner {
-            text.push_str(&format!(in alloc; " n{owner}")?)?;
-        }
+    push_owners(text, b" n", first, case.slots, case.members)?;
+    text.extend_from_slice(b"\n")
+}
+
+// The lines before those of nodes.
+fn push_head(text: &mut Vec<u8>, case: &Case) -> Result<(), AllocError> {
+    push_numbered(text, b"ring ", case.format)?;
+    push_numbered(text, b"\nspace ", case.partitions)?;
+    push_numbered(text, b"\nquorum ", case.slots)?;
+    text.extend_from_slice(b" ")?;
+    text.extend_from_slice(case.quorum.as_bytes())?;
+    text.extend_from_slice(b"\n")
+}
+
+// Adds the text of the case's ring.
+fn push_ring(text: &mut Vec<u8>, case: &Case) -> Result<(), AllocError> {
+    push_head(text, case)?;
+    push_members(text, case)?;
+    for row in 0..case.partitions {
+        push_row(text, case, row)?;
     }
-    text.push_str("\n")
+    text.extend_from_slice(b"end\n")
 }
 
 // The text of the case's ring.
-fn ring_text(alloc: Global, case: &Case) -> Result<String, AllocError> {
-    let Case {
-        format,
-        partitions,
-        slots,
-        quorum,
-        ..
-    } = case;
-    let mut text = format!(in alloc;
-        "ring {format}\nspace {partitions}\nquorum {slots} {quorum}\n"
-    )?;
-    push_nodes(alloc, &mut text, case)?;
-    for row in 0..*partitions {
-        push_row(alloc, &mut text, case, row)?;
-    }
-    text.push_str("end\n")?;
+fn ring_text(alloc: Global, case: &Case) -> Result<Vec<u8>, AllocError> {
+    let mut text = Vec::new(alloc);
+    push_ring(&mut text, case)?;
     Ok(text)
-}
-
-// So many nodes from that number on.
-fn nodes_from(alloc: Global, first: u32, count: u32) -> Result<Vec<NodeId>, AllocError> {
-    let mut nodes = Vec::new(alloc);
-    for n in 0..count {
-        nodes.push(NodeId(first.saturating_add(n)))?;
-    }
-    Ok(nodes)
 }
 
 // How many slots each joiner shall own: its part of all, rounded down.
@@ -268,16 +313,10 @@ fn moves_least<RT: Abort>(rt: &RT, case: &Case, ring: &Ring, plan: &Plan) {
     assert_eq!(rt; moves(plan), fewest);
 }
 
-// Behind the plan each joiner owns its share, and no leaver owns a slot.
-fn spreads<RT: AllocGlobal + Abort>(
-    rt: &RT,
-    case: &Case,
-    ring: &Ring,
-    plan: &Plan,
-) -> Result<(), Fail> {
-    let owned = owned(rt.alloc(), ring, plan)?;
+// Each joiner owns its share, and no leaver owns a slot, by the numbers of slots that the nodes own.
+fn are_shares<RT: Abort>(rt: &RT, case: &Case, owned: &[u32]) {
     let mut node = 0u32;
-    for count in owned.iter() {
+    for count in owned {
         if node < case.leaves {
             assert_eq!(rt; *count, 0);
         }
@@ -286,6 +325,17 @@ fn spreads<RT: AllocGlobal + Abort>(
         }
         node = node.saturating_add(1);
     }
+}
+
+// So it is behind the plan.
+fn spreads<RT: AllocGlobal + Abort>(
+    rt: &RT,
+    case: &Case,
+    ring: &Ring,
+    plan: &Plan,
+) -> Result<(), Fail> {
+    let owned = owned(rt.alloc(), ring, plan)?;
+    are_shares(rt, case, owned.as_slice());
     Ok(())
 }
 
@@ -328,27 +378,33 @@ fn is_good<RT: AllocGlobal + Abort>(
     hurries(rt, ring, plan)
 }
 
-// The planner's plan for the case.
-fn plan_of(alloc: Global, case: &Case, ring: &Ring) -> Result<(Plan, Cert), Refusal> {
-    let joins = nodes_from(alloc, case.members, case.joins)?;
-    let leaves = nodes_from(alloc, 0, case.leaves)?;
-    make(alloc, ring, joins.as_slice(), leaves.as_slice())
-}
-
 // The plan is good, and the checker accepts it.
-fn judged<RT: AllocGlobal + Abort>(rt: &RT, case: &Case, ring: Ring) -> Result<(), Fail> {
-    let (plan, cert) = plan_of(rt.alloc(), case, &ring)?;
+fn judged<RT: AllocGlobal + Abort>(
+    rt: &RT,
+    case: &Case,
+    ring: Ring,
+    plan: Plan,
+    cert: &Cert,
+) -> Result<(), Fail> {
     assert!(rt; plan.suits(&ring));
     is_good(rt, case, &ring, &plan)?;
-    assert_eq!(rt; verdict(rt.alloc(), ring, plan, &cert), 0);
-    Ok(())
+    accepted(rt, ring, plan, cert)
+}
+
+fn planned_over<RT: AllocGlobal + Abort>(rt: &RT, case: &Case, ring: Ring) -> Result<(), Fail> {
+    let (plan, cert) = plan_of(rt.alloc(), &ring, case.leaves, case.members, case.joins)?;
+    judged(rt, case, ring, plan, &cert)
+}
+
+fn planned_by_text<RT: AllocGlobal + Abort>(rt: &RT, case: &Case, text: &[u8]) -> Result<(), Fail> {
+    let ring = ring_from(rt.alloc(), text)?;
+    planned_over(rt, case, ring)
 }
 
 // The case's change is planned well.
 fn planned<RT: AllocGlobal + Abort>(rt: &RT, case: &Case) -> Result<(), Fail> {
     let text = ring_text(rt.alloc(), case)?;
-    let ring = read_ring(rt.alloc(), text.as_bytes())?;
-    judged(rt, case, ring)
+    planned_by_text(rt, case, text.as_slice())
 }
 
 #[test]

@@ -1,8 +1,8 @@
 //! What a running store keeps of nodes, steps, slots, keys, puts and gets: each call that may run out of memory succeeds where there is enough.
 
-use crate::rings::RING;
+use crate::rings::{RING, ring_from};
 use ring_names::{Listed, NodeId, Slot, WriterId};
-use ring_table::{Ring, read_ring};
+use ring_table::Ring;
 use ring_versions::Versions;
 use std::process::Abort;
 use std::test::Fail;
@@ -13,30 +13,51 @@ const SLOT: Slot = Slot {
     index: 1,
 };
 
+fn nodes_started<RT: AllocGlobal + Abort>(rt: &RT, ring: &Ring) -> Result<(), Fail> {
+    let nodes = Nodes::start(rt.alloc(), ring)?;
+    assert!(rt; nodes.is_up(NodeId(0)));
+    Ok(())
+}
+
+fn steps_started<RT: AllocGlobal + Abort>(rt: &RT) -> Result<(), Fail> {
+    let steps = Steps::start(rt.alloc(), 5)?;
+    assert_eq!(rt; steps.left(), 5);
+    Ok(())
+}
+
+fn slots_started<RT: AllocGlobal + Abort>(rt: &RT, ring: &Ring) -> Result<(), Fail> {
+    let slots = Slots::start(rt.alloc(), ring)?;
+    assert_eq!(rt; slots.owner(SLOT), Some(NodeId(1)));
+    Ok(())
+}
+
 // The nodes, steps and slots of a ring at the start.
 fn started<RT: AllocGlobal + Abort>(rt: &RT, ring: &Ring) -> Result<(), Fail> {
-    assert!(rt; Nodes::start(rt.alloc(), ring)?.is_up(NodeId(0)));
-    assert_eq!(rt; Steps::start(rt.alloc(), 5)?.left(), 5);
-    assert_eq!(rt;
-        Slots::start(rt.alloc(), ring)?.owner(SLOT),
-        Some(NodeId(1))
-    );
-    Ok(())
+    nodes_started(rt, ring)?;
+    steps_started(rt)?;
+    slots_started(rt, ring)
 }
 
 #[test]
 fn parts_at_the_start(rt: HostRuntime) -> Result<(), Fail> {
-    let ring = read_ring(rt.alloc(), RING)?;
+    let ring = ring_from(rt.alloc(), RING)?;
     started(&rt, &ring)
 }
 
-#[test]
-#[tactic(auto, unfolding(ring_names::specs::Space::is_space))]
-fn keys_numbered(rt: HostRuntime) -> Result<(), Fail> {
-    let mut keys = Keys::new(rt.alloc(), 4);
-    assert_eq!(rt; keys.add(b"a")?, 0);
-    assert_eq!(rt; keys.add(b"abc")?, 1);
-    assert_eq!(rt; keys.add(b"a")?, 0);
+// The key has that number, also where it was added before.
+fn key_is<RT: Abort>(rt: &RT, keys: &mut Keys, key: &[u8], number: usize) -> Result<(), Fail> {
+    let added = keys.add(key)?;
+    assert_eq!(rt; added, number);
+    Ok(())
+}
+
+fn keys_added<RT: Abort>(rt: &RT, keys: &mut Keys) -> Result<(), Fail> {
+    key_is(rt, keys, b"a", 0)?;
+    key_is(rt, keys, b"abc", 1)?;
+    key_is(rt, keys, b"a", 0)
+}
+
+fn lasts_kept<RT: AllocGlobal + Abort>(rt: &RT) -> Result<(), Fail> {
     let mut lasts = Lasts::new(rt.alloc());
     lasts.set(0, WriterId(2), 9)?;
     assert_eq!(rt; lasts.get(0, WriterId(2)), Some(9));
@@ -44,7 +65,14 @@ fn keys_numbered(rt: HostRuntime) -> Result<(), Fail> {
 }
 
 #[test]
-fn puts_and_gets(rt: HostRuntime) -> Result<(), Fail> {
+#[tactic(auto, unfolding(ring_names::specs::Space::is_space))]
+fn keys_numbered(rt: HostRuntime) -> Result<(), Fail> {
+    lasts_kept(&rt)?;
+    let mut keys = Keys::new(rt.alloc(), 4);
+    keys_added(&rt, &mut keys)
+}
+
+fn puts_kept<RT: AllocGlobal + Abort>(rt: &RT) -> Result<(), Fail> {
     let mut puts = Puts::new(rt.alloc());
     puts.push(PutNow {
         key: 0,
@@ -53,6 +81,10 @@ fn puts_and_gets(rt: HostRuntime) -> Result<(), Fail> {
         acked: false,
     })?;
     assert_eq!(rt; puts.len(), 1);
+    Ok(())
+}
+
+fn gets_kept<RT: AllocGlobal + Abort>(rt: &RT) -> Result<(), Fail> {
     let mut gets = Gets::new(rt.alloc());
     gets.push(GetNow {
         key: 0,
@@ -63,4 +95,10 @@ fn puts_and_gets(rt: HostRuntime) -> Result<(), Fail> {
     gets.end(0, Listed::from_vec(Vec::new(rt.alloc())));
     assert_eq!(rt; gets.len(), 1);
     Ok(())
+}
+
+#[test]
+fn puts_and_gets(rt: HostRuntime) -> Result<(), Fail> {
+    puts_kept(&rt)?;
+    gets_kept(&rt)
 }

@@ -2,13 +2,13 @@
 
 ghost use Rattle.plan_text.specs.Valid.{Suits};
 
-use crate::rings::{RING, two_moves};
-use plan_cert::{Cert, read_cert};
+use crate::rings::{RING, cert_from, ring_from, two_moves};
+use plan_cert::Cert;
 use plan_check::{Gate, check_parallel};
 use plan_order::Facts;
 use plan_text::Plan;
 use ring_names::Refusal;
-use ring_table::{Ring, read_ring};
+use ring_table::Ring;
 use std::sync::{Mutex, Wait};
 use std::test::Fail;
 use std::thread;
@@ -77,6 +77,30 @@ fn approved<RT: AllocGlobal + Threads + Wait + Sync>(
     }
 }
 
+// What the check of the two moves says, by the certificate.
+fn moves_by<RT: AllocGlobal + Threads + Wait + Sync>(
+    rt: &RT,
+    workers: u32,
+    gate: &Turnstile,
+    ring: Ring,
+    cert: &Cert,
+) -> Result<u32, Refusal> {
+    let plan = two_moves(rt.alloc(), &ring)?;
+    approved(rt, workers, gate, ring, plan, cert)
+}
+
+// The same by the certificate's text.
+fn moves<RT: AllocGlobal + Threads + Wait + Sync>(
+    rt: &RT,
+    workers: u32,
+    gate: &Turnstile,
+    ring: Ring,
+    cert: &[u8],
+) -> Result<u32, Refusal> {
+    let cert = cert_from(rt.alloc(), &ring, cert)?;
+    moves_by(rt, workers, gate, ring, &cert)
+}
+
 // What the check of the two moves says by so many workers, under a gate that waits for so many.
 fn whole<RT: AllocGlobal + Threads + Wait + Sync>(
     rt: &RT,
@@ -84,10 +108,8 @@ fn whole<RT: AllocGlobal + Threads + Wait + Sync>(
     awaited: u32,
     cert: &[u8],
 ) -> Result<u32, Refusal> {
-    let ring = read_ring(rt.alloc(), RING)?;
-    let plan = two_moves(rt.alloc(), &ring)?;
-    let cert = read_cert(rt.alloc(), &ring, cert)?;
-    approved(rt, workers, &Turnstile::new(awaited), ring, plan, &cert)
+    let ring = ring_from(rt.alloc(), RING)?;
+    moves(rt, workers, &Turnstile::new(awaited), ring, cert)
 }
 
 #[test]
@@ -125,11 +147,25 @@ fn ordered<RT: AllocGlobal + Threads + Sync>(
     Ok(facts.ordered(plan, 2, 5))
 }
 
+// The same by the certificate's text.
+fn ordered_by_cert<RT: AllocGlobal + Threads + Sync>(
+    rt: &RT,
+    ring: &Ring,
+    plan: &Plan,
+) -> Result<bool, Refusal> {
+    let cert = cert_from(rt.alloc(), ring, CERT)?;
+    ordered(rt, plan, &cert)
+}
+
+// The same of the two moves.
+fn moves_ordered<RT: AllocGlobal + Threads + Sync>(rt: &RT, ring: &Ring) -> Result<bool, Refusal> {
+    let plan = two_moves(rt.alloc(), ring)?;
+    ordered_by_cert(rt, ring, &plan)
+}
+
 #[test]
 fn paths_by_threads(rt: HostRuntime) -> Result<(), Fail> {
-    let ring = read_ring(rt.alloc(), RING)?;
-    let plan = two_moves(rt.alloc(), &ring)?;
-    let cert = read_cert(rt.alloc(), &ring, CERT)?;
-    assert_eq!(rt; ordered(&rt, &plan, &cert), Ok(true));
+    let ring = ring_from(rt.alloc(), RING)?;
+    assert_eq!(rt; moves_ordered(&rt, &ring), Ok(true));
     Ok(())
 }

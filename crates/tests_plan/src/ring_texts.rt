@@ -1,0 +1,49 @@
+//! Texts of rings of many nodes, whose names are a word and a number.
+
+use ring_names::push_decimal;
+use std::alloc::AllocError;
+
+/// Adds the word, and the number behind it.
+pub fn push_numbered(text: &mut Vec<u8>, word: &[u8], number: u32) -> Result<(), AllocError> {
+    text.extend_from_slice(word)?;
+    push_decimal(text, number)
+}
+
+/// Adds a line for each node of the numbers from `first` up to `end`.
+pub fn push_nodes(
+    text: &mut Vec<u8>,
+    word: &[u8],
+    first: u32,
+    end: u32,
+    rest: &[&[u8]],
+) -> Result<(), AllocError> {
+    for node in first..end {
+        push_numbered(text, word, node)?;
+        push_all(text, rest)?;
+    }
+    Ok(())
+}
+
+// Adds one text behind the other.
+fn push_all(text: &mut Vec<u8>, parts: &[&[u8]]) -> Result<(), AllocError> {
+    for part in parts {
+        text.extend_from_slice(part)?;
+    }
+    Ok(())
+}
+
+/// Adds so many owners: the nodes below `nodes` in turn, from the number `first` on.
+pub fn push_owners(
+    text: &mut Vec<u8>,
+    word: &[u8],
+    first: u32,
+    count: u32,
+    nodes: u32,
+) -> Result<(), AllocError> {
+    for index in 0..count {
+        if let Some(owner) = first.saturating_add(index).checked_rem(nodes) {
+            push_numbered(text, word, owner)?;
+        }
+    }
+    Ok(())
+}
