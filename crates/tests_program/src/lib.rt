@@ -1,5 +1,4 @@
-//! Tests of what no contract says of the program: command lines, the texts that it prints of itself, and readers and writers that fail, are slow or
-//! are interrupted. Nothing is exported.
+//! Tests of what no contract says, of the program: command lines, texts that are printed, and readers and writers that fail. Nothing is exported.
 #![tactic(auto)]
 
 #[cfg(test)]

@@ -15,6 +15,31 @@ const CHECK: [&str; 2] = ["ringplan", "check"];
 const BUNDLE: &[u8] =
     b"ring 1\nspace 1\nquorum 1 1 1\nnode a 1 in\nslots 0 a\nend\nplan 1\nend\ncert 1\nend\n";
 
+// The text contains the other. An output is dropped at each exit of what owns it, which makes the proof of that dear: what is asserted of it is so in
+// functions to which it is lent.
+fn shows<RT: Abort>(rt: &RT, shown: &[u8], text: &str) -> Result<(), Fail> {
+    let shown = str::from_utf8(shown)?;
+    assert!(rt; shown.contains(text), "{shown}");
+    Ok(())
+}
+
+// The run ended with the status.
+fn ends<RT: Abort>(rt: &RT, ended: u8, status: u8) {
+    assert_eq!(rt; ended, status);
+}
+
+// The run ended with the status and printed the text.
+fn ends_with<RT: Abort>(rt: &RT, ended: u8, status: u8, shown: &[u8], text: &[u8]) {
+    assert_eq!(rt; shown, text);
+    assert_eq!(rt; ended, status);
+}
+
+// The run whose reader or writer failed after so many calls ended with 3 and printed the text.
+fn fails_at<RT: Abort>(rt: &RT, calls: usize, ended: u8, shown: &[u8], text: &[u8]) {
+    assert_eq!(rt; ended, 3, "at {calls}");
+    assert_eq!(rt; shown, text);
+}
+
 // The command line ends with this status, and prints a text that contains the other.
 fn told<RT: AllocGlobal + Threads + Wait + Sync + Abort>(
     rt: &RT,
@@ -23,27 +48,30 @@ fn told<RT: AllocGlobal + Threads + Wait + Sync + Abort>(
     text: &str,
 ) -> Result<(), Fail> {
     let mut output = MemoryWriter::new(rt.alloc(), 4096, 2);
-    let ended = run(rt, words, &mut Endless, &mut output);
-    assert_eq!(rt; ended, status);
-    let shown = str::from_utf8(output.bytes.as_slice())?;
-    assert!(rt; shown.contains(text), "{shown}");
-    Ok(())
+    ends(rt, run(rt, words, &mut Endless, &mut output), status);
+    shows(rt, output.bytes.as_slice(), text)
+}
+
+// The same of a command line of two words behind the program's name.
+fn told_of<RT: AllocGlobal + Threads + Wait + Sync + Abort>(
+    rt: &RT,
+    first: &str,
+    second: &str,
+    status: u8,
+    text: &str,
+) -> Result<(), Fail> {
+    told(rt, &["ringplan", first, second], status, text)
 }
 
 #[test]
 fn helps_printed(rt: HostRuntime) -> Result<(), Fail> {
-    told(&rt, &["ringplan", "--help", "-h"], 0, "migrate")?;
-    told(&rt, &["ringplan", "migrate", "-h"], 0, "checks nothing")?;
-    told(&rt, &["ringplan", "check", "--help"], 0, "Exit status")?;
-    told(&rt, &["ringplan", "play", "--help"], 0, "for each event")?;
-    told(&rt, &["ringplan", "plan", "--help"], 0, "change 1")?;
-    told(
-        &rt,
-        &["ringplan", "play", "-h"],
-        0,
-        "Example: ringplan play <",
-    )?;
-    told(&rt, &["ringplan", "help", "check"], 0, "Exit status")
+    told_of(&rt, "--help", "-h", 0, "migrate")?;
+    told_of(&rt, "migrate", "-h", 0, "checks nothing")?;
+    told_of(&rt, "check", "--help", 0, "Exit status")?;
+    told_of(&rt, "play", "--help", 0, "for each event")?;
+    told_of(&rt, "plan", "--help", 0, "change 1")?;
+    told_of(&rt, "play", "-h", 0, "Example: ringplan play <")?;
+    told_of(&rt, "help", "check", 0, "Exit status")
 }
 
 #[test]
@@ -54,21 +82,24 @@ fn mistakes_told(rt: HostRuntime) -> Result<(), Fail> {
         2,
         "error: unrecognized subcommand 'drive'",
     )?;
-    told(
+    told_of(
         &rt,
-        &["ringplan", "check", "--fast"],
+        "check",
+        "--fast",
         2,
         "error: unexpected argument '--fast'",
     )?;
-    told(
+    told_of(
         &rt,
-        &["ringplan", "check", "move_one_slot.bundle"],
+        "check",
+        "move_one_slot.bundle",
         2,
         "ringplan check < FILE",
     )?;
-    told(
+    told_of(
         &rt,
-        &["ringplan", "check", "migrate"],
+        "check",
+        "migrate",
         2,
         "error: unexpected argument 'migrate'",
     )
@@ -76,10 +107,10 @@ fn mistakes_told(rt: HostRuntime) -> Result<(), Fail> {
 
 #[test]
 fn workers_limited(rt: HostRuntime) -> Result<(), Fail> {
-    told(&rt, &["ringplan", "check", "-h"], 0, "--workers <K>")?;
-    told(&rt, &["ringplan", "check", "--workers"], 2, "error:")?;
+    told_of(&rt, "check", "-h", 0, "--workers <K>")?;
+    told_of(&rt, "check", "--workers", 2, "error:")?;
     told(&rt, &["ringplan", "check", "--workers", "0"], 2, "1..=64")?;
-    told(&rt, &["ringplan", "check", "--workers=65"], 2, "1..=64")?;
+    told_of(&rt, "check", "--workers=65", 2, "1..=64")?;
     told(
         &rt,
         &["ringplan", "check", "--workers", "two"],
@@ -94,13 +125,18 @@ fn workers_limited(rt: HostRuntime) -> Result<(), Fail> {
     )
 }
 
+// The text begins with the other.
+fn begins<RT: Abort>(rt: &RT, shown: &[u8], text: &str) -> Result<(), Fail> {
+    let shown = str::from_utf8(shown)?;
+    assert!(rt; shown.starts_with(text), "{shown}");
+    Ok(())
+}
+
 #[test]
 fn words_that_are_no_text(rt: HostRuntime) -> Result<(), Fail> {
     let mut output = MemoryWriter::new(rt.alloc(), 4096, 2);
-    assert_eq!(rt; end_without_words(&mut output), 2);
-    let shown = str::from_utf8(output.bytes.as_slice())?;
-    assert!(rt; shown.starts_with("error: invalid UTF-8"), "{shown}");
-    Ok(())
+    ends(&rt, end_without_words(&mut output), 2);
+    begins(&rt, output.bytes.as_slice(), "error: invalid UTF-8")
 }
 
 // The answer to the least bundle, where a read gives and a write takes so many bytes at most.
@@ -114,8 +150,7 @@ fn answered<RT: AllocGlobal + Threads + Wait + Sync + Abort>(rt: &RT, step: usiz
     };
     let mut output = MemoryWriter::new(rt.alloc(), step, 64);
     let ended = run(rt, CHECK.as_slice(), &mut input, &mut output);
-    assert_eq!(rt; output.bytes.as_slice(), b"yes\n".as_slice());
-    assert_eq!(rt; ended, 0);
+    ends_with(rt, ended, 0, output.bytes.as_slice(), b"yes\n");
 }
 
 #[test]
@@ -139,8 +174,7 @@ fn interrupted_reads_and_writes(rt: HostRuntime) {
         was_told: false,
     };
     let ended = run(&rt, CHECK.as_slice(), &mut input, &mut output);
-    assert_eq!(rt; output.inner.bytes.as_slice(), b"yes\n".as_slice());
-    assert_eq!(rt; ended, 0);
+    ends_with(&rt, ended, 0, output.inner.bytes.as_slice(), b"yes\n");
 }
 
 #[test]
@@ -153,8 +187,7 @@ fn failed_reads(rt: HostRuntime) {
         };
         let mut output = MemoryWriter::new(rt.alloc(), 9, 9);
         let ended = run(&rt, CHECK.as_slice(), &mut input, &mut output);
-        assert_eq!(rt; ended, 3, "at {calls}");
-        assert_eq!(rt; output.bytes.as_slice(), b"no 61\n".as_slice());
+        fails_at(&rt, calls, ended, output.bytes.as_slice(), b"no 61\n");
     }
 }
 
@@ -168,24 +201,33 @@ fn failed_writes(rt: HostRuntime) {
         };
         let mut output = MemoryWriter::new(rt.alloc(), 1, calls);
         let ended = run(&rt, CHECK.as_slice(), &mut input, &mut output);
-        assert_eq!(rt; ended, 3, "at {calls}");
-        assert_eq!(rt; output.bytes.as_slice(), &b"yes\n"[..calls]);
+        fails_at(
+            &rt,
+            calls,
+            ended,
+            output.bytes.as_slice(),
+            &b"yes\n"[..calls],
+        );
     }
+}
+
+// Of nine calls eight are left.
+fn is_called_once<RT: Abort>(rt: &RT, calls: usize) {
+    assert_eq!(rt; calls, 8);
 }
 
 #[test]
 fn a_write_that_takes_nothing(rt: HostRuntime) {
     let mut output = MemoryWriter::new(rt.alloc(), 0, 9);
     let words = ["ringplan"];
-    assert_eq!(rt; run(&rt, words.as_slice(), &mut Endless, &mut output), 3);
-    assert_eq!(rt; output.bytes.len(), 0);
-    assert_eq!(rt; output.calls, 8);
+    let ended = run(&rt, words.as_slice(), &mut Endless, &mut output);
+    ends_with(&rt, ended, 3, output.bytes.as_slice(), b"");
+    is_called_once(&rt, output.calls);
 }
 
 #[test]
 fn an_input_without_end(rt: HostRuntime) {
     let mut output = MemoryWriter::new(rt.alloc(), 9, 9);
     let ended = run(&rt, CHECK.as_slice(), &mut Endless, &mut output);
-    assert_eq!(rt; ended, 2);
-    assert_eq!(rt; output.bytes.as_slice(), b"no 2 0\n".as_slice());
+    ends_with(&rt, ended, 2, output.bytes.as_slice(), b"no 2 0\n");
 }

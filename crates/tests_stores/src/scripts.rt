@@ -1,7 +1,11 @@
 //! Scripts: texts that are written as they were read, scripts that are made event by event, and a play of a bundle.
 
-use crate::worlds::RING;
+ghost use Rattle.plan_text.specs.Valid.{Suits};
+
+use crate::worlds::{RING, approved_of};
+use plan_cert::Cert;
 use plan_check::{Event, check};
+use plan_text::Plan;
 use ring_names::{Names, NodeId, Refusal};
 use ring_script::{Kind, play, read_bundle};
 use ring_table::{Ring, read_ring};
@@ -34,14 +38,19 @@ lose b
 end
 ";
 
-// A script is written as it was read, and its writers are numbered in order of first sight.
+// The script is written as it was read, and its writers are numbered in order of first sight.
+fn is_as_read<RT: Abort>(rt: &RT, len: usize, second: Option<u32>, text: &[u8]) {
+    assert_eq!(rt; len, 18);
+    assert_eq!(rt; text, SCRIPT);
+    assert_eq!(rt; second, Some(1));
+}
+
+// A script that is read and written.
 fn script_written<RT: AllocGlobal + Abort>(rt: &RT, ring: &Ring) -> Result<(), Fail> {
     let mut names = Names::new(rt.alloc());
     let script = read_script(rt.alloc(), ring, &mut names, SCRIPT)?;
-    assert_eq!(rt; script.len(), 18);
     let text = write_script(rt.alloc(), ring, &names, &script)?;
-    assert_eq!(rt; text.as_slice(), SCRIPT);
-    assert_eq!(rt; names.number_of(b"w2"), Some(1));
+    is_as_read(rt, script.len(), names.number_of(b"w2"), text.as_slice());
     Ok(())
 }
 
@@ -91,13 +100,30 @@ read 0 0
 end
 ";
 
+// What is printed of the events, where the certificate shows that the plan is sound.
+fn checked_and_played(
+    alloc: Global,
+    ring: Ring,
+    plan: Plan,
+    cert: &Cert,
+    script: &Script,
+) -> Result<Vec<u8>, Refusal>
+    requires { Suits ring plan }
+{
+    let approved = approved_of(check(alloc, ring, plan, cert))?;
+    play(alloc, &approved, script)
+}
+
 // What is printed of the bundle's events.
 fn played(alloc: Global, bytes: &[u8]) -> Result<Vec<u8>, Refusal> {
     let bundle = read_bundle(alloc, Kind::Play, bytes)?;
-    match check(alloc, bundle.ring, bundle.plan, &bundle.cert) {
-        Ok(approved) => play(alloc, &approved, &bundle.script),
-        Err(turned) => Err(turned.refusal),
-    }
+    checked_and_played(
+        alloc,
+        bundle.ring,
+        bundle.plan,
+        &bundle.cert,
+        &bundle.script,
+    )
 }
 
 #[test]

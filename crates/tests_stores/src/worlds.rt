@@ -1,12 +1,14 @@
 //! Stores that run plans, by scripts and what each of their events is answered.
 
+ghost use Rattle.plan_text.specs.Valid.{Suits};
+
 use plan_cert::read_cert;
-use plan_check::{Approved, Event, check};
-use plan_text::read_plan;
+use plan_check::{Approved, Event, Reply, Turned, check};
+use plan_text::{Plan, read_plan};
 use ring_core::World;
 use ring_names::{Listed, Names, NodeId, Refusal, Slot};
-use ring_table::read_ring;
-use script_text::read_script;
+use ring_table::{Ring, read_ring};
+use script_text::{Script, read_script};
 use std::alloc::Global;
 use std::process::Abort;
 use std::test::Fail;
@@ -26,7 +28,7 @@ const SPARE: &[u8] =
 const SPLIT: &[u8] =
     b"ring 2\nspace 4\nquorum 3 2 2\nnode a 4 in\nnode b 1 2 in\nnode c 4 in\nnode d 4 out\nslots 0 a b c\nslots 1 a b c\nslots 2 a b c\nslots 3 a b c\nend\n";
 
-const MOVE: &[u8] =
+const MOVE_STEPS: &[u8] =
     b"plan 1\njoin d\nmirror 0 1 d after 0\ncopy 0 1 owner after 1\nswitch 0 1 after 2\ndrop 0 1 b after 3\nend\n";
 
 const CHAINS: &[u8] = b"cert 1\nchain b 2\nchain d 2\nend\n";
@@ -35,20 +37,96 @@ const SPLIT_CHAINS: &[u8] = b"cert 2\ngive b 2\nchain d 2\nend\n";
 
 const NO_STEPS: &[u8] = b"plan 1\nend\n";
 
+// A ring, a plan of it and the plan's certificate.
+struct Texts {
+    ring: &'static [u8],
+    plan: &'static [u8],
+    cert: &'static [u8],
+}
+
+const LOSS: Texts = Texts {
+    ring: LOSSY,
+    plan: NO_STEPS,
+    cert: b"cert 2\nend\n",
+};
+
+const STAND_IN: Texts = Texts {
+    ring: SPARE,
+    plan: NO_STEPS,
+    cert: b"cert 1\nend\n",
+};
+
+const MOVE: Texts = Texts {
+    ring: RING,
+    plan: MOVE_STEPS,
+    cert: CHAINS,
+};
+
+const SPLIT_MOVE: Texts = Texts {
+    ring: SPLIT,
+    plan: MOVE_STEPS,
+    cert: SPLIT_CHAINS,
+};
+
 const SLOT: Slot = Slot {
     partition: 0,
     index: 1,
 };
 
-// The plan of the ring, where its certificate shows that it is sound.
-fn approved(alloc: Global, ring: &[u8], plan: &[u8], cert: &[u8]) -> Result<Approved, Refusal> {
-    let ring = read_ring(alloc, ring)?;
-    let plan = read_plan(alloc, &ring, plan)?;
-    let cert = read_cert(alloc, &ring, cert)?;
-    match check(alloc, ring, plan, &cert) {
+// A store and its plan are dropped at each exit of what owns them, which makes the proof of that dear: each function here owns one of them and lends
+// it on.
+
+// What was checked, or why it was turned away.
+pub fn approved_of(found: Result<Approved, Turned>) -> Result<Approved, Refusal> {
+    match found {
         Ok(approved) => Ok(approved),
         Err(turned) => Err(turned.refusal),
     }
+}
+
+// The plan of the ring, where its certificate shows that it is sound.
+fn certified(alloc: Global, ring: Ring, plan: Plan, cert: &[u8]) -> Result<Approved, Refusal>
+    requires { Suits ring plan }
+{
+    let cert = read_cert(alloc, &ring, cert)?;
+    approved_of(check(alloc, ring, plan, &cert))
+}
+
+// The same of a plan's text.
+fn planned(alloc: Global, ring: Ring, plan: &[u8], cert: &[u8]) -> Result<Approved, Refusal> {
+    let plan = read_plan(alloc, &ring, plan)?;
+    certified(alloc, ring, plan, cert)
+}
+
+// The same of texts alone.
+fn approved(alloc: Global, texts: &Texts) -> Result<Approved, Refusal> {
+    let ring = read_ring(alloc, texts.ring)?;
+    planned(alloc, ring, texts.plan, texts.cert)
+}
+
+// Adds the line of a reply, which was allowed.
+fn reply_added<RT: Abort>(
+    rt: &RT,
+    reply: &Reply,
+    allowed: bool,
+    out: &mut Vec<u8>,
+) -> Result<(), Fail> {
+    assert!(rt; allowed);
+    reply.write_text(out)?;
+    out.push(b'\n')?;
+    Ok(())
+}
+
+// Adds the line of a refusal, which was foretold.
+fn refusal_added<RT: Abort>(
+    rt: &RT,
+    refusal: Refusal,
+    allowed: Result<(), Refusal>,
+    out: &mut Vec<u8>,
+) -> Result<(), Fail> {
+    refusal.write_line(out)?;
+    assert_eq!(rt; allowed, Err(refusal));
+    Ok(())
 }
 
 // Adds the line that the event is answered, which is what was allowed.
@@ -62,20 +140,50 @@ fn answer<RT: Abort>(
     assert!(rt; world.puts() < 1000 && world.gets() < 1000);
     let allowed = world.allows(event);
     match world.apply(event) {
-        Ok(reply) => {
-            assert!(rt; allowed.is_ok());
-            reply.write_text(out)?;
-            out.push(b'\n')?;
-        }
-        Err(refusal) => {
-            refusal.write_line(out)?;
-            assert_eq!(rt; allowed, Err(refusal));
-        }
+        Ok(reply) => reply_added(rt, &reply, allowed.is_ok(), out),
+        Err(refusal) => refusal_added(rt, refusal, allowed, out),
     }
+}
+
+// The lines are these.
+fn are_lines<RT: Abort>(rt: &RT, out: &[u8], lines: &[u8]) {
+    assert_eq!(rt; out, lines);
+}
+
+// The events are answered by these lines.
+fn events_answered<RT: AllocGlobal + Abort>(
+    rt: &RT,
+    world: &mut World,
+    events: &[Event],
+    lines: &str,
+) -> Result<(), Fail> {
+    let mut out = Vec::new(rt.alloc());
+    for event in events {
+        answer(rt, world, event, &mut out)?;
+    }
+    are_lines(rt, out.as_slice(), lines.as_bytes());
     Ok(())
 }
 
+// The script of a text, without the names of its writers.
+fn script_of(alloc: Global, ring: &Ring, text: &[u8]) -> Result<Script, Refusal> {
+    let mut names = Names::new(alloc);
+    read_script(alloc, ring, &mut names, text)
+}
+
 // The script's events are answered by these lines.
+fn script_answered<RT: AllocGlobal + Abort>(
+    rt: &RT,
+    ring: &Ring,
+    world: &mut World,
+    text: &[u8],
+    lines: &str,
+) -> Result<(), Fail> {
+    let script = script_of(rt.alloc(), ring, text)?;
+    events_answered(rt, world, script.events(), lines)
+}
+
+// The same of a script's lines.
 fn answered<RT: AllocGlobal + Abort>(
     rt: &RT,
     approved: &Approved,
@@ -83,27 +191,91 @@ fn answered<RT: AllocGlobal + Abort>(
     events: &str,
     lines: &str,
 ) -> Result<(), Fail> {
-    let mut names = Names::new(rt.alloc());
     let text = format!(in rt.alloc(); "script 1\n{events}end\n")?;
-    let script = read_script(rt.alloc(), approved.ring(), &mut names, text.as_bytes())?;
-    let mut out = Vec::new(rt.alloc());
-    for event in script.events() {
-        answer(rt, world, event, &mut out)?;
+    script_answered(rt, approved.ring(), world, text.as_bytes(), lines)
+}
+
+// ---- stories: what a store is asked in turn, and how it stands between
+
+// Which of the stories below is told.
+#[derive(Clone, Copy)]
+enum Story {
+    StaleTickets,
+    LostStore,
+    Hints,
+    Move,
+    BrokenOff,
+}
+
+// The story of a store at its start.
+fn tell<RT: AllocGlobal + Abort>(
+    rt: &RT,
+    story: Story,
+    approved: &Approved,
+    world: &mut World,
+) -> Result<(), Fail> {
+    match story {
+        Story::StaleTickets => tickets_stale(rt, approved, world),
+        Story::LostStore => loss_survived(rt, approved, world),
+        Story::Hints => hints_taken(rt, approved, world),
+        Story::Move => run_moved(rt, approved, world),
+        Story::BrokenOff => broken_off(rt, approved, world),
     }
-    assert_eq!(rt; out.as_slice(), lines.as_bytes());
-    Ok(())
+}
+
+// The same of a plan.
+fn tell_from_start<RT: AllocGlobal + Abort>(
+    rt: &RT,
+    story: Story,
+    approved: &Approved,
+) -> Result<(), Fail> {
+    let mut world = World::start(rt.alloc(), approved)?;
+    tell(rt, story, approved, &mut world)
+}
+
+// The same of texts.
+fn told<RT: AllocGlobal + Abort>(rt: &RT, story: Story, texts: &Texts) -> Result<(), Fail> {
+    let approved = approved(rt.alloc(), texts)?;
+    tell_from_start(rt, story, &approved)
+}
+
+#[test]
+fn tickets_before_a_loss_are_stale(rt: HostRuntime) -> Result<(), Fail> {
+    told(&rt, Story::StaleTickets, &LOSS)
+}
+
+#[test]
+fn puts_outlive_a_lost_store(rt: HostRuntime) -> Result<(), Fail> {
+    told(&rt, Story::LostStore, &LOSS)
+}
+
+#[test]
+fn hints_are_handed_over(rt: HostRuntime) -> Result<(), Fail> {
+    told(&rt, Story::Hints, &STAND_IN)
+}
+
+#[test]
+fn a_slot_moves(rt: HostRuntime) -> Result<(), Fail> {
+    told(&rt, Story::Move, &MOVE)
+}
+
+#[test]
+fn a_slot_moves_from_a_split_node(rt: HostRuntime) -> Result<(), Fail> {
+    told(&rt, Story::BrokenOff, &SPLIT_MOVE)
 }
 
 // ---- tickets and losses
 
-#[test]
-fn tickets_before_a_loss_are_stale(rt: HostRuntime) -> Result<(), Fail> {
-    let approved = approved(rt.alloc(), LOSSY, NO_STEPS, b"cert 2\nend\n")?;
-    let mut world = World::start(rt.alloc(), &approved)?;
+// A ticket that was given before the loss of a store is refused, and a second loss is.
+fn tickets_stale<RT: AllocGlobal + Abort>(
+    rt: &RT,
+    approved: &Approved,
+    world: &mut World,
+) -> Result<(), Fail> {
     answered(
-        &rt,
-        &approved,
-        &mut world,
+        rt,
+        approved,
+        world,
         "put w1 a x31\nwrite 0 0\nwrite 0 1\nlose b\nwrite 0 2\nack 0\nwrite 0 1\nack 0\nlose d\nlose a\n",
         "put 0\nticket 0 0 0\nticket 0 1 0\nok\nticket 0 2 0\nno 45 2\nticket 0 1 1\nok\nno 12 3\nno 52\n",
     )
@@ -136,13 +308,6 @@ fn loss_survived<RT: AllocGlobal + Abort>(
         "get a\nread 0 1\nread 0 2\nendget 0\n",
         "get 0\nfound\nfound 0\nreply 0\n",
     )
-}
-
-#[test]
-fn puts_outlive_a_lost_store(rt: HostRuntime) -> Result<(), Fail> {
-    let approved = approved(rt.alloc(), LOSSY, NO_STEPS, b"cert 2\nend\n")?;
-    let mut world = World::start(rt.alloc(), &approved)?;
-    loss_survived(&rt, &approved, &mut world)
 }
 
 // ---- hints
@@ -189,28 +354,33 @@ fn hint_handed<RT: AllocGlobal + Abort>(
     Ok(())
 }
 
-#[test]
-fn hints_are_handed_over(rt: HostRuntime) -> Result<(), Fail> {
-    let approved = approved(rt.alloc(), SPARE, NO_STEPS, b"cert 1\nend\n")?;
-    let mut world = World::start(rt.alloc(), &approved)?;
-    hint_kept(&rt, &approved, &mut world)?;
-    hint_handed(&rt, &approved, &mut world)
+// Both in turn.
+fn hints_taken<RT: AllocGlobal + Abort>(
+    rt: &RT,
+    approved: &Approved,
+    world: &mut World,
+) -> Result<(), Fail> {
+    hint_kept(rt, approved, world)?;
+    hint_handed(rt, approved, world)
 }
 
 // ---- copies
 
 // How many copies of the node are open, how many of these it receives, and how many read from it.
-fn transfers<RT: Abort>(rt: &RT, world: &World, node: NodeId, all: u32, take: u32, give: u32) {
-    assert_eq!(rt; world.open_transfers(node), all);
-    assert_eq!(rt; world.open_take(node), take);
-    assert_eq!(rt; world.open_give(node), give);
+fn transfers<RT: Abort>(rt: &RT, world: &World, node: NodeId, counts: [u32; 3]) {
+    let open = [
+        world.open_transfers(node),
+        world.open_take(node),
+        world.open_give(node),
+    ];
+    assert_eq!(rt; open.as_slice(), counts.as_slice());
 }
 
 // The copy from b to d is open.
 fn copy_open<RT: Abort>(rt: &RT, world: &World) {
-    transfers(rt, world, NodeId(3), 1, 1, 0);
-    transfers(rt, world, NodeId(1), 1, 0, 1);
-    transfers(rt, world, NodeId(0), 0, 0, 0);
+    transfers(rt, world, NodeId(3), [1, 1, 0]);
+    transfers(rt, world, NodeId(1), [1, 0, 1]);
+    transfers(rt, world, NodeId(0), [0, 0, 0]);
 }
 
 // A copy is opened, broken off and opened again; which chunks were given stays.
@@ -228,8 +398,8 @@ fn broken_off<RT: AllocGlobal + Abort>(
     )?;
     copy_open(rt, world);
     answered(rt, approved, world, "abort 2\n", "ok\n")?;
-    transfers(rt, world, NodeId(3), 0, 0, 0);
-    transfers(rt, world, NodeId(1), 0, 0, 0);
+    transfers(rt, world, NodeId(3), [0, 0, 0]);
+    transfers(rt, world, NodeId(1), [0, 0, 0]);
     answered(rt, approved, world, "open 2\n", "ok\n")?;
     copy_open(rt, world);
     Ok(())
@@ -255,7 +425,7 @@ fn copied<RT: AllocGlobal + Abort>(
         "close 2\nabort 2\nopen 2\n",
         "ok\nno 49\nno 41\n",
     )?;
-    transfers(rt, world, NodeId(3), 0, 0, 0);
+    transfers(rt, world, NodeId(3), [0, 0, 0]);
     Ok(())
 }
 
@@ -265,10 +435,17 @@ fn steps<RT: Abort>(rt: &RT, world: &World, left: u32, next: Option<u32>) {
     assert_eq!(rt; world.ready(0), next);
 }
 
-// The first partition's owners.
+// The first partition's owners, of four.
 fn owners<RT: Abort>(rt: &RT, table: &[Listed<NodeId>], row: &[NodeId]) {
     assert_eq!(rt; table.len(), 4);
     assert_eq!(rt; table[0].as_slice(), row);
+}
+
+// The same of a store.
+fn owners_now<RT: Abort>(rt: &RT, world: &World, row: &[NodeId]) -> Result<(), Fail> {
+    let table = world.table()?;
+    owners(rt, table.as_slice(), row);
+    Ok(())
 }
 
 // The slot's new owner has what the old one had, and the drop comes last.
@@ -278,11 +455,7 @@ fn moved<RT: AllocGlobal + Abort>(
     world: &mut World,
 ) -> Result<(), Fail> {
     steps(rt, world, 2, Some(3));
-    owners(
-        rt,
-        world.table()?.as_slice(),
-        &[NodeId(0), NodeId(1), NodeId(2)],
-    );
+    owners_now(rt, world, &[NodeId(0), NodeId(1), NodeId(2)])?;
     answered(rt, approved, world, "do 3\n", "ok\n")?;
     steps(rt, world, 1, Some(4));
     answered(
@@ -293,12 +466,7 @@ fn moved<RT: AllocGlobal + Abort>(
         "ok\nget 0\nfound 0\n",
     )?;
     steps(rt, world, 0, None);
-    owners(
-        rt,
-        world.table()?.as_slice(),
-        &[NodeId(0), NodeId(3), NodeId(2)],
-    );
-    Ok(())
+    owners_now(rt, world, &[NodeId(0), NodeId(3), NodeId(2)])
 }
 
 // A put at b alone goes with the slot.
@@ -321,26 +489,24 @@ fn run_moved<RT: AllocGlobal + Abort>(
     moved(rt, approved, world)
 }
 
-#[test]
-fn a_slot_moves(rt: HostRuntime) -> Result<(), Fail> {
-    let approved = approved(rt.alloc(), RING, MOVE, CHAINS)?;
-    let mut world = World::start(rt.alloc(), &approved)?;
-    run_moved(&rt, &approved, &mut world)
+// ---- the start
+
+// The owner is the ring's.
+fn is_first_owner<RT: Abort>(rt: &RT, owner: NodeId) {
+    assert_eq!(rt; owner, NodeId(1));
 }
 
-#[test]
-fn a_slot_moves_from_a_split_node(rt: HostRuntime) -> Result<(), Fail> {
-    let approved = approved(rt.alloc(), SPLIT, MOVE, SPLIT_CHAINS)?;
-    let mut world = World::start(rt.alloc(), &approved)?;
-    broken_off(&rt, &approved, &mut world)
+// The same of a store at its start.
+fn owner_at_the_start<RT: AllocGlobal + Abort>(rt: &RT, approved: &Approved) -> Result<(), Fail> {
+    assert!(rt; approved.ring().q() == 4);
+    assert!(rt; approved.ring().n() == 3);
+    let world = World::start(rt.alloc(), approved)?;
+    is_first_owner(rt, world.owner(SLOT));
+    Ok(())
 }
 
 #[test]
 fn owners_at_the_start(rt: HostRuntime) -> Result<(), Fail> {
-    let approved = approved(rt.alloc(), RING, MOVE, CHAINS)?;
-    assert!(rt; approved.ring().q() == 4);
-    assert!(rt; approved.ring().n() == 3);
-    let world = World::start(rt.alloc(), &approved)?;
-    assert_eq!(rt; world.owner(SLOT), NodeId(1));
-    Ok(())
+    let approved = approved(rt.alloc(), &MOVE)?;
+    owner_at_the_start(&rt, &approved)
 }
