@@ -72,10 +72,10 @@ abbrev pub IsClient : List Event → List Receipt → Type 0
 IsClient script list = AreBlocks [] script list
 
 -- a node goes down or comes up
-abbrev pub moves_a_node : Event → Bool
-moves_a_node (event.Down x) = true
-moves_a_node (event.Up x) = true
-moves_a_node e = false
+abbrev pub turns_a_node : Event → Bool
+turns_a_node (event.Down x) = true
+turns_a_node (event.Up x) = true
+turns_a_node e = false
 
 -- the list is one of blocks just where what is left of it behind the line's block is
 abbrev pub Leaves : List Asked → Event → List Receipt → List Receipt → List Asked → Type 0

@@ -16,8 +16,7 @@ has_end k list = list_any (finishes k) list
 abbrev pub list_at : List (List Receipt) → ℕ → List Receipt
 list_at lists place = slice_index_or lists place []
 
--- The worker whose list stands at that place. The lists in front of the workers' are those of none, which is told by the number behind the
--- workers'.
+-- the worker whose list stands at that place; for a list in front of the workers', the number of workers, which is no worker's
 abbrev pub worker_at : ℕ → ℕ → ℕ → ℕ
 worker_at front workers place = cond (nat_lt place front) workers (place - front)
 

@@ -79,6 +79,7 @@ fn agrees_behind(
 /// Whether the lists of receipts are those of the threads of a drive: the last of them are the workers' by number, with events of steps alone,
 /// the clients' by script, each a block for each line of its script, and the one of handoffs; the history is an interleaving of all of them; and each
 /// step's finisher is the worker whose list has its `do` or `close`. Takes a byte for each entry and step, and the keys of a script's gets.
+/// Refused only with `OutOfMemory`.
 pub fn agrees(
     alloc: Global,
     approved: &Approved,

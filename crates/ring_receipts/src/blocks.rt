@@ -6,7 +6,7 @@ ghost use Rattle.plan_check.specs.declared.event.Event.TheVariants.{StartPut, St
 ghost use Rattle.ring_receipts.specs.declared.asked.Asked.{Asked as TheAsked};
 ghost use Rattle.ring_receipts.specs.Kinds.{sends, acknowledges, reads, ends};
 ghost use Rattle.ring_receipts.specs.Behind.{behind, behind_one, begins_with};
-ghost use Rattle.ring_receipts.specs.Blocks.{Leaves, HasNoBlock, moves_a_node};
+ghost use Rattle.ring_receipts.specs.Blocks.{Leaves, HasNoBlock, turns_a_node};
 
 use crate::asked::Asked;
 use crate::kinds::{is_acknowledged, is_end, is_read, is_sent};
@@ -113,7 +113,7 @@ fn behind_get_line<'a>(
 
 // The same of the line of a node that goes down or comes up: there is always one.
 fn behind_node_line<'a>(line: &Event, list: &'a [Receipt]) -> &'a [Receipt]
-    requires { moves_a_node line.now ≡ true }
+    requires { turns_a_node line.now ≡ true }
     ensures { (asked : List TheAsked) → Leaves asked line.now list.now result.now asked }
 {
     let Some((first, later)) = list.split_first() else {

@@ -2,7 +2,7 @@
 
 ghost use Rattle.plan_text.specs.Valid.{Suits};
 
-use crate::worlds::{RING, approved_of};
+use crate::answering::{RING, approved_of};
 use plan_cert::Cert;
 use plan_check::{Event, check};
 use plan_text::Plan;
