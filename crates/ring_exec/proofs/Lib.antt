@@ -1,3 +1,4 @@
 pub mod Histories
 pub mod Sums
 pub mod Looks
+pub mod Replied

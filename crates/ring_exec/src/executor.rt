@@ -1,5 +1,7 @@
 //! The lock round a running store and its history.
 
+ghost use Rattle.std.specs.Prelude.{◌≡◌};
+
 use crate::ledgered::Ledgered;
 use crate::receipt::Receipt;
 use crate::run_ledger::RunLedger;
@@ -13,13 +15,18 @@ use std::sync::{Mutex, Wait};
 /// A running store with its history, which threads share by `&`: each event is applied by one thread at a time.
 #[derive(Drop)]
 pub struct Executor<'a, L: RunLedger> {
+    approved: &'a Approved,
     inside: Mutex<Ledgered<'a, L>>,
+    ghost ring: { approved.now.ring ≡ L.ring },
+    ghost plan: { approved.now.plan ≡ L.plan },
 }
 
 impl<'a, L: RunLedger> Executor<'a, L> {
-    ghost use Rattle.std.specs.Prelude.{◌≡◌, ◌<◌, ◌≤◌, ◌+◌, length, vec_len, IfOk, IfErr, IfSome, OnOk, OnErr};
+    ghost use Rattle.std.specs.Prelude.{◌<◌, ◌≤◌, ◌+◌, true, length, vec_len, IfOk, IfErr, IfSome, OnOk, OnErr};
     ghost use Rattle.std.specs.List.{sum_by};
     ghost use Rattle.ring_names.specs.declared.refusal.Refusal.TheVariants.{OutOfMemory, Disagree};
+    ghost use Rattle.plan_text.specs.Valid.{is_ring_slot};
+    ghost use Rattle.ring_exec.specs.Replies.{fits_reply};
 
     /// A store before the first event, and the one share of its ledger, which counts none and has all of the ledger's parts.
     pub fn new(
@@ -37,9 +44,18 @@ impl<'a, L: RunLedger> Executor<'a, L> {
     {
         let (ledgered, share) = Ledgered::new(alloc, blank, approved)?;
         let executor = Executor {
+            approved,
             inside: Mutex::new(ledgered),
         };
         Ok((executor, share))
+    }
+
+    /// The plan that is run, with its ring.
+    pub fn approved(&self) -> &'a Approved
+        ensures ring { result.now.ring ≡ L.ring }
+        ensures plan { result.now.plan ≡ L.plan }
+    {
+        self.approved
     }
 
     /// The event under the lock, as `Ledgered::apply`: its receipt, and the share counts it. Refused, the share is as it was.
@@ -50,6 +66,7 @@ impl<'a, L: RunLedger> Executor<'a, L> {
         share: &mut Share<L>,
     ) -> Result<Receipt, Refusal>
         ensures event { IfOk result (λ r. r.event ≡ event.now) }
+        ensures reply { IfOk result (λ r. fits_reply event.now r.reply ≡ true) }
         ensures index { IfOk result (λ r. r.index < 1000000) }
         ensures count { OnOk result (share.new.count ≡ share.old.count + 1) }
         ensures same { OnErr result (share.new.count ≡ share.old.count) }
@@ -73,8 +90,10 @@ impl<'a, L: RunLedger> Executor<'a, L> {
         self.inside.lock(rt).world().left()
     }
 
-    /// The n-th node with a slot for which it kept a hint when it was looked at, if there was one.
-    pub fn hint_at<R: Wait>(&self, rt: &R, n: u32) -> Option<(NodeId, Slot)> {
+    /// The n-th node with a slot for which it kept a hint when it was looked at, if there was one: a node and a slot of the ring.
+    pub fn hint_at<R: Wait>(&self, rt: &R, n: u32) -> Option<(NodeId, Slot)>
+        ensures { IfSome result (λ pair. (pair.0.0 < length L.ring.nodes) × (is_ring_slot L.ring pair.1 ≡ true)) }
+    {
         self.inside.lock(rt).world().hint_at(n)
     }
 

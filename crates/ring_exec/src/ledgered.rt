@@ -34,12 +34,14 @@ pub struct Ledgered<'a, L: RunLedger> {
 }
 
 impl<'a, L: RunLedger> Ledgered<'a, L> {
-    ghost use Rattle.std.specs.Prelude.{◌≡◌, ◌≢◌, ◌<◌, ◌≤◌, ◌+◌, ◌++◌, ◌∷◌, ◌↔◌, [], length, vec_len, IfOk, IfErr, OnOk, OnErr, IsTrue};
+    ghost use Rattle.std.specs.Prelude.{◌≡◌, ◌≢◌, ◌<◌, ◌≤◌, ◌+◌, ◌++◌, ◌∷◌, ◌↔◌, [], true, length, vec_len, IfOk, IfErr, OnOk, OnErr, IsTrue};
     ghost use Rattle.std.specs.List.{sum_by};
     ghost use Rattle.ring_names.specs.declared.refusal.Refusal.TheVariants.{OutOfMemory, HistoryFull};
-    ghost use Rattle.plan_check.specs.World.{opening_world};
+    ghost use Rattle.plan_check.specs.World.{World as TheWorld, opening_world};
     ghost use Rattle.ring_core.specs.World.{Meets, Passes, Answers, Refuses, Stays};
+    ghost use Rattle.ring_core.specs.Tables.{AllDone};
     ghost use Rattle.ring_exec.specs.Ledgers.{Replays, entry};
+    ghost use Rattle.ring_exec.specs.Replies.{fits_reply};
 
     /// The store before the first event, with an empty history, and the one share of its ledger, which has all of its parts.
     pub fn new(
@@ -84,12 +86,33 @@ impl<'a, L: RunLedger> Ledgered<'a, L> {
         self.history.as_slice()
     }
 
+    /// Whether every step of the plan is done.
+    pub fn is_finished(&self) -> bool
+        ensures { (w : TheWorld) → Meets self.now.world w → IsTrue result ↔ AllDone L.plan w }
+    {
+        self.world.left() == 0
+    }
+
+    /// The history alone, in the order of its events.
+    pub fn into_entries(self) -> Vec<Entry>
+        ensures items { result.items ≡ self.entry.history.items }
+    {
+        let Ledgered {
+            alloc: _,
+            world: _,
+            history,
+            book: _,
+        } = self;
+        history
+    }
+
     /// The event, which the share counts and which then stands last in the history with its reply. Refused, all is as it was. A history of
     /// 1,000,000 entries comes before all other refusals, and is the only one there; out of memory comes last.
     pub fn apply(&mut self, event: &Event, share: &mut Share<L>) -> Result<Receipt, Refusal>
         ensures entry { IfOk result (λ r. self.new.history.items ≡ self.old.history.items ++ entry event.now r.reply ∷ []) }
         ensures receipt { IfOk result (λ r. (r.event ≡ event.now) × (r.index ≡ vec_len self.old.history)) }
         ensures answer { IfOk result (λ r. Answers self.old.world event.now r.reply self.new.world) }
+        ensures reply { IfOk result (λ r. fits_reply event.now r.reply ≡ true) }
         ensures count { OnOk result (share.new.count ≡ share.old.count + 1) }
         ensures room { OnOk result (vec_len self.old.history < 1000000) }
         ensures full { IfErr result (λ e. (e ≡ HistoryFull) ↔ (vec_len self.old.history ≡ 1000000)) }

@@ -62,7 +62,7 @@ module _ (asked : List Asked) (w : WriterId) (k v s : List ℕ) where
         let sent = passed (λ r. sends n r.event) later in
         let acks = passed_one (λ r. acknowledges n r.event) (behind (λ r. sends n r.event) later) in
         let joined : later ≡ (sent.0 ++ acks.0) ++ rest = sent.1 ∙ ap (λ xs. sent.0 ++ xs) (acks.1 ∙ ap (λ xs. acks.0 ++ xs) (sym rest_is)) ∙ sym (append_assoc sent.0 acks.0 rest) in
-        let put : IsPut asked w k v s (start ∷ (sent.0 ++ acks.0)) = record {
+        let put : IsPut (StartPut w k v (numbers_of asked s)) (start ∷ (sent.0 ++ acks.0)) = record {
           start = start;
           number = n;
           sent = sent.0;

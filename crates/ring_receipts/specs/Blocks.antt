@@ -2,7 +2,6 @@
 use Rattle.std.specs.Prelude.{◌≡◌, ◌⊎◌, ℕ, ◌≤◌, Bool, true, false, ◌&&◌, List, [], ◌∷◌, ◌++◌, map, length, Some, None, slice_get, cond, ◌↔◌}
 use Rattle.std.specs.List.{list_all}
 use Rattle.std.specs.Str.{bytes_eq}
-use Rattle.ring_names.specs.declared.ids.WriterId.{WriterId}
 use Rattle.plan_check.specs.declared.event.Event.{Event}
 use Rattle.plan_check.specs.declared.event.Event.TheVariants as event
 use Rattle.plan_check.specs.declared.event.Reply.TheVariants as reply
@@ -22,14 +21,14 @@ numbers_of asked seen = map (λ n. number_at asked n) seen
 abbrev pub are_ended : List Asked → List ℕ → List ℕ → Bool
 are_ended asked key seen = list_all (λ n. elim (slice_get asked n) [ Some a ↦ bytes_eq a.key key && a.ended | None ↦ false ]) seen
 
--- the start of a put of those words, writes and hints of that put, and at most one acknowledgement of it
-pub record IsPut (asked : List Asked) (writer : WriterId) (key value seen : List ℕ) (block : List Receipt) : Type 0 where
+-- that event, which starts a put, writes and hints of the put, and at most one acknowledgement of it
+pub record IsPut (begin : Event) (block : List Receipt) : Type 0 where
   pub start : Receipt
   pub number : ℕ
   pub sent : List Receipt
   pub acks : List Receipt
   pub joined : block ≡ start ∷ (sent ++ acks)
-  pub event : start.event ≡ event.StartPut writer key value (numbers_of asked seen)
+  pub event : start.event ≡ begin
   pub reply : start.reply ≡ reply.Put number
   pub are_sent : list_all (λ r. kinds.sends number r.event) sent ≡ true
   pub are_acks : list_all (λ r. kinds.acknowledges number r.event) acks ≡ true
@@ -55,7 +54,7 @@ IsOne e block = (block ≡ []) ⊎ ((r : Receipt) × (block ≡ r ∷ []) × (r.
 -- A line's block, with the script's gets in front of the line and behind it. A put's block is empty just where it names a get that is none
 -- of the script's earlier ones, is of another key or has no end.
 abbrev pub IsBlock : List Asked → Event → List Receipt → List Asked → Type 0
-IsBlock asked (event.StartPut w k v s) block after = (after ≡ asked) × (((are_ended asked k s ≡ true) × IsPut asked w k v s block) ⊎ ((are_ended asked k s ≡ false) × (block ≡ [])))
+IsBlock asked (event.StartPut w k v s) block after = (after ≡ asked) × (((are_ended asked k s ≡ true) × IsPut (event.StartPut w k v (numbers_of asked s)) block) ⊎ ((are_ended asked k s ≡ false) × (block ≡ [])))
 IsBlock asked (event.StartGet k) block after = (a : Asked) × (after ≡ asked ++ a ∷ []) × IsGet k a block
 IsBlock asked (event.Down x) block after = (after ≡ asked) × IsOne (event.Down x) block
 IsBlock asked (event.Up x) block after = (after ≡ asked) × IsOne (event.Up x) block

@@ -1,10 +1,10 @@
-//! What a script's judge knows of the script's gets.
+//! What is known of the gets of a script.
 
 use plan_check::Key;
 
 /// A get of a script: the number that its start was answered, its key, and whether its block has its end.
-#[derive(Drop)]
-pub(crate) struct Asked {
+#[derive(Debug, Drop)]
+pub struct Asked {
     pub number: u32,
     pub key: Key,
     pub ended: bool,

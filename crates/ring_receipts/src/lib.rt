@@ -14,4 +14,6 @@ mod same;
 mod starts;
 
 pub use agreeing::agrees;
+pub use asked::Asked;
 pub use outcome::Outcome;
+pub use starts::{all_ended, number_of};

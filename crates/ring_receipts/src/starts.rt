@@ -12,7 +12,7 @@ use ring_exec::Receipt;
 use ring_names::{Value, WriterId};
 
 /// Whether each number is that of an earlier get of the script, of that key and with an end.
-pub(crate) fn all_ended(asked: &[Asked], key: &Key, seen: &Seen) -> bool
+pub fn all_ended(asked: &[Asked], key: &Key, seen: &Seen) -> bool
     ensures { result ≡ are_ended asked.now key.now seen.now }
 {
     seen.as_slice().iter().all(
@@ -27,8 +27,8 @@ pub(crate) fn all_ended(asked: &[Asked], key: &Key, seen: &Seen) -> bool
     )
 }
 
-// The number that the script's n-th get was answered; 0 where there is none.
-fn number_of(asked: &[Asked], n: u32) -> u32
+/// The number that the script's n-th get was answered; 0 where there is none.
+pub fn number_of(asked: &[Asked], n: u32) -> u32
     ensures { result ≡ number_at asked.now n }
 {
     match asked.get(n as usize) {

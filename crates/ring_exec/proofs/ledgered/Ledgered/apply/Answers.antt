@@ -2,6 +2,7 @@ use Rattle.std.proofs.Common.{rules, ◌≡◌, ◌∙◌, ◌<◌, List, [], �
 use Rattle.plan_check.specs.declared.event.Entry.{Entry}
 use Rattle.ring_exec.specs.Ledgers.{Replays, entry}
 use Rattle.ring_exec.proofs.Histories.{replays_on, replays_still, puts_still, gets_still, never_full_there, full_alone}
+use Rattle.ring_exec.proofs.Replied.{fits_there}
 use Rattle.ring_exec.proofs.ledgered.Ledgered.apply.Goals as goal
 
 -- src/ledgered.rt:104:9
@@ -64,3 +65,7 @@ invariant_of-self-2 g c =
       puts = search rules;
       gets = search rules;
     }
+
+pub returns-clause-reply : goal.returns-clause-reply
+returns-clause-reply g c =
+    fits_there c.args.self.now.world c.apply_with_copy.new.self c.args.event.now c.in_ok-reply.reply c.in_ok-reply.ensures.ok
