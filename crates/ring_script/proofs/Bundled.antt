@@ -16,14 +16,14 @@ use Rattle.plan_cert.specs.declared.cert.Cert.{Cert}
 use Rattle.plan_cert.specs.Reading.{fact_at, chain_at, begins_chain, facts_at, chains_at, cert_at}
 use Rattle.plan_cert.specs.Spelling.{cert_format}
 use Rattle.plan_cert.proofs.CertLates.{fact-at, chain-at}
-use Rattle.script_text.specs.Reading.{events_at, script_at}
-use Rattle.script_text.proofs.ScriptLates.{events-on, events-at}
+use Rattle.script_text.specs.declared.speaker.Speaker.TheVariants.{Anyone}
+use Rattle.script_text.proofs.ScriptLates.{section-on}
 use Rattle.ring_script.specs.declared.bundle.Bundle.{Bundle}
 use Rattle.ring_script.specs.declared.bundle.Kind.{Kind}
 use Rattle.ring_script.specs.declared.bundle.Kind.TheVariants.{Check, Play}
 use Rattle.ring_script.specs.Bundles.{Events, events_of, bundle_of, bundle_at}
 
--- ---- reading a plan, a certificate and a script does not go back
+-- ---- reading a plan and a certificate does not go back
 
 steps-all : (ring : RingValue) → Advances (steps_at ring)
 steps-all ring = record { on = λ s. rw (sym (steps-at ring s)) (steps-on ring [] s.line s.lines) }
@@ -42,16 +42,9 @@ cert-on : (ring : RingValue) → Advances (cert_at ring)
 unfolding cert_at
 cert-on ring = advances-map _ _ (advances-then _ _ (advances-line _ (header-at (codes "cert") (cert_format ring))) (λ _. advances-then _ _ facts-all (λ _. advances-then _ _ (chains-all ring) (λ _. advances-line end_line_at end-at))))
 
-events-all : (ring : RingValue) (names : List (List ℕ)) → Advances (events_at ring names)
-events-all ring names = record { on = λ s. rw (sym (events-at ring names s)) (events-on ring [] names s.line s.lines) }
-
-script-on : (ring : RingValue) (names : List (List ℕ)) → Advances (script_at ring names)
-unfolding script_at
-script-on ring names = advances-map _ _ (advances-then _ _ (advances-line _ (header-at (codes "script") (codes "1"))) (λ _. advances-then _ _ (events-all ring names) (λ _. advances-line end_line_at end-at)))
-
 last-on : (kind : Kind) (ring : RingValue) → Advances (events_of kind ring)
 last-on Check ring = record { on = λ s. omega arith }
-last-on Play ring = script-on ring []
+last-on Play ring = section-on Anyone ring []
 
 -- ---- a place in a bundle
 

@@ -9,3 +9,4 @@ pub mod WriterLaws
 pub mod SaidLines
 pub mod SightLaws
 pub mod ScriptLaws
+pub mod ClientLaws

@@ -19,22 +19,22 @@ use Rattle.script_text.specs.declared.said.SaidEvent.TheVariants.{Do, OpenCopy, 
 use Rattle.script_text.specs.Reading.{count_at, pair_at, judge_writer, judge_key, judge_value, seen_at, put_at, hint_at, handoff_at, kind_at, said_at}
 
 -- a value that was read is so
-if-map : {A B : Type 0} (f : A → B) (r : Result A Refusal) (P : A → Type 0) (Q : B → Type 0) → ((a : A) → P a → Q (f a)) → IfOk r P → IfOk (map_ok f r) Q
+pub if-map : {A B : Type 0} (f : A → B) (r : Result A Refusal) (P : A → Type 0) (Q : B → Type 0) → ((a : A) → P a → Q (f a)) → IfOk r P → IfOk (map_ok f r) Q
 if-map f (Ok x) P Q t p = t x p
 if-map f (Err e) P Q t p = tt
 
-if-any : {A B : Type 0} (f : A → B) (r : Result A Refusal) (Q : B → Type 0) → ((a : A) → Q (f a)) → IfOk (map_ok f r) Q
+pub if-any : {A B : Type 0} (f : A → B) (r : Result A Refusal) (Q : B → Type 0) → ((a : A) → Q (f a)) → IfOk (map_ok f r) Q
 if-any f (Ok x) Q t = t x
 if-any f (Err e) Q t = tt
 
-if-both : {A B : Type 0} (a : Result A Refusal) (b : Result B Refusal) (P : A → Type 0) (Q : B → Type 0) → IfOk a P → IfOk b Q → IfOk (both_of a b) (λ x. P x.0 × Q x.1)
+pub if-both : {A B : Type 0} (a : Result A Refusal) (b : Result B Refusal) (P : A → Type 0) (Q : B → Type 0) → IfOk a P → IfOk b Q → IfOk (both_of a b) (λ x. P x.0 × Q x.1)
 unfolding both_of
 if-both (Ok x) (Ok y) P Q p q = (p, q)
 if-both (Ok x) (Err f) P Q p q = tt
 if-both (Err e) (Ok y) P Q p q = tt
 if-both (Err e) (Err f) P Q p q = tt
 
-if-first : {A B : Type 0} (a : Result A Refusal) (b : Result B Refusal) (P : A → Type 0) → IfOk a P → IfOk (both_of a b) (λ x. P x.0)
+pub if-first : {A B : Type 0} (a : Result A Refusal) (b : Result B Refusal) (P : A → Type 0) → IfOk a P → IfOk (both_of a b) (λ x. P x.0)
 unfolding both_of
 if-first (Ok x) (Ok y) P p = p
 if-first (Ok x) (Err f) P p = tt

@@ -11,6 +11,7 @@ use Rattle.plan_check.specs.declared.event.Event.{Event}
 use Rattle.plan_check.specs.declared.event.Event.TheVariants as event
 use Rattle.script_text.specs.Said.{event_of, names_after}
 use Rattle.script_text.specs.declared.said.SaidEvent.{SaidEvent}
+use Rattle.script_text.specs.declared.speaker.Speaker.TheVariants.{Anyone}
 use Rattle.script_text.specs.Spelling.{event_fields}
 use Rattle.script_text.specs.Reading.{said_at, events_from}
 use Rattle.script_text.specs.Valid.{AreWriters}
@@ -82,11 +83,11 @@ module _ (ring : RingValue) (nodes : AreNames (names_of ring)) where
   -- whether the next line ends the script or is one of its events
   read-by : (b : Bool) (seen : List Event) (names : List (List ℕ)) (k : ℕ) (line : List (List ℕ)) (more : List (List (List ℕ))) (w : Script × Left)
       → AreWriters names
-      → ((ys : List Event) (ns : List (List ℕ)) → AreWriters ns → events_from ring ys ns (next_number k) more ≡ Ok w
+      → ((ys : List Event) (ns : List (List ℕ)) → AreWriters ns → events_from Anyone ring ys ns (next_number k) more ≡ Ok w
       → (x : List (List ℕ)) × (zs : List (List (List ℕ))) × (more ≡ x ∷ zs) → IsRead ys ns more w)
       → ◌≡◌ {A = Result (Script × Left) Refusal}
       (cond b (Ok ((seen, names), record { line = k; lines = line ∷ more })) (first_line k (line ∷ more) >>= λ _. said_at ring seen names k line
-      >>= λ x. events_from ring (seen ++ event_of names x ∷ []) (names_after names x) (next_number k) more)) (Ok w) → IsRead seen names (line ∷ more) w
+      >>= λ x. events_from Anyone ring (seen ++ event_of names x ∷ []) (names_after names x) (next_number k) more)) (Ok w) → IsRead seen names (line ∷ more) w
   read-by true seen names k line more w good later e =
       let start : IsRead seen names (line ∷ more)
       ((seen, names), record { line = k; lines = line ∷ more }) = record {
@@ -100,9 +101,9 @@ module _ (ring : RingValue) (nodes : AreNames (names_of ring)) where
       subst (IsRead seen names (line ∷ more)) (ok_is _ w e) start
   read-by false seen names k line more w good later e =
       let b = bind_ok (first_line k (line ∷ more))
-      (λ _. said_at ring seen names k line >>= λ x. events_from ring (seen ++ event_of names x ∷ []) (names_after names x) (next_number k) more) w e in
+      (λ _. said_at ring seen names k line >>= λ x. events_from Anyone ring (seen ++ event_of names x ∷ []) (names_after names x) (next_number k) more) w e in
       let c = bind_ok (said_at ring seen names k line)
-      (λ x. events_from ring (seen ++ event_of names x ∷ []) (names_after names x) (next_number k) more) w b.2 in
+      (λ x. events_from Anyone ring (seen ++ event_of names x ∷ []) (names_after names x) (next_number k) more) w b.2 in
       let f = first_is k (line ∷ more) b.0.0 b.0.1 b.1 in
       let law = (said-line ring seen names k nodes good).takes line c.0 c.1 in
       let some : (x : List (List ℕ)) × (zs : List (List (List ℕ))) × (more ≡ x ∷ zs) = (f.1.0, f.1.1, tail_is line b.0.0 more b.0.1.lines f.0 ∙ f.1.2) in
@@ -118,7 +119,7 @@ module _ (ring : RingValue) (nodes : AreNames (names_of ring)) where
 
   -- what is read was spelled so
   pub lines-read : (seen : List Event) (names : List (List ℕ)) (k : ℕ) (lines : List (List (List ℕ))) (w : Script × Left) → AreWriters names
-      → (x : List (List ℕ)) × (zs : List (List (List ℕ))) × (lines ≡ x ∷ zs) → events_from ring seen names k lines ≡ Ok w → IsRead seen names lines w
+      → (x : List (List ℕ)) × (zs : List (List (List ℕ))) × (lines ≡ x ∷ zs) → events_from Anyone ring seen names k lines ≡ Ok w → IsRead seen names lines w
   lines-read seen names k [] w good some e = absurd cc
   lines-read seen names k (line ∷ more) w good some e = read-by (begins_with (codes "end") (line ∷ more)) seen names k line more w good
       (λ ys ns g h s. lines-read ys ns (next_number k) more w g s h) e
@@ -126,7 +127,7 @@ module _ (ring : RingValue) (nodes : AreNames (names_of ring)) where
   -- what is spelled so is read
   pub lines-given : (xs : List SaidEvent) (seen : List Event) (names : List (List ℕ)) (k : ℕ) (x : List (List ℕ)) (more : List (List (List ℕ)))
       → AreWriters names → EachSaid ring seen names xs → Ends x
-      → (m : ℕ) × (events_from ring seen names k (lines_of ring names xs ++ x ∷ more) ≡ Ok
+      → (m : ℕ) × (events_from Anyone ring seen names k (lines_of ring names xs ++ x ∷ more) ≡ Ok
       ((seen ++ events_of names xs, names_behind names xs), record { line = m; lines = x ∷ more }))
   lines-given [] seen names k x more good each ends = (k, rw (ends-any x more ends, append-nil seen) refl)
   lines-given (y ∷ ys) seen names k x more good each ends =

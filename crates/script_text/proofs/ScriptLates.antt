@@ -1,5 +1,5 @@
 -- Reading a script does not go back, and each of its faults is at a line that was reached.
-use Rattle.std.proofs.Common.{◌≡◌, ℕ, ◌≤◌, Bool, true, false, cond, not, nat_lt, nat_le, eqb, List, [], ◌∷◌, ◌++◌, length, codes, Option, Some, None, Result, Ok, Err, refl, arith}
+use Rattle.std.proofs.Common.{◌≡◌, ℕ, ◌≤◌, Bool, true, false, cond, not, nat_lt, nat_le, eqb, List, [], ◌∷◌, ◌++◌, length, codes, Option, Some, None, Result, Ok, Err, refl, sym, arith}
 use Rattle.std.specs.List.{list_all}
 use Rattle.std.specs.Str.{bytes_eq}
 use Rattle.ring_names.specs.Names.{place}
@@ -12,8 +12,8 @@ use Rattle.texts.specs.Judging.{Item, map_item, field_at}
 use Rattle.texts.specs.Left.{Left, ◌>>=◌, next_number, begins_with, first_line, next_line, one_line, then_part}
 use Rattle.texts.specs.Frames.{header_at, end_line_at}
 use Rattle.texts.specs.Late.{ReadsTo}
-use Rattle.texts.proofs.Lates.{At, at-map, at-if, at-unless, at-whole, Judges, judges-⊗, judges-map, judges-field, judges-number, judges-need, advances-line, to-first, to-second, to-map, reads-less, next-after, next-line, next-monotone}
-use Rattle.texts.proofs.FrameLaws.{end-at}
+use Rattle.texts.proofs.Lates.{At, at-map, at-if, at-unless, at-whole, Judges, judges-⊗, judges-map, judges-field, judges-number, judges-need, Advances, advances-line, advances-then, advances-map, to-first, to-second, to-map, reads-less, next-after, next-line, next-monotone}
+use Rattle.texts.proofs.FrameLaws.{header-at, end-at}
 use Rattle.ring_table.specs.Value.{RingValue}
 use Rattle.ring_table.specs.Reading.{declared_at}
 use Rattle.ring_table.proofs.RingLates.{judges-declared}
@@ -25,7 +25,8 @@ use Rattle.script_text.specs.declared.said.SaidWriter.{SaidWriter}
 use Rattle.script_text.specs.declared.said.SaidWriter.TheVariants.{Known, New}
 use Rattle.script_text.specs.declared.said.SaidEvent.{SaidEvent}
 use Rattle.script_text.specs.declared.said.SaidEvent.TheVariants.{Do, OpenCopy, ChunkCopy, CloseCopy, AbortCopy, StartPut, Write, Hint, Ack, StartGet, Read, EndGet, Down, Up, Handoff, Lose}
-use Rattle.script_text.specs.Reading.{count_at, pair_at, judge_writer, judge_key, judge_value, judge_seen, seen_at, put_at, hint_at, handoff_at, kind_at, said_at, events_from, events_at, script_at}
+use Rattle.script_text.specs.declared.speaker.Speaker.{Speaker}
+use Rattle.script_text.specs.Reading.{count_at, pair_at, judge_writer, judge_key, judge_value, judge_seen, seen_at, put_at, hint_at, handoff_at, kind_at, said_at, may_say, heard_at, events_from, events_at, section_at}
 
 -- ---- a line
 
@@ -122,47 +123,50 @@ unfolding said_at
 said-at ring seen names k fields =
     at-map k _ _ (at-whole k _ (judges-⊗ k _ (kind_at ring names k) (judges-need k (nat_lt (length seen) 1000000)) (judges-kind ring names k)) fields)
 
+pub heard-at : (may : Bool) (ring : RingValue) (seen : List Event) (names : List (List ℕ)) (k : ℕ) (fields : List (List ℕ)) → At k (heard_at may ring seen names k fields)
+heard-at may ring seen names k fields = at-if k may (said_at ring seen names k fields) (Err (BadLine k)) (said-at ring seen names k fields) refl
+
 -- ---- the events
 
-module _ (ring : RingValue) where
+module _ (by : Speaker) (ring : RingValue) where
   abbrev Events : Type 0
   Events = Result ((List Event × List (List ℕ)) × Left) Refusal
 
-  pub events-on : (seen : List Event) (names : List (List ℕ)) (k : ℕ) (lines : List (List (List ℕ))) → ReadsTo k (events_from ring seen names k lines)
+  pub events-on : (seen : List Event) (names : List (List ℕ)) (k : ℕ) (lines : List (List (List ℕ))) → ReadsTo k (events_from by ring seen names k lines)
   events-on seen names k [] = (k, omega arith, refl)
-  events-on seen names k (line ∷ []) = by (begins_with (codes "end") (line ∷ []))
+  events-on seen names k (line ∷ []) = choose (begins_with (codes "end") (line ∷ []))
     where
-      by : (t : Bool) → ReadsTo k (cond {A = Events} t (Ok ((seen, names), record { line = k; lines = line ∷ [] })) (Err (BadLine k)))
-      by true = omega arith
-      by false = (k, omega arith, refl)
-  events-on seen names k (line ∷ next ∷ more) = by (begins_with (codes "end") (line ∷ next ∷ more)) (λ ys ns. events-on ys ns (next_number k) (next ∷ more))
+      choose : (t : Bool) → ReadsTo k (cond {A = Events} t (Ok ((seen, names), record { line = k; lines = line ∷ [] })) (Err (BadLine k)))
+      choose true = omega arith
+      choose false = (k, omega arith, refl)
+  events-on seen names k (line ∷ next ∷ more) = choose (begins_with (codes "end") (line ∷ next ∷ more)) (λ ys ns. events-on ys ns (next_number k) (next ∷ more))
     where
-      judged : (r : Result SaidEvent Refusal) → At k r → ((ys : List Event) (ns : List (List ℕ)) → ReadsTo (next_number k) (events_from ring ys ns (next_number k) (next ∷ more))) → ReadsTo k (◌>>=◌ {B = (List Event × List (List ℕ)) × Left} r (λ x. events_from ring (seen ++ event_of names x ∷ []) (names_after names x) (next_number k) (next ∷ more)))
+      judged : (r : Result SaidEvent Refusal) → At k r → ((ys : List Event) (ns : List (List ℕ)) → ReadsTo (next_number k) (events_from by ring ys ns (next_number k) (next ∷ more))) → ReadsTo k (◌>>=◌ {B = (List Event × List (List ℕ)) × Left} r (λ x. events_from by ring (seen ++ event_of names x ∷ []) (names_after names x) (next_number k) (next ∷ more)))
       judged (Ok x) p later = reads-less k (next_number k) _ (next-after k) (later (seen ++ event_of names x ∷ []) (names_after names x))
       judged (Err e) p later = (k, omega arith, p)
 
-      by : (t : Bool) → ((ys : List Event) (ns : List (List ℕ)) → ReadsTo (next_number k) (events_from ring ys ns (next_number k) (next ∷ more)))
-          → ReadsTo k (cond {A = Events} t (Ok ((seen, names), record { line = k; lines = line ∷ next ∷ more })) (◌>>=◌ {B = (List Event × List (List ℕ)) × Left} (said_at ring seen names k line) (λ x. events_from ring (seen ++ event_of names x ∷ []) (names_after names x) (next_number k) (next ∷ more))))
-      by true later = omega arith
-      by false later = judged (said_at ring seen names k line) (said-at ring seen names k line) later
+      choose : (t : Bool) → ((ys : List Event) (ns : List (List ℕ)) → ReadsTo (next_number k) (events_from by ring ys ns (next_number k) (next ∷ more)))
+          → ReadsTo k (cond {A = Events} t (Ok ((seen, names), record { line = k; lines = line ∷ next ∷ more })) (◌>>=◌ {B = (List Event × List (List ℕ)) × Left} (heard_at (may_say by (line ∷ next ∷ more)) ring seen names k line) (λ x. events_from by ring (seen ++ event_of names x ∷ []) (names_after names x) (next_number k) (next ∷ more))))
+      choose true later = omega arith
+      choose false later = judged (heard_at (may_say by (line ∷ next ∷ more)) ring seen names k line) (heard-at (may_say by (line ∷ next ∷ more)) ring seen names k line) later
 
   events-step : (seen : List Event) (names : List (List ℕ)) (k : ℕ) (lines : List (List (List ℕ))) → begins_with (codes "end") lines ≡ false
-      → events_from ring seen names k lines ≡ (first_line k lines >>= λ x. said_at ring seen names k x.0 >>= λ y. events_from ring (seen ++ event_of names y ∷ []) (names_after names y) x.1.line x.1.lines)
+      → events_from by ring seen names k lines ≡ (first_line k lines >>= λ x. heard_at (may_say by lines) ring seen names k x.0 >>= λ y. events_from by ring (seen ++ event_of names y ∷ []) (names_after names y) x.1.line x.1.lines)
   events-step seen names k [] e = refl
   events-step seen names k (line ∷ []) e = rw e refl
   events-step seen names k (line ∷ next ∷ more) e = rw e refl
 
   -- memory that is asked for behind a line that was taken
-  pub events-late : (seen : List Event) (names : List (List ℕ)) (start s t : Left) (fields : List (List ℕ)) (x : SaidEvent) (total : Events) → begins_with (codes "end") s.lines ≡ false → next_line s ≡ Ok (fields, t) → said_at ring seen names s.line fields ≡ Ok x
-      → start.line ≤ s.line → events_from ring seen names s.line s.lines ≡ total → (next_number start.line ≤ t.line) × ReadsTo t.line total
+  pub events-late : (seen : List Event) (names : List (List ℕ)) (start s t : Left) (fields : List (List ℕ)) (x : SaidEvent) (total : Events) → begins_with (codes "end") s.lines ≡ false → next_line s ≡ Ok (fields, t) → heard_at (may_say by s.lines) ring seen names s.line fields ≡ Ok x
+      → start.line ≤ s.line → events_from by ring seen names s.line s.lines ≡ total → (next_number start.line ≤ t.line) × ReadsTo t.line total
   events-late seen names start s t fields x total b e f le so_far =
-      let behind : events_from ring seen names s.line s.lines ≡ events_from ring (seen ++ event_of names x ∷ []) (names_after names x) t.line t.lines = rw (events-step seen names s.line s.lines b, e, f) refl in
+      let behind : events_from by ring seen names s.line s.lines ≡ events_from by ring (seen ++ event_of names x ∷ []) (names_after names x) t.line t.lines = rw (events-step seen names s.line s.lines b, e, f) refl in
       let on = events-on (seen ++ event_of names x ∷ []) (names_after names x) t.line t.lines in
       let line = next-line s t fields e in
       let more = next-monotone start.line s.line le in
       (omega (arith, line, more), rw (← so_far, behind) on)
 
-  pub events-at : (names : List (List ℕ)) (s : Left) → events_from ring [] names s.line s.lines ≡ events_at ring names s
+  pub events-at : (names : List (List ℕ)) (s : Left) → events_from by ring [] names s.line s.lines ≡ events_at by ring names s
   unfolding events_at
   events-at names s = refl
 
@@ -170,10 +174,18 @@ module _ (ring : RingValue) where
   last events = one_line end_line_at
 
   abbrev events_on : List (List ℕ) → Unit {0} → Left → Result (((List Event × List (List ℕ)) × Unit {0}) × Left) Refusal
-  events_on names u = then_part (events_at ring names) last
+  events_on names u = then_part (events_at by ring names) last
 
   -- behind the first line: a place among the events
-  pub script-events : (names : List (List ℕ)) (s t : Left) (u : Unit {0}) → one_line (header_at (codes "script") (codes "1")) s ≡ Ok (u, t) → (k : ℕ) → ReadsTo k (events_at ring names t) → ReadsTo k (script_at ring names s)
-  unfolding script_at
+  pub script-events : (names : List (List ℕ)) (s t : Left) (u : Unit {0}) → one_line (header_at (codes "script") (codes "1")) s ≡ Ok (u, t) → (k : ℕ) → ReadsTo k (events_at by ring names t) → ReadsTo k (section_at by ring names s)
+  unfolding section_at
   script-events names s t u start k p = to-map (λ (x : Unit {0} × ((List Event × List (List ℕ)) × Unit {0})). x.1.0) (then_part (one_line (header_at (codes "script") (codes "1"))) (events_on names)) k s
-      (to-second (one_line (header_at (codes "script") (codes "1"))) (events_on names) k s t u start (to-first (events_at ring names) last k t (λ events. advances-line end_line_at end-at) p))
+      (to-second (one_line (header_at (codes "script") (codes "1"))) (events_on names) k s t u start (to-first (events_at by ring names) last k t (λ events. advances-line end_line_at end-at) p))
+
+  events-all : (names : List (List ℕ)) → Advances (events_at by ring names)
+  events-all names = record { on = λ s. rw (sym (events-at names s)) (events-on [] names s.line s.lines) }
+
+  -- reading a script does not go back
+  pub section-on : (names : List (List ℕ)) → Advances (section_at by ring names)
+  unfolding section_at
+  section-on names = advances-map _ _ (advances-then _ _ (advances-line _ (header-at (codes "script") (codes "1"))) (λ _. advances-then _ _ (events-all names) (λ _. advances-line end_line_at end-at)))

@@ -25,8 +25,9 @@ use Rattle.plan_check.specs.Words.{is_key}
 use Rattle.plan_check.specs.declared.event.Event.{Event}
 use Rattle.plan_check.specs.declared.event.Event.TheVariants as event
 use Rattle.script_text.specs.Known.{IsKnown, AreKnown}
+use Rattle.script_text.specs.declared.speaker.Speaker.TheVariants.{Anyone}
 use Rattle.script_text.specs.Spelling.{seen_fields, event_fields, script_lines, script_text}
-use Rattle.script_text.specs.Reading.{events_at, script_at, script_reading}
+use Rattle.script_text.specs.Reading.{events_at, section_at, script_at, script_reading}
 use Rattle.script_text.specs.Valid.{AreWriters, IsCount, AreGets, IsEvent, IsScriptOf}
 use Rattle.script_text.proofs.ValueLaws.{value-plain}
 use Rattle.script_text.proofs.WriterLaws.{front-writers, writer-plain}
@@ -141,11 +142,11 @@ module _ (ring : RingValue) (nodes : AreNames (names_of ring)) where
   of-valid old names es p = record { each = p.events; known = p.known; grown = p.grown; seen = p.seen; ordered = p.ordered }
 
   -- a script's events are read from just their lines
-  events-part : (old : List (List ℕ)) → AreWriters old → IsPart Ends (events_at ring old) body (Valid old)
+  events-part : (old : List (List ℕ)) → AreWriters old → IsPart Ends (events_at Anyone ring old) body (Valid old)
   unfolding events_at
   events-part old good = record { takes = take; gives = give }
     where
-      take : (a z : Left) (v : Script) → SomeLeft a → events_at ring old a ≡ Ok (v, z) → (a.lines ≡ body v ++ z.lines) × Valid old v × SomeLeft z
+      take : (a z : Left) (v : Script) → SomeLeft a → events_at Anyone ring old a ≡ Ok (v, z) → (a.lines ≡ body v ++ z.lines) × Valid old v × SomeLeft z
       take a z v some e =
           let r = lines-read ring nodes [] old a.line a.lines (v, z) good some e in
           let script = events_of old r.items in
@@ -160,13 +161,13 @@ module _ (ring : RingValue) (nodes : AreNames (names_of ring)) where
           subst G same mine
 
       give : (k : ℕ) (v : Script) (x : List (List ℕ)) (xs : List (List (List ℕ))) → Valid old v → Ends x
-          → (m : ℕ) × (events_at ring old (record { line = k; lines = body v ++ x ∷ xs }) ≡ Ok (v, record { line = m; lines = x ∷ xs }))
+          → (m : ℕ) × (events_at Anyone ring old (record { line = k; lines = body v ++ x ∷ xs }) ≡ Ok (v, record { line = m; lines = x ∷ xs }))
       give k v x xs p ends =
           let few = p.few in
           let l = lines-for ring v.0 [] old v.1 p.writers (omega arith) (of-valid old v.1 v.0 p) in
           let g = lines-given ring nodes l.items [] old k x xs good l.each ends in
           let lines : lines_of ring old l.items ≡ body v = lines-same ring l.items [] old l.each ∙ rw (l.events, l.writers) refl in
-          let G : List (List (List ℕ)) → Script → Type 0 = λ ls w. events_at ring old (record { line = k; lines = ls ++ x ∷ xs }) ≡ Ok
+          let G : List (List (List ℕ)) → Script → Type 0 = λ ls w. events_at Anyone ring old (record { line = k; lines = ls ++ x ∷ xs }) ≡ Ok
           (w, record { line = g.0; lines = x ∷ xs }) in
           let same : (events_of old l.items, names_behind old l.items) ≡ v = rw (l.events, l.writers) refl in (
             g.0,
@@ -176,12 +177,12 @@ module _ (ring : RingValue) (nodes : AreNames (names_of ring)) where
 
   -- a script is read from just its lines
   script-part : (old : List (List ℕ)) → AreWriters old → IsPart Any (script_at ring old) (λ v. script_lines ring v.1 v.0) (Valid old)
-  unfolding script_at
+  unfolding section_at
   script-part old good =
       let header = IsPart-line (header_at (codes "script") (codes "1")) (λ x. header_fields (codes "script") (codes "1")) Nothing
       (header-line (codes "script") (codes "1")) in
       let last = IsPart-line end_line_at (λ x. end_fields) Nothing end-line in
-      let events = IsPart-then {A = Script} {B = Unit {0}} Ends Any (events_at ring old) (λ _. one_line end_line_at) body (λ _ x. end_fields ∷ [])
+      let events = IsPart-then {A = Script} {B = Unit {0}} Ends Any (events_at Anyone ring old) (λ _. one_line end_line_at) body (λ _ x. end_fields ∷ [])
       (Valid old) (λ _ x. Unit {0}) (events-part old good) (λ a p. last) (λ a b x xs p p2 d. refl) in
       let all = IsPart-then {A = Unit {0}} {B = Script × Unit {0}} Any Any (one_line (header_at (codes "script") (codes "1"))) _
       (λ x. header_fields (codes "script") (codes "1") ∷ []) _ Nothing _ header (λ x p. events) (λ a b x xs p p2 d. tt) in
@@ -215,7 +216,7 @@ read-only ring old names text script r p e =
 
 -- a section has a line
 some-line : (ring : RingValue) (old : List (List ℕ)) (s t : Left) (v : List Event × List (List ℕ)) → script_at ring old s ≡ Ok (v, t) → SomeLeft s
-unfolding script_at
+unfolding section_at
 some-line ring old s t v e = by s.lines e
   where
     by : (lines : List (List (List ℕ))) → script_at ring old (record { line = s.line; lines = lines }) ≡ Ok (v, t)

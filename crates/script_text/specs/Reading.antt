@@ -1,5 +1,5 @@
 -- Reading a script: the events of a text and the writers known behind it, or its first fault.
-use Rattle.std.specs.Prelude.{ℕ, ◌==◌, not, nat_lt, nat_le, List, [], ◌∷◌, ◌++◌, length, codes, Some, None, Result, Ok, Err}
+use Rattle.std.specs.Prelude.{ℕ, Bool, true, ◌||◌, ◌==◌, not, nat_lt, nat_le, List, [], ◌∷◌, ◌++◌, length, codes, Some, None, Result, Ok, Err}
 use Rattle.std.specs.Prelude.{if◌then◌else◌}
 use Rattle.std.specs.List.{list_all}
 use Rattle.std.specs.Str.{bytes_eq}
@@ -23,6 +23,8 @@ use Rattle.script_text.specs.declared.said.SaidWriter.TheVariants.{Known, New}
 use Rattle.script_text.specs.declared.said.SaidPut.{SaidPut}
 use Rattle.script_text.specs.declared.said.SaidEvent.{SaidEvent}
 use Rattle.script_text.specs.declared.said.SaidEvent.TheVariants as said
+use Rattle.script_text.specs.declared.speaker.Speaker.{Speaker}
+use Rattle.script_text.specs.declared.speaker.Speaker.TheVariants.{Anyone, Client}
 
 -- a number of 32 bits
 abbrev pub count_at : ℕ → Item ℕ
@@ -105,24 +107,41 @@ kind_at ring names k (word ∷ fields) =
 unfoldable pub said_at : RingValue → List Event → List (List ℕ) → ℕ → List (List ℕ) → Result SaidEvent Refusal
 said_at ring events names k fields = map_ok (λ x. x.1) (whole k (need_at k (nat_lt (length events) 1000000) ⊗ kind_at ring names k) fields)
 
+-- whether the speaker may say a line that begins like the first of these
+abbrev pub may_say : Speaker → List (List (List ℕ)) → Bool
+may_say Anyone lines = true
+may_say Client lines = begins_with (codes "put") lines || begins_with (codes "get") lines || begins_with (codes "down") lines || begins_with (codes "up") lines
+
+-- the next event of a script, where its speaker may say the line
+abbrev pub heard_at : Bool → RingValue → List Event → List (List ℕ) → ℕ → List (List ℕ) → Result SaidEvent Refusal
+heard_at may ring events names k fields = if may then said_at ring events names k fields else Err (BadLine k)
+
 -- events behind those seen, and the writers, up to a line that begins with `end`
-abbrev pub events_from : RingValue → List Event → List (List ℕ) → ℕ → List (List (List ℕ)) → Result ((List Event × List (List ℕ)) × Left) Refusal
-events_from ring seen names k [] = Err (BadLine k)
-events_from ring seen names k (line ∷ more) = if begins_with (codes "end") (line ∷ more)
+abbrev pub events_from : Speaker → RingValue → List Event → List (List ℕ) → ℕ → List (List (List ℕ)) → Result ((List Event × List (List ℕ)) × Left) Refusal
+events_from by ring seen names k [] = Err (BadLine k)
+events_from by ring seen names k (line ∷ more) = if begins_with (codes "end") (line ∷ more)
     then Ok ((seen, names), record { line = k; lines = line ∷ more })
-    else (first_line k (line ∷ more) >>= λ _. said_at ring seen names k line
-    >>= λ x. events_from ring (seen ++ event_of names x ∷ []) (names_after names x) (next_number k) more)
+    else (first_line k (line ∷ more) >>= λ _. heard_at (may_say by (line ∷ more)) ring seen names k line
+    >>= λ x. events_from by ring (seen ++ event_of names x ∷ []) (names_after names x) (next_number k) more)
 
 -- the events of a script, from the first on
-unfoldable pub events_at : RingValue → List (List ℕ) → Left → Result ((List Event × List (List ℕ)) × Left) Refusal
-events_at ring names s = events_from ring [] names s.line s.lines
+unfoldable pub events_at : Speaker → RingValue → List (List ℕ) → Left → Result ((List Event × List (List ℕ)) × Left) Refusal
+events_at by ring names s = events_from by ring [] names s.line s.lines
 
--- the lines of a script, one part behind the other
-unfoldable pub script_at : RingValue → List (List ℕ) → Left → Result ((List Event × List (List ℕ)) × Left) Refusal
-script_at ring names = map_part (λ (x : Unit {0} × ((List Event × List (List ℕ)) × Unit {0})). x.1.0)
+-- the lines of a speaker's script, one part behind the other
+unfoldable pub section_at : Speaker → RingValue → List (List ℕ) → Left → Result ((List Event × List (List ℕ)) × Left) Refusal
+section_at by ring names = map_part (λ (x : Unit {0} × ((List Event × List (List ℕ)) × Unit {0})). x.1.0)
     (then_part (one_line (header_at (codes "script") (codes "1"))) (λ _.
-    then_part (events_at ring names) (λ _.
+    then_part (events_at by ring names) (λ _.
     one_line end_line_at)))
+
+-- of a script that anyone may say
+abbrev pub script_at : RingValue → List (List ℕ) → Left → Result ((List Event × List (List ℕ)) × Left) Refusal
+script_at = section_at Anyone
+
+-- of a client's: a line that begins with another word than `put`, `get`, `down` and `up` is none
+abbrev pub client_at : RingValue → List (List ℕ) → Left → Result ((List Event × List (List ℕ)) × Left) Refusal
+client_at = section_at Client
 
 -- a whole text
 abbrev pub script_reading : RingValue → List (List ℕ) → List ℕ → Result (List Event × List (List ℕ)) Refusal

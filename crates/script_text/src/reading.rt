@@ -1,19 +1,22 @@
 //! Reading a script.
 
-ghost use Rattle.std.specs.Prelude.{◌≡◌, ◌<◌, ℕ, List, [], length, Ok, IfOk, IfErr, OnOk};
+ghost use Rattle.std.specs.Prelude.{◌≡◌, ◌<◌, ℕ, true, List, [], length, Ok, IfOk, IfErr, OnOk};
+ghost use Rattle.std.specs.List.{list_all};
 ghost use Rattle.ring_names.specs.declared.refusal.Refusal.TheVariants.{OutOfMemory};
 ghost use Rattle.texts.specs.Left.{Reads};
 ghost use Rattle.texts.specs.Late.{IsAt, Late, NoFaultBefore};
 ghost use Rattle.texts.specs.Judging.{Gives, map_ok};
 ghost use Rattle.script_text.specs.Said.{IsNext};
 ghost use Rattle.plan_check.specs.declared.event.Event.{Event};
-ghost use Rattle.script_text.specs.Reading.{said_at, events_from, events_at, script_at, script_reading};
+ghost use Rattle.script_text.specs.Client.{is_client_event};
+ghost use Rattle.script_text.specs.Reading.{said_at, heard_at, events_from, events_at, section_at, script_at, client_at, script_reading};
 ghost use Rattle.script_text.specs.Spelling.{script_text};
 ghost use Rattle.script_text.specs.Valid.{AreWriters, IsScriptOf};
 
 use crate::kind::kind;
 use crate::said::SaidEvent;
 use crate::script::Script;
+use crate::speaker::Speaker;
 use crate::taken::add;
 use ring_names::{Names, Refusal};
 use ring_table::Ring;
@@ -36,35 +39,41 @@ fn judge_line<'a>(
     Ok(said)
 }
 
-// The same, and that it can be the next event.
+// The same, where the line may be said, and that it can be the next event.
 fn event_line<'a>(
+    may: bool,
     ring: &Ring,
     names: &Names,
     script: &Script,
     fields: Fields<'a>,
 ) -> Result<SaidEvent<'a>, Refusal>
-    ensures value { result ≡ said_at ring.now script.now names.now fields.entry.number fields.entry.fields }
+    ensures value { result ≡ heard_at may ring.now script.now names.now fields.entry.number fields.entry.fields }
     ensures next { IfOk result (λ x. IsNext script.now names.now x) }
     ensures at { IfErr result (λ e. IsAt fields.entry.number e) }
 {
+    if !may {
+        return Err(Refusal::BadLine(fields.line()));
+    }
     judge_line(ring, names, script, fields)
 }
 
 // Reads events behind those of the script, up to a line that begins with `end`.
 fn read_into(
     alloc: Global,
+    by: Speaker,
     ring: &Ring,
     writers: &mut Names,
     seen: &mut Script,
     lines: &mut Lines,
 ) -> Result<(), Refusal>
     requires none { seen.old ≡ [] }
-    ensures read { Reads (map_ok (λ _. (seen.new, writers.new)) result) lines.new (events_from ring.now seen.old writers.old lines.old.line lines.old.lines) }
-    ensures late { Late 1 result lines.old lines.new (events_from ring.now seen.old writers.old lines.old.line lines.old.lines) }
+    ensures read { Reads (map_ok (λ _. (seen.new, writers.new)) result) lines.new (events_from by ring.now seen.old writers.old lines.old.line lines.old.lines) }
+    ensures late { Late 1 result lines.old lines.new (events_from by ring.now seen.old writers.old lines.old.line lines.old.lines) }
 {
     'events: while !lines.begins(b"end") {
+        let may = by.may_say(lines);
         let fields = lines.next()?;
-        let said = event_line(ring, writers, seen, fields)?;
+        let said = event_line(may, ring, writers, seen, fields)?;
         add(alloc, writers, seen, said)?;
     }
     Ok(())
@@ -74,31 +83,33 @@ fn read_into(
 #[tactic(auto, unfolding(crate::specs::Reading::events_at))]
 fn read_events(
     alloc: Global,
+    by: Speaker,
     ring: &Ring,
     writers: &mut Names,
     lines: &mut Lines,
 ) -> Result<Script, Refusal>
-    ensures read { Reads (map_ok (λ s. (s, writers.new)) result) lines.new (events_at ring.now writers.old lines.old) }
-    ensures late { Late 1 result lines.old lines.new (events_at ring.now writers.old lines.old) }
+    ensures read { Reads (map_ok (λ s. (s, writers.new)) result) lines.new (events_at by ring.now writers.old lines.old) }
+    ensures late { Late 1 result lines.old lines.new (events_at by ring.now writers.old lines.old) }
 {
     let mut script = Script::new(alloc);
-    read_into(alloc, ring, writers, &mut script, lines)?;
+    read_into(alloc, by, ring, writers, &mut script, lines)?;
     Ok(script)
 }
 
-// Reads the lines of a script.
-#[tactic(auto, unfolding(crate::specs::Reading::script_at))]
+// Reads the lines of a speaker's script.
+#[tactic(auto, unfolding(crate::specs::Reading::section_at))]
 fn read_parts(
     alloc: Global,
+    by: Speaker,
     ring: &Ring,
     writers: &mut Names,
     lines: &mut Lines,
 ) -> Result<Script, Refusal>
-    ensures read { Reads (map_ok (λ s. (s, writers.new)) result) lines.new (script_at ring.now writers.old lines.old) }
-    ensures late { Late 2 result lines.old lines.new (script_at ring.now writers.old lines.old) }
+    ensures read { Reads (map_ok (λ s. (s, writers.new)) result) lines.new (section_at by ring.now writers.old lines.old) }
+    ensures late { Late 2 result lines.old lines.new (section_at by ring.now writers.old lines.old) }
 {
     header(lines, b"script", b"1")?;
-    let script = read_events(alloc, ring, writers, lines)?;
+    let script = read_events(alloc, by, ring, writers, lines)?;
     end(lines)?;
     Ok(script)
 }
@@ -120,7 +131,24 @@ pub fn read_script_section(
     // A ring is valid, which the prover knows once a number of it is read.
     let slots = ring.n();
     prove!(slots <= 7);
-    read_parts(alloc, ring, writers, lines)
+    read_parts(alloc, Speaker::Anyone, ring, writers, lines)
+}
+
+/// Reads the lines of a client's script, up to its line `end`, and leaves what follows them, as `read_script_section` does, but a line that begins
+/// with another word than `put`, `get`, `down` and `up` is `BadLine`, whatever else stands in it.
+pub fn read_client_section(
+    alloc: Global,
+    ring: &Ring,
+    writers: &mut Names,
+    lines: &mut Lines,
+) -> Result<Script, Refusal>
+    ensures read { Reads (map_ok (λ s. (s, writers.new)) result) lines.new (client_at ring.now writers.old lines.old) }
+    // Each event is one that a client can bring about.
+    ensures clients { IfOk result (λ s. list_all is_client_event s ≡ true) }
+    // Memory may run out behind its first two lines, if these have no fault, and later only behind lines that have none.
+    ensures late { Late 2 result lines.old lines.new (client_at ring.now writers.old lines.old) }
+{
+    read_parts(alloc, Speaker::Client, ring, writers, lines)
 }
 
 // Reads a script from its whole text.

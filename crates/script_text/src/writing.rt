@@ -98,8 +98,8 @@ fn push_node(out: &mut Vec<u8>, ring: &Ring, word: &[u8], node: NodeId) -> Resul
     push_name(out, ring.nodes(), node)
 }
 
-// What the event is.
-fn push_event(
+/// Adds the event as its line of a script has it, without the byte 0A.
+pub fn push_event(
     out: &mut Vec<u8>,
     ring: &Ring,
     names: &Names,

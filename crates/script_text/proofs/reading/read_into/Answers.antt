@@ -6,7 +6,7 @@ use Rattle.script_text.proofs.reading.read_into.Goals as goal
 
 pub returns-in_err-add-clause-late : goal.returns-in_err-add-clause-late
 returns-in_err-add-clause-late c =
-    let line = rw c.in_ok-fields.ensures.found.0 at c.in_ok-said.ensures.value in
+    let line = rw (c.in_ok-fields.ensures.found.0, c.may_say-may.ensures) at c.in_ok-said.ensures.value in
     let other = sym c.begins.ensures ∙ c.events-test.true in
-    late-here 1 c.from_residual-in_err-add.result c.args.lines.now c.next.new.self (events_from c.args.ring.now c.args.seen.now c.args.writers.now c.args.lines.now.line c.args.lines.now.lines)
-    (events-late c.args.ring.now c.events.seen c.events.writers c.args.lines.now c.events.lines c.next.new.self c.in_ok-fields.fields.fields c.in_ok-said.said _ other c.in_ok-fields.ensures.found.1 (sym line) c.events.invariant.forward c.events.invariant.rest)
+    late-here 1 c.from_residual-in_err-add.result c.args.lines.now c.next.new.self (events_from c.args.by c.args.ring.now c.args.seen.now c.args.writers.now c.args.lines.now.line c.args.lines.now.lines)
+    (events-late c.args.by c.args.ring.now c.events.seen c.events.writers c.args.lines.now c.events.lines c.next.new.self c.in_ok-fields.fields.fields c.in_ok-said.said _ other c.in_ok-fields.ensures.found.1 (sym line) c.events.invariant.forward c.events.invariant.rest)

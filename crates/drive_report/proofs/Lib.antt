@@ -1,0 +1,3 @@
+mod Examples
+pub mod NoFloats
+pub mod Ascii

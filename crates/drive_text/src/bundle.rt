@@ -1,0 +1,64 @@
+//! Bundles of a drive.
+
+ghost use Rattle.std.specs.Prelude.{◌≡◌, IfOk, IfErr};
+ghost use Rattle.ring_names.specs.declared.refusal.Refusal.TheVariants.{OutOfMemory};
+ghost use Rattle.texts.specs.Judging.{Gives};
+ghost use Rattle.texts.specs.Left.{Reads, whole_text};
+ghost use Rattle.texts.specs.Late.{Late, NoFaultBefore};
+ghost use Rattle.drive_text.specs.Drives.{drive_at, IsDrive};
+
+use crate::scripts::read_scripts;
+use plan_cert::{Cert, read_cert_section};
+use plan_text::{Plan, read_plan_section};
+use ring_names::{Listed, Names, Refusal};
+use ring_table::{Ring, read_ring_section};
+use script_text::Script;
+use std::alloc::Global;
+use texts::Lines;
+
+/// A ring, a plan of it, the plan's certificate, and the scripts of 1 to 8 clients with the names of their writers, by number.
+#[derive(Drop)]
+pub struct DriveBundle {
+    pub ring: Ring,
+    pub plan: Plan,
+    pub cert: Cert,
+    pub writers: Names,
+    pub scripts: Listed<Script>,
+}
+
+// The parts of a bundle. A ring's fault comes before a plan's, that before a certificate's, and that before the scripts'.
+#[tactic(auto, unfolding(crate::specs::Drives::drive_at))]
+fn read_parts(alloc: Global, lines: &mut Lines) -> Result<DriveBundle, Refusal>
+    ensures read { Reads result lines.new (drive_at lines.old) }
+    ensures parts { IfOk result IsDrive }
+    ensures late { Late 4 result lines.old lines.new (drive_at lines.old) }
+{
+    let ring = read_ring_section(alloc, lines)?;
+    let plan = read_plan_section(alloc, &ring, lines)?;
+    let cert = read_cert_section(alloc, &ring, lines)?;
+    let mut writers = Names::new(alloc);
+    let scripts = read_scripts(alloc, &ring, &mut writers, lines)?;
+    Ok(DriveBundle {
+        ring,
+        plan,
+        cert,
+        writers,
+        scripts,
+    })
+}
+
+/// The parts of a drive's bundle, and nothing behind them. In a script, a line that begins with another word than `put`, `get`, `down` and `up` is
+/// `BadLine`. Writers are numbered in order of first sight over all scripts. The first line at fault decides. `OutOfMemory` comes only where
+/// memory ran out, behind the first four lines of the ring.
+pub fn read_drive(alloc: Global, bytes: &[u8]) -> Result<DriveBundle, Refusal>
+    // Which bundle it is, or which fault.
+    ensures read { Gives result (whole_text drive_at bytes.now) }
+    ensures parts { IfOk result IsDrive }
+    // Memory may run out only if the first four lines have no fault.
+    ensures late { IfErr result (λ e. e ≡ OutOfMemory → NoFaultBefore 5 (whole_text drive_at bytes.now)) }
+{
+    let mut lines = Lines::of(bytes);
+    let bundle = read_parts(alloc, &mut lines)?;
+    lines.ended()?;
+    Ok(bundle)
+}

@@ -1,0 +1,64 @@
+//! Writing a history.
+
+ghost use Rattle.std.specs.Prelude.{◌≡◌, ◌≤◌, ◌++◌, length, IfOk, IfErr, OnOk};
+ghost use Rattle.std.specs.List.{flat_map};
+ghost use Rattle.ring_names.specs.declared.refusal.Refusal.TheVariants.{OutOfMemory};
+ghost use Rattle.ring_table.specs.Value.{names_of};
+ghost use Rattle.history_text.specs.Known.{AreKnownEntries};
+ghost use Rattle.history_text.specs.Spelling.{entry_line, history_text};
+
+use plan_check::{Approved, Entry};
+use ring_names::{Names, Refusal};
+use ring_table::Ring;
+use script_text::push_event;
+use std::alloc::{AllocError, Global};
+
+// The line of an entry.
+fn push_entry(
+    out: &mut Vec<u8>,
+    ring: &Ring,
+    writers: &Names,
+    entry: &Entry,
+) -> Result<(), AllocError>
+    ensures { OnOk result (out.new.items ≡ out.old.items ++ entry_line (names_of ring.now) writers.now entry.now) }
+{
+    push_event(out, ring, writers, &entry.event)?;
+    out.extend_from_slice(b" = ")?;
+    entry.reply.write_text(out)?;
+    out.push(b'\n')?;
+    Ok(())
+}
+
+// The lines of entries.
+fn push_entries(
+    out: &mut Vec<u8>,
+    ring: &Ring,
+    writers: &Names,
+    history: &[Entry],
+) -> Result<(), AllocError>
+    ensures { OnOk result (out.new.items ≡ out.old.items ++ flat_map (entry_line (names_of ring.now) writers.now) history.now) }
+{
+    for entry in history {
+        push_entry(out, ring, writers, entry)?;
+    }
+    Ok(())
+}
+
+/// The one text of a history over the ring whose writers are numbered so: `history 1`, for each entry its event, ` = ` and its reply, and `end`.
+/// Its only refusal is `OutOfMemory`.
+pub fn write_history(
+    alloc: Global,
+    approved: &Approved,
+    writers: &Names,
+    history: &[Entry],
+) -> Result<Vec<u8>, Refusal>
+    requires few { length history.now ≤ 1000000 }
+    requires known { AreKnownEntries approved.now.ring writers.now history.now }
+    ensures text { IfOk result (λ v. v.items ≡ history_text approved.now.ring writers.now history.now) }
+    ensures memory { IfErr result (λ e. e ≡ OutOfMemory) }
+{
+    let mut out = Vec::from_slice(alloc, b"history 1\n")?;
+    push_entries(&mut out, approved.ring(), writers, history)?;
+    out.extend_from_slice(b"end\n")?;
+    Ok(out)
+}
