@@ -1,0 +1,36 @@
+-- What the receipts of one put or get are.
+use Rattle.std.specs.Prelude.{◌≡◌, ◌⊎◌, ℕ, Bool, true, false, not, List, [], ◌++◌, length, cond, Option, is_some}
+use Rattle.plan_check.specs.declared.event.Event.{Event}
+use Rattle.plan_check.specs.declared.event.Event.TheVariants.{StartPut, StartGet}
+use Rattle.ring_names.specs.declared.refusal.Refusal.{Refusal}
+use Rattle.ring_exec.specs.declared.receipt.Receipt.{Receipt}
+use Rattle.ring_receipts.specs.declared.asked.Asked.{Asked}
+use Rattle.ring_receipts.specs.Blocks.{IsPut, IsGet}
+
+-- it starts a put
+abbrev pub starts_put : Event → Bool
+starts_put (StartPut w k v s) = true
+starts_put e = false
+
+-- it starts a get
+abbrev pub starts_get : Event → Bool
+starts_get (StartGet k) = true
+starts_get e = false
+
+-- none, where the start was refused; else the block of the put that the event starts, with its acknowledgement just where nothing is refused in
+-- the end
+abbrev pub IsPutAttempt : Event → List Receipt → Option Refusal → Type 0
+IsPutAttempt begin receipts refusal =
+    ((receipts ≡ []) × (is_some refusal ≡ true)) ⊎ ((p : IsPut begin receipts) × (length p.acks ≡ cond (is_some refusal) 0 1))
+
+-- the same of a get of the key, with its end
+abbrev pub IsGetAttempt : List ℕ → List Receipt → Option Refusal → Type 0
+IsGetAttempt key receipts refusal =
+    ((receipts ≡ []) × (is_some refusal ≡ true)) ⊎ ((a : Asked) × IsGet key a receipts × (a.ended ≡ not (is_some refusal)))
+
+-- such receipts stand behind the others
+abbrev pub AddsPut : Event → List Receipt → List Receipt → Option Refusal → Type 0
+AddsPut begin old new refusal = (block : List Receipt) × (new ≡ old ++ block) × IsPutAttempt begin block refusal
+
+abbrev pub AddsGet : List ℕ → List Receipt → List Receipt → Option Refusal → Type 0
+AddsGet key old new refusal = (block : List Receipt) × (new ≡ old ++ block) × IsGetAttempt key block refusal

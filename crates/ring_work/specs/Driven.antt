@@ -1,0 +1,38 @@
+-- What a drive promises.
+use Rattle.std.specs.Prelude.{◌≡◌, ◌⊎◌, ℕ, List, ◌++◌, length}
+use Rattle.ring_names.specs.declared.refusal.Refusal.{Refusal}
+use Rattle.ring_names.specs.declared.refusal.Refusal.TheVariants.{OutOfMemory, Disagree, TurnsSpent}
+use Rattle.ring_table.specs.Value.{RingValue}
+use Rattle.plan_text.specs.declared.step.Planned.{Planned}
+use Rattle.plan_check.specs.declared.event.Entry.{Entry}
+use Rattle.plan_check.specs.declared.event.Event.{Event}
+use Rattle.plan_check.specs.World.{World}
+use Rattle.plan_check.specs.Runs.{IsRun}
+use Rattle.plan_check.specs.Safe.{Safe}
+use Rattle.ring_core.specs.Tables.{AllDone}
+use Rattle.ring_exec.specs.declared.receipt.Receipt.{Receipt}
+use Rattle.ring_receipts.specs.Agreed.{Agrees}
+
+-- the history is a run of the plan
+abbrev pub IsHistory : RingValue → List Planned → List Entry → Type 0
+IsHistory ring plan history = ∥ ((w : World) × IsRun ring plan history w) ∥₁
+
+-- it is one that finishes every step
+abbrev pub IsWhole : RingValue → List Planned → List Entry → Type 0
+IsWhole ring plan history = ∥ ((w : World) × IsRun ring plan history w × AllDone plan w) ∥₁
+
+-- the store is safe at every moment of the history, its beginning and its end among them
+abbrev pub IsSafe : RingValue → List Planned → List Entry → Type 0
+IsSafe ring plan history = (before after : List Entry) (w : World) → history ≡ before ++ after → IsRun ring plan before w → Safe ring plan w
+
+-- A run of the plan that finishes every step and is safe at every moment, and an interleaving of the receipts of its threads: the workers' by
+-- number, the clients' by script, each a block for each line of its script, and the one of handoffs; the finishers are those whose lists end
+-- the steps.
+pub record Driven (ring : RingValue) (plan : List Planned) (scripts : List (List Event)) (workers : ℕ) (history : List Entry) (lists : List (List Receipt)) (finishers : List ℕ) : Type 0 where
+  pub run : IsWhole ring plan history
+  pub safe : IsSafe ring plan history
+  pub agrees : Agrees (length plan) scripts workers history lists finishers
+
+-- where a drive breaks off: a limit of turns was spent, records disagree or the history is full, or a growth was refused
+abbrev pub IsFault : Refusal → Type 0
+IsFault e = (e ≡ TurnsSpent) ⊎ ((e ≡ Disagree) ⊎ (e ≡ OutOfMemory))

@@ -1,0 +1,3 @@
+pub mod Noted
+pub mod Attempts
+pub mod Driven

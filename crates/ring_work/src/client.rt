@@ -1,0 +1,162 @@
+//! Clients, each of which does the lines of a script.
+
+ghost use Rattle.std.specs.Prelude.{◌≡◌, ◌<◌, true, vec_len, vec_capacity, IfOk, IfErr};
+ghost use Rattle.std.specs.List.{list_all};
+ghost use Rattle.ring_work.specs.Attempts.{starts_put, starts_get};
+
+use crate::done::Done;
+use crate::getting::{finish_get, start_get};
+use crate::noting::go_on;
+use crate::putting::put_on;
+use crate::site::{Site, is_set, set};
+use plan_check::{Event, Gate, Key, Seen};
+use ring_exec::{Executor, RunLedger, Share};
+use ring_names::{Refusal, Value, WriterId};
+use ring_receipts::{Asked, all_ended, number_of};
+use script_text::Script;
+use std::alloc::Global;
+use std::sync::Wait;
+
+// The numbers that the script's gets were answered.
+fn numbers(alloc: Global, asked: &[Asked], seen: &Seen) -> Result<Vec<u32>, Refusal> {
+    let mut numbers = Vec::new(alloc);
+    for get in seen.as_slice() {
+        numbers.push(number_of(asked, *get))?;
+    }
+    Ok(numbers)
+}
+
+// The start of a line's put, whose gets have the numbers that they were answered.
+fn start_of(
+    alloc: Global,
+    asked: &[Asked],
+    writer: WriterId,
+    key: &Key,
+    value: &Value,
+    seen: &Seen,
+) -> Result<Event, Refusal>
+    ensures { IfOk result (λ start. starts_put start ≡ true) }
+{
+    // A later get has a greater number, so they ascend as those of the script do.
+    let Some(seen) = Seen::of(numbers(alloc, asked, seen)?) else {
+        return Err(Refusal::Disagree);
+    };
+    let key = key.try_copy(alloc)?;
+    let value = value.try_copy(alloc)?;
+    Ok(Event::StartPut(writer, key, value, seen))
+}
+
+// Goes on behind an attempt, but where it met what ends all.
+fn after(refusal: Option<Refusal>) -> Result<(), Refusal> {
+    match refusal {
+        Some(refusal) => go_on(refusal),
+        None => Ok(()),
+    }
+}
+
+// The put of a line, where each get that it names is an earlier one of the script, of its key, and has ended; else nothing.
+fn put_line<'a, L: RunLedger, R: Wait>(
+    rt: &R,
+    alloc: Global,
+    executor: &Executor<'a, L>,
+    done: &mut Done<L>,
+    asked: &[Asked],
+    line: &Event,
+) -> Result<(), Refusal> {
+    let Event::StartPut(writer, key, value, seen) = line else {
+        return Ok(());
+    };
+    if !all_ended(asked, key, seen) {
+        return Ok(());
+    }
+    let start = start_of(alloc, asked, *writer, key, value, seen)?;
+    after(put_on(rt, executor, &mut done.share, &mut done.receipts, &start))
+}
+
+// The get of a line. It is noted behind those that were asked.
+fn get_line<'a, L: RunLedger, R: Wait>(
+    rt: &R,
+    alloc: Global,
+    executor: &Executor<'a, L>,
+    done: &mut Done<L>,
+    asked: &mut Vec<Asked>,
+    key: &Key,
+) -> Result<(), Refusal> {
+    asked.reserve(1)?;
+    let key = key.try_copy(alloc)?;
+    let start = Event::StartGet(key.try_copy(alloc)?);
+    let number = start_get(rt, executor, &mut done.share, &mut done.receipts, &start)?;
+    let refusal = finish_get(rt, executor, &mut done.share, &mut done.receipts, number);
+    let ended = refusal.is_none();
+    asked.push_reserved(Asked { number, key, ended });
+    after(refusal)
+}
+
+// The line of a node that goes down or comes up.
+fn node_line<'a, L: RunLedger, R: Wait>(
+    rt: &R,
+    executor: &Executor<'a, L>,
+    done: &mut Done<L>,
+    line: &Event,
+) -> Result<(), Refusal> {
+    match done.note(rt, executor, line) {
+        Ok(()) => Ok(()),
+        Err(refusal) => go_on(refusal),
+    }
+}
+
+// What the line asks for.
+fn do_line<'a, L: RunLedger, R: Wait>(
+    rt: &R,
+    alloc: Global,
+    executor: &Executor<'a, L>,
+    done: &mut Done<L>,
+    asked: &mut Vec<Asked>,
+    line: &Event,
+) -> Result<(), Refusal> {
+    match line {
+        Event::StartPut(_, _, _, _) => put_line(rt, alloc, executor, done, asked.as_slice(), line),
+        Event::StartGet(key) => get_line(rt, alloc, executor, done, asked, key),
+        _ => node_line(rt, executor, done, line),
+    }
+}
+
+// The lines in order, until all are to stop. The refusal that ends them, if one does.
+fn do_lines<'e, 'a, L: RunLedger, R: Wait, G: Gate>(
+    rt: &R,
+    alloc: Global,
+    site: &Site<'e, 'a, L, G>,
+    done: &mut Done<L>,
+    client: u32,
+    lines: &[Event],
+) -> Result<(), Refusal> {
+    let mut asked = Vec::new(alloc);
+    for (number, line) in lines.iter().enumerate() {
+        if is_set(site.stop) {
+            break;
+        }
+        if !site.gate.pass(rt, client, number as u64) {
+            return Err(Refusal::TurnsSpent);
+        }
+        do_line(rt, alloc, site.executor, done, &mut asked, line)?;
+    }
+    Ok(())
+}
+
+/// A client: the lines of its script, one behind the other. It stops all where it meets a full history or want of memory, and where its gate
+/// answers false; other refusals stop nobody.
+pub(crate) fn serve<'e, 'a, L: RunLedger, R: Wait, G: Gate>(
+    rt: &R,
+    alloc: Global,
+    site: &Site<'e, 'a, L, G>,
+    client: u32,
+    script: &Script,
+    share: Share<L>,
+) -> Done<L> {
+    let mut done = Done::new(alloc, share);
+    if let Err(refusal) = do_lines(rt, alloc, site, &mut done, client, script.events()) {
+        done.stopped = Some(refusal);
+        set(site.stop);
+    }
+    done
+}

@@ -1,0 +1,45 @@
+//! What a thread hands back.
+
+use crate::noting::note;
+use plan_check::Event;
+use ring_board::Seat;
+use ring_exec::{Executor, Receipt, RunLedger, Share};
+use ring_names::Refusal;
+use std::alloc::Global;
+use std::sync::Wait;
+
+/// What a thread was answered, its share, and the refusal that ended it, if one did.
+#[derive(Drop)]
+pub(crate) struct Done<L: RunLedger> {
+    pub receipts: Vec<Receipt>,
+    pub share: Share<L>,
+    pub stopped: Option<Refusal>,
+}
+
+/// The same of a worker, with its seat at the board.
+#[derive(Drop)]
+pub(crate) struct Sat<L: RunLedger> {
+    pub done: Done<L>,
+    pub seat: Seat,
+}
+
+impl<L: RunLedger> Done<L> {
+    /// Before the first event.
+    pub fn new(alloc: Global, share: Share<L>) -> Done<L> {
+        Done {
+            receipts: Vec::new(alloc),
+            share,
+            stopped: None,
+        }
+    }
+
+    /// Submits the event and keeps its receipt.
+    pub fn note<'a, R: Wait>(
+        &mut self,
+        rt: &R,
+        executor: &Executor<'a, L>,
+        event: &Event,
+    ) -> Result<(), Refusal> {
+        note(rt, executor, &mut self.share, &mut self.receipts, event)
+    }
+}

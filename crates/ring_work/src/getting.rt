@@ -1,0 +1,169 @@
+//! A get through the lock.
+
+ghost use Rattle.std.specs.Prelude.{◌≡◌, ◌+◌, ◌<◌, ◌∷◌, ◌++◌, [], true, vec_len, IfOk, IfErr, OnErr, is_some};
+ghost use Rattle.plan_check.specs.declared.event.Event.TheVariants.{StartGet};
+ghost use Rattle.plan_check.specs.declared.event.Reply.TheVariants.{Get};
+ghost use Rattle.ring_exec.specs.declared.receipt.Receipt.{Receipt as TheReceipt};
+ghost use Rattle.ring_receipts.specs.Kinds.{reads, ends};
+ghost use Rattle.ring_work.specs.Noted.{Grows, Completes, IsCounted};
+ghost use Rattle.ring_work.specs.Attempts.{starts_get, AddsGet, IsGetAttempt};
+
+use crate::attempt::Attempt;
+use crate::noting::{MAX_ROUNDS, get_number, go_on, note};
+use plan_check::{Event, Key};
+use ring_exec::{Executor, Receipt, RunLedger, Share};
+use ring_names::Refusal;
+use std::alloc::Global;
+use std::sync::Wait;
+use std::thread;
+
+/// Starts the get. Its number.
+pub(crate) fn start_get<'a, L: RunLedger, R: Wait>(
+    rt: &R,
+    executor: &Executor<'a, L>,
+    share: &mut Share<L>,
+    receipts: &mut Vec<Receipt>,
+    start: &Event,
+) -> Result<u32, Refusal>
+    requires { starts_get start.now ≡ true }
+    ensures ok { IfOk result (λ get. (r : TheReceipt) × (r.event ≡ start.now) × (r.reply ≡ Get get) × (receipts.new.items ≡ receipts.old.items ++ r ∷ [])) }
+    ensures err { OnErr result (receipts.new.items ≡ receipts.old.items) }
+    ensures count { IsCounted share.old.count share.new.count receipts.old.items receipts.new.items }
+    ensures parts { share.new.token.parts ≡ share.old.token.parts }
+{
+    receipts.reserve(1)?;
+    let receipt = executor.submit(rt, start, share)?;
+    let get = get_number(&receipt.reply);
+    receipts.push_reserved(receipt);
+    Ok(get)
+}
+
+// The slots that a get has read: bit i is set where the slot of index i is read.
+#[derive(Drop)]
+struct Slots {
+    mask: u32,
+    count: u32,
+}
+
+impl Slots {
+    fn has(&self, index: u32) -> bool
+        requires { index < 32 }
+    {
+        self.mask & (1 << index) != 0
+    }
+
+    fn add(&mut self, index: u32)
+        requires { index < 32 }
+    {
+        self.mask |= 1 << index;
+        self.count = self.count.saturating_add(1);
+    }
+}
+
+// Reads each slot that is not read, in order, until R slots are.
+fn read_round<'a, L: RunLedger, R: Wait>(
+    rt: &R,
+    executor: &Executor<'a, L>,
+    share: &mut Share<L>,
+    receipts: &mut Vec<Receipt>,
+    get: u32,
+    slots: &mut Slots,
+) -> Result<(), Refusal>
+    ensures grows { Grows (λ r. reads get r.event) receipts.old.items receipts.new.items }
+    ensures count { IsCounted share.old.count share.new.count receipts.old.items receipts.new.items }
+    ensures parts { share.new.token.parts ≡ share.old.token.parts }
+{
+    let ring = executor.approved().ring();
+    for index in 0..ring.n() {
+        if slots.count < ring.r() && !slots.has(index) {
+            match note(rt, executor, share, receipts, &Event::Read(get, index)) {
+                Ok(()) => slots.add(index),
+                Err(refusal) => go_on(refusal)?,
+            }
+        }
+    }
+    Ok(())
+}
+
+// Rounds, up to one behind which R slots are read.
+fn read_rounds<'a, L: RunLedger, R: Wait>(
+    rt: &R,
+    executor: &Executor<'a, L>,
+    share: &mut Share<L>,
+    receipts: &mut Vec<Receipt>,
+    get: u32,
+) -> Result<(), Refusal>
+    ensures grows { Grows (λ r. reads get r.event) receipts.old.items receipts.new.items }
+    ensures count { IsCounted share.old.count share.new.count receipts.old.items receipts.new.items }
+    ensures parts { share.new.token.parts ≡ share.old.token.parts }
+{
+    let enough = executor.approved().ring().r();
+    let mut slots = Slots { mask: 0, count: 0 };
+    'rounds: for _ in 0..MAX_ROUNDS {
+        read_round(rt, executor, share, receipts, get, &mut slots)?;
+        if slots.count >= enough {
+            break;
+        }
+        thread::yield_now();
+    }
+    Ok(())
+}
+
+/// The reads of a get that was started, and its end. The last refusal, where it did not end.
+pub(crate) fn finish_get<'a, L: RunLedger, R: Wait>(
+    rt: &R,
+    executor: &Executor<'a, L>,
+    share: &mut Share<L>,
+    receipts: &mut Vec<Receipt>,
+    get: u32,
+) -> Option<Refusal>
+    ensures completes { Completes (λ r. reads get r.event) (λ r. ends get r.event) receipts.old.items receipts.new.items (is_some result) }
+    ensures count { IsCounted share.old.count share.new.count receipts.old.items receipts.new.items }
+    ensures parts { share.new.token.parts ≡ share.old.token.parts }
+{
+    if let Err(refusal) = read_rounds(rt, executor, share, receipts, get) {
+        return Some(refusal);
+    }
+    match note(rt, executor, share, receipts, &Event::EndGet(get)) {
+        Ok(()) => None,
+        Err(refusal) => Some(refusal),
+    }
+}
+
+// A get, started by that event. The last refusal, where it did not end.
+fn get_on<'a, L: RunLedger, R: Wait>(
+    rt: &R,
+    executor: &Executor<'a, L>,
+    share: &mut Share<L>,
+    receipts: &mut Vec<Receipt>,
+    key: Key,
+) -> Option<Refusal>
+    ensures block { AddsGet key receipts.old.items receipts.new.items result }
+    ensures count { IsCounted share.old.count share.new.count receipts.old.items receipts.new.items }
+    ensures parts { share.new.token.parts ≡ share.old.token.parts }
+{
+    match start_get(rt, executor, share, receipts, &Event::StartGet(key)) {
+        Ok(get) => finish_get(rt, executor, share, receipts, get),
+        Err(refusal) => Some(refusal),
+    }
+}
+
+/// A get of the key. It is started; then come rounds, at most 64, of reads of each slot that is not read, in order, until R slots are read; then it
+/// asks to end. A refused start, a full history and want of memory end it at once.
+pub fn get_all<'a, L: RunLedger, R: Wait>(
+    rt: &R,
+    alloc: Global,
+    executor: &Executor<'a, L>,
+    share: &mut Share<L>,
+    key: Key,
+) -> Attempt
+    // Its block, with its end just where nothing is refused in the end; nothing where the start is refused.
+    ensures block { IsGetAttempt key result.receipts.items result.refusal }
+    // The share counts what was answered.
+    ensures count { share.new.count ≡ share.old.count + vec_len result.receipts }
+    ensures parts { share.new.token.parts ≡ share.old.token.parts }
+{
+    let mut receipts = Vec::new(alloc);
+    let refusal = get_on(rt, executor, share, &mut receipts, key);
+    Attempt { receipts, refusal }
+}

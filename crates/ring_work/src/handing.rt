@@ -1,0 +1,73 @@
+//! The thread that hands hints off.
+
+use crate::done::Done;
+use crate::noting::go_on;
+use crate::site::{Site, is_set, set};
+use plan_check::{Event, Gate};
+use ring_exec::{RunLedger, Share};
+use ring_names::{NodeId, Refusal, Slot};
+use std::alloc::Global;
+use std::sync::Wait;
+use std::thread;
+
+// Hands the node's hints for the slot off. Whether they went.
+fn hand<'e, 'a, L: RunLedger, R: Wait, G: Gate>(
+    rt: &R,
+    site: &Site<'e, 'a, L, G>,
+    done: &mut Done<L>,
+    node: NodeId,
+    slot: Slot,
+) -> Result<bool, Refusal> {
+    match done.note(rt, site.executor, &Event::Handoff(node, slot)) {
+        Ok(()) => Ok(true),
+        Err(refusal) => {
+            go_on(refusal)?;
+            Ok(false)
+        }
+    }
+}
+
+// Walks over the hints, to the end of the first that began when all other threads had ended. A walk looks for the n-th hint; behind an
+// answered handoff n stays, and behind a refused one it is one more.
+fn walks<'e, 'a, L: RunLedger, R: Wait, G: Gate>(
+    rt: &R,
+    site: &Site<'e, 'a, L, G>,
+    done: &mut Done<L>,
+) -> Result<(), Refusal> {
+    let mut n = 0u32;
+    let mut last = is_set(site.joined);
+    for _ in rt.forever() {
+        match site.executor.hint_at(rt, n) {
+            Some((node, slot)) => {
+                if !hand(rt, site, done, node, slot)? {
+                    n = n.saturating_add(1);
+                }
+            }
+            None => {
+                if last {
+                    break;
+                }
+                n = 0;
+                last = is_set(site.joined);
+                thread::yield_now();
+            }
+        }
+    }
+    Ok(())
+}
+
+/// The handoffs: walks over the hints, to the end of the first that began when all other threads had ended. It stops all where it meets a full
+/// history or want of memory.
+pub(crate) fn hand_off<'e, 'a, L: RunLedger, R: Wait, G: Gate>(
+    rt: &R,
+    alloc: Global,
+    site: &Site<'e, 'a, L, G>,
+    share: Share<L>,
+) -> Done<L> {
+    let mut done = Done::new(alloc, share);
+    if let Err(refusal) = walks(rt, site, &mut done) {
+        done.stopped = Some(refusal);
+        set(site.stop);
+    }
+    done
+}

@@ -1,0 +1,103 @@
+//! What the threads of a drive leave behind.
+
+ghost use Rattle.std.specs.Prelude.{◌≡◌, ◌⊎◌, All, vec_len, IfOk, IfErr, IfSome};
+ghost use Rattle.ring_names.specs.declared.refusal.Refusal.TheVariants.{OutOfMemory};
+
+use crate::done::{Done, Sat};
+use ring_board::{Board, Seat};
+use ring_exec::{Receipt, RunLedger, Share};
+use ring_names::{Listed, Refusal};
+use std::alloc::Global;
+
+/// The seats of the workers, the shares of all threads, their receipts in the order in which the threads were joined, and the worst refusal that
+/// ended one. There is room for all of them from the start, so that no thread's are lost.
+#[derive(Drop)]
+pub(crate) struct Left<L: RunLedger> {
+    pub seats: Vec<Seat>,
+    pub shares: Vec<Share<L>>,
+    pub receipts: Vec<Listed<Receipt>>,
+    pub refusal: Option<Refusal>,
+}
+
+// How bad a refusal is: want of memory least, a limit of turns most.
+fn weight(refusal: &Option<Refusal>) -> u8 {
+    match refusal {
+        None => 0,
+        Some(Refusal::OutOfMemory) => 1,
+        Some(Refusal::TurnsSpent) => 3,
+        Some(_) => 2,
+    }
+}
+
+/// The worse of the two: a limit of turns comes before a full history and records that disagree, and these before want of memory.
+pub(crate) fn worse(one: Option<Refusal>, other: Option<Refusal>) -> Option<Refusal> {
+    if weight(&one) < weight(&other) {
+        other
+    } else {
+        one
+    }
+}
+
+impl<L: RunLedger> Left<L> {
+    /// Nothing yet, with room for that many workers and clients, the first seat, the first share and the thread of handoffs.
+    pub fn with_room(alloc: Global, workers: usize, clients: usize) -> Result<Left<L>, Refusal>
+        ensures none { IfOk result (λ l. vec_len l.seats ≡ 0) }
+        ensures memory { IfErr result (λ e. e ≡ OutOfMemory) }
+    {
+        let threads = workers.saturating_add(clients).saturating_add(2);
+        let seats = Vec::with_capacity(alloc, workers.saturating_add(1))?;
+        let shares = Vec::with_capacity(alloc, threads)?;
+        let receipts = Vec::with_capacity(alloc, threads)?;
+        Ok(Left {
+            seats,
+            shares,
+            receipts,
+            refusal: None,
+        })
+    }
+
+    /// Notes a refusal.
+    pub fn note(&mut self, refusal: Option<Refusal>)
+        ensures { self.new.seats ≡ self.old.seats }
+    {
+        self.refusal = worse(self.refusal.take(), refusal);
+    }
+
+    /// Takes a share.
+    pub fn share(&mut self, share: Share<L>)
+        ensures { self.new.seats ≡ self.old.seats }
+    {
+        if self.shares.push(share).is_err() {
+            self.note(Some(Refusal::OutOfMemory));
+        }
+    }
+
+    /// Takes what a thread hands back.
+    pub fn take(&mut self, done: Done<L>)
+        ensures { self.new.seats ≡ self.old.seats }
+    {
+        let Done {
+            receipts,
+            share,
+            stopped,
+        } = done;
+        if self.receipts.push(Listed::from_vec(receipts)).is_err() {
+            self.note(Some(Refusal::OutOfMemory));
+        }
+        self.share(share);
+        self.note(stopped);
+    }
+
+    /// Takes what a worker hands back.
+    pub fn take_seat(&mut self, board: &Board, sat: Sat<L>)
+        requires old { All (λ s. s.board ≡ board.now.id) self.old.seats.items }
+        requires one { sat.seat.board ≡ board.now.id }
+        ensures { All (λ s. s.board ≡ board.now.id) self.new.seats.items }
+    {
+        let Sat { done, seat } = sat;
+        if self.seats.push(seat).is_err() {
+            self.note(Some(Refusal::OutOfMemory));
+        }
+        self.take(done);
+    }
+}

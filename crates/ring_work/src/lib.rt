@@ -1,0 +1,22 @@
+//! What runs an approved plan: puts and gets of clients through the lock, and the threads of a drive, with all that they were answered.
+#![tactic(auto)]
+
+mod attempt;
+mod client;
+mod done;
+mod driving;
+mod fault;
+mod getting;
+mod handing;
+mod left;
+mod noting;
+mod putting;
+mod site;
+mod threads;
+mod worker;
+
+pub use attempt::Attempt;
+pub use driving::drive;
+pub use fault::Fault;
+pub use getting::get_all;
+pub use putting::put_all;

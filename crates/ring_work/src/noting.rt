@@ -1,0 +1,69 @@
+//! Events that are submitted, with their receipts kept.
+
+ghost use Rattle.std.specs.Prelude.{◌≡◌, ◌+◌, ◌∷◌, ◌++◌, ◌⊎◌, [], true, vec_len, IfOk, IfErr, OnOk, OnErr};
+ghost use Rattle.ring_names.specs.declared.refusal.Refusal.TheVariants.{HistoryFull, OutOfMemory};
+ghost use Rattle.ring_exec.specs.Replies.{is_put, is_get};
+ghost use Rattle.plan_check.specs.declared.event.Reply.TheVariants.{Put, Get};
+ghost use Rattle.ring_work.specs.Noted.{Adds, IsCounted};
+
+use plan_check::{Event, Reply};
+use ring_exec::{Executor, Receipt, RunLedger, Share};
+use ring_names::Refusal;
+use std::sync::Wait;
+
+/// The most rounds of a put or a get.
+pub(crate) const MAX_ROUNDS: u32 = 64;
+
+/// Submits the event and keeps its receipt, for which there is room before the lock is asked. Refused, nothing is kept.
+pub(crate) fn note<'a, L: RunLedger, R: Wait>(
+    rt: &R,
+    executor: &Executor<'a, L>,
+    share: &mut Share<L>,
+    receipts: &mut Vec<Receipt>,
+    event: &Event,
+) -> Result<(), Refusal>
+    ensures ok { OnOk result (Adds event.now receipts.old.items receipts.new.items) }
+    ensures err { OnErr result (receipts.new.items ≡ receipts.old.items) }
+    ensures count { IsCounted share.old.count share.new.count receipts.old.items receipts.new.items }
+    ensures parts { share.new.token.parts ≡ share.old.token.parts }
+{
+    receipts.reserve(1)?;
+    let receipt = executor.submit(rt, event, share)?;
+    receipts.push_reserved(receipt);
+    Ok(())
+}
+
+/// The number of the put that was started.
+pub(crate) fn put_number(reply: &Reply) -> u32
+    requires { is_put reply.now ≡ true }
+    ensures { reply.now ≡ Put result }
+{
+    match reply {
+        Reply::Put(put) => *put,
+        Reply::Plain | Reply::Ticket(_, _) | Reply::Get(_) | Reply::Found(_) | Reply::Answer(_) =>
+            unreachable!(),
+    }
+}
+
+/// The number of the get that was started.
+pub(crate) fn get_number(reply: &Reply) -> u32
+    requires { is_get reply.now ≡ true }
+    ensures { reply.now ≡ Get result }
+{
+    match reply {
+        Reply::Get(get) => *get,
+        Reply::Plain | Reply::Ticket(_, _) | Reply::Put(_) | Reply::Found(_) | Reply::Answer(_) =>
+            unreachable!(),
+    }
+}
+
+/// Goes on behind a refusal, but where it ends all: a full history, or want of memory.
+pub(crate) fn go_on(refusal: Refusal) -> Result<(), Refusal>
+    ensures { IfErr result (λ e. (e ≡ HistoryFull) ⊎ (e ≡ OutOfMemory)) }
+{
+    match refusal {
+        Refusal::HistoryFull => Err(Refusal::HistoryFull),
+        Refusal::OutOfMemory => Err(Refusal::OutOfMemory),
+        _ => Ok(()),
+    }
+}

@@ -1,0 +1,178 @@
+//! A put through the lock.
+
+ghost use Rattle.std.specs.Prelude.{◌≡◌, ◌+◌, ◌∷◌, ◌++◌, [], true, vec_len, IfOk, IfErr, OnErr, is_some};
+ghost use Rattle.plan_check.specs.declared.event.Event.TheVariants.{StartPut};
+ghost use Rattle.plan_check.specs.declared.event.Reply.TheVariants.{Put};
+ghost use Rattle.ring_exec.specs.declared.receipt.Receipt.{Receipt as TheReceipt};
+ghost use Rattle.ring_receipts.specs.Kinds.{sends, acknowledges};
+ghost use Rattle.ring_work.specs.Noted.{Grows, Completes, IsCounted};
+ghost use Rattle.ring_work.specs.Attempts.{starts_put, AddsPut, IsPutAttempt};
+
+use crate::attempt::Attempt;
+use crate::noting::{MAX_ROUNDS, go_on, note, put_number};
+use plan_check::{Event, Key, Seen};
+use ring_exec::{Executor, Receipt, RunLedger, Share};
+use ring_names::{NodeId, Refusal, Value, WriterId};
+use std::alloc::Global;
+use std::sync::Wait;
+use std::thread;
+
+// Starts the put. Its number.
+fn start_put<'a, L: RunLedger, R: Wait>(
+    rt: &R,
+    executor: &Executor<'a, L>,
+    share: &mut Share<L>,
+    receipts: &mut Vec<Receipt>,
+    start: &Event,
+) -> Result<u32, Refusal>
+    requires { starts_put start.now ≡ true }
+    ensures ok { IfOk result (λ put. (r : TheReceipt) × (r.event ≡ start.now) × (r.reply ≡ Put put) × (receipts.new.items ≡ receipts.old.items ++ r ∷ [])) }
+    ensures err { OnErr result (receipts.new.items ≡ receipts.old.items) }
+    ensures count { IsCounted share.old.count share.new.count receipts.old.items receipts.new.items }
+    ensures parts { share.new.token.parts ≡ share.old.token.parts }
+{
+    receipts.reserve(1)?;
+    let receipt = executor.submit(rt, start, share)?;
+    let put = put_number(&receipt.reply);
+    receipts.push_reserved(receipt);
+    Ok(put)
+}
+
+// Leaves the put with a stand-in for the slot: the first node, by number, that takes it, if one does.
+fn leave_hint<'a, L: RunLedger, R: Wait>(
+    rt: &R,
+    executor: &Executor<'a, L>,
+    share: &mut Share<L>,
+    receipts: &mut Vec<Receipt>,
+    put: u32,
+    index: u32,
+) -> Result<(), Refusal>
+    ensures grows { Grows (λ r. sends put r.event) receipts.old.items receipts.new.items }
+    ensures count { IsCounted share.old.count share.new.count receipts.old.items receipts.new.items }
+    ensures parts { share.new.token.parts ≡ share.old.token.parts }
+{
+    let nodes = executor.approved().ring().nodes().len() as u32;
+    for node in 0..nodes {
+        match note(
+            rt,
+            executor,
+            share,
+            receipts,
+            &Event::Hint(put, index, NodeId(node)),
+        ) {
+            Ok(()) => break,
+            Err(refusal) => go_on(refusal)?,
+        }
+    }
+    Ok(())
+}
+
+// Writes the put to the slot, or leaves a hint where a node of the slot is down.
+fn send<'a, L: RunLedger, R: Wait>(
+    rt: &R,
+    executor: &Executor<'a, L>,
+    share: &mut Share<L>,
+    receipts: &mut Vec<Receipt>,
+    put: u32,
+    index: u32,
+) -> Result<(), Refusal>
+    ensures grows { Grows (λ r. sends put r.event) receipts.old.items receipts.new.items }
+    ensures count { IsCounted share.old.count share.new.count receipts.old.items receipts.new.items }
+    ensures parts { share.new.token.parts ≡ share.old.token.parts }
+{
+    match note(rt, executor, share, receipts, &Event::Write(put, index)) {
+        Ok(()) => Ok(()),
+        Err(Refusal::NodeDown(_)) => leave_hint(rt, executor, share, receipts, put, index),
+        Err(refusal) => go_on(refusal),
+    }
+}
+
+// Sends the put to each slot in order.
+fn send_round<'a, L: RunLedger, R: Wait>(
+    rt: &R,
+    executor: &Executor<'a, L>,
+    share: &mut Share<L>,
+    receipts: &mut Vec<Receipt>,
+    put: u32,
+) -> Result<(), Refusal>
+    ensures grows { Grows (λ r. sends put r.event) receipts.old.items receipts.new.items }
+    ensures count { IsCounted share.old.count share.new.count receipts.old.items receipts.new.items }
+    ensures parts { share.new.token.parts ≡ share.old.token.parts }
+{
+    for index in 0..executor.approved().ring().n() {
+        send(rt, executor, share, receipts, put, index)?;
+    }
+    Ok(())
+}
+
+// Rounds, up to one behind which the put is acknowledged. The last refusal, where none is.
+fn send_rounds<'a, L: RunLedger, R: Wait>(
+    rt: &R,
+    executor: &Executor<'a, L>,
+    share: &mut Share<L>,
+    receipts: &mut Vec<Receipt>,
+    put: u32,
+) -> Option<Refusal>
+    ensures completes { Completes (λ r. sends put r.event) (λ r. acknowledges put r.event) receipts.old.items receipts.new.items (is_some result) }
+    ensures count { IsCounted share.old.count share.new.count receipts.old.items receipts.new.items }
+    ensures parts { share.new.token.parts ≡ share.old.token.parts }
+{
+    let mut current = 0u32;
+    'rounds: for _ in 0..MAX_ROUNDS {
+        if let Err(refusal) = send_round(rt, executor, share, receipts, put) {
+            return Some(refusal);
+        }
+        match note(rt, executor, share, receipts, &Event::Ack(put)) {
+            Ok(()) => return None,
+            Err(Refusal::StaleTickets(now)) => current = now,
+            Err(refusal) => return Some(refusal),
+        }
+        thread::yield_now();
+    }
+    Some(Refusal::StaleTickets(current))
+}
+
+/// A put, started by that event: rounds of at most 64 in which it is sent to each slot, or to a stand-in, and then asks to be acknowledged. Its
+/// receipts are put behind the others. The last refusal, where it was not acknowledged.
+pub(crate) fn put_on<'a, L: RunLedger, R: Wait>(
+    rt: &R,
+    executor: &Executor<'a, L>,
+    share: &mut Share<L>,
+    receipts: &mut Vec<Receipt>,
+    start: &Event,
+) -> Option<Refusal>
+    requires { starts_put start.now ≡ true }
+    ensures block { AddsPut start.now receipts.old.items receipts.new.items result }
+    ensures count { IsCounted share.old.count share.new.count receipts.old.items receipts.new.items }
+    ensures parts { share.new.token.parts ≡ share.old.token.parts }
+{
+    match start_put(rt, executor, share, receipts, start) {
+        Ok(put) => send_rounds(rt, executor, share, receipts, put),
+        Err(refusal) => Some(refusal),
+    }
+}
+
+/// A put of that writer, which knows the replies of the gets `seen`. It is started; then come rounds, at most 64: for each slot in order a write,
+/// and where a node of the slot is down a hint at each node, by number, until one takes it; then it asks to be acknowledged, and where too few
+/// tickets are current there is another round. A refused start, a full history and want of memory end it at once.
+pub fn put_all<'a, L: RunLedger, R: Wait>(
+    rt: &R,
+    alloc: Global,
+    executor: &Executor<'a, L>,
+    share: &mut Share<L>,
+    writer: WriterId,
+    key: Key,
+    value: Value,
+    seen: Seen,
+) -> Attempt
+    // Its block, with an acknowledgement just where nothing is refused in the end; nothing where the start is refused.
+    ensures block { IsPutAttempt (StartPut writer key value seen) result.receipts.items result.refusal }
+    // The share counts what was answered.
+    ensures count { share.new.count ≡ share.old.count + vec_len result.receipts }
+    ensures parts { share.new.token.parts ≡ share.old.token.parts }
+{
+    let start = Event::StartPut(writer, key, value, seen);
+    let mut receipts = Vec::new(alloc);
+    let refusal = put_on(rt, executor, share, &mut receipts, &start);
+    Attempt { receipts, refusal }
+}

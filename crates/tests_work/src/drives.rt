@@ -1,0 +1,301 @@
+//! Drives of one script.
+
+ghost use Rattle.std.specs.Prelude.{◌≡◌, ◌<◌, ◌≤◌, true, IfOk};
+ghost use Rattle.std.specs.List.{list_all};
+ghost use Rattle.script_text.specs.Client.{is_client_event};
+
+use crate::inputs::{
+    FOUR, JOIN, NO_CHAINS, NOTHING, RING, SILENCE, TWO_CHAINS, TWO_COPIES, approved, ring, script,
+};
+use crate::turnstile::Turnstile;
+use plan_check::{Approved, Entry, Event, Gate, OpenGate};
+use ring_core::World;
+use ring_names::{NodeId, Refusal};
+use ring_receipts::{Outcome, agrees};
+use ring_work::drive;
+use script_text::Script;
+use std::alloc::Global;
+use std::slice;
+use std::sync::Wait;
+use std::test::Fail;
+use std::thread::Threads;
+
+// The most puts and gets of a history that a store is asked about.
+const MOST: u32 = 1000;
+
+/// What came of a drive: how many entries its history has, how many lists of receipts there are, whether the judge says that they are its threads', and
+/// whether a store answers each entry's event as the entry says.
+#[derive(Clone, Copy, Debug, PartialEq, Eq)]
+struct Came {
+    entries: usize,
+    lists: usize,
+    agrees: bool,
+    replays: bool,
+}
+
+// What a drive that ends well came to.
+const fn well(entries: usize, lists: usize) -> Came {
+    Came {
+        entries,
+        lists,
+        agrees: true,
+        replays: true,
+    }
+}
+
+// Whether the store answers the entry's event with its reply.
+#[tactic(auto, using(ring_core::proofs::SoundAfterEvent::has_number))]
+fn is_answered(alloc: Global, world: &mut World, entry: &Entry) -> Result<bool, Refusal> {
+    if world.puts() >= MOST || world.gets() >= MOST {
+        return Err(Refusal::HistoryFull);
+    }
+    let reply = world.apply(&entry.event)?;
+    let mut given = Vec::new(alloc);
+    let mut noted = Vec::new(alloc);
+    reply.write_text(&mut given)?;
+    entry.reply.write_text(&mut noted)?;
+    Ok(given.as_slice() == noted.as_slice())
+}
+
+// Whether it answers all of them so, one behind the other.
+fn are_answered(alloc: Global, world: &mut World, history: &[Entry]) -> Result<bool, Refusal> {
+    for entry in history {
+        if !is_answered(alloc, world, entry)? {
+            return Ok(false);
+        }
+    }
+    Ok(true)
+}
+
+// The same from the first event on.
+fn replays(alloc: Global, approved: &Approved, history: &[Entry]) -> Result<bool, Refusal> {
+    let mut world = World::start(alloc, approved)?;
+    are_answered(alloc, &mut world, history)
+}
+
+// What the outcome of a drive is.
+fn told(
+    alloc: Global,
+    approved: &Approved,
+    script: &Script,
+    workers: u32,
+    outcome: &Outcome,
+) -> Result<Came, Refusal> {
+    let agrees = agrees(alloc, approved, slice::from_ref(script), workers, outcome)?;
+    let replays = replays(alloc, approved, outcome.history.as_slice())?;
+    Ok(Came {
+        entries: outcome.history.len(),
+        lists: outcome.receipts.len(),
+        agrees,
+        replays,
+    })
+}
+
+// A drive of the plan with one script; its refusal, where it breaks off.
+fn drive_one<RT: AllocGlobal + Threads + Wait + Sync, G: Gate + Sync>(
+    rt: &RT,
+    approved: &Approved,
+    script: &Script,
+    workers: u32,
+    gate: &G,
+) -> Result<Came, Refusal>
+    requires workers { (0 < workers) × (workers ≤ 64) }
+    requires client { list_all is_client_event script.now ≡ true }
+{
+    match drive(
+        rt,
+        rt.alloc(),
+        approved,
+        slice::from_ref(script),
+        workers,
+        gate,
+    ) {
+        Ok(outcome) => told(rt.alloc(), approved, script, workers, &outcome),
+        Err(fault) => Err(fault.refusal),
+    }
+}
+
+// How long the history is with which it breaks off, and why it does; nothing where it does not.
+fn broken_one<RT: AllocGlobal + Threads + Wait + Sync, G: Gate + Sync>(
+    rt: &RT,
+    approved: &Approved,
+    script: &Script,
+    workers: u32,
+    gate: &G,
+) -> Option<(usize, Refusal)>
+    requires workers { (0 < workers) × (workers ≤ 64) }
+    requires client { list_all is_client_event script.now ≡ true }
+{
+    match drive(
+        rt,
+        rt.alloc(),
+        approved,
+        slice::from_ref(script),
+        workers,
+        gate,
+    ) {
+        Ok(_) => None,
+        Err(fault) => Some((fault.history.len(), fault.refusal)),
+    }
+}
+
+// A ring, a plan of it, its certificate and a script.
+#[derive(Clone, Copy)]
+struct Texts<'t> {
+    ring: &'t [u8],
+    plan: &'t [u8],
+    cert: &'t [u8],
+    script: &'t [u8],
+}
+
+// A drive of these texts.
+fn drive_texts<RT: AllocGlobal + Threads + Wait + Sync, G: Gate + Sync>(
+    rt: &RT,
+    texts: Texts,
+    workers: u32,
+    gate: &G,
+) -> Result<Came, Refusal>
+    requires { (0 < workers) × (workers ≤ 64) }
+{
+    let ring = ring(rt.alloc(), texts.ring)?;
+    let script = script(rt.alloc(), &ring, texts.script)?;
+    let approved = approved(rt.alloc(), ring, texts.plan, texts.cert)?;
+    drive_one(rt, &approved, &script, workers, gate)
+}
+
+// The same where it breaks off.
+fn broken_texts<RT: AllocGlobal + Threads + Wait + Sync, G: Gate + Sync>(
+    rt: &RT,
+    texts: Texts,
+    workers: u32,
+    gate: &G,
+) -> Result<Option<(usize, Refusal)>, Refusal>
+    requires { (0 < workers) × (workers ≤ 64) }
+{
+    let ring = ring(rt.alloc(), texts.ring)?;
+    let script = script(rt.alloc(), &ring, texts.script)?;
+    let approved = approved(rt.alloc(), ring, texts.plan, texts.cert)?;
+    Ok(broken_one(rt, &approved, &script, workers, gate))
+}
+
+// Two copies with a script beside them.
+const fn copies(script: &[u8]) -> Texts {
+    Texts {
+        ring: RING,
+        plan: TWO_COPIES,
+        cert: TWO_CHAINS,
+        script,
+    }
+}
+
+// A script over a ring of four members, or three, with no step.
+const fn still<'t>(ring: &'t [u8], script: &'t [u8]) -> Texts<'t> {
+    Texts {
+        ring,
+        plan: NOTHING,
+        cert: NO_CHAINS,
+        script,
+    }
+}
+
+#[test]
+fn two_workers_overlap(rt: HostRuntime) {
+    let came = drive_texts(&rt, copies(SILENCE), 2, &Turnstile::new(2));
+    assert_eq!(rt; came, Ok(well(41, 4)));
+}
+
+#[test]
+fn a_client_overlaps_the_plan(rt: HostRuntime) {
+    let script = b"script 1\nget a\nend\n";
+    let came = drive_texts(&rt, copies(script), 1, &Turnstile::new(2));
+    assert_eq!(rt; came, Ok(well(45, 3)));
+}
+
+#[test]
+fn one_worker_waits_in_vain(rt: HostRuntime) {
+    let came = broken_texts(&rt, copies(SILENCE), 1, &Turnstile::new(2));
+    assert_eq!(rt; came, Ok(Some((3, Refusal::TurnsSpent))));
+}
+
+#[test]
+fn one_step_and_no_line(rt: HostRuntime) {
+    let texts = Texts {
+        ring: RING,
+        plan: JOIN,
+        cert: NO_CHAINS,
+        script: SILENCE,
+    };
+    assert_eq!(rt; drive_texts(&rt, texts, 1, &OpenGate), Ok(well(1, 3)));
+    assert_eq!(rt; drive_texts(&rt, texts, 64, &OpenGate), Ok(well(1, 66)));
+}
+
+#[test]
+fn a_put_and_a_get(rt: HostRuntime) {
+    let script = b"script 1\nput w1 a x31\nget a\nput w1 a x32 seen 0\nend\n";
+    let came = drive_texts(&rt, still(RING, script), 1, &OpenGate);
+    assert_eq!(rt; came, Ok(well(14, 3)));
+}
+
+#[test]
+fn a_put_that_a_stand_in_keeps(rt: HostRuntime) {
+    let script = b"script 1\ndown b\nput w1 a x31\nup b\nend\n";
+    let came = drive_texts(&rt, still(FOUR, script), 1, &OpenGate);
+    assert_eq!(rt; came, Ok(well(8, 3)));
+}
+
+#[test]
+fn nodes_that_stay_down(rt: HostRuntime) {
+    // Of 64 rounds each writes to the one slot whose node is up. The put that names the get without an end is left out.
+    let script = b"script 1\ndown b\ndown c\nput w1 a x31\nget a\nput w1 a x32 seen 0\nend\n";
+    let came = drive_texts(&rt, still(RING, script), 1, &OpenGate);
+    assert_eq!(rt; came, Ok(well(69, 3)));
+}
+
+#[test]
+fn a_mirror_that_waits_for_a_handoff(rt: HostRuntime) {
+    let texts = Texts {
+        ring: FOUR,
+        plan: b"plan 1\nmirror 0 2 d\ncopy 0 2 owner after 0\nswitch 0 2 after 1\nend\n",
+        cert: b"cert 1\nchain c 1\nchain d 1\nend\n",
+        script: b"script 1\ndown b\nput w1 a x31\nup b\nend\n",
+    };
+    let came = drive_texts(&rt, texts, 1, &OpenGate).map(|came| (came.agrees, came.replays));
+    assert_eq!(rt; came, Ok((true, true)));
+}
+
+// A node that goes down and comes up, as often as a script may say.
+fn flaps(alloc: Global) -> Result<Script, Refusal>
+    ensures { IfOk result (λ s. list_all is_client_event s ≡ true) }
+{
+    let mut script = Script::new(alloc);
+    for number in 0..1_000_000u32 {
+        let event = if number % 2 == 0 {
+            Event::Down(NodeId(1))
+        } else {
+            Event::Up(NodeId(1))
+        };
+        if script.len() < 1_000_000 {
+            script.push(event)?;
+        }
+    }
+    if script.is_client() {
+        return Ok(script);
+    }
+    Err(Refusal::Disagree)
+}
+
+// What a drive of the one step comes to beside that script.
+fn flapped<RT: AllocGlobal + Threads + Wait + Sync>(
+    rt: &RT,
+) -> Result<Option<(usize, Refusal)>, Refusal> {
+    let ring = ring(rt.alloc(), RING)?;
+    let approved = approved(rt.alloc(), ring, JOIN, NO_CHAINS)?;
+    let script = flaps(rt.alloc())?;
+    Ok(broken_one(rt, &approved, &script, 1, &OpenGate))
+}
+
+#[test]
+fn a_history_that_fills_up(rt: HostRuntime) -> Result<(), Fail> {
+    assert_eq!(rt; flapped(&rt), Ok(Some((1_000_000, Refusal::Disagree))));
+    Ok(())
+}

@@ -1,0 +1,12 @@
+//! Tests of drives: that threads overlap, what a gate that answers false or a full history makes of one, that each event of a history is answered so
+//! by a store, and that the judge of receipts tells lists that are not a drive's. Nothing is exported.
+#![tactic(auto)]
+
+#[cfg(test)]
+mod drives;
+#[cfg(test)]
+mod inputs;
+#[cfg(test)]
+mod judged;
+#[cfg(test)]
+mod turnstile;

@@ -1,0 +1,49 @@
+//! A gate that holds threads until others have come.
+
+use plan_check::Gate;
+use std::sync::{Mutex, Wait};
+use std::thread;
+
+/// Holds each that comes until so many have come, for at most a million looks, each under a lock.
+#[derive(Drop)]
+pub struct Turnstile {
+    come: Mutex<u32>,
+    awaited: u32,
+}
+
+impl Turnstile {
+    pub fn new(awaited: u32) -> Turnstile {
+        Turnstile {
+            come: Mutex::new(0),
+            awaited,
+        }
+    }
+
+    // One more has come.
+    fn count<R: Wait>(&self, rt: &R) {
+        let mut come = self.come.lock(rt);
+        *come = come.saturating_add(1);
+    }
+
+    // Whether as many have come as it waits for.
+    fn is_met<R: Wait>(&self, rt: &R) -> bool {
+        *self.come.lock(rt) >= self.awaited
+    }
+}
+
+impl Gate for Turnstile {
+    ghost may_refuse = { λ gate worker mark. Unit {0} };
+
+    ghost must_refuse = { λ gate worker mark. ⊥ };
+
+    fn pass<R: Wait>(&self, rt: &R, _worker: u32, _mark: u64) -> bool {
+        self.count(rt);
+        for _ in 0..1_000_000 {
+            if self.is_met(rt) {
+                return true;
+            }
+            thread::yield_now();
+        }
+        false
+    }
+}
