@@ -1,7 +1,7 @@
 #!/usr/bin/env bash
 # Refuses each growth of memory in turn, one to a run: edits/growths.sh, once `rt run` has built crates/ringplan and crates/tests_growths.
-# The store that runs through every kind of event prints the same, or fails where a growth outside an event was refused. `ringplan` prints the
-# same of each case's bundle, or `no 60` with status 3.
+# The store that runs through every kind of event, and the one with its history, print the same, or fail where a growth outside an event was
+# refused. `ringplan` prints the same of each case's bundle, or `no 60` with status 3.
 set -eu
 top=$(cd "$(dirname "$0")/.." && pwd)
 scratch=$(mktemp -d)

@@ -14,10 +14,10 @@ use Rattle.clap.specs.declared.error.kind.ErrorKind.TheVariants as kind
 use Rattle.clap.specs.declared.parser.matches.ArgMatches.{ArgMatches}
 use Rattle.clap.proofs.OnLiterals.{clap_on_literals}
 use Rattle.ringplan_run.specs.declared.command.CommandLine.{CommandLine}
-use Rattle.ringplan_run.specs.declared.command.CommandLine.TheVariants.{Do, CheckBy, Help, Refused, OutOfMemory}
+use Rattle.ringplan_run.specs.declared.command.CommandLine.TheVariants.{Do, CheckBy, Drive, Help, Refused, OutOfMemory}
 use Rattle.ringplan_run.specs.declared.job.Job.{Job}
 use Rattle.ringplan_run.specs.declared.job.Job.TheVariants.{Check, Migrate, Plan, Play}
-use Rattle.ringplan_run.specs.Command.{Answers, Asked, AsksBy, HasNoNumber, IsMistaken, IsRefused, IsWorkers, WantsHelp, asked, asked_by, by_workers, job_named, only, ringplan, word_of}
+use Rattle.ringplan_run.specs.Command.{Answers, Asked, AsksBy, HasNoNumber, IsMistaken, IsRefused, IsWorkers, Task, WantsHelp, asked, asked_by, by_drive, by_workers, only, option_named, ringplan, task_named, to_do, to_drive, word_of}
 
 is_free : is_simple_and_free ringplan ≡ true
 unfolding clap_on_literals
@@ -63,40 +63,41 @@ answers_words words m r none met h =
     let same : asked_by [] (subcommand_rows_of m) ≡ asked words = λ i. asked_by (sym none i) (met i) in
     subst (λ (a : Asked). IfOk r (Answers a)) same h
 
--- ---- the workers that `check` names
+-- ---- the options that `check` and `drive` name
 
 -- no subcommand names none
-pub none_named : (sub : Option (List ℕ × List Row)) → None ≡ option_map (λ p. p.1) sub → job_named sub ≡ Check → asked_by [] sub ≡ only Check
+pub none_named : (sub : Option (List ℕ × List Row)) → None ≡ option_map (λ p. p.1) sub → task_named sub ≡ to_do Check → asked_by [] sub ≡ only Check
 none_named None e is = refl
 none_named (Some x) e is = absurd cc
 
+-- a drive has a subcommand
+pub drive_named : (sub : Option (List ℕ × List Row)) → None ≡ option_map (λ p. p.1) sub → task_named sub ≡ to_drive → ⊥
+drive_named None e is = let bad : to_do Check ≡ to_drive = is in cc
+drive_named (Some x) e is = cc
+
+-- the text of an option is that of the subcommand that was entered
+pub named_there : (sub : Option (List ℕ × List Row)) (rows : List Row) (id : List ℕ) → Some rows ≡ option_map (λ p. p.1) sub → option_named id sub ≡ one_of id rows
+named_there None rows id e = absurd cc
+named_there (Some x) rows id e = let same : rows ≡ x.1 = cc in rw same refl
+
 -- one without the option names none
-pub none_given : (sub : Option (List ℕ × List Row)) (rows : List Row) → Some rows ≡ option_map (λ p. p.1) sub → job_named sub ≡ Check → one_of (codes "workers") rows ≡ None
-    → asked_by [] sub ≡ only Check
-none_given None rows e is none = absurd cc
-none_given (Some x) rows e is none =
-    let same : rows ≡ x.1 = cc in
-    let none' = rw same at none in
-    rw (is, none') refl
+pub none_given : (sub : Option (List ℕ × List Row)) → task_named sub ≡ to_do Check → option_named (codes "workers") sub ≡ None → asked_by [] sub ≡ only Check
+none_given sub is none = rw (is, none) refl
 
 -- one with the option names its text
-pub some_given : (sub : Option (List ℕ × List Row)) (rows : List Row) (text : List ℕ) → Some rows ≡ option_map (λ p. p.1) sub → job_named sub ≡ Check → one_of (codes "workers") rows ≡ Some text
-    → asked_by [] sub ≡ by_workers text
-some_given None rows text e is some = absurd cc
-some_given (Some x) rows text e is some =
-    let same : rows ≡ x.1 = cc in
-    let some' = rw same at some in
-    rw (is, some') refl
+pub some_given : (sub : Option (List ℕ × List Row)) (text : List ℕ) → task_named sub ≡ to_do Check → option_named (codes "workers") sub ≡ Some text → asked_by [] sub ≡ by_workers text
+some_given sub text is some = rw (is, some) refl
+
+-- a drive names what it names
+pub drive_given : (sub : Option (List ℕ × List Row)) → task_named sub ≡ to_drive → asked_by [] sub ≡ by_drive (option_named (codes "workers") sub) (option_named (codes "json") sub)
+drive_given sub is = rw is refl
 
 -- one whose text is no number is refused
-pub bad_given : (sub : Option (List ℕ × List Row)) (rows : List Row) (o : Option (List ℕ)) → Some rows ≡ option_map (λ p. p.1) sub → job_named sub ≡ Check → o ≡ one_of (codes "workers") rows
-    → HasNoNumber o → IsRefused (asked_by [] sub)
-bad_given None rows o e is same h = absurd cc
-bad_given (Some x) rows o e is same h =
-    let there : rows ≡ x.1 = cc in
-    let same' = rw there at same in
-    let h' = rw same' at h in
-    inr (rw is h')
+pub bad_given : (sub : Option (List ℕ × List Row)) → task_named sub ≡ to_do Check → HasNoNumber (option_named (codes "workers") sub) → IsRefused (asked_by [] sub)
+bad_given sub is h = inr (rw is h)
+
+pub bad_driven : (sub : Option (List ℕ × List Row)) → task_named sub ≡ to_drive → HasNoNumber (option_named (codes "workers") sub) → IsRefused (asked_by [] sub)
+bad_driven sub is h = inr (rw is h)
 
 module _ {E : Type 0} (G : List ℕ → Result ℕ E → Type 0) (parses : (bs : List ℕ) (s : Result ℕ E) → G bs s → ParsesUnsigned 32 10 bs s) (o : Option (List ℕ)) (r : Result (Option ℕ) E)
     (none : o ≡ None → r ≡ Ok None) (value : (t : List ℕ) → o ≡ Some t → TriesOne G t r) where
@@ -154,8 +155,16 @@ none_mistaken kinds e (k, n, h) = let P : Kinds → Type 0 = IsAmong k in subst 
 
 -- a line that asks for a job alone is taken for that
 pub job_asked : (job : Job) (asked : Asked) (line : CommandLine) → asked ≡ only job → Answers asked line → (line ≡ Do job) ⊎ (line ≡ OutOfMemory)
-job_asked job asked (Do other) e h = let same : only other ≡ only job = sym h ∙ e in inl (ap (λ x. Do x.job) same)
+job_asked job asked (Do other) e h =
+    let same : only other ≡ only job = sym h ∙ e in
+    let task : to_do other ≡ to_do job = ap (λ x. x.task) same in
+    let jobs : other ≡ job = cc in
+    inl (ap Do jobs)
 job_asked job asked (CheckBy k) e (text, is, h) = let same : by_workers text ≡ only job = sym is ∙ e in let none : Some text ≡ None = ap (λ x. x.workers) same in absurd cc
+job_asked job asked (Drive k form) e h =
+    let same : by_drive h.0 h.1 ≡ only job = sym h.2 ∙ e in
+    let task : to_drive ≡ to_do job = ap (λ x. x.task) same in
+    absurd cc
 job_asked job asked (Help text) e h = let P : Kinds → Type 0 = WantsHelp in absurd (subst P (ap (λ x. x.faults) e) h)
 job_asked job asked (Refused text) e (inl h) = absurd (none_mistaken _ (ap (λ x. x.faults) e) h)
 job_asked job asked (Refused text) e (inr (t, is, h)) = let none : Some t ≡ None = sym is ∙ ap (λ x. x.workers) e in absurd cc

@@ -1,15 +1,16 @@
 -- How the parts of a run make up its end.
-use Rattle.std.proofs.Common.{◌≡◌, ◌⊎◌, inl, inr, ℕ, List, [], ◌∷◌, ◌++◌, Option, Some, None, Result, Ok, Err, IfOk, codes, drop, refl, sym, ap, ◌∙◌, subst}
+use Rattle.std.proofs.Common.{◌≡◌, ◌⊎◌, inl, inr, ℕ, ◌<◌, ◌≤◌, arith, List, [], ◌∷◌, ◌++◌, Option, Some, None, Result, Ok, Err, IfOk, codes, drop, refl, sym, ap, ◌∙◌, subst}
 use Rattle.std.specs.Fmt.{digits}
 use Rattle.ring_names.specs.declared.refusal.Refusal.{Refusal}
 use Rattle.ring_names.specs.declared.refusal.Refusal.TheVariants.{OutOfMemory, ReadFailed}
 use Rattle.ring_names.specs.Refusals.{line_of}
+use Rattle.ringplan_run.specs.declared.job.Form.{Form}
 use Rattle.ringplan_run.specs.declared.job.Job.{Job}
 use Rattle.ringplan_run.specs.declared.job.Job.TheVariants.{Check}
 use Rattle.ringplan_run.specs.Answers.{output_of, status_of}
-use Rattle.ringplan_run.specs.Command.{Asked, Asks, AsksBy, asked, only, word_of}
+use Rattle.ringplan_run.specs.Command.{Asked, Asks, AsksBy, AsksDrive, IsMany, asked, only, word_of}
 use Rattle.ringplan_run.specs.Io.{Tells}
-use Rattle.ringplan_run.specs.Run.{Finds, Prints, PrintsFound, Runs, Says, answered, unread, out_of_memory}
+use Rattle.ringplan_run.specs.Run.{Finds, FindsDrive, Prints, PrintsFound, Runs, Says, answered, driven, unread, undriven, out_of_memory}
 use Rattle.ringplan_run.proofs.Commands.{asked_alone}
 
 pub no_memory_line : line_of OutOfMemory ≡ codes "no 60" ++ 10 ∷ []
@@ -77,3 +78,26 @@ ran_by asked k told old new found result e h prints = ran_found asked Check told
 -- a job's word alone asks for just that
 pub ran_alone : (job : Job) (words : List (List ℕ)) (told old new : Option (List ℕ)) (result : ℕ) → drop 1 words ≡ word_of job ∷ [] → Ran (asked words) told old new result → Ran (only job) told old new result
 ran_alone job words told old new result e h = let P : Asked → Type 0 = λ k. Ran k told old new result in subst P (asked_alone job words e) h
+
+-- ---- drives
+
+says_driven : (asked : Asked) (workers : ℕ) (form : Form) (bytes : List ℕ) (found : Result (List ℕ) Refusal) (text : List ℕ) (status : ℕ) → AsksDrive asked workers form → FindsDrive workers form bytes found
+    → text ≡ output_of found → status ≡ status_of found → Says asked bytes text status
+says_driven asked workers form bytes (Ok x) text status e h p q = driven workers form (Ok x) e h p q
+says_driven asked workers form bytes (Err OutOfMemory) text status e h p q = out_of_memory p q
+says_driven asked workers form bytes (Err ReadFailed) text status e h p q = undriven workers form e p q
+says_driven asked workers form bytes (Err r) text status e h p q =
+    let is = h (λ same. absurd cc) (λ same. absurd cc) in
+    driven workers form (Err r) e is p q
+
+-- what a drive came to is printed
+pub ran_driven : (asked : Asked) (workers : ℕ) (form : Form) (told old new : Option (List ℕ)) (found : Result (List ℕ) Refusal) (result : ℕ) → AsksDrive asked workers form
+    → (bytes : List ℕ) × Tells told bytes × FindsDrive workers form bytes found → PrintsFound old new found result → Ran asked told old new result
+ran_driven asked workers form told old new found result e (bytes, tells, h) (inl prints) =
+    (bytes, tells, (output_of found, status_of found, says_driven asked workers form bytes found _ _ e h refl refl, prints))
+ran_driven asked workers form told old new found result e h (inr prints) = ran_out asked told old new result prints
+
+-- so many workers are 1 to 64
+pub many_few : (o : Option (List ℕ)) (k : ℕ) → IsMany o k → (0 < k) × (k ≤ 64)
+many_few None k is = (omega arith, omega arith)
+many_few (Some text) k is = (let low = is.2 in omega arith, is.3)

@@ -2,4 +2,5 @@ pub mod Io
 pub mod Command
 pub mod Verdict
 pub mod Answers
+pub mod Drives
 pub mod Run

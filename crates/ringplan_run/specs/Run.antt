@@ -5,9 +5,11 @@ use Rattle.ring_names.specs.declared.refusal.Refusal.{Refusal}
 use Rattle.ring_names.specs.declared.refusal.Refusal.TheVariants.{TooLarge, OutOfMemory, ReadFailed}
 use Rattle.ring_names.specs.Refusals.{line_of}
 use Rattle.ringplan_run.specs.Answers.{output_of, status_of}
-use Rattle.ringplan_run.specs.Command.{Asked, Asks, IsRefused, WantsHelp}
+use Rattle.ringplan_run.specs.Command.{Asked, Asks, AsksDrive, IsRefused, WantsHelp}
 use Rattle.ringplan_run.specs.Io.{AppendsPart, max_input}
 use Rattle.ringplan_run.specs.Verdict.{Makes}
+use Rattle.ringplan_run.specs.Drives.{Drives}
+use Rattle.ringplan_run.specs.declared.job.Form.{Form}
 use Rattle.ringplan_run.specs.declared.job.Job.{Job}
 
 -- what comes of an input: what the job makes of it, and of more than the most that may come that it is too large
@@ -19,12 +21,22 @@ abbrev pub Finds : Job → List ℕ → Result (List ℕ) Refusal → Type 0
 Finds job bytes (Ok text) = Outcome job bytes (Ok text)
 Finds job bytes (Err e) = e ≢ OutOfMemory → e ≢ ReadFailed → Outcome job bytes (Err e)
 
+-- the same of a drive by so many workers, printed in that form
+abbrev pub DriveOutcome : ℕ → Form → List ℕ → Result (List ℕ) Refusal → Type 0
+DriveOutcome workers form bytes r = ((length bytes ≤ max_input) × Drives workers form bytes r) ⊎ ((max_input < length bytes) × (r ≡ Err (TooLarge 0)))
+
+abbrev pub FindsDrive : ℕ → Form → List ℕ → Result (List ℕ) Refusal → Type 0
+FindsDrive workers form bytes (Ok text) = DriveOutcome workers form bytes (Ok text)
+FindsDrive workers form bytes (Err e) = e ≢ OutOfMemory → e ≢ ReadFailed → DriveOutcome workers form bytes (Err e)
+
 -- the text and the status of a run, by what its command line asks and the bytes of its input
 pub data Says (asked : Asked) (bytes : List ℕ) (text : List ℕ) (status : ℕ) : Type 0 where
   help : WantsHelp asked.faults → status ≡ 0 → Says asked bytes text status
   refused : IsRefused asked → status ≡ 2 → Says asked bytes text status
   answered : (job : Job) (r : Result (List ℕ) Refusal) → Asks asked job → Outcome job bytes r → text ≡ output_of r → status ≡ status_of r → Says asked bytes text status
+  driven : (workers : ℕ) (form : Form) (r : Result (List ℕ) Refusal) → AsksDrive asked workers form → DriveOutcome workers form bytes r → text ≡ output_of r → status ≡ status_of r → Says asked bytes text status
   unread : (job : Job) → Asks asked job → text ≡ line_of ReadFailed → status ≡ 3 → Says asked bytes text status
+  undriven : (workers : ℕ) (form : Form) → AsksDrive asked workers form → text ≡ line_of ReadFailed → status ≡ 3 → Says asked bytes text status
   out_of_memory : text ≡ line_of OutOfMemory → status ≡ 3 → Says asked bytes text status
 
 -- the text was written and the status is the one that goes with it, or some first part was and the status is 3

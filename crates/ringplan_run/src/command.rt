@@ -1,18 +1,18 @@
 //! The command line.
 
-ghost use Rattle.std.specs.Prelude.{◌≡◌, ◌⊎◌, ◌∷◌, [], IfOk, drop, map};
-ghost use Rattle.clap.specs.Words.{app_of, new_app, subcommand_rows_of, with_subcommand};
-ghost use Rattle.ringplan_run.specs.Command.{Answers, asked, asked_by, checking, job_named, ringplan, wanting, word_of};
+ghost use Rattle.std.specs.Prelude.{◌≡◌, ◌⊎◌, ◌∷◌, [], false, IfOk, codes, drop, map};
+ghost use Rattle.clap.specs.Words.{app_of, found_of, new_app, one_text, rule_of, subcommand_rows_of, with_subcommand};
+ghost use Rattle.ringplan_run.specs.Command.{Answers, asked, asked_by, checking, driving, job_named, ringplan, task_named, to_do, to_drive, wanting, word_of, workers_option, IsForm, MeansWorkers};
 ghost use Rattle.ringplan_run.specs.declared.job.Job.{Job};
 
-use crate::job::Job;
+use crate::job::{Form, Job};
 use clap::error::ErrorKind;
-use clap::{Arg, ArgMatches, Command, Error, value_parser};
+use clap::{Arg, ArgAction, ArgMatches, Command, Error, value_parser};
 use std::alloc::{AllocError, Global};
 use std::convert::AsStr;
 
 const ABOUT: &str =
-    "Plans a change of a ring's members, checks a plan, plays a script over it, or brings its texts to a later format";
+    "Plans a change of a ring's members, checks a plan, plays a script over it, runs it by threads, or brings its texts to a later format";
 
 const PLAN: &str =
     "Prints a plan for the change on standard input, with its certificate, once the checker has accepted it";
@@ -21,6 +21,14 @@ const CHECK: &str = "Checks the bundle on standard input";
 
 const WORKERS: &str =
     "Checks the partitions by K threads, 1 to 64, and the paths by as many as there are processors; the answer is the same";
+
+const DRIVE: &str =
+    "Checks the bundle on standard input, and runs its plan by threads: workers do its steps while clients do its scripts";
+
+const DRIVERS: &str = "Does the steps by K threads, 1 to 64; without it by one";
+
+const JSON: &str =
+    "Prints a report in place of the history: one line of JSON, with the events, who finished each step, and how many workers there were";
 
 const NO_WORKERS: &[u8; 105] =
     b"error: invalid value for '--workers <K>': not a number from 1 to 64\n\nFor more information, try '--help'.\n";
@@ -60,6 +68,21 @@ than a partition has slots. A change without `leave` lines always has a plan.
 Exit status:
   0  a plan was printed
   1  there is no plan
+  2  a text or the command line is refused
+  3  out of memory, or the input or the output failed";
+
+const DRIVE_STREAMS: &str = "\
+Example: ringplan drive --workers 3 < examples/drive_a_move_by_three.bundle
+
+Standard input: a bundle, which is the text of a ring, then that of a plan, then that of its certificate, then 1 to 8 scripts. A script has
+`put`, `get`, `down` and `up` lines alone, and the numbers behind `seen` count its own `get` lines from 0.
+Standard output: `yes`, and the text of the history: each event that was answered, with its reply, in the order in which they happened. It is a
+run of the plan that finishes every step; which one of many is left to chance where there are several threads. With `--json` one line of JSON
+in their place. Or one line of `no`, the refusal's number and its values.
+
+Exit status:
+  0  the plan was run
+  1  the plan is refused, or the drive broke off (`no 70`, `no 71`)
   2  a text or the command line is refused
   3  out of memory, or the input or the output failed";
 
@@ -107,6 +130,8 @@ pub enum CommandLine {
     Do(Job),
     /// To check a bundle by that many workers, 1 to 64.
     CheckBy(u32),
+    /// To run a bundle's plan by that many workers, 1 to 64, with a client for each script, and to print what came of it in that form.
+    Drive(u32, Form),
     /// To be told how to use the program, by this text.
     Help(Vec<u8>),
     /// Nothing that there is, as this text says.
@@ -156,6 +181,9 @@ fn said_of(alloc: Global, error: &Error) -> Result<Vec<u8>, AllocError> {
 fn line_of(alloc: Global, matches: &ArgMatches) -> Result<CommandLine, AllocError>
     ensures { IfOk result (Answers (asked_by [] (subcommand_rows_of matches.now))) }
 {
+    if matches.subcommand_matches("drive").is_some() {
+        return drive_line(alloc, matches);
+    }
     match job_of(matches) {
         Job::Check => check_line(alloc, matches),
         job => Ok(CommandLine::Do(job)),
@@ -164,24 +192,69 @@ fn line_of(alloc: Global, matches: &ArgMatches) -> Result<CommandLine, AllocErro
 
 // What a line that asks for a check asks for, by the workers that it names.
 fn check_line(alloc: Global, matches: &ArgMatches) -> Result<CommandLine, AllocError>
-    requires { job_named (subcommand_rows_of matches.now) ≡ Job.Check }
+    requires { task_named (subcommand_rows_of matches.now) ≡ to_do Job.Check }
     ensures { IfOk result (Answers (asked_by [] (subcommand_rows_of matches.now))) }
 {
     let Some((_, options)) = matches.subcommand() else {
         return Ok(CommandLine::Do(Job::Check));
     };
+    match workers_of(options) {
+        Workers::Unnamed => Ok(CommandLine::Do(Job::Check)),
+        Workers::Many(workers) => Ok(CommandLine::CheckBy(workers)),
+        Workers::NoNumber => no_number(alloc),
+    }
+}
+
+// What a line that asks for a drive asks for, by the workers and the form that it names.
+fn drive_line(alloc: Global, matches: &ArgMatches) -> Result<CommandLine, AllocError>
+    requires { task_named (subcommand_rows_of matches.now) ≡ to_drive }
+    ensures { IfOk result (Answers (asked_by [] (subcommand_rows_of matches.now))) }
+{
+    let Some((_, options)) = matches.subcommand() else {
+        unreachable!()
+    };
+    let form = form_of(options);
+    match workers_of(options) {
+        Workers::Unnamed => Ok(CommandLine::Drive(1, form)),
+        Workers::Many(workers) => Ok(CommandLine::Drive(workers, form)),
+        Workers::NoNumber => no_number(alloc),
+    }
+}
+
+// What is said of workers: nothing, how many there are, or what is no number from 1 to 64.
+#[derive(Clone, Copy)]
+enum Workers {
+    Unnamed,
+    Many(u32),
+    NoNumber,
+}
+
+// The workers that are named.
+fn workers_of(options: &ArgMatches) -> Workers
+    ensures { MeansWorkers (one_text (found_of options.now) (codes "workers")) result }
+{
     match options.try_get_one::<u32>("workers") {
-        Ok(None) => Ok(CommandLine::Do(Job::Check)),
+        Ok(None) => Workers::Unnamed,
         Ok(Some(workers)) => {
             if workers < 1 {
-                return no_number(alloc);
+                return Workers::NoNumber;
             }
             if workers > 64 {
-                return no_number(alloc);
+                return Workers::NoNumber;
             }
-            Ok(CommandLine::CheckBy(workers))
+            Workers::Many(workers)
         }
-        Err(_) => no_number(alloc),
+        Err(_) => Workers::NoNumber,
+    }
+}
+
+// The form that is named.
+fn form_of(options: &ArgMatches) -> Form
+    ensures { IsForm (one_text (found_of options.now) (codes "json")) result }
+{
+    match options.try_get_one::<bool>("json") {
+        Ok(Some(true)) => Form::Report,
+        _ => Form::History,
     }
 }
 
@@ -233,20 +306,43 @@ fn with_job<'a>(
     command.subcommand(job)
 }
 
+// `--workers K`, with K from 1 to 64.
+fn workers_option<'a>(alloc: Global, help: &'a str) -> Arg<'a>
+    ensures rule { rule_of result ≡ workers_option }
+    ensures local { result.global ≡ false }
+{
+    Arg::new(alloc, "workers")
+        .long("workers")
+        .value_name("K")
+        .help(help)
+        .value_parser(value_parser!(u32).range(1..=64))
+}
+
 // A command with the subcommand `check` more.
 fn with_check<'a>(alloc: Global, command: Command<'a>) -> Result<Command<'a>, AllocError>
     ensures { IfOk result (λ c. app_of c ≡ with_subcommand (app_of command.entry) checking.top) }
 {
-    let workers = Arg::new(alloc, "workers")
-        .long("workers")
-        .value_name("K")
-        .help(WORKERS)
-        .value_parser(value_parser!(u32).range(1..=64));
     let check = Command::new(alloc, "check")
         .about(CHECK)
         .after_help(CHECK_STREAMS)
-        .arg(workers)?;
+        .arg(workers_option(alloc, WORKERS))?;
     command.subcommand(check)
+}
+
+// A command with the subcommand `drive` more.
+fn with_drive<'a>(alloc: Global, command: Command<'a>) -> Result<Command<'a>, AllocError>
+    ensures { IfOk result (λ c. app_of c ≡ with_subcommand (app_of command.entry) driving.top) }
+{
+    let json = Arg::new(alloc, "json")
+        .long("json")
+        .help(JSON)
+        .action(ArgAction::SetTrue);
+    let drive = Command::new(alloc, "drive")
+        .about(DRIVE)
+        .after_help(DRIVE_STREAMS)
+        .arg(workers_option(alloc, DRIVERS))?
+        .arg(json)?;
+    command.subcommand(drive)
 }
 
 // The command lines that there are.
@@ -256,5 +352,6 @@ fn command<'a>(alloc: Global) -> Result<Command<'a>, AllocError>
     let plans = with_job(alloc, alone(alloc), "plan", PLAN, PLAN_STREAMS)?;
     let checks = with_check(alloc, plans)?;
     let plays = with_job(alloc, checks, "play", PLAY, PLAY_STREAMS)?;
-    with_job(alloc, plays, "migrate", MIGRATE, MIGRATE_STREAMS)
+    let drives = with_drive(alloc, plays)?;
+    with_job(alloc, drives, "migrate", MIGRATE, MIGRATE_STREAMS)
 }

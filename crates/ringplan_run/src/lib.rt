@@ -5,11 +5,13 @@
 mod answer;
 mod bundle;
 mod command;
+mod driving;
 mod input;
 mod job;
 mod output;
 mod program;
 
 pub use bundle::{check_bundle, check_bundle_by, migrate_bundle, plan_bundle, play_bundle};
-pub use job::Job;
+pub use driving::drive_bundle;
+pub use job::{Form, Job};
 pub use program::{end_without_memory, end_without_words, run, run_alone};

@@ -1,19 +1,20 @@
 //! The program, over any input and any output.
 
-ghost use Rattle.std.specs.Prelude.{◌≡◌, ◌∷◌, ℕ, List, [], IfOk, drop, map};
+ghost use Rattle.std.specs.Prelude.{◌≡◌, ◌<◌, ◌≤◌, ◌∷◌, ℕ, List, [], IfOk, drop, map};
 ghost use Rattle.ring_names.specs.Refusals.{line_of};
 ghost use Rattle.ringplan_run.specs.Answers.{texts_of};
 ghost use Rattle.ringplan_run.specs.Command.{asked, only, word_of};
 ghost use Rattle.ringplan_run.specs.Io.{Tells};
-ghost use Rattle.ringplan_run.specs.Run.{Finds, Prints, PrintsFound, Runs};
+ghost use Rattle.ringplan_run.specs.Run.{Finds, FindsDrive, Prints, PrintsFound, Runs};
 ghost use Rattle.ringplan_run.specs.declared.job.Job.{Job};
 ghost use Rattle.ringplan_run.specs.declared.job.Job.TheVariants.{Check};
 
 use crate::answer::answer_of;
 use crate::bundle::{make, make_check_by};
 use crate::command::{CommandLine, parse};
+use crate::driving::drive_bundle;
 use crate::input::read_all;
-use crate::job::Job;
+use crate::job::{Form, Job};
 use crate::output::write_all;
 use ring_names::Refusal;
 use std::alloc::Global;
@@ -36,9 +37,9 @@ const FAILED: u8 = 3;
 const REFUSED: u8 = 2;
 
 /// Runs a command line, whose first word is the program's name, and returns the exit status: 0 for a plan that
-/// was found, for yes, for what a play prints, for migrated texts and for help, 1 for a plan that is refused or that there is none of, 2 for a
-/// text or a command line that is refused, and 3 where memory, the input or the output failed. It waits for the threads that `check --workers` asks
-/// for; every other line that names a job is done by `run_alone`.
+/// was found, for yes, for what a play or a drive prints, for migrated texts and for help, 1 for a plan that is refused or that there is none of and
+/// for a drive that broke off, 2 for a text or a command line that is refused, and 3 where memory, the input or the output failed. It waits for the
+/// threads that `drive` and `check --workers` ask for; every other line that names a job is done by `run_alone`.
 pub fn run<RT: AllocGlobal + Threads + Wait + Sync, S: AsStr, R: Read + Drop, W: Write>(
     rt: &RT,
     words: &[S],
@@ -57,6 +58,10 @@ pub fn run<RT: AllocGlobal + Threads + Wait + Sync, S: AsStr, R: Read + Drop, W:
         CommandLine::Do(job) => run_alone(alloc, job, input, output),
         CommandLine::CheckBy(workers) => {
             let found = make_of_by(rt, alloc, workers, input);
+            tell(alloc, found, output)
+        }
+        CommandLine::Drive(workers, form) => {
+            let found = drive_of(rt, alloc, workers, form, input);
             tell(alloc, found, output)
         }
         CommandLine::Help(text) => finish(output, text.as_slice(), 0),
@@ -122,6 +127,21 @@ fn make_of_by<RT: Threads + Wait + Sync, R: Read + Drop>(
 {
     let bytes = read_all(alloc, input)?;
     make_check_by(rt, alloc, workers, bytes.as_slice())
+}
+
+// The text that a drive makes of the whole input.
+fn drive_of<RT: Threads + Wait + Sync, R: Read + Drop>(
+    rt: &RT,
+    alloc: Global,
+    workers: u32,
+    form: Form,
+    input: &mut R,
+) -> Result<Vec<u8>, Refusal>
+    requires { (0 < workers) × (workers ≤ 64) }
+    ensures { (bytes : List ℕ) × Tells (R.remaining input.old) bytes × FindsDrive workers form bytes (texts_of result) }
+{
+    let bytes = read_all(alloc, input)?;
+    drive_bundle(rt, alloc, workers, form, bytes.as_slice())
 }
 
 // Prints the text, and ends with the status, or with 3 where the output fails.

@@ -1,5 +1,6 @@
 //! Runs the program on the bundles that its arguments name, and prints the name, the answer and the exit status of each. The words
-//! `check`, `migrate`, `play` and `plan` among them say which subcommand is meant from there on, at first `check`. Of a bundle that is
+//! `check`, `migrate`, `play`, `plan` and `drive` among them say which subcommand is meant from there on, at first `check`; `report` means a drive
+//! whose report is printed, and `race` one by three workers, of which the first line is printed, since the others are left to chance. Of a bundle that is
 //! accepted, no first part may be: how many are is printed where it is not none. A check is also made by 1, 3 and 64 workers: how many of them
 //! say otherwise is printed where it is not none.
 #![tactic(auto)]
@@ -20,6 +21,9 @@ enum Asked {
     Migrate,
     Play,
     Plan,
+    Drive,
+    Report,
+    Race,
 }
 
 fn main(rt: HostRuntime) -> io::Result<()> {
@@ -30,6 +34,9 @@ fn main(rt: HostRuntime) -> io::Result<()> {
             "migrate" => asked = Asked::Migrate,
             "play" => asked = Asked::Play,
             "plan" => asked = Asked::Plan,
+            "drive" => asked = Asked::Drive,
+            "report" => asked = Asked::Report,
+            "race" => asked = Asked::Race,
             name => show(&rt, asked, name)?,
         }
     }
@@ -77,6 +84,23 @@ fn said<RT: Runtime + AllocGlobal + Threads + Wait + Sync>(
     })
 }
 
+// What the program says of the bundle.
+fn told<RT: Runtime + AllocGlobal + Threads + Wait + Sync>(
+    rt: &RT,
+    asked: Asked,
+    path: &str,
+) -> io::Result<Answer> {
+    match asked {
+        Asked::Report => said(rt, &["ringplan", "drive", "--json"], path),
+        Asked::Race => {
+            let mut said = said(rt, &["ringplan", "drive", "--workers", "3"], path)?;
+            said.bytes.truncate(4);
+            Ok(said)
+        }
+        _ => said(rt, &["ringplan", subcommand(asked)], path),
+    }
+}
+
 // Prints the name of a bundle, the program's answer to it and the exit status.
 fn show<RT: Runtime + AllocGlobal + Threads + Wait + Sync>(
     rt: &RT,
@@ -84,7 +108,7 @@ fn show<RT: Runtime + AllocGlobal + Threads + Wait + Sync>(
     name: &str,
 ) -> io::Result<()> {
     let path = format!(in rt.alloc(); "{name}.bundle")?;
-    let said = said(rt, &["ringplan", subcommand(asked)], path.as_str())?;
+    let said = told(rt, asked, path.as_str())?;
     let text = str::from_utf8(said.bytes.as_slice()).unwrap_or("no text\n");
     let status = said.status;
     print!(rt; "{name}\n{text}{status}\n")?;
@@ -104,14 +128,16 @@ fn subcommand(asked: Asked) -> &'static str {
         Asked::Migrate => "migrate",
         Asked::Play => "play",
         Asked::Plan => "plan",
+        Asked::Drive | Asked::Report | Asked::Race => "drive",
     }
 }
 
-// Whether a first part of a bundle is accepted. A migration accepts none, since it asks for no plan that is.
+// Whether a first part of a bundle is accepted. A migration accepts none, since it asks for no plan that is; of a drive's bundle a first part with
+// fewer scripts may be, so it is not asked.
 fn accepts(alloc: Global, asked: Asked, front: &[u8]) -> bool {
     match asked {
         Asked::Check => check_bundle(alloc, front).is_ok(),
-        Asked::Migrate => false,
+        Asked::Migrate | Asked::Drive | Asked::Report | Asked::Race => false,
         Asked::Play => play_bundle(alloc, front).is_ok(),
         Asked::Plan => plan_bundle(alloc, front).is_ok(),
     }

@@ -78,9 +78,9 @@ fn helps_printed(rt: HostRuntime) -> Result<(), Fail> {
 fn mistakes_told(rt: HostRuntime) -> Result<(), Fail> {
     told(
         &rt,
-        &["ringplan", "drive"],
+        &["ringplan", "verify"],
         2,
-        "error: unrecognized subcommand 'drive'",
+        "error: unrecognized subcommand 'verify'",
     )?;
     told_of(
         &rt,
@@ -122,6 +122,21 @@ fn workers_limited(rt: HostRuntime) -> Result<(), Fail> {
         &["ringplan", "play", "--workers", "2"],
         2,
         "error: unexpected argument '--workers'",
+    )
+}
+
+#[test]
+fn drives_limited(rt: HostRuntime) -> Result<(), Fail> {
+    told_of(&rt, "drive", "-h", 0, "--workers <K>")?;
+    told_of(&rt, "drive", "--help", 0, "--json")?;
+    told_of(&rt, "drive", "--workers=0", 2, "1..=64")?;
+    told_of(&rt, "drive", "--workers=65", 2, "1..=64")?;
+    told_of(
+        &rt,
+        "check",
+        "--json",
+        2,
+        "error: unexpected argument '--json'",
     )
 }
 

@@ -1,8 +1,8 @@
-use Rattle.std.proofs.Common.{map, refl}
+use Rattle.std.proofs.Common.{rules, map, refl}
 use Rattle.ringplan_run.specs.Answers.{texts_of}
 use Rattle.ringplan_run.specs.Command.{asked}
 use Rattle.ringplan_run.specs.Run.{help, refused}
-use Rattle.ringplan_run.proofs.Runs.{Ran, ran, ran_alone, ran_asked, ran_by, ran_out, said}
+use Rattle.ringplan_run.proofs.Runs.{Ran, ran, ran_alone, ran_asked, ran_by, ran_driven, ran_out, said, many_few}
 use Rattle.ringplan_run.proofs.program.run.Goals as goal
 
 pub returns-in-Do-clause-job : goal.returns-in-Do-clause-job
@@ -34,3 +34,11 @@ returns-in-OutOfMemory-clause-line g c =
 pub returns-in-OutOfMemory-clause-job : goal.returns-in-OutOfMemory-clause-job
 returns-in-OutOfMemory-clause-job g c = λ job e.
     ran_out _ (g.R.Read.remaining c.args.input.now) _ _ _ c.end_without_memory.ensures
+
+pub drive_of-found-requires : goal.drive_of-found-requires
+drive_of-found-requires g c = (let asks = c.in-Drive.ensures.kinds in (search rules, many_few asks.0 c.in-Drive.workers asks.3))
+
+pub returns-in-Drive-clause-line : goal.returns-in-Drive-clause-line
+returns-in-Drive-clause-line g c =
+    let words = map g.S.AsStr.text c.args.words.now in
+    ran_driven (asked words) c.in-Drive.workers c.in-Drive.form (g.R.Read.remaining c.args.input.now) _ _ (texts_of c.drive_of-found.result) c.tell-in-Drive.result c.in-Drive.ensures.kinds c.drive_of-found.ensures c.tell-in-Drive.ensures
