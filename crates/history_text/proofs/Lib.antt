@@ -1,1 +1,8 @@
 mod Examples
+pub mod LineLaws
+pub mod HistoryLates
+pub mod ReplyLaws
+pub mod EventLaws
+pub mod EntryLaws
+pub mod HistoryLaws
+pub mod BundleRead

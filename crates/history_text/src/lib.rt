@@ -1,8 +1,15 @@
 //! The texts of histories: what happened to a store, and what it answered.
 #![tactic(auto)]
 
+mod answers;
+mod bundle;
 mod known;
+mod lines;
+mod reading;
+mod said;
 mod writing;
 
+pub use bundle::{ReplayBundle, read_replay};
 pub use known::are_known;
+pub use reading::{read_history, read_history_section};
 pub use writing::write_history;

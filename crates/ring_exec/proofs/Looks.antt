@@ -1,5 +1,5 @@
 -- What a look at a store under the lock shows.
-use Rattle.std.proofs.Common.{◌≡◌, ◌∙◌, ◌<◌, ◌≤◌, ◌+◌, ℕ, zero, suc, Bool, true, false, List, [], ◌∷◌, length, refl, sym, ap, subst, arith, eqb-true, eq-eqb, lt-ltb}
+use Rattle.std.proofs.Common.{◌≡◌, ◌∙◌, ◌<◌, ◌≤◌, ℕ, Bool, true, false, List, [], ◌∷◌, length, refl, sym, ap, subst, arith, eqb-true, eq-eqb, lt-ltb}
 use Rattle.std.proofs.Props.{props}
 use Rattle.std.specs.Prelude.{not, ◌↔◌, ◌==◌, IsTrue, Option, Some, None, IfSome}
 use Rattle.ring_names.specs.declared.ids.NodeId.{NodeId}

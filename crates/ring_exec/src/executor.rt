@@ -3,11 +3,11 @@
 ghost use Rattle.std.specs.Prelude.{◌≡◌};
 
 use crate::ledgered::Ledgered;
-use crate::receipt::Receipt;
 use crate::run_ledger::RunLedger;
 use crate::share::Share;
-use plan_check::{Approved, Event};
+use plan_check::{Approved, Entry, Event};
 use ring_names::{NodeId, Refusal, Slot};
+use ring_receipts::Receipt;
 use std::alloc::Global;
 use std::sync::ledger::Blank;
 use std::sync::{Mutex, Wait};
@@ -22,10 +22,12 @@ pub struct Executor<'a, L: RunLedger> {
 }
 
 impl<'a, L: RunLedger> Executor<'a, L> {
-    ghost use Rattle.std.specs.Prelude.{◌<◌, ◌≤◌, ◌+◌, true, length, vec_len, IfOk, IfErr, IfSome, OnOk, OnErr};
+    ghost use Rattle.std.specs.Prelude.{◌≢◌, ◌<◌, ◌≤◌, ◌+◌, ◌↔◌, true, length, vec_len, IfOk, IfErr, IfSome, OnOk, OnErr};
     ghost use Rattle.std.specs.List.{sum_by};
-    ghost use Rattle.ring_names.specs.declared.refusal.Refusal.TheVariants.{OutOfMemory, Disagree};
+    ghost use Rattle.ring_names.specs.declared.refusal.Refusal.TheVariants.{OutOfMemory, HistoryFull, Disagree};
     ghost use Rattle.plan_text.specs.Valid.{is_ring_slot};
+    ghost use Rattle.plan_check.specs.World.{opening_world};
+    ghost use Rattle.ring_replay.specs.Faults.{IsFirstFault};
     ghost use Rattle.ring_exec.specs.Replies.{fits_reply};
 
     /// A store before the first event, and the one share of its ledger, which counts none and has all of the ledger's parts.
@@ -46,6 +48,32 @@ impl<'a, L: RunLedger> Executor<'a, L> {
         let executor = Executor {
             approved,
             inside: Mutex::new(ledgered),
+        };
+        Ok((executor, share))
+    }
+
+    /// The store behind a history that was recorded, as `Ledgered::restore`, and the one share of its ledger, which counts all entries and has
+    /// all of the ledger's parts. More than 1,000,000 entries are refused before all else; else `Mismatch` tells the first entry at which the
+    /// history is no run of the plan. Out of memory comes last at each entry.
+    pub fn restore(
+        alloc: Global,
+        blank: Blank,
+        approved: &'a Approved,
+        entries: &[Entry],
+    ) -> Result<(Executor<'a, L>, Share<L>), Refusal>
+        requires name { blank.name ≡ L.name }
+        requires parts { blank.parts ≡ L.parts }
+        requires some { 0 < blank.parts }
+        requires ring { approved.now.ring ≡ L.ring }
+        requires plan { approved.now.plan ≡ L.plan }
+        ensures share { IfOk result (λ r. (r.1.count ≡ length entries.now) × (r.1.token.parts ≡ L.parts)) }
+        ensures full { IfErr result (λ e. (e ≡ HistoryFull) ↔ (1000000 < length entries.now)) }
+        ensures err { IfErr result (λ e. e ≢ HistoryFull → e ≢ OutOfMemory → IsFirstFault L.ring L.plan (opening_world L.ring) 0 entries.now e) }
+    {
+        let (restored, share) = Ledgered::restore(alloc, blank, approved, entries)?;
+        let executor = Executor {
+            approved,
+            inside: Mutex::new(restored),
         };
         Ok((executor, share))
     }
@@ -96,6 +124,9 @@ impl<'a, L: RunLedger> Executor<'a, L> {
     {
         self.inside.lock(rt).world().hint_at(n)
     }
+
+    /// Gives up the store with its history, as where the threads that were to share it could not start.
+    pub fn give_up(self) {}
 
     /// The store and its history, where the shares count as many events as the history has; else 70. Where they have all parts of the ledger
     /// they do.

@@ -2,14 +2,15 @@
 
 ghost use Rattle.std.specs.Prelude.{◌≡◌, ◌≤◌, vec_len};
 ghost use Rattle.ring_core.specs.World.{ring_of, plan_of, put_count, get_count};
-ghost use Rattle.ring_exec.specs.Ledgers.{Replays};
+ghost use Rattle.ring_replay.specs.Replays.{Replays};
 
-use crate::receipt::Receipt;
+use crate::restoring::retold;
 use crate::run_ledger::RunLedger;
 use crate::share::{Share, count_of};
 use plan_check::{Approved, Entry, Event};
 use ring_core::World;
 use ring_names::Refusal;
+use ring_receipts::Receipt;
 use std::alloc::Global;
 use std::sync::ledger::{Blank, Book};
 
@@ -40,7 +41,9 @@ impl<'a, L: RunLedger> Ledgered<'a, L> {
     ghost use Rattle.plan_check.specs.World.{World as TheWorld, opening_world};
     ghost use Rattle.ring_core.specs.World.{Meets, Passes, Answers, Refuses, Stays};
     ghost use Rattle.ring_core.specs.Tables.{AllDone};
-    ghost use Rattle.ring_exec.specs.Ledgers.{Replays, entry};
+    ghost use Rattle.ring_replay.specs.Replays.{Replays};
+    ghost use Rattle.ring_receipts.specs.Entries.{entry};
+    ghost use Rattle.ring_replay.specs.Faults.{IsFirstFault};
     ghost use Rattle.ring_exec.specs.Replies.{fits_reply};
 
     /// The store before the first event, with an empty history, and the one share of its ledger, which has all of its parts.
@@ -68,6 +71,42 @@ impl<'a, L: RunLedger> Ledgered<'a, L> {
             book,
         };
         Ok((ledgered, Share { count: 0, token }))
+    }
+
+    /// The store behind a history that was recorded, with that history, and the one share of its ledger, which counts all entries and has all of
+    /// the ledger's parts. More than 1,000,000 entries are refused before all else. Else the history is replayed: `Mismatch`, with the place of the
+    /// first entry, from 0, whose event is refused or has another reply, and with that refusal's number or 0. Each entry costs one `follow`
+    /// and one copy of its event; out of memory comes last at each entry.
+    pub fn restore(
+        alloc: Global,
+        blank: Blank,
+        approved: &'a Approved,
+        entries: &[Entry],
+    ) -> Result<(Ledgered<'a, L>, Share<L>), Refusal>
+        requires name { blank.name ≡ L.name }
+        requires parts { blank.parts ≡ L.parts }
+        requires some { 0 < blank.parts }
+        requires ring { approved.now.ring ≡ L.ring }
+        requires plan { approved.now.plan ≡ L.plan }
+        ensures history { IfOk result (λ r. r.0.history.items ≡ entries.now) }
+        ensures share { IfOk result (λ r. (r.1.count ≡ length entries.now) × (r.1.token.parts ≡ L.parts)) }
+        ensures full { IfErr result (λ e. (e ≡ HistoryFull) ↔ (1000000 < length entries.now)) }
+        ensures err { IfErr result (λ e. e ≢ HistoryFull → e ≢ OutOfMemory → IsFirstFault L.ring L.plan (opening_world L.ring) 0 entries.now e) }
+    {
+        if entries.len() > MAX_ENTRIES {
+            return Err(Refusal::HistoryFull);
+        }
+        let (world, history) = retold(alloc, approved, entries)?;
+        let count = history.len() as u64;
+        let (mut book, mut token) = blank.open::<L>();
+        book.add(&mut token, count);
+        let ledgered = Ledgered {
+            alloc,
+            world,
+            history,
+            book,
+        };
+        Ok((ledgered, Share { count, token }))
     }
 
     /// The store.

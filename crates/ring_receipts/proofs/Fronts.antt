@@ -2,7 +2,7 @@
 use Rattle.std.proofs.Common.{◌≡◌, ◌≤◌, ℕ, Bool, true, false, cond, List, [], ◌∷◌, ◌++◌, length, refl, ap, arith, inl, inr}
 use Rattle.std.proofs.lemmas.Bool.{and_parts, and_from, cases_Bool}
 use Rattle.std.specs.List.{list_all}
-use Rattle.ring_exec.specs.declared.receipt.Receipt.{Receipt}
+use Rattle.ring_receipts.specs.declared.receipt.Receipt.{Receipt}
 use Rattle.ring_receipts.specs.Behind.{behind, behind_one, begins_with}
 
 -- lists that are the same begin with the same, and go on with the same

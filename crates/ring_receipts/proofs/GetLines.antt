@@ -5,7 +5,7 @@ use Rattle.std.specs.List.{list_all}
 use Rattle.plan_check.specs.declared.event.Event.{Event}
 use Rattle.plan_check.specs.declared.event.Event.TheVariants.{StartGet}
 use Rattle.plan_check.specs.declared.event.Reply.TheVariants.{Get}
-use Rattle.ring_exec.specs.declared.receipt.Receipt.{Receipt}
+use Rattle.ring_receipts.specs.declared.receipt.Receipt.{Receipt}
 use Rattle.ring_receipts.specs.declared.asked.Asked.{Asked}
 use Rattle.ring_receipts.specs.Kinds.{reads, ends, get_in}
 use Rattle.ring_receipts.specs.Behind.{behind, behind_one, begins_with}

@@ -4,7 +4,7 @@ use Rattle.std.specs.Prelude.{◌⊎◌}
 use Rattle.std.proofs.lemmas.Bool.{true≢false}
 use Rattle.plan_check.specs.declared.event.Event.{Event}
 use Rattle.plan_check.specs.declared.event.Event.TheVariants.{StartPut, StartGet, Down, Up}
-use Rattle.ring_exec.specs.declared.receipt.Receipt.{Receipt}
+use Rattle.ring_receipts.specs.declared.receipt.Receipt.{Receipt}
 use Rattle.ring_receipts.specs.declared.asked.Asked.{Asked}
 use Rattle.ring_receipts.proofs.Fronts.{heads, tails}
 use Rattle.ring_receipts.specs.Blocks.{IsOne, IsBlock, AreBlocks, Leaves, HasNoBlock, turns_a_node}

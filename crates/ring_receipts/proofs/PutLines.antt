@@ -7,7 +7,7 @@ use Rattle.ring_names.specs.declared.ids.WriterId.{WriterId}
 use Rattle.plan_check.specs.declared.event.Event.{Event}
 use Rattle.plan_check.specs.declared.event.Event.TheVariants.{StartPut}
 use Rattle.plan_check.specs.declared.event.Reply.TheVariants.{Put}
-use Rattle.ring_exec.specs.declared.receipt.Receipt.{Receipt}
+use Rattle.ring_receipts.specs.declared.receipt.Receipt.{Receipt}
 use Rattle.ring_receipts.specs.declared.asked.Asked.{Asked}
 use Rattle.ring_receipts.specs.Kinds.{sends, acknowledges, put_in}
 use Rattle.ring_receipts.specs.Behind.{behind, behind_one}

@@ -3,7 +3,7 @@ use Rattle.std.specs.Prelude.{◌≡◌, ℕ, ◌+◌, ◌<◌, true, List, [], 
 use Rattle.std.specs.List.{list_all}
 use Rattle.plan_check.specs.declared.event.Entry.{Entry}
 use Rattle.plan_check.specs.declared.event.Event.{Event}
-use Rattle.ring_exec.specs.declared.receipt.Receipt.{Receipt}
+use Rattle.ring_receipts.specs.declared.receipt.Receipt.{Receipt}
 use Rattle.ring_receipts.specs.Kinds.{is_step, is_handoff}
 use Rattle.ring_receipts.specs.Interleaving.{Interleaves}
 use Rattle.ring_receipts.specs.Blocks.{IsClient}

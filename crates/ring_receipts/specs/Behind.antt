@@ -1,6 +1,6 @@
 -- What is left of a list behind receipts that pass a test.
 use Rattle.std.specs.Prelude.{Bool, false, List, [], ◌∷◌, cond}
-use Rattle.ring_exec.specs.declared.receipt.Receipt.{Receipt}
+use Rattle.ring_receipts.specs.declared.receipt.Receipt.{Receipt}
 
 -- behind the first ones, as long as they pass
 abbrev pub behind : (Receipt → Bool) → List Receipt → List Receipt

@@ -1,7 +1,7 @@
 -- Who finished each step.
 use Rattle.std.specs.Prelude.{◌≡◌, ⊤, ℕ, ◌==◌, ◌+◌, ◌-◌, ◌<◌, nat_lt, Bool, true, false, cond, List, [], ◌∷◌, length, Option, Some, None, slice_index, slice_index_or}
 use Rattle.std.specs.List.{list_any, AllByRecursion}
-use Rattle.ring_exec.specs.declared.receipt.Receipt.{Receipt}
+use Rattle.ring_receipts.specs.declared.receipt.Receipt.{Receipt}
 use Rattle.ring_receipts.specs.Kinds.{finished_by}
 
 -- the receipt is of the end of step k

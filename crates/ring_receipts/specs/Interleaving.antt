@@ -3,8 +3,8 @@ use Rattle.std.specs.Prelude.{◌≡◌, ℕ, ◌<◌, Bool, true, ◌==◌, Lis
 use Rattle.std.specs.List.{AllByRecursion}
 use Rattle.texts.specs.Numbers.{ascending}
 use Rattle.plan_check.specs.declared.event.Entry.{Entry}
-use Rattle.ring_exec.specs.declared.receipt.Receipt.{Receipt}
-use Rattle.ring_exec.specs.Ledgers.{entry}
+use Rattle.ring_receipts.specs.declared.receipt.Receipt.{Receipt}
+use Rattle.ring_receipts.specs.Entries.{entry}
 
 -- the places of a list's receipts rise
 abbrev pub rises : List Receipt → Bool

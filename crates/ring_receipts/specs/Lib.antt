@@ -1,3 +1,4 @@
+pub mod Entries
 pub mod Kinds
 pub mod Interleaving
 pub mod Behind

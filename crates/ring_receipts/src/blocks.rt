@@ -10,10 +10,10 @@ ghost use Rattle.ring_receipts.specs.Blocks.{Leaves, HasNoBlock, turns_a_node};
 
 use crate::asked::Asked;
 use crate::kinds::{is_acknowledged, is_end, is_read, is_sent};
+use crate::receipt::Receipt;
 use crate::same::same_event;
 use crate::starts::{all_ended, get_started, put_started};
 use plan_check::{Event, Key, Seen};
-use ring_exec::Receipt;
 use ring_names::{Refusal, Value, WriterId};
 use std::alloc::Global;
 

@@ -5,8 +5,8 @@ ghost use Rattle.ring_names.specs.declared.refusal.Refusal.TheVariants.{OutOfMem
 ghost use Rattle.ring_receipts.specs.Blocks.{IsClient};
 
 use crate::blocks::behind_line;
+use crate::receipt::Receipt;
 use plan_check::Event;
-use ring_exec::Receipt;
 use ring_names::Refusal;
 use std::alloc::Global;
 

@@ -5,7 +5,7 @@ ghost use Rattle.ring_names.specs.declared.refusal.Refusal.TheVariants.{OutOfMem
 ghost use Rattle.ring_receipts.specs.Finishing.{AreBy, has_end, worker_at, Finishes};
 
 use crate::kinds::finished;
-use ring_exec::Receipt;
+use crate::receipt::Receipt;
 use ring_names::{Listed, Refusal};
 use std::alloc::Global;
 

@@ -4,9 +4,9 @@ ghost use Rattle.std.specs.Prelude.{◌≡◌, ◌↔◌, ◌+◌, ◌<◌, ◌=
 ghost use Rattle.ring_names.specs.declared.refusal.Refusal.TheVariants.{OutOfMemory};
 ghost use Rattle.ring_receipts.specs.Interleaving.{rises, Stands, standing, Interleaves, AreStanding};
 
-use crate::same::{same_event, same_reply};
+use crate::receipt::Receipt;
+use crate::same::{is_same_reply, same_event};
 use plan_check::Entry;
-use ring_exec::Receipt;
 use ring_names::{Listed, Refusal};
 use std::alloc::Global;
 
@@ -34,7 +34,7 @@ fn stands(history: &[Entry], receipt: &Receipt) -> bool
 {
     match history.get(receipt.index as usize) {
         Some(entry) => {
-            same_event(&entry.event, &receipt.event) && same_reply(&entry.reply, &receipt.reply)
+            same_event(&entry.event, &receipt.event) && is_same_reply(&entry.reply, &receipt.reply)
         }
         None => false,
     }

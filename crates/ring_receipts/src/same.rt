@@ -41,8 +41,8 @@ pub(crate) fn same_event(a: &Event, b: &Event) -> bool
     }
 }
 
-/// Whether the two are the same reply.
-pub(crate) fn same_reply(a: &Reply, b: &Reply) -> bool
+/// Whether two replies are the same: of one kind, with equal numbers, slots and puts. Takes no memory.
+pub fn is_same_reply(a: &Reply, b: &Reply) -> bool
     ensures { IsTrue result ↔ (a.now ≡ b.now) }
 {
     match (a, b) {

@@ -7,8 +7,8 @@ ghost use Rattle.plan_check.specs.declared.event.Reply.TheVariants.{Put, Get};
 ghost use Rattle.ring_receipts.specs.Blocks.{number_at, numbers_of, are_ended};
 
 use crate::asked::Asked;
+use crate::receipt::Receipt;
 use plan_check::{Event, Key, Reply, Seen};
-use ring_exec::Receipt;
 use ring_names::{Value, WriterId};
 
 /// Whether each number is that of an earlier get of the script, of that key and with an end.

@@ -1,2 +1,3 @@
 pub mod Bundled
 pub mod Played
+pub mod Replayed

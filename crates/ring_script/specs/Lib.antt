@@ -1,3 +1,4 @@
 pub mod Bundles
 pub mod Play
 pub mod Steps
+pub mod Replay

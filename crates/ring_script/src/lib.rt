@@ -1,8 +1,10 @@
-//! Bundles, and what a play of a script prints.
+//! Bundles, and what a play of a script and a replay of a history print.
 #![tactic(auto)]
 
 mod bundle;
 mod playing;
+mod replaying;
 
 pub use bundle::{Bundle, Kind, read_bundle};
 pub use playing::play;
+pub use replaying::replay_history;

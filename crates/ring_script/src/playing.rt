@@ -68,8 +68,8 @@ fn push_owners(out: &mut Vec<u8>, nodes: &[Node], rows: &[Listed<NodeId>]) -> Re
     Ok(())
 }
 
-// The line of the owners of each partition now, and `end`.
-fn push_ending(world: &World, ring: &Ring, out: &mut Vec<u8>) -> Result<(), Refusal>
+/// The line of the owners of each partition now, and `end`.
+pub(crate) fn push_ending(world: &World, ring: &Ring, out: &mut Vec<u8>) -> Result<(), Refusal>
     requires { ring_of world.now ≡ ring.now }
     ensures ok { OnOk result ((w : TheWorld) → Meets world.now w → out.new.items ≡ out.old.items ++ owners_text ring.now (plan_of world.now) w) }
     ensures memory { IfErr result (λ e. e ≡ OutOfMemory) }

@@ -5,7 +5,7 @@ use Rattle.ring_names.specs.declared.refusal.Refusal.{Refusal}
 use Rattle.plan_check.specs.declared.event.Event.{Event}
 use Rattle.plan_check.specs.declared.event.Event.TheVariants.{StartGet}
 use Rattle.plan_check.specs.declared.event.Reply.TheVariants.{Put, Get}
-use Rattle.ring_exec.specs.declared.receipt.Receipt.{Receipt}
+use Rattle.ring_receipts.specs.declared.receipt.Receipt.{Receipt}
 use Rattle.ring_receipts.specs.Kinds.{sends, acknowledges, reads, ends}
 use Rattle.ring_work.specs.Noted.{Completes}
 use Rattle.ring_work.specs.Attempts.{AddsPut, AddsGet, IsPutAttempt, IsGetAttempt}

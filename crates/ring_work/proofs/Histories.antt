@@ -9,7 +9,7 @@ use Rattle.plan_check.specs.World.{World as TheWorld}
 use Rattle.ring_core.specs.declared.world.World.{World}
 use Rattle.ring_core.specs.World.{Meets}
 use Rattle.ring_core.specs.Tables.{AllDone}
-use Rattle.ring_exec.specs.Ledgers.{Replays}
+use Rattle.ring_replay.specs.Replays.{Replays}
 use Rattle.ring_work.specs.Driven.{IsHistory, IsWhole}
 
 -- a history that a store replays is a run

@@ -10,7 +10,7 @@ use Rattle.plan_check.specs.World.{World}
 use Rattle.plan_check.specs.Runs.{IsRun}
 use Rattle.plan_check.specs.Safe.{Safe}
 use Rattle.ring_core.specs.Tables.{AllDone}
-use Rattle.ring_exec.specs.declared.receipt.Receipt.{Receipt}
+use Rattle.ring_receipts.specs.declared.receipt.Receipt.{Receipt}
 use Rattle.ring_receipts.specs.Agreed.{Agrees}
 
 -- the history is a run of the plan

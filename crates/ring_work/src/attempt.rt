@@ -1,7 +1,7 @@
 //! What comes of a put or a get.
 
-use ring_exec::Receipt;
 use ring_names::Refusal;
+use ring_receipts::Receipt;
 
 /// What a put or a get was answered, in order, and the last refusal that it met; none where it was acknowledged, or ended.
 #[derive(Debug, Drop)]

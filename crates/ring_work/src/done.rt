@@ -3,8 +3,9 @@
 use crate::noting::note;
 use plan_check::Event;
 use ring_board::Seat;
-use ring_exec::{Executor, Receipt, RunLedger, Share};
+use ring_exec::{Executor, RunLedger, Share};
 use ring_names::Refusal;
+use ring_receipts::Receipt;
 use std::alloc::Global;
 use std::sync::Wait;
 

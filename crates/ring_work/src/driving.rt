@@ -176,13 +176,19 @@ fn drive_on<'a, L: RunLedger + Send + Sync, R: Threads + Wait + Sync, G: Gate + 
     let plan = approved.plan();
     let (board, first) = match Board::new(alloc, plan.len(), workers) {
         Ok(made) => made,
-        Err(refusal) => return Err(bare(alloc, approved, refusal)),
+        Err(refusal) => {
+            executor.give_up();
+            return Err(bare(alloc, approved, refusal));
+        }
     };
     let (first, left) = match run_all(
         rt, alloc, &executor, &board, gate, plan, scripts, workers, first, share,
     ) {
         Ok(back) => back,
-        Err(refusal) => return Err(bare(alloc, approved, refusal)),
+        Err(refusal) => {
+            executor.give_up();
+            return Err(bare(alloc, approved, refusal));
+        }
     };
     let Left {
         seats,

@@ -5,8 +5,9 @@ ghost use Rattle.ring_names.specs.declared.refusal.Refusal.TheVariants.{OutOfMem
 
 use crate::done::{Done, Sat};
 use ring_board::{Board, Seat};
-use ring_exec::{Receipt, RunLedger, Share};
+use ring_exec::{RunLedger, Share};
 use ring_names::{Listed, Refusal};
+use ring_receipts::Receipt;
 use std::alloc::Global;
 
 /// The seats of the workers, the shares of all threads, their receipts in the order in which the threads were joined, and the worst refusal that

@@ -7,8 +7,9 @@ ghost use Rattle.plan_check.specs.declared.event.Reply.TheVariants.{Put, Get};
 ghost use Rattle.ring_work.specs.Noted.{Adds, IsCounted};
 
 use plan_check::{Event, Reply};
-use ring_exec::{Executor, Receipt, RunLedger, Share};
+use ring_exec::{Executor, RunLedger, Share};
 use ring_names::Refusal;
+use ring_receipts::Receipt;
 use std::sync::Wait;
 
 /// The most rounds of a put or a get.

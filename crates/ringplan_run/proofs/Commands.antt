@@ -16,7 +16,7 @@ use Rattle.clap.proofs.OnLiterals.{clap_on_literals}
 use Rattle.ringplan_run.specs.declared.command.CommandLine.{CommandLine}
 use Rattle.ringplan_run.specs.declared.command.CommandLine.TheVariants.{Do, CheckBy, Drive, Help, Refused, OutOfMemory}
 use Rattle.ringplan_run.specs.declared.job.Job.{Job}
-use Rattle.ringplan_run.specs.declared.job.Job.TheVariants.{Check, Migrate, Plan, Play}
+use Rattle.ringplan_run.specs.declared.job.Job.TheVariants.{Check, Migrate, Plan, Play, Replay}
 use Rattle.ringplan_run.specs.Command.{Answers, Asked, AsksBy, HasNoNumber, IsMistaken, IsRefused, IsWorkers, Task, WantsHelp, asked, asked_by, by_drive, by_workers, only, option_named, ringplan, task_named, to_do, to_drive, word_of}
 
 is_free : is_simple_and_free ringplan ≡ true
@@ -37,6 +37,7 @@ by_word Check = refl
 by_word Migrate = refl
 by_word Play = refl
 by_word Plan = refl
+by_word Replay = refl
 
 -- a job's word alone asks for it
 pub asked_alone : (job : Job) (words : List (List ℕ)) → drop 1 words ≡ word_of job ∷ [] → asked words ≡ only job

@@ -2,3 +2,4 @@ pub mod Streams
 pub mod Commands
 pub mod Runs
 pub mod Verdicts
+pub mod Judged

@@ -15,7 +15,7 @@ use Rattle.ringplan_run.specs.declared.command.Workers.TheVariants.{Unnamed, Man
 use Rattle.ringplan_run.specs.declared.job.Form.{Form}
 use Rattle.ringplan_run.specs.declared.job.Form.TheVariants.{History, Report}
 use Rattle.ringplan_run.specs.declared.job.Job.{Job}
-use Rattle.ringplan_run.specs.declared.job.Job.TheVariants.{Check, Migrate, Plan, Play}
+use Rattle.ringplan_run.specs.declared.job.Job.TheVariants.{Check, Migrate, Plan, Play, Replay}
 
 -- the word that asks for a job
 abbrev pub word_of : Job → List ℕ
@@ -23,6 +23,7 @@ word_of Check = codes "check"
 word_of Migrate = codes "migrate"
 word_of Play = codes "play"
 word_of Plan = codes "plan"
+word_of Replay = codes "replay"
 
 -- the program's name, behind which it wants a subcommand
 abbrev pub wanting : App
@@ -52,9 +53,9 @@ drive_word = codes "drive"
 abbrev pub driving : App
 driving = with_rule (with_rule (new_app drive_word) workers_option) json_option
 
--- `ringplan`, which wants one of its subcommands `plan`, `check`, `play`, `drive` and `migrate`
+-- `ringplan`, which wants one of its subcommands `plan`, `check`, `play`, `drive`, `replay` and `migrate`
 abbrev pub ringplan : App
-ringplan = with_job (with_subcommand (with_job (with_subcommand (with_job wanting Plan) checking.top) Play) driving.top) Migrate
+ringplan = with_job (with_job (with_subcommand (with_job (with_subcommand (with_job wanting Plan) checking.top) Play) driving.top) Replay) Migrate
 
 -- what is to be done: a job, or a drive
 pub data Task : Type 0 where
@@ -79,7 +80,7 @@ is_named job subcommand = is_word (word_of job) subcommand
 
 -- the job of a subcommand, by its name
 abbrev pub job_named : Option (List ℕ × List Row) → Job
-job_named subcommand = if is_named Play subcommand then Play else (if is_named Plan subcommand then Plan else (if is_named Migrate subcommand then Migrate else Check))
+job_named subcommand = if is_named Play subcommand then Play else (if is_named Plan subcommand then Plan else (if is_named Migrate subcommand then Migrate else (if is_named Replay subcommand then Replay else Check)))
 
 -- what it asks to be done
 abbrev pub task_named : Option (List ℕ × List Row) → Task

@@ -3,4 +3,5 @@ pub mod Command
 pub mod Verdict
 pub mod Answers
 pub mod Drives
+pub mod Replays
 pub mod Run

@@ -17,8 +17,9 @@ use Rattle.ring_script.specs.Bundles.{bundle_at}
 use Rattle.ring_script.specs.Play.{play_text}
 use Rattle.ring_script.specs.declared.bundle.Bundle.{Bundle}
 use Rattle.ring_script.specs.declared.bundle.Kind.TheVariants as kind
+use Rattle.ringplan_run.specs.Replays.{Replays}
 use Rattle.ringplan_run.specs.declared.job.Job.{Job}
-use Rattle.ringplan_run.specs.declared.job.Job.TheVariants.{Check, Migrate, Plan, Play}
+use Rattle.ringplan_run.specs.declared.job.Job.TheVariants.{Check, Migrate, Plan, Play, Replay}
 
 -- yes, or the first clause that does not hold
 abbrev pub judged : Option Refusal → Result (Unit {0}) Refusal
@@ -63,12 +64,14 @@ IsAnswerTo (Err e) r = r ≡ Err e
 abbrev pub Plans : List ℕ → Result (List ℕ) Refusal → Type 0
 Plans bytes r = IsAnswerTo (whole_text wanted_at bytes) r
 
--- what a job makes of a bundle: `yes` and the byte 0A, and then the plan keeps its promises; the migrated texts, what a play prints, or a plan for a change
+-- what a job makes of a bundle: `yes` and the byte 0A, and then the plan keeps its promises; the migrated texts, what a play prints, a plan for a change,
+-- or what a replay prints
 abbrev pub Makes : Job → List ℕ → Result (List ℕ) Refusal → Type 0
 Makes Check bytes r = (map_ok (λ _. codes "yes" ++ 10 ∷ []) (verdict bytes) ≡ r) × OnOk r (TextsKeepPromises bytes)
 Makes Migrate bytes r = migration bytes ≡ r
 Makes Play bytes r = plays bytes ≡ r
 Makes Plan bytes r = Plans bytes r
+Makes Replay bytes r = Replays bytes r
 
 -- the same, unless memory ran out
 abbrev pub MakesIf : Job → List ℕ → Result (List ℕ) Refusal → Type 0

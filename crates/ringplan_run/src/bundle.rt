@@ -19,6 +19,7 @@ ghost use Rattle.ringplan_run.specs.Answers.{texts_of};
 ghost use Rattle.ringplan_run.specs.Verdict.{TextsKeepPromises, MakesIf, judged, migrated_text, migration, plays, shown, verdict};
 
 use crate::job::Job;
+use crate::replaying::replay_bundle;
 use change_text::read_wanted;
 use plan_cert::{Cert, write_cert};
 use plan_check::{OpenGate, check, check_parallel};
@@ -210,6 +211,7 @@ pub fn make(alloc: Global, job: Job, bytes: &[u8]) -> Result<Vec<u8>, Refusal>
         Job::Migrate => migrate_bundle(alloc, bytes),
         Job::Play => play_bundle(alloc, bytes),
         Job::Plan => plan_bundle(alloc, bytes),
+        Job::Replay => replay_bundle(alloc, bytes),
     }
 }
 

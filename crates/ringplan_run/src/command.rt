@@ -12,7 +12,7 @@ use std::alloc::{AllocError, Global};
 use std::convert::AsStr;
 
 const ABOUT: &str =
-    "Plans a change of a ring's members, checks a plan, plays a script over it, runs it by threads, or brings its texts to a later format";
+    "Plans a change of a ring's members, checks a plan, plays a script over it, runs it by threads, judges a recorded history, or brings its texts to a later format";
 
 const PLAN: &str =
     "Prints a plan for the change on standard input, with its certificate, once the checker has accepted it";
@@ -42,17 +42,21 @@ const MIGRATE: &str =
 const PLAY: &str =
     "Checks the bundle on standard input, and runs the events of its script over a store of all nodes";
 
+const REPLAY: &str =
+    "Checks the bundle on standard input, and tells whether its history is a run of the plan";
+
 const STREAMS: &str = "\
 Example: ringplan check < examples/move_one_slot.bundle
 
-Standard input: a bundle, which is the text of a ring, then that of a plan, then that of its certificate; of `play` then that of a script; of
-`plan` the text of a ring, then that of a change.
+Standard input: a bundle, which is the text of a ring, then that of a plan, then that of its certificate; of `play` then that of a script, of
+`drive` those of 1 to 8 scripts, of `replay` that of a history; of `plan` the text of a ring, then that of a change.
 Standard output: of `plan` the texts of a plan and its certificate, of `check` the line `yes`, of `play` what each event is answered and then
-the owners, of `migrate` the bundle; else one line of `no`, the refusal's number and its values.
+the owners, of `drive` the history, of `replay` the owners behind the history, of `migrate` the bundle; else one line of `no`, the refusal's
+number and its values.
 
 Exit status:
   0  a plan was printed, or yes, or the script was played, or the bundle was printed
-  1  the plan is refused (`check` and `play`), or there is none (`plan`)
+  1  the plan is refused, or there is none (`plan`), a drive broke off, or a history is no run of the plan (`replay`)
   2  a text or the command line is refused
   3  out of memory, or the input or the output failed";
 
@@ -97,6 +101,21 @@ Exit status:
   1  the plan is refused
   2  a text or the command line is refused
   3  out of memory, or the input or the output failed";
+
+const REPLAY_STREAMS: &str = "\
+Example: ringplan replay < examples/replay_a_move.bundle
+
+Standard input: a bundle, which is the text of a ring, then that of a plan, that of its certificate, and that of a history: `history 1`, for each
+entry an event, ` = ` and its reply, and `end`.
+Standard output: `yes`, the owners of each partition's slots behind the last entry, and `end`, where the history is a run of the plan with these
+replies; `no 70`, the place of the first entry, counted from 0, that cannot have happened so, and the number by which its event would be refused, or
+0 where it would be answered otherwise. Where the plan or a text is refused, one line of `no`.
+
+Exit status:
+  0  the history is a run of the plan
+  1  the plan is refused, or the history is no run of it (`no 70`)
+  2  a text or the command line is refused
+  3  out of memory (at an entry too), or the input or the output failed";
 
 const MIGRATE_STREAMS: &str = "\
 Example: ringplan migrate < examples/move_one_slot.bundle
@@ -276,8 +295,11 @@ fn job_of(matches: &ArgMatches) -> Job
     if matches.subcommand_matches("plan").is_some() {
         return Job::Plan;
     }
-    match matches.subcommand_matches("migrate") {
-        Some(_) => Job::Migrate,
+    if matches.subcommand_matches("migrate").is_some() {
+        return Job::Migrate;
+    }
+    match matches.subcommand_matches("replay") {
+        Some(_) => Job::Replay,
         None => Job::Check,
     }
 }
@@ -353,5 +375,6 @@ fn command<'a>(alloc: Global) -> Result<Command<'a>, AllocError>
     let checks = with_check(alloc, plans)?;
     let plays = with_job(alloc, checks, "play", PLAY, PLAY_STREAMS)?;
     let drives = with_drive(alloc, plays)?;
-    with_job(alloc, drives, "migrate", MIGRATE, MIGRATE_STREAMS)
+    let replays = with_job(alloc, drives, "replay", REPLAY, REPLAY_STREAMS)?;
+    with_job(alloc, replays, "migrate", MIGRATE, MIGRATE_STREAMS)
 }

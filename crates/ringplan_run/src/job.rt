@@ -11,6 +11,8 @@ pub enum Job {
     Play,
     /// To print a plan for a change, and its certificate.
     Plan,
+    /// To tell whether a history is a run of the plan, and to print the owners behind it.
+    Replay,
 }
 
 /// How the outcome of a drive is printed.

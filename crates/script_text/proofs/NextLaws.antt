@@ -80,7 +80,7 @@ put-fits names k fields =
 
 -- ---- a line
 
-kind-fits : (ring : RingValue) (names : List (List ℕ)) (k : ℕ) (fields : List (List ℕ)) → IfOk (kind_at ring names k fields).0 (Fits names)
+pub kind-fits : (ring : RingValue) (names : List (List ℕ)) (k : ℕ) (fields : List (List ℕ)) → IfOk (kind_at ring names k fields).0 (Fits names)
 unfolding kind_at
 kind-fits ring names k [] = tt
 kind-fits ring names k (word ∷ fields) =

@@ -43,21 +43,21 @@ abbrev pub Ends : List (List ℕ) → Type 0
 Ends line = begins_with (codes "end") (line ∷ []) ≡ true
 
 -- such a line begins with `end` whatever follows it
-ends-any : (line : List (List ℕ)) (more : List (List (List ℕ))) → Ends line → begins_with (codes "end") (line ∷ more) ≡ true
+pub ends-any : (line : List (List ℕ)) (more : List (List (List ℕ))) → Ends line → begins_with (codes "end") (line ∷ more) ≡ true
 ends-any [] more h = absurd cc
 ends-any (f ∷ fs) more h = h
 
 -- no event's line does
-goes-on : (nodes names : List (List ℕ)) (e : Event) (more : List (List (List ℕ))) → begins_with (codes "end") (event_fields nodes names e ∷ more) ≡ false
+pub goes-on : (nodes names : List (List ℕ)) (e : Event) (more : List (List (List ℕ))) → begins_with (codes "end") (event_fields nodes names e ∷ more) ≡ false
 goes-on nodes names (event.Do s) more = refl
 goes-on nodes names e more = refl
 
 -- what is left behind the first line is one thing
-tail_is : (a b : List (List ℕ)) (xs ys : List (List (List ℕ))) → a ∷ xs ≡ b ∷ ys → xs ≡ ys
+pub tail_is : (a b : List (List ℕ)) (xs ys : List (List (List ℕ))) → a ∷ xs ≡ b ∷ ys → xs ≡ ys
 tail_is a b xs ys h = cc
 
 -- a line behind which another stands is ended
-first-ok : (k : ℕ) (line : List (List ℕ)) (rest : List (List (List ℕ))) (z : List (List ℕ)) (zs : List (List (List ℕ))) → rest ≡ z ∷ zs
+pub first-ok : (k : ℕ) (line : List (List ℕ)) (rest : List (List (List ℕ))) (z : List (List ℕ)) (zs : List (List (List ℕ))) → rest ≡ z ∷ zs
     → first_line k (line ∷ rest) ≡ Ok (line, record { line = next_number k; lines = rest })
 first-ok k line rest z zs e = rw e refl
 

@@ -59,7 +59,7 @@ row-at k xs = at-unless k (
     ∷ []) xs (refl, (refl, (refl, (refl, tt))))
 
 -- one of two items, by the word in front
-either-at : {A : Type 0} (k : ℕ) (t : Bool) (x y : Result A Refusal × List (List ℕ)) → At k x.0 → At k y.0 → At k (cond t x y).0
+pub either-at : {A : Type 0} (k : ℕ) (t : Bool) (x y : Result A Refusal × List (List ℕ)) → At k x.0 → At k y.0 → At k (cond t x y).0
 either-at k true x y p q = p
 either-at k false x y p q = q
 
@@ -91,7 +91,7 @@ judges-handoff ring k = judges-⊗ k (declared_at ring k) (pair_at k) (judges-de
 said : {A : Type 0} (k : ℕ) (f : A → SaidEvent) (item : Item A) → Judges k item → (fields : List (List ℕ)) → At k (map_item f item fields).0
 said k f item p fields = (judges-map k f item p).at fields
 
-judges-kind : (ring : RingValue) (names : List (List ℕ)) (k : ℕ) → Judges k (kind_at ring names k)
+pub judges-kind : (ring : RingValue) (names : List (List ℕ)) (k : ℕ) → Judges k (kind_at ring names k)
 unfolding kind_at
 judges-kind ring names k = record { at = at }
   where

@@ -51,7 +51,7 @@ others-plain : IsPlain (codes "ack") × IsPlain (codes "get") × IsPlain (codes 
 others-plain = (search rules)
 
 -- numbers are plain
-count-plain : (n : ℕ) → IsCount n → IsPlain (decimal n)
+pub count-plain : (n : ℕ) → IsCount n → IsPlain (decimal n)
 count-plain n le = decimal-plain n (omega arith)
 
 -- bytes of names are plain
@@ -71,11 +71,11 @@ seen-plain [] p = tt
 seen-plain (g ∷ gs) p = (words-plain.3, numbers-plain (g ∷ gs) p.counts)
 
 -- the nodes of a ring have names that can be told apart
-names-of : (ring : RingValue) → IsRing ring → AreNames (names_of ring)
+pub names-of : (ring : RingValue) → IsRing ring → AreNames (names_of ring)
 names-of ring r = names-of_nodes ring.format ring.nodes (record { some_node = r.some_node; nodes = r.nodes; each_node = r.each_node; names = r.names })
 
 -- lines behind lines
-both-all : (xs ys : List (List (List ℕ))) → AllByRecursion IsPlainLine xs → AllByRecursion IsPlainLine ys → AllByRecursion IsPlainLine (xs ++ ys)
+pub both-all : (xs ys : List (List (List ℕ))) → AllByRecursion IsPlainLine xs → AllByRecursion IsPlainLine ys → AllByRecursion IsPlainLine (xs ++ ys)
 both-all [] ys a b = b
 both-all (x ∷ xs) ys a b = (a.0, both-all xs ys a.1 b)
 
@@ -85,7 +85,7 @@ module _ (ring : RingValue) (nodes : AreNames (names_of ring)) where
   named x = name_at-plain (names_of ring) x nodes.each
 
   -- an event's line is plain
-  event-plain : (names : List (List ℕ)) (e : Event) → AreWriters names → IsEvent e → IsKnown (length (names_of ring)) (length names) e
+  pub event-plain : (names : List (List ℕ)) (e : Event) → AreWriters names → IsEvent e → IsKnown (length (names_of ring)) (length names) e
       → IsPlainLine (event_fields (names_of ring) names e)
   event-plain names (event.Do s) good is known = (kinds-plain.0, (count-plain s is, tt))
   event-plain names (event.OpenCopy s) good is known = (kinds-plain.1, (count-plain s is, tt))
@@ -106,7 +106,7 @@ module _ (ring : RingValue) (nodes : AreNames (names_of ring)) where
   event-plain names (event.Lose x) good is known = (others-plain.7, (named x, tt))
 
   -- events' lines are plain
-  events-plain : (names : List (List ℕ)) (es : List Event) → AreWriters names → AllByRecursion IsEvent es → AreKnown ring names es
+  pub events-plain : (names : List (List ℕ)) (es : List Event) → AreWriters names → AllByRecursion IsEvent es → AreKnown ring names es
       → AllByRecursion IsPlainLine (map (event_fields (names_of ring) names) es)
   events-plain names [] good is known = tt
   events-plain names (e ∷ es) good is known = (event-plain names e good is.0 known.0, events-plain names es good is.1 known.1)
@@ -126,7 +126,7 @@ module _ (ring : RingValue) (nodes : AreNames (names_of ring)) where
   body v = map (event_fields (names_of ring) v.1) v.0
 
   -- the parts of a script, put together
-  valid-of : (old names : List (List ℕ)) (es : List Event) → length es ≤ 1000000 → AreWriters names → IsRest ring old names es → IsScriptOf ring old names es
+  pub valid-of : (old names : List (List ℕ)) (es : List Event) → length es ≤ 1000000 → AreWriters names → IsRest ring old names es → IsScriptOf ring old names es
   valid-of old names es few good r = record {
     few = few;
     events = r.each;
@@ -138,7 +138,7 @@ module _ (ring : RingValue) (nodes : AreNames (names_of ring)) where
   }
 
   -- and taken apart
-  of-valid : (old names : List (List ℕ)) (es : List Event) → IsScriptOf ring old names es → IsRest ring old names es
+  pub of-valid : (old names : List (List ℕ)) (es : List Event) → IsScriptOf ring old names es → IsRest ring old names es
   of-valid old names es p = record { each = p.events; known = p.known; grown = p.grown; seen = p.seen; ordered = p.ordered }
 
   -- a script's events are read from just their lines

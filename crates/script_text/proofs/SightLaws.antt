@@ -205,7 +205,7 @@ behind-writers ring (x ∷ xs) seen names good each = behind-writers ring xs (se
     (after-writers names x good each.0.said.writer) each.1
 
 -- later writers change no line in front of them
-fields-more : (nodes names more : List (List ℕ)) (n : ℕ) (e : Event) → IsKnown n (length names) e
+pub fields-more : (nodes names more : List (List ℕ)) (n : ℕ) (e : Event) → IsKnown n (length names) e
     → event_fields nodes (names ++ more) e ≡ event_fields nodes names e
 fields-more nodes names more n (event.StartPut w key value gets) p = rw (writer-more names more w p) refl
 fields-more nodes names more n e p = refl

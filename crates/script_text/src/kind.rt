@@ -10,9 +10,10 @@ use ring_names::{Names, Refusal, Slot};
 use ring_table::{Ring, node_field};
 use texts::Fields;
 
-/// What the event is, behind the writers seen. Takes no memory.
+/// Takes what an event's line says, behind the writers seen: a field that is none is `BadLine`, a number above 4,294,967,295, more than 16 gets that a put
+/// knows and a new writer behind 1,024 are `TooLarge`, and of several faults the one of the lesser number decides. Takes no memory.
 #[tactic(auto, unfolding(crate::specs::Reading::kind_at))]
-pub fn kind<'a>(
+pub fn said_event<'a>(
     ring: &Ring,
     names: &Names,
     fields: &mut Fields<'a>,

@@ -12,6 +12,9 @@ mod taken;
 mod words;
 mod writing;
 
+pub use kind::said_event;
 pub use reading::{read_client_section, read_script, read_script_section};
+pub use said::SaidEvent;
 pub use script::Script;
+pub use taken::keep_event;
 pub use writing::{push_event, write_script};

@@ -13,7 +13,7 @@ ghost use Rattle.script_text.specs.Reading.{said_at, heard_at, events_from, even
 ghost use Rattle.script_text.specs.Spelling.{script_text};
 ghost use Rattle.script_text.specs.Valid.{AreWriters, IsScriptOf};
 
-use crate::kind::kind;
+use crate::kind::said_event;
 use crate::said::SaidEvent;
 use crate::script::Script;
 use crate::speaker::Speaker;
@@ -34,7 +34,7 @@ fn judge_line<'a>(
     ensures { result ≡ said_at ring.now script.now names.now fields.entry.number fields.entry.fields }
 {
     let room = need(script.len() < 1000000, &fields);
-    let said = kind(ring, names, &mut fields);
+    let said = said_event(ring, names, &mut fields);
     let (_, said) = finish(both(room, said), fields)?;
     Ok(said)
 }

@@ -42,8 +42,9 @@ fn to_put(alloc: Global, names: &mut Names, put: SaidPut) -> Result<Event, Refus
     Ok(Event::StartPut(writer, key, value, seen))
 }
 
-// The event, in memory of its own.
-fn to_event(alloc: Global, names: &mut Names, said: SaidEvent) -> Result<Event, Refusal>
+/// The event that a line says, in memory of its own. A new writer is added behind those known, and the event names it by its number.
+/// Its only refusal is `OutOfMemory`; then the writer may have been added.
+pub fn keep_event(alloc: Global, names: &mut Names, said: SaidEvent) -> Result<Event, Refusal>
     requires { Fits names.old said }
     ensures ok { IfOk result (λ event. event ≡ event_of names.old said.entry) }
     ensures names { OnOk result (names.new ≡ names_after names.old said.entry) }
@@ -85,6 +86,6 @@ pub fn add(
     ensures grows { OnOk result (length script.new ≡ length script.old + 1) }
     ensures memory { IfErr result (λ e. e ≡ OutOfMemory) }
 {
-    let event = to_event(alloc, names, said)?;
+    let event = keep_event(alloc, names, said)?;
     script.push(event)
 }

@@ -1,11 +1,15 @@
 //! Runs the program on the bundles that its arguments name, and prints the name, the answer and the exit status of each. The words
-//! `check`, `migrate`, `play`, `plan` and `drive` among them say which subcommand is meant from there on, at first `check`; `report` means a drive
+//! `check`, `migrate`, `play`, `plan`, `drive` and `replay` among them say which subcommand is meant from there on, at first `check`; `report` means a drive
 //! whose report is printed, and `race` one by three workers, of which the first line is printed, since the others are left to chance. Of a bundle that is
 //! accepted, no first part may be: how many are is printed where it is not none. A check is also made by 1, 3 and 64 workers: how many of them
-//! say otherwise is printed where it is not none.
+//! say otherwise is printed where it is not none. Of each play the history of its answered events is replayed, and that history with a fault at
+//! each place: of how many a replay says otherwise than the play does is printed where it is not none.
 #![tactic(auto)]
 
-use ringplan_run::{check_bundle, plan_bundle, play_bundle, run};
+mod histories;
+
+use crate::histories::others;
+use ringplan_run::{check_bundle, plan_bundle, play_bundle, replay_bundle, run};
 use std::alloc::Global;
 use std::fs::File;
 use std::io::Write;
@@ -24,6 +28,7 @@ enum Asked {
     Drive,
     Report,
     Race,
+    Replay,
 }
 
 fn main(rt: HostRuntime) -> io::Result<()> {
@@ -37,6 +42,7 @@ fn main(rt: HostRuntime) -> io::Result<()> {
             "drive" => asked = Asked::Drive,
             "report" => asked = Asked::Report,
             "race" => asked = Asked::Race,
+            "replay" => asked = Asked::Replay,
             name => show(&rt, asked, name)?,
         }
     }
@@ -117,6 +123,7 @@ fn show<RT: Runtime + AllocGlobal + Threads + Wait + Sync>(
     }
     match asked {
         Asked::Check => check_workers(rt, path.as_str(), &said),
+        Asked::Play if status == 0 => check_histories(rt, path.as_str(), text),
         _ => Ok(()),
     }
 }
@@ -129,6 +136,7 @@ fn subcommand(asked: Asked) -> &'static str {
         Asked::Play => "play",
         Asked::Plan => "plan",
         Asked::Drive | Asked::Report | Asked::Race => "drive",
+        Asked::Replay => "replay",
     }
 }
 
@@ -140,6 +148,7 @@ fn accepts(alloc: Global, asked: Asked, front: &[u8]) -> bool {
         Asked::Migrate | Asked::Drive | Asked::Report | Asked::Race => false,
         Asked::Play => play_bundle(alloc, front).is_ok(),
         Asked::Plan => plan_bundle(alloc, front).is_ok(),
+        Asked::Replay => replay_bundle(alloc, front).is_ok(),
     }
 }
 
@@ -172,6 +181,17 @@ fn check_workers<RT: Runtime + AllocGlobal + Threads + Wait + Sync>(
     }
     if others > 0 {
         println!(rt; "{others} numbers of workers say otherwise")?;
+    }
+    Ok(())
+}
+
+// Says of how many histories of the play a replay says otherwise than it should, if it does of some.
+fn check_histories<RT: Runtime + AllocGlobal>(rt: &RT, path: &str, output: &str) -> io::Result<()> {
+    let bundle = fs::read(rt, path)?;
+    let text = str::from_utf8(bundle.as_slice()).unwrap_or("");
+    let others = others(rt.alloc(), text, output)?;
+    if others > 0 {
+        println!(rt; "{others} histories are judged otherwise")?;
     }
     Ok(())
 }

@@ -4,8 +4,9 @@ ghost use Rattle.std.specs.Prelude.{◌≡◌, ◌≤◌};
 
 use crate::executors::{CHAINS, MOVE, RING, approved, two};
 use plan_check::{Approved, Entry, Event, Key, Reply, Seen};
-use ring_exec::{Executor, Receipt, RunLedger, Share};
+use ring_exec::{Executor, RunLedger, Share};
 use ring_names::{NodeId, Refusal, Slot, Value, WriterId};
+use ring_receipts::Receipt;
 use std::alloc::{AllocError, Global};
 use std::marker::Brand;
 use std::process::Abort;
@@ -49,8 +50,8 @@ fn submit<'a, L: RunLedger, R: Wait>(
     Ok(number)
 }
 
-// The start of a put of the key `a` that knows no get.
-fn a_put(alloc: Global, writer: WriterId) -> Result<Event, Refusal> {
+/// The start of a put of the key `a` that knows no get.
+pub fn a_put(alloc: Global, writer: WriterId) -> Result<Event, Refusal> {
     let Some(seen) = Seen::of(Vec::new(alloc)) else {
         return Err(Refusal::Disagree);
     };
@@ -63,8 +64,8 @@ fn a_put(alloc: Global, writer: WriterId) -> Result<Event, Refusal> {
     }
 }
 
-// The start of a get of the key `a`.
-fn a_get(alloc: Global) -> Result<Event, Refusal> {
+/// The start of a get of the key `a`.
+pub fn a_get(alloc: Global) -> Result<Event, Refusal> {
     match Key::of(Vec::from_slice(alloc, b"a")?) {
         Some(key) => Ok(Event::StartGet(key)),
         None => Err(Refusal::Disagree),

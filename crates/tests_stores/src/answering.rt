@@ -160,8 +160,8 @@ fn events_answered<RT: AllocGlobal + Abort>(
     Ok(())
 }
 
-// The script of a text, without the names of its writers.
-fn script_of(alloc: Global, ring: &Ring, text: &[u8]) -> Result<Script, Refusal> {
+/// The script of a text, without the names of its writers.
+pub fn script_of(alloc: Global, ring: &Ring, text: &[u8]) -> Result<Script, Refusal> {
     let mut names = Names::new(alloc);
     read_script(alloc, ring, &mut names, text)
 }

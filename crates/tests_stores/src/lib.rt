@@ -5,6 +5,10 @@
 #[cfg(test)]
 mod answering;
 #[cfg(test)]
+mod histories;
+#[cfg(test)]
+mod replays;
+#[cfg(test)]
 mod scripts;
 #[cfg(test)]
 mod worlds;

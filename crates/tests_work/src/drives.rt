@@ -4,140 +4,18 @@ ghost use Rattle.std.specs.Prelude.{◌≡◌, ◌<◌, ◌≤◌, true, IfOk};
 ghost use Rattle.std.specs.List.{list_all};
 ghost use Rattle.script_text.specs.Client.{is_client_event};
 
+use crate::came::{Came, broken_one, drive_one, well};
 use crate::inputs::{
     FOUR, JOIN, NO_CHAINS, NOTHING, RING, SILENCE, TWO_CHAINS, TWO_COPIES, approved, ring, script,
 };
 use crate::turnstile::Turnstile;
-use plan_check::{Approved, Entry, Event, Gate, OpenGate};
-use ring_core::World;
+use plan_check::{Event, Gate, OpenGate};
 use ring_names::{NodeId, Refusal};
-use ring_receipts::{Outcome, agrees};
-use ring_work::drive;
 use script_text::Script;
 use std::alloc::Global;
-use std::slice;
 use std::sync::Wait;
 use std::test::Fail;
 use std::thread::Threads;
-
-// The most puts and gets of a history that a store is asked about.
-const MOST: u32 = 1000;
-
-/// What came of a drive: how many entries its history has, how many lists of receipts there are, whether the judge says that they are its threads', and
-/// whether a store answers each entry's event as the entry says.
-#[derive(Clone, Copy, Debug, PartialEq, Eq)]
-struct Came {
-    entries: usize,
-    lists: usize,
-    agrees: bool,
-    replays: bool,
-}
-
-// What a drive that ends well came to.
-const fn well(entries: usize, lists: usize) -> Came {
-    Came {
-        entries,
-        lists,
-        agrees: true,
-        replays: true,
-    }
-}
-
-// Whether the store answers the entry's event with its reply.
-#[tactic(auto, using(ring_core::proofs::SoundAfterEvent::has_number))]
-fn is_answered(alloc: Global, world: &mut World, entry: &Entry) -> Result<bool, Refusal> {
-    if world.puts() >= MOST || world.gets() >= MOST {
-        return Err(Refusal::HistoryFull);
-    }
-    let reply = world.apply(&entry.event)?;
-    let mut given = Vec::new(alloc);
-    let mut noted = Vec::new(alloc);
-    reply.write_text(&mut given)?;
-    entry.reply.write_text(&mut noted)?;
-    Ok(given.as_slice() == noted.as_slice())
-}
-
-// Whether it answers all of them so, one behind the other.
-fn are_answered(alloc: Global, world: &mut World, history: &[Entry]) -> Result<bool, Refusal> {
-    for entry in history {
-        if !is_answered(alloc, world, entry)? {
-            return Ok(false);
-        }
-    }
-    Ok(true)
-}
-
-// The same from the first event on.
-fn replays(alloc: Global, approved: &Approved, history: &[Entry]) -> Result<bool, Refusal> {
-    let mut world = World::start(alloc, approved)?;
-    are_answered(alloc, &mut world, history)
-}
-
-// What the outcome of a drive is.
-fn told(
-    alloc: Global,
-    approved: &Approved,
-    script: &Script,
-    workers: u32,
-    outcome: &Outcome,
-) -> Result<Came, Refusal> {
-    let agrees = agrees(alloc, approved, slice::from_ref(script), workers, outcome)?;
-    let replays = replays(alloc, approved, outcome.history.as_slice())?;
-    Ok(Came {
-        entries: outcome.history.len(),
-        lists: outcome.receipts.len(),
-        agrees,
-        replays,
-    })
-}
-
-// A drive of the plan with one script; its refusal, where it breaks off.
-fn drive_one<RT: AllocGlobal + Threads + Wait + Sync, G: Gate + Sync>(
-    rt: &RT,
-    approved: &Approved,
-    script: &Script,
-    workers: u32,
-    gate: &G,
-) -> Result<Came, Refusal>
-    requires workers { (0 < workers) × (workers ≤ 64) }
-    requires client { list_all is_client_event script.now ≡ true }
-{
-    match drive(
-        rt,
-        rt.alloc(),
-        approved,
-        slice::from_ref(script),
-        workers,
-        gate,
-    ) {
-        Ok(outcome) => told(rt.alloc(), approved, script, workers, &outcome),
-        Err(fault) => Err(fault.refusal),
-    }
-}
-
-// How long the history is with which it breaks off, and why it does; nothing where it does not.
-fn broken_one<RT: AllocGlobal + Threads + Wait + Sync, G: Gate + Sync>(
-    rt: &RT,
-    approved: &Approved,
-    script: &Script,
-    workers: u32,
-    gate: &G,
-) -> Option<(usize, Refusal)>
-    requires workers { (0 < workers) × (workers ≤ 64) }
-    requires client { list_all is_client_event script.now ≡ true }
-{
-    match drive(
-        rt,
-        rt.alloc(),
-        approved,
-        slice::from_ref(script),
-        workers,
-        gate,
-    ) {
-        Ok(_) => None,
-        Err(fault) => Some((fault.history.len(), fault.refusal)),
-    }
-}
 
 // A ring, a plan of it, its certificate and a script.
 #[derive(Clone, Copy)]
@@ -249,18 +127,6 @@ fn nodes_that_stay_down(rt: HostRuntime) {
     let script = b"script 1\ndown b\ndown c\nput w1 a x31\nget a\nput w1 a x32 seen 0\nend\n";
     let came = drive_texts(&rt, still(RING, script), 1, &OpenGate);
     assert_eq!(rt; came, Ok(well(69, 3)));
-}
-
-#[test]
-fn a_mirror_that_waits_for_a_handoff(rt: HostRuntime) {
-    let texts = Texts {
-        ring: FOUR,
-        plan: b"plan 1\nmirror 0 2 d\ncopy 0 2 owner after 0\nswitch 0 2 after 1\nend\n",
-        cert: b"cert 1\nchain c 1\nchain d 1\nend\n",
-        script: b"script 1\ndown b\nput w1 a x31\nup b\nend\n",
-    };
-    let came = drive_texts(&rt, texts, 1, &OpenGate).map(|came| (came.agrees, came.replays));
-    assert_eq!(rt; came, Ok((true, true)));
 }
 
 // A node that goes down and comes up, as often as a script may say.

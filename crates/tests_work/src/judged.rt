@@ -2,9 +2,8 @@
 
 use crate::inputs::{JOIN, NO_CHAINS, RING, SILENCE, approved, ring, script};
 use plan_check::{Approved, Entry, Event, Reply};
-use ring_exec::Receipt;
 use ring_names::{Listed, NodeId, Refusal};
-use ring_receipts::{Outcome, agrees};
+use ring_receipts::{Outcome, Receipt, agrees};
 use script_text::Script;
 use std::alloc::{AllocError, Global};
 use std::slice;

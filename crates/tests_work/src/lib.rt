@@ -3,10 +3,16 @@
 #![tactic(auto)]
 
 #[cfg(test)]
+mod came;
+#[cfg(test)]
 mod drives;
+#[cfg(test)]
+mod half;
 #[cfg(test)]
 mod inputs;
 #[cfg(test)]
 mod judged;
 #[cfg(test)]
 mod turnstile;
+#[cfg(test)]
+mod waiting;

@@ -1,6 +1,7 @@
-//! A gate that holds threads until others have come.
+//! Gates that hold threads until others have come.
 
 use plan_check::Gate;
+use std::sync::atomic::{AtomicBool, Ordering};
 use std::sync::{Mutex, Wait};
 use std::thread;
 
@@ -45,5 +46,53 @@ impl Gate for Turnstile {
             thread::yield_now();
         }
         false
+    }
+}
+
+/// Holds a worker until a client has come to that line, for at most a million looks.
+#[derive(Drop)]
+pub struct Behind {
+    come: AtomicBool,
+    line: u64,
+}
+
+impl Behind {
+    pub fn new(line: u64) -> Behind {
+        Behind {
+            come: AtomicBool::new(false),
+            line,
+        }
+    }
+
+    // Notes that a client has come to this line.
+    fn note(&self, line: u64) {
+        if line >= self.line {
+            self.come.store(true, Ordering::SeqCst);
+        }
+    }
+
+    // Whether a client came to the line while it was looked for.
+    fn is_met(&self) -> bool {
+        for _ in 0..1_000_000 {
+            if self.come.load(Ordering::SeqCst) {
+                return true;
+            }
+            thread::yield_now();
+        }
+        false
+    }
+}
+
+impl Gate for Behind {
+    ghost may_refuse = { λ gate worker mark. Unit {0} };
+
+    ghost must_refuse = { λ gate worker mark. ⊥ };
+
+    fn pass<R: Wait>(&self, _rt: &R, worker: u32, mark: u64) -> bool {
+        if worker < 64 {
+            return self.is_met();
+        }
+        self.note(mark);
+        true
     }
 }

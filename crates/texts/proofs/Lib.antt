@@ -15,3 +15,4 @@ pub mod Measured
 pub mod Firsts
 pub mod InFront
 pub mod Faults
+pub mod Halves

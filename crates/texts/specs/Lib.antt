@@ -9,3 +9,4 @@ pub mod Judging
 pub mod KeptRow
 pub mod Late
 pub mod Frames
+pub mod Cuts

@@ -2,6 +2,7 @@
 
 ghost use Rattle.std.specs.Prelude.{◌≡◌, ◌∷◌, [], MatchOption};
 ghost use Rattle.texts.specs.Parts.{fields_of};
+ghost use Rattle.texts.specs.Cuts.{front_of, behind_of};
 
 use crate::cut::cut_near;
 use std::marker::Model;
@@ -37,5 +38,33 @@ impl<'a> Cursor<'a> {
         let (field, rest) = cut_near(rest, b' ');
         self.rest = rest;
         Some(field)
+    }
+
+    /// The parts in front of the first that is this word, and those behind it, where there is one.
+    pub fn split(self, word: &[u8]) -> (Cursor<'a>, Option<Cursor<'a>>)
+        ensures front { result.0 ≡ front_of word.now self.entry }
+        ensures behind { result.1 ≡ behind_of word.now self.entry }
+    {
+        let Some(bytes) = self.rest else {
+            return (Cursor { rest: None }, None);
+        };
+        let mut front = None;
+        let mut start = 0;
+        for at in 0..bytes.len() {
+            if bytes[at] == b' ' {
+                if &bytes[start..at] == word {
+                    let behind = Cursor {
+                        rest: Some(&bytes[at + 1..]),
+                    };
+                    return (Cursor { rest: front }, Some(behind));
+                }
+                front = Some(&bytes[..at]);
+                start = at + 1;
+            }
+        }
+        if &bytes[start..] == word {
+            return (Cursor { rest: front }, Some(Cursor { rest: None }));
+        }
+        (self, None)
     }
 }

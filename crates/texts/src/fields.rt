@@ -2,6 +2,7 @@
 
 ghost use Rattle.std.specs.Prelude.{◌≡◌, ◌∷◌, [], drop, option_map, is_some, MatchOption};
 ghost use Rattle.texts.specs.Parts.{fields_of};
+ghost use Rattle.texts.specs.Cuts.{front_of, behind_of};
 ghost use Rattle.texts.specs.Judging.{Does, word_at, number_at, end_at};
 ghost use Rattle.texts.specs.Number.{capped};
 ghost use Rattle.texts.specs.Numbers.{numbers_of, beyond, first_value};
@@ -108,6 +109,20 @@ impl<'a> Fields<'a> {
         match self.next() {
             None => Ok(()),
             Some(_) => Err(Refusal::BadLine(self.line)),
+        }
+    }
+
+    /// The fields in front of the first that is this word, and those behind it, where there is one.
+    pub fn split(self, word: &[u8]) -> (Fields<'a>, Option<Fields<'a>>)
+        ensures front { result.0 ≡ record { number = self.entry.number; fields = front_of word.now self.entry.fields } }
+        ensures behind { result.1 ≡ option_map (λ fs. record { number = self.entry.number; fields = fs }) (behind_of word.now self.entry.fields) }
+    {
+        let line = self.line;
+        let (front, behind) = self.rest.split(word);
+        let front = Fields { line, rest: front };
+        match behind {
+            Some(rest) => (front, Some(Fields { line, rest })),
+            None => (front, None),
         }
     }
 }

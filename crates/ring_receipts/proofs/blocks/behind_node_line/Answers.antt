@@ -1,6 +1,6 @@
 use Rattle.std.proofs.Common.{rules, ◌≡◌, ◌∙◌, ◌∷◌, length, sym, ap, arith}
 use Rattle.std.proofs.lemmas.Bool.{true≢false}
-use Rattle.ring_exec.specs.declared.receipt.Receipt.{Receipt}
+use Rattle.ring_receipts.specs.declared.receipt.Receipt.{Receipt}
 use Rattle.ring_receipts.proofs.Fronts.{heads}
 use Rattle.ring_receipts.proofs.NodeLines.{node_there, node_not_there}
 use Rattle.ring_receipts.proofs.blocks.behind_node_line.Goals as goal

@@ -3,7 +3,7 @@ use Rattle.std.proofs.lemmas.Bool.{true≢false}
 use Rattle.std.proofs.lemmas.Grind.{common_steps}
 use Rattle.std.specs.Prelude.{◌↔◌, IsTrue}
 use Rattle.std.specs.List.{list_any}
-use Rattle.ring_exec.specs.declared.receipt.Receipt.{Receipt}
+use Rattle.ring_receipts.specs.declared.receipt.Receipt.{Receipt}
 use Rattle.ring_receipts.specs.Finishing.{AreBy, AreAllBy, has_end}
 use Rattle.ring_receipts.proofs.Ends.{told_all, none_left}
 use Rattle.ring_receipts.proofs.finishing.are_finishers.Goals as goal

@@ -1,6 +1,6 @@
 use Rattle.std.proofs.Common.{rules, refl, eq-eqb}
 use Rattle.plan_check.specs.declared.event.Event.TheVariants.{Ack}
-use Rattle.ring_exec.specs.declared.receipt.Receipt.{Receipt}
+use Rattle.ring_receipts.specs.declared.receipt.Receipt.{Receipt}
 use Rattle.ring_receipts.specs.Kinds.{sends, acknowledges}
 use Rattle.ring_work.proofs.Growing.{grows_not, grows_on, completes_by, completes_not}
 use Rattle.ring_work.proofs.putting.send_rounds.Goals as goal

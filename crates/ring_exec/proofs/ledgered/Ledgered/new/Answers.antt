@@ -3,7 +3,7 @@ use Rattle.plan_check.specs.World.{opening_world}
 use Rattle.plan_check.specs.declared.event.Entry.{Entry}
 use Rattle.ring_table.specs.Value.{RingValue}
 use Rattle.ring_core.specs.World.{Meets}
-use Rattle.ring_exec.specs.Ledgers.{Replays}
+use Rattle.ring_replay.specs.Replays.{Replays}
 use Rattle.ring_exec.proofs.Histories.{replays_none}
 use Rattle.ring_exec.proofs.ledgered.Ledgered.new.Goals as goal
 

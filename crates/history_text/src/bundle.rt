@@ -1,0 +1,64 @@
+//! Bundles of a replay.
+
+ghost use Rattle.std.specs.Prelude.{◌≡◌, IfOk, IfErr};
+ghost use Rattle.ring_names.specs.declared.refusal.Refusal.TheVariants.{OutOfMemory};
+ghost use Rattle.texts.specs.Judging.{Gives, map_ok};
+ghost use Rattle.texts.specs.Left.{Reads, whole_text};
+ghost use Rattle.texts.specs.Late.{Late, NoFaultBefore};
+ghost use Rattle.history_text.specs.Replays.{parts_of, replay_at, IsReplay};
+
+use crate::reading::read_history_section;
+use plan_cert::{Cert, read_cert_section};
+use plan_check::Entry;
+use plan_text::{Plan, read_plan_section};
+use ring_names::{Names, Refusal};
+use ring_table::{Ring, read_ring_section};
+use std::alloc::Global;
+use texts::Lines;
+
+/// A ring, a plan of it, the plan's certificate, and a history with the names of its writers, by number.
+#[derive(Drop)]
+pub struct ReplayBundle {
+    pub ring: Ring,
+    pub plan: Plan,
+    pub cert: Cert,
+    pub writers: Names,
+    pub history: Vec<Entry>,
+}
+
+// The parts of a bundle. A ring's fault comes before a plan's, that before a certificate's, and that before the history's.
+#[tactic(auto, unfolding(crate::specs::Replays::replay_at))]
+fn read_parts(alloc: Global, lines: &mut Lines) -> Result<ReplayBundle, Refusal>
+    ensures read { Reads (map_ok parts_of result) lines.new (replay_at lines.old) }
+    ensures parts { IfOk result IsReplay }
+    ensures late { Late 4 result lines.old lines.new (replay_at lines.old) }
+{
+    let ring = read_ring_section(alloc, lines)?;
+    let plan = read_plan_section(alloc, &ring, lines)?;
+    let cert = read_cert_section(alloc, &ring, lines)?;
+    let mut writers = Names::new(alloc);
+    let history = read_history_section(alloc, &ring, &mut writers, lines)?;
+    Ok(ReplayBundle {
+        ring,
+        plan,
+        cert,
+        writers,
+        history,
+    })
+}
+
+/// The parts of a replay's bundle, and nothing behind them: a ring's text, and behind it a plan's, a certificate's and a history's. Writers are
+/// numbered in order of first sight. The first line at fault decides, and is refused as the reader of its part refuses it; a line behind the
+/// history is `BadLine`. `OutOfMemory` comes only where memory ran out, behind the first four lines of the ring.
+pub fn read_replay(alloc: Global, bytes: &[u8]) -> Result<ReplayBundle, Refusal>
+    // Which bundle it is, by its parts, or which fault.
+    ensures read { Gives (map_ok parts_of result) (whole_text replay_at bytes.now) }
+    ensures parts { IfOk result IsReplay }
+    // Memory may run out only if the first four lines have no fault.
+    ensures late { IfErr result (λ e. e ≡ OutOfMemory → NoFaultBefore 5 (whole_text replay_at bytes.now)) }
+{
+    let mut lines = Lines::of(bytes);
+    let bundle = read_parts(alloc, &mut lines)?;
+    lines.ended()?;
+    Ok(bundle)
+}

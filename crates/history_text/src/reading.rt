@@ -1,0 +1,140 @@
+//! Reading a history.
+
+ghost use Rattle.std.specs.Prelude.{◌≡◌, ◌≤◌, List, ℕ, [], length, Ok, IfOk, IfErr, OnOk};
+ghost use Rattle.ring_names.specs.declared.refusal.Refusal.TheVariants.{OutOfMemory};
+ghost use Rattle.texts.specs.Left.{Reads};
+ghost use Rattle.texts.specs.Late.{Late, NoFaultBefore};
+ghost use Rattle.texts.specs.Judging.{Gives, map_ok};
+ghost use Rattle.plan_check.specs.declared.event.Entry.{Entry};
+ghost use Rattle.script_text.specs.Valid.{AreWriters};
+ghost use Rattle.history_text.specs.Spelling.{history_text};
+ghost use Rattle.history_text.specs.Reading.{entries_from, entries_at, history_at, history_reading};
+ghost use Rattle.history_text.specs.Valid.{IsHistoryOf};
+
+use crate::lines::{add, entry_line};
+use plan_check::Entry;
+use ring_names::{Names, Refusal};
+use ring_table::Ring;
+use std::alloc::Global;
+use texts::{Lines, end, header};
+
+// Reads entries behind those of the history, up to a line that begins with `end`.
+fn read_into(
+    alloc: Global,
+    ring: &Ring,
+    writers: &mut Names,
+    seen: &mut Vec<Entry>,
+    lines: &mut Lines,
+) -> Result<(), Refusal>
+    requires none { seen.old.items ≡ [] }
+    ensures read { Reads (map_ok (λ _. (seen.new.items, writers.new)) result) lines.new (entries_from ring.now seen.old.items writers.old lines.old.line lines.old.lines) }
+    ensures few { OnOk result (length seen.new.items ≤ 1000000) }
+    ensures late { Late 1 result lines.old lines.new (entries_from ring.now seen.old.items writers.old lines.old.line lines.old.lines) }
+{
+    'entries: while !lines.begins(b"end") {
+        let fields = lines.next()?;
+        let said = entry_line(ring, writers, seen.as_slice(), fields)?;
+        add(alloc, writers, seen, said)?;
+    }
+    Ok(())
+}
+
+// Reads the entries of a history.
+#[tactic(auto, unfolding(crate::specs::Reading::entries_at))]
+fn read_entries(
+    alloc: Global,
+    ring: &Ring,
+    writers: &mut Names,
+    lines: &mut Lines,
+) -> Result<Vec<Entry>, Refusal>
+    ensures read { Reads (map_ok (λ h. (h.items, writers.new)) result) lines.new (entries_at ring.now writers.old lines.old) }
+    ensures few { IfOk result (λ h. length h.items ≤ 1000000) }
+    ensures late { Late 1 result lines.old lines.new (entries_at ring.now writers.old lines.old) }
+{
+    let mut history = Vec::new(alloc);
+    read_into(alloc, ring, writers, &mut history, lines)?;
+    Ok(history)
+}
+
+// Reads the lines of a history.
+#[tactic(auto, unfolding(crate::specs::Reading::history_at))]
+fn read_parts(
+    alloc: Global,
+    ring: &Ring,
+    writers: &mut Names,
+    lines: &mut Lines,
+) -> Result<Vec<Entry>, Refusal>
+    ensures read { Reads (map_ok (λ h. (h.items, writers.new)) result) lines.new (history_at ring.now writers.old lines.old) }
+    ensures few { IfOk result (λ h. length h.items ≤ 1000000) }
+    ensures late { Late 2 result lines.old lines.new (history_at ring.now writers.old lines.old) }
+{
+    header(lines, b"history", b"1")?;
+    let history = read_entries(alloc, ring, writers, lines)?;
+    end(lines)?;
+    Ok(history)
+}
+
+/// Reads the lines of a history, up to its line `end`, and leaves what follows them. New writers are added behind those that were seen.
+/// Refused as `read_history` is; then some of the new writers may have been added.
+pub fn read_history_section(
+    alloc: Global,
+    ring: &Ring,
+    writers: &mut Names,
+    lines: &mut Lines,
+) -> Result<Vec<Entry>, Refusal>
+    ensures read { Reads (map_ok (λ h. (h.items, writers.new)) result) lines.new (history_at ring.now writers.old lines.old) }
+    // What is read is a history over the ring, if the writers that were seen are at most 1,024 names.
+    ensures found { IfOk result (λ h. AreWriters writers.old → IsHistoryOf ring.now writers.old writers.new h.items) }
+    ensures few { IfOk result (λ h. length h.items ≤ 1000000) }
+    // Memory may run out behind its first two lines, if these have no fault, and later only behind lines that have none.
+    ensures late { Late 2 result lines.old lines.new (history_at ring.now writers.old lines.old) }
+{
+    // A ring is valid, which the prover knows once a number of it is read.
+    let slots = ring.n();
+    prove!(slots <= 7);
+    read_parts(alloc, ring, writers, lines)
+}
+
+// Reads a history from its whole text.
+fn read_whole(
+    alloc: Global,
+    ring: &Ring,
+    writers: &mut Names,
+    text: &[u8],
+) -> Result<Vec<Entry>, Refusal>
+    ensures exact { Gives (map_ok (λ h. (h.items, writers.new)) result) (history_reading ring.now writers.old text.now) }
+    ensures late { IfErr result (λ e. e ≡ OutOfMemory → NoFaultBefore 3 (history_reading ring.now writers.old text.now)) }
+{
+    let mut lines = Lines::of(text);
+    let history = read_history_section(alloc, ring, writers, &mut lines)?;
+    lines.ended()?;
+    Ok(history)
+}
+
+/// Reads a history from its one text. New writers are added behind those that were seen, in order of first sight.
+/// A line that is none of a history's is `BadLine`: among others one without a field `=`, or one that has fields behind its reply's. A number
+/// above 4,294,967,295, an entry past 1,000,000, a new writer behind 1,024 and more than 16 gets that a put knows are `TooLarge`, and a node that
+/// the ring does not declare is `UnknownNode`. The first line at fault decides, and of several faults in it the one of the least number: 1
+/// `BadLine`, 2 `TooLarge`, 3 `UnknownNode`. `OutOfMemory` comes only where memory ran out, behind lines that have no fault. Refused, some of the
+/// new writers may have been added.
+pub fn read_history(
+    alloc: Global,
+    ring: &Ring,
+    writers: &mut Names,
+    text: &[u8],
+) -> Result<Vec<Entry>, Refusal>
+    // What is read is a history over the ring, if the writers that were seen are at most 1,024 names, and the text is its one text.
+    ensures found { IfOk result (λ h. AreWriters writers.old → IsHistoryOf ring.now writers.old writers.new h.items × (text.now ≡ history_text ring.now writers.new h.items)) }
+    // And each history over the ring is read from its text, unless memory runs out.
+    ensures only { (h : List Entry) (names : List (List ℕ)) → IsHistoryOf ring.now writers.old names h → text.now ≡ history_text ring.now names h
+        → Gives {A = List Entry × List (List ℕ)} (map_ok (λ h. (h.items, writers.new)) result) (Ok (h, names)) }
+    // Which history it is, or which fault.
+    ensures exact { Gives (map_ok (λ h. (h.items, writers.new)) result) (history_reading ring.now writers.old text.now) }
+    // Memory may run out only if the first two lines have no fault.
+    ensures late { IfErr result (λ e. e ≡ OutOfMemory → NoFaultBefore 3 (history_reading ring.now writers.old text.now)) }
+{
+    // A ring is valid, which the prover knows once a number of it is read.
+    let slots = ring.n();
+    prove!(slots <= 7);
+    read_whole(alloc, ring, writers, text)
+}

@@ -1,0 +1,16 @@
+-- What a replay of a history prints.
+use Rattle.std.specs.Prelude.{◌≡◌, ℕ, List, ◌∷◌, ◌++◌, codes}
+use Rattle.ring_table.specs.Value.{RingValue}
+use Rattle.plan_text.specs.declared.step.Planned.{Planned}
+use Rattle.plan_check.specs.declared.event.Entry.{Entry}
+use Rattle.plan_check.specs.Runs.{IsRun}
+use Rattle.plan_check.specs.World.{World}
+use Rattle.ring_script.specs.Play.{owners_text}
+
+-- `yes`, and the owners in a world
+abbrev pub ending_text : RingValue → List Planned → World → List ℕ
+ending_text ring plan w = codes "yes" ++ 10 ∷ owners_text ring plan w
+
+-- the history is a run of the plan, and the text is that of the world to which it leads
+abbrev pub IsReplayed : RingValue → List Planned → List Entry → List ℕ → Type 0
+IsReplayed ring plan history text = ∥ ((w : World) × IsRun ring plan history w × (text ≡ ending_text ring plan w)) ∥₁

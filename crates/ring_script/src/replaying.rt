@@ -1,0 +1,43 @@
+//! Replaying a history.
+
+ghost use Rattle.std.specs.Prelude.{◌≡◌, ◌≢◌, ◌≤◌, length, IfOk, IfErr};
+ghost use Rattle.ring_names.specs.declared.refusal.Refusal.TheVariants.{OutOfMemory};
+ghost use Rattle.plan_check.specs.World.{World as TheWorld, opening_world};
+ghost use Rattle.ring_core.specs.World.{ring_of, plan_of, Meets};
+ghost use Rattle.ring_replay.specs.Faults.{IsFirstFault};
+ghost use Rattle.ring_script.specs.Replay.{ending_text, IsReplayed};
+
+use crate::playing::push_ending;
+use plan_check::{Approved, Entry};
+use ring_core::World;
+use ring_names::Refusal;
+use ring_replay::replay;
+use ring_table::Ring;
+use std::alloc::Global;
+
+// `yes`, and the owners now.
+fn ending(alloc: Global, ring: &Ring, world: &World) -> Result<Vec<u8>, Refusal>
+    requires { ring_of world.now ≡ ring.now }
+    ensures text { IfOk result (λ v. (w : TheWorld) → Meets world.now w → v.items ≡ ending_text ring.now (plan_of world.now) w) }
+    ensures memory { IfErr result (λ e. e ≡ OutOfMemory) }
+{
+    let mut out = Vec::from_slice(alloc, b"yes\n")?;
+    push_ending(world, ring, &mut out)?;
+    Ok(out)
+}
+
+/// What a replay of the history prints, where it is a run of the plan with those replies: `yes`, the line of owners of each partition behind the last
+/// entry, and `end`. Else `Mismatch`, with the place of the first entry, from 0, whose event is refused or has another reply, and with that
+/// refusal's number or 0. Memory may run out at whatever entry.
+pub fn replay_history(
+    alloc: Global,
+    approved: &Approved,
+    history: &[Entry],
+) -> Result<Vec<u8>, Refusal>
+    requires few { length history.now ≤ 1000000 }
+    ensures text { IfOk result (λ v. IsReplayed approved.now.ring approved.now.plan history.now v.items) }
+    ensures err { IfErr result (λ e. e ≢ OutOfMemory → IsFirstFault approved.now.ring approved.now.plan (opening_world approved.now.ring) 0 history.now e) }
+{
+    let world = replay(alloc, approved, history)?;
+    ending(alloc, approved.ring(), &world)
+}
