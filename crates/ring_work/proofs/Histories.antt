@@ -1,5 +1,5 @@
 -- What the end of a store says of its history.
-use Rattle.std.proofs.Common.{◌≡◌, List, subst}
+use Rattle.std.proofs.Common.{List}
 use Rattle.std.proofs.Math.Logic.{∥∥₁_map}
 use Rattle.std.specs.Prelude.{◌↔◌, Bool, IsTrue}
 use Rattle.ring_table.specs.Value.{RingValue}

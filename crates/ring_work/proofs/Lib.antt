@@ -1,3 +1,4 @@
 pub mod Growing
 pub mod Attempts
 pub mod Histories
+pub mod Aborts

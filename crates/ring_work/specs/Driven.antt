@@ -1,5 +1,5 @@
 -- What a drive promises.
-use Rattle.std.specs.Prelude.{◌≡◌, ◌⊎◌, ℕ, List, ◌++◌, length}
+use Rattle.std.specs.Prelude.{◌≡◌, ◌⊎◌, ◌+◌, ◌<◌, ◌≤◌, ℕ, List, ◌++◌, length, Option, Some}
 use Rattle.ring_names.specs.declared.refusal.Refusal.{Refusal}
 use Rattle.ring_names.specs.declared.refusal.Refusal.TheVariants.{OutOfMemory, Disagree, TurnsSpent}
 use Rattle.ring_table.specs.Value.{RingValue}
@@ -36,3 +36,12 @@ pub record Driven (ring : RingValue) (plan : List Planned) (scripts : List (List
 -- where a drive breaks off: a limit of turns was spent, records disagree or the history is full, or a growth was refused
 abbrev pub IsFault : Refusal → Type 0
 IsFault e = (e ≡ TurnsSpent) ⊎ ((e ≡ Disagree) ⊎ (e ≡ OutOfMemory))
+
+-- a limit of turns may be spent: the plan has a step, for which a worker may wait in vain, or the gate may refuse one of the clients, which have the
+-- numbers from 64 on
+abbrev pub MayStop : (ℕ → ℕ → Type 0) → List Planned → ℕ → Type 0
+MayStop may_refuse plan clients = (0 < length plan) ⊎ ((client : ℕ) × (line : ℕ) × (64 ≤ client) × (client < 64 + clients) × may_refuse client line)
+
+-- what was met is the limit of turns
+abbrev pub IsSpent : Option Refusal → Type 0
+IsSpent met = met ≡ Some TurnsSpent

@@ -1,3 +1,4 @@
 pub mod Noted
 pub mod Attempts
 pub mod Driven
+pub mod Resumed

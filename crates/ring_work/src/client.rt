@@ -1,18 +1,20 @@
 //! Clients, each of which does the lines of a script.
 
-ghost use Rattle.std.specs.Prelude.{◌≡◌, ◌<◌, true, vec_len, vec_capacity, IfOk, IfErr};
+ghost use Rattle.std.specs.Prelude.{◌≡◌, ◌<◌, ℕ, true, vec_len, vec_capacity, IfOk, IfErr};
+ghost use Rattle.ring_names.specs.declared.refusal.Refusal.TheVariants.{TurnsSpent};
 ghost use Rattle.std.specs.List.{list_all};
 ghost use Rattle.ring_work.specs.Attempts.{starts_put, starts_get};
+ghost use Rattle.ring_work.specs.Driven.{IsSpent};
 
 use crate::done::Done;
 use crate::getting::{finish_get, start_get};
-use crate::noting::go_on;
+use crate::noting::{go_on, no_limit};
 use crate::putting::put_on;
-use crate::site::{Site, is_set, set};
+use crate::site::{Site, is_set, ring, set};
 use plan_check::{Event, Gate, Key, Seen};
 use ring_exec::{Executor, RunLedger, Share};
 use ring_names::{Refusal, Value, WriterId};
-use ring_receipts::{Asked, all_ended, number_of};
+use ring_receipts::{Asked, Receipt, all_ended, number_of};
 use script_text::Script;
 use std::alloc::Global;
 use std::sync::Wait;
@@ -54,11 +56,24 @@ fn after(refusal: Option<Refusal>) -> Result<(), Refusal> {
     }
 }
 
+// Whether one of the receipts from that one on is a hint's.
+fn left_hints(receipts: &[Receipt], from: usize) -> bool {
+    let Some(behind) = receipts.get(from..) else {
+        return false;
+    };
+    for receipt in behind {
+        if let Event::Hint(_, _, _) = receipt.event {
+            return true;
+        }
+    }
+    false
+}
+
 // The put of a line, where each get that it names is an earlier one of the script, of its key, and has ended; else nothing.
-fn put_line<'a, L: RunLedger, R: Wait>(
+fn put_line<'e, 'a, L: RunLedger, R: Wait, G: Gate>(
     rt: &R,
     alloc: Global,
-    executor: &Executor<'a, L>,
+    site: &Site<'e, 'a, L, G>,
     done: &mut Done<L>,
     asked: &[Asked],
     line: &Event,
@@ -70,7 +85,18 @@ fn put_line<'a, L: RunLedger, R: Wait>(
         return Ok(());
     }
     let start = start_of(alloc, asked, *writer, key, value, seen)?;
-    after(put_on(rt, executor, &mut done.share, &mut done.receipts, &start))
+    let before = done.receipts.len();
+    let refusal = put_on(
+        rt,
+        site.executor,
+        &mut done.share,
+        &mut done.receipts,
+        &start,
+    );
+    if left_hints(done.receipts.as_slice(), before) {
+        ring(site.bell);
+    }
+    after(refusal)
 }
 
 // The get of a line. It is noted behind those that were asked.
@@ -106,18 +132,18 @@ fn node_line<'a, L: RunLedger, R: Wait>(
 }
 
 // What the line asks for.
-fn do_line<'a, L: RunLedger, R: Wait>(
+fn do_line<'e, 'a, L: RunLedger, R: Wait, G: Gate>(
     rt: &R,
     alloc: Global,
-    executor: &Executor<'a, L>,
+    site: &Site<'e, 'a, L, G>,
     done: &mut Done<L>,
     asked: &mut Vec<Asked>,
     line: &Event,
 ) -> Result<(), Refusal> {
     match line {
-        Event::StartPut(_, _, _, _) => put_line(rt, alloc, executor, done, asked.as_slice(), line),
-        Event::StartGet(key) => get_line(rt, alloc, executor, done, asked, key),
-        _ => node_line(rt, executor, done, line),
+        Event::StartPut(_, _, _, _) => put_line(rt, alloc, site, done, asked.as_slice(), line),
+        Event::StartGet(key) => get_line(rt, alloc, site.executor, done, asked, key),
+        _ => node_line(rt, site.executor, done, line),
     }
 }
 
@@ -129,7 +155,9 @@ fn do_lines<'e, 'a, L: RunLedger, R: Wait, G: Gate>(
     done: &mut Done<L>,
     client: u32,
     lines: &[Event],
-) -> Result<(), Refusal> {
+) -> Result<(), Refusal>
+    ensures spent { IfErr result (λ e. e ≡ TurnsSpent → (line : ℕ) × G.may_refuse site.now.gate.now client line) }
+{
     let mut asked = Vec::new(alloc);
     for (number, line) in lines.iter().enumerate() {
         if is_set(site.stop) {
@@ -138,7 +166,9 @@ fn do_lines<'e, 'a, L: RunLedger, R: Wait, G: Gate>(
         if !site.gate.pass(rt, client, number as u64) {
             return Err(Refusal::TurnsSpent);
         }
-        do_line(rt, alloc, site.executor, done, &mut asked, line)?;
+        if let Err(refusal) = do_line(rt, alloc, site, done, &mut asked, line) {
+            return Err(no_limit(refusal));
+        }
     }
     Ok(())
 }
@@ -152,11 +182,17 @@ pub(crate) fn serve<'e, 'a, L: RunLedger, R: Wait, G: Gate>(
     client: u32,
     script: &Script,
     share: Share<L>,
-) -> Done<L> {
+) -> Done<L>
+    ensures { IsSpent result.stopped → (line : ℕ) × G.may_refuse site.now.gate.now client line }
+{
     let mut done = Done::new(alloc, share);
-    if let Err(refusal) = do_lines(rt, alloc, site, &mut done, client, script.events()) {
-        done.stopped = Some(refusal);
-        set(site.stop);
-    }
+    let ended = do_lines(rt, alloc, site, &mut done, client, script.events());
+    done.stopped = match ended {
+        Ok(()) => None,
+        Err(refusal) => {
+            set(site.stop);
+            Some(refusal)
+        }
+    };
     done
 }

@@ -1,21 +1,24 @@
 //! A drive.
 
-ghost use Rattle.std.specs.Prelude.{◌≡◌, ◌+◌, ◌<◌, ◌≤◌, All, [], true, length, vec_len, map, IsTrue, IsNone, IfOk, IfErr, IfNone, IfSome};
+ghost use Rattle.std.specs.Prelude.{◌≡◌, ◌+◌, ◌<◌, ◌≤◌, ◌++◌, ◌∷◌, All, [], Some, true, length, vec_len, map, IsTrue, IsNone, IfOk, IfErr, IfNone, IfSome};
 ghost use Rattle.std.specs.List.{AllByRecursion, list_all};
-ghost use Rattle.ring_names.specs.declared.refusal.Refusal.TheVariants.{OutOfMemory};
+ghost use Rattle.ring_names.specs.declared.refusal.Refusal.TheVariants.{OutOfMemory, TurnsSpent};
 ghost use Rattle.ring_board.specs.Words.{finished_word};
 ghost use Rattle.script_text.specs.Client.{is_client_event};
 ghost use Rattle.ring_receipts.specs.Agreed.{Agrees};
-ghost use Rattle.ring_work.specs.Driven.{Driven, IsHistory, IsWhole, IsSafe, IsFault};
+ghost use Rattle.ring_receipts.specs.Finishing.{list_at};
+ghost use Rattle.ring_work.specs.Driven.{Driven, IsHistory, IsWhole, IsSafe, IsFault, MayStop, IsSpent};
 
+use crate::earlier::finish_all;
 use crate::fault::Fault;
 use crate::left::{Left, worse};
+use crate::noting::no_limit;
 use crate::threads::run_all;
 use plan_check::{Approved, Entry, Gate};
 use ring_board::{Board, Seat};
 use ring_exec::{Executor, Ledgered, RunLedger, Share};
-use ring_names::Refusal;
-use ring_receipts::{Outcome, agrees};
+use ring_names::{Listed, Refusal};
+use ring_receipts::{Outcome, Receipt, agrees};
 use script_text::Script;
 use std::alloc::Global;
 use std::marker::Brand;
@@ -23,13 +26,46 @@ use std::sync::Wait;
 use std::sync::ledger::Blank;
 use std::thread::Threads;
 
-// The words of the board, where the first seat and the workers' are given back.
-fn words_of(board: Board, first: Seat, seats: Vec<Seat>) -> Result<Vec<u64>, Refusal>
-    requires first { first.board ≡ board.id }
-    requires seats { All (λ s. s.board ≡ board.id) seats.items }
+// A board for the workers and one more, its first seat, and the seat of that one, which finished what the entries did.
+fn board_of(
+    alloc: Global,
+    steps: u32,
+    workers: u32,
+    entries: &[Entry],
+) -> Result<(Board, Seat, Seat), Refusal>
+    requires { workers ≤ 64 }
+    ensures board { IfOk result (λ r. (r.0.steps ≡ steps) × (r.0.workers ≡ workers + 1)) }
+    ensures seats { IfOk result (λ r. (r.1.board ≡ r.0.id) × (r.2.board ≡ r.0.id)) }
+    // That one's number is no worker's of the drive.
+    ensures worker { IfOk result (λ r. r.2.worker ≡ Some workers) }
+{
+    let (board, first) = Board::new(alloc, steps, workers + 1)?;
+    let mut first = first;
+    let Ok(mut seat) = board.seat(&mut first, workers) else {
+        unreachable!()
+    };
+    finish_all(&board, &mut seat, entries);
+    Ok((board, first, seat))
+}
+
+// All seats of a board.
+fn all_seats(seats: Vec<Seat>, first: Seat, last: Seat) -> Result<Vec<Seat>, Refusal>
+    ensures some { IfOk result (λ v. 0 < vec_len v) }
+    ensures seats { IfOk result (λ v. v.items ≡ seats.items ++ first ∷ last ∷ []) }
 {
     let mut seats = seats;
-    seats.push(first)?;
+    seats.reserve(2)?;
+    seats.push_reserved(first);
+    seats.push_reserved(last);
+    Ok(seats)
+}
+
+// The words of the board, where all seats are given back.
+fn words_of(board: Board, first: Seat, last: Seat, seats: Vec<Seat>) -> Result<Vec<u64>, Refusal>
+    requires first { (first.board ≡ board.id) × (last.board ≡ board.id) }
+    requires seats { All (λ s. s.board ≡ board.id) seats.items }
+{
+    let seats = all_seats(seats, first, last)?;
     board.close(seats)
 }
 
@@ -53,8 +89,8 @@ fn finishers_by(alloc: Global, words: Result<Vec<u64>, Refusal>) -> Result<Vec<u
     finishers_of(alloc, words.as_slice())
 }
 
-// The history, and whether it finishes every step. It is safe, since the plan is approved.
-fn history_of<'a, L: RunLedger>(
+/// The history, and whether it finishes every step. It is safe, since the plan is approved.
+pub(crate) fn history_of<'a, L: RunLedger>(
     approved: &Approved,
     ledgered: Ledgered<'a, L>,
 ) -> (Vec<Entry>, bool)
@@ -70,9 +106,11 @@ fn history_of<'a, L: RunLedger>(
     (ledgered.into_entries(), finished)
 }
 
-// What a refusal comes to where a drive breaks off.
-fn told(refusal: Refusal) -> Refusal
-    ensures { IsFault result }
+/// What a refusal comes to where a drive breaks off.
+pub(crate) fn told(refusal: Refusal) -> Refusal
+    ensures fault { IsFault result }
+    ensures spent { result ≡ TurnsSpent → refusal ≡ TurnsSpent }
+    ensures memory { result ≡ OutOfMemory → refusal ≡ OutOfMemory }
 {
     match refusal {
         Refusal::TurnsSpent => Refusal::TurnsSpent,
@@ -81,36 +119,40 @@ fn told(refusal: Refusal) -> Refusal
     }
 }
 
-// A fault without a history.
-fn bare(alloc: Global, approved: &Approved, refusal: Refusal) -> Fault
+/// A fault without a history.
+pub(crate) fn bare(alloc: Global, approved: &Approved, refusal: Refusal) -> Fault
+    ensures empty { result.history.items ≡ [] }
     ensures run { IsHistory approved.now.ring approved.now.plan result.history.items }
-    ensures refusal { IsFault result.refusal }
+    ensures refusal { result.refusal ≡ refusal }
 {
     Fault {
-        refusal: told(refusal),
+        refusal,
         history: Vec::new(alloc),
     }
 }
 
-// Why the outcome is none, if it is: what ended a thread or was refused behind it comes before steps that are left and receipts that disagree.
+// Why the outcome is none of so many lists, if it is: what ended a thread or was refused behind it comes before steps that are left and receipts that
+// disagree.
 fn judge(
     alloc: Global,
     approved: &Approved,
     scripts: &[Script],
     workers: u32,
+    lists: usize,
     outcome: &Outcome,
     finished: bool,
     stopped: Option<Refusal>,
 ) -> Option<Refusal>
     ensures finished { IfNone result (IsTrue finished) }
     ensures agrees { IfNone result (Agrees (length approved.now.plan) scripts.now workers outcome.now.history.items outcome.now.receipts.items outcome.now.finishers.items) }
-    ensures threads { IfNone result (length outcome.now.receipts.items ≡ workers + (length scripts.now + 1)) }
+    ensures lists { IfNone result (length outcome.now.receipts.items ≡ lists) }
     ensures fault { IfSome result IsFault }
+    ensures spent { IfSome result (λ e. e ≡ TurnsSpent → IsSpent stopped) }
 {
     if let Some(refusal) = stopped {
         return Some(told(refusal));
     }
-    if !finished || outcome.receipts.len() != workers as usize + (scripts.len() + 1) {
+    if !finished || outcome.receipts.len() != lists {
         return Some(Refusal::Disagree);
     }
     match agrees(alloc, approved, scripts, workers, outcome) {
@@ -121,8 +163,10 @@ fn judge(
 }
 
 // The worse of a refusal that was met, if one was, and another.
-fn worst(met: Option<Refusal>, other: Refusal) -> Refusal {
-    match worse(met, Some(other)) {
+fn worst(met: Option<Refusal>, other: Refusal) -> Refusal
+    ensures { result ≡ TurnsSpent → IsSpent met }
+{
+    match worse(met, Some(no_limit(other))) {
         Some(refusal) => refusal,
         None => Refusal::Disagree,
     }
@@ -133,10 +177,12 @@ fn noted(
     alloc: Global,
     finishers: Result<Vec<u32>, Refusal>,
     met: Option<Refusal>,
-) -> (Vec<u32>, Option<Refusal>) {
+) -> (Vec<u32>, Option<Refusal>)
+    ensures { IsSpent result.1 → IsSpent met }
+{
     match finishers {
         Ok(finishers) => (finishers, met),
-        Err(refusal) => (Vec::new(alloc), Some(met.unwrap_or(refusal))),
+        Err(refusal) => (Vec::new(alloc), Some(met.unwrap_or(no_limit(refusal)))),
     }
 }
 
@@ -152,33 +198,94 @@ fn fault_of(outcome: Outcome, refusal: Refusal) -> Fault
     Fault { refusal, history }
 }
 
-// A drive whose store is behind the lock: its threads, and what they come to.
-fn drive_on<'a, L: RunLedger + Send + Sync, R: Threads + Wait + Sync, G: Gate + Sync>(
+// The lists behind those in front, and what was met, if it was, where their memory is refused.
+fn behind(
+    front: Vec<Listed<Receipt>>,
+    lists: Vec<Listed<Receipt>>,
+    met: Option<Refusal>,
+) -> (Vec<Listed<Receipt>>, Option<Refusal>)
+    ensures first { 0 < vec_len front → list_at result.0.items 0 ≡ list_at front.items 0 }
+    ensures spent { IsSpent result.1 → IsSpent met }
+{
+    let mut all = front;
+    let mut met = met;
+    for list in lists {
+        if all.push(list).is_err() {
+            met = worse(met, Some(Refusal::OutOfMemory));
+        }
+    }
+    (all, met)
+}
+
+// Room for the lists of so many threads behind those in front.
+fn roomy(front: Vec<Listed<Receipt>>, threads: usize) -> Result<Vec<Listed<Receipt>>, Refusal>
+    ensures { IfOk result (λ v. v.items ≡ front.items) }
+{
+    let mut front = front;
+    front.reserve(threads)?;
+    Ok(front)
+}
+
+// What stands before the threads start: the board with its seats, and room for their lists.
+fn begun(
+    alloc: Global,
+    steps: u32,
+    workers: u32,
+    entries: &[Entry],
+    front: Vec<Listed<Receipt>>,
+    threads: usize,
+) -> Result<(Board, Seat, Seat, Vec<Listed<Receipt>>), Refusal>
+    requires { workers ≤ 64 }
+    ensures board { IfOk result (λ r. (r.0.steps ≡ steps) × (r.0.workers ≡ workers + 1)) }
+    ensures seats { IfOk result (λ r. (r.1.board ≡ r.0.id) × (r.2.board ≡ r.0.id)) }
+    ensures front { IfOk result (λ r. r.3.items ≡ front.items) }
+{
+    let front = roomy(front, threads)?;
+    let (board, first, last) = board_of(alloc, steps, workers, entries)?;
+    Ok((board, first, last, front))
+}
+
+/// A drive whose store is behind the lock, and behind the entries: its threads, and what they come to. Their lists stand behind those in front.
+pub(crate) fn drive_on<'a, L: RunLedger + Send + Sync, R: Threads + Wait + Sync, G: Gate + Sync>(
     rt: &R,
     alloc: Global,
     executor: Executor<'a, L>,
     share: Share<L>,
     approved: &Approved,
+    entries: &[Entry],
+    front: Vec<Listed<Receipt>>,
     scripts: &[Script],
     workers: u32,
     gate: &G,
 ) -> Result<Outcome, Fault>
+    requires front { vec_len front ≤ 1 }
     requires parts { workers + length scripts.now + 2 ≤ share.token.parts }
     requires ring { approved.now.ring ≡ L.ring }
     requires plan { approved.now.plan ≡ L.plan }
     requires workers { workers ≤ 64 }
     requires scripts { length scripts.now ≤ 8 }
     ensures ok { IfOk result (λ o. Driven approved.now.ring approved.now.plan scripts.now workers o.history.items o.receipts.items o.finishers.items) }
-    ensures threads { IfOk result (λ o. vec_len o.receipts ≡ workers + (length scripts.now + 1)) }
+    ensures threads { IfOk result (λ o. vec_len o.receipts ≡ vec_len front + (workers + (length scripts.now + 1))) }
+    ensures first { IfOk result (λ o. 0 < vec_len front → list_at o.receipts.items 0 ≡ list_at front.items 0) }
     ensures refusal { IfErr result (λ f. IsFault f.refusal) }
+    ensures spent { IfErr result (λ f. f.refusal ≡ TurnsSpent → MayStop (G.may_refuse gate.now) approved.now.plan (length scripts.now)) }
     ensures history { IfErr result (λ f. IsHistory approved.now.ring approved.now.plan f.history.items) }
 {
     let plan = approved.plan();
-    let (board, first) = match Board::new(alloc, plan.len(), workers) {
-        Ok(made) => made,
+    let threads = workers as usize + (scripts.len() + 1);
+    let lists = front.len() + threads;
+    let (board, first, last, front) = match begun(
+        alloc,
+        plan.len(),
+        workers,
+        entries,
+        front,
+        threads,
+    ) {
+        Ok(begun) => begun,
         Err(refusal) => {
             executor.give_up();
-            return Err(bare(alloc, approved, refusal));
+            return Err(bare(alloc, approved, told(no_limit(refusal))));
         }
     };
     let (first, left) = match run_all(
@@ -187,7 +294,7 @@ fn drive_on<'a, L: RunLedger + Send + Sync, R: Threads + Wait + Sync, G: Gate + 
         Ok(back) => back,
         Err(refusal) => {
             executor.give_up();
-            return Err(bare(alloc, approved, refusal));
+            return Err(bare(alloc, approved, told(refusal)));
         }
     };
     let Left {
@@ -196,12 +303,13 @@ fn drive_on<'a, L: RunLedger + Send + Sync, R: Threads + Wait + Sync, G: Gate + 
         receipts,
         refusal,
     } = left;
-    let finishers = finishers_by(alloc, words_of(board, first, seats));
+    let finishers = finishers_by(alloc, words_of(board, first, last, seats));
     let ledgered = match executor.finish(shares) {
         Ok(ledgered) => ledgered,
-        Err(other) => return Err(bare(alloc, approved, worst(refusal, other))),
+        Err(other) => return Err(bare(alloc, approved, told(worst(refusal, other)))),
     };
     let (history, finished) = history_of(approved, ledgered);
+    let (receipts, refusal) = behind(front, receipts, refusal);
     let (finishers, refusal) = noted(alloc, finishers, refusal);
     let outcome = Outcome {
         history,
@@ -209,7 +317,7 @@ fn drive_on<'a, L: RunLedger + Send + Sync, R: Threads + Wait + Sync, G: Gate + 
         finishers,
     };
     match judge(
-        alloc, approved, scripts, workers, &outcome, finished, refusal,
+        alloc, approved, scripts, workers, lists, &outcome, finished, refusal,
     ) {
         None => Ok(outcome),
         Some(refusal) => Err(fault_of(outcome, refusal)),
@@ -235,13 +343,23 @@ fn drive_as<'a, L: RunLedger + Send + Sync, R: Threads + Wait + Sync, G: Gate + 
     ensures ok { IfOk result (λ o. Driven approved.now.ring approved.now.plan scripts.now workers o.history.items o.receipts.items o.finishers.items) }
     ensures threads { IfOk result (λ o. vec_len o.receipts ≡ workers + (length scripts.now + 1)) }
     ensures refusal { IfErr result (λ f. IsFault f.refusal) }
+    ensures spent { IfErr result (λ f. f.refusal ≡ TurnsSpent → MayStop (G.may_refuse gate.now) approved.now.plan (length scripts.now)) }
     ensures history { IfErr result (λ f. IsHistory approved.now.ring approved.now.plan f.history.items) }
 {
     match Executor::<L>::new(alloc, blank, approved) {
         Ok((executor, share)) => drive_on(
-            rt, alloc, executor, share, approved, scripts, workers, gate,
+            rt,
+            alloc,
+            executor,
+            share,
+            approved,
+            &[],
+            Vec::new(alloc),
+            scripts,
+            workers,
+            gate,
         ),
-        Err(refusal) => Err(bare(alloc, approved, refusal)),
+        Err(refusal) => Err(bare(alloc, approved, told(refusal))),
     }
 }
 
@@ -266,6 +384,7 @@ pub fn drive<R: Threads + Wait + Sync, G: Gate + Sync>(
     // A list for each worker, for each client and for the handoffs, and no other.
     ensures threads { IfOk result (λ o. vec_len o.receipts ≡ workers + (length scripts.now + 1)) }
     ensures refusal { IfErr result (λ f. IsFault f.refusal) }
+    ensures spent { IfErr result (λ f. f.refusal ≡ TurnsSpent → MayStop (G.may_refuse gate.now) approved.now.plan (length scripts.now)) }
     ensures history { IfErr result (λ f. IsHistory approved.now.ring approved.now.plan f.history.items) }
 {
     drive_as::<Brand, R, G>(rt, alloc, Blank::new(128), approved, scripts, workers, gate)

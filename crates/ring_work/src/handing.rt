@@ -1,8 +1,10 @@
 //! The thread that hands hints off.
 
+ghost use Rattle.ring_work.specs.Driven.{IsSpent};
+
 use crate::done::Done;
-use crate::noting::go_on;
-use crate::site::{Site, is_set, set};
+use crate::noting::{go_on, no_limit};
+use crate::site::{Site, is_set, rung, set};
 use plan_check::{Event, Gate};
 use ring_exec::{RunLedger, Share};
 use ring_names::{NodeId, Refusal, Slot};
@@ -28,13 +30,14 @@ fn hand<'e, 'a, L: RunLedger, R: Wait, G: Gate>(
 }
 
 // Walks over the hints, to the end of the first that began when all other threads had ended. A walk looks for the n-th hint; behind an
-// answered handoff n stays, and behind a refused one it is one more.
+// answered handoff n stays, and behind a refused one it is one more. Where a walk leaves no hint, the next one begins when the bell is rung.
 fn walks<'e, 'a, L: RunLedger, R: Wait, G: Gate>(
     rt: &R,
     site: &Site<'e, 'a, L, G>,
     done: &mut Done<L>,
 ) -> Result<(), Refusal> {
     let mut n = 0u32;
+    let mut heard = rung(site.bell);
     let mut last = is_set(site.joined);
     for _ in rt.forever() {
         match site.executor.hint_at(rt, n) {
@@ -47,9 +50,14 @@ fn walks<'e, 'a, L: RunLedger, R: Wait, G: Gate>(
                 if last {
                     break;
                 }
+                if n == 0 {
+                    site.bell.park(rt, heard);
+                } else {
+                    thread::yield_now();
+                }
                 n = 0;
+                heard = rung(site.bell);
                 last = is_set(site.joined);
-                thread::yield_now();
             }
         }
     }
@@ -63,11 +71,17 @@ pub(crate) fn hand_off<'e, 'a, L: RunLedger, R: Wait, G: Gate>(
     alloc: Global,
     site: &Site<'e, 'a, L, G>,
     share: Share<L>,
-) -> Done<L> {
+) -> Done<L>
+    ensures { IsSpent result.stopped → ⊥ }
+{
     let mut done = Done::new(alloc, share);
-    if let Err(refusal) = walks(rt, site, &mut done) {
-        done.stopped = Some(refusal);
-        set(site.stop);
-    }
+    let ended = walks(rt, site, &mut done);
+    done.stopped = match ended {
+        Ok(()) => None,
+        Err(refusal) => {
+            set(site.stop);
+            Some(no_limit(refusal))
+        }
+    };
     done
 }

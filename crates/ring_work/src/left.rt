@@ -1,7 +1,8 @@
 //! What the threads of a drive leave behind.
 
-ghost use Rattle.std.specs.Prelude.{◌≡◌, ◌⊎◌, All, vec_len, IfOk, IfErr, IfSome};
+ghost use Rattle.std.specs.Prelude.{◌≡◌, ◌⊎◌, All, None, vec_len, IfOk, IfErr};
 ghost use Rattle.ring_names.specs.declared.refusal.Refusal.TheVariants.{OutOfMemory};
+ghost use Rattle.ring_work.specs.Driven.{IsSpent};
 
 use crate::done::{Done, Sat};
 use ring_board::{Board, Seat};
@@ -31,7 +32,9 @@ fn weight(refusal: &Option<Refusal>) -> u8 {
 }
 
 /// The worse of the two: a limit of turns comes before a full history and records that disagree, and these before want of memory.
-pub(crate) fn worse(one: Option<Refusal>, other: Option<Refusal>) -> Option<Refusal> {
+pub(crate) fn worse(one: Option<Refusal>, other: Option<Refusal>) -> Option<Refusal>
+    ensures { (result ≡ one) ⊎ (result ≡ other) }
+{
     if weight(&one) < weight(&other) {
         other
     } else {
@@ -42,7 +45,7 @@ pub(crate) fn worse(one: Option<Refusal>, other: Option<Refusal>) -> Option<Refu
 impl<L: RunLedger> Left<L> {
     /// Nothing yet, with room for that many workers and clients, the first seat, the first share and the thread of handoffs.
     pub fn with_room(alloc: Global, workers: usize, clients: usize) -> Result<Left<L>, Refusal>
-        ensures none { IfOk result (λ l. vec_len l.seats ≡ 0) }
+        ensures none { IfOk result (λ l. (vec_len l.seats ≡ 0) × (l.refusal ≡ None)) }
         ensures memory { IfErr result (λ e. e ≡ OutOfMemory) }
     {
         let threads = workers.saturating_add(clients).saturating_add(2);
@@ -59,14 +62,26 @@ impl<L: RunLedger> Left<L> {
 
     /// Notes a refusal.
     pub fn note(&mut self, refusal: Option<Refusal>)
-        ensures { self.new.seats ≡ self.old.seats }
+        ensures seats { self.new.seats ≡ self.old.seats }
+        ensures spent { IsSpent self.new.refusal → IsSpent self.old.refusal ⊎ IsSpent refusal }
     {
         self.refusal = worse(self.refusal.take(), refusal);
     }
 
+    /// Notes whether a start was refused.
+    pub fn note_start(&mut self, refused: bool)
+        ensures seats { self.new.seats ≡ self.old.seats }
+        ensures spent { IsSpent self.new.refusal → IsSpent self.old.refusal }
+    {
+        if refused {
+            self.note(Some(Refusal::OutOfMemory));
+        }
+    }
+
     /// Takes a share.
     pub fn share(&mut self, share: Share<L>)
-        ensures { self.new.seats ≡ self.old.seats }
+        ensures seats { self.new.seats ≡ self.old.seats }
+        ensures spent { IsSpent self.new.refusal → IsSpent self.old.refusal }
     {
         if self.shares.push(share).is_err() {
             self.note(Some(Refusal::OutOfMemory));
@@ -75,7 +90,8 @@ impl<L: RunLedger> Left<L> {
 
     /// Takes what a thread hands back.
     pub fn take(&mut self, done: Done<L>)
-        ensures { self.new.seats ≡ self.old.seats }
+        ensures seats { self.new.seats ≡ self.old.seats }
+        ensures spent { IsSpent self.new.refusal → IsSpent self.old.refusal ⊎ IsSpent done.stopped }
     {
         let Done {
             receipts,
@@ -93,7 +109,8 @@ impl<L: RunLedger> Left<L> {
     pub fn take_seat(&mut self, board: &Board, sat: Sat<L>)
         requires old { All (λ s. s.board ≡ board.now.id) self.old.seats.items }
         requires one { sat.seat.board ≡ board.now.id }
-        ensures { All (λ s. s.board ≡ board.now.id) self.new.seats.items }
+        ensures seats { All (λ s. s.board ≡ board.now.id) self.new.seats.items }
+        ensures spent { IsSpent self.new.refusal → IsSpent self.old.refusal ⊎ IsSpent sat.done.stopped }
     {
         let Sat { done, seat } = sat;
         if self.seats.push(seat).is_err() {

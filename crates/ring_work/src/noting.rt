@@ -1,7 +1,7 @@
 //! Events that are submitted, with their receipts kept.
 
-ghost use Rattle.std.specs.Prelude.{◌≡◌, ◌+◌, ◌∷◌, ◌++◌, ◌⊎◌, [], true, vec_len, IfOk, IfErr, OnOk, OnErr};
-ghost use Rattle.ring_names.specs.declared.refusal.Refusal.TheVariants.{HistoryFull, OutOfMemory};
+ghost use Rattle.std.specs.Prelude.{◌≡◌, ◌≢◌, ◌+◌, ◌∷◌, ◌++◌, ◌⊎◌, [], true, vec_len, IfOk, IfErr, OnOk, OnErr};
+ghost use Rattle.ring_names.specs.declared.refusal.Refusal.TheVariants.{HistoryFull, OutOfMemory, TurnsSpent};
 ghost use Rattle.ring_exec.specs.Replies.{is_put, is_get};
 ghost use Rattle.plan_check.specs.declared.event.Reply.TheVariants.{Put, Get};
 ghost use Rattle.ring_work.specs.Noted.{Adds, IsCounted};
@@ -66,5 +66,15 @@ pub(crate) fn go_on(refusal: Refusal) -> Result<(), Refusal>
         Refusal::HistoryFull => Err(Refusal::HistoryFull),
         Refusal::OutOfMemory => Err(Refusal::OutOfMemory),
         _ => Ok(()),
+    }
+}
+
+/// A refusal by the store or the board, which know no limit of turns.
+pub(crate) fn no_limit(refusal: Refusal) -> Refusal
+    ensures { result ≢ TurnsSpent }
+{
+    match refusal {
+        Refusal::TurnsSpent => Refusal::Disagree,
+        other => other,
     }
 }

@@ -1,8 +1,9 @@
 //! Workers, which do the steps of the plan.
 
-ghost use Rattle.std.specs.Prelude.{◌≡◌, ◌<◌, ◌≤◌, true, is_some, length, vec_len, IfOk, IfErr};
+ghost use Rattle.std.specs.Prelude.{◌≡◌, ◌<◌, ◌≤◌, true, is_some, length, IfErr, IfSome};
 ghost use Rattle.ring_names.specs.Lists.{has};
 ghost use Rattle.ring_names.specs.declared.refusal.Refusal.TheVariants.{OutOfMemory};
+ghost use Rattle.ring_work.specs.Driven.{IsSpent};
 
 use crate::done::{Done, Sat};
 use crate::noting::go_on;
@@ -14,7 +15,7 @@ use ring_exec::{RunLedger, Share};
 use ring_names::Refusal;
 use std::alloc::Global;
 use std::sync::Wait;
-use std::thread;
+use std::{mem, thread};
 
 /// The most turns that a worker takes without finishing a step.
 const MAX_TURNS: u32 = 1_000_000;
@@ -22,53 +23,110 @@ const MAX_TURNS: u32 = 1_000_000;
 // The chunks of a copy.
 const CHUNKS: u32 = 16;
 
-// The steps that a worker knows finished, and where its next walk begins.
+// No step.
+const NONE: u32 = 0xffff_ffff;
+
+// What a worker knows of the steps, and where its next walk begins. A walk leaves out each step that is known finished, and each that waits: for
+// one on which it directly depends and which is not known finished. So what was looked at once is looked at again only where it may have changed.
 #[derive(Drop)]
 struct Walk {
     finished: Vec<bool>,
-    left: usize,
-    from: usize,
+    // A bit for each step that walks look at.
+    open: Vec<u64>,
+    // For each step the first of those that wait for it, and for each of these the next.
+    waiting: Vec<u32>,
+    behind: Vec<u32>,
+    left: u32,
+    from: u32,
 }
 
 impl Walk {
     fn new(alloc: Global, steps: u32) -> Result<Walk, Refusal>
-        ensures len { IfOk result (λ w. vec_len w.finished ≡ steps) }
         ensures memory { IfErr result (λ e. e ≡ OutOfMemory) }
     {
         let finished = vec![in alloc; false; steps as usize]?;
+        let open = vec![in alloc; u64::MAX; (steps / 64) as usize + 1]?;
+        let waiting = vec![in alloc; NONE; steps as usize]?;
+        let behind = vec![in alloc; NONE; steps as usize]?;
         Ok(Walk {
             finished,
-            left: steps as usize,
+            open,
+            waiting,
+            behind,
+            left: steps,
             from: 0,
         })
-    }
-
-    // The next step of the walk, round from the last one to the first.
-    fn next(&mut self, steps: u32) -> u32
-        requires { 0 < steps }
-        ensures step { result < steps }
-        ensures len { vec_len self.new.finished ≡ vec_len self.old.finished }
-    {
-        if self.from >= steps as usize {
-            self.from = 0;
-        }
-        let step = self.from;
-        self.from = step + 1;
-        step as u32
     }
 
     fn is_known(&self, step: u32) -> bool {
         self.finished.get(step as usize).copied().unwrap_or(false)
     }
 
-    // Notes that the step is finished.
-    fn note(&mut self, step: u32)
-        ensures { vec_len self.new.finished ≡ vec_len self.old.finished }
+    // Has walks look at the step, or leave it out.
+    fn set_open(&mut self, step: u32, is: bool) {
+        if let Some(word) = self.open.get_mut((step / 64) as usize) {
+            let bit = 1u64 << (step % 64);
+            if is {
+                *word |= bit;
+            } else {
+                *word &= !bit;
+            }
+        }
+    }
+
+    // The first step to look at from that one on, below the end.
+    fn first_open(&self, from: u32, end: u32) -> Option<u32>
+        ensures { IfSome result (λ s. s < end) }
     {
+        let mut skipped = u64::MAX << (from % 64);
+        for word in from / 64..end / 64 + 1 {
+            let bits = self.open.get(word as usize).copied().unwrap_or(0) & skipped;
+            if bits != 0 {
+                let step = word
+                    .saturating_mul(64)
+                    .saturating_add(bits.trailing_zeros());
+                return if step < end { Some(step) } else { None };
+            }
+            skipped = u64::MAX;
+        }
+        None
+    }
+
+    // Leaves the step out until the other one is known finished.
+    fn wait(&mut self, step: u32, other: u32) {
+        if let (Some(first), Some(next)) = (
+            self.waiting.get_mut(other as usize),
+            self.behind.get_mut(step as usize),
+        ) {
+            *next = *first;
+            *first = step;
+            self.set_open(step, false);
+        }
+    }
+
+    // Has walks look at what waits for the step.
+    fn wake(&mut self, step: u32) {
+        let mut next = match self.waiting.get_mut(step as usize) {
+            Some(first) => mem::replace(first, NONE),
+            None => NONE,
+        };
+        for _ in 0..self.behind.len() {
+            let Some(later) = self.behind.get(next as usize).copied() else {
+                break;
+            };
+            self.set_open(next, true);
+            next = later;
+        }
+    }
+
+    // Notes that the step is finished.
+    fn note(&mut self, step: u32) {
         if let Some(known) = self.finished.get_mut(step as usize) {
             if !*known {
                 *known = true;
                 self.left = self.left.saturating_sub(1);
+                self.set_open(step, false);
+                self.wake(step);
             }
         }
     }
@@ -91,14 +149,19 @@ fn is_finished(board: &Board, seat: &mut Seat, walk: &mut Walk, step: u32) -> bo
     finished
 }
 
-// Whether all that the step directly depends on is found finished.
-fn are_finished(board: &Board, seat: &mut Seat, walk: &mut Walk, steps: &[u32]) -> bool
+// Whether the step is not found finished, and all that it directly depends on is. Where it is not, it waits.
+fn is_next(board: &Board, seat: &mut Seat, walk: &mut Walk, step: u32, others: &[u32]) -> bool
     requires board { seat.old.board ≡ board.now.id }
+    requires step { step < board.now.steps }
     ensures board { seat.new.board ≡ board.now.id }
     ensures worker { seat.new.worker ≡ seat.old.worker }
 {
-    for step in steps {
-        if *step >= board.steps() || !is_finished(board, seat, walk, *step) {
+    if is_finished(board, seat, walk, step) {
+        return false;
+    }
+    for other in others {
+        if *other >= board.steps() || !is_finished(board, seat, walk, *other) {
+            walk.wait(step, *other);
             return false;
         }
     }
@@ -201,8 +264,59 @@ fn carry_out<'e, 'a, L: RunLedger, R: Wait, G: Gate>(
     came
 }
 
-// A walk over the steps, once round from the one behind the last, to the first that the seat claims: one that is not found finished, behind
-// steps that are. Whether the seat finished it.
+// Claims the first step, of those from that one on and below the end, that is not found finished and behind steps that are.
+fn claim_from(
+    board: &Board,
+    seat: &mut Seat,
+    walk: &mut Walk,
+    plan: &Plan,
+    from: u32,
+    end: u32,
+) -> Option<u32>
+    requires board { seat.old.board ≡ board.now.id }
+    requires worker { is_some seat.old.worker ≡ true }
+    requires steps { (board.now.steps ≡ length plan.now) × (end ≤ length plan.now) }
+    ensures board { seat.new.board ≡ board.now.id }
+    ensures worker { seat.new.worker ≡ seat.old.worker }
+    ensures held { IfSome result (λ s. (s < length plan.now) × (has s seat.new.held ≡ true)) }
+{
+    let mut place = from;
+    'places: for _ in from..end {
+        let Some(step) = walk.first_open(place, end) else {
+            break;
+        };
+        if is_next(board, seat, walk, step, plan.deps(step)) {
+            if let Claim::Won = board.claim(seat, step) {
+                return Some(step);
+            }
+        }
+        place = step.saturating_add(1);
+    }
+    None
+}
+
+// The same of all steps, once round from the one behind the last that was claimed.
+fn claim_next(board: &Board, seat: &mut Seat, walk: &mut Walk, plan: &Plan) -> Option<u32>
+    requires board { seat.old.board ≡ board.now.id }
+    requires worker { is_some seat.old.worker ≡ true }
+    requires steps { board.now.steps ≡ length plan.now }
+    ensures board { seat.new.board ≡ board.now.id }
+    ensures worker { seat.new.worker ≡ seat.old.worker }
+    ensures held { IfSome result (λ s. (s < length plan.now) × (has s seat.new.held ≡ true)) }
+{
+    let steps = plan.len();
+    let from = walk.from.min(steps);
+    let found = match claim_from(board, seat, walk, plan, from, steps) {
+        Some(step) => Some(step),
+        None => claim_from(board, seat, walk, plan, 0, from),
+    };
+    if let Some(step) = found {
+        walk.from = step.saturating_add(1);
+    }
+    found
+}
+
+// A walk over the steps. Whether the seat finished one.
 fn turn<'e, 'a, L: RunLedger, R: Wait, G: Gate>(
     rt: &R,
     site: &Site<'e, 'a, L, G>,
@@ -217,19 +331,14 @@ fn turn<'e, 'a, L: RunLedger, R: Wait, G: Gate>(
     ensures board { sat.new.seat.board ≡ site.now.board.now.id }
     ensures worker { sat.new.seat.worker ≡ sat.old.seat.worker }
 {
-    let board = site.board;
-    let steps = plan.len();
-    'places: for _ in 0..steps {
-        let step = walk.next(steps);
-        if !is_finished(board, &mut sat.seat, walk, step)
-            && are_finished(board, &mut sat.seat, walk, plan.deps(step))
-        {
-            if let Claim::Won = board.claim(&mut sat.seat, step) {
-                return carry_out(rt, site, sat, worker, plan, step);
-            }
-        }
+    let Some(step) = claim_next(site.board, &mut sat.seat, walk, plan) else {
+        return Ok(false);
+    };
+    let finished = carry_out(rt, site, sat, worker, plan, step)?;
+    if finished {
+        walk.note(step);
     }
-    Ok(false)
+    Ok(finished)
 }
 
 // Turns, until the seat finds every step finished or all are to stop. The refusal that ends them, if one does.
@@ -277,7 +386,11 @@ fn work_on<'e, 'a, L: RunLedger, R: Wait, G: Gate>(
     requires worker { is_some sat.old.seat.worker ≡ true }
     requires steps { site.now.board.now.steps ≡ length plan.now }
     ensures board { sat.new.seat.board ≡ site.now.board.now.id }
+    ensures spent { IfErr result (λ e. 0 < length plan.now) }
 {
+    if plan.len() == 0 {
+        return Ok(());
+    }
     let mut walk = Walk::new(alloc, plan.len())?;
     turns(rt, site, sat, &mut walk, worker, plan)
 }
@@ -296,15 +409,20 @@ pub(crate) fn work<'e, 'a, L: RunLedger, R: Wait, G: Gate>(
     requires board { seat.board ≡ site.now.board.now.id }
     requires worker { is_some seat.worker ≡ true }
     requires steps { site.now.board.now.steps ≡ length plan.now }
-    ensures { result.seat.board ≡ site.now.board.now.id }
+    ensures board { result.seat.board ≡ site.now.board.now.id }
+    ensures spent { IsSpent result.done.stopped → 0 < length plan.now }
 {
     let mut sat = Sat {
         done: Done::new(alloc, share),
         seat,
     };
-    if let Err(refusal) = work_on(rt, alloc, site, &mut sat, worker, plan) {
-        sat.done.stopped = Some(refusal);
-        set(site.stop);
-    }
+    let ended = work_on(rt, alloc, site, &mut sat, worker, plan);
+    sat.done.stopped = match ended {
+        Ok(()) => None,
+        Err(refusal) => {
+            set(site.stop);
+            Some(refusal)
+        }
+    };
     sat
 }

@@ -1,4 +1,5 @@
-//! What a replay says of the history of a play, and of that history with a fault. What it should say is read off a play of the same events.
+//! What a replay says of the history of a play, and of that history with a fault. What it should say is read off a play of the same events. And
+//! whether it says yes to what a drive printed.
 
 use ringplan_run::{play_bundle, replay_bundle};
 use std::alloc::{AllocError, Global};
@@ -185,4 +186,17 @@ pub fn others(alloc: Global, bundle: &str, output: &str) -> Result<u32, AllocErr
         }
     }
     Ok(others)
+}
+
+/// Whether a replay says yes to the history that a drive of the bundle printed.
+pub fn is_replayed(alloc: Global, bundle: &str, output: &str) -> Result<bool, AllocError> {
+    let Some((front, _)) = bundle.split_once("script 1\n") else {
+        return Ok(false);
+    };
+    let Some(history) = output.strip_prefix("yes\n") else {
+        return Ok(false);
+    };
+    let mut text = Vec::from_slice(alloc, front.as_bytes())?;
+    text.extend_from_slice(history.as_bytes())?;
+    Ok(replay_bundle(alloc, text.as_slice()).is_ok())
 }

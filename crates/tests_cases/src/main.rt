@@ -3,12 +3,13 @@
 //! whose report is printed, and `race` one by three workers, of which the first line is printed, since the others are left to chance. Of a bundle that is
 //! accepted, no first part may be: how many are is printed where it is not none. A check is also made by 1, 3 and 64 workers: how many of them
 //! say otherwise is printed where it is not none. Of each play the history of its answered events is replayed, and that history with a fault at
-//! each place: of how many a replay says otherwise than the play does is printed where it is not none.
+//! each place: of how many a replay says otherwise than the play does is printed where it is not none. Of each drive the history that it prints is
+//! replayed, and it is said where a replay does not say yes to it.
 #![tactic(auto)]
 
 mod histories;
 
-use crate::histories::others;
+use crate::histories::{is_replayed, others};
 use ringplan_run::{check_bundle, plan_bundle, play_bundle, replay_bundle, run};
 use std::alloc::Global;
 use std::fs::File;
@@ -98,11 +99,7 @@ fn told<RT: Runtime + AllocGlobal + Threads + Wait + Sync>(
 ) -> io::Result<Answer> {
     match asked {
         Asked::Report => said(rt, &["ringplan", "drive", "--json"], path),
-        Asked::Race => {
-            let mut said = said(rt, &["ringplan", "drive", "--workers", "3"], path)?;
-            said.bytes.truncate(4);
-            Ok(said)
-        }
+        Asked::Race => said(rt, &["ringplan", "drive", "--workers", "3"], path),
         _ => said(rt, &["ringplan", subcommand(asked)], path),
     }
 }
@@ -117,13 +114,18 @@ fn show<RT: Runtime + AllocGlobal + Threads + Wait + Sync>(
     let said = told(rt, asked, path.as_str())?;
     let text = str::from_utf8(said.bytes.as_slice()).unwrap_or("no text\n");
     let status = said.status;
-    print!(rt; "{name}\n{text}{status}\n")?;
+    let shown = match asked {
+        Asked::Race => text.get(..4).unwrap_or(text),
+        _ => text,
+    };
+    print!(rt; "{name}\n{shown}{status}\n")?;
     if status == 0 {
         check_fronts(rt, asked, path.as_str())?;
     }
     match asked {
         Asked::Check => check_workers(rt, path.as_str(), &said),
         Asked::Play if status == 0 => check_histories(rt, path.as_str(), text),
+        Asked::Drive | Asked::Race if status == 0 => check_drive(rt, path.as_str(), text),
         _ => Ok(()),
     }
 }
@@ -192,6 +194,16 @@ fn check_histories<RT: Runtime + AllocGlobal>(rt: &RT, path: &str, output: &str)
     let others = others(rt.alloc(), text, output)?;
     if others > 0 {
         println!(rt; "{others} histories are judged otherwise")?;
+    }
+    Ok(())
+}
+
+// Says whether a replay says no to the history that the drive printed, if it does.
+fn check_drive<RT: Runtime + AllocGlobal>(rt: &RT, path: &str, output: &str) -> io::Result<()> {
+    let bundle = fs::read(rt, path)?;
+    let text = str::from_utf8(bundle.as_slice()).unwrap_or("");
+    if !is_replayed(rt.alloc(), text, output)? {
+        println!(rt; "a replay says no to the history")?;
     }
     Ok(())
 }

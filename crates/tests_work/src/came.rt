@@ -69,8 +69,8 @@ fn replays(alloc: Global, approved: &Approved, history: &[Entry]) -> Result<bool
     are_answered(alloc, &mut world, history)
 }
 
-// What the outcome of a drive is.
-fn told(
+/// What the outcome of a drive is.
+pub fn told(
     alloc: Global,
     approved: &Approved,
     scripts: &[Script],

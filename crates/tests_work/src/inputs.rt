@@ -27,6 +27,13 @@ pub const TWO_COPIES: &[u8] =
 /// Its certificate.
 pub const TWO_CHAINS: &[u8] = b"cert 1\nchain b 2\nchain b 5\nchain d 2\nchain d 5\nend\n";
 
+/// A slot that moves from b to d, which joins.
+pub const MOVE: &[u8] =
+    b"plan 1\njoin d\nmirror 0 1 d after 0\ncopy 0 1 owner after 1\nswitch 0 1 after 2\ndrop 0 1 b after 3\nend\n";
+
+/// Its certificate.
+pub const MOVE_CHAINS: &[u8] = b"cert 1\nchain b 2\nchain d 2\nend\n";
+
 /// One step.
 pub const JOIN: &[u8] = b"plan 1\njoin d\nend\n";
 

@@ -1,4 +1,4 @@
-//! Tests of drives: that threads overlap, what a gate that answers false or a full history makes of one, that each event of a history is answered so
+//! Tests of drives: that threads overlap, what a gate that answers false or a full history makes of one, what goes on from such a history, that each event of a history is answered so
 //! by a store, and that the judge of receipts tells lists that are not a drive's. Nothing is exported.
 #![tactic(auto)]
 
@@ -12,6 +12,8 @@ mod half;
 mod inputs;
 #[cfg(test)]
 mod judged;
+#[cfg(test)]
+mod resumes;
 #[cfg(test)]
 mod turnstile;
 #[cfg(test)]

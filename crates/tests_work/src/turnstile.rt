@@ -96,3 +96,17 @@ impl Gate for Behind {
         true
     }
 }
+
+/// Lets nobody pass.
+#[derive(Clone, Copy, Debug)]
+pub struct Shut;
+
+impl Gate for Shut {
+    ghost may_refuse = { λ gate worker mark. Unit {0} };
+
+    ghost must_refuse = { λ gate worker mark. ⊥ };
+
+    fn pass<R: Wait>(&self, _rt: &R, _worker: u32, _mark: u64) -> bool {
+        false
+    }
+}

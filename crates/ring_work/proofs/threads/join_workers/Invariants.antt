@@ -1,10 +1,14 @@
-use Rattle.std.proofs.Common.{◌≡◌, All, vec_len}
+use Rattle.std.proofs.Common.{◌≡◌, ◌<◌, All, length, vec_len}
+use Rattle.std.specs.Prelude.{◌⊎◌}
+use Rattle.ring_work.specs.Driven.{IsSpent}
 use Rattle.ring_work.proofs.threads.join_workers.Given as goal
 
 abbrev pub invariant-loop-handle : goal.invariant-loop-handle
-invariant-loop-handle g l =
-    All (λ h. h.promise.0.now.id ≡ l.fn.board.id) l.handles.items
-    × All (λ s. s.board ≡ l.fn.board.id) l.left.seats.items
+invariant-loop-handle g l = record {
+  handles : All (λ h. (h.promise.0.now.id ≡ l.fn.board.id) × (h.promise.1.now ≡ l.fn.plan)) l.handles.items;
+  seats : All (λ s. s.board ≡ l.fn.board.id) l.left.seats.items;
+  spent : IsSpent l.left.refusal → IsSpent l.fn.left.refusal ⊎ (0 < length l.fn.plan);
+}
 
 abbrev pub decreases-loop-handle : goal.decreases-loop-handle
 decreases-loop-handle g l = vec_len l.handles

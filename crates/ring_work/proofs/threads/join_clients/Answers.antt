@@ -1,0 +1,21 @@
+use Rattle.std.proofs.Common.{◌≡◌, ◌∙◌, ◌<◌, ◌≤◌, ◌+◌, Some, subst, inl, inr}
+use Rattle.std.proofs.lemmas.List.Elements.{All-pop}
+use Rattle.std.specs.declared.thread.PromisedHandle.{PromisedHandle}
+use Rattle.ring_work.specs.declared.done.Done.{Done}
+use Rattle.ring_work.specs.declared.threads.ByGate.{ByGate}
+use Rattle.ring_work.proofs.threads.join_clients.Goals as goal
+
+pub loop-handle-preserved : goal.loop-handle-preserved
+loop-handle-preserved g c =
+    let is_ours = λ (h : PromisedHandle (Done g.row.L.Denot) (ByGate g.row.G.Denot)). (h.promise.0.now ≡ c.args.gate.now) × (64 ≤ h.promise.1) × (h.promise.1 < 64 + c.args.clients) in
+    let popped = All-pop is_ours c.loop-handle.handles.items c.pop.new.self.items (Some c.in-Some.handle) c.in-Some.ensures.items c.loop-handle.invariant.handles in
+    record {
+      handles = popped.0;
+      seats = c.take.ensures.seats ∙ c.loop-handle.invariant.seats;
+      spent = λ s. elim (c.take.ensures.spent s) [
+        | inl old ↦ c.loop-handle.invariant.spent old
+        | inr new ↦
+            let got = c.join.ensures new in
+            inr (c.in-Some.handle.promise.1, got.0, popped.1.1, popped.1.2, subst (λ (gate : g.row.G.Denot). g.G.Gate.may_refuse gate c.in-Some.handle.promise.1 got.0) popped.1.0 got.1)
+      ];
+    }

@@ -1,0 +1,192 @@
+//! What came before the threads of a drive that goes on from a history.
+
+ghost use Rattle.std.specs.Prelude.{◌≡◌, ◌==◌, ◌<◌, ◌≤◌, ℕ, true, false, cond, is_some, length, vec_len, slice_index_or, IfOk, IfErr, OnOk};
+ghost use Rattle.ring_names.specs.declared.refusal.Refusal.TheVariants.{OutOfMemory};
+ghost use Rattle.ring_work.specs.Resumed.{receipt_at, receipts_from, open_behind, is_open, open_copies, Breaks, Continues};
+
+use crate::noting::note;
+use plan_check::{Entry, Event, Reply};
+use ring_board::{Board, Claim, Seat};
+use ring_exec::{Executor, RunLedger, Share};
+use ring_names::{Listed, Refusal};
+use ring_receipts::Receipt;
+use std::alloc::{AllocError, Global};
+use std::sync::Wait;
+
+// The same numbers, in memory of their own.
+fn numbers(alloc: Global, given: &Listed<u32>) -> Result<Listed<u32>, AllocError>
+    ensures { IfOk result (λ list. list ≡ given.now) }
+{
+    let numbers = Vec::from_slice(alloc, given.as_slice())?;
+    Ok(Listed::from_vec(numbers))
+}
+
+// The same reply, in memory of its own.
+fn copy_of(alloc: Global, reply: &Reply) -> Result<Reply, AllocError>
+    ensures { IfOk result (λ r. r ≡ reply.now) }
+{
+    match reply {
+        Reply::Plain => Ok(Reply::Plain),
+        Reply::Put(put) => Ok(Reply::Put(*put)),
+        Reply::Ticket(slot, generation) => Ok(Reply::Ticket(*slot, *generation)),
+        Reply::Get(get) => Ok(Reply::Get(*get)),
+        Reply::Found(puts) => Ok(Reply::Found(numbers(alloc, puts)?)),
+        Reply::Answer(puts) => Ok(Reply::Answer(numbers(alloc, puts)?)),
+    }
+}
+
+// The receipt of the entry at that place.
+fn receipt_of(alloc: Global, index: u32, entry: &Entry) -> Result<Receipt, AllocError>
+    ensures { IfOk result (λ r. r ≡ receipt_at index entry.now) }
+{
+    let event = entry.event.try_copy(alloc)?;
+    let reply = copy_of(alloc, &entry.reply)?;
+    Ok(Receipt {
+        index,
+        event,
+        reply,
+    })
+}
+
+// The receipts of the entries of a history.
+fn receipts_of(alloc: Global, entries: &[Entry]) -> Result<Vec<Receipt>, Refusal>
+    requires { length entries.now ≤ 1000000 }
+    ensures ok { IfOk result (λ v. v.items ≡ receipts_from 0 entries.now) }
+    ensures memory { IfErr result (λ e. e ≡ OutOfMemory) }
+{
+    let mut receipts = Vec::with_capacity(alloc, entries.len())?;
+    let mut place = 0u32;
+    let mut rest = entries;
+    'entries: while let Some((first, later)) = rest.split_first() {
+        receipts.push(receipt_of(alloc, place, first)?)?;
+        place += 1;
+        rest = later;
+    }
+    Ok(receipts)
+}
+
+// Notes that the copy is open, or that it is not.
+fn note_copy(flags: &mut Vec<bool>, step: u32, is: bool)
+    ensures len { vec_len flags.new ≡ vec_len flags.old }
+    ensures flags { (n : ℕ) → n < vec_len flags.old → slice_index_or flags.new.items n false ≡ cond (step == n) is (slice_index_or flags.old.items n false) }
+{
+    let step = step as usize;
+    if step < flags.len() {
+        flags[step] = is;
+    }
+}
+
+// Notes what the event says of a copy.
+fn look(flags: &mut Vec<bool>, event: &Event)
+    ensures len { vec_len flags.new ≡ vec_len flags.old }
+    ensures flags { (n : ℕ) → n < vec_len flags.old → slice_index_or flags.new.items n false ≡ open_behind n event.now (slice_index_or flags.old.items n false) }
+{
+    match event {
+        Event::OpenCopy(step) => note_copy(flags, *step, true),
+        Event::CloseCopy(step) | Event::AbortCopy(step) => note_copy(flags, *step, false),
+        _ => {}
+    }
+}
+
+// Which copies are open behind the entries, for each step. Takes a byte for each.
+fn flags_of(alloc: Global, steps: u32, entries: &[Entry]) -> Result<Vec<bool>, Refusal>
+    ensures len { IfOk result (λ v. vec_len v ≡ steps) }
+    ensures flags { IfOk result (λ v. (n : ℕ) → n < steps → slice_index_or v.items n false ≡ is_open n entries.now false) }
+    ensures memory { IfErr result (λ e. e ≡ OutOfMemory) }
+{
+    let mut flags = vec![in alloc; false; steps as usize]?;
+    let mut rest = entries;
+    'entries: while let Some((first, later)) = rest.split_first() {
+        look(&mut flags, &first.event);
+        rest = later;
+    }
+    Ok(flags)
+}
+
+// The copies that are open behind the entries, by number.
+fn copies_of(alloc: Global, steps: u32, entries: &[Entry]) -> Result<Vec<u32>, Refusal>
+    ensures ok { IfOk result (λ v. v.items ≡ open_copies steps entries.now) }
+    ensures memory { IfErr result (λ e. e ≡ OutOfMemory) }
+{
+    let flags = flags_of(alloc, steps, entries)?;
+    let mut copies = Vec::new(alloc);
+    for step in 0..steps {
+        if flags[step as usize] {
+            copies.push(step)?;
+        }
+    }
+    Ok(copies)
+}
+
+// Breaks the copies off, in order.
+fn break_off<'a, L: RunLedger, R: Wait>(
+    rt: &R,
+    executor: &Executor<'a, L>,
+    share: &mut Share<L>,
+    receipts: &mut Vec<Receipt>,
+    copies: &[u32],
+) -> Result<(), Refusal>
+    ensures ok { OnOk result (Breaks copies.now receipts.old.items receipts.new.items) }
+    ensures parts { share.new.token.parts ≡ share.old.token.parts }
+{
+    for copy in copies {
+        note(rt, executor, share, receipts, &Event::AbortCopy(*copy))?;
+    }
+    Ok(())
+}
+
+/// The receipts of the entries behind which the store is, and behind them those of the copies that they left open, each of which is broken off.
+pub(crate) fn continued<'a, L: RunLedger, R: Wait>(
+    rt: &R,
+    alloc: Global,
+    executor: &Executor<'a, L>,
+    share: &mut Share<L>,
+    steps: u32,
+    entries: &[Entry],
+) -> Result<Listed<Receipt>, Refusal>
+    requires few { length entries.now ≤ 1000000 }
+    ensures ok { IfOk result (λ list. Continues steps entries.now list) }
+    ensures parts { share.new.token.parts ≡ share.old.token.parts }
+{
+    let mut receipts = receipts_of(alloc, entries)?;
+    let copies = copies_of(alloc, steps, entries)?;
+    break_off(rt, executor, share, &mut receipts, copies.as_slice())?;
+    Ok(Listed::from_vec(receipts))
+}
+
+// The step that the event finishes, if it does.
+fn finished(event: &Event) -> Option<u32> {
+    match event {
+        Event::Do(step) | Event::CloseCopy(step) => Some(*step),
+        _ => None,
+    }
+}
+
+// Claims the step for the seat and marks it as finished, where it is free.
+fn finish(board: &Board, seat: &mut Seat, step: u32)
+    requires board { seat.old.board ≡ board.now.id }
+    requires worker { is_some seat.old.worker ≡ true }
+    requires step { step < board.now.steps }
+    ensures board { seat.new.board ≡ board.now.id }
+    ensures worker { seat.new.worker ≡ seat.old.worker }
+{
+    if let Claim::Won = board.claim(seat, step) {
+        board.mark_done(seat, step);
+    }
+}
+
+/// Claims each step that the entries finished for the seat, and marks it as finished.
+pub(crate) fn finish_all(board: &Board, seat: &mut Seat, entries: &[Entry])
+    requires board { seat.old.board ≡ board.now.id }
+    requires worker { is_some seat.old.worker ≡ true }
+    ensures board { seat.new.board ≡ board.now.id }
+    ensures worker { seat.new.worker ≡ seat.old.worker }
+{
+    for entry in entries {
+        if let Some(step) = finished(&entry.event) {
+            if step < board.steps() {
+                finish(board, seat, step);
+            }
+        }
+    }
+}

@@ -1,0 +1,211 @@
+//! A drive that goes on from a history.
+
+ghost use Rattle.std.specs.Prelude.{◌≡◌, ◌≢◌, ◌↔◌, ◌+◌, ◌<◌, ◌≤◌, [], ◌∷◌, true, length, vec_len, IfOk, IfErr};
+ghost use Rattle.std.specs.List.{AllByRecursion, list_all};
+ghost use Rattle.ring_names.specs.declared.refusal.Refusal.TheVariants.{OutOfMemory, HistoryFull, TurnsSpent};
+ghost use Rattle.plan_check.specs.World.{opening_world};
+ghost use Rattle.script_text.specs.Client.{is_client_event};
+ghost use Rattle.ring_replay.specs.Faults.{IsFirstFault};
+ghost use Rattle.ring_receipts.specs.Finishing.{list_at};
+ghost use Rattle.ring_work.specs.Driven.{IsHistory, IsFault, MayStop};
+ghost use Rattle.ring_work.specs.Resumed.{Continues, Resumed, IsStop};
+
+use crate::driving::{bare, drive_on, history_of, told};
+use crate::earlier::continued;
+use crate::fault::Fault;
+use crate::noting::no_limit;
+use plan_check::{Approved, Entry, Gate};
+use ring_exec::{Executor, MAX_ENTRIES, RunLedger, Share};
+use ring_names::{Listed, Refusal};
+use ring_receipts::{Outcome, Receipt};
+use script_text::Script;
+use std::alloc::Global;
+use std::marker::Brand;
+use std::sync::Wait;
+use std::sync::ledger::Blank;
+use std::thread::Threads;
+
+// The one list, alone.
+fn alone(alloc: Global, list: Listed<Receipt>) -> Result<Vec<Listed<Receipt>>, Refusal>
+    ensures { IfOk result (λ v. v.items ≡ list ∷ []) }
+{
+    let mut front = Vec::new(alloc);
+    front.push(list)?;
+    Ok(front)
+}
+
+// The list of what came before the threads, with every copy broken off that the entries left open. It stands alone.
+fn front_of<'a, L: RunLedger, R: Wait>(
+    rt: &R,
+    alloc: Global,
+    executor: &Executor<'a, L>,
+    share: &mut Share<L>,
+    steps: u32,
+    entries: &[Entry],
+) -> Result<Vec<Listed<Receipt>>, Refusal>
+    requires few { length entries.now ≤ 1000000 }
+    ensures one { IfOk result (λ v. vec_len v ≡ 1) }
+    ensures first { IfOk result (λ v. Continues steps entries.now (list_at v.items 0)) }
+    ensures parts { share.new.token.parts ≡ share.old.token.parts }
+{
+    let list = continued(rt, alloc, executor, share, steps, entries)?;
+    alone(alloc, list)
+}
+
+// The fault of a store that is given up before its threads, with the history that stands.
+fn broken_off<'a, L: RunLedger>(
+    alloc: Global,
+    executor: Executor<'a, L>,
+    shares: Vec<Share<L>>,
+    approved: &Approved,
+    refusal: Refusal,
+) -> Fault
+    requires ring { approved.now.ring ≡ L.ring }
+    requires plan { approved.now.plan ≡ L.plan }
+    ensures run { IsHistory approved.now.ring approved.now.plan result.history.items }
+    ensures refusal { IsFault result.refusal }
+    ensures spent { result.refusal ≡ TurnsSpent → ⊥ }
+{
+    let refusal = told(no_limit(refusal));
+    match executor.finish(shares) {
+        Ok(ledgered) => {
+            let (history, _) = history_of(approved, ledgered);
+            Fault { refusal, history }
+        }
+        Err(_) => bare(alloc, approved, refusal),
+    }
+}
+
+// A drive whose store is behind the lock, and behind the entries.
+fn resume_on<'a, L: RunLedger + Send + Sync, R: Threads + Wait + Sync, G: Gate + Sync>(
+    rt: &R,
+    alloc: Global,
+    executor: Executor<'a, L>,
+    share: Share<L>,
+    approved: &Approved,
+    entries: &[Entry],
+    scripts: &[Script],
+    workers: u32,
+    gate: &G,
+) -> Result<Outcome, Fault>
+    requires few { length entries.now ≤ 1000000 }
+    requires parts { workers + length scripts.now + 2 ≤ share.token.parts }
+    requires ring { approved.now.ring ≡ L.ring }
+    requires plan { approved.now.plan ≡ L.plan }
+    requires workers { workers ≤ 64 }
+    requires scripts { length scripts.now ≤ 8 }
+    ensures ok { IfOk result (λ o. Resumed approved.now.ring approved.now.plan scripts.now workers entries.now o.history.items o.receipts.items o.finishers.items) }
+    ensures threads { IfOk result (λ o. vec_len o.receipts ≡ 1 + (workers + (length scripts.now + 1))) }
+    ensures refusal { IfErr result (λ f. IsFault f.refusal) }
+    ensures spent { IfErr result (λ f. f.refusal ≡ TurnsSpent → MayStop (G.may_refuse gate.now) approved.now.plan (length scripts.now)) }
+    ensures history { IfErr result (λ f. IsHistory approved.now.ring approved.now.plan f.history.items) }
+{
+    let mut share = share;
+    let steps = approved.plan().len();
+    // Room for the share, so that the history stands where an abort is refused.
+    let mut shares = match Vec::with_capacity(alloc, 1) {
+        Ok(shares) => shares,
+        Err(_) => {
+            executor.give_up();
+            return Err(bare(alloc, approved, told(Refusal::OutOfMemory)));
+        }
+    };
+    match front_of(rt, alloc, &executor, &mut share, steps, entries) {
+        Ok(front) => drive_on(
+            rt, alloc, executor, share, approved, entries, front, scripts, workers, gate,
+        ),
+        Err(refusal) => {
+            shares.push_reserved(share);
+            Err(broken_off(alloc, executor, shares, approved, refusal))
+        }
+    }
+}
+
+// Why a store is not restored, as a resume tells it.
+fn stopped(approved: &Approved, entries: &[Entry], refusal: Refusal) -> Refusal
+    requires full { (refusal ≡ HistoryFull) ↔ (1000000 < length entries.now) }
+    requires few { length entries.now ≤ 1000000 }
+    requires err { refusal ≢ HistoryFull → refusal ≢ OutOfMemory → IsFirstFault approved.now.ring approved.now.plan (opening_world approved.now.ring) 0 entries.now refusal }
+    ensures stop { IsStop approved.now.ring approved.now.plan entries.now result }
+    ensures spent { result ≡ TurnsSpent → ⊥ }
+{
+    if refusal == Refusal::OutOfMemory {
+        return Refusal::OutOfMemory;
+    }
+    refusal
+}
+
+// The same from the entries alone, by this ledger.
+fn resume_as<'a, L: RunLedger + Send + Sync, R: Threads + Wait + Sync, G: Gate + Sync>(
+    rt: &R,
+    alloc: Global,
+    blank: Blank,
+    approved: &'a Approved,
+    entries: &[Entry],
+    scripts: &[Script],
+    workers: u32,
+    gate: &G,
+) -> Result<Outcome, Fault>
+    requires few { length entries.now ≤ 1000000 }
+    requires name { blank.name ≡ L.name }
+    requires parts { (blank.parts ≡ L.parts) × (blank.parts ≡ 128) }
+    requires ring { approved.now.ring ≡ L.ring }
+    requires plan { approved.now.plan ≡ L.plan }
+    requires workers { workers ≤ 64 }
+    requires scripts { length scripts.now ≤ 8 }
+    ensures ok { IfOk result (λ o. Resumed approved.now.ring approved.now.plan scripts.now workers entries.now o.history.items o.receipts.items o.finishers.items) }
+    ensures threads { IfOk result (λ o. vec_len o.receipts ≡ 1 + (workers + (length scripts.now + 1))) }
+    ensures refusal { IfErr result (λ f. IsStop approved.now.ring approved.now.plan entries.now f.refusal) }
+    ensures spent { IfErr result (λ f. f.refusal ≡ TurnsSpent → MayStop (G.may_refuse gate.now) approved.now.plan (length scripts.now)) }
+    ensures history { IfErr result (λ f. IsHistory approved.now.ring approved.now.plan f.history.items) }
+    ensures empty { IfErr result (λ f. (IsFault f.refusal → ⊥) → f.history.items ≡ []) }
+{
+    match Executor::<L>::restore(alloc, blank, approved, entries) {
+        Ok((executor, share)) => resume_on(
+            rt, alloc, executor, share, approved, entries, scripts, workers, gate,
+        ),
+        Err(refusal) => Err(bare(alloc, approved, stopped(approved, entries, refusal))),
+    }
+}
+
+/// A run of the plan that goes on from a history which broke off. The store is restored behind its entries; each copy that they left open is
+/// broken off, by step number; then all is done as `drive` does it. The first list of receipts tells the entries, and behind them what these
+/// aborts were answered; the finisher of each step that the entries finished is the number of workers, which is no worker's. More than 1,000,000
+/// entries are refused before all else; else `Mismatch` tells the first entry at which they are no run of the plan, both with an empty history.
+/// Behind them it breaks off as `drive` does, with 70 also where there is no room in the history for an abort. Out of memory comes last at
+/// each entry.
+pub fn resume<R: Threads + Wait + Sync, G: Gate + Sync>(
+    rt: &R,
+    alloc: Global,
+    approved: &Approved,
+    entries: &[Entry],
+    scripts: &[Script],
+    workers: u32,
+    gate: &G,
+) -> Result<Outcome, Fault>
+    requires workers { (0 < workers) × (workers ≤ 64) }
+    requires scripts { (0 < length scripts.now) × (length scripts.now ≤ 8) }
+    requires clients { AllByRecursion (λ s. list_all is_client_event s ≡ true) scripts.now }
+    // As drive's, and the first list of receipts continues the entries.
+    ensures ok { IfOk result (λ o. Resumed approved.now.ring approved.now.plan scripts.now workers entries.now o.history.items o.receipts.items o.finishers.items) }
+    // A list of what came before, and one for each worker, for each client and for the handoffs, and no other.
+    ensures threads { IfOk result (λ o. vec_len o.receipts ≡ 1 + (workers + (length scripts.now + 1))) }
+    ensures refusal { IfErr result (λ f. IsStop approved.now.ring approved.now.plan entries.now f.refusal) }
+    ensures spent { IfErr result (λ f. f.refusal ≡ TurnsSpent → MayStop (G.may_refuse gate.now) approved.now.plan (length scripts.now)) }
+    ensures history { IfErr result (λ f. IsHistory approved.now.ring approved.now.plan f.history.items) }
+    ensures empty { IfErr result (λ f. (IsFault f.refusal → ⊥) → f.history.items ≡ []) }
+{
+    if entries.len() > MAX_ENTRIES {
+        return Err(bare(alloc, approved, Refusal::HistoryFull));
+    }
+    resume_as::<Brand, R, G>(
+        rt,
+        alloc,
+        Blank::new(128),
+        approved,
+        entries,
+        scripts,
+        workers,
+        gate,
+    )
+}
