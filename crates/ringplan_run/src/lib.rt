@@ -12,8 +12,10 @@ mod output;
 mod program;
 mod replaying;
 
-pub use bundle::{check_bundle, check_bundle_by, migrate_bundle, plan_bundle, play_bundle};
+pub use answer::{Answer, answer_of};
+pub use bundle::{check_bundle, check_bundle_by, make, migrate_bundle, plan_bundle, play_bundle};
 pub use driving::drive_bundle;
+pub use input::MAX_INPUT;
 pub use job::{Form, Job};
 pub use program::{end_without_memory, end_without_words, run, run_alone};
 pub use replaying::replay_bundle;

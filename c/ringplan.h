@@ -1,0 +1,71 @@
+/* ringplan as a C library: plans for changes of a live ring, and the proved checker of plans.
+ *
+ * A call takes the bytes that the program `ringplan` would read from standard input, and gives the bytes that it would print. It
+ * keeps nothing: no state, thread, lock, file, signal handler or environment. It takes memory from malloc and frees all of it
+ * before it returns. No call ends the process, and none stands for the program's `drive` or its `--workers`.
+ *
+ * What becomes of a call, which is proved:
+ *   `*length` is the length of the text.
+ *   Where the text fits into `room` bytes, it stands at `output`, with no NUL behind it, the bytes behind it are as they were,
+ *   and the result is the exit status of the program, 0 to 3.
+ *   Where it does not fit, all of `output` is as it was and the result is 4: `*length` bytes serve, and the call may be made again.
+ *
+ * What the caller owes, which nothing checks:
+ *   - `input` has `input_length` bytes that can be read, `output` has `room` bytes that can be written, and `length` is one size_t.
+ *     They do not overlap, and no thread touches them while the call runs, but that others may read `input`.
+ *   - `input` may be NULL where `input_length` is 0, and `output` where `room` is 0. `length` may not.
+ *   - Lengths are below 2^63.
+ *   - malloc, realloc and free are those of one allocator. It may answer NULL: then the text is `no 60` and the result 3.
+ *   - The calling thread has 64 KiB of stack left.
+ *   - No call is made from a signal handler, or in the forked child of a process that has threads.
+ *
+ * Calls may run in any number of threads at once, each with buffers of its own.
+ *
+ * What is trusted beside that: the toolchain that built the library, the C library's malloc, realloc, free, memcpy, memmove and
+ * memset, and this header. The library is for x86-64-v2 on Linux. docs/EMBEDDING.md has more.
+ */
+#ifndef RINGPLAN_H
+#define RINGPLAN_H
+
+#include <stddef.h>
+#include <stdint.h>
+
+#ifdef __cplusplus
+extern "C" {
+#endif
+
+/* What a call returns. */
+enum ringplan_status {
+    RINGPLAN_DONE = 0,         /* yes, a plan, what a play printed, migrated texts, or a history that is a run */
+    RINGPLAN_PLAN_REFUSED = 1, /* the plan is refused, there is none, or the history is no run of it */
+    RINGPLAN_TEXT_REFUSED = 2, /* a text is refused, or the input has more than 67,108,864 bytes (`no 2 0`) */
+    RINGPLAN_OUT_OF_MEMORY = 3,
+    RINGPLAN_MORE_ROOM = 4     /* `room` is too small: `output` is as it was */
+};
+
+/* Room for every answer of ringplan_check and for every refusal: the longest is "no 32 4294967295 4294967295\n", 28 bytes. */
+#define RINGPLAN_LINE 32
+
+/* 1, for the calls of this header. */
+uint32_t ringplan_version(void);
+
+/* A ring, a plan of it and the plan's certificate: "yes\n", or the line of the first refusal. */
+uint8_t ringplan_check(const uint8_t *input, size_t input_length, uint8_t *output, size_t room, size_t *length);
+
+/* A ring and a change of it: a plan that the checker accepts and its certificate, or the line of a refusal. */
+uint8_t ringplan_plan(const uint8_t *input, size_t input_length, uint8_t *output, size_t room, size_t *length);
+
+/* A ring, a plan, its certificate and a script: what each event is answered and the owners at the end, or the line of a refusal. */
+uint8_t ringplan_play(const uint8_t *input, size_t input_length, uint8_t *output, size_t room, size_t *length);
+
+/* A ring, a plan and its certificate: the same in the ring's next format, with nothing checked, or the line of a refusal. */
+uint8_t ringplan_migrate(const uint8_t *input, size_t input_length, uint8_t *output, size_t room, size_t *length);
+
+/* A ring, a plan, its certificate and a history: "yes\n" and the owners at the end, or the line of the first fault. */
+uint8_t ringplan_replay(const uint8_t *input, size_t input_length, uint8_t *output, size_t room, size_t *length);
+
+#ifdef __cplusplus
+}
+#endif
+
+#endif

@@ -1,0 +1,92 @@
+#!/usr/bin/env bash
+# Compares the C library with the program: of every case and every example each of the five jobs must print the same bytes and end with the
+# same status, by the library as LLVM builds it and as Rattle's own compiler does, from C, and of the examples from Python too. Prints how many
+# of how many do, and ends with 0 only where all do. Where there is no C compiler it says so and ends with 0.
+#
+# It may stand behind `rt ci`, which leaves each library of the repository as crates/NAME/out/rlib/NAME.rlib and the program as
+# crates/ringplan/out/ringplan, and of a static library nothing. So the static library is proved here once more, over those, and built twice,
+# all in a temporary folder. `rt lib` is not asked for it: `rt ci` leaves its libraries without the stamp by which `rt lib` knows them, so it
+# would prove every crate anew. Where a library or the program is missing, `rt lib` and `rt run` make them first, which takes up to an hour.
+set -euo pipefail
+export LC_ALL=C PYTHONDONTWRITEBYTECODE=1
+here=$(cd "$(dirname "$0")" && pwd)
+top=$(dirname "$here")
+program=$top/crates/ringplan/out/ringplan
+
+if ! command -v cc > /dev/null; then
+    echo "same.sh: there is no C compiler cc, so the C library is not compared with the program"
+    exit 0
+fi
+scratch=$(mktemp -d)
+trap 'rm -rf "$scratch"' EXIT
+
+# quietly COMMAND WORD..: runs it, and shows what it says only where it fails.
+quietly() {
+    local said=$scratch/said.$BASHPID
+    "$@" > "$said" 2>&1 || {
+        cat "$said"
+        exit 1
+    }
+}
+
+[ -d "$top/crates/ringplan_run/out/rlib/ringplan_run.rlib" ] || (cd "$top/crates/ringplan_run" && quietly rt lib)
+[ -x "$program" ] || (cd "$top/crates/ringplan" && quietly rt run -- help)
+
+# The proof, and what each compiler makes of it.
+kit=$(dirname "$(dirname "$(readlink -f "$(command -v rt)")")")
+words=(--crate-name ringplan_c --crate-type staticlib --links ringplan_c= --antt-project "$kit/rattle/logic/antt-project.json")
+words+=(--extern "std=$kit/rlibs/std.rlib" -L "dependency=$kit/rlibs")
+for name in ringplan_run ring_names; do
+    words+=(--extern "$name=$top/crates/$name/out/rlib/$name.rlib")
+done
+for folder in "$top"/crates/*/out/rlib; do
+    words+=(-L "dependency=$folder")
+done
+cd "$top/crates/ringplan_c"
+quietly "$kit/bin/rattle" check "${words[@]}" --logic-built "$kit/logic_built" --jobs 2 -o "$scratch/checked" src/lib.rt
+
+# build_by COMPILER: the library, as a `.so` too, and the program over it.
+build_by() {
+    local made=$scratch/$1
+    mkdir "$made"
+    quietly "$kit/bin/rattle" build "${words[@]}" --crate-checked "$scratch/checked" --toolchain "$kit/toolchain" --backend "$1" -o "$made/libringplan_c.a" src/lib.rt
+    quietly cc -shared -o "$made/libringplan.so" -Wl,--whole-archive "$made/libringplan_c.a" -Wl,--no-whole-archive "$kit/c/liblibc_c.a" -Wl,--exclude-libs,liblibc_c.a
+    quietly cc -O2 -o "$made/run" "$here/run.c" "$made/libringplan.so" "-Wl,-rpath,$made"
+}
+build_by llvm & by_llvm=$!
+build_by rattle & by_rattle=$!
+wait $by_llvm
+wait $by_rattle
+
+# answers WAY WANTED COMMAND WORD..: counts whether the command answers the bundle with that status and with the bytes that the program wrote.
+declare -A same all
+answers() {
+    local way=$1 wanted=$2 ended=0
+    shift 2
+    "$@" < "$bundle" > "$scratch/found" || ended=$?
+    all[$way]=$((${all[$way]:-0} + 1))
+    if [ $ended = "$wanted" ] && cmp -s "$scratch/wanted" "$scratch/found"; then
+        same[$way]=$((${same[$way]:-0} + 1))
+    else
+        echo "$way: ${*: -1} of ${bundle#"$top"/} is answered otherwise, with status $ended and not $wanted"
+    fi
+}
+
+export RINGPLAN_LIBRARY=$scratch/llvm/libringplan.so
+for bundle in "$top"/crates/tests_cases/data/*.bundle "$top"/examples/*.bundle; do
+    for job in check plan play migrate replay; do
+        status=0
+        "$program" $job < "$bundle" > "$scratch/wanted" || status=$?
+        answers "C, built by LLVM" $status "$scratch/llvm/run" $job
+        answers "C, built by Rattle's own compiler" $status "$scratch/rattle/run" $job
+        if [[ $bundle = "$top"/examples/* ]] && command -v python3 > /dev/null; then
+            answers "Python, built by LLVM" $status python3 "$here/ringplan.py" $job
+        fi
+    done
+done
+differing=0
+for way in "${!all[@]}"; do
+    echo "$way: ${same[$way]:-0} of ${all[$way]} answers are the program's"
+    [ "${same[$way]:-0}" = "${all[$way]}" ] || differing=1
+done
+exit $differing

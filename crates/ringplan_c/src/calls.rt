@@ -1,0 +1,110 @@
+//! The calls. The header `c/ringplan.h` has them as C sees them, and says what a caller owes.
+
+ghost use Rattle.std.specs.Prelude.{◌≡◌};
+ghost use Rattle.ringplan_c.specs.Calls.{Comes, Replies};
+ghost use Rattle.ringplan_run.specs.Answers.{texts_of};
+ghost use Rattle.ringplan_run.specs.declared.job.Job.TheVariants.{Check, Migrate, Plan, Play, Replay};
+
+use crate::room::fill;
+use ring_names::Refusal;
+use ringplan_run::{Job, MAX_INPUT, answer_of, make};
+use std::alloc::Global;
+
+// The line of a refusal for want of memory, which itself needs none.
+const NO_MEMORY: &[u8; 6] = b"no 60\n";
+
+// The status where memory failed.
+const FAILED: u8 = 3;
+
+// What comes of an input. One of more bytes than the program reads is refused as the program refuses it.
+fn outcome(alloc: Global, job: Job, input: &[u8]) -> Result<Vec<u8>, Refusal>
+    ensures { Comes job input.now (texts_of result) }
+{
+    if input.len() > MAX_INPUT {
+        return Err(Refusal::TooLarge(0));
+    }
+    make(alloc, job, input)
+}
+
+// The answer to a job, in the caller's room.
+fn reply(alloc: Global, job: Job, input: &[u8], output: &mut [u8], length: &mut usize) -> u8
+    ensures { Replies job input.now output.old output.new length.new result }
+{
+    match answer_of(alloc, outcome(alloc, job, input)) {
+        Ok(answer) => fill(answer.output.as_slice(), answer.status, output, length),
+        Err(_) => fill(NO_MEMORY, FAILED, output, length),
+    }
+}
+
+/// The version of these calls. A later one with another meaning of a call, or of its parameters, has another.
+#[unsafe(no_mangle)]
+pub extern "C" fn ringplan_version() -> u32
+    ensures { result ≡ 1 }
+{
+    1
+}
+
+/// `ringplan check`: `yes`, or the line of the first refusal. What it prints has at most 28 bytes.
+#[unsafe(no_mangle)]
+pub extern "C" fn ringplan_check(
+    alloc: Global,
+    input: &[u8],
+    output: &mut [u8],
+    length: &mut usize,
+) -> u8
+    ensures { Replies Check input.now output.old output.new length.new result }
+{
+    reply(alloc, Job::Check, input, output, length)
+}
+
+/// `ringplan plan`: a plan for a change and its certificate, or the line of a refusal.
+#[unsafe(no_mangle)]
+pub extern "C" fn ringplan_plan(
+    alloc: Global,
+    input: &[u8],
+    output: &mut [u8],
+    length: &mut usize,
+) -> u8
+    ensures { Replies Plan input.now output.old output.new length.new result }
+{
+    reply(alloc, Job::Plan, input, output, length)
+}
+
+/// `ringplan play`: what the events of a script are answered, or the line of a refusal.
+#[unsafe(no_mangle)]
+pub extern "C" fn ringplan_play(
+    alloc: Global,
+    input: &[u8],
+    output: &mut [u8],
+    length: &mut usize,
+) -> u8
+    ensures { Replies Play input.now output.old output.new length.new result }
+{
+    reply(alloc, Job::Play, input, output, length)
+}
+
+/// `ringplan migrate`: the texts with the ring in its next format, or the line of a refusal.
+#[unsafe(no_mangle)]
+pub extern "C" fn ringplan_migrate(
+    alloc: Global,
+    input: &[u8],
+    output: &mut [u8],
+    length: &mut usize,
+) -> u8
+    ensures { Replies Migrate input.now output.old output.new length.new result }
+{
+    reply(alloc, Job::Migrate, input, output, length)
+}
+
+/// `ringplan replay`: `yes` and the owners behind a history that is a run of the plan, or the line of a refusal.
+#[unsafe(no_mangle)]
+pub extern "C" fn ringplan_replay(
+    alloc: Global,
+    input: &[u8],
+    output: &mut [u8],
+    length: &mut usize,
+) -> u8
+    ensures { Replies Replay input.now output.old output.new length.new result }
+{
+    reply(alloc, Job::Replay, input, output, length)
+}
