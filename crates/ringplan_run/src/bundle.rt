@@ -19,7 +19,7 @@ ghost use Rattle.ringplan_run.specs.Answers.{texts_of};
 ghost use Rattle.ringplan_run.specs.Verdict.{TextsKeepPromises, MakesIf, judged, migrated_text, migration, plays, shown, verdict};
 
 use crate::job::Job;
-use crate::replaying::replay_bundle;
+use crate::replaying::{replay_bundle, replay_whole};
 use change_text::read_wanted;
 use plan_cert::{Cert, write_cert};
 use plan_check::{OpenGate, check, check_parallel};
@@ -212,6 +212,16 @@ pub fn make(alloc: Global, job: Job, bytes: &[u8]) -> Result<Vec<u8>, Refusal>
         Job::Play => play_bundle(alloc, bytes),
         Job::Plan => plan_bundle(alloc, bytes),
         Job::Replay => replay_bundle(alloc, bytes),
+    }
+}
+
+/// The same of bytes that are given up.
+pub(crate) fn make_whole(alloc: Global, job: Job, bytes: Vec<u8>) -> Result<Vec<u8>, Refusal>
+    ensures { MakesIf job bytes.items (texts_of result) }
+{
+    match job {
+        Job::Replay => replay_whole(alloc, bytes),
+        Job::Check | Job::Migrate | Job::Play | Job::Plan => make(alloc, job, bytes.as_slice()),
     }
 }
 

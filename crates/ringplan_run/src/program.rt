@@ -10,7 +10,7 @@ ghost use Rattle.ringplan_run.specs.declared.job.Job.{Job};
 ghost use Rattle.ringplan_run.specs.declared.job.Job.TheVariants.{Check};
 
 use crate::answer::answer_of;
-use crate::bundle::{make, make_check_by};
+use crate::bundle::{make_check_by, make_whole};
 use crate::command::{CommandLine, parse};
 use crate::driving::drive_bundle;
 use crate::input::read_all;
@@ -113,7 +113,7 @@ fn make_of<R: Read + Drop>(alloc: Global, job: Job, input: &mut R) -> Result<Vec
     ensures { (bytes : List ℕ) × Tells (R.remaining input.old) bytes × Finds job bytes (texts_of result) }
 {
     let bytes = read_all(alloc, input)?;
-    make(alloc, job, bytes.as_slice())
+    make_whole(alloc, job, bytes)
 }
 
 // The text that a check by workers makes of the whole input.

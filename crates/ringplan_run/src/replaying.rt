@@ -59,3 +59,15 @@ pub fn replay_bundle(alloc: Global, bytes: &[u8]) -> Result<Vec<u8>, Refusal>
         Err(e) => Err(e),
     }
 }
+
+/// The same of bytes that are given up once they are read, so that the store takes their memory.
+pub(crate) fn replay_whole(alloc: Global, bytes: Vec<u8>) -> Result<Vec<u8>, Refusal>
+    ensures { MakesIf Replaying bytes.items (texts_of result) }
+{
+    let read = read_replay(alloc, bytes.as_slice());
+    drop(bytes);
+    match read {
+        Ok(bundle) => replay_checked(alloc, bundle),
+        Err(e) => Err(e),
+    }
+}
