@@ -2,6 +2,7 @@
 
 ghost use Rattle.std.specs.Prelude.{◌≡◌, true, is_some};
 
+use crate::same::{holds, same};
 use ring_board::{Board, Claim, Seat};
 use std::test::Fail;
 use std::thread;
@@ -14,20 +15,20 @@ fn a_step_from_hand_to_hand(rt: HostRuntime) -> Result<(), Fail> {
     let Claim::Won = board.claim(&mut a, 0) else {
         panic!(rt; "step 0 was not free");
     };
-    assert_eq!(rt; board.claim(&mut b, 0), Claim::Taken(1));
+    same!(rt; board.claim(&mut b, 0), Claim::Taken(1));
     board.give_back(&mut a, 0);
     let Claim::Won = board.claim(&mut b, 0) else {
         panic!(rt; "step 0 was not given back");
     };
     board.mark_done(&mut b, 0);
-    assert!(rt; board.is_done(&mut a, 0));
-    assert!(rt; !board.is_done(&mut a, 1));
-    assert_eq!(rt; board.claim(&mut a, 0), Claim::Taken(129));
+    holds!(rt; board.is_done(&mut a, 0));
+    holds!(rt; !board.is_done(&mut a, 1));
+    same!(rt; board.claim(&mut a, 0), Claim::Taken(129));
     let mut seats = Vec::new(rt.alloc());
     seats.push(a)?;
     seats.push(b)?;
     let words = board.close(seats)?;
-    assert_eq!(rt; words.as_slice(), [129, 0].as_slice());
+    same!(rt; words.as_slice(), [129, 0].as_slice());
     Ok(())
 }
 
@@ -97,9 +98,9 @@ fn two_threads_take_each_step_once(rt: HostRuntime) -> Result<(), Fail> {
     seats.push(one.0)?;
     seats.push(other.0)?;
     let words = board.close(seats)?;
-    assert_eq!(rt; words.len(), 1000);
-    assert_eq!(rt; count(words.as_slice(), 128), one.1);
-    assert_eq!(rt; count(words.as_slice(), 129), other.1);
-    assert_eq!(rt; one.1.saturating_add(other.1), 1000);
+    same!(rt; words.len(), 1000);
+    same!(rt; count(words.as_slice(), 128), one.1);
+    same!(rt; count(words.as_slice(), 129), other.1);
+    same!(rt; one.1.saturating_add(other.1), 1000);
     Ok(())
 }

@@ -2,6 +2,7 @@
 
 ghost use Rattle.std.specs.Prelude.{◌≡◌, IfOk, length};
 
+use crate::same::{holds, same};
 use ring_clock::{Cause, Clock, Entry, clocks};
 use ring_names::{Refusal, Value, WriterId};
 use ring_versions::{Version, Versions};
@@ -38,12 +39,12 @@ fn three_clocks(alloc: Global) -> Result<Vec<Clock>, Refusal>
 
 fn told<RT: Abort>(rt: &RT, clocks: &[Clock]) {
     assert_eq!(rt; clocks.len(), 3);
-    assert_eq!(rt; clocks[0].entries(), [entry(1, 1)].as_slice());
-    assert_eq!(rt; clocks[1].entries(), [entry(2, 1)].as_slice());
-    assert_eq!(rt; clocks[2].entries(), [entry(1, 2), entry(2, 1)].as_slice());
-    assert!(rt; clocks[0].le(&clocks[2]));
-    assert!(rt; clocks[1].le(&clocks[2]));
-    assert!(rt; !clocks[0].le(&clocks[1]));
+    same!(rt; clocks[0].entries(), [entry(1, 1)].as_slice());
+    same!(rt; clocks[1].entries(), [entry(2, 1)].as_slice());
+    same!(rt; clocks[2].entries(), [entry(1, 2), entry(2, 1)].as_slice());
+    holds!(rt; clocks[0].le(&clocks[2]));
+    holds!(rt; clocks[1].le(&clocks[2]));
+    holds!(rt; !clocks[0].le(&clocks[1]));
 }
 
 #[test]
@@ -56,9 +57,9 @@ fn clocks_of_three_puts(rt: HostRuntime) -> Result<(), Fail> {
 #[test]
 fn one_clock_more(rt: HostRuntime) -> Result<(), Fail> {
     let clock = Clock::new(rt.alloc()).bump(WriterId(3))?;
-    assert_eq!(rt; clock.counter(WriterId(3)), 1);
+    same!(rt; clock.counter(WriterId(3)), 1);
     let both = clock.join(&clock)?;
-    assert_eq!(rt; both.entries(), [entry(3, 1)].as_slice());
+    same!(rt; both.entries(), [entry(3, 1)].as_slice());
     Ok(())
 }
 
@@ -84,13 +85,13 @@ fn merged<RT: Abort>(
     third: &Versions,
 ) -> Result<(), Fail> {
     all.merge(second)?;
-    assert_eq!(rt; all.list().len(), 2);
+    same!(rt; all.list().len(), 2);
     all.merge(third)?;
-    assert_eq!(rt; all.list().len(), 1);
+    same!(rt; all.list().len(), 1);
     all.merge(second)?;
     assert_eq!(rt; all.list().len(), 1);
-    assert_eq!(rt; all.list()[0].put, 2);
-    assert_eq!(rt; all.list()[0].value.as_slice(), b"1".as_slice());
+    same!(rt; all.list()[0].put, 2);
+    same!(rt; all.list()[0].value.as_slice(), b"1".as_slice());
     Ok(())
 }
 
@@ -99,7 +100,7 @@ fn conflicts_stay_and_ancestors_go(rt: HostRuntime) -> Result<(), Fail> {
     let alloc = rt.alloc();
     let clocks = three_clocks(alloc)?;
     let mut all = set_of(alloc, 0, &clocks[0])?;
-    assert!(rt; !all.covers(&clocks[1]));
+    holds!(rt; !all.covers(&clocks[1]));
     let second = set_of(alloc, 1, &clocks[1])?;
     let third = set_of(alloc, 2, &clocks[2])?;
     merged(&rt, &mut all, &second, &third)
@@ -111,7 +112,7 @@ fn sets_copied(rt: HostRuntime) -> Result<(), Fail> {
     let clock = Clock::new(alloc).bump(WriterId(3))?;
     let set = set_of(alloc, 4, &clock)?;
     let copy = set.try_copy()?;
-    assert_eq!(rt; copy.list().len(), 1);
-    assert!(rt; copy.covers(&clock));
+    same!(rt; copy.list().len(), 1);
+    holds!(rt; copy.covers(&clock));
     Ok(())
 }

@@ -13,4 +13,6 @@ mod plans;
 #[cfg(test)]
 mod readers;
 #[cfg(test)]
+mod same;
+#[cfg(test)]
 mod stores;

@@ -1,5 +1,8 @@
 //! Names, lists by key, rows and places.
 
+ghost use Rattle.std.specs.Prelude.{◌≡◌, []};
+
+use crate::same::{holds, same};
 use ring_names::{Lists, Names, NodeId, Refusal, Rows, Value};
 use ring_space::{Place, place};
 use std::process::Abort;
@@ -14,45 +17,47 @@ fn add_name(names: &mut Names, name: &[u8]) -> Result<u32, Refusal> {
 }
 
 // Names in order of first sight.
-fn add_names<RT: Abort>(rt: &RT, names: &mut Names) -> Result<(), Fail> {
-    let first = add_name(names, b"b")?;
-    assert_eq!(rt; first, 0);
-    let second = add_name(names, b"a")?;
-    assert_eq!(rt; second, 1);
-    let again = add_name(names, b"b")?;
-    assert_eq!(rt; again, 0);
+fn numbered<RT: Abort>(rt: &RT, names: &mut Names) -> Result<(), Fail> {
+    same!(rt; add_name(names, b"b")?, 0);
+    same!(rt; add_name(names, b"a")?, 1);
+    same!(rt; add_name(names, b"b")?, 0);
+    same!(rt; names.len(), 2);
+    same!(rt; names.number_of(b"a"), Some(1));
+    holds!(rt; names.name_of(2).is_none());
     Ok(())
 }
 
 #[test]
 fn names_numbered(rt: HostRuntime) -> Result<(), Fail> {
     let mut names = Names::new(rt.alloc());
-    add_names(&rt, &mut names)?;
-    assert_eq!(rt; names.len(), 2);
-    assert_eq!(rt; names.number_of(b"a"), Some(1));
-    assert!(rt; names.name_of(2).is_none());
+    numbered(&rt, &mut names)
+}
+
+fn listed<RT: Abort>(rt: &RT, lists: &mut Lists<NodeId, u32>) -> Result<(), Fail> {
+    lists.add(NodeId(3), 7)?;
+    lists.add(NodeId(3), 8)?;
+    same!(rt; lists.items(&NodeId(3)), [7, 8].as_slice());
+    holds!(rt; lists.items(&NodeId(4)).is_empty());
     Ok(())
 }
 
-#[test]
-fn lists_by_key(rt: HostRuntime) -> Result<(), Fail> {
-    let mut lists = Lists::new(rt.alloc());
-    lists.add(NodeId(3), 7u32)?;
-    lists.add(NodeId(3), 8u32)?;
-    assert_eq!(rt; lists.items(&NodeId(3)), [7, 8].as_slice());
-    assert!(rt; lists.items(&NodeId(4)).is_empty());
-    Ok(())
-}
-
-#[test]
-fn rows_kept(rt: HostRuntime) -> Result<(), Fail> {
-    let mut rows = Rows::new(rt.alloc());
+fn rowed<RT: Abort>(rt: &RT, rows: &mut Rows) -> Result<(), Fail>
+    requires { rows.old ≡ [] }
+{
     rows.push(&[])?;
     rows.push(&[5, 9])?;
-    assert_eq!(rt; rows.len(), 2);
-    assert_eq!(rt; rows.total(), 2);
-    assert_eq!(rt; rows.row(1), [5, 9].as_slice());
+    same!(rt; rows.len(), 2);
+    same!(rt; rows.total(), 2);
+    same!(rt; rows.row(1), [5, 9].as_slice());
     Ok(())
+}
+
+#[test]
+fn lists_and_rows_kept(rt: HostRuntime) -> Result<(), Fail> {
+    let mut lists = Lists::new(rt.alloc());
+    listed(&rt, &mut lists)?;
+    let mut rows = Rows::new(rt.alloc());
+    rowed(&rt, &mut rows)
 }
 
 #[test]
@@ -69,7 +74,7 @@ fn values_copied(rt: HostRuntime) -> Result<(), Fail> {
     let bytes = Vec::from_slice(rt.alloc(), b"x1")?;
     let value = Value::of(bytes).ok_or("no value")?;
     let copy = value.try_copy(rt.alloc())?;
-    assert_eq!(rt; copy.as_slice(), b"x1".as_slice());
+    same!(rt; copy.as_slice(), b"x1".as_slice());
     Ok(())
 }
 
@@ -80,12 +85,12 @@ const LETTERS: &[u8] = b"abcdefghijklmnopqrstuvwxyz";
 #[tactic(auto, unfolding(ring_names::specs::Space::is_space))]
 fn places(rt: HostRuntime) {
     let at = |partition, chunk| Place { partition, chunk };
-    assert_eq!(rt; place(4, b"a"), at(0, 3));
-    assert_eq!(rt; place(4, b"abc"), at(2, 4));
-    assert_eq!(rt; place(4, LETTERS), at(3, 0));
-    assert_eq!(rt; place(1, b"a"), at(0, 0));
-    assert_eq!(rt; place(1, b"abc"), at(0, 9));
-    assert_eq!(rt; place(1, LETTERS), at(0, 12));
-    assert_eq!(rt; place(4096, LETTERS), at(3135, 12));
-    assert_eq!(rt; place(4096, b""), at(3393, 13));
+    same!(rt; place(4, b"a"), at(0, 3));
+    same!(rt; place(4, b"abc"), at(2, 4));
+    same!(rt; place(4, LETTERS), at(3, 0));
+    same!(rt; place(1, b"a"), at(0, 0));
+    same!(rt; place(1, b"abc"), at(0, 9));
+    same!(rt; place(1, LETTERS), at(0, 12));
+    same!(rt; place(4096, LETTERS), at(3135, 12));
+    same!(rt; place(4096, b""), at(3393, 13));
 }

@@ -1,5 +1,8 @@
 //! Plans that are made step by step.
 
+ghost use Rattle.std.specs.Prelude.{◌≡◌, []};
+
+use crate::same::same;
 use plan_text::{Plan, Source, Step};
 use ring_names::{NodeId, Slot};
 use std::process::Abort;
@@ -11,35 +14,39 @@ const SLOT: Slot = Slot {
 };
 
 // The steps of the slot, by what the plan keeps besides them.
-fn kept<RT: Abort>(rt: &RT, plan: &Plan) {
+fn kept<RT: Abort>(rt: &RT, plan: &mut Plan) -> Result<(), Fail>
+    requires { plan.old ≡ [] }
+{
+    plan.push(Step::Mirror(SLOT, NodeId(3)), &[])?;
+    plan.push(Step::Copy(SLOT, Source::Owner), &[0])?;
     assert_eq!(rt; plan.len(), 2);
-    assert_eq!(rt; plan.slot_steps(SLOT), [0, 1].as_slice());
-    assert_eq!(rt; plan.deps(1), [0].as_slice());
-    assert_eq!(rt; plan.dependencies(), 1);
+    same!(rt; plan.slot_steps(SLOT), [0, 1].as_slice());
+    same!(rt; plan.deps(1), [0].as_slice());
+    same!(rt; plan.dependencies(), 1);
+    Ok(())
 }
 
 #[test]
 fn push_keeps_the_step(rt: HostRuntime) -> Result<(), Fail> {
     let mut plan = Plan::new(rt.alloc());
-    plan.push(Step::Mirror(SLOT, NodeId(3)), &[])?;
-    plan.push(Step::Copy(SLOT, Source::Owner), &[0])?;
-    kept(&rt, &plan);
-    Ok(())
+    kept(&rt, &mut plan)
 }
 
 // The first steps that join and retire a node.
-fn looked_up<RT: Abort>(rt: &RT, plan: &Plan) {
-    assert_eq!(rt; plan.join_of(NodeId(3)), Some(1));
-    assert_eq!(rt; plan.retirement_of(NodeId(3)), Some(0));
-    assert_eq!(rt; plan.join_of(NodeId(4)), None);
+fn looked_up<RT: Abort>(rt: &RT, plan: &mut Plan) -> Result<(), Fail>
+    requires { plan.old ≡ [] }
+{
+    plan.push(Step::Retire(NodeId(3)), &[])?;
+    plan.push(Step::Join(NodeId(3)), &[])?;
+    plan.push(Step::Join(NodeId(3)), &[])?;
+    same!(rt; plan.join_of(NodeId(3)), Some(1));
+    same!(rt; plan.retirement_of(NodeId(3)), Some(0));
+    same!(rt; plan.join_of(NodeId(4)), None);
+    Ok(())
 }
 
 #[test]
 fn first_steps_are_looked_up(rt: HostRuntime) -> Result<(), Fail> {
     let mut plan = Plan::new(rt.alloc());
-    plan.push(Step::Retire(NodeId(3)), &[])?;
-    plan.push(Step::Join(NodeId(3)), &[])?;
-    plan.push(Step::Join(NodeId(3)), &[])?;
-    looked_up(&rt, &plan);
-    Ok(())
+    looked_up(&rt, &mut plan)
 }

@@ -1,5 +1,8 @@
 //! Texts that are written as they were read, and the limits of texts.
 
+ghost use Rattle.std.specs.Prelude.{◌≡◌, []};
+
+use crate::same::{holds, same};
 use plan_cert::{Cert, Chains, read_cert, write_cert};
 use plan_text::{read_plan, write_plan};
 use ring_names::{NodeId, Refusal, Rows};
@@ -36,12 +39,17 @@ const SPLIT_CERTS: [&str; 2] = [
     "cert 2\nfact 7 7\ngive b 2 5\nchain a 2\ntake b 7\ngive b 9\nend\n",
 ];
 
+// The ring is written so.
+fn is_written<RT: AllocGlobal + Abort>(rt: &RT, ring: &Ring, text: &[u8]) -> Result<(), Fail> {
+    let written = write_ring(rt.alloc(), ring)?;
+    same!(rt; written.as_slice(), text);
+    Ok(())
+}
+
 // A ring is written as it was read.
 fn ring_written<RT: AllocGlobal + Abort>(rt: &RT, text: &[u8]) -> Result<(), Fail> {
     let ring = read_ring(rt.alloc(), text)?;
-    let written = write_ring(rt.alloc(), &ring)?;
-    assert_eq!(rt; written.as_slice(), text);
-    Ok(())
+    is_written(rt, &ring, text)
 }
 
 #[test]
@@ -51,21 +59,10 @@ fn rings_written(rt: HostRuntime) -> Result<(), Fail> {
     ring_written(&rt, LOSS)
 }
 
-#[test]
-fn members_known(rt: HostRuntime) -> Result<(), Fail> {
-    let ring = read_ring(rt.alloc(), RING)?;
-    assert!(rt; ring.is_member(NodeId(2)));
-    assert!(rt; !ring.is_member(NodeId(3)));
-    Ok(())
-}
-
 // A ring that is migrated is written so.
 fn ring_migrated<RT: AllocGlobal + Abort>(rt: &RT, text: &[u8], to: &[u8]) -> Result<(), Fail> {
     let ring = read_ring(rt.alloc(), text)?;
-    let ring = ring.migrate();
-    let written = write_ring(rt.alloc(), &ring)?;
-    assert_eq!(rt; written.as_slice(), to);
-    Ok(())
+    is_written(rt, &ring.migrate(), to)
 }
 
 #[test]
@@ -83,54 +80,53 @@ fn rings_migrated(rt: HostRuntime) -> Result<(), Fail> {
 fn row_written<RT: AllocGlobal + Abort>(rt: &RT, ring: &Ring) -> Result<(), Fail> {
     let mut text = Vec::new(rt.alloc());
     push_row(&mut text, ring.nodes(), 7, &[NodeId(3), NodeId(0)])?;
-    assert_eq!(rt; text.as_slice(), b"slots 7 d a\n".as_slice());
+    same!(rt; text.as_slice(), b"slots 7 d a\n".as_slice());
     Ok(())
 }
 
-#[test]
-fn rows_written(rt: HostRuntime) -> Result<(), Fail> {
-    let ring = read_ring(rt.alloc(), RING)?;
-    row_written(&rt, &ring)
+// The plan's text, read and written.
+fn plan_text(alloc: Global, ring: &Ring) -> Result<Vec<u8>, Refusal> {
+    let plan = read_plan(alloc, ring, TWO_MOVES)?;
+    write_plan(alloc, ring, &plan)
 }
 
-// A plan of the ring is written as it was read.
-fn plan_written<RT: AllocGlobal + Abort>(rt: &RT, ring: &Ring) -> Result<(), Fail> {
-    let plan = read_plan(rt.alloc(), ring, TWO_MOVES)?;
-    let text = write_plan(rt.alloc(), ring, &plan)?;
-    assert_eq!(rt; text.as_slice(), TWO_MOVES);
-    Ok(())
+// A certificate's text over the ring, read and written.
+fn cert_text(alloc: Global, ring: &Ring, text: &str) -> Result<Vec<u8>, Refusal> {
+    let cert = read_cert(alloc, ring, text.as_bytes())?;
+    write_cert(alloc, ring, &cert)
 }
 
-#[test]
-fn plans_written(rt: HostRuntime) -> Result<(), Fail> {
-    let ring = read_ring(rt.alloc(), RING)?;
-    plan_written(&rt, &ring)
-}
-
-// A certificate over the ring is written as it was read.
-fn cert_written<RT: AllocGlobal + Abort>(rt: &RT, ring: &Ring, text: &str) -> Result<(), Fail> {
-    let cert = read_cert(rt.alloc(), ring, text.as_bytes())?;
-    let written = write_cert(rt.alloc(), ring, &cert)?;
-    assert_eq!(rt; written.as_slice(), text.as_bytes());
-    Ok(())
-}
-
-#[test]
-fn certificates_written(rt: HostRuntime) -> Result<(), Fail> {
-    let ring = read_ring(rt.alloc(), RING)?;
-    for text in CERTS {
-        cert_written(&rt, &ring, text)?;
+// Certificates over the ring are written as they were read.
+fn certs_written<RT: AllocGlobal + Abort>(
+    rt: &RT,
+    ring: &Ring,
+    texts: &[&str],
+) -> Result<(), Fail> {
+    for text in texts {
+        same!(rt; cert_text(rt.alloc(), ring, text)?.as_slice(), text.as_bytes());
     }
     Ok(())
+}
+
+// The ring's members are known; a row, a plan and certificates are written as they were read.
+fn all_written<RT: AllocGlobal + Abort>(rt: &RT, ring: &Ring) -> Result<(), Fail> {
+    holds!(rt; ring.is_member(NodeId(2)));
+    holds!(rt; !ring.is_member(NodeId(3)));
+    row_written(rt, ring)?;
+    same!(rt; plan_text(rt.alloc(), ring)?.as_slice(), TWO_MOVES);
+    certs_written(rt, ring, &CERTS)
+}
+
+#[test]
+fn texts_written(rt: HostRuntime) -> Result<(), Fail> {
+    let ring = read_ring(rt.alloc(), RING)?;
+    all_written(&rt, &ring)
 }
 
 #[test]
 fn split_certificates_written(rt: HostRuntime) -> Result<(), Fail> {
     let ring = read_ring(rt.alloc(), SPLIT)?;
-    for text in SPLIT_CERTS {
-        cert_written(&rt, &ring, text)?;
-    }
-    Ok(())
+    certs_written(&rt, &ring, &SPLIT_CERTS)
 }
 
 // A text of that first line, so many of a line, and `end`.
@@ -151,15 +147,9 @@ fn steps_read(alloc: Global, ring: &Ring, count: u32) -> Result<u32, Refusal> {
 }
 
 // As many steps as a plan may have, and one more.
-#[test]
-fn longest_plans(rt: HostRuntime) -> Result<(), Fail> {
-    let ring = read_ring(rt.alloc(), RING)?;
-    assert_eq!(rt; steps_read(rt.alloc(), &ring, 131_072), Ok(131_072));
-    assert_eq!(rt;
-        steps_read(rt.alloc(), &ring, 131_073),
-        Err(Refusal::TooLarge(131_074))
-    );
-    Ok(())
+fn longest_plans<RT: AllocGlobal + Abort>(rt: &RT, ring: &Ring) {
+    same!(rt; steps_read(rt.alloc(), ring, 131_072), Ok(131_072));
+    same!(rt; steps_read(rt.alloc(), ring, 131_073), Err(Refusal::TooLarge(131_074)));
 }
 
 // The numbers of facts and chains of a certificate, or the refusal.
@@ -183,23 +173,10 @@ fn sizes_of(
 fn most_lines<RT: AllocGlobal + Abort>(rt: &RT, ring: &Ring) {
     let fact = b"fact 0 1\n";
     let chain = b"chain a 0\n";
-    assert_eq!(rt; sizes_of(rt.alloc(), ring, fact, 262_144), Ok((262_144, 0)));
-    assert_eq!(rt;
-        sizes_of(rt.alloc(), ring, fact, 262_145),
-        Err(Refusal::TooLarge(262_146))
-    );
-    assert_eq!(rt; sizes_of(rt.alloc(), ring, chain, 65_536), Ok((0, 65_536)));
-    assert_eq!(rt;
-        sizes_of(rt.alloc(), ring, chain, 65_537),
-        Err(Refusal::TooLarge(65_538))
-    );
-}
-
-#[test]
-fn largest_certificates(rt: HostRuntime) -> Result<(), Fail> {
-    let ring = read_ring(rt.alloc(), RING)?;
-    most_lines(&rt, &ring);
-    Ok(())
+    same!(rt; sizes_of(rt.alloc(), ring, fact, 262_144), Ok((262_144, 0)));
+    same!(rt; sizes_of(rt.alloc(), ring, fact, 262_145), Err(Refusal::TooLarge(262_146)));
+    same!(rt; sizes_of(rt.alloc(), ring, chain, 65_536), Ok((0, 65_536)));
+    same!(rt; sizes_of(rt.alloc(), ring, chain, 65_537), Err(Refusal::TooLarge(65_538)));
 }
 
 // A fact of so many steps.
@@ -212,18 +189,16 @@ fn fact_of(alloc: Global, count: u32) -> Result<Vec<u8>, AllocError> {
     Ok(text)
 }
 
+// The sizes of a certificate with one fact of so many steps.
+fn fact_sizes(alloc: Global, ring: &Ring, count: u32) -> Result<(usize, usize), Refusal> {
+    let text = fact_of(alloc, count)?;
+    sizes(alloc, ring, text.as_slice())
+}
+
 // As many steps as a fact may have, and one more.
-#[test]
-fn longest_facts(rt: HostRuntime) -> Result<(), Fail> {
-    let ring = read_ring(rt.alloc(), RING)?;
-    let text = fact_of(rt.alloc(), 1_024)?;
-    assert_eq!(rt; sizes(rt.alloc(), &ring, text.as_slice()), Ok((1, 0)));
-    let text = fact_of(rt.alloc(), 1_025)?;
-    assert_eq!(rt;
-        sizes(rt.alloc(), &ring, text.as_slice()),
-        Err(Refusal::TooLarge(2))
-    );
-    Ok(())
+fn longest_facts<RT: AllocGlobal + Abort>(rt: &RT, ring: &Ring) {
+    same!(rt; fact_sizes(rt.alloc(), ring, 1_024), Ok((1, 0)));
+    same!(rt; fact_sizes(rt.alloc(), ring, 1_025), Err(Refusal::TooLarge(2)));
 }
 
 // A side of the node of that number.
@@ -234,15 +209,21 @@ fn side_of(node: u32, side: Side) -> NodeSide {
     }
 }
 
+fn kept<RT: Abort>(rt: &RT, chains: &mut Chains) -> Result<(), Fail>
+    requires { chains.old ≡ [] }
+{
+    chains.push(side_of(1, Side::Both), &[2, 5])?;
+    chains.push(side_of(3, Side::Give), &[2])?;
+    same!(rt; chains.len(), 2);
+    same!(rt; chains.of(1), side_of(3, Side::Give));
+    same!(rt; chains.steps(0), [2, 5].as_slice());
+    Ok(())
+}
+
 #[test]
 fn chains_kept(rt: HostRuntime) -> Result<(), Fail> {
     let mut chains = Chains::new(rt.alloc());
-    chains.push(side_of(1, Side::Both), &[2, 5])?;
-    chains.push(side_of(3, Side::Give), &[2])?;
-    assert_eq!(rt; chains.len(), 2);
-    assert_eq!(rt; chains.of(1), side_of(3, Side::Give));
-    assert_eq!(rt; chains.steps(0), [2, 5].as_slice());
-    Ok(())
+    kept(&rt, &mut chains)
 }
 
 // A certificate with one chain of a node that the ring does not have.
@@ -255,10 +236,17 @@ fn strange_cert(alloc: Global) -> Result<Cert, Refusal> {
     })
 }
 
+// Whether that certificate suits the ring.
+fn suits(alloc: Global, ring: &Ring) -> Result<bool, Refusal> {
+    Ok(strange_cert(alloc)?.suits(ring))
+}
+
 #[test]
-fn a_strange_chain(rt: HostRuntime) -> Result<(), Fail> {
+fn longest_texts(rt: HostRuntime) -> Result<(), Fail> {
     let ring = read_ring(rt.alloc(), RING)?;
-    let cert = strange_cert(rt.alloc())?;
-    assert!(rt; !cert.suits(&ring));
+    longest_plans(&rt, &ring);
+    most_lines(&rt, &ring);
+    longest_facts(&rt, &ring);
+    same!(rt; suits(rt.alloc(), &ring), Ok(false));
     Ok(())
 }
