@@ -111,7 +111,7 @@ fn copied_put(
     ensures { IfOk result (λ event. event ≡ StartPut writer key.now value.now seen.now) }
 {
     let key = key.try_copy(alloc)?;
-    let value = value.try_copy(alloc)?;
+    let value = value.try_copy()?;
     let seen = seen.try_copy(alloc)?;
     Ok(Event::StartPut(writer, key, value, seen))
 }

@@ -1,4 +1,5 @@
 pub mod Entries
+pub mod Searching
 pub mod Merging
 pub mod Causing
 pub mod Making

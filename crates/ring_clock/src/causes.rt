@@ -19,15 +19,6 @@ pub struct Cause {
     pub seen: Vec<u32>,
 }
 
-// Raises a clock to one of the clocks.
-fn raise(clock: &mut Clock, other: &Clock) -> Result<(), Refusal>
-    ensures ok { OnOk result ((w : ℕ) → counter clock.new w ≡ max (counter clock.old w) (counter other.now w)) }
-    ensures memory { IfErr result (λ e. e ≡ OutOfMemory) }
-{
-    *clock = clock.join(other)?;
-    Ok(())
-}
-
 // Raises a clock to the clocks of the puts that were seen.
 fn raise_to_seen(clock: &mut Clock, clocks: &[Clock], seen: &[u32]) -> Result<(), Refusal>
     requires none { clock.old ≡ [] }
@@ -37,7 +28,7 @@ fn raise_to_seen(clock: &mut Clock, clocks: &[Clock], seen: &[u32]) -> Result<()
 {
     let mut rest = seen;
     'seen: while let Some((put, later)) = rest.split_first() {
-        raise(clock, &clocks[*put as usize])?;
+        clock.raise(&clocks[*put as usize])?;
         rest = later;
     }
     Ok(())
@@ -58,7 +49,7 @@ fn raise_to_inputs(
 {
     raise_to_seen(clock, clocks, cause.seen.as_slice())?;
     if let Some(put) = last {
-        raise(clock, &clocks[put])?;
+        clock.raise(&clocks[put])?;
     }
     Ok(())
 }

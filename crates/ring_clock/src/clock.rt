@@ -1,6 +1,6 @@
 //! Clocks.
 
-ghost use Rattle.std.specs.Prelude.{◌≡◌, ◌↔◌, ◌+◌, ◌<◌, ◌==◌, [], ℕ, IsTrue, IfOk, IfErr, max, if◌then◌else◌};
+ghost use Rattle.std.specs.Prelude.{◌≡◌, ◌↔◌, ◌+◌, ◌<◌, ◌==◌, [], ℕ, IsTrue, IfOk, IfErr, OnOk, OnErr, max, if◌then◌else◌};
 ghost use Rattle.ring_names.specs.declared.refusal.Refusal.TheVariants.{OutOfMemory};
 ghost use Rattle.ring_clock.specs.Clock.{IsClock, IsAtMost, IsJoin, counter};
 
@@ -9,24 +9,40 @@ use crate::merge::{is_at_most, merged};
 use ring_names::{Refusal, WriterId};
 use std::alloc::Global;
 use std::marker::Model;
+use std::sync::Arc;
 
-/// A vector clock: writers with counters above 0; a writer that it has not counts as 0.
-#[derive(Drop)]
+/// A vector clock: writers with counters above 0; a writer that it has not counts as 0. Copies share the entries.
 pub struct Clock {
     alloc: Global,
-    entries: Vec<Entry>,
+    // The writer for whom it was last raised. Its put knows all that the clock tells, so its counter alone mostly decides a comparison.
+    own: WriterId,
+    // None where there are none.
+    entries: Option<Arc<Vec<Entry>>>,
 }
 
 impl Model for Clock {
     ghost use Rattle.std.specs.Prelude.{List};
+    ghost use Rattle.ring_names.specs.Values.{shared_items};
     ghost use Rattle.ring_clock.specs.Clock.{IsClock};
     ghost use Rattle.ring_clock.specs.declared.entry.Entry.{Entry};
 
     ghost Value = { List Entry };
 
-    ghost view = { λ a. a.entries.items };
+    ghost view = { λ a. shared_items a.entries };
 
-    ghost invariant = { λ a. IsClock a.entries.items };
+    ghost invariant = { λ a. IsClock (shared_items a.entries) };
+}
+
+// Dropped by a call, so that no crate above goes through the two cases wherever a clock ends.
+impl Drop for Clock {
+    fn drop(self) {
+        let Clock {
+            alloc: _,
+            own: _,
+            entries,
+        } = self;
+        drop(entries);
+    }
 }
 
 impl Clock {
@@ -36,7 +52,24 @@ impl Clock {
     {
         Clock {
             alloc,
-            entries: Vec::new(alloc),
+            own: WriterId(0),
+            entries: None,
+        }
+    }
+
+    // The clock of these entries, which was last raised for the writer.
+    fn of(alloc: Global, own: WriterId, entries: Vec<Entry>) -> Result<Clock, Refusal>
+        requires { IsClock entries.items }
+        ensures same { IfOk result (λ c. c ≡ entries.items) }
+        ensures memory { IfErr result (λ e. e ≡ OutOfMemory) }
+    {
+        match Arc::new(alloc, entries) {
+            Ok(shared) => Ok(Clock {
+                alloc,
+                own,
+                entries: Some(shared),
+            }),
+            Err(_) => Err(Refusal::OutOfMemory),
         }
     }
 
@@ -45,10 +78,19 @@ impl Clock {
         ensures value { result.now ≡ self.now }
         ensures valid { IsClock self.now }
     {
-        self.entries.as_slice()
+        match &self.entries {
+            Some(shared) => shared.as_slice(),
+            None => &[],
+        }
     }
 
-    /// The counter of a writer. Takes no memory.
+    /// The writer for whom the clock was last raised: a guide for those who look for it among others. What `join` makes has that of
+    /// the first clock, and a clock that no one raised writer 0.
+    pub fn own(&self) -> WriterId {
+        self.own
+    }
+
+    /// The counter of a writer. Takes no memory, and costs the logarithm of the entries.
     pub fn counter(&self, writer: WriterId) -> u64
         ensures { result ≡ counter self.now writer.0 }
     {
@@ -56,10 +98,14 @@ impl Clock {
     }
 
     /// Whether each writer's counter is at most that in the other clock: then a version of this clock is an ancestor of one of
-    /// the other, or it is the same (DeCandia et al. 2007, section 4.4). Takes no memory, and costs the entries of both.
+    /// the other, or it is the same (DeCandia et al. 2007, section 4.4). Takes no memory. Costs the logarithm of the entries where the
+    /// counter of the writer for whom this clock was last raised is less in the other, and else the entries of both.
     pub fn le(&self, other: &Clock) -> bool
         ensures { IsTrue result ↔ IsAtMost self.now other.now }
     {
+        if other.counter(self.own) < self.counter(self.own) {
+            return false;
+        }
         is_at_most(self.entries(), other.entries())
     }
 
@@ -70,10 +116,24 @@ impl Clock {
         ensures memory { IfErr result (λ e. e ≡ OutOfMemory) }
     {
         let entries = merged(self.alloc, self.entries(), other.entries())?;
-        Ok(Clock {
-            alloc: self.alloc,
-            entries,
-        })
+        Clock::of(self.alloc, self.own, entries)
+    }
+
+    /// Raises the clock to another: of each writer the greater counter. Costs the entries of both, and takes memory only where neither is
+    /// at most the other.
+    pub fn raise(&mut self, other: &Clock) -> Result<(), Refusal>
+        ensures ok { OnOk result ((w : ℕ) → counter self.new w ≡ max (counter self.old w) (counter other.now w)) }
+        ensures err { OnErr result (self.new ≡ self.old) }
+        ensures memory { IfErr result (λ e. e ≡ OutOfMemory) }
+    {
+        if !other.le(self) {
+            *self = if self.le(other) {
+                other.try_copy()?
+            } else {
+                self.join(other)?
+            };
+        }
+        Ok(())
     }
 
     /// This clock with the writer's counter raised by one. Costs the entries.
@@ -84,20 +144,22 @@ impl Clock {
     {
         let counter = self.counter(writer) + 1;
         let entries = merged(self.alloc, self.entries(), &[Entry { writer, counter }])?;
-        Ok(Clock {
-            alloc: self.alloc,
-            entries,
-        })
+        Clock::of(self.alloc, writer, entries)
     }
 
-    /// The same clock once more.
+    /// The same clock once more, which shares the entries. Takes no memory; refused only where 2^64 clocks would share them.
     pub fn try_copy(&self) -> Result<Clock, Refusal>
         ensures same { IfOk result (λ c. c ≡ self.now) }
         ensures memory { IfErr result (λ e. e ≡ OutOfMemory) }
     {
+        let entries = match &self.entries {
+            Some(shared) => Some(Arc::try_clone(shared)?),
+            None => None,
+        };
         Ok(Clock {
             alloc: self.alloc,
-            entries: Vec::from_slice(self.alloc, self.entries())?,
+            own: self.own,
+            entries,
         })
     }
 }

@@ -1,7 +1,7 @@
 //! One writer's part of a clock.
 
 ghost use Rattle.std.specs.Prelude.{◌≡◌};
-ghost use Rattle.ring_clock.specs.Clock.{counter};
+ghost use Rattle.ring_clock.specs.Clock.{IsClock, counter};
 
 use ring_names::WriterId;
 
@@ -12,16 +12,13 @@ pub struct Entry {
     pub counter: u64,
 }
 
-/// The counter of a writer among entries, 0 where it has none.
+/// The counter of a writer among entries, 0 where it has none. Costs the logarithm of how many there are.
 pub fn counter_of(entries: &[Entry], writer: WriterId) -> u64
+    requires { IsClock entries.now }
     ensures { result ≡ counter entries.now writer.0 }
 {
-    let mut rest = entries;
-    'entries: while let Some((entry, later)) = rest.split_first() {
-        if entry.writer.0 == writer.0 {
-            return entry.counter;
-        }
-        rest = later;
+    match entries.binary_search_by_key(&writer.0, |entry| entry.writer.0) {
+        Ok(place) => entries[place].counter,
+        Err(_) => 0,
     }
-    0
 }

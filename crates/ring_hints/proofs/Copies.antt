@@ -1,13 +1,16 @@
 -- A copy of all hints, pair after pair.
 use Rattle.std.proofs.Common.{◌≡◌, ◌∙◌, inl, inr, ℕ, Bool, true, false, cond, List, [], ◌∷◌, refl, sym, ap, subst, Option, Some, None, Bor}
 use Rattle.std.specs.Prelude.{is_some}
-use Rattle.std.specs.Cmp.{IsEquivalence}
-use Rattle.std.specs.HashMap.{HashMap, IsUnique}
+use Rattle.std.specs.BTreeMap.{BTreeMap, IsOrdered, is_at}
+use Rattle.std.specs.Cmp.{IsTotalOrder}
 use Rattle.std.specs.Iterator.{Yields}
-use Rattle.std.specs.List.{AllByRecursion, IsDistinct}
+use Rattle.std.specs.List.{AllByRecursion}
+use Rattle.std.specs.List.Sorted.{IsStrictlySortedBy}
 use Rattle.std.specs.Map.{lookup, keys_of}
+use Rattle.std.specs.declared.cmp.Ordering.TheVariants.{Less}
 use Rattle.std.specs.Map.Iter.{TakesFirst, deref_pair}
-use Rattle.std.proofs.lemmas.Map.Iter.{hash_map_turn}
+use Rattle.std.proofs.lemmas.Map.Iter.{btree_map_turn}
+use Rattle.std.proofs.lemmas.Cmp.{nat_cmp_total, on_total, then_total}
 use Rattle.std.proofs.lemmas.Bool.{cases_Bool}
 use Rattle.ring_names.specs.declared.ids.Slot.{Slot}
 use Rattle.store_maps.proofs.OneAnswer.{none_from_empty, false_from}
@@ -15,54 +18,54 @@ use Rattle.store_maps.specs.Slots.{space_of, held_for, has_place_for}
 use Rattle.store_maps.specs.declared.slot_map.SlotMap.{SlotMap}
 use Rattle.ring_hints.specs.Hints.{partitions, hinted_at}
 use Rattle.ring_hints.specs.Kept.{map_of, held_by, IsKept, PutsMap}
-use Rattle.ring_hints.specs.Views.{is_of}
-use Rattle.ring_hints.specs.contracts.kept_for.KeptForPartialEq.TheImpl as pair_eq
+use Rattle.ring_hints.specs.Views.{by_keeper, is_of}
 use Rattle.ring_hints.specs.declared.hints.Hints.{Hints}
 use Rattle.ring_hints.specs.declared.kept_for.KeptFor.{KeptFor}
-use Rattle.ring_hints.proofs.PairChanged.{pair_is, some_held}
-use Rattle.ring_hints.proofs.KeeperSets.{pair_same}
+use Rattle.ring_hints.proofs.PairChanged.{some_held}
+use Rattle.ring_hints.proofs.KeeperSets.{pair_is, pair_same, pair_tie, pair_turned}
 
 -- the map of the pair among the entries that are left
 abbrev pub left_of : List (KeptFor × SlotMap) → KeptFor → Option SlotMap
-left_of rest p = lookup ((pair_eq.ghosts).eq p) rest
+left_of rest p = lookup (is_at (by_keeper p)) rest
 
 -- what is copied so far, with some pairs left
 pub record Copying (from copy : Hints) (rest : List (KeptFor × SlotMap)) : Type 0 where
   pub space : partitions copy ≡ partitions from
-  pub distinct : IsDistinct ((pair_eq.ghosts).eq) (keys_of rest)
+  pub order : IsStrictlySortedBy by_keeper (keys_of rest)
   pub done : (p : KeptFor) → left_of rest p ≡ None → (k : List ℕ) → held_by (map_of copy.maps p) k ≡ held_by (map_of from.maps p) k
   pub todo : (p : KeptFor) → is_some (left_of rest p) ≡ true → map_of copy.maps p ≡ None
 
-turned : (a b : KeptFor) → is_of a b.keeper.0 b.slot ≡ false → is_of b a.keeper.0 a.slot ≡ false
-turned a b e = false_from (is_of b a.keeper.0 a.slot) (λ h. (let t : is_of a b.keeper.0 b.slot ≡ true = subst (λ (x : KeptFor). is_of x b.keeper.0 b.slot ≡ true) (pair_is b a h) (pair_same b) in cc))
-
 later_of : (pair p : KeptFor) (m : SlotMap) (rest later : List (KeptFor × SlotMap)) → rest ≡ (pair, m) ∷ later → is_of pair p.keeper.0 p.slot ≡ false → left_of rest p ≡ left_of later p
-later_of pair p m rest later is e = ap (λ es. left_of es p) is ∙ ap (λ (b : Bool). cond b (Some m) (left_of later p)) (turned pair p e)
+later_of pair p m rest later is e = ap (λ es. left_of es p) is ∙ ap (λ (b : Bool). cond b (Some m) (left_of later p)) (pair_tie p pair ∙ pair_turned p pair ∙ e)
 
-none_later : (pair : KeptFor) (later : List (KeptFor × SlotMap)) → AllByRecursion (λ y. (pair_eq.ghosts).eq pair y ≡ false) (keys_of later) → left_of later pair ≡ None
+none_later : (pair : KeptFor) (later : List (KeptFor × SlotMap)) → AllByRecursion (λ y. by_keeper pair y ≡ Less) (keys_of later) → left_of later pair ≡ None
 none_later pair [] h = refl
-none_later pair ((p, m) ∷ later) h = ap (λ (b : Bool). cond b (Some m) (left_of later pair)) h.0 ∙ none_later pair later h.1
+none_later pair (e ∷ es) h = rw (h.0) (none_later pair es h.1)
 
-pub copying_none : (from copy : Hints) → partitions copy ≡ partitions from → ((x : ℕ) (s : Slot) (k : List ℕ) → hinted_at copy x s k ≡ []) → IsUnique ((pair_eq.ghosts).eq) from.maps → Copying from copy from.maps.entries
-copying_none from copy space versions unique = record {
+pub copying_none : (from copy : Hints) → partitions copy ≡ partitions from → ((x : ℕ) (s : Slot) (k : List ℕ) → hinted_at copy x s k ≡ [])
+    → IsOrdered by_keeper from.maps → Copying from copy from.maps.entries
+copying_none from copy space versions order = record {
   space = space;
-  distinct = unique;
+  order = order;
   done = λ p e k. versions p.keeper.0 p.slot k ∙ sym (ap (λ o. held_by o k) e);
   todo = λ p h. none_from_empty (map_of copy.maps p) (false_from (is_some (map_of copy.maps p)) (λ y. some_held copy.q p (map_of copy.maps p) y (copy.kept p) (versions p.keeper.0 p.slot)));
 }
 
 -- the next pair is not copied yet
 pub next_absent : (from copy : Hints) (rest later : List (KeptFor × SlotMap)) (pair : KeptFor) (m : SlotMap) → rest ≡ (pair, m) ∷ later → Copying from copy rest → map_of copy.maps pair ≡ None
-next_absent from copy rest later pair m is s = s.todo pair (ap (λ es. is_some (left_of es pair)) is ∙ ap (λ (b : Bool). is_some (cond b (Some m) (left_of later pair))) (pair_same pair))
+next_absent from copy rest later pair m is s =
+    let first = ap (λ (b : Bool). is_some (cond b (Some m) (left_of later pair))) (pair_tie pair pair ∙ pair_same pair) in
+    s.todo pair (ap (λ es. is_some (left_of es pair)) is ∙ first)
 
 pub copying_more : (from copy more : Hints) (rest later : List (KeptFor × SlotMap)) (pair : KeptFor) (m n : SlotMap) → rest ≡ (pair, m) ∷ later → map_of from.maps pair ≡ Some m
     → ((k : List ℕ) → held_for n k ≡ held_for m k) → partitions more ≡ partitions copy → PutsMap copy.maps more.maps pair (Some n) → Copying from copy rest → Copying from more later
-unfolding IsDistinct
+unfolding IsStrictlySortedBy
 copying_more from copy more rest later pair m n is at same space put s =
-    let apart : IsDistinct ((pair_eq.ghosts).eq) (keys_of ((pair, m) ∷ later)) = subst (λ es. IsDistinct ((pair_eq.ghosts).eq) (keys_of es)) is s.distinct in
+    let sorted = λ (es : List (KeptFor × SlotMap)). IsStrictlySortedBy by_keeper (keys_of es) in
+    let apart : IsStrictlySortedBy by_keeper (pair ∷ keys_of later) = subst sorted is s.order in
     record {
       space = space ∙ s.space;
-      distinct = apart.1;
+      order = apart.1;
       done = λ p e k. elim (cases_Bool (is_of pair p.keeper.0 p.slot)) [
         | inl y ↦ subst (λ (x : KeptFor). held_by (map_of more.maps x) k ≡ held_by (map_of from.maps x) k) (pair_is pair p y) (ap (λ o. held_by o k) put.here ∙ same k ∙ sym (ap (λ o. held_by o k) at))
         | inr other ↦ ap (λ o. held_by o k) (put.others p other) ∙ s.done p (later_of pair p m rest later is other ∙ e) k
@@ -82,20 +85,13 @@ kept_copy q pair m n s space same places = record {
   used = λ all. s.used (λ k. sym (places k) ∙ all k);
 }
 
-pairs_equal : IsEquivalence (λ (a b : KeptFor). is_of a b.keeper.0 b.slot)
-pairs_equal = record {
-  refl = pair_same;
-  symm = λ a b. either a b;
-  congr = λ a b d h. ap (λ (x : KeptFor). is_of x d.keeper.0 d.slot) (pair_is a b h);
-}
-  where
-    either : (a b : KeptFor) → is_of a b.keeper.0 b.slot ≡ is_of b a.keeper.0 a.slot
-    either a b = elim (cases_Bool (is_of a b.keeper.0 b.slot)) [
-      | inl y ↦ y ∙ sym (subst (λ (x : KeptFor). is_of x a.keeper.0 a.slot ≡ true) (pair_is a b y) (pair_same a))
-      | inr other ↦ other ∙ sym (turned a b other)
-    ]
+pairs_ordered : IsTotalOrder by_keeper
+pairs_ordered =
+    let slots = then_total (on_total (λ (s : Slot). s.partition) nat_cmp_total) (on_total (λ (s : Slot). s.index) nat_cmp_total) in
+    then_total (on_total (λ p. p.keeper.0) nat_cmp_total) (on_total (λ p. p.slot) slots)
 
 -- the map of a turn is the one that the pair has
-pub found : {S : Type 0} (maps : HashMap KeptFor SlotMap S) (xs : List (Bor KeptFor × Bor SlotMap)) (s t u : List (KeptFor × SlotMap)) (r : Option (Bor KeptFor × Bor SlotMap)) (x : Bor KeptFor × Bor SlotMap)
-    → Yields (TakesFirst deref_pair) s xs t → r ≡ Some x → TakesFirst deref_pair t r u → s ≡ maps.entries → IsUnique (λ (a b : KeptFor). is_of a b.keeper.0 b.slot) maps → map_of maps x.0.now ≡ Some x.1.now
-found maps xs s t u r x y is step start unique = (hash_map_turn deref_pair xs s t u r x y is step pairs_equal maps start unique).1
+pub found : (maps : BTreeMap KeptFor SlotMap) (xs : List (Bor KeptFor × Bor SlotMap)) (s t u : List (KeptFor × SlotMap))
+    (r : Option (Bor KeptFor × Bor SlotMap)) (x : Bor KeptFor × Bor SlotMap) → Yields (TakesFirst deref_pair) s xs t → r ≡ Some x
+    → TakesFirst deref_pair t r u → s ≡ maps.entries → IsOrdered by_keeper maps → map_of maps x.0.now ≡ Some x.1.now
+found maps xs s t u r x y is step start order = (btree_map_turn deref_pair xs s t u r x y is step pairs_ordered maps start order).1

@@ -1,5 +1,5 @@
 -- The sets of keepers and of slots once a pair is put in or taken out.
-use Rattle.std.proofs.Common.{◌≡◌, ◌≢◌, inl, inr, ℕ, Bool, true, false, cond, List, [], ◌∷◌, refl, sym, ap, ◌∙◌, arith}
+use Rattle.std.proofs.Common.{◌≡◌, ◌≢◌, inl, inr, ℕ, Bool, true, false, cond, List, [], ◌∷◌, ◌++◌, refl, sym, ap, ◌∙◌, arith}
 use Rattle.std.specs.Prelude.{zero, suc, not, ◌&&◌, ◌||◌, ◌==◌, Option, Some, None, IfSome, slice_get}
 use Rattle.std.specs.List.{list_any}
 use Rattle.std.specs.Ordering.{nat_cmp}
@@ -9,6 +9,7 @@ use Rattle.std.specs.BTreeSet.{insert_key}
 use Rattle.std.specs.Set.{remove_key}
 use Rattle.std.proofs.lemmas.Bool.Decides.{eqb_tells, nat_tests}
 use Rattle.std.proofs.lemmas.Bool.{and_parts}
+use Rattle.std.proofs.lemmas.List.Folds.{list_any-append}
 use Rattle.ring_names.specs.declared.ids.NodeId.{NodeId}
 use Rattle.ring_names.specs.declared.ids.Slot.{Slot}
 use Rattle.ring_names.specs.contracts.ids.NodeIdPartialEq.TheImpl as node_eq
@@ -19,7 +20,7 @@ use Rattle.ring_hints.specs.declared.kept_for.KeptFor.{KeptFor}
 use Rattle.ring_hints.specs.contracts.kept_for.KeptForPartialEq.TheImpl as pair_eq
 use Rattle.ring_hints.specs.declared.sets.Sets.{Sets}
 use Rattle.ring_hints.specs.Sets.{set_at, AddsValue, RemovesValue}
-use Rattle.ring_hints.specs.Views.{is_of, has_slot, has_keeper, in_order}
+use Rattle.ring_hints.specs.Views.{by_keeper, is_of, has_slot, has_keeper, in_order, pair_of}
 use Rattle.ring_hints.proofs.Members.{any_inserted, others_stay}
 
 pub same_number : (x y : ℕ) → x ≡ y → (x == y) ≡ true
@@ -155,15 +156,38 @@ pub or_cond : (b c : Bool) → cond b true c ≡ (b || c)
 or_cond true c = refl
 or_cond false c = refl
 
-pub with_it : (b c d e : Bool) → d ≡ cond b true c → e ≡ c → (b || e) ≡ d
-with_it b c d e f g = ap (λ (t : Bool). b || t) g ∙ sym (or_cond b c) ∙ sym f
-
-pub without_it : (b c d e : Bool) → d ≡ cond b false c → e ≡ c → (not b && e) ≡ d
-without_it true c d e f g = sym f
-without_it false c d e f g = g ∙ sym f
-
 pub pair_same : (pair : KeptFor) → is_of pair pair.keeper.0 pair.slot ≡ true
 pair_same pair = λ i. same_number pair.keeper.0 pair.keeper.0 refl i && (same_number pair.slot.partition pair.slot.partition refl i && same_number pair.slot.index pair.slot.index refl i)
+
+pub pair_is : (a b : KeptFor) → is_of a b.keeper.0 b.slot ≡ true → a ≡ b
+pair_is a b h =
+    let p = and_parts (a.keeper.0 == b.keeper.0) ((a.slot.partition == b.slot.partition) && (a.slot.index == b.slot.index)) h in
+    let q = and_parts (a.slot.partition == b.slot.partition) (a.slot.index == b.slot.index) p.1 in
+    λ i. record {
+      keeper = record { 0 = equal a.keeper.0 b.keeper.0 p.0 i };
+      slot = record { partition = equal a.slot.partition b.slot.partition q.0 i; index = equal a.slot.index b.slot.index q.1 i };
+    }
+
+pub pair_turned : (a b : KeptFor) → is_of a b.keeper.0 b.slot ≡ is_of b a.keeper.0 a.slot
+pair_turned a b = rw (turned a.keeper.0 b.keeper.0, turned a.slot.partition b.slot.partition, turned a.slot.index b.slot.index) refl
+
+-- pairs that compare as equal are the same
+pub pair_tie : (a b : KeptFor) → is_at (by_keeper a) b ≡ is_of a b.keeper.0 b.slot
+pair_tie a b =
+    let both = tied_then (nat_cmp a.keeper.0 b.keeper.0) ((slot_order.ghosts).cmp a.slot b.slot) in
+    sym both ∙ rw (← unsigned_ties a.keeper.0 b.keeper.0, slot_tie a.slot b.slot) refl
+
+-- one more pair in the list
+pub pushed : (pair : KeptFor) (pairs : List KeptFor) (x : ℕ) (s : Slot) → in_order x s (pairs ++ pair ∷ []) ≡ (is_of pair x s || in_order x s pairs)
+pushed pair pairs x s =
+    let two = list_any-append ((pair_eq.ghosts).eq (pair_of x s)) pairs (pair ∷ []) in
+    two ∙ ap (λ (b : Bool). in_order x s pairs || (b || false)) (pair_turned (pair_of x s) pair) ∙ first (is_of pair x s) (in_order x s pairs)
+  where
+    first : (b c : Bool) → (c || (b || false)) ≡ (b || c)
+    first true true = refl
+    first true false = refl
+    first false true = refl
+    first false false = refl
 
 or_later : (b c : Bool) → c ≡ true → (b || c) ≡ true
 or_later true c h = refl

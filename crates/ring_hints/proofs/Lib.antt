@@ -4,3 +4,4 @@ pub mod PairChanged
 pub mod Members
 pub mod Others
 pub mod KeeperSets
+pub mod Numbering

@@ -1,7 +1,7 @@
 -- The other slots of a partition, index after index.
 use Rattle.std.proofs.Common.{◌≡◌, ◌≢◌, ◌⊎◌, inl, inr, ◌+◌, ℕ, ◌<◌, ◌≤◌, List, [], sym, subst, nat_lt, arith, ◌∙◌}
 use Rattle.std.specs.Prelude.{◌==◌}
-use Rattle.std.specs.HashMap.{HashMap}
+use Rattle.std.specs.BTreeMap.{BTreeMap}
 use Rattle.std.proofs.lemmas.Bool.{cases_Bool}
 use Rattle.std.proofs.lemmas.Bool.Decides.{nat_tests}
 use Rattle.ring_names.specs.declared.ids.Slot.{Slot}
@@ -25,7 +25,7 @@ pub next_other : (P : ℕ → Type 0) (own n : ℕ) → ((i : ℕ) → i < n →
 next_other P own n before here i l ne = elim (same_or i n l) [ inl e ↦ subst P (sym e) (here (λ h. ne (e ∙ h))) | inr less ↦ before i less ne ]
 
 -- where nothing is kept for seven indexes, nothing is for any
-pub all_others : {S : Type 0} (q : ℕ) (pairs : Pairs) (maps : HashMap KeptFor SlotMap S) → ArePaired pairs maps → AreKept q maps → (x n : ℕ) (slot s : Slot) → 7 ≤ n
+pub all_others : (q : ℕ) (pairs : Pairs) (maps : BTreeMap KeptFor SlotMap) → ArePaired pairs maps → AreKept q maps → (x n : ℕ) (slot s : Slot) → 7 ≤ n
     → ((i : ℕ) → i < n → i ≢ slot.index → (k : List ℕ) → held_by (map_of maps (pair_of x (record { partition = slot.partition; index = i }))) k ≡ [])
     → s.partition ≡ slot.partition → s.index ≢ slot.index → (k : List ℕ) → held_by (map_of maps (pair_of x s)) k ≡ []
 all_others q pairs maps paired kept x n slot s enough before same ne k = elim (below_or s.index n) [

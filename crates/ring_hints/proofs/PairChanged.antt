@@ -1,8 +1,8 @@
 -- The map of one pair changed.
 use Rattle.std.proofs.Common.{◌≡◌, ◌≢◌, ◌⊎◌, inl, inr, ◌∙◌, ◌+◌, ℕ, ◌<◌, Bool, true, false, cond, nat_eq, List, [], ◌∷◌, refl, sym, ap, subst, Option, Some, None, Result, Ok, Err, arith}
 use Rattle.std.specs.Prelude.{◌&&◌, ◌||◌, ◌==◌, ◌↔◌, not, is_some, IfNone, OnErr, slice_get, unwrap_or}
-use Rattle.std.specs.HashMap.{HashMap, UpdatesBy}
-use Rattle.std.proofs.lemmas.Bool.{cases_Bool, and_parts, eqb-true, eq-eqb}
+use Rattle.std.specs.BTreeMap.{BTreeMap, UpdatesBy}
+use Rattle.std.proofs.lemmas.Bool.{cases_Bool, eqb-true, eq-eqb}
 use Rattle.ring_names.specs.declared.ids.Slot.{Slot}
 use Rattle.ring_versions.specs.declared.version.Version.{Version}
 use Rattle.ring_versions.specs.Versions.{Covers, IsApart, IsMerge}
@@ -20,13 +20,12 @@ use Rattle.store_maps.proofs.MergesInTurn.{merge_none}
 use Rattle.store_maps.proofs.Slots.{bare_held}
 use Rattle.ring_space.specs.Place.{place_of}
 use Rattle.ring_space.specs.declared.found.Place.{Place}
-use Rattle.ring_hints.specs.contracts.kept_for.KeptForPartialEq.TheImpl as pair_eq
 use Rattle.ring_hints.specs.declared.kept_for.KeptFor.{KeptFor}
 use Rattle.ring_hints.specs.declared.pairs.Pairs.{Pairs}
 use Rattle.ring_hints.specs.Kept.{map_of, held_by, IsKept, AreKept, ArePaired, PutsMap}
 use Rattle.ring_hints.specs.Pairs.{is_pair}
-use Rattle.ring_hints.specs.Views.{is_of, pair_of}
-use Rattle.ring_hints.proofs.KeeperSets.{differ, equal, pair_same, or_cond}
+use Rattle.ring_hints.specs.Views.{by_keeper, is_of, pair_of}
+use Rattle.ring_hints.proofs.KeeperSets.{differ, pair_is, pair_same, pair_tie, or_cond}
 
 -- the chunk of a place that was computed
 pub chunk_at : (q : ℕ) (k : List ℕ) (p : Place) → p ≡ place_of q k → chunk_of q k ≡ p.chunk
@@ -40,15 +39,6 @@ chunk_in m q k c e h = ap (λ (p : ℕ). chunk_of p k) e ∙ h
 pub always_err : {A E : Type 0} (r : Result A E) (P : Type 0) → P → OnErr r P
 always_err (Ok a) P h = tt
 always_err (Err e) P h = h
-
-pub pair_is : (a b : KeptFor) → is_of a b.keeper.0 b.slot ≡ true → a ≡ b
-pair_is a b h =
-    let p = and_parts (a.keeper.0 == b.keeper.0) ((a.slot.partition == b.slot.partition) && (a.slot.index == b.slot.index)) h in
-    let q = and_parts (a.slot.partition == b.slot.partition) (a.slot.index == b.slot.index) p.1 in
-    λ i. record {
-      keeper = record { 0 = equal a.keeper.0 b.keeper.0 p.0 i };
-      slot = record { partition = equal a.slot.partition b.slot.partition q.0 i; index = equal a.slot.index b.slot.index q.1 i };
-    }
 
 pub apart_by : (o : Option SlotMap) (k : List ℕ) → IsApart (held_by o k)
 apart_by None k = tt
@@ -99,7 +89,7 @@ pub some_held : (q : ℕ) (pair : KeptFor) (o : Option SlotMap) → is_some o �
 some_held q pair None h kept none = cc
 some_held q pair (Some m) h kept none = let s = kept m refl in s.used (λ k. false_from (has_place_for m k) (λ y. s.filled k y (none k)))
 
-module _ {S : Type 0} (q : ℕ) (pairs : Pairs) (maps : HashMap KeptFor SlotMap S) (paired : ArePaired pairs maps) (kept : AreKept q maps) where
+module _ (q : ℕ) (pairs : Pairs) (maps : BTreeMap KeptFor SlotMap) (paired : ArePaired pairs maps) (kept : AreKept q maps) where
   -- a pair is there exactly where some key has versions
   pub keeps_is : (x : ℕ) (s : Slot) → (is_pair pairs x s ≡ false) ↔ ((k : List ℕ) → held_by (map_of maps (pair_of x s)) k ≡ [])
   keeps_is x s = (
@@ -117,10 +107,11 @@ module _ {S : Type 0} (q : ℕ) (pairs : Pairs) (maps : HashMap KeptFor SlotMap 
 
 -- ---- the pair's map is o now
 
-pub puts_map : {S : Type 0} (old new : HashMap KeptFor SlotMap S) (pair : KeptFor) (o : Option SlotMap) → UpdatesBy ((pair_eq.ghosts).eq) (λ k. ((pair_eq.ghosts).eq) pair k) old new o → PutsMap old new pair o
-puts_map old new pair o u = record { here = u.1; others = λ other e. u.2 other e }
+pub puts_map : (old new : BTreeMap KeptFor SlotMap) (pair : KeptFor) (o : Option SlotMap) → UpdatesBy by_keeper (by_keeper pair) old new o
+    → PutsMap old new pair o
+puts_map old new pair o u = record { here = u.1; others = λ other e. u.2 other (pair_tie pair other ∙ e) }
 
-module _ {S : Type 0} (old new : HashMap KeptFor SlotMap S) (pair : KeptFor) (o : Option SlotMap) (p : PutsMap old new pair o) where
+module _ (old new : BTreeMap KeptFor SlotMap) (pair : KeptFor) (o : Option SlotMap) (p : PutsMap old new pair o) where
   pub by_pair : (P : KeptFor → Type 0) → P pair → ((other : KeptFor) → is_of pair other.keeper.0 other.slot ≡ false → P other) → (other : KeptFor) → P other
   by_pair P here others other = elim (cases_Bool (is_of pair other.keeper.0 other.slot)) [ inl y ↦ subst P (pair_is pair other y) here | inr n ↦ others other n ]
 
@@ -175,15 +166,15 @@ pub merged_at : (m w : SlotMap) (o : Option SlotMap) (more : List ℕ → List V
 merged_at m w o more reads h k = subst (λ (old : List Version). IsMerge old (more k) (held_for w k)) (reads k) (h k)
 
 -- a map is put where there was none, and taken out again
-pub put_back : {S : Type 0} (old mid new : HashMap KeptFor SlotMap S) (pair : KeptFor) (o : Option SlotMap) → map_of old pair ≡ None → PutsMap old mid pair o → PutsMap mid new pair None
-    → (other : KeptFor) → map_of new other ≡ map_of old other
+pub put_back : (old mid new : BTreeMap KeptFor SlotMap) (pair : KeptFor) (o : Option SlotMap) → map_of old pair ≡ None
+    → PutsMap old mid pair o → PutsMap mid new pair None → (other : KeptFor) → map_of new other ≡ map_of old other
 put_back old mid new pair o absent put out = by_pair mid new pair None out (λ (other : KeptFor). map_of new other ≡ map_of old other) (out.here ∙ sym absent) (λ other e. out.others other e ∙ put.others other e)
 
-pub kept_same : {S : Type 0} (q : ℕ) (old new : HashMap KeptFor SlotMap S) → ((other : KeptFor) → map_of new other ≡ map_of old other) → AreKept q old → AreKept q new
+pub kept_same : (q : ℕ) (old new : BTreeMap KeptFor SlotMap) → ((other : KeptFor) → map_of new other ≡ map_of old other) → AreKept q old → AreKept q new
 kept_same q old new same kept other m e = kept other m (sym (same other) ∙ e)
 
-pub paired_same : {S : Type 0} (pairs more : Pairs) (old new : HashMap KeptFor SlotMap S) → ((x : ℕ) (s : Slot) → is_pair more x s ≡ is_pair pairs x s) → ((other : KeptFor) → map_of new other ≡ map_of old other)
-    → ArePaired pairs old → ArePaired more new
+pub paired_same : (pairs more : Pairs) (old new : BTreeMap KeptFor SlotMap) → ((x : ℕ) (s : Slot) → is_pair more x s ≡ is_pair pairs x s)
+    → ((other : KeptFor) → map_of new other ≡ map_of old other) → ArePaired pairs old → ArePaired more new
 paired_same pairs more old new pair_by same paired x s = pair_by x s ∙ paired x s ∙ sym (ap is_some (same (pair_of x s)))
 
 -- the pair is there, or is not, in the words of the pairs

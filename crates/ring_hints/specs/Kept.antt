@@ -1,21 +1,19 @@
 -- The maps of what nodes keep, by keeper and slot.
 use Rattle.std.specs.Prelude.{◌≡◌, ◌≢◌, ◌<◌, ℕ, true, false, List, [], Option, Some, None, is_some}
-use Rattle.std.specs.HashMap as map
-use Rattle.std.specs.HashMap.{HashMap}
+use Rattle.std.specs.BTreeMap.{BTreeMap, get}
 use Rattle.std.proofs.Props.{props}
 use Rattle.ring_names.specs.declared.ids.Slot.{Slot}
 use Rattle.ring_versions.specs.declared.version.Version.{Version}
 use Rattle.store_maps.specs.declared.slot_map.SlotMap.{SlotMap}
 use Rattle.store_maps.specs.Slots.{space_of, held_for, has_place_for}
-use Rattle.ring_hints.specs.contracts.kept_for.KeptForPartialEq.TheImpl as pair_eq
 use Rattle.ring_hints.specs.declared.kept_for.KeptFor.{KeptFor}
 use Rattle.ring_hints.specs.declared.pairs.Pairs.{Pairs}
 use Rattle.ring_hints.specs.Pairs.{is_pair}
-use Rattle.ring_hints.specs.Views.{is_of, pair_of}
+use Rattle.ring_hints.specs.Views.{by_keeper, is_of, pair_of}
 
 -- the map of the pair, if it has one
-abbrev pub map_of : {S : Type 0} → HashMap KeptFor SlotMap S → KeptFor → Option SlotMap
-map_of maps pair = map.get ((pair_eq.ghosts).eq) maps pair
+abbrev pub map_of : BTreeMap KeptFor SlotMap → KeptFor → Option SlotMap
+map_of maps pair = get by_keeper maps pair
 
 -- the versions of the key, none where there is no map
 abbrev pub held_by : Option SlotMap → List ℕ → List Version
@@ -30,17 +28,17 @@ pub record IsKept (q : ℕ) (pair : KeptFor) (m : SlotMap) : Type 0 where
   pub used : ((k : List ℕ) → has_place_for m k ≡ false) → ⊥
 
 -- each pair's map is one to be kept
-abbrev pub AreKept : {S : Type 0} → ℕ → HashMap KeptFor SlotMap S → Type 0
+abbrev pub AreKept : ℕ → BTreeMap KeptFor SlotMap → Type 0
 AreKept q maps = (pair : KeptFor) (m : SlotMap) → map_of maps pair ≡ Some m → IsKept q pair m
 
-pub AreKept-prop : {S : Type 0} → (q : ℕ) (maps : HashMap KeptFor SlotMap S) → IsProp (AreKept q maps)
+pub AreKept-prop : (q : ℕ) (maps : BTreeMap KeptFor SlotMap) → IsProp (AreKept q maps)
 AreKept-prop q maps = hlevel props
 
 -- a pair is there exactly where its map is
-abbrev pub ArePaired : {S : Type 0} → Pairs → HashMap KeptFor SlotMap S → Type 0
+abbrev pub ArePaired : Pairs → BTreeMap KeptFor SlotMap → Type 0
 ArePaired pairs maps = (x : ℕ) (s : Slot) → is_pair pairs x s ≡ is_some (map_of maps (pair_of x s))
 
 -- the pair has o now, and all others have what they had
-pub record PutsMap {S : Type 0} (old new : HashMap KeptFor SlotMap S) (pair : KeptFor) (o : Option SlotMap) : Type 0 where
+pub record PutsMap (old new : BTreeMap KeptFor SlotMap) (pair : KeptFor) (o : Option SlotMap) : Type 0 where
   pub here : map_of new pair ≡ o
   pub others : (other : KeptFor) → is_of pair other.keeper.0 other.slot ≡ false → map_of new other ≡ map_of old other

@@ -1,5 +1,6 @@
 pub mod Sets
 pub mod Views
+pub mod Numbered
 pub mod Pairs
 pub mod Kept
 pub mod Hints

@@ -10,18 +10,18 @@ use ring_names::{Listed, NodeId, Refusal, Slot};
 use ring_space::place;
 use ring_versions::{Version, Versions};
 use std::alloc::Global;
-use std::collections::{BTreeSet, HashMap};
+use std::collections::{BTreeMap, BTreeSet};
 use store_maps::{KeyMap, SlotMap};
 
-/// The versions that nodes keep for slots whose nodes were out of reach, by keeper, slot and key. A look-up costs the key's length times
-/// the logarithm of the number of keys of its chunk, and its digest where the call takes no chunk. A refused growth leaves every reading
-/// as it was.
+/// The versions that nodes keep for slots whose nodes were out of reach, by keeper, slot and key. A look-up costs the logarithm of the number
+/// of pairs of a keeper and a slot, the key's length times that of the number of keys of its chunk, and its digest where the call takes no
+/// chunk. A refused growth leaves every reading as it was.
 #[derive(Drop)]
 pub struct Hints {
     alloc: Global,
     q: u32,
     pairs: Pairs,
-    maps: HashMap<KeptFor, SlotMap>,
+    maps: BTreeMap<KeptFor, SlotMap>,
     ghost space: { is_space q ≡ true },
     ghost paired: { ArePaired pairs maps },
     ghost kept: { AreKept q maps } by { AreKept-prop q maps },
@@ -51,7 +51,7 @@ impl Hints {
             alloc,
             q,
             pairs: Pairs::new(alloc),
-            maps: HashMap::new(alloc),
+            maps: BTreeMap::new(alloc),
         }
     }
 
@@ -254,7 +254,7 @@ impl Hints {
         ensures space { partitions self.new ≡ partitions self.old }
     {
         let chunk = place(self.q, key).chunk;
-        let copy = version.try_copy(self.alloc)?;
+        let copy = version.try_copy()?;
         let one = Versions::of(self.alloc, copy)?;
         self.add_set(KeptFor { keeper, slot }, chunk, key, &one)
     }

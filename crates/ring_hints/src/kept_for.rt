@@ -3,7 +3,7 @@
 use ring_names::{NodeId, Slot};
 
 /// A node, and a slot for which it keeps hints.
-#[derive(Clone, Copy, Debug, PartialEq, Eq, Hash)]
+#[derive(Clone, Copy, Debug, PartialEq, Eq, PartialOrd, Ord)]
 pub struct KeptFor {
     pub keeper: NodeId,
     pub slot: Slot,

@@ -3,6 +3,7 @@
 
 mod hints;
 mod kept_for;
+mod numbered;
 mod pairs;
 mod sets;
 

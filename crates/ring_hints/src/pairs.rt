@@ -3,16 +3,17 @@
 ghost use Rattle.ring_hints.specs.Views.{AreViews, AreViews-prop};
 
 use crate::kept_for::KeptFor;
+use crate::numbered::Numbered;
 use crate::sets::Sets;
-use indexmap::IndexSet;
 use ring_names::{NodeId, Refusal, Slot};
 use std::alloc::Global;
 use std::collections::BTreeSet;
 
-/// Keepers with their slots, found by either, and numbered. Each call costs a few look-ups.
+/// Keepers with their slots, found by either, and numbered. Each call costs a few look-ups, none more than the logarithm of how many pairs
+/// there are.
 #[derive(Drop)]
 pub struct Pairs {
-    order: IndexSet<KeptFor>,
+    order: Numbered,
     slots: Sets<NodeId, Slot>,
     keepers: Sets<Slot, NodeId>,
     ghost viewed: { AreViews order slots keepers } by { AreViews-prop order slots keepers },
@@ -30,7 +31,7 @@ impl Pairs {
         ensures { (x : ℕ) (s : Slot) → is_pair result x s ≡ false }
     {
         Pairs {
-            order: IndexSet::new(alloc),
+            order: Numbered::new(alloc),
             slots: Sets::new(alloc),
             keepers: Sets::new(alloc),
         }
@@ -40,7 +41,7 @@ impl Pairs {
     pub fn has(&self, pair: KeptFor) -> bool
         ensures { result ≡ is_pair self.now pair.keeper.0 pair.slot }
     {
-        self.order.contains(&pair)
+        self.order.has(pair)
     }
 
     /// Whether the node keeps hints for any slot. Takes no memory.
@@ -75,7 +76,7 @@ impl Pairs {
         ensures some { IfSome result (λ pair. is_pair self.now pair.keeper.0 pair.slot ≡ true) }
         ensures none { IfNone result (pair_count self.now ≤ n) }
     {
-        self.order.get_index(n as usize).copied()
+        self.order.nth(n)
     }
 
     /// Adds the pair, if it is not there.
@@ -92,10 +93,10 @@ impl Pairs {
             self.slots.remove(&pair.keeper, &pair.slot);
             return Err(refusal);
         }
-        if let Err(failed) = self.order.insert(pair) {
+        if let Err(refusal) = self.order.push(pair) {
             self.slots.remove(&pair.keeper, &pair.slot);
             self.keepers.remove(&pair.slot, &pair.keeper);
-            return Err(Refusal::OutOfMemory);
+            return Err(refusal);
         }
         Ok(())
     }
@@ -105,7 +106,7 @@ impl Pairs {
         ensures pairs { (x : ℕ) (s : Slot) → is_pair self.new x s ≡ (not (is_of pair x s) && is_pair self.old x s) }
         ensures count { pair_count self.new + (if is_pair self.old pair.keeper.0 pair.slot then 1 else 0) ≡ pair_count self.old }
     {
-        self.order.swap_remove(&pair);
+        self.order.swap_remove(pair);
         self.slots.remove(&pair.keeper, &pair.slot);
         self.keepers.remove(&pair.slot, &pair.keeper);
     }

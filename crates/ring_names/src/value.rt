@@ -1,38 +1,56 @@
 //! What a key has.
 
-ghost use Rattle.std.specs.Prelude.{◌≡◌, IfOk, IfSome, is_some, true};
+ghost use Rattle.std.specs.Prelude.{◌≡◌, ◌⊎◌, IfOk, IfSome, is_some, true};
 ghost use Rattle.ring_names.specs.Values.{is_value};
 
 use std::alloc::{AllocError, Global};
 use std::marker::Model;
+use std::sync::Arc;
 
-/// The value of a key: 0 to 1,024 bytes.
-#[derive(Debug, Drop)]
+/// The value of a key: 0 to 1,024 bytes. Copies share the bytes, so that these are kept once for all that name them.
+#[derive(Debug)]
 pub struct Value {
-    bytes: Vec<u8>,
+    // None where there are none.
+    bytes: Option<Arc<Vec<u8>>>,
 }
 
 impl Model for Value {
     ghost use Rattle.std.specs.Prelude.{◌≡◌, ℕ, List, true};
-    ghost use Rattle.ring_names.specs.Values.{is_value};
+    ghost use Rattle.ring_names.specs.Values.{is_value, shared_items};
 
     ghost Value = { List ℕ };
 
-    ghost view = { λ a. a.bytes.items };
+    ghost view = { λ a. shared_items a.bytes };
 
-    ghost invariant = { λ a. is_value a.bytes.items ≡ true };
+    ghost invariant = { λ a. is_value (shared_items a.bytes) ≡ true };
+}
+
+// Dropped by a call, so that no crate above goes through the two cases wherever a value ends.
+impl Drop for Value {
+    fn drop(self) {
+        let Value { bytes } = self;
+        drop(bytes);
+    }
 }
 
 impl Value {
-    /// The value of these bytes, where they are not too many. Takes no memory.
-    pub fn of(bytes: Vec<u8>) -> Option<Value>
-        ensures some { is_some result ≡ is_value bytes.items }
-        ensures same { IfSome result (λ value. value ≡ bytes.items) }
+    /// The value of these bytes, where they are not too many. Takes memory for the one block that counts who shares them.
+    pub fn of(alloc: Global, bytes: Vec<u8>) -> Result<Option<Value>, AllocError>
+        ensures some { IfOk result (λ value. is_some value ≡ is_value bytes.items) }
+        ensures same { IfOk result (λ value. IfSome value (λ v. v ≡ bytes.items)) }
     {
-        if bytes.as_slice().len() <= 1024 {
-            return Some(Value { bytes });
+        if bytes.len() > 1024 {
+            return Ok(None);
         }
-        None
+        if bytes.is_empty() {
+            return Ok(Some(Value { bytes: None }));
+        }
+        match Arc::new(alloc, bytes) {
+            Ok(shared) => Ok(Some(Value {
+                bytes: Some(shared),
+            })),
+            Err(_) => Err(AllocError),
+        }
     }
 
     /// The bytes.
@@ -40,15 +58,21 @@ impl Value {
         ensures value { result.now ≡ self.now }
         ensures valid { is_value self.now ≡ true }
     {
-        self.bytes.as_slice()
+        match &self.bytes {
+            Some(shared) => shared.as_slice(),
+            None => &[],
+        }
     }
 
-    /// The same value once more.
-    pub fn try_copy(&self, alloc: Global) -> Result<Value, AllocError>
+    /// The same value once more, which shares the bytes. Takes no memory; refused only where 2^64 values would share them.
+    pub fn try_copy(&self) -> Result<Value, AllocError>
         ensures { IfOk result (λ value. value ≡ self.now) }
     {
-        Ok(Value {
-            bytes: Vec::from_slice(alloc, self.as_slice())?,
-        })
+        match &self.bytes {
+            Some(shared) => Ok(Value {
+                bytes: Some(Arc::try_clone(shared)?),
+            }),
+            None => Ok(Value { bytes: None }),
+        }
     }
 }

@@ -1,4 +1,6 @@
 pub mod Versions
 pub mod Parts
+pub mod Raised
+pub mod Tops
 pub mod Fresh
 pub mod Puts

@@ -2,6 +2,7 @@
 
 ghost use Rattle.std.specs.Prelude.{◌↔◌, IsTrue};
 
+use crate::kept::Kept;
 use crate::version::Version;
 
 /// Versions that a set does not cover yet, copied, with room behind them for those that the set has: so a merge that was made ready
@@ -9,6 +10,9 @@ use crate::version::Version;
 #[derive(Drop)]
 pub struct Fresh {
     pub(crate) list: Vec<Version>,
+    // Tops of the list alone, and of it and the set together.
+    pub(crate) own: Kept,
+    pub(crate) both: Kept,
 }
 
 impl Fresh {

@@ -5,7 +5,6 @@ ghost use Rattle.ring_names.specs.declared.refusal.Refusal.TheVariants.{OutOfMem
 
 use ring_clock::Clock;
 use ring_names::{Refusal, Value};
-use std::alloc::Global;
 
 /// What a put stored: its number, its clock, and its value.
 #[derive(Drop)]
@@ -16,13 +15,13 @@ pub struct Version {
 }
 
 impl Version {
-    /// The same version once more.
-    pub fn try_copy(&self, alloc: Global) -> Result<Version, Refusal>
+    /// The same version once more, which shares the clock's entries and the value's bytes. Takes no memory.
+    pub fn try_copy(&self) -> Result<Version, Refusal>
         ensures same { IfOk result (λ v. v ≡ self.now) }
         ensures memory { IfErr result (λ e. e ≡ OutOfMemory) }
     {
         let clock = self.clock.try_copy()?;
-        let value = self.value.try_copy(alloc)?;
+        let value = self.value.try_copy()?;
         Ok(Version {
             put: self.put,
             clock,

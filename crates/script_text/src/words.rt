@@ -165,7 +165,8 @@ impl<'a> ValueWord<'a> {
         ensures memory { IfErr result (λ e. e ≡ OutOfMemory) }
     {
         let bytes = bytes_of(alloc, self.digits)?;
-        match Value::of(bytes) {
+        let made = Value::of(alloc, bytes)?;
+        match made {
             Some(value) => Ok(value),
             None => unreachable!(),
         }

@@ -10,7 +10,8 @@ use Rattle.ring_clock.proofs.Causing.{has_first, has_later}
 use Rattle.ring_versions.specs.declared.version.Version.{Version}
 use Rattle.ring_versions.specs.Versions.{IsIn}
 use Rattle.store_tells.specs.Found.{IsJoinOfFound}
-use Rattle.store_events.specs.Clocks.{RaisesTo, IsClockIn, IsFoundClock}
+use Rattle.ring_versions.specs.Raised.{RaisesTo, IsClockIn}
+use Rattle.store_events.specs.Clocks.{IsFoundClock}
 
 -- new is raised to these clocks, but for some that are left
 pub record RaisedBut (old : List Entry) (These Left : List Entry → Type 0) (new : List Entry) : Type 0 where
@@ -66,25 +67,6 @@ raises_one old new c raise = record {
 
 pub raises_none : (old : List Entry) (These : List Entry → Type 0) → ((c : List Entry) → These c → ⊥) → RaisesTo old These old
 raises_none old These none = record { before = λ w. omega arith; above = λ c h. absurd (none c h); from = λ w. inl refl }
-
-pub none_in : (versions : List Version) → length versions ≡ 0 → (c : List Entry) → IsClockIn versions c → ⊥
-none_in [] e c h = h.1
-none_in (x ∷ xs) e c h = absurd (omega arith)
-
-pub version_raised : (old mid new : List Entry) (versions rest later : List Version) (x : Version) → rest ≡ x ∷ later → ((w : ℕ) → counter new w ≡ max (counter mid w) (counter x.clock w))
-    → RaisedBut old (IsClockIn versions) (IsClockIn rest) mid → RaisedBut old (IsClockIn versions) (IsClockIn later) new
-version_raised old mid new versions rest later x is raise r =
-    let back : (xs : List Version) → x ∷ later ≡ xs → (c : List Entry) → IsClockIn (x ∷ later) c → IsClockIn xs c = λ xs e c h. subst (λ (ys : List Version). IsClockIn ys c) e h in
-    raised_more old mid new (IsClockIn versions) (IsClockIn rest) (λ d. x.clock ≡ d) (IsClockIn later)
-    (λ c e. back rest (sym is) c (x, inl refl, e))
-    (λ c h. back rest (sym is) c (h.0, inr h.1, h.2))
-    (λ c h. (
-    let front = subst (λ (ys : List Version). IsClockIn ys c) is h in
-    elim front.1 [
-      | inl same ↦ inl (ap (λ (y : Version). y.clock) same ∙ front.2)
-      | inr more ↦ inr (front.0, more, front.2)
-    ]))
-    (raises_one mid new x.clock raise) r
 
 -- ---- clocks of what gets found
 

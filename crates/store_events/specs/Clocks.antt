@@ -8,16 +8,6 @@ use Rattle.ring_versions.specs.declared.version.Version.{Version}
 use Rattle.ring_versions.specs.Versions.{IsIn}
 use Rattle.store_tells.specs.Found.{IsJoinOfFound}
 
--- new is the least clock above old and these: each counter is the greatest of theirs
-pub record RaisesTo (old : List Entry) (These : List Entry → Type 0) (new : List Entry) : Type 0 where
-  pub before : IsAtMost old new
-  pub above : (c : List Entry) → These c → IsAtMost c new
-  pub from : (w : ℕ) → (counter new w ≡ counter old w) ⊎ ((c : List Entry) × These c × (counter c w ≡ counter new w))
-
--- it is the clock of one of these versions
-abbrev pub IsClockIn : List Version → List Entry → Type 0
-IsClockIn versions c = (x : Version) × IsIn x versions × (x.clock ≡ c)
-
 -- it is the clock of a version that one of these gets found
 abbrev pub IsFoundClock : (ℕ → List Version) → List ℕ → List Entry → Type 0
 IsFoundClock found seen c = (g : ℕ) × (x : Version) × (has g seen ≡ true) × IsIn x (found g) × (x.clock ≡ c)

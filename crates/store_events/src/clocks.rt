@@ -7,35 +7,13 @@ ghost use Rattle.ring_clock.specs.Clock.{counter};
 ghost use Rattle.store_tells.specs.Found.{IsJoinOfFound};
 ghost use Rattle.store_tells.specs.Puts.{clock_at};
 ghost use Rattle.store_tells.specs.GetsChange.{found_at};
-ghost use Rattle.store_events.specs.Clocks.{RaisesTo, IsClockIn, IsFoundClock, IsNextOfFound};
+ghost use Rattle.ring_versions.specs.Raised.{RaisesTo, IsClockIn};
+ghost use Rattle.store_events.specs.Clocks.{IsFoundClock, IsNextOfFound};
 
 use ring_clock::Clock;
 use ring_names::{Refusal, WriterId};
-use ring_versions::Version;
 use std::alloc::Global;
 use store_tables::{Gets, Puts};
-
-// Raises a clock to another.
-fn raise(clock: &mut Clock, other: &Clock) -> Result<(), Refusal>
-    ensures ok { OnOk result ((w : ℕ) → counter clock.new w ≡ max (counter clock.old w) (counter other.now w)) }
-    ensures memory { IfErr result (λ e. e ≡ OutOfMemory) }
-{
-    *clock = clock.join(other)?;
-    Ok(())
-}
-
-// Raises a clock to those of the versions.
-fn raise_to_versions(clock: &mut Clock, versions: &[Version]) -> Result<(), Refusal>
-    ensures ok { OnOk result (RaisesTo clock.old (IsClockIn versions.now) clock.new) }
-    ensures memory { IfErr result (λ e. e ≡ OutOfMemory) }
-{
-    let mut rest = versions;
-    'versions: while let Some((version, later)) = rest.split_first() {
-        raise(clock, &version.clock)?;
-        rest = later;
-    }
-    Ok(())
-}
 
 // Raises a clock to those of all versions that a get found, if there is the get.
 fn raise_to_get(clock: &mut Clock, gets: &Gets, get: u32) -> Result<(), Refusal>
@@ -43,7 +21,7 @@ fn raise_to_get(clock: &mut Clock, gets: &Gets, get: u32) -> Result<(), Refusal>
     ensures memory { IfErr result (λ e. e ≡ OutOfMemory) }
 {
     match gets.get(get) {
-        Some(now) => raise_to_versions(clock, now.found.list()),
+        Some(now) => clock.raise(now.found.join()),
         None => Ok(()),
     }
 }
@@ -70,7 +48,7 @@ fn raise_to_put(clock: &mut Clock, puts: &Puts, put: u32) -> Result<(), Refusal>
         return Ok(());
     };
     match now.version.list().split_first() {
-        Some((version, _)) => raise(clock, &version.clock),
+        Some((version, _)) => clock.raise(&version.clock),
         None => Ok(()),
     }
 }

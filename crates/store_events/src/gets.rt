@@ -10,7 +10,7 @@ ghost use Rattle.store_events.specs.Gets.{end_guards_kept};
 use crate::keys::number_of;
 use plan_check::{Key, Reply};
 use ring_names::{Listed, Refusal};
-use ring_versions::Versions;
+use ring_versions::Found;
 use store_tables::{GetNow, Gets, Marks};
 use store_tells::Parts;
 
@@ -28,7 +28,7 @@ pub fn start_get(parts: &mut Parts, key: &Key) -> Result<Reply, Refusal>
     let get = GetNow {
         key: key_number,
         read: Marks::none(),
-        found: Versions::new(parts.alloc),
+        found: Found::new(parts.alloc),
         reply: None,
     };
     parts.gets.push(get)?;

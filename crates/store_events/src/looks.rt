@@ -14,7 +14,7 @@ ghost use Rattle.store_events.specs.Looks.{FindsAt, owned_at};
 
 use crate::keepers::merge_hints;
 use ring_names::{Listed, Refusal, Slot};
-use ring_versions::Versions;
+use ring_versions::{Found, Versions};
 use store_tells::Parts;
 
 // What the slot's owner has of the key, once more.
@@ -48,7 +48,7 @@ fn slot_versions(parts: &Parts, slot: Slot, chunk: u32, key: &[u8]) -> Result<Ve
 }
 
 /// What the get has found once it has read the slot, and the numbers of the puts that it finds there.
-pub fn look(parts: &Parts, get: u32, index: u32) -> Result<(Versions, Listed<u32>), Refusal>
+pub fn look(parts: &Parts, get: u32, index: u32) -> Result<(Found, Listed<u32>), Refusal>
     requires sound { IsSound parts.now }
     requires passes { Passes parts.now (Read get index) }
     ensures ok { IfOk result (λ found. (w : World) → Meets parts.now w
@@ -63,7 +63,6 @@ pub fn look(parts: &Parts, get: u32, index: u32) -> Result<(Versions, Listed<u32
     let key = parts.keys.key(now.key);
     let at_slot = slot_versions(parts, Slot { partition, index }, place.chunk, key)?;
     let puts = at_slot.puts()?;
-    let mut found = now.found.try_copy()?;
-    found.merge(&at_slot)?;
+    let found = now.found.with(&at_slot)?;
     Ok((found, puts))
 }

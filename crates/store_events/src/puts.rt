@@ -108,7 +108,7 @@ fn new_put(
     let put = parts.puts.len() as u32;
     let last = parts.lasts.get(key, writer);
     let clock = next_clock(alloc, &parts.puts, &parts.gets, last, seen, writer)?;
-    let value = value.try_copy(alloc)?;
+    let value = value.try_copy()?;
     let version = Versions::of(alloc, Version { put, clock, value })?;
     Ok(PutNow {
         key,
@@ -144,8 +144,8 @@ fn push_put(
     Ok(number)
 }
 
-/// A writer starts a put, knowing the replies of these gets. Refused, it has changed nothing that a run can tell. Costs a copy of the
-/// value, and a join for each version that the gets found.
+/// A writer starts a put, knowing the replies of these gets. Refused, it has changed nothing that a run can tell. Costs a join
+/// for each version that the gets found.
 pub fn start_put(
     parts: &mut Parts,
     writer: WriterId,

@@ -13,7 +13,7 @@ impl KeyMap {
     ghost use Rattle.store_maps.specs.Merges.{MergesAll, at_key};
 
     /// The first half of a merge at one key: makes its place, where it has none, and what the other versions bring. No reading changes,
-    /// whatever the answer. Costs a comparison for each pair of versions of the two sets.
+    /// whatever the answer. Costs what `Versions::fresh_of` does.
     pub fn prepare(&mut self, key: &[u8], more: &Versions) -> Result<Fresh, Refusal>
         ensures same { (k : List ℕ) → held self.new k ≡ held self.old k }
         ensures stays { (k : List ℕ) → has_place self.old k ≡ true → has_place self.new k ≡ true }

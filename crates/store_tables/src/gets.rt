@@ -9,7 +9,7 @@ ghost use Rattle.store_tables.specs.Gets.{is_read_at};
 
 use crate::marks::Marks;
 use ring_names::{Listed, Refusal};
-use ring_versions::Versions;
+use ring_versions::Found;
 use std::alloc::Global;
 use std::marker::Model;
 
@@ -21,7 +21,7 @@ pub struct GetNow {
     /// The slots of the key's partition that it has read, by index.
     pub read: Marks,
     /// What it found at these, merged.
-    pub found: Versions,
+    pub found: Found,
     /// The puts that it answered, ascending, once it has ended.
     pub reply: Option<Listed<u32>>,
 }
@@ -97,7 +97,7 @@ impl Gets {
 
     /// The get has read the slot of that index, and these are the versions that it found so far. Takes no memory.
     #[tactic(auto, using(crate::proofs::Writing::writing))]
-    pub fn set_found(&mut self, number: u32, index: u32, found: Versions)
+    pub fn set_found(&mut self, number: u32, index: u32, found: Found)
         requires { index < 7 }
         ensures get { self.new ≡ changed self.old number (λ x. record x { read = with_mark x.read index; found = found }) }
         ensures reads { number < length self.old → (i : ℕ) → is_read_at self.new number i ≡ (i == index) || is_read_at self.old number i }

@@ -17,7 +17,7 @@ pub seen-preserved : goal.seen-preserved
 seen-preserved c =
     let seen = c.seen.invariant.left c.in-Some.put.now (subst (λ (xs : List ℕ). has c.in-Some.put.now xs ≡ true) (sym (c.in-Some.ensures).cases.0) (has_first c.in-Some.put.now c.in-Some.later.now)) in
     let at = c.index-clocks-put.is ∙ get_or_default c.args.clocks.now c.in-Some.put.now c.index-clocks-put.result [] (c.requires.earlier c.in-Some.put.now seen) in
-    raised_one (λ v. get_or c.args.clocks.now v []) c.args.seen.now c.seen.rest.now c.in-Some.later.now c.in-Some.put.now c.seen.clock c.raise.new.clock (c.in-Some.ensures).cases.0 (raise_at c.seen.clock c.raise.new.clock at (c.in_ok-raise.ensures).ok) c.seen.invariant
+    raised_one (λ v. get_or c.args.clocks.now v []) c.args.seen.now c.seen.rest.now c.in-Some.later.now c.in-Some.put.now c.seen.clock c.raise.new.self (c.in-Some.ensures).cases.0 (raise_at c.seen.clock c.raise.new.self at (c.in_ok-raise.ensures).ok) c.seen.invariant
 
 -- src/causes.rt:32:1
 pub returns-clause-ok : goal.returns-clause-ok

@@ -46,6 +46,6 @@ returns-clause-ok c w m =
       is = sym c.in-Some.ensures;
       at_slot = c.in_ok-at_slot.at_slot;
       shows = finds_shown (ring_of a) (plan_of a) (kept_of a) w m c.args.get c.args.index get place c.key-key.result.now c.in_ok-at_slot.at_slot (sym c.in-Some.ensures) lies c.key-key.ensures there.1 (c.in_ok-at_slot.ensures).ok;
-      merged = subst (λ (xs : List Version). IsMerge xs c.in_ok-at_slot.at_slot c.merge.new.self) (c.in_ok-found.ensures).same (c.in_ok-merge.ensures).ok;
+      merged = (c.in_ok-found.ensures).ok;
       numbers = (c.in_ok-puts.ensures).ok;
     }

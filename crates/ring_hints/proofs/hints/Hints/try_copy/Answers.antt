@@ -10,7 +10,8 @@ new-copy-requires c = c.args.self.now.space
 pub maps-init : goal.maps-init
 maps-init c =
     let gives = c.into_iter-pair-iterator.ensures.into_iter_gives in
-    subst (Copying c.args.self.now c.new-copy.result) (sym gives.0) (copying_none c.args.self.now c.new-copy.result c.new-copy.ensures.space c.new-copy.ensures.versions gives.4)
+    let none = copying_none c.args.self.now c.new-copy.result c.new-copy.ensures.space c.new-copy.ensures.versions gives.5 in
+    subst (Copying c.args.self.now c.new-copy.result) (sym gives.0) none
 
 pub put-requires-clause-absent : goal.put-requires-clause-absent
 put-requires-clause-absent c = next_absent c.args.self.now c.maps.copy c.maps.pair-iterator c.next.new.self c.in-Some.pair.now c.in-Some.map.now (c.in-Some.ensures).steps c.maps.invariant
@@ -18,7 +19,11 @@ put-requires-clause-absent c = next_absent c.args.self.now c.maps.copy c.maps.pa
 pub put-requires-clause-kept : goal.put-requires-clause-kept
 put-requires-clause-kept c =
     let gives = c.into_iter-pair-iterator.ensures.into_iter_gives in
-    let at = found c.args.self.now.maps c.maps.yielded c.into_iter-pair-iterator.result c.maps.pair-iterator c.next.new.self c.next.result (c.in-Some.pair, c.in-Some.map) c.maps.yielded_by c.in-Some.is c.next.ensures.steps gives.0 gives.4 in
+    let before = c.into_iter-pair-iterator.result in
+    let now = c.maps.pair-iterator in
+    let later = c.next.new.self in
+    let at = found c.args.self.now.maps c.maps.yielded before now later c.next.result (c.in-Some.pair, c.in-Some.map)
+    c.maps.yielded_by c.in-Some.is c.next.ensures.steps gives.0 gives.5 in
     let copied = c.in_ok-try_copy.ensures in
     let n = c.in_ok-try_copy.field-0 in
     let pair = c.in-Some.pair.now in
@@ -28,7 +33,11 @@ put-requires-clause-kept c =
 pub maps-preserved : goal.maps-preserved
 maps-preserved c =
     let gives = c.into_iter-pair-iterator.ensures.into_iter_gives in
-    let at = found c.args.self.now.maps c.maps.yielded c.into_iter-pair-iterator.result c.maps.pair-iterator c.next.new.self c.next.result (c.in-Some.pair, c.in-Some.map) c.maps.yielded_by c.in-Some.is c.next.ensures.steps gives.0 gives.4 in
+    let before = c.into_iter-pair-iterator.result in
+    let now = c.maps.pair-iterator in
+    let later = c.next.new.self in
+    let at = found c.args.self.now.maps c.maps.yielded before now later c.next.result (c.in-Some.pair, c.in-Some.map)
+    c.maps.yielded_by c.in-Some.is c.next.ensures.steps gives.0 gives.5 in
     copying_more c.args.self.now c.maps.copy c.put.new.self c.maps.pair-iterator c.next.new.self c.in-Some.pair.now c.in-Some.map.now c.in_ok-try_copy.field-0 (c.in-Some.ensures).steps at (c.in_ok-try_copy.ensures).same
     (c.in_ok-put.ensures).space (c.in_ok-put.ensures).ok c.maps.invariant
 

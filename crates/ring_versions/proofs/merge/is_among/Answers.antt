@@ -1,7 +1,7 @@
 use Rattle.std.proofs.Common.{List, inl, refl, sym, subst}
 use Rattle.ring_versions.specs.Versions.{Covers}
 use Rattle.ring_versions.specs.declared.version.Version.{Version}
-use Rattle.ring_versions.proofs.merge.is_covered.Goals as goal
+use Rattle.ring_versions.proofs.merge.is_among.Goals as goal
 
 -- src/merge.rt:21:13
 pub returns-then-le : goal.returns-then-le

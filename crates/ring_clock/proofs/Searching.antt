@@ -1,0 +1,49 @@
+-- What a binary search by writer finds among the entries of a clock.
+use Rattle.std.proofs.Common.{◌≡◌, ◌≢◌, ◌⊎◌, inl, inr, ℕ, zero, suc, ◌<◌, ◌≤◌, List, [], ◌∷◌, ◌∙◌, length, get_or, Ok, Err, refl, sym, arith}
+use Rattle.std.specs.List.Sorted.{IsBinarySearchResult}
+use Rattle.std.specs.Ordering.{nat_cmp, ordering_index}
+use Rattle.std.proofs.lemmas.Cmp.{ranked}
+use Rattle.std.proofs.lemmas.Bool.Decides.{nat_tests}
+use Rattle.ring_clock.specs.declared.entry.Entry.{Entry}
+use Rattle.ring_clock.specs.Clock.{counter, IsAbove, IsClock}
+use Rattle.ring_clock.proofs.Entries.{here, there}
+
+above_at : (w : ℕ) (es : List Entry) → IsAbove w es → (k : ℕ) (d : Entry) → k < length es → w < (get_or es k d).writer.0
+above_at w [] h k d l = absurd (omega arith)
+above_at w (e ∷ es) h zero d l = h.0
+above_at w (e ∷ es) h (suc k) d l = above_at w es h.1 k d (omega arith)
+
+rise : (es : List Entry) → IsClock es → (i j : ℕ) (d : Entry) → i ≤ j → j < length es → (get_or es i d).writer.0 ≤ (get_or es j d).writer.0
+rise [] h i j d le l = absurd (omega arith)
+rise (e ∷ es) h zero zero d le l = omega arith
+rise (e ∷ es) h zero (suc j) d le l = omega (arith, above_at e.writer.0 es h.1 j d (omega arith))
+rise (e ∷ es) h (suc i) zero d le l = absurd (omega arith)
+rise (e ∷ es) h (suc i) (suc j) d le l = rise es h.2 i j d (omega arith) (omega arith)
+
+ranks_rise : (a b w : ℕ) → a ≤ b → ordering_index (nat_cmp a w) ≤ ordering_index (nat_cmp b w)
+ranks_rise a b w le = grind (arith, nat_tests)
+
+at : (es : List Entry) (w : ℕ) → IsClock es → (k : ℕ) (d : Entry) → k < length es → (get_or es k d).writer.0 ≡ w → (get_or es k d).counter ≡ counter es w
+at [] w h k d l is = absurd (omega arith)
+at (e ∷ es) w h zero d l is = sym (here e es w is)
+at (e ∷ es) w h (suc k) d l is = at es w h.2 k d (omega arith) is ∙ sym (there e es w (λ x. omega (arith, above_at e.writer.0 es h.1 k d (omega arith))))
+
+nowhere : (es : List Entry) (w : ℕ) → ((k : ℕ) (d : Entry) → k < length es → (get_or es k d).writer.0 ≢ w) → 0 ≡ counter es w
+nowhere [] w h = refl
+nowhere (e ∷ es) w h = nowhere es w (λ k d l. h (suc k) d (omega arith)) ∙ sym (there e es w (h zero e (omega arith)))
+
+-- the entry that was found has the writer's counter
+pub found : (es : List Entry) (w k : ℕ) (d : Entry) → IsClock es → k < length es → IsBinarySearchResult (λ e. nat_cmp e.writer.0 w) es (Ok k) → (get_or es k d).counter ≡ counter es w
+found es w k d h l r = at es w h k d l (ranked _ w _ (sym (r d)))
+
+-- where none was found the counter is 0
+pub not_found : (es : List Entry) (w k : ℕ) → IsClock es → IsBinarySearchResult (λ e. nat_cmp e.writer.0 w) es (Err k) → 0 ≡ counter es w
+not_found es w k h r =
+    let parts = r (λ i j d le l. ranks_rise _ _ w (rise es h i j d le l)) in
+    nowhere es w (λ n d l is. elim (split n k) [
+      | inl before ↦ omega (arith, ranked _ w _ (sym (parts.0 n d (omega arith) before)))
+      | inr behind ↦ omega (arith, ranked _ w _ (sym (parts.1 n d behind l)))
+    ])
+  where
+    split : (n k : ℕ) → (n < k) ⊎ (k ≤ n)
+    split n k = grind arith

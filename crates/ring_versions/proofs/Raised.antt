@@ -1,0 +1,96 @@
+-- The join of the clocks of versions.
+use Rattle.std.proofs.Common.{◌≡◌, ◌⊎◌, inl, inr, ◌∙◌, ℕ, ◌≤◌, List, [], ◌∷◌, ◌++◌, Result, Ok, Err, IfOk, refl, sym, subst, arith}
+use Rattle.std.specs.Prelude.{max}
+use Rattle.std.proofs.lemmas.Bool.Decides.{eqb_tells}
+use Rattle.ring_clock.specs.declared.entry.Entry.{Entry}
+use Rattle.ring_clock.specs.Clock.{counter, IsAtMost}
+use Rattle.ring_versions.specs.declared.version.Version.{Version}
+use Rattle.ring_versions.specs.Versions.{IsIn, Covers, IsMerge}
+use Rattle.ring_versions.specs.Parts.{IsFresh}
+use Rattle.ring_versions.specs.Raised.{RaisesTo, IsClockIn}
+use Rattle.ring_versions.specs.Tops.{IsBound}
+use Rattle.ring_versions.proofs.Members.{in_first, in_second, in_either}
+
+max_is : (a b : ℕ) → (max a b ≡ a) ⊎ (max a b ≡ b)
+max_is a b = elim (eqb_tells (max a b) a) [ inl t ↦ inl t.1 | inr t ↦ inr (grind (arith, t.1)) ]
+
+pub join_none : (vs : List Version) (c : List Entry) → vs ≡ [] → c ≡ [] → RaisesTo [] (IsClockIn vs) c
+join_none vs c none is = record {
+  before = λ w. omega arith;
+  above = λ k h. absurd (subst (λ (xs : List Version). IsIn h.0 xs) none h.1);
+  from = λ w. inl (subst (λ (d : List Entry). counter d w ≡ 0) (sym is) refl);
+}
+
+pub join_one : (vs : List Version) (v : Version) (c : List Entry) → vs ≡ v ∷ [] → c ≡ v.clock → RaisesTo [] (IsClockIn vs) c
+join_one vs v c one is =
+    let in_it : IsIn v vs = subst (λ (xs : List Version). IsIn v xs) (sym one) (inl refl) in
+    record {
+      before = λ w. omega arith;
+      above = λ k h. elim (subst (λ (xs : List Version). IsIn h.0 xs) one h.1) [
+        | inl same ↦ (let e = h.2 in λ w. (let equal : k ≡ c = cc in subst (λ (d : List Entry). counter k w ≤ counter d w) equal (omega arith)))
+        | inr none ↦ absurd none
+      ];
+      from = λ w. inr (v.clock, (v, in_it, refl), subst (λ (d : List Entry). counter v.clock w ≡ counter d w) (sym is) refl);
+    }
+
+join_both : (xs ys vs : List Version) (c d e : List Entry) → vs ≡ xs ++ ys → RaisesTo [] (IsClockIn xs) c → RaisesTo [] (IsClockIn ys) d → ((w : ℕ) → counter e w ≡ max (counter c w) (counter d w)) → RaisesTo [] (IsClockIn vs) e
+join_both xs ys vs c d e is a b raise =
+    let to : (x : Version) → IsIn x (xs ++ ys) → IsIn x vs = λ x h. subst (λ (zs : List Version). IsIn x zs) (sym is) h in
+    record {
+      before = λ w. omega arith;
+      above = λ k h w. (let r = raise w in elim (in_either h.0 xs ys (subst (λ (zs : List Version). IsIn h.0 zs) is h.1)) [
+        | inl front ↦ (let u = a.above k (h.0, front, h.2) w in omega arith)
+        | inr back ↦ (let u = b.above k (h.0, back, h.2) w in omega arith)
+      ]);
+      from = λ w. elim (max_is (counter c w) (counter d w)) [
+        | inl t ↦ elim (a.from w) [ inl none ↦ inl (raise w ∙ t ∙ none) | inr x ↦ inr (x.0, (x.1.0, to x.1.0 (in_first x.1.0 xs ys x.1.1), x.1.2), x.2 ∙ sym t ∙ sym (raise w)) ]
+        | inr t ↦ elim (b.from w) [ inl none ↦ inl (raise w ∙ t ∙ none) | inr x ↦ inr (x.0, (x.1.0, to x.1.0 (in_second x.1.0 xs ys x.1.1), x.1.2), x.2 ∙ sym t ∙ sym (raise w)) ]
+      ];
+    }
+
+-- the join of the joins of two lists is that of both
+pub joined : {E : Type 0} (r : Result (List Entry) E) (c d : List Entry) (xs ys vs : List Version) → vs ≡ xs ++ ys → RaisesTo [] (IsClockIn xs) c → RaisesTo [] (IsClockIn ys) d
+    → IfOk r (λ e. (w : ℕ) → counter e w ≡ max (counter c w) (counter d w)) → IfOk r (RaisesTo [] (IsClockIn vs))
+joined (Err e) c d xs ys vs is a b raise = tt
+joined (Ok e) c d xs ys vs is a b raise = join_both xs ys vs c d e is a b raise
+
+pub join_bound : (c : List Entry) (vs : List Version) → RaisesTo [] (IsClockIn vs) c → IsBound c vs
+join_bound c vs j v h = j.above v.clock (v, h, refl)
+
+-- a clock that is raised to the join is raised to all
+pub raised_by_join : (old new join : List Entry) (vs : List Version) → ((w : ℕ) → counter new w ≡ max (counter old w) (counter join w)) → RaisesTo [] (IsClockIn vs) join → RaisesTo old (IsClockIn vs) new
+raised_by_join old new join vs raise j = record {
+  before = λ w. (let r = raise w in omega arith);
+  above = λ k h w. (let u = j.above k h w in let r = raise w in omega arith);
+  from = λ w. elim (max_is (counter old w) (counter join w)) [
+    | inl t ↦ inl (raise w ∙ t)
+    | inr t ↦ elim (j.from w) [
+      | inl none ↦ inl (let r = raise w in let n : counter join w ≡ 0 = none in omega arith)
+      | inr x ↦ inr (x.0, x.1, x.2 ∙ sym t ∙ sym (raise w))
+    ]
+  ];
+}
+
+-- where the join is raised to what is fresh, it is the join of the merge
+pub join_merged : (a b fresh c : List Version) (join more : List Entry) → IsFresh a b fresh → IsMerge a b c → RaisesTo [] (IsClockIn a) join → RaisesTo join (IsClockIn fresh) more → RaisesTo [] (IsClockIn c) more
+join_merged a b fresh c join more f m j r =
+    let under : (x : Version) → IsIn x c → IsAtMost x.clock more = λ x h. elim (m.drawn x h) [
+      | inl old ↦ (λ w. (let p = j.above x.clock (x, old, refl) w in let q = r.before w in omega arith))
+      | inr new ↦ elim (f.covers x.clock (x, new, λ w. omega arith)) [
+        | inl held ↦ (λ w. (let o = held.2 w in let p = j.above held.0.clock (held.0, held.1, refl) w in let q = r.before w in omega arith))
+        | inr out ↦ (λ w. (let o = out.2 w in let p = r.above out.0.clock (out.0, out.1, refl) w in omega arith))
+      ]
+    ] in
+    let kept : (k : List Entry) (w : ℕ) → Covers a k ⊎ Covers b k → counter k w ≡ counter more w → (d : List Entry) × IsClockIn c d × (counter d w ≡ counter more w) = λ k w h e.
+    (let v = (m.covers k).1 h in (v.0.clock, (v.0, v.1, refl), (let up = v.2 w in let down = under v.0 v.1 w in omega arith))) in
+    record {
+      before = λ w. omega arith;
+      above = λ k h. subst (λ (d : List Entry). IsAtMost d more) h.2 (under h.0 h.1);
+      from = λ w. elim (r.from w) [
+        | inl same ↦ elim (j.from w) [
+          | inl none ↦ inl (same ∙ none)
+          | inr x ↦ inr (kept x.0 w (inl (x.1.0, x.1.1, λ u. (let e = x.1.2 in subst (λ (d : List Entry). counter x.0 u ≤ counter d u) (sym e) (omega arith)))) (x.2 ∙ sym same))
+        ]
+        | inr x ↦ inr (kept x.0 w (inr (x.1.0, f.drawn x.1.0 x.1.1, λ u. subst (λ (d : List Entry). counter x.0 u ≤ counter d u) (sym x.1.2) (omega arith))) x.2)
+      ];
+    }

@@ -1,0 +1,178 @@
+//! The join of many versions' clocks, and where to look first for a version that covers a clock.
+
+ghost use Rattle.std.specs.Prelude.{◌≡◌, ◌<◌, length, IsTrue, IfOk, IfErr, IfSome};
+ghost use Rattle.ring_names.specs.declared.refusal.Refusal.TheVariants.{OutOfMemory};
+ghost use Rattle.ring_clock.specs.Clock.{IsAtMost};
+ghost use Rattle.ring_versions.specs.Versions.{IsIn, Covers};
+ghost use Rattle.ring_versions.specs.Tops.{IsBound};
+
+use crate::joining::join_of;
+use crate::version::Version;
+use ring_clock::{Clock, Entry};
+use ring_names::{Refusal, WriterId};
+use std::alloc::{AllocError, Global};
+
+/// From how many versions on a set keeps tops. Fewer are gone through as fast without.
+pub const MANY: usize = 8;
+
+// For a writer, the own writer of a version that has the join's counter, and the place of the version whose own writer it is. Nothing
+// is promised of a guide: where it leads astray, the search goes through all versions.
+#[derive(Clone, Copy)]
+struct Guide {
+    own: WriterId,
+    place: usize,
+}
+
+/// A clock that is at least those of some versions, with a guide beside each entry.
+#[derive(Drop)]
+pub struct Tops {
+    pub join: Clock,
+    guides: Vec<Guide>,
+}
+
+// The place of a writer's entry, which is looked for at `next` first.
+fn place_of(entries: &[Entry], writer: WriterId, next: usize) -> Option<usize>
+    ensures { IfSome result (λ place. place < length entries.now) }
+{
+    if let Some(entry) = entries.get(next)
+        && entry.writer.0 == writer.0
+    {
+        return Some(next);
+    }
+    match entries.binary_search_by_key(&writer.0, |entry| entry.writer.0) {
+        Ok(place) => Some(place),
+        Err(_) => None,
+    }
+}
+
+// Lets the guides of the entries in which the version has the join's counter lead to it.
+fn guide_to(guides: &mut [Guide], join: &[Entry], version: &Version) {
+    let own = version.clock.own();
+    let mut next = 0;
+    for entry in version.clock.entries() {
+        if let Some(place) = place_of(join, entry.writer, next) {
+            next = place + 1;
+            if entry.counter == join[place].counter
+                && let Some(guide) = guides.get_mut(place)
+            {
+                guide.own = own;
+            }
+        }
+    }
+}
+
+impl Tops {
+    /// Those of no version.
+    pub fn new(alloc: Global) -> Tops {
+        Tops {
+            join: Clock::new(alloc),
+            guides: Vec::new(alloc),
+        }
+    }
+
+    /// These raised to more versions. Costs the entries of both, and leaves the versions to be placed.
+    pub fn with(&self, alloc: Global, versions: &[Version]) -> Result<Tops, Refusal>
+        ensures old { IfOk result (λ t. IsAtMost self.now.join t.join) }
+        ensures new { IfOk result (λ t. IsBound t.join versions.now) }
+        ensures memory { IfErr result (λ e. e ≡ OutOfMemory) }
+    {
+        let join = self.join.join(&join_of(alloc, versions)?)?;
+        let mut guides = self.guides_for(alloc, join.entries())?;
+        for version in versions {
+            guide_to(guides.as_mut_slice(), join.entries(), version);
+        }
+        Ok(Tops { join, guides })
+    }
+
+    // The guides beside the entries of a join that is at least this one.
+    fn guides_for(&self, alloc: Global, join: &[Entry]) -> Result<Vec<Guide>, AllocError> {
+        let mut guides = Vec::with_capacity(alloc, join.len())?;
+        let mut next = 0;
+        for entry in join {
+            let old = place_of(self.join.entries(), entry.writer, next);
+            if let Some(place) = old {
+                next = place + 1;
+            }
+            guides.push(self.guide_at(old))?;
+        }
+        Ok(guides)
+    }
+
+    fn guide_at(&self, place: Option<usize>) -> Guide {
+        if let Some(place) = place
+            && let Some(guide) = self.guides.get(place)
+        {
+            return *guide;
+        }
+        Guide {
+            own: WriterId(0),
+            place: 0,
+        }
+    }
+
+    /// Lets the guides lead to where the versions stand.
+    pub fn place(&mut self, versions: &[Version])
+        ensures { self.new.join ≡ self.old.join }
+    {
+        for (place, version) in versions.iter().enumerate() {
+            self.place_at(version.clock.own(), place);
+        }
+    }
+
+    /// Turns the places round, so that the one behind all others is in front.
+    pub fn turn(&mut self, last: usize)
+        ensures { self.new.join ≡ self.old.join }
+    {
+        for guide in self.guides.iter_mut() {
+            guide.place = last.wrapping_sub(guide.place);
+        }
+    }
+
+    fn place_at(&mut self, own: WriterId, place: usize)
+        ensures { self.new.join ≡ self.old.join }
+    {
+        if let Some(at) = place_of(self.join.entries(), own, 0)
+            && let Some(guide) = self.guides.get_mut(at)
+        {
+            guide.place = place;
+        }
+    }
+
+    /// Whether the clock's counter for its own writer is not above the join's: else no version covers it.
+    pub fn reach(&self, clock: &Clock) -> bool
+        ensures { IsAtMost clock.now self.now.join → IsTrue result }
+    {
+        let own = clock.own();
+        clock.counter(own) <= self.join.counter(own)
+    }
+
+    /// Whether the version to which the clock's own writer guides covers the clock.
+    pub fn lead_to_cover(&self, versions: &[Version], clock: &Clock) -> bool
+        ensures { IsTrue result → Covers versions.now clock.now }
+    {
+        match self.candidate(versions, clock.own()) {
+            Some(version) => clock.le(&version.clock),
+            None => false,
+        }
+    }
+
+    fn candidate<'a>(&self, versions: &'a [Version], writer: WriterId) -> Option<&'a Version>
+        ensures { IfSome result (λ version. IsIn version.now versions.now) }
+    {
+        let entries = self.join.entries();
+        let own = self.guide_at(place_of(entries, writer, 0)).own;
+        let place = self.guide_at(place_of(entries, own, 0)).place;
+        versions.get(place)
+    }
+
+    /// The same once more.
+    pub fn try_copy(&self, alloc: Global) -> Result<Tops, Refusal>
+        ensures same { IfOk result (λ t. t.join ≡ self.now.join) }
+        ensures memory { IfErr result (λ e. e ≡ OutOfMemory) }
+    {
+        Ok(Tops {
+            join: self.join.try_copy()?,
+            guides: Vec::from_slice(alloc, self.guides.as_slice())?,
+        })
+    }
+}
