@@ -26,7 +26,8 @@ impl<'a, L: RunLedger> Executor<'a, L> {
     ghost use Rattle.std.specs.List.{sum_by};
     ghost use Rattle.ring_names.specs.declared.refusal.Refusal.TheVariants.{OutOfMemory, HistoryFull, Disagree};
     ghost use Rattle.plan_text.specs.Valid.{is_ring_slot};
-    ghost use Rattle.plan_check.specs.World.{opening_world};
+    ghost use Rattle.plan_check.specs.Runs.{IsRun};
+    ghost use Rattle.plan_check.specs.World.{World as TheWorld, opening_world};
     ghost use Rattle.ring_replay.specs.Faults.{IsFirstFault};
     ghost use Rattle.ring_exec.specs.Replies.{fits_reply};
 
@@ -66,6 +67,7 @@ impl<'a, L: RunLedger> Executor<'a, L> {
         requires some { 0 < blank.parts }
         requires ring { approved.now.ring ≡ L.ring }
         requires plan { approved.now.plan ≡ L.plan }
+        ensures run { IfOk result (λ r. ∥ ((w : TheWorld) × IsRun L.ring L.plan entries.now w) ∥₁) }
         ensures share { IfOk result (λ r. (r.1.count ≡ length entries.now) × (r.1.token.parts ≡ L.parts)) }
         ensures full { IfErr result (λ e. (e ≡ HistoryFull) ↔ (1000000 < length entries.now)) }
         ensures err { IfErr result (λ e. e ≢ HistoryFull → e ≢ OutOfMemory → IsFirstFault L.ring L.plan (opening_world L.ring) 0 entries.now e) }

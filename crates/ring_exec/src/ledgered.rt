@@ -100,13 +100,13 @@ impl<'a, L: RunLedger> Ledgered<'a, L> {
         let count = history.len() as u64;
         let (mut book, mut token) = blank.open::<L>();
         book.add(&mut token, count);
-        let ledgered = Ledgered {
+        let restored = Ledgered {
             alloc,
             world,
             history,
             book,
         };
-        Ok((ledgered, Share { count, token }))
+        Ok((restored, Share { count, token }))
     }
 
     /// The store.

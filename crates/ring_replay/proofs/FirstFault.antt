@@ -50,6 +50,23 @@ module _ (ring : RingValue) (plan : List Planned) where
       let pair : (f.0, x.reply) ≡ (l.0, x.reply) = cc in
       subst (λ (u : TheWorld). IsFirstFault ring plan u (k + 1) xs e) (ap (λ (q : TheWorld × Reply). q.0) pair) f.2)
 
+  fails_once : (w : TheWorld) (k : ℕ) (x : Entry) (e f : Refusal) → FailsAt ring plan w k x e → FailsAt ring plan w k x f → e ≡ f
+  fails_once w k x e f (inl a) (inl b) = (let r = a.1 in let s = b.1 in let p = a.2 in let q = b.2 in cc)
+  fails_once w k x e f (inl a) (inr b) = (let r = a.1 in let s = b.2 in absurd cc)
+  fails_once w k x e f (inr a) (inl b) = (let r = a.2 in let s = b.1 in absurd cc)
+  fails_once w k x e f (inr a) (inr b) = a.4 ∙ sym b.4
+
+  -- a list has one first fault at most
+  pub fault_once : (w : TheWorld) (k : ℕ) (xs : List Entry) (e f : Refusal) → IsFirstFault ring plan w k xs e → IsFirstFault ring plan w k xs f → e ≡ f
+  fault_once w k [] e f a b = absurd a
+  fault_once w k (x ∷ xs) e f (inl a) (inl b) = fails_once w k x e f a b
+  fault_once w k (x ∷ xs) e f (inl a) (inr b) = absurd (answered_fails_not w b.0 k x e b.1 a)
+  fault_once w k (x ∷ xs) e f (inr a) (inl b) = absurd (answered_fails_not w a.0 k x f a.1 b)
+  fault_once w k (x ∷ xs) e f (inr a) (inr b) = fault_once a.0 (k + 1) xs e f a.2 (
+      let same : ◌≡◌ {A = Result (TheWorld × Reply) Refusal} (Ok (b.0, x.reply)) (Ok (a.0, x.reply)) = sym b.1 ∙ a.1 in
+      let pair : (b.0, x.reply) ≡ (a.0, x.reply) = cc in
+      subst (λ (u : TheWorld). IsFirstFault ring plan u (k + 1) xs f) (ap (λ (q : TheWorld × Reply). q.0) pair) b.2)
+
   -- the first fault is a mismatch
   pub fault_mismatch : (w : TheWorld) (k : ℕ) (xs : List Entry) (e : Refusal) → IsFirstFault ring plan w k xs e → (m c : ℕ) × (e ≡ Mismatch m c)
   fault_mismatch w k [] e f = absurd f

@@ -2,3 +2,4 @@ pub mod Growing
 pub mod Attempts
 pub mod Histories
 pub mod Aborts
+pub mod Stops

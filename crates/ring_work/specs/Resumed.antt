@@ -1,8 +1,8 @@
 -- What a drive promises that goes on from a history.
-use Rattle.std.specs.Prelude.{◌≡◌, ◌⊎◌, ℕ, Bool, true, false, ◌==◌, ◌+◌, ◌<◌, List, [], ◌∷◌, ◌++◌, map, length, cond}
+use Rattle.std.specs.Prelude.{◌≡◌, ◌≢◌, ◌⊎◌, ◌≤◌, ℕ, Bool, true, false, ◌==◌, ◌+◌, ◌<◌, List, [], ◌∷◌, ◌++◌, map, length, cond}
 use Rattle.std.specs.List.{filter, range_with_len}
 use Rattle.ring_names.specs.declared.refusal.Refusal.{Refusal}
-use Rattle.ring_names.specs.declared.refusal.Refusal.TheVariants.{HistoryFull}
+use Rattle.ring_names.specs.declared.refusal.Refusal.TheVariants.{OutOfMemory, HistoryFull}
 use Rattle.ring_table.specs.Value.{RingValue}
 use Rattle.plan_text.specs.declared.step.Planned.{Planned}
 use Rattle.plan_check.specs.declared.event.Entry.{Entry}
@@ -57,3 +57,7 @@ pub record Resumed (ring : RingValue) (plan : List Planned) (scripts : List (Lis
 -- why it is none: as a drive, or the entries are too many, or no run of the plan
 abbrev pub IsStop : RingValue → List Planned → List Entry → Refusal → Type 0
 IsStop ring plan entries e = IsFault e ⊎ (((e ≡ HistoryFull) × (1000000 < length entries)) ⊎ IsFirstFault ring plan (opening_world ring) 0 entries e)
+
+-- where the entries are not too many and one of them is the first that fails, that is told, or memory is wanting
+abbrev pub TellsFault : RingValue → List Planned → List Entry → Refusal → Type 0
+TellsFault ring plan entries e = (x : Refusal) → length entries ≤ 1000000 → IsFirstFault ring plan (opening_world ring) 0 entries x → e ≢ OutOfMemory → e ≡ x

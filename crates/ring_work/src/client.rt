@@ -44,7 +44,7 @@ fn start_of(
         return Err(Refusal::Disagree);
     };
     let key = key.try_copy(alloc)?;
-    let value = value.try_copy(alloc)?;
+    let value = value.try_copy()?;
     Ok(Event::StartPut(writer, key, value, seen))
 }
 

@@ -8,7 +8,7 @@ ghost use Rattle.script_text.specs.Client.{is_client_event};
 ghost use Rattle.ring_replay.specs.Faults.{IsFirstFault};
 ghost use Rattle.ring_receipts.specs.Finishing.{list_at};
 ghost use Rattle.ring_work.specs.Driven.{IsHistory, IsFault, MayStop};
-ghost use Rattle.ring_work.specs.Resumed.{Continues, Resumed, IsStop};
+ghost use Rattle.ring_work.specs.Resumed.{Continues, Resumed, IsStop, TellsFault};
 
 use crate::driving::{bare, drive_on, history_of, told};
 use crate::earlier::continued;
@@ -127,6 +127,8 @@ fn stopped(approved: &Approved, entries: &[Entry], refusal: Refusal) -> Refusal
     requires few { length entries.now ≤ 1000000 }
     requires err { refusal ≢ HistoryFull → refusal ≢ OutOfMemory → IsFirstFault approved.now.ring approved.now.plan (opening_world approved.now.ring) 0 entries.now refusal }
     ensures stop { IsStop approved.now.ring approved.now.plan entries.now result }
+    ensures full { (result ≡ HistoryFull) ↔ (1000000 < length entries.now) }
+    ensures fault { TellsFault approved.now.ring approved.now.plan entries.now result }
     ensures spent { result ≡ TurnsSpent → ⊥ }
 {
     if refusal == Refusal::OutOfMemory {
@@ -156,6 +158,8 @@ fn resume_as<'a, L: RunLedger + Send + Sync, R: Threads + Wait + Sync, G: Gate +
     ensures ok { IfOk result (λ o. Resumed approved.now.ring approved.now.plan scripts.now workers entries.now o.history.items o.receipts.items o.finishers.items) }
     ensures threads { IfOk result (λ o. vec_len o.receipts ≡ 1 + (workers + (length scripts.now + 1))) }
     ensures refusal { IfErr result (λ f. IsStop approved.now.ring approved.now.plan entries.now f.refusal) }
+    ensures full { IfErr result (λ f. (f.refusal ≡ HistoryFull) ↔ (1000000 < length entries.now)) }
+    ensures fault { IfErr result (λ f. TellsFault approved.now.ring approved.now.plan entries.now f.refusal) }
     ensures spent { IfErr result (λ f. f.refusal ≡ TurnsSpent → MayStop (G.may_refuse gate.now) approved.now.plan (length scripts.now)) }
     ensures history { IfErr result (λ f. IsHistory approved.now.ring approved.now.plan f.history.items) }
     ensures empty { IfErr result (λ f. (IsFault f.refusal → ⊥) → f.history.items ≡ []) }
@@ -191,6 +195,9 @@ pub fn resume<R: Threads + Wait + Sync, G: Gate + Sync>(
     // A list of what came before, and one for each worker, for each client and for the handoffs, and no other.
     ensures threads { IfOk result (λ o. vec_len o.receipts ≡ 1 + (workers + (length scripts.now + 1))) }
     ensures refusal { IfErr result (λ f. IsStop approved.now.ring approved.now.plan entries.now f.refusal) }
+    // Too many entries, and these alone, come before all else; else the first entry at which they are no run is told, memory aside.
+    ensures full { IfErr result (λ f. (f.refusal ≡ HistoryFull) ↔ (1000000 < length entries.now)) }
+    ensures fault { IfErr result (λ f. TellsFault approved.now.ring approved.now.plan entries.now f.refusal) }
     ensures spent { IfErr result (λ f. f.refusal ≡ TurnsSpent → MayStop (G.may_refuse gate.now) approved.now.plan (length scripts.now)) }
     ensures history { IfErr result (λ f. IsHistory approved.now.ring approved.now.plan f.history.items) }
     ensures empty { IfErr result (λ f. (IsFault f.refusal → ⊥) → f.history.items ≡ []) }

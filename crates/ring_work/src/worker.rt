@@ -27,7 +27,8 @@ const CHUNKS: u32 = 16;
 const NONE: u32 = 0xffff_ffff;
 
 // What a worker knows of the steps, and where its next walk begins. A walk leaves out each step that is known finished, and each that waits: for
-// one on which it directly depends and which is not known finished. So what was looked at once is looked at again only where it may have changed.
+// one on which it directly depends and which is not known finished. So what was looked at once is looked at again only where it may have changed,
+// and each dependency of a step is passed once.
 #[derive(Drop)]
 struct Walk {
     finished: Vec<bool>,
@@ -36,6 +37,8 @@ struct Walk {
     // For each step the first of those that wait for it, and for each of these the next.
     waiting: Vec<u32>,
     behind: Vec<u32>,
+    // For each step how many of its dependencies, the first ones, are known finished.
+    passed: Vec<u32>,
     left: u32,
     from: u32,
 }
@@ -48,11 +51,13 @@ impl Walk {
         let open = vec![in alloc; u64::MAX; (steps / 64) as usize + 1]?;
         let waiting = vec![in alloc; NONE; steps as usize]?;
         let behind = vec![in alloc; NONE; steps as usize]?;
+        let passed = vec![in alloc; 0u32; steps as usize]?;
         Ok(Walk {
             finished,
             open,
             waiting,
             behind,
+            passed,
             left: steps,
             from: 0,
         })
@@ -101,6 +106,18 @@ impl Walk {
             *next = *first;
             *first = step;
             self.set_open(step, false);
+        }
+    }
+
+    // How many dependencies of the step are known finished, of the first ones.
+    fn passed(&self, step: u32) -> usize {
+        self.passed.get(step as usize).copied().unwrap_or(0) as usize
+    }
+
+    // Notes that so many more are.
+    fn pass(&mut self, step: u32, more: u32) {
+        if let Some(passed) = self.passed.get_mut(step as usize) {
+            *passed = passed.saturating_add(more);
         }
     }
 
@@ -159,12 +176,16 @@ fn is_next(board: &Board, seat: &mut Seat, walk: &mut Walk, step: u32, others: &
     if is_finished(board, seat, walk, step) {
         return false;
     }
-    for other in others {
+    let mut more = 0u32;
+    for other in others.get(walk.passed(step)..).unwrap_or(&[]) {
         if *other >= board.steps() || !is_finished(board, seat, walk, *other) {
+            walk.pass(step, more);
             walk.wait(step, *other);
             return false;
         }
+        more = more.saturating_add(1);
     }
+    walk.pass(step, more);
     true
 }
 

@@ -5,8 +5,8 @@ use Rattle.plan_check.specs.declared.event.Entry.{Entry}
 use Rattle.ring_replay.specs.Replays.{Replays}
 use Rattle.ring_exec.proofs.ledgered.Ledgered.restore.Goals as goal
 
-pub invariant_of-ledgered : goal.invariant_of-ledgered
-invariant_of-ledgered g c =
+pub invariant_of-restored : goal.invariant_of-restored
+invariant_of-restored g c =
     let told = c.in_ok-world.ensures in
     let world = c.in_ok-world.world in
     let entries = c.args.entries.now in
