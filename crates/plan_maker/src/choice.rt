@@ -2,8 +2,8 @@
 
 use crate::groups::Groups;
 use crate::members::{Members, Role};
-use crate::numbers::{at, lower, raise, set};
-use ring_names::Refusal;
+use crate::numbers::{at, lower, raise, set, small};
+use ring_names::{Lists, Refusal};
 use ring_table::Ring;
 use std::alloc::Global;
 
@@ -15,8 +15,12 @@ pub struct Choice {
     pub slots: usize,
     // the owners of all slots, partition by partition
     owners: Vec<u32>,
+    // the places of the slots of each owner
+    owned: Lists<u32, u32>,
     // of each slot 1 where it moves, and else 0
     moving: Vec<u32>,
+    // how many slots of each partition move
+    counts: Vec<u32>,
     // the nodes that enter, in as many places for each partition as it has slots
     entering: Vec<u32>,
     // how many enter each partition
@@ -28,44 +32,50 @@ pub struct Choice {
 }
 
 impl Choice {
-    /// The slots of the nodes that leave move, and nobody enters yet.
-    pub fn new(
-        alloc: Global,
-        ring: &Ring,
-        members: &Members,
-        groups: &Groups,
-    ) -> Result<Choice, Refusal> {
-        let mut owners = Vec::new(alloc);
-        for row in ring.rows() {
-            for owner in row.as_slice() {
-                owners.push(owner.0)?;
-            }
-        }
-        let partitions = ring.rows().len();
-        let total = owners.len();
-        let mut choice = Choice {
-            partitions,
+    /// No slot is known yet.
+    pub fn new(alloc: Global, ring: &Ring) -> Choice {
+        Choice {
+            partitions: ring.rows().len(),
             slots: ring.n() as usize,
-            owners,
-            moving: vec![in alloc; 0u32; total]?,
-            entering: vec![in alloc; 0u32; total]?,
-            entered: vec![in alloc; 0u32; partitions]?,
-            load: vec![in alloc; 0u32; ring.nodes().len()]?,
-            copies: vec![in alloc; 0u32; groups.len()]?,
-        };
-        for place in 0..total {
-            choice.begin(members, groups, place);
+            owners: Vec::new(alloc),
+            owned: Lists::new(alloc),
+            moving: Vec::new(alloc),
+            counts: Vec::new(alloc),
+            entering: Vec::new(alloc),
+            entered: Vec::new(alloc),
+            load: Vec::new(alloc),
+            copies: Vec::new(alloc),
         }
-        Ok(choice)
     }
 
-    // Counts a slot to its owner's load, and lets it move where the owner leaves.
-    fn begin(&mut self, members: &Members, groups: &Groups, place: usize) {
-        let owner = at(&self.owners, place);
-        raise(&mut self.load, owner as usize);
-        if members.role(owner) == Role::Leaves {
-            self.give(groups, place);
+    /// The slots of the nodes that leave move, and nobody enters yet.
+    pub fn begin(&mut self, alloc: Global, ring: &Ring, members: &Members) -> Result<(), Refusal> {
+        self.own(ring)?;
+        self.moving = vec![in alloc; 0u32; self.total()]?;
+        self.counts = vec![in alloc; 0u32; self.partitions]?;
+        self.entering = vec![in alloc; 0u32; self.total()]?;
+        self.entered = vec![in alloc; 0u32; self.partitions]?;
+        self.load = vec![in alloc; 0u32; members.count() as usize]?;
+        self.copies = vec![in alloc; 0u32; members.groups.len()]?;
+        for place in 0..self.total() {
+            let owner = at(&self.owners, place);
+            raise(&mut self.load, owner as usize);
+            if members.role(owner) == Role::Leaves {
+                self.give(&members.groups, place);
+            }
         }
+        Ok(())
+    }
+
+    // The owners of all slots, and what each of them owns.
+    fn own(&mut self, ring: &Ring) -> Result<(), Refusal> {
+        for row in ring.rows() {
+            for owner in row.as_slice() {
+                self.owned.add(owner.0, small(self.owners.len()))?;
+                self.owners.push(owner.0)?;
+            }
+        }
+        Ok(())
     }
 
     /// The place of a slot among all.
@@ -91,6 +101,11 @@ impl Choice {
         at(&self.owners, place)
     }
 
+    /// The places of the slots that the node owns.
+    pub fn places(&self, node: u32) -> &[u32] {
+        self.owned.items(&node)
+    }
+
     /// Whether the slot at the place moves.
     pub fn moves(&self, place: usize) -> bool {
         at(&self.moving, place) != 0
@@ -99,7 +114,9 @@ impl Choice {
     /// Lets the slot at the place move away from its owner.
     pub fn give(&mut self, groups: &Groups, place: usize) {
         let owner = at(&self.owners, place);
+        let partition = self.partition(place);
         set(&mut self.moving, place, 1);
+        raise(&mut self.counts, partition);
         lower(&mut self.load, owner as usize);
         raise(&mut self.copies, groups.giver(owner));
     }
@@ -107,7 +124,9 @@ impl Choice {
     /// Lets the slot at the place stay with its owner after all.
     pub fn keep(&mut self, groups: &Groups, place: usize) {
         let owner = at(&self.owners, place);
+        let partition = self.partition(place);
         set(&mut self.moving, place, 0);
+        lower(&mut self.counts, partition);
         raise(&mut self.load, owner as usize);
         lower(&mut self.copies, groups.giver(owner));
     }
@@ -169,13 +188,12 @@ impl Choice {
 
     /// How many slots of the partition move.
     pub fn moving(&self, partition: usize) -> u32 {
-        let mut count = 0u32;
-        for index in 0..self.slots {
-            if self.moves(self.place(partition, index)) {
-                count = count.saturating_add(1);
-            }
-        }
-        count
+        at(&self.counts, partition)
+    }
+
+    /// How many more slots of the partition could move to members that join: each of them owns at most one.
+    pub fn room(&self, members: &Members, partition: usize) -> u32 {
+        small(members.joiners.len().min(self.slots)).saturating_sub(self.moving(partition))
     }
 
     /// How many slots the member owns in the end.
@@ -183,14 +201,9 @@ impl Choice {
         at(&self.load, node as usize)
     }
 
-    /// How many copies the group has.
-    pub fn copies(&self, group: usize) -> u32 {
-        at(&self.copies, group)
-    }
-
     /// How much of its allowance a group with one copy more uses, in parts of 64: of two that are as good otherwise the lesser is taken.
     pub fn crowd(&self, groups: &Groups, group: usize) -> u32 {
-        let copies = self.copies(group).saturating_add(1).saturating_mul(64);
+        let copies = at(&self.copies, group).saturating_add(1).saturating_mul(64);
         match copies.checked_div(groups.most(group)) {
             Some(crowd) => crowd,
             None => copies,

@@ -16,14 +16,14 @@ use std::alloc::Global;
 const NONE: u32 = 4_294_967_295;
 
 // One end of a copy: a group, and one of its seats.
-#[derive(Clone, Copy, Debug, PartialEq, Eq)]
+#[derive(Clone, Copy)]
 struct End {
     group: usize,
     seat: usize,
 }
 
 // The two ends of a copy, and its round.
-#[derive(Clone, Copy, Debug, PartialEq, Eq)]
+#[derive(Clone, Copy)]
 struct Seated {
     giver: End,
     taker: End,
@@ -33,7 +33,8 @@ struct Seated {
 /// Seats of all groups, and the copy that each has in each round.
 #[derive(Drop)]
 pub struct Colours {
-    rounds: usize,
+    /// How many rounds there are.
+    pub rounds: usize,
     // the first seat of each group, and one more behind the last
     firsts: Vec<u32>,
     // the copy of each seat in each round
@@ -45,34 +46,55 @@ pub struct Colours {
 }
 
 impl Colours {
-    /// Seats for these moves, all empty.
-    pub fn new(alloc: Global, groups: &Groups, moves: &[Move]) -> Result<Colours, Refusal> {
-        let counts = counts(alloc, groups, moves)?;
-        let rounds = fewest(groups, &counts);
-        let mut firsts = Vec::new(alloc);
-        let mut seats = 0u32;
-        for group in 0..groups.len() {
-            firsts.push(seats)?;
-            seats = seats.saturating_add(parts(at(&counts, group), rounds));
+    /// No group has a seat yet.
+    pub fn new(alloc: Global) -> Colours {
+        Colours {
+            rounds: 0,
+            firsts: Vec::new(alloc),
+            table: Vec::new(alloc),
+            free: RoundSets::new(alloc),
+            seated: Vec::new(alloc),
         }
-        firsts.push(seats)?;
-        let cells = (seats as usize).saturating_mul(rounds as usize);
-        let mut seated = Vec::new(alloc);
-        for _ in moves {
-            seated.push(None)?;
-        }
-        Ok(Colours {
-            rounds: rounds as usize,
-            firsts,
-            table: vec![in alloc; NONE; cells]?,
-            free: RoundSets::new(alloc, groups.len(), rounds as usize)?,
-            seated,
-        })
     }
 
-    /// How many rounds there are.
-    pub fn rounds(&self) -> usize {
-        self.rounds
+    // Empty seats for so many copies, by how many each group has.
+    fn begin(
+        &mut self,
+        alloc: Global,
+        groups: &Groups,
+        counts: &[u32],
+        copies: usize,
+    ) -> Result<(), Refusal> {
+        let rounds = fewest(groups, counts);
+        self.rounds = rounds as usize;
+        let mut seats = 0u32;
+        for group in 0..groups.len() {
+            self.firsts.push(seats)?;
+            seats = seats.saturating_add(parts(at(counts, group), rounds));
+        }
+        self.firsts.push(seats)?;
+        let cells = (seats as usize).saturating_mul(self.rounds);
+        self.table = vec![in alloc; NONE; cells]?;
+        for _ in 0..copies {
+            self.seated.push(None)?;
+        }
+        self.free.fill(groups.len(), self.rounds)
+    }
+
+    /// Gives seats to the copies of these moves, as many as it can.
+    pub fn colour_all(
+        &mut self,
+        alloc: Global,
+        groups: &Groups,
+        moves: &[Move],
+    ) -> Result<(), Refusal> {
+        self.begin(alloc, groups, &counts(alloc, groups, moves)?, moves.len())?;
+        let mut copy = 0usize;
+        for step in moves {
+            self.colour(alloc, copy, groups.giver(step.from), groups.taker(step.to))?;
+            copy = copy.saturating_add(1);
+        }
+        Ok(())
     }
 
     fn cell(&self, end: End, round: usize) -> usize {
@@ -160,7 +182,7 @@ impl Colours {
                 break;
             };
             copies.push(small(copy))?;
-            end = if seated.giver == end {
+            end = if seated.giver.seat == end.seat {
                 seated.taker
             } else {
                 seated.giver
@@ -186,46 +208,50 @@ impl Colours {
     }
 
     // Gives a copy free seats of its groups in the round, if there are such.
-    fn sit(&mut self, copy: usize, giver: usize, taker: usize, round: usize) -> bool {
-        let (Some(giver), Some(taker)) = (self.free_end(giver, round), self.free_end(taker, round))
-        else {
-            return false;
-        };
-        self.place(
-            copy,
-            Seated {
-                giver,
-                taker,
-                round,
-            },
-        );
-        true
+    fn sit(&mut self, copy: usize, giver: usize, taker: usize, round: usize) {
+        if let (Some(giver), Some(taker)) = (
+            self.free_end(giver, round),
+            self.free_end(taker, round),
+        ) {
+            self.place(
+                copy,
+                Seated {
+                    giver,
+                    taker,
+                    round,
+                },
+            );
+        }
     }
 
-    /// Gives a copy seats in a round in which both groups are free, and where there is no such round makes one by exchanging two rounds
-    /// along a path of copies. Answers whether it could.
-    pub fn colour(
+    // Gives a copy seats in a round in which both groups are free, and where there is no such round makes one by exchanging two rounds
+    // along a path of copies, if it can.
+    fn colour(
         &mut self,
         alloc: Global,
         copy: usize,
         giver: usize,
         taker: usize,
-    ) -> Result<bool, Refusal> {
+    ) -> Result<(), Refusal> {
         if let Some(round) = self.free.common(giver, taker) {
-            return Ok(self.sit(copy, giver, taker, round));
+            self.sit(copy, giver, taker, round);
+            return Ok(());
         }
-        let (Some(first), Some(second)) = (self.free.least(giver), self.free.least(taker)) else {
-            return Ok(false);
+        let (Some(first), Some(second)) = (
+            self.free.common(giver, giver),
+            self.free.common(taker, taker),
+        ) else {
+            return Ok(());
         };
         let (Some(stays), Some(from)) = (self.free_end(giver, first), self.free_end(taker, second))
         else {
-            return Ok(false);
+            return Ok(());
         };
         let (copies, last) = self.path(alloc, from, first, second)?;
-        if last == stays {
-            return Ok(false);
+        if last.seat != stays.seat {
+            self.exchange(&copies, first, second);
+            self.sit(copy, giver, taker, first);
         }
-        self.exchange(&copies, first, second);
-        Ok(self.sit(copy, giver, taker, first))
+        Ok(())
     }
 }

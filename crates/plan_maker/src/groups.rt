@@ -13,22 +13,24 @@ pub struct Groups {
 }
 
 impl Groups {
-    /// The groups of a ring's nodes.
-    pub fn new(alloc: Global, ring: &Ring) -> Result<Groups, Refusal> {
-        let mut most = Vec::new(alloc);
-        for node in ring.nodes() {
-            match node.allowance {
-                Allowance::Joint(both) => {
-                    most.push(both)?;
-                    most.push(0)?;
-                }
-                Allowance::Split { take, give } => {
-                    most.push(give)?;
-                    most.push(take)?;
-                }
-            }
+    /// No node is known yet.
+    pub fn new(alloc: Global) -> Groups {
+        Groups {
+            most: Vec::new(alloc),
         }
-        Ok(Groups { most })
+    }
+
+    /// The groups of a ring's nodes.
+    pub fn fill(&mut self, ring: &Ring) -> Result<(), Refusal> {
+        for node in ring.nodes() {
+            let (give, take) = match node.allowance {
+                Allowance::Joint(both) => (both, 0),
+                Allowance::Split { take, give } => (give, take),
+            };
+            self.most.push(give)?;
+            self.most.push(take)?;
+        }
+        Ok(())
     }
 
     /// How many groups there are.

@@ -12,6 +12,7 @@ mod members;
 mod mending;
 mod moves;
 mod numbers;
+mod ranked;
 mod round_sets;
 mod rounds;
 mod steps;

@@ -8,22 +8,18 @@ use crate::groups::Groups;
 use crate::moves::Move;
 use crate::numbers::{at, lower, parts, raise, small};
 use crate::rounds::counts;
-use ring_names::Refusal;
+use ring_names::{Refusal, Rows};
 use std::alloc::Global;
-use std::cmp::Reverse;
 
-/// The slots, by index, that each move's copy lists; none where it reads the owner.
+// The slots, by index, that each move's copy lists; none where it reads the owner.
 #[derive(Drop)]
-pub struct Listing {
-    /// Of each move, ascending.
-    pub slots: Vec<Vec<u32>>,
-}
-
-// A slot that may be listed, by how much room its owner has: the most first.
-#[derive(Clone, Copy, Debug, PartialEq, Eq, PartialOrd, Ord, Drop)]
-struct Source {
-    room: Reverse<u32>,
-    index: u32,
+struct Listing {
+    // of each move, ascending
+    slots: Rows,
+    // those of the move at hand
+    row: Vec<u32>,
+    // how many copies each group has
+    counts: Vec<u32>,
 }
 
 // How many copies the group may have in so many rounds.
@@ -31,77 +27,90 @@ fn most(groups: &Groups, group: usize, rounds: u32) -> u32 {
     groups.most(group).saturating_mul(rounds)
 }
 
-// The slots of the partition that do not move, and whose owners have room.
-fn candidates(
-    alloc: Global,
-    choice: &Choice,
-    groups: &Groups,
-    counts: &[u32],
-    partition: usize,
-    rounds: u32,
-) -> Result<Vec<Source>, Refusal> {
-    let mut sources = Vec::new(alloc);
-    for index in 0..choice.slots {
-        let place = choice.place(partition, index);
+impl Listing {
+    // How much of so many rounds the owner of the slot has left, in parts of 64; none for a slot that moves or whose owner has nothing left.
+    fn left(&self, choice: &Choice, groups: &Groups, place: usize, rounds: u32) -> Option<u32> {
         let group = groups.giver(choice.owner(place));
-        let free = most(groups, group, rounds).saturating_sub(at(counts, group));
-        if !choice.moves(place) && free > 0 {
-            let room = match free.saturating_mul(64).checked_div(groups.most(group)) {
-                Some(room) => room,
-                None => 0,
-            };
-            sources.push(Source {
-                room: Reverse(room),
-                index: small(index),
-            })?;
+        let left = most(groups, group, rounds).saturating_sub(at(&self.counts, group));
+        if choice.moves(place) || left == 0 {
+            return None;
+        }
+        left.saturating_mul(64).checked_div(groups.most(group))
+    }
+
+    // The first slot of the partition, besides those that are listed, whose owner has most left.
+    fn best(&self, choice: &Choice, groups: &Groups, partition: usize, rounds: u32) -> Option<u32> {
+        let mut best = None;
+        let mut most = None;
+        for index in 0..choice.slots {
+            let left = self.left(choice, groups, choice.place(partition, index), rounds);
+            if most < left && !self.row.contains(&small(index)) {
+                most = left;
+                best = Some(small(index));
+            }
+        }
+        best
+    }
+
+    // A copy reads the listed slots and no longer the owner.
+    fn count(&mut self, choice: &Choice, groups: &Groups, step: &Move) {
+        if self.row.is_empty() {
+            return;
+        }
+        lower(&mut self.counts, groups.giver(step.from));
+        for index in self.row.iter() {
+            let place = choice.place(step.slot.partition as usize, *index as usize);
+            raise(&mut self.counts, groups.giver(choice.owner(place)));
         }
     }
-    sources.sort()?;
-    Ok(sources)
-}
 
-// The R slots to list for a copy, ascending; none where there are fewer.
-fn slots(
-    alloc: Global,
-    choice: &Choice,
-    groups: &Groups,
-    counts: &[u32],
-    partition: usize,
-    rounds: u32,
-    reads: u32,
-) -> Result<Vec<u32>, Refusal> {
-    let sources = candidates(alloc, choice, groups, counts, partition, rounds)?;
-    let mut slots = Vec::new(alloc);
-    if sources.len() < reads as usize {
-        return Ok(slots);
-    }
-    for source in sources.iter().take(reads as usize) {
-        slots.push(source.index)?;
-    }
-    slots.sort_unstable();
-    Ok(slots)
-}
-
-// A copy reads these slots and no longer the owner.
-fn count(choice: &Choice, groups: &Groups, counts: &mut [u32], step: &Move, slots: &[u32]) {
-    if slots.is_empty() {
-        return;
-    }
-    lower(counts, groups.giver(step.from));
-    for index in slots {
-        let place = choice.place(step.slot.partition as usize, *index as usize);
-        raise(counts, groups.giver(choice.owner(place)));
-    }
-}
-
-// Whether no group has more copies than so many rounds allow.
-fn fits(groups: &Groups, counts: &[u32], rounds: u32) -> bool {
-    for group in 0..groups.len() {
-        if at(counts, group) > most(groups, group, rounds) {
-            return false;
+    // Lists R slots for a copy whose owner has more than so many rounds allow; none where there are fewer.
+    fn list(
+        &mut self,
+        choice: &Choice,
+        groups: &Groups,
+        step: &Move,
+        reads: u32,
+        rounds: u32,
+    ) -> Result<(), Refusal> {
+        self.row.clear();
+        let giver = groups.giver(step.from);
+        if at(&self.counts, giver) > most(groups, giver, rounds) {
+            for _ in 0..reads {
+                let Some(index) = self.best(choice, groups, step.slot.partition as usize, rounds)
+                else {
+                    self.row.clear();
+                    break;
+                };
+                self.row.push(index)?;
+            }
+            self.row.sort_unstable();
+            self.count(choice, groups, step);
         }
+        self.slots.push(&self.row)
     }
-    true
+
+    // The same for each move. Answers whether no group has more copies than so many rounds allow.
+    fn list_all(
+        &mut self,
+        alloc: Global,
+        choice: &Choice,
+        groups: &Groups,
+        moves: &[Move],
+        reads: u32,
+        rounds: u32,
+    ) -> Result<bool, Refusal> {
+        self.counts = counts(alloc, groups, moves)?;
+        for step in moves {
+            self.list(choice, groups, step, reads, rounds)?;
+        }
+        for group in 0..groups.len() {
+            if at(&self.counts, group) > most(groups, group, rounds) {
+                return Ok(false);
+            }
+        }
+        Ok(true)
+    }
 }
 
 // Sources by which so many rounds may be enough, if that is found.
@@ -112,23 +121,16 @@ fn try_rounds(
     moves: &[Move],
     reads: u32,
     rounds: u32,
-) -> Result<Option<Listing>, Refusal> {
-    let mut counts = counts(alloc, groups, moves)?;
-    let mut all = Vec::new(alloc);
-    for step in moves {
-        let giver = groups.giver(step.from);
-        let mut listed = Vec::new(alloc);
-        if at(&counts, giver) > most(groups, giver, rounds) {
-            let partition = step.slot.partition as usize;
-            listed = slots(alloc, choice, groups, &counts, partition, rounds, reads)?;
-            count(choice, groups, &mut counts, step, &listed);
-        }
-        all.push(listed)?;
+) -> Result<Option<Rows>, Refusal> {
+    let mut listing = Listing {
+        slots: Rows::new(alloc),
+        row: Vec::new(alloc),
+        counts: Vec::new(alloc),
+    };
+    if listing.list_all(alloc, choice, groups, moves, reads, rounds)? {
+        return Ok(Some(listing.slots));
     }
-    if !fits(groups, &counts, rounds) {
-        return Ok(None);
-    }
-    Ok(Some(Listing { slots: all }))
+    Ok(None)
 }
 
 /// The fewest rounds that allowances permit to copies from owners.
@@ -145,14 +147,14 @@ pub fn is_worth(rounds: u32, from_owners: u32) -> bool {
     rounds.saturating_mul(2) <= from_owners && rounds.saturating_add(4) <= from_owners
 }
 
-/// Sources by which the fewest rounds may be enough, where these are worth it.
+/// The slots, by index, that each move's copy lists, so that the fewest rounds may be enough; none where it reads the owner.
 pub fn sources(
     alloc: Global,
     choice: &Choice,
     groups: &Groups,
     moves: &[Move],
     reads: u32,
-) -> Result<Option<Listing>, Refusal> {
+) -> Result<Option<Rows>, Refusal> {
     let from_owners = fewest(groups, &counts(alloc, groups, moves)?);
     let mut found = None;
     let mut low = 1u32;

@@ -1,55 +1,34 @@
 //! The planner.
 
 use crate::choice::Choice;
-use crate::groups::Groups;
 use crate::members::Members;
 use crate::moves::{Move, moves};
 use crate::rounds::Schedule;
-use crate::writing::Writer;
+use crate::writing::write;
 use plan_cert::Cert;
-use plan_text::{Plan, Source};
-use ring_names::{Listed, NodeId, Refusal};
+use plan_text::Plan;
+use ring_names::{NodeId, Refusal};
 use ring_table::Ring;
 use std::alloc::Global;
 
-// Where a move's copy reads.
-fn source(alloc: Global, listed: &[u32]) -> Result<Source, Refusal> {
-    if listed.is_empty() {
-        return Ok(Source::Owner);
-    }
-    let slots = Vec::from_slice(alloc, listed)?;
-    Ok(Source::Slots(Listed::from_vec(slots)))
-}
-
-// The groups that take part in a move's copy.
-fn parties(schedule: &Schedule, number: u32) -> &[u32] {
-    let place = number as usize;
-    if place < schedule.parties.len() {
-        return schedule.parties.row(place);
-    }
-    &[]
-}
-
-// Writes the moves and what comes behind them.
-fn write_moves(
+// The plan of these moves.
+fn make_of_moves(
     alloc: Global,
-    writer: &mut Writer,
-    groups: &Groups,
+    choice: &Choice,
+    members: &Members,
     moves: &[Move],
-    schedule: &Schedule,
-) -> Result<(), Refusal> {
-    let placed = schedule.placed(alloc, moves)?;
-    for placed in placed.iter() {
-        let source = source(alloc, schedule.listed(placed.number))?;
-        writer.add_move(
-            alloc,
-            groups,
-            placed,
-            source,
-            parties(schedule, placed.number),
-        )?;
-    }
-    Ok(())
+    reads: u32,
+) -> Result<(Plan, Cert), Refusal> {
+    let mut schedule = Schedule::new(alloc);
+    schedule.fill(alloc, choice, &members.groups, moves, reads)?;
+    write(alloc, members, moves, &schedule)
+}
+
+// The plan of the members' change.
+fn make_of_members(alloc: Global, ring: &Ring, members: &Members) -> Result<(Plan, Cert), Refusal> {
+    let mut choice = Choice::new(alloc, ring);
+    let moves = moves(alloc, ring, &mut choice, members)?;
+    make_of_moves(alloc, &choice, members, &moves, ring.r())
 }
 
 /// A plan after which the nodes of `joins` are members and those of `leaves` are none, with its certificate.
@@ -63,13 +42,7 @@ pub fn make(
     joins: &[NodeId],
     leaves: &[NodeId],
 ) -> Result<(Plan, Cert), Refusal> {
-    let members = Members::new(alloc, ring, joins, leaves)?;
-    let groups = Groups::new(alloc, ring)?;
-    let mut choice = Choice::new(alloc, ring, &members, &groups)?;
-    let moves = moves(alloc, &mut choice, &members, &groups)?;
-    let schedule = Schedule::new(alloc, &choice, &groups, &moves, ring.r())?;
-    let mut writer = Writer::new(alloc, &members)?;
-    write_moves(alloc, &mut writer, &groups, &moves, &schedule)?;
-    writer.retire(&members)?;
-    writer.finish(alloc, &groups)
+    let mut members = Members::new(alloc);
+    members.begin(ring, joins, leaves)?;
+    make_of_members(alloc, ring, &members)
 }

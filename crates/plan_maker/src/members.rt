@@ -1,12 +1,13 @@
 //! What a change does to each node.
 
+use crate::groups::Groups;
 use crate::numbers::{at, small};
 use ring_names::{NodeId, Refusal};
 use ring_table::Ring;
 use std::alloc::Global;
 
 /// What becomes of a node.
-#[derive(Clone, Copy, Debug, PartialEq, Eq)]
+#[derive(Clone, Copy, PartialEq, Eq)]
 pub enum Role {
     /// It is no member, and does not become one.
     Absent,
@@ -27,40 +28,60 @@ pub struct Members {
     pub joiners: Vec<u32>,
     /// How many members there are in the end.
     pub after: u32,
+    /// The groups of all nodes.
+    pub groups: Groups,
 }
 
 impl Members {
+    /// No node is known yet.
+    pub fn new(alloc: Global) -> Members {
+        Members {
+            roles: Vec::new(alloc),
+            joiners: Vec::new(alloc),
+            after: 0,
+            groups: Groups::new(alloc),
+        }
+    }
+
     /// The roles of a change. Refused as `NoPlan` are a join of a member or of a node that is not declared, a leave of another than a
     /// member, and leaves after which there are fewer members than a partition has slots.
-    pub fn new(
-        alloc: Global,
+    pub fn begin(
+        &mut self,
         ring: &Ring,
         joins: &[NodeId],
         leaves: &[NodeId],
-    ) -> Result<Members, Refusal> {
-        let mut roles = roles_now(alloc, ring)?;
-        turn_all(&mut roles, joins, Role::Absent, Role::Joins)?;
-        turn_all(&mut roles, leaves, Role::Stays, Role::Leaves)?;
-        let mut joiners = Vec::new(alloc);
-        let mut after = 0u32;
+    ) -> Result<(), Refusal> {
+        for node in ring.nodes() {
+            self.roles.push(if node.is_member {
+                Role::Stays
+            } else {
+                Role::Absent
+            })?;
+        }
+        turn_all(&mut self.roles, joins, Role::Absent, Role::Joins)?;
+        turn_all(&mut self.roles, leaves, Role::Stays, Role::Leaves)?;
+        self.count_after()?;
+        if !leaves.is_empty() && self.after < ring.n() {
+            return Err(Refusal::NoPlan);
+        }
+        self.groups.fill(ring)
+    }
+
+    // The members that join, and how many there are in the end.
+    fn count_after(&mut self) -> Result<(), Refusal> {
         let mut node = 0u32;
-        for role in roles.iter() {
-            if *role == Role::Joins {
-                joiners.push(node)?;
-            }
-            if *role == Role::Joins || *role == Role::Stays {
-                after = after.saturating_add(1);
+        for role in self.roles.iter() {
+            match role {
+                Role::Joins => {
+                    self.joiners.push(node)?;
+                    self.after = self.after.saturating_add(1);
+                }
+                Role::Stays => self.after = self.after.saturating_add(1),
+                Role::Absent | Role::Leaves => {}
             }
             node = node.saturating_add(1);
         }
-        if !leaves.is_empty() && after < ring.n() {
-            return Err(Refusal::NoPlan);
-        }
-        Ok(Members {
-            roles,
-            joiners,
-            after,
-        })
+        Ok(())
     }
 
     /// What becomes of the node.
@@ -83,19 +104,6 @@ impl Members {
             None => 0,
         }
     }
-}
-
-// The roles before a change is known.
-fn roles_now(alloc: Global, ring: &Ring) -> Result<Vec<Role>, Refusal> {
-    let mut roles = Vec::new(alloc);
-    for node in ring.nodes() {
-        roles.push(if node.is_member {
-            Role::Stays
-        } else {
-            Role::Absent
-        })?;
-    }
-    Ok(roles)
 }
 
 // Gives each of the nodes a new role in place of the one that it has.

@@ -4,14 +4,13 @@
 //! such exchanges, from a member with at least two slots more, end at the most even choice that the number of moves allows.
 
 use crate::choice::Choice;
-use crate::groups::Groups;
 use crate::members::{Members, Role};
-use crate::numbers::{at, lower, raise, set, small};
-use ring_names::{Lists, Refusal};
+use crate::numbers::{at, set, small};
+use ring_names::Refusal;
 use std::alloc::Global;
 
 // How one member hands a slot to another.
-#[derive(Clone, Copy, Debug, PartialEq, Eq)]
+#[derive(Clone, Copy)]
 enum Exchange {
     // The other enters the partition in its place.
     Enters(usize),
@@ -20,26 +19,20 @@ enum Exchange {
 }
 
 // A member from which a path leads on: to whom it hands a slot, and how.
-#[derive(Clone, Copy, Debug, PartialEq, Eq)]
+#[derive(Clone, Copy)]
 struct Link {
     to: u32,
     by: Exchange,
 }
 
-/// What a search knows, and what stays between searches.
+// What a search knows, and what stays between searches.
 #[derive(Drop)]
-pub struct Mending<'a> {
-    alloc: Global,
+struct Mending<'a> {
     members: &'a Members,
-    groups: &'a Groups,
     // the share of each member that joins
     fair: u32,
     // whether those that join take part
     with_joiners: bool,
-    // the places of the slots of each owner
-    owned: Lists<u32, u32>,
-    // how many more may enter each partition
-    room: Vec<u32>,
     // of each node 1 where no path ends or goes on
     frozen: Vec<u32>,
     // of each node that a search met the next one on the path
@@ -53,54 +46,6 @@ pub struct Mending<'a> {
 }
 
 impl<'a> Mending<'a> {
-    /// Nothing is frozen.
-    pub fn new(
-        alloc: Global,
-        choice: &Choice,
-        members: &'a Members,
-        groups: &'a Groups,
-        fair: u32,
-        with_joiners: bool,
-    ) -> Result<Mending<'a>, Refusal> {
-        let mut owned = Lists::new(alloc);
-        let mut place = 0u32;
-        for _ in 0..choice.total() {
-            owned.add(choice.owner(place as usize), place)?;
-            place = place.saturating_add(1);
-        }
-        let mut mending = Mending {
-            alloc,
-            members,
-            groups,
-            fair,
-            with_joiners,
-            owned,
-            room: vec![in alloc; 0u32; choice.partitions]?,
-            frozen: vec![in alloc; 0u32; members.count() as usize]?,
-            links: Vec::new(alloc),
-            met: Vec::new(alloc),
-            unused: Vec::new(alloc),
-            has_room: false,
-        };
-        mending.count_room(choice);
-        Ok(mending)
-    }
-
-    // How many more of those that join may enter each partition, where others give slots for them.
-    fn count_room(&mut self, choice: &Choice) {
-        if self.with_joiners {
-            return;
-        }
-        let most = small(self.members.joiners.len()).min(small(choice.slots));
-        for partition in 0..choice.partitions {
-            set(
-                &mut self.room,
-                partition,
-                most.saturating_sub(choice.moving(partition)),
-            );
-        }
-    }
-
     // Whether the node can be on a path.
     fn takes_part(&self, node: u32) -> bool {
         match self.members.role(node) {
@@ -163,26 +108,35 @@ impl<'a> Mending<'a> {
         Ok(())
     }
 
-    // Meets those in whose place the node could enter a partition.
-    fn meet_entering(&mut self, choice: &Choice, first: u32, node: u32) -> Result<(), Refusal> {
-        let mut left = Vec::new(self.alloc);
-        let mut used = Vec::new(self.alloc);
-        for partition in self.unused.iter() {
-            if choice.holds(*partition as usize, node) {
-                left.push(*partition)?;
+    // Meets those that enter the partition, in whose place the node could.
+    fn meet_entering(
+        &mut self,
+        choice: &Choice,
+        first: u32,
+        node: u32,
+        partition: usize,
+    ) -> Result<(), Refusal> {
+        for place in 0..choice.entered(partition) as usize {
+            let other = choice.entering(partition, place);
+            let by = Exchange::Enters(partition);
+            self.meet(first, other, Link { to: node, by })?;
+        }
+        Ok(())
+    }
+
+    // The same of each unused partition that the node could enter, which is used then.
+    fn use_partitions(&mut self, choice: &Choice, first: u32, node: u32) -> Result<(), Refusal> {
+        let mut kept = 0usize;
+        for turn in 0..self.unused.len() {
+            let partition = at(&self.unused, turn);
+            if choice.holds(partition as usize, node) {
+                set(&mut self.unused, kept, partition);
+                kept = kept.saturating_add(1);
             } else {
-                used.push(*partition)?;
+                self.meet_entering(choice, first, node, partition as usize)?;
             }
         }
-        self.unused = left;
-        for partition in used.iter() {
-            let partition = *partition as usize;
-            for place in 0..choice.entered(partition) as usize {
-                let other = choice.entering(partition, place);
-                let by = Exchange::Enters(partition);
-                self.meet(first, other, Link { to: node, by })?;
-            }
-        }
+        self.unused.truncate(kept);
         Ok(())
     }
 
@@ -205,30 +159,37 @@ impl<'a> Mending<'a> {
         Ok(())
     }
 
-    // Meets those that could give in place of the node, where it gives.
+    // Meets those that could give in place of the node, where it gives: in the same partition, and once in each that has room.
     fn meet_giving(&mut self, choice: &Choice, first: u32, node: u32) -> Result<(), Refusal> {
         if self.with_joiners || self.members.role(node) != Role::Stays {
             return Ok(());
         }
-        let mut given = Vec::new(self.alloc);
-        for place in self.owned.items(&node) {
-            if choice.moves(*place as usize) {
-                given.push(*place)?;
+        let mut given = None;
+        for place in choice.places(node) {
+            let place = *place as usize;
+            if choice.moves(place) {
+                self.meet_givers(choice, first, node, choice.partition(place), place)?;
+                given = given.or(Some(place));
             }
         }
-        for place in given.iter() {
-            let place = *place as usize;
-            self.meet_givers(choice, first, node, choice.partition(place), place)?;
+        match given {
+            Some(place) if self.has_room => self.meet_by_room(choice, first, node, place),
+            _ => Ok(()),
         }
-        let Some(place) = given.first() else {
-            return Ok(());
-        };
-        if self.has_room {
-            self.has_room = false;
-            for partition in 0..choice.partitions {
-                if at(&self.room, partition) > 0 {
-                    self.meet_givers(choice, first, node, partition, *place as usize)?;
-                }
+    }
+
+    // The same in each partition with room, in place of the slot that the node gives.
+    fn meet_by_room(
+        &mut self,
+        choice: &Choice,
+        first: u32,
+        node: u32,
+        given: usize,
+    ) -> Result<(), Refusal> {
+        self.has_room = false;
+        for partition in 0..choice.partitions {
+            if choice.room(self.members, partition) > 0 {
+                self.meet_givers(choice, first, node, partition, given)?;
             }
         }
         Ok(())
@@ -246,7 +207,7 @@ impl<'a> Mending<'a> {
             if self.can_spare(choice, node, load) {
                 return Ok(Some(node));
             }
-            self.meet_entering(choice, first, node)?;
+            self.use_partitions(choice, first, node)?;
             self.meet_giving(choice, first, node)?;
         }
         Ok(None)
@@ -255,12 +216,15 @@ impl<'a> Mending<'a> {
     // Carries out one exchange.
     fn exchange(&mut self, choice: &mut Choice, node: u32, link: Link) {
         match link.by {
-            Exchange::Enters(partition) => choice.replace(self.groups, partition, node, link.to),
+            Exchange::Enters(partition) => choice.replace(
+                &self.members.groups,
+                partition,
+                node,
+                link.to,
+            ),
             Exchange::Gives(place, kept) => {
-                choice.keep(self.groups, kept);
-                choice.give(self.groups, place);
-                raise(&mut self.room, choice.partition(kept));
-                lower(&mut self.room, choice.partition(place));
+                choice.keep(&self.members.groups, kept);
+                choice.give(&self.members.groups, place);
             }
         }
     }
@@ -278,8 +242,9 @@ impl<'a> Mending<'a> {
         }
     }
 
-    /// Shifts slots as long as some path leads from a member to one with at least two fewer.
-    pub fn mend(&mut self, choice: &mut Choice) -> Result<(), Refusal> {
+    // Shifts slots as long as some path leads from a member to one with at least two fewer.
+    fn mend(&mut self, alloc: Global, choice: &mut Choice) -> Result<(), Refusal> {
+        self.frozen = vec![in alloc; 0u32; self.members.count() as usize]?;
         let turns = choice.total().saturating_add(self.members.count() as usize);
         for _ in 0..turns {
             let Some(first) = self.poorest(choice) else {
@@ -296,4 +261,26 @@ impl<'a> Mending<'a> {
         }
         Ok(())
     }
+}
+
+/// Shifts slots as long as some path leads from a member to one with at least two fewer. Those that join take part where that is said, and keep
+/// their share.
+pub fn mend(
+    alloc: Global,
+    choice: &mut Choice,
+    members: &Members,
+    fair: u32,
+    with_joiners: bool,
+) -> Result<(), Refusal> {
+    let mut mending = Mending {
+        members,
+        fair,
+        with_joiners,
+        frozen: Vec::new(alloc),
+        links: Vec::new(alloc),
+        met: Vec::new(alloc),
+        unused: Vec::new(alloc),
+        has_room: false,
+    };
+    mending.mend(alloc, choice)
 }

@@ -1,17 +1,17 @@
 //! The moves of a change: which slot goes from which node to which.
 
 use crate::choice::Choice;
-use crate::givers::Givers;
-use crate::groups::Groups;
+use crate::givers::give;
 use crate::members::Members;
-use crate::mending::Mending;
+use crate::mending::mend;
 use crate::numbers::small;
-use crate::takers::Takers;
+use crate::takers::enter;
 use ring_names::{Refusal, Slot};
+use ring_table::Ring;
 use std::alloc::Global;
 
 /// A slot that goes from its owner to another node.
-#[derive(Clone, Copy, Debug, PartialEq, Eq, PartialOrd, Ord, Drop)]
+#[derive(Clone, Copy, Drop)]
 pub struct Move {
     pub slot: Slot,
     pub from: u32,
@@ -37,72 +37,31 @@ fn handed_over(choice: &Choice, members: &Members) -> u32 {
     count
 }
 
-// Where the slots of nodes that leave are enough for those that join: who needs slots most enters.
-fn spread(
-    alloc: Global,
-    choice: &mut Choice,
-    members: &Members,
-    groups: &Groups,
-    fair: u32,
-) -> Result<(), Refusal> {
-    let mut takers = Takers::new(alloc, choice, members, groups, fair, true)?;
-    for partition in 0..choice.partitions {
-        let count = choice.moving(partition);
-        takers.enter(alloc, choice, members, groups, partition, count)?;
-    }
-    Mending::new(alloc, choice, members, groups, fair, true)?.mend(choice)
-}
-
-// Slots of nodes that leave for which those that join are too few go to other members.
-fn overflow(
-    alloc: Global,
-    choice: &mut Choice,
-    members: &Members,
-    groups: &Groups,
-) -> Result<(), Refusal> {
-    let joiners = small(members.joiners.len());
-    let mut takers = Takers::new(alloc, choice, members, groups, 0, false)?;
-    for partition in 0..choice.partitions {
-        let count = choice.moving(partition).saturating_sub(joiners);
-        if count > 0 {
-            takers.enter(alloc, choice, members, groups, partition, count)?;
-        }
-    }
-    Ok(())
-}
-
 // Those that join enter in turn, as many as there are slots that move and have nobody yet.
-fn join_in_turn(choice: &mut Choice, members: &Members, groups: &Groups) {
+fn join_in_turn(choice: &mut Choice, members: &Members) {
     let mut turn = 0usize;
     for partition in 0..choice.partitions {
         let count = choice
             .moving(partition)
             .saturating_sub(choice.entered(partition));
         for _ in 0..count {
-            choice.enter(groups, partition, members.joiner(turn));
+            choice.enter(&members.groups, partition, members.joiner(turn));
             turn = turn.saturating_add(1);
         }
     }
 }
 
-// Which slots move, and which nodes enter their partitions.
-fn choose(
-    alloc: Global,
-    choice: &mut Choice,
-    members: &Members,
-    groups: &Groups,
-) -> Result<(), Refusal> {
+// Which slots move, and which nodes enter their partitions. Where the slots of nodes that leave are enough for those that join, who needs
+// slots most enters; else members that stay give as many more, and slots for which those that join are too few go to other members.
+fn choose(alloc: Global, choice: &mut Choice, members: &Members) -> Result<(), Refusal> {
     let fair = fair_share(choice, members);
     let wanted = fair.saturating_mul(small(members.joiners.len()));
     let handed = handed_over(choice, members);
-    if handed >= wanted {
-        return spread(alloc, choice, members, groups, fair);
-    }
-    overflow(alloc, choice, members, groups)?;
-    let mut givers = Givers::new(alloc, choice, members, groups)?;
-    givers.give(choice, groups, wanted.saturating_sub(handed))?;
-    Mending::new(alloc, choice, members, groups, fair, false)?.mend(choice)?;
-    join_in_turn(choice, members, groups);
+    let is_enough = handed >= wanted;
+    enter(alloc, choice, members, fair, is_enough)?;
+    give(alloc, choice, members, wanted.saturating_sub(handed))?;
+    mend(alloc, choice, members, fair, is_enough)?;
+    join_in_turn(choice, members);
     Ok(())
 }
 
@@ -132,10 +91,11 @@ fn paired(alloc: Global, choice: &Choice) -> Result<Vec<Move>, Refusal> {
 /// The moves of a change, by partition and index. No slot moves twice, and no node enters a partition of which it owns a slot.
 pub fn moves(
     alloc: Global,
+    ring: &Ring,
     choice: &mut Choice,
     members: &Members,
-    groups: &Groups,
 ) -> Result<Vec<Move>, Refusal> {
-    choose(alloc, choice, members, groups)?;
+    choice.begin(alloc, ring, members)?;
+    choose(alloc, choice, members)?;
     paired(alloc, choice)
 }

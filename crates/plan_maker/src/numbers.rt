@@ -1,5 +1,7 @@
 //! Lists of numbers, read and written by place.
 
+use ring_names::Rows;
+
 /// The number at the place, and 0 where there is none.
 pub fn at(numbers: &[u32], place: usize) -> u32 {
     match numbers.get(place) {
@@ -42,4 +44,12 @@ pub fn small(number: usize) -> u32 {
         Ok(number) => number,
         Err(_) => u32::MAX,
     }
+}
+
+/// The row of that place, and none where there is none.
+pub fn row(rows: &Rows, place: usize) -> &[u32] {
+    if place < rows.len() {
+        return rows.row(place);
+    }
+    &[]
 }

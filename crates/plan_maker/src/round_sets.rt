@@ -29,17 +29,24 @@ fn bit(round: usize) -> u64 {
 }
 
 impl RoundSets {
+    /// No group has a set yet.
+    pub fn new(alloc: Global) -> RoundSets {
+        RoundSets {
+            words: 0,
+            bits: Vec::new(alloc),
+        }
+    }
+
     /// All rounds of all groups.
-    pub fn new(alloc: Global, groups: usize, rounds: usize) -> Result<RoundSets, Refusal> {
-        let words = rounds.saturating_add(63) / WORD;
-        let mut bits = Vec::new(alloc);
+    pub fn fill(&mut self, groups: usize, rounds: usize) -> Result<(), Refusal> {
+        self.words = rounds.saturating_add(63) / WORD;
         for _ in 0..groups {
-            for word in 0..words {
+            for word in 0..self.words {
                 let before = word.saturating_mul(WORD);
-                bits.push(first_rounds(rounds.saturating_sub(before)))?;
+                self.bits.push(first_rounds(rounds.saturating_sub(before)))?;
             }
         }
-        Ok(RoundSets { words, bits })
+        Ok(())
     }
 
     fn place(&self, group: usize, word: usize) -> usize {
@@ -65,7 +72,7 @@ impl RoundSets {
         }
     }
 
-    /// The least round that is in the sets of both groups.
+    /// The least round that is in the sets of both groups, which may be one group.
     pub fn common(&self, first: usize, second: usize) -> Option<usize> {
         for word in 0..self.words {
             let both = self.word(first, word) & self.word(second, word);
@@ -75,10 +82,5 @@ impl RoundSets {
             }
         }
         None
-    }
-
-    /// The least round in the group's set.
-    pub fn least(&self, group: usize) -> Option<usize> {
-        self.common(group, group)
     }
 }

@@ -5,18 +5,10 @@ use crate::colours::Colours;
 use crate::groups::Groups;
 use crate::listed::{fewest, is_worth, sources};
 use crate::moves::Move;
-use crate::numbers::{at, raise, set, small};
+use crate::numbers::{at, raise, row, set, small};
 use crate::urgency::by_urgency;
 use ring_names::{Refusal, Rows};
 use std::alloc::Global;
-
-/// A move, its round, and its place among the moves.
-#[derive(Clone, Copy, Debug, PartialEq, Eq, PartialOrd, Ord, Drop)]
-pub struct Placed {
-    pub round: u32,
-    pub step: Move,
-    pub number: u32,
-}
 
 /// How many copies from owners each group has.
 pub fn counts(alloc: Global, groups: &Groups, moves: &[Move]) -> Result<Vec<u32>, Refusal> {
@@ -37,13 +29,6 @@ struct Later {
 }
 
 impl Later {
-    fn new(alloc: Global, groups: &Groups, rounds: usize) -> Result<Later, Refusal> {
-        Ok(Later {
-            last: vec![in alloc; small(rounds); groups.len()]?,
-            taken: vec![in alloc; 0u32; groups.len()]?,
-        })
-    }
-
     // The first round from its last on in which the group is free.
     fn earliest(&self, groups: &Groups, group: usize) -> u32 {
         let last = at(&self.last, group);
@@ -69,149 +54,149 @@ impl Later {
         self.take(taker, round);
         round
     }
-}
 
-// Seats for all moves.
-fn coloured(alloc: Global, groups: &Groups, moves: &[Move]) -> Result<Colours, Refusal> {
-    let mut colours = Colours::new(alloc, groups, moves)?;
-    let mut copy = 0usize;
-    for step in moves {
-        colours.colour(alloc, copy, groups.giver(step.from), groups.taker(step.to))?;
-        copy = copy.saturating_add(1);
+    // Adds the round of each copy.
+    fn add_rounds(
+        &mut self,
+        alloc: Global,
+        groups: &Groups,
+        moves: &[Move],
+        colours: &Colours,
+        rounds: &mut Vec<u32>,
+    ) -> Result<(), Refusal> {
+        self.last = vec![in alloc; small(colours.rounds); groups.len()]?;
+        self.taken = vec![in alloc; 0u32; groups.len()]?;
+        let mut copy = 0usize;
+        for step in moves {
+            rounds.push(match colours.round(copy) {
+                Some(round) => small(round),
+                None => self.round(groups, groups.giver(step.from), groups.taker(step.to)),
+            })?;
+            copy = copy.saturating_add(1);
+        }
+        Ok(())
     }
-    Ok(colours)
-}
-
-// The rounds of copies from owners.
-fn from_owners(alloc: Global, groups: &Groups, moves: &[Move]) -> Result<Vec<u32>, Refusal> {
-    let colours = coloured(alloc, groups, moves)?;
-    let mut later = Later::new(alloc, groups, colours.rounds())?;
-    let mut rounds = Vec::new(alloc);
-    let mut copy = 0usize;
-    for step in moves {
-        rounds.push(match colours.round(copy) {
-            Some(round) => small(round),
-            None => later.round(groups, groups.giver(step.from), groups.taker(step.to)),
-        })?;
-        copy = copy.saturating_add(1);
-    }
-    Ok(rounds)
 }
 
 /// Moves by rounds: the groups that take part in each copy, the slots that it lists, and its round.
 #[derive(Drop)]
 pub struct Schedule {
     pub parties: Rows,
-    // the slots that each copy lists; none where it reads the owner
-    listed: Vec<Vec<u32>>,
+    /// The slots that each copy lists, ascending; none where it reads the owner.
+    pub listed: Rows,
     rounds: Vec<u32>,
 }
 
-// The groups that take part in each copy: those whose slots it lists, or the owner's, and the one that receives it.
+// The groups that take part in a copy: those whose slots it lists, or the owner's, and the one that receives it.
 fn parties(
     alloc: Global,
     choice: &Choice,
     groups: &Groups,
-    moves: &[Move],
-    listed: &[Vec<u32>],
-) -> Result<Rows, Refusal> {
-    let mut parties = Rows::new(alloc);
-    let mut number = 0usize;
-    for step in moves {
-        let mut row = Vec::new(alloc);
-        for index in slots_of(listed, number) {
-            let place = choice.place(step.slot.partition as usize, *index as usize);
-            row.push(small(groups.giver(choice.owner(place))))?;
-        }
-        if row.is_empty() {
-            row.push(small(groups.giver(step.from)))?;
-        }
-        row.push(small(groups.taker(step.to)))?;
-        parties.push(&row)?;
-        number = number.saturating_add(1);
+    step: &Move,
+    listed: &[u32],
+) -> Result<Vec<u32>, Refusal> {
+    let mut parties = Vec::new(alloc);
+    for index in listed {
+        let place = choice.place(step.slot.partition as usize, *index as usize);
+        parties.push(small(groups.giver(choice.owner(place))))?;
     }
+    if listed.is_empty() {
+        parties.push(small(groups.giver(step.from)))?;
+    }
+    parties.push(small(groups.taker(step.to)))?;
     Ok(parties)
 }
 
-// The slots that a copy lists.
-fn slots_of(listed: &[Vec<u32>], number: usize) -> &[u32] {
-    match listed.get(number) {
-        Some(slots) => slots.as_slice(),
-        None => &[],
-    }
-}
-
 impl Schedule {
-    // Copies from owners.
-    fn of_owners(
-        alloc: Global,
-        choice: &Choice,
-        groups: &Groups,
-        moves: &[Move],
-    ) -> Result<Schedule, Refusal> {
-        Ok(Schedule {
-            parties: parties(alloc, choice, groups, moves, &[])?,
-            listed: Vec::new(alloc),
-            rounds: from_owners(alloc, groups, moves)?,
-        })
-    }
-
-    // Copies of which some list slots, if that saves enough rounds.
-    fn of_listed(
-        alloc: Global,
-        choice: &Choice,
-        groups: &Groups,
-        moves: &[Move],
-        reads: u32,
-    ) -> Result<Option<Schedule>, Refusal> {
-        let most = fewest(groups, &counts(alloc, groups, moves)?);
-        let Some(listing) = sources(alloc, choice, groups, moves, reads)? else {
-            return Ok(None);
-        };
-        let parties = parties(alloc, choice, groups, moves, &listing.slots)?;
-        match by_urgency(alloc, groups, &parties)? {
-            Some(rounds) if is_worth(rounds.count, most) => Ok(Some(Schedule {
-                parties,
-                listed: listing.slots,
-                rounds: rounds.of_copies,
-            })),
-            _ => Ok(None),
+    /// No move has a round yet.
+    pub fn new(alloc: Global) -> Schedule {
+        Schedule {
+            parties: Rows::new(alloc),
+            listed: Rows::new(alloc),
+            rounds: Vec::new(alloc),
         }
     }
 
-    /// The rounds of the moves, in each of which a group has no more copies than its allowance. Copies read their owners, but where it saves at least half
-    /// of the rounds some list R slots that do not move.
-    pub fn new(
+    // The groups that take part in each copy, by the slots that copies list.
+    fn add_parties(
+        &mut self,
         alloc: Global,
         choice: &Choice,
         groups: &Groups,
         moves: &[Move],
-        reads: u32,
-    ) -> Result<Schedule, Refusal> {
-        match Schedule::of_listed(alloc, choice, groups, moves, reads)? {
-            Some(schedule) => Ok(schedule),
-            None => Schedule::of_owners(alloc, choice, groups, moves),
-        }
-    }
-
-    /// The slots that a copy lists, ascending; none where it reads the owner.
-    pub fn listed(&self, number: u32) -> &[u32] {
-        slots_of(&self.listed, number as usize)
-    }
-
-    /// The moves by round, and in a round by partition and index.
-    pub fn placed(&self, alloc: Global, moves: &[Move]) -> Result<Vec<Placed>, Refusal> {
-        let mut placed = Vec::new(alloc);
-        let mut number = 0u32;
+    ) -> Result<(), Refusal> {
+        self.parties = Rows::new(alloc);
+        let mut number = 0usize;
         for step in moves {
-            placed.push(Placed {
-                round: at(&self.rounds, number as usize),
-                step: *step,
-                number,
-            })?;
+            let parties = parties(alloc, choice, groups, step, row(&self.listed, number))?;
+            self.parties.push(&parties)?;
             number = number.saturating_add(1);
         }
-        placed.sort()?;
-        Ok(placed)
+        Ok(())
+    }
+
+    // Copies from owners.
+    fn read_owners(
+        &mut self,
+        alloc: Global,
+        groups: &Groups,
+        moves: &[Move],
+    ) -> Result<(), Refusal> {
+        let mut colours = Colours::new(alloc);
+        colours.colour_all(alloc, groups, moves)?;
+        let mut later = Later {
+            last: Vec::new(alloc),
+            taken: Vec::new(alloc),
+        };
+        later.add_rounds(alloc, groups, moves, &colours, &mut self.rounds)
+    }
+
+    // Copies of which some list slots. Answers whether that saves enough rounds.
+    fn read_listed(
+        &mut self,
+        alloc: Global,
+        groups: &Groups,
+        moves: &[Move],
+    ) -> Result<bool, Refusal> {
+        let Some(rounds) = by_urgency(alloc, groups, &self.parties)? else {
+            return Ok(false);
+        };
+        if !is_worth(rounds.count, fewest(groups, &counts(alloc, groups, moves)?)) {
+            return Ok(false);
+        }
+        self.rounds = rounds.of_copies;
+        Ok(true)
+    }
+
+    /// Gives the moves rounds, in each of which a group has no more copies than its allowance. Copies read their owners, but where it saves at
+    /// least half of the rounds some list R slots that do not move.
+    pub fn fill(
+        &mut self,
+        alloc: Global,
+        choice: &Choice,
+        groups: &Groups,
+        moves: &[Move],
+        reads: u32,
+    ) -> Result<(), Refusal> {
+        if let Some(listed) = sources(alloc, choice, groups, moves, reads)? {
+            self.listed = listed;
+            self.add_parties(alloc, choice, groups, moves)?;
+            if self.read_listed(alloc, groups, moves)? {
+                return Ok(());
+            }
+            self.listed = Rows::new(alloc);
+        }
+        self.add_parties(alloc, choice, groups, moves)?;
+        self.read_owners(alloc, groups, moves)
+    }
+
+    /// The moves by round, and in a round by partition and index: the round of each, and its place among the moves.
+    pub fn order(&self, alloc: Global) -> Result<Vec<(u32, u32)>, Refusal> {
+        let mut order = Vec::new(alloc);
+        for round in self.rounds.iter() {
+            order.push((*round, small(order.len())))?;
+        }
+        order.sort_unstable();
+        Ok(order)
     }
 }

@@ -5,7 +5,7 @@
 //! get a place in it, and all of them together at few more than there are.
 
 use crate::groups::Groups;
-use crate::numbers::{at, lower, raise, set, small};
+use crate::numbers::{at, lower, raise, row, set, small};
 use ring_names::{Refusal, Rows};
 use std::alloc::Global;
 use std::cmp::Reverse;
@@ -16,13 +16,6 @@ const LOOKS: usize = 16_000_000;
 
 // How many copies of a group may find no place in a round before the next group is served.
 const MISSES: u32 = 16;
-
-// A group, by how many rounds it needs at least: the most first.
-#[derive(Clone, Copy, Debug, PartialEq, Eq, PartialOrd, Ord, Drop)]
-struct Urgent {
-    needs: Reverse<u32>,
-    group: u32,
-}
 
 // Copies that wait for their round.
 #[derive(Drop)]
@@ -43,52 +36,23 @@ struct Waiting<'a> {
     looks: usize,
 }
 
-// The row of that place, and none where there is none.
-fn row(rows: &Rows, place: usize) -> &[u32] {
-    if place < rows.len() {
-        return rows.row(place);
-    }
-    &[]
-}
-
-// How many copies of each group there are.
-fn totals(alloc: Global, groups: &Groups, parties: &Rows) -> Result<Vec<u32>, Refusal> {
-    let mut totals = vec![in alloc; 0u32; groups.len()]?;
-    for copy in 0..parties.len() {
-        for group in row(parties, copy) {
-            raise(&mut totals, *group as usize);
-        }
-    }
-    Ok(totals)
-}
-
-// An empty queue for each group.
-fn empty(alloc: Global, count: usize) -> Result<Vec<VecDeque<u32>>, Refusal> {
-    let mut queues = Vec::new(alloc);
-    for _ in 0..count {
-        queues.push(VecDeque::new(alloc))?;
-    }
-    Ok(queues)
-}
-
 impl<'a> Waiting<'a> {
     // All copies wait.
-    fn new(alloc: Global, groups: &'a Groups, parties: &'a Rows) -> Result<Waiting<'a>, Refusal> {
-        let count = parties.len();
-        let mut waiting = Waiting {
-            groups,
-            parties,
-            left: totals(alloc, groups, parties)?,
-            used: vec![in alloc; 0u32; groups.len()]?,
-            queues: empty(alloc, groups.len())?,
-            rounds: vec![in alloc; 0u32; count]?,
-            count,
-            looks: 0,
-        };
-        for copy in 0..count {
-            waiting.queue(small(copy))?;
+    fn begin(&mut self, alloc: Global) -> Result<(), Refusal> {
+        self.left = vec![in alloc; 0u32; self.groups.len()]?;
+        self.rounds = vec![in alloc; 0u32; self.count]?;
+        for _ in 0..self.groups.len() {
+            self.queues.push(VecDeque::new(alloc))?;
         }
-        Ok(waiting)
+        for copy in 0..self.count {
+            for group in row(self.parties, copy) {
+                raise(&mut self.left, *group as usize);
+            }
+        }
+        for copy in 0..self.count {
+            self.queue(small(copy))?;
+        }
+        Ok(())
     }
 
     // How many rounds a group needs at least, in parts of 64.
@@ -185,15 +149,12 @@ impl<'a> Waiting<'a> {
         Ok(())
     }
 
-    // The groups with a queue, by what they need.
-    fn order(&self, alloc: Global) -> Result<Vec<Urgent>, Refusal> {
+    // The groups with a queue, each behind what it needs: those that need most come first.
+    fn order(&self, alloc: Global) -> Result<Vec<(Reverse<u32>, u32)>, Refusal> {
         let mut order = Vec::new(alloc);
         for group in 0..self.groups.len() {
             if self.queued(group) > 0 {
-                order.push(Urgent {
-                    needs: Reverse(self.needs(group)),
-                    group: small(group),
-                })?;
+                order.push((Reverse(self.needs(group)), small(group)))?;
             }
         }
         order.sort_unstable();
@@ -205,14 +166,15 @@ impl<'a> Waiting<'a> {
         self.used = vec![in alloc; 0u32; self.groups.len()]?;
         let order = self.order(alloc)?;
         self.looks = self.looks.saturating_add(order.len());
-        for urgent in order.iter() {
-            self.serve(urgent.group as usize, round)?;
+        for (_, group) in order.iter() {
+            self.serve(*group as usize, round)?;
         }
         Ok(())
     }
 
     // Gives rounds to all copies, and answers how many rounds these are; none where it would take too long.
     fn all(&mut self, alloc: Global) -> Result<Option<u32>, Refusal> {
+        self.begin(alloc)?;
         for round in 0..small(self.rounds.len()) {
             if self.count == 0 {
                 return Ok(Some(round));
@@ -242,7 +204,16 @@ pub fn by_urgency<'a>(
     groups: &'a Groups,
     parties: &'a Rows,
 ) -> Result<Option<Rounds>, Refusal> {
-    let mut waiting = Waiting::new(alloc, groups, parties)?;
+    let mut waiting = Waiting {
+        groups,
+        parties,
+        left: Vec::new(alloc),
+        used: Vec::new(alloc),
+        queues: Vec::new(alloc),
+        rounds: Vec::new(alloc),
+        count: parties.len(),
+        looks: 0,
+    };
     match waiting.all(alloc)? {
         Some(count) => Ok(Some(Rounds {
             count,

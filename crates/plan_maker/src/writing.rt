@@ -2,35 +2,41 @@
 
 use crate::groups::Groups;
 use crate::members::{Members, Role};
-use crate::numbers::{at, small};
-use crate::rounds::Placed;
+use crate::moves::Move;
+use crate::numbers::{at, row, small};
+use crate::rounds::Schedule;
 use crate::steps::add;
 use plan_cert::{Cert, Chains};
 use plan_text::{Plan, Source, Step};
 use ring_names::{Listed, Lists, NodeId, Refusal, Rows};
 use std::alloc::Global;
 
-/// A plan that is being written.
+// A plan that is being written, and its certificate.
 #[derive(Drop)]
-pub struct Writer {
+struct Writer {
     plan: Plan,
+    cert: Cert,
     // the copies of each group, and the drops of each node, by number
     copies: Lists<u32, u32>,
     drops: Lists<u32, u32>,
 }
 
+// Where a move's copy reads.
+fn source(alloc: Global, listed: &[u32]) -> Result<Source, Refusal> {
+    if listed.is_empty() {
+        return Ok(Source::Owner);
+    }
+    let slots = Vec::from_slice(alloc, listed)?;
+    Ok(Source::Slots(Listed::from_vec(slots)))
+}
+
 impl Writer {
-    /// A plan in which the new members join.
-    pub fn new(alloc: Global, members: &Members) -> Result<Writer, Refusal> {
-        let mut plan = Plan::new(alloc);
+    // The new members join.
+    fn join(&mut self, members: &Members) -> Result<(), Refusal> {
         for node in members.joiners.iter() {
-            add(&mut plan, Step::Join(NodeId(*node)), &[])?;
+            add(&mut self.plan, Step::Join(NodeId(*node)), &[])?;
         }
-        Ok(Writer {
-            plan,
-            copies: Lists::new(alloc),
-            drops: Lists::new(alloc),
-        })
+        Ok(())
     }
 
     // The copy that must be done before the group can have one more open.
@@ -58,60 +64,57 @@ impl Writer {
     }
 
     // The mirror of a move: behind the copies that its own copy must wait for, so that it does not stand open before that may begin.
-    fn mirror(&mut self, alloc: Global, placed: &Placed, links: &[u32]) -> Result<u32, Refusal> {
-        let node = NodeId(placed.step.to);
-        let step = Step::Mirror(placed.step.slot, node);
-        let Some(join) = self.plan.join_of(node) else {
-            return add(&mut self.plan, step, links);
-        };
+    fn mirror(&mut self, alloc: Global, step: &Move, links: &[u32]) -> Result<u32, Refusal> {
+        let node = NodeId(step.to);
         let mut after = Vec::new(alloc);
-        after.push(join)?;
+        if let Some(join) = self.plan.join_of(node) {
+            after.push(join)?;
+        }
         after.extend_from_slice(links)?;
-        add(&mut self.plan, step, &after)
+        add(&mut self.plan, Step::Mirror(step.slot, node), &after)
     }
 
-    // The copy of a move from its source.
+    // The copy of a move, by the slots that it lists, behind its mirror.
     fn copy(
         &mut self,
         alloc: Global,
-        placed: &Placed,
-        source: Source,
-        links: &[u32],
-        mirror: u32,
+        groups: &Groups,
+        step: &Move,
+        listed: &[u32],
+        parties: &[u32],
     ) -> Result<u32, Refusal> {
-        let mut after = Vec::new(alloc);
-        after.extend_from_slice(links)?;
+        let mut after = self.links(alloc, groups, parties)?;
+        let mirror = self.mirror(alloc, step, &after)?;
         after.push(mirror)?;
-        add(&mut self.plan, Step::Copy(placed.step.slot, source), &after)
+        let source = source(alloc, listed)?;
+        add(&mut self.plan, Step::Copy(step.slot, source), &after)
     }
 
-    /// The four steps of a move.
-    pub fn add_move(
+    // The four steps of a move.
+    fn add_move(
         &mut self,
         alloc: Global,
         groups: &Groups,
-        placed: &Placed,
-        source: Source,
+        step: &Move,
+        listed: &[u32],
         parties: &[u32],
     ) -> Result<(), Refusal> {
-        let slot = placed.step.slot;
-        let links = self.links(alloc, groups, parties)?;
-        let mirror = self.mirror(alloc, placed, &links)?;
-        let copy = self.copy(alloc, placed, source, &links, mirror)?;
+        let slot = step.slot;
+        let copy = self.copy(alloc, groups, step, listed, parties)?;
         let switch = add(&mut self.plan, Step::Switch(slot), &[copy])?;
         let drop = add(
             &mut self.plan,
-            Step::Drop(slot, NodeId(placed.step.from)),
+            Step::Drop(slot, NodeId(step.from)),
             &[switch],
         )?;
         for group in parties {
             self.copies.add(*group, copy)?;
         }
-        self.drops.add(placed.step.from, drop)
+        self.drops.add(step.from, drop)
     }
 
-    /// The members that leave retire, each behind all its drops.
-    pub fn retire(&mut self, members: &Members) -> Result<(), Refusal> {
+    // The members that leave retire, each behind all its drops.
+    fn retire(&mut self, members: &Members) -> Result<(), Refusal> {
         for node in 0..members.count() {
             if members.role(node) == Role::Leaves {
                 add(
@@ -124,40 +127,80 @@ impl Writer {
         Ok(())
     }
 
-    // As many chains for a group as it may have copies open, so that copies of uneven length wait for one another as little as can be.
-    fn add_chains(
-        &self,
+    // A chain of each so many-th copy of the group, from that one on.
+    fn add_chain(
+        &mut self,
         alloc: Global,
         groups: &Groups,
         group: u32,
-        chains: &mut Chains,
+        first: usize,
+        most: usize,
     ) -> Result<(), Refusal> {
-        let copies = self.copies.items(&group);
-        let most = groups.most(group as usize) as usize;
-        for first in 0..most.min(copies.len()) {
-            let mut chain = Vec::new(alloc);
-            let mut turn = 0usize;
-            for copy in copies {
-                if turn.checked_rem(most) == Some(first) {
-                    chain.push(*copy)?;
-                }
-                turn = turn.saturating_add(1);
+        let mut chain = Vec::new(alloc);
+        let mut turn = 0usize;
+        for copy in self.copies.items(&group) {
+            if turn.checked_rem(most) == Some(first) {
+                chain.push(*copy)?;
             }
-            chains.push(groups.side(group), &chain)?;
+            turn = turn.saturating_add(1);
+        }
+        self.cert.chains.push(groups.side(group), &chain)
+    }
+
+    // As many chains for each group as it may have copies open, so that copies of uneven length wait for one another as little as can be.
+    fn add_chains(&mut self, alloc: Global, groups: &Groups) -> Result<(), Refusal> {
+        for group in 0..small(groups.len()) {
+            let most = groups.most(group as usize) as usize;
+            for first in 0..most.min(self.copies.items(&group).len()) {
+                self.add_chain(alloc, groups, group, first, most)?;
+            }
         }
         Ok(())
     }
 
-    /// The plan, and its certificate.
-    pub fn finish(self, alloc: Global, groups: &Groups) -> Result<(Plan, Cert), Refusal> {
-        let mut chains = Chains::new(alloc);
-        for group in 0..small(groups.len()) {
-            self.add_chains(alloc, groups, group, &mut chains)?;
+    // The moves, and what comes before and behind them.
+    fn add_all(
+        &mut self,
+        alloc: Global,
+        members: &Members,
+        moves: &[Move],
+        schedule: &Schedule,
+    ) -> Result<(), Refusal> {
+        self.join(members)?;
+        for (_, number) in schedule.order(alloc)?.iter() {
+            let place = *number as usize;
+            if let Some(step) = moves.get(place) {
+                let listed = row(&schedule.listed, place);
+                self.add_move(
+                    alloc,
+                    &members.groups,
+                    step,
+                    listed,
+                    row(&schedule.parties, place),
+                )?;
+            }
         }
-        let cert = Cert {
-            facts: Rows::new(alloc),
-            chains,
-        };
-        Ok((self.plan, cert))
+        self.retire(members)?;
+        self.add_chains(alloc, &members.groups)
     }
+}
+
+/// The plan of these moves, and its certificate.
+pub fn write(
+    alloc: Global,
+    members: &Members,
+    moves: &[Move],
+    schedule: &Schedule,
+) -> Result<(Plan, Cert), Refusal> {
+    let mut writer = Writer {
+        plan: Plan::new(alloc),
+        cert: Cert {
+            facts: Rows::new(alloc),
+            chains: Chains::new(alloc),
+        },
+        copies: Lists::new(alloc),
+        drops: Lists::new(alloc),
+    };
+    writer.add_all(alloc, members, moves, schedule)?;
+    Ok((writer.plan, writer.cert))
 }
