@@ -2,6 +2,7 @@
 
 ghost use Rattle.std.specs.Prelude.{◌≡◌, ◌≤◌};
 
+use crate::same::{holds, same};
 use plan_cert::read_cert;
 use plan_check::{Approved, Event, check};
 use plan_text::read_plan;
@@ -101,8 +102,8 @@ fn can_begin<'a, L: RunLedger, RT: Wait + Abort>(
     left: u32,
     step: u32,
 ) -> Result<(), Fail> {
-    assert_eq!(rt; executor.left(rt), left);
-    assert_eq!(rt; executor.ready(rt, 0), Some(step));
+    same!(rt; executor.left(rt), left);
+    same!(rt; executor.ready(rt, 0), Some(step));
     Ok(())
 }
 
@@ -116,11 +117,11 @@ fn first_step<'a, L: RunLedger, RT: Wait + Abort>(
 {
     can_begin(rt, executor, 5, 0)?;
     let place = place_of(rt, executor, Event::Do(0), share)?;
-    assert_eq!(rt; place, 0);
+    same!(rt; place, 0);
     can_begin(rt, executor, 4, 1)?;
     let waits = refusal_of(rt, executor, Event::Do(3), share);
-    assert_eq!(rt; waits, Some(Refusal::NotReady));
-    assert_eq!(rt; share.count(), 1);
+    same!(rt; waits, Some(Refusal::NotReady));
+    same!(rt; share.count(), 1);
     Ok(())
 }
 
@@ -150,8 +151,8 @@ fn flapped<'a, L: RunLedger + Send + Sync, RT: AllocGlobal + Threads + Wait + Sy
     );
     let (first, first_answers) = one;
     let (second, second_answers) = other;
-    assert_eq!(rt; (first_answers, second_answers), (2000, 2000));
-    assert!(rt; executor.hint_at(rt, 0).is_none());
+    same!(rt; (first_answers, second_answers), (2000, 2000));
+    holds!(rt; executor.hint_at(rt, 0).is_none());
     Ok(two(rt.alloc(), first, second)?)
 }
 
@@ -168,11 +169,18 @@ fn run_two<'a, L: RunLedger + Send + Sync, RT: AllocGlobal + Threads + Wait + Sy
     flapped(rt, executor, first, second)
 }
 
-// What stands in the end: the first step and 2,000 turns of each node.
-fn ended<'a, L: RunLedger, RT: Abort>(rt: &RT, ledgered: &Ledgered<'a, L>) -> Result<(), Fail> {
-    assert_eq!(rt; ledgered.entries().len(), 4001);
-    assert_eq!(rt; ledgered.world().left(), 4);
-    Ok(())
+/// The store with its history behind what was done, where that went well. The tests drop no store: they give it up, or take its history out.
+pub fn finished<'a, L: RunLedger>(
+    executor: Executor<'a, L>,
+    done: Result<Vec<Share<L>>, Fail>,
+) -> Result<Ledgered<'a, L>, Fail> {
+    match done {
+        Ok(shares) => Ok(executor.finish(shares)?),
+        Err(fail) => {
+            executor.give_up();
+            Err(fail)
+        }
+    }
 }
 
 fn by_two<L: RunLedger + Send + Sync, RT: AllocGlobal + Threads + Wait + Sync + Abort>(
@@ -187,9 +195,13 @@ fn by_two<L: RunLedger + Send + Sync, RT: AllocGlobal + Threads + Wait + Sync + 
     requires plan { approved.now.plan ≡ L.plan }
 {
     let (executor, share) = Executor::<L>::new(rt.alloc(), blank, approved)?;
-    let shares = run_two(rt, &executor, share)?;
-    let ledgered = executor.finish(shares)?;
-    ended(rt, &ledgered)
+    let done = run_two(rt, &executor, share);
+    let ledgered = finished(executor, done)?;
+    // the first step and 2,000 turns of each node
+    same!(rt; ledgered.entries().len(), 4001);
+    same!(rt; ledgered.world().left(), 4);
+    let _history = ledgered.into_entries();
+    Ok(())
 }
 
 // Fills the history, so that the next event is refused.
@@ -199,17 +211,20 @@ fn filled<'a, L: RunLedger, RT: AllocGlobal + Wait + Abort>(
     share: Share<L>,
 ) -> Result<(), Fail> {
     let (mut share, answered) = flap(rt, executor, share, NodeId(0), 500_000);
-    assert_eq!(rt; answered, 1_000_000);
+    same!(rt; answered, 1_000_000);
     let refused = refusal_of(rt, executor, Event::Up(NodeId(0)), &mut share);
-    assert_eq!(rt; refused, Some(Refusal::HistoryFull));
+    same!(rt; refused, Some(Refusal::HistoryFull));
     Ok(())
 }
 
 // Whether no share at all is not enough.
 fn disagrees<'a, L: RunLedger>(alloc: Global, executor: Executor<'a, L>) -> bool {
     match executor.finish(Vec::new(alloc)) {
-        Err(Refusal::Disagree) => true,
-        _ => false,
+        Ok(ledgered) => {
+            let _history = ledgered.into_entries();
+            false
+        }
+        Err(refusal) => refusal == Refusal::Disagree,
     }
 }
 
@@ -225,9 +240,16 @@ fn full<L: RunLedger, RT: AllocGlobal + Wait + Abort>(
     requires plan { approved.now.plan ≡ L.plan }
 {
     let (executor, share) = Executor::<L>::new(rt.alloc(), blank, approved)?;
-    filled(rt, &executor, share)?;
-    assert!(rt; disagrees(rt.alloc(), executor), "no share is not all");
-    Ok(())
+    match filled(rt, &executor, share) {
+        Ok(()) => {
+            assert!(rt; disagrees(rt.alloc(), executor), "no share is not all");
+            Ok(())
+        }
+        Err(fail) => {
+            executor.give_up();
+            Err(fail)
+        }
+    }
 }
 
 #[test]

@@ -9,3 +9,5 @@ mod executors;
 mod receipts;
 #[cfg(test)]
 mod restores;
+#[cfg(test)]
+mod same;

@@ -2,7 +2,8 @@
 
 ghost use Rattle.std.specs.Prelude.{◌≡◌, ◌≤◌};
 
-use crate::executors::{CHAINS, MOVE, RING, approved, two};
+use crate::executors::{CHAINS, MOVE, RING, approved, finished, two};
+use crate::same::{holds, same};
 use plan_check::{Approved, Entry, Event, Key, Reply, Seen};
 use ring_exec::{Executor, RunLedger, Share};
 use ring_names::{NodeId, Refusal, Slot, Value, WriterId};
@@ -55,7 +56,7 @@ pub fn a_put(alloc: Global, writer: WriterId) -> Result<Event, Refusal> {
     let Some(seen) = Seen::of(Vec::new(alloc)) else {
         return Err(Refusal::Disagree);
     };
-    let Some(value) = Value::of(Vec::from_slice(alloc, b"1")?) else {
+    let Some(value) = Value::of(alloc, Vec::from_slice(alloc, b"1")?)? else {
         return Err(Refusal::Disagree);
     };
     match Key::of(Vec::from_slice(alloc, b"a")?) {
@@ -205,7 +206,7 @@ fn each_stands<RT: AllocGlobal + Abort>(
 
 fn all_marked<RT: Abort>(rt: &RT, marks: &[bool]) -> Result<(), Fail> {
     for mark in marks {
-        assert!(rt; *mark);
+        holds!(rt; *mark);
     }
     Ok(())
 }
@@ -214,45 +215,25 @@ fn all_marked<RT: Abort>(rt: &RT, marks: &[bool]) -> Result<(), Fail> {
 fn all_stand<RT: AllocGlobal + Abort>(
     rt: &RT,
     entries: &[Entry],
-    first: &[Receipt],
-    second: &[Receipt],
+    receipts: &[Receipt],
 ) -> Result<(), Fail> {
-    assert_eq!(rt; entries.len(), 601);
-    assert_eq!(rt; first.len().saturating_add(second.len()), entries.len());
+    same!(rt; entries.len(), 601);
+    same!(rt; receipts.len(), entries.len());
     let mut marks = vec![in rt.alloc(); false; entries.len()]?;
-    each_stands(rt, entries, first, &mut marks)?;
-    each_stands(rt, entries, second, &mut marks)?;
+    each_stands(rt, entries, receipts, &mut marks)?;
     all_marked(rt, marks.as_slice())
 }
 
-// What two threads hand back.
-#[derive(Drop)]
-struct Both<L: RunLedger> {
-    shares: Vec<Share<L>>,
-    first: Vec<Receipt>,
-    second: Vec<Receipt>,
-}
-
-// The shares and the receipts of two clients whose events were all answered.
+// The shares of two clients whose events were all answered. Adds their receipts.
 fn together<L: RunLedger>(
     alloc: Global,
-    one: Client<L>,
-    other: Client<L>,
-) -> Result<Both<L>, AllocError> {
-    let Client {
-        share: first_share,
-        receipts: first,
-    } = one;
-    let Client {
-        share: second_share,
-        receipts: second,
-    } = other;
-    let shares = two(alloc, first_share, second_share)?;
-    Ok(Both {
-        shares,
-        first,
-        second,
-    })
+    mut one: Client<L>,
+    mut other: Client<L>,
+    receipts: &mut Vec<Receipt>,
+) -> Result<Vec<Share<L>>, AllocError> {
+    receipts.append(&mut one.receipts)?;
+    receipts.append(&mut other.receipts)?;
+    two(alloc, one.share, other.share)
 }
 
 // A client with a receipt of the join of d.
@@ -275,7 +256,8 @@ fn run_both<'a, L: RunLedger + Send + Sync, RT: AllocGlobal + Threads + Wait + S
     executor: &Executor<'a, L>,
     first: Client<L>,
     second: Client<L>,
-) -> Result<Both<L>, Fail> {
+    receipts: &mut Vec<Receipt>,
+) -> Result<Vec<Share<L>>, Fail> {
     let (one, other) = thread::join(
         rt,
         || writes(rt, executor, first, 40),
@@ -283,16 +265,17 @@ fn run_both<'a, L: RunLedger + Send + Sync, RT: AllocGlobal + Threads + Wait + S
     );
     let (one, first_end) = one;
     let (other, second_end) = other;
-    assert_eq!(rt; (first_end, second_end), (Ok(()), Ok(())));
-    Ok(together(rt.alloc(), one, other)?)
+    same!(rt; (first_end, second_end), (Ok(()), Ok(())));
+    Ok(together(rt.alloc(), one, other, receipts)?)
 }
 
-// The clients: the first one's has the join of d.
+// The shares of two clients, the first of which has the join of d. Adds their receipts.
 fn by_clients<'a, L: RunLedger + Send + Sync, RT: AllocGlobal + Threads + Wait + Sync + Abort>(
     rt: &RT,
     executor: &Executor<'a, L>,
     share: Share<L>,
-) -> Result<Both<L>, Fail>
+    receipts: &mut Vec<Receipt>,
+) -> Result<Vec<Share<L>>, Fail>
     requires { 2 ≤ share.token.parts }
 {
     let mut first = Client {
@@ -304,7 +287,7 @@ fn by_clients<'a, L: RunLedger + Send + Sync, RT: AllocGlobal + Threads + Wait +
         share: first.share.split(),
         receipts: Vec::new(rt.alloc()),
     };
-    run_both(rt, executor, first, second)
+    run_both(rt, executor, first, second, receipts)
 }
 
 fn compared<L: RunLedger + Send + Sync, RT: AllocGlobal + Threads + Wait + Sync + Abort>(
@@ -319,13 +302,10 @@ fn compared<L: RunLedger + Send + Sync, RT: AllocGlobal + Threads + Wait + Sync 
     requires plan { approved.now.plan ≡ L.plan }
 {
     let (executor, share) = Executor::<L>::new(rt.alloc(), blank, approved)?;
-    let Both {
-        shares,
-        first,
-        second,
-    } = by_clients(rt, &executor, share)?;
-    let ledgered = executor.finish(shares)?;
-    all_stand(rt, ledgered.entries(), first.as_slice(), second.as_slice())
+    let mut receipts = Vec::new(rt.alloc());
+    let done = by_clients(rt, &executor, share, &mut receipts);
+    let history = finished(executor, done)?.into_entries();
+    all_stand(rt, history.as_slice(), receipts.as_slice())
 }
 
 #[test]

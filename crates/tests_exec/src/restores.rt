@@ -2,8 +2,9 @@
 
 ghost use Rattle.std.specs.Prelude.{◌≡◌, ◌<◌};
 
-use crate::executors::{CHAINS, MOVE, RING, approved};
+use crate::executors::{CHAINS, MOVE, RING, approved, finished};
 use crate::receipts::{a_get, a_put};
+use crate::same::same;
 use plan_check::{Approved, Entry, Event, Reply};
 use ring_exec::{Executor, Ledgered, RunLedger, Share};
 use ring_names::{NodeId, Refusal, WriterId};
@@ -57,10 +58,10 @@ fn happened<L: RunLedger>(
     requires plan { approved.now.plan ≡ L.plan }
 {
     let (mut ledgered, mut share) = Ledgered::<L>::new(alloc, blank, approved)?;
-    match apply_all(&mut ledgered, &mut share, events) {
-        Ok(()) => Ok(ledgered.into_entries()),
-        Err(refusal) => Err(refusal),
-    }
+    let applied = apply_all(&mut ledgered, &mut share, events);
+    let history = ledgered.into_entries();
+    applied?;
+    Ok(history)
 }
 
 // The history of a put and a get.
@@ -81,34 +82,20 @@ fn recorded<L: RunLedger>(
 
 // ---- a store that goes on
 
-// The next event stands behind the history.
-fn next_event<'a, L: RunLedger, RT: Wait + Abort>(
+// The one share, behind the next event, which stands behind the history.
+fn next_event<'a, L: RunLedger, RT: AllocGlobal + Wait + Abort>(
     rt: &RT,
     executor: &Executor<'a, L>,
-    share: &mut Share<L>,
-) -> Result<(), Fail> {
-    assert_eq!(rt; share.count(), 8);
-    let receipt = executor.submit(rt, &Event::Do(0), share)?;
-    assert_eq!(rt; receipt.index, 8);
-    assert_eq!(rt; share.count(), 9);
-    assert_eq!(rt; executor.left(rt), 4);
-    Ok(())
-}
-
-// The one share.
-fn one<L: RunLedger>(alloc: Global, share: Share<L>) -> Result<Vec<Share<L>>, AllocError> {
-    let mut shares = Vec::new(alloc);
+    mut share: Share<L>,
+) -> Result<Vec<Share<L>>, Fail> {
+    same!(rt; share.count(), 8);
+    let receipt = executor.submit(rt, &Event::Do(0), &mut share)?;
+    same!(rt; receipt.index, 8);
+    same!(rt; share.count(), 9);
+    same!(rt; executor.left(rt), 4);
+    let mut shares = Vec::new(rt.alloc());
     shares.push(share)?;
     Ok(shares)
-}
-
-// How many entries there are in the end.
-fn ended<'a, L: RunLedger>(
-    executor: Executor<'a, L>,
-    shares: Vec<Share<L>>,
-) -> Result<usize, Refusal> {
-    let ledgered = executor.finish(shares)?;
-    Ok(ledgered.entries().len())
 }
 
 fn gone_on<L: RunLedger, RT: AllocGlobal + Wait + Abort>(
@@ -123,11 +110,10 @@ fn gone_on<L: RunLedger, RT: AllocGlobal + Wait + Abort>(
     requires ring { approved.now.ring ≡ L.ring }
     requires plan { approved.now.plan ≡ L.plan }
 {
-    let (executor, mut share) = Executor::<L>::restore(rt.alloc(), blank, approved, history)?;
-    next_event(rt, &executor, &mut share)?;
-    let shares = one(rt.alloc(), share)?;
-    let entries = ended(executor, shares)?;
-    assert_eq!(rt; entries, 9);
+    let (executor, share) = Executor::<L>::restore(rt.alloc(), blank, approved, history)?;
+    let done = next_event(rt, &executor, share);
+    let entries = finished(executor, done)?.into_entries();
+    same!(rt; entries.len(), 9);
     Ok(())
 }
 
@@ -183,7 +169,10 @@ fn refusal_of<L: RunLedger>(
     requires plan { approved.now.plan ≡ L.plan }
 {
     match Executor::<L>::restore(alloc, blank, approved, history) {
-        Ok(_) => None,
+        Ok((executor, _share)) => {
+            executor.give_up();
+            None
+        }
         Err(refusal) => Some(refusal),
     }
 }
@@ -198,13 +187,13 @@ fn refused(alloc: Global, approved: &Approved, how: Change) -> Result<Option<Ref
 // Each change is refused where it stands.
 fn all_refused<RT: AllocGlobal + Abort>(rt: &RT, approved: &Approved) -> Result<(), Fail> {
     let other = refused(rt.alloc(), approved, Change::OtherReply)?;
-    assert_eq!(rt; other, Some(Refusal::Mismatch(4, 0)));
+    same!(rt; other, Some(Refusal::Mismatch(4, 0)));
     let left_out = refused(rt.alloc(), approved, Change::LeftOut)?;
-    assert_eq!(rt; left_out, Some(Refusal::Mismatch(2, 45)));
+    same!(rt; left_out, Some(Refusal::Mismatch(2, 45)));
     let swapped = refused(rt.alloc(), approved, Change::Swapped)?;
-    assert_eq!(rt; swapped, Some(Refusal::Mismatch(0, 47)));
+    same!(rt; swapped, Some(Refusal::Mismatch(0, 47)));
     let behind = refused(rt.alloc(), approved, Change::Behind)?;
-    assert_eq!(rt; behind, Some(Refusal::Mismatch(8, 41)));
+    same!(rt; behind, Some(Refusal::Mismatch(8, 41)));
     Ok(())
 }
 
@@ -231,6 +220,6 @@ fn a_history_may_be_too_long(rt: HostRuntime) -> Result<(), Fail> {
     let approved = approved(rt.alloc(), RING, MOVE, CHAINS)?;
     let history = downs(rt.alloc(), 1_000_001)?;
     let refusal = refusal_of::<Brand>(rt.alloc(), Blank::new(128), &approved, history.as_slice());
-    assert_eq!(rt; refusal, Some(Refusal::HistoryFull));
+    same!(rt; refusal, Some(Refusal::HistoryFull));
     Ok(())
 }

@@ -60,10 +60,16 @@ fn answers(
     requires { length events.now ≤ 1000000 }
 {
     let mut world = World::start(alloc, approved)?;
+    push_answers(&mut world, events, out)
+}
+
+fn push_answers(world: &mut World, events: &[Event], out: &mut Vec<u8>) -> Result<(), Refusal>
+    requires { length events.now ≤ 1000000 }
+{
     for (place, event) in events.iter().enumerate() {
         push_decimal(out, place as u32)?;
         out.push(b' ')?;
-        push_answer(out, apply(&mut world, event))?;
+        push_answer(out, apply(world, event))?;
     }
     Ok(())
 }
@@ -84,13 +90,26 @@ fn ledgered_answers<L: RunLedger>(
     requires events { length events.now ≤ 1000000 }
 {
     let (mut ledgered, mut share) = Ledgered::<L>::new(alloc, blank, approved)?;
+    let pushed = push_ledgered_answers(&mut ledgered, &mut share, events, out);
+    let _history = ledgered.into_entries();
+    pushed
+}
+
+fn push_ledgered_answers<'a, L: RunLedger>(
+    ledgered: &mut Ledgered<'a, L>,
+    share: &mut Share<L>,
+    events: &[Event],
+    out: &mut Vec<u8>,
+) -> Result<(), Refusal>
+    requires { length events.now ≤ 1000000 }
+{
     for (place, event) in events.iter().enumerate() {
         push_decimal(out, place as u32)?;
         out.push(b' ')?;
-        let answer = ledgered_answer(&mut ledgered, event, &mut share, out)?;
+        let answer = ledgered_answer(ledgered, event, share, out)?;
         push_answer(out, answer)?;
     }
-    push_counts(out, counts(&ledgered, &share))
+    push_counts(out, counts(ledgered, share))
 }
 
 // What an event is answered, where it is applied once more if memory was refused. It prints what changed by the refusal, if anything did.

@@ -66,7 +66,7 @@ fn one_clock_more(rt: HostRuntime) -> Result<(), Fail> {
 fn version(alloc: Global, put: u32, clock: &Clock) -> Result<Version, Refusal> {
     let clock = clock.try_copy()?;
     let bytes = Vec::from_slice(alloc, b"1")?;
-    match Value::of(bytes) {
+    match Value::of(alloc, bytes)? {
         Some(value) => Ok(Version { put, clock, value }),
         None => Err(Refusal::TooLarge(0)),
     }

@@ -16,3 +16,5 @@ mod readers;
 mod same;
 #[cfg(test)]
 mod stores;
+#[cfg(test)]
+mod versions;

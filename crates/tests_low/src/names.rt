@@ -64,7 +64,11 @@ fn lists_and_rows_kept(rt: HostRuntime) -> Result<(), Fail> {
 fn values_limited(rt: HostRuntime) -> Result<(), Fail> {
     for (length, is_one) in [(0usize, true), (1024, true), (1025, false)] {
         let bytes = vec![in rt.alloc(); b' '; length]?;
-        assert_eq!(rt; Value::of(bytes).is_some(), is_one, "at {length}");
+        assert_eq!(rt;
+            Value::of(rt.alloc(), bytes)?.is_some(),
+            is_one,
+            "at {length}"
+        );
     }
     Ok(())
 }
@@ -72,8 +76,8 @@ fn values_limited(rt: HostRuntime) -> Result<(), Fail> {
 #[test]
 fn values_copied(rt: HostRuntime) -> Result<(), Fail> {
     let bytes = Vec::from_slice(rt.alloc(), b"x1")?;
-    let value = Value::of(bytes).ok_or("no value")?;
-    let copy = value.try_copy(rt.alloc())?;
+    let value = Value::of(rt.alloc(), bytes)?.ok_or("no value")?;
+    let copy = value.try_copy()?;
     same!(rt; copy.as_slice(), b"x1".as_slice());
     Ok(())
 }

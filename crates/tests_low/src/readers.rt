@@ -147,9 +147,12 @@ fn steps_read(alloc: Global, ring: &Ring, count: u32) -> Result<u32, Refusal> {
 }
 
 // As many steps as a plan may have, and one more.
-fn longest_plans<RT: AllocGlobal + Abort>(rt: &RT, ring: &Ring) {
-    same!(rt; steps_read(rt.alloc(), ring, 131_072), Ok(131_072));
-    same!(rt; steps_read(rt.alloc(), ring, 131_073), Err(Refusal::TooLarge(131_074)));
+#[test]
+fn longest_plans(rt: HostRuntime) -> Result<(), Fail> {
+    let ring = read_ring(rt.alloc(), RING)?;
+    same!(rt; steps_read(rt.alloc(), &ring, 131_072), Ok(131_072));
+    same!(rt; steps_read(rt.alloc(), &ring, 131_073), Err(Refusal::TooLarge(131_074)));
+    Ok(())
 }
 
 // The numbers of facts and chains of a certificate, or the refusal.
@@ -177,6 +180,13 @@ fn most_lines<RT: AllocGlobal + Abort>(rt: &RT, ring: &Ring) {
     same!(rt; sizes_of(rt.alloc(), ring, fact, 262_145), Err(Refusal::TooLarge(262_146)));
     same!(rt; sizes_of(rt.alloc(), ring, chain, 65_536), Ok((0, 65_536)));
     same!(rt; sizes_of(rt.alloc(), ring, chain, 65_537), Err(Refusal::TooLarge(65_538)));
+}
+
+#[test]
+fn largest_certificates(rt: HostRuntime) -> Result<(), Fail> {
+    let ring = read_ring(rt.alloc(), RING)?;
+    most_lines(&rt, &ring);
+    Ok(())
 }
 
 // A fact of so many steps.
@@ -242,10 +252,8 @@ fn suits(alloc: Global, ring: &Ring) -> Result<bool, Refusal> {
 }
 
 #[test]
-fn longest_texts(rt: HostRuntime) -> Result<(), Fail> {
+fn strange_and_longest_facts(rt: HostRuntime) -> Result<(), Fail> {
     let ring = read_ring(rt.alloc(), RING)?;
-    longest_plans(&rt, &ring);
-    most_lines(&rt, &ring);
     longest_facts(&rt, &ring);
     same!(rt; suits(rt.alloc(), &ring), Ok(false));
     Ok(())

@@ -89,6 +89,65 @@ fn keepers_of_slots(rt: HostRuntime) -> Result<(), Fail> {
     kept(&rt, &mut pairs, &mut sets)
 }
 
+// One of many pairs, each of another number.
+fn numbered(number: u32) -> KeptFor {
+    let slot = Slot {
+        partition: number / 50,
+        index: number % 7,
+    };
+    KeptFor {
+        keeper: NodeId(number % 50),
+        slot,
+    }
+}
+
+// The pairs stand as in a plain list, and there are no others.
+fn stand_as<RT: Abort>(rt: &RT, pairs: &Pairs, list: &[KeptFor]) {
+    for number in 0..3000u32 {
+        same!(rt; pairs.nth(number), list.get(number as usize).copied());
+    }
+}
+
+// Takes a pair out of both, the last one in its place.
+fn take_from_both<RT: Abort>(rt: &RT, pairs: &mut Pairs, list: &mut Vec<KeptFor>, place: usize) {
+    if place < list.len() {
+        let pair = list.swap_remove(place);
+        pairs.remove(pair);
+        holds!(rt; !pairs.has(pair));
+    }
+}
+
+// Adds a pair to both, as the last one, where it is not there.
+fn add_to_both(pairs: &mut Pairs, list: &mut Vec<KeptFor>, pair: KeptFor) -> Result<(), Fail> {
+    if !list.contains(&pair) {
+        list.push(pair)?;
+    }
+    pairs.add(pair)?;
+    Ok(())
+}
+
+#[test]
+fn numbers_of_pairs(rt: HostRuntime) -> Result<(), Fail> {
+    let mut pairs = Pairs::new(rt.alloc());
+    let mut list = Vec::new(rt.alloc());
+    for number in 0..3000u32 {
+        pairs.add(numbered(number))?;
+        list.push(numbered(number))?;
+    }
+    stand_as(&rt, &pairs, list.as_slice());
+    for turn in 0..2999u32 {
+        take_from_both(&rt, &mut pairs, &mut list, (turn * 7 % 1000) as usize);
+        if turn % 5 == 0 {
+            add_to_both(&mut pairs, &mut list, numbered(turn))?;
+        }
+        if turn % 500 == 0 {
+            stand_as(&rt, &pairs, list.as_slice());
+        }
+    }
+    stand_as(&rt, &pairs, list.as_slice());
+    Ok(())
+}
+
 // A node's store of one key, and its copy.
 fn stored<RT: Abort>(rt: &RT, store: &mut NodeStore, set: &Versions) -> Result<(), Fail> {
     store.merge_key(SLOT, b"a", set)?;

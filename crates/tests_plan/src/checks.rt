@@ -3,6 +3,7 @@
 ghost use Rattle.plan_text.specs.Valid.{Suits};
 
 use crate::rings::{RING, approved, cert_from, plan_from, ring_from, two_moves};
+use crate::same::{holds, same};
 use plan_cert::Cert;
 use plan_cover::{check_node, check_nodes};
 use plan_order::{Facts, verify_fact};
@@ -23,18 +24,18 @@ const CERT: &[u8] = b"cert 1\nfact 2 3 4 5\nchain b 2 5\nchain d 2 5\nend\n";
 // ---- facts
 
 fn paths_verified<RT: Abort>(rt: &RT, plan: &Plan) {
-    assert!(rt; verify_fact(plan, &[2, 3, 4, 5]));
-    assert!(rt; !verify_fact(plan, &[2, 4, 5]));
-    assert!(rt; !verify_fact(plan, &[2, 3, 4, 99]));
-    assert!(rt; !verify_fact(plan, &[2]));
-    assert!(rt; !verify_fact(plan, &[]));
+    holds!(rt; verify_fact(plan, &[2, 3, 4, 5]));
+    holds!(rt; !verify_fact(plan, &[2, 4, 5]));
+    holds!(rt; !verify_fact(plan, &[2, 3, 4, 99]));
+    holds!(rt; !verify_fact(plan, &[2]));
+    holds!(rt; !verify_fact(plan, &[]));
 }
 
 fn facts_ordered<RT: AllocGlobal + Abort>(rt: &RT, plan: &Plan, cert: &Cert) -> Result<(), Fail> {
     let facts = Facts::verify(rt.alloc(), plan, &cert.facts)?;
-    assert!(rt; facts.ordered(plan, 2, 5));
-    assert!(rt; facts.ordered(plan, 2, 3));
-    assert!(rt; !facts.ordered(plan, 2, 4));
+    holds!(rt; facts.ordered(plan, 2, 5));
+    holds!(rt; facts.ordered(plan, 2, 3));
+    holds!(rt; !facts.ordered(plan, 2, 4));
     Ok(())
 }
 
@@ -81,9 +82,9 @@ fn listed_copy<RT: AllocGlobal + Abort>(rt: &RT, ring: &Ring, plan: &Plan)
     requires { Suits ring.now plan.now }
 {
     let with = partition(rt.alloc(), ring, plan, b"cert 1\nfact 3 4 5\nend\n");
-    assert_eq!(rt; with, Ok(()));
+    same!(rt; with, Ok(()));
     let without = partition(rt.alloc(), ring, plan, b"cert 1\nend\n");
-    assert_eq!(rt; without, Err(Refusal::MovingSource(5)));
+    same!(rt; without, Err(Refusal::MovingSource(5)));
 }
 
 // These nodes take part in the step.
@@ -97,7 +98,7 @@ fn parties_are<RT: AllocGlobal + Abort>(
     requires { Suits ring.now plan.now }
 {
     let found = parties(rt.alloc(), ring, plan, step)?;
-    assert_eq!(rt; found.as_slice(), nodes);
+    same!(rt; found.as_slice(), nodes);
     Ok(())
 }
 
@@ -112,7 +113,7 @@ fn sources_are<RT: AllocGlobal + Abort>(
     requires { Suits ring.now plan.now }
 {
     let found = sources(rt.alloc(), ring, plan, step)?;
-    assert_eq!(rt; found.as_slice(), nodes);
+    same!(rt; found.as_slice(), nodes);
     Ok(())
 }
 
@@ -127,10 +128,10 @@ fn parties_of<RT: AllocGlobal + Abort>(rt: &RT, ring: &Ring, plan: &Plan) -> Res
 
 // The slot went from b to d, and b still has what it held.
 fn is_moved<RT: Abort>(rt: &RT, stage: &Stage) {
-    assert_eq!(rt; stage.owner, NodeId(3));
-    assert_eq!(rt; stage.mirror, None);
-    assert!(rt; !stage.copied);
-    assert_eq!(rt; stage.leftovers.as_slice(), [NodeId(1)].as_slice());
+    same!(rt; stage.owner, NodeId(3));
+    same!(rt; stage.mirror, None);
+    holds!(rt; !stage.copied);
+    same!(rt; stage.leftovers.as_slice(), [NodeId(1)].as_slice());
 }
 
 fn stage_of<RT: AllocGlobal + Abort>(rt: &RT, ring: &Ring, plan: &Plan) -> Result<(), Fail> {
@@ -192,11 +193,8 @@ const SHORT: &[u8] = b"cert 1\nfact 2 3 4 5\nchain b 2 5\nend\n";
 fn chains_needed<RT: AllocGlobal + Abort>(rt: &RT, ring: &Ring, plan: &Plan)
     requires { Suits ring.now plan.now }
 {
-    assert_eq!(rt; nodes(rt.alloc(), ring, plan, CERT), Ok(()));
-    assert_eq!(rt;
-        nodes(rt.alloc(), ring, plan, SHORT),
-        Err(Refusal::CoverMissing(3, 2))
-    );
+    same!(rt; nodes(rt.alloc(), ring, plan, CERT), Ok(()));
+    same!(rt; nodes(rt.alloc(), ring, plan, SHORT), Err(Refusal::CoverMissing(3, 2)));
 }
 
 fn nodes_of<RT: AllocGlobal + Abort>(rt: &RT, ring: &Ring) -> Result<(), Fail> {
@@ -233,9 +231,6 @@ fn whole(alloc: Global, cert: &[u8]) -> Result<u32, Refusal> {
 
 #[test]
 fn plans_checked(rt: HostRuntime) {
-    assert_eq!(rt; whole(rt.alloc(), CERT), Ok(7));
-    assert_eq!(rt;
-        whole(rt.alloc(), b"cert 1\nfact 2 5\nend\n"),
-        Err(Refusal::BadPath(0))
-    );
+    same!(rt; whole(rt.alloc(), CERT), Ok(7));
+    same!(rt; whole(rt.alloc(), b"cert 1\nfact 2 5\nend\n"), Err(Refusal::BadPath(0)));
 }

@@ -3,6 +3,7 @@
 use crate::figures::{depth, moves, plan_of, reads_owners};
 use crate::ring_texts::{push_nodes, push_numbered, push_owners};
 use crate::rings::ring_from;
+use crate::same::{holds, same};
 use plan_text::Plan;
 use ring_table::Ring;
 use std::alloc::{AllocError, Global};
@@ -51,8 +52,8 @@ fn ring_text(alloc: Global, partitions: u32) -> Result<Vec<u8>, AllocError> {
 
 // The leavers' slots are copied in a quarter of the rounds that reading them from the leavers would take.
 fn is_quick<RT: AllocGlobal + Abort>(rt: &RT, plan: &Plan) -> Result<(), Fail> {
-    assert_eq!(rt; moves(plan), 22_000);
-    assert!(rt; !reads_owners(plan));
+    same!(rt; moves(plan), 22_000);
+    holds!(rt; !reads_owners(plan));
     let depth = depth(rt.alloc(), plan)?;
     assert!(rt; depth <= 1_024, "{depth}");
     Ok(())

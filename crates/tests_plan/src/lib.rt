@@ -15,6 +15,8 @@ mod ring_texts;
 #[cfg(test)]
 mod rings;
 #[cfg(test)]
+mod same;
+#[cfg(test)]
 mod states;
 #[cfg(test)]
 mod words;

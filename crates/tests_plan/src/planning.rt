@@ -8,6 +8,7 @@ use crate::figures::{
 };
 use crate::ring_texts::{push_nodes, push_numbered, push_owners};
 use crate::rings::{RING, approved, cert_from, plan_from, ring_from};
+use crate::same::{holds, same};
 use change_text::{Change, read_change, read_wanted, write_change};
 use plan_cert::Cert;
 use plan_maker::make;
@@ -35,15 +36,15 @@ const D: NodeId = NodeId(3);
 
 // By the change d joins and b leaves.
 fn exchanges<RT: Abort>(rt: &RT, change: &Change) {
-    assert_eq!(rt; change.joins.as_slice(), [D].as_slice());
-    assert_eq!(rt; change.leaves.as_slice(), [B].as_slice());
+    same!(rt; change.joins.as_slice(), [D].as_slice());
+    same!(rt; change.leaves.as_slice(), [B].as_slice());
 }
 
 fn is_written<RT: AllocGlobal + Abort>(rt: &RT, ring: &Ring, change: &Change) -> Result<(), Fail>
     requires { IsChange ring.now change.now }
 {
     let text = write_change(rt.alloc(), ring, change)?;
-    assert_eq!(rt; text.as_slice(), CHANGE);
+    same!(rt; text.as_slice(), CHANGE);
     Ok(())
 }
 
@@ -82,10 +83,10 @@ fn wanted_changes_read(rt: HostRuntime) -> Result<(), Fail> {
 // ---- what a plan fulfils
 
 fn fulfilled<RT: Abort>(rt: &RT, plan: &Plan) {
-    assert!(rt; plan.fulfils(&[D], &[]));
-    assert!(rt; !plan.fulfils(&[], &[]));
-    assert!(rt; !plan.fulfils(&[D], &[B]));
-    assert!(rt; !plan.fulfils(&[D, A], &[]));
+    holds!(rt; plan.fulfils(&[D], &[]));
+    holds!(rt; !plan.fulfils(&[], &[]));
+    holds!(rt; !plan.fulfils(&[D], &[B]));
+    holds!(rt; !plan.fulfils(&[D, A], &[]));
 }
 
 fn join_fulfilled<RT: AllocGlobal + Abort>(rt: &RT, ring: &Ring) -> Result<(), Fail> {
@@ -113,10 +114,10 @@ fn owns(alloc: Global, ring: &Ring, plan: &Plan, node: NodeId) -> Result<u32, Re
 
 // By the plan d joins and owns slots, and b owns none and retires.
 fn exchanged<RT: AllocGlobal + Abort>(rt: &RT, ring: &Ring, plan: &Plan) -> Result<(), Fail> {
-    assert!(rt; plan.is_joined(D));
-    assert!(rt; plan.is_retired(B));
-    assert_eq!(rt; owns(rt.alloc(), ring, plan, B)?, 0);
-    assert!(rt; 1 <= owns(rt.alloc(), ring, plan, D)?);
+    holds!(rt; plan.is_joined(D));
+    holds!(rt; plan.is_retired(B));
+    same!(rt; owns(rt.alloc(), ring, plan, B)?, 0);
+    holds!(rt; 1 <= owns(rt.alloc(), ring, plan, D)?);
     Ok(())
 }
 
@@ -198,8 +199,8 @@ fn refused(alloc: Global, ring: &Ring, joins: &[NodeId], leaves: &[NodeId]) -> u
 
 // Without b the ring has fewer members than a partition has slots.
 fn members_needed<RT: AllocGlobal + Abort>(rt: &RT, ring: &Ring) {
-    assert_eq!(rt; refused(rt.alloc(), ring, &[], &[B]), 28);
-    assert_eq!(rt; refused(rt.alloc(), ring, &[D], &[B]), 0);
+    same!(rt; refused(rt.alloc(), ring, &[], &[B]), 28);
+    same!(rt; refused(rt.alloc(), ring, &[D], &[B]), 0);
 }
 
 #[test]
@@ -310,7 +311,7 @@ fn share(case: &Case) -> u32 {
 // The plan moves no more slots than it must.
 fn moves_least<RT: Abort>(rt: &RT, case: &Case, ring: &Ring, plan: &Plan) {
     let fewest = fewest_moves(ring, case.leaves, case.joins, share(case));
-    assert_eq!(rt; moves(plan), fewest);
+    same!(rt; moves(plan), fewest);
 }
 
 // Each joiner owns its share, and no leaver owns a slot, by the numbers of slots that the nodes own.
@@ -318,10 +319,10 @@ fn are_shares<RT: Abort>(rt: &RT, case: &Case, owned: &[u32]) {
     let mut node = 0u32;
     for count in owned {
         if node < case.leaves {
-            assert_eq!(rt; *count, 0);
+            same!(rt; *count, 0);
         }
         if case.members <= node {
-            assert!(rt; share(case) <= *count);
+            holds!(rt; share(case) <= *count);
         }
         node = node.saturating_add(1);
     }
@@ -350,7 +351,7 @@ fn hurries<RT: AllocGlobal + Abort>(rt: &RT, ring: &Ring, plan: &Plan) -> Result
         "{depth} for {rounds}"
     );
     if reads_owners(plan) {
-        assert_eq!(rt; depth, rounds);
+        same!(rt; depth, rounds);
     }
     Ok(())
 }
@@ -359,7 +360,7 @@ fn hurries<RT: AllocGlobal + Abort>(rt: &RT, ring: &Ring, plan: &Plan) -> Result
 fn makes_change<RT: AllocGlobal + Abort>(rt: &RT, case: &Case, plan: &Plan) -> Result<(), Fail> {
     let joins = nodes_from(rt.alloc(), case.members, case.joins)?;
     let leaves = nodes_from(rt.alloc(), 0, case.leaves)?;
-    assert!(rt; plan.fulfils(joins.as_slice(), leaves.as_slice()));
+    holds!(rt; plan.fulfils(joins.as_slice(), leaves.as_slice()));
     Ok(())
 }
 

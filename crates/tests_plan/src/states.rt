@@ -1,9 +1,10 @@
 //! What a running store keeps of nodes, steps, slots, keys, puts and gets: each call that may run out of memory succeeds where there is enough.
 
 use crate::rings::{RING, ring_from};
+use crate::same::{holds, same};
 use ring_names::{Listed, NodeId, Slot, WriterId};
 use ring_table::Ring;
-use ring_versions::Versions;
+use ring_versions::{Found, Versions};
 use std::process::Abort;
 use std::test::Fail;
 use store_tables::{GetNow, Gets, Keys, Lasts, Marks, Nodes, PutNow, Puts, Slots, Steps};
@@ -15,19 +16,19 @@ const SLOT: Slot = Slot {
 
 fn nodes_started<RT: AllocGlobal + Abort>(rt: &RT, ring: &Ring) -> Result<(), Fail> {
     let nodes = Nodes::start(rt.alloc(), ring)?;
-    assert!(rt; nodes.is_up(NodeId(0)));
+    holds!(rt; nodes.is_up(NodeId(0)));
     Ok(())
 }
 
 fn steps_started<RT: AllocGlobal + Abort>(rt: &RT) -> Result<(), Fail> {
     let steps = Steps::start(rt.alloc(), 5)?;
-    assert_eq!(rt; steps.left(), 5);
+    same!(rt; steps.left(), 5);
     Ok(())
 }
 
 fn slots_started<RT: AllocGlobal + Abort>(rt: &RT, ring: &Ring) -> Result<(), Fail> {
     let slots = Slots::start(rt.alloc(), ring)?;
-    assert_eq!(rt; slots.owner(SLOT), Some(NodeId(1)));
+    same!(rt; slots.owner(SLOT), Some(NodeId(1)));
     Ok(())
 }
 
@@ -47,7 +48,7 @@ fn parts_at_the_start(rt: HostRuntime) -> Result<(), Fail> {
 // The key has that number, also where it was added before.
 fn key_is<RT: Abort>(rt: &RT, keys: &mut Keys, key: &[u8], number: usize) -> Result<(), Fail> {
     let added = keys.add(key)?;
-    assert_eq!(rt; added, number);
+    same!(rt; added, number);
     Ok(())
 }
 
@@ -60,7 +61,7 @@ fn keys_added<RT: Abort>(rt: &RT, keys: &mut Keys) -> Result<(), Fail> {
 fn lasts_kept<RT: AllocGlobal + Abort>(rt: &RT) -> Result<(), Fail> {
     let mut lasts = Lasts::new(rt.alloc());
     lasts.set(0, WriterId(2), 9)?;
-    assert_eq!(rt; lasts.get(0, WriterId(2)), Some(9));
+    same!(rt; lasts.get(0, WriterId(2)), Some(9));
     Ok(())
 }
 
@@ -80,7 +81,7 @@ fn puts_kept<RT: AllocGlobal + Abort>(rt: &RT) -> Result<(), Fail> {
         tickets: [None; 7],
         acked: false,
     })?;
-    assert_eq!(rt; puts.len(), 1);
+    same!(rt; puts.len(), 1);
     Ok(())
 }
 
@@ -89,11 +90,11 @@ fn gets_kept<RT: AllocGlobal + Abort>(rt: &RT) -> Result<(), Fail> {
     gets.push(GetNow {
         key: 0,
         read: Marks::none(),
-        found: Versions::new(rt.alloc()),
+        found: Found::new(rt.alloc()),
         reply: None,
     })?;
     gets.end(0, Listed::from_vec(Vec::new(rt.alloc())));
-    assert_eq!(rt; gets.len(), 1);
+    same!(rt; gets.len(), 1);
     Ok(())
 }
 

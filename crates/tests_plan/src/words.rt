@@ -1,5 +1,6 @@
 //! The words of events and the texts of replies.
 
+use crate::same::{holds, same};
 use plan_check::{Key, Reply, Seen};
 use ring_names::{Listed, Slot};
 use std::alloc::{AllocError, Global};
@@ -18,7 +19,7 @@ const TICKET: Reply = Reply::Ticket(
 fn written<RT: AllocGlobal + Abort>(rt: &RT, reply: &Reply, text: &str) -> Result<(), Fail> {
     let mut out = Vec::new(rt.alloc());
     reply.write_text(&mut out)?;
-    assert_eq!(rt; out.as_slice(), text.as_bytes());
+    same!(rt; out.as_slice(), text.as_bytes());
     Ok(())
 }
 
@@ -43,15 +44,6 @@ fn is_key(alloc: Global, text: &str) -> Result<bool, AllocError> {
     Ok(Key::of(bytes).is_some())
 }
 
-#[test]
-fn keys_limited(rt: HostRuntime) -> Result<(), Fail> {
-    assert!(rt; is_key(rt.alloc(), "a-z_0.9:")?);
-    assert!(rt; !is_key(rt.alloc(), "")?);
-    assert!(rt; !is_key(rt.alloc(), "A")?);
-    assert!(rt; !is_key(rt.alloc(), "a b")?);
-    Ok(())
-}
-
 // Whether a put may have seen the gets of these numbers.
 fn is_seen(alloc: Global, gets: &[u32]) -> Result<bool, AllocError> {
     let gets = Vec::from_slice(alloc, gets)?;
@@ -59,9 +51,13 @@ fn is_seen(alloc: Global, gets: &[u32]) -> Result<bool, AllocError> {
 }
 
 #[test]
-fn seen_gets_limited(rt: HostRuntime) -> Result<(), Fail> {
-    assert!(rt; is_seen(rt.alloc(), &[0, 1])?);
-    assert!(rt; !is_seen(rt.alloc(), &[1, 1])?);
-    assert!(rt; !is_seen(rt.alloc(), &[1, 0])?);
+fn keys_and_seen_gets_limited(rt: HostRuntime) -> Result<(), Fail> {
+    holds!(rt; is_key(rt.alloc(), "a-z_0.9:")?);
+    holds!(rt; !is_key(rt.alloc(), "")?);
+    holds!(rt; !is_key(rt.alloc(), "A")?);
+    holds!(rt; !is_key(rt.alloc(), "a b")?);
+    holds!(rt; is_seen(rt.alloc(), &[0, 1])?);
+    holds!(rt; !is_seen(rt.alloc(), &[1, 1])?);
+    holds!(rt; !is_seen(rt.alloc(), &[1, 0])?);
     Ok(())
 }

@@ -3,6 +3,7 @@
 ghost use Rattle.plan_text.specs.Valid.{Suits};
 
 use crate::rings::{RING, cert_from, ring_from, two_moves};
+use crate::same::same;
 use plan_cert::Cert;
 use plan_check::{Gate, check_parallel};
 use plan_order::Facts;
@@ -114,27 +115,24 @@ fn whole<RT: AllocGlobal + Threads + Wait + Sync>(
 
 #[test]
 fn two_workers_overlap(rt: HostRuntime) {
-    assert_eq!(rt; whole(&rt, 2, 2, CERT), Ok(7));
+    same!(rt; whole(&rt, 2, 2, CERT), Ok(7));
 }
 
 #[test]
 fn one_worker_waits_in_vain(rt: HostRuntime) {
-    assert_eq!(rt; whole(&rt, 1, 2, CERT), Err(Refusal::TurnsSpent));
+    same!(rt; whole(&rt, 1, 2, CERT), Err(Refusal::TurnsSpent));
 }
 
 #[test]
 fn any_number_of_workers(rt: HostRuntime) {
-    assert_eq!(rt; whole(&rt, 0, 1, CERT), Ok(7));
-    assert_eq!(rt; whole(&rt, 3, 3, CERT), Ok(7));
-    assert_eq!(rt; whole(&rt, 64, 1, CERT), Ok(7));
+    same!(rt; whole(&rt, 0, 1, CERT), Ok(7));
+    same!(rt; whole(&rt, 3, 3, CERT), Ok(7));
+    same!(rt; whole(&rt, 64, 1, CERT), Ok(7));
 }
 
 #[test]
 fn no_share_is_begun_after_a_bad_path(rt: HostRuntime) {
-    assert_eq!(rt;
-        whole(&rt, 2, 3, b"cert 1\nfact 2 5\nend\n"),
-        Err(Refusal::BadPath(0))
-    );
+    same!(rt; whole(&rt, 2, 3, b"cert 1\nfact 2 5\nend\n"), Err(Refusal::BadPath(0)));
 }
 
 // Whether the paths of the certificate say that one step is before another.
@@ -166,6 +164,6 @@ fn moves_ordered<RT: AllocGlobal + Threads + Sync>(rt: &RT, ring: &Ring) -> Resu
 #[test]
 fn paths_by_threads(rt: HostRuntime) -> Result<(), Fail> {
     let ring = ring_from(rt.alloc(), RING)?;
-    assert_eq!(rt; moves_ordered(&rt, &ring), Ok(true));
+    same!(rt; moves_ordered(&rt, &ring), Ok(true));
     Ok(())
 }

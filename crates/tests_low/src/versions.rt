@@ -1,0 +1,128 @@
+//! Sets of hundreds of versions in conflict, whose clocks share hundreds of entries, merged with themselves, with newer ones and with ancestors. A
+//! walk over all pairs, by the counters of the puts' own writers, says what must stay.
+
+use crate::clocks::set_of;
+use ring_clock::Clock;
+use ring_names::{Refusal, WriterId};
+use ring_versions::{Version, Versions};
+use std::alloc::{AllocError, Global};
+use std::process::Abort;
+use std::test::Fail;
+
+const SHARED: u32 = 500;
+
+const MANY: u32 = 600;
+
+fn raised(clock: &Clock, writer: u32) -> Result<Clock, Refusal> {
+    if clock.counter(WriterId(writer)) == u64::MAX {
+        return Err(Refusal::TooLarge(0));
+    }
+    clock.bump(WriterId(writer))
+}
+
+// The clock of puts by many writers, whose numbers are odd.
+fn shared(alloc: Global) -> Result<Clock, Refusal> {
+    let mut clock = Clock::new(alloc);
+    for place in 0..SHARED {
+        clock = raised(&clock, 2 * place + 1)?;
+    }
+    Ok(clock)
+}
+
+// A version by each of many writers, whose numbers are even, who have seen the same and nothing of one another.
+fn in_conflict(alloc: Global) -> Result<Versions, Refusal> {
+    let seen = shared(alloc)?;
+    let mut set = Versions::new(alloc);
+    for put in 0..MANY {
+        let clock = raised(&seen, 2 * put)?;
+        set.merge(&set_of(alloc, put, &clock)?)?;
+    }
+    Ok(set)
+}
+
+// The clock of a put after the version, by its writer, or by another who has seen the first one too; none for each third.
+fn after(version: &Version, first: &Version) -> Result<Option<Clock>, Refusal> {
+    match version.put % 3 {
+        0 => Ok(Some(raised(&version.clock, version.clock.own().0)?)),
+        1 => {
+            let seen = version.clock.join(&first.clock)?;
+            Ok(Some(raised(&seen, version.put.wrapping_add(10_000))?))
+        }
+        _ => Ok(None),
+    }
+}
+
+fn newer(alloc: Global, set: &Versions) -> Result<Versions, Refusal> {
+    let mut more = Versions::new(alloc);
+    for version in set.list() {
+        if let Some(first) = set.list().first()
+            && let Some(clock) = after(version, first)?
+        {
+            more.merge(&set_of(alloc, version.put.wrapping_add(MANY), &clock)?)?;
+        }
+    }
+    Ok(more)
+}
+
+// Whether another put of these knows of the version's.
+fn is_seen(version: &Version, others: &[Version]) -> bool {
+    let own = version.clock.own();
+    let counter = version.clock.counter(own);
+    others.iter().any(|other| other.put != version.put && counter <= other.clock.counter(own))
+}
+
+fn push_unseen(
+    puts: &mut Vec<u32>,
+    versions: &[Version],
+    others: &[Version],
+) -> Result<(), AllocError> {
+    for version in versions {
+        if !is_seen(version, versions) && !is_seen(version, others) {
+            puts.push(version.put)?;
+        }
+    }
+    Ok(())
+}
+
+// The puts of those of both sets that no other of them has seen.
+fn unseen(alloc: Global, first: &[Version], second: &[Version]) -> Result<Vec<u32>, AllocError> {
+    let mut puts = Vec::new(alloc);
+    push_unseen(&mut puts, first, second)?;
+    push_unseen(&mut puts, second, first)?;
+    puts.sort_unstable();
+    puts.dedup();
+    Ok(puts)
+}
+
+fn merged<RT: Abort>(
+    rt: &RT,
+    alloc: Global,
+    first: &Versions,
+    second: &Versions,
+) -> Result<(), Fail> {
+    let puts = unseen(alloc, first.list(), second.list())?;
+    let mut set = first.try_copy()?;
+    set.merge(second)?;
+    assert_eq!(rt; set.puts()?.as_slice(), puts.as_slice());
+    assert_eq!(rt; set.list().len(), puts.len());
+    set.merge(first)?;
+    assert_eq!(rt; set.list().len(), puts.len());
+    Ok(())
+}
+
+#[test]
+fn many_in_conflict(rt: HostRuntime) -> Result<(), Fail> {
+    let alloc = rt.alloc();
+    let set = in_conflict(alloc)?;
+    assert_eq!(rt; set.list().len(), MANY as usize);
+    merged(&rt, alloc, &set, &set)
+}
+
+#[test]
+fn many_newer_and_ancestors(rt: HostRuntime) -> Result<(), Fail> {
+    let alloc = rt.alloc();
+    let set = in_conflict(alloc)?;
+    let more = newer(alloc, &set)?;
+    merged(&rt, alloc, &set, &more)?;
+    merged(&rt, alloc, &more, &set)
+}
