@@ -1,4 +1,4 @@
-// Not compiled and not run where it was written, since there was no Go there: a program that calls the library by cgo.
+// A program that calls the library by cgo.
 //
 // With libringplan.so beside this file: go run embed.go check < bundle. It prints and ends as `ringplan check` does.
 package main
@@ -27,10 +27,18 @@ const (
 	MoreRoom    Status = C.RINGPLAN_MORE_ROOM
 )
 
+// first is where the bytes begin, and nil where there are none.
+func first(bytes []byte) *C.uint8_t {
+	if len(bytes) == 0 {
+		return nil
+	}
+	return (*C.uint8_t)(unsafe.Pointer(&bytes[0]))
+}
+
 // once makes one call of the job, and returns its status and the length of its text. The library keeps neither slice.
 func once(job string, input, output []byte) (Status, int) {
-	from, count := (*C.uint8_t)(unsafe.SliceData(input)), C.size_t(len(input))
-	to, room := (*C.uint8_t)(unsafe.SliceData(output)), C.size_t(len(output))
+	from, count := first(input), C.size_t(len(input))
+	to, room := first(output), C.size_t(len(output))
 	var length C.size_t
 	var status C.uint8_t
 	switch job {

@@ -73,6 +73,12 @@ answers() {
 }
 
 export RINGPLAN_LIBRARY=$scratch/llvm/libringplan.so
+by_go=
+if command -v go > /dev/null; then
+    cp "$here/embed.go" "$here/ringplan.h" "$scratch/llvm"
+    (cd "$scratch/llvm" && GOCACHE=$scratch/cache GO111MODULE=off quietly go build -o embed embed.go)
+    by_go=$scratch/llvm/embed
+fi
 for bundle in "$top"/crates/tests_cases/data/*.bundle "$top"/examples/*.bundle; do
     for job in check plan play migrate replay; do
         status=0
@@ -81,6 +87,9 @@ for bundle in "$top"/crates/tests_cases/data/*.bundle "$top"/examples/*.bundle; 
         answers "C, built by Rattle's own compiler" $status "$scratch/rattle/run" $job
         if [[ $bundle = "$top"/examples/* ]] && command -v python3 > /dev/null; then
             answers "Python, built by LLVM" $status python3 "$here/ringplan.py" $job
+        fi
+        if [[ $bundle = "$top"/examples/* ]] && [ -n "$by_go" ]; then
+            answers "Go, built by LLVM" $status "$by_go" $job
         fi
     done
 done

@@ -4,94 +4,62 @@ use crate::{
     ringplan_check, ringplan_migrate, ringplan_plan, ringplan_play, ringplan_replay,
     ringplan_version,
 };
+use ringplan_run::Job;
+use std::alloc::Global;
+use std::process::Abort;
 
-// A ring of one slot, an empty plan of it and its certificate.
-const BUNDLE: &[u8] = b"\
-ring 1
-space 1
-quorum 1 1 1
-node a 1 in
-slots 0 a
-end
-plan 1
-end
-cert 1
-end
-";
+// A ring of one slot, and what stands behind it.
+macro_rules! behind_ring {
+    ($text:literal) => {
+        concat!("ring 1\nspace 1\nquorum 1 1 1\nnode a 1 in\nslots 0 a\nend\n", $text)
+    };
+}
 
-// The same, but that the ring tells a quorum of reads of two slots.
-const REFUSED: &[u8] = b"\
-ring 1
-space 1
-quorum 1 2 1
-node a 1 in
-slots 0 a
-end
-plan 1
-end
-cert 1
-end
-";
+// An empty plan of it and its certificate.
+const BUNDLE: &str = behind_ring!("plan 1\nend\ncert 1\nend\n");
 
-// The ring, and a change of nothing.
-const CHANGE: &[u8] = b"\
-ring 1
-space 1
-quorum 1 1 1
-node a 1 in
-slots 0 a
-end
-change 1
-end
-";
+// A change of nothing.
+const CHANGE: &str = behind_ring!("change 1\nend\n");
 
-// The bundle with a script.
-const SCRIPT: &[u8] = b"\
-ring 1
-space 1
-quorum 1 1 1
-node a 1 in
-slots 0 a
-end
-plan 1
-end
-cert 1
-end
-script 1
-put w1 k x31
-end
-";
+// The bundle with a script, and with a history of the same.
+const SCRIPT: &str = behind_ring!("plan 1\nend\ncert 1\nend\nscript 1\nput w1 k x31\nend\n");
 
-// The bundle with a history of the same.
-const HISTORY: &[u8] = b"\
-ring 1
-space 1
-quorum 1 1 1
-node a 1 in
-slots 0 a
-end
-plan 1
-end
-cert 1
-end
-history 1
-put w1 k x31 = put 0
-end
-";
+const HISTORY: &str = behind_ring!(
+    "plan 1\nend\ncert 1\nend\nhistory 1\nput w1 k x31 = put 0\nend\n"
+);
+
+// A ring that tells a quorum of reads of two slots.
+const REFUSED: &str =
+    "ring 1\nspace 1\nquorum 1 2 1\nnode a 1 in\nslots 0 a\nend\nplan 1\nend\ncert 1\nend\n";
 
 // The bundle in the next format.
-const MIGRATED: &[u8] = b"\
-ring 2
-space 1
-quorum 1 1 1
-node a 1 in
-slots 0 a
-end
-plan 1
-end
-cert 2
-end
-";
+const MIGRATED: &str =
+    "ring 2\nspace 1\nquorum 1 1 1\nnode a 1 in\nslots 0 a\nend\nplan 1\nend\ncert 2\nend\n";
+
+// The call of the job.
+fn call(alloc: Global, job: Job, input: &[u8], room: &mut [u8], length: &mut usize) -> u8 {
+    match job {
+        Job::Check => ringplan_check(alloc, input, room, length),
+        Job::Plan => ringplan_plan(alloc, input, room, length),
+        Job::Play => ringplan_play(alloc, input, room, length),
+        Job::Migrate => ringplan_migrate(alloc, input, room, length),
+        Job::Replay => ringplan_replay(alloc, input, room, length),
+    }
+}
+
+// How it ends with this room, the length that it tells, and the room behind it.
+fn ends<RT: AllocGlobal + Abort>(
+    rt: &RT,
+    job: Job,
+    input: &str,
+    room: &mut [u8],
+    wanted: (u8, usize, &str),
+) {
+    let mut length = 0;
+    let status = call(rt.alloc(), job, input.as_bytes(), room, &mut length);
+    assert_eq!(rt; (status, length), (wanted.0, wanted.1));
+    assert_eq!(rt; &*room, wanted.2.as_bytes());
+}
 
 #[test]
 fn tells_its_version(rt: HostRuntime) {
@@ -99,80 +67,43 @@ fn tells_its_version(rt: HostRuntime) {
 }
 
 #[test]
-fn checks(rt: HostRuntime) {
-    let mut room = [7u8; 6];
-    let mut length = 0;
-    let status = ringplan_check(rt.alloc(), BUNDLE, &mut room, &mut length);
-    assert_eq!(rt; (status, length), (0, 4));
-    assert_eq!(rt; &room, b"yes\n\x07\x07");
+fn answers_each_job(rt: HostRuntime) {
+    let plan = "plan 1\nend\ncert 1\nend\n";
+    let played = "yes\n0 put 0\nslots 0 a\nend\n";
+    let replayed = "yes\nslots 0 a\nend\n";
+    ends(&rt, Job::Check, BUNDLE, &mut [b' '; 6], (0, 4, "yes\n  "));
+    ends(&rt, Job::Plan, CHANGE, &mut [b' '; 22], (0, 22, plan));
+    ends(&rt, Job::Play, SCRIPT, &mut [b' '; 26], (0, 26, played));
+    ends(
+        &rt,
+        Job::Migrate,
+        BUNDLE,
+        &mut [b' '; 76],
+        (0, 76, MIGRATED),
+    );
+    ends(
+        &rt,
+        Job::Replay,
+        HISTORY,
+        &mut [b' '; 18],
+        (0, 18, replayed),
+    );
 }
 
 #[test]
-fn plans(rt: HostRuntime) {
-    let mut room = [7u8; 22];
-    let mut length = 0;
-    let status = ringplan_plan(rt.alloc(), CHANGE, &mut room, &mut length);
-    assert_eq!(rt; (status, length), (0, 22));
-    assert_eq!(rt; &room, b"plan 1\nend\ncert 1\nend\n");
-}
-
-#[test]
-fn plays(rt: HostRuntime) {
-    let mut room = [7u8; 26];
-    let mut length = 0;
-    let status = ringplan_play(rt.alloc(), SCRIPT, &mut room, &mut length);
-    assert_eq!(rt; (status, length), (0, 26));
-    assert_eq!(rt; &room, b"yes\n0 put 0\nslots 0 a\nend\n");
-}
-
-#[test]
-fn migrates(rt: HostRuntime) {
-    let mut room = [7u8; 76];
-    let mut length = 0;
-    let status = ringplan_migrate(rt.alloc(), BUNDLE, &mut room, &mut length);
-    assert_eq!(rt; (status, length), (0, 76));
-    assert_eq!(rt; &room[..], MIGRATED);
-}
-
-#[test]
-fn replays(rt: HostRuntime) {
-    let mut room = [7u8; 18];
-    let mut length = 0;
-    let status = ringplan_replay(rt.alloc(), HISTORY, &mut room, &mut length);
-    assert_eq!(rt; (status, length), (0, 18));
-    assert_eq!(rt; &room, b"yes\nslots 0 a\nend\n");
-}
-
-#[test]
-fn refuses(rt: HostRuntime) {
-    let mut room = [7u8; 8];
-    let mut length = 0;
-    let status = ringplan_check(rt.alloc(), REFUSED, &mut room, &mut length);
-    assert_eq!(rt; (status, length), (2, 8));
-    assert_eq!(rt; &room, b"no 10 3\n");
-}
-
-#[test]
-fn refuses_an_empty_input(rt: HostRuntime) {
-    let mut room = [7u8; 7];
-    let mut length = 0;
-    let status = ringplan_check(rt.alloc(), b"", &mut room, &mut length);
-    assert_eq!(rt; (status, length), (2, 7));
-    assert_eq!(rt; &room, b"no 1 1\n");
+fn refuses_texts(rt: HostRuntime) {
+    ends(
+        &rt,
+        Job::Check,
+        REFUSED,
+        &mut [b' '; 8],
+        (2, 8, "no 10 3\n"),
+    );
+    ends(&rt, Job::Check, "", &mut [b' '; 7], (2, 7, "no 1 1\n"));
 }
 
 #[test]
 fn leaves_a_room_that_is_too_small(rt: HostRuntime) {
-    let mut room = [7u8; 3];
-    let mut length = 0;
-    let status = ringplan_check(rt.alloc(), BUNDLE, &mut room, &mut length);
-    assert_eq!(rt; (status, length), (4, 4));
-    assert_eq!(rt; &room, &[7u8; 3]);
-}
-
-#[test]
-fn tells_the_length_where_there_is_no_room(rt: HostRuntime) {
-    let mut length = 0;
-    let status = ringplan_check(rt.alloc(), BUNDLE, &mut [], &mut length);
-    assert_eq!(rt; (status, length), (4, 4));
+    ends(&rt, Job::Check, BUNDLE, &mut [b' '; 3], (4, 4, "   "));
+    ends(&rt, Job::Check, BUNDLE, &mut [], (4, 4, ""));
 }
