@@ -1,8 +1,7 @@
 -- Which events need a number, which may need memory, and which replies list puts.
 use Rattle.std.specs.Prelude.{◌<◌, Bool, true, false, length}
 use Rattle.plan_check.specs.declared.event.Event.{Event}
-use Rattle.plan_check.specs.declared.event.Event.TheVariants.{Do, OpenCopy, ChunkCopy, CloseCopy, AbortCopy, StartPut, Write, Hint}
-use Rattle.plan_check.specs.declared.event.Event.TheVariants.{Ack, StartGet, Read, EndGet, Down, Up, Handoff, Lose}
+use Rattle.plan_check.specs.declared.event.Event.TheVariants.{ChunkCopy, StartPut, Write, Hint, StartGet, Read, EndGet, Handoff}
 use Rattle.plan_check.specs.declared.event.Reply.{Reply}
 use Rattle.plan_check.specs.declared.event.Reply.TheVariants.{Found, Answer}
 use Rattle.store_tells.specs.declared.parts.Parts.{Parts}
@@ -15,22 +14,15 @@ HasNumber a e = Unit {0}
 
 -- the event may need memory: it starts something, or versions are made
 abbrev pub may_need_memory : Event → Bool
-may_need_memory (Do n) = false
-may_need_memory (OpenCopy n) = false
 may_need_memory (ChunkCopy n c) = true
-may_need_memory (CloseCopy n) = false
-may_need_memory (AbortCopy n) = false
 may_need_memory (StartPut writer key value seen) = true
 may_need_memory (Write v i) = true
 may_need_memory (Hint v i x) = true
-may_need_memory (Ack v) = false
 may_need_memory (StartGet key) = true
 may_need_memory (Read g i) = true
 may_need_memory (EndGet g) = true
-may_need_memory (Down x) = false
-may_need_memory (Up x) = false
 may_need_memory (Handoff x s) = true
-may_need_memory (Lose x) = false
+may_need_memory e = false
 
 -- the reply is a list of puts
 abbrev pub lists_puts : Reply → Bool

@@ -2,3 +2,4 @@ pub mod Copies
 pub mod Nodes
 pub mod SlotMapsChanged
 pub mod MergesAtNodes
+pub mod LentMaps

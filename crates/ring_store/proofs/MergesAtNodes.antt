@@ -10,11 +10,11 @@ use Rattle.store_maps.proofs.MergesInTurn.{merge_then_none, merge_after_none}
 use Rattle.ring_store.specs.Nodes.{MergesAtAll, at_node, at_nodes}
 
 -- stores that read the same are one to read
-pub one_reading : (old new : ℕ → Slot → List ℕ → List Version) → ((x : ℕ) (s : Slot) (k : List ℕ) → new x s k ≡ old x s k) → new ≡ old
+one_reading : (old new : ℕ → Slot → List ℕ → List Version) → ((x : ℕ) (s : Slot) (k : List ℕ) → new x s k ≡ old x s k) → new ≡ old
 one_reading old new same = fun_ext (λ x. fun_ext (λ s. fun_ext (λ k. same x s k)))
 
 -- a merge into what reads as the old did
-pub merges_same : (old mid more new : ℕ → Slot → List ℕ → List Version) → ((x : ℕ) (s : Slot) (k : List ℕ) → mid x s k ≡ old x s k) → MergesAtAll mid more new → MergesAtAll old more new
+merges_same : (old mid more new : ℕ → Slot → List ℕ → List Version) → ((x : ℕ) (s : Slot) (k : List ℕ) → mid x s k ≡ old x s k) → MergesAtAll mid more new → MergesAtAll old more new
 merges_same old mid more new same h = subst (λ (was : ℕ → Slot → List ℕ → List Version). MergesAtAll was more new) (one_reading old mid same) h
 
 either_comes : (p q : Bool) (a m c e : List Version) → (p ≡ true → q ≡ true → ⊥) → IsMerge a (cond p m []) c → IsMerge c (cond q m []) e → IsMerge a (cond (p || q) m []) e
@@ -24,8 +24,24 @@ either_comes false true a m c e never f g = merge_after_none a c m e f g
 either_comes false false a m c e never f g = merge_then_none a [] c e f g
 
 -- a merge at the owner, and then one at another node
-pub merges_both : (old mid new : ℕ → Slot → List ℕ → List Version) (owner mirror : NodeId) (more : Slot → List ℕ → List Version) → mirror.0 ≢ owner.0
+merges_both : (old mid new : ℕ → Slot → List ℕ → List Version) (owner mirror : NodeId) (more : Slot → List ℕ → List Version) → mirror.0 ≢ owner.0
     → MergesAtAll old (at_node owner.0 more) mid → MergesAtAll mid (at_node mirror.0 more) new → MergesAtAll old (at_nodes owner (Some mirror) more) new
 merges_both old mid new owner mirror more apart a b x s k =
     either_comes (x == owner.0) (x == mirror.0) (old x s k) (more s k) (mid x s k) (new x s k)
     (λ p q. apart (sym (eqb-true x mirror.0 q) ∙ eqb-true x owner.0 p)) (a x s k) (b x s k)
+
+-- ---- a merge in two halves
+
+-- at one node: P says what the first half made for what the node has
+pub given : (old mid new : ℕ → Slot → List ℕ → List Version) (node : ℕ) (more : Slot → List ℕ → List Version) (P : (Slot → List ℕ → List Version) → Type 0) → ((x : ℕ) (s : Slot) (k : List ℕ) → mid x s k ≡ old x s k)
+    → P (old node) → (P (mid node) → MergesAtAll mid (at_node node more) new) → MergesAtAll old (at_node node more) new
+given old mid new node more P same made settle = merges_same old mid (at_node node more) new same (settle (subst (λ (was : ℕ → Slot → List ℕ → List Version). P (was node)) (sym (one_reading old mid same)) made))
+
+-- at the owner and its mirror: first both first halves, and then both second ones
+pub given_both : (old mid late owned new : ℕ → Slot → List ℕ → List Version) (owner mirror : NodeId) (more : Slot → List ℕ → List Version) (P Q : (Slot → List ℕ → List Version) → Type 0) → mirror.0 ≢ owner.0
+    → ((x : ℕ) (s : Slot) (k : List ℕ) → mid x s k ≡ old x s k) → P (old owner.0) → ((x : ℕ) (s : Slot) (k : List ℕ) → late x s k ≡ mid x s k) → Q (mid mirror.0)
+    → (P (late owner.0) → MergesAtAll late (at_node owner.0 more) owned) → ((y : ℕ) → y ≢ owner.0 → (s : Slot) (k : List ℕ) → owned y s k ≡ late y s k) → (Q (owned mirror.0) → MergesAtAll owned (at_node mirror.0 more) new)
+    → MergesAtAll old (at_nodes owner (Some mirror) more) new
+given_both old mid late owned new owner mirror more P Q apart same made same_too made_too settle others settle_too = merges_both old owned new owner mirror more apart
+    (given old late owned owner.0 more P (λ x s k. same_too x s k ∙ same x s k) made settle)
+    (settle_too (subst Q (sym (fun_ext (λ s. fun_ext (λ k. others mirror.0 apart s k ∙ same_too mirror.0 s k)))) made_too))

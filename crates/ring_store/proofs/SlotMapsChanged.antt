@@ -1,30 +1,26 @@
 -- One slot's maps changed.
-use Rattle.std.proofs.Common.{◌≡◌, ◌≢◌, inl, inr, ◌∙◌, ℕ, Bool, true, false, cond, nat_eq, List, [], ◌∷◌, arith, refl, sym, ap, subst, Option, Some, None, Result, Ok, Err}
-use Rattle.std.specs.Prelude.{◌&&◌, IfSome, OnErr, unwrap_or}
+use Rattle.std.proofs.Common.{◌≡◌, ◌≢◌, inl, inr, ◌∙◌, ℕ, Bool, true, false, cond, nat_eq, List, [], ◌∷◌, arith, refl, sym, ap, subst, Option, Some, None}
+use Rattle.std.specs.Prelude.{◌&&◌, unwrap_or}
 use Rattle.std.specs.List.Sorted.{IsStrictlySortedBy}
 use Rattle.std.specs.HashMap.{HashMap, UpdatesBy}
 use Rattle.std.proofs.lemmas.Bool.{cases_Bool, eqb-true, eq-eqb}
 use Rattle.ring_names.specs.contracts.ids.SlotPartialEq.TheImpl as slot_eq
 use Rattle.ring_names.specs.declared.ids.Slot.{Slot}
-use Rattle.ring_versions.specs.Fresh.{FitsIn, IsFreshFor}
-use Rattle.ring_versions.specs.declared.fresh.Fresh.{Fresh}
 use Rattle.ring_versions.specs.declared.version.Version.{Version}
 use Rattle.ring_versions.specs.Versions.{IsApart, IsMerge}
 use Rattle.store_maps.specs.Chunks.{chunk_of}
 use Rattle.store_maps.specs.Held.{held, has_place, AreKeys}
 use Rattle.ring_names.specs.AtBytes.{value_at}
 use Rattle.store_maps.specs.declared.key_map.KeyMap.{KeyMap}
-use Rattle.store_maps.proofs.OneAnswer.{none_from_empty, false_from, on_some, none_where}
-use Rattle.store_maps.specs.Merges.{MergesAll, AreFreshMaps, fresh_in}
-use Rattle.store_maps.specs.Slots.{space_of, held_for, has_place_for, AreReadyFor, AllReadyFor}
-use Rattle.store_maps.specs.declared.fresh_keys.FreshKeys.{FreshKeys}
-use Rattle.store_maps.specs.declared.fresh_maps.FreshMaps.{FreshMaps}
+use Rattle.store_maps.proofs.OneAnswer.{none_from_empty, false_from}
+use Rattle.store_maps.specs.Merges.{MergesAll}
+use Rattle.store_maps.specs.Slots.{space_of}
 use Rattle.store_maps.specs.declared.slot_map.SlotMap.{SlotMap}
 use Rattle.store_maps.proofs.Chunks.{slot_apart}
 use Rattle.store_maps.proofs.MergesInTurn.{merge_none}
 use Rattle.ring_space.specs.Place.{place_of}
 use Rattle.ring_space.specs.declared.found.Place.{Place}
-use Rattle.ring_store.specs.Slots.{same_slot, maps_of, held_by, placed_by, AreOf, PutsSlot, MergesInAll, at_slot}
+use Rattle.ring_store.specs.Slots.{same_slot, maps_of, held_by, AreOf, PutsSlot, MergesInAll, at_slot}
 
 -- the chunk of a place that was computed
 pub chunk_at : (q : ℕ) (k : List ℕ) (p : Place) → p ≡ place_of q k → chunk_of q k ≡ p.chunk
@@ -52,16 +48,15 @@ apart_by (Some m) k = slot_apart m k
 pub puts_slot : {S : Type 0} (old new : HashMap Slot SlotMap S) (slot : Slot) (o : Option SlotMap) → UpdatesBy ((slot_eq.ghosts).eq) (λ k. ((slot_eq.ghosts).eq) slot k) old new o → PutsSlot old new slot o
 puts_slot old new slot o u = record { here = u.1; others = λ s e. u.2 s e }
 
+pub nothing_put : {S : Type 0} (slots : HashMap Slot SlotMap S) (slot : Slot) → PutsSlot slots slots slot (maps_of slots slot)
+nothing_put slots slot = record { here = refl; others = λ s e. refl }
+
 module _ {S : Type 0} (old new : HashMap Slot SlotMap S) (slot : Slot) (o : Option SlotMap) (p : PutsSlot old new slot o) where
-  pub by_slot : (P : Slot → Type 0) → P slot → ((s : Slot) → same_slot slot s ≡ false → P s) → (s : Slot) → P s
+  by_slot : (P : Slot → Type 0) → P slot → ((s : Slot) → same_slot slot s ≡ false → P s) → (s : Slot) → P s
   by_slot P here other s = elim (cases_Bool (same_slot slot s)) [ inl y ↦ subst P (slot_same slot s y) here | inr n ↦ other s n ]
 
   pub same_by : ((k : List ℕ) → held_by o k ≡ held_by (maps_of old slot) k) → (s : Slot) (k : List ℕ) → held_by (maps_of new s) k ≡ held_by (maps_of old s) k
   same_by same = by_slot (λ (s : Slot). (k : List ℕ) → held_by (maps_of new s) k ≡ held_by (maps_of old s) k) (λ k. ap (λ m. held_by m k) p.here ∙ same k) (λ s e k. ap (λ m. held_by m k) (p.others s e))
-
-  pub stays_by : ((k : List ℕ) → placed_by (maps_of old slot) k ≡ true → placed_by o k ≡ true) → (s : Slot) (k : List ℕ) → placed_by (maps_of old s) k ≡ true → placed_by (maps_of new s) k ≡ true
-  stays_by stays = by_slot (λ (s : Slot). (k : List ℕ) → placed_by (maps_of old s) k ≡ true → placed_by (maps_of new s) k ≡ true)
-      (λ k h. ap (λ m. placed_by m k) p.here ∙ stays k h) (λ s e k h. ap (λ m. placed_by m k) (p.others s e) ∙ h)
 
   pub merged_by : (more : List ℕ → List Version) → MergesAll (held_by (maps_of old slot)) more (held_by o) → MergesInAll (λ s k. held_by (maps_of old s) k) (at_slot slot more) (λ s k. held_by (maps_of new s) k)
   merged_by more h = by_slot (λ (s : Slot). (k : List ℕ) → IsMerge (held_by (maps_of old s) k) (at_slot slot more s k) (held_by (maps_of new s) k))
@@ -77,9 +72,9 @@ module _ {S : Type 0} (old new : HashMap Slot SlotMap S) (slot : Slot) (o : Opti
   pub others_by : (s : Slot) (k : List ℕ) → s ≢ slot → held_by (maps_of new s) k ≡ held_by (maps_of old s) k
   others_by = by_slot (λ (s : Slot). (k : List ℕ) → s ≢ slot → held_by (maps_of new s) k ≡ held_by (maps_of old s) k) (λ k ne. absurd (ne refl)) (λ s e k ne. ap (λ m. held_by m k) (p.others s e))
 
--- the maps w stand where m stood
-pub space_at : (m w : SlotMap) (o : Option SlotMap) (q : ℕ) → o ≡ Some w → space_of w ≡ q → (n : SlotMap) → o ≡ Some n → space_of n ≡ q
-space_at m w o q is e n at = let same : w ≡ n = cc in subst (λ (x : SlotMap). space_of x ≡ q) same e
+-- the space of the maps is that of whatever stands where they stand
+pub space_at : {w : SlotMap} {q : ℕ} → space_of w ≡ q → (n : SlotMap) → Some w ≡ Some n → space_of n ≡ q
+space_at {w} {q} e n at = let same : w ≡ n = cc in subst (λ (x : SlotMap). space_of x ≡ q) same e
 
 -- the chunk of a key among the slot's own partitions
 pub chunk_in : (m : SlotMap) (q : ℕ) (k : List ℕ) (c : ℕ) → space_of m ≡ q → chunk_of q k ≡ c → chunk_of (space_of m) k ≡ c
@@ -107,59 +102,3 @@ keys_none g [] e none = record { rises = tt; each = λ k ne. absurd (ne (none k)
 
 pub no_place : (m : KeyMap) (k : List ℕ) → (has_place m k ≡ true → ⊥) → held m k ≡ []
 no_place m k h = ap (λ (o : Option (List Version)). unwrap_or o []) (none_from_empty (value_at m.map k) (false_from (has_place m k) h))
-
--- ---- reading and merging through the maps of a slot
-
-pub always_err : {A E : Type 0} (r : Result A E) (P : Type 0) → P → OnErr r P
-always_err (Ok a) P h = tt
-always_err (Err e) P h = h
-
-pub merged_at : (m w : SlotMap) (o : Option SlotMap) (more : List ℕ → List Version) → ((k : List ℕ) → held_for m k ≡ held_by o k) → MergesAll (held_for m) more (held_for w) → MergesAll (held_by o) more (held_by (Some w))
-merged_at m w o more reads h k = subst (λ (old : List Version). IsMerge old (more k) (held_for w k)) (reads k) (h k)
-
-pub ready_at : (o : Option SlotMap) (w : SlotMap) (k : List ℕ) (f : Fresh) → o ≡ Some w → (has_place_for w k ≡ true) × FitsIn (held_for w k) f → (placed_by o k ≡ true) × FitsIn (held_by o k) f
-ready_at o w k f e h = subst (λ (m : Option SlotMap). (placed_by m k ≡ true) × FitsIn (held_by m k) f) (sym e) h
-
-pub ready_of : (o : Option SlotMap) (w : SlotMap) (k : List ℕ) (f : Fresh) → o ≡ Some w → (placed_by o k ≡ true) × FitsIn (held_by o k) f → (has_place_for w k ≡ true) × FitsIn (held_for w k) f
-ready_of o w k f e h = subst (λ (m : Option SlotMap). (placed_by m k ≡ true) × FitsIn (held_by m k) f) e h
-
-pub all_ready_at : (o : Option SlotMap) (w : SlotMap) (q c : ℕ) (f : FreshKeys) → o ≡ Some w → space_of w ≡ q → AreReadyFor w c f
-    → (k : List ℕ) → IfSome (value_at f.map k) (λ x. (chunk_of q k ≡ c) × ((placed_by o k ≡ true) × FitsIn (held_by o k) x))
-all_ready_at o w q c f e space h k = on_some (value_at f.map k) _ _ (λ x r. (sym (ap (λ (p : ℕ). chunk_of p k) space) ∙ r.0, ready_at o w k x e r.1)) (h k)
-
-pub all_ready_of : (o : Option SlotMap) (w : SlotMap) (q c : ℕ) (f : FreshKeys) → o ≡ Some w → space_of w ≡ q
-    → ((k : List ℕ) → IfSome (value_at f.map k) (λ x. (chunk_of q k ≡ c) × ((placed_by o k ≡ true) × FitsIn (held_by o k) x))) → AreReadyFor w c f
-all_ready_of o w q c f e space h k = on_some (value_at f.map k) _ _ (λ x r. (ap (λ (p : ℕ). chunk_of p k) space ∙ r.0, ready_of o w k x e r.1)) (h k)
-
--- where a slot has no maps, nothing was made ready
-pub none_ready : (o : Option SlotMap) (q c : ℕ) (f : FreshKeys) → o ≡ None → ((k : List ℕ) → IfSome (value_at f.map k) (λ x. (chunk_of q k ≡ c) × ((placed_by o k ≡ true) × FitsIn (held_by o k) x)))
-    → (k : List ℕ) → value_at f.map k ≡ None
-none_ready o q c f e h k = with_value (value_at f.map k) refl (h k)
-  where
-    with_value : (v : Option Fresh) → v ≡ value_at f.map k → IfSome v (λ x. (chunk_of q k ≡ c) × ((placed_by o k ≡ true) × FitsIn (held_by o k) x)) → value_at f.map k ≡ None
-    with_value None is r = sym is
-    with_value (Some x) is r = absurd (let no : placed_by o k ≡ false = ap (λ m. placed_by m k) e in let yes = r.1.0 in cc)
-
-pub nothing_put : {S : Type 0} (slots : HashMap Slot SlotMap S) (slot : Slot) → PutsSlot slots slots slot (maps_of slots slot)
-nothing_put slots slot = record { here = refl; others = λ s e. refl }
-
--- ---- all maps of a slot
-
-pub maps_ready_at : (o : Option SlotMap) (w : SlotMap) (q : ℕ) (f : FreshMaps) → o ≡ Some w → space_of w ≡ q → AllReadyFor w f
-    → (c : ℕ) (k : List ℕ) → IfSome (fresh_in f c k) (λ x. (chunk_of q k ≡ c) × ((placed_by o k ≡ true) × FitsIn (held_by o k) x))
-maps_ready_at o w q f e space h c k = on_some (fresh_in f c k) _ _ (λ x r. (sym (ap (λ (p : ℕ). chunk_of p k) space) ∙ r.0, ready_at o w k x e r.1)) (h c k)
-
-pub maps_ready_of : (o : Option SlotMap) (w : SlotMap) (q : ℕ) (f : FreshMaps) → o ≡ Some w → space_of w ≡ q
-    → ((c : ℕ) (k : List ℕ) → IfSome (fresh_in f c k) (λ x. (chunk_of q k ≡ c) × ((placed_by o k ≡ true) × FitsIn (held_by o k) x))) → AllReadyFor w f
-maps_ready_of o w q f e space h c k = on_some (fresh_in f c k) _ _ (λ x r. (ap (λ (p : ℕ). chunk_of p k) space ∙ r.0, ready_of o w k x e r.1)) (h c k)
-
-pub fresh_maps_same : (was held more : List ℕ → List Version) (f : FreshMaps) → ((k : List ℕ) → was k ≡ held k) → AreFreshMaps was more f → AreFreshMaps held more f
-fresh_maps_same was held more f same are = record {
-  each = λ c k. on_some (fresh_in f c k) _ _ (λ x h. subst (λ (v : List Version). IsFreshFor v (more k) x) (same k) h) (are.each c k);
-  others = λ k none. subst (λ (v : List Version). IsMerge v (more k) v) (same k) (are.others k none);
-}
-
--- where a slot has no maps, nothing was made ready
-pub no_maps_ready : (o : Option SlotMap) (q : ℕ) (f : FreshMaps) → o ≡ None → ((c : ℕ) (k : List ℕ) → IfSome (fresh_in f c k) (λ x. (chunk_of q k ≡ c) × ((placed_by o k ≡ true) × FitsIn (held_by o k) x)))
-    → (k : List ℕ) (c : ℕ) → fresh_in f c k ≡ None
-no_maps_ready o q f e h k c = none_where (fresh_in f c k) _ (λ x r. (let no : placed_by o k ≡ false = ap (λ m. placed_by m k) e in let yes = r.1.0 in cc)) (h c k)

@@ -23,7 +23,7 @@ pub struct NodeStore {
 }
 
 impl NodeStore {
-    ghost use Rattle.std.specs.Prelude.{◌≢◌, ◌<◌, ℕ, [], List, Some, IfSome, IfNone, IfOk, IfErr, OnOk, OnErr};
+    ghost use Rattle.std.specs.Prelude.{◌≢◌, ◌<◌, ℕ, [], List, Some, IsSome, IfSome, IfNone, IfOk, IfErr, OnOk, OnErr};
     ghost use Rattle.ring_names.specs.declared.ids.Slot.{Slot};
     ghost use Rattle.ring_names.specs.declared.refusal.Refusal.TheVariants.{OutOfMemory};
     ghost use Rattle.ring_versions.specs.Fresh.{IsFreshFor};
@@ -32,7 +32,7 @@ impl NodeStore {
     ghost use Rattle.store_maps.specs.Held.{held, has_place, AreKeys};
     ghost use Rattle.store_maps.specs.Merges.{at_key, AreFreshFor, AreFreshMaps};
     ghost use Rattle.store_maps.specs.Slots.{space_of, held_for};
-    ghost use Rattle.ring_store.specs.Slots.{MergesInAll, PutsSlot, at_slot};
+    ghost use Rattle.ring_store.specs.Slots.{maps_of, MergesInAll, PutsSlot, at_slot};
     ghost use Rattle.ring_store.specs.Store.{partitions, versions_at, chunk_versions, has_place_at, IsReadyAt, AreReadyAt, AllReadyAt};
 
     /// Nothing stored, in a hash space of q partitions.
@@ -115,7 +115,21 @@ impl NodeStore {
         Ok(())
     }
 
-    /// A merge at one key of a slot in one call. Refused, it has changed nothing.
+    // Maps for the slot, empty ones where it has none. No reading changes, whatever the answer.
+    fn room(&mut self, slot: Slot) -> Result<(), Refusal>
+        ensures space { partitions self.new ≡ partitions self.old }
+        ensures same { (s : Slot) (k : List ℕ) → versions_at self.new s k ≡ versions_at self.old s k }
+        ensures stays { (s : Slot) (k : List ℕ) → has_place_at self.old s k ≡ true → has_place_at self.new s k ≡ true }
+        ensures ok { OnOk result (IsSome (maps_of self.new.slots slot)) }
+        ensures memory { IfErr result (λ e. e ≡ OutOfMemory) }
+    {
+        if self.slots.contains_key(&slot) {
+            return Ok(());
+        }
+        self.put(slot, SlotMap::new(self.alloc, self.q)?)
+    }
+
+    /// A merge at one key of a slot in one call. Refused, it has changed no reading.
     pub fn merge_key(&mut self, slot: Slot, key: &[u8], more: &Versions) -> Result<(), Refusal>
         ensures ok { OnOk result (MergesInAll (versions_at self.old) (at_slot slot (at_key key.now more.now)) (versions_at self.new)) }
         ensures err { OnErr result ((s : Slot) (k : List ℕ) → versions_at self.new s k ≡ versions_at self.old s k) }
@@ -123,12 +137,9 @@ impl NodeStore {
         ensures space { partitions self.new ≡ partitions self.old }
     {
         let chunk = place(self.q, key).chunk;
-        if let Some(maps) = self.slots.get_mut(&slot) {
-            return maps.merge(chunk, key, more);
-        }
-        let mut maps = SlotMap::new(self.alloc, self.q)?;
-        maps.merge(chunk, key, more)?;
-        self.put(slot, maps)
+        self.room(slot)?;
+        let maps = self.slots.get_mut(&slot).unwrap();
+        maps.merge(chunk, key, more)
     }
 
     /// The first half of a merge at one key of the chunk in a slot: makes its place, where it has none, and what the other versions bring.
@@ -148,13 +159,9 @@ impl NodeStore {
         ensures memory { IfErr result (λ e. e ≡ OutOfMemory) }
         ensures space { partitions self.new ≡ partitions self.old }
     {
-        if let Some(maps) = self.slots.get_mut(&slot) {
-            return maps.prepare(chunk, key, more);
-        }
-        let mut maps = SlotMap::new(self.alloc, self.q)?;
-        let fresh = maps.prepare(chunk, key, more)?;
-        self.put(slot, maps)?;
-        Ok(fresh)
+        self.room(slot)?;
+        let maps = self.slots.get_mut(&slot).unwrap();
+        maps.prepare(chunk, key, more)
     }
 
     /// The second half of a merge at one key of the chunk in a slot, which cannot fail.
@@ -187,13 +194,9 @@ impl NodeStore {
         ensures memory { IfErr result (λ e. e ≡ OutOfMemory) }
         ensures space { partitions self.new ≡ partitions self.old }
     {
-        if let Some(maps) = self.slots.get_mut(&slot) {
-            return maps.prepare_chunk(chunk, other);
-        }
-        let mut maps = SlotMap::new(self.alloc, self.q)?;
-        let fresh = maps.prepare_chunk(chunk, other)?;
-        self.put(slot, maps)?;
-        Ok(fresh)
+        self.room(slot)?;
+        let maps = self.slots.get_mut(&slot).unwrap();
+        maps.prepare_chunk(chunk, other)
     }
 
     /// The second half of a merge of a chunk of a slot with a whole map, which cannot fail.
@@ -220,13 +223,9 @@ impl NodeStore {
         ensures memory { IfErr result (λ e. e ≡ OutOfMemory) }
         ensures space { partitions self.new ≡ partitions self.old }
     {
-        if let Some(maps) = self.slots.get_mut(&slot) {
-            return maps.prepare_map(self.alloc, other);
-        }
-        let mut maps = SlotMap::new(self.alloc, self.q)?;
-        let fresh = maps.prepare_map(self.alloc, other)?;
-        self.put(slot, maps)?;
-        Ok(fresh)
+        self.room(slot)?;
+        let maps = self.slots.get_mut(&slot).unwrap();
+        maps.prepare_map(self.alloc, other)
     }
 
     /// The second half of a merge of a slot with all maps of another, which cannot fail.

@@ -94,132 +94,138 @@ no_place m k e = ap (λ (o : Option (List Version)). unwrap_or o []) (none_from_
 
 -- ---- the map m of chunk c becomes n
 
-module _ (q c : ℕ) (xs : List KeyMap) (m n : KeyMap) (is : slice_get xs c ≡ Some m) (room : c < length xs) where
+module _ (a : SlotMap) (c : ℕ) (m n : KeyMap) (below : c < 16) (lends : m ≡ get_or a.chunks.items c m) where
+  pub room : c < length a.chunks.items
+  room = within a.chunks.items c a.whole below
+
+  is : slice_get a.chunks.items c ≡ Some m
+  is = lent a.chunks.items c m room lends
+
   -- what holds of the keys of the chunk and of all others
-  pub by_chunk : (P : List ℕ → Type 0) → ((k : List ℕ) → chunk_of q k ≡ c → P k) → ((k : List ℕ) → chunk_of q k ≢ c → P k) → (k : List ℕ) → P k
-  by_chunk P here other k = elim (same_or (chunk_of q k) c) [ inl e ↦ here k e | inr ne ↦ other k ne ]
+  pub by_chunk : (P : List ℕ → Type 0) → ((k : List ℕ) → chunk_of a.q k ≡ c → P k) → ((k : List ℕ) → chunk_of a.q k ≢ c → P k) → (k : List ℕ) → P k
+  by_chunk P here other k = elim (same_or (chunk_of a.q k) c) [ inl e ↦ here k e | inr ne ↦ other k ne ]
 
-  pub old_at : (k : List ℕ) → chunk_of q k ≡ c → slice_get xs (chunk_of q k) ≡ Some m
-  old_at k e = ap (slice_get xs) e ∙ is
+  pub old_at : (k : List ℕ) → chunk_of a.q k ≡ c → slice_get a.chunks.items (chunk_of a.q k) ≡ Some m
+  old_at k e = ap (slice_get a.chunks.items) e ∙ is
 
-  pub new_at : (k : List ℕ) → chunk_of q k ≡ c → slice_get (set xs c n) (chunk_of q k) ≡ Some n
-  new_at k e = ap (slice_get (set xs c n)) e ∙ get_here xs c n room
+  pub new_at : (k : List ℕ) → chunk_of a.q k ≡ c → slice_get (set a.chunks.items c n) (chunk_of a.q k) ≡ Some n
+  new_at k e = ap (slice_get (set a.chunks.items c n)) e ∙ get_here a.chunks.items c n room
 
-  pub other_at : (k : List ℕ) → chunk_of q k ≢ c → slice_get (set xs c n) (chunk_of q k) ≡ slice_get xs (chunk_of q k)
-  other_at k ne = get_other xs c (chunk_of q k) n ne
+  pub other_at : (k : List ℕ) → chunk_of a.q k ≢ c → slice_get (set a.chunks.items c n) (chunk_of a.q k) ≡ slice_get a.chunks.items (chunk_of a.q k)
+  other_at k ne = get_other a.chunks.items c (chunk_of a.q k) n ne
 
-  pub old_held : (k : List ℕ) → chunk_of q k ≡ c → held m k ≡ held_of (slice_get xs (chunk_of q k)) k
+  pub old_held : (k : List ℕ) → chunk_of a.q k ≡ c → held m k ≡ held_of (slice_get a.chunks.items (chunk_of a.q k)) k
   old_held k e = sym (ap (λ o. held_of o k) (old_at k e))
 
-  pub new_held : (k : List ℕ) → chunk_of q k ≡ c → held n k ≡ held_of (slice_get (set xs c n) (chunk_of q k)) k
+  pub new_held : (k : List ℕ) → chunk_of a.q k ≡ c → held n k ≡ held_of (slice_get (set a.chunks.items c n) (chunk_of a.q k)) k
   new_held k e = sym (ap (λ o. held_of o k) (new_at k e))
 
-  pub other_held : (k : List ℕ) → chunk_of q k ≢ c → held_of (slice_get (set xs c n) (chunk_of q k)) k ≡ held_of (slice_get xs (chunk_of q k)) k
+  pub other_held : (k : List ℕ) → chunk_of a.q k ≢ c → held_of (slice_get (set a.chunks.items c n) (chunk_of a.q k)) k ≡ held_of (slice_get a.chunks.items (chunk_of a.q k)) k
   other_held k ne = ap (λ o. held_of o k) (other_at k ne)
 
-  pub old_place : (k : List ℕ) → chunk_of q k ≡ c → has_place m k ≡ place_in (slice_get xs (chunk_of q k)) k
+  pub old_place : (k : List ℕ) → chunk_of a.q k ≡ c → has_place m k ≡ place_in (slice_get a.chunks.items (chunk_of a.q k)) k
   old_place k e = sym (ap (λ o. place_in o k) (old_at k e))
 
-  pub new_place : (k : List ℕ) → chunk_of q k ≡ c → has_place n k ≡ place_in (slice_get (set xs c n) (chunk_of q k)) k
+  pub new_place : (k : List ℕ) → chunk_of a.q k ≡ c → has_place n k ≡ place_in (slice_get (set a.chunks.items c n) (chunk_of a.q k)) k
   new_place k e = sym (ap (λ o. place_in o k) (new_at k e))
 
-  pub other_place : (k : List ℕ) → chunk_of q k ≢ c → place_in (slice_get (set xs c n) (chunk_of q k)) k ≡ place_in (slice_get xs (chunk_of q k)) k
+  pub other_place : (k : List ℕ) → chunk_of a.q k ≢ c → place_in (slice_get (set a.chunks.items c n) (chunk_of a.q k)) k ≡ place_in (slice_get a.chunks.items (chunk_of a.q k)) k
   other_place k ne = ap (λ o. place_in o k) (other_at k ne)
 
-  pub placed_set : ArePlaced q xs → ((k : List ℕ) → has_place n k ≡ true → chunk_of q k ≡ c) → ArePlaced q (set xs c n)
+  pub placed_set : ArePlaced a.q a.chunks.items → ((k : List ℕ) → has_place n k ≡ true → chunk_of a.q k ≡ c) → ArePlaced a.q (set a.chunks.items c n)
   placed_set placed lies d k h = elim (same_or d c) [
-    | inl e ↦ lies k (sym (ap (λ o. place_in o k) (ap (slice_get (set xs c n)) e ∙ get_here xs c n room)) ∙ h) ∙ sym e
-    | inr ne ↦ placed d k (sym (ap (λ o. place_in o k) (get_other xs c d n ne)) ∙ h)
+    | inl e ↦ lies k (sym (ap (λ o. place_in o k) (ap (slice_get (set a.chunks.items c n)) e ∙ get_here a.chunks.items c n room)) ∙ h) ∙ sym e
+    | inr ne ↦ placed d k (sym (ap (λ o. place_in o k) (get_other a.chunks.items c d n ne)) ∙ h)
   ]
 
   -- a key of the old map lies in the chunk
-  pub lies_old : ArePlaced q xs → (k : List ℕ) → has_place m k ≡ true → chunk_of q k ≡ c
+  pub lies_old : ArePlaced a.q a.chunks.items → (k : List ℕ) → has_place m k ≡ true → chunk_of a.q k ≡ c
   lies_old placed k h = placed c k (ap (λ o. place_in o k) is ∙ h)
 
-  pub same_set : ((k : List ℕ) → held n k ≡ held m k) → (k : List ℕ) → held_of (slice_get (set xs c n) (chunk_of q k)) k ≡ held_of (slice_get xs (chunk_of q k)) k
-  same_set same = by_chunk (λ (k : List ℕ). held_of (slice_get (set xs c n) (chunk_of q k)) k ≡ held_of (slice_get xs (chunk_of q k)) k) (λ k e. sym (new_held k e) ∙ same k ∙ old_held k e) other_held
+  pub same_set : ((k : List ℕ) → held n k ≡ held m k) → (k : List ℕ) → held_of (slice_get (set a.chunks.items c n) (chunk_of a.q k)) k ≡ held_of (slice_get a.chunks.items (chunk_of a.q k)) k
+  same_set same = by_chunk (λ (k : List ℕ). held_of (slice_get (set a.chunks.items c n) (chunk_of a.q k)) k ≡ held_of (slice_get a.chunks.items (chunk_of a.q k)) k) (λ k e. sym (new_held k e) ∙ same k ∙ old_held k e) other_held
 
-  pub stays_set : ((k : List ℕ) → has_place m k ≡ true → has_place n k ≡ true) → (k : List ℕ) → place_in (slice_get xs (chunk_of q k)) k ≡ true → place_in (slice_get (set xs c n) (chunk_of q k)) k ≡ true
-  stays_set stays = by_chunk (λ (k : List ℕ). place_in (slice_get xs (chunk_of q k)) k ≡ true → place_in (slice_get (set xs c n) (chunk_of q k)) k ≡ true)
+  pub stays_set : ((k : List ℕ) → has_place m k ≡ true → has_place n k ≡ true) → (k : List ℕ) → place_in (slice_get a.chunks.items (chunk_of a.q k)) k ≡ true → place_in (slice_get (set a.chunks.items c n) (chunk_of a.q k)) k ≡ true
+  stays_set stays = by_chunk (λ (k : List ℕ). place_in (slice_get a.chunks.items (chunk_of a.q k)) k ≡ true → place_in (slice_get (set a.chunks.items c n) (chunk_of a.q k)) k ≡ true)
       (λ k e h. sym (new_place k e) ∙ stays k (old_place k e ∙ h)) (λ k ne h. other_place k ne ∙ h)
 
-  pub places_set : ((k : List ℕ) → has_place n k ≡ has_place m k) → (k : List ℕ) → place_in (slice_get (set xs c n) (chunk_of q k)) k ≡ place_in (slice_get xs (chunk_of q k)) k
-  places_set same = by_chunk (λ (k : List ℕ). place_in (slice_get (set xs c n) (chunk_of q k)) k ≡ place_in (slice_get xs (chunk_of q k)) k) (λ k e. sym (new_place k e) ∙ same k ∙ old_place k e) other_place
+  pub places_set : ((k : List ℕ) → has_place n k ≡ has_place m k) → (k : List ℕ) → place_in (slice_get (set a.chunks.items c n) (chunk_of a.q k)) k ≡ place_in (slice_get a.chunks.items (chunk_of a.q k)) k
+  places_set same = by_chunk (λ (k : List ℕ). place_in (slice_get (set a.chunks.items c n) (chunk_of a.q k)) k ≡ place_in (slice_get a.chunks.items (chunk_of a.q k)) k) (λ k e. sym (new_place k e) ∙ same k ∙ old_place k e) other_place
 
   pub filled_set : ((k : List ℕ) → has_place n k ≡ true → (has_place m k ≡ true) ⊎ (held n k ≢ []))
-      → (k : List ℕ) → place_in (slice_get (set xs c n) (chunk_of q k)) k ≡ true → (place_in (slice_get xs (chunk_of q k)) k ≡ true) ⊎ (held_of (slice_get (set xs c n) (chunk_of q k)) k ≢ [])
-  filled_set filled = by_chunk (λ (k : List ℕ). place_in (slice_get (set xs c n) (chunk_of q k)) k ≡ true → (place_in (slice_get xs (chunk_of q k)) k ≡ true) ⊎ (held_of (slice_get (set xs c n) (chunk_of q k)) k ≢ []))
+      → (k : List ℕ) → place_in (slice_get (set a.chunks.items c n) (chunk_of a.q k)) k ≡ true → (place_in (slice_get a.chunks.items (chunk_of a.q k)) k ≡ true) ⊎ (held_of (slice_get (set a.chunks.items c n) (chunk_of a.q k)) k ≢ [])
+  filled_set filled = by_chunk (λ (k : List ℕ). place_in (slice_get (set a.chunks.items c n) (chunk_of a.q k)) k ≡ true → (place_in (slice_get a.chunks.items (chunk_of a.q k)) k ≡ true) ⊎ (held_of (slice_get (set a.chunks.items c n) (chunk_of a.q k)) k ≢ []))
       (λ k e h. elim (filled k (new_place k e ∙ h)) [ inl was ↦ inl (sym (old_place k e) ∙ was) | inr some ↦ inr (λ none. some (new_held k e ∙ none)) ])
       (λ k ne h. inl (sym (other_place k ne) ∙ h))
 
   -- what came to the map came to the slot
-  pub merged_set : (more : List ℕ → List Version) → ((k : List ℕ) → chunk_of q k ≡ c → IsMerge (held m k) (more k) (held n k))
-      → ((k : List ℕ) → chunk_of q k ≢ c → IsMerge (held_of (slice_get xs (chunk_of q k)) k) (more k) (held_of (slice_get xs (chunk_of q k)) k))
-      → MergesAll (λ k. held_of (slice_get xs (chunk_of q k)) k) more (λ k. held_of (slice_get (set xs c n) (chunk_of q k)) k)
-  merged_set more here other = by_chunk (λ (k : List ℕ). IsMerge (held_of (slice_get xs (chunk_of q k)) k) (more k) (held_of (slice_get (set xs c n) (chunk_of q k)) k))
-      (λ k e. subst (λ (old : List Version). IsMerge old (more k) (held_of (slice_get (set xs c n) (chunk_of q k)) k)) (old_held k e) (subst (IsMerge (held m k) (more k)) (new_held k e) (here k e)))
-      (λ k ne. subst (IsMerge (held_of (slice_get xs (chunk_of q k)) k) (more k)) (sym (other_held k ne)) (other k ne))
+  pub merged_set : (more : List ℕ → List Version) → ((k : List ℕ) → chunk_of a.q k ≡ c → IsMerge (held m k) (more k) (held n k))
+      → ((k : List ℕ) → chunk_of a.q k ≢ c → IsMerge (held_of (slice_get a.chunks.items (chunk_of a.q k)) k) (more k) (held_of (slice_get a.chunks.items (chunk_of a.q k)) k))
+      → MergesAll (λ k. held_of (slice_get a.chunks.items (chunk_of a.q k)) k) more (λ k. held_of (slice_get (set a.chunks.items c n) (chunk_of a.q k)) k)
+  merged_set more here other = by_chunk (λ (k : List ℕ). IsMerge (held_of (slice_get a.chunks.items (chunk_of a.q k)) k) (more k) (held_of (slice_get (set a.chunks.items c n) (chunk_of a.q k)) k))
+      (λ k e. subst (λ (old : List Version). IsMerge old (more k) (held_of (slice_get (set a.chunks.items c n) (chunk_of a.q k)) k)) (old_held k e) (subst (IsMerge (held m k) (more k)) (new_held k e) (here k e)))
+      (λ k ne. subst (IsMerge (held_of (slice_get a.chunks.items (chunk_of a.q k)) k) (more k)) (sym (other_held k ne)) (other k ne))
 
-  pub merged_key : (key : List ℕ) (more : List Version) → chunk_of q key ≡ c → MergesAll (held m) (at_key key more) (held n)
-      → MergesAll (λ k. held_of (slice_get xs (chunk_of q k)) k) (at_key key more) (λ k. held_of (slice_get (set xs c n) (chunk_of q k)) k)
+  pub merged_key : (key : List ℕ) (more : List Version) → chunk_of a.q key ≡ c → MergesAll (held m) (at_key key more) (held n)
+      → MergesAll (λ k. held_of (slice_get a.chunks.items (chunk_of a.q k)) k) (at_key key more) (λ k. held_of (slice_get (set a.chunks.items c n) (chunk_of a.q k)) k)
   merged_key key more lies merged = merged_set (at_key key more) (λ k e. merged k) (λ k ne. elim (cases_Bool (bytes_eq key k)) [
-    | inl same ↦ absurd (ne (ap (chunk_of q) (sym (bytes_same key k same)) ∙ lies))
-    | inr e ↦ subst (λ (comes : List Version). IsMerge (held_of (slice_get xs (chunk_of q k)) k) comes (held_of (slice_get xs (chunk_of q k)) k)) (sym (at_other key k more e)) (merge_none (held_of (slice_get xs (chunk_of q k)) k) (apart_of (slice_get xs (chunk_of q k)) k))
+    | inl same ↦ absurd (ne (ap (chunk_of a.q) (sym (bytes_same key k same)) ∙ lies))
+    | inr e ↦ subst (λ (comes : List Version). IsMerge (held_of (slice_get a.chunks.items (chunk_of a.q k)) k) comes (held_of (slice_get a.chunks.items (chunk_of a.q k)) k)) (sym (at_other key k more e)) (merge_none (held_of (slice_get a.chunks.items (chunk_of a.q k)) k) (apart_of (slice_get a.chunks.items (chunk_of a.q k)) k))
   ])
 
-  pub fresh_old : (key : List ℕ) (more : List Version) (f : Fresh) → chunk_of q key ≡ c → IsFreshFor (held m key) more f → IsFreshFor (held_of (slice_get xs (chunk_of q key)) key) more f
+  pub fresh_old : (key : List ℕ) (more : List Version) (f : Fresh) → chunk_of a.q key ≡ c → IsFreshFor (held m key) more f → IsFreshFor (held_of (slice_get a.chunks.items (chunk_of a.q key)) key) more f
   fresh_old key more f lies h = subst (λ (held : List Version). IsFreshFor held more f) (old_held key lies) h
 
-  pub old_fresh : (key : List ℕ) (more : List Version) (f : Fresh) → chunk_of q key ≡ c → IsFreshFor (held_of (slice_get xs (chunk_of q key)) key) more f → IsFreshFor (held m key) more f
+  pub old_fresh : (key : List ℕ) (more : List Version) (f : Fresh) → chunk_of a.q key ≡ c → IsFreshFor (held_of (slice_get a.chunks.items (chunk_of a.q key)) key) more f → IsFreshFor (held m key) more f
   old_fresh key more f lies h = subst (λ (held : List Version). IsFreshFor held more f) (sym (old_held key lies)) h
 
-  pub ready_new : (key : List ℕ) (f : Fresh) → chunk_of q key ≡ c → IsReady n key f → (place_in (slice_get (set xs c n) (chunk_of q key)) key ≡ true) × FitsIn (held_of (slice_get (set xs c n) (chunk_of q key)) key) f
+  pub ready_new : (key : List ℕ) (f : Fresh) → chunk_of a.q key ≡ c → IsReady n key f → (place_in (slice_get (set a.chunks.items c n) (chunk_of a.q key)) key ≡ true) × FitsIn (held_of (slice_get (set a.chunks.items c n) (chunk_of a.q key)) key) f
   ready_new key f lies h = (sym (new_place key lies) ∙ h.0, subst (λ (held : List Version). FitsIn held f) (new_held key lies) h.1)
 
-  pub ready_old : (key : List ℕ) (f : Fresh) → chunk_of q key ≡ c → (place_in (slice_get xs (chunk_of q key)) key ≡ true) × FitsIn (held_of (slice_get xs (chunk_of q key)) key) f → IsReady m key f
+  pub ready_old : (key : List ℕ) (f : Fresh) → chunk_of a.q key ≡ c → (place_in (slice_get a.chunks.items (chunk_of a.q key)) key ≡ true) × FitsIn (held_of (slice_get a.chunks.items (chunk_of a.q key)) key) f → IsReady m key f
   ready_old key f lies h = (old_place key lies ∙ h.0, subst (λ (held : List Version). FitsIn held f) (sym (old_held key lies)) h.1)
 
   -- what comes from a map whose keys lie in the chunk
-  pub fresh_chunk : (other : KeyMap) (f : FreshKeys) → ((k : List ℕ) → has_place other k ≡ true → chunk_of q k ≡ c) → ((k : List ℕ) → has_fresh f k ≡ true → has_place other k ≡ true)
-      → AreFreshFor (held m) (held other) f → AreFreshFor (λ k. held_of (slice_get xs (chunk_of q k)) k) (held other) f
-  fresh_chunk other f lies drawn are = by_chunk (λ (k : List ℕ). MatchOption (value_at f.map k) (IsMerge (held_of (slice_get xs (chunk_of q k)) k) (held other k) (held_of (slice_get xs (chunk_of q k)) k)) (IsFreshFor (held_of (slice_get xs (chunk_of q k)) k) (held other k)))
+  pub fresh_chunk : (other : KeyMap) (f : FreshKeys) → ((k : List ℕ) → has_place other k ≡ true → chunk_of a.q k ≡ c) → ((k : List ℕ) → has_fresh f k ≡ true → has_place other k ≡ true)
+      → AreFreshFor (held m) (held other) f → AreFreshFor (λ k. held_of (slice_get a.chunks.items (chunk_of a.q k)) k) (held other) f
+  fresh_chunk other f lies drawn are = by_chunk (λ (k : List ℕ). MatchOption (value_at f.map k) (IsMerge (held_of (slice_get a.chunks.items (chunk_of a.q k)) k) (held other k) (held_of (slice_get a.chunks.items (chunk_of a.q k)) k)) (IsFreshFor (held_of (slice_get a.chunks.items (chunk_of a.q k)) k) (held other k)))
       (λ k e. subst (λ (old : List Version). MatchOption (value_at f.map k) (IsMerge old (held other k) old) (IsFreshFor old (held other k))) (old_held k e) (are k))
       (λ k ne. none_to (value_at f.map k) _ _
       (none_from_empty (value_at f.map k) (false_from (has_fresh f k) (λ h. ne (lies k (drawn k h)))))
-      (subst (λ (comes : List Version). IsMerge (held_of (slice_get xs (chunk_of q k)) k) comes (held_of (slice_get xs (chunk_of q k)) k)) (sym (no_place other k (false_from (has_place other k) (λ h. ne (lies k h)))))
-      (merge_none (held_of (slice_get xs (chunk_of q k)) k) (apart_of (slice_get xs (chunk_of q k)) k))))
+      (subst (λ (comes : List Version). IsMerge (held_of (slice_get a.chunks.items (chunk_of a.q k)) k) comes (held_of (slice_get a.chunks.items (chunk_of a.q k)) k)) (sym (no_place other k (false_from (has_place other k) (λ h. ne (lies k h)))))
+      (merge_none (held_of (slice_get a.chunks.items (chunk_of a.q k)) k) (apart_of (slice_get a.chunks.items (chunk_of a.q k)) k))))
 
-  pub ready_chunk : (other : KeyMap) (f : FreshKeys) → ((k : List ℕ) → has_place other k ≡ true → chunk_of q k ≡ c) → ((k : List ℕ) → has_fresh f k ≡ true → has_place other k ≡ true)
-      → AreReady n f → (k : List ℕ) → IfSome (value_at f.map k) (λ x. (chunk_of q k ≡ c) × ((place_in (slice_get (set xs c n) (chunk_of q k)) k ≡ true) × FitsIn (held_of (slice_get (set xs c n) (chunk_of q k)) k) x))
+  pub ready_chunk : (other : KeyMap) (f : FreshKeys) → ((k : List ℕ) → has_place other k ≡ true → chunk_of a.q k ≡ c) → ((k : List ℕ) → has_fresh f k ≡ true → has_place other k ≡ true)
+      → AreReady n f → (k : List ℕ) → IfSome (value_at f.map k) (λ x. (chunk_of a.q k ≡ c) × ((place_in (slice_get (set a.chunks.items c n) (chunk_of a.q k)) k ≡ true) × FitsIn (held_of (slice_get (set a.chunks.items c n) (chunk_of a.q k)) k) x))
   ready_chunk other f lies drawn are k = with_value (value_at f.map k) refl (are k)
     where
-      with_value : (o : Option Fresh) → o ≡ value_at f.map k → IfSome o (IsReady n k) → IfSome o (λ x. (chunk_of q k ≡ c) × ((place_in (slice_get (set xs c n) (chunk_of q k)) k ≡ true) × FitsIn (held_of (slice_get (set xs c n) (chunk_of q k)) k) x))
+      with_value : (o : Option Fresh) → o ≡ value_at f.map k → IfSome o (IsReady n k) → IfSome o (λ x. (chunk_of a.q k ≡ c) × ((place_in (slice_get (set a.chunks.items c n) (chunk_of a.q k)) k ≡ true) × FitsIn (held_of (slice_get (set a.chunks.items c n) (chunk_of a.q k)) k) x))
       with_value None e h = tt
-      with_value (Some x) e h = let l : chunk_of q k ≡ c = lies k (drawn k (sym (ap is_some e))) in (l, ready_new k x l h)
+      with_value (Some x) e h = let l : chunk_of a.q k ≡ c = lies k (drawn k (sym (ap is_some e))) in (l, ready_new k x l h)
 
-  pub chunk_ready : (f : FreshKeys) → ((k : List ℕ) → IfSome (value_at f.map k) (λ x. (chunk_of q k ≡ c) × ((place_in (slice_get xs (chunk_of q k)) k ≡ true) × FitsIn (held_of (slice_get xs (chunk_of q k)) k) x))) → AreReady m f
+  pub chunk_ready : (f : FreshKeys) → ((k : List ℕ) → IfSome (value_at f.map k) (λ x. (chunk_of a.q k ≡ c) × ((place_in (slice_get a.chunks.items (chunk_of a.q k)) k ≡ true) × FitsIn (held_of (slice_get a.chunks.items (chunk_of a.q k)) k) x))) → AreReady m f
   chunk_ready f are k = with_value (value_at f.map k) (are k)
     where
-      with_value : (o : Option Fresh) → IfSome o (λ x. (chunk_of q k ≡ c) × ((place_in (slice_get xs (chunk_of q k)) k ≡ true) × FitsIn (held_of (slice_get xs (chunk_of q k)) k) x)) → IfSome o (IsReady m k)
+      with_value : (o : Option Fresh) → IfSome o (λ x. (chunk_of a.q k ≡ c) × ((place_in (slice_get a.chunks.items (chunk_of a.q k)) k ≡ true) × FitsIn (held_of (slice_get a.chunks.items (chunk_of a.q k)) k) x)) → IfSome o (IsReady m k)
       with_value None h = tt
       with_value (Some x) h = ready_old k x h.0 h.1
 
-  pub merged_chunk : (f : FreshKeys) → ((k : List ℕ) → IfSome (value_at f.map k) (λ x. (chunk_of q k ≡ c) × ((place_in (slice_get xs (chunk_of q k)) k ≡ true) × FitsIn (held_of (slice_get xs (chunk_of q k)) k) x)))
+  pub merged_chunk : (f : FreshKeys) → ((k : List ℕ) → IfSome (value_at f.map k) (λ x. (chunk_of a.q k ≡ c) × ((place_in (slice_get a.chunks.items (chunk_of a.q k)) k ≡ true) × FitsIn (held_of (slice_get a.chunks.items (chunk_of a.q k)) k) x)))
       → ((more : List ℕ → List Version) → AreFreshFor (held m) more f → MergesAll (held m) more (held n))
-      → (more : List ℕ → List Version) → AreFreshFor (λ k. held_of (slice_get xs (chunk_of q k)) k) more f → MergesAll (λ k. held_of (slice_get xs (chunk_of q k)) k) more (λ k. held_of (slice_get (set xs c n) (chunk_of q k)) k)
+      → (more : List ℕ → List Version) → AreFreshFor (λ k. held_of (slice_get a.chunks.items (chunk_of a.q k)) k) more f → MergesAll (λ k. held_of (slice_get a.chunks.items (chunk_of a.q k)) k) more (λ k. held_of (slice_get (set a.chunks.items c n) (chunk_of a.q k)) k)
   merged_chunk f ready merged more are = merged_set more
-      (λ k e. subst (λ (comes : List Version). IsMerge (held m k) comes (held n k)) (chosen_here (chunk_of q k) c (more k) e) (merged (chosen q c more) fresh k))
+      (λ k e. subst (λ (comes : List Version). IsMerge (held m k) comes (held n k)) (chosen_here (chunk_of a.q k) c (more k) e) (merged (chosen a.q c more) fresh k))
       (λ k ne. at_none (value_at f.map k) _ _ (outside k ne) (are k))
     where
-      outside : (k : List ℕ) → chunk_of q k ≢ c → value_at f.map k ≡ None
+      outside : (k : List ℕ) → chunk_of a.q k ≢ c → value_at f.map k ≡ None
       outside k ne = with_value (value_at f.map k) refl (ready k)
         where
-          with_value : (o : Option Fresh) → o ≡ value_at f.map k → IfSome o (λ x. (chunk_of q k ≡ c) × ((place_in (slice_get xs (chunk_of q k)) k ≡ true) × FitsIn (held_of (slice_get xs (chunk_of q k)) k) x)) → value_at f.map k ≡ None
+          with_value : (o : Option Fresh) → o ≡ value_at f.map k → IfSome o (λ x. (chunk_of a.q k ≡ c) × ((place_in (slice_get a.chunks.items (chunk_of a.q k)) k ≡ true) × FitsIn (held_of (slice_get a.chunks.items (chunk_of a.q k)) k) x)) → value_at f.map k ≡ None
           with_value None e h = sym e
           with_value (Some x) e h = absurd (ne h.0)
 
-      fresh : AreFreshFor (held m) (chosen q c more) f
-      fresh = by_chunk (λ (k : List ℕ). MatchOption (value_at f.map k) (IsMerge (held m k) (chosen q c more k) (held m k)) (IsFreshFor (held m k) (chosen q c more k)))
-          (λ k e. subst (λ (comes : List Version). MatchOption (value_at f.map k) (IsMerge (held m k) comes (held m k)) (IsFreshFor (held m k) comes)) (sym (chosen_here (chunk_of q k) c (more k) e))
+      fresh : AreFreshFor (held m) (chosen a.q c more) f
+      fresh = by_chunk (λ (k : List ℕ). MatchOption (value_at f.map k) (IsMerge (held m k) (chosen a.q c more k) (held m k)) (IsFreshFor (held m k) (chosen a.q c more k)))
+          (λ k e. subst (λ (comes : List Version). MatchOption (value_at f.map k) (IsMerge (held m k) comes (held m k)) (IsFreshFor (held m k) comes)) (sym (chosen_here (chunk_of a.q k) c (more k) e))
           (subst (λ (old : List Version). MatchOption (value_at f.map k) (IsMerge old (more k) old) (IsFreshFor old (more k))) (sym (old_held k e)) (are k)))
-          (λ k ne. none_to (value_at f.map k) _ _ (outside k ne) (subst (λ (comes : List Version). IsMerge (held m k) comes (held m k)) (sym (chosen_other (chunk_of q k) c (more k) ne)) (merge_none (held m k) (m.apart k))))
+          (λ k ne. none_to (value_at f.map k) _ _ (outside k ne) (subst (λ (comes : List Version). IsMerge (held m k) comes (held m k)) (sym (chosen_other (chunk_of a.q k) c (more k) ne)) (merge_none (held m k) (m.apart k))))

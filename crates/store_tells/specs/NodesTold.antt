@@ -7,8 +7,7 @@ use Rattle.plan_text.specs.declared.step.Planned.{Planned}
 use Rattle.plan_text.specs.Steps.{is_join_of, is_retire_of}
 use Rattle.plan_stage.specs.Each.{some_step, step_at}
 use Rattle.plan_check.specs.declared.event.Event.{Event}
-use Rattle.plan_check.specs.declared.event.Event.TheVariants.{Do, OpenCopy, ChunkCopy, CloseCopy, AbortCopy, StartPut, Write, Hint}
-use Rattle.plan_check.specs.declared.event.Event.TheVariants.{Ack, StartGet, Read, EndGet, Down, Up, Handoff, Lose}
+use Rattle.plan_check.specs.declared.event.Event.TheVariants.{Do, Down, Up}
 use Rattle.plan_check.specs.World.{World}
 use Rattle.store_tables.specs.declared.nodes.NodeNow.{NodeNow}
 use Rattle.store_tables.specs.Nodes.{is_up_at}
@@ -39,27 +38,12 @@ pub record NodesTell (ring : RingValue) (plan : List Planned) (nodes : List Node
 -- whether the step leaves the nodes as they are: it joins none and retires none
 abbrev pub step_leaves_nodes : Step → Bool
 step_leaves_nodes (step.Join x) = false
-step_leaves_nodes (step.Mirror s x) = true
-step_leaves_nodes (step.Copy s from) = true
-step_leaves_nodes (step.Switch s) = true
-step_leaves_nodes (step.Drop s x) = true
 step_leaves_nodes (step.Retire x) = false
+step_leaves_nodes s = true
 
 -- whether the event leaves them so
 abbrev pub leaves_nodes : List Planned → Event → Bool
 leaves_nodes plan (Do n) = elim (step_at plan n) [ Some s ↦ step_leaves_nodes s | None ↦ true ]
-leaves_nodes plan (OpenCopy n) = true
-leaves_nodes plan (ChunkCopy n c) = true
-leaves_nodes plan (CloseCopy n) = true
-leaves_nodes plan (AbortCopy n) = true
-leaves_nodes plan (StartPut writer key value seen) = true
-leaves_nodes plan (Write v i) = true
-leaves_nodes plan (Hint v i x) = true
-leaves_nodes plan (Ack v) = true
-leaves_nodes plan (StartGet key) = true
-leaves_nodes plan (Read g i) = true
-leaves_nodes plan (EndGet g) = true
 leaves_nodes plan (Down x) = false
 leaves_nodes plan (Up x) = false
-leaves_nodes plan (Handoff x s) = true
-leaves_nodes plan (Lose x) = true
+leaves_nodes plan e = true

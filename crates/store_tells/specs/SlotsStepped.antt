@@ -7,8 +7,7 @@ use Rattle.plan_text.specs.declared.step.Planned.{Planned}
 use Rattle.plan_text.specs.Steps.{is_on}
 use Rattle.plan_stage.specs.Each.{step_at}
 use Rattle.plan_check.specs.declared.event.Event.{Event}
-use Rattle.plan_check.specs.declared.event.Event.TheVariants.{Do, OpenCopy, ChunkCopy, CloseCopy, AbortCopy, StartPut, Write, Hint}
-use Rattle.plan_check.specs.declared.event.Event.TheVariants.{Ack, StartGet, Read, EndGet, Down, Up, Handoff, Lose}
+use Rattle.plan_check.specs.declared.event.Event.TheVariants.{Do, Lose}
 use Rattle.store_tables.specs.declared.slots.SlotNow.{SlotNow}
 use Rattle.store_tables.specs.Slots.{slot_now, switched}
 
@@ -27,28 +26,12 @@ StepsSlots old new s = (t : Slot) → slot_now new t ≡ (if is_on t s then opti
 
 -- whether the step leaves the slots as they are: it neither mirrors nor switches one
 abbrev pub step_leaves_slots : Step → Bool
-step_leaves_slots (step.Join x) = true
 step_leaves_slots (step.Mirror s x) = false
-step_leaves_slots (step.Copy s from) = true
 step_leaves_slots (step.Switch s) = false
-step_leaves_slots (step.Drop s x) = true
-step_leaves_slots (step.Retire x) = true
+step_leaves_slots s = true
 
 -- whether the event leaves them so
 abbrev pub leaves_slots : List Planned → Event → Bool
 leaves_slots plan (Do n) = elim (step_at plan n) [ Some s ↦ step_leaves_slots s | None ↦ true ]
-leaves_slots plan (OpenCopy n) = true
-leaves_slots plan (ChunkCopy n c) = true
-leaves_slots plan (CloseCopy n) = true
-leaves_slots plan (AbortCopy n) = true
-leaves_slots plan (StartPut writer key value seen) = true
-leaves_slots plan (Write v i) = true
-leaves_slots plan (Hint v i x) = true
-leaves_slots plan (Ack v) = true
-leaves_slots plan (StartGet key) = true
-leaves_slots plan (Read g i) = true
-leaves_slots plan (EndGet g) = true
-leaves_slots plan (Down x) = true
-leaves_slots plan (Up x) = true
-leaves_slots plan (Handoff x s) = true
 leaves_slots plan (Lose x) = false
+leaves_slots plan e = true

@@ -5,9 +5,6 @@ use Rattle.ring_store.specs.Slots.{held_by}
 use Rattle.ring_store.proofs.SlotMapsChanged.{in_chunk, no_place, chunk_in}
 use Rattle.ring_store.proofs.store.NodeStore.chunk_map.Goals as goal
 
-pub chunk-requires : goal.chunk-requires
-chunk-requires c = c.requires
-
 pub returns-in-Some-clause-some : goal.returns-in-Some-clause-some
 returns-in-Some-clause-some c k =
     let space = c.args.self.now.spaces c.args.slot c.in-Some.maps.now (sym (c.in-Some.ensures).value) in

@@ -1,4 +1,4 @@
-use Rattle.std.proofs.Common.{◌∙◌, refl, sym, ap, Some}
+use Rattle.std.proofs.Common.{◌∙◌, sym, ap, Some}
 use Rattle.std.specs.Map.{lookup}
 use Rattle.ring_names.specs.contracts.ids.SlotPartialEq.TheImpl as slot_eq
 use Rattle.store_maps.proofs.OneAnswer.{on_either}
@@ -13,7 +13,7 @@ invariant_of-self c =
     record {
       space = c.args.self.now.space;
       spaces = on_either c.insert.result _ _ (AreOf c.args.self.now.q new) c.insert.ensures.updates c.insert.ensures.err
-          (λ u. spaces_by old new c.args.slot (Some c.args.maps) (puts_slot old new c.args.slot (Some c.args.maps) u) c.args.self.now.q (space_at c.args.maps c.args.maps (Some c.args.maps) c.args.self.now.q refl c.requires) c.args.self.now.spaces)
+          (λ u. spaces_by old new c.args.slot (Some c.args.maps) (puts_slot old new c.args.slot (Some c.args.maps) u) c.args.self.now.q (space_at c.requires) c.args.self.now.spaces)
           (λ e s m is. c.args.self.now.spaces s m (sym (ap (λ es. lookup ((slot_eq.ghosts).eq s) es) e) ∙ is));
     }
 

@@ -1,83 +1,26 @@
-use Rattle.std.proofs.Common.{◌∙◌, ap, refl, arith}
-use Rattle.std.specs.Prelude.{slice_get}
-use Rattle.std.proofs.Math.ListN.{length-set, set}
-use Rattle.std.proofs.lemmas.Result.{IfOk-weaker}
+use Rattle.std.proofs.Common.{◌≡◌, ℕ, true, List, refl}
+use Rattle.std.specs.Prelude.{IfOk}
 use Rattle.store_maps.specs.Chunks.{chunk_of}
-use Rattle.store_maps.specs.Held.{held}
+use Rattle.store_maps.specs.Held.{held, has_place}
 use Rattle.store_maps.specs.Merges.{AreFreshFor}
-use Rattle.store_maps.proofs.Chunks.{lent, get_here}
 use Rattle.ring_store.specs.Nodes.{stored_in}
-use Rattle.ring_store.proofs.Nodes.{spaces_set, at_old, same_set, stays_set, keeps_ready, are_ready_in}
+use Rattle.ring_store.proofs.Nodes.{AreReadyIn, at_old, of_old, at_new, spaces_set, same_set, keeps_set}
 use Rattle.ring_store.proofs.stores.Stores.prepare_chunk.Goals as goal
 
-pub index_mut-store-requires : goal.index_mut-store-requires
-index_mut-store-requires c = let same = c.args.self.now.list.ok.0 in let room = c.requires.node in omega arith
+pub prepare_chunk-requires-clause-lies : goal.prepare_chunk-requires-clause-lies
+prepare_chunk-requires-clause-lies c = of_old c.args.self.now c.index_mut-store.result.now c.requires.node c.index_mut-store.ensures.value (λ q o. (k : List ℕ) → has_place c.args.other.now k ≡ true → chunk_of q k ≡ c.args.chunk) c.requires.lies
 
 pub invariant_of-self : goal.invariant_of-self
-invariant_of-self c =
-    let xs = c.args.self.now.list.items in
-    let n = c.args.node.0 in
-    let m = c.index_mut-store.result.now in
-    let w = c.prepare_chunk.new.self in
-    let is = lent xs n m c.requires.node c.index_mut-store.ensures.value in
-    record { space = c.args.self.now.space; spaces = spaces_set c.args.self.now.q xs n m w is c.requires.node c.args.self.now.spaces c.prepare_chunk.ensures.space }
-
-pub returns-clause-space : goal.returns-clause-space
-returns-clause-space c = refl
-
-pub returns-clause-count : goal.returns-clause-count
-returns-clause-count c = length-set c.args.self.now.list.items c.args.node.0 c.prepare_chunk.new.self
-
-pub prepare_chunk-requires-clause-chunk : goal.prepare_chunk-requires-clause-chunk
-prepare_chunk-requires-clause-chunk c =
-    let xs = c.args.self.now.list.items in
-    let n = c.args.node.0 in
-    let m = c.index_mut-store.result.now in
-    let is = lent xs n m c.requires.node c.index_mut-store.ensures.value in
-    c.requires.chunk
-
-pub prepare_chunk-requires-clause-lies : goal.prepare_chunk-requires-clause-lies
-prepare_chunk-requires-clause-lies c =
-    let xs = c.args.self.now.list.items in
-    let n = c.args.node.0 in
-    let m = c.index_mut-store.result.now in
-    let is = lent xs n m c.requires.node c.index_mut-store.ensures.value in
-    λ k h. ap (λ p. chunk_of p k) (c.args.self.now.spaces n m is) ∙ c.requires.lies k h
+invariant_of-self c = record { space = c.args.self.now.space; spaces = spaces_set c.args.self.now c.prepare_chunk.new.self c.requires.node c.index_mut-store.ensures.value c.prepare_chunk.ensures.space }
 
 pub returns-clause-same : goal.returns-clause-same
-returns-clause-same c =
-    let xs = c.args.self.now.list.items in
-    let n = c.args.node.0 in
-    let m = c.index_mut-store.result.now in
-    let w = c.prepare_chunk.new.self in
-    let is = lent xs n m c.requires.node c.index_mut-store.ensures.value in
-    same_set c.args.self.now.q xs n m w is c.requires.node c.prepare_chunk.ensures.same
+returns-clause-same c = same_set c.args.self.now c.prepare_chunk.new.self c.requires.node c.index_mut-store.ensures.value c.prepare_chunk.ensures.same
 
 pub returns-clause-keeps : goal.returns-clause-keeps
-returns-clause-keeps c =
-    let xs = c.args.self.now.list.items in
-    let n = c.args.node.0 in
-    let m = c.index_mut-store.result.now in
-    let w = c.prepare_chunk.new.self in
-    let is = lent xs n m c.requires.node c.index_mut-store.ensures.value in
-    λ y. keeps_ready _ _ y refl (same_set c.args.self.now.q xs n m w is c.requires.node c.prepare_chunk.ensures.same y) (stays_set c.args.self.now.q xs n m w is c.requires.node c.prepare_chunk.ensures.stays y)
+returns-clause-keeps c = keeps_set c.args.self.now c.prepare_chunk.new.self c.requires.node c.index_mut-store.ensures.value refl refl c.prepare_chunk.ensures.same c.prepare_chunk.ensures.stays
 
 pub returns-clause-ok : goal.returns-clause-ok
-returns-clause-ok c =
-    let xs = c.args.self.now.list.items in
-    let n = c.args.node.0 in
-    let m = c.index_mut-store.result.now in
-    let is = lent xs n m c.requires.node c.index_mut-store.ensures.value in
-    IfOk-weaker c.prepare_chunk.result _ _ (λ f h. at_old c.args.self.now.q xs n m m is c.requires.node (λ o. AreFreshFor (stored_in o c.args.slot) (held c.args.other.now) f) h) c.prepare_chunk.ensures.ok
+returns-clause-ok c = at_old c.args.self.now c.index_mut-store.result.now c.requires.node c.index_mut-store.ensures.value (λ q o. IfOk c.prepare_chunk.result (λ f. AreFreshFor (stored_in o c.args.slot) (held c.args.other.now) f)) c.prepare_chunk.ensures.ok
 
 pub returns-clause-ready : goal.returns-clause-ready
-returns-clause-ready c =
-    let xs = c.args.self.now.list.items in
-    let n = c.args.node.0 in
-    let m = c.index_mut-store.result.now in
-    let w = c.prepare_chunk.new.self in
-    let is = lent xs n m c.requires.node c.index_mut-store.ensures.value in
-    IfOk-weaker c.prepare_chunk.result _ _ (λ f h. are_ready_in c.args.self.now.q (slice_get (set xs n w) n) w (get_here xs n w c.requires.node) (c.prepare_chunk.ensures.space ∙ c.args.self.now.spaces n m is) c.args.slot c.args.chunk f h) c.prepare_chunk.ensures.ready
-
-pub returns-clause-memory : goal.returns-clause-memory
-returns-clause-memory c = c.prepare_chunk.ensures.memory
+returns-clause-ready c = at_new c.args.self.now c.prepare_chunk.new.self c.requires.node c.index_mut-store.ensures.value (λ q o. IfOk c.prepare_chunk.result (λ f. AreReadyIn q o c.args.slot c.args.chunk f)) c.prepare_chunk.ensures.space c.prepare_chunk.ensures.ready

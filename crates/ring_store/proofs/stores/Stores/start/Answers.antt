@@ -12,6 +12,3 @@ nodes-preserved c =
       ap length put ∙ length_push c.nodes.list.items c.new.result ∙ ap (λ (n : ℕ). n + 1) c.nodes.invariant.0,
       new_more c.args.q c.nodes.list.items c.push.new.self.items c.new.result put c.new.ensures.space c.new.ensures.versions c.nodes.invariant.1,
     )
-
-pub returns-clause-versions : goal.returns-clause-versions
-returns-clause-versions c = c.nodes.invariant.1.versions
