@@ -1,6 +1,7 @@
 -- Versions in lists, and lists of versions in conflict.
-use Rattle.std.proofs.Common.{◌⊎◌, inl, inr, List, [], ◌∷◌, ◌++◌, refl, sym, subst}
-use Rattle.std.specs.List.{AllByRecursion}
+use Rattle.std.proofs.Common.{◌≡◌, ◌⊎◌, inl, inr, ℕ, zero, suc, ◌<◌, ◌≤◌, List, [], ◌∷◌, ◌++◌, length, get_or, Option, Some, None, Bor, refl, sym, subst, arith}
+use Rattle.std.specs.Prelude.{MatchOption, IfSome}
+use Rattle.std.specs.List.{AllByRecursion, HoldsAt}
 use Rattle.std.proofs.Math.Nat.{le_trans}
 use Rattle.ring_clock.specs.declared.entry.Entry.{Entry}
 use Rattle.ring_clock.specs.Clock.{IsAtMost}
@@ -77,3 +78,13 @@ apart_first (x ∷ xs) ys a = (every x xs (λ u h. each x (xs ++ ys) a.0 u (in_f
 pub apart_second : (xs ys : List Version) → IsApart (xs ++ ys) → IsApart ys
 apart_second [] ys a = a
 apart_second (x ∷ xs) ys a = apart_second xs ys a.1
+
+at : (vs : List Version) (k : ℕ) (d : Version) → k < length vs → IsIn (get_or vs k d) vs
+at [] k d l = absurd (omega arith)
+at (v ∷ vs) zero d l = inl refl
+at (v ∷ vs) (suc k) d l = inr (at vs k d (omega arith))
+
+-- what a slice has at a place is in it
+pub got : (r : Option (Bor Version)) (vs : List Version) (k : ℕ) → MatchOption r (length vs ≤ k) (λ x. (k < length vs) × HoldsAt (λ y. x.now ≡ y) vs k) → IfSome r (λ x. IsIn x.now vs)
+got None vs k h = tt
+got (Some x) vs k h = subst (λ (v : Version). IsIn v vs) (sym (h.1 x.now)) (at vs k x.now h.0)

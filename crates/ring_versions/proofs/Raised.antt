@@ -1,14 +1,17 @@
 -- The join of the clocks of versions.
-use Rattle.std.proofs.Common.{◌≡◌, ◌⊎◌, inl, inr, ◌∙◌, ℕ, ◌≤◌, List, [], ◌∷◌, ◌++◌, Result, Ok, Err, IfOk, refl, sym, subst, arith}
-use Rattle.std.specs.Prelude.{max}
+use Rattle.std.proofs.Common.{◌≡◌, ◌⊎◌, inl, inr, ◌∙◌, ℕ, ◌≤◌, List, [], ◌∷◌, ◌++◌, Option, Some, None, Result, Ok, Err, IfOk, refl, sym, subst, arith}
+use Rattle.std.specs.Prelude.{Box, max}
+use Rattle.std.specs.declared.alloc.Global.{Global}
 use Rattle.std.proofs.lemmas.Bool.Decides.{eqb_tells}
 use Rattle.ring_clock.specs.declared.entry.Entry.{Entry}
 use Rattle.ring_clock.specs.Clock.{counter, IsAtMost}
+use Rattle.ring_versions.specs.declared.kept.Kept.{Kept}
+use Rattle.ring_versions.specs.declared.tops.Tops.{Tops}
 use Rattle.ring_versions.specs.declared.version.Version.{Version}
 use Rattle.ring_versions.specs.Versions.{IsIn, Covers, IsMerge}
-use Rattle.ring_versions.specs.Parts.{IsFresh}
+use Rattle.ring_versions.specs.Parts.{IsKept}
 use Rattle.ring_versions.specs.Raised.{RaisesTo, IsClockIn}
-use Rattle.ring_versions.specs.Tops.{IsBound}
+use Rattle.ring_versions.specs.Tops.{HasJoin, AreTops}
 use Rattle.ring_versions.proofs.Members.{in_first, in_second, in_either}
 
 max_is : (a b : ℕ) → (max a b ≡ a) ⊎ (max a b ≡ b)
@@ -54,8 +57,57 @@ pub joined : {E : Type 0} (r : Result (List Entry) E) (c d : List Entry) (xs ys 
 joined (Err e) c d xs ys vs is a b raise = tt
 joined (Ok e) c d xs ys vs is a b raise = join_both xs ys vs c d e is a b raise
 
-pub join_bound : (c : List Entry) (vs : List Version) → RaisesTo [] (IsClockIn vs) c → IsBound c vs
-join_bound c vs j v h = j.above v.clock (v, h, refl)
+pub below_join : (c : List Entry) (vs : List Version) → RaisesTo [] (IsClockIn vs) c → (v : Version) → IsIn v vs → IsAtMost v.clock c
+below_join c vs j v h = j.above v.clock (v, h, refl)
+
+-- a join that is raised to more versions is that of all
+join_more : (c e : List Entry) (xs ys : List Version) → RaisesTo [] (IsClockIn xs) c → RaisesTo c (IsClockIn ys) e → RaisesTo [] (IsClockIn (xs ++ ys)) e
+join_more c e xs ys a b = record {
+  before = λ w. omega arith;
+  above = λ k h w. elim (in_either h.0 xs ys h.1) [
+    | inl front ↦ (let u = a.above k (h.0, front, h.2) w in let r = b.before w in omega arith)
+    | inr back ↦ b.above k (h.0, back, h.2) w
+  ];
+  from = λ w. elim (b.from w) [
+    | inl same ↦ elim (a.from w) [ inl none ↦ inl (same ∙ none) | inr x ↦ inr (x.0, (x.1.0, in_first x.1.0 xs ys x.1.1, x.1.2), x.2 ∙ sym same) ]
+    | inr x ↦ inr (x.0, (x.1.0, in_second x.1.0 xs ys x.1.1, x.1.2), x.2)
+  ];
+}
+
+pub raised : {E : Type 0} (r : Result Tops E) (c : List Entry) (xs ys : List Version) → RaisesTo [] (IsClockIn xs) c → IfOk r (λ t. RaisesTo c (IsClockIn ys) t.join) → IfOk r (λ t. RaisesTo [] (IsClockIn (xs ++ ys)) t.join)
+raised (Err e) c xs ys was more = tt
+raised (Ok t) c xs ys was more = join_more c t.join xs ys was more
+
+-- the join of versions is that of those which stay where the others go that they cover
+join_kept : (c : List Entry) (olds fresh out : List Version) → IsKept fresh olds out → RaisesTo [] (IsClockIn (olds ++ fresh)) c → RaisesTo [] (IsClockIn out) c
+join_kept c olds fresh out k j =
+    let back : (v : Version) → IsIn v out → IsIn v (olds ++ fresh) = λ v h. elim (in_either v fresh k.kept (subst (λ (vs : List Version). IsIn v vs) k.all h)) [
+      | inl new ↦ in_second v olds fresh new
+      | inr old ↦ in_first v olds fresh (k.drawn v old)
+    ] in
+    let to : (v : Version) → IsIn v (fresh ++ k.kept) → IsIn v out = λ v h. subst (λ (vs : List Version). IsIn v vs) (sym k.all) h in
+    let stands : (d : List Entry) (w : ℕ) → Covers fresh d ⊎ Covers k.kept d → counter d w ≡ counter c w → (e : List Entry) × IsClockIn out e × (counter e w ≡ counter c w) = λ d w h e. elim h [
+      | inl v ↦ (v.0.clock, (v.0, to v.0 (in_first v.0 fresh k.kept v.1), refl), (let up = v.2 w in let down = below_join c (olds ++ fresh) j v.0 (back v.0 (to v.0 (in_first v.0 fresh k.kept v.1))) w in omega arith))
+      | inr v ↦ (v.0.clock, (v.0, to v.0 (in_second v.0 fresh k.kept v.1), refl), (let up = v.2 w in let down = below_join c (olds ++ fresh) j v.0 (back v.0 (to v.0 (in_second v.0 fresh k.kept v.1))) w in omega arith))
+    ] in
+    record {
+      before = λ w. omega arith;
+      above = λ d h. j.above d (h.0, back h.0 h.1, h.2);
+      from = λ w. elim (j.from w) [
+        | inl none ↦ inl none
+        | inr x ↦ elim (in_either x.1.0 olds fresh x.1.1) [
+          | inl old ↦ inr (stands x.0 w (k.covers x.0 (x.1.0, old, λ u. subst (λ (d : List Entry). counter x.0 u ≤ counter d u) (sym x.1.2) (omega arith))) x.2)
+          | inr new ↦ inr (x.0, (x.1.0, to x.1.0 (in_first x.1.0 fresh k.kept new), x.1.2), x.2)
+        ]
+      ];
+    }
+
+has_join_kept : (o : Option (Box Tops Global)) (olds fresh out : List Version) → IsKept fresh olds out → HasJoin o (olds ++ fresh) → HasJoin o out
+has_join_kept None olds fresh out k j = tt
+has_join_kept (Some t) olds fresh out k j = join_kept t.value.join olds fresh out k j
+
+pub tops_kept : (tops : Kept) (olds fresh out : List Version) → IsKept fresh olds out → AreTops tops (olds ++ fresh) → AreTops tops out
+tops_kept tops olds fresh out k j = has_join_kept tops.tops olds fresh out k j
 
 -- a clock that is raised to the join is raised to all
 pub raised_by_join : (old new join : List Entry) (vs : List Version) → ((w : ℕ) → counter new w ≡ max (counter old w) (counter join w)) → RaisesTo [] (IsClockIn vs) join → RaisesTo old (IsClockIn vs) new
@@ -71,15 +123,12 @@ raised_by_join old new join vs raise j = record {
   ];
 }
 
--- where the join is raised to what is fresh, it is the join of the merge
-pub join_merged : (a b fresh c : List Version) (join more : List Entry) → IsFresh a b fresh → IsMerge a b c → RaisesTo [] (IsClockIn a) join → RaisesTo join (IsClockIn fresh) more → RaisesTo [] (IsClockIn c) more
-join_merged a b fresh c join more f m j r =
+-- where the join is raised to what comes, it is the join of the merge
+pub join_merged : (a b c : List Version) (join more : List Entry) → IsMerge a b c → RaisesTo [] (IsClockIn a) join → RaisesTo join (IsClockIn b) more → RaisesTo [] (IsClockIn c) more
+join_merged a b c join more m j r =
     let under : (x : Version) → IsIn x c → IsAtMost x.clock more = λ x h. elim (m.drawn x h) [
       | inl old ↦ (λ w. (let p = j.above x.clock (x, old, refl) w in let q = r.before w in omega arith))
-      | inr new ↦ elim (f.covers x.clock (x, new, λ w. omega arith)) [
-        | inl held ↦ (λ w. (let o = held.2 w in let p = j.above held.0.clock (held.0, held.1, refl) w in let q = r.before w in omega arith))
-        | inr out ↦ (λ w. (let o = out.2 w in let p = r.above out.0.clock (out.0, out.1, refl) w in omega arith))
-      ]
+      | inr new ↦ r.above x.clock (x, new, refl)
     ] in
     let kept : (k : List Entry) (w : ℕ) → Covers a k ⊎ Covers b k → counter k w ≡ counter more w → (d : List Entry) × IsClockIn c d × (counter d w ≡ counter more w) = λ k w h e.
     (let v = (m.covers k).1 h in (v.0.clock, (v.0, v.1, refl), (let up = v.2 w in let down = under v.0 v.1 w in omega arith))) in
@@ -91,6 +140,6 @@ join_merged a b fresh c join more f m j r =
           | inl none ↦ inl (same ∙ none)
           | inr x ↦ inr (kept x.0 w (inl (x.1.0, x.1.1, λ u. (let e = x.1.2 in subst (λ (d : List Entry). counter x.0 u ≤ counter d u) (sym e) (omega arith)))) (x.2 ∙ sym same))
         ]
-        | inr x ↦ inr (kept x.0 w (inr (x.1.0, f.drawn x.1.0 x.1.1, λ u. subst (λ (d : List Entry). counter x.0 u ≤ counter d u) (sym x.1.2) (omega arith))) x.2)
+        | inr x ↦ inr (kept x.0 w (inr (x.1.0, x.1.1, λ u. subst (λ (d : List Entry). counter x.0 u ≤ counter d u) (sym x.1.2) (omega arith))) x.2)
       ];
     }

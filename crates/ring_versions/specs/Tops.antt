@@ -1,21 +1,15 @@
--- Clocks that are at least those of versions.
-use Rattle.std.specs.Prelude.{List, Box, Option, Some, None}
+-- The join of many versions' clocks.
+use Rattle.std.specs.Prelude.{List, [], Box, Option, Some, None}
 use Rattle.std.specs.declared.alloc.Global.{Global}
-use Rattle.ring_clock.specs.declared.entry.Entry.{Entry}
-use Rattle.ring_clock.specs.Clock.{IsAtMost}
 use Rattle.ring_versions.specs.declared.kept.Kept.{Kept}
 use Rattle.ring_versions.specs.declared.tops.Tops.{Tops}
 use Rattle.ring_versions.specs.declared.version.Version.{Version}
-use Rattle.ring_versions.specs.Versions.{IsIn}
+use Rattle.ring_versions.specs.Raised.{RaisesTo, IsClockIn}
 
--- c is at least the clock of each of them
-abbrev pub IsBound : List Entry → List Version → Type 0
-IsBound c vs = (v : Version) → IsIn v vs → IsAtMost v.clock c
-
--- so is the join of tops, where there are any
-abbrev pub IsAbove : Option (Box Tops Global) → List Version → Type 0
-IsAbove None vs = Unit {0}
-IsAbove (Some t) vs = IsBound t.value.join vs
+-- the join that tops have, where there are any, is that of their clocks
+abbrev pub HasJoin : Option (Box Tops Global) → List Version → Type 0
+HasJoin None vs = Unit {0}
+HasJoin (Some t) vs = RaisesTo [] (IsClockIn vs) t.value.join
 
 abbrev pub AreTops : Kept → List Version → Type 0
-AreTops k vs = IsAbove k.tops vs
+AreTops k vs = HasJoin k.tops vs

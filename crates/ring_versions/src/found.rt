@@ -6,7 +6,6 @@ ghost use Rattle.ring_versions.specs.Puts.{ArePuts};
 ghost use Rattle.ring_versions.specs.Raised.{RaisesTo, IsClockIn};
 ghost use Rattle.ring_versions.specs.Versions.{IsMerge};
 
-use crate::joining::join_of;
 use crate::versions::Versions;
 use ring_clock::Clock;
 use ring_names::{Listed, Refusal};
@@ -16,7 +15,6 @@ use std::marker::Model;
 /// Versions that were found, with the join of their clocks, which is made as they come.
 #[derive(Drop)]
 pub struct Found {
-    alloc: Global,
     versions: Versions,
     join: Clock,
 }
@@ -39,7 +37,6 @@ impl Found {
         ensures { result ≡ [] }
     {
         Found {
-            alloc,
             versions: Versions::new(alloc),
             join: Clock::new(alloc),
         }
@@ -60,20 +57,15 @@ impl Found {
         self.versions.puts()
     }
 
-    /// These and what another set brings, merged aside. Costs what a merge costs, and the join of what is new.
+    /// These and what another set brings, merged aside. Costs a copy of these, what a merge costs, and a comparison of the two joins.
     pub fn with(&self, more: &Versions) -> Result<Found, Refusal>
         ensures ok { IfOk result (IsMerge self.now more.now) }
         ensures memory { IfErr result (λ e. e ≡ OutOfMemory) }
     {
         let mut join = self.join.try_copy()?;
+        join.raise(&more.join()?)?;
         let mut versions = self.versions.try_copy()?;
-        let fresh = versions.fresh_of(more)?;
-        join.raise(&join_of(self.alloc, fresh.list.as_slice())?)?;
-        versions.absorb(fresh);
-        Ok(Found {
-            alloc: self.alloc,
-            versions,
-            join,
-        })
+        versions.merge(more)?;
+        Ok(Found { versions, join })
     }
 }

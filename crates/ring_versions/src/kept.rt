@@ -1,12 +1,15 @@
 //! Tops, which are kept where versions are many.
 
-ghost use Rattle.std.specs.Prelude.{◌≡◌, ◌<◌, ◌++◌, List, length, IfOk, IfErr};
+ghost use Rattle.std.specs.Prelude.{◌≡◌, ◌<◌, ◌++◌, [], List, length, IfOk, IfErr};
 ghost use Rattle.ring_names.specs.declared.refusal.Refusal.TheVariants.{OutOfMemory};
-ghost use Rattle.ring_versions.specs.Tops.{AreTops, IsBound};
+ghost use Rattle.ring_versions.specs.Raised.{RaisesTo, IsClockIn};
+ghost use Rattle.ring_versions.specs.Tops.{AreTops};
 ghost use Rattle.ring_versions.specs.declared.version.Version.{Version};
 
+use crate::joining::join_of;
 use crate::tops::{MANY, Tops};
 use crate::version::Version;
+use ring_clock::Clock;
 use ring_names::Refusal;
 use std::alloc::Global;
 
@@ -23,7 +26,7 @@ impl Drop for Kept {
 
 // Tops of these versions, led to where they stand.
 fn tops_of(alloc: Global, versions: &[Version]) -> Result<Tops, Refusal>
-    ensures ok { IfOk result (λ t. IsBound t.join versions.now) }
+    ensures ok { IfOk result (λ t. RaisesTo [] (IsClockIn versions.now) t.join) }
     ensures memory { IfErr result (λ e. e ≡ OutOfMemory) }
 {
     let mut tops = Tops::new(alloc).with(alloc, versions)?;
@@ -46,7 +49,7 @@ pub fn tops_of_fresh(alloc: Global, held: &[Version], fresh: &[Version]) -> Resu
 // The tops of those held raised to the fresh ones.
 fn raised(alloc: Global, held: &[Version], kept: &Kept, fresh: &[Version]) -> Result<Tops, Refusal>
     requires { AreTops kept.now held.now }
-    ensures ok { IfOk result (λ t. IsBound t.join (held.now ++ fresh.now)) }
+    ensures ok { IfOk result (λ t. RaisesTo [] (IsClockIn (held.now ++ fresh.now)) t.join) }
     ensures memory { IfErr result (λ e. e ≡ OutOfMemory) }
 {
     match &kept.tops {
@@ -98,6 +101,18 @@ fn lead(tops: &mut Tops, versions: &[Version], fresh: usize, held: usize)
             tops.place(&versions[..fresh]);
         }
         _ => tops.place(versions),
+    }
+}
+
+/// The join of the versions' clocks. Costs nothing where they have tops, and else what `join_of` does.
+pub fn join(alloc: Global, kept: &Kept, versions: &[Version]) -> Result<Clock, Refusal>
+    requires { AreTops kept.now versions.now }
+    ensures ok { IfOk result (RaisesTo [] (IsClockIn versions.now)) }
+    ensures memory { IfErr result (λ e. e ≡ OutOfMemory) }
+{
+    match &kept.tops {
+        Some(tops) => tops.join.try_copy(),
+        None => join_of(alloc, versions),
     }
 }
 

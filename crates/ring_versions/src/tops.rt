@@ -1,10 +1,10 @@
 //! The join of many versions' clocks, and where to look first for a version that covers a clock.
 
-ghost use Rattle.std.specs.Prelude.{◌≡◌, ◌<◌, length, IsTrue, IfOk, IfErr, IfSome};
+ghost use Rattle.std.specs.Prelude.{◌≡◌, ◌<◌, [], length, IsTrue, IfOk, IfErr, IfSome};
 ghost use Rattle.ring_names.specs.declared.refusal.Refusal.TheVariants.{OutOfMemory};
 ghost use Rattle.ring_clock.specs.Clock.{IsAtMost};
 ghost use Rattle.ring_versions.specs.Versions.{IsIn, Covers};
-ghost use Rattle.ring_versions.specs.Tops.{IsBound};
+ghost use Rattle.ring_versions.specs.Raised.{RaisesTo, IsClockIn};
 
 use crate::joining::join_of;
 use crate::version::Version;
@@ -23,7 +23,7 @@ struct Guide {
     place: usize,
 }
 
-/// A clock that is at least those of some versions, with a guide beside each entry.
+/// The join of some versions' clocks, with a guide beside each entry.
 #[derive(Drop)]
 pub struct Tops {
     pub join: Clock,
@@ -63,7 +63,9 @@ fn guide_to(guides: &mut [Guide], join: &[Entry], version: &Version) {
 
 impl Tops {
     /// Those of no version.
-    pub fn new(alloc: Global) -> Tops {
+    pub fn new(alloc: Global) -> Tops
+        ensures { result.join ≡ [] }
+    {
         Tops {
             join: Clock::new(alloc),
             guides: Vec::new(alloc),
@@ -72,8 +74,7 @@ impl Tops {
 
     /// These raised to more versions. Costs the entries of both, and leaves the versions to be placed.
     pub fn with(&self, alloc: Global, versions: &[Version]) -> Result<Tops, Refusal>
-        ensures old { IfOk result (λ t. IsAtMost self.now.join t.join) }
-        ensures new { IfOk result (λ t. IsBound t.join versions.now) }
+        ensures ok { IfOk result (λ t. RaisesTo self.now.join (IsClockIn versions.now) t.join) }
         ensures memory { IfErr result (λ e. e ≡ OutOfMemory) }
     {
         let join = self.join.join(&join_of(alloc, versions)?)?;

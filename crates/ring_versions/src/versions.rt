@@ -4,11 +4,12 @@ ghost use Rattle.std.specs.Prelude.{◌≡◌, ◌↔◌, ◌∷◌, [], List, I
 ghost use Rattle.ring_names.specs.declared.refusal.Refusal.TheVariants.{OutOfMemory};
 ghost use Rattle.ring_versions.specs.Fresh.{IsFreshFor, FitsIn};
 ghost use Rattle.ring_versions.specs.Puts.{ArePuts};
+ghost use Rattle.ring_versions.specs.Raised.{RaisesTo, IsClockIn};
 ghost use Rattle.ring_versions.specs.Versions.{Covers, IsApart, IsMerge};
 ghost use Rattle.ring_versions.specs.declared.version.Version.{Version};
 
 use crate::fresh::Fresh;
-use crate::kept::{Kept, copied};
+use crate::kept::{Kept, copied, join};
 use crate::merge::{absorb, fresh_of, is_covered, push_copies};
 use crate::puts::puts_of;
 use crate::version::Version;
@@ -126,6 +127,14 @@ impl Versions {
         ensures memory { IfErr result (λ e. e ≡ OutOfMemory) }
     {
         puts_of(self.alloc, self.list.as_slice())
+    }
+
+    // The join of the clocks of the versions. Costs nothing for eight versions or more, and else their entries.
+    pub(crate) fn join(&self) -> Result<Clock, Refusal>
+        ensures ok { IfOk result (RaisesTo [] (IsClockIn self.now)) }
+        ensures memory { IfErr result (λ e. e ≡ OutOfMemory) }
+    {
+        join(self.alloc, &self.kept, self.list.as_slice())
     }
 
     /// The same set once more.

@@ -3,7 +3,7 @@ use Rattle.std.specs.Vec.{vec_len}
 use Rattle.std.proofs.lemmas.Bool.{eqb-true}
 use Rattle.std.proofs.lemmas.List.{nil_from_length}
 use Rattle.ring_versions.specs.Parts.{IsFresh}
-use Rattle.ring_versions.proofs.Bounds.{tops_kept}
+use Rattle.ring_versions.proofs.Raised.{tops_kept}
 use Rattle.ring_versions.proofs.Merging.{merge, merge_nothing}
 use Rattle.ring_versions.proofs.merge.absorb.Goals as goal
 

@@ -10,15 +10,12 @@ pub invariant_of-result : goal.invariant_of-result
 invariant_of-result c =
     let held = c.in_ok-versions.versions in
     let more = c.args.more.now in
-    let fresh = c.in_ok-fresh.fresh.list.items in
     let join = c.in_ok-join.join in
     let whole = c.raise.new.self in
     let was = subst (λ (d : List Entry). RaisesTo [] (IsClockIn held) d) (sym c.in_ok-join.ensures.same) (subst (λ (xs : List Version). RaisesTo [] (IsClockIn xs) c.self.inside.join) (sym c.in_ok-versions.ensures.same) c.self.invariant) in
-    let new = subst (λ (xs : List Version). RaisesTo [] (IsClockIn xs) c.in_ok-join_of.field-0) c.as_slice.ensures.value c.in_ok-join_of.ensures.ok in
-    let is = c.in_ok-fresh.ensures.ok in
-    join_merged held more fresh c.absorb.new.self join whole is.fresh (c.absorb.ensures more is) was (raised_by_join join whole c.in_ok-join_of.field-0 fresh c.in_ok-raise.ensures.ok new)
+    join_merged held more c.merge.new.self join whole c.in_ok-merge.ensures.ok was (raised_by_join join whole c.in_ok-join-2.field-0 more c.in_ok-raise.ensures.ok c.in_ok-join-2.ensures.ok)
 
 pub returns-clause-ok : goal.returns-clause-ok
 returns-clause-ok c =
-    let merged = λ (xs : List Version). IsMerge xs c.args.more.now c.absorb.new.self in
-    subst merged c.self.view_is (subst merged c.in_ok-versions.ensures.same (c.absorb.ensures c.args.more.now c.in_ok-fresh.ensures.ok))
+    let merged = λ (xs : List Version). IsMerge xs c.args.more.now c.merge.new.self in
+    subst merged c.self.view_is (subst merged c.in_ok-versions.ensures.same c.in_ok-merge.ensures.ok)

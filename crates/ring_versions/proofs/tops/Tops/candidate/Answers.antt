@@ -1,4 +1,4 @@
-use Rattle.ring_versions.proofs.Bounds.{got}
+use Rattle.ring_versions.proofs.Members.{got}
 use Rattle.ring_versions.proofs.tops.Tops.candidate.Goals as goal
 
 pub returns : goal.returns
