@@ -2,7 +2,7 @@
 use Rattle.std.proofs.Common.{◌≡◌, ℕ, Bool, true, false, not, nat_lt, ◌&&◌, ◌==◌, List, [], ◌∷◌, ◌++◌, length, map, codes, Ok, refl, sym, ap, ◌∙◌, rules, append_assoc}
 use Rattle.std.specs.Prelude.{slice_get, Some, None}
 use Rattle.std.specs.List.{list_all, AllByRecursion}
-use Rattle.std.proofs.lemmas.Bool.{eqb-true, and_parts, lt-ltb, ltb-true}
+use Rattle.std.proofs.lemmas.Bool.{eqb-true, and_parts, lt-ltb, ltb-true, not-true, and_from, or_from}
 use Rattle.ring_names.specs.Lists.{has, all_different}
 use Rattle.ring_names.specs.declared.ids.NodeId.{NodeId}
 use Rattle.texts.specs.Left.{Left, is_word, one_line, then_part}
@@ -21,26 +21,23 @@ use Rattle.change_text.specs.declared.change.Change.{Change}
 use Rattle.change_text.specs.Valid.{may_join, may_leave, IsChange}
 use Rattle.change_text.specs.Spelling.{node_fields, change_lines, change_text}
 use Rattle.change_text.specs.Reading.{join_at, leave_at, joins_at, leaves_at, change_of, change_at, change_reading}
-use Rattle.change_text.proofs.Different.{numbers, neither-of, not_true, different-next, new-there}
+use Rattle.change_text.proofs.Different.{numbers, different-next, new-there}
 use Rattle.change_text.proofs.ChangeLines.{names-of, is-node, has-name, IsJoin, join-line, IsLeave, leave-line}
 
 -- ---- nodes that lines may name, each behind those in front of it
 
-both_true : (a b : Bool) → a ≡ true → b ≡ true → (a && b) ≡ true
-both_true a b e f = rw (e, f) refl
-
 joins-may : (ring : RingValue) (seen xs : List NodeId) → EachNext (IsJoin ring) seen xs → list_all (may_join ring) xs ≡ true
 joins-may ring seen [] next = refl
 joins-may ring seen (x ∷ xs) next =
-    both_true (may_join ring x) (list_all (may_join ring) xs)
-    (both_true (nat_lt x.0 (length ring.nodes)) (not (is_member ring.nodes x)) (lt-ltb x.0 (length ring.nodes) (is-node ring x next.0.declared)) (ap not next.0.out))
+    and_from (may_join ring x) (list_all (may_join ring) xs)
+    (and_from (nat_lt x.0 (length ring.nodes)) (not (is_member ring.nodes x)) (lt-ltb x.0 (length ring.nodes) (is-node ring x next.0.declared)) (ap not next.0.out))
     (joins-may ring (seen ++ x ∷ []) xs next.1)
 
 leaves-may : (ring : RingValue) (joins seen xs : List NodeId) → EachNext (IsLeave ring joins) seen xs → list_all (may_leave ring) xs ≡ true
 leaves-may ring joins seen [] next = refl
 leaves-may ring joins seen (x ∷ xs) next =
-    both_true (may_leave ring x) (list_all (may_leave ring) xs)
-    (both_true (nat_lt x.0 (length ring.nodes)) (is_member ring.nodes x) (lt-ltb x.0 (length ring.nodes) (is-node ring x next.0.declared)) next.0.member)
+    and_from (may_leave ring x) (list_all (may_leave ring) xs)
+    (and_from (nat_lt x.0 (length ring.nodes)) (is_member ring.nodes x) (lt-ltb x.0 (length ring.nodes) (is-node ring x next.0.declared)) next.0.member)
     (leaves-may ring joins (seen ++ x ∷ []) xs next.1)
 
 -- the list behind one more node
@@ -53,7 +50,7 @@ joins-next ring seen (x ∷ xs) may e =
     let m = and_parts (may_join ring x) (list_all (may_join ring) xs) may in
     let n = and_parts (nat_lt x.0 (length ring.nodes)) (not (is_member ring.nodes x)) m.0 in
     let more : all_different (numbers (rest_of seen x xs)) ≡ true = ap (λ (l : List NodeId). all_different (numbers l)) (append_assoc seen (x ∷ []) xs) ∙ e in (
-      record { declared = has-name ring x (ltb-true x.0 (length ring.nodes) n.0); out = not_true (is_member ring.nodes x) n.1; new = new-there seen x xs e },
+      record { declared = has-name ring x (ltb-true x.0 (length ring.nodes) n.0); out = not-true (is_member ring.nodes x) n.1; new = new-there seen x xs e },
       joins-next ring (seen ++ x ∷ []) xs m.1 more,
     )
 
@@ -67,7 +64,7 @@ stays-out ring x [] member may = refl
 stays-out ring x (y ∷ ys) member may =
     let m = and_parts (may_join ring y) (list_all (may_join ring) ys) may in
     let n = and_parts (nat_lt y.0 (length ring.nodes)) (not (is_member ring.nodes y)) m.0 in
-    neither-of (x.0 == y.0) (has x.0 (numbers ys)) (other (x.0 == y.0) refl (not_true (is_member ring.nodes y) n.1)) (stays-out ring x ys member m.1)
+    or_from (x.0 == y.0) (has x.0 (numbers ys)) (other (x.0 == y.0) refl (not-true (is_member ring.nodes y) n.1)) (stays-out ring x ys member m.1)
   where
     other : (b : Bool) → (x.0 == y.0) ≡ b → is_member ring.nodes y ≡ false → b ≡ false
     other false e out = refl

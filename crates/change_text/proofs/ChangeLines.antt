@@ -1,7 +1,7 @@
 -- The lines of a change are read only if they are spelled so.
 use Rattle.std.proofs.Common.{◌≡◌, ℕ, ◌<◌, true, false, not, ◌||◌, List, [], ◌∷◌, length, map, codes, Result, Ok, Err, refl, sym, ap, arith}
 use Rattle.std.specs.Prelude.{IfOk}
-use Rattle.std.proofs.lemmas.Bool.{not-false}
+use Rattle.std.proofs.lemmas.Bool.{not-false, or_parts, or_from}
 use Rattle.std.proofs.lemmas.List.{length-map}
 use Rattle.ring_names.specs.Lists.{has}
 use Rattle.ring_names.specs.declared.ids.NodeId.{NodeId}
@@ -21,7 +21,7 @@ use Rattle.ring_table.proofs.NodesLaws.{names-of_nodes}
 use Rattle.ring_table.proofs.RowLaws.{AreNames, IsItem-declared}
 use Rattle.change_text.specs.Spelling.{node_fields}
 use Rattle.change_text.specs.Reading.{joining_at, leaving_at, join_at, leave_at}
-use Rattle.change_text.proofs.Different.{numbers, neither, neither-of}
+use Rattle.change_text.proofs.Different.{numbers}
 
 pub names-of : (ring : RingValue) → IsRing ring → AreNames (names_of ring)
 names-of ring r = names-of_nodes ring.format ring.nodes (record { some_node = r.some_node; nodes = r.nodes; each_node = r.each_node; names = r.names })
@@ -69,8 +69,8 @@ join-line ring good seen k =
     let pair = IsItem-⊗ (word_at k (codes "join")) (joining_at ring seen k) (λ x. codes "join" ∷ []) (λ x. name_at (names_of ring) x ∷ []) Nothing _ (IsItem-word k (codes "join")) (item-joining ring seen k good) in
     let line = IsLine-map {B = NodeId} _ _ _ (λ x. x.1) (λ v. (tt {0}, v)) (λ a. refl) (λ b. refl) (IsLine-whole k _ _ _ pair) in
     IsLine-as _ _ _ _ _ (λ v. refl)
-    (λ v p. let n = neither (is_member ring.nodes v) (has v.0 (numbers seen)) p.1.1.0 in record { declared = p.1.0; out = n.0; new = n.1 })
-    (λ v p. (tt, (p.declared, (neither-of (is_member ring.nodes v) (has v.0 (numbers seen)) p.out p.new, tt))))
+    (λ v p. let n = or_parts (is_member ring.nodes v) (has v.0 (numbers seen)) p.1.1.0 in record { declared = p.1.0; out = n.0; new = n.1 })
+    (λ v p. (tt, (p.declared, (or_from (is_member ring.nodes v) (has v.0 (numbers seen)) p.out p.new, tt))))
     line
 
 pub leave-line : (ring : RingValue) → AreNames (names_of ring) → (joins seen : List NodeId) (k : ℕ) → IsLine (leave_at ring joins seen k) (node_fields (codes "leave") (names_of ring)) (IsLeave ring joins seen)
@@ -79,8 +79,8 @@ leave-line ring good joins seen k =
     let pair = IsItem-⊗ (word_at k (codes "leave")) (leaving_at ring joins seen k) (λ x. codes "leave" ∷ []) (λ x. name_at (names_of ring) x ∷ []) Nothing _ (IsItem-word k (codes "leave")) (item-leaving ring joins seen k good) in
     let line = IsLine-map {B = NodeId} _ _ _ (λ x. x.1) (λ v. (tt {0}, v)) (λ a. refl) (λ b. refl) (IsLine-whole k _ _ _ pair) in
     IsLine-as _ _ _ _ _ (λ v. refl)
-    (λ v p. let n = neither (has v.0 (numbers joins)) (has v.0 (numbers seen)) p.1.1.0 in record { declared = p.1.0; member = not-false (is_member ring.nodes v) p.1.1.1.0; stays = n.0; new = n.1 })
-    (λ v p. (tt, (p.declared, (neither-of (has v.0 (numbers joins)) (has v.0 (numbers seen)) p.stays p.new, (ap not p.member, tt)))))
+    (λ v p. let n = or_parts (has v.0 (numbers joins)) (has v.0 (numbers seen)) p.1.1.0 in record { declared = p.1.0; member = not-false (is_member ring.nodes v) p.1.1.1.0; stays = n.0; new = n.1 })
+    (λ v p. (tt, (p.declared, (or_from (has v.0 (numbers joins)) (has v.0 (numbers seen)) p.stays p.new, (ap not p.member, tt)))))
     line
 
 -- ---- what the code keeps of a line

@@ -4,6 +4,8 @@ use Rattle.std.specs.Prelude.{slice_get, Some, None}
 use Rattle.std.proofs.lemmas.List.{map_push}
 use Rattle.ring_names.specs.Lists.{has}
 use Rattle.ring_names.specs.declared.ids.NodeId.{NodeId}
+use Rattle.ring_names.proofs.Logic.{or_swapped}
+use Rattle.ring_names.proofs.InLists.{has_push}
 use Rattle.change_text.specs.Draft.{names}
 
 -- flags that are all false mark nothing
@@ -12,18 +14,8 @@ none-marked zero x = refl
 none-marked (suc n) zero = refl
 none-marked (suc n) (suc x) = none-marked n x
 
-or_first : (a b c : Bool) → (a || (b || c)) ≡ (b || (a || c))
-or_first true true c = refl
-or_first true false c = refl
-or_first false true c = refl
-or_first false false c = refl
-
-pub has-push : (xs : List ℕ) (x y : ℕ) → has y (xs ++ x ∷ []) ≡ ((y == x) || has y xs)
-has-push [] x y = refl
-has-push (z ∷ zs) x y = ap (λ (b : Bool). (y == z) || b) (has-push zs x y) ∙ or_first (y == z) (y == x) (has y zs)
-
 has-more : (xs : List NodeId) (n x : NodeId) → has x.0 (map (λ (y : NodeId). y.0) (xs ++ n ∷ [])) ≡ ((x.0 == n.0) || has x.0 (map (λ (y : NodeId). y.0) xs))
-has-more xs n x = ap (has x.0) (map_push (λ (y : NodeId). y.0) xs n) ∙ has-push (map (λ (y : NodeId). y.0) xs) n.0 x.0
+has-more xs n x = ap (has x.0) (map_push (λ (y : NodeId). y.0) xs n) ∙ has_push (map (λ (y : NodeId). y.0) xs) n.0 x.0
 
 or_front : (a b c d : Bool) → b ≡ (a || c) → (b || d) ≡ (a || (c || d))
 or_front true b c d e = rw e refl
@@ -35,4 +27,4 @@ names-join joins leaves n x = or_front (x.0 == n.0) _ _ _ (has-more joins n x)
 
 pub names-leave : (joins leaves : List NodeId) (n x : NodeId) → names (record { joins = joins; leaves = leaves ++ n ∷ [] }) x ≡ ((x.0 == n.0) || names (record { joins = joins; leaves = leaves }) x)
 names-leave joins leaves n x =
-    ap (λ (b : Bool). has x.0 (map (λ (y : NodeId). y.0) joins) || b) (has-more leaves n x) ∙ or_first (has x.0 (map (λ (y : NodeId). y.0) joins)) (x.0 == n.0) (has x.0 (map (λ (y : NodeId). y.0) leaves))
+    ap (λ (b : Bool). has x.0 (map (λ (y : NodeId). y.0) joins) || b) (has-more leaves n x) ∙ or_swapped (has x.0 (map (λ (y : NodeId). y.0) joins)) (x.0 == n.0) (has x.0 (map (λ (y : NodeId). y.0) leaves))

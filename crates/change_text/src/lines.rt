@@ -74,7 +74,8 @@ fn judge_leave(ring: &Ring, draft: &Draft, mut fields: Fields) -> Result<NodeId,
 
 /// What the line of a leave says, behind what was read. Takes no memory.
 pub fn leave_line(ring: &Ring, draft: &Draft, fields: Fields) -> Result<NodeId, Refusal>
-    ensures value { result ≡ leave_at ring.now draft.now.joins draft.now.leaves fields.entry.number fields.entry.fields }
+    ensures value { result
+        ≡ leave_at ring.now draft.now.joins draft.now.leaves fields.entry.number fields.entry.fields }
     ensures small { IfOk result (λ x. x.0 < 1024) }
     ensures at { IfErr result (λ e. IsAt fields.entry.number e) }
 {

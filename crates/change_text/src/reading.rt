@@ -21,7 +21,8 @@ use texts::{Lines, end, header};
 // Reads joins, as long as lines begin so.
 fn read_joins(ring: &Ring, draft: &mut Draft, lines: &mut Lines) -> Result<(), Refusal>
     requires { draft.old.leaves ≡ [] }
-    ensures read { Reads (map_ok (λ _. draft.new.joins) result) lines.new (joins_from ring.now draft.old.joins lines.old) }
+    ensures read { Reads (map_ok (λ _. draft.new.joins) result) lines.new
+        (joins_from ring.now draft.old.joins lines.old) }
     ensures leaves { OnOk result (draft.new.leaves ≡ []) }
     ensures late { Late 1 result lines.old lines.new (joins_from ring.now draft.old.joins lines.old) }
 {
@@ -35,7 +36,8 @@ fn read_joins(ring: &Ring, draft: &mut Draft, lines: &mut Lines) -> Result<(), R
 
 // Reads leaves behind the joins, as long as lines begin so.
 fn read_leaves(ring: &Ring, draft: &mut Draft, lines: &mut Lines) -> Result<(), Refusal>
-    ensures read { Reads (map_ok (λ _. draft.new.leaves) result) lines.new (leaves_from ring.now draft.old.joins draft.old.leaves lines.old) }
+    ensures read { Reads (map_ok (λ _. draft.new.leaves) result) lines.new
+        (leaves_from ring.now draft.old.joins draft.old.leaves lines.old) }
     ensures joins { OnOk result (draft.new.joins ≡ draft.old.joins) }
     ensures late { Late 1 result lines.old lines.new (leaves_from ring.now draft.old.joins draft.old.leaves lines.old) }
 {

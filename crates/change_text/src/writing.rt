@@ -29,7 +29,8 @@ fn push_nodes(
     word: &[u8],
     nodes: &[NodeId],
 ) -> Result<(), AllocError>
-    ensures { OnOk result (out.new.items ≡ out.old.items ++ text_of (map (node_fields word.now (names_of ring.now)) nodes.now)) }
+    ensures { OnOk result
+        (out.new.items ≡ out.old.items ++ text_of (map (node_fields word.now (names_of ring.now)) nodes.now)) }
 {
     for node in nodes {
         push_node(out, ring, word, *node)?;

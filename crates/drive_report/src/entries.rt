@@ -32,7 +32,8 @@ pub(crate) fn entry_values(
     writers: &Names,
     history: &[Entry],
 ) -> Result<Vec<Value>, Refusal>
-    ensures values { IfOk result (λ v. map view v.items ≡ map (entry_data (names_of ring.now) writers.now) history.now) }
+    ensures values { IfOk result
+        (λ v. map view v.items ≡ map (entry_data (names_of ring.now) writers.now) history.now) }
     ensures refused { IfErr result (IsRefused ring.now writers.now history.now) }
 {
     let mut out = Vec::new(alloc);

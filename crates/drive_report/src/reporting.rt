@@ -23,7 +23,8 @@ pub fn report(
     outcome: &Outcome,
     workers: u32,
 ) -> Result<Value, Refusal>
-    ensures value { IfOk result (λ v. view v ≡ report_value approved.now.ring writers.now outcome.now.history.items outcome.now.finishers.items workers) }
+    ensures value { IfOk result (λ v. view v
+        ≡ report_value approved.now.ring writers.now outcome.now.history.items outcome.now.finishers.items workers) }
     ensures refused { IfErr result (IsRefused approved.now.ring writers.now outcome.now.history.items) }
 {
     let events = entry_values(alloc, approved.ring(), writers, outcome.history.as_slice())?;
@@ -49,7 +50,10 @@ pub fn write_report(
     outcome: &Outcome,
     workers: u32,
 ) -> Result<Vec<u8>, Refusal>
-    ensures text { IfOk result (λ v. v.items ≡ compact_text (report_value approved.now.ring writers.now outcome.now.history.items outcome.now.finishers.items workers) ++ 10 ∷ []) }
+    ensures text { IfOk result
+        (λ v. v.items ≡ compact_text
+        (report_value approved.now.ring writers.now outcome.now.history.items outcome.now.finishers.items workers)
+        ++ 10 ∷ []) }
     ensures refused { IfErr result (IsRefused approved.now.ring writers.now outcome.now.history.items) }
 {
     let value = report(alloc, approved, writers, outcome, workers)?;

@@ -21,7 +21,8 @@ fn read_next(
     scripts: &mut Vec<Script>,
     lines: &mut Lines,
 ) -> Result<(), Refusal>
-    ensures read { Reads (map_ok (λ _. (scripts.new.items, writers.new)) result) lines.new (next_at ring.now (scripts.old.items, writers.old) lines.old) }
+    ensures read { Reads (map_ok (λ _. (scripts.new.items, writers.new)) result) lines.new
+        (next_at ring.now (scripts.old.items, writers.old) lines.old) }
     ensures late { Late 0 result lines.old lines.new (next_at ring.now (scripts.old.items, writers.old) lines.old) }
 {
     let script = read_client_section(alloc, ring, writers, lines)?;
@@ -37,8 +38,10 @@ fn read_more(
     scripts: &mut Vec<Script>,
     lines: &mut Lines,
 ) -> Result<(), Refusal>
-    ensures read { Reads (map_ok (λ _. (scripts.new.items, writers.new)) result) lines.new (scripts_from 7 ring.now (scripts.old.items, writers.old) lines.old) }
-    ensures late { Late 0 result lines.old lines.new (scripts_from 7 ring.now (scripts.old.items, writers.old) lines.old) }
+    ensures read { Reads (map_ok (λ _. (scripts.new.items, writers.new)) result) lines.new
+        (scripts_from 7 ring.now (scripts.old.items, writers.old) lines.old) }
+    ensures late { Late 0 result lines.old lines.new
+        (scripts_from 7 ring.now (scripts.old.items, writers.old) lines.old) }
 {
     let mut left = 7u32;
     'scripts: while left > 0 {

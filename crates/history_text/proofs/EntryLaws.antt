@@ -12,6 +12,7 @@ use Rattle.ring_names.specs.declared.ids.NodeId.{NodeId}
 use Rattle.ring_names.specs.declared.ids.WriterId.{WriterId}
 use Rattle.ring_names.specs.declared.refusal.Refusal.{Refusal}
 use Rattle.ring_names.specs.declared.refusal.Refusal.TheVariants.{BadLine}
+use Rattle.ring_names.proofs.InLists.{get_there}
 use Rattle.texts.specs.Cuts.{front_of, behind_of}
 use Rattle.texts.specs.Name.{is_name}
 use Rattle.texts.specs.Numbers.{are_small}
@@ -35,7 +36,7 @@ use Rattle.script_text.specs.Known.{IsKnown}
 use Rattle.script_text.specs.Said.{event_of, names_after}
 use Rattle.script_text.specs.Spelling.{seen_fields, writer_at, event_fields}
 use Rattle.script_text.specs.Valid.{AreWriters, IsCount, AreGets, IsEvent}
-use Rattle.script_text.proofs.FieldLaws.{get-some, named-at, writer_at-is}
+use Rattle.script_text.proofs.FieldLaws.{named-at, writer_at-is}
 use Rattle.script_text.specs.declared.said.SaidEvent.{SaidEvent}
 use Rattle.script_text.proofs.KindLaws.{IsSaid, said_fields}
 use Rattle.script_text.proofs.WriterLaws.{after-writers}
@@ -93,7 +94,7 @@ key-other key is = other-by is_key key is refl
 
 writer-other : (names : List (List ℕ)) (w : WriterId) → list_all is_name names ≡ true → w.0 < length names → bytes_eq (writer_at names w) sign ≡ false
 writer-other names w all lt =
-    let got = get-some names w.0 lt in
+    let got = get_there names w.0 lt in
     rw (writer_at-is names w got.0 got.1) (name-other got.0 (named-at names w.0 got.0 all got.1))
 
 numbers-other : (xs : List ℕ) → AllByRecursion IsCount xs → AreOther sign (map decimal xs)

@@ -24,7 +24,7 @@ use Rattle.script_text.specs.Said.{event_of, names_after}
 use Rattle.script_text.specs.declared.said.SaidEvent.{SaidEvent}
 use Rattle.script_text.specs.Spelling.{event_fields}
 use Rattle.script_text.specs.Valid.{AreWriters, IsEvent, IsScriptOf}
-use Rattle.script_text.proofs.SaidLines.{events_of, names_behind, EachSaid, Ends, ends-any, goes-on, tail_is, first-ok}
+use Rattle.script_text.proofs.SaidLines.{events_of, names_behind, EachSaid, Ends, ends-any, goes-on, first-ok}
 use Rattle.script_text.proofs.ScriptLaws.{names-of, events-plain, both-all, valid-of, of-valid}
 use Rattle.script_text.proofs.SightLaws.{rest-of, few-said, behind-writers, fields-more, lines-for}
 use Rattle.script_text.proofs.WriterLaws.{front-writers, after-writers}
@@ -35,6 +35,7 @@ use Rattle.history_text.specs.Valid.{IsReply, IsHistoryOf}
 use Rattle.history_text.proofs.EntryLaws.{sign, entry_fields, said_entry, entry-text, IsSaidEntry, entry-said}
 use Rattle.history_text.proofs.EventLaws.{events_in, events-count}
 use Rattle.history_text.proofs.ReplyLaws.{reply_fields, reply-plain}
+use Rattle.texts.proofs.Many.{tail_is}
 
 -- ---- the entries that some lines say
 

@@ -2,18 +2,17 @@
 use Rattle.std.proofs.Common.{◌≡◌, ℕ, ◌<◌, ◌≤◌, Bool, true, false, cond, nat_lt, List, [], ◌∷◌, ◌++◌, map, codes, Result, Ok, Err, refl, sym, ap, subst, ◌∙◌, arith, rules}
 use Rattle.std.specs.Fmt.{decimal}
 use Rattle.std.specs.List.{list_all, AllByRecursion, flat_map}
-use Rattle.std.specs.Str.{bytes_eq}
 use Rattle.std.proofs.lemmas.Bool.{ltb-true, lt-ltb, and_parts, and_from}
 use Rattle.std.proofs.lemmas.List.Concat.{flat_map-cons}
-use Rattle.std.proofs.lemmas.Slice.Eq.{bytes_eq-Decides}
 use Rattle.ring_names.specs.declared.refusal.Refusal.{Refusal}
 use Rattle.ring_names.specs.declared.refusal.Refusal.TheVariants.{BadLine, TooLarge}
+use Rattle.ring_names.proofs.Logic.{pair_is}
 use Rattle.texts.specs.Parts.{spaced}
 use Rattle.texts.specs.Numbers.{numbers_of, beyond, are_small}
 use Rattle.texts.specs.Judging.{Item, ◌⊗◌, map_ok, map_item, whole}
 use Rattle.texts.specs.Laws.{IsItem, IsLine, IsPlain}
 use Rattle.texts.proofs.Items.{IsItem-⊗, ok_is}
-use Rattle.texts.proofs.Fronts.{Free, Last, IsFront, front-item, front-whole, front-word, numbers-taken, numbers-given, pair_is}
+use Rattle.texts.proofs.Fronts.{Free, Last, IsFront, front-item, front-whole, front-word, numbers-taken, numbers-given}
 use Rattle.texts.proofs.Rows.{numbers-plain}
 use Rattle.texts.proofs.Wholes.{decimal-plain}
 use Rattle.plan_check.specs.declared.event.Reply.{Reply}
@@ -24,6 +23,7 @@ use Rattle.script_text.specs.Valid.{IsCount}
 use Rattle.script_text.proofs.FieldLaws.{item-count}
 use Rattle.history_text.specs.Reading.{judge_numbers, numbers_at, ticket_at, reply_at}
 use Rattle.history_text.specs.Valid.{IsReply}
+use Rattle.script_text.proofs.KindLaws.{choose}
 
 -- the fields of a reply
 abbrev pub reply_fields : Reply → List (List ℕ)
@@ -91,14 +91,6 @@ front-numbers k = record { takes = take; gives = give }
 -- a reply that was read, or is given back
 abbrev Pair : Type 0
 Pair = Result Reply Refusal × List (List ℕ)
-
--- the word in front is this one, or reading goes on
-choose : (G : Type 0) (word : List ℕ) (z : Pair) (w : List ℕ) (x y : Pair) → cond (bytes_eq word w) x y ≡ z → ((word ≡ w) × (x ≡ z) → G) → (y ≡ z → G) → G
-choose G word z w x y e f g = by (bytes_eq word w) refl e
-  where
-    by : (b : Bool) → bytes_eq word w ≡ b → cond b x y ≡ z → G
-    by true h i = f ((bytes_eq-Decides word w).0 h, i)
-    by false h i = g i
 
 -- the fields are those of what was read, and it is allowed
 abbrev Spelled : List (List ℕ) → List (List ℕ) → Reply → Type 0

@@ -68,7 +68,8 @@ pub fn entry_line<'a>(
     history: &[Entry],
     fields: Fields<'a>,
 ) -> Result<(SaidEvent<'a>, SaidReply<'a>), Refusal>
-    ensures value { map_ok said_of result ≡ said_at ring.now history.now names.now fields.entry.number fields.entry.fields }
+    ensures value { map_ok said_of result
+        ≡ said_at ring.now history.now names.now fields.entry.number fields.entry.fields }
     ensures room { IfOk result (λ x. length history.now < 1000000) }
     ensures fits { IfOk result (λ x. Fits names.now x.0) }
     ensures at { IfErr result (λ e. IsAt fields.entry.number e) }

@@ -27,9 +27,11 @@ fn read_into(
     lines: &mut Lines,
 ) -> Result<(), Refusal>
     requires none { seen.old.items ≡ [] }
-    ensures read { Reads (map_ok (λ _. (seen.new.items, writers.new)) result) lines.new (entries_from ring.now seen.old.items writers.old lines.old.line lines.old.lines) }
+    ensures read { Reads (map_ok (λ _. (seen.new.items, writers.new)) result) lines.new
+        (entries_from ring.now seen.old.items writers.old lines.old.line lines.old.lines) }
     ensures few { OnOk result (length seen.new.items ≤ 1000000) }
-    ensures late { Late 1 result lines.old lines.new (entries_from ring.now seen.old.items writers.old lines.old.line lines.old.lines) }
+    ensures late { Late 1 result lines.old lines.new
+        (entries_from ring.now seen.old.items writers.old lines.old.line lines.old.lines) }
 {
     'entries: while !lines.begins(b"end") {
         let fields = lines.next()?;
@@ -47,7 +49,8 @@ fn read_entries(
     writers: &mut Names,
     lines: &mut Lines,
 ) -> Result<Vec<Entry>, Refusal>
-    ensures read { Reads (map_ok (λ h. (h.items, writers.new)) result) lines.new (entries_at ring.now writers.old lines.old) }
+    ensures read { Reads (map_ok (λ h. (h.items, writers.new)) result) lines.new
+        (entries_at ring.now writers.old lines.old) }
     ensures few { IfOk result (λ h. length h.items ≤ 1000000) }
     ensures late { Late 1 result lines.old lines.new (entries_at ring.now writers.old lines.old) }
 {
@@ -64,7 +67,8 @@ fn read_parts(
     writers: &mut Names,
     lines: &mut Lines,
 ) -> Result<Vec<Entry>, Refusal>
-    ensures read { Reads (map_ok (λ h. (h.items, writers.new)) result) lines.new (history_at ring.now writers.old lines.old) }
+    ensures read { Reads (map_ok (λ h. (h.items, writers.new)) result) lines.new
+        (history_at ring.now writers.old lines.old) }
     ensures few { IfOk result (λ h. length h.items ≤ 1000000) }
     ensures late { Late 2 result lines.old lines.new (history_at ring.now writers.old lines.old) }
 {
@@ -82,7 +86,8 @@ pub fn read_history_section(
     writers: &mut Names,
     lines: &mut Lines,
 ) -> Result<Vec<Entry>, Refusal>
-    ensures read { Reads (map_ok (λ h. (h.items, writers.new)) result) lines.new (history_at ring.now writers.old lines.old) }
+    ensures read { Reads (map_ok (λ h. (h.items, writers.new)) result) lines.new
+        (history_at ring.now writers.old lines.old) }
     // What is read is a history over the ring, if the writers that were seen are at most 1,024 names.
     ensures found { IfOk result (λ h. AreWriters writers.old → IsHistoryOf ring.now writers.old writers.new h.items) }
     ensures few { IfOk result (λ h. length h.items ≤ 1000000) }
@@ -102,8 +107,10 @@ fn read_whole(
     writers: &mut Names,
     text: &[u8],
 ) -> Result<Vec<Entry>, Refusal>
-    ensures exact { Gives (map_ok (λ h. (h.items, writers.new)) result) (history_reading ring.now writers.old text.now) }
-    ensures late { IfErr result (λ e. e ≡ OutOfMemory → NoFaultBefore 3 (history_reading ring.now writers.old text.now)) }
+    ensures exact { Gives (map_ok (λ h. (h.items, writers.new)) result)
+        (history_reading ring.now writers.old text.now) }
+    ensures late { IfErr result
+        (λ e. e ≡ OutOfMemory → NoFaultBefore 3 (history_reading ring.now writers.old text.now)) }
 {
     let mut lines = Lines::of(text);
     let history = read_history_section(alloc, ring, writers, &mut lines)?;
@@ -124,14 +131,18 @@ pub fn read_history(
     text: &[u8],
 ) -> Result<Vec<Entry>, Refusal>
     // What is read is a history over the ring, if the writers that were seen are at most 1,024 names, and the text is its one text.
-    ensures found { IfOk result (λ h. AreWriters writers.old → IsHistoryOf ring.now writers.old writers.new h.items × (text.now ≡ history_text ring.now writers.new h.items)) }
+    ensures found { IfOk result (λ h. AreWriters writers.old → IsHistoryOf ring.now writers.old writers.new h.items
+        × (text.now ≡ history_text ring.now writers.new h.items)) }
     // And each history over the ring is read from its text, unless memory runs out.
-    ensures only { (h : List Entry) (names : List (List ℕ)) → IsHistoryOf ring.now writers.old names h → text.now ≡ history_text ring.now names h
+    ensures only { (h : List Entry) (names : List (List ℕ)) → IsHistoryOf ring.now writers.old names h
+        → text.now ≡ history_text ring.now names h
         → Gives {A = List Entry × List (List ℕ)} (map_ok (λ h. (h.items, writers.new)) result) (Ok (h, names)) }
     // Which history it is, or which fault.
-    ensures exact { Gives (map_ok (λ h. (h.items, writers.new)) result) (history_reading ring.now writers.old text.now) }
+    ensures exact { Gives (map_ok (λ h. (h.items, writers.new)) result)
+        (history_reading ring.now writers.old text.now) }
     // Memory may run out only if the first two lines have no fault.
-    ensures late { IfErr result (λ e. e ≡ OutOfMemory → NoFaultBefore 3 (history_reading ring.now writers.old text.now)) }
+    ensures late { IfErr result
+        (λ e. e ≡ OutOfMemory → NoFaultBefore 3 (history_reading ring.now writers.old text.now)) }
 {
     // A ring is valid, which the prover knows once a number of it is read.
     let slots = ring.n();

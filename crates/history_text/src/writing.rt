@@ -36,7 +36,8 @@ fn push_entries(
     writers: &Names,
     history: &[Entry],
 ) -> Result<(), AllocError>
-    ensures { OnOk result (out.new.items ≡ out.old.items ++ flat_map (entry_line (names_of ring.now) writers.now) history.now) }
+    ensures { OnOk result
+        (out.new.items ≡ out.old.items ++ flat_map (entry_line (names_of ring.now) writers.now) history.now) }
 {
     for entry in history {
         push_entry(out, ring, writers, entry)?;

@@ -1,21 +1,21 @@
 -- The lines of a certificate are read only if they are spelled so.
-use Rattle.std.proofs.Common.{◌≡◌, ℕ, ◌<◌, ◌≤◌, Bool, true, false, cond, not, nat_lt, nat_le, List, [], ◌∷◌, ◌++◌, length, map, codes, Result, Ok, Err, refl, sym, ap, subst, ◌∙◌, arith}
+use Rattle.std.proofs.Common.{◌≡◌, ℕ, ◌<◌, ◌≤◌, Bool, true, false, cond, not, nat_lt, nat_le, List, [], ◌∷◌, ◌++◌, length, map, codes, Result, Ok, Err, refl, sym, ap, subst, ◌∙◌}
 use Rattle.std.specs.Prelude.{IfOk, OnOk, is_some}
 use Rattle.std.specs.Str.{bytes_eq}
 use Rattle.std.proofs.lemmas.Slice.Eq.{bytes_eq-Decides}
 use Rattle.std.specs.Fmt.{decimal}
 use Rattle.std.proofs.lemmas.Bool.{lt-ltb, ltb-true, not-false}
-use Rattle.std.proofs.lemmas.Bool.Decides.{nat_tests}
 use Rattle.ring_names.specs.declared.ids.NodeId.{NodeId}
 use Rattle.ring_names.specs.declared.refusal.Refusal.{Refusal}
 use Rattle.ring_names.specs.declared.refusal.Refusal.TheVariants.{BadLine, TooLarge}
+use Rattle.ring_names.proofs.Logic.{pair_is, pair_of}
 use Rattle.texts.specs.Numbers.{numbers_of, beyond, are_small}
 use Rattle.texts.specs.Judging.{Item, field_at, word_at, need_at, map_ok}
 use Rattle.texts.specs.Left.{◌>>=◌}
 use Rattle.texts.specs.Laws.{IsItem, IsLine}
 use Rattle.texts.proofs.FrameLaws.{Nothing}
 use Rattle.texts.proofs.Items.{IsItem-⊗, IsItem-word, IsItem-field, IsItem-need, IsLine-map, IsLine-as, ok_is, bind_ok, unless_is, unless_ok}
-use Rattle.texts.proofs.Fronts.{Free, Last, IsFront, front-item, front-⊗, front-whole, numbers-taken, numbers-given, pair_is, pair_of}
+use Rattle.texts.proofs.Fronts.{Free, Last, IsFront, front-item, front-⊗, front-whole, numbers-taken, numbers-given}
 use Rattle.ring_table.specs.declared.allowance.NodeSide.{NodeSide}
 use Rattle.ring_table.specs.declared.allowance.Side.{Side}
 use Rattle.ring_table.specs.declared.allowance.Side.TheVariants.{Both, Take, Give}
@@ -36,9 +36,6 @@ pub names-of : (ring : RingValue) → IsRing ring → AreNames (names_of ring)
 names-of ring r = names-of_nodes ring.format ring.nodes (record { some_node = r.some_node; nodes = r.nodes; each_node = r.each_node; names = r.names })
 
 -- ---- numbers in a row
-
-le-leb : (a b : ℕ) → a ≤ b → nat_le a b ≡ true
-le-leb a b le = grind (arith, nat_tests)
 
 pub record IsPath (xs : List ℕ) : Type 0 where
   pub two : nat_le 2 (length xs) ≡ true

@@ -51,8 +51,10 @@ fn add_chain(alloc: Global, chains: &mut Chains, said: ChainLine) -> Result<(), 
 // Reads facts behind those seen, as long as lines begin so.
 fn read_facts(alloc: Global, facts: &mut Rows, lines: &mut Lines) -> Result<(), Refusal>
     requires none { facts.old ≡ [] }
-    ensures read { Reads (map_ok (λ _. facts.new) result) lines.new (many_from (is_word (codes "fact")) fact_at facts.old lines.old.line lines.old.lines) }
-    ensures late { Late 1 result lines.old lines.new (many_from (is_word (codes "fact")) fact_at facts.old lines.old.line lines.old.lines) }
+    ensures read { Reads (map_ok (λ _. facts.new) result) lines.new
+        (many_from (is_word (codes "fact")) fact_at facts.old lines.old.line lines.old.lines) }
+    ensures late { Late 1 result lines.old lines.new
+        (many_from (is_word (codes "fact")) fact_at facts.old lines.old.line lines.old.lines) }
 {
     'facts: while lines.begins(b"fact") {
         let fields = lines.next()?;
@@ -78,8 +80,10 @@ fn read_chains(
     lines: &mut Lines,
 ) -> Result<(), Refusal>
     requires none { chains.old ≡ [] }
-    ensures read { Reads (map_ok (λ _. chains.new) result) lines.new (many_from (begins_chain ring.now) (chain_at ring.now) chains.old lines.old.line lines.old.lines) }
-    ensures late { Late 1 result lines.old lines.new (many_from (begins_chain ring.now) (chain_at ring.now) chains.old lines.old.line lines.old.lines) }
+    ensures read { Reads (map_ok (λ _. chains.new) result) lines.new
+        (many_from (begins_chain ring.now) (chain_at ring.now) chains.old lines.old.line lines.old.lines) }
+    ensures late { Late 1 result lines.old lines.new
+        (many_from (begins_chain ring.now) (chain_at ring.now) chains.old lines.old.line lines.old.lines) }
 {
     'chains: while begins_chain(ring, lines) {
         let fields = lines.next()?;

@@ -39,7 +39,8 @@ fn word_of(side: Side) -> &'static [u8]
 
 // The line of a chain.
 fn push_chain(out: &mut Vec<u8>, ring: &Ring, of: NodeSide, steps: &[u32]) -> Result<(), AllocError>
-    ensures { OnOk result (out.new.items ≡ out.old.items ++ line_text (chain_fields (names_of ring.now) (chain_of of steps.now))) }
+    ensures { OnOk result
+        (out.new.items ≡ out.old.items ++ line_text (chain_fields (names_of ring.now) (chain_of of steps.now))) }
 {
     out.extend_from_slice(word_of(of.side))?;
     push_name(out, ring.nodes(), of.node)?;
@@ -60,7 +61,8 @@ fn push_facts(out: &mut Vec<u8>, facts: &Rows) -> Result<(), AllocError>
 
 // The lines of the chains.
 fn push_chains(out: &mut Vec<u8>, ring: &Ring, chains: &Chains) -> Result<(), AllocError>
-    ensures { OnOk result (out.new.items ≡ out.old.items ++ text_of (map (chain_fields (names_of ring.now)) chains.now)) }
+    ensures { OnOk result
+        (out.new.items ≡ out.old.items ++ text_of (map (chain_fields (names_of ring.now)) chains.now)) }
 {
     for place in 0..chains.len() {
         push_chain(out, ring, chains.of(place), chains.steps(place))?;

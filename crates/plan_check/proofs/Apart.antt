@@ -8,7 +8,7 @@ use Rattle.ring_names.specs.declared.ids.NodeId.{NodeId}
 use Rattle.ring_names.specs.declared.ids.Slot.{Slot}
 use Rattle.ring_table.specs.Value.{RingValue, owner_of}
 use Rattle.ring_table.specs.Valid.{IsRing, IsRow}
-use Rattle.std.proofs.lemmas.Bool.{and_parts}
+use Rattle.std.proofs.lemmas.Bool.{and_parts, not-true, or_right, cases_lt}
 use Rattle.plan_text.specs.declared.step.Step.{Step}
 use Rattle.plan_text.specs.declared.step.Step.TheVariants.{Join, Mirror, Copy, Switch, Drop, Retire}
 use Rattle.plan_text.specs.declared.step.Planned.{Planned}
@@ -25,7 +25,7 @@ use Rattle.plan_check.specs.declared.event.Entry.{Entry}
 use Rattle.plan_check.specs.Runs.{Leads}
 use Rattle.plan_check.specs.Safe.{GroupsAreApart}
 use Rattle.plan_check.specs.Headline.{Always, AreFinishedFirst}
-use Rattle.plan_check.proofs.Prefix.{order, prefix}
+use Rattle.plan_check.proofs.Prefix.{prefix}
 use Rattle.plan_check.proofs.Groups.{Served, InGroup, in_group}
 use Rattle.plan_check.proofs.Mirrored.{Known, down}
 use Rattle.plan_check.specs.Reached.{Ready}
@@ -34,14 +34,13 @@ use Rattle.plan_check.proofs.Passed.{AllMet, all_met, ready}
 use Rattle.plan_check.proofs.Storing.{without_puts_was, lose_hinted}
 use Rattle.plan_check.proofs.Reached.{event_reached, start_reached}
 use Rattle.plan_check.proofs.Entering.{Apart, Inv, MayMirror, done_apart, less_apart, hint_apart}
-use Rattle.plan_stage.proofs.Truth.{second_of_two, not_is}
 
 -- ---- steps
 
 may_do : (ring : RingValue) (w : World) (m : Option Step) (s : Slot) (x : NodeId) → m ≡ Some (Mirror s x) → AllMet (elim m [ Some t ↦ step_guards ring w t | None ↦ [] ]) → keeps_other ring w x.0 s ≡ false
 may_do ring w m s x e g =
     let h : AllMet (step_guards ring w (Mirror s x)) = subst (λ (o : Option Step). AllMet (elim o [ Some t ↦ step_guards ring w t | None ↦ [] ])) e g in
-    not_is (keeps_other ring w x.0 s) h.1.0
+    not-true (keeps_other ring w x.0 s) h.1.0
 
 do_apart : (ring : RingValue) (plan : List Planned) → Known ring plan → (w : World) (n : ℕ) (m : Option Step) → Inv ring plan w → Ready plan w.done n → MayMirror ring plan w n
     → Apart ring plan (elim m [ Some s ↦ step_effect (record w { done = with_number w.done n }) s | None ↦ w ])
@@ -63,7 +62,7 @@ no_mirror m s x c e =
 event_apart : (ring : RingValue) (plan : List Planned) → Known ring plan → (w : World) → Inv ring plan w → (e : Event) → AllMet (guards ring plan w e) → Apart ring plan (effect ring plan w e)
 unfolding guards effect
 event_apart ring plan k w i (Do n) g =
-    do_apart ring plan k w n (step_at plan n) i (ready plan w n g.1.1.0) (λ s x at. (not_is (w.done n) g.1.0, may_do ring w (step_at plan n) s x at g.1.1.1))
+    do_apart ring plan k w n (step_at plan n) i (ready plan w n g.1.1.0) (λ s x at. (not-true (w.done n) g.1.0, may_do ring w (step_at plan n) s x at g.1.1.1))
 event_apart ring plan k w i (OpenCopy n) g = i.apart
 event_apart ring plan k w i (ChunkCopy n c) g = i.apart
 event_apart ring plan k w i (CloseCopy n) g =
@@ -72,7 +71,7 @@ event_apart ring plan k w i (AbortCopy n) g = i.apart
 event_apart ring plan k w i (StartPut writer key value seen) g = less_apart ring plan w _ w.stored w.hinted w.losses w.lost i (λ x s v e. e)
 event_apart ring plan k w i (Write v j) g = less_apart ring plan w (with_ticket ring plan w v j) (served_puts ring plan w (put_slot ring w v j) (λ u. u == v)) w.hinted w.losses w.lost i (λ x s u e. e)
 event_apart ring plan k w i (Hint v j x) g =
-    hint_apart ring plan w v (put_slot ring w v j) x (with_ticket ring plan w v j) i (not_is (serves_in ring plan w (put_slot ring w v j).partition x.0) g.1.1.1.0) (not_is (keeps_other ring w x.0 (put_slot ring w v j)) g.1.1.1.1.0)
+    hint_apart ring plan w v (put_slot ring w v j) x (with_ticket ring plan w v j) i (not-true (serves_in ring plan w (put_slot ring w v j).partition x.0) g.1.1.1.0) (not-true (keeps_other ring w x.0 (put_slot ring w v j)) g.1.1.1.1.0)
 event_apart ring plan k w i (Ack v) g = less_apart ring plan w (changed w.puts v (λ x. record x { acked = true })) w.stored w.hinted w.losses w.lost i (λ x s u e. e)
 event_apart ring plan k w i (StartGet key) g = i.apart
 event_apart ring plan k w i (Read h j) g = i.apart
@@ -97,9 +96,9 @@ run_inv ring plan k (x ∷ xs) w v i l =
 
 -- ---- the start
 
-none_done : (ss : List ℕ) → count (λ n. false) ss ≡ 0
-none_done [] = refl
-none_done (s ∷ ss) = none_done ss
+pub count_zero : (ss : List ℕ) → count (λ n. false) ss ≡ 0
+count_zero [] = refl
+count_zero (s ∷ ss) = count_zero ss
 
 row_at : {A : Type 0} (P : A → Type 0) (xs : List A) (i : ℕ) (x : A) → AllByRecursion P xs → slice_get xs i ≡ Some x → P x
 row_at P [] i x a e = absurd cc
@@ -109,14 +108,14 @@ row_at P (y ∷ ys) (suc i) x a e = row_at P ys i x a.1 e
 has_at : (xs : List NodeId) (i : ℕ) (x : NodeId) → slice_get xs i ≡ Some x → has x.0 (map (λ y. y.0) xs) ≡ true
 has_at [] i x e = absurd cc
 has_at (y ∷ ys) zero x e = (let f : y ≡ x = cc in rw (eq-eqb x.0 y.0 (sym (ap (λ (z : NodeId). z.0) f))) refl)
-has_at (y ∷ ys) (suc i) x e = second_of_two (x.0 == y.0) (has x.0 (map (λ z. z.0) ys)) (has_at ys i x e)
+has_at (y ∷ ys) (suc i) x e = or_right (x.0 == y.0) (has x.0 (map (λ z. z.0) ys)) (has_at ys i x e)
 
 -- a row has no node twice
 first_again : (y : NodeId) (ys : List NodeId) (j : ℕ) (x : NodeId) → all_different (map (λ z. z.0) (y ∷ ys)) ≡ true → y ≡ x → slice_get ys j ≡ Some x → ⊥
 first_again y ys j x d g f =
     let p = and_parts (not (has y.0 (map (λ z. z.0) ys))) (all_different (map (λ z. z.0) ys)) d in
     let h = has_at ys j x f in
-    let n = not_is (has y.0 (map (λ z. z.0) ys)) p.0 in
+    let n = not-true (has y.0 (map (λ z. z.0) ys)) p.0 in
     let m : has y.0 (map (λ z. z.0) ys) ≡ true = ap (λ (z : NodeId). has z.0 (map (λ v. v.0) ys)) g ∙ h in
     absurd cc
 
@@ -132,7 +131,7 @@ once (y ∷ ys) (suc i) (suc j) x d e f =
 -- who is in a group at the start owns the slot
 at_start : (ring : RingValue) (plan : List Planned) (s : Slot) (x : ℕ) → InGroup ring plan (opening_world ring) s x → x ≡ (opening ring s).owner.0
 at_start ring plan s x g = elim g [
-  | inl h ↦ elim (subst (λ (n : ℕ). Served (stage ring plan s n) x) (none_done (steps_of plan s)) h) [
+  | inl h ↦ elim (subst (λ (n : ℕ). Served (stage ring plan s n) x) (count_zero (steps_of plan s)) h) [
     | inl e ↦ e
     | inr e ↦ absurd cc
   ]
@@ -168,7 +167,7 @@ pub finished_first : (ring : RingValue) (plan : List Planned) → Known ring pla
 finished_first ring plan k run w is slot i l =
     let v = run_inv ring plan k run (opening_world ring) w (start_inv ring plan k.is_ring) is in
     let p = prefix w.done (steps_of plan slot) (down ring plan k w.done v.reached.closed slot) in (
-      λ d. elim (order i (count w.done (steps_of plan slot))) [
+      λ d. elim (cases_lt i (count w.done (steps_of plan slot))) [
         | inl h ↦ h
         | inr h ↦ absurd (let off = p.above i h l in cc)
       ],

@@ -33,7 +33,7 @@ same_gets ring plan w u g same l = record {
 }
 
 -- a step that is done leaves the gets
-do_gets : (w : World) (n : ℕ) (t : Option Step)
+pub do_gets : (w : World) (n : ℕ) (t : Option Step)
     → (elim t as (λ _. World) [ Some s ↦ step_effect (record w { done = with_number w.done n }) s | None ↦ w ]).gets ≡ w.gets
 do_gets w n None = refl
 do_gets w n (Some (Join x)) = refl

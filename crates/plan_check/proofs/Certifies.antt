@@ -1,7 +1,7 @@
 -- What a certificate proves in order is before.
 use Rattle.std.proofs.Common.{◌≡◌, inl, inr, ℕ, Bool, true, List, [], ◌∷◌, Option, Some, None}
 use Rattle.std.specs.List.{list_all}
-use Rattle.std.proofs.lemmas.Bool.{and_parts}
+use Rattle.std.proofs.lemmas.Bool.{and_parts, or_cases}
 use Rattle.ring_table.specs.declared.allowance.Side.{Side}
 use Rattle.ring_table.specs.Value.{RingValue}
 use Rattle.plan_text.specs.declared.step.Planned.{Planned}
@@ -14,19 +14,18 @@ use Rattle.plan_cert.specs.declared.cert.Cert.{Cert}
 use Rattle.plan_check.specs.Sound.{Order, EndsBefore, IsChain, AreChains, Covers, is_party_of, Meets, Sound}
 use Rattle.plan_check.specs.Certified.{ordered_by, IsCertified}
 use Rattle.plan_cover.specs.Clauses.{chains_from}
-use Rattle.plan_stage.proofs.Truth.{either}
 
 paths_before : (plan : List Planned) (a b : ℕ) (paths : List (List ℕ)) → list_all (is_path plan) paths ≡ true → some_leads a b paths ≡ true → Before plan a b
 paths_before plan a b [] all h = absurd cc
 paths_before plan a b (p ∷ ps) all h =
     let each = and_parts (is_path plan p) (list_all (is_path plan) ps) all in
-    elim (either (leads a b p) (some_leads a b ps) h) [
+    elim (or_cases (leads a b p) (some_leads a b ps) h) [
       | inl this ↦ path_before plan a b p each.0 this
       | inr later ↦ paths_before plan a b ps each.1 later
     ]
 
 ordered_before : (plan : List Planned) (cert : Cert) (a b : ℕ) → list_all (is_path plan) cert.facts ≡ true → ordered_by plan cert a b ≡ true → Before plan a b
-ordered_before plan cert a b all h = elim (either (depends plan a b) (some_leads a b cert.facts) h) [
+ordered_before plan cert a b all h = elim (or_cases (depends plan a b) (some_leads a b cert.facts) h) [
   | inl d ↦ direct a b d
   | inr f ↦ paths_before plan a b cert.facts all f
 ]

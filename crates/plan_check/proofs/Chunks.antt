@@ -3,7 +3,7 @@ use Rattle.std.proofs.Common.{◌≡◌, inl, inr, ◌∙◌, ℕ, ◌+◌, ◌<
 use Rattle.std.proofs.Common.{arith, ltb-true, lt-ltb, eqb-true, eq-eqb}
 use Rattle.std.specs.Prelude.{◌==◌, ◌&&◌, nat_lt, nat_le}
 use Rattle.std.specs.List.{list_all, list_any}
-use Rattle.std.proofs.lemmas.Bool.{and_parts}
+use Rattle.std.proofs.lemmas.Bool.{and_parts, or_right, and_from, or_cases, or_left}
 use Rattle.ring_names.specs.Lists.{has}
 use Rattle.ring_names.specs.declared.ids.NodeId.{NodeId}
 use Rattle.ring_names.specs.declared.ids.Slot.{Slot}
@@ -31,7 +31,6 @@ use Rattle.plan_check.proofs.Quorums.{meet}
 use Rattle.plan_check.proofs.Serial.{acked_exists}
 use Rattle.plan_check.proofs.Standing.{SlotKeeps, KeepsFirm, held_exists, hint_exists, held_stays, mirrored_stays, twice_stays, same_chunk}
 use Rattle.plan_check.proofs.Suited.{suits-at}
-use Rattle.plan_stage.proofs.Truth.{all_of, either, first_of_two, second_of_two}
 
 -- every read meets every write, with as many slots to spare as stores may be lost
 pub quorum_more : (n r w loss : ℕ) → is_quorum n r w loss ≡ true → n + loss < r + w
@@ -42,12 +41,12 @@ quorum_more n r w loss h = ltb-true (n + loss) (r + w) (and_parts (nat_le 1 r &&
 listed_any : (p : ℕ) (test : Slot → Bool) (from : List ℕ) (j : ℕ) → has j from ≡ true → test (record { partition = p; index = j }) ≡ true
     → list_any test (map (λ i. record { partition = p; index = i }) from) ≡ true
 listed_any p test [] j h e = absurd cc
-listed_any p test (i ∷ from) j h e = elim (either (j == i) (has j from) h) [
+listed_any p test (i ∷ from) j h e = elim (or_cases (j == i) (has j from) h) [
   | inl f ↦
-      first_of_two (test (record { partition = p; index = i })) (list_any test (map (λ z. record { partition = p; index = z }) from))
+      or_left (test (record { partition = p; index = i })) (list_any test (map (λ z. record { partition = p; index = z }) from))
       (subst (λ (z : ℕ). test (record { partition = p; index = z }) ≡ true) (eqb-true j i f) e)
   | inr f ↦
-      second_of_two (test (record { partition = p; index = i })) (list_any test (map (λ z. record { partition = p; index = z }) from))
+      or_right (test (record { partition = p; index = i })) (list_any test (map (λ z. record { partition = p; index = z }) from))
       (listed_any p test from j f e)
 ]
 
@@ -76,9 +75,9 @@ module _ (ring : RingValue) (plan : List Planned) (k : Known ring plan) (w : Wor
       let p : (place_of ring.q (key_of_put w a)).partition ≡ slot.partition = ap (λ (z : List ℕ). (place_of ring.q z).partition) key ∙ ap
       (λ (z : Slot). z.partition) is in
       let q : (place_of ring.q (key_of_put w a)).chunk ≡ c = ap (λ (z : List ℕ). (place_of ring.q z).chunk) key ∙ same in
-      all_of (nat_lt a (length w.puts) && is_in_chunk ring w slot c a) (source_has ring plan w slot from a)
-      (all_of (nat_lt a (length w.puts)) (is_in_chunk ring w slot c a) (lt-ltb a (length w.puts) l)
-      (all_of ((place_of ring.q (key_of_put w a)).partition == slot.partition) ((place_of ring.q (key_of_put w a)).chunk == c) (eq-eqb _ _ p) (eq-eqb _ _ q)))
+      and_from (nat_lt a (length w.puts) && is_in_chunk ring w slot c a) (source_has ring plan w slot from a)
+      (and_from (nat_lt a (length w.puts)) (is_in_chunk ring w slot c a) (lt-ltb a (length w.puts) l)
+      (and_from ((place_of ring.q (key_of_put w a)).partition == slot.partition) ((place_of ring.q (key_of_put w a)).chunk == c) (eq-eqb _ _ p) (eq-eqb _ _ q)))
       read
 
   -- and so is at the mirror
@@ -91,7 +90,7 @@ module _ (ring : RingValue) (plan : List Planned) (k : Known ring plan) (w : Wor
       by (Some m) e = inr (
         a,
         succeeds_stays w after_chunk x (names_ended ring plan w r) a v l s,
-        first_of_two (elim (stage_now ring plan w slot).mirror [ Some y ↦ after_chunk.stored y.0 slot a | None ↦ false ]) (some_hinted ring w slot a)
+        or_left (elim (stage_now ring plan w slot).mirror [ Some y ↦ after_chunk.stored y.0 slot a | None ↦ false ]) (some_hinted ring w slot a)
             (at_mirror (stage_now ring plan w slot).mirror (λ y. after_chunk.stored y slot a) m e
             (with_mirror_new w.stored (stage_now ring plan w slot).mirror m slot (is_copied ring plan w slot from c) a e (copies v i a is same s l read))),
       )
@@ -101,7 +100,7 @@ module _ (ring : RingValue) (plan : List Planned) (k : Known ring plan) (w : Wor
   kept x v a s e = inr (
     a,
     succeeds_stays w after_chunk x (names_ended ring plan w r) a v (hint_exists ring plan w r slot a e) s,
-    second_of_two (elim (stage_now ring plan w slot).mirror [ Some y ↦ after_chunk.stored y.0 slot a | None ↦ false ]) (some_hinted ring w slot a) e,
+    or_right (elim (stage_now ring plan w slot).mirror [ Some y ↦ after_chunk.stored y.0 slot a | None ↦ false ]) (some_hinted ring w slot a) e,
   )
 
   -- what an acknowledged put that is firm finds at one of the slots from which the copy reads
@@ -130,7 +129,7 @@ module _ (ring : RingValue) (plan : List Planned) (k : Known ring plan) (w : Wor
   given_now x v i acked is same held = by from refl
     where
       by : (q : Source) → from ≡ q → IsMirrored ring plan after_chunk v slot
-      by Owner e = elim (either (w.stored (stage_now ring plan w slot).owner.0 slot held.0) (some_hinted ring w slot held.0) held.2) [
+      by Owner e = elim (or_cases (w.stored (stage_now ring plan w slot).owner.0 slot held.0) (some_hinted ring w slot held.0) held.2) [
         | inl g ↦
             comes x v i held.0 is same held.1 (r.stored (stage_now ring plan w slot).owner.0 slot held.0 g).0
             (subst (λ (z : Source). source_has ring plan w slot z held.0 ≡ true) (sym e) g)
@@ -152,7 +151,7 @@ module _ (ring : RingValue) (plan : List Planned) (k : Known ring plan) (w : Wor
       same = same_chunk ring w after_chunk v x (acked_exists w.puts v acked)
 
       mirrored : IsGiven plan after_chunk s (chunk_of_put ring after_chunk v) → IsMirrored ring plan after_chunk v s
-      mirrored g = elim (either ((g.0 == n) && (chunk_of_put ring after_chunk v == c)) (w.marked g.0 (chunk_of_put ring after_chunk v)) g.3) [
+      mirrored g = elim (or_cases ((g.0 == n) && (chunk_of_put ring after_chunk v == c)) (w.marked g.0 (chunk_of_put ring after_chunk v)) g.3) [
         | inr old ↦ mirrored_stays ring plan w after_chunk s r x (slots_keep s) v (f.1 (subst (λ (d : ℕ). IsGiven plan w s d) same (g.0, g.1, g.2, old, g.4)))
         | inl new ↦ (
             let b = and_parts (g.0 == n) (chunk_of_put ring after_chunk v == c) new in

@@ -3,7 +3,7 @@ use Rattle.std.proofs.Common.{◌≡◌, inl, inr, ℕ, ◌<◌, Bool, true, fal
 use Rattle.std.specs.Prelude.{◌&&◌, ◌==◌, Option, Some, None, is_some, option_and_then}
 use Rattle.std.proofs.lemmas.Bool.Decides.{eqb_tells}
 use Rattle.ring_names.specs.Lists.{has}
-use Rattle.std.proofs.lemmas.Bool.{and_parts}
+use Rattle.std.proofs.lemmas.Bool.{and_parts, not-true, or_right, or_cases}
 use Rattle.plan_text.specs.declared.step.Step.{Step}
 use Rattle.plan_text.specs.declared.step.Planned.{Planned}
 use Rattle.plan_text.specs.Steps.{copy_of, depends}
@@ -14,12 +14,11 @@ use Rattle.plan_check.specs.Effects.{with_number, without_number, with_mark}
 use Rattle.plan_check.specs.Reached.{Ready, Closed, CopiesFit}
 use Rattle.plan_check.proofs.Passing.{is_below}
 use Rattle.plan_check.proofs.Prefix.{passed}
-use Rattle.plan_stage.proofs.Truth.{either, second_of_two, not_is}
 
 -- ---- tests
 
 pub still_passes : (D : ℕ → Bool) (n m : ℕ) → D m ≡ true → with_number D n m ≡ true
-still_passes D n m e = second_of_two (m == n) (D m) e
+still_passes D n m e = or_right (m == n) (D m) e
 
 pub still_off : (D : ℕ → Bool) (n m : ℕ) → (m == n) ≡ false → D m ≡ false → with_number D n m ≡ false
 still_off D n m e f = rw (e, f) refl
@@ -28,11 +27,11 @@ pub without_was : (D : ℕ → Bool) (n m : ℕ) → without_number D n m ≡ tr
 without_was D n m e = (and_parts (not (m == n)) (D m) e).1
 
 without_is : (D : ℕ → Bool) (n m : ℕ) → without_number D n m ≡ true → (m == n) ≡ false
-without_is D n m e = not_is (m == n) (and_parts (not (m == n)) (D m) e).0
+without_is D n m e = not-true (m == n) (and_parts (not (m == n)) (D m) e).0
 
 copy_or_not : (o : Option Step) → (elim o [ Some s ↦ not (is_some (copy_of s)) | None ↦ false ]) ≡ true → is_some (option_and_then copy_of o) ≡ false
 copy_or_not None h = absurd cc
-copy_or_not (Some s) h = not_is (is_some (copy_of s)) h
+copy_or_not (Some s) h = not-true (is_some (copy_of s)) h
 
 pub other_is_no_copy : (plan : List Planned) (n : ℕ) → has_other plan n ≡ true → has_copy plan n ≡ false
 other_is_no_copy plan n h = copy_or_not (step_at plan n) h
@@ -83,7 +82,7 @@ chunk_copies plan D o m n c i opened less = record {
   copies = i.copies;
   ready = i.ready;
   unfinished = i.unfinished;
-  marks = λ k d e. elim (either ((k == n) && (d == c)) (m k d) e) [
+  marks = λ k d e. elim (or_cases ((k == n) && (d == c)) (m k d) e) [
     | inl f ↦ (
         let b = and_parts (k == n) (d == c) f in
         let same = eqb-true k n b.0 in
@@ -91,7 +90,7 @@ chunk_copies plan D o m n c i opened less = record {
         (subst (λ z. has_copy plan z ≡ true) (sym same) (i.copies n opened), omega arith, subst (λ z. Ready plan D z) (sym same) (i.ready n opened)))
     | inr f ↦ i.marks k d f
   ];
-  copied = λ k d h e l. second_of_two ((k == n) && (d == c)) (m k d) (i.copied k d h e l);
+  copied = λ k d h e l. or_right ((k == n) && (d == c)) (m k d) (i.copied k d h e l);
 }
 
 -- no number below n passes

@@ -1,7 +1,7 @@
 -- What each event but a loss keeps.
 use Rattle.std.proofs.Common.{◌≡◌, inl, ℕ, Bool, true, false, not, List, length, Option, Some, None, refl, ap, arith, ltb-true, leb-true, eqb-true}
 use Rattle.std.specs.Prelude.{◌==◌, ◌&&◌, nat_lt, is_some}
-use Rattle.std.proofs.lemmas.Bool.{and_parts}
+use Rattle.std.proofs.lemmas.Bool.{and_parts, not-true, and_from}
 use Rattle.ring_names.specs.declared.ids.NodeId.{NodeId}
 use Rattle.ring_names.specs.declared.ids.Slot.{Slot}
 use Rattle.ring_table.specs.Value.{RingValue}
@@ -34,7 +34,7 @@ use Rattle.plan_check.proofs.Serial.{acked_exists}
 use Rattle.plan_check.proofs.Standing.{KeepsFirm}
 use Rattle.plan_check.proofs.Stepping.{Goes, stepped}
 use Rattle.plan_check.proofs.Ticketed.{generation_more}
-use Rattle.plan_stage.proofs.Truth.{all_of, not_is, slot-is}
+use Rattle.plan_stage.proofs.Truth.{slot-is}
 
 -- ---- steps
 
@@ -84,7 +84,7 @@ do_keeps ring plan k w n (Some (Drop s z)) at r h x y off =
       where
         by : (c : Bool) → ((q == z.0) && is_slot s t) ≡ c → without_puts w.stored z s q t v ≡ true
         by true g = absurd (let p = and_parts (q == z.0) (is_slot s t) g in never z (ap (λ (c : Slot). Drop c z) (slot-is s t p.1)) (eqb-true q z.0 p.0))
-        by false g = all_of (not ((q == z.0) && is_slot s t)) (w.stored q t v) (rw g refl) e
+        by false g = and_from (not ((q == z.0) && is_slot s t)) (w.stored q t v) (rw g refl) e
 do_keeps ring plan k w n (Some (Retire z)) at r h x y off = done_keeps ring plan k w n w.is_open w.up w.stored r h x y off (Retire z) at (λ s q v f e. e)
 
 -- ---- copies
@@ -122,7 +122,7 @@ pub event_keeps : (ring : RingValue) (plan : List Planned) → Known ring plan �
     → ((x : NodeId) → e ≡ Lose x → ⊥) → AllMet (guards ring plan w e) → KeepsFirm ring plan w (effect ring plan w e)
 unfolding guards effect
 event_keeps ring plan k w r h (Do n) never g =
-    do_keeps ring plan k w n (step_at plan n) refl r h (event_extends ring plan w (Do n) g) (ready plan w n g.1.1.0) (not_is (w.done n) g.1.0)
+    do_keeps ring plan k w n (step_at plan n) refl r h (event_extends ring plan w (Do n) g) (ready plan w n g.1.1.0) (not-true (w.done n) g.1.0)
 event_keeps ring plan k w r h (OpenCopy n) never g =
     idle_keeps ring plan w (with_number w.is_open n) w.up w.gets r h (event_extends ring plan w (OpenCopy n) g)
 event_keeps ring plan k w r h (ChunkCopy n c) never g =

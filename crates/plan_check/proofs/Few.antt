@@ -3,7 +3,7 @@ use Rattle.std.proofs.Common.{◌≡◌, ◌≢◌, ◌⊎◌, inl, inr, ◌∙�
 use Rattle.std.specs.Prelude.{◌&&◌, ◌==◌, Some, None}
 use Rattle.ring_names.specs.Lists.{has, all_different}
 use Rattle.ring_table.specs.Value.{RingValue}
-use Rattle.std.proofs.lemmas.Bool.{and_parts}
+use Rattle.std.proofs.lemmas.Bool.{and_parts, or_right, or_cases}
 use Rattle.plan_text.specs.declared.step.Planned.{Planned}
 use Rattle.plan_order.specs.Before.{Before}
 use Rattle.plan_order.proofs.Reaching.{join}
@@ -18,7 +18,6 @@ use Rattle.plan_check.proofs.Mirrored.{Known, before_ready}
 use Rattle.plan_check.specs.Reached.{Reached}
 use Rattle.plan_check.proofs.Reached.{reached}
 use Rattle.plan_check.proofs.Partakers.{party}
-use Rattle.plan_stage.proofs.Truth.{either, second_of_two}
 
 -- ---- chains
 
@@ -28,7 +27,7 @@ tail plan a (b ∷ rest) h = h.1
 
 first_before : (plan : List Planned) (a m : ℕ) (rest : List ℕ) → IsChain (Before plan) (a ∷ rest) → has m rest ≡ true → Before plan a m
 first_before plan a m [] h e = absurd cc
-first_before plan a m (b ∷ rest) h e = elim (either (m == b) (has m rest) e) [
+first_before plan a m (b ∷ rest) h e = elim (or_cases (m == b) (has m rest) e) [
   | inl f ↦ subst (λ (z : ℕ). Before plan a z) (sym (eqb-true m b f)) h.0
   | inr f ↦ join plan a b m h.0 (first_before plan b m rest h.1 f)
 ]
@@ -36,12 +35,12 @@ first_before plan a m (b ∷ rest) h e = elim (either (m == b) (has m rest) e) [
 -- of two numbers in a chain one comes before the other
 one_before : (plan : List Planned) (n m : ℕ) (c : List ℕ) → IsChain (Before plan) c → has n c ≡ true → has m c ≡ true → n ≢ m → Before plan n m ⊎ Before plan m n
 one_before plan n m [] h e f ne = absurd cc
-one_before plan n m (a ∷ rest) h e f ne = elim (either (n == a) (has n rest) e) [
-  | inl i ↦ elim (either (m == a) (has m rest) f) [
+one_before plan n m (a ∷ rest) h e f ne = elim (or_cases (n == a) (has n rest) e) [
+  | inl i ↦ elim (or_cases (m == a) (has m rest) f) [
     | inl j ↦ absurd (ne (eqb-true n a i ∙ sym (eqb-true m a j)))
     | inr j ↦ inl (subst (λ (z : ℕ). Before plan z m) (sym (eqb-true n a i)) (first_before plan a m rest h j))
   ]
-  | inr i ↦ elim (either (m == a) (has m rest) f) [
+  | inr i ↦ elim (or_cases (m == a) (has m rest) f) [
     | inl j ↦ inr (subst (λ (z : ℕ). Before plan z n) (sym (eqb-true m a j)) (first_before plan a n rest h i))
     | inr j ↦ one_before plan n m rest (tail plan a rest h) i j ne
   ]
@@ -53,7 +52,7 @@ taken_out : (n m : ℕ) (xs : List ℕ) → has m (without n xs) ≡ true → m 
 taken_out n m [] h = absurd cc
 taken_out n m (x ∷ xs) h = by_equal n x (λ b. has m (cond b (without n xs) (x ∷ without n xs)) ≡ true → m ≢ n)
     (λ e g. taken_out n m xs g)
-    (λ e g. elim (either (m == x) (has m (without n xs)) g) [
+    (λ e g. elim (or_cases (m == x) (has m (without n xs)) g) [
       | inl f ↦ (λ i. e (sym i ∙ eqb-true m x f))
       | inr f ↦ taken_out n m xs f
     ]) h
@@ -66,14 +65,14 @@ in_chain c (x ∷ xs) = by (has x c) refl (in_chain c xs)
     by : (b : Bool) → has x c ≡ b → ((n : ℕ) × (has n xs ≡ true) × (has n c ≡ true)) ⊎ ((n : ℕ) → has n xs ≡ true → has n c ≡ false)
         → ((n : ℕ) × (has n (x ∷ xs) ≡ true) × (has n c ≡ true)) ⊎ ((n : ℕ) → has n (x ∷ xs) ≡ true → has n c ≡ false)
     by true e r = inl (x, rw (eq-eqb x x refl) refl, e)
-    by false e (inl r) = inl (r.0, second_of_two (r.0 == x) (has r.0 xs) r.1, r.2)
-    by false e (inr r) = inr (λ n h. elim (either (n == x) (has n xs) h) [
+    by false e (inl r) = inl (r.0, or_right (r.0 == x) (has r.0 xs) r.1, r.2)
+    by false e (inr r) = inr (λ n h. elim (or_cases (n == x) (has n xs) h) [
       | inl f ↦ ap (λ (z : ℕ). has z c) (eqb-true n x f) ∙ e
       | inr f ↦ r n f
     ])
 
 in_rest : (n : ℕ) (c : List ℕ) (cs : List (List ℕ)) → has n c ≡ false → in_some n (c ∷ cs) ≡ true → in_some n cs ≡ true
-in_rest n c cs e h = elim (either (has n c) (in_some n cs) h) [ inl f ↦ absurd cc | inr f ↦ f ]
+in_rest n c cs e h = elim (or_cases (has n c) (in_some n cs) h) [ inl f ↦ absurd cc | inr f ↦ f ]
 
 -- where no chain has two of the numbers there are no more numbers than chains
 no_more : (plan : List Planned) (test : ℕ → Bool) → ((n m : ℕ) → test n ≡ true → test m ≡ true → Before plan n m → ⊥) → (cs : List (List ℕ)) (xs : List ℕ) → AreChains (Before plan) cs → all_different xs ≡ true

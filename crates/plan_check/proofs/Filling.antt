@@ -1,7 +1,7 @@
 -- What owners, mirrors and keepers have once puts come to a slot.
 use Rattle.std.proofs.Common.{◌≡◌, ◌⊎◌, inl, inr, ℕ, ◌<◌, Bool, true, false, not, List, Option, Some, None, refl, sym, subst, eqb-true, eq-eqb}
 use Rattle.std.specs.Prelude.{◌==◌, ◌&&◌}
-use Rattle.std.proofs.lemmas.Bool.{and_parts}
+use Rattle.std.proofs.lemmas.Bool.{and_parts, or_right, and_from, or_left}
 use Rattle.ring_names.specs.declared.ids.NodeId.{NodeId}
 use Rattle.ring_names.specs.declared.ids.Slot.{Slot}
 use Rattle.ring_table.specs.Value.{RingValue}
@@ -10,14 +10,14 @@ use Rattle.plan_text.specs.Steps.{is_slot}
 use Rattle.plan_check.specs.World.{World, some_below, stage_now}
 use Rattle.plan_check.specs.Effects.{with_puts, with_mirror_puts, without_puts, served_puts}
 use Rattle.plan_check.proofs.Passing.{some_found, some_is}
-use Rattle.plan_stage.proofs.Truth.{all_of, first_of_two, second_of_two, slot-is, slot-same}
+use Rattle.plan_stage.proofs.Truth.{slot-is, slot-same}
 
 -- ---- what was there stays
 
 -- at any node
 pub with_puts_more : (f : ℕ → Slot → ℕ → Bool) (x : NodeId) (s : Slot) (more : ℕ → Bool) (y : ℕ) (t : Slot) (a : ℕ) → f y t a ≡ true
     → with_puts f x s more y t a ≡ true
-with_puts_more f x s more y t a e = second_of_two ((y == x.0) && is_slot s t && more a) (f y t a) e
+with_puts_more f x s more y t a e = or_right ((y == x.0) && is_slot s t && more a) (f y t a) e
 
 -- where puts come to a mirror
 pub with_mirror_more : (f : ℕ → Slot → ℕ → Bool) (o : Option NodeId) (s : Slot) (more : ℕ → Bool) (y : ℕ) (t : Slot) (a : ℕ) → f y t a ≡ true
@@ -37,8 +37,8 @@ served_more ring plan w s more y t a e =
 -- at the node
 pub with_puts_new : (f : ℕ → Slot → ℕ → Bool) (x : NodeId) (s : Slot) (more : ℕ → Bool) (a : ℕ) → more a ≡ true → with_puts f x s more x.0 s a ≡ true
 with_puts_new f x s more a e =
-    first_of_two ((x.0 == x.0) && is_slot s s && more a) (f x.0 s a)
-    (all_of ((x.0 == x.0) && is_slot s s) (more a) (all_of (x.0 == x.0) (is_slot s s) (eq-eqb x.0 x.0 refl) (slot-same s)) e)
+    or_left ((x.0 == x.0) && is_slot s s && more a) (f x.0 s a)
+    (and_from ((x.0 == x.0) && is_slot s s) (more a) (and_from (x.0 == x.0) (is_slot s s) (eq-eqb x.0 x.0 refl) (slot-same s)) e)
 
 -- at the mirror
 pub with_mirror_new : (f : ℕ → Slot → ℕ → Bool) (o : Option NodeId) (x : NodeId) (s : Slot) (more : ℕ → Bool) (a : ℕ) → o ≡ Some x → more a ≡ true
@@ -90,7 +90,7 @@ kept_or_gone n f x s t a e = by ((k.0 == x.0) && is_slot s t) refl
         let p = and_parts (k.0 == x.0) (is_slot s t) g in
         let i : s ≡ t = slot-is s t p.1 in
         inl (sym i, subst (λ (z : Slot). f x.0 z a ≡ true) (sym i) (subst (λ z. f z t a ≡ true) (eqb-true k.0 x.0 p.0) k.2))
-    by false g = inr (some_is n (λ y. without_puts f x s y t a) k.0 k.1 (all_of (not ((k.0 == x.0) && is_slot s t)) (f k.0 t a) (rw g refl) k.2))
+    by false g = inr (some_is n (λ y. without_puts f x s y t a) k.0 k.1 (and_from (not ((k.0 == x.0) && is_slot s t)) (f k.0 t a) (rw g refl) k.2))
 
 -- and back
 pub from_mirror : (o : Option NodeId) (f : ℕ → Bool) (x : NodeId) → o ≡ Some x → (elim o [ Some y ↦ f y.0 | None ↦ false ]) ≡ true → f x.0 ≡ true

@@ -1,8 +1,8 @@
 -- What the checker's clauses say, one by one, and what they follow from.
-use Rattle.std.proofs.Common.{◌≡◌, ◌≢◌, ◌⊎◌, inl, inr, ℕ, suc, zero, ◌+◌, ◌-◌, ◌<◌, ◌≤◌, Bool, true, false, not, cond, List, [], ◌∷◌, refl, sym, ap, subst, arith, Option, Some, None}
+use Rattle.std.proofs.Common.{◌≡◌, ◌≢◌, ◌⊎◌, inl, inr, ℕ, suc, zero, ◌+◌, ◌-◌, ◌<◌, ◌≤◌, Bool, true, false, not, cond, List, [], ◌∷◌, refl, subst, arith, Option, Some, None}
 use Rattle.std.specs.Prelude.{◌&&◌, ◌||◌, ◌==◌, min, nat_lt, nat_le, slice_get, is_some}
 use Rattle.std.specs.List.{list_all}
-use Rattle.std.proofs.lemmas.Bool.{eqb-true, ltb-true, lt-ltb, leb-true, le-leb, and_parts}
+use Rattle.std.proofs.lemmas.Bool.{eqb-true, ltb-true, lt-ltb, leb-true, le-leb, and_parts, or_right, and_from as all_of, or_cases as either, or_left}
 use Rattle.std.proofs.lemmas.Bool.Decides.{eqb_tells}
 use Rattle.ring_names.specs.Lists.{has}
 use Rattle.ring_names.specs.declared.ids.NodeId.{NodeId}
@@ -27,7 +27,8 @@ use Rattle.plan_cover.specs.Clauses.{in_some, chains_from, has_side, is_good_cha
 use Rattle.plan_check.specs.Sound.{Order, EndsBefore, IsChain, AreChains}
 use Rattle.plan_check.specs.First.{fact_clauses}
 use Rattle.plan_stage.specs.Partition.{Test, ends_before, is_settled, has_left, has_joined, has_dropped}
-use Rattle.plan_stage.proofs.Truth.{all_of, either, first_of_two, second_of_two, where_asked, if_asked, push, each-met, each-all, some-met, some-all, each_below-met, each_below-all, list_all-met, list_all-all, same, slot-is, slot-same, node-is, node-same}
+use Rattle.plan_stage.proofs.Truth.{where_asked, if_asked, push, each-met, each-all, some-met, some-all, each_below-met, each_below-all, list_all-met, list_all-all, same, slot-is, slot-same, node-is, node-same}
+use Rattle.plan_stage.proofs.Enough.{owner-is}
 
 -- the order of which a test tells
 abbrev pub holds : Test → Order
@@ -58,10 +59,10 @@ order-met f O k h =
     ]
 
 pub order-all : (f : ℕ → ℕ) (O : Test) (k : ℕ) → ((j : ℕ) → suc j ≡ k → O (f j) (f k) ≡ true) → ((k == 0) || O (f (k - 1)) (f k)) ≡ true
-order-all f O zero h = first_of_two (0 == 0) (O (f (0 - 1)) (f 0)) (same 0)
+order-all f O zero h = or_left (0 == 0) (O (f (0 - 1)) (f 0)) (same 0)
 order-all f O (suc k) h =
     let s : suc k - 1 ≡ k = omega arith in
-    second_of_two (suc k == 0) (O (f (suc k - 1)) (f (suc k))) (rw s (h k refl))
+    or_right (suc k == 0) (O (f (suc k - 1)) (f (suc k))) (rw s (h k refl))
 
 -- ---- steps of a kind
 
@@ -106,10 +107,6 @@ retire-is x (Retire y) h = (let e : x ≡ y = node-is x y h in cc)
 
 -- ---- owners and ends
 
-owner-is : (o : Option NodeId) (x : NodeId) → (elim o [ Some y ↦ is_node x y | None ↦ false ]) ≡ true → o ≡ Some x
-owner-is None x h = absurd cc
-owner-is (Some y) x h = ap Some (sym (node-is x y h))
-
 pub owns-met : (ring : RingValue) (s : Slot) (x : NodeId) → owns_first ring s x ≡ true → owner_of ring s ≡ Some x
 owns-met ring s x h = owner-is (owner_of ring s) x h
 
@@ -145,7 +142,7 @@ settled-all plan O n slot from all =
     each-all (switch_settled O n (sibling slot j)) plan (λ m u at.
     if_asked (is_switch_of (sibling slot j) u) (O m n || O n m) (λ is_switch.
     let e : u ≡ Switch (sibling slot j) = switch-is (sibling slot j) u is_switch in
-    elim (all m j is (rw e at at)) [ inl a ↦ first_of_two (O m n) (O n m) a | inr b ↦ second_of_two (O m n) (O n m) b ])))
+    elim (all m j is (rw e at at)) [ inl a ↦ or_left (O m n) (O n m) a | inr b ↦ or_right (O m n) (O n m) b ])))
 
 -- ---- what a node has left
 
@@ -198,8 +195,8 @@ pub left-all : (ring : RingValue) (plan : List Planned) (O : Test) (t : ℕ) (sl
 left-all ring plan O t slot x start more =
     each_below-all (λ (j : ℕ). (j == slot.index) || left_at ring plan O t (sibling slot j) x) ring.n (λ j l.
     elim (eqb_tells j slot.index) [
-      | inl z ↦ first_of_two (j == slot.index) (left_at ring plan O t (sibling slot j) x) z.0
-      | inr ne ↦ second_of_two (j == slot.index) (left_at ring plan O t (sibling slot j) x) (left_at-all ring plan O t (sibling slot j) x (start j l ne.1) (more j l ne.1))
+      | inl z ↦ or_left (j == slot.index) (left_at ring plan O t (sibling slot j) x) z.0
+      | inr ne ↦ or_right (j == slot.index) (left_at ring plan O t (sibling slot j) x) (left_at-all ring plan O t (sibling slot j) x (start j l ne.1) (more j l ne.1))
     ])
 
 -- ---- what a node has joined
@@ -307,11 +304,11 @@ good-met ring plan O x side (a ∷ b ∷ rest) h =
 
 good-all : (ring : RingValue) (plan : List Planned) (O : Test) (x : NodeId) (side : Side) (c : List ℕ) → IsGood ring plan O x side c → is_good_chain ring plan O x side c ≡ true
 good-all ring plan O x side [] g = refl
-good-all ring plan O x side (a ∷ []) g = g.1 a (first_of_two (a == a) false (same a))
+good-all ring plan O x side (a ∷ []) g = g.1 a (or_left (a == a) false (same a))
 good-all ring plan O x side (a ∷ b ∷ rest) g =
     all_of (is_among x (parties_on ring plan side a) && O a b) (is_good_chain ring plan O x side (b ∷ rest))
-    (all_of (is_among x (parties_on ring plan side a)) (O a b) (g.1 a (first_of_two (a == a) (has a (b ∷ rest)) (same a))) g.0.0)
-    (good-all ring plan O x side (b ∷ rest) (g.0.1, λ n is. g.1 n (second_of_two (n == a) (has n (b ∷ rest)) is)))
+    (all_of (is_among x (parties_on ring plan side a)) (O a b) (g.1 a (or_left (a == a) (has a (b ∷ rest)) (same a))) g.0.0)
+    (good-all ring plan O x side (b ∷ rest) (g.0.1, λ n is. g.1 n (or_right (n == a) (has n (b ∷ rest)) is)))
 
 -- what is tested of a chain of the node
 abbrev passes : RingValue → List Planned → Test → NodeId → Chain → Bool
@@ -375,11 +372,11 @@ one-all ring plan O x c cs g = if_asked (is_node x c.node) (passes ring plan O x
     let here = subst (λ (l : List (List ℕ)). AreGood ring plan O x c.side l × IsAllowed ring x c.side l) in_it (g c.side) in
     all_of (has_side ring x c.side) (is_good_chain ring plan O x c.side c.steps)
     (side_of (allowance_of ring x.0 c.side) (λ none. (let e = here.1 none in absurd cc)))
-    (good-all ring plan O x c.side c.steps (here.0.0.0, λ n is. here.0.1 n (first_of_two (has n c.steps) (in_some n (chains_from x.0 c.side cs)) is))))
+    (good-all ring plan O x c.side c.steps (here.0.0.0, λ n is. here.0.1 n (or_left (has n c.steps) (in_some n (chains_from x.0 c.side cs)) is))))
 
 fewer : (ring : RingValue) (plan : List Planned) (O : Test) (x : NodeId) (side : Side) (b : Bool) (c : List ℕ) (cs : List (List ℕ)) → AreGood ring plan O x side (cond b (c ∷ cs) cs) × IsAllowed ring x side (cond b (c ∷ cs) cs) → AreGood ring plan O x side cs × IsAllowed ring x side cs
 fewer ring plan O x side false c cs g = g
-fewer ring plan O x side true c cs g = ((g.0.0.1, λ n is. g.0.1 n (second_of_two (has n c) (in_some n cs) is)), λ none. (let e = g.1 none in absurd cc))
+fewer ring plan O x side true c cs g = ((g.0.0.1, λ n is. g.0.1 n (or_right (has n c) (in_some n cs) is)), λ none. (let e = g.1 none in absurd cc))
 
 pub chains-all : (ring : RingValue) (plan : List Planned) (O : Test) (x : NodeId) (k : ℕ) (cs : List Chain) → AllGood ring plan O x cs → first_failing (chains_clauses ring plan O x k cs) ≡ None
 chains-all ring plan O x k [] g = refl

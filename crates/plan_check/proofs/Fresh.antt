@@ -4,6 +4,7 @@ use Rattle.std.specs.Prelude.{◌&&◌}
 use Rattle.std.specs.Str.{bytes_eq}
 use Rattle.std.proofs.lemmas.Slice.Eq.{bytes_eq-Decides}
 use Rattle.std.proofs.lemmas.Bool.Decides.{eqb_tells}
+use Rattle.std.proofs.lemmas.Bool.{and_from}
 use Rattle.ring_names.specs.Lists.{has}
 use Rattle.ring_names.specs.declared.ids.NodeId.{NodeId}
 use Rattle.ring_table.specs.Value.{RingValue}
@@ -33,7 +34,6 @@ use Rattle.plan_check.proofs.Passing.{below_is, is_below}
 use Rattle.plan_check.proofs.Serial.{acked_exists}
 use Rattle.plan_check.proofs.Standing.{KeepsFirm, held_exists, slots_stay}
 use Rattle.plan_check.proofs.Succeeding.{not_less, succeeds_through}
-use Rattle.plan_stage.proofs.Truth.{all_of}
 
 -- ---- the latest of some puts
 
@@ -89,7 +89,7 @@ finds_it ring plan w v g i r key held = (s.0, s.1, inside s.0 (latest_of_is w al
     inside u h = (below_is (length w.puts) test u h).0
 
     passes : test held.0 ≡ true
-    passes = all_of (is_of_key w (key_of_get w g) held.0) (slot_has ring plan w (get_slot ring w g i) held.0)
+    passes = and_from (is_of_key w (key_of_get w g) held.0) (slot_has ring plan w (get_slot ring w g i) held.0)
         (same_bytes (key_of_put w held.0) (key_of_get w g) (succeeds_same_key w held.0 v held.1 ∙ sym key))
         (subst (λ (k : List ℕ). slot_has ring plan w (slot_of ring k i) held.0 ≡ true) (sym key) held.2)
 

@@ -1,7 +1,8 @@
 -- All chunks of a copied stage are given, and none is once a mirror has begun.
 use Rattle.std.proofs.Common.{◌≡◌, ◌∙◌, inl, inr, ℕ, zero, suc, ◌<◌, ◌≤◌, Bool, true, false, List, length, get_or, Option, Some, None, refl, sym, ap, subst}
-use Rattle.std.proofs.Common.{arith, add-one, ltb-true, lt-ltb}
+use Rattle.std.proofs.Common.{arith, add-one, lt-ltb}
 use Rattle.std.specs.Prelude.{◌&&◌, nat_lt, slice_get, option_map, option_and_then, is_some}
+use Rattle.std.proofs.lemmas.Bool.{le-ltb, cases_lt}
 use Rattle.ring_names.specs.Lists.{has}
 use Rattle.ring_names.specs.declared.ids.Slot.{Slot}
 use Rattle.ring_table.specs.Value.{RingValue}
@@ -20,11 +21,11 @@ use Rattle.plan_check.specs.World.{World, count, copy_at, mirror_at, stage_now, 
 use Rattle.plan_check.specs.Effects.{with_number}
 use Rattle.plan_check.specs.Firm.{mirrors_before, IsGiven}
 use Rattle.plan_check.specs.Reached.{Ready, Closed, CopiesFit}
-use Rattle.plan_check.proofs.Prefix.{order, found, rising, IsPrefix, prefix, count_same}
+use Rattle.plan_check.proofs.Prefix.{found, rising, IsPrefix, prefix, count_same}
 use Rattle.plan_check.proofs.Mirrored.{Known, rises, down}
 use Rattle.plan_check.proofs.Numbering.{both_off, mirrors_up, mirrors_ahead}
 use Rattle.plan_check.proofs.Partakers.{copy_is}
-use Rattle.plan_check.proofs.Staging.{has_step}
+use Rattle.plan_stage.proofs.Holders.{has-step}
 
 -- ---- a copied stage
 
@@ -42,7 +43,7 @@ further : (plan : List Planned) (slot : Slot) (k : ℕ) → is_some (mirror_at p
 further plan slot k none c = record { place = c.place; less = (let l = c.less in omega arith); from = c.from; copy = c.copy; behind = behind }
   where
     behind : (i : ℕ) → c.place ≤ i → i < suc k → is_some (mirror_at plan (get_or (steps_of plan slot) i 0)) ≡ false
-    behind i l m = elim (order i k) [
+    behind i l m = elim (cases_lt i k) [
       | inl h ↦ c.behind i l h
       | inr h ↦ (let e : k ≡ i = omega arith in subst (λ j. is_some (mirror_at plan (get_or (steps_of plan slot) j 0)) ≡ false) e none)
     ]
@@ -94,14 +95,6 @@ copied_at ring plan slot (suc k) le c = by on.0.step refl (λ e. copied_at ring 
 
 -- ---- given chunks
 
--- the test of less fails where it is not so
-not_less : (a b : ℕ) → b ≤ a → nat_lt a b ≡ false
-not_less a b l = by (nat_lt a b) refl
-  where
-    by : (t : Bool) → nat_lt a b ≡ t → t ≡ false
-    by false e = refl
-    by true e = absurd (let m = ltb-true a b e in omega arith)
-
 -- each chunk of a slot whose stage is copied is given
 pub copied_given : (ring : RingValue) (plan : List Planned) → Known ring plan → (w : World) (slot : Slot) (c : ℕ) → Closed plan w.done
     → CopiesFit plan w.done w.is_open w.marked → (stage_now ring plan w slot).copied ≡ true → c < 16
@@ -128,17 +121,17 @@ copied_given ring plan k w slot c closed fit copied l = (
     n = get_or ss a.place 0
 
     at_place : (m i : ℕ) → i < length ss → get_or ss i 0 ≡ m → (nat_lt m n && is_some (mirror_at plan m)) ≡ (w.done m && is_some (mirror_at plan m))
-    at_place m i h e = elim (order i a.place) [
+    at_place m i h e = elim (cases_lt i a.place) [
       | inl f ↦ (
           let r = rising ss (rises ring plan k slot) i a.place f (let w = p.within in let l = a.less in omega arith) in
           let less : nat_lt m n ≡ true = lt-ltb m n (omega arith) in
           let d : w.done m ≡ true = subst (λ z. w.done z ≡ true) e (p.below i (let l = a.less in omega arith)) in
           rw (less, d) refl)
-      | inr f ↦ elim (order i (count w.done ss)) [
+      | inr f ↦ elim (cases_lt i (count w.done ss)) [
         | inl g ↦ both_off (nat_lt m n) (w.done m) (is_some (mirror_at plan m)) (subst (λ z. is_some (mirror_at plan z) ≡ false) e (a.behind i f g))
         | inr g ↦ (
             let r = rising ss (rises ring plan k slot) a.place i (let l = a.less in omega arith) h in
-            let less : nat_lt m n ≡ false = not_less m n (omega arith) in
+            let less : nat_lt m n ≡ false = le-ltb m n (omega arith) in
             let d : w.done m ≡ false = subst (λ z. w.done z ≡ false) e (p.above i g h) in
             rw (less, d) refl)
       ]
@@ -157,5 +150,5 @@ pub none_given : (ring : RingValue) (plan : List Planned) → Known ring plan
 none_given ring plan k D marked n m c slot from closed ready off h is copy mark same =
     let at : step_at plan m ≡ Some (Copy slot from) = copy_is (step_at plan m) slot from copy in
     let up = mirrors_up plan D n slot h off is in
-    let ahead = mirrors_ahead ring plan k D m slot closed (ready m c mark) (has_step plan slot m (Copy slot from) at (slot-same slot)) in
+    let ahead = mirrors_ahead ring plan k D m slot closed (ready m c mark) (has-step plan slot m (Copy slot from) at (slot-same slot)) in
     absurd (omega arith)

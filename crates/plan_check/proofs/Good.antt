@@ -1,7 +1,7 @@
 -- The stages of a slot whose steps fit.
 use Rattle.std.proofs.Common.{◌≡◌, ◌∙◌, ℕ, zero, suc, ◌+◌, ◌<◌, ◌≤◌, Bool, true, false, not, cond, List, [], ◌∷◌, length, get_or, Option, Some, None, refl, sym, ap, subst, arith}
 use Rattle.std.specs.Prelude.{◌==◌, ◌&&◌, ◌||◌, nat_lt, slice_get, option_map, unwrap_or, is_some}
-use Rattle.std.proofs.lemmas.Bool.{and_parts}
+use Rattle.std.proofs.lemmas.Bool.{and_parts, not-true}
 use Rattle.ring_names.specs.declared.ids.NodeId.{NodeId}
 use Rattle.ring_names.specs.declared.ids.Slot.{Slot}
 use Rattle.ring_table.specs.Value.{RingValue}
@@ -15,7 +15,6 @@ use Rattle.plan_stage.specs.Clauses.{AllStaged}
 use Rattle.plan_stage.proofs.Stages.{after-next, fits_at-fits, stage-more}
 use Rattle.plan_check.specs.Occupies.{IsGoodMirror, IsGoodStage}
 use Rattle.plan_stage.proofs.Places.{placed}
-use Rattle.plan_stage.proofs.Truth.{not_is}
 
 -- who is among leftovers once a node is put among them, or is taken out
 among-with : (x y : NodeId) (ys : List NodeId) → (x.0 == y.0) ≡ false → is_among x ys ≡ false → is_among x (with_node y ys) ≡ false
@@ -66,7 +65,7 @@ next-good a (Join y) h g = g
 next-good a (Mirror slot y) h g =
     let f = and_parts (not (is_some a.mirror) && not (y.0 == a.owner.0)) (not (is_among y a.leftovers)) h in
     let o = and_parts (not (is_some a.mirror)) (not (y.0 == a.owner.0)) f.0 in
-    (g.0, (not_is (y.0 == a.owner.0) o.1, not_is (is_among y a.leftovers) f.1))
+    (g.0, (not-true (y.0 == a.owner.0) o.1, not-true (is_among y a.leftovers) f.1))
 next-good a (Copy slot from) h g = good_copied a.mirror g.1
   where
     good_copied : (o : Option NodeId) → IsGoodMirror a o → (is_among a.owner a.leftovers ≡ false) × IsGoodMirror (record { owner = a.owner; mirror = a.mirror; copied = true; leftovers = a.leftovers }) o

@@ -2,6 +2,7 @@
 use Rattle.std.proofs.Common.{◌≡◌, ◌⊎◌, inl, inr, ◌∙◌, ℕ, zero, suc, ◌+◌, ◌<◌, Bool, true, false, cond, List, [], ◌∷◌, length, refl, sym, ap, subst, arith, add-one, eqb-true, eq-eqb}
 use Rattle.std.specs.Prelude.{◌==◌, Option, Some, None, slice_get, unwrap_or}
 use Rattle.std.proofs.lemmas.Bool.Decides.{eqb_tells}
+use Rattle.std.proofs.lemmas.Bool.{or_right, or_cases}
 use Rattle.ring_names.specs.Lists.{has}
 use Rattle.ring_names.specs.declared.ids.NodeId.{NodeId}
 use Rattle.ring_names.specs.declared.ids.Slot.{Slot}
@@ -18,7 +19,8 @@ use Rattle.plan_check.specs.Effects.{with_number}
 use Rattle.plan_stage.specs.Each.{step_at}
 use Rattle.plan_check.proofs.Passing.{some_found}
 use Rattle.plan_check.proofs.Prefix.{found, Rises, Down, one_more, count_same}
-use Rattle.plan_stage.proofs.Truth.{either, second_of_two, slot-is}
+use Rattle.plan_stage.proofs.Truth.{slot-is}
+use Rattle.plan_stage.proofs.Holders.{has-from}
 
 -- ---- the group of a slot
 
@@ -36,7 +38,7 @@ mirror_is None x h = absurd cc
 mirror_is (Some y) x h = ap (λ (k : ℕ). Some (record { 0 = k })) (sym (eqb-true x y.0 h))
 
 pub served_by : (a : Stage) (x : ℕ) → is_served a x ≡ true → Served a x
-served_by a x h = elim (either (x == a.owner.0) (mirrors a x) h) [
+served_by a x h = elim (or_cases (x == a.owner.0) (mirrors a x) h) [
   | inl f ↦ inl (eqb-true x a.owner.0 f)
   | inr f ↦ inr (mirror_is a.mirror x f)
 ]
@@ -44,11 +46,11 @@ served_by a x h = elim (either (x == a.owner.0) (mirrors a x) h) [
 pub served_is : (a : Stage) (x : ℕ) → Served a x → is_served a x ≡ true
 served_is a x h = elim h [
   | inl e ↦ rw (eq-eqb x a.owner.0 e) refl
-  | inr e ↦ second_of_two (x == a.owner.0) (mirrors a x) (rw e (eq-eqb x x refl))
+  | inr e ↦ or_right (x == a.owner.0) (mirrors a x) (rw e (eq-eqb x x refl))
 ]
 
 pub in_group : (ring : RingValue) (plan : List Planned) (w : World) (slot : Slot) (x : ℕ) → is_in_group ring plan w slot x ≡ true → InGroup ring plan w slot x
-in_group ring plan w slot x h = elim (either (is_served (stage_now ring plan w slot) x) (keeps w x slot) h) [
+in_group ring plan w slot x h = elim (or_cases (is_served (stage_now ring plan w slot) x) (keeps w x slot) h) [
   | inl f ↦ inl (served_by (stage_now ring plan w slot) x f)
   | inr f ↦ inr (some_found (length w.puts) (λ v. w.hinted x slot v) f)
 ]
@@ -83,21 +85,6 @@ after_served a x (Some y) h = elim (next_served a y.step x h) [
 
 -- ---- the steps of a slot
 
--- a step on the slot is one of its steps
-pub on_steps : (k n : ℕ) (plan : List Planned) (slot : Slot) (t : Step) → step_at plan n ≡ Some t → is_on slot t ≡ true → has (k + n) (steps_from k plan slot) ≡ true
-on_steps k n [] slot t e on = absurd cc
-on_steps k zero (x ∷ xs) slot t e on =
-    let f : is_on slot x.step ≡ true = (let g : x.step ≡ t = cc in rw g on) in
-    let z : k + 0 ≡ k = omega arith in
-    rw (f, z, eq-eqb k k refl) refl
-on_steps k (suc n) (x ∷ xs) slot t e on =
-    let z : k + suc n ≡ (k + 1) + n = omega arith in
-    rw z (by (is_on slot x.step) (on_steps (k + 1) n xs slot t e on))
-  where
-    by : (b : Bool) → has ((k + 1) + n) (steps_from (k + 1) xs slot) ≡ true → has ((k + 1) + n) (cond b (k ∷ steps_from (k + 1) xs slot) (steps_from (k + 1) xs slot)) ≡ true
-    by false h = h
-    by true h = second_of_two (((k + 1) + n) == k) (has ((k + 1) + n) (steps_from (k + 1) xs slot)) h
-
 -- and each of its steps is on it
 pub steps_on : (k m : ℕ) (plan : List Planned) (slot : Slot) → has m (steps_from k plan slot) ≡ true → (n : ℕ) × (t : Step) × (m ≡ k + n) × (step_at plan n ≡ Some t) × (is_on slot t ≡ true)
 steps_on k m [] slot h = absurd cc
@@ -107,7 +94,7 @@ steps_on k m (x ∷ xs) slot h = by (is_on slot x.step) refl h (λ g. let r = st
         → (has m (steps_from (k + 1) xs slot) ≡ true → (n : ℕ) × (t : Step) × (m ≡ k + n) × (step_at (x ∷ xs) n ≡ Some t) × (is_on slot t ≡ true))
         → (n : ℕ) × (t : Step) × (m ≡ k + n) × (step_at (x ∷ xs) n ≡ Some t) × (is_on slot t ≡ true)
     by false e g later = later g
-    by true e g later = elim (either (m == k) (has m (steps_from (k + 1) xs slot)) g) [
+    by true e g later = elim (or_cases (m == k) (has m (steps_from (k + 1) xs slot)) g) [
       | inl f ↦ (zero, x.step, (let s = eqb-true m k f in omega arith), refl, e)
       | inr f ↦ later f
     ]

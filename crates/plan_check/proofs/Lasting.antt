@@ -2,6 +2,7 @@
 use Rattle.std.proofs.Common.{◌≡◌, ◌∙◌, ℕ, zero, suc, ◌<◌, ◌≤◌, Bool, true, false, List, [], ◌∷◌, ◌++◌, length, length-append, refl, sym, ap, subst, arith, ltb-true, lt-ltb, eq-eqb}
 use Rattle.std.specs.Prelude.{◌||◌, ◌==◌, nat_lt, Option, Some, None, slice_get, is_some}
 use Rattle.std.proofs.lemmas.Slice.Eq.{bytes_eq-Decides}
+use Rattle.std.proofs.lemmas.Bool.{not-true}
 use Rattle.ring_names.specs.Lists.{has}
 use Rattle.ring_names.specs.declared.ids.Slot.{Slot}
 use Rattle.ring_table.specs.Value.{RingValue}
@@ -23,7 +24,6 @@ use Rattle.plan_check.proofs.Answered.{answered}
 use Rattle.plan_check.proofs.Changed.{read_at, length_changed, get_other, part_changed, part_before}
 use Rattle.plan_check.proofs.Passed.{AllMet, all_met}
 use Rattle.plan_check.proofs.Succeeding.{direct_parts}
-use Rattle.plan_stage.proofs.Truth.{not_is}
 
 -- puts and ended gets stay what they are
 pub record Extends (w u : World) : Type 0 where
@@ -133,7 +133,7 @@ event_extends ring plan w (StartGet key) g = gets_extend w _ (λ h e. before_mor
 event_extends ring plan w (Read h j) g = read_extends w h (λ x. record x { found = with_value x.found j (finds ring plan w h j) }) (λ x. refl)
 event_extends ring plan w (EndGet h) g = gets_extend w _ (λ k e. get_other w.gets h k (λ x. record x { reply = Some (answers ring w h) }) (λ s. (
     let f : has_ended w h ≡ true = subst (λ (z : ℕ). has_ended w z ≡ true) s e in
-    let n = not_is (has_ended w h) g.1.0 in
+    let n = not-true (has_ended w h) g.1.0 in
     cc)))
 event_extends ring plan w (Down x) g = same_puts w w.done w.is_open w.marked _ w.stored w.hinted w.losses w.lost
 event_extends ring plan w (Up x) g = same_puts w w.done w.is_open w.marked _ w.stored w.hinted w.losses w.lost

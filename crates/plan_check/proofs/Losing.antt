@@ -3,6 +3,7 @@ use Rattle.std.proofs.Common.{◌≡◌, ◌≢◌, ◌⊎◌, inl, inr, ◌∙�
 use Rattle.std.proofs.Common.{sym, ap, subst, arith, ltb-true, eqb-true, eq-eqb}
 use Rattle.std.specs.Prelude.{◌==◌, nat_lt}
 use Rattle.std.proofs.lemmas.Bool.Decides.{eqb_tells}
+use Rattle.std.proofs.lemmas.Bool.{or_right, and_from, or_cases, or_left}
 use Rattle.ring_names.specs.Lists.{has, all_different}
 use Rattle.ring_names.specs.declared.ids.NodeId.{NodeId}
 use Rattle.ring_names.specs.declared.ids.Slot.{Slot}
@@ -26,7 +27,7 @@ use Rattle.plan_check.proofs.Quorums.{without, kept-in, different-without, one-t
 use Rattle.plan_check.proofs.Serial.{acked_exists}
 use Rattle.plan_check.proofs.Standing.{SlotKeeps, twice_stays, firm_stays}
 use Rattle.plan_check.proofs.Ticketed.{generation_more, lose_more}
-use Rattle.plan_stage.proofs.Truth.{all_of, either, first_of_two, second_of_two, list_all-met, list_all-all}
+use Rattle.plan_stage.proofs.Truth.{list_all-met, list_all-all}
 
 -- ---- lists
 
@@ -37,9 +38,9 @@ one_or_none test (x ∷ xs) = by (test x) refl (one_or_none test xs)
   where
     by : (b : Bool) → test x ≡ b → ((i : ℕ) × (has i xs ≡ true) × (test i ≡ true)) ⊎ ((i : ℕ) → has i xs ≡ true → test i ≡ false)
         → ((i : ℕ) × (has i (x ∷ xs) ≡ true) × (test i ≡ true)) ⊎ ((i : ℕ) → has i (x ∷ xs) ≡ true → test i ≡ false)
-    by true e rest = inl (x, first_of_two (x == x) (has x xs) (eq-eqb x x refl), e)
-    by false e (inl f) = inl (f.0, second_of_two (f.0 == x) (has f.0 xs) f.1, f.2)
-    by false e (inr f) = inr (λ i h. elim (either (i == x) (has i xs) h) [
+    by true e rest = inl (x, or_left (x == x) (has x xs) (eq-eqb x x refl), e)
+    by false e (inl f) = inl (f.0, or_right (f.0 == x) (has f.0 xs) f.1, f.2)
+    by false e (inr f) = inr (λ i h. elim (or_cases (i == x) (has i xs) h) [
       | inl g ↦ subst (λ z. test z ≡ false) (sym (eqb-true i x g)) e
       | inr g ↦ f i g
     ])
@@ -57,15 +58,15 @@ gone n (x ∷ xs) = elim (eqb_tells n x) [
 -- who is in a group passes the test of it
 pub group_is : (ring : RingValue) (plan : List Planned) (w : World) (s : Slot) (x : ℕ) → InGroup ring plan w s x → is_in_group ring plan w s x ≡ true
 group_is ring plan w s x g = elim g [
-  | inl h ↦ first_of_two (is_served (stage_now ring plan w s) x) (keeps w x s) (served_is (stage_now ring plan w s) x h)
-  | inr h ↦ second_of_two (is_served (stage_now ring plan w s) x) (keeps w x s) (some_is (length w.puts) (λ v. w.hinted x s v) h.0 h.1 h.2)
+  | inl h ↦ or_left (is_served (stage_now ring plan w s) x) (keeps w x s) (served_is (stage_now ring plan w s) x h)
+  | inr h ↦ or_right (is_served (stage_now ring plan w s) x) (keeps w x s) (some_is (length w.puts) (λ v. w.hinted x s v) h.0 h.1 h.2)
 ]
 
 -- another node keeps what it has
 stays_at : (f : ℕ → Slot → ℕ → Bool) (x : NodeId) (y : ℕ) (s : Slot) (v : ℕ) → y ≢ x.0 → f y s v ≡ true → without_node f x y s v ≡ true
 stays_at f x y s v ne e = elim (eqb_tells y x.0) [
   | inl t ↦ absurd (ne t.1)
-  | inr t ↦ all_of (not (y == x.0)) (f y s v) (rw t.0 refl) e
+  | inr t ↦ and_from (not (y == x.0)) (f y s v) (rw t.0 refl) e
 ]
 
 -- node x loses what it stores and keeps
@@ -77,16 +78,16 @@ module _ (ring : RingValue) (plan : List Planned) (w : World) (x : NodeId) (r : 
   -- a slot whose group does not have it keeps what it has
   other_slots : (s : Slot) → is_in_group ring plan w s x.0 ≡ false → SlotKeeps ring plan w lost s
   other_slots s out = record {
-    held = λ v f. elim (either (w.stored owner.0 s v) (some_hinted ring w s v) f) [
-      | inl g ↦ first_of_two (lost.stored owner.0 s v) (some_hinted ring lost s v) (stays_at w.stored x owner.0 s v (λ i. apart (inl (inl (sym i)))) g)
-      | inr g ↦ second_of_two (lost.stored owner.0 s v) (some_hinted ring lost s v) (kept v g)
+    held = λ v f. elim (or_cases (w.stored owner.0 s v) (some_hinted ring w s v) f) [
+      | inl g ↦ or_left (lost.stored owner.0 s v) (some_hinted ring lost s v) (stays_at w.stored x owner.0 s v (λ i. apart (inl (inl (sym i)))) g)
+      | inr g ↦ or_right (lost.stored owner.0 s v) (some_hinted ring lost s v) (kept v g)
     ];
     alone = λ f. f;
-    mirrored = λ m is v f. elim (either (elim mirror [ Some z ↦ w.stored z.0 s v | None ↦ false ]) (some_hinted ring w s v) f) [
-      | inl g ↦ first_of_two (elim mirror [ Some z ↦ lost.stored z.0 s v | None ↦ false ]) (some_hinted ring lost s v)
+    mirrored = λ m is v f. elim (or_cases (elim mirror [ Some z ↦ w.stored z.0 s v | None ↦ false ]) (some_hinted ring w s v) f) [
+      | inl g ↦ or_left (elim mirror [ Some z ↦ lost.stored z.0 s v | None ↦ false ]) (some_hinted ring lost s v)
           (at_mirror_more mirror (λ z. w.stored z s v) (λ z. lost.stored z s v)
           (λ z i d. stays_at w.stored x z.0 s v (λ j. apart (inl (inr (i ∙ ap (λ (q : ℕ). Some (record { 0 = q })) j)))) d) g)
-      | inr g ↦ second_of_two (elim mirror [ Some z ↦ lost.stored z.0 s v | None ↦ false ]) (some_hinted ring lost s v) (kept v g)
+      | inr g ↦ or_right (elim mirror [ Some z ↦ lost.stored z.0 s v | None ↦ false ]) (some_hinted ring lost s v) (kept v g)
     ];
   }
     where

@@ -1,7 +1,7 @@
 -- A member is a declared node.
 use Rattle.std.proofs.Common.{◌≡◌, inl, inr, ℕ, zero, suc, ◌<◌, true, false, not, List, [], ◌∷◌, length, Some, None, arith, eqb-true, ltb-true}
 use Rattle.std.specs.Prelude.{◌&&◌, ◌||◌, slice_get}
-use Rattle.std.proofs.lemmas.Bool.{and_parts}
+use Rattle.std.proofs.lemmas.Bool.{and_parts, or_cases as either}
 use Rattle.ring_table.specs.declared.node.Node.{Node}
 use Rattle.ring_table.specs.Value.{RingValue, is_member}
 use Rattle.plan_text.specs.Valid.{Suits, is_declared}
@@ -12,7 +12,7 @@ use Rattle.plan_text.specs.Steps.{is_join_of, is_retire_of}
 use Rattle.plan_stage.specs.Each.{step_at, some_step}
 use Rattle.plan_check.specs.World.{World, is_member_now}
 use Rattle.plan_check.proofs.Suited.{suits-at}
-use Rattle.plan_stage.proofs.Truth.{either, some-met}
+use Rattle.plan_stage.proofs.Truth.{some-met}
 
 -- a member has a number below that of declared nodes
 read_within : (nodes : List Node) (x : ℕ) → (elim (slice_get nodes x) [ Some node ↦ node.is_member | None ↦ false ]) ≡ true → x < length nodes

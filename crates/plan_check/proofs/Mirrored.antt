@@ -1,6 +1,7 @@
 -- A node that may be mirrored now serves no other slot of the partition.
 use Rattle.std.proofs.Common.{◌≡◌, ◌≢◌, inl, inr, ◌∙◌, ℕ, suc, ◌+◌, ◌<◌, ◌≤◌, Bool, true, false, cond, not, List, [], ◌∷◌, length, get_or, drop, refl, sym, ap, subst, arith, eq-eqb}
 use Rattle.std.specs.Prelude.{◌&&◌, ◌==◌, Option, Some, None}
+use Rattle.std.proofs.lemmas.Bool.{or_right, cases_lt}
 use Rattle.ring_names.specs.Lists.{has}
 use Rattle.ring_names.specs.declared.ids.NodeId.{NodeId}
 use Rattle.ring_names.specs.declared.ids.Slot.{Slot}
@@ -20,11 +21,11 @@ use Rattle.plan_check.specs.World.{count}
 use Rattle.plan_stage.specs.Each.{step_at, sibling, place_in}
 use Rattle.plan_check.specs.Sound.{Meets, EndsBefore, Sound}
 use Rattle.plan_check.specs.Reached.{Ready, Closed}
-use Rattle.plan_check.proofs.Prefix.{order, found, found_later, Rises, Down, prefix, place}
-use Rattle.plan_check.proofs.Groups.{on_steps}
+use Rattle.plan_check.proofs.Prefix.{found, found_later, Rises, Down, prefix, place}
 use Rattle.plan_check.specs.Occupies.{FromStart, FromMirror, Serves}
 use Rattle.plan_check.proofs.Occupied.{occupied, ends_later, mirror_ends_later}
-use Rattle.plan_stage.proofs.Truth.{second_of_two, slot-same}
+use Rattle.plan_stage.proofs.Truth.{slot-same}
+use Rattle.plan_stage.proofs.Holders.{has-from}
 
 -- what is known of the ring and the plan
 pub record Known (ring : RingValue) (plan : List Planned) : Type 0 where
@@ -62,7 +63,7 @@ leaving_has plan x a (s ∷ ss) e h = by (is_node x a.owner && not (is_node x (a
   where
     by : (b : Bool) → cond b (Some s) (leaving plan x (after plan a s) ss) ≡ Some e → (leaving plan x (after plan a s) ss ≡ Some e → has e ss ≡ true) → has e (s ∷ ss) ≡ true
     by true g f = rw (eq-eqb e s (let i : e ≡ s = cc in i)) refl
-    by false g f = second_of_two (e == s) (has e ss) (f g)
+    by false g f = or_right (e == s) (has e ss) (f g)
 
 -- a step behind those that are done is not done
 not_done : (D : ℕ → Bool) (ss : List ℕ) (e : ℕ) → Down D ss → has e (drop (count D ss) ss) ≡ true → D e ≡ true → ⊥
@@ -78,7 +79,7 @@ front_done D ss i e d h f =
     let p = found_later e (suc i) ss h in
     let q = prefix D ss d in
     let g : D (get_or ss p.0 0) ≡ true = ap D p.3 ∙ f in
-    elim (order p.0 (count D ss)) [
+    elim (cases_lt p.0 (count D ss)) [
       | inl l ↦ q.below i (let m = p.1 in omega arith)
       | inr l ↦ absurd (let k = q.above p.0 l p.2 in cc)
     ]
@@ -114,7 +115,7 @@ from_later ring plan k D t m j slot x c off at ne on done l =
     let d = down ring plan k D c slot in
     let z : 0 + t ≡ t = omega arith in
     let e = ends plan _ m (k.meets.left_later m t slot.index (sibling slot j) x on (λ i. ne (sym i)) l at) in
-    let h : has t mine ≡ true = subst (λ (n : ℕ). has n mine ≡ true) z (on_steps 0 t plan slot (Mirror slot x) at (slot-same slot)) in
+    let h : has t mine ≡ true = subst (λ (n : ℕ). has n mine ≡ true) z (has-from 0 t plan slot (Mirror slot x) at (slot-same slot)) in
     let i = found t mine h in
     let p : place_in plan slot t ≡ i.0 = ap (place_in plan slot) (sym i.2) ∙ place mine i.0 (rises ring plan k slot) i.1 in
     let is : mirror_end ring plan slot i.0 x ≡ Some e.0 = ap (λ (n : ℕ). mirror_end ring plan slot n x) (sym p) ∙ e.1 in
@@ -129,7 +130,7 @@ mirrored_alone ring plan k D t j slot x c y off at p l ne s =
     let q = prefix D other (down ring plan k D c (sibling slot j)) in
     elim (occupied ring plan (sibling slot j) x (count D other) k.is_ring p l q.within s) [
       | inl f ↦ from_start ring plan k D t j slot x c y at ne f
-      | inr f ↦ elim (order (get_or other f.0 0) t) [
+      | inr f ↦ elim (cases_lt (get_or other f.0 0) t) [
         | inl g ↦ from_earlier ring plan k D t j f.0 slot x c y at ne f.1 g
         | inr g ↦ later f.0 f.1 g
       ]
@@ -139,7 +140,7 @@ mirrored_alone ring plan k D t j slot x c y off at p l ne s =
     later b f g =
         let other = steps_of plan (sibling slot j) in
         let done : D (get_or other b 0) ≡ true = (prefix D other (down ring plan k D c (sibling slot j))).below b f.0 in
-        elim (order t (get_or other b 0)) [
+        elim (cases_lt t (get_or other b 0)) [
           | inl h ↦ from_later ring plan k D t (get_or other b 0) j slot x c off at ne f.1 done h
           | inr h ↦ absurd (let e : get_or other b 0 ≡ t = omega arith in let z = ap D e in cc)
         ]

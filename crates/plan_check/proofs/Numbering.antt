@@ -2,7 +2,7 @@
 use Rattle.std.proofs.Common.{◌≡◌, inl, inr, ℕ, ◌<◌, ◌≤◌, Bool, true, false, List, get_or, refl, sym, ap, subst, arith, ltb-true}
 use Rattle.std.proofs.Common.{eq-eqb}
 use Rattle.std.specs.Prelude.{◌==◌, ◌&&◌, nat_lt, is_some}
-use Rattle.std.proofs.lemmas.Bool.{and_parts}
+use Rattle.std.proofs.lemmas.Bool.{and_parts, or_right, and_from, cases_lt}
 use Rattle.std.proofs.lemmas.Bool.Decides.{eqb_tells}
 use Rattle.ring_names.specs.Lists.{has}
 use Rattle.ring_names.specs.declared.ids.Slot.{Slot}
@@ -14,10 +14,9 @@ use Rattle.plan_check.specs.World.{count, mirror_at}
 use Rattle.plan_check.specs.Effects.{with_number}
 use Rattle.plan_check.specs.Firm.{mirrors_before}
 use Rattle.plan_check.specs.Reached.{Ready, Closed}
-use Rattle.plan_check.proofs.Prefix.{order, found, rising, count_same, count_in, count_less}
+use Rattle.plan_check.proofs.Prefix.{found, rising, count_same, count_in, count_less}
 use Rattle.plan_check.proofs.Mirrored.{Known, before_ready, rises}
 use Rattle.plan_check.proofs.Partakers.{in_turn}
-use Rattle.plan_stage.proofs.Truth.{all_of, second_of_two}
 
 -- ---- mirrors
 
@@ -45,9 +44,9 @@ pub mirrors_up : (plan : List Planned) (D : ℕ → Bool) (n : ℕ) (slot : Slot
     → count (λ s. D s && is_some (mirror_at plan s)) (steps_of plan slot) < count (λ s. with_number D n s && is_some (mirror_at plan s)) (steps_of plan slot)
 mirrors_up plan D n slot i off on =
     count_less (λ s. D s && is_some (mirror_at plan s)) (λ s. with_number D n s && is_some (mirror_at plan s)) n (steps_of plan slot)
-    (λ m g e. (let b = and_parts (D m) (is_some (mirror_at plan m)) e in all_of (with_number D n m) (is_some (mirror_at plan m))
-    (second_of_two (m == n) (D m) b.0) b.1))
-    i (rw off refl) (all_of (with_number D n n) (is_some (mirror_at plan n)) (rw (eq-eqb n n refl) refl) on)
+    (λ m g e. (let b = and_parts (D m) (is_some (mirror_at plan m)) e in and_from (with_number D n m) (is_some (mirror_at plan m))
+    (or_right (m == n) (D m) b.0) b.1))
+    i (rw off refl) (and_from (with_number D n n) (is_some (mirror_at plan n)) (rw (eq-eqb n n refl) refl) on)
 
 -- the mirrors of the slot in front of a step of it that is ready are finished
 pub mirrors_ahead : (ring : RingValue) (plan : List Planned) → Known ring plan → (D : ℕ → Bool) (n : ℕ) (slot : Slot) → Closed plan D → Ready plan D n
@@ -55,7 +54,7 @@ pub mirrors_ahead : (ring : RingValue) (plan : List Planned) → Known ring plan
     → mirrors_before plan slot n ≤ count (λ s. D s && is_some (mirror_at plan s)) (steps_of plan slot)
 mirrors_ahead ring plan k D n slot c y h =
     count_in (λ s. nat_lt s n && is_some (mirror_at plan s)) (λ s. D s && is_some (mirror_at plan s)) (steps_of plan slot)
-    (λ m i e. (let b = and_parts (nat_lt m n) (is_some (mirror_at plan m)) e in all_of (D m) (is_some (mirror_at plan m)) (ahead m i (ltb-true m n b.0)) b.1))
+    (λ m i e. (let b = and_parts (nat_lt m n) (is_some (mirror_at plan m)) e in and_from (D m) (is_some (mirror_at plan m)) (ahead m i (ltb-true m n b.0)) b.1))
   where
     ss : List ℕ
     ss = steps_of plan slot
@@ -66,11 +65,11 @@ mirrors_ahead ring plan k D n slot c y h =
         let q = found n ss h in
         let at : get_or ss p.0 0 ≡ m = p.2 in
         let to : get_or ss q.0 0 ≡ n = q.2 in
-        elim (order p.0 q.0) [
+        elim (cases_lt p.0 q.0) [
           | inl less ↦
               subst (λ z. D z ≡ true) at (before_ready plan D (get_or ss p.0 0) n c y
               (subst (λ z. Before plan (get_or ss p.0 0) z) to (in_turn ring plan k slot p.0 q.0 less q.1)))
-          | inr more ↦ absurd (elim (order q.0 p.0) [
+          | inr more ↦ absurd (elim (cases_lt q.0 p.0) [
             | inl g ↦ (let r = rising ss (rises ring plan k slot) q.0 p.0 g p.1 in omega arith)
             | inr g ↦ (let s : p.0 ≡ q.0 = omega arith in let z : get_or ss p.0 0 ≡ get_or ss q.0 0 = ap (λ j. get_or ss j 0) s in omega arith)
           ])

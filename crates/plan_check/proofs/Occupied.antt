@@ -7,6 +7,7 @@ use Rattle.std.proofs.lemmas.List.{take-append-drop, take_more, drop_all, length
 use Rattle.ring_names.specs.Lists.{has}
 use Rattle.ring_names.specs.declared.ids.NodeId.{NodeId}
 use Rattle.ring_names.specs.declared.ids.Slot.{Slot}
+use Rattle.ring_names.proofs.Logic.{and_not}
 use Rattle.ring_table.specs.Value.{RingValue, owner_of}
 use Rattle.ring_table.specs.Valid.{IsRing, IsRow}
 use Rattle.plan_text.specs.declared.step.Step.{Step}
@@ -21,6 +22,7 @@ use Rattle.plan_stage.specs.Occupancy.{is_node, leaving, first_end, mirror_end}
 use Rattle.plan_stage.specs.Each.{step_at}
 use Rattle.plan_check.specs.Occupies.{FromStart, FromMirror, Serves}
 use Rattle.plan_stage.proofs.Truth.{slot-is}
+use Rattle.plan_stage.proofs.Leavings.{some_is}
 
 -- ---- leaving, step by step
 
@@ -80,25 +82,18 @@ InStage x a = (x ≡ a.owner) ⊎ (a.mirror ≡ Some x)
 pub node_same : (x y : NodeId) → x ≡ y → is_node x y ≡ true
 node_same x y e = eq-eqb x.0 y.0 (ap (λ (z : NodeId). z.0) e)
 
-stays : (b : Bool) → (b && not b) ≡ false
-stays true = refl
-stays false = refl
-
 gone : (b c : Bool) → c ≡ true → (b && not c) ≡ false
 gone true c e = rw e refl
 gone false c e = refl
 
-some_is : (x y : NodeId) → Some x ≡ Some y → x ≡ y
-some_is x y e = cc
-
 -- who serves after a step served before it and does not leave by it, or is mirrored by it
 next-serves : (x : NodeId) (a : Stage) (t : Step) → InStage x (next a t) → (InStage x a × ((is_node x a.owner && not (is_node x (next a t).owner)) ≡ false)) ⊎ ((slot : Slot) × (t ≡ Mirror slot x))
-next-serves x a (Join y) h = inl (h, stays (is_node x a.owner))
+next-serves x a (Join y) h = inl (h, and_not (is_node x a.owner))
 next-serves x a (Mirror slot y) h = elim h [
-  | inl owner ↦ inl (inl owner, stays (is_node x a.owner))
+  | inl owner ↦ inl (inl owner, and_not (is_node x a.owner))
   | inr mirror ↦ inr (slot, ap (λ (z : NodeId). Mirror slot z) (some_is y x mirror))
 ]
-next-serves x a (Copy slot from) h = inl (h, stays (is_node x a.owner))
+next-serves x a (Copy slot from) h = inl (h, and_not (is_node x a.owner))
 next-serves x a (Switch slot) h = elim h [
   | inl owner ↦ inl (from_mirror a.mirror refl owner, gone (is_node x a.owner) (is_node x (unwrap_or a.mirror a.owner)) (node_same x (unwrap_or a.mirror a.owner) owner))
   | inr mirror ↦ absurd (none_is mirror)
@@ -110,8 +105,8 @@ next-serves x a (Switch slot) h = elim h [
     from_mirror : (o : Option NodeId) → a.mirror ≡ o → x ≡ unwrap_or o a.owner → InStage x a
     from_mirror None e h2 = inl h2
     from_mirror (Some m) e h2 = inr (e ∙ ap (λ (z : NodeId). Some z) (sym h2))
-next-serves x a (Drop slot y) h = inl (h, stays (is_node x a.owner))
-next-serves x a (Retire y) h = inl (h, stays (is_node x a.owner))
+next-serves x a (Drop slot y) h = inl (h, and_not (is_node x a.owner))
+next-serves x a (Retire y) h = inl (h, and_not (is_node x a.owner))
 
 after-serves : (plan : List Planned) (x : NodeId) (a : Stage) (n : ℕ) (p : Planned) → slice_get plan n ≡ Some p → InStage x (after plan a n) → (InStage x a × (ends_at plan x a n ≡ false)) ⊎ ((slot : Slot) × (p.step ≡ Mirror slot x))
 after-serves plan x a n p e h =

@@ -2,6 +2,7 @@
 use Rattle.std.proofs.Common.{◌≡◌, ◌⊎◌, inl, inr, ◌∙◌, ℕ, zero, suc, ◌+◌, ◌<◌, ◌≤◌, Bool, true, false, cond, List, [], ◌∷◌, length, get_or, map, refl, sym, ap, subst, arith, add-one, ltb-true, ltb-false, lt-ltb, eqb-true, eq-eqb}
 use Rattle.std.specs.Prelude.{◌==◌, nat_lt, Option, Some, None, slice_get, option_map, option_and_then}
 use Rattle.std.specs.List.{list_any}
+use Rattle.std.proofs.lemmas.Bool.{or_right, cases_lt, or_cases}
 use Rattle.ring_names.specs.Lists.{has}
 use Rattle.ring_names.specs.declared.ids.NodeId.{NodeId}
 use Rattle.ring_names.specs.declared.ids.Slot.{Slot}
@@ -24,12 +25,12 @@ use Rattle.plan_check.specs.World.{World, stage_now, count, copy_at}
 use Rattle.plan_stage.specs.Each.{step_at, sibling}
 use Rattle.plan_check.specs.Safe.{mirrors_now, gives_now, takes_part_now}
 use Rattle.plan_check.specs.Sound.{is_party_of}
-use Rattle.plan_check.proofs.Prefix.{order, found, Rises, IsPrefix, prefix, count_below_is, place}
+use Rattle.plan_check.proofs.Prefix.{found, Rises, IsPrefix, prefix, count_below_is, place}
 use Rattle.plan_check.proofs.Mirrored.{Known, before_done, before_ready, rises, down}
 use Rattle.plan_check.specs.Reached.{Ready, Closed}
-use Rattle.plan_check.proofs.Groups.{on_steps}
 use Rattle.plan_stage.proofs.Places.{placed}
-use Rattle.plan_stage.proofs.Truth.{either, second_of_two, slot-is, slot-same}
+use Rattle.plan_stage.proofs.Truth.{slot-is, slot-same}
+use Rattle.plan_stage.proofs.Holders.{has-from}
 
 -- ---- steps of smaller number
 
@@ -40,7 +41,7 @@ below_prefix n ss r = subst (λ (k : ℕ). IsPrefix (λ s. nat_lt s n) ss k) (sy
 -- a slot's steps come one before the other
 pub in_turn : (ring : RingValue) (plan : List Planned) → Known ring plan → (slot : Slot) (i j : ℕ) → i < j → j < length (steps_of plan slot) → Before plan (get_or (steps_of plan slot) i 0) (get_or (steps_of plan slot) j 0)
 in_turn ring plan k slot i zero l m = absurd (omega arith)
-in_turn ring plan k slot i (suc j) l m = elim (order i j) [
+in_turn ring plan k slot i (suc j) l m = elim (cases_lt i j) [
   | inl h ↦ join plan _ _ _ (in_turn ring plan k slot i j h (omega arith)) (k.meets.in_order slot j m)
   | inr h ↦ (let e : i ≡ j = omega arith in rw e (k.meets.in_order slot j m))
 ]
@@ -68,9 +69,9 @@ own_count ring plan k D n slot c y off h = done ∙ sym front
     p = prefix D ss (down ring plan k D c slot)
 
     done : count D ss ≡ j
-    done = elim (order j (count D ss)) [
+    done = elim (cases_lt j (count D ss)) [
       | inl l ↦ absurd (let e : D n ≡ true = ap D (sym at) ∙ p.below j l in cc)
-      | inr l ↦ elim (order (count D ss) j) [
+      | inr l ↦ elim (cases_lt (count D ss) j) [
         | inl m ↦ absurd (
             let b : Before plan (get_or ss (count D ss) 0) n = subst (λ (z : ℕ). Before plan (get_or ss (count D ss) 0) z) at (in_turn ring plan k slot (count D ss) j m in_it) in
             let e = before_ready plan D _ n c y b in
@@ -96,7 +97,7 @@ NoSwitch plan slot a b = (i : ℕ) → a ≤ i → i < b → step_at plan (get_o
 
 owner_kept : (ring : RingValue) (plan : List Planned) (slot : Slot) (a b : ℕ) → a ≤ b → b ≤ length (steps_of plan slot) → NoSwitch plan slot a b → (stage ring plan slot b).owner ≡ (stage ring plan slot a).owner
 owner_kept ring plan slot a zero l m never = (let e : zero ≡ a = omega arith in ap (λ (z : ℕ). (stage ring plan slot z).owner) e)
-owner_kept ring plan slot a (suc b) l m never = elim (order b a) [
+owner_kept ring plan slot a (suc b) l m never = elim (cases_lt b a) [
   | inl h ↦ (let e : suc b ≡ a = omega arith in ap (λ (z : ℕ). (stage ring plan slot z).owner) e)
   | inr h ↦ (
       let n = get_or (steps_of plan slot) b 0 in
@@ -115,7 +116,7 @@ Settled plan n slot = (m : ℕ) → step_at plan m ≡ Some (Switch slot) → Be
 -- so the owner now is the one before step n, where n is ready and not finished
 pub owner_same : (ring : RingValue) (plan : List Planned) → Known ring plan → (D : ℕ → Bool) (n : ℕ) (slot : Slot) → Closed plan D → Ready plan D n → D n ≡ false → Settled plan n slot
     → (stage ring plan slot (count D (steps_of plan slot))).owner ≡ (stage_before ring plan slot n).owner
-owner_same ring plan k D n slot c y off settled = elim (order (count D ss) (count_below n ss)) [
+owner_same ring plan k D n slot c y off settled = elim (cases_lt (count D ss) (count_below n ss)) [
   | inl h ↦ sym (owner_kept ring plan slot (count D ss) (count_below n ss) (omega arith) q.within ahead)
   | inr h ↦ owner_kept ring plan slot (count_below n ss) (count D ss) h p.within behind
 ]
@@ -155,18 +156,18 @@ node_in x (y ∷ ys) = by (nat_lt x.0 y.0) (x.0 == y.0) refl (node_in x ys)
     by : (a b : Bool) → (x.0 == y.0) ≡ b → is_among x (with_node x ys) ≡ true → is_among x (cond a (x ∷ y ∷ ys) (cond b (y ∷ ys) (y ∷ with_node x ys))) ≡ true
     by true b e r = by_equal x x (y ∷ ys) (eq-eqb x.0 x.0 refl)
     by false true e r = by_equal x y ys e
-    by false false e r = second_of_two (x.0 == y.0) (is_among x (with_node x ys)) r
+    by false false e r = or_right (x.0 == y.0) (is_among x (with_node x ys)) r
 
 still_in : (z x : NodeId) (ys : List NodeId) → is_among z ys ≡ true → is_among z (with_node x ys) ≡ true
 still_in z x [] h = absurd cc
 still_in z x (y ∷ ys) h = by (nat_lt x.0 y.0) (x.0 == y.0) (still_in z x ys)
   where
     by : (a b : Bool) → (is_among z ys ≡ true → is_among z (with_node x ys) ≡ true) → is_among z (cond a (x ∷ y ∷ ys) (cond b (y ∷ ys) (y ∷ with_node x ys))) ≡ true
-    by true b r = second_of_two (z.0 == x.0) (is_among z (y ∷ ys)) h
+    by true b r = or_right (z.0 == x.0) (is_among z (y ∷ ys)) h
     by false true r = h
-    by false false r = elim (either (z.0 == y.0) (is_among z ys) h) [
+    by false false r = elim (or_cases (z.0 == y.0) (is_among z ys) h) [
       | inl f ↦ by_equal z y (with_node x ys) f
-      | inr f ↦ second_of_two (z.0 == y.0) (is_among z (with_node x ys)) (r f)
+      | inr f ↦ or_right (z.0 == y.0) (is_among z (with_node x ys)) (r f)
     ]
 
 -- ---- the nodes of a copy
@@ -179,7 +180,7 @@ SameOwners ring plan w n (t ∷ ts) = ((stage_now ring plan w t).owner ≡ (stag
 owner_in : (ring : RingValue) (plan : List Planned) (w : World) (n x : ℕ) (ts : List Slot) → SameOwners ring plan w n ts → list_any (λ t. x == (stage_now ring plan w t).owner.0) ts ≡ true
     → is_among (record { 0 = x }) (owners_before ring plan n ts) ≡ true
 owner_in ring plan w n x [] s h = absurd cc
-owner_in ring plan w n x (t ∷ ts) s h = elim (either (x == (stage_now ring plan w t).owner.0) (list_any (λ t. x == (stage_now ring plan w t).owner.0) ts) h) [
+owner_in ring plan w n x (t ∷ ts) s h = elim (or_cases (x == (stage_now ring plan w t).owner.0) (list_any (λ t. x == (stage_now ring plan w t).owner.0) ts) h) [
   | inl f ↦ (
       let e : x ≡ (stage_before ring plan t n).owner.0 = eqb-true x (stage_now ring plan w t).owner.0 f ∙ ap (λ (y : NodeId). y.0) s.0 in
       subst (λ (z : ℕ). is_among (record { 0 = z }) (with_node (stage_before ring plan t n).owner (owners_before ring plan n ts)) ≡ true) (sym e) (node_in (stage_before ring plan t n).owner (owners_before ring plan n ts)))
@@ -189,7 +190,7 @@ owner_in ring plan w n x (t ∷ ts) s h = elim (either (x == (stage_now ring pla
 listed_same : (ring : RingValue) (plan : List Planned) (w : World) (n : ℕ) (slot : Slot) (from : List ℕ) → ((j : ℕ) → has j from ≡ true → (stage_now ring plan w (sibling slot j)).owner ≡ (stage_before ring plan (sibling slot j) n).owner)
     → SameOwners ring plan w n (map (λ i. record { partition = slot.partition; index = i }) from)
 listed_same ring plan w n slot [] h = tt
-listed_same ring plan w n slot (i ∷ from) h = (h i (rw (eq-eqb i i refl) refl), listed_same ring plan w n slot from (λ j e. h j (second_of_two (j == i) (has j from) e)))
+listed_same ring plan w n slot (i ∷ from) h = (h i (rw (eq-eqb i i refl) refl), listed_same ring plan w n slot from (λ j e. h j (or_right (j == i) (has j from) e)))
 
 sources_same : (ring : RingValue) (plan : List Planned) → Known ring plan → (w : World) (n : ℕ) (slot : Slot) (source : Source) → Closed plan w.done → Ready plan w.done n → w.done n ≡ false → step_at plan n ≡ Some (Copy slot source)
     → stage_now ring plan w slot ≡ stage_before ring plan slot n → SameOwners ring plan w n (source_slots slot source)
@@ -210,7 +211,7 @@ module _ (ring : RingValue) (plan : List Planned) (k : Known ring plan) (w : Wor
   own : stage_now ring plan w slot ≡ stage_before ring plan slot n
   own =
       let z : 0 + n ≡ n = omega arith in
-      let on : has n (steps_of plan slot) ≡ true = subst (λ (m : ℕ). has m (steps_of plan slot) ≡ true) z (on_steps 0 n plan slot (Copy slot source) at (slot-same slot)) in
+      let on : has n (steps_of plan slot) ≡ true = subst (λ (m : ℕ). has m (steps_of plan slot) ≡ true) z (has-from 0 n plan slot (Copy slot source) at (slot-same slot)) in
       ap (stage ring plan slot) (own_count ring plan k w.done n slot c y off on)
 
   abbrev owners : List NodeId
@@ -233,7 +234,7 @@ module _ (ring : RingValue) (plan : List Planned) (k : Known ring plan) (w : Wor
   is_read h = owner_in ring plan w n x (source_slots slot source) (sources_same ring plan k w n slot source c y off at own) h
 
   copy_party : (side : Side) → takes_part_now ring plan w x side slot source ≡ true → is_among (record { 0 = x }) (on_side side mirror owners) ≡ true
-  copy_party Both part = elim (either (mirrors_now ring plan w x slot source) (gives_now ring plan w x slot source) part) [
+  copy_party Both part = elim (or_cases (mirrors_now ring plan w x slot source) (gives_now ring plan w x slot source) part) [
     | inl h ↦ receives owners h
     | inr h ↦ source_in (record { 0 = x }) mirror owners (is_read h)
   ]

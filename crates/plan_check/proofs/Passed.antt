@@ -3,14 +3,13 @@ use Rattle.std.proofs.Common.{◌≡◌, inl, inr, ◌∙◌, ℕ, Bool, true, f
 use Rattle.std.specs.Prelude.{◌==◌, Option, Some, None, slice_get}
 use Rattle.std.specs.List.{list_all}
 use Rattle.ring_names.specs.Lists.{has}
-use Rattle.std.proofs.lemmas.Bool.{and_parts}
+use Rattle.std.proofs.lemmas.Bool.{and_parts, or_cases as either}
 use Rattle.plan_text.specs.declared.step.Planned.{Planned}
 use Rattle.plan_stage.specs.Clauses.{first_failing, Guard}
 use Rattle.plan_stage.proofs.Below.{met}
 use Rattle.plan_check.specs.World.{World}
 use Rattle.plan_check.specs.Guards.{is_ready}
 use Rattle.plan_check.specs.Reached.{Ready}
-use Rattle.plan_stage.proofs.Truth.{either}
 
 abbrev pub AllMet : List Guard → Type 0
 AllMet [] = Unit {0}

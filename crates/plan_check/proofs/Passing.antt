@@ -1,12 +1,13 @@
 -- Ascending numbers, and those below a bound that pass a test.
-use Rattle.std.proofs.Common.{◌≡◌, ◌⊎◌, inl, inr, ℕ, zero, suc, ◌+◌, ◌<◌, ◌≤◌, Bool, true, false, cond, List, [], ◌∷◌, length, get_or, refl, sym, subst, arith, ltb-true, lt-ltb, eqb-true, eq-eqb}
+use Rattle.std.proofs.Common.{◌≡◌, ◌⊎◌, inl, inr, ℕ, zero, suc, ◌+◌, ◌<◌, ◌≤◌, Bool, true, false, cond, List, [], ◌∷◌, length, get_or, refl, sym, subst, arith, lt-ltb, eqb-true, eq-eqb}
 use Rattle.std.specs.Prelude.{◌==◌, nat_lt}
 use Rattle.std.proofs.lemmas.Bool.Decides.{eqb_tells}
 use Rattle.ring_names.specs.Lists.{has, all_different}
 use Rattle.texts.specs.Numbers.{ascending}
-use Rattle.std.proofs.lemmas.Bool.{and_parts}
+use Rattle.std.proofs.lemmas.Bool.{or_right, and_from, or_cases as either}
 use Rattle.plan_check.specs.World.{some_below, passing_from, passing_below}
-use Rattle.plan_stage.proofs.Truth.{all_of, either, second_of_two}
+use Rattle.plan_stage.proofs.Looking.{ascends-below}
+use Rattle.plan_text.proofs.Searched.{ascends-tail}
 
 -- ---- some number below n
 
@@ -20,7 +21,7 @@ some_found (suc n) test h = elim (either (some_below n test) (test n) h) [
 pub some_is : (n : ℕ) (test : ℕ → Bool) (v : ℕ) → v < n → test v ≡ true → some_below n test ≡ true
 some_is zero test v l e = absurd (omega arith)
 some_is (suc n) test v l e = elim (eqb_tells v n) [
-  | inl t ↦ second_of_two (some_below n test) (test n) (subst (λ m. test m ≡ true) t.1 e)
+  | inl t ↦ or_right (some_below n test) (test n) (subst (λ m. test m ≡ true) t.1 e)
   | inr t ↦ (let f = some_is n test v (let g = t.1 in omega arith) e in rw f refl)
 ]
 
@@ -46,7 +47,7 @@ passing k (suc n) test m l r t = elim (eqb_tells m k) [
   where
     by : (b : Bool) → has m (passing_from (k + 1) n test) ≡ true → has m (cond b (k ∷ passing_from (k + 1) n test) (passing_from (k + 1) n test)) ≡ true
     by false h = h
-    by true h = second_of_two (m == k) (has m (passing_from (k + 1) n test)) h
+    by true h = or_right (m == k) (has m (passing_from (k + 1) n test)) h
 
 -- a number is among those below n that pass where it is below n and passes
 pub below_is : (n : ℕ) (test : ℕ → Bool) (m : ℕ) → has m (passing_below n test) ≡ true → (m < n) × (test m ≡ true)
@@ -76,7 +77,7 @@ starts k (suc n) test = by (test k) (starts (k + 1) n test)
 
 pub with_first : (k : ℕ) (xs : List ℕ) → StartsAt (k + 1) xs → ascending xs ≡ true → ascending (k ∷ xs) ≡ true
 with_first k [] s h = refl
-with_first k (x ∷ xs) s h = all_of (nat_lt k x) (ascending (x ∷ xs)) (lt-ltb k x (omega arith)) h
+with_first k (x ∷ xs) s h = and_from (nat_lt k x) (ascending (x ∷ xs)) (lt-ltb k x (omega arith)) h
 
 pub passing_ascend : (k n : ℕ) (test : ℕ → Bool) → ascending (passing_from k n test) ≡ true
 passing_ascend k zero test = refl
@@ -86,41 +87,19 @@ passing_ascend k (suc n) test = by (test k) (passing_ascend (k + 1) n test)
     by false h = h
     by true h = with_first k (passing_from (k + 1) n test) (starts (k + 1) n test) h
 
-pub ascending_rest : (x : ℕ) (xs : List ℕ) → ascending (x ∷ xs) ≡ true → ascending xs ≡ true
-ascending_rest x [] h = refl
-ascending_rest x (y ∷ ys) h = (and_parts (nat_lt x y) (ascending (y ∷ ys)) h).1
-
--- the first is less than each of the others
-pub first_least : (x : ℕ) (xs : List ℕ) → ascending (x ∷ xs) ≡ true → (m : ℕ) → has m xs ≡ true → x < m
-first_least x [] h m e = absurd cc
-first_least x (y ∷ ys) h m e =
-    let b = and_parts (nat_lt x y) (ascending (y ∷ ys)) h in
-    let l = ltb-true x y b.0 in
-    elim (either (m == y) (has m ys) e) [
-      | inl f ↦ (let s = eqb-true m y f in omega arith)
-      | inr f ↦ (let r = first_least y ys b.1 m f in omega arith)
-    ]
-
 pub at_place : (xs : List ℕ) (n : ℕ) → n < length xs → has (get_or xs n 0) xs ≡ true
 at_place [] n l = absurd (omega arith)
 at_place (x ∷ xs) zero l = rw (eq-eqb x x refl) refl
-at_place (x ∷ xs) (suc n) l = second_of_two (get_or xs n 0 == x) (has (get_or xs n 0) xs) (at_place xs n (omega arith))
-
--- each is smaller than those at later places
-pub rises_at : (xs : List ℕ) → ascending xs ≡ true → (i j : ℕ) → i < j → j < length xs → get_or xs i 0 < get_or xs j 0
-rises_at [] h i j l m = absurd (omega arith)
-rises_at (x ∷ xs) h i zero l m = absurd (omega arith)
-rises_at (x ∷ xs) h zero (suc j) l m = first_least x xs h (get_or xs j 0) (at_place xs j (omega arith))
-rises_at (x ∷ xs) h (suc i) (suc j) l m = rises_at xs (ascending_rest x xs h) i j (omega arith) (omega arith)
+at_place (x ∷ xs) (suc n) l = or_right (get_or xs n 0 == x) (has (get_or xs n 0) xs) (at_place xs n (omega arith))
 
 -- ---- two ascending lists with the same members are equal
 
 pub none_twice : (xs : List ℕ) → ascending xs ≡ true → all_different xs ≡ true
 none_twice [] h = refl
-none_twice (x ∷ xs) h = by (has x xs) refl (none_twice xs (ascending_rest x xs h))
+none_twice (x ∷ xs) h = by (has x xs) refl (none_twice xs (ascends-tail x xs h))
   where
     by : (b : Bool) → has x xs ≡ b → all_different xs ≡ true → all_different (x ∷ xs) ≡ true
-    by true e r = absurd (let l = first_least x xs h x e in omega arith)
+    by true e r = absurd (let l = ascends-below x xs h x e in omega arith)
     by false e r = rw (e, r) refl
 
 abbrev pub Has : List ℕ → ℕ → Type 0
@@ -128,8 +107,8 @@ Has xs m = has m xs ≡ true
 
 -- what is behind the first, where the first ones are equal
 behind : (x : ℕ) (xs ys : List ℕ) → ascending (x ∷ xs) ≡ true → ((m : ℕ) → Has (x ∷ xs) m → Has (x ∷ ys) m) → (m : ℕ) → Has xs m → Has ys m
-behind x xs ys h f m e = elim (either (m == x) (has m ys) (f m (second_of_two (m == x) (has m xs) e))) [
-  | inl s ↦ absurd (let l = first_least x xs h m e in let i = eqb-true m x s in omega arith)
+behind x xs ys h f m e = elim (either (m == x) (has m ys) (f m (or_right (m == x) (has m xs) e))) [
+  | inl s ↦ absurd (let l = ascends-below x xs h m e in let i = eqb-true m x s in omega arith)
   | inr s ↦ s
 ]
 
@@ -144,10 +123,10 @@ same_numbers (x ∷ xs) (y ∷ ys) a b f g =
     let c : ascending (x ∷ ys) ≡ true = subst (λ z. ascending (z ∷ ys) ≡ true) (sym e) b in
     let h : (m : ℕ) → Has (x ∷ xs) m → Has (x ∷ ys) m = λ m p. subst (λ z. Has (z ∷ ys) m) (sym e) (f m p) in
     let k : (m : ℕ) → Has (x ∷ ys) m → Has (x ∷ xs) m = λ m p. g m (subst (λ z. Has (z ∷ ys) m) e p) in
-    let r : xs ≡ ys = same_numbers xs ys (ascending_rest x xs a) (ascending_rest y ys b) (behind x xs ys a h) (behind x ys xs c k) in
+    let r : xs ≡ ys = same_numbers xs ys (ascends-tail x xs a) (ascends-tail y ys b) (behind x xs ys a h) (behind x ys xs c k) in
     rw (e, r) refl
   where
     first_same : ((x == y) ≡ true) ⊎ (has x ys ≡ true) → ((y == x) ≡ true) ⊎ (has y xs ≡ true) → x ≡ y
     first_same (inl s) t = eqb-true x y s
     first_same (inr s) (inl t) = sym (eqb-true y x t)
-    first_same (inr s) (inr t) = absurd (let l = first_least y ys b x s in let m = first_least x xs a y t in omega arith)
+    first_same (inr s) (inr t) = absurd (let l = ascends-below y ys b x s in let m = ascends-below x xs a y t in omega arith)

@@ -1,30 +1,23 @@
 -- The finished steps of a slot are its first ones.
 use Rattle.std.proofs.Common.{◌≡◌, ◌⊎◌, inl, inr, ◌∙◌, ℕ, zero, suc, ◌+◌, ◌<◌, ◌≤◌, Bool, true, false, cond, List, [], ◌∷◌, length, get_or, drop, refl, sym, subst, arith, ltb-true, ltb-false, lt-ltb, get_or-drop, length-drop, eqb-true, eq-eqb}
 use Rattle.std.specs.Prelude.{◌==◌, nat_lt}
+use Rattle.std.proofs.lemmas.Bool.{or_right as second_of_two, cases_lt, or_cases}
 use Rattle.ring_names.specs.Lists.{has}
 use Rattle.plan_stage.specs.Parties.{count_below}
 use Rattle.plan_check.specs.World.{count}
 use Rattle.plan_check.specs.Effects.{with_number}
-use Rattle.plan_stage.proofs.Truth.{either, second_of_two}
 
 -- ---- tests
 
-pub order : (a b : ℕ) → (a < b) ⊎ (b ≤ a)
-order a b = by (nat_lt a b) refl
-  where
-    by : (t : Bool) → nat_lt a b ≡ t → (a < b) ⊎ (b ≤ a)
-    by true e = inl (ltb-true a b e)
-    by false e = inr (ltb-false a b e)
-
 -- a number that passes with n is n or passed before
 pub passed : (D : ℕ → Bool) (n m : ℕ) → with_number D n m ≡ true → (m ≡ n) ⊎ (D m ≡ true)
-passed D n m e = elim (either (m == n) (D m) e) [ inl f ↦ inl (eqb-true m n f) | inr f ↦ inr f ]
+passed D n m e = elim (or_cases (m == n) (D m) e) [ inl f ↦ inl (eqb-true m n f) | inr f ↦ inr f ]
 
 -- ---- places
 
 pub found : (e : ℕ) (ss : List ℕ) → has e ss ≡ true → (i : ℕ) × (i < length ss) × (get_or ss i 0 ≡ e)
 found e [] h = absurd cc
-found e (s ∷ ss) h = elim (either (e == s) (has e ss) h) [
+found e (s ∷ ss) h = elim (or_cases (e == s) (has e ss) h) [
   | inl f ↦ (zero, omega arith, sym (eqb-true e s f))
   | inr f ↦ (let g = found e ss f in (suc g.0, omega arith, g.2))
 ]
@@ -44,7 +37,7 @@ Rises ss = (k : ℕ) → suc k < length ss → get_or ss k 0 < get_or ss (suc k)
 
 pub rising : (ss : List ℕ) → Rises ss → (i j : ℕ) → i < j → j < length ss → get_or ss i 0 < get_or ss j 0
 rising ss r i zero l m = absurd (omega arith)
-rising ss r i (suc j) l m = elim (order i j) [
+rising ss r i (suc j) l m = elim (cases_lt i j) [
   | inl h ↦ (let a = rising ss r i j h (omega arith) in let b = r j m in omega arith)
   | inr h ↦ (let e : i ≡ j = omega arith in rw e (r j m))
 ]
@@ -110,7 +103,7 @@ count_in D E (s ∷ ss) h = by (D s) (E s) (h s (rw (eq-eqb s s refl) refl)) (co
 pub count_less : (D E : ℕ → Bool) (n : ℕ) (ss : List ℕ) → ((m : ℕ) → has m ss ≡ true → D m ≡ true → E m ≡ true) → has n ss ≡ true → D n ≡ false → E n ≡ true
     → count D ss < count E ss
 count_less D E n [] h i off on = absurd cc
-count_less D E n (s ∷ ss) h i off on = elim (either (n == s) (has n ss) i) [
+count_less D E n (s ∷ ss) h i off on = elim (or_cases (n == s) (has n ss) i) [
   | inl f ↦ (
       let e = eqb-true n s f in
       first (D s) (E s) (subst (λ z. D z ≡ false) e off) (subst (λ z. E z ≡ true) e on) (count_in D E ss (λ m g. h m (second_of_two (m == s) (has m ss) g))))
@@ -149,15 +142,15 @@ one_more D n j ss r d e off l at = (old, new)
     ]
 
     reached : j < count (with_number D n) ss
-    reached = elim (order j (count (with_number D n) ss)) [
+    reached = elim (cases_lt j (count (with_number D n) ss)) [
       | inl h ↦ h
       | inr h ↦ absurd (let g = q.above j h l in let t = here in cc)
     ]
 
     old : count D ss ≡ j
-    old = elim (order j (count D ss)) [
+    old = elim (cases_lt j (count D ss)) [
       | inl h ↦ absurd (let g = p.below j h in let f : D n ≡ true = rw (← at) g in cc)
-      | inr h ↦ elim (order (count D ss) j) [
+      | inr h ↦ elim (cases_lt (count D ss) j) [
         | inl g ↦ absurd (elim (passed D n (get_or ss (count D ss) 0) (q.below (count D ss) (let t = reached in omega arith))) [
           | inl f ↦ (let s = rising ss r (count D ss) j g l in omega arith)
           | inr f ↦ (let k = p.above (count D ss) (omega arith) (omega arith) in cc)
@@ -167,7 +160,7 @@ one_more D n j ss r d e off l at = (old, new)
     ]
 
     new : count (with_number D n) ss ≡ suc j
-    new = elim (order (suc j) (count (with_number D n) ss)) [
+    new = elim (cases_lt (suc j) (count (with_number D n) ss)) [
       | inl h ↦ absurd (let w = q.within in let o = old in later (suc j) (omega arith) (omega arith) (omega arith) (q.below (suc j) h))
       | inr h ↦ (let g = reached in omega arith)
     ]
@@ -188,9 +181,9 @@ place ss j r l = count_below_is n ss ∙ at
     p = prefix (λ s. nat_lt s n) ss (λ k m e. (let a = ltb-true (get_or ss (suc k) 0) n e in let b = r k m in lt-ltb (get_or ss k 0) n (omega arith)))
 
     at : count (λ s. nat_lt s n) ss ≡ j
-    at = elim (order j (count (λ s. nat_lt s n) ss)) [
+    at = elim (cases_lt j (count (λ s. nat_lt s n) ss)) [
       | inl h ↦ absurd (let e = ltb-true n n (p.below j h) in omega arith)
-      | inr h ↦ elim (order (count (λ s. nat_lt s n) ss) j) [
+      | inr h ↦ elim (cases_lt (count (λ s. nat_lt s n) ss) j) [
         | inl g ↦ absurd (let e = ltb-false (get_or ss (count (λ s. nat_lt s n) ss) 0) n (p.above (count (λ s. nat_lt s n) ss) (omega arith) (omega arith)) in let s = rising ss r (count (λ s. nat_lt s n) ss) j g l in omega arith)
         | inr g ↦ omega arith
       ]

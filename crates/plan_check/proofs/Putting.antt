@@ -2,6 +2,7 @@
 use Rattle.std.proofs.Common.{◌≡◌, ◌⊎◌, inl, inr, ◌∙◌, ℕ, ◌<◌, ◌≤◌, Bool, true, false, cond, List, [], ◌∷◌, ◌++◌, length, Option, Some, None, refl, sym}
 use Rattle.std.proofs.Common.{subst, arith, eqb-true, eq-eqb, lt-ltb}
 use Rattle.std.specs.Prelude.{◌==◌, nat_lt}
+use Rattle.std.proofs.lemmas.Bool.{or_right, or_left}
 use Rattle.ring_names.specs.declared.ids.NodeId.{NodeId}
 use Rattle.ring_names.specs.declared.ids.Slot.{Slot}
 use Rattle.ring_table.specs.Value.{RingValue}
@@ -21,7 +22,7 @@ use Rattle.plan_check.proofs.Serial.{changed_acked, new_put_acked}
 use Rattle.plan_check.proofs.Standing.{SlotKeeps, KeepsFirm, TicketsAreDue, twice_stays, same_slot}
 use Rattle.plan_check.proofs.Ticketed.{new_put_ticket, changed_ticket}
 use Rattle.plan_check.proofs.Quiet.{quiet_keeps, more_slots}
-use Rattle.plan_stage.proofs.Truth.{first_of_two, second_of_two, list_all-all}
+use Rattle.plan_stage.proofs.Truth.{list_all-all}
 
 -- ---- a put starts
 
@@ -43,7 +44,7 @@ written_twice ring plan w v s ps = (
   (
     v,
     itself v,
-    first_of_two (served_puts ring plan w s (λ u. u == v) (stage_now ring plan w s).owner.0 s v) (some_hinted ring w s v)
+    or_left (served_puts ring plan w s (λ u. u == v) (stage_now ring plan w s).owner.0 s v) (some_hinted ring w s v)
         (served_owner ring plan w s (λ u. u == v) v (eq-eqb v v refl)),
   ),
   by (stage_now ring plan w s).mirror refl,
@@ -55,7 +56,7 @@ written_twice ring plan w v s ps = (
     by (Some x) e = inr (
       v,
       itself v,
-      first_of_two (elim (stage_now ring plan w s).mirror [ Some y ↦ served_puts ring plan w s (λ u. u == v) y.0 s v | None ↦ false ])
+      or_left (elim (stage_now ring plan w s).mirror [ Some y ↦ served_puts ring plan w s (λ u. u == v) y.0 s v | None ↦ false ])
           (some_hinted ring w s v)
           (at_mirror (stage_now ring plan w s).mirror (λ y. served_puts ring plan w s (λ u. u == v) y s v) x e
           (served_mirror ring plan w s (λ u. u == v) x v e (eq-eqb v v refl))),
@@ -70,13 +71,13 @@ hinted_twice ring plan w v s x ps l =
       (
         v,
         itself v,
-        second_of_two (w.stored (stage_now ring plan w s).owner.0 s v)
+        or_right (w.stored (stage_now ring plan w s).owner.0 s v)
             (some_below (length ring.nodes) (λ y. with_puts w.hinted x s (λ u. u == v) y s v)) here,
       ),
       inr (
         v,
         itself v,
-        second_of_two (elim (stage_now ring plan w s).mirror [ Some y ↦ w.stored y.0 s v | None ↦ false ])
+        or_right (elim (stage_now ring plan w s).mirror [ Some y ↦ w.stored y.0 s v | None ↦ false ])
             (some_below (length ring.nodes) (λ y. with_puts w.hinted x s (λ u. u == v) y s v)) here,
       ),
     )

@@ -1,5 +1,6 @@
 -- What an event keeps that is about no step and no chunk: what nodes have for slots only grows, and goes from keepers to those who serve.
 use Rattle.std.proofs.Common.{◌≡◌, inl, inr, ◌∙◌, ℕ, ◌<◌, ◌≤◌, Bool, true, false, List, length, Option, Some, None, refl, sym, ap, subst, arith}
+use Rattle.std.proofs.lemmas.Bool.{or_right, or_cases, or_left}
 use Rattle.ring_names.specs.declared.ids.NodeId.{NodeId}
 use Rattle.ring_names.specs.declared.ids.Slot.{Slot}
 use Rattle.ring_table.specs.Value.{RingValue}
@@ -14,7 +15,6 @@ use Rattle.plan_check.proofs.Lasting.{Extends}
 use Rattle.plan_check.proofs.Filling.{served_more, served_owner, served_mirror, at_mirror_more, at_mirror, some_more, kept_or_gone}
 use Rattle.plan_check.proofs.Serial.{acked_exists, ticket_exists, current_ticket, is_current_by}
 use Rattle.plan_check.proofs.Standing.{SlotKeeps, KeepsFirm, TicketsAreDue, AcksAreDue, twice_stays, firm_stays, same_slot}
-use Rattle.plan_stage.proofs.Truth.{either, first_of_two, second_of_two}
 
 -- ---- tickets and acknowledged puts
 
@@ -67,16 +67,16 @@ pub more_slots : (ring : RingValue) (plan : List Planned) (w : World) (o a : ℕ
     → ((y : ℕ) (t : Slot) (v : ℕ) → w.stored y t v ≡ true → b y t v ≡ true) → ((y : ℕ) (t : Slot) (v : ℕ) → w.hinted y t v ≡ true → f y t v ≡ true)
     → (s : Slot) → SlotKeeps ring plan w (record w { is_open = o; marked = m; up = a; puts = ps; gets = gs; stored = b; hinted = f }) s
 more_slots ring plan w o a m ps gs b f stored hinted s = record {
-  held = λ v e. elim (either (w.stored owner s v) (some_hinted ring w s v) e) [
-    | inl g ↦ first_of_two (b owner s v) (some_below (length ring.nodes) (λ y. f y s v)) (stored owner s v g)
-    | inr g ↦ second_of_two (b owner s v) (some_below (length ring.nodes) (λ y. f y s v)) (kept v g)
+  held = λ v e. elim (or_cases (w.stored owner s v) (some_hinted ring w s v) e) [
+    | inl g ↦ or_left (b owner s v) (some_below (length ring.nodes) (λ y. f y s v)) (stored owner s v g)
+    | inr g ↦ or_right (b owner s v) (some_below (length ring.nodes) (λ y. f y s v)) (kept v g)
   ];
   alone = λ e. e;
-  mirrored = λ x is v e. elim (either (elim mirror [ Some z ↦ w.stored z.0 s v | None ↦ false ]) (some_hinted ring w s v) e) [
+  mirrored = λ x is v e. elim (or_cases (elim mirror [ Some z ↦ w.stored z.0 s v | None ↦ false ]) (some_hinted ring w s v) e) [
     | inl g ↦
-        first_of_two (elim mirror [ Some z ↦ b z.0 s v | None ↦ false ]) (some_below (length ring.nodes) (λ y. f y s v))
+        or_left (elim mirror [ Some z ↦ b z.0 s v | None ↦ false ]) (some_below (length ring.nodes) (λ y. f y s v))
         (at_mirror_more mirror (λ y. w.stored y s v) (λ y. b y s v) (λ y i d. stored y.0 s v d) g)
-    | inr g ↦ second_of_two (elim mirror [ Some z ↦ b z.0 s v | None ↦ false ]) (some_below (length ring.nodes) (λ y. f y s v)) (kept v g)
+    | inr g ↦ or_right (elim mirror [ Some z ↦ b z.0 s v | None ↦ false ]) (some_below (length ring.nodes) (λ y. f y s v)) (kept v g)
   ];
 }
   where
@@ -93,23 +93,23 @@ more_slots ring plan w o a m ps gs b f stored hinted s = record {
 pub handed_slots : (ring : RingValue) (plan : List Planned) (w : World) (x : NodeId) (s : Slot) (t : Slot)
     → SlotKeeps ring plan w (record w { stored = served_puts ring plan w s (w.hinted x.0 s); hinted = without_puts w.hinted x s }) t
 handed_slots ring plan w x s t = record {
-  held = λ v e. elim (either (w.stored owner t v) (some_hinted ring w t v) e) [
-    | inl g ↦ first_of_two (b owner t v) (kept v) (served_more ring plan w s (w.hinted x.0 s) owner t v g)
+  held = λ v e. elim (or_cases (w.stored owner t v) (some_hinted ring w t v) e) [
+    | inl g ↦ or_left (b owner t v) (kept v) (served_more ring plan w s (w.hinted x.0 s) owner t v g)
     | inr g ↦ elim (kept_or_gone (length ring.nodes) w.hinted x s t v g) [
       | inl d ↦
-          first_of_two (b owner t v) (kept v) (subst (λ (z : Slot). b (stage_now ring plan w z).owner.0 z v ≡ true) (sym d.0)
+          or_left (b owner t v) (kept v) (subst (λ (z : Slot). b (stage_now ring plan w z).owner.0 z v ≡ true) (sym d.0)
           (served_owner ring plan w s (w.hinted x.0 s) v d.1))
-      | inr d ↦ second_of_two (b owner t v) (kept v) d
+      | inr d ↦ or_right (b owner t v) (kept v) d
     ]
   ];
   alone = λ e. e;
-  mirrored = λ y is v e. elim (either (elim mirror [ Some z ↦ w.stored z.0 t v | None ↦ false ]) (some_hinted ring w t v) e) [
+  mirrored = λ y is v e. elim (or_cases (elim mirror [ Some z ↦ w.stored z.0 t v | None ↦ false ]) (some_hinted ring w t v) e) [
     | inl g ↦
-        first_of_two (elim mirror [ Some z ↦ b z.0 t v | None ↦ false ]) (kept v)
+        or_left (elim mirror [ Some z ↦ b z.0 t v | None ↦ false ]) (kept v)
         (at_mirror_more mirror (λ z. w.stored z t v) (λ z. b z t v) (λ z i d. served_more ring plan w s (w.hinted x.0 s) z.0 t v d) g)
     | inr g ↦ elim (kept_or_gone (length ring.nodes) w.hinted x s t v g) [
-      | inl d ↦ first_of_two (elim mirror [ Some z ↦ b z.0 t v | None ↦ false ]) (kept v) (at_mirror mirror (λ z. b z t v) y is (at_it y v (d.0) is d.1))
-      | inr d ↦ second_of_two (elim mirror [ Some z ↦ b z.0 t v | None ↦ false ]) (kept v) d
+      | inl d ↦ or_left (elim mirror [ Some z ↦ b z.0 t v | None ↦ false ]) (kept v) (at_mirror mirror (λ z. b z t v) y is (at_it y v (d.0) is d.1))
+      | inr d ↦ or_right (elim mirror [ Some z ↦ b z.0 t v | None ↦ false ]) (kept v) d
     ]
   ];
 }

@@ -2,7 +2,7 @@
 use Rattle.std.proofs.Common.{◌≡◌, ◌≢◌, inl, inr, ℕ, zero, suc, ◌+◌, ◌<◌, ◌≤◌, Bool, true, false, not, cond, List, [], ◌∷◌, length, refl, sym, ap, subst, arith}
 use Rattle.std.specs.Prelude.{◌==◌, ◌||◌, nat_lt, if◌then◌else◌}
 use Rattle.std.specs.List.{list_all}
-use Rattle.std.proofs.lemmas.Bool.{lt-ltb, ltb-true, and_parts}
+use Rattle.std.proofs.lemmas.Bool.{lt-ltb, ltb-true, and_parts, not-true, or_right}
 use Rattle.std.proofs.lemmas.Bool.Decides.{eqb_tells}
 use Rattle.ring_names.specs.Lists.{has, all_different}
 
@@ -18,14 +18,6 @@ not_both : (b : Bool) → b ≡ true → not b ≡ true → ⊥
 not_both true h k = absurd cc
 not_both false h k = absurd cc
 
-not_false : (b : Bool) → not b ≡ true → b ≡ false
-not_false true h = absurd cc
-not_false false h = refl
-
-or_later : (b c : Bool) → c ≡ true → (b || c) ≡ true
-or_later true c h = refl
-or_later false c h = h
-
 first : (b c d : Bool) → (c ≡ true → d ≡ true) → (b || c) ≡ true → (b || d) ≡ true
 first true c d more g = refl
 first false c d more g = more g
@@ -33,7 +25,7 @@ first false c d more g = more g
 pub kept-in : (n y : ℕ) (xs : List ℕ) → has y (without n xs) ≡ true → has y xs ≡ true
 kept-in n y [] h = h
 kept-in n y (x ∷ xs) h = by_equal n x (λ b. has y (cond b (without n xs) (x ∷ without n xs)) ≡ true → ((y == x) || has y xs) ≡ true)
-    (λ e g. or_later (y == x) (has y xs) (kept-in n y xs g))
+    (λ e g. or_right (y == x) (has y xs) (kept-in n y xs g))
     (λ e g. first (y == x) (has y (without n xs)) (has y xs) (λ k. kept-in n y xs k) g) h
 
 kept-out : (n y : ℕ) (xs : List ℕ) → has y xs ≡ false → has y (without n xs) ≡ false
@@ -53,7 +45,7 @@ different-without n (x ∷ xs) h =
     let rest = different-without n xs p.1 in
     by_equal n x (λ b. all_different (cond b (without n xs) (x ∷ without n xs)) ≡ true)
     (λ e. rest)
-    (λ e. rw (kept-out n x xs (not_false (has x xs) p.0), rest) refl)
+    (λ e. rw (kept-out n x xs (not-true (has x xs) p.0), rest) refl)
 
 less-without : (n : ℕ) (xs : List ℕ) → list_all (λ x. nat_lt x (suc n)) xs ≡ true → list_all (λ x. nat_lt x n) (without n xs) ≡ true
 less-without n [] h = refl
@@ -76,7 +68,7 @@ one-taken n [] h = omega arith
 one-taken n (x ∷ xs) h =
     let p = and_parts (not (has x xs)) (all_different xs) h in
     by_equal n x (λ b. suc (length xs) ≤ length (cond b (without n xs) (x ∷ without n xs)) + 1)
-    (λ e. (let same = none-taken n xs (subst (λ m. has m xs ≡ false) (sym e) (not_false (has x xs) p.0)) in omega arith))
+    (λ e. (let same = none-taken n xs (subst (λ m. has m xs ≡ false) (sym e) (not-true (has x xs) p.0)) in omega arith))
     (λ e. (let rest = one-taken n xs p.1 in omega arith))
 
 pub meet : (n : ℕ) (xs ys : List ℕ) → all_different xs ≡ true → all_different ys ≡ true → list_all (λ x. nat_lt x n) xs ≡ true → list_all (λ y. nat_lt y n) ys ≡ true → n < length xs + length ys

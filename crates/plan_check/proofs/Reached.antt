@@ -8,7 +8,7 @@ use Rattle.ring_names.specs.declared.ids.NodeId.{NodeId}
 use Rattle.ring_names.specs.declared.ids.Slot.{Slot}
 use Rattle.ring_space.specs.Place.{place_of}
 use Rattle.ring_table.specs.Value.{RingValue}
-use Rattle.std.proofs.lemmas.Bool.{and_parts}
+use Rattle.std.proofs.lemmas.Bool.{and_parts, not-true}
 use Rattle.plan_text.specs.declared.step.Source.{Source}
 use Rattle.plan_text.specs.declared.step.Step.{Step}
 use Rattle.plan_text.specs.declared.step.Step.TheVariants.{Join, Mirror, Copy, Switch, Drop, Retire}
@@ -33,7 +33,6 @@ use Rattle.plan_check.proofs.Passed.{AllMet, all_met, among, ready}
 use Rattle.plan_check.proofs.Passing.{some_found, below_is}
 use Rattle.plan_check.proofs.Ticketed.{TicketFits, TicketsFit, ticket_stays, new_put_ticket, ticketed_fits, lose_more}
 use Rattle.plan_check.proofs.Storing.{StoreFits, GetsFit, Grows, put_stays, for_get_stays, with_puts_is, with_mirror_is, served_puts_is, without_puts_was, lose_stored, lose_hinted}
-use Rattle.plan_stage.proofs.Truth.{not_is}
 
 -- the same in parts
 record Parts (ring : RingValue) (plan : List Planned) (w : World) : Type 0 where
@@ -264,7 +263,7 @@ event_parts ring plan w i (Do n) g =
     do_parts ring plan w n (step_at plan n) i (closed_with plan w.done n i.closed (ready plan w n g.1.1.0)) (do_copies plan w.done w.is_open w.marked n i.copies (other_is_no_copy plan n g.0))
 event_parts ring plan w i (OpenCopy n) g =
     around ring plan w w.done (with_number w.is_open n) w.marked w.up w.stored i (λ k e. e) i.closed
-    (open_copies_fit plan w.done w.is_open w.marked n i.copies g.0 (ready plan w n g.1.1.0) (neither (w.done n) (w.is_open n) (not_is (w.done n || w.is_open n) g.1.0))) (λ x s v e. e)
+    (open_copies_fit plan w.done w.is_open w.marked n i.copies g.0 (ready plan w n g.1.1.0) (neither (w.done n) (w.is_open n) (not-true (w.done n || w.is_open n) g.1.0))) (λ x s v e. e)
 event_parts ring plan w i (ChunkCopy n c) g = record {
   closed = i.closed;
   copies = chunk_copies plan w.done w.is_open w.marked n c i.copies g.1.0 (ltb-true c 16 (and_parts (has_copy plan n) (nat_lt c 16) g.0).1);

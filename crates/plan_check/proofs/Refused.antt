@@ -1,7 +1,7 @@
 -- No clause of the checker fails exactly where the certificate certifies the plan.
-use Rattle.std.proofs.Common.{◌≡◌, inl, inr, ℕ, suc, ◌-◌, ◌<◌, Bool, true, false, cond, Option, List, [], ◌∷◌, ◌++◌, length, get_or, refl, arith, Some, None}
+use Rattle.std.proofs.Common.{◌≡◌, inl, inr, ℕ, suc, ◌-◌, ◌<◌, Bool, true, Option, List, [], ◌∷◌, ◌++◌, length, get_or, refl, arith, Some, None}
 use Rattle.std.specs.Prelude.{◌&&◌, ◌||◌, ◌==◌, nat_le, slice_index, is_some}
-use Rattle.std.proofs.lemmas.Bool.{leb-true, le-leb, and_parts}
+use Rattle.std.proofs.lemmas.Bool.{leb-true, le-leb, and_parts, and_from}
 use Rattle.ring_names.specs.Lists.{all_different}
 use Rattle.ring_names.specs.declared.ids.NodeId.{NodeId}
 use Rattle.ring_names.specs.declared.ids.Slot.{Slot}
@@ -27,7 +27,7 @@ use Rattle.plan_cover.specs.Clauses.{in_some, chains_from, has_side, chains_clau
 use Rattle.plan_check.specs.Certified.{IsCertified, ordered_by}
 use Rattle.plan_check.specs.First.{fact_clauses, first_refusal}
 use Rattle.plan_stage.specs.Partition.{Test, is_settled, has_left, has_joined, has_dropped, step_clauses, steps_clauses, slot_step_clauses, slot_clauses, partition_clauses}
-use Rattle.plan_stage.proofs.Truth.{all_of, push, two-met, two-all, parted, together, asked-met, asked-all, clauses-met, clauses-all, same, slot-same}
+use Rattle.plan_stage.proofs.Truth.{push, two-met, two-all, parted, together, asked-met, asked-all, clauses-met, clauses-all, same, slot-same}
 use Rattle.plan_check.proofs.Suited.{step-within, slot-within, retires-within, owner-within, allowance-within}
 use Rattle.plan_check.proofs.Firsts.{holds, facts-met, facts-all, order-met, order-all, retire-is, settled-met, settled-all, left_first-met, left_later-met, left-all, joined-met, joined-all, dropped_first-met, dropped_later-met, dropped-all, AreGood, IsAllowed, AllGood, chains-met, chains-all, party-step, few-met, few-all}
 
@@ -91,14 +91,6 @@ sides-met f h Give = (parted (f Take) (f Give) (parted (f Both) (f Take ++ f Giv
 sides-all : (f : Side → List Guard) → ((side : Side) → first_failing (f side) ≡ None) → first_failing (each_side f) ≡ None
 sides-all f h = together (f Both) (f Take ++ f Give) (h Both) (together (f Take) (f Give) (h Take) (h Give))
 
-where-met : (b : Bool) (cs : List Guard) → first_failing (cond b cs []) ≡ None → b ≡ true → first_failing cs ≡ None
-where-met true cs h e = h
-where-met false cs h e = absurd cc
-
-where-all : (b : Bool) (cs : List Guard) → (b ≡ true → first_failing cs ≡ None) → first_failing (cond b cs []) ≡ None
-where-all true cs h = h refl
-where-all false cs h = refl
-
 abbrev covers : RingValue → List Planned → Cert → NodeId → List Guard
 covers ring plan cert x = each_side (side_covers ring plan cert x)
 
@@ -119,7 +111,7 @@ nodes-met ring plan cert O h = record {
   chains = λ x l. (node-met ring plan cert O h x l).1;
   cover = λ x l side has_it n s at.
       let met_here = sides-met (side_covers ring plan cert x) (node-met ring plan cert O h x l).2 side in
-      clauses-met (cover_clauses ring plan (chains_from x.0 side cert.chains) x side) plan (where-met (has_side ring x side) (steps_clauses (cover_clauses ring plan (chains_from x.0 side cert.chains) x side) 0 plan) met_here has_it) n s at;
+      clauses-met (cover_clauses ring plan (chains_from x.0 side cert.chains) x side) plan (asked-met (has_side ring x side) (steps_clauses (cover_clauses ring plan (chains_from x.0 side cert.chains) x side) 0 plan) met_here has_it) n s at;
   few = λ x l side. (met (is_few ring x side (length (chains_from x.0 side cert.chains))) (TooManyChains x.0) None (sides-met (side_count ring cert x) (node-met ring plan cert O h x l).3 side)).0;
 }
 
@@ -131,7 +123,7 @@ nodes-all ring plan cert O h =
     (clauses-all (retire_clauses ring plan O x) plan (h.retired x l))
     (together (chains_clauses ring plan O x 0 cert.chains) (covers ring plan cert x ++ fews ring cert x) (h.chains x l)
     (together (covers ring plan cert x) (fews ring cert x)
-    (sides-all (side_covers ring plan cert x) (λ side. where-all (has_side ring x side) (steps_clauses (cover_clauses ring plan (chains_from x.0 side cert.chains) x side) 0 plan) (λ has_it. clauses-all (cover_clauses ring plan (chains_from x.0 side cert.chains) x side) plan (h.cover x l side has_it))))
+    (sides-all (side_covers ring plan cert x) (λ side. asked-all (has_side ring x side) (steps_clauses (cover_clauses ring plan (chains_from x.0 side cert.chains) x side) 0 plan) (λ has_it. clauses-all (cover_clauses ring plan (chains_from x.0 side cert.chains) x side) plan (h.cover x l side has_it))))
     (sides-all (side_count ring cert x) (λ side. push (is_few ring x side (length (chains_from x.0 side cert.chains))) (TooManyChains x.0) None (h.few x l side) refl)))))
 
 -- ---- a step's own clauses
@@ -226,7 +218,7 @@ step-all ring plan O chains h p n (Copy slot (Slots from)) at =
     asked-all (slot.partition == p) ((reads_enough ring from, BadSource n) ∷ (is_settled plan O n slot from, MovingSource n) ∷ []) (λ _.
     let s = h.sources n slot from at in
     two-all (reads_enough ring from) (is_settled plan O n slot from) (BadSource n) (MovingSource n)
-    (all_of (all_different from) (nat_le ring.r (length from)) s.0 (le-leb ring.r (length from) s.1))
+    (and_from (all_different from) (nat_le ring.r (length from)) s.0 (le-leb ring.r (length from) s.1))
     (settled-all plan O n slot from (λ m j some switch. h.settled n m j slot from at some switch)))
 step-all ring plan O chains h p n (Switch slot) at = refl
 step-all ring plan O chains h p n (Drop slot x) at = refl

@@ -2,7 +2,7 @@
 use Rattle.std.proofs.Common.{◌≡◌, ◌⊎◌, inl, inr, ◌∙◌, ℕ, zero, suc, ◌+◌, ◌<◌, ◌≤◌, Bool, true, false, not, cond, List, [], ◌∷◌, ◌++◌, length, get_or, take, drop, Option, Some, None, refl, sym, ap, subst, arith}
 use Rattle.std.specs.Prelude.{◌&&◌, is_some, unwrap_or, fold, option_map, slice_get}
 use Rattle.std.proofs.lemmas.List.{take_more, length-take-le}
-use Rattle.std.proofs.lemmas.Bool.{and_parts}
+use Rattle.std.proofs.lemmas.Bool.{and_parts, cases_lt}
 use Rattle.ring_names.specs.declared.ids.NodeId.{NodeId}
 use Rattle.ring_names.specs.declared.ids.Slot.{Slot}
 use Rattle.ring_table.specs.Value.{RingValue}
@@ -16,7 +16,6 @@ use Rattle.plan_stage.specs.Clauses.{AllStaged}
 use Rattle.plan_stage.specs.Occupancy.{is_node, leaving}
 use Rattle.plan_stage.proofs.Stages.{after-next, fits_at-fits, stage-more}
 use Rattle.plan_check.specs.Occupies.{FromStart, FromMirror, Serves}
-use Rattle.plan_check.proofs.Prefix.{order}
 use Rattle.plan_check.proofs.Occupied.{node_same, ends_at, InStage, drop_push, fold_cut}
 use Rattle.plan_stage.proofs.Places.{placed}
 use Rattle.plan_stage.proofs.Truth.{node-is}
@@ -63,7 +62,7 @@ next-keeps x a (Retire y) f stay s = absurd cc
 keeps_on : (ring : RingValue) (plan : List Planned) (slot : Slot) (x : NodeId) → AllStaged ring plan → slot.partition < ring.q → slot.index < ring.n → (m k : ℕ) → m ≤ k → k ≤ length (steps_of plan slot)
     → InStage x (stage ring plan slot m) → leaving plan x (stage ring plan slot m) (drop m (take k (steps_of plan slot))) ≡ None → InStage x (stage ring plan slot k)
 keeps_on ring plan slot x staged p i m zero l le s none = (let e : m ≡ 0 = omega arith in subst (λ (n : ℕ). InStage x (stage ring plan slot n)) e s)
-keeps_on ring plan slot x staged p i m (suc k) l le s none = elim (order m (suc k)) [
+keeps_on ring plan slot x staged p i m (suc k) l le s none = elim (cases_lt m (suc k)) [
   | inr h ↦ (let e : m ≡ suc k = omega arith in subst (λ (n : ℕ). InStage x (stage ring plan slot n)) e s)
   | inl h ↦ (
       let steps = steps_of plan slot in

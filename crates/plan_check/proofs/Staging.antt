@@ -16,12 +16,9 @@ use Rattle.plan_check.specs.Effects.{with_number}
 use Rattle.plan_check.specs.Reached.{Ready, Closed}
 use Rattle.plan_check.proofs.Prefix.{found, one_more, count_same}
 use Rattle.plan_check.proofs.Mirrored.{Known, rises, down}
-use Rattle.plan_check.proofs.Groups.{on_steps, steps_on}
+use Rattle.plan_check.proofs.Groups.{steps_on}
 use Rattle.plan_check.proofs.Copying.{closed_with}
-
--- a step on the slot is one of its steps
-pub has_step : (plan : List Planned) (slot : Slot) (n : ℕ) (t : Step) → step_at plan n ≡ Some t → is_on slot t ≡ true → has n (steps_of plan slot) ≡ true
-has_step plan slot n t at on = (let z : 0 + n ≡ n = omega arith in subst (λ (m : ℕ). has m (steps_of plan slot) ≡ true) z (on_steps 0 n plan slot t at on))
+use Rattle.plan_stage.proofs.Holders.{has-from, has-step}
 
 -- and each of its steps is on it
 pub on_it : (plan : List Planned) (slot : Slot) (n : ℕ) (t : Step) → step_at plan n ≡ Some t → has n (steps_of plan slot) ≡ true → is_on slot t ≡ true
@@ -52,7 +49,7 @@ pub stage_done : (ring : RingValue) (plan : List Planned) → Known ring plan �
     × (fits (stage ring plan slot (count D (steps_of plan slot))) t ≡ true)
 stage_done ring plan k D n t slot c y off at on =
     let ss = steps_of plan slot in
-    let p = found n ss (has_step plan slot n t at on) in
+    let p = found n ss (has-step plan slot n t at on) in
     let e = one_more D n p.0 ss (rises ring plan k slot) (down ring plan k D c slot) (down ring plan k (with_number D n) (closed_with plan D n c y) slot) off
     p.1 p.2 in
     let is : option_map (λ (z : Planned). z.step) (slice_get plan (get_or ss p.0 0)) ≡ Some t = mapped (slice_get plan (get_or ss p.0 0)) t

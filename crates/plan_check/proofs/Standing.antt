@@ -1,5 +1,6 @@
 -- What is held and mirrored stays so where a slot's nodes and keepers go on to have what they had.
 use Rattle.std.proofs.Common.{◌≡◌, ◌⊎◌, inl, inr, ℕ, ◌+◌, ◌<◌, ◌≤◌, Bool, true, false, refl, List, length, Option, Some, None, sym, ap, subst, arith}
+use Rattle.std.proofs.lemmas.Bool.{or_cases}
 use Rattle.ring_names.specs.declared.ids.NodeId.{NodeId}
 use Rattle.ring_names.specs.declared.ids.Slot.{Slot}
 use Rattle.ring_space.specs.Place.{place_of}
@@ -14,7 +15,6 @@ use Rattle.plan_check.specs.Reached.{Reached}
 use Rattle.plan_check.proofs.Lasting.{Extends, names_ended, succeeds_stays}
 use Rattle.plan_check.proofs.Passing.{some_found}
 use Rattle.plan_check.proofs.Serial.{acked_exists}
-use Rattle.plan_stage.proofs.Truth.{either}
 
 -- some put that succeeds v passes the test
 abbrev pub Successor : World → ℕ → (ℕ → Bool) → Type 0
@@ -30,7 +30,7 @@ hint_exists ring plan w r slot a h = (let s = some_found (length ring.nodes) (λ
 -- so does one that a slot's owner or keepers have
 pub held_exists : (ring : RingValue) (plan : List Planned) (w : World) → Reached ring plan w → (slot : Slot) (a : ℕ) → slot_has ring plan w slot a ≡ true
     → a < length w.puts
-held_exists ring plan w r slot a h = elim (either (w.stored (stage_now ring plan w slot).owner.0 slot a) (some_hinted ring w slot a) h) [
+held_exists ring plan w r slot a h = elim (or_cases (w.stored (stage_now ring plan w slot).owner.0 slot a) (some_hinted ring w slot a) h) [
   | inl e ↦ (r.stored (stage_now ring plan w slot).owner.0 slot a e).0
   | inr e ↦ hint_exists ring plan w r slot a e
 ]
@@ -38,7 +38,7 @@ held_exists ring plan w r slot a h = elim (either (w.stored (stage_now ring plan
 -- and one that its mirror or keepers have
 mirror_exists : (ring : RingValue) (plan : List Planned) (w : World) → Reached ring plan w → (slot : Slot) (a : ℕ) → mirror_has ring plan w slot a ≡ true
     → a < length w.puts
-mirror_exists ring plan w r slot a h = elim (either (elim (stage_now ring plan w slot).mirror [ Some x ↦ w.stored x.0 slot a | None ↦ false ])
+mirror_exists ring plan w r slot a h = elim (or_cases (elim (stage_now ring plan w slot).mirror [ Some x ↦ w.stored x.0 slot a | None ↦ false ])
     (some_hinted ring w slot a) h) [
       | inl e ↦ stored_at (stage_now ring plan w slot).mirror e
       | inr e ↦ hint_exists ring plan w r slot a e

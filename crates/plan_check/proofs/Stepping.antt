@@ -1,7 +1,7 @@
 -- A step that is done keeps what is held at each slot.
 use Rattle.std.proofs.Common.{◌≡◌, inl, inr, ◌∙◌, ℕ, ◌<◌, Bool, true, false, List, length, Option, Some, None, refl, sym, ap, subst, arith}
 use Rattle.std.specs.Prelude.{◌&&◌, ◌%◌, is_some, unwrap_or, option_and_then}
-use Rattle.std.proofs.lemmas.Bool.{and_parts}
+use Rattle.std.proofs.lemmas.Bool.{and_parts, or_right, or_cases, or_left}
 use Rattle.ring_names.specs.Lists.{has}
 use Rattle.ring_names.specs.declared.ids.NodeId.{NodeId}
 use Rattle.ring_names.specs.declared.ids.Slot.{Slot}
@@ -27,10 +27,11 @@ use Rattle.plan_check.proofs.Lasting.{Extends}
 use Rattle.plan_check.proofs.Mirrored.{Known, down}
 use Rattle.plan_check.proofs.Numbering.{mirrors_left, mirrors_up}
 use Rattle.plan_check.proofs.Prefix.{prefix}
-use Rattle.plan_check.proofs.Staging.{has_step, on_it, count_left, stage_done}
+use Rattle.plan_check.proofs.Staging.{on_it, count_left, stage_done}
 use Rattle.plan_check.proofs.Standing.{SlotKeeps, held_stays, mirrored_by, twice_stays, firm_stays}
 use Rattle.plan_check.proofs.Suited.{step-within}
-use Rattle.plan_stage.proofs.Truth.{either, first_of_two, second_of_two, slot-same}
+use Rattle.plan_stage.proofs.Truth.{slot-same}
+use Rattle.plan_stage.proofs.Holders.{has-step}
 
 -- what is at owner and mirror stays so where the slot's generation stays, and what is firm stays firm
 pub record Goes (ring : RingValue) (plan : List Planned) (w u : World) (s : Slot) : Type 0 where
@@ -64,9 +65,9 @@ module _ (ring : RingValue) (plan : List Planned) (k : Known ring plan) (w : Wor
   -- the slot keeps its owner, and the owner what it had
   owned : (s : Slot) → (is s).owner ≡ (was s).owner → ((v : ℕ) → w.stored (was s).owner.0 s v ≡ true → b (was s).owner.0 s v ≡ true)
       → (v : ℕ) → slot_has ring plan w s v ≡ true → slot_has ring plan u s v ≡ true
-  owned s owner kept v e = elim (either (w.stored (was s).owner.0 s v) (some_hinted ring w s v) e) [
-    | inl g ↦ first_of_two (b (is s).owner.0 s v) (some_hinted ring w s v) (subst (λ (z : NodeId). b z.0 s v ≡ true) (sym owner) (kept v g))
-    | inr g ↦ second_of_two (b (is s).owner.0 s v) (some_hinted ring w s v) g
+  owned s owner kept v e = elim (or_cases (w.stored (was s).owner.0 s v) (some_hinted ring w s v) e) [
+    | inl g ↦ or_left (b (is s).owner.0 s v) (some_hinted ring w s v) (subst (λ (z : NodeId). b z.0 s v ≡ true) (sym owner) (kept v g))
+    | inr g ↦ or_right (b (is s).owner.0 s v) (some_hinted ring w s v) g
   ]
 
   -- its mirror too
@@ -75,10 +76,10 @@ module _ (ring : RingValue) (plan : List Planned) (k : Known ring plan) (w : Wor
   still s owner mirror kept = record {
     held = owned s owner (kept (was s).owner.0 (inl refl));
     alone = λ e. mirror ∙ e;
-    mirrored = λ m e v f. elim (either (elim (was s).mirror [ Some z ↦ w.stored z.0 s v | None ↦ false ]) (some_hinted ring w s v) f) [
-      | inl g ↦ first_of_two (elim (is s).mirror [ Some z ↦ b z.0 s v | None ↦ false ]) (some_hinted ring w s v)
+    mirrored = λ m e v f. elim (or_cases (elim (was s).mirror [ Some z ↦ w.stored z.0 s v | None ↦ false ]) (some_hinted ring w s v) f) [
+      | inl g ↦ or_left (elim (is s).mirror [ Some z ↦ b z.0 s v | None ↦ false ]) (some_hinted ring w s v)
           (at_mirror (is s).mirror (λ z. b z s v) m (mirror ∙ e) (kept m.0 (inr e) v (from_mirror (was s).mirror (λ z. w.stored z s v) m e g)))
-      | inr g ↦ second_of_two (elim (is s).mirror [ Some z ↦ b z.0 s v | None ↦ false ]) (some_hinted ring w s v) g
+      | inr g ↦ or_right (elim (is s).mirror [ Some z ↦ b z.0 s v | None ↦ false ]) (some_hinted ring w s v) g
     ];
   }
 
@@ -109,7 +110,7 @@ module _ (ring : RingValue) (plan : List Planned) (k : Known ring plan) (w : Wor
   }
     where
       inside : has n (steps_of plan s) ≡ true
-      inside = has_step plan s n (Mirror t m) at on
+      inside = has-step plan s n (Mirror t m) at on
 
       is_mirror : is_some (mirror_at plan n) ≡ true
       is_mirror = ap (λ (q : Option Step). is_some (option_and_then mirror_of q)) at
@@ -142,11 +143,11 @@ module _ (ring : RingValue) (plan : List Planned) (k : Known ring plan) (w : Wor
       alone = ap (λ (c : Stage). c.mirror) done.0
 
       moved : (v : ℕ) → mirror_has ring plan w s v ≡ true → slot_has ring plan u s v ≡ true
-      moved v e = elim (either (elim (was s).mirror [ Some z ↦ w.stored z.0 s v | None ↦ false ]) (some_hinted ring w s v) e) [
+      moved v e = elim (or_cases (elim (was s).mirror [ Some z ↦ w.stored z.0 s v | None ↦ false ]) (some_hinted ring w s v) e) [
         | inl g ↦ (
             let there = kept m.0.0 v (from_mirror (was s).mirror (λ z. w.stored z s v) m.0 m.1 g) in
-            first_of_two (b (is s).owner.0 s v) (some_hinted ring w s v) (subst (λ (z : NodeId). b z.0 s v ≡ true) (sym owner) there))
-        | inr g ↦ second_of_two (b (is s).owner.0 s v) (some_hinted ring w s v) g
+            or_left (b (is s).owner.0 s v) (some_hinted ring w s v) (subst (λ (z : NodeId). b z.0 s v ≡ true) (sym owner) there))
+        | inr g ↦ or_right (b (is s).owner.0 s v) (some_hinted ring w s v) g
       ]
 
       over : (v : ℕ) → IsMirrored ring plan w v s → IsTwice ring plan u v s

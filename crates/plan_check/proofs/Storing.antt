@@ -7,7 +7,7 @@ use Rattle.ring_names.specs.declared.ids.NodeId.{NodeId}
 use Rattle.ring_names.specs.declared.ids.Slot.{Slot}
 use Rattle.ring_space.specs.Place.{place_of}
 use Rattle.ring_table.specs.Value.{RingValue}
-use Rattle.std.proofs.lemmas.Bool.{and_parts}
+use Rattle.std.proofs.lemmas.Bool.{and_parts, or_cases}
 use Rattle.std.proofs.lemmas.Bool.Decides.{nat_tests}
 use Rattle.plan_text.specs.declared.step.Planned.{Planned}
 use Rattle.plan_text.specs.Steps.{is_slot}
@@ -17,7 +17,7 @@ use Rattle.plan_check.specs.Guards.{has_ended}
 use Rattle.plan_check.specs.Effects.{with_puts, with_mirror_puts, without_puts, served_puts, has_found, lose_effect}
 use Rattle.plan_check.specs.Reached.{IsPutOf, IsPutForGet, IsGetForPut}
 use Rattle.plan_check.proofs.Changed.{read_at}
-use Rattle.plan_stage.proofs.Truth.{either, slot-is}
+use Rattle.plan_stage.proofs.Truth.{slot-is}
 
 pub record StoreFits (ring : RingValue) (w : World) : Type 0 where
   pub stored : (x : ℕ) (slot : Slot) (v : ℕ) → w.stored x slot v ≡ true → IsPutOf ring w slot v
@@ -32,7 +32,7 @@ pub record GetsFit (w : World) : Type 0 where
 
 -- a put that is there with more puts is one of them, or was there
 pub with_puts_is : (f : ℕ → Slot → ℕ → Bool) (x : NodeId) (s : Slot) (more : ℕ → Bool) (y : ℕ) (t : Slot) (u : ℕ) → with_puts f x s more y t u ≡ true → ((y ≡ x.0) × (t ≡ s) × (more u ≡ true)) ⊎ (f y t u ≡ true)
-with_puts_is f x s more y t u e = elim (either ((y == x.0) && is_slot s t && more u) (f y t u) e) [
+with_puts_is f x s more y t u e = elim (or_cases ((y == x.0) && is_slot s t && more u) (f y t u) e) [
   | inl g ↦ (
       let p = and_parts ((y == x.0) && is_slot s t) (more u) g in
       let q = and_parts (y == x.0) (is_slot s t) p.0 in

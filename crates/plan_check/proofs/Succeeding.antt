@@ -4,13 +4,12 @@ use Rattle.std.specs.Prelude.{◌&&◌, ◌||◌, ◌==◌, nat_lt}
 use Rattle.std.specs.Str.{bytes_eq}
 use Rattle.ring_names.specs.declared.ids.Slot.{Slot}
 use Rattle.ring_table.specs.Value.{RingValue}
-use Rattle.std.proofs.lemmas.Bool.{and_parts}
+use Rattle.std.proofs.lemmas.Bool.{and_parts, or_right, and_from, or_cases, or_left}
 use Rattle.plan_text.specs.declared.step.Planned.{Planned}
 use Rattle.plan_check.specs.World.{World, some_below, key_of_put, writer_of, seen_of}
 use Rattle.plan_check.specs.Succession.{some_replied, is_direct, Succeeds, itself, by, succeeds_within, succeeds}
 use Rattle.plan_check.specs.Versions.{slot_has, IsHeld, is_held}
 use Rattle.plan_check.proofs.Passing.{some_found, some_is}
-use Rattle.plan_stage.proofs.Truth.{all_of, either, first_of_two, second_of_two}
 
 -- ---- a direct succession
 
@@ -34,7 +33,7 @@ direct_parts w u v h =
 
 pub tested : (w : World) (n u v : ℕ) → succeeds_within w n u v ≡ true → Succeeds w u v
 tested w zero u v h = subst (λ (z : ℕ). Succeeds w u z) (eqb-true u v h) (itself u)
-tested w (suc n) u v h = elim (either (u == v) (some_below u (λ m. is_direct w u m && succeeds_within w n m v)) h) [
+tested w (suc n) u v h = elim (or_cases (u == v) (some_below u (λ m. is_direct w u m && succeeds_within w n m v)) h) [
   | inl e ↦ subst (λ (z : ℕ). Succeeds w u z) (eqb-true u v e) (itself u)
   | inr f ↦ (
       let s = some_found u (λ m. is_direct w u m && succeeds_within w n m v) f in
@@ -44,12 +43,12 @@ tested w (suc n) u v h = elim (either (u == v) (some_below u (λ m. is_direct w 
 
 pub passes_within : (w : World) (n u v : ℕ) → u ≤ n → Succeeds w u v → succeeds_within w n u v ≡ true
 passes_within w zero u v l (itself _) = eq-eqb u u refl
-passes_within w (suc n) u v l (itself _) = first_of_two (u == u) (some_below u (λ m. is_direct w u m && succeeds_within w n m u)) (eq-eqb u u refl)
+passes_within w (suc n) u v l (itself _) = or_left (u == u) (some_below u (λ m. is_direct w u m && succeeds_within w n m u)) (eq-eqb u u refl)
 passes_within w zero u v l (by _ m _ d r) = absurd (let p = (direct_parts w u m d).less in omega arith)
 passes_within w (suc n) u v l (by _ m _ d r) =
     let p = (direct_parts w u m d).less in
-    second_of_two (u == v) (some_below u (λ z. is_direct w u z && succeeds_within w n z v))
-    (some_is u (λ z. is_direct w u z && succeeds_within w n z v) m p (all_of (is_direct w u m) (succeeds_within w n m v) d (passes_within w n m v (omega arith) r)))
+    or_right (u == v) (some_below u (λ z. is_direct w u z && succeeds_within w n z v))
+    (some_is u (λ z. is_direct w u z && succeeds_within w n z v) m p (and_from (is_direct w u m) (succeeds_within w n m v) d (passes_within w n m v (omega arith) r)))
 
 pub succeeds_is : (w : World) (u v : ℕ) → succeeds w u v ≡ true → Succeeds w u v
 succeeds_is w u v h = tested w u u v h
@@ -74,7 +73,7 @@ succeeds_through w u m v (by _ k _ d r) s = by u k v d (succeeds_through w k m v
 -- ---- what is held
 
 pub held_is : (ring : RingValue) (plan : List Planned) (w : World) (v : ℕ) (slot : Slot) → is_held ring plan w v slot ≡ true → IsHeld ring plan w v slot
-held_is ring plan w v slot h = elim (either (slot_has ring plan w slot v) (some_below (length w.puts) (λ u. succeeds w u v && slot_has ring plan w slot u)) h) [
+held_is ring plan w v slot h = elim (or_cases (slot_has ring plan w slot v) (some_below (length w.puts) (λ u. succeeds w u v && slot_has ring plan w slot u)) h) [
   | inl f ↦ (v, itself v, f)
   | inr f ↦ (
       let s = some_found (length w.puts) (λ u. succeeds w u v && slot_has ring plan w slot u) f in
@@ -84,7 +83,7 @@ held_is ring plan w v slot h = elim (either (slot_has ring plan w slot v) (some_
 
 pub is_held_from : (ring : RingValue) (plan : List Planned) (w : World) (v : ℕ) (slot : Slot) → IsHeld ring plan w v slot → is_held ring plan w v slot ≡ true
 is_held_from ring plan w v slot h = elim (same_or_put w h.0 v h.1) [
-  | inl e ↦ first_of_two (slot_has ring plan w slot v) (some_below (length w.puts) (λ u. succeeds w u v && slot_has ring plan w slot u)) (subst (λ (z : ℕ). slot_has ring plan w slot z ≡ true) e h.2)
-  | inr l ↦ second_of_two (slot_has ring plan w slot v) (some_below (length w.puts) (λ u. succeeds w u v && slot_has ring plan w slot u))
-      (some_is (length w.puts) (λ u. succeeds w u v && slot_has ring plan w slot u) h.0 l (all_of (succeeds w h.0 v) (slot_has ring plan w slot h.0) (is_succeeds w h.0 v h.1) h.2))
+  | inl e ↦ or_left (slot_has ring plan w slot v) (some_below (length w.puts) (λ u. succeeds w u v && slot_has ring plan w slot u)) (subst (λ (z : ℕ). slot_has ring plan w slot z ≡ true) e h.2)
+  | inr l ↦ or_right (slot_has ring plan w slot v) (some_below (length w.puts) (λ u. succeeds w u v && slot_has ring plan w slot u))
+      (some_is (length w.puts) (λ u. succeeds w u v && slot_has ring plan w slot u) h.0 l (and_from (succeeds w h.0 v) (slot_has ring plan w slot h.0) (is_succeeds w h.0 v h.1) h.2))
 ]

@@ -30,7 +30,7 @@ suits-at ring (x ∷ xs) h zero s at =
     rw (← e) (and_parts (step_suits ring x.step) (all_suit ring xs) h).0
 suits-at ring (x ∷ xs) h (suc m) s at = suits-at ring xs (and_parts (step_suits ring x.step) (all_suit ring xs) h).1 m s at
 
-within : (ring : RingValue) (s : Slot) → is_ring_slot ring s ≡ true → (s.partition < ring.q) × (s.index < ring.n)
+pub within : (ring : RingValue) (s : Slot) → is_ring_slot ring s ≡ true → (s.partition < ring.q) × (s.index < ring.n)
 within ring s h =
     let b = and_parts (nat_lt s.partition ring.q) (nat_lt s.index ring.n) h in
     (ltb-true s.partition ring.q b.0, ltb-true s.index ring.n b.1)

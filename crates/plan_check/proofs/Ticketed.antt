@@ -4,7 +4,7 @@ use Rattle.std.specs.Prelude.{◌&&◌, ◌==◌, Some, None, is_some}
 use Rattle.ring_names.specs.declared.ids.NodeId.{NodeId}
 use Rattle.ring_names.specs.declared.ids.Slot.{Slot}
 use Rattle.ring_table.specs.Value.{RingValue}
-use Rattle.std.proofs.lemmas.Bool.{and_parts}
+use Rattle.std.proofs.lemmas.Bool.{and_parts, and_from}
 use Rattle.std.proofs.lemmas.Bool.Decides.{nat_tests}
 use Rattle.plan_text.specs.declared.step.Planned.{Planned}
 use Rattle.plan_text.specs.Steps.{steps_of}
@@ -13,7 +13,6 @@ use Rattle.plan_check.specs.Versions.{put_slot}
 use Rattle.plan_check.specs.Effects.{changed, with_value, lose_effect}
 use Rattle.plan_check.proofs.Changed.{read_at}
 use Rattle.plan_check.proofs.Prefix.{count_in}
-use Rattle.plan_stage.proofs.Truth.{all_of}
 
 abbrev pub TicketFits : RingValue → List Planned → World → ℕ → ℕ → ℕ → Type 0
 TicketFits ring plan w v i g = (i < ring.n) × (g ≤ generation plan w (put_slot ring w v i))
@@ -25,7 +24,7 @@ TicketsFit ring plan w = (v i g : ℕ) → ticket_of w v i ≡ Some g → Ticket
 
 pub mirrors_more : (plan : List Planned) (w u : World) (slot : Slot) → ((m : ℕ) → w.done m ≡ true → u.done m ≡ true) → mirrors_done plan w slot ≤ mirrors_done plan u slot
 mirrors_more plan w u slot h = count_in (λ s. w.done s && is_some (mirror_at plan s)) (λ s. u.done s && is_some (mirror_at plan s)) (steps_of plan slot)
-    (λ m i e. (let b = and_parts (w.done m) (is_some (mirror_at plan m)) e in all_of (u.done m) (is_some (mirror_at plan m)) (h m b.0) b.1))
+    (λ m i e. (let b = and_parts (w.done m) (is_some (mirror_at plan m)) e in and_from (u.done m) (is_some (mirror_at plan m)) (h m b.0) b.1))
 
 pub generation_more : (plan : List Planned) (w u : World) (slot : Slot) → ((m : ℕ) → w.done m ≡ true → u.done m ≡ true) → w.lost slot ≤ u.lost slot → generation plan w slot ≤ generation plan u slot
 generation_more plan w u slot h l = (let m = mirrors_more plan w u slot h in omega arith)

@@ -38,10 +38,12 @@ pub fn check(alloc: Global, ring: Ring, plan: Plan, cert: &Cert) -> Result<Appro
     ensures approved { OnOk result (IsApproved ring plan) }
     ensures certified { OnOk result (IsCertified ring plan cert.now) }
     ensures accepted { OnOk result (first_refusal ring plan cert.now ≡ None) }
-    ensures refused { IfErr result (λ t. (t.refusal ≡ OutOfMemory → ⊥) → first_refusal ring plan cert.now ≡ Some t.refusal) }
+    ensures refused { IfErr result
+        (λ t. (t.refusal ≡ OutOfMemory → ⊥) → first_refusal ring plan cert.now ≡ Some t.refusal) }
     ensures unchanged { IfErr result (λ t. (t.ring ≡ ring) × (t.plan ≡ plan)) }
     ensures memory { IsCertified ring plan cert.now → IfErr result (λ t. t.refusal ≡ OutOfMemory) }
-    ensures late { IfErr result (λ t. t.refusal ≡ OutOfMemory → first_failing (fact_clauses plan 0 cert.now.facts) ≡ None) }
+    ensures late { IfErr result
+        (λ t. t.refusal ≡ OutOfMemory → first_failing (fact_clauses plan 0 cert.now.facts) ≡ None) }
 {
     first_is_none_where_certified(&ring, &plan, cert);
     certified_is_sound();
@@ -78,13 +80,19 @@ pub fn check_parallel<R: Threads + Wait + Sync, G: Gate + Sync>(
     ensures approved { OnOk result (IsApproved ring plan) }
     ensures certified { OnOk result (IsCertified ring plan cert.now) }
     ensures accepted { OnOk result (first_refusal ring plan cert.now ≡ None) }
-    ensures refused { IfErr result (λ t. (t.refusal ≡ OutOfMemory → ⊥) → (t.refusal ≡ TurnsSpent → ⊥) → first_refusal ring plan cert.now ≡ Some t.refusal) }
+    ensures refused { IfErr result (λ t. (t.refusal ≡ OutOfMemory → ⊥) → (t.refusal ≡ TurnsSpent → ⊥)
+        → first_refusal ring plan cert.now ≡ Some t.refusal) }
     ensures stopped { IfErr result (λ t. t.refusal ≡ TurnsSpent → MayStop (G.may_refuse gate.now) workers ring.q) }
-    ensures turned { MustStop (G.must_refuse gate.now) workers ring.q → first_failing (fact_clauses plan 0 cert.now.facts) ≡ None → OnOk result ⊥ }
-    ensures spent { MustStop (G.must_refuse gate.now) workers ring.q → first_failing (fact_clauses plan 0 cert.now.facts) ≡ None → IfErr result (λ t. (t.refusal ≡ TurnsSpent) ⊎ (t.refusal ≡ OutOfMemory)) }
+    ensures turned { MustStop (G.must_refuse gate.now) workers ring.q
+        → first_failing (fact_clauses plan 0 cert.now.facts) ≡ None → OnOk result ⊥ }
+    ensures spent { MustStop (G.must_refuse gate.now) workers ring.q
+        → first_failing (fact_clauses plan 0 cert.now.facts) ≡ None
+        → IfErr result (λ t. (t.refusal ≡ TurnsSpent) ⊎ (t.refusal ≡ OutOfMemory)) }
     ensures unchanged { IfErr result (λ t. (t.ring ≡ ring) × (t.plan ≡ plan)) }
-    ensures memory { IsCertified ring plan cert.now → IfErr result (λ t. (t.refusal ≡ OutOfMemory) ⊎ (t.refusal ≡ TurnsSpent)) }
-    ensures late { IfErr result (λ t. (t.refusal ≡ OutOfMemory) ⊎ (t.refusal ≡ TurnsSpent) → first_failing (fact_clauses plan 0 cert.now.facts) ≡ None) }
+    ensures memory { IsCertified ring plan cert.now
+        → IfErr result (λ t. (t.refusal ≡ OutOfMemory) ⊎ (t.refusal ≡ TurnsSpent)) }
+    ensures late { IfErr result (λ t. (t.refusal ≡ OutOfMemory) ⊎ (t.refusal ≡ TurnsSpent)
+        → first_failing (fact_clauses plan 0 cert.now.facts) ≡ None) }
 {
     first_is_none_where_certified(&ring, &plan, cert);
     certified_is_sound();
@@ -131,10 +139,12 @@ fn check_all_by_workers<R: Threads + Wait + Sync, G: Gate + Sync>(
 ) -> Option<Result<(), Refusal>>
     requires { Suits ring.now plan.now }
     ensures stopped { IfNone result (MayStop (G.may_refuse gate.now) workers ring.now.q) }
-    ensures turned { MustStop (G.must_refuse gate.now) workers ring.now.q → first_failing (fact_clauses plan.now 0 cert.now.facts) ≡ None → IfSome result (λ r. r ≡ Err OutOfMemory) }
+    ensures turned { MustStop (G.must_refuse gate.now) workers ring.now.q
+        → first_failing (fact_clauses plan.now 0 cert.now.facts) ≡ None → IfSome result (λ r. r ≡ Err OutOfMemory) }
     ensures facts { IfNone result (first_failing (fact_clauses plan.now 0 cert.now.facts) ≡ None) }
     ensures first { IfSome result (λ r. Gives r (all_clauses ring.now plan.now cert.now)) }
-    ensures late { IfSome result (λ r. IfErr r (λ e. e ≡ OutOfMemory → first_failing (fact_clauses plan.now 0 cert.now.facts) ≡ None)) }
+    ensures late { IfSome result
+        (λ r. IfErr r (λ e. e ≡ OutOfMemory → first_failing (fact_clauses plan.now 0 cert.now.facts) ≡ None)) }
 {
     match Facts::verify_parallel(rt, alloc, plan, &cert.facts) {
         Ok(facts) => match check_shares(rt, alloc, workers, gate, ring, plan, &facts) {
@@ -156,7 +166,8 @@ fn check_rest(
 ) -> Result<(), Refusal>
     requires suits { Suits ring.now plan.now }
     requires facts { AreFactsOf plan.now facts.now }
-    requires found { Gives found (below (partition_clauses ring.now plan.now (is_ordered plan.now facts.now)) ring.now.q) }
+    requires found { Gives found
+        (below (partition_clauses ring.now plan.now (is_ordered plan.now facts.now)) ring.now.q) }
     ensures first { Gives result (rest_clauses ring.now plan.now cert.now (is_ordered plan.now facts.now)) }
     ensures handed_on { IfErr found (λ e. result ≡ Err e) }
 {

@@ -42,7 +42,8 @@ pub fn first_is_none_where_certified(ring: &Ring, plan: &Plan, cert: &Cert)
 
 /// The checker answers the same before a ring is migrated and after.
 pub fn migration_changes_no_refusal()
-    ensures { (ring : RingValue) (plan : List Planned) (cert : TheCert) → first_refusal (migrated ring) plan cert ≡ first_refusal ring plan cert }
+    ensures { (ring : RingValue) (plan : List Planned) (cert : TheCert)
+        → first_refusal (migrated ring) plan cert ≡ first_refusal ring plan cert }
 {}
 
 /// After each of a slot's steps its owner is no node that still has to drop what it held, and its mirror is neither of these.
@@ -125,11 +126,15 @@ pub fn holding_is_tested()
 /// Of the puts of one key, one succeeds another where its cause, as clocks are made of them, succeeds the other's; and causes see
 /// earlier puts alone, as the making of clocks asks.
 pub fn succession_is_of_causes()
-    ensures earlier { (w : World) (key : List ℕ) (causes : List Cause) → AreCausesOf w (puts_of w key) causes → IsEarlier causes }
-    ensures agree { (w : World) (key : List ℕ) (causes : List Cause) → AreCausesOf w (puts_of w key) causes → AgreeOn w (puts_of w key) causes }
+    ensures earlier { (w : World) (key : List ℕ) (causes : List Cause) → AreCausesOf w (puts_of w key) causes
+        → IsEarlier causes }
+    ensures agree { (w : World) (key : List ℕ) (causes : List Cause) → AreCausesOf w (puts_of w key) causes
+        → AgreeOn w (puts_of w key) causes }
 {}
 
 /// Two lists of different numbers below n that are together longer than n share a number: every read meets every write.
 pub fn quorums_meet()
-    ensures { (n : ℕ) (xs ys : List ℕ) → all_different xs ≡ true → all_different ys ≡ true → list_all (λ x. nat_lt x n) xs ≡ true → list_all (λ y. nat_lt y n) ys ≡ true → n < length xs + length ys → (x : ℕ) × (has x xs ≡ true) × (has x ys ≡ true) }
+    ensures { (n : ℕ) (xs ys : List ℕ) → all_different xs ≡ true → all_different ys ≡ true
+        → list_all (λ x. nat_lt x n) xs ≡ true → list_all (λ y. nat_lt y n) ys ≡ true → n < length xs + length ys
+        → (x : ℕ) × (has x xs ≡ true) × (has x ys ≡ true) }
 {}

@@ -73,7 +73,8 @@ fn work_share<R: Wait, G: Gate>(
     requires share { share < shares }
     requires suits { Suits ring.now plan.now }
     requires facts { AreFactsOf plan.now facts.now }
-    ensures { IsOutcome ring.now plan.now (is_ordered plan.now facts.now) (G.may_refuse gate.now) (G.must_refuse gate.now) shares share result }
+    ensures { IsOutcome ring.now plan.now (is_ordered plan.now facts.now) (G.may_refuse gate.now)
+        (G.must_refuse gate.now) shares share result }
 {
     let from = first_partition(ring.q(), shares, share);
     if !gate.pass(rt, share, u64::from(from)) {
@@ -93,10 +94,13 @@ fn gather<G: Gate>(
     found: &[ShareOutcome],
 ) -> Option<Result<(), Refusal>>
     requires count { length found.now ≡ share_count workers ring.now.q }
-    requires outcomes { (s : ℕ) (d : ShareOutcome) → s < length found.now → IsOutcome ring.now plan.now (is_ordered plan.now facts.now) (G.may_refuse gate.now) (G.must_refuse gate.now) (length found.now) s (slice_index_or found.now s d) }
+    requires outcomes { (s : ℕ) (d : ShareOutcome) → s < length found.now
+        → IsOutcome ring.now plan.now (is_ordered plan.now facts.now) (G.may_refuse gate.now) (G.must_refuse gate.now)
+        (length found.now) s (slice_index_or found.now s d) }
     ensures stopped { IfNone result (MayStop (G.may_refuse gate.now) workers ring.now.q) }
     ensures passed { IfSome result (λ r. MustStop (G.must_refuse gate.now) workers ring.now.q → ⊥) }
-    ensures first { IfSome result (λ r. Gives r (below (partition_clauses ring.now plan.now (is_ordered plan.now facts.now)) ring.now.q)) }
+    ensures first { IfSome result
+        (λ r. Gives r (below (partition_clauses ring.now plan.now (is_ordered plan.now facts.now)) ring.now.q)) }
 {
     let mut first = Ok(());
     for share in 0..found.len() {
@@ -125,7 +129,8 @@ pub(crate) fn check_shares<R: Threads + Wait + Sync, G: Gate + Sync>(
     ensures stopped { IfNone result (MayStop (G.may_refuse gate.now) workers ring.now.q) }
     // Where a pass must be refused and yet none was, memory for the threads' answers ran out.
     ensures turned { MustStop (G.must_refuse gate.now) workers ring.now.q → IfSome result (λ r. r ≡ Err OutOfMemory) }
-    ensures first { IfSome result (λ r. Gives r (below (partition_clauses ring.now plan.now (is_ordered plan.now facts.now)) ring.now.q)) }
+    ensures first { IfSome result
+        (λ r. Gives r (below (partition_clauses ring.now plan.now (is_ordered plan.now facts.now)) ring.now.q)) }
 {
     let shares = workers.min(ring.q()).max(1);
     let found = thread::map_indices(
@@ -134,7 +139,8 @@ pub(crate) fn check_shares<R: Threads + Wait + Sync, G: Gate + Sync>(
         shares as usize,
         &|share: usize| -> ShareOutcome
             requires { (share < shares) × (shares < 2 ^ 32) × Suits ring.now plan.now × AreFactsOf plan.now facts.now }
-            ensures { IsOutcome ring.entry.now plan.entry.now (is_ordered plan.entry.now facts.entry.now) (G.may_refuse gate.entry.now) (G.must_refuse gate.entry.now) shares share result }
+            ensures { IsOutcome ring.entry.now plan.entry.now (is_ordered plan.entry.now facts.entry.now)
+                (G.may_refuse gate.entry.now) (G.must_refuse gate.entry.now) shares share result }
         { work_share(rt, alloc, gate, ring, plan, facts, shares, share as u32) },
     );
     match found {

@@ -1,7 +1,7 @@
 -- The one step that retires a node, and what it asks.
 use Rattle.std.proofs.Common.{◌≡◌, ℕ, ◌+◌, Bool, true, false, cond, List, [], ◌∷◌, ◌++◌, Option, Some, refl, sym, ◌∙◌}
 use Rattle.std.specs.Prelude.{not, ◌||◌}
-use Rattle.std.proofs.lemmas.Bool.{eqb-true, and_parts}
+use Rattle.std.proofs.lemmas.Bool.{eqb-true, and_parts, or_parts, not-true}
 use Rattle.ring_names.specs.Lists.{has, all_different}
 use Rattle.ring_names.specs.declared.ids.NodeId.{NodeId}
 use Rattle.ring_table.specs.Value.{RingValue}
@@ -11,7 +11,6 @@ use Rattle.plan_text.specs.declared.step.Planned.{Planned}
 use Rattle.plan_text.specs.Steps.{retires, retired, is_retire_of, first_step, retirement_of}
 use Rattle.plan_stage.specs.Clauses.{Guard}
 use Rattle.plan_stage.specs.Partition.{Test, steps_clauses}
-use Rattle.plan_stage.proofs.Truth.{not_is}
 use Rattle.plan_cover.specs.Clauses.{retire_clauses}
 use Rattle.plan_cover.specs.Looking.Guards.{retirement_guards}
 
@@ -35,21 +34,17 @@ behind (Join y) rest h = h
 once : (x : ℕ) (s : Step) (rest : List ℕ) → all_different (retires s ++ rest) ≡ true → is_retire_of x s ≡ true → has x rest ≡ false
 once x (Retire y) rest h is =
     let e : x ≡ y.0 = eqb-true x y.0 is in
-    rw e (not_is (has y.0 rest) (and_parts (not (has y.0 rest)) (all_different rest) h).0)
+    rw e (not-true (has y.0 rest) (and_parts (not (has y.0 rest)) (all_different rest) h).0)
 once x (Mirror t y) rest h is = absurd cc
 once x (Copy t from) rest h is = absurd cc
 once x (Switch t) rest h is = absurd cc
 once x (Drop t y) rest h is = absurd cc
 once x (Join y) rest h is = absurd cc
 
-neither : (a b : Bool) → (a || b) ≡ false → (a ≡ false) × (b ≡ false)
-neither true b h = absurd cc
-neither false b h = (refl, h)
-
 none_retires : (ring : RingValue) (plan : List Planned) (O : Test) (x : NodeId) (n : ℕ) (ps : List Planned) → has x.0 (retired ps) ≡ false → steps_clauses (retire_clauses ring plan O x) n ps ≡ []
 none_retires ring plan O x n [] h = refl
 none_retires ring plan O x n (p ∷ ps) h =
-    let two = neither (is_retire_of x.0 p.step) (has x.0 (retired ps)) (sym (in_front x.0 p.step (retired ps)) ∙ h) in
+    let two = or_parts (is_retire_of x.0 p.step) (has x.0 (retired ps)) (sym (in_front x.0 p.step (retired ps)) ∙ h) in
     rw (two.0, none_retires ring plan O x (n + 1) ps two.1) refl
 
 asked_by : (ring : RingValue) (plan : List Planned) (O : Test) (x : NodeId) (b : Bool) (n : ℕ) (r : List Guard) (later : Option ℕ) → (b ≡ true → r ≡ []) → (b ≡ false → r ≡ retirement_guards ring plan O x later) → cond b (retirement_guards ring plan O x (Some n)) [] ++ r ≡ retirement_guards ring plan O x (cond b (Some n) later)

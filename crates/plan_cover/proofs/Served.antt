@@ -26,6 +26,7 @@ use Rattle.plan_cover.specs.Looking.Serving.{serving_of, after_step, is_the_mirr
 use Rattle.plan_stage.specs.Occupancy.{is_node}
 use Rattle.plan_cover.specs.Looking.Numbers.{numbers_from, takes_part, is_last, with_last_if}
 use Rattle.plan_cover.proofs.Counting.{take-step, take-length, numbers-take, numbers-between, not_last}
+use Rattle.plan_stage.proofs.Slots.{none_below}
 
 -- ---- the steps of a slot among the first of a plan
 
@@ -35,10 +36,6 @@ low s m k l = grind (arith, nat_tests)
 none_by : (b : Bool) (m k : ℕ) (ss : List ℕ) → m ≤ k → count_below m ss ≡ 0 → count_below m (cond b (k ∷ ss) ss) ≡ 0
 none_by true m k ss l e = rw (low k m k l, e) refl
 none_by false m k ss l e = e
-
-none_below : (m k : ℕ) (plan : List Planned) (s : Slot) → m ≤ k → count_below m (steps_from k plan s) ≡ 0
-none_below m k [] s l = refl
-none_below m k (p ∷ ps) s l = none_by (is_on s p.step) m k (steps_from (k + 1) ps s) l (none_below m (k + 1) ps s (omega arith))
 
 some_by : (b : Bool) (m k : ℕ) (ss ts : List ℕ) → k < m → take (count_below m ss) ss ≡ ts → take (count_below m (cond b (k ∷ ss) ss)) (cond b (k ∷ ss) ss) ≡ cond b (k ∷ ts) ts
 some_by true m k ss ts l e = (let s : count_below m ss + 1 ≡ suc (count_below m ss) = omega arith in rw (lt-ltb k m l, s) (ap (λ zs. k ∷ zs) e))

@@ -50,7 +50,8 @@ pub fn check_nodes(
 ) -> Result<(), Refusal>
     requires suits { Suits ring.now plan.now }
     requires facts { AreFactsOf plan.now facts.now }
-    ensures { Gives result (below (λ x. node_clauses ring.now plan.now cert.now (is_ordered plan.now facts.now) (record { 0 = x })) (length ring.now.nodes)) }
+    ensures { Gives result (below (λ x. node_clauses ring.now plan.now cert.now (is_ordered plan.now facts.now)
+        (record { 0 = x })) (length ring.now.nodes)) }
 {
     let cover = Cover::of(alloc, ring, plan, cert)?;
     check_each(alloc, &cover, &Context { ring, plan, facts }, cert)
@@ -59,7 +60,8 @@ pub fn check_nodes(
 // Tests the clauses of each node, by number.
 fn check_each(alloc: Global, cover: &Cover, context: &Context, cert: &Cert) -> Result<(), Refusal>
     requires { IsCover context.now.ring.now context.now.plan.now cert.now cover.now }
-    ensures { Gives result (below (λ x. node_clauses context.now.ring.now context.now.plan.now cert.now (order context.now) (record { 0 = x })) (length context.now.ring.now.nodes)) }
+    ensures { Gives result (below (λ x. node_clauses context.now.ring.now context.now.plan.now cert.now
+        (order context.now) (record { 0 = x })) (length context.now.ring.now.nodes)) }
 {
     let nodes = context.ring.nodes().len() as u32;
     for x in 0..nodes {
@@ -143,7 +145,8 @@ fn check_counts(
 
 // Tests the step that retires the node.
 fn check_retirement(context: &Context, node: NodeId) -> Result<(), Refusal>
-    ensures { Gives result (retirement_guards context.now.ring.now context.now.plan.now (order context.now) node (retirement_of context.now.plan.now node.0)) }
+    ensures { Gives result (retirement_guards context.now.ring.now context.now.plan.now (order context.now) node
+        (retirement_of context.now.plan.now node.0)) }
 {
     if let Some(step) = context.plan.retirement_of(node) {
         if !has_joined_by(context, step, node) {

@@ -21,7 +21,8 @@ pub fn add_copy(
     part: Side,
     number: u32,
 ) -> Result<(), Refusal>
-    ensures ok { OnOk result ((y : TheSide) → copies_kept copies.new y ≡ with_last_if (counts_at ring.now part y && is_node y.node node) number (copies_kept copies.old y)) }
+    ensures ok { OnOk result ((y : TheSide) → copies_kept copies.new y
+        ≡ with_last_if (counts_at ring.now part y && is_node y.node node) number (copies_kept copies.old y)) }
     ensures memory { IfErr result (λ e. e ≡ OutOfMemory) }
 {
     match side_of(ring, node, part) {
@@ -46,7 +47,8 @@ fn side_of(ring: &Ring, node: NodeId, part: Side) -> Option<Side>
 
 // Adds a copy to those of the side of a node, unless it is their last already.
 fn add_at(copies: &mut Lists<NodeSide, u32>, of: NodeSide, number: u32) -> Result<(), Refusal>
-    ensures ok { OnOk result ((y : TheSide) → copies_kept copies.new y ≡ with_last_if (is_node y.node of.node && is_side y.side of.side) number (copies_kept copies.old y)) }
+    ensures ok { OnOk result ((y : TheSide) → copies_kept copies.new y
+        ≡ with_last_if (is_node y.node of.node && is_side y.side of.side) number (copies_kept copies.old y)) }
     ensures memory { IfErr result (λ e. e ≡ OutOfMemory) }
 {
     if is_last(copies.items(&of), number) {

@@ -64,7 +64,8 @@ fn add_parties(
     number: u32,
 ) -> Result<(), Refusal>
     requires { step_suits ring.now step.now ≡ true }
-    ensures ok { OnOk result ((y : TheSide) → copies_kept copies.new y ≡ with_last_if (is_party ring.now (serving_at ring.now present.now) step.now y) number (copies_kept copies.old y)) }
+    ensures ok { OnOk result ((y : TheSide) → copies_kept copies.new y ≡ with_last_if
+        (is_party ring.now (serving_at ring.now present.now) step.now y) number (copies_kept copies.old y)) }
     ensures memory { IfErr result (λ e. e ≡ OutOfMemory) }
 {
     match step {
@@ -83,7 +84,8 @@ fn add_mirror(
     mirror: Option<NodeId>,
     number: u32,
 ) -> Result<(), Refusal>
-    ensures ok { OnOk result ((y : TheSide) → copies_kept copies.new y ≡ with_last_if (counts_at ring.now Take y && is_the_mirror mirror y.node) number (copies_kept copies.old y)) }
+    ensures ok { OnOk result ((y : TheSide) → copies_kept copies.new y
+        ≡ with_last_if (counts_at ring.now Take y && is_the_mirror mirror y.node) number (copies_kept copies.old y)) }
     ensures memory { IfErr result (λ e. e ≡ OutOfMemory) }
 {
     match mirror {
@@ -103,7 +105,9 @@ fn add_sources(
 ) -> Result<(), Refusal>
     requires slot { is_ring_slot ring.now slot ≡ true }
     requires source { source_suits ring.now source.now ≡ true }
-    ensures ok { OnOk result ((y : TheSide) → copies_kept copies.new y ≡ with_last_if (counts_at ring.now Give y && owns_some (serving_at ring.now present.now) (source_slots slot source.now) y.node) number (copies_kept copies.old y)) }
+    ensures ok { OnOk result
+        ((y : TheSide) → copies_kept copies.new y ≡ with_last_if (counts_at ring.now Give y && owns_some
+        (serving_at ring.now present.now) (source_slots slot source.now) y.node) number (copies_kept copies.old y)) }
     ensures memory { IfErr result (λ e. e ≡ OutOfMemory) }
 {
     match source {
@@ -135,7 +139,10 @@ fn add_owners(
 ) -> Result<(), Refusal>
     requires partition { partition < ring.now.q }
     requires from { list_all (λ i. nat_lt i ring.now.n) from.now ≡ true }
-    ensures ok { OnOk result ((y : TheSide) → copies_kept copies.new y ≡ with_last_if (counts_at ring.now Give y && owns_some (serving_at ring.now present.now) (map (λ i. record { partition = partition; index = i }) from.now) y.node) number (copies_kept copies.old y)) }
+    ensures ok { OnOk result
+        ((y : TheSide) → copies_kept copies.new y ≡ with_last_if
+        (counts_at ring.now Give y && owns_some (serving_at ring.now present.now)
+        (map (λ i. record { partition = partition; index = i }) from.now) y.node) number (copies_kept copies.old y)) }
     ensures memory { IfErr result (λ e. e ≡ OutOfMemory) }
 {
     let mut rest = from;

@@ -67,7 +67,8 @@ fn add_chain(
     side: Side,
     number: usize,
 ) -> Result<(), Refusal>
-    ensures ok { OnOk result ((n : ℕ) → contains nat_cmp covered.new n ≡ (in_some n (chains_at chains.now side (number ∷ [])) || contains nat_cmp covered.old n)) }
+    ensures ok { OnOk result ((n : ℕ) → contains nat_cmp covered.new n
+        ≡ (in_some n (chains_at chains.now side (number ∷ [])) || contains nat_cmp covered.old n)) }
     ensures memory { IfErr result (λ e. e ≡ OutOfMemory) }
 {
     if number >= chains.len() || !is_side(side, side_at(chains, number)) {
@@ -77,7 +78,8 @@ fn add_chain(
 }
 
 fn add_steps(covered: &mut BTreeSet<u32>, steps: &[u32]) -> Result<(), Refusal>
-    ensures ok { OnOk result ((n : ℕ) → contains nat_cmp covered.new n ≡ (has n steps.now || contains nat_cmp covered.old n)) }
+    ensures ok { OnOk result
+        ((n : ℕ) → contains nat_cmp covered.new n ≡ (has n steps.now || contains nat_cmp covered.old n)) }
     ensures memory { IfErr result (λ e. e ≡ OutOfMemory) }
 {
     let mut rest = steps;

@@ -23,7 +23,8 @@ pub fn check_chains(
     node: NodeId,
 ) -> Result<(), Refusal>
     requires { AreAscending copies.now }
-    ensures { Gives result (map (chain_guard context.now.ring.now node (sides_kept copies.now node) (order context.now) chains.now) numbers.now) }
+    ensures { Gives result (map (chain_guard context.now.ring.now node (sides_kept copies.now node)
+        (order context.now) chains.now) numbers.now) }
 {
     let mut rest = numbers;
     'chains: while let Some((first, later)) = rest.split_first() {
@@ -61,7 +62,8 @@ fn is_good_at(
     node: NodeId,
 ) -> bool
     requires { AreAscending copies.now }
-    ensures { result ≡ (chain_guard context.now.ring.now node (sides_kept copies.now node) (order context.now) chains.now number).0 }
+    ensures { result ≡ (chain_guard context.now.ring.now node (sides_kept copies.now node)
+        (order context.now) chains.now number).0 }
 {
     let of = NodeSide {
         node,

@@ -37,7 +37,8 @@ impl Present {
     /// Before the first step.
     pub fn new(alloc: Global, ring: &Ring) -> Result<Present, Refusal>
         ensures room { IfOk result (λ a. HasRoom ring.now a) }
-        ensures ok { IfOk result (λ a. (s : TheSlot) → serving_at ring.now a s ≡ record { owner = unwrap_or (owner_of ring.now s) (record { 0 = 0 }); mirror = None }) }
+        ensures ok { IfOk result (λ a. (s : TheSlot) → serving_at ring.now a s
+            ≡ record { owner = unwrap_or (owner_of ring.now s) (record { 0 = 0 }); mirror = None }) }
         ensures memory { IfErr result (λ e. e ≡ OutOfMemory) }
     {
         let slots = vec![in alloc; None; 7 * ring.q() as usize]?;
@@ -75,7 +76,8 @@ impl Present {
     fn set(&mut self, slot: Slot, serving: Serving)
         requires room { place_of slot < length self.old.slots.items }
         requires index { slot.index < 7 }
-        ensures kept { (s : TheSlot) → kept_at self.new s ≡ (if is_slot s slot then Some serving else kept_at self.old s) }
+        ensures kept { (s : TheSlot)
+            → kept_at self.new s ≡ (if is_slot s slot then Some serving else kept_at self.old s) }
         ensures room { length self.new.slots.items ≡ length self.old.slots.items }
     {
         self.slots[place_of(slot)] = Some(serving);
@@ -85,7 +87,8 @@ impl Present {
     pub fn act(&mut self, ring: &Ring, step: &Step)
         requires suits { step_suits ring.now step.now ≡ true }
         requires room { HasRoom ring.now self.old }
-        ensures serving { (s : TheSlot) → serving_at ring.now self.new s ≡ (if is_on s step.now then after_step (serving_at ring.now self.old s) step.now else serving_at ring.now self.old s) }
+        ensures serving { (s : TheSlot) → serving_at ring.now self.new s ≡ (if is_on s step.now then after_step
+            (serving_at ring.now self.old s) step.now else serving_at ring.now self.old s) }
         ensures room { HasRoom ring.now self.new }
     {
         // A ring has at most 7 slots in a partition.

@@ -8,8 +8,9 @@ use Rattle.std.specs.Ordering.{nat_cmp, ordering_then, match_ordering, is_eq}
 use Rattle.std.specs.Cmp.{unsigned_ties, tied_then}
 use Rattle.std.specs.BTreeMap.{is_at}
 use Rattle.std.specs.BTreeSet.{insert_key}
-use Rattle.std.proofs.lemmas.Bool.Decides.{eqb_tells, nat_tests}
-use Rattle.std.proofs.lemmas.Bool.{and_parts}
+use Rattle.std.proofs.lemmas.Bool.Decides.{eqb_tells}
+use Rattle.std.proofs.lemmas.Bool.{and_parts, ne_eqb, eq-eqb as same}
+use Rattle.ring_names.proofs.Logic.{or_swapped, eqb_turned, or_again}
 use Rattle.plan_order.specs.declared.facts.Ends.{Ends}
 use Rattle.plan_order.specs.Facts.{ends_with, leads, has_ends}
 
@@ -20,19 +21,10 @@ by_ends x y = ordering_then (nat_cmp x.first y.first) (nat_cmp x.last y.last)
 abbrev pub is_same : Ends → Ends → Bool
 is_same x y = (x.first == y.first) && (x.last == y.last)
 
-same : (x y : ℕ) → x ≡ y → (x == y) ≡ true
-same x y e = grind (arith, nat_tests)
-
-differ : (x y : ℕ) → x ≢ y → (x == y) ≡ false
-differ x y e = grind (arith, nat_tests)
-
-turned : (x y : ℕ) → (x == y) ≡ (y == x)
-turned x y = elim (eqb_tells x y) [ inl t ↦ t.0 ∙ sym (same y x (sym t.1)) | inr t ↦ t.0 ∙ sym (differ y x (λ e. t.1 (sym e))) ]
-
 -- the ends that compare as equal are the same
 tie_is_same : (x y : Ends) → is_at (by_ends x) y ≡ is_same y x
 tie_is_same x y =
-    sym (tied_then (nat_cmp x.first y.first) (nat_cmp x.last y.last)) ∙ rw (← unsigned_ties x.first y.first, ← unsigned_ties x.last y.last, turned x.first y.first, turned x.last y.last) refl
+    sym (tied_then (nat_cmp x.first y.first) (nat_cmp x.last y.last)) ∙ rw (← unsigned_ties x.first y.first, ← unsigned_ties x.last y.last, eqb_turned x.first y.first, eqb_turned x.last y.last) refl
 
 pub looked_up : (e : Ends) (es : List Ends) → list_any (is_at (by_ends e)) es ≡ has_ends e.first e.last es
 looked_up e [] = refl
@@ -47,16 +39,6 @@ is_at_ends e a b h =
       elim (eqb_tells e.last b) [ inl t ↦ t.1 | inr t ↦ absurd cc ],
     )
 
-crossed : (s t u : Bool) → (s || (t || u)) ≡ (t || (s || u))
-crossed true true u = refl
-crossed true false u = refl
-crossed false true u = refl
-crossed false false u = refl
-
-again : (t u : Bool) → (t || u) ≡ (t || (t || u))
-again true u = refl
-again false u = refl
-
 -- the ends that are asked for, where the new ones go in front of these, on them, or behind them
 put : (o : Ordering) (e x : Ends) (es rest : List Ends) (a b : ℕ) → (is_eq o ≡ true → is_same x e ≡ true) → has_ends a b rest ≡ (is_same e (record { first = a; last = b }) || has_ends a b es)
     → has_ends a b (match_ordering o (e ∷ x ∷ es) (x ∷ es) (x ∷ rest)) ≡ (is_same e (record { first = a; last = b }) || has_ends a b (x ∷ es))
@@ -64,9 +46,9 @@ put Less e x es rest a b alike later = refl
 put Equal e x es rest a b alike later =
     let p = is_at_ends x e.first e.last (alike refl) in
     let same : is_same e (record { first = a; last = b }) ≡ is_same x (record { first = a; last = b }) = ap (λ y. (y == a) && (e.last == b)) (sym p.0) ∙ ap (λ y. (x.first == a) && (y == b)) (sym p.1) in
-    again (is_same x (record { first = a; last = b })) (has_ends a b es) ∙ ap (λ (t : Bool). t || has_ends a b (x ∷ es)) (sym same)
+    or_again (is_same x (record { first = a; last = b })) (has_ends a b es) ∙ ap (λ (t : Bool). t || has_ends a b (x ∷ es)) (sym same)
 put Greater e x es rest a b alike later =
-    ap (λ (t : Bool). is_same x (record { first = a; last = b }) || t) later ∙ crossed (is_same x (record { first = a; last = b })) (is_same e (record { first = a; last = b })) (has_ends a b es)
+    ap (λ (t : Bool). is_same x (record { first = a; last = b }) || t) later ∙ or_swapped (is_same x (record { first = a; last = b })) (is_same e (record { first = a; last = b })) (has_ends a b es)
 
 -- the ends that are asked for once some were added
 pub added : (e : Ends) (es : List Ends) (a b : ℕ) → has_ends a b (insert_key by_ends es e) ≡ (((e.first == a) && (e.last == b)) || has_ends a b es)

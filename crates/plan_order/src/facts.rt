@@ -77,7 +77,8 @@ fn first_bad_path_by_threads(rt: &(impl Threads + Sync), plan: &Plan, paths: &Ro
 
 // Adds the ends of a path; one without steps has none.
 fn add_ends(ends: &mut BTreeSet<Ends>, path: &[u32]) -> Result<(), Refusal>
-    ensures ok { OnOk result ((a b : ℕ) → has_ends a b ends.new.keys ≡ (leads a b path.now || has_ends a b ends.old.keys)) }
+    ensures ok { OnOk result
+        ((a b : ℕ) → has_ends a b ends.new.keys ≡ (leads a b path.now || has_ends a b ends.old.keys)) }
     ensures memory { IfErr result (λ e. e ≡ OutOfMemory) }
 {
     if let (Some(first), Some(last)) = (path.first(), path.last()) {
@@ -91,7 +92,8 @@ fn add_ends(ends: &mut BTreeSet<Ends>, path: &[u32]) -> Result<(), Refusal>
 
 // Adds the ends of each path.
 fn add_all_ends(ends: &mut BTreeSet<Ends>, paths: &Rows) -> Result<(), Refusal>
-    ensures ok { OnOk result ((a b : ℕ) → has_ends a b ends.new.keys ≡ (some_leads a b paths.now || has_ends a b ends.old.keys)) }
+    ensures ok { OnOk result
+        ((a b : ℕ) → has_ends a b ends.new.keys ≡ (some_leads a b paths.now || has_ends a b ends.old.keys)) }
     ensures memory { IfErr result (λ e. e ≡ OutOfMemory) }
 {
     for place in 0..paths.len() {

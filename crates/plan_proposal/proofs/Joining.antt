@@ -3,7 +3,7 @@ use Rattle.std.proofs.Common.{◌≡◌, ◌⊎◌, inl, inr, ℕ, zero, suc, �
 use Rattle.std.proofs.Common.{refl, sym, ap, subst, ◌∙◌, arith, Some, None}
 use Rattle.std.specs.Prelude.{slice_get, nat_lt}
 use Rattle.std.specs.List.{list_all}
-use Rattle.std.proofs.lemmas.Bool.{and_parts, cases_order}
+use Rattle.std.proofs.lemmas.Bool.{and_parts, cases_order, and_from}
 use Rattle.std.proofs.lemmas.List.{length-map}
 use Rattle.std.proofs.lemmas.List.Concat.{flat_map-cons}
 use Rattle.ring_names.specs.Lists.{has, all_different}
@@ -26,7 +26,7 @@ use Rattle.change_text.specs.Valid.{IsChange, is_declared, may_join}
 use Rattle.plan_stage.specs.Each.{step_at}
 use Rattle.plan_stage.specs.Stage.{is_among}
 use Rattle.plan_stage.specs.Parties.{on_side, target_of, sources_of}
-use Rattle.plan_stage.proofs.Truth.{all_of, list_all-all}
+use Rattle.plan_stage.proofs.Truth.{list_all-all}
 use Rattle.plan_check.specs.Certified.{IsCertified, ordered_by}
 use Rattle.plan_check.specs.Sound.{Order, Meets, NeedsMember, is_party_of}
 use Rattle.plan_check.proofs.Quorums.{meet}
@@ -87,7 +87,7 @@ each-suits : (ring : RingValue) (nodes : List NodeId) → list_all (may_join rin
 each-suits ring [] h = refl
 each-suits ring (x ∷ xs) h =
     let b = and_parts (may_join ring x) (list_all (may_join ring) xs) h in
-    all_of (may_join ring x) (list_all (λ (y : Planned). step_suits ring y.step) (joins_alone xs)) b.0 (each-suits ring xs b.1)
+    and_from (may_join ring x) (list_all (λ (y : Planned). step_suits ring y.step) (joins_alone xs)) b.0 (each-suits ring xs b.1)
 
 joins-suit : (ring : RingValue) (change : Change) → IsChange ring change → PlanSuits ring (joins_alone change.joins)
 joins-suit ring change is = record {
@@ -99,11 +99,11 @@ joins-suit ring change is = record {
 same-all : (xs : List ℕ) → same_nodes xs xs ≡ true
 same-all xs =
     let h = list_all-all (λ x. has x xs) xs (λ x is. is) in
-    all_of (list_all (λ x. has x xs) xs) (list_all (λ x. has x xs) xs) h h
+    and_from (list_all (λ x. has x xs) xs) (list_all (λ x. has x xs) xs) h h
 
 joins-fulfil : (nodes leaves : List NodeId) → leaves ≡ [] → fulfils (joins_alone nodes) nodes leaves ≡ true
 joins-fulfil nodes leaves e = rw (e, joined-all nodes, retired-none nodes)
-    (all_of (same_nodes (numbers nodes) (numbers nodes)) true (same-all (numbers nodes)) refl)
+    (and_from (same_nodes (numbers nodes) (numbers nodes)) true (same-all (numbers nodes)) refl)
 
 pub joins-make : (ring : RingValue) (change : Change) → IsChange ring change → change.leaves ≡ []
     → Makes ring change (joins_alone change.joins) no_claims
@@ -121,7 +121,7 @@ declared-below ring [] h = refl
 declared-below ring (x ∷ xs) h =
     let b = and_parts (may_join ring x) (list_all (may_join ring) xs) h in
     let d = and_parts (is_declared ring x) (not (is_member ring.nodes x)) b.0 in
-    all_of (is_declared ring x) (list_all (λ y. nat_lt y (length ring.nodes)) (numbers xs)) d.0 (declared-below ring xs b.1)
+    and_from (is_declared ring x) (list_all (λ y. nat_lt y (length ring.nodes)) (numbers xs)) d.0 (declared-below ring xs b.1)
 
 -- different nodes are no more than the ring declares
 pub joins-few : (ring : RingValue) (change : Change) → IsRing ring → IsChange ring change → length change.joins ≤ 131072

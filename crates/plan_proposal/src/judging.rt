@@ -59,7 +59,8 @@ pub fn judge(
     ensures proposed { IfOk result (λ v. IsProposed ring change.now v.items) }
     ensures refused { IfErr result (λ r. IsTurnedAway ring change.now r.refusal) }
     ensures same { IfErr result (λ r. r.ring ≡ ring) }
-    ensures memory { Makes ring change.now plan cert → IsCertified ring plan cert → IfErr result (λ r. r.refusal ≡ OutOfMemory) }
+    ensures memory { Makes ring change.now plan cert → IsCertified ring plan cert
+        → IfErr result (λ r. r.refusal ≡ OutOfMemory) }
 {
     // Every plan is well formed.
     let _ = plan.len();

@@ -6,6 +6,7 @@ use Rattle.std.proofs.lemmas.List.{drop_more, drop_all, reverse-reverse}
 use Rattle.std.proofs.lemmas.List.Folds.{list_all-append}
 use Rattle.ring_names.specs.declared.ids.NodeId.{NodeId}
 use Rattle.ring_names.specs.declared.ids.Slot.{Slot}
+use Rattle.ring_names.proofs.Logic.{and_false, and_true}
 use Rattle.ring_table.specs.Value.{RingValue}
 use Rattle.plan_text.specs.declared.step.Step.{Step}
 use Rattle.plan_text.specs.declared.step.Step.TheVariants.{Join, Mirror, Copy, Switch, Drop, Retire}
@@ -23,7 +24,7 @@ use Rattle.plan_stage.specs.Looking.Asked.{switches, is_settling, begins_before,
 use Rattle.plan_stage.proofs.Stages.{stage-more}
 use Rattle.plan_stage.proofs.Slots.{place, own_steps}
 use Rattle.plan_stage.proofs.Rising.{InFront, holdings-rise}
-use Rattle.plan_stage.proofs.Kept.{both-fail, and-true, all-reverse, left-kept, dropped-kept}
+use Rattle.plan_stage.proofs.Kept.{all-reverse, left-kept, dropped-kept}
 
 -- ---- numbers below n
 
@@ -31,7 +32,7 @@ pub below-more : (f : ℕ → Bool) (n : ℕ) → each_below n f ≡ true → f 
 below-more f n h here = rw (add-one, h, here) refl
 
 pub below-fails : (f : ℕ → Bool) (k m : ℕ) → f k ≡ false → each_below (m + suc k) f ≡ false
-below-fails f k zero h = (let z : 0 + suc k ≡ suc k = omega arith in rw (z, h) (both-fail (each_below k f)))
+below-fails f k zero h = (let z : 0 + suc k ≡ suc k = omega arith in rw (z, h) (and_false (each_below k f)))
 below-fails f k (suc m) h = (let s : suc m + suc k ≡ suc (m + suc k) = omega arith in rw (s, below-fails f k m h) refl)
 
 -- ---- the steps that begin holdings
@@ -71,7 +72,7 @@ begun ring plan slot x f (suc m) k e =
 -- ---- all of a node's holdings of a slot
 
 first-part : (b : Bool) (f : Holding → Bool) (h : Holding) → list_all f (cond b (h ∷ []) []) ≡ (not b || f h)
-first-part true f h = and-true (f h)
+first-part true f h = and_true (f h)
 first-part false f h = refl
 
 asked-all : (ring : RingValue) (plan : List Planned) (slot : Slot) (x : NodeId) (f : Holding → Bool) → list_all f (holdings ring plan slot x) ≡ ((not (owns_first ring slot x) || f (first_holding ring plan slot)) && list_all (asked ring plan slot x f) (steps_of plan slot))
@@ -102,7 +103,7 @@ two-tests false true c = refl
 two-tests false false c = refl
 
 no-mirror : (a b c : Bool) → b ≡ false → (not (a && b) || c) ≡ true
-no-mirror a b c e = rw (e, both-fail a) refl
+no-mirror a b c e = rw (e, and_false a) refl
 
 pub left-is : (ring : RingValue) (plan : List Planned) (O : Test) (t p i : ℕ) (x : NodeId) (h : Holdings) → AreHeld ring plan p h → i < ring.n → has_left_at O t h i x ≡ has_left_slot ring plan O t (record { partition = p; index = i }) x
 left-is ring plan O t p i x h held l =

@@ -31,7 +31,7 @@ few : (b : Bool) (k m : ℕ) (xs : List ℕ) → length xs ≤ m → length (con
 few true k m xs l = omega arith
 few false k m xs l = omega arith
 
-steps_from-few : (k : ℕ) (plan : List Planned) (slot : Slot) → length (steps_from k plan slot) ≤ length plan
+pub steps_from-few : (k : ℕ) (plan : List Planned) (slot : Slot) → length (steps_from k plan slot) ≤ length plan
 steps_from-few k [] slot = omega arith
 steps_from-few k (x ∷ xs) slot = (let l = few (is_on slot x.step) k (length xs) (steps_from (k + 1) xs slot) (steps_from-few (k + 1) xs slot) in omega (arith, l))
 

@@ -2,7 +2,7 @@
 use Rattle.std.proofs.Common.{◌≡◌, inl, inr, ℕ, suc, zero, ◌+◌, ◌<◌, true, false, not, List, [], ◌∷◌, ◌++◌, refl, sym, ap, arith, Option, Some, None}
 use Rattle.std.specs.Prelude.{◌==◌, nat_lt}
 use Rattle.std.specs.List.{list_all}
-use Rattle.std.proofs.lemmas.Bool.{eqb-true, ltb-true, and_parts}
+use Rattle.std.proofs.lemmas.Bool.{eqb-true, ltb-true, and_parts, not-true, or_right, or_left as first_of_two}
 use Rattle.ring_names.specs.Lists.{has, all_different}
 use Rattle.ring_names.specs.declared.ids.NodeId.{NodeId}
 use Rattle.ring_names.specs.declared.ids.Slot.{Slot}
@@ -18,14 +18,14 @@ use Rattle.plan_stage.specs.Occupancy.{is_node}
 use Rattle.plan_stage.specs.Holdings.{holdings, is_none}
 use Rattle.plan_stage.specs.Looking.Concerned.{is_concerned, AreConcerned}
 use Rattle.plan_stage.specs.Looking.Gathered.{IsGathered, HasSlot, HasRetirement}
-use Rattle.plan_stage.proofs.Truth.{first_of_two, second_of_two, same, not_is, node-is, slot-same}
+use Rattle.plan_stage.proofs.Truth.{same, node-is, slot-same}
 use Rattle.plan_stage.proofs.Holders.{has-step, mirror-node, held-by, holder-slot, told}
 
 -- ---- the retirement of a node
 
 has-behind : (x : ℕ) (xs ys : List ℕ) → has x ys ≡ true → has x (xs ++ ys) ≡ true
 has-behind x [] ys h = h
-has-behind x (z ∷ zs) ys h = second_of_two (x == z) (has x (zs ++ ys)) (has-behind x zs ys h)
+has-behind x (z ∷ zs) ys h = or_right (x == z) (has x (zs ++ ys)) (has-behind x zs ys h)
 
 has-retired : (plan : List Planned) (m : ℕ) (x : NodeId) → step_at plan m ≡ Some (Retire x) → has x.0 (retired plan) ≡ true
 has-retired [] m x at = absurd cc
@@ -48,7 +48,7 @@ not-before (Drop t y) x ys h is = refl
 not-before (Retire y) x ys h is = elim (told (x == y.0)) [
   | inl e ↦ absurd (
       let g : x ≡ y.0 = eqb-true x y.0 e in
-      let n : has y.0 ys ≡ false = not_is (has y.0 ys) (and_parts (not (has y.0 ys)) (all_different ys) h).0 in
+      let n : has y.0 ys ≡ false = not-true (has y.0 ys) (and_parts (not (has y.0 ys)) (all_different ys) h).0 in
       let i : has y.0 ys ≡ true = rw g at is in
       cc)
   | inr d ↦ d
@@ -72,7 +72,7 @@ retirement-at plan m x h at =
 
 -- ---- the slot of a step
 
-suits-at : (ring : RingValue) (plan : List Planned) → list_all (λ (x : Planned). step_suits ring x.step) plan ≡ true → (m : ℕ) (s : Step) → step_at plan m ≡ Some s → step_suits ring s ≡ true
+pub suits-at : (ring : RingValue) (plan : List Planned) → list_all (λ (x : Planned). step_suits ring x.step) plan ≡ true → (m : ℕ) (s : Step) → step_at plan m ≡ Some s → step_suits ring s ≡ true
 suits-at ring [] h m s at = absurd cc
 suits-at ring (x ∷ xs) h zero s at =
     let e : x.step ≡ s = cc in
@@ -87,7 +87,7 @@ on-itself p slot h = (let e : slot.partition ≡ p = eqb-true slot.partition p h
 
 -- ---- all that is concerned
 
-owner-is : (o : Option NodeId) (x : NodeId) → (elim o [ Some y ↦ is_node x y | None ↦ false ]) ≡ true → o ≡ Some x
+pub owner-is : (o : Option NodeId) (x : NodeId) → (elim o [ Some y ↦ is_node x y | None ↦ false ]) ≡ true → o ≡ Some x
 owner-is None x h = absurd cc
 owner-is (Some y) x h = ap Some (sym (node-is x y h))
 

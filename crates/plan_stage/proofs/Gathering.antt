@@ -1,27 +1,28 @@
 -- Lists of step numbers as they grow, and in order.
-use Rattle.std.proofs.Common.{◌≡◌, ◌⊎◌, inl, inr, ◌∙◌, ℕ, suc, ◌+◌, ◌<◌, Bool, true, false, cond, List, [], ◌∷◌, ◌++◌, length, refl, sym, ap, arith, below_more, Option, Some, None}
+use Rattle.std.proofs.Common.{◌≡◌, ◌⊎◌, inl, inr, ◌∙◌, ℕ, ◌+◌, ◌<◌, Bool, true, false, cond, List, [], ◌∷◌, ◌++◌, length, refl, sym, ap, arith, below_more, Option, Some, None}
 use Rattle.std.specs.Prelude.{◌||◌, ◌&&◌, ◌==◌, nat_lt, slice_get, option_map}
-use Rattle.std.specs.List.{list_all, list_any, dedup, dedup_from}
+use Rattle.std.specs.List.{list_all, dedup}
 use Rattle.std.proofs.lemmas.List.Folds.{list_all-append}
 use Rattle.std.proofs.lemmas.List.Kept.{IsStrictlySortedBy-dedup}
 use Rattle.std.proofs.lemmas.List.Sorted.{list_any-IsPermutation}
 use Rattle.std.proofs.lemmas.Cmp.{nat_cmp_total}
 use Rattle.std.specs.Cmp.{unsigned_ties}
-use Rattle.std.specs.declared.cmp.Ordering.TheVariants.{Less, Equal, Greater}
 use Rattle.std.specs.List.Sorted.{IsPermutation, IsSorted, IsStrictlySortedBy}
 use Rattle.texts.specs.Numbers.{ascending}
 use Rattle.std.specs.Ordering.{nat_cmp}
-use Rattle.std.proofs.lemmas.Bool.{eqb-true, lt-ltb}
+use Rattle.std.proofs.lemmas.Bool.{eqb-true, lt-ltb, or_right, and_from, or_cases, or_left}
 use Rattle.ring_names.specs.Lists.{has}
 use Rattle.ring_names.specs.declared.ids.NodeId.{NodeId}
 use Rattle.ring_names.specs.declared.ids.Slot.{Slot}
+use Rattle.ring_names.proofs.Logic.{plus_suc, first_less}
+use Rattle.ring_names.proofs.InLists.{has_any, has_dedup}
 use Rattle.ring_table.specs.Value.{RingValue}
 use Rattle.plan_text.specs.declared.step.Step.{Step}
 use Rattle.plan_text.specs.declared.step.Planned.{Planned}
 use Rattle.plan_text.specs.Steps.{is_on, steps_from, steps_of, is_retire_of, first_step, retirement_of}
 use Rattle.plan_stage.specs.Each.{slot_in}
 use Rattle.plan_stage.specs.Looking.Gathered.{mirrored_node, are_steps, Grows, HasRetirement, HasStep, HasSlot, IsGathered}
-use Rattle.plan_stage.proofs.Truth.{all_of, either, first_of_two, second_of_two, same, list_all-met, list_all-all}
+use Rattle.plan_stage.proofs.Truth.{same, list_all-met, list_all-all}
 
 -- ---- one more number
 
@@ -35,42 +36,20 @@ has-push x k (y ∷ ys) = rw (has-push x k ys) (swapped (x == y) (x == k) (has x
     swapped false b c = refl
 
 pub push-has : (k : ℕ) (old new : List ℕ) → new ≡ old ++ k ∷ [] → has k new ≡ true
-push-has k old new e = rw (e, has-push k k old) (first_of_two (k == k) (has k old) (same k))
+push-has k old new e = rw (e, has-push k k old) (or_left (k == k) (has k old) (same k))
 
 pub push-grows : (plan : List Planned) (k : ℕ) (old new : List ℕ) → k < length plan → new ≡ old ++ k ∷ [] → Grows plan old new
 push-grows plan k old new l e = record {
-  stay = λ n h. rw (e, has-push n k old) (second_of_two (n == k) (has n old) h);
-  steps = λ h. rw (e, list_all-append (λ (n : ℕ). nat_lt n (length plan)) old (k ∷ [])) (all_of (are_steps plan old) (nat_lt k (length plan) && true) h (rw (lt-ltb k (length plan) l) refl));
+  stay = λ n h. rw (e, has-push n k old) (or_right (n == k) (has n old) h);
+  steps = λ h. rw (e, list_all-append (λ (n : ℕ). nat_lt n (length plan)) old (k ∷ [])) (and_from (are_steps plan old) (nat_lt k (length plan) && true) h (rw (lt-ltb k (length plan) l) refl));
 }
 
 -- ---- the same numbers, in order
 
-has-any : (x : ℕ) (ks : List ℕ) → has x ks ≡ list_any (λ y. x == y) ks
-has-any x [] = refl
-has-any x (k ∷ ks) = rw (has-any x ks) refl
-
--- a number that is told from the last one kept, or is the same
-deduped : (b : Bool) (x k y : ℕ) (ys : List ℕ) → (b ≡ true → y ≡ k) → has x (dedup_from (λ (n m : ℕ). n == m) k ys) ≡ has x (k ∷ ys)
-    → has x (dedup_from (λ (n m : ℕ). n == m) y ys) ≡ has x (y ∷ ys) → has x (cond b (dedup_from (λ (n m : ℕ). n == m) k ys) (k ∷ dedup_from (λ (n m : ℕ). n == m) y ys)) ≡ has x (k ∷ y ∷ ys)
-deduped true x k y ys is here there = rw (is refl) (here ∙ twice (x == k) (has x ys))
-  where
-    twice : (a b : Bool) → (a || b) ≡ (a || (a || b))
-    twice true b = refl
-    twice false b = refl
-deduped false x k y ys is here there = rw there refl
-
-has-dedup_from : (x k : ℕ) (ys : List ℕ) → has x (dedup_from (λ (n m : ℕ). n == m) k ys) ≡ has x (k ∷ ys)
-has-dedup_from x k [] = refl
-has-dedup_from x k (y ∷ ys) = deduped (y == k) x k y ys (eqb-true y k) (has-dedup_from x k ys) (has-dedup_from x y ys)
-
-has-dedup : (x : ℕ) (ys : List ℕ) → has x (dedup (λ (n m : ℕ). n == m) ys) ≡ has x ys
-has-dedup x [] = refl
-has-dedup x (y ∷ ys) = has-dedup_from x y ys
-
 -- what is sorted, and then has no number twice, has the numbers that it had
 pub has-ordered : (x : ℕ) (old sorted new : List ℕ) → IsPermutation old sorted → new ≡ dedup (λ (n m : ℕ). n == m) sorted → has x new ≡ has x old
 has-ordered x old sorted new p e =
-    ap (has x) e ∙ has-dedup x sorted ∙ has-any x sorted ∙ sym (list_any-IsPermutation (λ (y : ℕ). x == y) old sorted p) ∙ sym (has-any x old)
+    ap (has x) e ∙ has_dedup x sorted ∙ has_any x sorted ∙ sym (list_any-IsPermutation (λ (y : ℕ). x == y) old sorted p) ∙ sym (has_any x old)
 
 grows-alike : (plan : List Planned) (old new : List ℕ) → ((n : ℕ) → has n new ≡ has n old) → Grows plan old new
 grows-alike plan old new e = record {
@@ -94,9 +73,6 @@ step-stays plan n old new g h = record { here = λ s at is. g.stay n (h.here s a
 
 -- ---- the numbers of steps
 
-next_number : (k n : ℕ) → k + 1 + n ≡ k + suc n
-next_number k n = omega arith
-
 found-within : (b : Bool) (k m n : ℕ) (o : Option ℕ) → cond b (Some k) o ≡ Some n → k < m → (o ≡ Some n → n < m) → n < m
 found-within true k m n o h l there = (let e : k ≡ n = cc in omega arith)
 found-within false k m n o h l there = there h
@@ -114,7 +90,7 @@ retirement-within plan x n h =
     rw z at (first_step-within (is_retire_of x) 0 n plan h)
 
 listed-within : (b : Bool) (k m : ℕ) (ks : List ℕ) → nat_lt k m ≡ true → list_all (λ n. nat_lt n m) ks ≡ true → list_all (λ n. nat_lt n m) (cond b (k ∷ ks) ks) ≡ true
-listed-within true k m ks l h = all_of (nat_lt k m) (list_all (λ n. nat_lt n m) ks) l h
+listed-within true k m ks l h = and_from (nat_lt k m) (list_all (λ n. nat_lt n m) ks) l h
 listed-within false k m ks l h = h
 
 steps_from-within : (k m : ℕ) (plan : List Planned) (slot : Slot) → k + length plan ≡ m → list_all (λ n. nat_lt n m) (steps_from k plan slot) ≡ true
@@ -159,7 +135,7 @@ one-taken plan all later old new k t g here = λ n is. by n (t n is)
     first n (inr there) = inl there
 
     by : (n : ℕ) → (has n (k ∷ later) ≡ true) ⊎ HasStep plan n old → (has n later ≡ true) ⊎ HasStep plan n new
-    by n (inl left) = first n (either (n == k) (has n later) left)
+    by n (inl left) = first n (or_cases (n == k) (has n later) left)
     by n (inr done) = inr (step-stays plan n old new g done)
 
 pub all-taken : (plan : List Planned) (all rest numbers : List ℕ) → TakenOr plan all rest numbers → rest ≡ [] → (n : ℕ) → has n all ≡ true → HasStep plan n numbers
@@ -181,17 +157,12 @@ owner-has plan o y x numbers e f h = (let same_node : x ≡ y = cc in rw same_no
 
 -- ---- in order
 
-ordered : (b c : Bool) → cond b Less (cond c Equal Greater) ≡ Less → b ≡ true
-ordered true c h = refl
-ordered false true h = absurd cc
-ordered false false h = absurd cc
-
 -- each number is below those after it
 sorted-ascends : (xs : List ℕ) → IsStrictlySortedBy nat_cmp xs → ascending xs ≡ true
 unfolding IsStrictlySortedBy
 sorted-ascends [] h = refl
 sorted-ascends (x ∷ []) h = refl
-sorted-ascends (x ∷ y ∷ ys) h = all_of (nat_lt x y) (ascending (y ∷ ys)) (ordered (nat_lt x y) (x == y) h.0.0) (sorted-ascends (y ∷ ys) h.1)
+sorted-ascends (x ∷ y ∷ ys) h = and_from (nat_lt x y) (ascending (y ∷ ys)) (first_less (nat_lt x y) (x == y) h.0.0) (sorted-ascends (y ∷ ys) h.1)
 
 -- so does what is sorted, and then has no number twice
 pub ordered-ascends : (sorted new : List ℕ) → IsSorted nat_cmp sorted → new ≡ dedup (λ (n m : ℕ). n == m) sorted → ascending new ≡ true

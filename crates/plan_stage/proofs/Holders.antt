@@ -1,7 +1,7 @@
 -- Which nodes hold some slot, by its first owner and its mirrors.
 use Rattle.std.proofs.Common.{◌≡◌, ◌⊎◌, inl, inr, ℕ, suc, zero, ◌+◌, ◌<◌, Bool, true, false, not, cond, List, [], ◌∷◌, ◌++◌, refl, sym, ap, arith, Option, Some, None}
 use Rattle.std.specs.Prelude.{◌&&◌, ◌==◌}
-use Rattle.std.proofs.lemmas.Bool.{eqb-true, and_parts}
+use Rattle.std.proofs.lemmas.Bool.{eqb-true, and_parts, not-true, or_right, or_cases as either, or_left}
 use Rattle.ring_names.specs.Lists.{has}
 use Rattle.ring_names.specs.declared.ids.NodeId.{NodeId}
 use Rattle.ring_names.specs.declared.ids.Slot.{Slot}
@@ -17,7 +17,7 @@ use Rattle.plan_stage.specs.Occupancy.{is_node}
 use Rattle.plan_stage.specs.Each.{step_at, each_below, is_mirror_of, owns_first}
 use Rattle.plan_stage.specs.Holdings.{holdings_from, first_holding, holdings, is_none, is_holder}
 use Rattle.plan_stage.specs.Looking.Gathered.{mirrored_node}
-use Rattle.plan_stage.proofs.Truth.{either, first_of_two, second_of_two, same, each_below-met, node-is}
+use Rattle.plan_stage.proofs.Truth.{same, each_below-met, node-is}
 
 pub told : (b : Bool) → (b ≡ true) ⊎ (b ≡ false)
 told true = inl refl
@@ -42,13 +42,13 @@ mirror-node slot x (Drop t y) h = absurd cc
 mirror-node slot x (Retire y) h = absurd cc
 
 has-first : (b : Bool) (k : ℕ) (ks : List ℕ) → b ≡ true → has k (cond b (k ∷ ks) ks) ≡ true
-has-first b k ks h = rw h (first_of_two (k == k) (has k ks) (same k))
+has-first b k ks h = rw h (or_left (k == k) (has k ks) (same k))
 
 has-later : (b : Bool) (k n : ℕ) (ks : List ℕ) → has n ks ≡ true → has n (cond b (k ∷ ks) ks) ≡ true
-has-later true k n ks h = second_of_two (n == k) (has n ks) h
+has-later true k n ks h = or_right (n == k) (has n ks) h
 has-later false k n ks h = h
 
-has-from : (k m : ℕ) (plan : List Planned) (slot : Slot) (s : Step) → step_at plan m ≡ Some s → is_on slot s ≡ true → has (k + m) (steps_from k plan slot) ≡ true
+pub has-from : (k m : ℕ) (plan : List Planned) (slot : Slot) (s : Step) → step_at plan m ≡ Some s → is_on slot s ≡ true → has (k + m) (steps_from k plan slot) ≡ true
 has-from k m [] slot s at on = absurd cc
 has-from k zero (x ∷ xs) slot s at on =
     let e : x.step ≡ s = cc in
@@ -79,10 +79,10 @@ tests slot x o = elim o [ Some s ↦ is_mirror_of slot x s | None ↦ false ]
 
 tested : (plan : List Planned) (slot : Slot) (x : NodeId) (b : ℕ) (bs : List ℕ) (o : Option Step) → step_at plan b ≡ o → tests slot x o ≡ true → Mirrors plan slot x (b ∷ bs)
 tested plan slot x b bs None at h = absurd cc
-tested plan slot x b bs (Some s) at h = record { number = b; step = s; listed = first_of_two (b == b) (has b bs) (same b); here = at; mirrors = h }
+tested plan slot x b bs (Some s) at h = record { number = b; step = s; listed = or_left (b == b) (has b bs) (same b); here = at; mirrors = h }
 
 mirrors-later : (plan : List Planned) (slot : Slot) (x : NodeId) (b : ℕ) (bs : List ℕ) → Mirrors plan slot x bs → Mirrors plan slot x (b ∷ bs)
-mirrors-later plan slot x b bs m = record { number = m.number; step = m.step; listed = second_of_two (m.number == b) (has m.number bs) m.listed; here = m.here; mirrors = m.mirrors }
+mirrors-later plan slot x b bs m = record { number = m.number; step = m.step; listed = or_right (m.number == b) (has m.number bs) m.listed; here = m.here; mirrors = m.mirrors }
 
 either_way : (b : Bool) (h : Holding) (hs : List Holding) → is_none (cond b (h ∷ hs) hs) ≡ false → (b ≡ true) ⊎ (is_none hs ≡ false)
 either_way true h hs e = inl refl
@@ -155,10 +155,6 @@ some_below f (suc n) h = elim (told (f n)) [
     first_false true b h k = absurd cc
     first_false false b h k = refl
 
-not_true : (b : Bool) → not b ≡ true → b ≡ false
-not_true true e = absurd cc
-not_true false e = refl
-
 not_false : (b : Bool) → not b ≡ false → b ≡ true
 not_false true e = refl
 not_false false e = absurd cc
@@ -167,7 +163,7 @@ abbrev empty_at : RingValue → List Planned → ℕ → NodeId → ℕ → Bool
 empty_at ring plan p x i = is_none (holdings ring plan (record { partition = p; index = i }) x)
 
 pub holder-slot : (ring : RingValue) (plan : List Planned) (p : ℕ) (x : NodeId) → is_holder ring plan p x ≡ true → (i : ℕ) × (i < ring.n) × (is_none (holdings ring plan (record { partition = p; index = i }) x) ≡ false)
-holder-slot ring plan p x h = some_below (empty_at ring plan p x) ring.n (not_true (each_below ring.n (empty_at ring plan p x)) h)
+holder-slot ring plan p x h = some_below (empty_at ring plan p x) ring.n (not-true (each_below ring.n (empty_at ring plan p x)) h)
 
 pub no-holder : (ring : RingValue) (plan : List Planned) (p : ℕ) (x : NodeId) → is_holder ring plan p x ≡ false → (i : ℕ) → i < ring.n → IsFree ring plan (record { partition = p; index = i }) x
 no-holder ring plan p x h i l =

@@ -1,15 +1,15 @@
 -- The one step that joins a node.
 use Rattle.std.proofs.Common.{◌≡◌, ℕ, ◌+◌, Bool, true, false, cond, List, [], ◌∷◌, ◌++◌, Option, Some, None, refl, sym, ◌∙◌}
 use Rattle.std.specs.Prelude.{not, ◌&&◌, ◌||◌}
-use Rattle.std.proofs.lemmas.Bool.{eqb-true, and_parts}
+use Rattle.std.proofs.lemmas.Bool.{eqb-true, and_parts, or_parts, not-true}
 use Rattle.ring_names.specs.Lists.{has, all_different}
+use Rattle.ring_names.proofs.Logic.{or_false}
 use Rattle.plan_text.specs.declared.step.Step.{Step}
 use Rattle.plan_text.specs.declared.step.Step.TheVariants.{Join, Mirror, Copy, Switch, Drop, Retire}
 use Rattle.plan_text.specs.declared.step.Planned.{Planned}
 use Rattle.plan_text.specs.Steps.{joins, joined, is_join_of, first_step, join_of}
 use Rattle.plan_stage.specs.Each.{some_step}
 use Rattle.plan_stage.specs.Partition.{Test}
-use Rattle.plan_stage.proofs.Truth.{not_is}
 
 -- the first step that joins the node, if there is one, comes before step t
 abbrev pub comes_before : Test → Option ℕ → ℕ → Bool
@@ -36,26 +36,18 @@ behind (Retire y) rest h = h
 once : (x : ℕ) (s : Step) (rest : List ℕ) → all_different (joins s ++ rest) ≡ true → is_join_of x s ≡ true → has x rest ≡ false
 once x (Join y) rest h is =
     let e : x ≡ y.0 = eqb-true x y.0 is in
-    rw e (not_is (has y.0 rest) (and_parts (not (has y.0 rest)) (all_different rest) h).0)
+    rw e (not-true (has y.0 rest) (and_parts (not (has y.0 rest)) (all_different rest) h).0)
 once x (Mirror t y) rest h is = absurd cc
 once x (Copy t from) rest h is = absurd cc
 once x (Switch t) rest h is = absurd cc
 once x (Drop t y) rest h is = absurd cc
 once x (Retire y) rest h is = absurd cc
 
-neither : (a b : Bool) → (a || b) ≡ false → (a ≡ false) × (b ≡ false)
-neither true b h = absurd cc
-neither false b h = (refl, h)
-
 none_joins : (O : Test) (x t n : ℕ) (plan : List Planned) → has x (joined plan) ≡ false → some_step (λ j s. is_join_of x s && O j t) n plan ≡ false
 none_joins O x t n [] h = refl
 none_joins O x t n (p ∷ ps) h =
-    let two = neither (is_join_of x p.step) (has x (joined ps)) (sym (in_front x p.step (joined ps)) ∙ h) in
+    let two = or_parts (is_join_of x p.step) (has x (joined ps)) (sym (in_front x p.step (joined ps)) ∙ h) in
     rw (two.0, none_joins O x t (n + 1) ps two.1) refl
-
-or_false : (b : Bool) → (b || false) ≡ b
-or_false true = refl
-or_false false = refl
 
 step_by : (b o r : Bool) (n t : ℕ) (O : Test) (later : Option ℕ) → o ≡ O n t → (b ≡ true → r ≡ false) → (b ≡ false → r ≡ comes_before O later t) → ((b && o) || r) ≡ comes_before O (cond b (Some n) later) t
 step_by true o r n t O later is none rest = rw (none refl) (or_false o ∙ is)

@@ -6,6 +6,7 @@ use Rattle.std.proofs.lemmas.List.{reverse-append}
 use Rattle.std.proofs.lemmas.List.Folds.{list_all-append}
 use Rattle.std.proofs.lemmas.Bool.{and_parts}
 use Rattle.ring_names.specs.declared.ids.NodeId.{NodeId}
+use Rattle.ring_names.proofs.Logic.{and_false, and_true}
 use Rattle.plan_stage.specs.declared.held.Held.{Held}
 use Rattle.plan_stage.specs.declared.holding.Holding.{Holding}
 use Rattle.plan_stage.specs.Partition.{Test}
@@ -15,24 +16,16 @@ use Rattle.plan_stage.proofs.Rising.{InFront, all-until}
 
 -- ---- tests over lists
 
-pub both-fail : (a : Bool) → (a && false) ≡ false
-both-fail true = refl
-both-fail false = refl
-
-pub and-true : (a : Bool) → (a && true) ≡ a
-and-true true = refl
-and-true false = refl
-
 and-turn : (a b : Bool) → (a && b) ≡ (b && a)
-and-turn true b = sym (and-true b)
-and-turn false b = sym (both-fail b)
+and-turn true b = sym (and_true b)
+and-turn false b = sym (and_false b)
 
 pub all-reverse : (f : Holding → Bool) (xs : List Holding) → list_all f (reverse xs) ≡ list_all f xs
 all-reverse f [] = refl
 all-reverse f (x ∷ xs) =
     let r : reverse (x ∷ xs) ≡ reverse xs ++ x ∷ [] = reverse-append (x ∷ []) xs in
     ap (list_all f) r ∙ list_all-append f (reverse xs) (x ∷ []) ∙ and-turn (list_all f (reverse xs)) (f x && true)
-    ∙ (rw (and-true (f x), all-reverse f xs) refl)
+    ∙ (rw (and_true (f x), all-reverse f xs) refl)
 
 -- ---- the holdings that are kept
 

@@ -1,9 +1,10 @@
 -- In a slot whose steps fit, a node leaves at a switch, and which one is known from the switches alone.
 use Rattle.std.proofs.Common.{◌≡◌, ◌∙◌, ℕ, Bool, true, false, not, cond, List, [], ◌∷◌, Option, Some, None, refl, sym, ap, subst}
 use Rattle.std.specs.Prelude.{◌==◌, ◌&&◌, slice_get, option_map, unwrap_or, is_some}
-use Rattle.std.proofs.lemmas.Bool.{and_parts}
+use Rattle.std.proofs.lemmas.Bool.{and_parts, not-true}
 use Rattle.ring_names.specs.declared.ids.NodeId.{NodeId}
 use Rattle.ring_names.specs.declared.ids.Slot.{Slot}
+use Rattle.ring_names.proofs.Logic.{and_not}
 use Rattle.plan_text.specs.declared.step.Step.{Step}
 use Rattle.plan_text.specs.declared.step.Step.TheVariants.{Join, Mirror, Copy, Switch, Drop, Retire}
 use Rattle.plan_text.specs.declared.step.Planned.{Planned}
@@ -15,13 +16,13 @@ use Rattle.plan_stage.specs.Each.{is_switch_of, passes}
 use Rattle.plan_stage.specs.Looking.Switches.{next_switch, second_switch}
 use Rattle.plan_stage.proofs.Places.{Acts, step_at-is}
 use Rattle.plan_stage.proofs.Stages.{after-next}
-use Rattle.plan_stage.proofs.Truth.{not_is, node-is, node-same}
+use Rattle.plan_stage.proofs.Truth.{node-is, node-same}
 
 -- the mirror is another node than the owner
 abbrev pub IsApart : Stage → Type 0
 IsApart a = (m : NodeId) → a.mirror ≡ Some m → is_node m a.owner ≡ false
 
-some_is : (x y : NodeId) → Some x ≡ Some y → x ≡ y
+pub some_is : (x y : NodeId) → Some x ≡ Some y → x ≡ y
 some_is x y e = cc
 
 pub apart-next : (a : Stage) (t : Step) → fits a t ≡ true → IsApart a → IsApart (next a t)
@@ -29,7 +30,7 @@ apart-next a (Join y) h g = absurd cc
 apart-next a (Mirror slot y) h g = λ m e. (
     let f = and_parts (not (is_some a.mirror) && not (y.0 == a.owner.0)) (not (is_among y a.leftovers)) h in
     let o = and_parts (not (is_some a.mirror)) (not (y.0 == a.owner.0)) f.0 in
-    subst (λ (z : NodeId). is_node z a.owner ≡ false) (some_is y m e) (not_is (y.0 == a.owner.0) o.1))
+    subst (λ (z : NodeId). is_node z a.owner ≡ false) (some_is y m e) (not-true (y.0 == a.owner.0) o.1))
 apart-next a (Copy slot from) h g = g
 apart-next a (Switch slot) h g = λ m e. absurd cc
 apart-next a (Drop slot y) h g = g
@@ -43,10 +44,6 @@ passes-is test plan b x e =
 
 pub after-is : (plan : List Planned) (a : Stage) (b : ℕ) (x : Planned) → slice_get plan b ≡ Some x → after plan a b ≡ next a x.step
 after-is plan a b x e = after-next plan a b x.step (ap (λ (o : Option Planned). option_map (λ (z : Planned). z.step) o) e)
-
-stays : (b : Bool) → (b && not b) ≡ false
-stays true = refl
-stays false = refl
 
 out : (b c : Bool) → b ≡ false → (b && c) ≡ false
 out b c e = rw e refl
@@ -71,12 +68,12 @@ owner-step : (plan : List Planned) (slot : Slot) (a : Stage) (b : ℕ) (bs : Lis
     → ((next a t).owner ≡ a.owner → leaving plan a.owner (next a t) bs ≡ next_switch plan slot bs)
     → cond (is_node a.owner a.owner && not (is_node a.owner (next a t).owner)) (Some b) (leaving plan a.owner (next a t) bs) ≡ cond (is_switch_of slot t) (Some b) (next_switch plan slot bs)
 owner-step plan slot a b bs (Join y) on h g more = absurd cc
-owner-step plan slot a b bs (Mirror s y) on h g more = rw (stays (is_node a.owner a.owner)) (more refl)
-owner-step plan slot a b bs (Copy s from) on h g more = rw (stays (is_node a.owner a.owner)) (more refl)
+owner-step plan slot a b bs (Mirror s y) on h g more = rw (and_not (is_node a.owner a.owner)) (more refl)
+owner-step plan slot a b bs (Copy s from) on h g more = rw (and_not (is_node a.owner a.owner)) (more refl)
 owner-step plan slot a b bs (Switch s) on h g more =
     let f = and_parts (is_some a.mirror) a.copied h in
     rw (both (is_node a.owner a.owner) (is_node a.owner (unwrap_or a.mirror a.owner)) (node-same a.owner) (to_another a a.mirror f.0 g), on) refl
-owner-step plan slot a b bs (Drop s y) on h g more = rw (stays (is_node a.owner a.owner)) (more refl)
+owner-step plan slot a b bs (Drop s y) on h g more = rw (and_not (is_node a.owner a.owner)) (more refl)
 owner-step plan slot a b bs (Retire y) on h g more = absurd cc
 
 pub leaving-owner : (plan : List Planned) (slot : Slot) (x : NodeId) (a : Stage) (bs : List ℕ) → Acts plan slot a bs → IsApart a → a.owner ≡ x → leaving plan x a bs ≡ next_switch plan slot bs

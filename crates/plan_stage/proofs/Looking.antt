@@ -2,11 +2,12 @@
 use Rattle.std.proofs.Common.{◌≡◌, ◌⊎◌, inl, inr, ◌∙◌, ℕ, suc, ◌+◌, ◌<◌, ◌≤◌, ◌≢◌, Bool, true, false, not, List, [], ◌∷◌, ◌++◌, length, refl, sym, ap, arith, Option, Some, None}
 use Rattle.std.specs.Prelude.{◌||◌, ◌&&◌, ◌==◌, nat_lt}
 use Rattle.std.specs.List.{list_all}
-use Rattle.std.proofs.lemmas.Bool.{eqb-true, ltb-true, and_parts}
+use Rattle.std.proofs.lemmas.Bool.{eqb-true, ltb-true, and_parts, or_right, and_from, or_cases as either, or_left}
 use Rattle.ring_names.specs.Lists.{has}
 use Rattle.ring_names.specs.declared.ids.NodeId.{NodeId}
 use Rattle.ring_names.specs.declared.ids.Slot.{Slot}
 use Rattle.ring_names.specs.declared.refusal.Refusal.{Refusal}
+use Rattle.ring_names.proofs.Logic.{plus_suc}
 use Rattle.ring_table.specs.Value.{RingValue}
 use Rattle.plan_text.specs.declared.step.Step.{Step}
 use Rattle.plan_text.specs.declared.step.Step.TheVariants.{Join, Mirror, Copy, Switch, Drop, Retire}
@@ -21,9 +22,9 @@ use Rattle.plan_stage.specs.Holdings.{is_holder}
 use Rattle.plan_stage.specs.Looking.Concerned.{is_concerned, AreConcerned}
 use Rattle.plan_stage.specs.Looking.Looked.{clauses_at, clauses_of}
 use Rattle.plan_stage.proofs.Below.{first-then, first-kept}
-use Rattle.plan_stage.proofs.Truth.{all_of, either, first_of_two, second_of_two, same, if_asked, each-all, each_below-all, list_all-met}
-use Rattle.plan_stage.proofs.Rising.{ascends-later}
+use Rattle.plan_stage.proofs.Truth.{same, if_asked, each-all, each_below-all, list_all-met}
 use Rattle.plan_stage.proofs.Holders.{told, IsFree, no-holder}
+use Rattle.plan_text.proofs.Searched.{ascends-tail}
 
 -- ---- in general
 
@@ -49,13 +50,10 @@ pub record Covers (f : ℕ → Step → List Guard) (k : ℕ) (plan : List Plann
   pub high : (j : ℕ) → has j numbers ≡ true → j < k + length plan
   pub others : (m : ℕ) (s : Step) → step_at plan m ≡ Some s → has (k + m) numbers ≡ false → first_failing (f (k + m) s) ≡ None
 
-later_number : (k m : ℕ) → k + 1 + m ≡ k + suc m
-later_number k m = omega arith
-
 nothing-left : (f : ℕ → Step → List Guard) (plan : List Planned) (k : ℕ) (numbers : List ℕ) → Covers f k [] numbers → first_failing (clauses_of f plan numbers) ≡ None
 nothing-left f plan k [] c = refl
 nothing-left f plan k (n ∷ ns) c =
-    let is = first_of_two (n == n) (has n ns) (same n) in
+    let is = or_left (n == n) (has n ns) (same n) in
     let l : k ≤ n = c.low n is in
     let h : n < k + 0 = c.high n is in
     absurd (omega arith)
@@ -66,7 +64,7 @@ skipped f k x xs numbers c out = record {
   ascending = c.ascending;
   low = λ j is. above j is (told (j == k));
   high = λ j is. (let l : j < k + length (x ∷ xs) = c.high j is in omega arith);
-  others = λ m s at no. rw (later_number k m) (c.others (suc m) s at (rw (later_number k m) at no));
+  others = λ m s at no. rw (plus_suc k m) (c.others (suc m) s at (rw (plus_suc k m) at no));
 }
   where
     above : (j : ℕ) → has j numbers ≡ true → ((j == k) ≡ true) ⊎ ((j == k) ≡ false) → k + 1 ≤ j
@@ -76,10 +74,10 @@ skipped f k x xs numbers c out = record {
 -- the first number is taken
 taken : (f : ℕ → Step → List Guard) (k : ℕ) (x : Planned) (xs : List Planned) (ns : List ℕ) → Covers f k (x ∷ xs) (k ∷ ns) → Covers f (k + 1) xs ns
 taken f k x xs ns c = record {
-  ascending = ascends-later k ns c.ascending;
+  ascending = ascends-tail k ns c.ascending;
   low = λ j is. (let l : k < j = ascends-below k ns c.ascending j is in omega arith);
-  high = λ j is. (let l : j < k + length (x ∷ xs) = c.high j (second_of_two (j == k) (has j ns) is) in omega arith);
-  others = λ m s at no. rw (later_number k m) (c.others (suc m) s at (neither (k + suc m == k) (has (k + suc m) ns) (differs k m) (rw (later_number k m) at no)));
+  high = λ j is. (let l : j < k + length (x ∷ xs) = c.high j (or_right (j == k) (has j ns) is) in omega arith);
+  others = λ m s at no. rw (plus_suc k m) (c.others (suc m) s at (neither (k + suc m == k) (has (k + suc m) ns) (differs k m) (rw (plus_suc k m) at no)));
 }
   where
     neither : (a b : Bool) → a ≡ false → b ≡ false → (a || b) ≡ false
@@ -95,7 +93,7 @@ leads k (n ∷ ns) h low is = elim (either (k == n) (has k ns) is) [
   | inl here ↦ (ns, (let e : k ≡ n = eqb-true k n here in rw e refl))
   | inr there ↦ absurd (
       let l : n < k = ascends-below n ns h k there in
-      let g : k ≤ n = low n (first_of_two (n == n) (has n ns) (same n)) in
+      let g : k ≤ n = low n (or_left (n == n) (has n ns) (same n)) in
       omega arith)
 ]
 
@@ -103,7 +101,7 @@ from : (f : ℕ → Step → List Guard) (plan : List Planned) (k : ℕ) (xs : L
 from f plan k [] numbers tail c = nothing-left f plan k numbers c
 from f plan k (x ∷ xs) numbers tail c =
     let z : k + 0 ≡ k = omega arith in
-    let next : (m : ℕ) → step_at plan (k + 1 + m) ≡ step_at xs m = λ m. rw (later_number k m) (tail (suc m)) in
+    let next : (m : ℕ) → step_at plan (k + 1 + m) ≡ step_at xs m = λ m. rw (plus_suc k m) (tail (suc m)) in
     elim (told (has k numbers)) [
       | inl is ↦ (
           let r = leads k numbers c.ascending c.low is in
@@ -145,7 +143,7 @@ dropped-all ring plan O p t x none = each_below-all (dropped_at ring plan O p t 
   where
     at_slot : (j : ℕ) → IsFree ring plan (slot_in p j) x → dropped_at ring plan O p t x j ≡ true
     at_slot j free =
-        all_of (first_dropped ring plan O t (slot_in p j) x) (each_step (later_dropped plan O t (slot_in p j) x) 0 plan)
+        and_from (first_dropped ring plan O t (slot_in p j) x) (each_step (later_dropped plan O t (slot_in p j) x) 0 plan)
         (if_asked (owns_first ring (slot_in p j) x) (ends_before O (first_drop ring plan (slot_in p j)) t) (λ h. absurd (let f = free.owns in cc)))
         (each-all (later_dropped plan O t (slot_in p j) x) plan (λ b u at. if_asked (is_mirror_of (slot_in p j) x u) (ends_before O (mirror_drop plan (slot_in p j) (place_in plan (slot_in p j) b) x) t) (λ h. absurd (let f = free.mirrors b u at in cc))))
 

@@ -2,7 +2,7 @@
 use Rattle.std.proofs.Common.{◌≡◌, ℕ, ◌+◌, ◌<◌, ◌≤◌, Bool, true, false, not, cond, List, [], ◌∷◌, ◌++◌, Some, None, refl, arith}
 use Rattle.std.specs.Prelude.{◌&&◌, ◌||◌, nat_lt}
 use Rattle.std.specs.List.{list_all, take_while}
-use Rattle.std.proofs.lemmas.Bool.{lt-ltb, ltb-true, and_parts}
+use Rattle.std.proofs.lemmas.Bool.{lt-ltb, ltb-true, and_parts, le-ltb}
 use Rattle.std.proofs.lemmas.Bool.Decides.{nat_tests}
 use Rattle.std.proofs.lemmas.List.Sums.{take_while-cons}
 use Rattle.ring_names.specs.declared.ids.NodeId.{NodeId}
@@ -18,6 +18,7 @@ use Rattle.plan_stage.specs.Occupancy.{leaving, dropping}
 use Rattle.plan_stage.specs.Each.{step_at, is_mirror_of, owns_first}
 use Rattle.plan_stage.specs.Holdings.{holdings_from, first_holding, holdings}
 use Rattle.plan_stage.specs.Looking.Asked.{begins_before}
+use Rattle.plan_text.proofs.Searched.{ascends-tail}
 
 -- ---- a test that fails from some holding on
 
@@ -50,10 +51,6 @@ ascends-from k (x ∷ xs) slot j l = by (is_on slot x.step) (ascends-from (k + 1
     by true here there = rw (lt-ltb j k l, here) refl
     by false here there = there
 
-pub ascends-later : (j : ℕ) (ns : List ℕ) → ascending (j ∷ ns) ≡ true → ascending ns ≡ true
-ascends-later j [] h = refl
-ascends-later j (n ∷ ns) h = (and_parts (nat_lt j n) (ascending (n ∷ ns)) h).1
-
 steps-ascend : (plan : List Planned) (slot : Slot) → ascending (steps_of plan slot) ≡ true
 steps-ascend [] slot = refl
 steps-ascend (x ∷ xs) slot = by (is_on slot x.step)
@@ -63,12 +60,9 @@ steps-ascend (x ∷ xs) slot = by (is_on slot x.step)
 
     by : (b : Bool) → ascending (cond b (0 ∷ steps_from (0 + 1) xs slot) (steps_from (0 + 1) xs slot)) ≡ true
     by true = ascends-from (0 + 1) xs slot 0 (omega arith)
-    by false = ascends-later 0 (steps_from (0 + 1) xs slot) (ascends-from (0 + 1) xs slot 0 (omega arith))
+    by false = ascends-tail 0 (steps_from (0 + 1) xs slot) (ascends-from (0 + 1) xs slot 0 (omega arith))
 
 -- ---- so do the steps that begin holdings
-
-late : (b t : ℕ) → t ≤ b → nat_lt b t ≡ false
-late b t l = grind (arith, nat_tests)
 
 not_early : (b t : ℕ) → nat_lt b t ≡ false → t ≤ b
 not_early b t h = grind (arith, nat_tests)
@@ -80,7 +74,7 @@ none-before plan slot x t a b (c ∷ cs) l up =
     let p = and_parts (nat_lt b c) (ascending (c ∷ cs)) up in
     let more : b < c = ltb-true b c p.0 in
     let far : t ≤ c = omega arith in
-    by (elim (step_at plan c) [ Some s ↦ is_mirror_of slot x s | None ↦ false ]) (late c t far) (none-before plan slot x t (after plan a c) c cs far p.1)
+    by (elim (step_at plan c) [ Some s ↦ is_mirror_of slot x s | None ↦ false ]) (le-ltb c t far) (none-before plan slot x t (after plan a c) c cs far p.1)
   where
     by : (v : Bool) → nat_lt c t ≡ false → list_all (λ k. not (begins_before t k)) (holdings_from plan slot x (after plan a c) cs) ≡ true
         → list_all (λ k. not (begins_before t k)) (cond v (record { begin = Some c; end = leaving plan x (after plan a c) cs; drop = dropping plan x slot cs } ∷ holdings_from plan slot x (after plan a c) cs) (holdings_from plan slot x (after plan a c) cs)) ≡ true
@@ -90,7 +84,7 @@ none-before plan slot x t a b (c ∷ cs) l up =
 rise-from : (plan : List Planned) (slot : Slot) (x : NodeId) (t : ℕ) (a : Stage) (bs : List ℕ) → ascending bs ≡ true → InFront (begins_before t) (holdings_from plan slot x a bs)
 rise-from plan slot x t a [] up = tt
 rise-from plan slot x t a (b ∷ bs) up =
-    by (elim (step_at plan b) [ Some s ↦ is_mirror_of slot x s | None ↦ false ]) (rise-from plan slot x t (after plan a b) bs (ascends-later b bs up))
+    by (elim (step_at plan b) [ Some s ↦ is_mirror_of slot x s | None ↦ false ]) (rise-from plan slot x t (after plan a b) bs (ascends-tail b bs up))
   where
     by : (v : Bool) → InFront (begins_before t) (holdings_from plan slot x (after plan a b) bs)
         → InFront (begins_before t) (cond v (record { begin = Some b; end = leaving plan x (after plan a b) bs; drop = dropping plan x slot bs } ∷ holdings_from plan slot x (after plan a b) bs) (holdings_from plan slot x (after plan a b) bs))

@@ -5,6 +5,7 @@ use Rattle.std.specs.List.{list_all, list_any}
 use Rattle.ring_names.specs.Lists.{has}
 use Rattle.std.proofs.lemmas.Bool.{lt-ltb, ltb-true}
 use Rattle.ring_names.specs.declared.ids.Slot.{Slot}
+use Rattle.ring_names.proofs.Logic.{lt_self}
 use Rattle.plan_text.specs.declared.step.Step.{Step}
 use Rattle.plan_text.specs.declared.step.Planned.{Planned}
 use Rattle.plan_text.specs.Steps.{steps_of, steps_from, is_on}
@@ -24,7 +25,7 @@ at_least k (x ∷ xs) slot j l = by (is_on slot x.step) j l (λ i m. at_least (k
     by true (suc i) m more = let r = more i (omega arith) in omega (arith, r)
     by false i m more = let r = more i m in omega (arith, r)
 
-none_below : (n k : ℕ) (xs : List Planned) (slot : Slot) → n ≤ k → count_below n (steps_from k xs slot) ≡ 0
+pub none_below : (n k : ℕ) (xs : List Planned) (slot : Slot) → n ≤ k → count_below n (steps_from k xs slot) ≡ 0
 none_below n k [] slot l = refl
 none_below n k (x ∷ xs) slot l = by (is_on slot x.step) (nat_lt k n) refl (none_below n (k + 1) xs slot (omega arith))
   where
@@ -33,13 +34,6 @@ none_below n k (x ∷ xs) slot l = by (is_on slot x.step) (nat_lt k n) refl (non
     by true false e h = rw (e, h) refl
     by false c e h = h
 
-not_below : (k : ℕ) → nat_lt k k ≡ false
-not_below k = by (nat_lt k k) refl
-  where
-    by : (b : Bool) → nat_lt k k ≡ b → b ≡ false
-    by true e = let s : k < k = ltb-true k k e in absurd (omega arith)
-    by false e = refl
-
 place_from : (k : ℕ) (xs : List Planned) (slot : Slot) (j : ℕ) → j < length (steps_from k xs slot) → count_below (get_or (steps_from k xs slot) j 0) (steps_from k xs slot) ≡ j
 place_from k [] slot j l = absurd (omega arith)
 place_from k (x ∷ xs) slot j l = by (is_on slot x.step) j l (λ i m. place_from (k + 1) xs slot i m)
@@ -47,7 +41,7 @@ place_from k (x ∷ xs) slot j l = by (is_on slot x.step) j l (λ i m. place_fro
     by : (b : Bool) (j : ℕ) → j < length (cond b (k ∷ steps_from (k + 1) xs slot) (steps_from (k + 1) xs slot))
         → ((i : ℕ) → i < length (steps_from (k + 1) xs slot) → count_below (get_or (steps_from (k + 1) xs slot) i 0) (steps_from (k + 1) xs slot) ≡ i)
         → count_below (get_or (cond b (k ∷ steps_from (k + 1) xs slot) (steps_from (k + 1) xs slot)) j 0) (cond b (k ∷ steps_from (k + 1) xs slot) (steps_from (k + 1) xs slot)) ≡ j
-    by true zero m more = (let e : nat_lt k k ≡ false = not_below k in rw (e, none_below k (k + 1) xs slot (omega arith)) refl)
+    by true zero m more = (let e : nat_lt k k ≡ false = lt_self k in rw (e, none_below k (k + 1) xs slot (omega arith)) refl)
     by true (suc i) m more =
         let g = at_least (k + 1) xs slot i (omega arith) in
         let s : k < get_or (steps_from (k + 1) xs slot) i 0 = omega (arith, g) in

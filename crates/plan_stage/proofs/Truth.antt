@@ -2,11 +2,12 @@
 use Rattle.std.proofs.Common.{◌≡◌, ◌⊎◌, inl, inr, ℕ, suc, zero, ◌+◌, ◌<◌, Bool, true, false, not, cond, List, [], ◌∷◌, ◌++◌, refl, ap, ◌∙◌, arith, below_more, Option, Some, None}
 use Rattle.std.specs.Prelude.{◌&&◌, ◌||◌, ◌==◌}
 use Rattle.std.specs.List.{list_all}
-use Rattle.std.proofs.lemmas.Bool.{eqb-true, eq-eqb, and_parts}
+use Rattle.std.proofs.lemmas.Bool.{eqb-true, eq-eqb, and_parts, not-true, or_right, and_from, or_cases as either, or_left as first_of_two}
 use Rattle.ring_names.specs.Lists.{has}
 use Rattle.ring_names.specs.declared.ids.NodeId.{NodeId}
 use Rattle.ring_names.specs.declared.ids.Slot.{Slot}
 use Rattle.ring_names.specs.declared.refusal.Refusal.{Refusal}
+use Rattle.ring_names.proofs.Logic.{plus_suc, zero_plus}
 use Rattle.plan_text.specs.declared.step.Step.{Step}
 use Rattle.plan_text.specs.declared.step.Planned.{Planned}
 use Rattle.plan_text.specs.Steps.{is_slot}
@@ -17,24 +18,6 @@ use Rattle.plan_stage.specs.Each.{some_step, step_at, each_step, each_below}
 use Rattle.plan_stage.specs.Partition.{steps_clauses}
 
 -- ---- truth values
-
-pub all_of : (a b : Bool) → a ≡ true → b ≡ true → (a && b) ≡ true
-all_of a b h k = rw (h, k) refl
-
-pub either : (a b : Bool) → (a || b) ≡ true → (a ≡ true) ⊎ (b ≡ true)
-either true b h = inl refl
-either false b h = inr h
-
-pub first_of_two : (a b : Bool) → a ≡ true → (a || b) ≡ true
-first_of_two a b h = rw h refl
-
-pub second_of_two : (a b : Bool) → b ≡ true → (a || b) ≡ true
-second_of_two true b h = refl
-second_of_two false b h = h
-
-pub not_is : (b : Bool) → not b ≡ true → b ≡ false
-not_is true e = absurd cc
-not_is false e = refl
 
 -- a test that is asked for only where another holds
 pub where_asked : (a b : Bool) → (not a || b) ≡ true → a ≡ true → b ≡ true
@@ -82,9 +65,6 @@ asked-all false cs h = refl
 
 -- ---- tests over steps
 
-later : (n m : ℕ) → n + 1 + m ≡ n + suc m
-later n m = omega arith
-
 pub steps-met : (f : ℕ → Step → List Guard) (n : ℕ) (plan : List Planned) → first_failing (steps_clauses f n plan) ≡ None → (m : ℕ) (s : Step) → step_at plan m ≡ Some s → first_failing (f (n + m) s) ≡ None
 steps-met f n [] h m s at = absurd cc
 steps-met f n (x ∷ xs) h zero s at =
@@ -92,14 +72,14 @@ steps-met f n (x ∷ xs) h zero s at =
     let z : n + 0 ≡ n = omega arith in
     rw (z, ← e) (parted (f n x.step) (steps_clauses f (n + 1) xs) h).0
 steps-met f n (x ∷ xs) h (suc m) s at =
-    rw (← later n m) (steps-met f (n + 1) xs (parted (f n x.step) (steps_clauses f (n + 1) xs) h).1 m s at)
+    rw (← plus_suc n m) (steps-met f (n + 1) xs (parted (f n x.step) (steps_clauses f (n + 1) xs) h).1 m s at)
 
 pub steps-all : (f : ℕ → Step → List Guard) (n : ℕ) (plan : List Planned) → ((m : ℕ) (s : Step) → step_at plan m ≡ Some s → first_failing (f (n + m) s) ≡ None) → first_failing (steps_clauses f n plan) ≡ None
 steps-all f n [] all = refl
 steps-all f n (x ∷ xs) all =
     let z : n + 0 ≡ n = omega arith in
     let here : first_failing (f n x.step) ≡ None = rw z at (all 0 x.step refl) in
-    together (f n x.step) (steps_clauses f (n + 1) xs) here (steps-all f (n + 1) xs (λ m s at. rw (later n m) (all (suc m) s at)))
+    together (f n x.step) (steps_clauses f (n + 1) xs) here (steps-all f (n + 1) xs (λ m s at. rw (plus_suc n m) (all (suc m) s at)))
 
 pub each_step-met : (f : ℕ → Step → Bool) (n : ℕ) (plan : List Planned) → each_step f n plan ≡ true → (m : ℕ) (s : Step) → step_at plan m ≡ Some s → f (n + m) s ≡ true
 each_step-met f n [] h m s at = absurd cc
@@ -108,20 +88,20 @@ each_step-met f n (x ∷ xs) h zero s at =
     let z : n + 0 ≡ n = omega arith in
     rw (z, ← e) (and_parts (f n x.step) (each_step f (n + 1) xs) h).0
 each_step-met f n (x ∷ xs) h (suc m) s at =
-    rw (← later n m) (each_step-met f (n + 1) xs (and_parts (f n x.step) (each_step f (n + 1) xs) h).1 m s at)
+    rw (← plus_suc n m) (each_step-met f (n + 1) xs (and_parts (f n x.step) (each_step f (n + 1) xs) h).1 m s at)
 
 pub each_step-all : (f : ℕ → Step → Bool) (n : ℕ) (plan : List Planned) → ((m : ℕ) (s : Step) → step_at plan m ≡ Some s → f (n + m) s ≡ true) → each_step f n plan ≡ true
 each_step-all f n [] all = refl
 each_step-all f n (x ∷ xs) all =
     let z : n + 0 ≡ n = omega arith in
     let here : f n x.step ≡ true = rw z at (all 0 x.step refl) in
-    all_of (f n x.step) (each_step f (n + 1) xs) here (each_step-all f (n + 1) xs (λ m s at. rw (later n m) (all (suc m) s at)))
+    and_from (f n x.step) (each_step f (n + 1) xs) here (each_step-all f (n + 1) xs (λ m s at. rw (plus_suc n m) (all (suc m) s at)))
 
 pub some_step-met : (f : ℕ → Step → Bool) (n : ℕ) (plan : List Planned) → some_step f n plan ≡ true → (m : ℕ) × (s : Step) × (step_at plan m ≡ Some s) × (f (n + m) s ≡ true)
 some_step-met f n [] h = absurd cc
 some_step-met f n (x ∷ xs) h = elim (either (f n x.step) (some_step f (n + 1) xs) h) [
   | inl here ↦ (let z : n + 0 ≡ n = omega arith in (0, x.step, refl, rw z here))
-  | inr there ↦ (let r = some_step-met f (n + 1) xs there in (suc r.0, r.1, r.2, rw (← later n r.0) r.3))
+  | inr there ↦ (let r = some_step-met f (n + 1) xs there in (suc r.0, r.1, r.2, rw (← plus_suc n r.0) r.3))
 ]
 
 pub some_step-all : (f : ℕ → Step → Bool) (n : ℕ) (plan : List Planned) (m : ℕ) (s : Step) → step_at plan m ≡ Some s → f (n + m) s ≡ true → some_step f n plan ≡ true
@@ -132,29 +112,25 @@ some_step-all f n (x ∷ xs) zero s at h =
     let here : f n x.step ≡ true = rw (e, ← z) h in
     first_of_two (f n x.step) (some_step f (n + 1) xs) here
 some_step-all f n (x ∷ xs) (suc m) s at h =
-    second_of_two (f n x.step) (some_step f (n + 1) xs) (some_step-all f (n + 1) xs m s at (rw (later n m) h))
-
--- the same over a plan's steps, counted from 0
-from_zero : (m : ℕ) → 0 + m ≡ m
-from_zero m = omega arith
+    or_right (f n x.step) (some_step f (n + 1) xs) (some_step-all f (n + 1) xs m s at (rw (plus_suc n m) h))
 
 pub clauses-met : (f : ℕ → Step → List Guard) (plan : List Planned) → first_failing (steps_clauses f 0 plan) ≡ None → (m : ℕ) (s : Step) → step_at plan m ≡ Some s → first_failing (f m s) ≡ None
-clauses-met f plan h m s at = rw (← from_zero m) (steps-met f 0 plan h m s at)
+clauses-met f plan h m s at = rw (← zero_plus m) (steps-met f 0 plan h m s at)
 
 pub clauses-all : (f : ℕ → Step → List Guard) (plan : List Planned) → ((m : ℕ) (s : Step) → step_at plan m ≡ Some s → first_failing (f m s) ≡ None) → first_failing (steps_clauses f 0 plan) ≡ None
-clauses-all f plan all = steps-all f 0 plan (λ m s at. rw (from_zero m) (all m s at))
+clauses-all f plan all = steps-all f 0 plan (λ m s at. rw (zero_plus m) (all m s at))
 
 pub each-met : (f : ℕ → Step → Bool) (plan : List Planned) → each_step f 0 plan ≡ true → (m : ℕ) (s : Step) → step_at plan m ≡ Some s → f m s ≡ true
-each-met f plan h m s at = rw (← from_zero m) (each_step-met f 0 plan h m s at)
+each-met f plan h m s at = rw (← zero_plus m) (each_step-met f 0 plan h m s at)
 
 pub each-all : (f : ℕ → Step → Bool) (plan : List Planned) → ((m : ℕ) (s : Step) → step_at plan m ≡ Some s → f m s ≡ true) → each_step f 0 plan ≡ true
-each-all f plan all = each_step-all f 0 plan (λ m s at. rw (from_zero m) (all m s at))
+each-all f plan all = each_step-all f 0 plan (λ m s at. rw (zero_plus m) (all m s at))
 
 pub some-met : (f : ℕ → Step → Bool) (plan : List Planned) → some_step f 0 plan ≡ true → (m : ℕ) × (s : Step) × (step_at plan m ≡ Some s) × (f m s ≡ true)
-some-met f plan h = (let r = some_step-met f 0 plan h in (r.0, r.1, r.2, rw (from_zero r.0) at r.3))
+some-met f plan h = (let r = some_step-met f 0 plan h in (r.0, r.1, r.2, rw (zero_plus r.0) at r.3))
 
 pub some-all : (f : ℕ → Step → Bool) (plan : List Planned) (m : ℕ) (s : Step) → step_at plan m ≡ Some s → f m s ≡ true → some_step f 0 plan ≡ true
-some-all f plan m s at h = some_step-all f 0 plan m s at (rw (from_zero m) h)
+some-all f plan m s at h = some_step-all f 0 plan m s at (rw (zero_plus m) h)
 
 -- ---- tests over numbers
 
@@ -166,7 +142,7 @@ each_below-met f (suc n) h k l =
 
 pub each_below-all : (f : ℕ → Bool) (n : ℕ) → ((k : ℕ) → k < n → f k ≡ true) → each_below n f ≡ true
 each_below-all f zero all = refl
-each_below-all f (suc n) all = all_of (each_below n f) (f n) (each_below-all f n (λ k l. all k (omega arith))) (all n (omega arith))
+each_below-all f (suc n) all = and_from (each_below n f) (f n) (each_below-all f n (λ k l. all k (omega arith))) (all n (omega arith))
 
 pub same : (a : ℕ) → (a == a) ≡ true
 same a = eq-eqb a a refl
@@ -180,7 +156,7 @@ list_all-met f (x ∷ xs) h j is =
 pub list_all-all : (f : ℕ → Bool) (xs : List ℕ) → ((j : ℕ) → has j xs ≡ true → f j ≡ true) → list_all f xs ≡ true
 list_all-all f [] all = refl
 list_all-all f (x ∷ xs) all =
-    all_of (f x) (list_all f xs) (all x (first_of_two (x == x) (has x xs) (same x))) (list_all-all f xs (λ j is. all j (second_of_two (j == x) (has j xs) is)))
+    and_from (f x) (list_all f xs) (all x (first_of_two (x == x) (has x xs) (same x))) (list_all-all f xs (λ j is. all j (or_right (j == x) (has j xs) is)))
 
 -- ---- equal slots, equal nodes
 
@@ -192,7 +168,7 @@ slot-is s t h =
     ap (λ (k : ℕ). record { partition = k; index = s.index }) p ∙ ap (λ (k : ℕ). record { partition = t.partition; index = k }) i
 
 pub slot-same : (s : Slot) → is_slot s s ≡ true
-slot-same s = all_of (s.partition == s.partition) (s.index == s.index) (same s.partition) (same s.index)
+slot-same s = and_from (s.partition == s.partition) (s.index == s.index) (same s.partition) (same s.index)
 
 pub node-is : (x y : NodeId) → is_node x y ≡ true → x ≡ y
 node-is x y h =

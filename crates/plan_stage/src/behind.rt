@@ -72,7 +72,9 @@ impl Behind {
         ensures next { self.new.next_switch ≡ self.old.next_switch }
         ensures second { self.new.second_switch ≡ self.old.second_switch }
         ensures drops { (x : TheNode) → drop_of self.new x ≡ drop_of self.old x }
-        ensures held { OnOk result ((x : TheNode) → held_of self.new.held x ≡ (if is_node x node then held_of self.old.held x ++ record { begin = begin; end = end; drop = drop_of self.old node } ∷ [] else held_of self.old.held x)) }
+        ensures held { OnOk result
+            ((x : TheNode) → held_of self.new.held x ≡ (if is_node x node then held_of self.old.held x
+            ++ record { begin = begin; end = end; drop = drop_of self.old node } ∷ [] else held_of self.old.held x)) }
         ensures memory { IfErr result (λ e. e ≡ OutOfMemory) }
     {
         let drop = self.drops.get(node);

@@ -54,7 +54,8 @@ fn check_in(alloc: Global, context: &Context, partition: u32) -> Result<(), Refu
 // Tests whether the steps of each slot act in order.
 fn check_slots(alloc: Global, context: &Context, partition: u32) -> Result<(), Refusal>
     requires partition { partition < context.now.ring.now.q }
-    ensures { Gives result (below (λ i. slot_clauses context.now.ring.now context.now.plan.now (order context.now) (record { partition = partition; index = i })) context.now.ring.now.n) }
+    ensures { Gives result (below (λ i. slot_clauses context.now.ring.now context.now.plan.now (order context.now)
+        (record { partition = partition; index = i })) context.now.ring.now.n) }
 {
     for index in 0..context.ring.n() {
         check_slot(alloc, context, Slot { partition, index })?;
@@ -97,7 +98,8 @@ fn check_place(walk: &Walk, context: &Context, numbers: &[u32], k: usize) -> Res
 fn check_steps(alloc: Global, context: &Context, partition: u32) -> Result<(), Refusal>
     requires partition { partition < context.now.ring.now.q }
     requires staged { IsStagedIn context.now.ring.now context.now.plan.now partition }
-    ensures { Gives result (steps_clauses (step_clauses context.now.ring.now context.now.plan.now (order context.now) partition) 0 context.now.plan.now) }
+    ensures { Gives result (steps_clauses
+        (step_clauses context.now.ring.now context.now.plan.now (order context.now) partition) 0 context.now.plan.now) }
 {
     let holdings = Holdings::of(alloc, context.ring, context.plan, partition)?;
     let numbers = concerned(alloc, context.ring, context.plan, partition)?;
@@ -113,7 +115,8 @@ fn check_numbers(
 ) -> Result<(), Refusal>
     requires within { list_all (λ n. nat_lt n (length context.now.plan.now)) numbers.now ≡ true }
     requires held { AreHeld context.now.ring.now context.now.plan.now partition holdings.now }
-    ensures { Gives result (clauses_of (step_clauses context.now.ring.now context.now.plan.now (order context.now) partition) context.now.plan.now numbers.now) }
+    ensures { Gives result (clauses_of (step_clauses context.now.ring.now context.now.plan.now
+        (order context.now) partition) context.now.plan.now numbers.now) }
 {
     let mut rest = numbers;
     'numbers: while let Some((number, later)) = rest.split_first() {

@@ -1,16 +1,19 @@
 //! What one step of a partition must meet.
 
-ghost use Rattle.std.specs.Prelude.{◌≡◌, ◌<◌, ◌||◌, ◌&&◌, ◌==◌, not, true, length, slice_get, option_map, Some, nat_lt, nat_le, EachIndex, slice_index, reverse};
+ghost use Rattle.std.specs.Prelude.{◌≡◌, ◌<◌, ◌||◌, ◌&&◌, ◌==◌, not, true, length, slice_get, option_map, Some, nat_lt};
+ghost use Rattle.std.specs.Prelude.{nat_le, EachIndex, slice_index, reverse};
 ghost use Rattle.std.specs.List.{list_all, list_any};
 ghost use Rattle.ring_names.specs.Lists.{all_different};
 ghost use Rattle.plan_text.specs.declared.step.Step.TheVariants.{Copy};
 ghost use Rattle.plan_order.specs.Order.{order};
 ghost use Rattle.plan_stage.specs.Clauses.{Gives};
-ghost use Rattle.plan_stage.specs.Partition.{ends_before, is_settled, has_left, has_dropped, mirror_clauses, copy_clauses, step_clauses};
+ghost use Rattle.plan_stage.specs.Partition.{ends_before, is_settled, has_left, has_dropped, mirror_clauses};
+ghost use Rattle.plan_stage.specs.Partition.{copy_clauses, step_clauses};
 ghost use Rattle.plan_stage.specs.Each.{each_step, each_below, is_switch_of, sibling};
 ghost use Rattle.plan_stage.specs.Looking.Held.{AreHeld, held_among};
 ghost use Rattle.plan_stage.specs.Looking.Looked.{clauses_at};
-ghost use Rattle.plan_stage.specs.Looking.Asked.{switches, is_settling, begins_before, are_left, is_left_before, has_left_held, has_left_at, is_dropped_before, has_dropped_at};
+ghost use Rattle.plan_stage.specs.Looking.Asked.{switches, is_settling, begins_before, are_left, is_left_before};
+ghost use Rattle.plan_stage.specs.Looking.Asked.{has_left_held, has_left_at, is_dropped_before, has_dropped_at};
 
 use crate::held::{Found, Held};
 use crate::holding::{Holding, Holdings};
@@ -74,7 +77,8 @@ fn are_settled(context: &Context, number: u32, others: &[u32]) -> bool
 
 // Whether each switch of the slot comes before or after the step.
 fn is_settled_slot(context: &Context, number: u32, slot: Slot) -> bool
-    ensures { result ≡ each_step (λ m s. not (is_switch_of slot s) || (order context.now m number || order context.now number m)) 0 context.now.plan.now }
+    ensures { result ≡ each_step (λ m s. not (is_switch_of slot s) ||
+        (order context.now m number || order context.now number m)) 0 context.now.plan.now }
 {
     are_settled(context, number, context.plan.slot_steps(slot))
 }
@@ -233,7 +237,8 @@ fn check_mirror(
     node: NodeId,
 ) -> Result<(), Refusal>
     requires { AreHeld context.now.ring.now context.now.plan.now slot.partition holdings.now }
-    ensures { Gives result (mirror_clauses context.now.ring.now context.now.plan.now (order context.now) number slot node) }
+    ensures { Gives result
+        (mirror_clauses context.now.ring.now context.now.plan.now (order context.now) number slot node) }
 {
     if !has_left(context, holdings, number, slot, node) {
         return Err(Refusal::SharedInPlan(number));
@@ -246,7 +251,8 @@ fn check_mirror(
 
 // Tests a step that copies from listed slots.
 fn check_listed(context: &Context, number: u32, slot: Slot, from: &[u32]) -> Result<(), Refusal>
-    ensures { Gives result (copy_clauses context.now.ring.now context.now.plan.now (order context.now) number slot from.now) }
+    ensures { Gives result
+        (copy_clauses context.now.ring.now context.now.plan.now (order context.now) number slot from.now) }
 {
     if !are_different(from) || from.len() < context.ring.r() as usize {
         return Err(Refusal::BadSource(number));
@@ -259,7 +265,8 @@ fn check_listed(context: &Context, number: u32, slot: Slot, from: &[u32]) -> Res
 
 // Tests a step that copies to the slot's mirror.
 fn check_copy(context: &Context, number: u32, slot: Slot, source: &Source) -> Result<(), Refusal>
-    ensures { Gives result (step_clauses context.now.ring.now context.now.plan.now (order context.now) slot.partition number (Copy slot source.now)) }
+    ensures { Gives result (step_clauses context.now.ring.now context.now.plan.now
+        (order context.now) slot.partition number (Copy slot source.now)) }
 {
     match source {
         Source::Owner => Ok(()),
@@ -276,7 +283,8 @@ pub fn check_step(
 ) -> Result<(), Refusal>
     requires number { number < length context.now.plan.now }
     requires held { AreHeld context.now.ring.now context.now.plan.now partition holdings.now }
-    ensures { Gives result (clauses_at (step_clauses context.now.ring.now context.now.plan.now (order context.now) partition) context.now.plan.now number) }
+    ensures { Gives result (clauses_at (step_clauses context.now.ring.now context.now.plan.now
+        (order context.now) partition) context.now.plan.now number) }
 {
     match context.plan.step(number) {
         Step::Mirror(slot, node) if slot.partition == partition => {

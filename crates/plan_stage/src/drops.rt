@@ -56,7 +56,8 @@ impl Drops {
 
     /// Sets the drop of the node.
     pub fn set(&mut self, node: NodeId, number: u32) -> Result<(), Refusal>
-        ensures ok { OnOk result ((x : TheNode) → dropped_in self.new x ≡ (if is_node x node then Some number else dropped_in self.old x)) }
+        ensures ok { OnOk result
+            ((x : TheNode) → dropped_in self.new x ≡ (if is_node x node then Some number else dropped_in self.old x)) }
         ensures memory { IfErr result (λ e. e ≡ OutOfMemory) }
     {
         match &mut self.others {

@@ -48,7 +48,8 @@ impl Held {
 
     /// Puts one more last among those of its node.
     pub fn add(&mut self, node: NodeId, holding: Holding) -> Result<(), Refusal>
-        ensures ok { OnOk result ((x : TheNode) → held_of self.new x ≡ (if is_node x node then held_of self.old x ++ holding ∷ [] else held_of self.old x)) }
+        ensures ok { OnOk result ((x : TheNode) → held_of self.new x
+            ≡ (if is_node x node then held_of self.old x ++ holding ∷ [] else held_of self.old x)) }
         ensures memory { IfErr result (λ e. e ≡ OutOfMemory) }
     {
         match &mut self.others {

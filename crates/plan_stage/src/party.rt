@@ -5,7 +5,8 @@ ghost use Rattle.std.specs.List.{list_all};
 ghost use Rattle.ring_names.specs.declared.refusal.Refusal.TheVariants.{OutOfMemory};
 ghost use Rattle.plan_text.specs.Steps.{steps_of};
 ghost use Rattle.plan_text.specs.Valid.{Suits, source_suits};
-ghost use Rattle.plan_stage.specs.Parties.{count_below, stage_before, source_slots, owners_before, with_target, on_side, parties_on, parties, sources};
+ghost use Rattle.plan_stage.specs.Parties.{count_below, stage_before, source_slots, owners_before, with_target};
+ghost use Rattle.plan_stage.specs.Parties.{on_side, parties_on, parties, sources};
 ghost use Rattle.plan_stage.specs.Stage.{with_node};
 
 use crate::check::stage_at;
@@ -82,7 +83,8 @@ fn copy_parties(
     requires partition { slot.partition < ring.now.q }
     requires index { slot.index < ring.now.n }
     requires suits { source_suits ring.now source.now ≡ true }
-    ensures ok { IfOk result (λ list. list ≡ on_side side (stage_before ring.now plan.now slot step).mirror (owners_before ring.now plan.now step (source_slots slot source.now))) }
+    ensures ok { IfOk result (λ list. list ≡ on_side side (stage_before ring.now plan.now slot step).mirror
+        (owners_before ring.now plan.now step (source_slots slot source.now))) }
     ensures memory { IfErr result (λ e. e ≡ OutOfMemory) }
 {
     let mirror = stage_before(alloc, ring, plan, step, slot)?.mirror;
@@ -123,7 +125,8 @@ fn owners_before(
     requires partition { slot.partition < ring.now.q }
     requires index { slot.index < ring.now.n }
     requires suits { source_suits ring.now source.now ≡ true }
-    ensures ok { IfOk result (λ party. party.keys ≡ owners_before ring.now plan.now step (source_slots slot source.now)) }
+    ensures ok { IfOk result
+        (λ party. party.keys ≡ owners_before ring.now plan.now step (source_slots slot source.now)) }
     ensures memory { IfErr result (λ e. e ≡ OutOfMemory) }
 {
     match source {
@@ -149,7 +152,8 @@ fn listed_owners(
 ) -> Result<BTreeSet<NodeId>, Refusal>
     requires partition { partition < ring.now.q }
     requires indexes { list_all (λ i. nat_lt i ring.now.n) from.now ≡ true }
-    ensures ok { IfOk result (λ party. party.keys ≡ owners_before ring.now plan.now step (map (λ i. record { partition = partition; index = i }) from.now)) }
+    ensures ok { IfOk result (λ party. party.keys
+        ≡ owners_before ring.now plan.now step (map (λ i. record { partition = partition; index = i }) from.now)) }
     ensures memory { IfErr result (λ e. e ≡ OutOfMemory) }
 {
     let mut party = BTreeSet::new(alloc);
@@ -174,7 +178,8 @@ fn add_owner(
 ) -> Result<(), Refusal>
     requires partition { slot.partition < ring.now.q }
     requires index { slot.index < ring.now.n }
-    ensures ok { OnOk result (party.new.keys ≡ with_node (stage_before ring.now plan.now slot step).owner party.old.keys) }
+    ensures ok { OnOk result
+        (party.new.keys ≡ with_node (stage_before ring.now plan.now slot step).owner party.old.keys) }
     ensures memory { IfErr result (λ e. e ≡ OutOfMemory) }
 {
     let stage = stage_before(alloc, ring, plan, step, slot)?;

@@ -10,11 +10,12 @@ use Rattle.plan_text.specs.declared.step.Step.TheVariants.{Join, Mirror, Copy, S
 use Rattle.plan_text.specs.declared.step.Source.{Source}
 use Rattle.plan_text.specs.declared.step.Planned.{Planned}
 use Rattle.ring_names.specs.declared.lists.Lists.{Lists}
+use Rattle.ring_names.proofs.InLists.{has_push, different_push}
 use Rattle.plan_text.specs.declared.index.NodeIndex.{NodeIndex}
 use Rattle.plan_text.specs.declared.index.Index.{Index}
 use Rattle.plan_text.specs.Held.{numbers_at, first_of, holds, HoldsNodes, HoldsSteps}
 use Rattle.plan_text.specs.Steps.{is_slot, is_on, steps_of, joins, retires, joined, retired, is_join_of, is_retire_of, first_step, join_of, retirement_of}
-use Rattle.plan_text.proofs.Pushed.{steps_of-push, joined-push, retired-push, has-push, all_different-push}
+use Rattle.plan_text.proofs.Pushed.{steps_of-push, joined-push, retired-push}
 
 -- ---- the first step that passes a test
 
@@ -60,9 +61,9 @@ HoldsNodes-none a xs ys f g e same h = rw (e, append-nil xs) (record {
 
 HoldsNodes-push : (a b : NodeIndex) (xs ys : List ℕ) (f g : ℕ → Option ℕ) (x n : ℕ) → ys ≡ x ∷ [] → ((y : ℕ) → g y ≡ or_last (f y) (y == x) n) → ((y : ℕ) → first_of b y ≡ or_last (first_of a y) (y == x) n) → b.different ≡ (a.different && not (holds a x)) → HoldsNodes a xs f → HoldsNodes b (xs ++ ys) g
 HoldsNodes-push a b xs ys f g x n e last more fresh h = rw e (record {
-  nodes = λ y. ap (λ (o : Option ℕ). is_some o) (more y) ∙ some_or (first_of a y) (y == x) n ∙ ap (λ (t : Bool). (y == x) || t) (h.nodes y) ∙ sym (has-push xs x y);
+  nodes = λ y. ap (λ (o : Option ℕ). is_some o) (more y) ∙ some_or (first_of a y) (y == x) n ∙ ap (λ (t : Bool). (y == x) || t) (h.nodes y) ∙ sym (has_push xs x y);
   firsts = λ y. more y ∙ ap (λ (o : Option ℕ). or_last o (y == x) n) (h.firsts y) ∙ sym (last y);
-  different = fresh ∙ rw (h.different, h.nodes x, all_different-push xs x) refl;
+  different = fresh ∙ rw (h.different, h.nodes x, different_push xs x) refl;
 })
 
 -- ---- which nodes a step names

@@ -1,11 +1,11 @@
 -- A plan with one more step.
 use Rattle.std.proofs.Common.{get_or, suc, zero, ◌≡◌, ℕ, ◌+◌, ◌<◌, ◌≤◌, Bool, true, false, cond, List, [], ◌∷◌, ◌++◌, length, refl, sym, ap, ◌∙◌, arith, add-zero, length-append, Ok, Err}
-use Rattle.std.specs.Prelude.{Result, OnOk, not, ◌&&◌, ◌||◌, ◌==◌, nat_eq}
-use Rattle.std.proofs.lemmas.Bool.Decides.{nat_tests}
+use Rattle.std.specs.Prelude.{Result, OnOk, ◌&&◌, ◌||◌, ◌==◌}
 use Rattle.std.proofs.lemmas.List.{flat_map_more}
 use Rattle.std.proofs.lemmas.List.Sums.{sum_by_push}
-use Rattle.ring_names.specs.Lists.{has, all_different}
 use Rattle.ring_names.specs.declared.ids.Slot.{Slot}
+use Rattle.ring_names.proofs.Logic.{or_swapped}
+use Rattle.ring_names.proofs.InLists.{different_push}
 use Rattle.plan_text.specs.declared.step.Planned.{Planned}
 use Rattle.plan_text.specs.Steps.{is_on, steps_from, steps_of, joins, retires, joined, retired, dependencies}
 use Rattle.plan_text.specs.Valid.{IsPlanned, EachPlanned, IsPlan}
@@ -45,32 +45,6 @@ joined-push xs x = sym (flat_map_more (λ (y : Planned). joins y.step) [] xs x)
 
 pub retired-push : (xs : List Planned) (x : Planned) → retired (xs ++ x ∷ []) ≡ retired xs ++ retires x.step
 retired-push xs x = sym (flat_map_more (λ (y : Planned). retires y.step) [] xs x)
-
-or_first : (a b c : Bool) → (a || (b || c)) ≡ (b || (a || c))
-or_first true true c = refl
-or_first true false c = refl
-or_first false true c = refl
-or_first false false c = refl
-
-pub has-push : (xs : List ℕ) (x y : ℕ) → has y (xs ++ x ∷ []) ≡ ((y == x) || has y xs)
-has-push [] x y = refl
-has-push (z ∷ zs) x y = ap (λ (b : Bool). (y == z) || b) (has-push zs x y) ∙ or_first (y == z) (y == x) (has y zs)
-
-eq_flip : (x y : ℕ) → nat_eq x y ≡ nat_eq y x
-eq_flip x y = grind (arith, nat_tests)
-
-apart : (a b c d : Bool) → (not (a || b) && (c && not d)) ≡ ((not b && c) && not (a || d))
-apart true true true d = refl
-apart true true false d = refl
-apart true false true d = refl
-apart true false false d = refl
-apart false true c d = refl
-apart false false c d = refl
-
-pub all_different-push : (xs : List ℕ) (x : ℕ) → all_different (xs ++ x ∷ []) ≡ (all_different xs && not (has x xs))
-all_different-push [] x = refl
-all_different-push (z ∷ zs) x =
-    rw (has-push zs x z, all_different-push zs x, eq_flip z x) (apart (x == z) (has z zs) (all_different zs) (has x zs))
 
 pub EachPlanned-push : (k : ℕ) (xs : List Planned) (x : Planned) → EachPlanned k xs → IsPlanned (k + length xs) x → EachPlanned k (xs ++ x ∷ [])
 EachPlanned-push k [] x each last = (rw add-zero at last, tt)

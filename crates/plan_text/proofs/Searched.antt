@@ -1,5 +1,5 @@
 -- A search in numbers that ascend.
-use Rattle.std.proofs.Common.{◌≡◌, ℕ, suc, zero, ◌+◌, ◌<◌, ◌≤◌, ◌≢◌, Bool, true, false, List, [], ◌∷◌, length, get_or, Ok, Err, refl, sym, arith}
+use Rattle.std.proofs.Common.{◌≡◌, ℕ, suc, zero, ◌+◌, ◌<◌, ◌≤◌, ◌≢◌, true, false, List, [], ◌∷◌, length, get_or, Ok, Err, refl, sym, arith}
 use Rattle.std.specs.Prelude.{Result, Option, Some, None, option_map, ◌||◌, ◌==◌, nat_lt, slice_get}
 use Rattle.std.specs.Result.{is_ok}
 use Rattle.std.specs.Ordering.{nat_cmp}
@@ -11,7 +11,8 @@ use Rattle.plan_text.specs.declared.step.Planned.{Planned}
 use Rattle.plan_text.specs.Steps.{depends}
 use Rattle.texts.specs.Numbers.{ascending}
 use Rattle.plan_text.specs.Valid.{EachPlanned}
-use Rattle.std.proofs.lemmas.Bool.{and_parts}
+use Rattle.std.proofs.lemmas.Bool.{and_parts, ne_eqb, eq-eqb}
+use Rattle.ring_names.proofs.Logic.{or_true}
 
 below : (x y : ℕ) → nat_lt x y ≡ true → x < y
 below x y e = grind (arith, nat_tests)
@@ -25,7 +26,7 @@ ascends-head x (y ∷ ys) e (suc j) h =
     let rest = ascends-head y ys b.1 j (omega arith) in
     omega arith
 
-ascends-tail : (x : ℕ) (xs : List ℕ) → ascending (x ∷ xs) ≡ true → ascending xs ≡ true
+pub ascends-tail : (x : ℕ) (xs : List ℕ) → ascending (x ∷ xs) ≡ true → ascending xs ≡ true
 ascends-tail x [] e = refl
 ascends-tail x (y ∷ ys) e = (and_parts (nat_lt x y) (ascending (y ∷ ys)) e).1
 
@@ -42,25 +43,15 @@ rises (x ∷ xs) e (suc i) zero h k = absurd (omega arith)
 rises (x ∷ xs) e zero (suc j) h k = let l = ascends-head x xs e j (omega arith) in omega arith
 rises (x ∷ xs) e (suc i) (suc j) h k = rises xs (ascends-tail x xs e) i j (omega arith) (omega arith)
 
-same : (x y : ℕ) → x ≡ y → (x == y) ≡ true
-same x y e = grind (arith, nat_tests)
-
-differ : (x y : ℕ) → x ≢ y → (x == y) ≡ false
-differ x y e = grind (arith, nat_tests)
-
-or_true : (b : Bool) → (b || true) ≡ true
-or_true true = refl
-or_true false = refl
-
 has-at : (x : ℕ) (xs : List ℕ) (i : ℕ) → i < length xs → get_or xs i 0 ≡ x → has x xs ≡ true
 has-at x [] i h e = absurd (omega arith)
-has-at x (y ∷ ys) zero h e = rw (same x y (sym e)) refl
+has-at x (y ∷ ys) zero h e = rw (eq-eqb x y (sym e)) refl
 has-at x (y ∷ ys) (suc i) h e = rw (has-at x ys i (omega arith) e) (or_true (x == y))
 
 has-none : (x : ℕ) (xs : List ℕ) → ((i : ℕ) → i < length xs → get_or xs i 0 ≢ x) → has x xs ≡ false
 has-none x [] apart = refl
 has-none x (y ∷ ys) apart =
-    rw (differ x y (λ e. apart 0 (omega arith) (sym e)), has-none x ys (λ i h. apart (suc i) (omega arith))) refl
+    rw (ne_eqb x y (λ e. apart 0 (omega arith) (sym e)), has-none x ys (λ i h. apart (suc i) (omega arith))) refl
 
 out : (xs : List ℕ) (x i k : ℕ) → ((j : ℕ) → j < i → get_or xs j 0 < x) → ((j : ℕ) → i ≤ j → j < length xs → x < get_or xs j 0) → k < length xs → get_or xs k 0 ≢ x
 out xs x i k low high h e =

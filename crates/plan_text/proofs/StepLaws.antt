@@ -3,14 +3,14 @@ use Rattle.std.proofs.Common.{◌≡◌, ℕ, suc, ◌-◌, ◌<◌, ◌≤◌, 
 use Rattle.std.specs.Fmt.{decimal}
 use Rattle.std.specs.List.{list_all}
 use Rattle.std.specs.Str.{bytes_eq}
-use Rattle.std.proofs.lemmas.Bool.{lt-ltb, ltb-true, ne_eqb}
-use Rattle.std.proofs.lemmas.Bool.Decides.{nat_tests}
+use Rattle.std.proofs.lemmas.Bool.{lt-ltb, ltb-true, ne_eqb, le-leb}
 use Rattle.std.proofs.lemmas.Slice.Eq.{bytes_eq-Decides}
 use Rattle.ring_names.specs.Lists.{has}
 use Rattle.ring_names.specs.declared.ids.NodeId.{NodeId}
 use Rattle.ring_names.specs.declared.ids.Slot.{Slot}
 use Rattle.ring_names.specs.declared.refusal.Refusal.{Refusal}
 use Rattle.ring_names.specs.declared.refusal.Refusal.TheVariants.{BadLine, TooLarge, Repeated, LaterDependency}
+use Rattle.ring_names.proofs.Logic.{pair_is}
 use Rattle.texts.specs.Numbers.{numbers_of, beyond, ascending, are_small}
 use Rattle.texts.specs.Judging.{Item, need_at, map_ok, map_item}
 use Rattle.texts.specs.Laws.{IsItem, IsLine}
@@ -29,7 +29,7 @@ use Rattle.plan_text.specs.Steps.{dependencies, joined, retired}
 use Rattle.plan_text.specs.Spelling.{slot_fields, source_fields, kind_fields, after_fields}
 use Rattle.plan_text.specs.Reading.{slot_at, slot_node_at, joining_at, retiring_at, judge_indexes, source_at, copy_at, kind_at, judge_after, after_at, said_at}
 use Rattle.plan_text.proofs.NextLaws.{small_all, IsSource, IsAfter, indexes-are, after-are}
-use Rattle.texts.proofs.Fronts.{Free, Last, IsFront, front-item, front-⊗, front-whole, front-word, item-unless, numbers-taken, numbers-given, pair_is}
+use Rattle.texts.proofs.Fronts.{Free, Last, IsFront, front-item, front-⊗, front-whole, front-word, item-unless, numbers-taken, numbers-given}
 use Rattle.plan_text.proofs.Below.{item-below}
 
 -- ---- the steps that a step waits for
@@ -37,9 +37,6 @@ use Rattle.plan_text.proofs.Below.{item-below}
 none-is : (xs : List ℕ) → 1 ≤ length xs → eqb (length xs) 0 ≡ false
 none-is [] le = absurd (omega arith)
 none-is (x ∷ xs) le = ne_eqb (suc (length xs)) 0 (omega arith)
-
-le-leb : (a b : ℕ) → a ≤ b → nat_le a b ≡ true
-le-leb a b le = grind (arith, nat_tests)
 
 after-judged : (plan : List Planned) (k : ℕ) (xs : List ℕ) → 1 ≤ length xs → IsAfter plan xs → judge_after plan k xs ≡ Ok xs
 after-judged plan k xs some p =

@@ -1,7 +1,7 @@
 -- Steps that follow one another, each allowed behind those in front, are a plan that suits the ring.
-use Rattle.std.proofs.Common.{◌≡◌, ℕ, suc, ◌+◌, ◌<◌, ◌≤◌, Bool, true, false, not, nat_lt, eqb, ◌&&◌, ◌||◌, List, [], ◌∷◌, ◌++◌, length, map, refl, sym, ap, subst, ◌∙◌, arith, append_assoc, length-append, add-zero}
+use Rattle.std.proofs.Common.{◌≡◌, ℕ, suc, ◌+◌, ◌<◌, ◌≤◌, true, not, nat_lt, eqb, ◌&&◌, ◌||◌, List, [], ◌∷◌, ◌++◌, length, map, refl, sym, ap, subst, ◌∙◌, arith, append_assoc, length-append, add-zero}
 use Rattle.std.specs.List.{list_all}
-use Rattle.std.proofs.lemmas.Bool.{lt-ltb, ltb-true, and_parts}
+use Rattle.std.proofs.lemmas.Bool.{lt-ltb, ltb-true, and_parts, or_parts, not-true, or_from}
 use Rattle.std.proofs.lemmas.Bool.Decides.{nat_tests}
 use Rattle.std.proofs.lemmas.Grind.{flat_map-append}
 use Rattle.std.proofs.lemmas.List.{append-nil, length-map}
@@ -9,6 +9,7 @@ use Rattle.std.proofs.lemmas.List.Concat.{flat_map-cons}
 use Rattle.std.proofs.lemmas.List.Folds.{list_all-append}
 use Rattle.std.proofs.lemmas.List.Sums.{sum_by-append}
 use Rattle.ring_names.specs.Lists.{has, all_different}
+use Rattle.ring_names.proofs.InLists.{different_push, different_more, different_apart}
 use Rattle.ring_table.specs.declared.node.Node.{Node}
 use Rattle.ring_table.specs.Value.{RingValue, names_of, is_member}
 use Rattle.plan_text.specs.declared.step.Step.{Step}
@@ -18,7 +19,7 @@ use Rattle.plan_text.specs.declared.step.Planned.{Planned}
 use Rattle.plan_text.specs.Steps.{dependencies, joins, retires, joined, retired}
 use Rattle.plan_text.specs.Valid.{HasSources, IsPlanned, EachPlanned, IsPlan, step_suits, Suits}
 use Rattle.texts.specs.Numbers.{are_small}
-use Rattle.plan_text.proofs.Pushed.{IsPlan-push, joined-push, retired-push, all_different-push}
+use Rattle.plan_text.proofs.Pushed.{IsPlan-push, joined-push, retired-push}
 use Rattle.plan_text.proofs.StepLaws.{SaidSuits, IsStepLine}
 use Rattle.plan_text.proofs.PlanLaws.{said_of, line_of, AreNext}
 
@@ -31,21 +32,10 @@ declared-true ring x lt = lt-ltb x (length ring.nodes) (rw nodes-length at lt)
 declared-below : (ring : RingValue) (x : ℕ) → nat_lt x (length ring.nodes) ≡ true → x < length (names_of ring)
 declared-below ring x e = rw nodes-length (ltb-true x (length ring.nodes) e)
 
-neither : (a b : Bool) → (a || b) ≡ false → (a ≡ false) × (b ≡ false)
-neither true b e = absurd cc
-neither false b e = (refl, e)
-
-neither-of : (a b : Bool) → a ≡ false → b ≡ false → (a || b) ≡ false
-neither-of a b e f = rw (e, f) refl
-
-not_true : (b : Bool) → not b ≡ true → b ≡ false
-not_true true e = absurd cc
-not_true false e = refl
-
 -- ---- one step more
 
 step-suits : (ring : RingValue) (plan : List Planned) (s : Step) → SaidSuits ring plan (said_of s) → step_suits ring s ≡ true
-step-suits ring plan (Join x) p = rw (declared-true ring x.0 p.0, (neither (is_member ring.nodes x) (has x.0 (joined plan)) p.1.0).0) refl
+step-suits ring plan (Join x) p = rw (declared-true ring x.0 p.0, (or_parts (is_member ring.nodes x) (has x.0 (joined plan)) p.1.0).0) refl
 step-suits ring plan (Mirror s x) p = rw (lt-ltb s.partition ring.q p.0.0, lt-ltb s.index ring.n p.0.1, declared-true ring x.0 p.1) refl
 step-suits ring plan (Copy s Owner) p = rw (lt-ltb s.partition ring.q p.0.0, lt-ltb s.index ring.n p.0.1) refl
 step-suits ring plan (Copy s (Slots from)) p = rw (lt-ltb s.partition ring.q p.0.0, lt-ltb s.index ring.n p.0.1, p.1.2) refl
@@ -62,14 +52,11 @@ step-sources ring plan (Switch s) p = tt
 step-sources ring plan (Drop s x) p = tt
 step-sources ring plan (Retire x) p = tt
 
-one-more : (xs : List ℕ) (x : ℕ) → all_different xs ≡ true → has x xs ≡ false → all_different (xs ++ x ∷ []) ≡ true
-one-more xs x e f = rw (all_different-push xs x, e, f) refl
-
 no-more : (xs : List ℕ) → all_different xs ≡ true → all_different (xs ++ []) ≡ true
 no-more xs e = rw (append-nil xs) e
 
 joins-different : (ring : RingValue) (plan : List Planned) (s : Step) → SaidSuits ring plan (said_of s) → all_different (joined plan) ≡ true → all_different (joined plan ++ joins s) ≡ true
-joins-different ring plan (Join x) p e = one-more (joined plan) x.0 e (neither (is_member ring.nodes x) (has x.0 (joined plan)) p.1.0).1
+joins-different ring plan (Join x) p e = different_more (joined plan) x.0 e (or_parts (is_member ring.nodes x) (has x.0 (joined plan)) p.1.0).1
 joins-different ring plan (Mirror s x) p e = no-more (joined plan) e
 joins-different ring plan (Copy s from) p e = no-more (joined plan) e
 joins-different ring plan (Switch s) p e = no-more (joined plan) e
@@ -82,7 +69,7 @@ retires-different ring plan (Mirror s x) p e = no-more (retired plan) e
 retires-different ring plan (Copy s from) p e = no-more (retired plan) e
 retires-different ring plan (Switch s) p e = no-more (retired plan) e
 retires-different ring plan (Drop s x) p e = no-more (retired plan) e
-retires-different ring plan (Retire x) p e = one-more (retired plan) x.0 e p.1.0
+retires-different ring plan (Retire x) p e = different_more (retired plan) x.0 e p.1.0
 
 plan-more : (ring : RingValue) (plan : List Planned) (x : Planned) → IsPlan plan → IsStepLine ring plan (line_of x) → IsPlan (plan ++ x ∷ [])
 plan-more ring plan x is p = IsPlan-push plan x is (record { ascending = p.after.ascending; earlier = p.after.earlier; few = p.after.few; sources = step-sources ring plan x.step p.said }) p.room p.after.total
@@ -116,19 +103,8 @@ all-at : (ring : RingValue) (seen : List Planned) (y : Planned) (ys : List Plann
 all-at ring [] y ys e = (and_parts (step_suits ring y.step) (list_all (λ (z : Planned). step_suits ring z.step) ys) e).0
 all-at ring (x ∷ seen) y ys e = all-at ring seen y ys (and_parts (step_suits ring x.step) (list_all (λ (z : Planned). step_suits ring z.step) (seen ++ y ∷ ys)) e).1
 
-has-later : (x : ℕ) (xs : List ℕ) (y : ℕ) (ys : List ℕ) → has x (xs ++ y ∷ ys) ≡ false → eqb x y ≡ false
-has-later x [] y ys e = (neither (eqb x y) (has x ys) e).0
-has-later x (z ∷ xs) y ys e = has-later x xs y ys (neither (eqb x z) (has x (xs ++ y ∷ ys)) e).1
-
 eq-flip : (x y : ℕ) → eqb x y ≡ eqb y x
 eq-flip x y = grind (arith, nat_tests)
-
-apart : (xs : List ℕ) (y : ℕ) (ys : List ℕ) → all_different (xs ++ y ∷ ys) ≡ true → has y xs ≡ false
-apart [] y ys e = refl
-apart (x ∷ xs) y ys e =
-    let p = and_parts (not (has x (xs ++ y ∷ ys))) (all_different (xs ++ y ∷ ys)) e in
-    let h = has-later x xs y ys (not_true (has x (xs ++ y ∷ ys)) p.0) in
-    neither-of (eqb y x) (has y xs) (eq-flip y x ∙ h) (apart xs y ys p.1)
 
 joined-parts : (seen : List Planned) (y : Planned) (ys : List Planned) → joined (seen ++ y ∷ ys) ≡ joined seen ++ (joins y.step ++ joined ys)
 joined-parts seen y ys = flat_map-append (λ (x : Planned). joins x.step) seen (y ∷ ys) ∙ ap (λ (r : List ℕ). joined seen ++ r) (flat_map-cons (λ (x : Planned). joins x.step) y ys)
@@ -142,7 +118,7 @@ slot-in ring p i e = let b = and_parts (nat_lt p ring.q) (nat_lt i ring.n) e in 
 said-of-step : (ring : RingValue) (seen : List Planned) (s : Step) (js rs : List ℕ) → step_suits ring s ≡ true → HasSources s → all_different (joined seen ++ (joins s ++ js)) ≡ true → all_different (retired seen ++ (retires s ++ rs)) ≡ true → SaidSuits ring seen (said_of s)
 said-of-step ring seen (Join x) js rs e h j r =
     let b = and_parts (nat_lt x.0 (length ring.nodes)) (not (is_member ring.nodes x)) e in
-    (declared-below ring x.0 b.0, (neither-of (is_member ring.nodes x) (has x.0 (joined seen)) (not_true (is_member ring.nodes x) b.1) (apart (joined seen) x.0 js j), tt))
+    (declared-below ring x.0 b.0, (or_from (is_member ring.nodes x) (has x.0 (joined seen)) (not-true (is_member ring.nodes x) b.1) (different_apart (joined seen) x.0 js j), tt))
 said-of-step ring seen (Mirror s x) js rs e h j r =
     let b = and_parts (nat_lt s.partition ring.q && nat_lt s.index ring.n) (nat_lt x.0 (length ring.nodes)) e in
     (slot-in ring s.partition s.index b.0, declared-below ring x.0 b.1)
@@ -156,7 +132,7 @@ said-of-step ring seen (Switch s) js rs e h j r = slot-in ring s.partition s.ind
 said-of-step ring seen (Drop s x) js rs e h j r =
     let b = and_parts (nat_lt s.partition ring.q && nat_lt s.index ring.n) (nat_lt x.0 (length ring.nodes)) e in
     (slot-in ring s.partition s.index b.0, declared-below ring x.0 b.1)
-said-of-step ring seen (Retire x) js rs e h j r = (declared-below ring x.0 e, (apart (retired seen) x.0 rs r, tt))
+said-of-step ring seen (Retire x) js rs e h j r = (declared-below ring x.0 e, (different_apart (retired seen) x.0 rs r, tt))
 
 small-below : (k : ℕ) (xs : List ℕ) → k ≤ 131072 → list_all (λ a. nat_lt a k) xs ≡ true → are_small xs ≡ true
 small-below k [] le e = refl

@@ -1,6 +1,7 @@
 //! What a plan keeps besides its steps, so that nothing has to be looked for in them.
 
-ghost use Rattle.std.specs.Prelude.{◌≡◌, ℕ, length, ◌++◌, ◌∷◌, [], ◌==◌, ◌&&◌, not, List, Some, None, IfErr, OnOk, OnErr, if◌then◌else◌, true};
+ghost use Rattle.std.specs.Prelude.{◌≡◌, ℕ, length, ◌++◌, ◌∷◌, [], ◌==◌, ◌&&◌, not, List, Some, None, IfErr, OnOk};
+ghost use Rattle.std.specs.Prelude.{OnErr, if◌then◌else◌, true};
 ghost use Rattle.ring_names.specs.declared.ids.Slot.{Slot};
 ghost use Rattle.ring_names.specs.declared.refusal.Refusal.TheVariants.{OutOfMemory};
 ghost use Rattle.plan_text.specs.Steps.{is_slot};
@@ -55,7 +56,8 @@ impl NodeIndex {
 
     /// Meets one more node, in the step of that number.
     pub fn add(&mut self, node: NodeId, number: u32) -> Result<(), Refusal>
-        ensures firsts { OnOk result ((x : ℕ) → first_of self.new x ≡ option_or (first_of self.old x) (if x == node.0 then Some number else None)) }
+        ensures firsts { OnOk result ((x : ℕ)
+            → first_of self.new x ≡ option_or (first_of self.old x) (if x == node.0 then Some number else None)) }
         ensures different { OnOk result (self.new.different ≡ (self.old.different && not (holds self.old node.0))) }
         ensures err { OnErr result ((x : ℕ) → first_of self.new x ≡ first_of self.old x) }
         ensures same { OnErr result (self.new.different ≡ self.old.different) }
@@ -92,7 +94,8 @@ impl Index {
 
     /// Takes in the plan's next step.
     pub fn add(&mut self, step: &Step, number: u32) -> Result<(), Refusal>
-        ensures ok { OnOk result ((plan : List Planned) → HoldsSteps self.old plan → length plan ≡ number → (x : Planned) → x.step ≡ step.now → HoldsSteps self.new (plan ++ x ∷ [])) }
+        ensures ok { OnOk result ((plan : List Planned) → HoldsSteps self.old plan → length plan ≡ number
+            → (x : Planned) → x.step ≡ step.now → HoldsSteps self.new (plan ++ x ∷ [])) }
         ensures err { OnErr result ((plan : List Planned) → HoldsSteps self.old plan → HoldsSteps self.new plan) }
         ensures memory { IfErr result (λ e. e ≡ OutOfMemory) }
     {

@@ -58,7 +58,8 @@ fn add(alloc: Global, plan: &mut Plan, said: Said, after: NumberRow) -> Result<(
 // Reads steps behind those of the plan, up to a line that begins with `end`.
 fn read_into(alloc: Global, ring: &Ring, plan: &mut Plan, lines: &mut Lines) -> Result<(), Refusal>
     requires none { plan.old ≡ [] }
-    ensures read { Reads (map_ok (λ _. plan.new) result) lines.new (steps_from ring.now plan.old lines.old.line lines.old.lines) }
+    ensures read { Reads (map_ok (λ _. plan.new) result) lines.new
+        (steps_from ring.now plan.old lines.old.line lines.old.lines) }
     ensures late { Late 1 result lines.old lines.new (steps_from ring.now plan.old lines.old.line lines.old.lines) }
 {
     'steps: while !lines.begins(b"end") {
@@ -124,7 +125,8 @@ pub fn read_plan(alloc: Global, ring: &Ring, text: &[u8]) -> Result<Plan, Refusa
     // What is read is a plan that suits the ring, and spelled so.
     ensures found { IfOk result (λ v. IsPlan v × Suits ring.now v × (text.now ≡ plan_text ring.now v)) }
     // What is spelled so is read, unless memory runs out.
-    ensures only { (v : List Planned) → IsPlan v → Suits ring.now v → text.now ≡ plan_text ring.now v → Gives result (Ok v) }
+    ensures only { (v : List Planned) → IsPlan v → Suits ring.now v → text.now ≡ plan_text ring.now v
+        → Gives result (Ok v) }
     // Which fault it is.
     ensures exact { Gives result (plan_reading ring.now text.now) }
     // Memory may run out only if the first two lines have no fault.

@@ -5,7 +5,8 @@ ghost use Rattle.std.specs.List.{join_with_byte};
 ghost use Rattle.ring_names.specs.declared.refusal.Refusal.TheVariants.{OutOfMemory};
 ghost use Rattle.texts.specs.Parts.{line_text, text_of, spaced};
 ghost use Rattle.ring_table.specs.Value.{names_of};
-ghost use Rattle.plan_text.specs.Spelling.{slot_fields, source_fields, kind_fields, after_fields, step_fields, plan_text};
+ghost use Rattle.plan_text.specs.Spelling.{slot_fields, source_fields, kind_fields, after_fields, step_fields};
+ghost use Rattle.plan_text.specs.Spelling.{plan_text};
 ghost use Rattle.plan_text.specs.Valid.{Suits};
 
 use crate::plan::Plan;
@@ -37,7 +38,8 @@ fn push_source(out: &mut Vec<u8>, source: &Source) -> Result<(), AllocError>
 
 // What the step is.
 fn push_kind(out: &mut Vec<u8>, ring: &Ring, step: &Step) -> Result<(), AllocError>
-    ensures { OnOk result (out.new.items ≡ out.old.items ++ join_with_byte 32 (kind_fields (names_of ring.now) step.now)) }
+    ensures { OnOk result
+        (out.new.items ≡ out.old.items ++ join_with_byte 32 (kind_fields (names_of ring.now) step.now)) }
 {
     match step {
         Step::Join(node) => {
@@ -83,7 +85,8 @@ fn push_after(out: &mut Vec<u8>, after: &[u32]) -> Result<(), AllocError>
 
 // The line of a step.
 fn push_step(out: &mut Vec<u8>, ring: &Ring, step: &Step, after: &[u32]) -> Result<(), AllocError>
-    ensures { OnOk result (out.new.items ≡ out.old.items ++ line_text (step_fields (names_of ring.now) (record { step = step.now; after = after.now }))) }
+    ensures { OnOk result (out.new.items ≡ out.old.items
+        ++ line_text (step_fields (names_of ring.now) (record { step = step.now; after = after.now }))) }
 {
     push_kind(out, ring, step)?;
     push_after(out, after)?;

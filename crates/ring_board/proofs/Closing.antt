@@ -9,6 +9,7 @@ use lib.ListN.{get_elem?}
 use Rattle.std.proofs.lemmas.List.{map-append, get_or_default, get_or_at, get_or_append_left}
 use Rattle.std.proofs.lemmas.List.Elements.{All-from_recursion}
 use Rattle.std.proofs.lemmas.List.Sums.{sum_by-cons}
+use Rattle.std.proofs.lemmas.Bool.{or_right, or_left}
 use Rattle.atomic_table.specs.Table.{Final, Seen}
 use Rattle.ring_names.specs.Lists.{has}
 use Rattle.ring_board.specs.declared.view.Mark.{Mark}
@@ -18,7 +19,7 @@ use Rattle.ring_board.specs.Words.{claimed, finished_word, IsWord}
 use Rattle.ring_board.specs.Seats.{SeatView, Fits, parts, AreAll, Tells, IsTold, times, held_times, finished_times}
 use Rattle.ring_board.specs.Views.{mark, marked, marks_of, view_of, joined, IsSeat}
 use Rattle.ring_board.specs.Kept.{once, word_of, amount, Matches, Kept, Sees, Knower}
-use Rattle.ring_board.proofs.Counts.{claimed-differ, finished-differ, once-le, once-same, once-else, same-once, marked-here, marked-there, marked-append, marked-own, times-cons, times-append, has-append, or-right, or-left}
+use Rattle.ring_board.proofs.Counts.{claimed-differ, finished-differ, once-le, once-same, once-else, same-once, marked-here, marked-there, marked-append, marked-own, times-cons, times-append, has-append}
 use Rattle.ring_board.proofs.Parts.{alone, parts-joined, sum-alone, two-le}
 use Rattle.ring_board.proofs.Steps.{sees}
 use Rattle.ring_board.proofs.Seats.{steps-of, fits}
@@ -43,13 +44,13 @@ all-fit (s ∷ ss) k word all h =
           (record {
             held = λ w small. (let sum = held w in let most = h.held w small in omega arith);
             finished = λ w small. (let sum = finished w in let most = h.finished w small in omega arith);
-            known = λ e. h.known (known ∙ or-right (has k (joined ss).known) (has k s.known) e);
+            known = λ e. h.known (known ∙ or_right (has k (joined ss).known) (has k s.known) e);
           }),
       all-fit ss k word all.1
           (record {
             held = λ w small. (let sum = held w in let most = h.held w small in omega arith);
             finished = λ w small. (let sum = finished w in let most = h.finished w small in omega arith);
-            known = λ e. h.known (known ∙ or-left (has k (joined ss).known) (has k s.known) e);
+            known = λ e. h.known (known ∙ or_left (has k (joined ss).known) (has k s.known) e);
           }),
     )
 
@@ -149,11 +150,11 @@ times-has : (k : ℕ) (ks : List ℕ) → 0 < times k ks → has k ks ≡ true
 times-has k [] h = absurd (omega arith)
 times-has k (x ∷ xs) h =
     dite (ℕ_discrete k x)
-    (λ e. or-left (eqb k x) (has k xs) (eq-eqb k x e))
+    (λ e. or_left (eqb k x) (has k xs) (eq-eqb k x e))
     (λ e.
     let first = once-else k x e in
     let all = times-cons k x xs in
-    or-right (eqb k x) (has k xs) (times-has k xs (omega arith)))
+    or_right (eqb k x) (has k xs) (times-has k xs (omega arith)))
 
 -- a mark of worker w among those of one worker
 own-mark : (o : Option ℕ) (ks : List ℕ) (k w : ℕ) → 0 < marked k w (marks_of o ks) → (o ≡ Some w) × (has k ks ≡ true)

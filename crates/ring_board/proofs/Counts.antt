@@ -1,12 +1,14 @@
 -- How often a step stands in a list, as a worker's and at all, and sums over views of which one changes.
-use Rattle.std.proofs.Common.{◌≡◌, ◌≢◌, ◌&&◌, ◌||◌, ◌⊎◌, inl, inr, ℕ, zero, suc, ◌+◌, ◌<◌, ◌≤◌, Bool, true, false, cond, eqb, List, [], ◌∷◌, ◌++◌, map, set, refl, sym, ap, ◌∙◌, arith, eq-eqb, ne_eqb}
+use Rattle.std.proofs.Common.{◌≡◌, ◌≢◌, ◌&&◌, ◌||◌, ◌⊎◌, ℕ, zero, suc, ◌+◌, ◌<◌, ◌≤◌, Bool, true, false, cond, eqb, List, [], ◌∷◌, ◌++◌, map, set, refl, sym, ap, ◌∙◌, arith, eq-eqb, ne_eqb}
 use Rattle.std.specs.Prelude.{sum_by}
 use mathlib.Core.Logic.{dite}
 use mathlib.Core.Option.{some, some-injective, some-ne-none}
 use native.Mathlib.Decide.{ℕ_discrete}
 use lib.ListN.{get_elem?}
 use Rattle.std.proofs.lemmas.List.Sums.{sum_by-cons, sum_by-append}
+use Rattle.std.proofs.lemmas.Bool.{or_right, or_cases, or_left}
 use Rattle.ring_names.specs.Lists.{has}
+use Rattle.ring_names.proofs.Logic.{or_assoc}
 use Rattle.ring_board.specs.declared.view.Mark.{Mark}
 use Rattle.ring_board.specs.Words.{claimed, finished_word}
 use Rattle.ring_board.specs.Seats.{removed, times}
@@ -169,22 +171,6 @@ marked-kept j k w x ks h ne =
     let same : times j (removed k ks) ≡ times j ks = omega arith in
     ap (marked j x) (unmarked-own k w ks) ∙ marked-own j x w (removed k ks) ∙ ap (λ n. cond (eqb x w) n 0) same ∙ sym (marked-own j x w ks)
 
-or-assoc : (a b c : Bool) → (a || (b || c)) ≡ ((a || b) || c)
-or-assoc true b c = refl
-or-assoc false b c = refl
-
 pub has-append : (k : ℕ) (xs ys : List ℕ) → has k (xs ++ ys) ≡ (has k xs || has k ys)
 has-append k [] ys = refl
-has-append k (x ∷ xs) ys = ap (λ b. eqb k x || b) (has-append k xs ys) ∙ or-assoc (eqb k x) (has k xs) (has k ys)
-
-pub or-either : (a b : Bool) → (a || b) ≡ true → (a ≡ true) ⊎ (b ≡ true)
-or-either true b e = inl refl
-or-either false b e = inr e
-
-pub or-right : (a b : Bool) → b ≡ true → (a || b) ≡ true
-or-right true b e = refl
-or-right false b e = e
-
-pub or-left : (a b : Bool) → a ≡ true → (a || b) ≡ true
-or-left true b e = refl
-or-left false b e = absurd cc
+has-append k (x ∷ xs) ys = ap (λ b. eqb k x || b) (has-append k xs ys) ∙ or_assoc (eqb k x) (has k xs) (has k ys)

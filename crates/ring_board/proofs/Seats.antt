@@ -3,7 +3,7 @@ use Rattle.std.proofs.Common.{◌≡◌, ◌≢◌, ◌⊎◌, inl, inr, ⊎_eli
 use mathlib.Core.Logic.{dite}
 use mathlib.Core.Option.{none}
 use native.Mathlib.Decide.{dec_le}
-use Rattle.std.proofs.lemmas.Bool.{le-leb, lt-leb}
+use Rattle.std.proofs.lemmas.Bool.{le-leb, lt-leb, or_cases}
 use prog.Atomic.{either}
 use Rattle.atomic_table.specs.Table.{step, Allows}
 use Rattle.ring_names.specs.Lists.{has}
@@ -16,7 +16,7 @@ use Rattle.ring_board.specs.Views.{mark, unmarked, with_held, without_held, with
 use Rattle.ring_board.specs.Kept.{Kept, Sees, Knower, claims, gives_back, finishes, looks}
 use Rattle.ring_board.specs.Seated.{shown, IsSeated}
 use Rattle.ring_board.specs.Boarded.{board_of, IsBoard}
-use Rattle.ring_board.proofs.Counts.{unmarked-own, or-either}
+use Rattle.ring_board.proofs.Counts.{unmarked-own}
 use Rattle.ring_board.proofs.Steps.{had-word, claiming, giving, finishing, looking}
 
 pub steps-of : (o : Option ℕ) (ks : List ℕ) → (o ≡ None → ks ≡ []) → map (λ (m : Mark). m.step) (marks_of o ks) ≡ ks
@@ -201,7 +201,7 @@ looked-done s k word is fit h =
     (λ t. let mine = fit.finished finished t.0 t.1 in omega arith)
     (some-or-none s.worker))
     fit.known
-    (or-either (has k s.finished) (has k s.known) h))
+    (or_cases (has k s.finished) (has k s.known) h))
 
 -- a step that is held is not
 pub looked-held : (s : SeatView) (k word : ℕ) → IsSeat s → Fits s k word → has k s.held ≡ true → leb 128 word ≡ false

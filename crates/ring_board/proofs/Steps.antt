@@ -9,6 +9,7 @@ use prog.Atomic.{either}
 use Rattle.atomic_table.specs.Table.{State, step, keeps, stepped, Allows, Splits, Joins}
 use Rattle.atomic_table.proofs.Lists.{at_set, set_else, at_snoc}
 use Rattle.std.proofs.lemmas.List.Sums.{sum_by_push}
+use Rattle.std.proofs.lemmas.Bool.{or_cases}
 use Rattle.ring_names.specs.Lists.{has}
 use Rattle.ring_board.specs.declared.view.Mark.{Mark}
 use Rattle.ring_board.specs.declared.view.Size.{Size}
@@ -18,7 +19,7 @@ use Rattle.ring_board.specs.Seats.{times}
 use Rattle.ring_board.specs.Views.{mark, marked, unmarked, with_held, without_held, with_finished, with_known, with_seen, with_half, half_of, nothing, together}
 use Rattle.ring_board.specs.Kept.{once, word_of, Matches, amount, Kept, Sees, Claims, Looks, claims, gives_back, finishes, looks}
 use Rattle.ring_board.proofs.Parts.{halves-le, amount-append, none-left, no-halves}
-use Rattle.ring_board.proofs.Counts.{sum-set, part-le, once-else, same-once, marked-here, marked-there, marked-append, marked-mine, marked-less, marked-kept, has-times, has-append, or-either, once-said, claimed-differ, finished-differ}
+use Rattle.ring_board.proofs.Counts.{sum-set, part-le, once-else, same-once, marked-here, marked-there, marked-append, marked-mine, marked-less, marked-kept, has-times, has-append, once-said, claimed-differ, finished-differ}
 
 abbrev pub Board : Type 0
 Board = State (Option (Unit {0})) View
@@ -354,7 +355,7 @@ joining size id v other u s kept at ne there =
           (λ t. ⊎_elim
           (λ r.
           let all : has k (v.known ++ u.known) ≡ true = subst (λ (y : View). has k y.known ≡ true) (sym r.1) h in
-          ⊎_elim (kept.known id v at k) (kept.known other u before k) (or-either (has k v.known) (has k u.known) (sym (has-append k v.known u.known) ∙ all)))
+          ⊎_elim (kept.known id v at k) (kept.known other u before k) (or_cases (has k v.known) (has k u.known) (sym (has-append k v.known u.known) ∙ all)))
           (λ r. kept.known i x r.1 k h)
           (at_set s.views id i b x t.1))
           (at_set (set s.views id b) other i nothing x at_i);

@@ -1,6 +1,7 @@
 //! The board, and its steps.
 
-ghost use Rattle.std.specs.Prelude.{◌≡◌, ◌≢◌, ◌<◌, ◌≤◌, ◌+◌, ◌||◌, ℕ, ◌∷◌, true, false, Some, None, is_some, IfOk, IfErr, if◌then◌else◌};
+ghost use Rattle.std.specs.Prelude.{◌≡◌, ◌≢◌, ◌<◌, ◌≤◌, ◌+◌, ◌||◌, ℕ, ◌∷◌, true, false, Some, None, is_some, IfOk};
+ghost use Rattle.std.specs.Prelude.{IfErr, if◌then◌else◌};
 ghost use Rattle.ring_names.specs.declared.refusal.Refusal.TheVariants.{OutOfMemory};
 ghost use Rattle.ring_names.specs.Lists.{has};
 ghost use Rattle.ring_board.specs.Seats.{Fits, fresh, removed, sight};
@@ -89,9 +90,12 @@ impl Board {
         requires board { seat.old.board ≡ self.now.id }
         requires worker { is_some seat.old.worker ≡ true }
         requires step { step < self.now.steps }
-        ensures won { result ≡ Claim.Won → (seat.new ≡ record seat.old { held = step ∷ seat.old.held }) × Fits seat.old step 0 }
-        ensures read { (word : ℕ) → result ≡ Claim.Taken word → seat.new ≡ record seat.old { seen = sight step word ∷ seat.old.seen } }
-        ensures taken { (word : ℕ) → result ≡ Claim.Taken word → (word ≢ 0) × IsWord self.now.workers word × Fits seat.old step word }
+        ensures won { result ≡ Claim.Won
+            → (seat.new ≡ record seat.old { held = step ∷ seat.old.held }) × Fits seat.old step 0 }
+        ensures read { (word : ℕ) → result ≡ Claim.Taken word
+            → seat.new ≡ record seat.old { seen = sight step word ∷ seat.old.seen } }
+        ensures taken { (word : ℕ) → result ≡ Claim.Taken word
+            → (word ≢ 0) × IsWord self.now.workers word × Fits seat.old step word }
         ensures same { (seat.new.board ≡ seat.old.board) × (seat.new.worker ≡ seat.old.worker) }
     {
         let Some(worker) = seat.worker else {

@@ -51,7 +51,8 @@ fn step_words(
 ) -> Result<Vec<u64>, Refusal>
     requires { IsFull closed.now.words × (slots_len closed.now.words ≡ steps + 1) }
     ensures len { IfOk result (λ v. vec_len v ≡ steps) }
-    ensures words { IfOk result (λ v. (k : ℕ) → k < steps → slice_index v.items k ≡ slice_index (slots_items closed.now.words) (k + 1)) }
+    ensures words { IfOk result
+        (λ v. (k : ℕ) → k < steps → slice_index v.items k ≡ slice_index (slots_items closed.now.words) (k + 1)) }
     ensures memory { IfErr result (λ e. e ≡ OutOfMemory) }
 {
     let mut words = Vec::with_capacity(alloc, steps)?;
@@ -78,8 +79,10 @@ impl Board {
         requires some { 0 < vec_len seats }
         requires boards { All (λ s. s.board ≡ self.id) seats.items }
         ensures words { IfOk result (λ v. (vec_len v ≡ self.steps) × All (IsWord self.workers) v.items) }
-        ensures told { IfOk result (λ v. All (λ s. (k : ℕ) → k < self.steps → Fits s k (slice_index v.items k)) seats.items) }
-        ensures known { IfOk result (λ v. AreAll seats.items → (k : ℕ) → k < self.steps → IsTold seats.items k (slice_index v.items k)) }
+        ensures told { IfOk result
+            (λ v. All (λ s. (k : ℕ) → k < self.steps → Fits s k (slice_index v.items k)) seats.items) }
+        ensures known { IfOk result
+            (λ v. AreAll seats.items → (k : ℕ) → k < self.steps → IsTold seats.items k (slice_index v.items k)) }
         ensures held_once { (k : ℕ) → held_times k seats.items ≤ 1 }
         ensures finished_once { (k : ℕ) → finished_times k seats.items ≤ 1 }
         ensures memory { IfErr result (λ e. e ≡ OutOfMemory) }

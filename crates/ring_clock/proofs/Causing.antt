@@ -1,31 +1,20 @@
 -- Clocks that are raised to others, and the order that follows.
-use Rattle.std.proofs.Common.{◌≡◌, ◌≢◌, ◌⊎◌, inl, inr, ◌∙◌, ℕ, ◌+◌, ◌<◌, ◌≤◌, Bool, true, false, List, [], ◌∷◌, length, refl, sym, subst, arith}
+use Rattle.std.proofs.Common.{◌≡◌, ◌≢◌, ◌⊎◌, inl, inr, ◌∙◌, ℕ, ◌+◌, ◌<◌, ◌≤◌, true, List, [], ◌∷◌, length, refl, sym, subst, arith}
 use Rattle.std.specs.Prelude.{max, ◌==◌, ◌||◌, Option, Some, None}
-use Rattle.std.proofs.lemmas.Bool.Decides.{eqb_tells, nat_tests}
+use Rattle.std.proofs.lemmas.Bool.Decides.{eqb_tells}
+use Rattle.std.proofs.lemmas.Bool.{ne_eqb, eq-eqb}
 use Rattle.ring_names.specs.Lists.{has}
+use Rattle.ring_names.proofs.Logic.{or_true, max_either}
 use Rattle.ring_clock.specs.declared.entry.Entry.{Entry}
 use Rattle.ring_clock.specs.declared.causes.Cause.{Cause}
 use Rattle.ring_clock.specs.Clock.{counter, IsAtMost}
 use Rattle.ring_clock.specs.Built.{IsJoinOf, Bumps, IsInput}
 
-max_is : (a b : ℕ) → (max a b ≡ a) ⊎ (max a b ≡ b)
-max_is a b = elim (eqb_tells (max a b) a) [ inl t ↦ inl t.1 | inr t ↦ inr (grind (arith, t.1)) ]
-
-pub same : (x y : ℕ) → x ≡ y → (x == y) ≡ true
-same x y e = grind (arith, nat_tests)
-
-pub differ : (x y : ℕ) → x ≢ y → (x == y) ≡ false
-differ x y e = grind (arith, nat_tests)
-
-or_true : (b : Bool) → (b || true) ≡ true
-or_true true = refl
-or_true false = refl
-
 front : (v x : ℕ) (xs : List ℕ) → has v (x ∷ xs) ≡ true → (v ≡ x) ⊎ (has v xs ≡ true)
-front v x xs h = elim (eqb_tells v x) [ inl t ↦ inl t.1 | inr t ↦ inr (subst (λ b. (b || has v xs) ≡ true) (differ v x t.1) h) ]
+front v x xs h = elim (eqb_tells v x) [ inl t ↦ inl t.1 | inr t ↦ inr (subst (λ b. (b || has v xs) ≡ true) (ne_eqb v x t.1) h) ]
 
 pub has_first : (x : ℕ) (xs : List ℕ) → has x (x ∷ xs) ≡ true
-has_first x xs = rw (same x x refl) refl
+has_first x xs = rw (eq-eqb x x refl) refl
 
 pub has_later : (v x : ℕ) (xs : List ℕ) → has v xs ≡ true → has v (x ∷ xs) ≡ true
 has_later v x xs h = rw h (or_true (v == x))
@@ -58,7 +47,7 @@ raised_one clock seen rest later put old new is raise r =
         ]
         | inr below ↦ inr (up v below)
       ];
-      from = λ w. elim (max_is (counter old w) (counter (clock put) w)) [
+      from = λ w. elim (max_either (counter old w) (counter (clock put) w)) [
         | inl t ↦ elim (r.from w) [
           | inl none ↦ inl (raise w ∙ t ∙ none)
           | inr some ↦ inr (some.0, some.1, some.2 ∙ sym (raise w ∙ t))
@@ -96,7 +85,7 @@ with_last clock cause last put c new is raise all = record {
     | inl seen ↦ (λ w. let a = all.above v seen w in let b = raise w in omega arith)
     | inr at ↦ (λ w. subst (λ u. counter (clock u) w ≤ counter new w) (some_is (sym is ∙ at)) (let b = raise w in omega arith))
   ];
-  from = λ w. elim (max_is (counter c w) (counter (clock put) w)) [
+  from = λ w. elim (max_either (counter c w) (counter (clock put) w)) [
     | inl t ↦ elim (all.from w) [
       | inl none ↦ inl (raise w ∙ t ∙ none)
       | inr some ↦ inr (some.0, inl some.1, some.2 ∙ sym (raise w ∙ t))
@@ -108,8 +97,8 @@ with_last clock cause last put c new is raise all = record {
 -- one more for the writer is the next clock, and no counter is above the number of puts
 pub few_next : (writer n : ℕ) (d c : List Entry) → Bumps writer d c → ((w : ℕ) → counter d w ≤ n) → (w : ℕ) → counter c w ≤ n + 1
 few_next writer n d c bump few w = elim (eqb_tells w writer) [
-  | inl t ↦ (let at : counter c w ≡ counter d w + 1 = bump w ∙ rw (same w writer t.1) refl in let f = few w in omega arith)
-  | inr t ↦ (let at : counter c w ≡ counter d w = bump w ∙ rw (differ w writer t.1) refl in let f = few w in omega arith)
+  | inl t ↦ (let at : counter c w ≡ counter d w + 1 = bump w ∙ rw (eq-eqb w writer t.1) refl in let f = few w in omega arith)
+  | inr t ↦ (let at : counter c w ≡ counter d w = bump w ∙ rw (ne_eqb w writer t.1) refl in let f = few w in omega arith)
 ]
 
 -- what follows of a clock from those that it joins
@@ -121,8 +110,8 @@ pub record Follows (clock : ℕ → List Entry) (In : ℕ → Type 0) (writer : 
 
 pub follows : (clock : ℕ → List Entry) (In : ℕ → Type 0) (writer : ℕ) (d c : List Entry) → IsJoinOf clock In d → Bumps writer d c → Follows clock In writer c
 follows clock In writer d c all bump =
-    let own : counter c writer ≡ counter d writer + 1 = bump writer ∙ rw (same writer writer refl) refl in
-    let other : (w : ℕ) → w ≢ writer → counter c w ≡ counter d w = λ w apart. bump w ∙ rw (differ w writer apart) refl in
+    let own : counter c writer ≡ counter d writer + 1 = bump writer ∙ rw (eq-eqb writer writer refl) refl in
+    let other : (w : ℕ) → w ≢ writer → counter c w ≡ counter d w = λ w apart. bump w ∙ rw (ne_eqb w writer apart) refl in
     let more : (w : ℕ) → counter d w ≤ counter c w = λ w. elim (eqb_tells w writer) [
       | inl t ↦ subst (λ u. counter d u ≤ counter c u) (sym t.1) (omega arith)
       | inr t ↦ (let e = other w t.1 in omega arith)

@@ -1,21 +1,16 @@
 -- Counters of lists of entries, from the front.
-use Rattle.std.proofs.Common.{◌≡◌, ◌≢◌, ℕ, ◌<◌, ◌≤◌, true, false, List, [], ◌∷◌, ◌↔◌, ◌∙◌, inl, inr, refl, sym, subst, arith}
+use Rattle.std.proofs.Common.{◌≡◌, ◌≢◌, ℕ, ◌<◌, ◌≤◌, List, [], ◌∷◌, ◌↔◌, ◌∙◌, inl, inr, refl, sym, subst, arith}
 use Rattle.std.specs.Prelude.{◌==◌, length}
-use Rattle.std.proofs.lemmas.Bool.Decides.{nat_tests, eqb_tells}
+use Rattle.std.proofs.lemmas.Bool.Decides.{eqb_tells}
+use Rattle.std.proofs.lemmas.Bool.{ne_eqb, eq-eqb}
 use Rattle.ring_clock.specs.declared.entry.Entry.{Entry}
 use Rattle.ring_clock.specs.Clock.{counter, IsAbove, IsClock, IsAtMost}
 
-same : (x y : ℕ) → x ≡ y → (x == y) ≡ true
-same x y e = grind (arith, nat_tests)
-
-differ : (x y : ℕ) → x ≢ y → (x == y) ≡ false
-differ x y e = grind (arith, nat_tests)
-
 pub here : (e : Entry) (es : List Entry) (w : ℕ) → e.writer.0 ≡ w → counter (e ∷ es) w ≡ e.counter
-here e es w is = rw (same e.writer.0 w is) refl
+here e es w is = rw (eq-eqb e.writer.0 w is) refl
 
 pub there : (e : Entry) (es : List Entry) (w : ℕ) → e.writer.0 ≢ w → counter (e ∷ es) w ≡ counter es w
-there e es w apart = rw (differ e.writer.0 w apart) refl
+there e es w apart = rw (ne_eqb e.writer.0 w apart) refl
 
 -- by whether w is the writer in front
 pub by_writer : (e : Entry) (w : ℕ) (P : Type 0) → (e.writer.0 ≡ w → P) → (e.writer.0 ≢ w → P) → P

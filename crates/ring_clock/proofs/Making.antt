@@ -3,13 +3,14 @@ use Rattle.std.proofs.Common.{◌≡◌, ◌≢◌, inl, inr, ◌∙◌, ℕ, ze
 use Rattle.std.specs.Prelude.{◌==◌, Option, Some, None, if◌then◌else◌}
 use Rattle.std.proofs.lemmas.Bool.Decides.{eqb_tells}
 use Rattle.std.proofs.lemmas.List.{get_or_append_left, length_push, length-append}
+use Rattle.std.proofs.lemmas.Bool.{ne_eqb, eq-eqb}
 use Rattle.ring_names.specs.Lists.{has}
 use Rattle.ring_clock.specs.declared.entry.Entry.{Entry}
 use Rattle.ring_clock.specs.declared.causes.Cause.{Cause}
 use Rattle.ring_clock.specs.Clock.{counter, IsAtMost}
 use Rattle.ring_clock.specs.Causes.{writer_of, seen_by, IsEarlier, IsDirect}
 use Rattle.ring_clock.specs.Built.{IsInput, IsNext, IsClockOf, AreClocks, IsLast, with_clock}
-use Rattle.ring_clock.proofs.Causing.{same, differ, Follows, follows}
+use Rattle.ring_clock.proofs.Causing.{Follows, follows}
 
 pub cause_at : (causes : List Cause) (k : ℕ) (c : Cause) → c ≡ get_or causes k c → k < length causes → (writer_of causes k ≡ c.writer.0) × (seen_by causes k ≡ c.seen.items)
 cause_at [] k c is h = absurd (omega arith)
@@ -128,10 +129,10 @@ made_one causes clocks new n cause last later c earlier h at is next few put mad
       few = λ v x. subst (λ (xs : List (List Entry)). counter (get_or xs v []) x ≤ n + 1) (sym is) (few_more clocks c n v x made.few few);
       lasts = λ x. elim (eqb_tells x w) [
         | inl t ↦ (
-            let is_now : later x ≡ Some n = put x ∙ rw (same x w t.1) refl in
+            let is_now : later x ≡ Some n = put x ∙ rw (eq-eqb x w t.1) refl in
             subst (IsLast causes (n + 1) x) (sym is_now) (omega arith, told.0 ∙ sym t.1, λ v l e. omega arith))
         | inr t ↦ (
-            let is_now : later x ≡ last x = put x ∙ rw (differ x w t.1) refl in
+            let is_now : later x ≡ last x = put x ∙ rw (ne_eqb x w t.1) refl in
             subst (IsLast causes (n + 1) x) (sym is_now) (stays_last causes n x (last x) (λ e. t.1 (e ∙ told.0)) (made.lasts x)))
       ];
     }
@@ -186,6 +187,6 @@ put_behind causes cause clock last c earlier made lasts next k h =
     let n = length causes in
     let all = causes ++ cause ∷ [] in
     let more : length all ≡ n + 1 = length_push causes cause in
-    let end : with_clock clock n c n ≡ c = rw (same n n refl) refl in
-    let old : (v : ℕ) → v < n → with_clock clock n c v ≡ clock v = λ v l. rw (differ v n (λ e. omega arith)) refl in
+    let end : with_clock clock n c n ≡ c = rw (eq-eqb n n refl) refl in
+    let old : (v : ℕ) → v < n → with_clock clock n c v ≡ clock v = λ v l. rw (ne_eqb v n (λ e. omega arith)) refl in
     grown all clock (with_clock clock n c) n cause last c earlier (omega arith) (at_last causes cause) end old next (λ j l. clock_behind causes (cause ∷ []) clock j l (made j l)) (last_behind causes (cause ∷ []) cause.writer.0 last lasts) k (omega arith)

@@ -1,6 +1,7 @@
 //! The clocks of the puts of one key.
 
-ghost use Rattle.std.specs.Prelude.{◌≡◌, ◌+◌, ◌<◌, ◌≤◌, ◌==◌, [], ℕ, length, get_or, true, max, Some, None, if◌then◌else◌, IfOk, IfErr, OnOk, IfSome};
+ghost use Rattle.std.specs.Prelude.{◌≡◌, ◌+◌, ◌<◌, ◌≤◌, ◌==◌, [], ℕ, length, get_or, true, max, Some, None};
+ghost use Rattle.std.specs.Prelude.{if◌then◌else◌, IfOk, IfErr, OnOk, IfSome};
 ghost use Rattle.ring_names.specs.Lists.{has};
 ghost use Rattle.ring_names.specs.declared.refusal.Refusal.TheVariants.{OutOfMemory};
 ghost use Rattle.ring_clock.specs.Clock.{counter};
@@ -99,7 +100,8 @@ impl LastPuts {
     }
 
     fn set(&mut self, writer: WriterId, place: usize) -> Result<(), Refusal>
-        ensures ok { OnOk result ((w : ℕ) → last_of self.new w ≡ (if w == writer.0 then Some place else last_of self.old w)) }
+        ensures ok { OnOk result
+            ((w : ℕ) → last_of self.new w ≡ (if w == writer.0 then Some place else last_of self.old w)) }
         ensures memory { IfErr result (λ e. e ≡ OutOfMemory) }
     {
         self.places.insert(writer.0, place)?;

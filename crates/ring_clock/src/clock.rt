@@ -1,6 +1,7 @@
 //! Clocks.
 
-ghost use Rattle.std.specs.Prelude.{◌≡◌, ◌↔◌, ◌+◌, ◌<◌, ◌==◌, [], ℕ, IsTrue, IfOk, IfErr, OnOk, OnErr, max, if◌then◌else◌};
+ghost use Rattle.std.specs.Prelude.{◌≡◌, ◌↔◌, ◌+◌, ◌<◌, ◌==◌, [], ℕ, IsTrue, IfOk, IfErr, OnOk, OnErr, max};
+ghost use Rattle.std.specs.Prelude.{if◌then◌else◌};
 ghost use Rattle.ring_names.specs.declared.refusal.Refusal.TheVariants.{OutOfMemory};
 ghost use Rattle.ring_clock.specs.Clock.{IsClock, IsAtMost, IsJoin, counter};
 
@@ -139,7 +140,8 @@ impl Clock {
     /// This clock with the writer's counter raised by one. Costs the entries.
     pub fn bump(&self, writer: WriterId) -> Result<Clock, Refusal>
         requires { counter self.now writer.0 < 18446744073709551615 }
-        ensures counters { IfOk result (λ c. (w : ℕ) → counter c w ≡ (if w == writer.0 then counter self.now w + 1 else counter self.now w)) }
+        ensures counters { IfOk result
+            (λ c. (w : ℕ) → counter c w ≡ (if w == writer.0 then counter self.now w + 1 else counter self.now w)) }
         ensures memory { IfErr result (λ e. e ≡ OutOfMemory) }
     {
         let counter = self.counter(writer) + 1;

@@ -39,7 +39,8 @@ fn take_least<'a>(first: &mut &'a [Entry], second: &mut &'a [Entry]) -> Option<E
     requires second { IsClock second.old.now }
     ensures none { IfNone result ((first.old.now ≡ []) × (second.old.now ≡ [])) }
     ensures some { IfSome result (λ e. StandFor first.old.now second.old.now (e ∷ first.new.now) (e ∷ second.new.now)) }
-    ensures shorter { IfSome result (λ e. length first.new.now + length second.new.now < length first.old.now + length second.old.now) }
+    ensures shorter { IfSome result
+        (λ e. length first.new.now + length second.new.now < length first.old.now + length second.old.now) }
 {
     match (first.split_first(), second.split_first()) {
         (None, None) => None,
@@ -75,7 +76,8 @@ fn merge_into(out: &mut Vec<Entry>, first: &[Entry], second: &[Entry]) -> Result
     requires first { IsClock first.now }
     requires second { IsClock second.now }
     ensures clock { OnOk result (IsClock out.new.items) }
-    ensures counters { OnOk result ((w : ℕ) → counter out.new.items w ≡ max (counter first.now w) (counter second.now w)) }
+    ensures counters { OnOk result
+        ((w : ℕ) → counter out.new.items w ≡ max (counter first.now w) (counter second.now w)) }
 {
     let mut rest = first;
     let mut others = second;
@@ -90,7 +92,8 @@ pub fn merged(alloc: Global, first: &[Entry], second: &[Entry]) -> Result<Vec<En
     requires first { IsClock first.now }
     requires second { IsClock second.now }
     ensures clock { IfOk result (λ v. IsClock v.items) }
-    ensures counters { IfOk result (λ v. (w : ℕ) → counter v.items w ≡ max (counter first.now w) (counter second.now w)) }
+    ensures counters { IfOk result
+        (λ v. (w : ℕ) → counter v.items w ≡ max (counter first.now w) (counter second.now w)) }
 {
     let mut out = Vec::new(alloc);
     merge_into(&mut out, first, second)?;

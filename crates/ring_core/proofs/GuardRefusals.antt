@@ -2,7 +2,7 @@
 use Rattle.std.proofs.Common.{◌≡◌, ℕ, Bool, true, false, not, cond, List, [], ◌∷◌, ◌++◌, length, map, refl, ap, subst}
 use Rattle.std.specs.Prelude.{◌≢◌, ◌==◌, ◌&&◌, Option, Some, None}
 use Rattle.std.specs.List.{list_all}
-use Rattle.std.proofs.lemmas.Bool.{and_parts}
+use Rattle.std.proofs.lemmas.Bool.{and_parts, and_from}
 use Rattle.ring_names.specs.declared.ids.NodeId.{NodeId}
 use Rattle.ring_names.specs.declared.ids.Slot.{Slot}
 use Rattle.ring_names.specs.declared.refusal.Refusal.{Refusal}
@@ -16,7 +16,6 @@ use Rattle.plan_text.specs.declared.step.Planned.{Planned}
 use Rattle.plan_stage.specs.Clauses.{Guard, first_failing}
 use Rattle.plan_stage.specs.Each.{step_at}
 use Rattle.plan_stage.specs.Parties.{parties}
-use Rattle.plan_stage.proofs.Truth.{all_of}
 use Rattle.plan_check.specs.declared.event.Event.{Event}
 use Rattle.plan_check.specs.declared.event.Event.TheVariants.{Do, OpenCopy, ChunkCopy, CloseCopy, AbortCopy, StartPut, Write, Hint, Ack, StartGet, Read, EndGet, Down, Up, Handoff, Lose}
 use Rattle.plan_check.specs.World.{World, copy_at, passing_below, stage_now, key_of_get}
@@ -45,7 +44,7 @@ unfolding spare
 both_spare [] hs a b = b
 both_spare (g ∷ gs) hs a b =
     let p = and_parts (is_other g.1) (list_all (λ x. is_other x.1) gs) a in
-    all_of (is_other g.1) (list_all (λ x. is_other x.1) (gs ++ hs)) p.0 (both_spare gs hs p.1 b)
+    and_from (is_other g.1) (list_all (λ x. is_other x.1) (gs ++ hs)) p.0 (both_spare gs hs p.1 b)
 
 nodes_spare : (up : ℕ → Bool) (xs : List NodeId) → spare (map (up_guard up) xs) ≡ true
 unfolding spare is_other

@@ -1,5 +1,5 @@
 -- Keepers whose versions do not cover a clock, one after the other.
-use Rattle.std.proofs.Common.{◌≡◌, inl, inr, ◌∙◌, ℕ, Bool, true, false, List, ◌∷◌, ap, subst}
+use Rattle.std.proofs.Common.{◌≡◌, inl, inr, ◌∙◌, ℕ, true, false, List, ◌∷◌, subst}
 use Rattle.std.specs.Prelude.{◌||◌, ◌==◌}
 use Rattle.std.proofs.lemmas.Bool.{cases_Bool}
 use Rattle.ring_names.specs.declared.ids.NodeId.{NodeId}
@@ -9,7 +9,8 @@ use Rattle.ring_versions.specs.Versions.{Covers}
 use Rattle.ring_hints.specs.declared.hints.Hints.{Hints}
 use Rattle.ring_hints.specs.Hints.{hinted_at}
 use Rattle.ring_hints.specs.Views.{in_keepers}
-use Rattle.ring_hints.proofs.KeeperSets.{node_tie, equal}
+use Rattle.ring_hints.proofs.KeeperSets.{equal}
+use Rattle.ring_hints.proofs.KeepersMerged.{left_out}
 
 -- none of the keepers that are not left covers the clock
 abbrev pub NoneBefore : Hints → Slot → List ℕ → List Entry → List NodeId → List NodeId → Type 0
@@ -17,9 +18,6 @@ NoneBefore hints slot key clock all rest = (x : ℕ) → in_keepers x all ≡ tr
 
 pub none_first : (hints : Hints) (slot : Slot) (key : List ℕ) (clock : List Entry) (all : List NodeId) → NoneBefore hints slot key clock all all
 none_first hints slot key clock all x there gone c = absurd cc
-
-left_out : (x : ℕ) (y : NodeId) (rest later : List NodeId) → rest ≡ y ∷ later → (x == y.0) ≡ false → in_keepers x later ≡ false → in_keepers x rest ≡ false
-left_out x y rest later is e out = ap (in_keepers x) is ∙ ap (λ (b : Bool). b || in_keepers x later) (node_tie x y.0 ∙ e) ∙ out
 
 pub none_next : (hints : Hints) (slot : Slot) (key : List ℕ) (clock : List Entry) (all rest later : List NodeId) (y : NodeId) → rest ≡ y ∷ later
     → (Covers (hinted_at hints y.0 slot key) clock → ⊥) → NoneBefore hints slot key clock all rest → NoneBefore hints slot key clock all later

@@ -4,6 +4,7 @@ use Rattle.std.specs.Prelude.{◌==◌, ◌&&◌, nat_lt, bit_or}
 use Rattle.std.specs.Int.{w32, bit_at}
 use Rattle.std.proofs.lemmas.Bool.Decides.{eqb_tells, nat_tests}
 use Rattle.std.proofs.lemmas.Nat.Bits.{bit_at_set_same, bit_at_set_other}
+use Rattle.ring_names.proofs.Logic.{lt_self}
 use Rattle.plan_check.specs.Versions.{put_slot, is_held}
 use Rattle.plan_check.specs.World.{World as TheWorld}
 use Rattle.ring_core.specs.declared.world.World.{World}
@@ -15,9 +16,6 @@ Masked a put mask n = (w : TheWorld) → Meets a w → (i : ℕ) → i < 32 → 
 
 less_more : (i n : ℕ) → (i == n) ≡ false → nat_lt i (n + 1) ≡ nat_lt i n
 less_more i n e = grind (arith, nat_tests)
-
-not_less : (n : ℕ) → nat_lt n n ≡ false
-not_less n = grind (arith, nat_tests)
 
 within_more : (n : ℕ) → nat_lt n (n + 1) ≡ true
 within_more n = lt-ltb n (n + 1) (omega arith)
@@ -34,6 +32,6 @@ mask_with a put mask n l held before w m i less = elim (eqb_tells i n) [
 pub mask_without : (a : World) (put mask n : ℕ) → ((w : TheWorld) → Meets a w → is_held (ring_of a) (plan_of a) w put (put_slot (ring_of a) w put n) ≡ false)
     → Masked a put mask n → Masked a put mask (n + 1)
 mask_without a put mask n held before w m i less = elim (eqb_tells i n) [
-  | inl t ↦ (let e : i ≡ n = t.1 in let b = before w m n (subst (λ (z : ℕ). z < 32) e less) in rw (e, within_more n, held w m) (b ∙ rw (not_less n) refl))
+  | inl t ↦ (let e : i ≡ n = t.1 in let b = before w m n (subst (λ (z : ℕ). z < 32) e less) in rw (e, within_more n, held w m) (b ∙ rw (lt_self n) refl))
   | inr t ↦ rw (less_more i n t.0) (before w m i less)
 ]

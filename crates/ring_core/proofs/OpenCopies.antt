@@ -2,7 +2,7 @@
 use Rattle.std.proofs.Common.{◌≡◌, ◌∙◌, ℕ, ◌<◌, Bool, true, false, List, [], ◌∷◌, length, map, refl, ap, lt-ltb}
 use Rattle.std.specs.Prelude.{◌==◌, nat_lt, Option, Some, None, option_and_then}
 use Rattle.std.specs.List.{list_any, list_all}
-use Rattle.std.proofs.lemmas.Bool.{and_parts}
+use Rattle.std.proofs.lemmas.Bool.{and_parts, and_from}
 use Rattle.ring_names.specs.declared.ids.NodeId.{NodeId}
 use Rattle.ring_names.specs.declared.ids.Slot.{Slot}
 use Rattle.ring_table.specs.declared.allowance.Side.{Side}
@@ -17,16 +17,15 @@ use Rattle.plan_text.specs.Steps.{copy_of}
 use Rattle.plan_text.specs.Valid.{is_ring_slot, source_suits}
 use Rattle.plan_stage.specs.Each.{step_at}
 use Rattle.plan_stage.specs.Parties.{source_slots}
-use Rattle.plan_stage.proofs.Truth.{all_of}
 use Rattle.plan_check.specs.Safe.{open_copies, is_open_copy, takes_part_now, gives_now}
 use Rattle.plan_check.specs.World.{World, passing_below, stage_now, mirrors}
 use Rattle.store_tables.specs.declared.slots.SlotNow.{SlotNow}
-use Rattle.store_tells.proofs.SlotsNow.{within_ring}
 use Rattle.store_tells.proofs.PutsTests.{same_passing}
 use Rattle.store_tells.proofs.StageSuits.{step_suiting}
 use Rattle.store_tells.specs.Kept.{Kept, Tells}
 use Rattle.store_tells.proofs.StoreInWorld.{slot_there, suits_of}
 use Rattle.ring_core.specs.Transfers.{owns_kept, mirrors_kept, part_kept, is_open_kept}
+use Rattle.plan_check.proofs.Suited.{within}
 
 -- whether one of the slots of these indexes passes
 pub any_index : (f : Slot → Bool) (p : ℕ) (from : List ℕ) → list_any f (map (λ i. record { partition = p; index = i }) from) ≡ list_any (λ i. f (record { partition = p; index = i })) from
@@ -50,13 +49,13 @@ module _ (ring : RingValue) (plan : List Planned) (k : Kept) (w : World) (m : Te
   listed_told slot [] l e = refl
   listed_told slot (i ∷ from) l e =
       let b = and_parts (nat_lt i ring.n) (list_all (λ j. nat_lt j ring.n) from) e in
-      let one = owns_told (record { partition = slot.partition; index = i }) (all_of (nat_lt slot.partition ring.q) (nat_lt i ring.n) (lt-ltb slot.partition ring.q l) b.0) in
+      let one = owns_told (record { partition = slot.partition; index = i }) (and_from (nat_lt slot.partition ring.q) (nat_lt i ring.n) (lt-ltb slot.partition ring.q l) b.0) in
       let more = listed_told slot from l b.1 in
       rw (one, more) refl
 
   gives_told : (slot : Slot) (from : Source) → is_ring_slot ring slot ≡ true → source_suits ring from ≡ true → list_any (owns_kept k.rows x) (source_slots slot from) ≡ gives_now ring plan w x slot from
   gives_told slot source.Owner e s = rw (owns_told slot e) refl
-  gives_told slot (source.Slots from) e s = listed_told slot from (within_ring ring slot e).0 s
+  gives_told slot (source.Slots from) e s = listed_told slot from (within ring slot e).0 s
 
   part_told : (side : Side) (slot : Slot) (from : Source) → is_ring_slot ring slot ≡ true → source_suits ring from ≡ true → part_kept k.rows x side slot from ≡ takes_part_now ring plan w x side slot from
   part_told Both slot from e s = rw (mirrors_told slot e, gives_told slot from e s) refl

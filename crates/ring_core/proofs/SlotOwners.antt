@@ -2,6 +2,7 @@
 use Rattle.std.proofs.Common.{◌≡◌, ◌∙◌, ℕ, zero, suc, ◌<◌, Bool, true, List, [], ◌∷◌, ◌++◌, length, length-append, get_or, refl, ap, arith, lt-ltb}
 use Rattle.std.specs.Prelude.{nat_lt, Option, Some, None}
 use Rattle.std.proofs.lemmas.Option.{slice_get_within}
+use Rattle.std.proofs.lemmas.Bool.{and_from}
 use Rattle.ring_names.specs.declared.ids.NodeId.{NodeId}
 use Rattle.ring_names.specs.declared.ids.Slot.{Slot}
 use Rattle.ring_table.specs.Value.{RingValue}
@@ -10,7 +11,6 @@ use Rattle.plan_text.specs.Steps.{steps_of}
 use Rattle.plan_text.specs.Valid.{is_ring_slot}
 use Rattle.plan_stage.specs.Stage.{stage}
 use Rattle.plan_stage.proofs.Places.{placed}
-use Rattle.plan_stage.proofs.Truth.{all_of}
 use Rattle.plan_check.specs.World.{World, count, stage_now, slot_at}
 use Rattle.store_tables.specs.declared.slots.SlotNow.{SlotNow}
 use Rattle.store_tells.specs.Kept.{Kept, Tells}
@@ -29,7 +29,7 @@ length_values (suc n) f = (let tail = length-append (values_below n f) (f n ∷ 
 
 -- a slot by its numbers
 pub in_ring : (ring : RingValue) (p i : ℕ) → p < ring.q → i < ring.n → is_ring_slot ring (slot_at p i) ≡ true
-in_ring ring p i a b = all_of (nat_lt p ring.q) (nat_lt i ring.n) (lt-ltb p ring.q a) (lt-ltb i ring.n b)
+in_ring ring p i a b = and_from (nat_lt p ring.q) (nat_lt i ring.n) (lt-ltb p ring.q a) (lt-ltb i ring.n b)
 
 -- tables of owners that are the same at each slot of the ring
 same_tables : (ring : RingValue) (f g : Slot → NodeId) → ((slot : Slot) → is_ring_slot ring slot ≡ true → f slot ≡ g slot) → table_of ring f ≡ table_of ring g

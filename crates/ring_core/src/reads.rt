@@ -7,7 +7,8 @@ use ring_names::{Listed, NodeId, Refusal, Slot};
 use store_events::is_ready;
 
 impl<'a> World<'a> {
-    ghost use Rattle.std.specs.Prelude.{◌≡◌, ℕ, ◌<◌, ◌≤◌, ◌&&◌, ◌==◌, true, false, List, length, slice_get, option_map, nat_lt, IsTrue, ◌↔◌, Some, IfOk, IfErr, IfSome, IfNone};
+    ghost use Rattle.std.specs.Prelude.{◌≡◌, ℕ, ◌<◌, ◌≤◌, ◌&&◌, ◌==◌, true, false, List, length, slice_get, option_map};
+    ghost use Rattle.std.specs.Prelude.{nat_lt, IsTrue, ◌↔◌, Some, IfOk, IfErr, IfSome, IfNone};
     ghost use Rattle.std.specs.Int.{bit_at};
     ghost use Rattle.ring_names.specs.declared.refusal.Refusal.TheVariants.{OutOfMemory};
     ghost use Rattle.plan_text.specs.Valid.{is_ring_slot};
@@ -18,7 +19,8 @@ impl<'a> World<'a> {
     ghost use Rattle.store_tells.specs.Parts.{kept_of};
     ghost use Rattle.ring_versions.specs.Versions.{Covers};
     ghost use Rattle.ring_store.specs.Stores.{held_at};
-    ghost use Rattle.ring_core.specs.Tables.{values_below, owner_kept, owners_now, owners_last, AllDone, left_of, can_begin_kept, IsNextStep, NoNextStep};
+    ghost use Rattle.ring_core.specs.Tables.{values_below, owner_kept, owners_now, owners_last, AllDone, left_of};
+    ghost use Rattle.ring_core.specs.Tables.{can_begin_kept, IsNextStep, NoNextStep};
     ghost use Rattle.ring_core.specs.World.{ring_of, plan_of, Meets, put_count, get_count, clock_of};
     ghost use Rattle.ring_clock.specs.Clock.{IsAtMost};
     ghost use Rattle.plan_check.specs.Succession.{Succeeds};
@@ -36,7 +38,8 @@ impl<'a> World<'a> {
     /// A law, which costs nothing: of two puts of one key the first one's clock is at most the second's exactly where the second succeeds the
     /// first (DeCandia et al. 2007, section 4.4).
     pub fn clocks_tell_succession(&self)
-        ensures { (w : TheWorld) → Meets self.now w → (u v : ℕ) → u < length w.puts → v < length w.puts → key_of_put w u ≡ key_of_put w v
+        ensures { (w : TheWorld) → Meets self.now w → (u v : ℕ) → u < length w.puts → v < length w.puts
+            → key_of_put w u ≡ key_of_put w v
             → IsAtMost (clock_of self.now v) (clock_of self.now u) ↔ Succeeds w u v }
     {
         let _ = self.parts.losses;
@@ -67,7 +70,8 @@ impl<'a> World<'a> {
     /// The n-th node with a slot for which it keeps a hint, in an order that stays while the hints do. Takes no memory.
     pub fn hint_at(&self, n: u32) -> Option<(NodeId, Slot)>
         ensures some { IfSome result (λ pair. (w : TheWorld) → Meets self.now w → keeps w pair.0.0 pair.1 ≡ true) }
-        ensures value { result ≡ option_map (λ pair. (pair.keeper, pair.slot)) (slice_get (kept_pairs self.now.parts.hints) n) }
+        ensures value { result
+            ≡ option_map (λ pair. (pair.keeper, pair.slot)) (slice_get (kept_pairs self.now.parts.hints) n) }
         ensures none { IfNone result (kept_count self.now.parts.hints ≤ n) }
     {
         self.parts.hints.nth(n)
@@ -76,7 +80,8 @@ impl<'a> World<'a> {
     /// The node that owns the slot now. Takes no memory.
     pub fn owner(&self, slot: Slot) -> NodeId
         requires { is_ring_slot (ring_of self.now) slot ≡ true }
-        ensures now { (w : TheWorld) → Meets self.now w → result ≡ (stage_now (ring_of self.now) (plan_of self.now) w slot).owner }
+        ensures now { (w : TheWorld) → Meets self.now w
+            → result ≡ (stage_now (ring_of self.now) (plan_of self.now) w slot).owner }
         ensures kept { result ≡ owner_kept (kept_of self.now.parts) slot }
     {
         let Some(owner) = self.parts.slots.owner(slot) else {
@@ -88,7 +93,8 @@ impl<'a> World<'a> {
     // The owners of a partition's slots now, by index.
     fn row(&self, partition: u32) -> Result<Listed<NodeId>, Refusal>
         requires { partition < (ring_of self.now).q }
-        ensures ok { IfOk result (λ row. row ≡ values_below (ring_of self.now).n (λ i. owner_kept (kept_of self.now.parts) (slot_at partition i))) }
+        ensures ok { IfOk result (λ row. row
+            ≡ values_below (ring_of self.now).n (λ i. owner_kept (kept_of self.now.parts) (slot_at partition i))) }
         ensures memory { IfErr result (λ e. e ≡ OutOfMemory) }
     {
         let n = self.parts.approved.ring().n();
@@ -103,7 +109,8 @@ impl<'a> World<'a> {
     /// The owners of all slots now, by partition and index. Once every step is done these are the owners after each slot's last step, in
     /// whatever order the steps were done.
     pub fn table(&self) -> Result<Vec<Listed<NodeId>>, Refusal>
-        ensures now { IfOk result (λ rows. (w : TheWorld) → Meets self.now w → rows.items ≡ owners_now (ring_of self.now) (plan_of self.now) w) }
+        ensures now { IfOk result (λ rows. (w : TheWorld) → Meets self.now w
+            → rows.items ≡ owners_now (ring_of self.now) (plan_of self.now) w) }
         ensures last { IfOk result (λ rows. (w : TheWorld) → Meets self.now w → AllDone (plan_of self.now) w
             → rows.items ≡ owners_last (ring_of self.now) (plan_of self.now)) }
         ensures size { IfOk result (λ rows. length rows.items ≡ (ring_of self.now).q) }
@@ -143,7 +150,8 @@ impl<'a> World<'a> {
     fn owner_covers(&self, slot: Slot, chunk: u32, key: &[u8], clock: &Clock) -> bool
         requires ring { is_ring_slot (ring_of self.now) slot ≡ true }
         requires chunk { chunk_of (ring_of self.now).q key.now ≡ chunk }
-        ensures { IsTrue result ↔ Covers (held_at self.now.parts.stores (owner_kept (kept_of self.now.parts) slot).0 slot key.now) clock.now }
+        ensures { IsTrue result ↔ Covers
+            (held_at self.now.parts.stores (owner_kept (kept_of self.now.parts) slot).0 slot key.now) clock.now }
     {
         match self
             .parts
@@ -159,7 +167,8 @@ impl<'a> World<'a> {
     fn holds(&self, put: u32, index: u32) -> bool
         requires put { put < length self.now.parts.puts }
         requires index { index < (ring_of self.now).n }
-        ensures { (w : TheWorld) → Meets self.now w → result ≡ is_held (ring_of self.now) (plan_of self.now) w put (put_slot (ring_of self.now) w put index) }
+        ensures { (w : TheWorld) → Meets self.now w
+            → result ≡ is_held (ring_of self.now) (plan_of self.now) w put (put_slot (ring_of self.now) w put index) }
     {
         let Some(now) = self.parts.puts.get(put) else {
             unreachable!()
@@ -182,8 +191,10 @@ impl<'a> World<'a> {
     /// put is acknowledged, any R slots include one whose bit is set. Takes no memory, and looks at each slot's owner and at the keepers of hints for it.
     pub fn held_slots(&self, put: u32) -> u32
         requires { put < length self.now.parts.puts }
-        ensures acknowledged { (w : TheWorld) → Meets self.now w → is_acked w put ≡ true → MeetsEveryRead (ring_of self.now) result }
-        ensures now { (w : TheWorld) → Meets self.now w → (i : ℕ) → i < 32 → (bit_at result i == 1) ≡ (nat_lt i (ring_of self.now).n
+        ensures acknowledged { (w : TheWorld) → Meets self.now w → is_acked w put ≡ true
+            → MeetsEveryRead (ring_of self.now) result }
+        ensures now { (w : TheWorld) → Meets self.now w → (i : ℕ) → i < 32
+            → (bit_at result i == 1) ≡ (nat_lt i (ring_of self.now).n
             && is_held (ring_of self.now) (plan_of self.now) w put (put_slot (ring_of self.now) w put i)) }
     {
         let n = self.parts.approved.ring().n();

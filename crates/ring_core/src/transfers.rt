@@ -110,7 +110,8 @@ impl<'a> World<'a> {
     pub fn open_transfers(&self, node: NodeId) -> u32
         ensures most { (a : ℕ) → allowance_of (ring_of self.now) node.0 Both ≡ Some a → result ≤ a }
         ensures now { (w : TheWorld) → Meets self.now w
-            → result ≡ open_copies (plan_of self.now) w (takes_part_now (ring_of self.now) (plan_of self.now) w node.0 Both) }
+            → result ≡ open_copies (plan_of self.now) w
+            (takes_part_now (ring_of self.now) (plan_of self.now) w node.0 Both) }
     {
         self.transfers(node, Side::Both)
     }
@@ -120,7 +121,8 @@ impl<'a> World<'a> {
     pub fn open_take(&self, node: NodeId) -> u32
         ensures most { (a : ℕ) → allowance_of (ring_of self.now) node.0 Take ≡ Some a → result ≤ a }
         ensures now { (w : TheWorld) → Meets self.now w
-            → result ≡ open_copies (plan_of self.now) w (takes_part_now (ring_of self.now) (plan_of self.now) w node.0 Take) }
+            → result ≡ open_copies (plan_of self.now) w
+            (takes_part_now (ring_of self.now) (plan_of self.now) w node.0 Take) }
     {
         self.transfers(node, Side::Take)
     }
@@ -130,7 +132,8 @@ impl<'a> World<'a> {
     pub fn open_give(&self, node: NodeId) -> u32
         ensures most { (a : ℕ) → allowance_of (ring_of self.now) node.0 Give ≡ Some a → result ≤ a }
         ensures now { (w : TheWorld) → Meets self.now w
-            → result ≡ open_copies (plan_of self.now) w (takes_part_now (ring_of self.now) (plan_of self.now) w node.0 Give) }
+            → result ≡ open_copies (plan_of self.now) w
+            (takes_part_now (ring_of self.now) (plan_of self.now) w node.0 Give) }
     {
         self.transfers(node, Side::Give)
     }

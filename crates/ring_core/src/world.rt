@@ -22,7 +22,8 @@ impl<'a> World<'a> {
     ghost use Rattle.std.specs.Prelude.{◌≡◌, ◌≢◌, ◌⊎◌, ℕ, ◌<◌, true, false, length, None, IfOk, IfErr, OnOk, OnErr};
     ghost use Rattle.ring_names.specs.declared.refusal.Refusal.TheVariants.{OutOfMemory};
     ghost use Rattle.plan_check.specs.World.{World as TheWorld, opening_world};
-    ghost use Rattle.ring_core.specs.World.{ring_of, plan_of, Meets, Passes, Answers, Refuses, Stays, HasNumber, IsOneMore, put_count, get_count};
+    ghost use Rattle.ring_core.specs.World.{ring_of, plan_of, Meets, Passes, Answers, Refuses, Stays, HasNumber};
+    ghost use Rattle.ring_core.specs.World.{IsOneMore, put_count, get_count};
     ghost use Rattle.ring_core.specs.Numbers.{may_need_memory};
     ghost use Rattle.ring_core.specs.Promises.{IsFresh};
 

@@ -22,7 +22,8 @@ pub struct Executor<'a, L: RunLedger> {
 }
 
 impl<'a, L: RunLedger> Executor<'a, L> {
-    ghost use Rattle.std.specs.Prelude.{◌≢◌, ◌<◌, ◌≤◌, ◌+◌, ◌↔◌, true, length, vec_len, IfOk, IfErr, IfSome, OnOk, OnErr};
+    ghost use Rattle.std.specs.Prelude.{◌≢◌, ◌<◌, ◌≤◌, ◌+◌, ◌↔◌, true, length, vec_len, IfOk, IfErr, IfSome, OnOk};
+    ghost use Rattle.std.specs.Prelude.{OnErr};
     ghost use Rattle.std.specs.List.{sum_by};
     ghost use Rattle.ring_names.specs.declared.refusal.Refusal.TheVariants.{OutOfMemory, HistoryFull, Disagree};
     ghost use Rattle.plan_text.specs.Valid.{is_ring_slot};
@@ -70,7 +71,8 @@ impl<'a, L: RunLedger> Executor<'a, L> {
         ensures run { IfOk result (λ r. ∥ ((w : TheWorld) × IsRun L.ring L.plan entries.now w) ∥₁) }
         ensures share { IfOk result (λ r. (r.1.count ≡ length entries.now) × (r.1.token.parts ≡ L.parts)) }
         ensures full { IfErr result (λ e. (e ≡ HistoryFull) ↔ (1000000 < length entries.now)) }
-        ensures err { IfErr result (λ e. e ≢ HistoryFull → e ≢ OutOfMemory → IsFirstFault L.ring L.plan (opening_world L.ring) 0 entries.now e) }
+        ensures err { IfErr result (λ e. e ≢ HistoryFull → e ≢ OutOfMemory
+            → IsFirstFault L.ring L.plan (opening_world L.ring) 0 entries.now e) }
     {
         let (restored, share) = Ledgered::restore(alloc, blank, approved, entries)?;
         let executor = Executor {

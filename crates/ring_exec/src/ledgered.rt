@@ -35,7 +35,8 @@ pub struct Ledgered<'a, L: RunLedger> {
 }
 
 impl<'a, L: RunLedger> Ledgered<'a, L> {
-    ghost use Rattle.std.specs.Prelude.{◌≡◌, ◌≢◌, ◌<◌, ◌≤◌, ◌+◌, ◌++◌, ◌∷◌, ◌↔◌, [], true, length, vec_len, IfOk, IfErr, OnOk, OnErr, IsTrue};
+    ghost use Rattle.std.specs.Prelude.{◌≡◌, ◌≢◌, ◌<◌, ◌≤◌, ◌+◌, ◌++◌, ◌∷◌, ◌↔◌, [], true, length, vec_len, IfOk};
+    ghost use Rattle.std.specs.Prelude.{IfErr, OnOk, OnErr, IsTrue};
     ghost use Rattle.std.specs.List.{sum_by};
     ghost use Rattle.ring_names.specs.declared.refusal.Refusal.TheVariants.{OutOfMemory, HistoryFull};
     ghost use Rattle.plan_check.specs.World.{World as TheWorld, opening_world};
@@ -91,7 +92,8 @@ impl<'a, L: RunLedger> Ledgered<'a, L> {
         ensures history { IfOk result (λ r. r.0.history.items ≡ entries.now) }
         ensures share { IfOk result (λ r. (r.1.count ≡ length entries.now) × (r.1.token.parts ≡ L.parts)) }
         ensures full { IfErr result (λ e. (e ≡ HistoryFull) ↔ (1000000 < length entries.now)) }
-        ensures err { IfErr result (λ e. e ≢ HistoryFull → e ≢ OutOfMemory → IsFirstFault L.ring L.plan (opening_world L.ring) 0 entries.now e) }
+        ensures err { IfErr result (λ e. e ≢ HistoryFull → e ≢ OutOfMemory
+            → IsFirstFault L.ring L.plan (opening_world L.ring) 0 entries.now e) }
     {
         if entries.len() > MAX_ENTRIES {
             return Err(Refusal::HistoryFull);
@@ -148,7 +150,8 @@ impl<'a, L: RunLedger> Ledgered<'a, L> {
     /// The event, which the share counts and which then stands last in the history with its reply. Refused, all is as it was. A history of
     /// 1,000,000 entries comes before all other refusals, and is the only one there; out of memory comes last.
     pub fn apply(&mut self, event: &Event, share: &mut Share<L>) -> Result<Receipt, Refusal>
-        ensures entry { IfOk result (λ r. self.new.history.items ≡ self.old.history.items ++ entry event.now r.reply ∷ []) }
+        ensures entry { IfOk result
+            (λ r. self.new.history.items ≡ self.old.history.items ++ entry event.now r.reply ∷ []) }
         ensures receipt { IfOk result (λ r. (r.event ≡ event.now) × (r.index ≡ vec_len self.old.history)) }
         ensures answer { IfOk result (λ r. Answers self.old.world event.now r.reply self.new.world) }
         ensures reply { IfOk result (λ r. fits_reply event.now r.reply ≡ true) }
@@ -157,7 +160,8 @@ impl<'a, L: RunLedger> Ledgered<'a, L> {
         ensures full { IfErr result (λ e. (e ≡ HistoryFull) ↔ (vec_len self.old.history ≡ 1000000)) }
         ensures err { IfErr result (λ e. e ≢ HistoryFull → e ≢ OutOfMemory → Refuses self.old.world event.now e) }
         ensures late { IfErr result (λ e. e ≡ OutOfMemory → Passes self.old.world event.now) }
-        ensures same { OnErr result ((self.new.history.items ≡ self.old.history.items) × (share.new.count ≡ share.old.count) × Stays self.old.world self.new.world) }
+        ensures same { OnErr result ((self.new.history.items ≡ self.old.history.items)
+            × (share.new.count ≡ share.old.count) × Stays self.old.world self.new.world) }
         ensures unchanged { IfErr result (λ e. e ≢ OutOfMemory → self.new.world ≡ self.old.world) }
         ensures parts { share.new.token.parts ≡ share.old.token.parts }
     {

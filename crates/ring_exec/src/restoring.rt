@@ -18,7 +18,8 @@ fn retell(alloc: Global, world: &mut World, place: u32, entry: &Entry) -> Result
     requires { HasNumber world.old entry.now.event }
     ensures entry { IfOk result (λ x. x ≡ entry.now) }
     ensures ok { IfOk result (λ x. Answers world.old entry.now.event entry.now.reply world.new) }
-    ensures err { IfErr result (λ e. e ≢ OutOfMemory → (w : TheWorld) → Meets world.old w → FailsAt (ring_of world.old) (plan_of world.old) w place entry.now e) }
+    ensures err { IfErr result (λ e. e ≢ OutOfMemory → (w : TheWorld) → Meets world.old w
+        → FailsAt (ring_of world.old) (plan_of world.old) w place entry.now e) }
     ensures counts { IsOneMore world.old world.new }
     ensures ring { ring_of world.new ≡ ring_of world.old }
     ensures plan { plan_of world.new ≡ plan_of world.old }
@@ -40,7 +41,8 @@ fn retell_all(
     requires gets { get_count world.old ≡ 0 }
     ensures items { OnOk result (history.new.items ≡ history.old.items ++ entries.now) }
     ensures ok { OnOk result (Follows world.old entries.now world.new) }
-    ensures err { IfErr result (λ e. e ≢ OutOfMemory → (w : TheWorld) → Meets world.old w → IsFirstFault (ring_of world.old) (plan_of world.old) w 0 entries.now e) }
+    ensures err { IfErr result (λ e. e ≢ OutOfMemory → (w : TheWorld) → Meets world.old w
+        → IsFirstFault (ring_of world.old) (plan_of world.old) w 0 entries.now e) }
 {
     history.reserve(entries.len())?;
     for (place, entry) in entries.iter().enumerate() {
@@ -64,7 +66,8 @@ pub(crate) fn retold<'a>(
     ensures puts { IfOk result (λ r. put_count r.0 ≤ length entries.now) }
     ensures gets { IfOk result (λ r. get_count r.0 ≤ length entries.now) }
     ensures room { IfErr result (λ e. e ≢ HistoryFull) }
-    ensures err { IfErr result (λ e. e ≢ OutOfMemory → IsFirstFault approved.now.ring approved.now.plan (opening_world approved.now.ring) 0 entries.now e) }
+    ensures err { IfErr result (λ e. e ≢ OutOfMemory
+        → IsFirstFault approved.now.ring approved.now.plan (opening_world approved.now.ring) 0 entries.now e) }
 {
     let mut world = World::start(alloc, approved)?;
     let mut history = Vec::new(alloc);

@@ -11,9 +11,9 @@ use Rattle.std.specs.declared.cmp.Ordering.TheVariants.{Less}
 use Rattle.std.specs.Map.Iter.{TakesFirst, deref_pair}
 use Rattle.std.proofs.lemmas.Map.Iter.{btree_map_turn}
 use Rattle.std.proofs.lemmas.Cmp.{nat_cmp_total, on_total, then_total}
-use Rattle.std.proofs.lemmas.Bool.{cases_Bool}
+use Rattle.std.proofs.lemmas.Bool.{cases_Bool, false_from_ne_true}
 use Rattle.ring_names.specs.declared.ids.Slot.{Slot}
-use Rattle.store_maps.proofs.OneAnswer.{none_from_empty, false_from}
+use Rattle.store_maps.proofs.OneAnswer.{none_from_empty}
 use Rattle.store_maps.specs.Slots.{space_of, held_for, has_place_for}
 use Rattle.store_maps.specs.declared.slot_map.SlotMap.{SlotMap}
 use Rattle.ring_hints.specs.Hints.{partitions, hinted_at}
@@ -48,7 +48,7 @@ copying_none from copy space versions order = record {
   space = space;
   order = order;
   done = λ p e k. versions p.keeper.0 p.slot k ∙ sym (ap (λ o. held_by o k) e);
-  todo = λ p h. none_from_empty (map_of copy.maps p) (false_from (is_some (map_of copy.maps p)) (λ y. some_held copy.q p (map_of copy.maps p) y (copy.kept p) (versions p.keeper.0 p.slot)));
+  todo = λ p h. none_from_empty (map_of copy.maps p) (false_from_ne_true (is_some (map_of copy.maps p)) (λ y. some_held copy.q p (map_of copy.maps p) y (copy.kept p) (versions p.keeper.0 p.slot)));
 }
 
 -- the next pair is not copied yet

@@ -1,5 +1,5 @@
 -- The sets of keepers and of slots once a pair is put in or taken out.
-use Rattle.std.proofs.Common.{◌≡◌, ◌≢◌, inl, inr, ℕ, Bool, true, false, cond, List, [], ◌∷◌, ◌++◌, refl, sym, ap, ◌∙◌, arith}
+use Rattle.std.proofs.Common.{◌≡◌, ◌≢◌, ℕ, Bool, true, false, cond, List, [], ◌∷◌, ◌++◌, refl, sym, ap, ◌∙◌, arith}
 use Rattle.std.specs.Prelude.{zero, suc, not, ◌&&◌, ◌||◌, ◌==◌, Option, Some, None, IfSome, slice_get}
 use Rattle.std.specs.List.{list_any}
 use Rattle.std.specs.Ordering.{nat_cmp}
@@ -7,8 +7,8 @@ use Rattle.std.specs.Cmp.{unsigned_ties, tied_then}
 use Rattle.std.specs.BTreeMap.{is_at}
 use Rattle.std.specs.BTreeSet.{insert_key}
 use Rattle.std.specs.Set.{remove_key}
-use Rattle.std.proofs.lemmas.Bool.Decides.{eqb_tells, nat_tests}
-use Rattle.std.proofs.lemmas.Bool.{and_parts}
+use Rattle.std.proofs.lemmas.Bool.Decides.{nat_tests}
+use Rattle.std.proofs.lemmas.Bool.{and_parts, ne_eqb, eq-eqb, or_right}
 use Rattle.std.proofs.lemmas.List.Folds.{list_any-append}
 use Rattle.ring_names.specs.declared.ids.NodeId.{NodeId}
 use Rattle.ring_names.specs.declared.ids.Slot.{Slot}
@@ -16,21 +16,13 @@ use Rattle.ring_names.specs.contracts.ids.NodeIdPartialEq.TheImpl as node_eq
 use Rattle.ring_names.specs.contracts.ids.SlotPartialEq.TheImpl as slot_eq
 use Rattle.ring_names.specs.contracts.ids.NodeIdOrd.TheImpl as node_order
 use Rattle.ring_names.specs.contracts.ids.SlotOrd.TheImpl as slot_order
+use Rattle.ring_names.proofs.Logic.{eqb_turned}
 use Rattle.ring_hints.specs.declared.kept_for.KeptFor.{KeptFor}
 use Rattle.ring_hints.specs.contracts.kept_for.KeptForPartialEq.TheImpl as pair_eq
 use Rattle.ring_hints.specs.declared.sets.Sets.{Sets}
 use Rattle.ring_hints.specs.Sets.{set_at, AddsValue, RemovesValue}
 use Rattle.ring_hints.specs.Views.{by_keeper, is_of, has_slot, has_keeper, in_order, pair_of}
 use Rattle.ring_hints.proofs.Members.{any_inserted, others_stay}
-
-pub same_number : (x y : ℕ) → x ≡ y → (x == y) ≡ true
-same_number x y e = grind (arith, nat_tests)
-
-pub differ : (x y : ℕ) → x ≢ y → (x == y) ≡ false
-differ x y e = grind (arith, nat_tests)
-
-turned : (x y : ℕ) → (x == y) ≡ (y == x)
-turned x y = elim (eqb_tells x y) [ inl t ↦ t.0 ∙ sym (same_number y x (sym t.1)) | inr t ↦ t.0 ∙ sym (differ y x (λ e. t.1 (sym e))) ]
 
 pub equal : (x y : ℕ) → (x == y) ≡ true → x ≡ y
 equal x y h = grind (arith, nat_tests)
@@ -44,13 +36,13 @@ pub slot_tie : (s t : Slot) → is_at ((slot_order.ghosts).cmp s) t ≡ ((s.part
 slot_tie s t = sym (tied_then (nat_cmp s.partition t.partition) (nat_cmp s.index t.index)) ∙ rw (← unsigned_ties s.partition t.partition, ← unsigned_ties s.index t.index) refl
 
 node_same : (x : NodeId) → is_at ((node_order.ghosts).cmp x) x ≡ true
-node_same x = node_tie x.0 x.0 ∙ same_number x.0 x.0 refl
+node_same x = node_tie x.0 x.0 ∙ eq-eqb x.0 x.0 refl
 
 node_exact : (x y : NodeId) → is_at ((node_order.ghosts).cmp x) y ≡ true → x ≡ y
 node_exact x y h = λ i. record { 0 = equal x.0 y.0 (sym (node_tie x.0 y.0) ∙ h) i }
 
 slot_same : (s : Slot) → is_at ((slot_order.ghosts).cmp s) s ≡ true
-slot_same s = slot_tie s s ∙ (λ i. same_number s.partition s.partition refl i && same_number s.index s.index refl i)
+slot_same s = slot_tie s s ∙ (λ i. eq-eqb s.partition s.partition refl i && eq-eqb s.index s.index refl i)
 
 slot_exact : (s t : Slot) → is_at ((slot_order.ghosts).cmp s) t ≡ true → s ≡ t
 slot_exact s t h =
@@ -65,11 +57,11 @@ by_test f false more was b h = refl
 
 -- the pair is that of the node and the slot, in the two orders in which it is asked
 of_node : (pair : KeptFor) (x : ℕ) (s : Slot) → ((x == pair.keeper.0) && is_at ((slot_order.ghosts).cmp s) pair.slot) ≡ is_of pair x s
-of_node pair x s = rw (slot_tie s pair.slot, turned x pair.keeper.0, turned s.partition pair.slot.partition, turned s.index pair.slot.index) refl
+of_node pair x s = rw (slot_tie s pair.slot, eqb_turned x pair.keeper.0, eqb_turned s.partition pair.slot.partition, eqb_turned s.index pair.slot.index) refl
 
 of_slot : (pair : KeptFor) (x : ℕ) (s : Slot) → ((slot_eq.ghosts).eq s pair.slot && is_at ((node_order.ghosts).cmp (record { 0 = x })) pair.keeper) ≡ is_of pair x s
 of_slot pair x s =
-    rw (node_tie x pair.keeper.0, turned x pair.keeper.0, turned s.partition pair.slot.partition, turned s.index pair.slot.index)
+    rw (node_tie x pair.keeper.0, eqb_turned x pair.keeper.0, eqb_turned s.partition pair.slot.partition, eqb_turned s.index pair.slot.index)
     (moved (pair.keeper.0 == x) ((pair.slot.partition == s.partition) && (pair.slot.index == s.index)))
   where
     moved : (a b : Bool) → (b && a) ≡ (a && b)
@@ -157,7 +149,7 @@ or_cond true c = refl
 or_cond false c = refl
 
 pub pair_same : (pair : KeptFor) → is_of pair pair.keeper.0 pair.slot ≡ true
-pair_same pair = λ i. same_number pair.keeper.0 pair.keeper.0 refl i && (same_number pair.slot.partition pair.slot.partition refl i && same_number pair.slot.index pair.slot.index refl i)
+pair_same pair = λ i. eq-eqb pair.keeper.0 pair.keeper.0 refl i && (eq-eqb pair.slot.partition pair.slot.partition refl i && eq-eqb pair.slot.index pair.slot.index refl i)
 
 pub pair_is : (a b : KeptFor) → is_of a b.keeper.0 b.slot ≡ true → a ≡ b
 pair_is a b h =
@@ -169,7 +161,7 @@ pair_is a b h =
     }
 
 pub pair_turned : (a b : KeptFor) → is_of a b.keeper.0 b.slot ≡ is_of b a.keeper.0 a.slot
-pair_turned a b = rw (turned a.keeper.0 b.keeper.0, turned a.slot.partition b.slot.partition, turned a.slot.index b.slot.index) refl
+pair_turned a b = rw (eqb_turned a.keeper.0 b.keeper.0, eqb_turned a.slot.partition b.slot.partition, eqb_turned a.slot.index b.slot.index) refl
 
 -- pairs that compare as equal are the same
 pub pair_tie : (a b : KeptFor) → is_at (by_keeper a) b ≡ is_of a b.keeper.0 b.slot
@@ -189,10 +181,6 @@ pushed pair pairs x s =
     first false true = refl
     first false false = refl
 
-or_later : (b c : Bool) → c ≡ true → (b || c) ≡ true
-or_later true c h = refl
-or_later false c h = h
-
 -- the pair that stands at some place is in the list
 pub at_place : (pairs : List KeptFor) (n : ℕ) → IfSome (slice_get pairs n) (λ pair. in_order pair.keeper.0 pair.slot pairs ≡ true)
 at_place [] n = tt
@@ -201,4 +189,4 @@ at_place (pair ∷ pairs) (suc n) = later (slice_get pairs n) (at_place pairs n)
   where
     later : (o : Option KeptFor) → IfSome o (λ p. in_order p.keeper.0 p.slot pairs ≡ true) → IfSome o (λ p. in_order p.keeper.0 p.slot (pair ∷ pairs) ≡ true)
     later None h = tt
-    later (Some p) h = or_later ((pair_eq.ghosts).eq p pair) (in_order p.keeper.0 p.slot pairs) h
+    later (Some p) h = or_right ((pair_eq.ghosts).eq p pair) (in_order p.keeper.0 p.slot pairs) h

@@ -47,7 +47,7 @@ gathering_none a keys s c all none = record {
   only = λ k h. none k;
 }
 
-left_out : (x : ℕ) (y : NodeId) (rest later : List NodeId) → rest ≡ y ∷ later → (x == y.0) ≡ false → in_keepers x later ≡ false → in_keepers x rest ≡ false
+pub left_out : (x : ℕ) (y : NodeId) (rest later : List NodeId) → rest ≡ y ∷ later → (x == y.0) ≡ false → in_keepers x later ≡ false → in_keepers x rest ≡ false
 left_out x y rest later is e out = ap (in_keepers x) is ∙ ap (λ (b : Bool). b || in_keepers x later) (node_tie x y.0 ∙ e) ∙ out
 
 pub gathering_more : (a : Hints) (keys : List NodeId) (s : Slot) (c : ℕ) (all more : KeyMap) (rest later : List NodeId) (y : NodeId) → rest ≡ y ∷ later

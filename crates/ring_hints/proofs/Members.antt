@@ -8,16 +8,7 @@ use Rattle.std.specs.Ordering.{match_ordering, is_eq}
 use Rattle.std.specs.BTreeMap.{is_at}
 use Rattle.std.specs.BTreeSet.{insert_key}
 use Rattle.std.specs.Set.{remove_key}
-
-twice : (b c : Bool) → (b || c) ≡ (b || (b || c))
-twice true c = refl
-twice false c = refl
-
-exchanged : (a b c : Bool) → (a || (b || c)) ≡ (b || (a || c))
-exchanged true true c = refl
-exchanged true false c = refl
-exchanged false true c = refl
-exchanged false false c = refl
+use Rattle.ring_names.proofs.Logic.{or_swapped, or_again}
 
 module _ {V : Type 0} (cmp : V → V → Ordering) (same : (a : V) → is_at (cmp a) a ≡ true) (exact : (a b : V) → is_at (cmp a) b ≡ true → a ≡ b) where
   -- the key is in the list as the test tells
@@ -29,8 +20,8 @@ module _ {V : Type 0} (cmp : V → V → Ordering) (same : (a : V) → is_at (cm
   inserted q v x xs ys Less e h = refl
   inserted q v x xs ys Equal e h =
       let same_key : v ≡ x = exact v x (ap is_eq e) in
-      twice (is_at (cmp q) x) (is_in q xs) ∙ ap (λ (k : V). is_at (cmp q) k || (is_at (cmp q) x || is_in q xs)) (sym same_key)
-  inserted q v x xs ys Greater e h = ap (λ (b : Bool). is_at (cmp q) x || b) h ∙ exchanged (is_at (cmp q) x) (is_at (cmp q) v) (is_in q xs)
+      or_again (is_at (cmp q) x) (is_in q xs) ∙ ap (λ (k : V). is_at (cmp q) k || (is_at (cmp q) x || is_in q xs)) (sym same_key)
+  inserted q v x xs ys Greater e h = ap (λ (b : Bool). is_at (cmp q) x || b) h ∙ or_swapped (is_at (cmp q) x) (is_at (cmp q) v) (is_in q xs)
 
   pub any_inserted : (q v : V) (ks : List V) → is_in q (insert_key cmp ks v) ≡ (is_at (cmp q) v || is_in q ks)
   any_inserted q v [] = refl

@@ -2,20 +2,16 @@
 use Rattle.std.proofs.Common.{◌≡◌, ◌≢◌, ◌⊎◌, inl, inr, ◌∙◌, ℕ, zero, suc, ◌+◌, ◌<◌, Bool, true, false, cond, List, [], ◌∷◌, ◌++◌, length}
 use Rattle.std.proofs.Common.{refl, sym, ap, subst, Option, Some, None, arith}
 use Rattle.std.specs.Prelude.{◌==◌, ◌||◌, ◌&&◌, not, is_some, slice_get, IfSome}
-use Rattle.std.proofs.lemmas.Bool.{cases_Bool}
+use Rattle.std.proofs.lemmas.Bool.{cases_Bool, eq-eqb, cases_eq, false_from_ne_true}
 use Rattle.std.proofs.lemmas.Option.{slice_get_within}
 use Rattle.ring_names.specs.declared.ids.Slot.{Slot}
-use Rattle.store_maps.proofs.OneAnswer.{false_from}
 use Rattle.ring_hints.specs.declared.kept_for.KeptFor.{KeptFor}
 use Rattle.ring_hints.specs.Numbered.{ArePlaces}
 use Rattle.ring_hints.specs.Views.{is_of, in_order, pair_of}
-use Rattle.ring_hints.proofs.KeeperSets.{pair_is, pair_same, equal, same_number, at_place, only_where}
+use Rattle.ring_hints.proofs.KeeperSets.{pair_is, pair_same, at_place, only_where}
 
 same_or_apart : (a b : KeptFor) → (a ≡ b) ⊎ (is_of a b.keeper.0 b.slot ≡ false)
 same_or_apart a b = elim (cases_Bool (is_of a b.keeper.0 b.slot)) [ inl y ↦ inl (pair_is a b y) | inr n ↦ inr n ]
-
-same_or_other : (m n : ℕ) → (m ≡ n) ⊎ (m ≢ n)
-same_or_other m n = elim (cases_Bool (m == n)) [ inl y ↦ inl (equal m n y) | inr other ↦ inr (λ e. let y = same_number m n e in cc) ]
 
 itself : (a b : KeptFor) → a ≡ b → is_of a b.keeper.0 b.slot ≡ true
 itself a b e = subst (λ (c : KeptFor). is_of a c.keeper.0 c.slot ≡ true) e (pair_same a)
@@ -44,7 +40,7 @@ listed f ps are p = by_number (f p) refl
     there n e = let h = subst (λ (o : Option KeptFor). IfSome o (λ q. in_order q.keeper.0 q.slot ps ≡ true)) e (at_place ps n) in h
 
     by_number : (o : Option ℕ) → f p ≡ o → in_order p.keeper.0 p.slot ps ≡ is_some o
-    by_number None e = false_from (in_order p.keeper.0 p.slot ps) (λ h. let at = place_of p ps h in let n = (are p at.0).1 at.1 in cc)
+    by_number None e = false_from_ne_true (in_order p.keeper.0 p.slot ps) (λ h. let at = place_of p ps h in let n = (are p at.0).1 at.1 in cc)
     by_number (Some n) e = there n ((are p n).0 e)
 
 -- ---- a pair is put last
@@ -87,7 +83,7 @@ put_last f g ps qs pair are new is now p n = (number, place)
     ]
 
     place : slice_get qs n ≡ Some p → g p ≡ Some n
-    place h = elim (same_or_other n (length ps)) [
+    place h = elim (cases_eq n (length ps)) [
       | inl e ↦ (
           let l = subst (λ (k : ℕ). slice_get qs k ≡ Some p) e h in
           let same : pair ≡ p = (cc at_end) in
@@ -155,7 +151,7 @@ module _ (f g : KeptFor → Option ℕ) (ps qs : List KeptFor) (pair last : Kept
       place : slice_get qs n ≡ Some p → g p ≡ Some n
       place h =
           let within = slice_get_within qs n p h in
-          elim (same_or_other n i) [
+          elim (cases_eq n i) [
             | inl e ↦ (
                 let m : last ≡ p = (let k = moved (omega arith) in let l = subst (λ (j : ℕ). slice_get qs j ≡ Some p) e h in cc) in
                 let left = other_pairs f pair p i (length qs) t.was (ap f (sym m) ∙ end_at) (λ k. omega arith) in

@@ -2,7 +2,7 @@
 use Rattle.std.proofs.Common.{◌≡◌, ◌≢◌, ◌⊎◌, inl, inr, ◌∙◌, ◌+◌, ℕ, ◌<◌, Bool, true, false, cond, nat_eq, List, [], ◌∷◌, refl, sym, ap, subst, Option, Some, None, Result, Ok, Err, arith}
 use Rattle.std.specs.Prelude.{◌&&◌, ◌||◌, ◌==◌, ◌↔◌, not, is_some, IfNone, OnErr, slice_get, unwrap_or}
 use Rattle.std.specs.BTreeMap.{BTreeMap, UpdatesBy}
-use Rattle.std.proofs.lemmas.Bool.{cases_Bool, eqb-true, eq-eqb}
+use Rattle.std.proofs.lemmas.Bool.{cases_Bool, eqb-true, eq-eqb, ne_eqb, false_from_ne_true}
 use Rattle.ring_names.specs.declared.ids.Slot.{Slot}
 use Rattle.ring_versions.specs.declared.version.Version.{Version}
 use Rattle.ring_versions.specs.Versions.{Covers, IsApart, IsMerge}
@@ -13,8 +13,7 @@ use Rattle.store_maps.specs.declared.key_map.KeyMap.{KeyMap}
 use Rattle.store_maps.specs.Merges.{MergesAll, at_key}
 use Rattle.store_maps.specs.Slots.{space_of, held_for, has_place_for}
 use Rattle.store_maps.specs.declared.slot_map.SlotMap.{SlotMap}
-use Rattle.store_maps.proofs.OneAnswer.{none_from_empty, false_from}
-use Rattle.ring_names.proofs.AtBytes.{same_bytes}
+use Rattle.store_maps.proofs.OneAnswer.{none_from_empty}
 use Rattle.store_maps.proofs.Chunks.{slot_apart}
 use Rattle.store_maps.proofs.MergesInTurn.{merge_none}
 use Rattle.store_maps.proofs.Slots.{bare_held}
@@ -25,7 +24,8 @@ use Rattle.ring_hints.specs.declared.pairs.Pairs.{Pairs}
 use Rattle.ring_hints.specs.Kept.{map_of, held_by, IsKept, AreKept, ArePaired, PutsMap}
 use Rattle.ring_hints.specs.Pairs.{is_pair}
 use Rattle.ring_hints.specs.Views.{by_keeper, is_of, pair_of}
-use Rattle.ring_hints.proofs.KeeperSets.{differ, pair_is, pair_same, pair_tie, or_cond}
+use Rattle.ring_hints.proofs.KeeperSets.{pair_is, pair_same, pair_tie, or_cond}
+use Rattle.store_maps.proofs.Puts.{at_here}
 
 -- the chunk of a place that was computed
 pub chunk_at : (q : ℕ) (k : List ℕ) (p : Place) → p ≡ place_of q k → chunk_of q k ≡ p.chunk
@@ -61,11 +61,8 @@ kept_merged q pair m w s space stays filled keeps = record {
   few = s.few;
   space = space ∙ s.space;
   filled = λ k h. elim (filled k h) [ inl was ↦ keeps k (s.filled k was) | inr some ↦ some ];
-  used = λ all. s.used (λ k. false_from (has_place_for m k) (λ h. let y = stays k h in let n = all k in cc));
+  used = λ all. s.used (λ k. false_from_ne_true (has_place_for m k) (λ h. let y = stays k h in let n = all k in cc));
 }
-
-at_itself : (key : List ℕ) (more : List Version) → at_key key more key ≡ more
-at_itself key more = ap (λ (b : Bool). cond b more []) (same_bytes key)
 
 -- a map that was made, after its first merge
 pub kept_first : (q : ℕ) (pair : KeptFor) (m w : SlotMap) (key : List ℕ) (more : List Version) → pair.slot.index < 7 → space_of w ≡ q
@@ -75,7 +72,7 @@ kept_first q pair m w key more few space bare filled some merged = record {
   few = few;
   space = space;
   filled = λ k h. elim (filled k h) [ inl was ↦ absurd (let n = bare k in cc) | inr ne ↦ ne ];
-  used = λ all. not_emptied (held_for m key) (at_key key more key) (held_for w key) (merged key) (inr (λ none. some (sym (at_itself key more) ∙ none)))
+  used = λ all. not_emptied (held_for m key) (at_key key more key) (held_for w key) (merged key) (inr (λ none. some (sym (at_here key more) ∙ none)))
       (bare_held (slice_get w.chunks.items (chunk_of w.q key)) key (all key));
 }
 
@@ -87,14 +84,14 @@ none_held (Some m) k h = absurd cc
 
 pub some_held : (q : ℕ) (pair : KeptFor) (o : Option SlotMap) → is_some o ≡ true → ((m : SlotMap) → o ≡ Some m → IsKept q pair m) → ((k : List ℕ) → held_by o k ≡ []) → ⊥
 some_held q pair None h kept none = cc
-some_held q pair (Some m) h kept none = let s = kept m refl in s.used (λ k. false_from (has_place_for m k) (λ y. s.filled k y (none k)))
+some_held q pair (Some m) h kept none = let s = kept m refl in s.used (λ k. false_from_ne_true (has_place_for m k) (λ y. s.filled k y (none k)))
 
 module _ (q : ℕ) (pairs : Pairs) (maps : BTreeMap KeptFor SlotMap) (paired : ArePaired pairs maps) (kept : AreKept q maps) where
   -- a pair is there exactly where some key has versions
   pub keeps_is : (x : ℕ) (s : Slot) → (is_pair pairs x s ≡ false) ↔ ((k : List ℕ) → held_by (map_of maps (pair_of x s)) k ≡ [])
   keeps_is x s = (
     λ h k. none_held (map_of maps (pair_of x s)) k (sym (paired x s) ∙ h),
-    λ none. false_from (is_pair pairs x s) (λ h. some_held q (pair_of x s) (map_of maps (pair_of x s)) (sym (paired x s) ∙ h) (kept (pair_of x s)) none),
+    λ none. false_from_ne_true (is_pair pairs x s) (λ h. some_held q (pair_of x s) (map_of maps (pair_of x s)) (sym (paired x s) ∙ h) (kept (pair_of x s)) none),
   )
 
   few_of : (o : Option SlotMap) (x : ℕ) (s : Slot) → o ≡ map_of maps (pair_of x s) → is_some o ≡ true → s.index < 7
@@ -194,7 +191,7 @@ in_chunk q c k v w here other = elim (cases_Bool (nat_eq (chunk_of q k) c)) [
 ]
 
 pub no_place : (m : KeyMap) (k : List ℕ) → (has_place m k ≡ true → ⊥) → held m k ≡ []
-no_place m k h = ap (λ (o : Option (List Version)). unwrap_or o []) (none_from_empty (value_at m.map k) (false_from (has_place m k) h))
+no_place m k h = ap (λ (o : Option (List Version)). unwrap_or o []) (none_from_empty (value_at m.map k) (false_from_ne_true (has_place m k) h))
 
 -- ---- all pairs of a node
 
@@ -205,7 +202,7 @@ was_some (Some m) Q h false_of = refl
 
 pub others_stay : (pair : KeptFor) (x : ℕ) (s : Slot) (was now : List Version) → x ≢ pair.keeper.0 → now ≡ cond (is_of pair x s) [] was → now ≡ was
 others_stay pair x s was now ne e =
-    e ∙ ap (λ (b : Bool). cond (b && ((pair.slot.partition == s.partition) && (pair.slot.index == s.index))) [] was) (differ pair.keeper.0 x (λ h. ne (sym h)))
+    e ∙ ap (λ (b : Bool). cond (b && ((pair.slot.partition == s.partition) && (pair.slot.index == s.index))) [] was) (ne_eqb pair.keeper.0 x (λ h. ne (sym h)))
 
 -- a map less
 pub fewer : (r : Option SlotMap) (new old : ℕ) → is_some r ≡ true → new + cond (is_some r) 1 0 ≡ old → new < old

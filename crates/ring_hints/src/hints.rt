@@ -28,7 +28,8 @@ pub struct Hints {
 }
 
 impl Hints {
-    ghost use Rattle.std.specs.Prelude.{◌≢◌, ◌↔◌, ◌≤◌, ◌<◌, ◌+◌, ℕ, false, [], ◌∷◌, List, Some, None, is_some, slice_get, option_map, if◌then◌else◌};
+    ghost use Rattle.std.specs.Prelude.{◌≢◌, ◌↔◌, ◌≤◌, ◌<◌, ◌+◌, ℕ, false, [], ◌∷◌, List, Some, None, is_some};
+    ghost use Rattle.std.specs.Prelude.{slice_get, option_map, if◌then◌else◌};
     ghost use Rattle.std.specs.Prelude.{IfSome, IfNone, IfOk, IfErr, OnOk, OnErr};
     ghost use Rattle.ring_names.specs.declared.ids.Slot.{Slot};
     ghost use Rattle.ring_names.specs.declared.refusal.Refusal.TheVariants.{OutOfMemory};
@@ -79,7 +80,8 @@ impl Hints {
 
     /// Whether the node keeps anything for another slot of the partition. At most seven look-ups, no memory.
     pub fn keeps_other(&self, keeper: NodeId, slot: Slot) -> bool
-        ensures { (result ≡ false) ↔ ((s : Slot) → s.partition ≡ slot.partition → s.index ≢ slot.index → (k : List ℕ) → hinted_at self.now keeper.0 s k ≡ []) }
+        ensures { (result ≡ false) ↔ ((s : Slot) → s.partition ≡ slot.partition → s.index ≢ slot.index → (k : List ℕ)
+            → hinted_at self.now keeper.0 s k ≡ []) }
     {
         let partition = slot.partition;
         'indexes: for index in 0..7u32 {
@@ -102,7 +104,8 @@ impl Hints {
     /// The versions of a key of the chunk that the pair's node keeps for its slot, if it has any. Takes no memory.
     pub fn key_versions_in(&self, pair: KeptFor, chunk: u32, key: &[u8]) -> Option<&Versions>
         requires { chunk_of (partitions self.now) key.now ≡ chunk }
-        ensures some { IfSome result (λ v. (v.now ≡ hinted_at self.now pair.keeper.0 pair.slot key.now) × (v.now ≢ [])) }
+        ensures some { IfSome result
+            (λ v. (v.now ≡ hinted_at self.now pair.keeper.0 pair.slot key.now) × (v.now ≢ [])) }
         ensures none { IfNone result (hinted_at self.now pair.keeper.0 pair.slot key.now ≡ []) }
     {
         match self.maps.get(&pair) {
@@ -113,7 +116,8 @@ impl Hints {
 
     /// The nodes that keep anything for the slot, ascending by number. Takes no memory.
     pub fn keepers(&self, slot: Slot) -> Option<&BTreeSet<NodeId>>
-        ensures some { IfSome result (λ nodes. (x : ℕ) → (in_keepers x nodes.now.keys ≡ false) ↔ ((k : List ℕ) → hinted_at self.now x slot k ≡ [])) }
+        ensures some { IfSome result (λ nodes. (x : ℕ)
+            → (in_keepers x nodes.now.keys ≡ false) ↔ ((k : List ℕ) → hinted_at self.now x slot k ≡ [])) }
         ensures none { IfNone result ((x : ℕ) (k : List ℕ) → hinted_at self.now x slot k ≡ []) }
     {
         self.pairs.keepers(slot)
@@ -133,7 +137,8 @@ impl Hints {
 
     /// All that the pair's node keeps for its slot, if it keeps anything. Takes no memory.
     pub fn map(&self, pair: KeptFor) -> Option<&SlotMap>
-        ensures some { IfSome result (λ m. (k : List ℕ) → held_for m.now k ≡ hinted_at self.now pair.keeper.0 pair.slot k) }
+        ensures some { IfSome result
+            (λ m. (k : List ℕ) → held_for m.now k ≡ hinted_at self.now pair.keeper.0 pair.slot k) }
         ensures space { IfSome result (λ m. space_of m.now ≡ partitions self.now) }
         ensures none { IfNone result ((k : List ℕ) → hinted_at self.now pair.keeper.0 pair.slot k ≡ []) }
     {
@@ -144,7 +149,8 @@ impl Hints {
     pub fn chunk_map(&self, pair: KeptFor, chunk: u32) -> Option<&KeyMap>
         requires { chunk < 16 }
         ensures some { IfSome result (λ m. (k : List ℕ) → held m.now k ≡ chunk_hints self.now pair chunk k) }
-        ensures lies { IfSome result (λ m. (k : List ℕ) → has_place m.now k ≡ true → chunk_of (partitions self.now) k ≡ chunk) }
+        ensures lies { IfSome result
+            (λ m. (k : List ℕ) → has_place m.now k ≡ true → chunk_of (partitions self.now) k ≡ chunk) }
         ensures filled { IfSome result (λ m. (k : List ℕ) → has_place m.now k ≡ true → held m.now k ≢ []) }
         ensures none { IfNone result ((k : List ℕ) → chunk_hints self.now pair chunk k ≡ []) }
     {
@@ -248,7 +254,8 @@ impl Hints {
         version: &Version,
     ) -> Result<(), Refusal>
         requires { slot.index < 7 }
-        ensures ok { OnOk result (AddsHints self.old self.new (pair_of keeper.0 slot) (at_key key.now (version.now ∷ []))) }
+        ensures ok { OnOk result
+            (AddsHints self.old self.new (pair_of keeper.0 slot) (at_key key.now (version.now ∷ []))) }
         ensures err { OnErr result (AreSameHints self.old self.new) }
         ensures memory { IfErr result (λ e. e ≡ OutOfMemory) }
         ensures space { partitions self.new ≡ partitions self.old }
@@ -276,7 +283,8 @@ impl Hints {
     /// Forgets all that the node keeps, for any slot. Takes no memory.
     pub fn drop_keeper(&mut self, keeper: NodeId)
         ensures gone { (s : Slot) (k : List ℕ) → hinted_at self.new keeper.0 s k ≡ [] }
-        ensures others { (x : ℕ) (s : Slot) (k : List ℕ) → x ≢ keeper.0 → hinted_at self.new x s k ≡ hinted_at self.old x s k }
+        ensures others { (x : ℕ) (s : Slot) (k : List ℕ) → x ≢ keeper.0
+            → hinted_at self.new x s k ≡ hinted_at self.old x s k }
         ensures space { partitions self.new ≡ partitions self.old }
     {
         'slots: while let Some(slot) = self.pairs.slot_of(keeper) {

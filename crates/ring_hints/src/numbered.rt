@@ -1,6 +1,7 @@
 //! Pairs and their numbers.
 
-ghost use Rattle.std.specs.Prelude.{◌≡◌, ◌+◌, ◌++◌, ◌∷◌, ◌&&◌, ℕ, [], not, false, length, slice_get, swap_remove, if◌then◌else◌};
+ghost use Rattle.std.specs.Prelude.{◌≡◌, ◌+◌, ◌++◌, ◌∷◌, ◌&&◌, ℕ, [], not, false, length, slice_get, swap_remove};
+ghost use Rattle.std.specs.Prelude.{if◌then◌else◌};
 ghost use Rattle.std.specs.Prelude.{Some, IsSome, IfErr, OnOk, OnErr};
 ghost use Rattle.std.specs.BTreeMap.{get, Updates};
 ghost use Rattle.ring_names.specs.declared.ids.Slot.{Slot};
@@ -77,7 +78,8 @@ impl Numbered {
         ensures pairs { (x : ℕ) (s : Slot) → in_order x s self.new ≡ (not (is_of pair x s) && in_order x s self.old) }
         ensures numbers { (n : ℕ) → slice_get self.old n ≡ Some pair → self.new ≡ swap_remove self.old n pair }
         ensures absent { in_order pair.keeper.0 pair.slot self.old ≡ false → self.new ≡ self.old }
-        ensures count { length self.new + (if in_order pair.keeper.0 pair.slot self.old then 1 else 0) ≡ length self.old }
+        ensures count { length self.new + (if in_order pair.keeper.0 pair.slot self.old then 1 else 0)
+            ≡ length self.old }
     {
         if let Some(number) = self.numbers.get(&pair).copied() {
             let last = self.pairs[self.pairs.len() - 1];

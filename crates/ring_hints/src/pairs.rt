@@ -20,7 +20,8 @@ pub struct Pairs {
 }
 
 impl Pairs {
-    ghost use Rattle.std.specs.Prelude.{◌≡◌, ◌↔◌, ◌≤◌, ◌<◌, ◌+◌, ◌&&◌, ◌||◌, if◌then◌else◌, not, ℕ, [], true, false, length, map, slice_get, IsTrue, IfErr, IfNone, IfSome, OnOk, OnErr};
+    ghost use Rattle.std.specs.Prelude.{◌≡◌, ◌↔◌, ◌≤◌, ◌<◌, ◌+◌, ◌&&◌, ◌||◌, if◌then◌else◌, not, ℕ, [], true, false};
+    ghost use Rattle.std.specs.Prelude.{length, map, slice_get, IsTrue, IfErr, IfNone, IfSome, OnOk, OnErr};
     ghost use Rattle.ring_names.specs.declared.ids.Slot.{Slot};
     ghost use Rattle.ring_names.specs.declared.refusal.Refusal.TheVariants.{OutOfMemory};
     ghost use Rattle.ring_hints.specs.Pairs.{is_pair, keepers_of, pair_count, pairs_of};
@@ -81,7 +82,8 @@ impl Pairs {
 
     /// Adds the pair, if it is not there.
     pub fn add(&mut self, pair: KeptFor) -> Result<(), Refusal>
-        ensures ok { OnOk result ((x : ℕ) (s : Slot) → is_pair self.new x s ≡ (is_of pair x s || is_pair self.old x s)) }
+        ensures ok { OnOk result
+            ((x : ℕ) (s : Slot) → is_pair self.new x s ≡ (is_of pair x s || is_pair self.old x s)) }
         ensures err { OnErr result ((x : ℕ) (s : Slot) → is_pair self.new x s ≡ is_pair self.old x s) }
         ensures memory { IfErr result (λ e. e ≡ OutOfMemory) }
     {
@@ -104,7 +106,8 @@ impl Pairs {
     /// Takes the pair out, if it is there; the last one takes its number. Takes no memory.
     pub fn remove(&mut self, pair: KeptFor)
         ensures pairs { (x : ℕ) (s : Slot) → is_pair self.new x s ≡ (not (is_of pair x s) && is_pair self.old x s) }
-        ensures count { pair_count self.new + (if is_pair self.old pair.keeper.0 pair.slot then 1 else 0) ≡ pair_count self.old }
+        ensures count { pair_count self.new + (if is_pair self.old pair.keeper.0 pair.slot then 1 else 0)
+            ≡ pair_count self.old }
     {
         self.order.swap_remove(pair);
         self.slots.remove(&pair.keeper, &pair.slot);

@@ -59,8 +59,10 @@ impl<K: Eq + Hash + Drop, V: Ord + Drop> Sets<K, V> {
 
     /// Takes the value out of the set of the key, if it is there. Takes no memory.
     pub fn remove(&mut self, key: &K, value: &V)
-        ensures each { (k : K) → set_at K.eq self.new k ≡ (if K.eq k key.now then remove_key (is_at (V.cmp value.now)) (set_at K.eq self.old k) else set_at K.eq self.old k) }
-        ensures gone { (k : K) → K.eq k key.now ≡ true → list_any (is_at (V.cmp value.now)) (set_at K.eq self.new k) ≡ false }
+        ensures each { (k : K) → set_at K.eq self.new k ≡ (if K.eq k key.now then remove_key (is_at (V.cmp value.now))
+            (set_at K.eq self.old k) else set_at K.eq self.old k) }
+        ensures gone { (k : K) → K.eq k key.now ≡ true
+            → list_any (is_at (V.cmp value.now)) (set_at K.eq self.new k) ≡ false }
     {
         if let Some(set) = self.sets.get_mut(key) {
             set.remove(value);

@@ -22,8 +22,8 @@ bytes_same j k h = (bytes_eq-Decides j k).0 h
 pub by_bytes : (bs : List ℕ) (P : List ℕ → Type 0) → P bs → ((k : List ℕ) → bytes_eq bs k ≡ false → P k) → (k : List ℕ) → P k
 by_bytes bs P here other k = elim (cases_Bool (bytes_eq bs k)) [ inl y ↦ subst P (bytes_same bs k y) here | inr n ↦ other k n ]
 
-apart : (bs cs ks : List ℕ) → bytes_eq bs cs ≡ false → is_eq (slice_cmp nat_cmp bs ks) ≡ true → is_eq (slice_cmp nat_cmp cs ks) ≡ false
-apart bs cs ks n y =
+pub other_bytes : (bs cs ks : List ℕ) → bytes_eq bs cs ≡ false → is_eq (slice_cmp nat_cmp bs ks) ≡ true → is_eq (slice_cmp nat_cmp cs ks) ≡ false
+other_bytes bs cs ks n y =
     let met : bytes_eq bs ks ≡ true = sym (is_eq-slice_cmp bs ks) ∙ y in
     is_eq-slice_cmp cs ks ∙ nat_list_eq_equiv.symm cs ks ∙ sym (nat_list_eq_equiv.congr bs ks cs met) ∙ n
 
@@ -31,5 +31,5 @@ pub puts : {A X : Type 0} (bs : List ℕ) (m n : BTreeMap (Vec ℕ A) X) (x : X)
 unfolding KeepsOthers
 puts bs m n x h = record {
   here = h.1;
-  others = λ k e. h.3 _ (λ x y. (eq_by_cmp_equiv nat_list_cmp_total).congr k x.items y.items) (λ key. apart bs k key.items e);
+  others = λ k e. h.3 _ (λ x y. (eq_by_cmp_equiv nat_list_cmp_total).congr k x.items y.items) (λ key. other_bytes bs k key.items e);
 }

@@ -1,3 +1,5 @@
 pub mod AtBytes
+pub mod InLists
+pub mod Logic
 pub mod Places
 pub mod RowLaws

@@ -1,34 +1,24 @@
 -- The number of a name, among names in order of first sight.
-use Rattle.std.proofs.Common.{◌≡◌, ℕ, suc, zero, ◌+◌, ◌<◌, Bool, true, false, not, cond, nat_lt, List, [], ◌∷◌, ◌++◌, length, map, Option, Some, None, refl, sym, ap, ◌∙◌, arith, append_assoc, length-append, inl, inr, ◌⊎◌}
+use Rattle.std.proofs.Common.{◌≡◌, ℕ, suc, zero, ◌+◌, ◌<◌, Bool, true, false, cond, List, [], ◌∷◌, ◌++◌, length, map, Option, Some, None, refl, sym, ap, ◌∙◌, arith, append_assoc, length-append, inl, inr, ◌⊎◌}
 use Rattle.std.specs.Prelude.{option_map, slice_get}
-use Rattle.std.specs.List.{position, position_or_len, list_any}
 use Rattle.std.specs.Str.{bytes_eq}
 use Rattle.std.specs.Global.{Vec}
-use Rattle.std.proofs.lemmas.Bool.Decides.{nat_tests}
-use Rattle.std.proofs.lemmas.Bool.{lt-ltb}
 use Rattle.std.proofs.lemmas.Slice.Eq.{bytes_eq-Decides}
 use Rattle.std.proofs.lemmas.List.{map_push}
 use Rattle.ring_names.specs.Lists.{AllNew}
 use Rattle.ring_names.specs.Names.{place}
 use Rattle.ring_names.specs.AtBytes.{value_at, Puts}
-use Rattle.ring_names.proofs.AtBytes.{by_bytes}
+use Rattle.ring_names.proofs.AtBytes.{by_bytes, same_bytes}
 use Rattle.std.specs.BTreeMap.{BTreeMap}
 use Rattle.std.specs.declared.vec.Vec.{Vec as AnyVec}
 use Rattle.std.specs.Cmp.Lexicographic.{nat_list_eq_equiv}
-
-bytes_eq-same : (x : List ℕ) → bytes_eq x x ≡ true
-bytes_eq-same x = (bytes_eq-Decides x x).1 refl
-
-absent-step : (b : Bool) (o : Option ℕ) → cond b (Some 0) (option_map (λ m. suc m) o) ≡ None → (b ≡ false) × (o ≡ None)
-absent-step true o e = absurd cc
-absent-step false None e = (refl, refl)
-absent-step false (Some m) e = absurd cc
+use Rattle.ring_names.proofs.Logic.{cond_none}
 
 -- a new name gets the next number
 pub place-push : (ns : List (List ℕ)) (x : List ℕ) → place ns x ≡ None → place (ns ++ x ∷ []) x ≡ Some (length ns)
-place-push [] x e = rw (bytes_eq-same x) refl
+place-push [] x e = rw (same_bytes x) refl
 place-push (n ∷ ns) x e =
-    let s = absent-step (bytes_eq x n) (place ns x) e in
+    let s = cond_none (bytes_eq x n) (place ns x) e in
     rw (s.0, place-push ns x s.1) refl
 
 -- and every other name keeps its own
@@ -49,9 +39,9 @@ numbers-push old new ns x at absent put = by_bytes x (λ (k : List ℕ). value_a
 -- ---- names of which each is new
 
 place-front : (seen ys : List (List ℕ)) (x : List ℕ) → place seen x ≡ None → place (seen ++ x ∷ ys) x ≡ Some (length seen)
-place-front [] ys x e = rw (bytes_eq-same x) refl
+place-front [] ys x e = rw (same_bytes x) refl
 place-front (n ∷ ns) ys x e =
-    let s = absent-step (bytes_eq x n) (place ns x) e in
+    let s = cond_none (bytes_eq x n) (place ns x) e in
     rw (s.0, place-front ns ys x s.1) refl
 
 place-from : (seen xs : List (List ℕ)) (i : ℕ) (x : List ℕ) → AllNew seen xs → slice_get xs i ≡ Some x → place (seen ++ xs) x ≡ Some (length seen + i)

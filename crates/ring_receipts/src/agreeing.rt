@@ -22,7 +22,8 @@ use std::alloc::Global;
 // Whether the lists of the workers, from that place on, are of steps of a plan.
 fn are_workers(lists: &[Listed<Receipt>], first: usize, workers: u32) -> bool
     requires { first + workers ≤ length lists.now }
-    ensures { IsTrue result ↔ ((i : ℕ) → i < workers → list_all (λ r. is_step r.event) (list_at lists.now (first + i)) ≡ true) }
+    ensures { IsTrue result
+        ↔ ((i : ℕ) → i < workers → list_all (λ r. is_step r.event) (list_at lists.now (first + i)) ≡ true) }
 {
     for worker in 0..workers {
         if !are_of_steps(lists[first + worker as usize].as_slice()) {
@@ -40,7 +41,8 @@ fn are_clients(
     first: usize,
 ) -> Result<bool, Refusal>
     requires { first + length scripts.now ≤ length lists.now }
-    ensures exactly { IfOk result (λ b. IsTrue b ↔ ((i : ℕ) → i < length scripts.now → IsClient (slice_index_or scripts.now i []) (list_at lists.now (first + i)))) }
+    ensures exactly { IfOk result (λ b. IsTrue b ↔ ((i : ℕ) → i < length scripts.now
+        → IsClient (slice_index_or scripts.now i []) (list_at lists.now (first + i)))) }
     ensures memory { IfErr result (λ e. e ≡ OutOfMemory) }
 {
     for (place, script) in scripts.iter().enumerate() {

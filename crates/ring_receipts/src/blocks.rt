@@ -73,7 +73,8 @@ fn behind_put_line<'a>(
     seen: &Seen,
     list: &'a [Receipt],
 ) -> Option<&'a [Receipt]>
-    ensures some { IfSome result (λ rest. Leaves asked.now (StartPut writer key.now value.now seen.now) list.now rest.now asked.now) }
+    ensures some { IfSome result
+        (λ rest. Leaves asked.now (StartPut writer key.now value.now seen.now) list.now rest.now asked.now) }
     ensures none { IfNone result (HasNoBlock asked.now (StartPut writer key.now value.now seen.now) list.now) }
 {
     if !all_ended(asked, key, seen) {
@@ -95,7 +96,8 @@ fn behind_get_line<'a>(
     key: &Key,
     list: &'a [Receipt],
 ) -> Result<Option<&'a [Receipt]>, Refusal>
-    ensures some { IfOk result (λ o. IfSome o (λ rest. Leaves asked.old.items (StartGet key.now) list.now rest.now asked.new.items)) }
+    ensures some { IfOk result
+        (λ o. IfSome o (λ rest. Leaves asked.old.items (StartGet key.now) list.now rest.now asked.new.items)) }
     ensures none { IfOk result (λ o. IfNone o (HasNoBlock asked.old.items (StartGet key.now) list.now)) }
     ensures memory { IfErr result (λ e. e ≡ OutOfMemory) }
 {
@@ -133,7 +135,8 @@ pub(crate) fn behind_line<'a>(
     line: &Event,
     list: &'a [Receipt],
 ) -> Result<Option<&'a [Receipt]>, Refusal>
-    ensures some { IfOk result (λ o. IfSome o (λ rest. Leaves asked.old.items line.now list.now rest.now asked.new.items)) }
+    ensures some { IfOk result
+        (λ o. IfSome o (λ rest. Leaves asked.old.items line.now list.now rest.now asked.new.items)) }
     ensures none { IfOk result (λ o. IfNone o (HasNoBlock asked.old.items line.now list.now)) }
     ensures memory { IfErr result (λ e. e ≡ OutOfMemory) }
 {

@@ -1,6 +1,7 @@
 //! Whether each step's finisher is the worker whose list has the step's end.
 
-ghost use Rattle.std.specs.Prelude.{◌≡◌, ◌↔◌, ◌<◌, ◌≤◌, ◌||◌, ℕ, false, length, vec_len, slice_index_or, IfOk, IfErr, IsTrue};
+ghost use Rattle.std.specs.Prelude.{◌≡◌, ◌↔◌, ◌<◌, ◌≤◌, ◌||◌, ℕ, false, length, vec_len, slice_index_or, IfOk, IfErr};
+ghost use Rattle.std.specs.Prelude.{IsTrue};
 ghost use Rattle.ring_names.specs.declared.refusal.Refusal.TheVariants.{OutOfMemory};
 ghost use Rattle.ring_receipts.specs.Finishing.{AreBy, has_end, worker_at, Finishes};
 
@@ -14,7 +15,8 @@ fn mark(finishers: &[u32], marks: &mut Vec<bool>, worker: usize, list: &[Receipt
     requires { vec_len marks.old ≡ length finishers.now }
     ensures len { vec_len marks.new ≡ vec_len marks.old }
     ensures yes { IsTrue result ↔ AreBy finishers.now worker list.now }
-    ensures marked { IsTrue result → (k : ℕ) → k < vec_len marks.old → slice_index_or marks.new.items k false ≡ (slice_index_or marks.old.items k false || has_end k list.now) }
+    ensures marked { IsTrue result → (k : ℕ) → k < vec_len marks.old
+        → slice_index_or marks.new.items k false ≡ (slice_index_or marks.old.items k false || has_end k list.now) }
 {
     let mut rest = list;
     'receipts: while let Some((first, later)) = rest.split_first() {

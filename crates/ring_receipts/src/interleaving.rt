@@ -1,6 +1,7 @@
 //! Whether a history is an interleaving of lists of receipts.
 
-ghost use Rattle.std.specs.Prelude.{◌≡◌, ◌↔◌, ◌+◌, ◌<◌, ◌==◌, ℕ, min, length, vec_len, slice_index, count_by, IfOk, IfErr, IsTrue};
+ghost use Rattle.std.specs.Prelude.{◌≡◌, ◌↔◌, ◌+◌, ◌<◌, ◌==◌, ℕ, min, length, vec_len, slice_index, count_by, IfOk};
+ghost use Rattle.std.specs.Prelude.{IfErr, IsTrue};
 ghost use Rattle.ring_names.specs.declared.refusal.Refusal.TheVariants.{OutOfMemory};
 ghost use Rattle.ring_receipts.specs.Interleaving.{rises, Stands, standing, Interleaves, AreStanding};
 
@@ -57,7 +58,8 @@ fn all_stand(history: &[Entry], list: &[Receipt]) -> bool
 // Counts the receipts of each place, up to 255.
 fn count_in(counts: &mut Vec<u8>, list: &[Receipt])
     ensures len { vec_len counts.new ≡ vec_len counts.old }
-    ensures counts { (k : ℕ) → k < vec_len counts.old → slice_index counts.new.items k ≡ min 255 (slice_index counts.old.items k + count_by (λ r. k == r.index) list.now) }
+    ensures counts { (k : ℕ) → k < vec_len counts.old → slice_index counts.new.items k
+        ≡ min 255 (slice_index counts.old.items k + count_by (λ r. k == r.index) list.now) }
 {
     let mut rest = list;
     'receipts: while let Some((first, later)) = rest.split_first() {

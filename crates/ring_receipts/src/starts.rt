@@ -17,7 +17,8 @@ pub fn all_ended(asked: &[Asked], key: &Key, seen: &Seen) -> bool
 {
     seen.as_slice().iter().all(
         |n: &u32| -> bool
-            ensures { result ≡ elim (slice_get asked.entry.now n.now) [ Some a ↦ bytes_eq a.key key.entry.now && a.ended | None ↦ false ] }
+            ensures { result ≡ elim
+                (slice_get asked.entry.now n.now) [ Some a ↦ bytes_eq a.key key.entry.now && a.ended | None ↦ false ] }
         {
             match asked.get(*n as usize) {
                 Some(get) => get.key.as_slice() == key.as_slice() && get.ended,
@@ -87,8 +88,10 @@ pub(crate) fn put_started(
     seen: &Seen,
     receipt: &Receipt,
 ) -> Option<u32>
-    ensures some { IfSome result (λ v. (receipt.now.event ≡ StartPut writer key.now value.now (numbers_of asked.now seen.now)) × (receipt.now.reply ≡ Put v)) }
-    ensures none { IfNone result ((v : ℕ) → receipt.now.event ≡ StartPut writer key.now value.now (numbers_of asked.now seen.now) → receipt.now.reply ≡ Put v → ⊥) }
+    ensures some { IfSome result (λ v. (receipt.now.event
+        ≡ StartPut writer key.now value.now (numbers_of asked.now seen.now)) × (receipt.now.reply ≡ Put v)) }
+    ensures none { IfNone result ((v : ℕ) → receipt.now.event
+        ≡ StartPut writer key.now value.now (numbers_of asked.now seen.now) → receipt.now.reply ≡ Put v → ⊥) }
 {
     match &receipt.reply {
         Reply::Put(put) => {

@@ -3,6 +3,7 @@ use Rattle.std.proofs.Common.{◌≡◌, ◌≢◌, ◌∙◌, inl, inr, ℕ, �
 use Rattle.ring_names.specs.declared.refusal.Refusal.{Refusal}
 use Rattle.ring_names.specs.declared.refusal.Refusal.TheVariants.{OutOfMemory, HistoryFull, Mismatch}
 use Rattle.ring_names.specs.Refusals.{number_of}
+use Rattle.ring_names.proofs.Logic.{plus_zero}
 use Rattle.ring_table.specs.Value.{RingValue}
 use Rattle.plan_text.specs.declared.step.Planned.{Planned}
 use Rattle.plan_check.specs.declared.event.Entry.{Entry}
@@ -11,9 +12,6 @@ use Rattle.plan_check.specs.Answers.{answer}
 use Rattle.plan_check.specs.Runs.{Leads}
 use Rattle.plan_check.specs.World.{World as TheWorld}
 use Rattle.ring_replay.specs.Faults.{FailsAt, IsFirstFault}
-
-plus_zero : (k : ℕ) → k + 0 ≡ k
-plus_zero k = omega arith
 
 plus_one : (k : ℕ) (y : Entry) (front : List Entry) → k + length (y ∷ front) ≡ (k + 1) + length front
 plus_one k y front = omega arith

@@ -17,7 +17,8 @@ use ring_receipts::is_same_reply;
 pub fn follow(world: &mut World, place: u32, entry: &Entry) -> Result<Reply, Refusal>
     requires { HasNumber world.old entry.now.event }
     ensures ok { IfOk result (λ r. (r ≡ entry.now.reply) × Answers world.old entry.now.event r world.new) }
-    ensures err { IfErr result (λ e. e ≢ OutOfMemory → (w : TheWorld) → Meets world.old w → FailsAt (ring_of world.old) (plan_of world.old) w place entry.now e) }
+    ensures err { IfErr result (λ e. e ≢ OutOfMemory → (w : TheWorld) → Meets world.old w
+        → FailsAt (ring_of world.old) (plan_of world.old) w place entry.now e) }
     ensures late { IfErr result (λ e. e ≡ OutOfMemory → Passes world.old entry.now.event) }
     ensures counts { IsOneMore world.old world.new }
     ensures ring { ring_of world.new ≡ ring_of world.old }

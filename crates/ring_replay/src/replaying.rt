@@ -20,7 +20,8 @@ fn follow_all(world: &mut World, history: &[Entry]) -> Result<(), Refusal>
     requires puts { put_count world.old ≡ 0 }
     requires gets { get_count world.old ≡ 0 }
     ensures ok { OnOk result (Follows world.old history.now world.new) }
-    ensures err { IfErr result (λ e. e ≢ OutOfMemory → (w : TheWorld) → Meets world.old w → IsFirstFault (ring_of world.old) (plan_of world.old) w 0 history.now e) }
+    ensures err { IfErr result (λ e. e ≢ OutOfMemory → (w : TheWorld) → Meets world.old w
+        → IsFirstFault (ring_of world.old) (plan_of world.old) w 0 history.now e) }
 {
     for (place, entry) in history.iter().enumerate() {
         follow(world, place as u32, entry)?;
@@ -40,9 +41,11 @@ pub fn replay<'a>(
     ensures ok { IfOk result (λ a. Replays approved.now.ring approved.now.plan a history.now) }
     ensures ring { IfOk result (λ a. ring_of a ≡ approved.now.ring) }
     ensures plan { IfOk result (λ a. plan_of a ≡ approved.now.plan) }
-    ensures err { IfErr result (λ e. e ≢ OutOfMemory → IsFirstFault approved.now.ring approved.now.plan (opening_world approved.now.ring) 0 history.now e) }
+    ensures err { IfErr result (λ e. e ≢ OutOfMemory
+        → IsFirstFault approved.now.ring approved.now.plan (opening_world approved.now.ring) 0 history.now e) }
     // No run is refused.
-    ensures only { IfErr result (λ e. e ≢ OutOfMemory → (w : TheWorld) → IsRun approved.now.ring approved.now.plan history.now w → ⊥) }
+    ensures only { IfErr result
+        (λ e. e ≢ OutOfMemory → (w : TheWorld) → IsRun approved.now.ring approved.now.plan history.now w → ⊥) }
 {
     let mut world = World::start(alloc, approved)?;
     match follow_all(&mut world, history) {

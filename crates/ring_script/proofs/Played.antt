@@ -5,6 +5,7 @@ use Rattle.std.specs.Fmt.{decimal}
 use Rattle.std.proofs.lemmas.Grind.{flat_map-append}
 use Rattle.ring_names.specs.declared.ids.NodeId.{NodeId}
 use Rattle.ring_names.specs.declared.refusal.Refusal.{Refusal}
+use Rattle.ring_names.proofs.Logic.{zero_plus, plus_zero}
 use Rattle.texts.specs.Parts.{line_text, text_of}
 use Rattle.texts.specs.Frames.{end_fields}
 use Rattle.ring_table.specs.Value.{RingValue, names_of}
@@ -20,12 +21,6 @@ use Rattle.ring_core.specs.World.{ring_of, plan_of, Meets}
 use Rattle.ring_script.specs.Play.{behind, said, event_line, world_after, event_lines, owners_text, play_text}
 use Rattle.ring_script.specs.Steps.{Happens, Plays}
 
-plus-zero : (k : ℕ) → k + 0 ≡ k
-plus-zero k = omega arith
-
-zero-plus : (k : ℕ) → 0 + k ≡ k
-zero-plus k = omega arith
-
 plus-one : (k : ℕ) (d : Event) (es : List Event) → (k + 1) + length es ≡ k + length (d ∷ es)
 plus-one k d es = omega arith
 
@@ -38,7 +33,7 @@ module _ (ring : RingValue) (plan : List Planned) where
   -- and its line
   pub lines_one : (w : TheWorld) (k : ℕ) (es : List Event) (e : Event)
       → event_lines ring plan w k (es ++ e ∷ []) ≡ event_lines ring plan w k es ++ event_line (k + length es) (answer ring plan (world_after ring plan w es) e)
-  lines_one w k [] e = append-nil (event_line k (answer ring plan w e)) ∙ ap (λ (n : ℕ). event_line n (answer ring plan w e)) (sym (plus-zero k))
+  lines_one w k [] e = append-nil (event_line k (answer ring plan w e)) ∙ ap (λ (n : ℕ). event_line n (answer ring plan w e)) (sym (plus_zero k))
   lines_one w k (d ∷ es) e =
       let next = behind w (answer ring plan w d) in
       let line = event_line k (answer ring plan w d) in
@@ -83,7 +78,7 @@ plays_one start old new es e before out after p h = record {
     first_lines : (w : TheWorld) → event_lines (ring_of start) (plan_of start) w 0 (es ++ e ∷ [])
         ≡ event_lines (ring_of start) (plan_of start) w 0 es ++ event_line (length es) (answer (ring_of start) (plan_of start) (there w) e)
     first_lines w = lines_one (ring_of start) (plan_of start) w 0 es e
-        ∙ ap (λ (n : ℕ). event_lines (ring_of start) (plan_of start) w 0 es ++ event_line n (answer (ring_of start) (plan_of start) (there w) e)) (zero-plus (length es))
+        ∙ ap (λ (n : ℕ). event_lines (ring_of start) (plan_of start) w 0 es ++ event_line n (answer (ring_of start) (plan_of start) (there w) e)) (zero_plus (length es))
 
     same : (w : TheWorld) → behind (there w) (answer (ring_of old) (plan_of old) (there w) e) ≡ world_after (ring_of start) (plan_of start) w (es ++ e ∷ [])
     same w = ap (λ (r : Result (TheWorld × Reply) Refusal). behind (there w) r) (answered w) ∙ sym (after_one (ring_of start) (plan_of start) w es e)

@@ -60,7 +60,8 @@ fn play_events(world: &mut World, out: &mut Vec<u8>, events: &[Event]) -> Result
 // The lines of owners, from partition 0 on.
 fn push_owners(out: &mut Vec<u8>, nodes: &[Node], rows: &[Listed<NodeId>]) -> Result<(), AllocError>
     requires { length rows.now ≤ 4096 }
-    ensures { OnOk result (out.new.items ≡ out.old.items ++ text_of (rows_lines (map (λ x. x.name) nodes.now) 0 rows.now)) }
+    ensures { OnOk result
+        (out.new.items ≡ out.old.items ++ text_of (rows_lines (map (λ x. x.name) nodes.now) 0 rows.now)) }
 {
     for (partition, row) in rows.iter().enumerate() {
         push_row(out, nodes, partition as u32, row.as_slice())?;
@@ -71,7 +72,8 @@ fn push_owners(out: &mut Vec<u8>, nodes: &[Node], rows: &[Listed<NodeId>]) -> Re
 /// The line of the owners of each partition now, and `end`.
 pub(crate) fn push_ending(world: &World, ring: &Ring, out: &mut Vec<u8>) -> Result<(), Refusal>
     requires { ring_of world.now ≡ ring.now }
-    ensures ok { OnOk result ((w : TheWorld) → Meets world.now w → out.new.items ≡ out.old.items ++ owners_text ring.now (plan_of world.now) w) }
+    ensures ok { OnOk result ((w : TheWorld) → Meets world.now w
+        → out.new.items ≡ out.old.items ++ owners_text ring.now (plan_of world.now) w) }
     ensures memory { IfErr result (λ e. e ≡ OutOfMemory) }
 {
     let rows = world.table()?;

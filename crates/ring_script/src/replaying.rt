@@ -18,7 +18,8 @@ use std::alloc::Global;
 // `yes`, and the owners now.
 fn ending(alloc: Global, ring: &Ring, world: &World) -> Result<Vec<u8>, Refusal>
     requires { ring_of world.now ≡ ring.now }
-    ensures text { IfOk result (λ v. (w : TheWorld) → Meets world.now w → v.items ≡ ending_text ring.now (plan_of world.now) w) }
+    ensures text { IfOk result
+        (λ v. (w : TheWorld) → Meets world.now w → v.items ≡ ending_text ring.now (plan_of world.now) w) }
     ensures memory { IfErr result (λ e. e ≡ OutOfMemory) }
 {
     let mut out = Vec::from_slice(alloc, b"yes\n")?;
@@ -36,7 +37,8 @@ pub fn replay_history(
 ) -> Result<Vec<u8>, Refusal>
     requires few { length history.now ≤ 1000000 }
     ensures text { IfOk result (λ v. IsReplayed approved.now.ring approved.now.plan history.now v.items) }
-    ensures err { IfErr result (λ e. e ≢ OutOfMemory → IsFirstFault approved.now.ring approved.now.plan (opening_world approved.now.ring) 0 history.now e) }
+    ensures err { IfErr result (λ e. e ≢ OutOfMemory
+        → IsFirstFault approved.now.ring approved.now.plan (opening_world approved.now.ring) 0 history.now e) }
 {
     let world = replay(alloc, approved, history)?;
     ending(alloc, approved.ring(), &world)

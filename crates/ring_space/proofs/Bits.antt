@@ -1,8 +1,8 @@
 -- The number of bits that tell partitions apart, and shares of a number of 128 bits.
-use Rattle.std.proofs.Common.{◌≡◌, ◌≢◌, inl, inr, ℕ, zero, suc, ◌+◌, ◌-◌, ◌*◌, ◌/◌, ◌^◌, ◌<◌, ◌≤◌, Bool, true, false, List, [], ◌∷◌, refl, sym, subst, arith}
+use Rattle.std.proofs.Common.{◌≡◌, inl, inr, ℕ, zero, suc, ◌+◌, ◌-◌, ◌*◌, ◌/◌, ◌^◌, ◌<◌, ◌≤◌, Bool, true, false, List, [], ◌∷◌, refl, sym, subst, arith}
 use Rattle.std.specs.Prelude.{◌==◌, ◌||◌, if◌then◌else◌}
 use Rattle.std.specs.List.{list_all}
-use Rattle.std.proofs.lemmas.Bool.{and_parts}
+use Rattle.std.proofs.lemmas.Bool.{and_parts, ne_eqb}
 use Rattle.std.proofs.lemmas.Bool.Decides.{eqb_tells, nat_tests}
 use Rattle.std.proofs.lemmas.Nat.{pow-add}
 use Rattle.std.proofs.lemmas.Grind.{pow_more}
@@ -27,14 +27,11 @@ bits-most q = log2-most 12 q
 is_power : ℕ → Bool
 is_power q = q == 2 ^ log2 12 q
 
-differ : (x y : ℕ) → x ≢ y → (x == y) ≡ false
-differ x y e = grind (arith, nat_tests)
-
 power_among : (q : ℕ) (xs : List ℕ) → has q xs ≡ true → list_all is_power xs ≡ true → is_power q ≡ true
 power_among q [] h e = absurd cc
 power_among q (x ∷ xs) h e = elim (eqb_tells q x) [
   | inl t ↦ rw t.1 (and_parts (is_power x) (list_all is_power xs) e).0
-  | inr t ↦ power_among q xs (subst (λ b. (b || has q xs) ≡ true) (differ q x t.1) h) (and_parts (is_power x) (list_all is_power xs) e).1
+  | inr t ↦ power_among q xs (subst (λ b. (b || has q xs) ≡ true) (ne_eqb q x t.1) h) (and_parts (is_power x) (list_all is_power xs) e).1
 ]
 
 powers : list_all is_power spaces ≡ true

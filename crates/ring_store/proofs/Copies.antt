@@ -7,11 +7,10 @@ use Rattle.std.specs.Map.{lookup}
 use Rattle.std.specs.Map.Iter.{TakesFirst, deref_pair}
 use Rattle.std.proofs.lemmas.Map.Iter.{hash_map_turn}
 use Rattle.std.specs.Prelude.{cond}
-use Rattle.std.proofs.lemmas.Bool.{cases_Bool}
+use Rattle.std.proofs.lemmas.Bool.{cases_Bool, false_from_ne_true}
 use Rattle.ring_names.specs.declared.ids.Slot.{Slot}
 use Rattle.store_maps.specs.Slots.{held_for}
 use Rattle.store_maps.specs.declared.slot_map.SlotMap.{SlotMap}
-use Rattle.store_maps.proofs.OneAnswer.{false_from}
 use Rattle.ring_store.specs.declared.store.NodeStore.{NodeStore}
 use Rattle.ring_store.specs.Slots.{same_slot, maps_of, held_by, PutsSlot}
 use Rattle.ring_store.specs.Store.{partitions, versions_at}
@@ -28,7 +27,7 @@ pub record Copying (from copy : NodeStore) (rest : List (Slot × SlotMap)) : Typ
 
 later_of : (slot s : Slot) (m : SlotMap) (rest later : List (Slot × SlotMap)) → rest ≡ (slot, m) ∷ later → same_slot slot s ≡ false → left_of rest s ≡ left_of later s
 later_of slot s m rest later is e =
-    let apart : same_slot s slot ≡ false = false_from (same_slot s slot) (λ h. (let t : same_slot slot s ≡ true = subst (λ (x : Slot). same_slot slot x ≡ true) (sym (slot_same s slot h)) (same_itself slot) in cc)) in
+    let apart : same_slot s slot ≡ false = false_from_ne_true (same_slot s slot) (λ h. (let t : same_slot slot s ≡ true = subst (λ (x : Slot). same_slot slot x ≡ true) (sym (slot_same s slot h)) (same_itself slot) in cc)) in
     ap (λ es. left_of es s) is ∙ ap (λ (b : Bool). cond b (Some m) (left_of later s)) apart
 
 pub copying_none : (from copy : NodeStore) → partitions copy ≡ partitions from → ((s : Slot) (k : List ℕ) → versions_at copy s k ≡ []) → Copying from copy from.slots.entries
@@ -57,7 +56,7 @@ slots_equal = record {
     turned : (a b : Slot) → same_slot a b ≡ same_slot b a
     turned a b = elim (cases_Bool (same_slot a b)) [
       | inl y ↦ y ∙ sym (subst (λ (x : Slot). same_slot x a ≡ true) (slot_same a b y) (same_itself a))
-      | inr apart ↦ apart ∙ sym (false_from (same_slot b a) (λ h. (let t : same_slot a b ≡ true = subst (λ (x : Slot). same_slot x b ≡ true) (slot_same b a h) (same_itself b) in cc)))
+      | inr apart ↦ apart ∙ sym (false_from_ne_true (same_slot b a) (λ h. (let t : same_slot a b ≡ true = subst (λ (x : Slot). same_slot x b ≡ true) (slot_same b a h) (same_itself b) in cc)))
     ]
 
 -- the maps of a turn are those that the slot has

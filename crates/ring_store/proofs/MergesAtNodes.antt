@@ -10,7 +10,7 @@ use Rattle.store_maps.proofs.MergesInTurn.{merge_then_none, merge_after_none}
 use Rattle.ring_store.specs.Nodes.{MergesAtAll, at_node, at_nodes}
 
 -- stores that read the same are one to read
-one_reading : (old new : ℕ → Slot → List ℕ → List Version) → ((x : ℕ) (s : Slot) (k : List ℕ) → new x s k ≡ old x s k) → new ≡ old
+pub one_reading : (old new : ℕ → Slot → List ℕ → List Version) → ((x : ℕ) (s : Slot) (k : List ℕ) → new x s k ≡ old x s k) → new ≡ old
 one_reading old new same = fun_ext (λ x. fun_ext (λ s. fun_ext (λ k. same x s k)))
 
 -- a merge into what reads as the old did

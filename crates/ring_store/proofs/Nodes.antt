@@ -2,7 +2,9 @@
 use Rattle.std.proofs.Common.{◌≡◌, ◌≢◌, inl, inr, ◌∙◌, ℕ, ◌<◌, true, List, [], ◌∷◌, ◌++◌, length, refl, sym, ap, subst, Option, Some, None, set}
 use Rattle.std.specs.Prelude.{slice_get, IfSome}
 use Rattle.std.proofs.Math.ListN.{get_or}
+use Rattle.std.proofs.lemmas.Bool.{cases_eq}
 use Rattle.ring_names.specs.declared.ids.Slot.{Slot}
+use Rattle.ring_names.proofs.InLists.{get_lent}
 use Rattle.ring_versions.specs.Fresh.{FitsIn}
 use Rattle.ring_versions.specs.declared.fresh.Fresh.{Fresh}
 use Rattle.ring_versions.specs.declared.version.Version.{Version}
@@ -12,7 +14,7 @@ use Rattle.store_maps.specs.Merges.{fresh_at, fresh_in}
 use Rattle.store_maps.specs.declared.fresh_keys.FreshKeys.{FreshKeys}
 use Rattle.store_maps.specs.declared.fresh_maps.FreshMaps.{FreshMaps}
 use Rattle.store_maps.proofs.OneAnswer.{on_some}
-use Rattle.store_maps.proofs.Chunks.{lent, get_here, get_other, pushed, same_or, chosen_here, chosen_other}
+use Rattle.store_maps.proofs.Chunks.{get_here, get_other, pushed, chosen_here, chosen_other}
 use Rattle.store_maps.proofs.MergesInTurn.{merge_none}
 use Rattle.ring_store.specs.Nodes.{stored_in, has_place_in, AreOfSpace, MergesAtAll, at_node}
 use Rattle.ring_store.specs.Slots.{maps_of, MergesInAll}
@@ -54,7 +56,7 @@ keeps_ready old new x space same stays = record {
 
 module _ (a : Stores) {n : ℕ} {m : NodeStore} (w : NodeStore) (room : n < length a.list.items) (lends : m ≡ get_or a.list.items n m) where
   is : slice_get a.list.items n ≡ Some m
-  is = lent a.list.items n m room lends
+  is = get_lent a.list.items n m room lends
 
   -- what holds of the store and its hash space holds where it stands
   pub at_old : (P : ℕ → Option NodeStore → Type 0) → P (partitions m) (Some m) → P (shared_space a) (slice_get a.list.items n)
@@ -68,7 +70,7 @@ module _ (a : Stores) {n : ℕ} {m : NodeStore} (w : NodeStore) (room : n < leng
 
   -- what holds of the node and of all others
   by_node : (P : ℕ → Option NodeStore → Option NodeStore → Type 0) → P n (Some m) (Some w) → ((x : ℕ) → x ≢ n → P x (slice_get a.list.items x) (slice_get a.list.items x)) → (x : ℕ) → P x (slice_get a.list.items x) (slice_get (set a.list.items n w) x)
-  by_node P here other x = elim (same_or x n) [
+  by_node P here other x = elim (cases_eq x n) [
     | inl e ↦ subst (λ (y : ℕ). P y (slice_get a.list.items y) (slice_get (set a.list.items n w) y)) (sym e) (subst (λ (o : Option NodeStore). P n o (slice_get (set a.list.items n w) n)) (sym is) (subst (P n (Some m)) (sym (get_here a.list.items n w room)) here))
     | inr ne ↦ subst (P x (slice_get a.list.items x)) (sym (get_other a.list.items n x w ne)) (other x ne)
   ]

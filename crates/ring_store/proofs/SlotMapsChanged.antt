@@ -3,7 +3,7 @@ use Rattle.std.proofs.Common.{◌≡◌, ◌≢◌, inl, inr, ◌∙◌, ℕ, Bo
 use Rattle.std.specs.Prelude.{◌&&◌, unwrap_or}
 use Rattle.std.specs.List.Sorted.{IsStrictlySortedBy}
 use Rattle.std.specs.HashMap.{HashMap, UpdatesBy}
-use Rattle.std.proofs.lemmas.Bool.{cases_Bool, eqb-true, eq-eqb}
+use Rattle.std.proofs.lemmas.Bool.{cases_Bool, eqb-true, eq-eqb, false_from_ne_true}
 use Rattle.ring_names.specs.contracts.ids.SlotPartialEq.TheImpl as slot_eq
 use Rattle.ring_names.specs.declared.ids.Slot.{Slot}
 use Rattle.ring_versions.specs.declared.version.Version.{Version}
@@ -12,7 +12,7 @@ use Rattle.store_maps.specs.Chunks.{chunk_of}
 use Rattle.store_maps.specs.Held.{held, has_place, AreKeys}
 use Rattle.ring_names.specs.AtBytes.{value_at}
 use Rattle.store_maps.specs.declared.key_map.KeyMap.{KeyMap}
-use Rattle.store_maps.proofs.OneAnswer.{none_from_empty, false_from}
+use Rattle.store_maps.proofs.OneAnswer.{none_from_empty}
 use Rattle.store_maps.specs.Merges.{MergesAll}
 use Rattle.store_maps.specs.Slots.{space_of}
 use Rattle.store_maps.specs.declared.slot_map.SlotMap.{SlotMap}
@@ -101,4 +101,4 @@ keys_none g (x ∷ xs) e none = absurd cc
 keys_none g [] e none = record { rises = tt; each = λ k ne. absurd (ne (none k)); only = λ k h. absurd (omega (arith, h.1)) }
 
 pub no_place : (m : KeyMap) (k : List ℕ) → (has_place m k ≡ true → ⊥) → held m k ≡ []
-no_place m k h = ap (λ (o : Option (List Version)). unwrap_or o []) (none_from_empty (value_at m.map k) (false_from (has_place m k) h))
+no_place m k h = ap (λ (o : Option (List Version)). unwrap_or o []) (none_from_empty (value_at m.map k) (false_from_ne_true (has_place m k) h))

@@ -17,7 +17,7 @@ use Rattle.texts.specs.Numbers.{first_value, numbers_of}
 use Rattle.texts.specs.Judging.{◌⊗◌, field_at, word_at, number_at, need_at, limited, map_ok, map_item}
 use Rattle.texts.specs.Laws.{IsItem, IsLine}
 use Rattle.texts.proofs.Items.{IsItem-⊗, IsItem-word, IsItem-field, IsItem-need, IsLine-whole, IsLine-map, IsLine-judged, IsLine-as, ok_is, map_is, bind_ok}
-use Rattle.texts.proofs.Fronts.{Free, IsFront, front-item, front-⊗, front-map, front-whole, pair_is, pair_of}
+use Rattle.texts.proofs.Fronts.{Free, IsFront, front-item, front-⊗, front-map, front-whole}
 use Rattle.texts.proofs.FrameLaws.{Nothing}
 use Rattle.texts.proofs.Decimals.{IsItem-number, decimal-value, value-decimal, limited_is}
 use Rattle.ring_table.specs.declared.allowance.Allowance.{Allowance}
@@ -25,6 +25,7 @@ use Rattle.ring_table.specs.declared.allowance.Allowance.TheVariants.{Joint, Spl
 use Rattle.ring_table.specs.declared.head.Quorum.{Quorum}
 use Rattle.ring_table.specs.declared.node.Node.{Node}
 use Rattle.ring_names.specs.Space.{is_space}
+use Rattle.ring_names.proofs.Logic.{and_false, pair_is, pair_of}
 use Rattle.ring_table.specs.Valid.{is_format, is_loss, is_quorum, IsMost, IsAllowance, IsNew}
 use Rattle.ring_table.specs.Spelling.{format_fields, space_fields, loss_fields, quorum_fields, allowance_fields, membership, node_fields}
 use Rattle.ring_table.specs.Reading.{judge_format, format_at, space_at, loss_at, quorum_at, judge_new, above_zero, judge_most, second_at, made, allowance_at, judge_membership, node_at}
@@ -168,10 +169,6 @@ no-first (f ∷ fs) e = by (is_number f) e
     by true h = absurd cc
     by false h = refl
 
-and-none : (a : Bool) → (a && false) ≡ false
-and-none true = refl
-and-none false = refl
-
 second-front : (format k : ℕ) → IsFront Free (second_at format k) second_fields (IsSecond format)
 unfolding second_at
 second-front format k = record { takes = λ fields rest v e. take fields rest v (nat_le 2 format && is_some (first_value fields)) refl e; gives = give }
@@ -186,7 +183,7 @@ second-front format k = record { takes = λ fields rest v e. take fields rest v 
         rw (← m.2) (t.0, (two, t.1))
 
     give : (v : Option ℕ) (rest : List (List ℕ)) → IsSecond format v → Free rest → second_at format k (second_fields v ++ rest) ≡ (Ok v, rest)
-    give None rest p free = rw (no-first rest free.0, and-none (nat_le 2 format)) refl
+    give None rest p free = rw (no-first rest free.0, and_false (nat_le 2 format)) refl
     give (Some n) rest p free =
         let two : nat_le 2 format ≡ true = le-leb 2 format p.0 in
         let is : decimal_value (decimal n) ≡ Some n = value-decimal n (omega (arith, p.1.1)) in

@@ -23,6 +23,7 @@ use Rattle.ring_table.specs.Valid.{IsRow}
 use Rattle.ring_table.specs.Spelling.{name_at, row_fields, rows_lines}
 use Rattle.ring_table.specs.Reading.{judge_declared, owners_at, row_at, rows_at}
 use Rattle.std.proofs.lemmas.Bool.{and_parts, not-false}
+use Rattle.ring_names.proofs.InLists.{get_there}
 
 -- names that can be told apart
 pub record AreNames (names : List (List ℕ)) : Type 0 where
@@ -31,11 +32,6 @@ pub record AreNames (names : List (List ℕ)) : Type 0 where
 
 name_at-is : (names : List (List ℕ)) (x : NodeId) (f : List ℕ) → slice_get names x.0 ≡ Some f → name_at names x ≡ f
 name_at-is names x f e = rw (e, name_at) refl
-
-found_at : (names : List (List ℕ)) (i : ℕ) → i < length names → (f : List ℕ) × (slice_get names i ≡ Some f)
-found_at [] i lt = absurd (omega arith)
-found_at (x ∷ xs) zero lt = (x, refl)
-found_at (x ∷ xs) (suc i) lt = found_at xs i (omega arith)
 
 pub each_at : (P : List ℕ → Type 0) (names : List (List ℕ)) (i : ℕ) (f : List ℕ) → AllByRecursion P names → slice_get names i ≡ Some f → P f
 each_at P [] i f a e = absurd cc
@@ -53,7 +49,7 @@ IsItem-declared k names good = IsItem-field k (judge_declared k names) (name_at 
     let at = declared_is k names f v (is_name f) (place names f) refl refl e in
     (sym (name_at-is names v f (get-place names v.0 f at)), place-below names v.0 f at))
     (λ v lt.
-    let f = found_at names v.0 lt in
+    let f = get_there names v.0 lt in
     let named : is_name f.0 ≡ true = each_at (λ x. is_name x ≡ true) names v.0 f.0 good.each f.1 in
     rw (name_at-is names v f.0 f.1, named, place-get names v.0 f.0 good.new f.1) refl)
 

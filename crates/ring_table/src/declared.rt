@@ -1,12 +1,14 @@
 //! Node lines, and the nodes that were declared so far.
 
-ghost use Rattle.std.specs.Prelude.{◌≡◌, ◌<◌, ◌≤◌, ◌+◌, ◌++◌, ◌∷◌, [], length, map, OnOk, OnErr, IfErr, codes, IfOk, None, not, nat_lt};
+ghost use Rattle.std.specs.Prelude.{◌≡◌, ◌<◌, ◌≤◌, ◌+◌, ◌++◌, ◌∷◌, [], length, map, OnOk, OnErr, IfErr, codes, IfOk};
+ghost use Rattle.std.specs.Prelude.{None, not, nat_lt};
 ghost use Rattle.ring_names.specs.declared.refusal.Refusal.TheVariants.{OutOfMemory};
 ghost use Rattle.ring_names.specs.Names.{place};
 ghost use Rattle.texts.specs.Judging.{Does, map_ok, field_at};
 ghost use Rattle.texts.specs.Left.{Reads, is_word, many_from};
 ghost use Rattle.texts.specs.Late.{IsAt, Late};
-ghost use Rattle.ring_table.specs.Reading.{judge_new, judge_most, second_at, made, allowance_at, judge_membership, node_at, nodes_at};
+ghost use Rattle.ring_table.specs.Reading.{judge_new, judge_most, second_at, made, allowance_at, judge_membership};
+ghost use Rattle.ring_table.specs.Reading.{node_at, nodes_at};
 
 use crate::allowance::Allowance;
 use crate::node::Node;
@@ -192,8 +194,10 @@ fn read_into(
     lines: &mut Lines,
 ) -> Result<(), Refusal>
     requires few { length declared.old ≤ 1024 }
-    ensures read { Reads (map_ok (λ _. declared.new) result) lines.new (many_from (is_word (codes "node")) (node_at format) declared.old lines.old.line lines.old.lines) }
-    ensures late { Late 1 result lines.old lines.new (many_from (is_word (codes "node")) (node_at format) declared.old lines.old.line lines.old.lines) }
+    ensures read { Reads (map_ok (λ _. declared.new) result) lines.new
+        (many_from (is_word (codes "node")) (node_at format) declared.old lines.old.line lines.old.lines) }
+    ensures late { Late 1 result lines.old lines.new
+        (many_from (is_word (codes "node")) (node_at format) declared.old lines.old.line lines.old.lines) }
 {
     'nodes: while lines.begins(b"node") {
         let fields = lines.next()?;

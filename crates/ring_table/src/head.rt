@@ -6,7 +6,8 @@ ghost use Rattle.ring_names.specs.declared.refusal.Refusal.TheVariants.{OutOfMem
 ghost use Rattle.texts.specs.Left.{Answers, lines_on};
 ghost use Rattle.texts.specs.Judging.{Does, field_at};
 ghost use Rattle.ring_table.specs.Valid.{is_quorum as is_valid_quorum, IsHead};
-ghost use Rattle.ring_table.specs.Reading.{judge_format, format_at, space_at, judge_quorum, loss_at, quorum_at, head_at};
+ghost use Rattle.ring_table.specs.Reading.{judge_format, format_at, space_at, judge_quorum, loss_at, quorum_at};
+ghost use Rattle.ring_table.specs.Reading.{head_at};
 
 use ring_names::Refusal;
 use texts::{Fields, Lines, both, finish};

@@ -165,7 +165,8 @@ fn read_into(
 ) -> Result<(), Refusal>
     requires slots { slots ≤ 7 }
     requires none { rows.old.items ≡ [] }
-    ensures read { Reads (map_ok (λ _. rows.new.items) result) lines.new (rows_at declared.now slots 0 partitions lines.old) }
+    ensures read { Reads (map_ok (λ _. rows.new.items) result) lines.new
+        (rows_at declared.now slots 0 partitions lines.old) }
     ensures late { Late 1 result lines.old lines.new (rows_at declared.now slots 0 partitions lines.old) }
 {
     for partition in 0..partitions {
@@ -186,7 +187,8 @@ pub fn read_rows(
     lines: &mut Lines,
 ) -> Result<Vec<Listed<NodeId>>, Refusal>
     requires slots { slots ≤ 7 }
-    ensures read { Reads (map_ok (λ rows. rows.items) result) lines.new (rows_at declared.now slots 0 partitions lines.old) }
+    ensures read { Reads (map_ok (λ rows. rows.items) result) lines.new
+        (rows_at declared.now slots 0 partitions lines.old) }
     ensures late { Late 1 result lines.old lines.new (rows_at declared.now slots 0 partitions lines.old) }
 {
     let mut rows = Vec::new(alloc);

@@ -1,10 +1,12 @@
 //! Writing a ring.
 
-ghost use Rattle.std.specs.Prelude.{◌≡◌, ◌++◌, ◌∷◌, [], ◌<◌, ◌≤◌, length, map, List, ℕ, IfOk, IfErr, OnOk, slice_get, Some};
+ghost use Rattle.std.specs.Prelude.{◌≡◌, ◌++◌, ◌∷◌, [], ◌<◌, ◌≤◌, length, map, List, ℕ, IfOk, IfErr, OnOk, slice_get};
+ghost use Rattle.std.specs.Prelude.{Some};
 ghost use Rattle.ring_names.specs.declared.refusal.Refusal.TheVariants.{OutOfMemory};
 ghost use Rattle.std.specs.List.{flat_map};
 ghost use Rattle.texts.specs.Parts.{line_text, text_of, spaced};
-ghost use Rattle.ring_table.specs.Spelling.{ring_text, format_fields, space_fields, loss_fields, quorum_fields, allowance_fields, node_fields, name_at, row_fields, rows_lines};
+ghost use Rattle.ring_table.specs.Spelling.{ring_text, format_fields, space_fields, loss_fields, quorum_fields};
+ghost use Rattle.ring_table.specs.Spelling.{allowance_fields, node_fields, name_at, row_fields, rows_lines};
 ghost use Rattle.ring_table.specs.Value.{names_of};
 
 use crate::allowance::Allowance;
@@ -47,7 +49,8 @@ fn push_loss(out: &mut Vec<u8>, format: u32, loss: u32) -> Result<(), AllocError
 
 // `quorum <n> <r> <w>`, and in format 3 ` <f>`
 fn push_quorum(out: &mut Vec<u8>, ring: &Ring) -> Result<(), AllocError>
-    ensures { OnOk result (out.new.items ≡ out.old.items ++ line_text (quorum_fields ring.now.format ring.now.n ring.now.r ring.now.w ring.now.loss)) }
+    ensures { OnOk result (out.new.items
+        ≡ out.old.items ++ line_text (quorum_fields ring.now.format ring.now.n ring.now.r ring.now.w ring.now.loss)) }
 {
     out.extend_from_slice(b"quorum")?;
     push_numbers(out, &[ring.n(), ring.r(), ring.w()])?;
@@ -104,7 +107,8 @@ pub fn push_name(out: &mut Vec<u8>, nodes: &[Node], owner: NodeId) -> Result<(),
 
 // The owners of a row, each behind a space.
 fn push_owners(out: &mut Vec<u8>, nodes: &[Node], row: &[NodeId]) -> Result<(), AllocError>
-    ensures { OnOk result (out.new.items ≡ out.old.items ++ flat_map (λ x. 32 ∷ name_at (map (λ y. y.name) nodes.now) x) row.now) }
+    ensures { OnOk result
+        (out.new.items ≡ out.old.items ++ flat_map (λ x. 32 ∷ name_at (map (λ y. y.name) nodes.now) x) row.now) }
 {
     for owner in row {
         push_name(out, nodes, *owner)?;
@@ -119,7 +123,8 @@ pub fn push_row(
     partition: u32,
     row: &[NodeId],
 ) -> Result<(), AllocError>
-    ensures { OnOk result (out.new.items ≡ out.old.items ++ line_text (row_fields (map (λ x. x.name) nodes.now) partition row.now)) }
+    ensures { OnOk result
+        (out.new.items ≡ out.old.items ++ line_text (row_fields (map (λ x. x.name) nodes.now) partition row.now)) }
 {
     out.extend_from_slice(b"slots ")?;
     push_decimal(out, partition)?;
@@ -131,7 +136,8 @@ pub fn push_row(
 // The rows of owners, from partition 0 on.
 fn push_rows(out: &mut Vec<u8>, nodes: &[Node], rows: &[Listed<NodeId>]) -> Result<(), AllocError>
     requires { length rows.now ≤ 4096 }
-    ensures { OnOk result (out.new.items ≡ out.old.items ++ text_of (rows_lines (map (λ x. x.name) nodes.now) 0 rows.now)) }
+    ensures { OnOk result
+        (out.new.items ≡ out.old.items ++ text_of (rows_lines (map (λ x. x.name) nodes.now) 0 rows.now)) }
 {
     for (partition, row) in rows.iter().enumerate() {
         push_row(out, nodes, partition as u32, row.as_slice())?;

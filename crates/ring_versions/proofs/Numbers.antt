@@ -1,18 +1,19 @@
 -- Numbers of puts: those that a list has, in order.
-use Rattle.std.proofs.Common.{◌≡◌, ◌⊎◌, inl, inr, ◌∙◌, ℕ, Bool, true, false, cond, List, [], ◌∷◌, refl, sym, ap, map}
+use Rattle.std.proofs.Common.{◌≡◌, ◌⊎◌, inl, inr, ◌∙◌, ℕ, Bool, true, false, List, [], ◌∷◌, refl, sym, ap, map}
 use Rattle.std.specs.Prelude.{◌||◌, ◌&&◌, ◌==◌, nat_lt}
-use Rattle.std.specs.List.{list_any, dedup, dedup_from}
+use Rattle.std.specs.List.{dedup}
 use Rattle.std.specs.List.Retain.{IsFiltered, DiffersFromLast}
 use Rattle.std.proofs.lemmas.List.Filters.{dedup_is}
 use Rattle.std.proofs.lemmas.List.Kept.{IsStrictlySortedBy-dedup}
 use Rattle.std.proofs.lemmas.List.Sorted.{list_any-IsPermutation}
 use Rattle.std.proofs.lemmas.Cmp.{nat_cmp_total}
 use Rattle.std.specs.Cmp.{unsigned_ties}
-use Rattle.std.specs.declared.cmp.Ordering.TheVariants.{Less, Equal, Greater}
 use Rattle.std.specs.List.Sorted.{IsPermutation, IsSorted, IsStrictlySortedBy}
 use Rattle.std.specs.Ordering.{nat_cmp}
-use Rattle.std.proofs.lemmas.Bool.{eqb-true, eq-eqb}
+use Rattle.std.proofs.lemmas.Bool.{eqb-true, eq-eqb, and_from}
 use Rattle.ring_names.specs.Lists.{has}
+use Rattle.ring_names.proofs.Logic.{first_less}
+use Rattle.ring_names.proofs.InLists.{has_any, has_dedup}
 use Rattle.texts.specs.Numbers.{ascending}
 use Rattle.ring_versions.specs.declared.version.Version.{Version}
 use Rattle.ring_versions.specs.Versions.{IsIn}
@@ -20,43 +21,12 @@ use Rattle.ring_versions.specs.Puts.{ArePuts}
 
 -- ---- the same numbers, in order
 
-has_any : (x : ℕ) (ks : List ℕ) → has x ks ≡ list_any (λ y. x == y) ks
-has_any x [] = refl
-has_any x (k ∷ ks) = rw (has_any x ks) refl
-
--- a number that is told from the last one kept, or is the same
-deduped : (b : Bool) (x k y : ℕ) (ys : List ℕ) → (b ≡ true → y ≡ k) → has x (dedup_from (λ (n m : ℕ). n == m) k ys) ≡ has x (k ∷ ys)
-    → has x (dedup_from (λ (n m : ℕ). n == m) y ys) ≡ has x (y ∷ ys) → has x (cond b (dedup_from (λ (n m : ℕ). n == m) k ys) (k ∷ dedup_from (λ (n m : ℕ). n == m) y ys)) ≡ has x (k ∷ y ∷ ys)
-deduped true x k y ys is here there = rw (is refl) (here ∙ twice (x == k) (has x ys))
-  where
-    twice : (a b : Bool) → (a || b) ≡ (a || (a || b))
-    twice true b = refl
-    twice false b = refl
-deduped false x k y ys is here there = rw there refl
-
-has_dedup_from : (x k : ℕ) (ys : List ℕ) → has x (dedup_from (λ (n m : ℕ). n == m) k ys) ≡ has x (k ∷ ys)
-has_dedup_from x k [] = refl
-has_dedup_from x k (y ∷ ys) = deduped (y == k) x k y ys (eqb-true y k) (has_dedup_from x k ys) (has_dedup_from x y ys)
-
-has_dedup : (x : ℕ) (ys : List ℕ) → has x (dedup (λ (n m : ℕ). n == m) ys) ≡ has x ys
-has_dedup x [] = refl
-has_dedup x (y ∷ ys) = has_dedup_from x y ys
-
-both : (a b : Bool) → a ≡ true → b ≡ true → (a && b) ≡ true
-both true b h k = k
-both false b h k = absurd cc
-
-less : (lt eq : Bool) → cond lt Less (cond eq Equal Greater) ≡ Less → lt ≡ true
-less true eq h = refl
-less false true h = absurd cc
-less false false h = absurd cc
-
 -- each number is below those after it
 sorted_ascends : (xs : List ℕ) → IsStrictlySortedBy nat_cmp xs → ascending xs ≡ true
 unfolding IsStrictlySortedBy
 sorted_ascends [] h = refl
 sorted_ascends (x ∷ []) h = refl
-sorted_ascends (x ∷ y ∷ ys) h = both (nat_lt x y) (ascending (y ∷ ys)) (less (nat_lt x y) (x == y) h.0.0) (sorted_ascends (y ∷ ys) h.1)
+sorted_ascends (x ∷ y ∷ ys) h = and_from (nat_lt x y) (ascending (y ∷ ys)) (first_less (nat_lt x y) (x == y) h.0.0) (sorted_ascends (y ∷ ys) h.1)
 
 -- ---- the numbers of versions
 

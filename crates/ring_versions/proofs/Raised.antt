@@ -2,7 +2,7 @@
 use Rattle.std.proofs.Common.{◌≡◌, ◌⊎◌, inl, inr, ◌∙◌, ℕ, ◌≤◌, List, [], ◌∷◌, ◌++◌, Option, Some, None, Result, Ok, Err, IfOk, refl, sym, subst, arith}
 use Rattle.std.specs.Prelude.{Box, max}
 use Rattle.std.specs.declared.alloc.Global.{Global}
-use Rattle.std.proofs.lemmas.Bool.Decides.{eqb_tells}
+use Rattle.ring_names.proofs.Logic.{max_either}
 use Rattle.ring_clock.specs.declared.entry.Entry.{Entry}
 use Rattle.ring_clock.specs.Clock.{counter, IsAtMost}
 use Rattle.ring_versions.specs.declared.kept.Kept.{Kept}
@@ -13,9 +13,6 @@ use Rattle.ring_versions.specs.Parts.{IsKept}
 use Rattle.ring_versions.specs.Raised.{RaisesTo, IsClockIn}
 use Rattle.ring_versions.specs.Tops.{HasJoin, AreTops}
 use Rattle.ring_versions.proofs.Members.{in_first, in_second, in_either}
-
-max_is : (a b : ℕ) → (max a b ≡ a) ⊎ (max a b ≡ b)
-max_is a b = elim (eqb_tells (max a b) a) [ inl t ↦ inl t.1 | inr t ↦ inr (grind (arith, t.1)) ]
 
 pub join_none : (vs : List Version) (c : List Entry) → vs ≡ [] → c ≡ [] → RaisesTo [] (IsClockIn vs) c
 join_none vs c none is = record {
@@ -45,7 +42,7 @@ join_both xs ys vs c d e is a b raise =
         | inl front ↦ (let u = a.above k (h.0, front, h.2) w in omega arith)
         | inr back ↦ (let u = b.above k (h.0, back, h.2) w in omega arith)
       ]);
-      from = λ w. elim (max_is (counter c w) (counter d w)) [
+      from = λ w. elim (max_either (counter c w) (counter d w)) [
         | inl t ↦ elim (a.from w) [ inl none ↦ inl (raise w ∙ t ∙ none) | inr x ↦ inr (x.0, (x.1.0, to x.1.0 (in_first x.1.0 xs ys x.1.1), x.1.2), x.2 ∙ sym t ∙ sym (raise w)) ]
         | inr t ↦ elim (b.from w) [ inl none ↦ inl (raise w ∙ t ∙ none) | inr x ↦ inr (x.0, (x.1.0, to x.1.0 (in_second x.1.0 xs ys x.1.1), x.1.2), x.2 ∙ sym t ∙ sym (raise w)) ]
       ];
@@ -114,7 +111,7 @@ pub raised_by_join : (old new join : List Entry) (vs : List Version) → ((w : �
 raised_by_join old new join vs raise j = record {
   before = λ w. (let r = raise w in omega arith);
   above = λ k h w. (let u = j.above k h w in let r = raise w in omega arith);
-  from = λ w. elim (max_is (counter old w) (counter join w)) [
+  from = λ w. elim (max_either (counter old w) (counter join w)) [
     | inl t ↦ inl (raise w ∙ t)
     | inr t ↦ elim (j.from w) [
       | inl none ↦ inl (let r = raise w in let n : counter join w ≡ 0 = none in omega arith)

@@ -131,7 +131,8 @@ pub fn absorb(list: &mut Vec<Version>, kept: &mut Kept, fresh: Fresh)
     requires fits { FitsIn list.old.items fresh }
     requires apart { IsApart list.old.items }
     requires above { AreTops kept.old list.old.items }
-    ensures merge { (others : List Version) → IsFreshFor list.old.items others fresh → IsMerge list.old.items others list.new.items }
+    ensures merge { (others : List Version) → IsFreshFor list.old.items others fresh
+        → IsMerge list.old.items others list.new.items }
     ensures above { AreTops kept.new list.new.items }
 {
     let Fresh {

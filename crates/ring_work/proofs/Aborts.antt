@@ -1,13 +1,11 @@
 -- Copies that are open.
-use Rattle.std.proofs.Common.{◌≡◌, ◌∙◌, ◌+◌, ℕ, Bool, true, false, cond, List, [], ◌∷◌, ◌++◌, sym, ap, append-nil, arith}
+use Rattle.std.proofs.Common.{◌≡◌, ◌∙◌, ◌+◌, ℕ, Bool, true, false, cond, List, [], ◌∷◌, ◌++◌, sym, ap, append-nil}
 use Rattle.std.specs.List.{filter, range_with_len}
 use Rattle.std.proofs.lemmas.List.{map-id}
 use Rattle.std.proofs.lemmas.List.FromFn.{filter_of_map_range_with_len_more}
+use Rattle.ring_names.proofs.Logic.{zero_plus}
 use Rattle.plan_check.specs.declared.event.Entry.{Entry}
 use Rattle.ring_work.specs.Resumed.{is_open, open_copies}
-
-zero_plus : (n : ℕ) → 0 + n ≡ n
-zero_plus n = omega arith
 
 -- of a step more
 copies_more : (steps : ℕ) (entries : List Entry) → open_copies (steps + 1) entries ≡ open_copies steps entries ++ cond (is_open steps entries false) (steps ∷ []) []

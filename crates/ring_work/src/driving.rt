@@ -1,6 +1,7 @@
 //! A drive.
 
-ghost use Rattle.std.specs.Prelude.{◌≡◌, ◌+◌, ◌<◌, ◌≤◌, ◌++◌, ◌∷◌, All, [], Some, true, length, vec_len, map, IsTrue, IsNone, IfOk, IfErr, IfNone, IfSome};
+ghost use Rattle.std.specs.Prelude.{◌≡◌, ◌+◌, ◌<◌, ◌≤◌, ◌++◌, ◌∷◌, All, [], Some, true, length, vec_len, map, IsTrue};
+ghost use Rattle.std.specs.Prelude.{IsNone, IfOk, IfErr, IfNone, IfSome};
 ghost use Rattle.std.specs.List.{AllByRecursion, list_all};
 ghost use Rattle.ring_names.specs.declared.refusal.Refusal.TheVariants.{OutOfMemory, TurnsSpent};
 ghost use Rattle.ring_board.specs.Words.{finished_word};
@@ -268,7 +269,8 @@ pub(crate) fn drive_on<'a, L: RunLedger + Send + Sync, R: Threads + Wait + Sync,
     ensures threads { IfOk result (λ o. vec_len o.receipts ≡ vec_len front + (workers + (length scripts.now + 1))) }
     ensures first { IfOk result (λ o. 0 < vec_len front → list_at o.receipts.items 0 ≡ list_at front.items 0) }
     ensures refusal { IfErr result (λ f. IsFault f.refusal) }
-    ensures spent { IfErr result (λ f. f.refusal ≡ TurnsSpent → MayStop (G.may_refuse gate.now) approved.now.plan (length scripts.now)) }
+    ensures spent { IfErr result
+        (λ f. f.refusal ≡ TurnsSpent → MayStop (G.may_refuse gate.now) approved.now.plan (length scripts.now)) }
     ensures history { IfErr result (λ f. IsHistory approved.now.ring approved.now.plan f.history.items) }
 {
     let plan = approved.plan();
@@ -343,7 +345,8 @@ fn drive_as<'a, L: RunLedger + Send + Sync, R: Threads + Wait + Sync, G: Gate + 
     ensures ok { IfOk result (λ o. Driven approved.now.ring approved.now.plan scripts.now workers o.history.items o.receipts.items o.finishers.items) }
     ensures threads { IfOk result (λ o. vec_len o.receipts ≡ workers + (length scripts.now + 1)) }
     ensures refusal { IfErr result (λ f. IsFault f.refusal) }
-    ensures spent { IfErr result (λ f. f.refusal ≡ TurnsSpent → MayStop (G.may_refuse gate.now) approved.now.plan (length scripts.now)) }
+    ensures spent { IfErr result
+        (λ f. f.refusal ≡ TurnsSpent → MayStop (G.may_refuse gate.now) approved.now.plan (length scripts.now)) }
     ensures history { IfErr result (λ f. IsHistory approved.now.ring approved.now.plan f.history.items) }
 {
     match Executor::<L>::new(alloc, blank, approved) {
@@ -384,7 +387,8 @@ pub fn drive<R: Threads + Wait + Sync, G: Gate + Sync>(
     // A list for each worker, for each client and for the handoffs, and no other.
     ensures threads { IfOk result (λ o. vec_len o.receipts ≡ workers + (length scripts.now + 1)) }
     ensures refusal { IfErr result (λ f. IsFault f.refusal) }
-    ensures spent { IfErr result (λ f. f.refusal ≡ TurnsSpent → MayStop (G.may_refuse gate.now) approved.now.plan (length scripts.now)) }
+    ensures spent { IfErr result
+        (λ f. f.refusal ≡ TurnsSpent → MayStop (G.may_refuse gate.now) approved.now.plan (length scripts.now)) }
     ensures history { IfErr result (λ f. IsHistory approved.now.ring approved.now.plan f.history.items) }
 {
     drive_as::<Brand, R, G>(rt, alloc, Blank::new(128), approved, scripts, workers, gate)

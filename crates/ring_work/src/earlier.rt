@@ -1,8 +1,10 @@
 //! What came before the threads of a drive that goes on from a history.
 
-ghost use Rattle.std.specs.Prelude.{◌≡◌, ◌==◌, ◌<◌, ◌≤◌, ℕ, true, false, cond, is_some, length, vec_len, slice_index_or, IfOk, IfErr, OnOk};
+ghost use Rattle.std.specs.Prelude.{◌≡◌, ◌==◌, ◌<◌, ◌≤◌, ℕ, true, false, cond, is_some, length, vec_len};
+ghost use Rattle.std.specs.Prelude.{slice_index_or, IfOk, IfErr, OnOk};
 ghost use Rattle.ring_names.specs.declared.refusal.Refusal.TheVariants.{OutOfMemory};
-ghost use Rattle.ring_work.specs.Resumed.{receipt_at, receipts_from, open_behind, is_open, open_copies, Breaks, Continues};
+ghost use Rattle.ring_work.specs.Resumed.{receipt_at, receipts_from, open_behind, is_open, open_copies, Breaks};
+ghost use Rattle.ring_work.specs.Resumed.{Continues};
 
 use crate::noting::note;
 use plan_check::{Entry, Event, Reply};
@@ -68,7 +70,8 @@ fn receipts_of(alloc: Global, entries: &[Entry]) -> Result<Vec<Receipt>, Refusal
 // Notes that the copy is open, or that it is not.
 fn note_copy(flags: &mut Vec<bool>, step: u32, is: bool)
     ensures len { vec_len flags.new ≡ vec_len flags.old }
-    ensures flags { (n : ℕ) → n < vec_len flags.old → slice_index_or flags.new.items n false ≡ cond (step == n) is (slice_index_or flags.old.items n false) }
+    ensures flags { (n : ℕ) → n < vec_len flags.old
+        → slice_index_or flags.new.items n false ≡ cond (step == n) is (slice_index_or flags.old.items n false) }
 {
     let step = step as usize;
     if step < flags.len() {
@@ -79,7 +82,8 @@ fn note_copy(flags: &mut Vec<bool>, step: u32, is: bool)
 // Notes what the event says of a copy.
 fn look(flags: &mut Vec<bool>, event: &Event)
     ensures len { vec_len flags.new ≡ vec_len flags.old }
-    ensures flags { (n : ℕ) → n < vec_len flags.old → slice_index_or flags.new.items n false ≡ open_behind n event.now (slice_index_or flags.old.items n false) }
+    ensures flags { (n : ℕ) → n < vec_len flags.old
+        → slice_index_or flags.new.items n false ≡ open_behind n event.now (slice_index_or flags.old.items n false) }
 {
     match event {
         Event::OpenCopy(step) => note_copy(flags, *step, true),
@@ -91,7 +95,8 @@ fn look(flags: &mut Vec<bool>, event: &Event)
 // Which copies are open behind the entries, for each step. Takes a byte for each.
 fn flags_of(alloc: Global, steps: u32, entries: &[Entry]) -> Result<Vec<bool>, Refusal>
     ensures len { IfOk result (λ v. vec_len v ≡ steps) }
-    ensures flags { IfOk result (λ v. (n : ℕ) → n < steps → slice_index_or v.items n false ≡ is_open n entries.now false) }
+    ensures flags { IfOk result
+        (λ v. (n : ℕ) → n < steps → slice_index_or v.items n false ≡ is_open n entries.now false) }
     ensures memory { IfErr result (λ e. e ≡ OutOfMemory) }
 {
     let mut flags = vec![in alloc; false; steps as usize]?;

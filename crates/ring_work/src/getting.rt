@@ -27,7 +27,8 @@ pub(crate) fn start_get<'a, L: RunLedger, R: Wait>(
     start: &Event,
 ) -> Result<u32, Refusal>
     requires { starts_get start.now ≡ true }
-    ensures ok { IfOk result (λ get. (r : TheReceipt) × (r.event ≡ start.now) × (r.reply ≡ Get get) × (receipts.new.items ≡ receipts.old.items ++ r ∷ [])) }
+    ensures ok { IfOk result (λ get. (r : TheReceipt) × (r.event ≡ start.now) × (r.reply ≡ Get get)
+        × (receipts.new.items ≡ receipts.old.items ++ r ∷ [])) }
     ensures err { OnErr result (receipts.new.items ≡ receipts.old.items) }
     ensures count { IsCounted share.old.count share.new.count receipts.old.items receipts.new.items }
     ensures parts { share.new.token.parts ≡ share.old.token.parts }
@@ -118,7 +119,8 @@ pub(crate) fn finish_get<'a, L: RunLedger, R: Wait>(
     receipts: &mut Vec<Receipt>,
     get: u32,
 ) -> Option<Refusal>
-    ensures completes { Completes (λ r. reads get r.event) (λ r. ends get r.event) receipts.old.items receipts.new.items (is_some result) }
+    ensures completes { Completes (λ r. reads get r.event) (λ r. ends get r.event) receipts.old.items receipts.new.items
+        (is_some result) }
     ensures count { IsCounted share.old.count share.new.count receipts.old.items receipts.new.items }
     ensures parts { share.new.token.parts ≡ share.old.token.parts }
 {

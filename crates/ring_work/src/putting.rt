@@ -27,7 +27,8 @@ fn start_put<'a, L: RunLedger, R: Wait>(
     start: &Event,
 ) -> Result<u32, Refusal>
     requires { starts_put start.now ≡ true }
-    ensures ok { IfOk result (λ put. (r : TheReceipt) × (r.event ≡ start.now) × (r.reply ≡ Put put) × (receipts.new.items ≡ receipts.old.items ++ r ∷ [])) }
+    ensures ok { IfOk result (λ put. (r : TheReceipt) × (r.event ≡ start.now) × (r.reply ≡ Put put)
+        × (receipts.new.items ≡ receipts.old.items ++ r ∷ [])) }
     ensures err { OnErr result (receipts.new.items ≡ receipts.old.items) }
     ensures count { IsCounted share.old.count share.new.count receipts.old.items receipts.new.items }
     ensures parts { share.new.token.parts ≡ share.old.token.parts }
@@ -114,7 +115,8 @@ fn send_rounds<'a, L: RunLedger, R: Wait>(
     receipts: &mut Vec<Receipt>,
     put: u32,
 ) -> Option<Refusal>
-    ensures completes { Completes (λ r. sends put r.event) (λ r. acknowledges put r.event) receipts.old.items receipts.new.items (is_some result) }
+    ensures completes { Completes (λ r. sends put r.event)
+        (λ r. acknowledges put r.event) receipts.old.items receipts.new.items (is_some result) }
     ensures count { IsCounted share.old.count share.new.count receipts.old.items receipts.new.items }
     ensures parts { share.new.token.parts ≡ share.old.token.parts }
 {

@@ -97,7 +97,8 @@ fn resume_on<'a, L: RunLedger + Send + Sync, R: Threads + Wait + Sync, G: Gate +
     ensures ok { IfOk result (λ o. Resumed approved.now.ring approved.now.plan scripts.now workers entries.now o.history.items o.receipts.items o.finishers.items) }
     ensures threads { IfOk result (λ o. vec_len o.receipts ≡ 1 + (workers + (length scripts.now + 1))) }
     ensures refusal { IfErr result (λ f. IsFault f.refusal) }
-    ensures spent { IfErr result (λ f. f.refusal ≡ TurnsSpent → MayStop (G.may_refuse gate.now) approved.now.plan (length scripts.now)) }
+    ensures spent { IfErr result
+        (λ f. f.refusal ≡ TurnsSpent → MayStop (G.may_refuse gate.now) approved.now.plan (length scripts.now)) }
     ensures history { IfErr result (λ f. IsHistory approved.now.ring approved.now.plan f.history.items) }
 {
     let mut share = share;
@@ -125,7 +126,8 @@ fn resume_on<'a, L: RunLedger + Send + Sync, R: Threads + Wait + Sync, G: Gate +
 fn stopped(approved: &Approved, entries: &[Entry], refusal: Refusal) -> Refusal
     requires full { (refusal ≡ HistoryFull) ↔ (1000000 < length entries.now) }
     requires few { length entries.now ≤ 1000000 }
-    requires err { refusal ≢ HistoryFull → refusal ≢ OutOfMemory → IsFirstFault approved.now.ring approved.now.plan (opening_world approved.now.ring) 0 entries.now refusal }
+    requires err { refusal ≢ HistoryFull → refusal ≢ OutOfMemory
+        → IsFirstFault approved.now.ring approved.now.plan (opening_world approved.now.ring) 0 entries.now refusal }
     ensures stop { IsStop approved.now.ring approved.now.plan entries.now result }
     ensures full { (result ≡ HistoryFull) ↔ (1000000 < length entries.now) }
     ensures fault { TellsFault approved.now.ring approved.now.plan entries.now result }
@@ -160,7 +162,8 @@ fn resume_as<'a, L: RunLedger + Send + Sync, R: Threads + Wait + Sync, G: Gate +
     ensures refusal { IfErr result (λ f. IsStop approved.now.ring approved.now.plan entries.now f.refusal) }
     ensures full { IfErr result (λ f. (f.refusal ≡ HistoryFull) ↔ (1000000 < length entries.now)) }
     ensures fault { IfErr result (λ f. TellsFault approved.now.ring approved.now.plan entries.now f.refusal) }
-    ensures spent { IfErr result (λ f. f.refusal ≡ TurnsSpent → MayStop (G.may_refuse gate.now) approved.now.plan (length scripts.now)) }
+    ensures spent { IfErr result
+        (λ f. f.refusal ≡ TurnsSpent → MayStop (G.may_refuse gate.now) approved.now.plan (length scripts.now)) }
     ensures history { IfErr result (λ f. IsHistory approved.now.ring approved.now.plan f.history.items) }
     ensures empty { IfErr result (λ f. (IsFault f.refusal → ⊥) → f.history.items ≡ []) }
 {
@@ -198,7 +201,8 @@ pub fn resume<R: Threads + Wait + Sync, G: Gate + Sync>(
     // Too many entries, and these alone, come before all else; else the first entry at which they are no run is told, memory aside.
     ensures full { IfErr result (λ f. (f.refusal ≡ HistoryFull) ↔ (1000000 < length entries.now)) }
     ensures fault { IfErr result (λ f. TellsFault approved.now.ring approved.now.plan entries.now f.refusal) }
-    ensures spent { IfErr result (λ f. f.refusal ≡ TurnsSpent → MayStop (G.may_refuse gate.now) approved.now.plan (length scripts.now)) }
+    ensures spent { IfErr result
+        (λ f. f.refusal ≡ TurnsSpent → MayStop (G.may_refuse gate.now) approved.now.plan (length scripts.now)) }
     ensures history { IfErr result (λ f. IsHistory approved.now.ring approved.now.plan f.history.items) }
     ensures empty { IfErr result (λ f. (IsFault f.refusal → ⊥) → f.history.items ≡ []) }
 {

@@ -75,9 +75,11 @@ fn keep_client<'b, L: RunLedger, G: Gate>(
     handles: &mut Vec<PromisedHandle<Done<L>, ByGate<'b, G>>>,
     handle: PromisedHandle<Done<L>, ByGate<'b, G>>,
 ) -> bool
-    requires old { All (λ h. (h.promise.0.now ≡ gate.now) × (64 ≤ h.promise.1) × (h.promise.1 < 64 + clients)) handles.old.items }
+    requires old { All (λ h. (h.promise.0.now ≡ gate.now) × (64 ≤ h.promise.1)
+        × (h.promise.1 < 64 + clients)) handles.old.items }
     requires one { (handle.promise.0.now ≡ gate.now) × (64 ≤ handle.promise.1) × (handle.promise.1 < 64 + clients) }
-    ensures { All (λ h. (h.promise.0.now ≡ gate.now) × (64 ≤ h.promise.1) × (h.promise.1 < 64 + clients)) handles.new.items }
+    ensures { All (λ h. (h.promise.0.now ≡ gate.now) × (64 ≤ h.promise.1)
+        × (h.promise.1 < 64 + clients)) handles.new.items }
 {
     handles.push(handle).is_err()
 }
@@ -112,7 +114,8 @@ fn join_clients<'b, L: RunLedger, R: Threads + Wait, G: Gate>(
     handles: Vec<PromisedHandle<Done<L>, ByGate<'b, G>>>,
     left: Left<L>,
 ) -> Left<L>
-    requires handles { All (λ h. (h.promise.0.now ≡ gate.now) × (64 ≤ h.promise.1) × (h.promise.1 < 64 + clients)) handles.items }
+    requires handles { All
+        (λ h. (h.promise.0.now ≡ gate.now) × (64 ≤ h.promise.1) × (h.promise.1 < 64 + clients)) handles.items }
     requires spent { IsSpent left.refusal → MayStop (G.may_refuse gate.now) plan.now clients }
     ensures seats { result.seats ≡ left.seats }
     ensures spent { IsSpent result.refusal → MayStop (G.may_refuse gate.now) plan.now clients }
@@ -162,7 +165,8 @@ pub(crate) fn run_all<'a, L: RunLedger + Send + Sync, R: Threads + Wait + Sync, 
     requires parts { workers + length scripts.now + 2 ≤ share.token.parts }
     ensures first { IfOk result (λ a. a.0.board ≡ board.now.id) }
     ensures seats { IfOk result (λ a. All (λ s. s.board ≡ board.now.id) a.1.seats.items) }
-    ensures spent { IfOk result (λ a. IsSpent a.1.refusal → MayStop (G.may_refuse gate.now) plan.now (length scripts.now)) }
+    ensures spent { IfOk result
+        (λ a. IsSpent a.1.refusal → MayStop (G.may_refuse gate.now) plan.now (length scripts.now)) }
     ensures memory { IfErr result (λ e. e ≡ OutOfMemory) }
 {
     let stop = AtomicBool::new(false);
@@ -190,10 +194,12 @@ pub(crate) fn run_all<'a, L: RunLedger + Send + Sync, R: Threads + Wait + Sync, 
             requires workers { (workers ≤ 64) × (workers ≤ board.now.workers) }
             requires scripts { length scripts.now ≤ 8 }
             requires parts { workers + length scripts.now + 2 ≤ share.token.parts }
-            requires empty { (vec_len sitting ≡ 0) × (vec_len serving ≡ 0) × (vec_len left.seats ≡ 0) × (left.refusal ≡ None) }
+            requires empty { (vec_len sitting ≡ 0) × (vec_len serving ≡ 0) × (vec_len left.seats ≡ 0)
+                × (left.refusal ≡ None) }
             ensures first { result.0.board ≡ board.entry.now.id }
             ensures seats { All (λ s. s.board ≡ board.entry.now.id) result.1.seats.items }
-            ensures spent { IsSpent result.1.refusal → MayStop (G.may_refuse gate.entry.now) plan.entry.now (length scripts.entry.now) }
+            ensures spent { IsSpent result.1.refusal
+                → MayStop (G.may_refuse gate.entry.now) plan.entry.now (length scripts.entry.now) }
         {
             let mut first = first;
             let mut root = share;
@@ -220,8 +226,10 @@ pub(crate) fn run_all<'a, L: RunLedger + Send + Sync, R: Threads + Wait + Sync, 
                 let spawned = scope.spawn_with(
                     AtBoard(board, plan),
                     move || -> Sat<L>
-                        requires { (seat.board ≡ site.now.board.now.id) × (is_some seat.worker ≡ true) × (site.now.board.now.steps ≡ length plan.now) }
-                        ensures { (result.seat.board ≡ site.entry.now.board.now.id) × (IsSpent result.done.stopped → 0 < length plan.entry.now) }
+                        requires { (seat.board ≡ site.now.board.now.id) × (is_some seat.worker ≡ true)
+                            × (site.now.board.now.steps ≡ length plan.now) }
+                        ensures { (result.seat.board ≡ site.entry.now.board.now.id)
+                            × (IsSpent result.done.stopped → 0 < length plan.entry.now) }
                     { work(rt, alloc, site, worker, plan, seat, share) },
                 );
                 match spawned {
@@ -237,7 +245,8 @@ pub(crate) fn run_all<'a, L: RunLedger + Send + Sync, R: Threads + Wait + Sync, 
                 let spawned = scope.spawn_with(
                     ByGate(gate, client),
                     move || -> Done<L>
-                        ensures { IsSpent result.stopped → (line : ℕ) × G.may_refuse site.entry.now.gate.now client line }
+                        ensures { IsSpent result.stopped
+                            → (line : ℕ) × G.may_refuse site.entry.now.gate.now client line }
                     { serve(rt, alloc, site, client, script, share) },
                 );
                 match spawned {

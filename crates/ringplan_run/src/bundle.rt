@@ -16,7 +16,8 @@ ghost use Rattle.ring_script.specs.declared.bundle.Kind.TheVariants.{Check, Play
 ghost use Rattle.change_text.specs.Wanted.{wanted_at};
 ghost use Rattle.ringplan_run.specs.declared.job.Job.TheVariants.{Check as Checking, Plan as Planning};
 ghost use Rattle.ringplan_run.specs.Answers.{texts_of};
-ghost use Rattle.ringplan_run.specs.Verdict.{TextsKeepPromises, MakesIf, judged, migrated_text, migration, plays, shown, verdict};
+ghost use Rattle.ringplan_run.specs.Verdict.{TextsKeepPromises, MakesIf, judged, migrated_text, migration, plays};
+ghost use Rattle.ringplan_run.specs.Verdict.{shown, verdict};
 
 use crate::job::Job;
 use crate::replaying::{replay_bundle, replay_whole};

@@ -1,12 +1,11 @@
 -- The fields of an event's line are read only if they are spelled so.
-use Rattle.std.proofs.Common.{◌≡◌, ℕ, zero, suc, ◌<◌, Bool, true, false, cond, not, eqb, nat_lt, nat_le, List, [], ◌∷◌, ◌++◌, length, map, codes, get_or, Option}
+use Rattle.std.proofs.Common.{◌≡◌, ℕ, zero, suc, ◌<◌, Bool, true, false, cond, not, eqb, nat_lt, nat_le, List, [], ◌∷◌, ◌++◌, length, map, codes, Option}
 use Rattle.std.proofs.Common.{Some, None, Result, Ok, Err, refl, sym, ap, subst, ◌∙◌, arith}
 use Rattle.std.specs.Prelude.{slice_get}
 use Rattle.std.specs.Fmt.{decimal}
 use Rattle.std.specs.List.{list_all}
 use Rattle.std.specs.Str.{bytes_eq}
 use Rattle.std.proofs.lemmas.Bool.{ne_eqb, not-false, and_parts, and_from, ltb-true, lt-ltb}
-use Rattle.std.proofs.lemmas.Option.{slice_get-get_or}
 use Rattle.std.proofs.lemmas.Slice.Eq.{bytes_eq-Decides}
 use Rattle.ring_names.specs.Names.{place}
 use Rattle.ring_names.specs.declared.ids.NodeId.{NodeId}
@@ -14,13 +13,15 @@ use Rattle.ring_names.specs.declared.ids.WriterId.{WriterId}
 use Rattle.ring_names.specs.declared.refusal.Refusal.{Refusal}
 use Rattle.ring_names.specs.declared.refusal.Refusal.TheVariants.{BadLine, TooLarge}
 use Rattle.ring_names.proofs.Places.{get-place, place-below}
+use Rattle.ring_names.proofs.Logic.{pair_is}
+use Rattle.ring_names.proofs.InLists.{get_front, get_last, get_there}
 use Rattle.texts.specs.Name.{is_name}
 use Rattle.texts.specs.Numbers.{numbers_of, beyond, ascending, are_small}
 use Rattle.texts.specs.Judging.{field_at}
 use Rattle.texts.specs.Laws.{IsItem}
 use Rattle.texts.proofs.Items.{IsItem-⊗, IsItem-field, ok_is, unless_is, unless_ok}
 use Rattle.texts.proofs.Decimals.{IsItem-number}
-use Rattle.texts.proofs.Fronts.{Free, Last, IsFront, front-item, front-⊗, front-map, numbers-taken, numbers-given, pair_is}
+use Rattle.texts.proofs.Fronts.{Free, Last, IsFront, front-item, front-⊗, front-map, numbers-taken, numbers-given}
 use Rattle.ring_table.specs.Value.{RingValue, names_of}
 use Rattle.ring_table.specs.Spelling.{name_at}
 use Rattle.ring_table.specs.Reading.{declared_at}
@@ -93,21 +94,6 @@ item-key k = IsItem-field k (judge_key k) (λ key. key) (λ key. is_key key ≡ 
 
 -- ---- writers
 
--- behind some names stands the next
-pub get-last : (names : List (List ℕ)) (name : List ℕ) → slice_get (names ++ name ∷ []) (length names) ≡ Some name
-get-last [] name = refl
-get-last (x ∷ xs) name = get-last xs name
-
--- names that come later move none
-pub get-front : (names more : List (List ℕ)) (i : ℕ) → i < length names → slice_get (names ++ more) i ≡ slice_get names i
-get-front [] more i lt = absurd (omega arith)
-get-front (x ∷ xs) more zero lt = refl
-get-front (x ∷ xs) more (suc i) lt = get-front xs more i (omega arith)
-
--- each number below their count has a name
-pub get-some : (names : List (List ℕ)) (i : ℕ) → i < length names → (name : List ℕ) × (slice_get names i ≡ Some name)
-get-some names i lt = (get_or names i [], slice_get-get_or names i [] lt)
-
 -- each of some names is a name
 pub named-at : (names : List (List ℕ)) (i : ℕ) (name : List ℕ) → list_all is_name names ≡ true → slice_get names i ≡ Some name → is_name name ≡ true
 named-at [] i name all e = absurd cc
@@ -129,7 +115,7 @@ IsWriter names (New name) = (is_name name ≡ true) × (place names name ≡ Non
 
 -- a new name is the name of its writer
 new-name : (names : List (List ℕ)) (name : List ℕ) → said_name names (New name) ≡ name
-new-name names name = writer_at-is (names ++ name ∷ []) (record { 0 = length names }) name (get-last names name)
+new-name names name = writer_at-is (names ++ name ∷ []) (record { 0 = length names }) name (get_last names name)
 
 -- the field is the name of the writer
 abbrev WriterIs : List (List ℕ) → List ℕ → SaidWriter → Type 0
@@ -164,7 +150,7 @@ writer-is names k field x false name e = absurd cc
 -- the name of a writer is judged to be the writer
 writer-given : (names : List (List ℕ)) (k : ℕ) → AreWriters names → (x : SaidWriter) → IsWriter names x → judge_writer names k (said_name names x) ≡ Ok x
 writer-given names k good (Known w) p =
-    let got = get-some names w.0 p in
+    let got = get_there names w.0 p in
     let name = named-at names w.0 got.0 good.names got.1 in
     rw (writer_at-is names w got.0 got.1, name, good.different w.0 got.0 got.1) refl
 writer-given names k good (New name) p = ap (judge_writer names k) (new-name names name) ∙ rw (p.0, p.1, lt-ltb (length names) 1024 p.2) refl

@@ -8,10 +8,11 @@ use Rattle.std.proofs.lemmas.Slice.Eq.{bytes_eq-Decides}
 use Rattle.ring_names.specs.declared.ids.NodeId.{NodeId}
 use Rattle.ring_names.specs.declared.refusal.Refusal.{Refusal}
 use Rattle.ring_names.specs.declared.refusal.Refusal.TheVariants.{BadLine}
+use Rattle.ring_names.proofs.Logic.{pair_is}
 use Rattle.texts.specs.Judging.{Item, field_at, need_at, map_ok, map_item}
 use Rattle.texts.specs.Laws.{IsLine}
 use Rattle.texts.proofs.Items.{IsItem-need, IsLine-map, IsLine-as}
-use Rattle.texts.proofs.Fronts.{Last, IsFront, front-item, front-⊗, front-whole, front-word, pair_is}
+use Rattle.texts.proofs.Fronts.{Last, IsFront, front-item, front-⊗, front-whole, front-word}
 use Rattle.ring_table.specs.Value.{RingValue, names_of}
 use Rattle.ring_table.specs.Reading.{declared_at}
 use Rattle.ring_table.proofs.RowLaws.{AreNames}
@@ -55,7 +56,7 @@ abbrev Pair : Type 0
 Pair = Result SaidEvent Refusal × List (List ℕ)
 
 -- the word in front is this one, or reading goes on
-choose : (G : Type 0) (word : List ℕ) (z : Pair) (w : List ℕ) (x y : Pair) → cond (bytes_eq word w) x y ≡ z → ((word ≡ w) × (x ≡ z) → G) → (y ≡ z → G) → G
+pub choose : (G : Type 0) (word : List ℕ) (z : Pair) (w : List ℕ) (x y : Pair) → cond (bytes_eq word w) x y ≡ z → ((word ≡ w) × (x ≡ z) → G) → (y ≡ z → G) → G
 choose G word z w x y e f g = by (bytes_eq word w) refl e
   where
     by : (b : Bool) → bytes_eq word w ≡ b → cond b x y ≡ z → G

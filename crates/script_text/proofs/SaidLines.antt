@@ -17,6 +17,7 @@ use Rattle.script_text.specs.Reading.{said_at, events_from}
 use Rattle.script_text.specs.Valid.{AreWriters}
 use Rattle.script_text.proofs.KindLaws.{said_fields, IsSaidLine, said-line}
 use Rattle.script_text.proofs.WriterLaws.{after-writers}
+use Rattle.texts.proofs.Many.{tail_is}
 
 -- the events that some lines say, behind these writers
 abbrev pub events_of : List (List ℕ) → List SaidEvent → List Event
@@ -51,10 +52,6 @@ ends-any (f ∷ fs) more h = h
 pub goes-on : (nodes names : List (List ℕ)) (e : Event) (more : List (List (List ℕ))) → begins_with (codes "end") (event_fields nodes names e ∷ more) ≡ false
 goes-on nodes names (event.Do s) more = refl
 goes-on nodes names e more = refl
-
--- what is left behind the first line is one thing
-pub tail_is : (a b : List (List ℕ)) (xs ys : List (List (List ℕ))) → a ∷ xs ≡ b ∷ ys → xs ≡ ys
-tail_is a b xs ys h = cc
 
 -- a line behind which another stands is ended
 pub first-ok : (k : ℕ) (line : List (List ℕ)) (rest : List (List (List ℕ))) (z : List (List ℕ)) (zs : List (List (List ℕ))) → rest ≡ z ∷ zs

@@ -14,7 +14,7 @@ use Rattle.texts.specs.Laws.{IsPart, SomeLeft, Any, IsPlain, IsPlainLine}
 use Rattle.texts.proofs.FrameLaws.{Nothing, header-line, end-line}
 use Rattle.texts.proofs.Items.{IsPart-line, IsPart-then, IsPart-map, IsPart-as}
 use Rattle.texts.proofs.Rows.{numbers-plain}
-use Rattle.texts.proofs.Wholes.{whole-takes, whole-gives, decimal-plain, name-plain}
+use Rattle.texts.proofs.Wholes.{whole-takes, whole-gives, decimal-plain, name-bytes-plain}
 use Rattle.ring_table.specs.Value.{RingValue, names_of}
 use Rattle.ring_table.specs.Valid.{IsRing}
 use Rattle.ring_table.specs.Spelling.{name_at}
@@ -54,16 +54,9 @@ others-plain = (search rules)
 pub count-plain : (n : ℕ) → IsCount n → IsPlain (decimal n)
 count-plain n le = decimal-plain n (omega arith)
 
--- bytes of names are plain
-bytes-plain : (key : List ℕ) → list_all is_name_byte key ≡ true → IsPlain key
-bytes-plain [] e = tt
-bytes-plain (b ∷ bs) e =
-    let p = and_parts (is_name_byte b) (list_all is_name_byte bs) e in
-    ((name-plain (b ∷ []) (rw p.0 refl)).0, bytes-plain bs p.1)
-
 -- keys are plain
 key-plain : (key : List ℕ) → is_key key ≡ true → IsPlain key
-key-plain key e = bytes-plain key (and_parts (nat_le 1 (length key) && nat_le (length key) 64) (list_all is_name_byte key) e).1
+key-plain key e = name-bytes-plain key (and_parts (nat_le 1 (length key) && nat_le (length key) 64) (list_all is_name_byte key) e).1
 
 -- gets that a put knows are plain
 seen-plain : (gets : List ℕ) → AreGets gets → AllByRecursion IsPlain (seen_fields gets)

@@ -7,6 +7,7 @@ use Rattle.std.proofs.lemmas.Bool.{cases_lt}
 use Rattle.std.proofs.lemmas.List.{append-nil}
 use Rattle.ring_names.specs.Names.{place}
 use Rattle.ring_names.specs.declared.ids.WriterId.{WriterId}
+use Rattle.ring_names.proofs.InLists.{get_front, get_last}
 use Rattle.ring_table.specs.Value.{RingValue, names_of}
 use Rattle.plan_check.specs.declared.event.Event.{Event}
 use Rattle.plan_check.specs.declared.event.Event.TheVariants as event
@@ -19,7 +20,7 @@ use Rattle.script_text.specs.declared.said.SaidEvent.TheVariants as said
 use Rattle.script_text.specs.Known.{IsKnown, AreKnown}
 use Rattle.script_text.specs.Spelling.{event_fields}
 use Rattle.script_text.specs.Valid.{AreWriters, WritesAt, IsEvent}
-use Rattle.script_text.proofs.FieldLaws.{get-last, get-front, named-at, IsWriter}
+use Rattle.script_text.proofs.FieldLaws.{named-at, IsWriter}
 use Rattle.script_text.proofs.KindLaws.{NamesWriter, IsSaid}
 use Rattle.script_text.proofs.WriterLaws.{not-before, writer-more, after-writers}
 use Rattle.script_text.proofs.SaidLines.{events_of, names_behind, lines_of, EachSaid}
@@ -243,7 +244,7 @@ new-put ring names last [] w key value gets good e same lt is =
 new-put ring names last (name ∷ more) w key value gets good e same lt is =
     let joined : last ≡ (names ++ name ∷ []) ++ more = e ∙ sym (append_assoc names (name ∷ []) more) in
     let at : slice_get last (length names) ≡ Some name = ap (λ (ns : List (List ℕ)). slice_get ns (length names)) joined ∙
-    get-front (names ++ name ∷ []) more (length names) (let sum = length-append names (name ∷ []) in omega arith) ∙ get-last names name in
+    get_front (names ++ name ∷ []) more (length names) (let sum = length-append names (name ∷ []) in omega arith) ∙ get_last names name in
     let named = named-at last (length names) name good.names at in
     let new = not-before names (name ∷ more) name (ap (λ (ns : List (List ℕ)). place ns name) (sym e) ∙ good.different (length names) name at) in
     let few = good.few in

@@ -10,6 +10,7 @@ use Rattle.std.proofs.lemmas.Option.{slice_get_within}
 use Rattle.ring_names.specs.Names.{place}
 use Rattle.ring_names.specs.declared.ids.WriterId.{WriterId}
 use Rattle.ring_names.proofs.Places.{place-push, get-place}
+use Rattle.ring_names.proofs.InLists.{get_front, get_last, get_there}
 use Rattle.texts.specs.Name.{is_name}
 use Rattle.texts.specs.Laws.{IsPlain}
 use Rattle.texts.proofs.Wholes.{name-plain}
@@ -20,7 +21,7 @@ use Rattle.script_text.specs.declared.said.SaidEvent.{SaidEvent}
 use Rattle.script_text.specs.declared.said.SaidEvent.TheVariants.{StartPut}
 use Rattle.script_text.specs.Spelling.{writer_at}
 use Rattle.script_text.specs.Valid.{AreWriters}
-use Rattle.script_text.proofs.FieldLaws.{get-last, get-front, get-some, named-at, writer_at-is, IsWriter}
+use Rattle.script_text.proofs.FieldLaws.{named-at, writer_at-is, IsWriter}
 use Rattle.script_text.proofs.KindLaws.{NamesWriter}
 
 -- ---- the places of names that grow
@@ -79,12 +80,12 @@ with-new names name good p =
   where
     different : (n : ℕ) (x : List ℕ) → slice_get (names ++ name ∷ []) n ≡ Some x → place (names ++ name ∷ []) x ≡ Some n
     different n x e = elim (cases_lt n (length names)) [
-      | inl lt ↦ place-more names (name ∷ []) x n (good.different n x (sym (get-front names (name ∷ []) n lt) ∙ e))
+      | inl lt ↦ place-more names (name ∷ []) x n (good.different n x (sym (get_front names (name ∷ []) n lt) ∙ e))
       | inr le ↦
           (let more = length-append names (name ∷ []) in
           let within = slice_get_within (names ++ name ∷ []) n x e in
           let last : n ≡ length names = omega arith in
-          let same : Some name ≡ Some x = sym (get-last names name) ∙ ap (λ (i : ℕ). slice_get (names ++ name ∷ []) i) (sym last) ∙ e in
+          let same : Some name ≡ Some x = sym (get_last names name) ∙ ap (λ (i : ℕ). slice_get (names ++ name ∷ []) i) (sym last) ∙ e in
           let is : name ≡ x = cc in
           ap (λ (y : List ℕ). place (names ++ name ∷ []) y) (sym is) ∙ place-push names name p.1 ∙ ap (λ (i : ℕ). Some i) (sym last))
     ]
@@ -113,18 +114,18 @@ front-writers names more good =
     different : (n : ℕ) (x : List ℕ) → slice_get names n ≡ Some x → place names x ≡ Some n
     different n x e =
         let lt = slice_get_within names n x e in
-        place-less names more x n (good.different n x (get-front names more n lt ∙ e)) lt
+        place-less names more x n (good.different n x (get_front names more n lt ∙ e)) lt
 
 -- ---- the spelling of a writer
 
 -- it is the same with later names
 pub writer-more : (names more : List (List ℕ)) (w : WriterId) → w.0 < length names → writer_at (names ++ more) w ≡ writer_at names w
 writer-more names more w lt =
-    let got = get-some names w.0 lt in
-    writer_at-is (names ++ more) w got.0 (get-front names more w.0 lt ∙ got.1) ∙ sym (writer_at-is names w got.0 got.1)
+    let got = get_there names w.0 lt in
+    writer_at-is (names ++ more) w got.0 (get_front names more w.0 lt ∙ got.1) ∙ sym (writer_at-is names w got.0 got.1)
 
 -- it is plain
 pub writer-plain : (names : List (List ℕ)) (w : WriterId) → list_all is_name names ≡ true → w.0 < length names → IsPlain (writer_at names w)
 writer-plain names w all lt =
-    let got = get-some names w.0 lt in
+    let got = get_there names w.0 lt in
     rw (writer_at-is names w got.0 got.1) (name-plain got.0 (named-at names w.0 got.0 all got.1))

@@ -2,7 +2,8 @@
 
 ghost use Rattle.std.specs.Prelude.{◌≡◌, [], List, ℕ};
 ghost use Rattle.texts.specs.Judging.{field_at, Does};
-ghost use Rattle.script_text.specs.Reading.{pair_at, judge_writer, judge_key, judge_value, judge_seen, seen_at, put_at, hint_at, handoff_at};
+ghost use Rattle.script_text.specs.Reading.{pair_at, judge_writer, judge_key, judge_value, judge_seen, seen_at, put_at};
+ghost use Rattle.script_text.specs.Reading.{hint_at, handoff_at};
 
 use crate::said::{SaidPut, SaidWriter};
 use crate::words::{KeyWord, SeenRow, ValueWord, Word};

@@ -9,7 +9,8 @@ ghost use Rattle.texts.specs.Judging.{Gives, map_ok};
 ghost use Rattle.script_text.specs.Said.{IsNext};
 ghost use Rattle.plan_check.specs.declared.event.Event.{Event};
 ghost use Rattle.script_text.specs.Client.{is_client_event};
-ghost use Rattle.script_text.specs.Reading.{said_at, heard_at, events_from, events_at, section_at, script_at, client_at, script_reading};
+ghost use Rattle.script_text.specs.Reading.{said_at, heard_at, events_from, events_at, section_at, script_at};
+ghost use Rattle.script_text.specs.Reading.{client_at, script_reading};
 ghost use Rattle.script_text.specs.Spelling.{script_text};
 ghost use Rattle.script_text.specs.Valid.{AreWriters, IsScriptOf};
 
@@ -67,8 +68,10 @@ fn read_into(
     lines: &mut Lines,
 ) -> Result<(), Refusal>
     requires none { seen.old ≡ [] }
-    ensures read { Reads (map_ok (λ _. (seen.new, writers.new)) result) lines.new (events_from by ring.now seen.old writers.old lines.old.line lines.old.lines) }
-    ensures late { Late 1 result lines.old lines.new (events_from by ring.now seen.old writers.old lines.old.line lines.old.lines) }
+    ensures read { Reads (map_ok (λ _. (seen.new, writers.new)) result) lines.new
+        (events_from by ring.now seen.old writers.old lines.old.line lines.old.lines) }
+    ensures late { Late 1 result lines.old lines.new
+        (events_from by ring.now seen.old writers.old lines.old.line lines.old.lines) }
 {
     'events: while !lines.begins(b"end") {
         let may = by.may_say(lines);
@@ -88,7 +91,8 @@ fn read_events(
     writers: &mut Names,
     lines: &mut Lines,
 ) -> Result<Script, Refusal>
-    ensures read { Reads (map_ok (λ s. (s, writers.new)) result) lines.new (events_at by ring.now writers.old lines.old) }
+    ensures read { Reads (map_ok (λ s. (s, writers.new)) result) lines.new
+        (events_at by ring.now writers.old lines.old) }
     ensures late { Late 1 result lines.old lines.new (events_at by ring.now writers.old lines.old) }
 {
     let mut script = Script::new(alloc);
@@ -105,7 +109,8 @@ fn read_parts(
     writers: &mut Names,
     lines: &mut Lines,
 ) -> Result<Script, Refusal>
-    ensures read { Reads (map_ok (λ s. (s, writers.new)) result) lines.new (section_at by ring.now writers.old lines.old) }
+    ensures read { Reads (map_ok (λ s. (s, writers.new)) result) lines.new
+        (section_at by ring.now writers.old lines.old) }
     ensures late { Late 2 result lines.old lines.new (section_at by ring.now writers.old lines.old) }
 {
     header(lines, b"script", b"1")?;
@@ -159,7 +164,8 @@ fn read_whole(
     text: &[u8],
 ) -> Result<Script, Refusal>
     ensures exact { Gives (map_ok (λ s. (s, writers.new)) result) (script_reading ring.now writers.old text.now) }
-    ensures late { IfErr result (λ e. e ≡ OutOfMemory → NoFaultBefore 3 (script_reading ring.now writers.old text.now)) }
+    ensures late { IfErr result
+        (λ e. e ≡ OutOfMemory → NoFaultBefore 3 (script_reading ring.now writers.old text.now)) }
 {
     let mut lines = Lines::of(text);
     let script = read_script_section(alloc, ring, writers, &mut lines)?;
@@ -180,12 +186,14 @@ pub fn read_script(
     ensures found { IfOk result (λ s. AreWriters writers.old
         → IsScriptOf ring.now writers.old writers.new s × (text.now ≡ script_text ring.now writers.new s)) }
     // What is spelled so is read, unless memory runs out.
-    ensures only { (s : List Event) (names : List (List ℕ)) → IsScriptOf ring.now writers.old names s → text.now ≡ script_text ring.now names s
+    ensures only { (s : List Event) (names : List (List ℕ)) → IsScriptOf ring.now writers.old names s
+        → text.now ≡ script_text ring.now names s
         → Gives {A = List Event × List (List ℕ)} (map_ok (λ s. (s, writers.new)) result) (Ok (s, names)) }
     // Which fault it is.
     ensures exact { Gives (map_ok (λ s. (s, writers.new)) result) (script_reading ring.now writers.old text.now) }
     // Memory may run out only if the first two lines have no fault.
-    ensures late { IfErr result (λ e. e ≡ OutOfMemory → NoFaultBefore 3 (script_reading ring.now writers.old text.now)) }
+    ensures late { IfErr result
+        (λ e. e ≡ OutOfMemory → NoFaultBefore 3 (script_reading ring.now writers.old text.now)) }
 {
     // A ring is valid, which the prover knows once a number of it is read.
     let slots = ring.n();

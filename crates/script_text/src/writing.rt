@@ -8,7 +8,8 @@ ghost use Rattle.texts.specs.Parts.{line_text, text_of, spaced};
 ghost use Rattle.ring_table.specs.Value.{names_of};
 ghost use Rattle.ring_table.specs.Spelling.{name_at};
 ghost use Rattle.script_text.specs.Known.{AreKnown};
-ghost use Rattle.script_text.specs.Spelling.{digit_text, byte_text, value_text, writer_at, seen_fields, event_fields, script_text};
+ghost use Rattle.script_text.specs.Spelling.{digit_text, byte_text, value_text, writer_at, seen_fields, event_fields};
+ghost use Rattle.script_text.specs.Spelling.{script_text};
 
 use crate::script::Script;
 use plan_check::Event;
@@ -105,7 +106,8 @@ pub fn push_event(
     names: &Names,
     event: &Event,
 ) -> Result<(), AllocError>
-    ensures { OnOk result (out.new.items ≡ out.old.items ++ join_with_byte 32 (event_fields (names_of ring.now) names.now event.now)) }
+    ensures { OnOk result
+        (out.new.items ≡ out.old.items ++ join_with_byte 32 (event_fields (names_of ring.now) names.now event.now)) }
 {
     match event {
         Event::Do(step) => push_numbered(out, b"do", &[*step]),
@@ -144,7 +146,8 @@ pub fn push_event(
 
 // The line of an event.
 fn push_line(out: &mut Vec<u8>, ring: &Ring, names: &Names, event: &Event) -> Result<(), AllocError>
-    ensures { OnOk result (out.new.items ≡ out.old.items ++ line_text (event_fields (names_of ring.now) names.now event.now)) }
+    ensures { OnOk result
+        (out.new.items ≡ out.old.items ++ line_text (event_fields (names_of ring.now) names.now event.now)) }
 {
     push_event(out, ring, names, event)?;
     out.push(b'\n')?;
@@ -158,7 +161,8 @@ fn push_lines(
     names: &Names,
     events: &[Event],
 ) -> Result<(), AllocError>
-    ensures { OnOk result (out.new.items ≡ out.old.items ++ text_of (map (event_fields (names_of ring.now) names.now) events.now)) }
+    ensures { OnOk result
+        (out.new.items ≡ out.old.items ++ text_of (map (event_fields (names_of ring.now) names.now) events.now)) }
 {
     for event in events {
         push_line(out, ring, names, event)?;

@@ -3,6 +3,7 @@ use Rattle.std.proofs.Common.{◌≡◌, inl, inr, ◌∙◌, ℕ, ◌<◌, Bool
 use Rattle.std.specs.Prelude.{◌==◌, nat_lt, nat_le, Option, Some, None, Ok, slice_get, option_map}
 use Rattle.std.proofs.lemmas.Option.{slice_get_within}
 use Rattle.std.proofs.Math.Path.{fun_ext}
+use Rattle.std.proofs.lemmas.Bool.{and_from, le-ltb}
 use Rattle.ring_names.specs.declared.ids.Slot.{Slot}
 use Rattle.ring_names.specs.declared.refusal.Refusal.TheVariants.{UnknownNumber, AlreadyDone, StaleTickets}
 use Rattle.ring_space.specs.Place.{place_of}
@@ -11,7 +12,6 @@ use Rattle.ring_table.specs.Value.{RingValue}
 use Rattle.ring_clock.specs.declared.entry.Entry.{Entry}
 use Rattle.plan_text.specs.declared.step.Planned.{Planned}
 use Rattle.plan_stage.specs.Clauses.{first_failing}
-use Rattle.plan_stage.proofs.Truth.{all_of}
 use Rattle.plan_check.specs.declared.event.Event.TheVariants.{Ack}
 use Rattle.plan_check.specs.declared.event.Reply.TheVariants as reply
 use Rattle.plan_check.specs.World.{PutRecord, World, passing_below, generation, slot_at}
@@ -36,7 +36,7 @@ use Rattle.store_tells.specs.Kept.{Kept, Tells}
 use Rattle.store_tells.proofs.StoreInWorld.{reached_of, slot_there}
 use Rattle.store_events.specs.Acks.{generation_in, is_current_in}
 use Rattle.store_events.proofs.TellsOnClients.{stored_on, hinted_on, tells_next}
-use Rattle.store_events.proofs.NumberTests.{is_less, not_less, none_there}
+use Rattle.store_events.proofs.NumberTests.{is_less, none_there}
 
 -- a put that is acknowledged
 pub acked_on : (ring : RingValue) (plan : List Planned) (k : Kept) (w : World) (v : ℕ) → Tells ring plan k w → first_failing (guards ring plan w (Ack v)) ≡ None
@@ -61,7 +61,7 @@ module _ (ring : RingValue) (plan : List Planned) (k : Kept) (w : World) (m : Te
   unfolding guards
   no_put v none =
       let l = none_there k.puts v none in
-      let less = not_less v (length k.puts) l in
+      let less = le-ltb v (length k.puts) l in
       let e = m.puts.each in
       let f : nat_lt v (length w.puts) ≡ false = (let g = ap (λ (n : ℕ). nat_lt v n) e in cc) in
       rw f refl
@@ -96,7 +96,7 @@ module _ (ring : RingValue) (plan : List Planned) (k : Kept) (w : World) (m : Te
           ∙ ap (λ (p : ℕ). slot_at p i) partition) in
           let within : place.partition < ring.q = subst (λ (n : ℕ). n < ring.q) partition (m.placed put.key x.key key) in
           let generations : (i : ℕ) → i < ring.n → generation_in k.rows (slot_at place.partition i) ≡ generation plan w (put_slot ring w v i) = λ i l. (
-          let s = slot_there ring plan k w m (slot_at place.partition i) (all_of (nat_lt place.partition ring.q) (nat_lt i ring.n) (is_less place.partition ring.q within) (is_less i ring.n l)) in
+          let s = slot_there ring plan k w m (slot_at place.partition i) (and_from (nat_lt place.partition ring.q) (nat_lt i ring.n) (is_less place.partition ring.q within) (is_less i ring.n l)) in
           ap (λ (o : Option SlotNow). elim o as (λ _. ℕ) [ Some z ↦ z.generation | None ↦ 0 ]) s.1 ∙ s.2.generation ∙ ap (λ (t : Slot). generation plan w t) (sym (slot i))) in
           let count : current_count k.puts ring.n (λ i. generation_in k.rows (slot_at place.partition i)) v ≡ current = (
           ap (λ (xs : List ℕ). length xs) (same_passing ring.n (λ i. is_current_at k.puts v i (generation_in k.rows (slot_at place.partition i))) (is_current_in k.rows put place.partition)

@@ -1,10 +1,10 @@
 -- A store that copies a chunk is in the next world.
 use Rattle.std.proofs.Common.{◌≡◌, inl, inr, ◌∙◌, ℕ, ◌<◌, Bool, true, false, List, [], ◌∷◌, length, map, refl, sym, ap, subst, ltb-true, lt-ltb, eqb-true, eq-eqb}
-use Rattle.std.specs.Prelude.{◌&&◌, ◌||◌, ◌==◌, nat_lt, Option, Some, None, Ok, is_some, unwrap_or, option_and_then}
+use Rattle.std.specs.Prelude.{◌&&◌, ◌||◌, ◌==◌, nat_lt, Option, Some, None, Ok, is_some, option_and_then}
 use Rattle.std.specs.List.{list_all, list_any}
 use Rattle.std.proofs.lemmas.Slice.Eq.{bytes_eq-Decides}
 use Rattle.std.proofs.Props.{props}
-use Rattle.std.proofs.lemmas.Bool.{and_parts}
+use Rattle.std.proofs.lemmas.Bool.{and_parts, and_from, or_cases}
 use Rattle.ring_names.specs.declared.ids.NodeId.{NodeId}
 use Rattle.ring_names.specs.declared.ids.Slot.{Slot}
 use Rattle.ring_space.specs.Place.{place_of}
@@ -13,7 +13,7 @@ use Rattle.ring_clock.specs.declared.entry.Entry.{Entry}
 use Rattle.ring_versions.specs.declared.version.Version.{Version}
 use Rattle.store_maps.specs.Chunks.{chunk_of}
 use Rattle.store_maps.specs.Held.{held, has_place}
-use Rattle.ring_names.specs.AtBytes.{value_at}
+use Rattle.ring_names.proofs.Logic.{bool_same}
 use Rattle.store_maps.specs.declared.key_map.KeyMap.{KeyMap}
 use Rattle.ring_store.specs.Nodes.{MergesAtAll, at_node}
 use Rattle.ring_store.specs.Slots.{at_slot}
@@ -25,7 +25,6 @@ use Rattle.plan_text.specs.Steps.{copy_of}
 use Rattle.plan_text.specs.Valid.{is_ring_slot, source_suits}
 use Rattle.plan_stage.specs.Clauses.{first_failing}
 use Rattle.plan_stage.specs.Each.{step_at}
-use Rattle.plan_stage.proofs.Truth.{all_of, either}
 use Rattle.plan_check.specs.declared.event.Event.{Event}
 use Rattle.plan_check.specs.declared.event.Event.TheVariants.{ChunkCopy}
 use Rattle.plan_check.specs.declared.event.Reply.TheVariants as reply
@@ -48,7 +47,6 @@ use Rattle.store_tells.specs.Stored.{ShowAll, MergeAll, at_mirror, copied}
 use Rattle.store_tells.proofs.StoredGrows.{copied_more}
 use Rattle.store_tells.proofs.ShownSets.{none, other_test, with_none}
 use Rattle.store_tells.specs.Puts.{clock_at}
-use Rattle.store_tells.proofs.NodesDone.{alike}
 use Rattle.store_tells.proofs.PutsFrames.{puts_stay}
 use Rattle.store_tells.proofs.SlotsFit.{kept_is}
 use Rattle.store_tells.proofs.StageSuits.{step_suiting}
@@ -61,14 +59,7 @@ use Rattle.store_events.specs.Sources.{ShowsChunk, are_kept, is_kept, reads_kept
 use Rattle.store_events.proofs.TellsOnVersions.{comes, lasts, goes_on}
 use Rattle.store_events.proofs.ShownBrought.{node_shows, node_come}
 use Rattle.store_events.proofs.PutAndSlot.{kept_in_ring}
-
--- a key with no place has no versions
-pub no_place : (m : KeyMap) (key : List ℕ) → has_place m key ≡ false → held m key ≡ []
-no_place m key e = by (value_at m.map key) e
-  where
-    by : (o : Option (List Version)) → is_some o ≡ false → unwrap_or o [] ≡ []
-    by None f = refl
-    by (Some vs) f = absurd cc
+use Rattle.store_maps.proofs.Chunks.{no_place}
 
 -- a map whose places lie in the chunk has nothing for other keys
 pub nothing_apart : (q c : ℕ) (m : KeyMap) → ((key : List ℕ) → has_place m key ≡ true → chunk_of q key ≡ c) → (key : List ℕ) → (chunk_of q key ≡ c → ⊥) → held m key ≡ []
@@ -81,7 +72,7 @@ nothing_apart q c m lies key apart = by (has_place m key) refl
 -- one of the slots passes the test
 pub some_slot : (test : Slot → Bool) (p : ℕ) (from : List ℕ) → list_any test (map (slot_at p) from) ≡ true → (i : ℕ) × (test (slot_at p i) ≡ true)
 some_slot test p [] e = absurd cc
-some_slot test p (i ∷ from) e = elim (either (test (slot_at p i)) (list_any test (map (slot_at p) from)) e) [ inl here ↦ (i, here) | inr there ↦ some_slot test p from there ]
+some_slot test p (i ∷ from) e = elim (or_cases (test (slot_at p i)) (list_any test (map (slot_at p) from)) e) [ inl here ↦ (i, here) | inr there ↦ some_slot test p from there ]
 
 module _ (ring : RingValue) (plan : List Planned) (k : Kept) (w : World) (m : Tells ring plan k w) where
   reached : Reached ring plan w
@@ -91,7 +82,7 @@ module _ (ring : RingValue) (plan : List Planned) (k : Kept) (w : World) (m : Te
 
   -- what a slot has is of its partition
   slot_puts : (s : Slot) (v : ℕ) → slot_has ring plan w s v ≡ true → IsPutOf ring w s v
-  slot_puts s v h = elim (either (w.stored (stage_now ring plan w s).owner.0 s v) (some_hinted ring w s v) h) [
+  slot_puts s v h = elim (or_cases (w.stored (stage_now ring plan w s).owner.0 s v) (some_hinted ring w s v) h) [
     | inl e ↦ reached.stored (stage_now ring plan w s).owner.0 s v e
     | inr e ↦ (let x = some_found (length ring.nodes) (λ x. w.hinted x s v) e in reached.hinted x.0 s v x.2)
   ]
@@ -107,19 +98,19 @@ module _ (ring : RingValue) (plan : List Planned) (k : Kept) (w : World) (m : Te
 
     -- of a key of the chunk all that is read is copied
     here : chunk_of ring.q key ≡ c → (v : ℕ) → (source_has ring plan w slot source v && is_of_key w key v) ≡ (is_copied ring plan w slot source c v && is_of_key w key v)
-    here lies v = alike (source_has ring plan w slot source v && is_of_key w key v) (is_copied ring plan w slot source c v && is_of_key w key v)
+    here lies v = bool_same (source_has ring plan w slot source v && is_of_key w key v) (is_copied ring plan w slot source c v && is_of_key w key v)
         (λ h.
         let p = and_parts (source_has ring plan w slot source v) (is_of_key w key v) h in
         let of = source_puts slot source v p.0 in
         let part = eq-eqb ((place_of ring.q (key_of_put w v)).partition) slot.partition of.1 in
         let chunk = eq-eqb ((place_of ring.q (key_of_put w v)).chunk) c (of_chunk v p.1 ∙ lies) in
-        let inside = all_of ((place_of ring.q (key_of_put w v)).partition == slot.partition) ((place_of ring.q (key_of_put w v)).chunk == c) part chunk in
-        all_of (is_copied ring plan w slot source c v) (is_of_key w key v)
-        (all_of (nat_lt v (length w.puts) && is_in_chunk ring w slot c v) (source_has ring plan w slot source v) (all_of (nat_lt v (length w.puts)) (is_in_chunk ring w slot c v) (lt-ltb v (length w.puts) of.0) inside) p.0) p.1)
+        let inside = and_from ((place_of ring.q (key_of_put w v)).partition == slot.partition) ((place_of ring.q (key_of_put w v)).chunk == c) part chunk in
+        and_from (is_copied ring plan w slot source c v) (is_of_key w key v)
+        (and_from (nat_lt v (length w.puts) && is_in_chunk ring w slot c v) (source_has ring plan w slot source v) (and_from (nat_lt v (length w.puts)) (is_in_chunk ring w slot c v) (lt-ltb v (length w.puts) of.0) inside) p.0) p.1)
         (λ h.
         let p = and_parts (is_copied ring plan w slot source c v) (is_of_key w key v) h in
         let r = and_parts (nat_lt v (length w.puts) && is_in_chunk ring w slot c v) (source_has ring plan w slot source v) p.0 in
-        all_of (source_has ring plan w slot source v) (is_of_key w key v) r.1 p.1)
+        and_from (source_has ring plan w slot source v) (is_of_key w key v) r.1 p.1)
 
     -- and of another key nothing
     apart : (chunk_of ring.q key ≡ c → ⊥) → (v : ℕ) → false ≡ (is_copied ring plan w slot source c v && is_of_key w key v)
@@ -169,8 +160,8 @@ module _ (ring : RingValue) (plan : List Planned) (k : Kept) (w : World) (m : Te
     all_kept [] e = refl
     all_kept (i ∷ from) e =
         let p = and_parts (nat_lt i ring.n) (list_all (λ j. nat_lt j ring.n) from) e in
-        let inside = all_of (nat_lt slot.partition ring.q) (nat_lt i ring.n) (and_parts (nat_lt slot.partition ring.q) (nat_lt slot.index ring.n) suiting.0).0 p.0 in
-        all_of (is_kept k.rows (slot_at slot.partition i)) (are_kept k.rows slot.partition from) (kept_in_ring ring plan k w m (slot_at slot.partition i) ∙ inside) (all_kept from p.1)
+        let inside = and_from (nat_lt slot.partition ring.q) (nat_lt i ring.n) (and_parts (nat_lt slot.partition ring.q) (nat_lt slot.index ring.n) suiting.0).0 p.0 in
+        and_from (is_kept k.rows (slot_at slot.partition i)) (are_kept k.rows slot.partition from) (kept_in_ring ring plan k w m (slot_at slot.partition i) ∙ inside) (all_kept from p.1)
 
     pub source_is_kept : reads_kept k.rows slot source ≡ true
     source_is_kept = by source suiting.1

@@ -3,9 +3,10 @@ use Rattle.std.proofs.Common.{◌≡◌, inl, inr, ◌∙◌, ℕ, Bool, true, f
 use Rattle.std.specs.Prelude.{◌&&◌, ◌||◌, ◌==◌, ◌↔◌, Option, Some, None, MatchOption, option_map, is_some}
 use Rattle.std.specs.List.{list_any}
 use Rattle.std.proofs.Math.Bool.{or_assoc}
-use Rattle.std.proofs.lemmas.Bool.{and_parts}
+use Rattle.std.proofs.lemmas.Bool.{and_parts, or_right, or_cases, or_left}
 use Rattle.ring_names.specs.declared.ids.NodeId.{NodeId}
 use Rattle.ring_names.specs.declared.ids.Slot.{Slot}
+use Rattle.ring_names.proofs.Logic.{or_false, bool_same}
 use Rattle.ring_clock.specs.declared.entry.Entry.{Entry}
 use Rattle.ring_table.specs.Value.{RingValue}
 use Rattle.ring_versions.specs.Fresh.{IsFreshFor}
@@ -18,7 +19,6 @@ use Rattle.ring_hints.specs.Views.{in_keepers}
 use Rattle.ring_hints.proofs.KeeperSets.{node_tie, equal}
 use Rattle.plan_text.specs.declared.step.Planned.{Planned}
 use Rattle.plan_text.specs.declared.step.Source.TheVariants.{Slots}
-use Rattle.plan_stage.proofs.Truth.{either, first_of_two, second_of_two}
 use Rattle.plan_check.specs.Effects.{source_has}
 use Rattle.plan_check.specs.Versions.{some_hinted, slot_has}
 use Rattle.plan_check.specs.World.{World, is_of_key, stage_now, key_of_put, slot_at}
@@ -28,7 +28,6 @@ use Rattle.store_tables.specs.Slots.{slot_now}
 use Rattle.store_tells.specs.Shows.{Shows, value_of}
 use Rattle.store_tells.proofs.ShownSets.{merge, none, with_none, other_test}
 use Rattle.store_tells.specs.Puts.{clock_at}
-use Rattle.store_tells.proofs.NodesDone.{alike}
 use Rattle.store_tells.proofs.SlotsFit.{kept_is}
 use Rattle.store_tells.specs.Kept.{Kept, Tells}
 use Rattle.store_tells.specs.Parts.{ring_of, plan_of, Meets}
@@ -56,10 +55,6 @@ either_of true true false = refl
 either_of true false true = refl
 either_of true false false = refl
 either_of false b c = refl
-
-pub or_no : (a : Bool) → (a || false) ≡ a
-or_no true = refl
-or_no false = refl
 
 module _ (q : ℕ) (w : World) (clock : ℕ → List Entry) (c : ℕ) where
   pub other_puts : (held : List ℕ → List Version) (f g : ℕ → Bool) → ((v : ℕ) → f v ≡ g v) → ShowsChunk q w clock c held f → ShowsChunk q w clock c held g
@@ -121,11 +116,11 @@ module _ (a : Parts) (c : ℕ) where
 
   -- nothing was read
   pub gathers_no : (old : List ℕ → List Version) (f : World → ℕ → Bool) → ((w : World) → Meets a w → (v : ℕ) → f w v ≡ false) → Gathers a c old old f
-  gathers_no old f no_puts w m test had = other_puts (ring_of a).q w (clock_at a.puts) c old test (λ v. test v || f w v) (λ v. sym (ap (λ (b : Bool). test v || b) (no_puts w m v) ∙ or_no (test v))) had
+  gathers_no old f no_puts w m test had = other_puts (ring_of a).q w (clock_at a.puts) c old test (λ v. test v || f w v) (λ v. sym (ap (λ (b : Bool). test v || b) (no_puts w m v) ∙ or_false (test v))) had
 
   module _ {A : Type 0} (read : World → A → ℕ → Bool) (all : List A) (old : List ℕ → List Version) where
     pub visits_first : Visits a c read all old old all
-    visits_first w m test had = ((λ v. false), other_puts (ring_of a).q w (clock_at a.puts) c old test (λ v. test v || false) (λ v. sym (or_no (test v))) had, λ v. refl)
+    visits_first w m test had = ((λ v. false), other_puts (ring_of a).q w (clock_at a.puts) c old test (λ v. test v || false) (λ v. sym (or_false (test v))) had, λ v. refl)
 
     pub visits_more : (mid new : List ℕ → List Version) (rest later : List A) (y : A) → rest ≡ y ∷ later → Gathers a c mid new (λ w. read w y) → Visits a c read all old mid rest → Visits a c read all old new later
     visits_more mid new rest later y is h visited w m test had =
@@ -139,14 +134,14 @@ module _ (a : Parts) (c : ℕ) where
     visits_all new rest is visited w m test had =
         let p = visited w m test had in
         other_puts (ring_of a).q w (clock_at a.puts) c new (λ v. test v || p.0 v) (λ v. test v || list_any (λ y. read w y v) all)
-        (λ v. ap (λ (b : Bool). test v || b) (sym (or_no (p.0 v)) ∙ sym (ap (λ (ys : List A). p.0 v || list_any (λ y. read w y v) ys) is) ∙ p.2 v)) p.1
+        (λ v. ap (λ (b : Bool). test v || b) (sym (or_false (p.0 v)) ∙ sym (ap (λ (ys : List A). p.0 v || list_any (λ y. read w y v) ys) is) ∙ p.2 v)) p.1
 
 -- ---- keepers
 
 -- one of the nodes passes the test
 pub some_node : (test : NodeId → Bool) (nodes : List NodeId) → list_any test nodes ≡ true → (y : NodeId) × (test y ≡ true)
 some_node test [] e = absurd cc
-some_node test (y ∷ nodes) e = elim (either (test y) (list_any test nodes) e) [ inl here ↦ (y, here) | inr there ↦ some_node test nodes there ]
+some_node test (y ∷ nodes) e = elim (or_cases (test y) (list_any test nodes) e) [ inl here ↦ (y, here) | inr there ↦ some_node test nodes there ]
 
 -- the node of that number is one of them, and passes it
 pub named_node : (test : NodeId → Bool) (x : ℕ) (nodes : List NodeId) → in_keepers x nodes ≡ true → test (record { 0 = x }) ≡ true → list_any test nodes ≡ true
@@ -154,13 +149,13 @@ named_node test x [] e is = absurd cc
 named_node test x (y ∷ nodes) e is = by (x == y.0) refl (λ there. named_node test x nodes there is)
   where
     by : (b : Bool) → (x == y.0) ≡ b → (in_keepers x nodes ≡ true → list_any test nodes ≡ true) → list_any test (y ∷ nodes) ≡ true
-    by true same next = first_of_two (test y) (list_any test nodes) (subst (λ (n : ℕ). test (record { 0 = n }) ≡ true) (equal x y.0 same) is)
-    by false apart next = second_of_two (test y) (list_any test nodes) (next (sym (ap (λ (b : Bool). b || in_keepers x nodes) (node_tie x y.0 ∙ apart)) ∙ e))
+    by true same next = or_left (test y) (list_any test nodes) (subst (λ (n : ℕ). test (record { 0 = n }) ≡ true) (equal x y.0 same) is)
+    by false apart next = or_right (test y) (list_any test nodes) (next (sym (ap (λ (b : Bool). b || in_keepers x nodes) (node_tie x y.0 ∙ apart)) ∙ e))
 
 module _ (ring : RingValue) (plan : List Planned) (k : Kept) (w : World) (m : Tells ring plan k w) (slot : Slot) where
   -- the nodes that keep anything for the slot keep its hints
   pub keepers_have : (nodes : List NodeId) → ((x : ℕ) → (in_keepers x nodes ≡ false) ↔ ((key : List ℕ) → k.hinted x slot key ≡ [])) → (v : ℕ) → list_any (λ y. w.hinted y.0 slot v) nodes ≡ some_hinted ring w slot v
-  keepers_have nodes keepers v = alike (list_any (λ y. w.hinted y.0 slot v) nodes) (some_hinted ring w slot v)
+  keepers_have nodes keepers v = bool_same (list_any (λ y. w.hinted y.0 slot v) nodes) (some_hinted ring w slot v)
       (λ h. (let y = some_node (λ y. w.hinted y.0 slot v) nodes h in some_is (length ring.nodes) (λ x. w.hinted x slot v) y.0.0 (keeper_within ring plan k w m y.0.0 slot v y.1) y.1))
       (λ h. (let x = some_found (length ring.nodes) (λ x. w.hinted x slot v) h in named_node (λ y. w.hinted y.0 slot v) x.0 nodes (there x.0 x.2 (in_keepers x.0 nodes) refl) x.2))
     where

@@ -1,9 +1,9 @@
 -- Clocks that are raised to others, one after the other.
 use Rattle.std.proofs.Common.{◌≡◌, ◌⊎◌, inl, inr, ◌∙◌, ℕ, ◌≤◌, List, [], ◌∷◌, length, refl, sym, ap, subst, arith, eqb-true}
 use Rattle.std.specs.Prelude.{max, Option, Some, None}
-use Rattle.std.proofs.lemmas.Bool.Decides.{eqb_tells}
-use Rattle.plan_stage.proofs.Truth.{either}
+use Rattle.std.proofs.lemmas.Bool.{or_cases}
 use Rattle.ring_names.specs.Lists.{has}
+use Rattle.ring_names.proofs.Logic.{max_either}
 use Rattle.ring_clock.specs.declared.entry.Entry.{Entry}
 use Rattle.ring_clock.specs.Clock.{counter, IsAtMost}
 use Rattle.ring_clock.proofs.Causing.{has_first, has_later}
@@ -50,14 +50,11 @@ raised_all old new These Left none r = record {
 
 -- ---- one clock
 
-max_is : (a b : ℕ) → (max a b ≡ a) ⊎ (max a b ≡ b)
-max_is a b = elim (eqb_tells (max a b) a) [ inl t ↦ inl t.1 | inr t ↦ inr (grind (arith, t.1)) ]
-
 pub raises_one : (old new c : List Entry) → ((w : ℕ) → counter new w ≡ max (counter old w) (counter c w)) → RaisesTo old (λ d. c ≡ d) new
 raises_one old new c raise = record {
   before = λ w. (let a = raise w in omega arith);
   above = λ d is w. subst (λ (x : List Entry). counter x w ≤ counter new w) is (let a = raise w in omega arith);
-  from = λ w. elim (max_is (counter old w) (counter c w)) [
+  from = λ w. elim (max_either (counter old w) (counter c w)) [
     | inl t ↦ inl (raise w ∙ t)
     | inr t ↦ inr (c, refl, sym (raise w ∙ t))
   ];
@@ -82,7 +79,7 @@ get_raised old mid new found seen rest later g is raise r =
     (λ c h. subst (λ (xs : List ℕ). IsFoundClock found xs c) (sym is) (h.0, h.1, has_later h.0 g later h.2, h.3, h.4))
     (λ c h. (
     let front = subst (λ (xs : List ℕ). IsFoundClock found xs c) is h in
-    elim (either _ (has front.0 later) front.2) [
+    elim (or_cases _ (has front.0 later) front.2) [
       | inl same ↦ inl (front.1, subst (λ (n : ℕ). IsIn front.1 (found n)) (eqb-true front.0 g same) front.3, front.4)
       | inr more ↦ inr (front.0, front.1, more, front.3, front.4)
     ]))

@@ -2,6 +2,7 @@
 use Rattle.std.proofs.Common.{◌≡◌, ◌∙◌, ℕ, Bool, true, false, not, List, [], ◌∷◌, length, ◌≤◌, ap, refl, sym, arith}
 use Rattle.std.specs.Prelude.{◌≢◌, ◌↔◌, ◌||◌, Option, Some, None, option_map, slice_get, if◌then◌else◌}
 use Rattle.std.specs.List.{list_all}
+use Rattle.std.proofs.lemmas.Bool.{or_from}
 use Rattle.ring_names.specs.declared.ids.NodeId.{NodeId}
 use Rattle.ring_names.specs.declared.ids.Slot.{Slot}
 use Rattle.ring_names.specs.declared.refusal.Refusal.{Refusal}
@@ -131,10 +132,6 @@ retire_tested a t x keeps o is tells e w m = e ∙ by keeps (keeps_any (ring_of 
     by e false h = rw h refl
 
 -- ---- test by test
-
--- of two tests neither is passed
-pub neither : (a b : Bool) → a ≡ false → b ≡ false → (a || b) ≡ false
-neither a b e f = rw (e, f) refl
 
 module _ (a : Parts) (n : ℕ) where
   -- by the test whether it is such a step

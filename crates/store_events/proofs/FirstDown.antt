@@ -1,7 +1,7 @@
 -- The refusal of the first of some nodes that is down.
 use Rattle.std.proofs.Common.{◌≡◌, inl, inr, ◌∙◌, ℕ, ◌<◌, Bool, true, false, List, [], ◌∷◌, map, refl, sym, ap, eqb-true}
 use Rattle.std.specs.Prelude.{◌↔◌, ◌==◌, Option, Some, None, option_map}
-use Rattle.std.proofs.lemmas.Bool.{cases_Bool}
+use Rattle.std.proofs.lemmas.Bool.{cases_Bool, or_right, or_cases, or_left}
 use Rattle.ring_names.specs.Lists.{has}
 use Rattle.ring_names.specs.declared.ids.NodeId.{NodeId}
 use Rattle.ring_names.specs.declared.refusal.Refusal.{Refusal}
@@ -9,34 +9,36 @@ use Rattle.ring_names.specs.declared.refusal.Refusal.TheVariants.{NodeDown}
 use Rattle.texts.specs.Numbers.{ascending}
 use Rattle.ring_versions.specs.declared.version.Version.{Version}
 use Rattle.plan_stage.specs.Clauses.{first_failing}
-use Rattle.plan_stage.proofs.Truth.{either, first_of_two, second_of_two, same}
+use Rattle.plan_stage.proofs.Truth.{same}
 use Rattle.plan_check.specs.Guards.{nodes_up}
 use Rattle.plan_check.specs.World.{passing_below}
-use Rattle.plan_check.proofs.Passing.{below_is, is_below, passing_ascend, ascending_rest, first_least}
+use Rattle.plan_check.proofs.Passing.{below_is, is_below, passing_ascend}
 use Rattle.store_events.specs.ChunkKeepers.{IsLeastDown}
 use Rattle.store_events.specs.Keepers.{IsFirstDown}
+use Rattle.plan_stage.proofs.Looking.{ascends-below}
+use Rattle.plan_text.proofs.Searched.{ascends-tail}
 
 -- where all these nodes are up none is refused
 all_up : (up : ℕ → Bool) (xs : List ℕ) → ((x : ℕ) → has x xs ≡ true → up x ≡ true) → first_failing (map (λ x. (up x, NodeDown x)) xs) ≡ None
 all_up up [] are = refl
-all_up up (x ∷ xs) are = (let e = are x (first_of_two (x == x) (has x xs) (same x)) in rw e (all_up up xs (λ y h. are y (second_of_two (y == x) (has y xs) h))))
+all_up up (x ∷ xs) are = (let e = are x (or_left (x == x) (has x xs) (same x)) in rw e (all_up up xs (λ y h. are y (or_right (y == x) (has y xs) h))))
 
 -- of ascending nodes the one that is down, where those before it are up, is refused
 first_down : (up : ℕ → Bool) (xs : List ℕ) (y : ℕ) → ascending xs ≡ true → has y xs ≡ true → up y ≡ false → ((x : ℕ) → x < y → has x xs ≡ true → up x ≡ true)
     → first_failing (map (λ x. (up x, NodeDown x)) xs) ≡ Some (NodeDown y)
 first_down up [] y rise there down before = absurd cc
 first_down up (x ∷ xs) y rise there down before =
-    by (up x) refl (y == x) refl (λ h. first_down up xs y (ascending_rest x xs rise) h down (λ z l t. before z l (second_of_two (z == x) (has z xs) t)))
+    by (up x) refl (y == x) refl (λ h. first_down up xs y (ascends-tail x xs rise) h down (λ z l t. before z l (or_right (z == x) (has z xs) t)))
   where
     later : (y == x) ≡ false → has y xs ≡ true
-    later apart = elim (either (y == x) (has y xs) there) [ inl e ↦ absurd cc | inr e ↦ e ]
+    later apart = elim (or_cases (y == x) (has y xs) there) [ inl e ↦ absurd cc | inr e ↦ e ]
 
     by : (b : Bool) → up x ≡ b → (c : Bool) → (y == x) ≡ c → (has y xs ≡ true → first_failing (map (λ z. (up z, NodeDown z)) xs) ≡ Some (NodeDown y))
         → first_failing (map (λ z. (up z, NodeDown z)) (x ∷ xs)) ≡ Some (NodeDown y)
     by true e true f next = absurd (let is = eqb-true y x f in let g : up y ≡ true = ap up is ∙ e in cc)
     by true e false f next = rw e (next (later f))
     by false e true f next = (let is = eqb-true y x f in rw e (ap (λ (z : ℕ). Some (NodeDown z)) (sym is)))
-    by false e false f next = absurd (let g = before x (first_least x xs rise y (later f)) (first_of_two (x == x) (has x xs) (same x)) in cc)
+    by false e false f next = absurd (let g = before x (ascends-below x xs rise y (later f)) (or_left (x == x) (has x xs) (same x)) in cc)
 
 -- the nodes that pass the test are up, or the least that is down is refused
 pub keepers_refused : (up : ℕ → Bool) (n : ℕ) (test : ℕ → Bool) (o : Option NodeId) → ((x : ℕ) → test x ≡ true → x < n) → IsLeastDown up test o

@@ -1,6 +1,7 @@
 -- Gets that start and end.
 use Rattle.std.proofs.Common.{◌≡◌, ◌∙◌, ℕ, false, List, [], ◌∷◌, ◌++◌, length, refl, sym, ap, arith, ltb-true}
 use Rattle.std.specs.Prelude.{Some, None, Ok, slice_get}
+use Rattle.ring_names.proofs.InLists.{get_there}
 use Rattle.ring_table.specs.Value.{RingValue}
 use Rattle.ring_versions.specs.Puts.{ArePuts}
 use Rattle.plan_text.specs.declared.step.Planned.{Planned}
@@ -20,7 +21,6 @@ use Rattle.store_tells.specs.Puts.{clock_at}
 use Rattle.store_tells.proofs.GetsChanges.{gets_started, gets_answered, gets_ended}
 use Rattle.store_tells.proofs.GetsGuards.{end_get_tested}
 use Rattle.store_tells.proofs.PutsFrames.{puts_stay}
-use Rattle.store_tells.proofs.PutsLists.{there}
 use Rattle.store_tells.specs.Kept.{Kept, Tells}
 use Rattle.store_tells.proofs.StoreInWorld.{reached_of}
 use Rattle.store_events.specs.Gets.{end_guards_kept}
@@ -58,7 +58,7 @@ ends_there ring plan k w g m p none =
     let met = all_met (guards ring plan w (EndGet g)) p in
     let l = ltb-true g (length w.gets) met.0 in
     let e = m.gets.each in
-    let x = there k.gets g (omega arith) in
+    let x = get_there k.gets g (omega arith) in
     let f = x.1 in
     cc
 

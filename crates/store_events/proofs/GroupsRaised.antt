@@ -1,16 +1,15 @@
 -- Slots whose generation is raised, one after the other.
 use Rattle.std.proofs.Common.{◌≡◌, inl, inr, ◌∙◌, ℕ, ◌+◌, Bool, true, false, List, [], refl, sym, subst, arith, eqb-true, eq-eqb, ltb-true, lt-ltb, le-ltb}
 use Rattle.std.specs.Prelude.{◌↔◌, ◌==◌, ◌&&◌, ◌||◌, nat_lt, Option, Some, None, option_map, if◌then◌else◌}
-use Rattle.std.proofs.lemmas.Bool.{and_parts}
+use Rattle.std.proofs.lemmas.Bool.{and_parts, or_right, and_from, cases_lt, or_cases, or_left}
 use Rattle.ring_names.specs.declared.ids.Slot.{Slot}
+use Rattle.ring_names.proofs.Logic.{bool_same}
 use Rattle.ring_versions.specs.declared.version.Version.{Version}
 use Rattle.plan_text.specs.Steps.{is_slot}
-use Rattle.plan_stage.proofs.Truth.{all_of, either, first_of_two, second_of_two, slot-is, slot-same}
-use Rattle.plan_check.proofs.Prefix.{order}
+use Rattle.plan_stage.proofs.Truth.{slot-is, slot-same}
 use Rattle.store_tables.specs.declared.slots.SlotNow.{SlotNow}
 use Rattle.store_tables.specs.Slots.{slot_now, ChangesSlot}
 use Rattle.store_tells.specs.GuardsKept.{is_served_kept}
-use Rattle.store_tells.proofs.NodesDone.{alike}
 use Rattle.store_events.specs.Groups.{raised, RaisesGroup, RaisesGroups}
 
 -- what it says of a slot, over what holds of the slot before and after
@@ -98,29 +97,29 @@ row_next p i t e f =
     omega arith
 
 pub row_more : (p i : ℕ) (t : Slot) → in_row p (i + 1) t ≡ (in_row p i t || is_slot (record { partition = p; index = i }) t)
-row_more p i t = alike (in_row p (i + 1) t) (in_row p i t || is_slot (record { partition = p; index = i }) t) to from
+row_more p i t = bool_same (in_row p (i + 1) t) (in_row p i t || is_slot (record { partition = p; index = i }) t) to from
   where
     to : in_row p (i + 1) t ≡ true → (in_row p i t || is_slot (record { partition = p; index = i }) t) ≡ true
     to e =
         let b = and_parts (t.partition == p) (nat_lt t.index (i + 1)) e in
         let s = eqb-true t.partition p b.0 in
         let l = ltb-true t.index (i + 1) b.1 in
-        elim (order t.index i) [
-          | inl h ↦ first_of_two (in_row p i t) (is_slot (record { partition = p; index = i }) t) (all_of (t.partition == p) (nat_lt t.index i) b.0 (lt-ltb t.index i h))
-          | inr h ↦ second_of_two (in_row p i t) (is_slot (record { partition = p; index = i }) t) (all_of (p == t.partition) (i == t.index) (eq-eqb p t.partition (sym s)) (eq-eqb i t.index (omega arith)))
+        elim (cases_lt t.index i) [
+          | inl h ↦ or_left (in_row p i t) (is_slot (record { partition = p; index = i }) t) (and_from (t.partition == p) (nat_lt t.index i) b.0 (lt-ltb t.index i h))
+          | inr h ↦ or_right (in_row p i t) (is_slot (record { partition = p; index = i }) t) (and_from (p == t.partition) (i == t.index) (eq-eqb p t.partition (sym s)) (eq-eqb i t.index (omega arith)))
         ]
 
     from : (in_row p i t || is_slot (record { partition = p; index = i }) t) ≡ true → in_row p (i + 1) t ≡ true
-    from e = elim (either (in_row p i t) (is_slot (record { partition = p; index = i }) t) e) [
+    from e = elim (or_cases (in_row p i t) (is_slot (record { partition = p; index = i }) t) e) [
       | inl h ↦ (
           let b = and_parts (t.partition == p) (nat_lt t.index i) h in
           let l = ltb-true t.index i b.1 in
-          all_of (t.partition == p) (nat_lt t.index (i + 1)) b.0 (lt-ltb t.index (i + 1) (omega arith)))
+          and_from (t.partition == p) (nat_lt t.index (i + 1)) b.0 (lt-ltb t.index (i + 1) (omega arith)))
       | inr h ↦ (
           let b = and_parts (p == t.partition) (i == t.index) h in
           let s = eqb-true p t.partition b.0 in
           let j = eqb-true i t.index b.1 in
-          all_of (t.partition == p) (nat_lt t.index (i + 1)) (eq-eqb t.partition p (sym s)) (lt-ltb t.index (i + 1) (omega arith)))
+          and_from (t.partition == p) (nat_lt t.index (i + 1)) (eq-eqb t.partition p (sym s)) (lt-ltb t.index (i + 1) (omega arith)))
     ]
 
 -- the row of partition p is the next one
@@ -131,25 +130,25 @@ rows_next p n t e f =
     omega arith
 
 pub rows_more : (p n : ℕ) (t : Slot) → in_rows (p + 1) n t ≡ (in_rows p n t || in_row p n t)
-rows_more p n t = alike (in_rows (p + 1) n t) (in_rows p n t || in_row p n t) to from
+rows_more p n t = bool_same (in_rows (p + 1) n t) (in_rows p n t || in_row p n t) to from
   where
     to : in_rows (p + 1) n t ≡ true → (in_rows p n t || in_row p n t) ≡ true
     to e =
         let b = and_parts (nat_lt t.partition (p + 1)) (nat_lt t.index n) e in
         let l = ltb-true t.partition (p + 1) b.0 in
-        elim (order t.partition p) [
-          | inl h ↦ first_of_two (in_rows p n t) (in_row p n t) (all_of (nat_lt t.partition p) (nat_lt t.index n) (lt-ltb t.partition p h) b.1)
-          | inr h ↦ second_of_two (in_rows p n t) (in_row p n t) (all_of (t.partition == p) (nat_lt t.index n) (eq-eqb t.partition p (omega arith)) b.1)
+        elim (cases_lt t.partition p) [
+          | inl h ↦ or_left (in_rows p n t) (in_row p n t) (and_from (nat_lt t.partition p) (nat_lt t.index n) (lt-ltb t.partition p h) b.1)
+          | inr h ↦ or_right (in_rows p n t) (in_row p n t) (and_from (t.partition == p) (nat_lt t.index n) (eq-eqb t.partition p (omega arith)) b.1)
         ]
 
     from : (in_rows p n t || in_row p n t) ≡ true → in_rows (p + 1) n t ≡ true
-    from e = elim (either (in_rows p n t) (in_row p n t) e) [
+    from e = elim (or_cases (in_rows p n t) (in_row p n t) e) [
       | inl h ↦ (
           let b = and_parts (nat_lt t.partition p) (nat_lt t.index n) h in
           let l = ltb-true t.partition p b.0 in
-          all_of (nat_lt t.partition (p + 1)) (nat_lt t.index n) (lt-ltb t.partition (p + 1) (omega arith)) b.1)
+          and_from (nat_lt t.partition (p + 1)) (nat_lt t.index n) (lt-ltb t.partition (p + 1) (omega arith)) b.1)
       | inr h ↦ (
           let b = and_parts (t.partition == p) (nat_lt t.index n) h in
           let s = eqb-true t.partition p b.0 in
-          all_of (nat_lt t.partition (p + 1)) (nat_lt t.index n) (lt-ltb t.partition (p + 1) (omega arith)) b.1)
+          and_from (nat_lt t.partition (p + 1)) (nat_lt t.index n) (lt-ltb t.partition (p + 1) (omega arith)) b.1)
     ]

@@ -3,9 +3,10 @@ use Rattle.std.proofs.Common.{◌≡◌, inl, inr, ◌∙◌, ℕ, ◌<◌, ◌�
 use Rattle.std.specs.Prelude.{◌&&◌, ◌||◌, ◌==◌, ◌↔◌, Option, Some, None}
 use Rattle.std.specs.List.{list_any}
 use Rattle.std.proofs.Math.Bool.{or_assoc}
-use Rattle.std.proofs.lemmas.Bool.{and_parts}
+use Rattle.std.proofs.lemmas.Bool.{and_parts, or_right, and_from, or_cases, or_left, false_from_ne_true}
 use Rattle.ring_names.specs.declared.ids.NodeId.{NodeId}
 use Rattle.ring_names.specs.declared.ids.Slot.{Slot}
+use Rattle.ring_names.proofs.Logic.{or_false, bool_same}
 use Rattle.ring_table.specs.Value.{RingValue}
 use Rattle.ring_hints.specs.Views.{in_keepers}
 use Rattle.ring_versions.specs.declared.version.Version.{Version}
@@ -13,18 +14,17 @@ use Rattle.store_maps.specs.Chunks.{chunk_of}
 use Rattle.plan_text.specs.declared.step.Planned.{Planned}
 use Rattle.plan_text.specs.declared.step.Source.{Source}
 use Rattle.plan_text.specs.declared.step.Source.TheVariants.{Slots}
-use Rattle.plan_stage.proofs.Truth.{all_of, either, first_of_two, second_of_two, same}
+use Rattle.plan_stage.proofs.Truth.{same}
 use Rattle.plan_check.specs.Guards.{keeps_source}
 use Rattle.plan_check.specs.Versions.{is_in_chunk}
 use Rattle.plan_check.specs.World.{World, some_below, slot_at}
 use Rattle.store_tables.specs.Nodes.{is_up_at}
-use Rattle.store_tells.proofs.NodesDone.{alike}
 use Rattle.store_tells.specs.Kept.{Kept, Tells}
 use Rattle.store_tells.specs.Parts.{ring_of, Meets}
 use Rattle.store_tells.specs.declared.parts.Parts.{Parts}
 use Rattle.store_tells.proofs.WhoKeepsHints.{both_tell, chunk_tells}
 use Rattle.store_events.specs.ChunkKeepers.{keeps_part, IsLeastDown, Lessens}
-use Rattle.store_events.proofs.ChunkSources.{or_no, any_map, some_node, named_node}
+use Rattle.store_events.proofs.ChunkSources.{any_map, some_node, named_node}
 
 -- ---- one node more
 
@@ -35,8 +35,8 @@ module _ (up : ℕ → Bool) where
 
   -- nodes that are all up change nothing
   pub more_up : (o : Option NodeId) (f g : ℕ → Bool) → ((x : ℕ) → g x ≡ true → up x ≡ true) → IsLeastDown up f o → IsLeastDown up (λ x. f x || g x) o
-  more_up None f g are h = λ x t. elim (either (f x) (g x) t) [ inl e ↦ h x e | inr e ↦ are x e ]
-  more_up (Some y) f g are h = (first_of_two (f y.0) (g y.0) h.0, h.1, λ x l t. elim (either (f x) (g x) t) [ inl e ↦ h.2 x l e | inr e ↦ are x e ])
+  more_up None f g are h = λ x t. elim (or_cases (f x) (g x) t) [ inl e ↦ h x e | inr e ↦ are x e ]
+  more_up (Some y) f g are h = (or_left (f y.0) (g y.0) h.0, h.1, λ x l t. elim (or_cases (f x) (g x) t) [ inl e ↦ h.2 x l e | inr e ↦ are x e ])
 
   module _ (f : ℕ → Bool) (n : NodeId) (keeps : Bool) where
     -- a node that is up, or keeps nothing
@@ -48,14 +48,14 @@ module _ (up : ℕ → Bool) where
 
     module _ (down : up n.0 ≡ false) (hints : keeps ≡ true) where
       mine : (f n.0 || ((n.0 == n.0) && keeps)) ≡ true
-      mine = second_of_two (f n.0) ((n.0 == n.0) && keeps) (all_of (n.0 == n.0) keeps (same n.0) hints)
+      mine = or_right (f n.0) ((n.0 == n.0) && keeps) (and_from (n.0 == n.0) keeps (same n.0) hints)
 
       -- the first that is found
       pub less_first : IsLeastDown up f None → IsLeastDown up (λ x. f x || ((x == n.0) && keeps)) (Some n)
       less_first h = (
         mine,
         down,
-        λ x l t. elim (either (f x) ((x == n.0) && keeps) t) [
+        λ x l t. elim (or_cases (f x) ((x == n.0) && keeps) t) [
           | inl e ↦ h x e
           | inr e ↦ absurd (let is = eqb-true x n.0 (and_parts (x == n.0) keeps e).0 in omega arith)
         ],
@@ -64,9 +64,9 @@ module _ (up : ℕ → Bool) where
       -- one that is not less than the one that was found
       pub less_old : (y : NodeId) → y.0 < n.0 → IsLeastDown up f (Some y) → IsLeastDown up (λ x. f x || ((x == n.0) && keeps)) (Some y)
       less_old y less h = (
-        first_of_two (f y.0) ((y.0 == n.0) && keeps) h.0,
+        or_left (f y.0) ((y.0 == n.0) && keeps) h.0,
         h.1,
-        λ x l t. elim (either (f x) ((x == n.0) && keeps) t) [
+        λ x l t. elim (or_cases (f x) ((x == n.0) && keeps) t) [
           | inl e ↦ h.2 x l e
           | inr e ↦ absurd (let is = eqb-true x n.0 (and_parts (x == n.0) keeps e).0 in omega arith)
         ],
@@ -77,7 +77,7 @@ module _ (up : ℕ → Bool) where
       less_new y less h = (
         mine,
         down,
-        λ x l t. elim (either (f x) ((x == n.0) && keeps) t) [
+        λ x l t. elim (or_cases (f x) ((x == n.0) && keeps) t) [
           | inl e ↦ h.2 x (omega arith) e
           | inr e ↦ absurd (let is = eqb-true x n.0 (and_parts (x == n.0) keeps e).0 in omega arith)
         ],
@@ -97,11 +97,11 @@ module _ (a : Parts) where
   lessens_same old new f g is h w m t had = other_nodes (is_up_at a.nodes) new (λ x. t x || f w x) (λ x. t x || g w x) (λ x. ap (λ (b : Bool). t x || b) (is w m x)) (h w m t had)
 
   pub lessens_no : (old : Option NodeId) (f : World → ℕ → Bool) → ((w : World) → Meets a w → (x : ℕ) → f w x ≡ false) → Lessens a old old f
-  lessens_no old f no_nodes w m t had = other_nodes (is_up_at a.nodes) old t (λ x. t x || f w x) (λ x. sym (ap (λ (b : Bool). t x || b) (no_nodes w m x) ∙ or_no (t x))) had
+  lessens_no old f no_nodes w m t had = other_nodes (is_up_at a.nodes) old t (λ x. t x || f w x) (λ x. sym (ap (λ (b : Bool). t x || b) (no_nodes w m x) ∙ or_false (t x))) had
 
   module _ {A : Type 0} (test : World → A → ℕ → Bool) (all : List A) (old : Option NodeId) where
     pub lessening_first : Lessening a test all old old all
-    lessening_first w m f had = ((λ x. false), other_nodes (is_up_at a.nodes) old f (λ x. f x || false) (λ x. sym (or_no (f x))) had, λ x. refl)
+    lessening_first w m f had = ((λ x. false), other_nodes (is_up_at a.nodes) old f (λ x. f x || false) (λ x. sym (or_false (f x))) had, λ x. refl)
 
     pub lessening_more : (mid new : Option NodeId) (rest later : List A) (y : A) → rest ≡ y ∷ later → Lessens a mid new (λ w. test w y) → Lessening a test all old mid rest → Lessening a test all old new later
     lessening_more mid new rest later y is h g w m f had =
@@ -115,18 +115,13 @@ module _ (a : Parts) where
     lessening_all new rest is g w m f had =
         let p = g w m f had in
         other_nodes (is_up_at a.nodes) new (λ x. f x || p.0 x) (λ x. f x || list_any (λ y. test w y x) all)
-        (λ x. ap (λ (b : Bool). f x || b) (sym (or_no (p.0 x)) ∙ sym (ap (λ (ys : List A). p.0 x || list_any (λ y. test w y x) ys) is) ∙ p.2 x)) p.1
+        (λ x. ap (λ (b : Bool). f x || b) (sym (or_false (p.0 x)) ∙ sym (ap (λ (ys : List A). p.0 x || list_any (λ y. test w y x) ys) is) ∙ p.2 x)) p.1
 
   -- from nothing
   pub least_of : (o : Option NodeId) (f : World → ℕ → Bool) → Lessens a None o f → (w : World) → Meets a w → IsLeastDown (is_up_at a.nodes) (f w) o
   least_of o f h w m = h w m (λ x. false) (λ x t. absurd cc)
 
 -- ---- what keepers keep
-
--- no test of a number is passed where nothing is kept
-none_of : (b : Bool) → (b ≡ true → ⊥) → b ≡ false
-none_of true h = absurd (h refl)
-none_of false h = refl
 
 module _ (ring : RingValue) (plan : List Planned) (k : Kept) (w : World) (m : Tells ring plan k w) (slot : Slot) (c : ℕ) where
   -- what is said of the keys of the chunk alone
@@ -151,19 +146,19 @@ module _ (ring : RingValue) (plan : List Planned) (k : Kept) (w : World) (m : Te
   -- those that keep anything for the slot are its keepers
   pub keepers_keep : (nodes : List NodeId) → ((x : ℕ) → (in_keepers x nodes ≡ false) ↔ ((key : List ℕ) → k.hinted x slot key ≡ []))
       → (x : ℕ) → list_any (λ y. (x == y.0) && keeps_part ring w slot c y.0) nodes ≡ keeps_part ring w slot c x
-  keepers_keep nodes keepers x = alike (list_any (λ y. (x == y.0) && keeps_part ring w slot c y.0) nodes) (keeps_part ring w slot c x)
+  keepers_keep nodes keepers x = bool_same (list_any (λ y. (x == y.0) && keeps_part ring w slot c y.0) nodes) (keeps_part ring w slot c x)
       (λ h.
       let y = some_node (λ y. (x == y.0) && keeps_part ring w slot c y.0) nodes h in
       let p = and_parts (x == y.0.0) (keeps_part ring w slot c y.0.0) y.1 in
       subst (λ (z : ℕ). keeps_part ring w slot c z ≡ true) (sym (eqb-true x y.0.0 p.0)) p.1)
-      (λ h. named_node (λ y. (x == y.0) && keeps_part ring w slot c y.0) x nodes (there h (in_keepers x nodes) refl) (all_of (x == x) (keeps_part ring w slot c x) (same x) h))
+      (λ h. named_node (λ y. (x == y.0) && keeps_part ring w slot c y.0) x nodes (there h (in_keepers x nodes) refl) (and_from (x == x) (keeps_part ring w slot c x) (same x) h))
     where
       there : keeps_part ring w slot c x ≡ true → (b : Bool) → in_keepers x nodes ≡ b → in_keepers x nodes ≡ true
       there h true e = e
       there h false e = absurd (part_some x h ((keepers x).0 e))
 
   pub none_keep : ((x : ℕ) (key : List ℕ) → k.hinted x slot key ≡ []) → (x : ℕ) → keeps_part ring w slot c x ≡ false
-  none_keep empty x = none_of (keeps_part ring w slot c x) (λ e. part_some x e (empty x))
+  none_keep empty x = false_from_ne_true (keeps_part ring w slot c x) (λ e. part_some x e (empty x))
 
 -- those that keep something of the chunk for listed slots
 pub least_in_slots : (a : Parts) (c : ℕ) (slot : Slot) (read from : List ℕ) (source : Source) (o : Option NodeId) → read ≡ from → source ≡ Slots from

@@ -4,12 +4,10 @@ use Rattle.std.specs.Prelude.{nat_lt, ◌==◌, None, slice_get}
 use Rattle.std.proofs.lemmas.List.{nil_from_length}
 use Rattle.std.proofs.lemmas.Bool.Decides.{nat_tests}
 use Rattle.std.proofs.lemmas.Option.{slice_get_cases}
+use Rattle.std.proofs.lemmas.Bool.{le-ltb}
 
 pub is_less : (x y : ℕ) → x < y → nat_lt x y ≡ true
 is_less x y h = grind (arith, nat_tests)
-
-pub not_less : (x y : ℕ) → y ≤ x → nat_lt x y ≡ false
-not_less x y h = grind (arith, nat_tests)
 
 -- where no item is read there is none
 pub none_there : {A : Type 0} (xs : List A) (n : ℕ) → slice_get xs n ≡ None → length xs ≤ n

@@ -1,7 +1,7 @@
 -- The nodes of a copy that is ready and not finished are the slot's mirror now and the owners now of the slots that it reads.
 use Rattle.std.proofs.Common.{◌≡◌, inl, inr, ◌∙◌, ℕ, ◌+◌, ◌-◌, ◌<◌, ◌≤◌, Bool, true, false, cond, List, [], ◌∷◌, length, get_or, drop, map, refl, sym, ap, subst, arith, eqb-true, eq-eqb, ltb-true, lt-ltb, ltb-false}
 use Rattle.std.specs.Prelude.{◌==◌, nat_lt, Option, Some, None, slice_get, option_map, option_and_then}
-use Rattle.std.proofs.lemmas.Bool.{and_parts}
+use Rattle.std.proofs.lemmas.Bool.{and_parts, or_right, and_from, cases_lt}
 use Rattle.std.proofs.lemmas.List.{drop_more}
 use Rattle.ring_names.specs.Lists.{has}
 use Rattle.ring_names.specs.declared.ids.NodeId.{NodeId}
@@ -21,14 +21,12 @@ use Rattle.plan_stage.specs.Stage.{stage, with_node}
 use Rattle.plan_stage.specs.Parties.{stage_before, source_slots, owners_before, sources_of, target_of, with_target, parties}
 use Rattle.plan_stage.specs.Each.{step_at, sibling}
 use Rattle.plan_stage.specs.Clauses.{first_failing}
-use Rattle.plan_stage.proofs.Truth.{all_of, second_of_two, slot-same, same, list_all-met}
+use Rattle.plan_stage.proofs.Truth.{slot-same, same, list_all-met}
 use Rattle.plan_check.specs.World.{World, slot_at, stage_now}
 use Rattle.plan_check.specs.Guards.{up_guard, parties_up}
 use Rattle.plan_check.specs.Reached.{Ready}
-use Rattle.plan_check.proofs.Groups.{on_steps}
 use Rattle.plan_check.proofs.Mirrored.{Known, known}
 use Rattle.plan_check.proofs.Partakers.{own_count, owner_same}
-use Rattle.plan_check.proofs.Prefix.{order}
 use Rattle.store_tables.specs.declared.slots.SlotNow.{SlotNow}
 use Rattle.store_tables.specs.Nodes.{is_up_at}
 use Rattle.store_tells.proofs.NodesNow.{nodes_meet}
@@ -37,6 +35,7 @@ use Rattle.store_tells.proofs.StageSuits.{step_suiting}
 use Rattle.store_tells.specs.Kept.{Kept, Tells}
 use Rattle.store_tells.proofs.StoreInWorld.{reached_of, suits_of}
 use Rattle.store_events.specs.Parties.{owner_kept, mirror_kept, party_kept, lesser, with_down, least_down}
+use Rattle.plan_stage.proofs.Holders.{has-from}
 
 -- ---- the first of a list that is down
 
@@ -68,7 +67,7 @@ Rise (x ∷ xs) = RiseAbove x.0 xs
 
 -- a number that is not below another one and is not that one is above it
 past : (m n : ℕ) → nat_lt m n ≡ false → (m == n) ≡ false → n < m
-past m n f g = elim (order n m) [
+past m n f g = elim (cases_lt n m) [
   | inl h ↦ h
   | inr h ↦ absurd (
       let k = ltb-false m n f in
@@ -198,7 +197,7 @@ owners_first ring plan rows n up (t ∷ ts) are =
 listed_owners : (ring : RingValue) (plan : List Planned) (rows : List (List SlotNow)) (n : ℕ) (slot : Slot) (from : List ℕ) → ((j : ℕ) → has j from ≡ true → owner_kept rows (sibling slot j) ≡ Some (stage_before ring plan (sibling slot j) n).owner)
     → AreOwners ring plan rows n (map (λ i. record { partition = slot.partition; index = i }) from)
 listed_owners ring plan rows n slot [] h = tt
-listed_owners ring plan rows n slot (i ∷ from) h = (h i (rw (same i) refl), listed_owners ring plan rows n slot from (λ j e. h j (second_of_two (j == i) (has j from) e)))
+listed_owners ring plan rows n slot (i ∷ from) h = (h i (rw (same i) refl), listed_owners ring plan rows n slot from (λ j e. h j (or_right (j == i) (has j from) e)))
 
 -- ---- a copy that is ready and not finished
 
@@ -218,7 +217,7 @@ module _ (ring : RingValue) (plan : List Planned) (k : Kept) (w : World) (m : Te
   own : Ready plan w.done n → w.done n ≡ false → stage_now ring plan w slot ≡ stage_before ring plan slot n
   own ready off =
       let z : 0 + n ≡ n = omega arith in
-      let on : has n (steps_of plan slot) ≡ true = subst (λ (j : ℕ). has j (steps_of plan slot) ≡ true) z (on_steps 0 n plan slot (Copy slot source) at (slot-same slot)) in
+      let on : has n (steps_of plan slot) ≡ true = subst (λ (j : ℕ). has j (steps_of plan slot) ≡ true) z (has-from 0 n plan slot (Copy slot source) at (slot-same slot)) in
       ap (stage ring plan slot) (own_count ring plan is_known w.done n slot (reached_of ring plan k w m).closed ready off on)
 
   -- the owner that is kept of a slot of the ring is the one now
@@ -231,7 +230,7 @@ module _ (ring : RingValue) (plan : List Planned) (k : Kept) (w : World) (m : Te
   owners_are : Ready plan w.done n → w.done n ≡ false → (from : Source) → step_at plan n ≡ Some (Copy slot from) → source_suits ring from ≡ true → AreOwners ring plan k.rows n (source_slots slot from)
   owners_are ready off Owner e suits = (owner_is slot fits.0 ∙ ap (λ (a : Stage). Some a.owner) (own ready off), tt)
   owners_are ready off (Slots from) e suits = listed_owners ring plan k.rows n slot from (λ j h.
-      owner_is (sibling slot j) (all_of (nat_lt slot.partition ring.q) (nat_lt j ring.n) (and_parts (nat_lt slot.partition ring.q) (nat_lt slot.index ring.n) fits.0).0 (list_all-met (λ i. nat_lt i ring.n) from suits j h))
+      owner_is (sibling slot j) (and_from (nat_lt slot.partition ring.q) (nat_lt j ring.n) (and_parts (nat_lt slot.partition ring.q) (nat_lt slot.index ring.n) fits.0).0 (list_all-met (λ i. nat_lt i ring.n) from suits j h))
       ∙ ap (λ (y : NodeId). Some y) (owner_same ring plan is_known w.done n (sibling slot j) (reached_of ring plan k w m).closed ready off (λ i s. is_known.meets.settled n i j slot from e h s)))
 
   -- the least of its nodes that is down is told by the slots that are kept

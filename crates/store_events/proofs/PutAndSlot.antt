@@ -1,7 +1,7 @@
 -- What is kept of a put and of the slot that it goes to.
 use Rattle.std.proofs.Common.{◌≡◌, inl, inr, ◌∙◌, ℕ, ◌<◌, ◌≤◌, Bool, true, false, List, [], length, refl, sym, ap, subst, arith, ltb-true, lt-ltb}
 use Rattle.std.specs.Prelude.{◌≢◌, nat_lt, Option, Some, None, slice_get, option_map, is_some, IfSome}
-use Rattle.std.proofs.lemmas.Bool.{and_parts}
+use Rattle.std.proofs.lemmas.Bool.{and_parts, and_from}
 use Rattle.std.proofs.lemmas.Option.{slice_get_cases}
 use Rattle.std.proofs.Props.{props}
 use Rattle.ring_names.specs.declared.ids.NodeId.{NodeId}
@@ -12,7 +12,6 @@ use Rattle.ring_table.specs.Value.{RingValue}
 use Rattle.store_maps.specs.Chunks.{chunk_of}
 use Rattle.plan_text.specs.declared.step.Planned.{Planned}
 use Rattle.plan_text.specs.Valid.{is_ring_slot}
-use Rattle.plan_stage.proofs.Truth.{all_of}
 use Rattle.plan_check.specs.World.{PutRecord, World, key_of_put, slot_at}
 use Rattle.plan_check.specs.Guards.{put_exists}
 use Rattle.plan_check.specs.Versions.{put_slot}
@@ -86,7 +85,7 @@ module _ (ring : RingValue) (plan : List Planned) (k : Kept) (w : World) (m : Te
     -- it exists with every slot index of the ring
     pub exists : (i : ℕ) → i < ring.n → put_exists ring w v i ≡ true
     exists i l = sym (same_has_put ring k.keys k.last k.puts w v i m.puts)
-        ∙ all_of (nat_lt v (length k.puts)) (nat_lt i ring.n) (lt-ltb v (length k.puts) (within k.puts v put at)) (lt-ltb i ring.n l)
+        ∙ and_from (nat_lt v (length k.puts)) (nat_lt i ring.n) (lt-ltb v (length k.puts) (within k.puts v put at)) (lt-ltb i ring.n l)
 
   -- ---- a put that is not
 
@@ -124,7 +123,7 @@ module _ (ring : RingValue) (plan : List Planned) (k : Kept) (w : World) (m : Te
     put_kept none = (let f = exists_not v i none in cc)
 
     pub put_slot_in_ring : (p : ℕ) → p < ring.q → is_ring_slot ring (slot_at p i) ≡ true
-    put_slot_in_ring p l = all_of (nat_lt p ring.q) (nat_lt i ring.n) (lt-ltb p ring.q l) (lt-ltb i ring.n index_within)
+    put_slot_in_ring p l = and_from (nat_lt p ring.q) (nat_lt i ring.n) (lt-ltb p ring.q l) (lt-ltb i ring.n index_within)
 
   -- ---- a slot of the ring
 

@@ -1,32 +1,24 @@
 -- Versions by node, slot and key that show what an event brings.
-use Rattle.std.proofs.Common.{◌≡◌, inl, inr, ◌∙◌, ℕ, Bool, true, false, not, cond, List, [], ◌∷◌, refl, sym, ap, subst, eqb-true, eq-eqb}
+use Rattle.std.proofs.Common.{◌≡◌, inl, inr, ◌∙◌, ℕ, Bool, true, false, not, cond, List, [], ◌∷◌, refl, sym, ap, subst, eqb-true}
 use Rattle.std.specs.Prelude.{◌&&◌, ◌||◌, ◌==◌, Option, Some, None}
 use Rattle.std.specs.Str.{bytes_eq}
-use Rattle.std.proofs.lemmas.Bool.{and_parts}
+use Rattle.std.proofs.lemmas.Bool.{and_parts, or_cases}
 use Rattle.ring_names.specs.declared.ids.NodeId.{NodeId}
 use Rattle.ring_names.specs.declared.ids.Slot.{Slot}
+use Rattle.ring_names.proofs.Logic.{eqb_turned, bool_same}
 use Rattle.ring_clock.specs.declared.entry.Entry.{Entry}
 use Rattle.ring_versions.specs.declared.version.Version.{Version}
 use Rattle.plan_text.specs.Steps.{is_slot}
-use Rattle.plan_stage.proofs.Truth.{either}
 use Rattle.plan_check.specs.World.{World, is_of_key, key_of_put}
 use Rattle.plan_check.specs.Effects.{without_puts}
 use Rattle.store_maps.specs.Merges.{at_key}
 use Rattle.ring_store.specs.Nodes.{at_nodes, at_node}
 use Rattle.ring_store.specs.Slots.{at_slot}
 use Rattle.ring_hints.specs.Views.{is_of, pair_of}
-use Rattle.store_tells.proofs.NodesDone.{alike}
 use Rattle.store_tells.specs.Shows.{Shows, value_of}
 use Rattle.store_tells.specs.Stored.{ShowAll, at_mirror}
 use Rattle.store_tells.specs.Stored as stored
 use Rattle.store_tells.proofs.ShownSets.{none, one, other_test}
-
--- two numbers are one, whichever is named first
-pub turned : (a b : ℕ) → (a == b) ≡ (b == a)
-turned a b = alike (a == b) (b == a) (λ h. by a b (eqb-true a b h)) (λ h. by b a (eqb-true b a h))
-  where
-    by : (x y : ℕ) → x ≡ y → (y == x) ≡ true
-    by x y e = eq-eqb y x (sym e)
 
 -- ---- one put
 
@@ -103,7 +95,7 @@ kept_cond false false s vs e = refl
 pub pair_shows : (w : World) (clock : ℕ → List Entry) (node : NodeId) (slot : Slot) (versions : List ℕ → List Version) (more : ℕ → Bool)
     → ((k : List ℕ) → Shows clock (value_of w) (versions k) (λ v. more v && is_of_key w k v)) → ShowAll w clock (λ y t k. cond (is_of (pair_of node.0 slot) y t) (versions k) []) (stored.at_node node slot more)
 pair_shows w clock node slot versions more shows y t k =
-    subst (λ (vs : List Version). Shows clock (value_of w) vs (λ v. stored.at_node node slot more y t v && is_of_key w k v)) (sym (kept_cond (node.0 == y) (y == node.0) (is_slot slot t) (versions k) (turned node.0 y)))
+    subst (λ (vs : List Version). Shows clock (value_of w) vs (λ v. stored.at_node node slot more y t v && is_of_key w k v)) (sym (kept_cond (node.0 == y) (y == node.0) (is_slot slot t) (versions k) (eqb_turned node.0 y)))
     (node_shows w clock node slot versions more shows y t k)
 
 -- where all that the node kept for the slot is gone, the rest shows the rest
@@ -111,7 +103,7 @@ pub rest_shows : (w : World) (clock : ℕ → List Entry) (node : NodeId) (slot 
     → ((y : ℕ) (t : Slot) (k : List ℕ) → new y t k ≡ cond (is_of (pair_of node.0 slot) y t) [] (held y t k)) → ShowAll w clock held test → ShowAll w clock new (without_puts test node slot)
 rest_shows w clock node slot held new test gone shows y t k =
     subst (λ (vs : List Version). Shows clock (value_of w) vs (λ v. without_puts test node slot y t v && is_of_key w k v)) (sym (gone y t k))
-    (by (node.0 == y) (y == node.0) (is_slot slot t) (turned node.0 y))
+    (by (node.0 == y) (y == node.0) (is_slot slot t) (eqb_turned node.0 y))
   where
     by : (p q s : Bool) → p ≡ q → Shows clock (value_of w) (cond (p && s) [] (held y t k)) (λ v. (not (q && s) && test y t v) && is_of_key w k v)
     by true true true e = none clock (value_of w)
@@ -130,7 +122,7 @@ node_come node slot more y t v h = (and_parts ((y == node.0) && is_slot slot t) 
 pub served_come : (owner : NodeId) (mirror : Option NodeId) (slot : Slot) (more : ℕ → Bool) (y : ℕ) (t : Slot) (v : ℕ)
     → (at_mirror mirror slot more y t v || stored.at_node owner slot more y t v) ≡ true → more v ≡ true
 served_come owner None slot more y t v h = node_come owner slot more y t v h
-served_come owner (Some mirror) slot more y t v h = elim (either (stored.at_node mirror slot more y t v) (stored.at_node owner slot more y t v) h) [
+served_come owner (Some mirror) slot more y t v h = elim (or_cases (stored.at_node mirror slot more y t v) (stored.at_node owner slot more y t v) h) [
   | inl a ↦ node_come mirror slot more y t v a
   | inr b ↦ node_come owner slot more y t v b
 ]

@@ -1,10 +1,11 @@
 -- What a slot has of a get's key.
 use Rattle.std.proofs.Common.{◌≡◌, inl, inr, ◌∙◌, ℕ, ◌<◌, true, List, [], length, refl, sym, ap, subst, arith, ltb-true}
 use Rattle.std.specs.Prelude.{◌&&◌, nat_lt, Option, Some, None, slice_get, option_map}
-use Rattle.std.proofs.lemmas.Bool.{and_parts}
+use Rattle.std.proofs.lemmas.Bool.{and_parts, or_right, and_from, or_cases, or_left}
 use Rattle.std.proofs.lemmas.Option.{slice_get_within}
 use Rattle.ring_names.specs.declared.ids.NodeId.{NodeId}
 use Rattle.ring_names.specs.declared.ids.Slot.{Slot}
+use Rattle.ring_names.proofs.InLists.{get_there}
 use Rattle.ring_space.specs.Place.{place_of}
 use Rattle.ring_space.specs.declared.found.Place.{Place}
 use Rattle.ring_table.specs.Value.{RingValue}
@@ -14,7 +15,6 @@ use Rattle.store_maps.specs.Chunks.{chunk_of}
 use Rattle.plan_text.specs.declared.step.Planned.{Planned}
 use Rattle.plan_text.specs.Valid.{is_ring_slot}
 use Rattle.plan_stage.specs.Clauses.{first_failing}
-use Rattle.plan_stage.proofs.Truth.{all_of, either, first_of_two, second_of_two}
 use Rattle.plan_check.specs.declared.event.Event.TheVariants.{Read}
 use Rattle.plan_check.specs.World.{GetRecord, World, stage_now, slot_at, key_of_get, is_of_key}
 use Rattle.plan_check.specs.Versions.{get_slot, some_hinted, slot_has}
@@ -29,7 +29,6 @@ use Rattle.store_tables.specs.declared.slots.SlotNow.{SlotNow}
 use Rattle.store_tables.specs.Slots.{slot_now}
 use Rattle.store_tells.specs.Puts.{clock_at}
 use Rattle.store_tells.proofs.GetsChanges.{kept_get}
-use Rattle.store_tells.proofs.PutsLists.{there}
 use Rattle.store_tells.specs.Kept.{Kept, Tells}
 use Rattle.store_tells.proofs.StoreInWorld.{slot_there}
 use Rattle.store_events.specs.Keepers.{MergesOthers}
@@ -38,7 +37,7 @@ use Rattle.store_tells.proofs.KeepersDeclared.{keeper_within}
 use Rattle.store_events.proofs.NumberTests.{is_less}
 
 module _ (ring : RingValue) (plan : List Planned) (k : Kept) (w : World) (m : Tells ring plan k w) where
-  -- the key of a get that is there has a number
+  -- the key of a get that is get_there has a number
   pub get_key_there : (g : ℕ) (get : GetNow) → slice_get k.gets g ≡ Some get → get.key < length k.keys
   get_key_there g get is = (let x = kept_get ring (clock_at k.puts) k.keys k.gets w g get m.gets is in slice_get_within k.keys get.key x.0.key x.2.key)
 
@@ -52,7 +51,7 @@ module _ (ring : RingValue) (plan : List Planned) (k : Kept) (w : World) (m : Te
       let same : place_of ring.q (key_of_get w g) ≡ place = (let f = ap (option_map (place_of ring.q)) at in cc) in
       (at, same, subst (λ (z : Place). z.partition < ring.q) same (m.placed get.key (key_of_get w g) at))
 
-  -- a get that may read a slot is there, and so is the slot
+  -- a get that may read a slot is get_there, and so is the slot
   pub reads_there : (g i : ℕ) → first_failing (guards ring plan w (Read g i)) ≡ None → (slice_get k.gets g ≡ None → ⊥) × (i < ring.n)
   unfolding guards
   reads_there g i p =
@@ -60,7 +59,7 @@ module _ (ring : RingValue) (plan : List Planned) (k : Kept) (w : World) (m : Te
       let both = and_parts (nat_lt g (length w.gets)) (nat_lt i ring.n) met.0 in
       let l = ltb-true g (length w.gets) both.0 in
       let e = m.gets.each in
-      let x = there k.gets g (omega arith) in
+      let x = get_there k.gets g (omega arith) in
       (λ none. (let f = x.1 in cc), ltb-true i ring.n both.1)
 
   -- what the slot's owner stores, by the owner in the world
@@ -81,20 +80,20 @@ module _ (ring : RingValue) (plan : List Planned) (k : Kept) (w : World) (m : Te
           | inl old ↦ (
               let d = (m.stored o slot key).drawn x (subst (λ (xs : List Version). IsIn x xs) mine old) in
               let b = and_parts (w.stored o slot x.put) (is_of_key w key x.put) d.0 in
-              (all_of (is_of_key w key x.put) (slot_has ring plan w slot x.put) b.1 (first_of_two (w.stored o slot x.put) (some_hinted ring w slot x.put) b.0), d.1, d.2))
+              (and_from (is_of_key w key x.put) (slot_has ring plan w slot x.put) b.1 (or_left (w.stored o slot x.put) (some_hinted ring w slot x.put) b.0), d.1, d.2))
           | inr h ↦ (
               let d = (m.hinted h.0 slot key).drawn x h.1 in
               let b = and_parts (w.hinted h.0 slot x.put) (is_of_key w key x.put) d.0 in
               let some : some_hinted ring w slot x.put ≡ true = some_is (length ring.nodes) (λ y. w.hinted y slot x.put) h.0 (keeper_within ring plan k w m h.0 slot x.put b.0) b.0 in
-              (all_of (is_of_key w key x.put) (slot_has ring plan w slot x.put) b.1 (second_of_two (w.stored o slot x.put) (some_hinted ring w slot x.put) some), d.1, d.2))
+              (and_from (is_of_key w key x.put) (slot_has ring plan w slot x.put) b.1 (or_right (w.stored o slot x.put) (some_hinted ring w slot x.put) some), d.1, d.2))
         ];
         covers = λ v t. (
             let b = and_parts (is_of_key w key v) (slot_has ring plan w slot v) t in
-            elim (either (w.stored o slot v) (some_hinted ring w slot v) b.1) [
-              | inl e ↦ g.mine (clock_at k.puts v) (subst (λ (xs : List Version). Covers xs (clock_at k.puts v)) (sym mine) ((m.stored o slot key).covers v (all_of (w.stored o slot v) (is_of_key w key v) e b.0)))
+            elim (or_cases (w.stored o slot v) (some_hinted ring w slot v) b.1) [
+              | inl e ↦ g.mine (clock_at k.puts v) (subst (λ (xs : List Version). Covers xs (clock_at k.puts v)) (sym mine) ((m.stored o slot key).covers v (and_from (w.stored o slot v) (is_of_key w key v) e b.0)))
               | inr e ↦ (
                   let f = some_found (length ring.nodes) (λ y. w.hinted y slot v) e in
-                  g.theirs f.0 (clock_at k.puts v) refl ((m.hinted f.0 slot key).covers v (all_of (w.hinted f.0 slot v) (is_of_key w key v) f.2 b.0)))
+                  g.theirs f.0 (clock_at k.puts v) refl ((m.hinted f.0 slot key).covers v (and_from (w.hinted f.0 slot v) (is_of_key w key v) f.2 b.0)))
             ]);
         apart = g.apart;
       }
@@ -107,7 +106,7 @@ module _ (ring : RingValue) (plan : List Planned) (k : Kept) (w : World) (m : Te
   finds_shown g i get place key all is lies at l merged =
       let f = get_key_is g get place is lies in
       let own : key ≡ key_of_get w g = (let e = f.0 in cc) in
-      let within : is_ring_slot ring (slot_at place.partition i) ≡ true = all_of (nat_lt place.partition ring.q) (nat_lt i ring.n) (is_less place.partition ring.q f.2) (is_less i ring.n l) in
+      let within : is_ring_slot ring (slot_at place.partition i) ≡ true = and_from (nat_lt place.partition ring.q) (nat_lt i ring.n) (is_less place.partition ring.q f.2) (is_less i ring.n l) in
       let shown = slot_shown (slot_at place.partition i) key all within merged in
       let by_slot = subst (λ (z : Place). Shows (clock_at k.puts) (value_of w) all (λ v. is_of_key w key v && slot_has ring plan w (slot_at z.partition i) v)) (sym f.1) shown in
       subst (λ (z : List ℕ). Shows (clock_at k.puts) (value_of w) all (λ v. is_of_key w z v && slot_has ring plan w (get_slot ring w g i) v)) own by_slot

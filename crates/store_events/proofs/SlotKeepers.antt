@@ -5,7 +5,7 @@ use Rattle.std.specs.List.{AllByRecursion}
 use Rattle.std.specs.List.Sorted.{IsStrictlySortedBy}
 use Rattle.std.specs.declared.cmp.Ordering.TheVariants.{Less}
 use Rattle.std.specs.Ordering.{nat_cmp}
-use Rattle.std.proofs.lemmas.Bool.{cases_Bool}
+use Rattle.std.proofs.lemmas.Bool.{cases_Bool, or_cases}
 use Rattle.std.proofs.lemmas.Bool.Decides.{nat_tests}
 use Rattle.ring_names.specs.contracts.ids.NodeIdOrd.TheImpl as node_order
 use Rattle.ring_names.specs.declared.ids.NodeId.{NodeId}
@@ -13,10 +13,10 @@ use Rattle.ring_names.specs.declared.refusal.Refusal.TheVariants.{NodeDown}
 use Rattle.ring_clock.specs.declared.entry.Entry.{Entry}
 use Rattle.ring_versions.specs.declared.version.Version.{Version}
 use Rattle.ring_versions.specs.Versions.{IsIn, Covers, IsApart, IsMerge}
-use Rattle.plan_stage.proofs.Truth.{either}
 use Rattle.ring_hints.specs.Views.{in_keepers}
 use Rattle.ring_hints.proofs.KeeperSets.{node_tie, equal}
 use Rattle.store_events.specs.Keepers.{IsFirstDown, MergesOthers}
+use Rattle.ring_hints.proofs.KeepersMerged.{left_out}
 
 -- ---- the first that is down, among keepers in order
 
@@ -27,9 +27,6 @@ pub record Passing (up : ℕ → Bool) (held : ℕ → List Version) (keys rest 
 
 pub passing_none : (up : ℕ → Bool) (held : ℕ → List Version) (keys : List NodeId) → IsStrictlySortedBy ((node_order.ghosts).cmp) keys → Passing up held keys keys
 passing_none up held keys rises = record { rises = rises; passed = λ y is out. absurd cc }
-
-left_out : (x : ℕ) (y : NodeId) (rest more : List NodeId) → rest ≡ y ∷ more → (x == y.0) ≡ false → in_keepers x more ≡ false → in_keepers x rest ≡ false
-left_out x y rest more is e out = ap (in_keepers x) is ∙ ap (λ (b : Bool). b || in_keepers x more) (node_tie x y.0 ∙ e) ∙ out
 
 pub passing_more : (up : ℕ → Bool) (held : ℕ → List Version) (keys rest more : List NodeId) (y : NodeId) → rest ≡ y ∷ more → (held y.0 ≡ []) ⊎ (up y.0 ≡ true) → Passing up held keys rest → Passing up held keys more
 unfolding IsStrictlySortedBy
@@ -46,14 +43,14 @@ less_is x y h = grind (arith, nat_tests)
 
 above : (y : NodeId) (more : List NodeId) (z : ℕ) → AllByRecursion (λ b. (node_order.ghosts).cmp y b ≡ Less) more → in_keepers z more ≡ true → y.0 < z
 above y [] z all is = absurd cc
-above y (b ∷ bs) z all is = elim (either _ (in_keepers z bs) is) [
+above y (b ∷ bs) z all is = elim (or_cases _ (in_keepers z bs) is) [
   | inl e ↦ subst (λ (x : ℕ). y.0 < x) (sym (equal z b.0 (sym (node_tie z b.0) ∙ e))) (less_is y.0 b.0 all.0)
   | inr e ↦ above y bs z all.1 e
 ]
 
 -- none of those left is below the first of them
 not_below : (y : NodeId) (more : List NodeId) (z : ℕ) → AllByRecursion (λ b. (node_order.ghosts).cmp y b ≡ Less) more → in_keepers z (y ∷ more) ≡ true → y.0 ≤ z
-not_below y more z all is = elim (either _ (in_keepers z more) is) [
+not_below y more z all is = elim (or_cases _ (in_keepers z more) is) [
   | inl e ↦ (let f = equal z y.0 (sym (node_tie z y.0) ∙ e) in omega arith)
   | inr e ↦ (let f = above y more z all e in omega arith)
 ]

@@ -1,7 +1,7 @@
 -- Reads of slots for gets that are kept.
 use Rattle.std.proofs.Common.{◌≡◌, ◌⊎◌, inl, inr, ◌∙◌, ℕ, ◌<◌, ◌≤◌, Bool, true, false, not, List, ◌∷◌, length, refl, sym, ap, subst}
 use Rattle.std.specs.Prelude.{◌&&◌, nat_lt, Option, Some, None, Ok, slice_get, option_map, is_some}
-use Rattle.std.proofs.lemmas.Bool.{and_parts}
+use Rattle.std.proofs.lemmas.Bool.{and_parts, and_from, le-ltb}
 use Rattle.std.proofs.lemmas.Option.{slice_get_within}
 use Rattle.std.proofs.Math.Path.{fun_ext}
 use Rattle.ring_names.specs.declared.ids.NodeId.{NodeId}
@@ -14,7 +14,6 @@ use Rattle.ring_table.specs.Value.{RingValue}
 use Rattle.ring_versions.specs.declared.version.Version.{Version}
 use Rattle.plan_text.specs.declared.step.Planned.{Planned}
 use Rattle.plan_stage.specs.Clauses.{Guard, first_failing}
-use Rattle.plan_stage.proofs.Truth.{all_of}
 use Rattle.plan_check.specs.declared.event.Event.TheVariants.{Read}
 use Rattle.plan_check.specs.declared.event.Reply.{Reply}
 use Rattle.plan_check.specs.declared.event.Reply.TheVariants as reply
@@ -48,7 +47,7 @@ use Rattle.store_tells.proofs.KeepersDeclared.{keeper_within}
 use Rattle.store_events.proofs.FirstDown.{first_down_is}
 use Rattle.store_events.proofs.TellsOnClients.{stored_on, hinted_on, tells_next}
 use Rattle.store_events.proofs.SlotHasOfKey.{get_key_is}
-use Rattle.store_events.proofs.NumberTests.{is_less, not_less, none_there}
+use Rattle.store_events.proofs.NumberTests.{is_less, none_there}
 
 module _ (ring : RingValue) (plan : List Planned) (k : Kept) (w : World) (m : Tells ring plan k w) where
   -- what stands against a read, in front of what stands against the nodes
@@ -65,7 +64,7 @@ module _ (ring : RingValue) (plan : List Planned) (k : Kept) (w : World) (m : Te
   -- there is no such get
   pub no_get : (g i : ℕ) → slice_get k.gets g ≡ None → Some UnknownNumber ≡ first_failing (guards ring plan w (Read g i))
   no_get g i none =
-      let less = not_less g (length k.gets) (none_there k.gets g none) in
+      let less = le-ltb g (length k.gets) (none_there k.gets g none) in
       rw less at (tested g i)
 
   -- there is no such slot
@@ -73,12 +72,12 @@ module _ (ring : RingValue) (plan : List Planned) (k : Kept) (w : World) (m : Te
   no_slot g i l = ap (λ (b : Bool). first_failing (by_tests b (has_ended_at k.gets g) (is_read_at k.gets g i) (node_guards g i))) (sym (none (nat_lt g (length k.gets)))) ∙ tested g i
     where
       none : (b : Bool) → (b && nat_lt i ring.n) ≡ false
-      none true = not_less i ring.n l
+      none true = le-ltb i ring.n l
       none false = refl
 
   module _ (g i : ℕ) (get : GetNow) (is : slice_get k.gets g ≡ Some get) (within : i < ring.n) where
     there_is : has_get k.gets ring.n g i ≡ true
-    there_is = all_of (nat_lt g (length k.gets)) (nat_lt i ring.n) (is_less g (length k.gets) (slice_get_within k.gets g get is)) (is_less i ring.n within)
+    there_is = and_from (nat_lt g (length k.gets)) (nat_lt i ring.n) (is_less g (length k.gets) (slice_get_within k.gets g get is)) (is_less i ring.n within)
 
     ended_is : has_ended_at k.gets g ≡ is_some get.reply
     ended_is = ap (λ (o : Option GetNow). elim o as (λ _. Bool) [ Some x ↦ is_some x.reply | None ↦ false ]) is
@@ -113,7 +112,7 @@ module _ (ring : RingValue) (plan : List Planned) (k : Kept) (w : World) (m : Te
         let p = get_key_is ring plan k w m g get place is lies in
         let own : key ≡ key_of_get w g = (let z = p.0 in cc) in
         let slot : slot_at place.partition i ≡ get_slot ring w g i = ap (λ (z : Place). slot_at z.partition i) (sym p.1) in
-        let s = slot_there ring plan k w m (slot_at place.partition i) (all_of (nat_lt place.partition ring.q) (nat_lt i ring.n) (is_less place.partition ring.q p.2) (is_less i ring.n within)) in
+        let s = slot_there ring plan k w m (slot_at place.partition i) (and_from (nat_lt place.partition ring.q) (nat_lt i ring.n) (is_less place.partition ring.q p.2) (is_less i ring.n within)) in
         let up : is_up_at k.nodes ≡ w.up = fun_ext m.nodes.up in
         let owner : s.0.owner ≡ (stage_now ring plan w (get_slot ring w g i)).owner = s.2.owner ∙ ap (λ (t : Slot). (stage_now ring plan w t).owner) slot in
         let stop : StopsRead k.rows w.up (λ x. k.hinted x (get_slot ring w g i) (key_of_get w g)) (get_slot ring w g i) o

@@ -1,6 +1,7 @@
 -- A step is done, and what a store keeps tells of the next world.
 use Rattle.std.proofs.Common.{◌≡◌, ◌∙◌, ℕ, Bool, true, false, not, List, refl, sym, ap, subst}
 use Rattle.std.specs.Prelude.{◌<◌, ◌==◌, ◌&&◌, length, Option, Some, None, slice_get, option_map, is_some}
+use Rattle.std.proofs.lemmas.Bool.{not-true}
 use Rattle.ring_names.specs.declared.ids.NodeId.{NodeId}
 use Rattle.ring_names.specs.declared.ids.Slot.{Slot}
 use Rattle.ring_table.specs.Value.{RingValue}
@@ -11,7 +12,6 @@ use Rattle.plan_text.specs.declared.step.Planned.{Planned}
 use Rattle.plan_text.specs.Steps.{is_slot, copy_of}
 use Rattle.plan_stage.specs.Each.{step_at}
 use Rattle.plan_stage.specs.Clauses.{first_failing}
-use Rattle.plan_stage.proofs.Truth.{not_is}
 use Rattle.plan_check.specs.declared.event.Event.TheVariants.{Do}
 use Rattle.plan_check.specs.declared.event.Reply.TheVariants.{Plain}
 use Rattle.plan_check.specs.World.{World}
@@ -23,7 +23,7 @@ use Rattle.store_tables.specs.declared.slots.SlotNow.{SlotNow}
 use Rattle.store_tells.specs.NodesTold.{NodesTell, step_leaves_nodes}
 use Rattle.store_tells.specs.Slots.{SlotsMeet}
 use Rattle.store_tells.specs.SlotsStepped.{StepsSlots, step_leaves_slots}
-use Rattle.store_tells.proofs.NodesNow.{nodes_join, nodes_retire, nodes_stay_do}
+use Rattle.store_tells.proofs.NodesNow.{nodes_join, nodes_retire, nodes_stay_do, done_is}
 use Rattle.store_tells.proofs.StepsNow.{steps_do}
 use Rattle.store_tells.proofs.SlotsNow.{slots_do, slots_stay_do}
 use Rattle.store_tells.specs.Kept.{Kept, Tells}
@@ -38,7 +38,7 @@ no_copy ring plan w n passes = (all_met (guards ring plan w (Do n)) passes).0
 
 -- so it is another step
 pub is_other : (plan : List Planned) (n : ℕ) (s : Step) → has_other plan n ≡ true → step_at plan n ≡ Some s → is_some (copy_of s) ≡ false
-is_other plan n s h at = not_is (is_some (copy_of s)) (sym (ap (λ (o : Option Step). elim o as (λ _. Bool) [ Some t ↦ not (is_some (copy_of t)) | None ↦ false ]) at) ∙ h)
+is_other plan n s h at = not-true (is_some (copy_of s)) (sym (ap (λ (o : Option Step). elim o as (λ _. Bool) [ Some t ↦ not (is_some (copy_of t)) | None ↦ false ]) at) ∙ h)
 
 -- what is read is the plan, and what is read of it is its step
 pub read_at : (plan read : List Planned) (n : ℕ) (s : Step) → read ≡ plan → option_map (λ (x : Planned). x.step) (slice_get read n) ≡ Some s → step_at plan n ≡ Some s
@@ -52,11 +52,6 @@ read_at plan read n s same e = subst (λ (p : List Planned). step_at p n ≡ Som
 pub read_within : (plan read : List Planned) (n : ℕ) → read ≡ plan → n < length plan → n < length read
 read_within plan read n same l = subst (λ (p : List Planned). n < length p) (sym same) l
 
--- the world after a step of the plan
-pub did : (ring : RingValue) (plan : List Planned) (w : World) (n : ℕ) (s : Step) → step_at plan n ≡ Some s → effect ring plan w (Do n) ≡ step_effect (record w { done = with_number w.done n }) s
-unfolding effect
-did ring plan w n s at = ap (λ (o : Option Step). elim o as (λ _. World) [ Some t ↦ step_effect (record w { done = with_number w.done n }) t | None ↦ w ]) at
-
 module _ (ring : RingValue) (plan : List Planned) (old : Kept) (w : World) (n : ℕ) (m : Tells ring plan old w) (passes : first_failing (guards ring plan w (Do n)) ≡ None) where
   -- what is kept with the step finished
   abbrev finished : Kept → Kept
@@ -68,7 +63,7 @@ module _ (ring : RingValue) (plan : List Planned) (old : Kept) (w : World) (n : 
       → NodesTell ring plan nodes (effect ring plan w (Do n)) → SlotsMeet ring plan rows (effect ring plan w (Do n))
       → LeadsOn ring plan w (Do n) Plain (finished (record old { nodes = nodes; rows = rows }))
   acts_on s nodes rows at losses stored hinted tell meet =
-      let e = did ring plan w n s at in
+      let e = done_is ring plan w n s at in
       leads_on ring plan old w (Do n) nodes (changed old.steps n (λ a. record a { done = true; is_open = false })) rows old.losses old.stored old.hinted m passes refl refl (record {
         nodes = tell;
         steps = steps_do ring plan w n old.steps _ (reached_of ring plan old w m) passes m.steps refl;
@@ -89,7 +84,7 @@ module _ (ring : RingValue) (plan : List Planned) (old : Kept) (w : World) (n : 
 
   drop_on : (s : Slot) (x : NodeId) (stored : ℕ → Slot → List ℕ → List Version) → step_at plan n ≡ Some (step.Drop s x) → Forgets (λ y t. (y == x.0) && is_slot s t) old.stored stored → LeadsOn ring plan w (Do n) Plain (finished (record old { stored = stored }))
   drop_on s x stored at forgets =
-      let e = did ring plan w n (step.Drop s x) at in
+      let e = done_is ring plan w n (step.Drop s x) at in
       leads_on ring plan old w (Do n) old.nodes (changed old.steps n (λ a. record a { done = true; is_open = false })) old.rows old.losses stored old.hinted m passes refl refl (record {
         nodes = nodes_same (step.Drop s x) at refl;
         steps = steps_do ring plan w n old.steps _ (reached_of ring plan old w m) passes m.steps refl;

@@ -2,13 +2,13 @@
 use Rattle.std.proofs.Common.{◌≡◌, inl, inr, ◌∙◌, ℕ, Bool, true, false, List, sym, subst}
 use Rattle.std.specs.Prelude.{◌||◌, None, Ok}
 use Rattle.std.proofs.Math.Path.{fun_ext}
+use Rattle.std.proofs.lemmas.Bool.{or_cases}
 use Rattle.ring_names.specs.declared.ids.Slot.{Slot}
 use Rattle.ring_table.specs.Value.{RingValue}
 use Rattle.ring_clock.specs.declared.entry.Entry.{Entry}
 use Rattle.ring_versions.specs.declared.version.Version.{Version}
 use Rattle.plan_text.specs.declared.step.Planned.{Planned}
 use Rattle.plan_stage.specs.Clauses.{first_failing}
-use Rattle.plan_stage.proofs.Truth.{either}
 use Rattle.plan_check.specs.declared.event.Event.{Event}
 use Rattle.plan_check.specs.declared.event.Reply.{Reply}
 use Rattle.plan_check.specs.World.{World}
@@ -46,7 +46,7 @@ module _ (ring : RingValue) (plan : List Planned) (w : World) (e : Event) (passe
       let same : next ≡ (λ (x : ℕ) (s : Slot) (v : ℕ). extra x s v || test x s v) = fun_ext (λ x. fun_ext (λ s. fun_ext (λ v. is x s v))) in
       subst (λ (f : ℕ → Slot → ℕ → Bool). ShowAll (effect ring plan w e) clock new f) (sym same)
       (all_stay ring plan w (effect ring plan w e) e (reply_to ring plan w e) clock new (λ x s v. extra x s v || test x s v) (allowed ring plan w e passes)
-      (λ x s v h. elim (either (extra x s v) (test x s v) h) [ inl a ↦ come x s v a | inr b ↦ are x s v b ])
+      (λ x s v h. elim (or_cases (extra x s v) (test x s v) h) [ inl a ↦ come x s v a | inr b ↦ are x s v b ])
       (grown w clock old more new test extra shows brings merge))
 
   -- what shows puts that are there shows them in the next world

@@ -3,8 +3,7 @@ use Rattle.std.proofs.Common.{◌≡◌, ◌≢◌, ◌⊎◌, inl, inr, ◌∙�
 use Rattle.std.specs.Prelude.{slice_get, is_some, IfSome, MatchOption, unwrap_or}
 use Rattle.std.specs.Str.{bytes_eq}
 use Rattle.std.proofs.Math.ListN.{get_or}
-use Rattle.std.proofs.lemmas.Bool.{cases_Bool, eqb-true, eq-eqb}
-use Rattle.std.proofs.lemmas.Option.{slice_get-get_or}
+use Rattle.std.proofs.lemmas.Bool.{cases_Bool, eqb-true, eq-eqb, cases_eq, false_from_ne_true}
 use Rattle.ring_versions.specs.Fresh.{FitsIn}
 use Rattle.ring_versions.specs.Fresh.{IsFreshFor}
 use Rattle.ring_versions.specs.declared.fresh.Fresh.{Fresh}
@@ -18,8 +17,9 @@ use Rattle.store_maps.specs.Chunks.{chunk_of, held_of, place_in, ArePlaced}
 use Rattle.store_maps.specs.Held.{held, has_place, IsReady}
 use Rattle.store_maps.specs.Merges.{MergesAll, at_key, has_fresh, AreFreshFor, AreReady}
 use Rattle.ring_names.specs.AtBytes.{value_at}
-use Rattle.store_maps.proofs.OneAnswer.{none_from_empty, at_none, none_to, false_from}
+use Rattle.store_maps.proofs.OneAnswer.{none_from_empty, at_none, none_to}
 use Rattle.ring_names.proofs.AtBytes.{bytes_same}
+use Rattle.ring_names.proofs.InLists.{get_lent}
 use Rattle.store_maps.proofs.MergesInTurn.{merge_none}
 use Rattle.store_maps.proofs.Puts.{at_other}
 
@@ -57,19 +57,8 @@ pub get_last : {X : Type 0} (xs : List X) (x : X) → slice_get (xs ++ x ∷ [])
 get_last [] x = refl
 get_last (y ∷ ys) x = get_last ys x
 
--- what a borrow of the i-th lends
-pub lent : {X : Type 0} (xs : List X) (i : ℕ) (m : X) → i < length xs → m ≡ get_or xs i m → slice_get xs i ≡ Some m
-lent xs i m l e = slice_get-get_or xs i m l ∙ ap Some (sym e)
-
 pub within : (xs : List KeyMap) (i : ℕ) → length xs ≡ 16 → i < 16 → i < length xs
 within xs i whole l = omega arith
-
--- the same number or another
-pub same_or : (i j : ℕ) → (i ≡ j) ⊎ (i ≢ j)
-same_or zero zero = inl refl
-same_or zero (suc j) = inr (λ e. cc)
-same_or (suc i) zero = inr (λ e. cc)
-same_or (suc i) (suc j) = elim (same_or i j) [ inl e ↦ inl (ap suc e) | inr ne ↦ inr (λ e. ne (omega arith)) ]
 
 pub apart_of : (o : Option KeyMap) (k : List ℕ) → IsApart (held_of o k)
 apart_of None k = tt
@@ -87,9 +76,9 @@ pub chosen_here : (i j : ℕ) (v : List Version) → i ≡ j → cond (nat_eq i 
 chosen_here i j v e = rw (eq-eqb i j e) refl
 
 pub chosen_other : (i j : ℕ) (v : List Version) → i ≢ j → cond (nat_eq i j) v [] ≡ []
-chosen_other i j v ne = rw (false_from (nat_eq i j) (λ h. ne (eqb-true i j h))) refl
+chosen_other i j v ne = rw (false_from_ne_true (nat_eq i j) (λ h. ne (eqb-true i j h))) refl
 
-no_place : (m : KeyMap) (k : List ℕ) → has_place m k ≡ false → held m k ≡ []
+pub no_place : (m : KeyMap) (k : List ℕ) → has_place m k ≡ false → held m k ≡ []
 no_place m k e = ap (λ (o : Option (List Version)). unwrap_or o []) (none_from_empty (value_at m.map k) e)
 
 -- ---- the map m of chunk c becomes n
@@ -99,11 +88,11 @@ module _ (a : SlotMap) (c : ℕ) (m n : KeyMap) (below : c < 16) (lends : m ≡ 
   room = within a.chunks.items c a.whole below
 
   is : slice_get a.chunks.items c ≡ Some m
-  is = lent a.chunks.items c m room lends
+  is = get_lent a.chunks.items c m room lends
 
   -- what holds of the keys of the chunk and of all others
   pub by_chunk : (P : List ℕ → Type 0) → ((k : List ℕ) → chunk_of a.q k ≡ c → P k) → ((k : List ℕ) → chunk_of a.q k ≢ c → P k) → (k : List ℕ) → P k
-  by_chunk P here other k = elim (same_or (chunk_of a.q k) c) [ inl e ↦ here k e | inr ne ↦ other k ne ]
+  by_chunk P here other k = elim (cases_eq (chunk_of a.q k) c) [ inl e ↦ here k e | inr ne ↦ other k ne ]
 
   pub old_at : (k : List ℕ) → chunk_of a.q k ≡ c → slice_get a.chunks.items (chunk_of a.q k) ≡ Some m
   old_at k e = ap (slice_get a.chunks.items) e ∙ is
@@ -133,7 +122,7 @@ module _ (a : SlotMap) (c : ℕ) (m n : KeyMap) (below : c < 16) (lends : m ≡ 
   other_place k ne = ap (λ o. place_in o k) (other_at k ne)
 
   pub placed_set : ArePlaced a.q a.chunks.items → ((k : List ℕ) → has_place n k ≡ true → chunk_of a.q k ≡ c) → ArePlaced a.q (set a.chunks.items c n)
-  placed_set placed lies d k h = elim (same_or d c) [
+  placed_set placed lies d k h = elim (cases_eq d c) [
     | inl e ↦ lies k (sym (ap (λ o. place_in o k) (ap (slice_get (set a.chunks.items c n)) e ∙ get_here a.chunks.items c n room)) ∙ h) ∙ sym e
     | inr ne ↦ placed d k (sym (ap (λ o. place_in o k) (get_other a.chunks.items c d n ne)) ∙ h)
   ]
@@ -191,8 +180,8 @@ module _ (a : SlotMap) (c : ℕ) (m n : KeyMap) (below : c < 16) (lends : m ≡ 
   fresh_chunk other f lies drawn are = by_chunk (λ (k : List ℕ). MatchOption (value_at f.map k) (IsMerge (held_of (slice_get a.chunks.items (chunk_of a.q k)) k) (held other k) (held_of (slice_get a.chunks.items (chunk_of a.q k)) k)) (IsFreshFor (held_of (slice_get a.chunks.items (chunk_of a.q k)) k) (held other k)))
       (λ k e. subst (λ (old : List Version). MatchOption (value_at f.map k) (IsMerge old (held other k) old) (IsFreshFor old (held other k))) (old_held k e) (are k))
       (λ k ne. none_to (value_at f.map k) _ _
-      (none_from_empty (value_at f.map k) (false_from (has_fresh f k) (λ h. ne (lies k (drawn k h)))))
-      (subst (λ (comes : List Version). IsMerge (held_of (slice_get a.chunks.items (chunk_of a.q k)) k) comes (held_of (slice_get a.chunks.items (chunk_of a.q k)) k)) (sym (no_place other k (false_from (has_place other k) (λ h. ne (lies k h)))))
+      (none_from_empty (value_at f.map k) (false_from_ne_true (has_fresh f k) (λ h. ne (lies k (drawn k h)))))
+      (subst (λ (comes : List Version). IsMerge (held_of (slice_get a.chunks.items (chunk_of a.q k)) k) comes (held_of (slice_get a.chunks.items (chunk_of a.q k)) k)) (sym (no_place other k (false_from_ne_true (has_place other k) (λ h. ne (lies k h)))))
       (merge_none (held_of (slice_get a.chunks.items (chunk_of a.q k)) k) (apart_of (slice_get a.chunks.items (chunk_of a.q k)) k))))
 
   pub ready_chunk : (other : KeyMap) (f : FreshKeys) → ((k : List ℕ) → has_place other k ≡ true → chunk_of a.q k ≡ c) → ((k : List ℕ) → has_fresh f k ≡ true → has_place other k ≡ true)

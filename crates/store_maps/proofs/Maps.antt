@@ -2,6 +2,7 @@
 use Rattle.std.proofs.Common.{◌≡◌, ◌≢◌, inl, inr, ◌∙◌, ◌+◌, ℕ, ◌<◌, ◌≤◌, true, List, [], ◌∷◌, ◌++◌, length, refl, sym, ap, subst, Option, Some, None, arith}
 use Rattle.std.specs.Prelude.{slice_get, IfSome, MatchOption}
 use Rattle.std.proofs.lemmas.List.{length_push}
+use Rattle.std.proofs.lemmas.Bool.{cases_eq}
 use Rattle.ring_versions.specs.Fresh.{IsFreshFor, FitsIn}
 use Rattle.ring_versions.specs.declared.fresh.Fresh.{Fresh}
 use Rattle.ring_versions.specs.declared.version.Version.{Version}
@@ -15,7 +16,7 @@ use Rattle.store_maps.specs.Held.{held}
 use Rattle.store_maps.specs.Merges.{MergesAll, AreFreshFor, AreFreshMaps, fresh_at, fresh_of, fresh_in}
 use Rattle.store_maps.specs.Slots.{space_of, held_for, has_place_for, IsReadyFor, AreReadyFor, AllReadyFor}
 use Rattle.store_maps.proofs.OneAnswer.{at_none, none_to, on_some, some_of, none_where}
-use Rattle.store_maps.proofs.Chunks.{chunk_below, get_back, get_last, pushed, same_or, slot_apart, chosen, chosen_here, chosen_other}
+use Rattle.store_maps.proofs.Chunks.{chunk_below, get_back, get_last, pushed, slot_apart, chosen, chosen_here, chosen_other}
 use Rattle.store_maps.proofs.MergesInTurn.{merge_none}
 
 -- ---- the first half
@@ -66,7 +67,7 @@ module _ (old now new other : SlotMap) (fs more : List FreshKeys) (c : ℕ) (m :
   ]
 
   none_more : (k : List ℕ) → chunk_of (space_of old) k < length (fs ++ f ∷ []) → fresh_of (slice_get (fs ++ f ∷ []) (chunk_of (space_of old) k)) k ≡ None → IsMerge (held_for old k) (held_for other k) (held_for old k)
-  none_more k l none = elim (same_or (chunk_of (space_of old) k) c) [
+  none_more k l none = elim (cases_eq (chunk_of (space_of old) k) c) [
     | inl e ↦ (let here : fresh_at f k ≡ None = sym (ap (λ (o : Option FreshKeys). fresh_of o k) (ap (slice_get (fs ++ f ∷ [])) (e ∙ sym count) ∙ get_last fs f)) ∙ none in
         subst (λ (was : List Version). IsMerge was (held_for other k) was) (s.same k) (subst (λ (come : List Version). IsMerge (held_for now k) come (held_for now k)) (comes k e) (at_none (fresh_at f k) _ _ here (fresh k))))
     | inr ne ↦ (let less : chunk_of (space_of old) k < length fs = (let all = length_push fs f in omega arith) in
@@ -139,7 +140,7 @@ module _ (old now : SlotMap) (fresh : FreshMaps) (left later : List FreshKeys) (
 
   -- what comes to the chunk is new to what is held now
   fresh_now : (more : List ℕ → List Version) → AreFreshMaps (held_for old) more fresh → AreFreshFor (held_for now) (chosen (space_of old) c more) f
-  fresh_now more are k = elim (same_or (chunk_of (space_of old) k) c) [
+  fresh_now more are k = elim (cases_eq (chunk_of (space_of old) k) c) [
     | inl e ↦ subst (λ (come : List Version). MatchOption (fresh_at f k) (IsMerge (held_for now k) come (held_for now k)) (IsFreshFor (held_for now k) come)) (sym (chosen_here (chunk_of (space_of old) k) c (more k) e))
         (subst (λ (was : List Version). MatchOption (fresh_at f k) (IsMerge was (more k) was) (IsFreshFor was (more k))) (sym (as_before k e)) (with_value e (fresh_at f k) refl))
     | inr ne ↦ none_to (fresh_at f k) _ _ (none_where (fresh_at f k) _ (λ x r. ne r.0) (its_ready k))
@@ -147,7 +148,7 @@ module _ (old now : SlotMap) (fresh : FreshMaps) (left later : List FreshKeys) (
   ]
     where
       nowhere : chunk_of (space_of old) k ≡ c → fresh_at f k ≡ None → (d : ℕ) → fresh_in fresh d k ≡ None
-      nowhere e none d = elim (same_or d c) [
+      nowhere e none d = elim (cases_eq d c) [
         | inl here ↦ ap (λ (i : ℕ). fresh_in fresh i k) here ∙ ap (λ (o : Option FreshKeys). fresh_of o k) its ∙ none
         | inr ne ↦ none_where (fresh_in fresh d k) _ (λ x r. ne (sym r.0 ∙ e)) (all_ready d k)
       ]
@@ -165,7 +166,7 @@ module _ (old now : SlotMap) (fresh : FreshMaps) (left later : List FreshKeys) (
     front = λ d l. sym (get_back later f d l) ∙ sym (ap (λ (fs : List FreshKeys). slice_get fs d) is) ∙ s.front d (let all = lengths in omega arith);
     space = space ∙ s.space;
     places = λ k. places k ∙ s.places k;
-    done = λ k l. elim (same_or (chunk_of (space_of old) k) c) [
+    done = λ k l. elim (cases_eq (chunk_of (space_of old) k) c) [
       | inl e ↦ λ more are. subst (λ (was : List Version). IsMerge was (more k) (held_for new k)) (as_before k e)
           (subst (λ (come : List Version). IsMerge (held_for now k) come (held_for new k)) (chosen_here (chunk_of (space_of old) k) c (more k) e) (merged (chosen (space_of old) c more) (fresh_now more are) k))
       | inr ne ↦ λ more are. subst (IsMerge (held_for old k) (more k)) (sym (apart k ne)) (s.done k (let all = lengths in omega arith) more are)

@@ -1,6 +1,7 @@
 -- Facts of one answer among several.
-use Rattle.std.proofs.Common.{◌≡◌, Bool, true, false, refl, sym, subst, Option, Some, None, Result, Ok, Err}
+use Rattle.std.proofs.Common.{◌≡◌, false, refl, sym, subst, Option, Some, None, Result, Ok, Err}
 use Rattle.std.specs.Prelude.{OnOk, OnErr, IfOk, IfSome, IfNone, MatchOption, is_some}
+use Rattle.std.proofs.lemmas.Bool.{false_from_ne_true}
 
 pub on_ok : {A E : Type 0} (r : Result A E) (P Q : Type 0) → (P → Q) → OnOk r P → OnOk r Q
 on_ok (Ok a) P Q f h = f h
@@ -34,10 +35,6 @@ some_to {X} o P F x e h = subst (λ (u : Option X). MatchOption u P F) (sym e) h
 pub none_from_empty : {X : Type 0} (o : Option X) → is_some o ≡ false → o ≡ None
 none_from_empty None h = refl
 none_from_empty (Some x) h = absurd cc
-
-pub false_from : (b : Bool) → (b ≡ true → ⊥) → b ≡ false
-false_from true h = absurd (h refl)
-false_from false h = refl
 
 pub on_some : {X : Type 0} (o : Option X) (F G : X → Type 0) → ((x : X) → F x → G x) → IfSome o F → IfSome o G
 on_some None F G g h = tt

@@ -2,12 +2,13 @@
 use Rattle.std.proofs.Common.{◌≡◌, ◌∙◌, ℕ, zero, suc, true, false, List, [], ◌∷◌, ◌++◌, length, refl, sym, ap, subst, Option, Some, None, arith}
 use Rattle.std.specs.Prelude.{slice_get, unwrap_or}
 use Rattle.std.proofs.lemmas.List.{append_assoc, append-nil}
+use Rattle.std.proofs.lemmas.Bool.{false_from_ne_true}
 use Rattle.ring_versions.specs.declared.version.Version.{Version}
 use Rattle.store_maps.specs.declared.key_map.KeyMap.{KeyMap}
 use Rattle.store_maps.specs.Chunks.{chunk_of, held_of, place_in, ArePlaced}
 use Rattle.store_maps.specs.Held.{held, has_place}
 use Rattle.ring_names.specs.AtBytes.{value_at}
-use Rattle.store_maps.proofs.OneAnswer.{none_from_empty, false_from}
+use Rattle.store_maps.proofs.OneAnswer.{none_from_empty}
 
 -- no key has a place
 abbrev pub AreBare : List KeyMap → Type 0
@@ -104,7 +105,7 @@ get_first (x ∷ xs) later m = get_first xs later m
 
 -- where no key has a place in its chunk's map, the next map has none
 pub bare_next : (q : ℕ) (maps rest later : List KeyMap) (m : KeyMap) → rest ≡ m ∷ later → ArePlaced q maps → ((k : List ℕ) → place_in (slice_get maps (chunk_of q k)) k ≡ false) → Passed maps rest → (k : List ℕ) → has_place m k ≡ false
-bare_next q maps rest later m is placed none s k = false_from (has_place m k) (λ h.
+bare_next q maps rest later m is placed none s k = false_from_ne_true (has_place m k) (λ h.
     let at : slice_get maps (length s.front) ≡ Some m = ap (λ (xs : List KeyMap). slice_get xs (length s.front)) (s.all ∙ ap (λ (r : List KeyMap). s.front ++ r) is) ∙ get_first s.front later m in
     let there : place_in (slice_get maps (length s.front)) k ≡ true = ap (λ o. place_in o k) at ∙ h in
     let lies = placed (length s.front) k there in

@@ -1,6 +1,6 @@
 -- A map whose keys are bytes, once something was put into it; and the numbers of names, once a name was put last.
-use Rattle.std.proofs.Common.{◌≡◌, inl, inr, ℕ, Bool, true, false, cond, List, [], ◌∷◌, ◌++◌, length, Option, Some, None, refl, sym, subst, ◌∙◌}
-use Rattle.std.specs.Ordering.{is_eq, nat_cmp}
+use Rattle.std.proofs.Common.{◌≡◌, inl, inr, ℕ, Bool, false, cond, List, [], ◌∷◌, ◌++◌, length, Option, Some, None, refl, subst, ◌∙◌}
+use Rattle.std.specs.Ordering.{nat_cmp}
 use Rattle.std.specs.Cmp.{eq_by_cmp_equiv}
 use Rattle.std.specs.Cmp.Lexicographic.{slice_cmp, bytes_decides, nat_list_cmp_total, nat_list_eq_equiv}
 use Rattle.std.specs.Str.{bytes_eq}
@@ -8,17 +8,13 @@ use Rattle.std.specs.Global.{Vec}
 use Rattle.std.specs.BTreeMap.{BTreeMap, UpdatesBy}
 use Rattle.std.specs.Map.{lookup, IsKeyTest, AreApart, KeepsOthers}
 use Rattle.std.proofs.lemmas.Bool.{cases_Bool}
-use Rattle.std.proofs.lemmas.Map.Text.{is_eq-slice_cmp}
 use Rattle.ring_names.specs.Names.{place}
-use Rattle.ring_names.proofs.Places.{place-push}
+use Rattle.ring_names.proofs.Places.{place-push, place-other}
+use Rattle.ring_names.proofs.AtBytes.{other_bytes}
 use Rattle.store_tables.specs.Keys.{number_at}
 
 turned : (bs cs : List ℕ) → bytes_eq bs cs ≡ false → bytes_eq cs bs ≡ false
 turned bs cs n = nat_list_eq_equiv.symm cs bs ∙ n
-
-apart : (bs cs ks : List ℕ) → bytes_eq bs cs ≡ false → is_eq (slice_cmp nat_cmp bs ks) ≡ true → is_eq (slice_cmp nat_cmp cs ks) ≡ false
-apart bs cs ks n y =
-    is_eq-slice_cmp cs ks ∙ nat_list_eq_equiv.symm cs ks ∙ sym (nat_list_eq_equiv.congr bs ks cs (sym (is_eq-slice_cmp bs ks) ∙ y)) ∙ n
 
 others : {K X : Type 0} (eq : K → K → Bool) (test : K → Bool) (old new : List (K × X)) → KeepsOthers eq test old new → (other : K → Bool) → IsKeyTest eq other → AreApart test other → lookup other new ≡ lookup other old
 unfolding KeepsOthers
@@ -29,19 +25,14 @@ pub updates_bytes : (bs : List ℕ) (m n : BTreeMap (Vec ℕ) ℕ) (w : Option �
     → (cs : List ℕ) → number_at n cs ≡ cond (bytes_eq bs cs) w (number_at m cs)
 updates_bytes bs m n w h cs = elim (cases_Bool (bytes_eq bs cs)) [
   | inl y ↦ rw y (subst (λ l. number_at n l ≡ w) ((bytes_decides bs cs).0 y) h.1)
-  | inr e ↦ rw e (others _ _ _ _ h.3 _ (λ x y. (eq_by_cmp_equiv nat_list_cmp_total).congr cs x.items y.items) (λ k. apart bs cs k.items e))
+  | inr e ↦ rw e (others _ _ _ _ h.3 _ (λ x y. (eq_by_cmp_equiv nat_list_cmp_total).congr cs x.items y.items) (λ k. other_bytes bs cs k.items e))
 ]
-
--- a name that differs from the last one has the number that it had
-other_number : (ns : List (List ℕ)) (x y : List ℕ) → bytes_eq y x ≡ false → place (ns ++ x ∷ []) y ≡ place ns y
-other_number [] x y e = rw e refl
-other_number (n ∷ ns) x y e = rw (other_number ns x y e) refl
 
 -- the numbers once a new name was put last
 pub numbers_more : (ns : List (List ℕ)) (x y : List ℕ) → place ns x ≡ None → place (ns ++ x ∷ []) y ≡ cond (bytes_eq x y) (Some (length ns)) (place ns y)
 numbers_more ns x y none = elim (cases_Bool (bytes_eq x y)) [
   | inl e ↦ rw e (subst (λ z. place (ns ++ x ∷ []) z ≡ Some (length ns)) ((bytes_decides x y).0 e) (place-push ns x none))
-  | inr e ↦ rw e (other_number ns x y (turned x y e))
+  | inr e ↦ rw e (place-other ns x y (turned x y e))
 ]
 
 -- the map still has the numbers

@@ -3,6 +3,7 @@ use Rattle.std.proofs.Common.{◌≡◌, inl, inr, ℕ, ◌<◌, List, length, g
 use Rattle.std.specs.Prelude.{◌==◌, ◌&&◌, ◌||◌, nat_lt, Option, Some, None, slice_get}
 use Rattle.std.proofs.lemmas.Bool.Decides.{eqb_tells}
 use Rattle.std.proofs.lemmas.Nat.Bits.{bit_at-zero}
+use Rattle.ring_names.proofs.InLists.{get_lent}
 use Rattle.plan_check.specs.World.{passing_below}
 use Rattle.plan_check.specs.Effects.{with_mark as with_chunk}
 use Rattle.store_tables.specs.declared.steps.StepNow.{StepNow}
@@ -10,12 +11,12 @@ use Rattle.store_tables.specs.declared.marks.Marks.{Marks}
 use Rattle.store_tables.specs.Marks.{no_marks, has_mark}
 use Rattle.store_tables.specs.Steps.{is_marked, is_marked_at, marks_at}
 use Rattle.store_tables.proofs.Counting.{count_none}
-use Rattle.store_tables.proofs.Reading.{get_same, get_apart, get_there}
+use Rattle.store_tables.proofs.Reading.{get_same, get_apart}
 
 pub marks_of_written : (xs : List StepNow) (n c : ℕ) (x y : StepNow) → n < length xs → x ≡ get_or xs n x → ((d : ℕ) → is_marked y d ≡ (d == c) || is_marked x d)
     → (m d : ℕ) → is_marked_at (slice_set xs n y) m d ≡ with_chunk (is_marked_at xs) n c m d
 marks_of_written xs n c x y l e h m d = elim (eqb_tells m n) [
-  | inl t ↦ rw (t.0, t.1, get_same xs n y, get_there xs n x l e, is_marked_at) (h d)
+  | inl t ↦ rw (t.0, t.1, get_same xs n y, get_lent xs n x l e, is_marked_at) (h d)
   | inr t ↦ rw (t.0, get_apart xs n m y t.1, is_marked_at) refl
 ]
 

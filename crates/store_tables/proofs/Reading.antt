@@ -1,7 +1,7 @@
 -- What is read of a list in which an item was written.
-use Rattle.std.proofs.Common.{◌≡◌, ◌≢◌, ℕ, zero, suc, ◌<◌, List, [], ◌∷◌, length, get_or, slice_set, refl, ap}
-use Rattle.std.specs.Prelude.{Some, slice_get, option_map}
-use Rattle.std.proofs.lemmas.Option.{slice_get-get_or}
+use Rattle.std.proofs.Common.{◌≡◌, ◌≢◌, ℕ, zero, suc, ◌<◌, List, [], ◌∷◌, slice_set, refl, ap}
+use Rattle.std.specs.Prelude.{slice_get, option_map}
+use Rattle.ring_names.proofs.InLists.{get_lent}
 
 -- the item there is the one that was written
 pub get_same : {A : Type 0} (xs : List A) (n : ℕ) (y : A) → slice_get (slice_set xs n y) n ≡ option_map (λ x. y) (slice_get xs n)
@@ -16,7 +16,3 @@ get_apart (x ∷ xs) zero zero y ne = absurd (ne refl)
 get_apart (x ∷ xs) zero (suc m) y ne = refl
 get_apart (x ∷ xs) (suc n) zero y ne = refl
 get_apart (x ∷ xs) (suc n) (suc m) y ne = get_apart xs n m y (λ e. ne (ap suc e))
-
--- an item that is known by its place
-pub get_there : {A : Type 0} (xs : List A) (n : ℕ) (x : A) → n < length xs → x ≡ get_or xs n x → slice_get xs n ≡ Some x
-get_there xs n x l e = rw (slice_get-get_or xs n x l, ← e) refl

@@ -1,27 +1,19 @@
 -- Writers of keys that compare as equal.
-use Rattle.std.proofs.Common.{◌≡◌, ◌≢◌, inl, inr, ◌∙◌, ℕ, Bool, true, false, cond, refl, sym, ap, arith}
+use Rattle.std.proofs.Common.{◌≡◌, ◌≢◌, ◌∙◌, ℕ, Bool, cond, refl, sym, ap}
 use Rattle.std.specs.Prelude.{◌==◌, ◌&&◌, Some}
 use Rattle.std.specs.Ordering.{nat_cmp}
 use Rattle.std.specs.Cmp.{unsigned_ties, tied_then}
 use Rattle.std.specs.BTreeMap.{is_at, Updates}
-use Rattle.std.proofs.lemmas.Bool.Decides.{eqb_tells, nat_tests}
+use Rattle.std.proofs.lemmas.Bool.{ne_eqb, eq-eqb}
+use Rattle.ring_names.proofs.Logic.{eqb_turned}
 use Rattle.store_tables.specs.declared.lasts.KeyWriter.{KeyWriter}
 use Rattle.store_tables.specs.declared.lasts.Lasts.{Lasts}
 use Rattle.store_tables.specs.Lasts.{by_key, last_of}
 
-same : (x y : ℕ) → x ≡ y → (x == y) ≡ true
-same x y e = grind (arith, nat_tests)
-
-differ : (x y : ℕ) → x ≢ y → (x == y) ≡ false
-differ x y e = grind (arith, nat_tests)
-
-swapped : (x y : ℕ) → (x == y) ≡ (y == x)
-swapped x y = elim (eqb_tells x y) [ inl t ↦ t.0 ∙ sym (same y x (sym t.1)) | inr t ↦ t.0 ∙ sym (differ y x (λ e. t.1 (sym e))) ]
-
 -- the writers that compare as equal are the same
 pub tie_is_same : (x y : KeyWriter) → is_at (by_key x) y ≡ (y.key == x.key) && (y.writer == x.writer)
 tie_is_same x y =
-    sym (tied_then (nat_cmp x.key y.key) (nat_cmp x.writer y.writer)) ∙ rw (← unsigned_ties x.key y.key, ← unsigned_ties x.writer y.writer, swapped x.key y.key, swapped x.writer y.writer) refl
+    sym (tied_then (nat_cmp x.key y.key) (nat_cmp x.writer y.writer)) ∙ rw (← unsigned_ties x.key y.key, ← unsigned_ties x.writer y.writer, eqb_turned x.key y.key, eqb_turned x.writer y.writer) refl
 
 -- the last puts once one of them was set
 pub last_set : (old new : Lasts) (key writer put : ℕ) → Updates by_key old.puts new.puts (record { key = key; writer = writer }) (Some put)

@@ -1,6 +1,7 @@
 //! The gets of a running store.
 
-ghost use Rattle.std.specs.Prelude.{◌≡◌, ◌<◌, ◌++◌, ◌∷◌, ◌||◌, ◌==◌, ℕ, [], length, slice_get, option_map, Some, IfErr, OnOk, OnErr};
+ghost use Rattle.std.specs.Prelude.{◌≡◌, ◌<◌, ◌++◌, ◌∷◌, ◌||◌, ◌==◌, ℕ, [], length, slice_get, option_map, Some, IfErr};
+ghost use Rattle.std.specs.Prelude.{OnOk, OnErr};
 ghost use Rattle.ring_names.specs.declared.refusal.Refusal.TheVariants.{OutOfMemory};
 ghost use Rattle.plan_check.specs.World.{passing_below};
 ghost use Rattle.plan_check.specs.Effects.{changed};
@@ -99,8 +100,10 @@ impl Gets {
     #[tactic(auto, using(crate::proofs::Writing::writing))]
     pub fn set_found(&mut self, number: u32, index: u32, found: Found)
         requires { index < 7 }
-        ensures get { self.new ≡ changed self.old number (λ x. record x { read = with_mark x.read index; found = found }) }
-        ensures reads { number < length self.old → (i : ℕ) → is_read_at self.new number i ≡ (i == index) || is_read_at self.old number i }
+        ensures get { self.new
+            ≡ changed self.old number (λ x. record x { read = with_mark x.read index; found = found }) }
+        ensures reads { number < length self.old → (i : ℕ)
+            → is_read_at self.new number i ≡ (i == index) || is_read_at self.old number i }
     {
         let place = number as usize;
         if place < self.gets.len() {

@@ -41,7 +41,8 @@ impl Lasts {
 
     /// The writer's last put on the key is this one. Refused, each last put is as before.
     pub fn set(&mut self, key: usize, writer: WriterId, put: u32) -> Result<(), Refusal>
-        ensures ok { OnOk result ((k w : ℕ) → last_of self.new k w ≡ (if (k == key) && (w == writer.0) then Some put else last_of self.old k w)) }
+        ensures ok { OnOk result ((k w : ℕ)
+            → last_of self.new k w ≡ (if (k == key) && (w == writer.0) then Some put else last_of self.old k w)) }
         ensures err { OnErr result ((k w : ℕ) → last_of self.new k w ≡ last_of self.old k w) }
         ensures memory { IfErr result (λ e. e ≡ OutOfMemory) }
     {

@@ -1,6 +1,7 @@
 //! The puts of a running store.
 
-ghost use Rattle.std.specs.Prelude.{◌≡◌, ◌<◌, ◌++◌, ◌∷◌, ℕ, List, [], true, length, slice_get, option_map, IfErr, OnOk, OnErr};
+ghost use Rattle.std.specs.Prelude.{◌≡◌, ◌<◌, ◌++◌, ◌∷◌, ℕ, List, [], true, length, slice_get, option_map, IfErr, OnOk};
+ghost use Rattle.std.specs.Prelude.{OnErr};
 ghost use Rattle.ring_names.specs.declared.refusal.Refusal.TheVariants.{OutOfMemory};
 ghost use Rattle.plan_check.specs.Effects.{changed, with_value};
 ghost use Rattle.store_tables.specs.declared.puts.PutNow.{PutNow as ThePut};
@@ -95,8 +96,10 @@ impl Puts {
     #[tactic(auto, using(crate::proofs::Writing::writing))]
     pub fn set_ticket(&mut self, number: u32, index: u32, generation: u32)
         requires { index < 7 }
-        ensures put { self.new ≡ changed self.old number (λ x. record x { tickets = with_ticket x.tickets index generation }) }
-        ensures tickets { number < length self.old → (i : ℕ) → ticket_of self.new number i ≡ with_value (ticket_of self.old number) index generation i }
+        ensures put { self.new
+            ≡ changed self.old number (λ x. record x { tickets = with_ticket x.tickets index generation }) }
+        ensures tickets { number < length self.old → (i : ℕ)
+            → ticket_of self.new number i ≡ with_value (ticket_of self.old number) index generation i }
     {
         let place = number as usize;
         if place < self.puts.len() {

@@ -1,6 +1,7 @@
 //! The slots of a running store.
 
-ghost use Rattle.std.specs.Prelude.{◌≡◌, ◌+◌, ◌<◌, map, option_map, slice_get, slice_set, Some, None, IfOk, IfErr, IfSome};
+ghost use Rattle.std.specs.Prelude.{◌≡◌, ◌+◌, ◌<◌, map, option_map, slice_get, slice_set, Some, None, IfOk, IfErr};
+ghost use Rattle.std.specs.Prelude.{IfSome};
 ghost use Rattle.ring_names.specs.declared.ids.Slot.{Slot as TheSlot};
 ghost use Rattle.ring_names.specs.declared.refusal.Refusal.TheVariants.{OutOfMemory};
 ghost use Rattle.ring_table.specs.Value.{owner_of};
@@ -103,7 +104,8 @@ impl Model for Slots {
 impl Slots {
     /// The slots before the first step of a plan: each has its owner by the ring, no mirror, and generation 0.
     pub fn start(alloc: Global, ring: &Ring) -> Result<Slots, Refusal>
-        ensures start { IfOk result (λ slots. (t : TheSlot) → slot_now slots t ≡ option_map slot_at_start (owner_of ring.now t)) }
+        ensures start { IfOk result
+            (λ slots. (t : TheSlot) → slot_now slots t ≡ option_map slot_at_start (owner_of ring.now t)) }
         ensures memory { IfErr result (λ e. e ≡ OutOfMemory) }
     {
         let mut rows = Vec::with_capacity(alloc, ring.rows().len())?;

@@ -156,7 +156,8 @@ impl Steps {
     pub fn mark(&mut self, step: u32, chunk: u32)
         requires { chunk < 16 }
         ensures steps { self.new ≡ changed self.old step (λ x. record x { marks = with_mark x.marks chunk }) }
-        ensures marks { step < length self.old → (m d : ℕ) → is_marked_at self.new m d ≡ with_chunk (is_marked_at self.old) step chunk m d }
+        ensures marks { step < length self.old → (m d : ℕ)
+            → is_marked_at self.new m d ≡ with_chunk (is_marked_at self.old) step chunk m d }
     {
         let place = step as usize;
         if place < self.steps.len() {

@@ -3,6 +3,7 @@ use Rattle.std.proofs.Common.{◌≡◌, inl, inr, ◌∙◌, ℕ, ◌<◌, true
 use Rattle.std.specs.Prelude.{◌==◌, Option, Some, None}
 use Rattle.std.proofs.lemmas.Bool.Decides.{eqb_tells}
 use Rattle.std.proofs.lemmas.Slice.Eq.{bytes_eq-Decides}
+use Rattle.std.proofs.lemmas.Bool.{or_right, or_cases as either}
 use Rattle.ring_clock.specs.declared.entry.Entry.{Entry}
 use Rattle.ring_clock.specs.Clock.{counter, IsAtMost}
 use Rattle.ring_clock.specs.Built.{IsJoinOf, Bumps, IsNext, with_clock}
@@ -11,7 +12,6 @@ use Rattle.plan_check.specs.Succession.{some_replied, is_direct}
 use Rattle.plan_check.proofs.Changed.{part_new}
 use Rattle.plan_check.proofs.Lasting.{Extends, NamesEnded, direct_stays}
 use Rattle.plan_check.proofs.Succeeding.{direct_parts}
-use Rattle.plan_stage.proofs.Truth.{either, second_of_two}
 use Rattle.store_tells.specs.Clocks.{AreClocksOf, IsOwn, IsLastOf, IsInputOf}
 use Rattle.store_tells.proofs.ClocksOrder.{direct_from, own_direct, facts}
 use Rattle.store_tells.proofs.ShownSets.{before}
@@ -92,7 +92,7 @@ module _ (w : World) (p : PutRecord) (last : Option ℕ) (clock : ℕ → List E
     input_is v (inl e) =
         let f = fits v e in
         let asked : some_replied w.gets (seen_of more n) v ≡ true = subst (λ (gs : List ℕ). some_replied w.gets gs v ≡ true) (sym seen_new) e in
-        (f.0, direct_from more n v f.0 exists (key_new ∙ sym f.1 ∙ sym (x.key v f.0)) (second_of_two (writer_of more n == writer_of more v) (some_replied w.gets (seen_of more n) v) asked))
+        (f.0, direct_from more n v f.0 exists (key_new ∙ sym f.1 ∙ sym (x.key v f.0)) (or_right (writer_of more n == writer_of more v) (some_replied w.gets (seen_of more n) v) asked))
     input_is v (inr e) =
         let own = (subst (λ (o : Option ℕ). IsLastOf w p.writer p.key o) e lasts).0 in
         (own.0, own_direct more n v own.0 exists (key_new ∙ sym own.2 ∙ sym (x.key v own.0)) (writer_new ∙ sym own.1 ∙ sym (x.writer v own.0)))

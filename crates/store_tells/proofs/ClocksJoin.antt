@@ -1,6 +1,7 @@
 -- The clocks of what gets found make the clock of a put that names these gets.
 use Rattle.std.proofs.Common.{◌≡◌, inl, inr, ◌∙◌, ℕ, true, List, [], ◌∷◌, refl, sym, ap, subst, arith, eqb-true}
 use Rattle.std.specs.Prelude.{◌==◌, Option}
+use Rattle.std.proofs.lemmas.Bool.{or_right, or_cases, or_left}
 use Rattle.ring_names.specs.Lists.{has}
 use Rattle.ring_clock.specs.declared.entry.Entry.{Entry}
 use Rattle.ring_clock.specs.Clock.{counter}
@@ -8,7 +9,6 @@ use Rattle.ring_clock.specs.Built.{IsJoinOf}
 use Rattle.ring_versions.specs.declared.version.Version.{Version}
 use Rattle.plan_check.specs.World.{GetRecord, World}
 use Rattle.plan_check.specs.Succession.{replied, some_replied}
-use Rattle.plan_stage.proofs.Truth.{either, first_of_two, second_of_two}
 use Rattle.store_tells.specs.Shows.{Shows}
 use Rattle.store_tells.specs.Clocks.{IsInputOf}
 use Rattle.store_tells.specs.Found.{IsJoinOfFound}
@@ -17,9 +17,9 @@ use Rattle.store_tells.proofs.ClocksStay.{some_reply}
 -- a put that the reply of one of the gets had is among those of all
 in_replies : (gets : List GetRecord) (gs : List ℕ) (g v : ℕ) → has g gs ≡ true → replied gets g v ≡ true → some_replied gets gs v ≡ true
 in_replies gets [] g v h e = absurd cc
-in_replies gets (x ∷ gs) g v h e = elim (either (g == x) (has g gs) h) [
-  | inl f ↦ first_of_two (replied gets x v) (some_replied gets gs v) (subst (λ (z : ℕ). replied gets z v ≡ true) (eqb-true g x f) e)
-  | inr f ↦ second_of_two (replied gets x v) (some_replied gets gs v) (in_replies gets gs g v f e)
+in_replies gets (x ∷ gs) g v h e = elim (or_cases (g == x) (has g gs) h) [
+  | inl f ↦ or_left (replied gets x v) (some_replied gets gs v) (subst (λ (z : ℕ). replied gets z v ≡ true) (eqb-true g x f) e)
+  | inr f ↦ or_right (replied gets x v) (some_replied gets gs v) (in_replies gets gs g v f e)
 ]
 
 pub join_is : (w : World) (clock : ℕ → List Entry) (value : ℕ → List ℕ) (found : ℕ → List Version) (seen : List ℕ) (last : Option ℕ) (d : List Entry) → ((g : ℕ) → has g seen ≡ true → Shows clock value (found g) (replied w.gets g))

@@ -4,27 +4,26 @@ use Rattle.std.specs.Prelude.{◌↔◌, ◌&&◌, ◌==◌, nat_lt}
 use Rattle.std.specs.Str.{bytes_eq}
 use Rattle.std.proofs.lemmas.Bool.Decides.{eqb_tells}
 use Rattle.std.proofs.lemmas.Slice.Eq.{bytes_eq-Decides}
+use Rattle.std.proofs.lemmas.Bool.{and_from, cases_lt, or_left}
 use Rattle.ring_clock.specs.declared.entry.Entry.{Entry}
 use Rattle.ring_clock.specs.Clock.{counter, IsAtMost}
 use Rattle.ring_clock.proofs.Causing.{Follows, follows}
 use Rattle.plan_check.specs.World.{World, key_of_put, writer_of, seen_of}
 use Rattle.plan_check.specs.Succession.{some_replied, is_direct, Succeeds, itself, by}
 use Rattle.plan_check.proofs.Lasting.{succeeds_same_key}
-use Rattle.plan_check.proofs.Prefix.{order}
 use Rattle.plan_check.proofs.Succeeding.{is_known, direct_parts, succeeds_through}
-use Rattle.plan_stage.proofs.Truth.{all_of, first_of_two}
 use Rattle.store_tells.specs.Clocks.{AreClocksOf}
 
 pub direct_from : (w : World) (u v : ℕ) → v < u → u < length w.puts → key_of_put w u ≡ key_of_put w v → is_known w u v ≡ true → is_direct w u v ≡ true
 direct_from w u v less exists key known =
     let same : bytes_eq (key_of_put w u) (key_of_put w v) ≡ true = (bytes_eq-Decides (key_of_put w u) (key_of_put w v)).1 key in
-    let a = all_of (nat_lt v u) (nat_lt u (length w.puts)) (lt-ltb v u less) (lt-ltb u (length w.puts) exists) in
-    let b = all_of (nat_lt v u && nat_lt u (length w.puts)) (bytes_eq (key_of_put w u) (key_of_put w v)) a same in
-    all_of (nat_lt v u && nat_lt u (length w.puts) && bytes_eq (key_of_put w u) (key_of_put w v)) (is_known w u v) b known
+    let a = and_from (nat_lt v u) (nat_lt u (length w.puts)) (lt-ltb v u less) (lt-ltb u (length w.puts) exists) in
+    let b = and_from (nat_lt v u && nat_lt u (length w.puts)) (bytes_eq (key_of_put w u) (key_of_put w v)) a same in
+    and_from (nat_lt v u && nat_lt u (length w.puts) && bytes_eq (key_of_put w u) (key_of_put w v)) (is_known w u v) b known
 
 -- a writer's put succeeds its earlier ones of the key
 pub own_direct : (w : World) (u v : ℕ) → v < u → u < length w.puts → key_of_put w u ≡ key_of_put w v → writer_of w u ≡ writer_of w v → is_direct w u v ≡ true
-own_direct w u v less exists key writer = direct_from w u v less exists key (first_of_two (writer_of w u == writer_of w v) (some_replied w.gets (seen_of w u) v) (eq-eqb (writer_of w u) (writer_of w v) writer))
+own_direct w u v less exists key writer = direct_from w u v less exists key (or_left (writer_of w u == writer_of w v) (some_replied w.gets (seen_of w u) v) (eq-eqb (writer_of w u) (writer_of w v) writer))
 
 module _ (w : World) (clock : ℕ → List Entry) (made : AreClocksOf w clock) where
   pub facts : (k : ℕ) → k < length w.puts → Follows clock (λ v. is_direct w k v ≡ true) (writer_of w k) (clock k)
@@ -66,9 +65,9 @@ module _ (w : World) (clock : ℕ → List Entry) (made : AreClocksOf w clock) w
         let s = source (suc u) u a (omega arith) l (omega arith) in
         let same : key_of_put w s.0 ≡ key_of_put w v = sym (succeeds_same_key w u s.0 s.4) ∙ key in
         let equal = s.3 in
-        elim (order v s.0) [
+        elim (cases_lt v s.0) [
           | inl less ↦ succeeds_through w u s.0 v s.4 (by s.0 v v (own_direct w s.0 v less s.1 same s.2) (itself v))
-          | inr least ↦ elim (order s.0 v) [
+          | inr least ↦ elim (cases_lt s.0 v) [
             | inl more ↦ absurd (let own_more = (facts v m).own s.0 (own_direct w v s.0 more m (sym same) (sym s.2)) in omega arith)
             | inr most_too ↦ (let e : s.0 ≡ v = omega arith in subst (λ (z : ℕ). Succeeds w u z) e s.4)
           ]

@@ -3,6 +3,7 @@ use Rattle.std.proofs.Common.{◌≡◌, inl, inr, ◌∙◌, ℕ, ◌<◌, Bool
 use Rattle.std.specs.Prelude.{◌||◌, ◌==◌, Option, Some, None, Ok, slice_get}
 use Rattle.std.specs.Str.{bytes_eq}
 use Rattle.std.proofs.lemmas.Slice.Eq.{bytes_eq-Decides}
+use Rattle.std.proofs.lemmas.Bool.{or_cases}
 use Rattle.ring_names.specs.Lists.{has}
 use Rattle.ring_names.specs.declared.ids.WriterId.{WriterId}
 use Rattle.ring_table.specs.Value.{RingValue}
@@ -26,7 +27,6 @@ use Rattle.plan_check.proofs.Answered.{answered}
 use Rattle.plan_check.proofs.Changed.{length_changed}
 use Rattle.plan_check.proofs.Lasting.{event_extends, names_ended}
 use Rattle.plan_check.proofs.Passed.{AllMet, all_met, among}
-use Rattle.plan_stage.proofs.Truth.{either}
 use Rattle.store_tells.specs.Clocks.{AreClocksOf, IsLastOf, IsInputOf, starts_put}
 use Rattle.store_tells.proofs.ClocksGrow.{stays, put_clocks}
 
@@ -74,7 +74,7 @@ clocks_stay ring plan w u e r clock reached made h none =
 -- a put that some reply had is in one of the gets' replies
 pub some_reply : (gets : List GetRecord) (gs : List ℕ) (v : ℕ) → some_replied gets gs v ≡ true → (g : ℕ) × (has g gs ≡ true) × (replied gets g v ≡ true)
 some_reply gets [] v h = absurd cc
-some_reply gets (g ∷ gs) v h = elim (either (replied gets g v) (some_replied gets gs v) h) [
+some_reply gets (g ∷ gs) v h = elim (or_cases (replied gets g v) (some_replied gets gs v) h) [
   | inl e ↦ (g, rw (eq-eqb g g refl) refl, e)
   | inr e ↦ (let r = some_reply gets gs v e in (r.0, later (r.0 == g) (has r.0 gs) r.1, r.2))
 ]

@@ -1,9 +1,10 @@
 -- Gets that are kept stay those of the world where one starts, reads or ends.
 use Rattle.std.proofs.Common.{◌≡◌, ◌≢◌, inl, inr, ◌∙◌, ℕ, zero, suc, ◌<◌, Bool, true, false, cond, List, [], ◌∷◌, ◌++◌, length, length-append, refl, sym, ap, subst, arith}
 use Rattle.std.specs.Prelude.{◌||◌, ◌==◌, Option, Some, None, Ok, slice_get, is_some}
-use Rattle.std.proofs.lemmas.Bool.Decides.{eqb_tells}
 use Rattle.std.proofs.lemmas.Option.{slice_get_past, slice_get_within}
+use Rattle.std.proofs.lemmas.Bool.{ne_eqb, not-true}
 use Rattle.ring_names.specs.Lists.{has}
+use Rattle.ring_names.proofs.InLists.{get_there as there}
 use Rattle.ring_table.specs.Value.{RingValue}
 use Rattle.ring_clock.specs.declared.entry.Entry.{Entry}
 use Rattle.ring_versions.specs.declared.version.Version.{Version}
@@ -22,7 +23,6 @@ use Rattle.plan_check.specs.Reached.{Reached}
 use Rattle.plan_check.proofs.Answered.{answered}
 use Rattle.plan_check.proofs.Changed.{length_changed, part_changed}
 use Rattle.plan_check.proofs.Passed.{all_met}
-use Rattle.plan_stage.proofs.Truth.{not_is}
 use Rattle.store_tells.specs.Shows.{Shows, value_of}
 use Rattle.store_tells.specs.Clocks.{AreClocksOf}
 use Rattle.store_tells.specs.GetsFind.{can_find, found_by}
@@ -33,7 +33,7 @@ use Rattle.store_tables.specs.Marks.{has_mark, with_mark}
 use Rattle.store_tables.specs.Gets.{is_read}
 use Rattle.store_tables.proofs.Bits.{has_with}
 use Rattle.store_tells.specs.Gets.{GetMeets, GetsMeet}
-use Rattle.store_tells.proofs.PutsLists.{changed_at, appended_at, there}
+use Rattle.store_tells.proofs.PutsLists.{changed_at, appended_at}
 
 -- a get that is kept is one of the world's
 pub kept_get : (ring : RingValue) (clock : ℕ → List Entry) (keys : List (List ℕ)) (gets : List GetNow) (w : World) (g : ℕ) (get : GetNow) → GetsMeet ring clock keys gets w → slice_get gets g ≡ Some get
@@ -63,9 +63,6 @@ stays_get ring clock keys w u h get x same values p = record {
   reply = p.reply;
   answered = λ e. other_test clock (value_of u) get.found (replied w.gets h) (replied u.gets h) (λ v. sym (same v).1) (other_value clock (value_of w) (value_of u) get.found (replied w.gets h) (λ v t. values v) (p.answered e));
 }
-
-apart : (h g : ℕ) → h ≢ g → (h == g) ≡ false
-apart h g ne = elim (eqb_tells h g) [ inl t ↦ absurd (ne t.1) | inr t ↦ t.0 ]
 
 -- ---- a start
 
@@ -124,7 +121,7 @@ changes ring clock keys gets w u n f h is values same both m = record {
     ]
     | inr s ↦ elim (changed_at w.gets n g h x (ap (λ (xs : List GetRecord). slice_get xs g) (sym is) ∙ b)) [
       | inl t ↦ absurd (s.0 t.1)
-      | inr t ↦ stays_get ring clock keys w u g get x (same g (apart g n s.0)) values (m.at g get x s.1 t.1)
+      | inr t ↦ stays_get ring clock keys w u g get x (same g (ne_eqb g n s.0)) values (m.at g get x s.1 t.1)
     ]
   ];
 }
@@ -147,7 +144,7 @@ unfolding effect guards
 gets_read ring plan w u g i r clock keys gets get at_slot new reached made h small there shows merge m =
     let a = answered ring plan w u (Read g i) r h in
     let values : (v : ℕ) → value_of u v ≡ value_of w v = λ v. ap (λ (z : World). value_of z v) (sym a.1) in
-    let going : has_ended w g ≡ false = not_is (has_ended w g) (all_met (guards ring plan w (Read g i)) a.0).1.0 in
+    let going : has_ended w g ≡ false = not-true (has_ended w g) (all_met (guards ring plan w (Read g i)) a.0).1.0 in
     changes ring clock keys gets w u g (λ x. record x { read = with_mark x.read i; found = new }) (λ x. record x { found = with_value x.found i (finds ring plan w g i) })
     (ap (λ (z : World). z.gets) (sym a.1)) values
     (λ k ne. get_stays ring plan w u (Read g i) r k h ne)

@@ -1,10 +1,11 @@
 -- What gets found, as versions: reads, ends of gets, and other events.
 use Rattle.std.proofs.Common.{◌≡◌, inl, inr, ◌∙◌, ℕ, zero, suc, ◌<◌, Bool, true, false, cond, List, [], ◌∷◌, ◌++◌, length, refl, sym, ap, subst, arith, ltb-true, eq-eqb}
 use Rattle.std.specs.Prelude.{◌||◌, ◌==◌, nat_lt, Option, Some, None, Ok, slice_get, is_some}
-use Rattle.std.proofs.lemmas.Bool.{and_parts}
+use Rattle.std.proofs.lemmas.Bool.{and_parts, not-true, or_right, or_cases, or_left}
 use Rattle.std.proofs.lemmas.Bool.Decides.{eqb_tells}
 use Rattle.std.proofs.lemmas.Slice.Eq.{bytes_eq-Decides}
 use Rattle.ring_names.specs.Lists.{has}
+use Rattle.ring_names.proofs.Logic.{bool_same}
 use Rattle.ring_table.specs.Value.{RingValue}
 use Rattle.ring_clock.specs.declared.entry.Entry.{Entry}
 use Rattle.ring_versions.specs.declared.version.Version.{Version}
@@ -29,7 +30,6 @@ use Rattle.plan_check.proofs.Answered.{answered}
 use Rattle.plan_check.proofs.Changed.{get_other}
 use Rattle.plan_check.proofs.Passed.{AllMet, all_met}
 use Rattle.plan_check.proofs.Passing.{some_found, some_is}
-use Rattle.plan_stage.proofs.Truth.{either, first_of_two, second_of_two, not_is}
 use Rattle.store_tells.specs.Shows.{Shows, OfOneKey}
 use Rattle.store_tells.specs.Clocks.{AreClocksOf}
 use Rattle.store_tells.specs.GetsFind.{can_find, found_by, is_of_get}
@@ -52,7 +52,7 @@ can_fit ring plan w g i reached v h =
     let slot = get_slot ring w g i in
     let owner = (stage_now ring plan w slot).owner.0 in
     let b = and_parts (is_of_key w (key_of_get w g) v) (slot_has ring plan w slot v) h in (
-      elim (either (w.stored owner slot v) (some_hinted ring w slot v) b.1) [
+      elim (or_cases (w.stored owner slot v) (some_hinted ring w slot v) b.1) [
         | inl f ↦ (reached.stored owner slot v f).0
         | inr f ↦ (let x = some_found (length ring.nodes) (λ y. w.hinted y slot v) f in (reached.hinted x.0 slot v x.2).0)
       ],
@@ -78,25 +78,20 @@ not_yet : (o : Option (List ℕ)) (v : ℕ) → is_some o ≡ false → (elim o 
 not_yet None v e = refl
 not_yet (Some vs) v e = absurd cc
 
-same_truth : (a b : Bool) → (a ≡ true → b ≡ true) → (b ≡ true → a ≡ true) → a ≡ b
-same_truth true b f g = sym (f refl)
-same_truth false true f g = g refl
-same_truth false false f g = refl
-
 -- with one index more the tests of all indexes pass where they did, or where that one's does
 one_more : (n i : ℕ) (old new : ℕ → Bool) (now : Bool) → i < n → old i ≡ false → ((j : ℕ) → new j ≡ cond (j == i) now (old j)) → some_below n new ≡ (some_below n old || now)
-one_more n i old new now l none each = same_truth (some_below n new) (some_below n old || now) to back
+one_more n i old new now l none each = bool_same (some_below n new) (some_below n old || now) to back
   where
     to : some_below n new ≡ true → (some_below n old || now) ≡ true
     to h = (
         let s = some_found n new h in
         elim (eqb_tells s.0 i) [
-          | inl t ↦ second_of_two (some_below n old) now (sym (each s.0 ∙ rw t.0 refl) ∙ s.2)
-          | inr t ↦ first_of_two (some_below n old) now (some_is n old s.0 s.1 (sym (each s.0 ∙ rw t.0 refl) ∙ s.2))
+          | inl t ↦ or_right (some_below n old) now (sym (each s.0 ∙ rw t.0 refl) ∙ s.2)
+          | inr t ↦ or_left (some_below n old) now (some_is n old s.0 s.1 (sym (each s.0 ∙ rw t.0 refl) ∙ s.2))
         ])
 
     back : (some_below n old || now) ≡ true → some_below n new ≡ true
-    back h = elim (either (some_below n old) now h) [
+    back h = elim (or_cases (some_below n old) now h) [
       | inl f ↦ (
           let s = some_found n old f in
           elim (eqb_tells s.0 i) [
@@ -110,7 +105,7 @@ of_read : (ring : RingValue) (plan : List Planned) (w : World) (g i v : ℕ) →
 unfolding guards effect found_in
 of_read ring plan w g i v met =
     let b = and_parts (nat_lt g (length w.gets)) (nat_lt i ring.n) met.0 in
-    let none = not_is (is_some (found_at w g i)) met.1.1.0 in
+    let none = not-true (is_some (found_at w g i)) met.1.1.0 in
     one_more ring.n i (has_found w g v) (has_found (effect ring plan w (Read g i)) g v) (has v (finds ring plan w g i)) (ltb-true i ring.n b.1)
     (not_yet (found_at w g i) v none)
     (read_found w.gets g i v (finds ring plan w g i) (ltb-true g (length w.gets) b.0))

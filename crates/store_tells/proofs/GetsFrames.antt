@@ -1,10 +1,8 @@
 -- Gets that are kept meet the world at its start, and stay its gets through events that change no get, where keys come and where one more put has a clock.
 use Rattle.std.proofs.Common.{◌≡◌, ◌∙◌, ℕ, ◌<◌, true, false, List, [], ◌∷◌, ◌++◌, length, refl, sym, ap, subst}
-use Rattle.std.specs.Prelude.{Option, Some, None, Ok, slice_get}
+use Rattle.std.specs.Prelude.{Ok, slice_get}
 use Rattle.ring_table.specs.Value.{RingValue}
 use Rattle.ring_clock.specs.declared.entry.Entry.{Entry}
-use Rattle.plan_text.specs.declared.step.Step.{Step}
-use Rattle.plan_text.specs.declared.step.Step.TheVariants.{Join, Mirror, Copy, Switch, Drop, Retire}
 use Rattle.plan_text.specs.declared.step.Planned.{Planned}
 use Rattle.plan_stage.specs.Each.{step_at}
 use Rattle.plan_check.specs.declared.event.Event.{Event}
@@ -12,7 +10,7 @@ use Rattle.plan_check.specs.declared.event.Event.TheVariants.{Do, OpenCopy, Chun
 use Rattle.plan_check.specs.declared.event.Reply.{Reply}
 use Rattle.plan_check.specs.World.{GetRecord, World, opening_world}
 use Rattle.plan_check.specs.Succession.{replied}
-use Rattle.plan_check.specs.Effects.{with_number, step_effect, has_found, effect}
+use Rattle.plan_check.specs.Effects.{has_found, effect}
 use Rattle.plan_check.specs.Answers.{answer}
 use Rattle.plan_check.specs.Reached.{Reached}
 use Rattle.plan_check.proofs.Answered.{answered}
@@ -25,6 +23,7 @@ use Rattle.store_tables.specs.declared.gets.GetNow.{GetNow}
 use Rattle.store_tells.specs.Gets.{GetsMeet}
 use Rattle.store_tells.specs.GetsChange.{changes_gets}
 use Rattle.store_tells.proofs.PutsLists.{stays_there}
+use Rattle.plan_check.proofs.Asking.{do_gets}
 
 -- no gets are those of the world at the start
 pub gets_open : (ring : RingValue) (clock : ℕ → List Entry) (keys : List (List ℕ)) → GetsMeet ring clock keys [] (opening_world ring)
@@ -56,15 +55,6 @@ gets_as_before ring plan clock keys gets w u reached same values m = record {
             (other_value clock (value_of w) (value_of u) get.found (replied w.gets g) (λ v k. values v (reached.replied g v k).0) (p.answered h));
       });
 }
-
-do_gets : (w : World) (n : ℕ) (t : Option Step) → (elim t as (λ _. World) [ Some s ↦ step_effect (record w { done = with_number w.done n }) s | None ↦ w ]).gets ≡ w.gets
-do_gets w n None = refl
-do_gets w n (Some (Join x)) = refl
-do_gets w n (Some (Mirror s x)) = refl
-do_gets w n (Some (Copy s from)) = refl
-do_gets w n (Some (Switch s)) = refl
-do_gets w n (Some (Drop s x)) = refl
-do_gets w n (Some (Retire x)) = refl
 
 -- an event that changes no get leaves all gets as they are
 pub same_gets : (ring : RingValue) (plan : List Planned) (w : World) (e : Event) → changes_gets e ≡ false → (effect ring plan w e).gets ≡ w.gets

@@ -8,6 +8,7 @@ use Rattle.std.proofs.lemmas.Bool.Decides.{eqb_tells}
 use Rattle.std.proofs.lemmas.Option.{slice_get_cases, slice_get_past}
 use Rattle.std.proofs.lemmas.Slice.Eq.{bytes_eq-Decides}
 use Rattle.ring_names.specs.Names.{place}
+use Rattle.ring_names.proofs.InLists.{get_there}
 use Rattle.ring_table.specs.Value.{RingValue}
 use Rattle.ring_table.specs.Valid.{IsRing}
 use Rattle.ring_clock.specs.declared.entry.Entry.{Entry}
@@ -29,7 +30,7 @@ use Rattle.store_tells.specs.Gets.{GetMeets, GetsMeet}
 use Rattle.store_tells.specs.GetsChange.{changes_gets}
 use Rattle.store_tells.specs.GetsTests.{has_get, is_of_number, has_ended_at, read_count, ReadsFit}
 use Rattle.store_tells.specs.PutsChange.{AreNumbered}
-use Rattle.store_tells.proofs.PutsLists.{absent, one_number, there}
+use Rattle.store_tells.proofs.PutsLists.{absent, one_number}
 use Rattle.store_tells.proofs.PutsTests.{same_passing, more_passing}
 use Rattle.store_tells.proofs.GetsFrames.{same_gets}
 
@@ -37,7 +38,7 @@ use Rattle.store_tells.proofs.GetsFrames.{same_gets}
 pub both_gets : (ring : RingValue) (clock : ℕ → List Entry) (keys : List (List ℕ)) (gets : List GetNow) (w : World) (g : ℕ) → GetsMeet ring clock keys gets w
     → ((slice_get gets g ≡ None) × (slice_get w.gets g ≡ None)) ⊎ ((get : GetNow) × (x : GetRecord) × (slice_get gets g ≡ Some get) × (slice_get w.gets g ≡ Some x) × GetMeets ring clock w keys g get x)
 both_gets ring clock keys gets w g m = elim (slice_get_cases gets g).1 [
-  | inl s ↦ (let l = s.1 in let e = m.each in let y = there w.gets g (omega arith) in inr (s.0, y.0, s.2, y.1, m.at g s.0 y.0 s.2 y.1))
+  | inl s ↦ (let l = s.1 in let e = m.each in let y = get_there w.gets g (omega arith) in inr (s.0, y.0, s.2, y.1, m.at g s.0 y.0 s.2 y.1))
   | inr s ↦ (let l = s.0 in let e = m.each in inl (s.1, slice_get_past w.gets g (omega arith)))
 ]
 

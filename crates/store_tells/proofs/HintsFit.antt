@@ -1,7 +1,7 @@
 -- Hints are kept for slot indexes of the ring alone, in every run.
 use Rattle.std.proofs.Common.{◌≡◌, inl, inr, ℕ, true, not, List, subst, arith, eqb-true, ltb-true}
 use Rattle.std.specs.Prelude.{◌==◌, ◌&&◌, nat_lt, length, Option, Some, None, Ok}
-use Rattle.std.proofs.lemmas.Bool.{and_parts}
+use Rattle.std.proofs.lemmas.Bool.{and_parts, or_cases as either}
 use Rattle.ring_names.specs.declared.ids.Slot.{Slot}
 use Rattle.ring_table.specs.Value.{RingValue}
 use Rattle.plan_text.specs.declared.step.Step.{Step}
@@ -9,7 +9,6 @@ use Rattle.plan_text.specs.declared.step.Step.TheVariants as step
 use Rattle.plan_text.specs.declared.step.Planned.{Planned}
 use Rattle.plan_text.specs.Steps.{is_slot}
 use Rattle.plan_stage.specs.Each.{step_at}
-use Rattle.plan_stage.proofs.Truth.{either}
 use Rattle.plan_check.specs.declared.event.Event.{Event}
 use Rattle.plan_check.specs.declared.event.Event.TheVariants.{Do, OpenCopy, ChunkCopy, CloseCopy, AbortCopy, StartPut, Write, Hint, Ack, StartGet, Read, EndGet, Down, Up, Handoff, Lose}
 use Rattle.plan_check.specs.declared.event.Reply.{Reply}
@@ -26,7 +25,7 @@ use Rattle.store_tells.specs.HintsFit.{HintsFit}
 pub hints_open : (ring : RingValue) → HintsFit ring (opening_world ring)
 hints_open ring x slot v e = absurd cc
 
-do_hints : (w : World) (o : Option Step) (n x : ℕ) (slot : Slot) (v : ℕ) → (elim o as (λ _. World) [ Some s ↦ step_effect (record w { done = with_number w.done n }) s | None ↦ w ]).hinted x slot v ≡ true → w.hinted x slot v ≡ true
+pub do_hints : (w : World) (o : Option Step) (n x : ℕ) (slot : Slot) (v : ℕ) → (elim o as (λ _. World) [ Some s ↦ step_effect (record w { done = with_number w.done n }) s | None ↦ w ]).hinted x slot v ≡ true → w.hinted x slot v ≡ true
 do_hints w None n x slot v e = e
 do_hints w (Some (step.Join y)) n x slot v e = e
 do_hints w (Some (step.Mirror s y)) n x slot v e = e

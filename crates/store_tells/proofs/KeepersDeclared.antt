@@ -1,68 +1,36 @@
 -- Nodes that keep hints are declared, in every run.
 use Rattle.std.proofs.Common.{◌≡◌, inl, inr, ℕ, ◌<◌, true, not, List, [], ◌∷◌, length, sym, subst, eqb-true}
-use Rattle.std.specs.Prelude.{◌==◌, ◌&&◌, ◌||◌, Option, Some, None}
-use Rattle.std.proofs.lemmas.Bool.{and_parts}
+use Rattle.std.specs.Prelude.{◌==◌, ◌&&◌, ◌||◌}
+use Rattle.std.proofs.lemmas.Bool.{and_parts, or_cases as either}
 use Rattle.ring_names.specs.declared.ids.Slot.{Slot}
-use Rattle.ring_table.specs.declared.node.Node.{Node}
-use Rattle.ring_table.specs.Value.{RingValue, is_member}
-use Rattle.plan_text.specs.declared.step.Step.{Step}
+use Rattle.ring_table.specs.Value.{RingValue}
 use Rattle.plan_text.specs.declared.step.Step.TheVariants as step
 use Rattle.plan_text.specs.declared.step.Planned.{Planned}
-use Rattle.plan_text.specs.Steps.{is_slot, is_join_of, is_retire_of}
+use Rattle.plan_text.specs.Steps.{is_slot}
 use Rattle.plan_text.specs.Valid.{Suits}
-use Rattle.plan_stage.specs.Each.{some_step, step_at}
-use Rattle.plan_stage.proofs.Truth.{either, some-met}
+use Rattle.plan_stage.specs.Each.{step_at}
 use Rattle.plan_check.specs.declared.event.Event.{Event}
 use Rattle.plan_check.specs.declared.event.Event.TheVariants.{Do, OpenCopy, ChunkCopy, CloseCopy, AbortCopy, StartPut, Write, Hint, Ack, StartGet, Read, EndGet, Down, Up, Handoff, Lose}
 use Rattle.plan_check.specs.declared.event.Entry.{Entry}
-use Rattle.plan_check.specs.World.{World, opening_world, is_member_now}
+use Rattle.plan_check.specs.World.{World, opening_world}
 use Rattle.plan_check.specs.Versions.{put_slot}
 use Rattle.plan_check.specs.Guards.{guards}
-use Rattle.plan_check.specs.Effects.{effect, step_effect, with_number}
+use Rattle.plan_check.specs.Effects.{effect}
 use Rattle.plan_check.specs.Runs.{Leads}
 use Rattle.plan_check.proofs.Answered.{answered}
 use Rattle.plan_check.proofs.Passed.{AllMet, all_met}
-use Rattle.store_tells.proofs.NodesRead.{read_within}
-use Rattle.store_tells.proofs.StageSuits.{joins_within}
 use Rattle.store_tells.specs.Kept.{Kept, Tells}
 use Rattle.store_tells.proofs.StoreInWorld.{suits_of}
+use Rattle.plan_check.proofs.Members.{member_within}
+use Rattle.store_tells.proofs.HintsFit.{do_hints}
 
 -- each node that keeps a hint is declared
 abbrev KeepersFit : RingValue → World → Type 0
 KeepersFit ring w = (x : ℕ) (slot : Slot) (v : ℕ) → w.hinted x slot v ≡ true → x < length ring.nodes
 
--- a member is declared
-member_within : (ring : RingValue) (plan : List Planned) (w : World) (x : ℕ) → Suits ring plan → is_member_now ring plan w x ≡ true → x < length ring.nodes
-member_within ring plan w x suits h =
-    let retired = some_step (λ n s. w.done n && is_retire_of x s) 0 plan in
-    let joined = some_step (λ n s. w.done n && is_join_of x s) 0 plan in
-    elim (either (is_member ring.nodes (record { 0 = x })) joined (and_parts (is_member ring.nodes (record { 0 = x }) || joined) (not retired) h).0) [
-      | inl e ↦ read_within (λ (node : Node). node.is_member) ring.nodes x e
-      | inr e ↦ (
-          let s = some-met (λ n t. w.done n && is_join_of x t) plan e in
-          by s.0 s.1 s.2 (and_parts (w.done s.0) (is_join_of x s.1) s.3).1)
-    ]
-  where
-    by : (n : ℕ) (s : Step) → step_at plan n ≡ Some s → is_join_of x s ≡ true → x < length ring.nodes
-    by n (step.Join y) at e = subst (λ (z : ℕ). z < length ring.nodes) (sym (eqb-true x y.0 e)) (joins_within ring plan suits n y at)
-    by n (step.Mirror s y) at e = absurd cc
-    by n (step.Copy s from) at e = absurd cc
-    by n (step.Switch s) at e = absurd cc
-    by n (step.Drop s y) at e = absurd cc
-    by n (step.Retire y) at e = absurd cc
-
-do_keepers : (w : World) (o : Option Step) (n x : ℕ) (slot : Slot) (v : ℕ) → (elim o as (λ _. World) [ Some s ↦ step_effect (record w { done = with_number w.done n }) s | None ↦ w ]).hinted x slot v ≡ true → w.hinted x slot v ≡ true
-do_keepers w None n x slot v e = e
-do_keepers w (Some (step.Join y)) n x slot v e = e
-do_keepers w (Some (step.Mirror s y)) n x slot v e = e
-do_keepers w (Some (step.Copy s from)) n x slot v e = e
-do_keepers w (Some (step.Switch s)) n x slot v e = e
-do_keepers w (Some (step.Drop s y)) n x slot v e = e
-do_keepers w (Some (step.Retire y)) n x slot v e = e
-
 keepers_after : (ring : RingValue) (plan : List Planned) (w : World) (e : Event) → Suits ring plan → AllMet (guards ring plan w e) → KeepersFit ring w → KeepersFit ring (effect ring plan w e)
 unfolding effect guards
-keepers_after ring plan w (Do n) suits met fit x slot v h = fit x slot v (do_keepers w (step_at plan n) n x slot v h)
+keepers_after ring plan w (Do n) suits met fit x slot v h = fit x slot v (do_hints w (step_at plan n) n x slot v h)
 keepers_after ring plan w (OpenCopy n) suits met fit x slot v h = fit x slot v h
 keepers_after ring plan w (ChunkCopy n c) suits met fit x slot v h = fit x slot v h
 keepers_after ring plan w (CloseCopy n) suits met fit x slot v h = fit x slot v h

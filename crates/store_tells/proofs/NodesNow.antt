@@ -96,7 +96,7 @@ nodes_up ring plan w x old new t g is = rw is (record {
 -- ---- steps
 
 -- the world once a step of that number is done
-done_is : (ring : RingValue) (plan : List Planned) (w : World) (n : ℕ) (s : Step) → step_at plan n ≡ Some s → effect ring plan w (Do n) ≡ step_effect (record w { done = with_number w.done n }) s
+pub done_is : (ring : RingValue) (plan : List Planned) (w : World) (n : ℕ) (s : Step) → step_at plan n ≡ Some s → effect ring plan w (Do n) ≡ step_effect (record w { done = with_number w.done n }) s
 unfolding effect
 done_is ring plan w n s at = ap (λ (o : Option Step). elim o as (λ _. World) [ Some t ↦ step_effect (record w { done = with_number w.done n }) t | None ↦ w ]) at
 

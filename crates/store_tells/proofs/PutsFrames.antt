@@ -2,6 +2,7 @@
 use Rattle.std.proofs.Common.{◌≡◌, inl, inr, ◌∙◌, ℕ, ◌<◌, false, List, [], ◌∷◌, ◌++◌, length, refl, sym, ap, subst, arith}
 use Rattle.std.specs.Prelude.{Option, Some, None, Ok, slice_get}
 use Rattle.ring_names.specs.Names.{place}
+use Rattle.ring_names.proofs.InLists.{get_there}
 use Rattle.ring_table.specs.Value.{RingValue}
 use Rattle.plan_text.specs.declared.step.Step.{Step}
 use Rattle.plan_text.specs.declared.step.Step.TheVariants.{Join, Mirror, Copy, Switch, Drop, Retire}
@@ -20,7 +21,7 @@ use Rattle.store_tells.proofs.ClocksStay.{opening_clocks, clocks_stay}
 use Rattle.store_tables.specs.declared.puts.PutNow.{PutNow}
 use Rattle.store_tells.specs.Puts.{clock_at, PutsMeet}
 use Rattle.store_tells.specs.PutsChange.{changes_puts}
-use Rattle.store_tells.proofs.PutsLists.{appended_at, stays_there, there, absent}
+use Rattle.store_tells.proofs.PutsLists.{appended_at, stays_there, absent}
 
 -- ---- the start
 
@@ -115,9 +116,9 @@ puts_stay ring plan w u e r keys last puts reached h none m =
 -- a key of a put is among the keys
 pub put_key : (keys : List (List ℕ)) (last : ℕ → ℕ → Option ℕ) (puts : List PutNow) (w : World) → PutsMeet keys last puts w → (v : ℕ) → v < length w.puts → (k : ℕ) × (slice_get keys k ≡ Some (key_of_put w v))
 put_key keys last puts w m v l =
-    let x = there w.puts v l in
+    let x = get_there w.puts v l in
     let e = m.each in
-    let put = there puts v (omega arith) in
+    let put = get_there puts v (omega arith) in
     let is : x.0.key ≡ key_of_put w v = ap (λ (o : Option PutRecord). elim o as (λ _. List ℕ) [ Some y ↦ y.key | None ↦ [] ]) (sym x.1) in
     (put.0.key, (m.at v put.0 x.0 put.1 x.1).key ∙ ap (λ (z : List ℕ). Some z) is)
 

@@ -6,6 +6,8 @@ use Rattle.std.proofs.lemmas.Bool.Decides.{eqb_tells}
 use Rattle.std.proofs.lemmas.Slice.Eq.{bytes_eq-Decides}
 use Rattle.ring_names.specs.Names.{place}
 use Rattle.ring_names.proofs.Places.{place-push}
+use Rattle.ring_names.proofs.Logic.{cond_none}
+use Rattle.ring_names.proofs.InLists.{get_there}
 use Rattle.plan_check.specs.Effects.{changed}
 use Rattle.plan_check.proofs.Changed.{get_changed, get_other}
 use Rattle.store_tells.specs.PutsChange.{AreNumbered}
@@ -48,28 +50,17 @@ comes_last [] y (suc m) e = absurd (omega arith)
 comes_last (x ∷ xs) y zero e = absurd (omega arith)
 comes_last (x ∷ xs) y (suc m) e = comes_last xs y m (omega arith)
 
--- there is an item at each number below the length
-pub there : {A : Type 0} (xs : List A) (m : ℕ) → m < length xs → (x : A) × (slice_get xs m ≡ Some x)
-there [] m l = absurd (omega arith)
-there (x ∷ xs) zero l = (x, refl)
-there (x ∷ xs) (suc m) l = there xs m (omega arith)
-
 -- ---- keys
-
-no_first : (b : Bool) (o : Option ℕ) → cond b (Some 0) (option_map (λ n. suc n) o) ≡ None → (b ≡ false) × (o ≡ None)
-no_first true o e = absurd cc
-no_first false None e = (refl, refl)
-no_first false (Some n) e = absurd cc
 
 -- a key that has no place is not among the keys
 pub absent : (keys : List (List ℕ)) (k : ℕ) (key : List ℕ) → place keys key ≡ None → slice_get keys k ≡ Some key → ⊥
 absent [] k key none e = cc
 absent (y ∷ ys) zero key none e =
-    let f = (no_first (bytes_eq key y) (place ys key) none).0 in
+    let f = (cond_none (bytes_eq key y) (place ys key) none).0 in
     let s : y ≡ key = cc in
     let t : bytes_eq key y ≡ true = (bytes_eq-Decides key y).1 (sym s) in
     cc
-absent (y ∷ ys) (suc k) key none e = absent ys k key (no_first (bytes_eq key y) (place ys key) none).1 e
+absent (y ∷ ys) (suc k) key none e = absent ys k key (cond_none (bytes_eq key y) (place ys key) none).1 e
 
 -- a key's place stays where more keys come
 pub place_stays : (keys more : List (List ℕ)) (key : List ℕ) (k : ℕ) → place keys key ≡ Some k → place (keys ++ more) key ≡ Some k

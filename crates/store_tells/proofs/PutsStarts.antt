@@ -7,6 +7,7 @@ use Rattle.std.proofs.lemmas.Option.{slice_get_cases, slice_get_within}
 use Rattle.ring_names.specs.Lists.{has}
 use Rattle.ring_names.specs.declared.ids.Slot.{Slot}
 use Rattle.ring_names.specs.declared.ids.WriterId.{WriterId}
+use Rattle.ring_names.proofs.InLists.{get_there}
 use Rattle.ring_table.specs.Value.{RingValue}
 use Rattle.ring_clock.specs.declared.entry.Entry.{Entry}
 use Rattle.ring_clock.specs.Built.{IsJoinOf, IsNext, with_clock}
@@ -40,7 +41,7 @@ use Rattle.store_tells.specs.Puts.{clock_in, clock_at, PutMeets, PutsMeet}
 use Rattle.store_tells.specs.PutsChange.{AreNumbered, NoneBehind}
 use Rattle.store_tells.specs.Gets.{GetsMeet}
 use Rattle.store_tells.specs.GetsChange.{found_at}
-use Rattle.store_tells.proofs.PutsLists.{appended_at, there, one_number}
+use Rattle.store_tells.proofs.PutsLists.{appended_at, one_number}
 use Rattle.store_tells.proofs.PutsChanges.{same_clocks}
 use Rattle.store_tells.proofs.GetsFrames.{gets_stay, gets_stay_with_clocks}
 
@@ -75,7 +76,7 @@ seen_show ring plan w writer key value seen clock keys gets none m g named = by 
     by (Some x) e ended = (
         let l = slice_get_within w.gets g x e in
         let s = m.each in
-        let get = there gets g (omega arith) in
+        let get = get_there gets g (omega arith) in
         subst (λ (held : List Version). Shows clock (value_of w) held (replied w.gets g)) (ap (λ (o : Option GetNow). elim o as (λ _. List Version) [ Some y ↦ y.found | None ↦ [] ]) (sym get.1))
         ((m.at g get.0 x get.1 e).answered ended))
 

@@ -2,6 +2,7 @@
 use Rattle.std.proofs.Common.{◌≡◌, ◌⊎◌, inl, inr, ◌∙◌, ℕ, zero, suc, ◌+◌, ◌<◌, ◌≤◌, Bool, false, cond, List, ◌∷◌, length, refl, sym, ap, arith}
 use Rattle.std.specs.Prelude.{◌&&◌, ◌==◌, nat_lt, Option, Some, None, slice_get}
 use Rattle.std.proofs.lemmas.Option.{slice_get_cases, slice_get_past}
+use Rattle.ring_names.proofs.InLists.{get_there}
 use Rattle.ring_table.specs.Value.{RingValue}
 use Rattle.plan_text.specs.declared.step.Planned.{Planned}
 use Rattle.plan_check.specs.World.{PutRecord, World, passing_from, passing_below, generation, is_acked}
@@ -12,7 +13,6 @@ use Rattle.store_tables.specs.declared.puts.PutNow.{PutNow}
 use Rattle.store_tables.specs.Puts.{ticket_at, ticket_of}
 use Rattle.store_tells.specs.Puts.{PutMeets, PutsMeet}
 use Rattle.store_tells.specs.PutsTests.{has_put, is_acked_at, is_current_at, current_count}
-use Rattle.store_tells.proofs.PutsLists.{there}
 
 -- ---- numbers that pass
 
@@ -44,7 +44,7 @@ more_passing m n f le none = more_from 0 m n f le (λ i l. none i (omega arith))
 pub both_puts : (keys : List (List ℕ)) (last : ℕ → ℕ → Option ℕ) (puts : List PutNow) (w : World) (v : ℕ) → PutsMeet keys last puts w
     → ((slice_get puts v ≡ None) × (slice_get w.puts v ≡ None)) ⊎ ((put : PutNow) × (x : PutRecord) × (slice_get puts v ≡ Some put) × (slice_get w.puts v ≡ Some x) × PutMeets keys v put x)
 both_puts keys last puts w v m = elim (slice_get_cases puts v).1 [
-  | inl s ↦ (let l = s.1 in let e = m.each in let y = there w.puts v (omega arith) in inr (s.0, y.0, s.2, y.1, m.at v s.0 y.0 s.2 y.1))
+  | inl s ↦ (let l = s.1 in let e = m.each in let y = get_there w.puts v (omega arith) in inr (s.0, y.0, s.2, y.1, m.at v s.0 y.0 s.2 y.1))
   | inr s ↦ (let l = s.0 in let e = m.each in inl (s.1, slice_get_past w.puts v (omega arith)))
 ]
 

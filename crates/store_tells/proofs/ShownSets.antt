@@ -1,13 +1,13 @@
 -- Sets of versions that show puts, merged, and under other tests, clocks and values.
 use Rattle.std.proofs.Common.{◌≡◌, inl, inr, ◌∙◌, ℕ, ◌<◌, ◌≤◌, Bool, true, false, List, [], ◌∷◌, length, refl, sym, ap, subst, arith, eqb-true, eq-eqb}
 use Rattle.std.specs.Prelude.{◌||◌, ◌==◌}
+use Rattle.std.proofs.lemmas.Bool.{or_right, or_cases, or_left}
 use Rattle.ring_clock.specs.declared.entry.Entry.{Entry}
 use Rattle.ring_clock.specs.Clock.{counter, IsAtMost}
 use Rattle.ring_clock.specs.Built.{with_clock}
 use Rattle.ring_versions.specs.declared.version.Version.{Version}
 use Rattle.ring_versions.specs.Versions.{Covers, IsApart, IsMerge}
 use Rattle.plan_check.specs.World.{World}
-use Rattle.plan_stage.proofs.Truth.{either, first_of_two, second_of_two}
 use Rattle.store_tells.specs.Shows.{Shows, ArePutsOf}
 
 pub same_is_most : (c d : List Entry) → c ≡ d → IsAtMost c d
@@ -16,10 +16,10 @@ same_is_most c d e w = subst (λ (z : List Entry). counter c w ≤ counter z w) 
 pub merge : (clock : ℕ → List Entry) (value : ℕ → List ℕ) (a b c : List Version) (f g : ℕ → Bool) → Shows clock value a f → Shows clock value b g → IsMerge a b c → Shows clock value c (λ v. f v || g v)
 merge clock value a b c f g s t m = record {
   drawn = λ x h. elim (m.drawn x h) [
-    | inl first ↦ (let d = s.drawn x first in (first_of_two (f x.put) (g x.put) d.0, d.1, d.2))
-    | inr second ↦ (let d = t.drawn x second in (second_of_two (f x.put) (g x.put) d.0, d.1, d.2))
+    | inl first ↦ (let d = s.drawn x first in (or_left (f x.put) (g x.put) d.0, d.1, d.2))
+    | inr second ↦ (let d = t.drawn x second in (or_right (f x.put) (g x.put) d.0, d.1, d.2))
   ];
-  covers = λ v h. (m.covers (clock v)).1 (elim (either (f v) (g v) h) [ inl e ↦ inl (s.covers v e) | inr e ↦ inr (t.covers v e) ]);
+  covers = λ v h. (m.covers (clock v)).1 (elim (or_cases (f v) (g v) h) [ inl e ↦ inl (s.covers v e) | inr e ↦ inr (t.covers v e) ]);
   apart = m.apart;
 }
 

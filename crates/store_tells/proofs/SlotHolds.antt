@@ -1,7 +1,7 @@
 -- What a slot holds, by the versions at its owner and at keepers of hints for it.
 use Rattle.std.proofs.Common.{◌≡◌, ◌⊎◌, inl, inr, ℕ, ◌<◌, Bool, true, List, length, subst}
 use Rattle.std.specs.Prelude.{◌↔◌, ◌&&◌}
-use Rattle.std.proofs.lemmas.Bool.{and_parts}
+use Rattle.std.proofs.lemmas.Bool.{and_parts, or_right, and_from, or_cases, or_left}
 use Rattle.std.proofs.lemmas.Slice.Eq.{bytes_eq-Decides}
 use Rattle.ring_names.specs.declared.ids.Slot.{Slot}
 use Rattle.ring_table.specs.Value.{RingValue}
@@ -18,7 +18,6 @@ use Rattle.plan_check.specs.Reached.{Reached}
 use Rattle.plan_check.proofs.Lasting.{succeeds_same_key}
 use Rattle.plan_check.proofs.Passing.{some_found, some_is}
 use Rattle.plan_check.proofs.Succeeding.{held_is, is_held_from}
-use Rattle.plan_stage.proofs.Truth.{all_of, either, first_of_two, second_of_two}
 use Rattle.store_tells.specs.Shows.{Shows}
 use Rattle.store_tells.specs.Clocks.{AreClocksOf}
 use Rattle.store_tells.proofs.ClocksOrder.{above, tells}
@@ -31,7 +30,7 @@ module _ (w : World) (clock : ℕ → List Entry) (value : ℕ → List ℕ) (ma
   covered : (held : List Version) (test : ℕ → Bool) → Shows clock value held (λ u. test u && is_of_key w key u) → (u : ℕ) → u < length w.puts → test u ≡ true → Succeeds w u v → Covers held (clock v)
   covered held test s u l h succeeds =
       let of : is_of_key w key u ≡ true = (bytes_eq-Decides (key_of_put w u) key).1 (succeeds_same_key w u v succeeds) in
-      covers_down held (clock v) (clock u) (above w clock made u v l succeeds) (s.covers u (all_of (test u) (is_of_key w key u) h of))
+      covers_down held (clock v) (clock u) (above w clock made u v l succeeds) (s.covers u (and_from (test u) (is_of_key w key u) h of))
 
   -- and where it covers its clock one of them succeeds the put
   succeeded : (held : List Version) (test : ℕ → Bool) → Shows clock value held (λ u. test u && is_of_key w key u) → ((u : ℕ) → test u ≡ true → u < length w.puts) → Covers held (clock v) → (u : ℕ) × Succeeds w u v × (test u ≡ true)
@@ -49,7 +48,7 @@ pub held : (ring : RingValue) (plan : List Planned) (w : World) (clock : ℕ →
 held ring plan w clock value v slot owner_held hint_held reached made exists owners hints = let owner = (stage_now ring plan w slot).owner.0 in (
   λ h. (
       let s = held_is ring plan w v slot h in
-      elim (either (w.stored owner slot s.0) (some_hinted ring w slot s.0) s.2) [
+      elim (or_cases (w.stored owner slot s.0) (some_hinted ring w slot s.0) s.2) [
         | inl f ↦ inl (covered w clock value made v exists owner_held (w.stored owner slot) owners s.0 (reached.stored owner slot s.0 f).0 f s.1)
         | inr f ↦ (
             let x = some_found (length ring.nodes) (λ y. w.hinted y slot s.0) f in
@@ -58,9 +57,9 @@ held ring plan w clock value v slot owner_held hint_held reached made exists own
   λ h. is_held_from ring plan w v slot (elim h [
     | inl c ↦ (
         let s = succeeded w clock value made v exists owner_held (w.stored owner slot) owners (λ u e. (reached.stored owner slot u e).0) c in
-        (s.0, s.1, first_of_two (w.stored owner slot s.0) (some_hinted ring w slot s.0) s.2))
+        (s.0, s.1, or_left (w.stored owner slot s.0) (some_hinted ring w slot s.0) s.2))
     | inr c ↦ (
         let s = succeeded w clock value made v exists (hint_held c.0) (w.hinted c.0 slot) (hints c.0 c.1) (λ u e. (reached.hinted c.0 slot u e).0) c.2 in
-        (s.0, s.1, second_of_two (w.stored owner slot s.0) (some_hinted ring w slot s.0) (some_is (length ring.nodes) (λ y. w.hinted y slot s.0) c.0 c.1 s.2)))
+        (s.0, s.1, or_right (w.stored owner slot s.0) (some_hinted ring w slot s.0) (some_is (length ring.nodes) (λ y. w.hinted y slot s.0) c.0 c.1 s.2)))
   ]),
 )

@@ -3,6 +3,7 @@ use Rattle.std.proofs.Common.{◌≡◌, ◌∙◌, ℕ, ◌+◌, Bool, true, fa
 use Rattle.std.specs.Prelude.{◌&&◌, Option, Some, None, option_map, unwrap_or, is_some}
 use Rattle.ring_names.specs.declared.ids.NodeId.{NodeId}
 use Rattle.ring_names.specs.declared.ids.Slot.{Slot}
+use Rattle.ring_names.proofs.Logic.{bool_same}
 use Rattle.ring_table.specs.Value.{RingValue}
 use Rattle.plan_text.specs.declared.step.Step.{Step}
 use Rattle.plan_text.specs.declared.step.Step.TheVariants as step
@@ -20,7 +21,6 @@ use Rattle.store_tables.specs.declared.slots.SlotNow.{SlotNow}
 use Rattle.store_tables.specs.Slots.{slot_now, switched, ChangesSlot}
 use Rattle.store_tells.specs.Slots.{IsNow, SlotsMeet}
 use Rattle.store_tells.specs.SlotsStepped.{stepped, StepsSlots}
-use Rattle.store_tells.proofs.NodesDone.{alike}
 use Rattle.store_tells.proofs.StageNow.{stage_on, stage_off, mirrors_on, mirrors_off}
 
 -- ---- one slot
@@ -118,7 +118,7 @@ slots_stepped ring plan k w n s old new c d off at t change = record {
 
 -- two tests of one pair are one
 pub slot_turned : (s t : Slot) → is_slot s t ≡ is_slot t s
-slot_turned s t = alike (is_slot s t) (is_slot t s) (λ h. rw (slot-is s t h) (slot-same t)) (λ h. rw (slot-is t s h) (slot-same s))
+slot_turned s t = bool_same (is_slot s t) (is_slot t s) (λ h. rw (slot-is s t h) (slot-same t)) (λ h. rw (slot-is t s h) (slot-same s))
 
 -- a slot that changes twice
 pub changes_twice : (old mid new : List (List SlotNow)) (s : Slot) (f g : SlotNow → SlotNow) → ChangesSlot old mid s f → ChangesSlot mid new s g → ChangesSlot old new s (λ x. g (f x))

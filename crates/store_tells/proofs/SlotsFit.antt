@@ -1,14 +1,14 @@
 -- The owners and mirrors of slots that are kept are declared nodes, and their generations are small.
-use Rattle.std.proofs.Common.{◌≡◌, ◌∙◌, ℕ, ◌+◌, ◌<◌, ◌≤◌, Bool, true, false, cond, List, [], ◌∷◌, length, refl, sym, ap, subst, arith, eqb-true, leb-true}
-use Rattle.std.specs.Prelude.{◌==◌, ◌&&◌, nat_lt, nat_le, Option, Some, None, option_map, is_some, IfSome}
+use Rattle.std.proofs.Common.{◌≡◌, ◌∙◌, ℕ, ◌+◌, ◌<◌, ◌≤◌, Bool, true, false, cond, List, [], ◌∷◌, length, refl, sym, ap, subst, arith}
+use Rattle.std.specs.Prelude.{◌==◌, ◌&&◌, Option, Some, None, option_map, is_some, IfSome}
 use Rattle.ring_names.specs.declared.ids.NodeId.{NodeId}
 use Rattle.ring_names.specs.declared.ids.Slot.{Slot}
 use Rattle.ring_table.specs.Value.{RingValue}
-use Rattle.ring_table.specs.Valid.{IsRing, is_loss}
+use Rattle.ring_table.specs.Valid.{IsRing}
 use Rattle.plan_text.specs.declared.step.Step.{Step}
 use Rattle.plan_text.specs.declared.step.Step.TheVariants as step
 use Rattle.plan_text.specs.declared.step.Planned.{Planned}
-use Rattle.plan_text.specs.Steps.{steps_of, steps_from, is_on}
+use Rattle.plan_text.specs.Steps.{steps_of}
 use Rattle.plan_text.specs.Valid.{IsPlan, Suits, is_ring_slot}
 use Rattle.plan_stage.specs.Each.{step_at}
 use Rattle.plan_stage.proofs.Truth.{slot-same}
@@ -23,6 +23,8 @@ use Rattle.store_tells.specs.Slots.{IsNow, SlotsMeet}
 use Rattle.store_tells.specs.SlotsLost.{LossesFit}
 use Rattle.store_tells.proofs.StageCounts.{count_within}
 use Rattle.store_tells.proofs.StageNodes.{stage_declared}
+use Rattle.ring_table.proofs.LineLaws.{loss-le}
+use Rattle.plan_stage.proofs.Copies.{steps_from-few}
 
 -- ---- losses
 
@@ -65,21 +67,6 @@ losses_stay ring plan w (Lose x) f = λ slot. by (is_in_group ring plan w slot x
 
 -- ---- generations
 
-steps_within : (k : ℕ) (plan : List Planned) (slot : Slot) → length (steps_from k plan slot) ≤ length plan
-steps_within k [] slot = omega arith
-steps_within k (x ∷ xs) slot = by (is_on slot x.step) (steps_within (k + 1) xs slot)
-  where
-    by : (b : Bool) → length (steps_from (k + 1) xs slot) ≤ length xs → length (cond b (k ∷ steps_from (k + 1) xs slot) (steps_from (k + 1) xs slot)) ≤ length (x ∷ xs)
-    by true l = omega arith
-    by false l = omega arith
-
-loss_within : (format loss : ℕ) → is_loss format loss ≡ true → loss ≤ 6
-loss_within format loss h = by (nat_lt format 3) h
-  where
-    by : (b : Bool) → cond b (loss == 0) (nat_le loss 6) ≡ true → loss ≤ 6
-    by true e = (let f = eqb-true loss 0 e in omega arith)
-    by false e = leb-true loss 6 e
-
 -- a slot that is kept is one of the ring
 pub kept_within : (ring : RingValue) (plan : List Planned) (rows : List (List SlotNow)) (w : World) (slot : Slot) (x : SlotNow) → SlotsMeet ring plan rows w → slot_now rows slot ≡ Some x → is_ring_slot ring slot ≡ true
 kept_within ring plan rows w slot x t at = by (is_ring_slot ring slot) refl
@@ -101,11 +88,11 @@ pub generation_most : (ring : RingValue) (plan : List Planned) (rows : List (Lis
 generation_most ring plan rows w slot x is_ring is_plan r fit t at =
     let g = (kept_is ring plan rows w slot x t at).generation in
     let a = count_within (λ s. w.done s && is_some (mirror_at plan s)) (steps_of plan slot) in
-    let b = steps_within 0 plan slot in
+    let b = steps_from-few 0 plan slot in
     let c = is_plan.steps in
     let d = fit slot in
     let e = r.spent in
-    let f = loss_within ring.format ring.loss is_ring.loss in
+    let f = loss-le ring.format ring.loss is_ring.loss in
     omega arith
 
 -- so each may be one more

@@ -1,7 +1,7 @@
 -- What an event needs of the nodes of a slot is one over the slots that are kept and over the world.
 use Rattle.std.proofs.Common.{◌≡◌, ◌∙◌, ℕ, zero, suc, ◌+◌, ◌<◌, Bool, true, false, not, cond, List, [], ◌∷◌, ◌++◌, length, refl, sym, ap, subst, arith, lt-ltb}
 use Rattle.std.specs.Prelude.{◌||◌, ◌==◌, nat_lt, Option, Some, None, option_map, is_some, if◌then◌else◌}
-use Rattle.std.proofs.lemmas.Bool.{and_parts}
+use Rattle.std.proofs.lemmas.Bool.{and_parts, and_from}
 use Rattle.std.proofs.Math.Path.{fun_ext}
 use Rattle.ring_names.specs.declared.ids.NodeId.{NodeId}
 use Rattle.ring_names.specs.declared.ids.Slot.{Slot}
@@ -11,7 +11,6 @@ use Rattle.ring_table.specs.Value.{RingValue}
 use Rattle.plan_text.specs.declared.step.Planned.{Planned}
 use Rattle.plan_text.specs.Valid.{is_ring_slot}
 use Rattle.plan_stage.specs.Clauses.{Guard, first_failing}
-use Rattle.plan_stage.proofs.Truth.{all_of}
 use Rattle.plan_check.specs.declared.event.Event.TheVariants.{Write, Hint, Handoff, Lose, Read}
 use Rattle.plan_check.specs.World.{World, some_below, stage_now, is_member_now, is_served, slot_at, keeps, keeps_other, is_in_group, key_of_get, found_at}
 use Rattle.plan_check.specs.Versions.{put_slot, get_slot}
@@ -56,7 +55,7 @@ some_alike (suc n) f g h = (let a = some_alike n f g (λ i l. h i (omega arith))
 -- whether it serves a slot of the partition
 pub serves_kept : (ring : RingValue) (plan : List Planned) (rows : List (List SlotNow)) (w : World) (p x : ℕ) → SlotsMeet ring plan rows w → p < ring.q → serves_in_kept ring rows p x ≡ serves_in ring plan w p x
 serves_kept ring plan rows w p x t l = some_alike ring.n (λ i. is_served_kept rows (slot_at p i) x) (λ i. is_served (stage_now ring plan w (slot_at p i)) x)
-    (λ i k. server_kept ring plan rows w (slot_at p i) x t (all_of (nat_lt p ring.q) (nat_lt i ring.n) (lt-ltb p ring.q l) (lt-ltb i ring.n k)))
+    (λ i k. server_kept ring plan rows w (slot_at p i) x t (and_from (nat_lt p ring.q) (nat_lt i ring.n) (lt-ltb p ring.q l) (lt-ltb i ring.n k)))
 
 -- ---- events
 
@@ -75,7 +74,7 @@ write_kept ring plan nodes rows w exists slot v i m t same there = asked exists 
     let s = there (same ∙ e) in
     let l : (put_slot ring w v i).partition < ring.q = (let z = ap (λ (t : Slot). t.partition) s.0 in let k = s.1 in omega arith) in
     ap (λ (t : Slot). first_failing (served_up_kept nodes rows t)) s.0
-    ∙ ap first_failing (served_kept ring plan nodes rows w (put_slot ring w v i) m t (all_of (nat_lt (put_slot ring w v i).partition ring.q) (nat_lt i ring.n) (lt-ltb (put_slot ring w v i).partition ring.q l) b.1)))
+    ∙ ap first_failing (served_kept ring plan nodes rows w (put_slot ring w v i) m t (and_from (nat_lt (put_slot ring w v i).partition ring.q) (nat_lt i ring.n) (lt-ltb (put_slot ring w v i).partition ring.q l) b.1)))
 
 -- what keeping a hint needs
 pub hint_kept : (ring : RingValue) (plan : List Planned) (nodes : List NodeNow) (w : World) (exists serves other : Bool) (v i : ℕ) (x : NodeId) → NodesMeet ring plan nodes w → exists ≡ put_exists ring w v i
@@ -138,7 +137,7 @@ read_kept ring plan nodes rows w exists ended was_read kept slot g i m t same th
     alike e r =
         let b = and_parts (nat_lt g (length w.gets)) (nat_lt i ring.n) e in
         let l : s.partition < ring.q = (let z = ap (λ (x : Slot). x.partition) r.place in let k = r.partition in omega arith) in
-        let h = t.each s (all_of (nat_lt s.partition ring.q) (nat_lt i ring.n) (lt-ltb s.partition ring.q l) b.1) in
+        let h = t.each s (and_from (nat_lt s.partition ring.q) (nat_lt i ring.n) (lt-ltb s.partition ring.q l) b.1) in
         let up : is_up_at nodes ≡ w.up = fun_ext m.up in
         let keepers : kept ≡ keeps_of_key w (key_of_get w g) s = fun_ext r.keepers in
         pair_is _ _ _ _ AlreadyDone AlreadyDone _ _ (ap not r.reply) (ap not r.read)

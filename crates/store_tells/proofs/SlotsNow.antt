@@ -1,7 +1,7 @@
 -- The slots that are kept go on to tell the slots of a world.
-use Rattle.std.proofs.Common.{◌≡◌, inl, inr, ◌∙◌, ℕ, ◌+◌, ◌<◌, Bool, true, false, cond, List, [], refl, sym, ap, subst, arith, ltb-true, lt-ltb}
+use Rattle.std.proofs.Common.{◌≡◌, inl, inr, ◌∙◌, ℕ, ◌+◌, ◌<◌, Bool, true, false, cond, List, [], refl, sym, ap, subst, arith, lt-ltb}
 use Rattle.std.specs.Prelude.{nat_lt, Option, Some, None, option_map, is_some, option_and_then, if◌then◌else◌}
-use Rattle.std.proofs.lemmas.Bool.{and_parts}
+use Rattle.std.proofs.lemmas.Bool.{not-true, and_from}
 use Rattle.ring_names.specs.declared.ids.NodeId.{NodeId}
 use Rattle.ring_names.specs.declared.ids.Slot.{Slot}
 use Rattle.ring_table.specs.Value.{RingValue, owner_of}
@@ -14,7 +14,6 @@ use Rattle.plan_text.specs.Valid.{IsPlan, is_ring_slot}
 use Rattle.plan_stage.specs.Stage.{opening, stage}
 use Rattle.plan_stage.specs.Each.{step_at}
 use Rattle.plan_stage.specs.Clauses.{first_failing}
-use Rattle.plan_stage.proofs.Truth.{all_of, not_is}
 use Rattle.plan_check.specs.declared.event.Event.{Event}
 use Rattle.plan_check.specs.declared.event.Event.TheVariants.{Do, OpenCopy, ChunkCopy, CloseCopy, AbortCopy, StartPut, Write, Hint, Ack, StartGet, Read, EndGet, Down, Up, Handoff, Lose}
 use Rattle.plan_check.specs.Sound.{Sound}
@@ -26,26 +25,21 @@ use Rattle.plan_check.proofs.Copying.{closed_with}
 use Rattle.plan_check.proofs.Mirrored.{known}
 use Rattle.plan_check.proofs.Occupied.{occupied}
 use Rattle.plan_check.proofs.Passed.{all_met, ready}
-use Rattle.plan_check.proofs.Suited.{owner-within}
+use Rattle.plan_check.proofs.Suited.{owner-within, within}
 use Rattle.store_tables.specs.declared.slots.SlotNow.{SlotNow}
 use Rattle.store_tables.specs.Slots.{slot_at_start, slot_now, switched, ChangesSlot}
 use Rattle.store_tells.specs.Slots.{IsNow, SlotsMeet}
 use Rattle.store_tells.specs.SlotsStepped.{stepped, StepsSlots, step_leaves_slots, leaves_slots}
 use Rattle.store_tells.proofs.SlotsDone.{same_slots, slots_stepped, mirror_steps, switch_steps}
-use Rattle.store_tells.proofs.StageCounts.{count_none, count_zero}
+use Rattle.store_tells.proofs.StageCounts.{count_none}
+use Rattle.plan_check.proofs.Apart.{count_zero}
 
 -- ---- the start
-
--- a slot of the ring by its numbers
-pub within_ring : (ring : RingValue) (slot : Slot) → is_ring_slot ring slot ≡ true → (slot.partition < ring.q) × (slot.index < ring.n)
-within_ring ring slot h =
-    let b = and_parts (nat_lt slot.partition ring.q) (nat_lt slot.index ring.n) h in
-    (ltb-true slot.partition ring.q b.0, ltb-true slot.index ring.n b.1)
 
 -- each slot of the ring has an owner at the start
 pub first_owner : (ring : RingValue) (slot : Slot) → IsRing ring → is_ring_slot ring slot ≡ true → owner_of ring slot ≡ Some (opening ring slot).owner
 first_owner ring slot r h =
-    let b = within_ring ring slot h in
+    let b = within ring slot h in
     elim (occupied ring [] slot (opening ring slot).owner 0 r b.0 b.1 (omega arith) (inl refl)) [
       | inl f ↦ f.0
       | inr f ↦ absurd (let l = f.1.0 in omega arith)
@@ -72,7 +66,7 @@ slots_start ring plan rows r is = record {
     unowned slot None e h = refl
     unowned slot (Some x) e h =
         let b = owner-within ring r slot x e in
-        let f = all_of (nat_lt slot.partition ring.q) (nat_lt slot.index ring.n) (lt-ltb slot.partition ring.q b.0) (lt-ltb slot.index ring.n b.1) in
+        let f = and_from (nat_lt slot.partition ring.q) (nat_lt slot.index ring.n) (lt-ltb slot.partition ring.q b.0) (lt-ltb slot.index ring.n b.1) in
         absurd cc
 
 -- ---- steps
@@ -92,7 +86,7 @@ pub slots_do : (ring : RingValue) (plan : List Planned) (w : World) (n : ℕ) (s
 unfolding guards effect
 slots_do ring plan w n s old new is_ring is_plan sound r g at t change =
     let a = all_met (guards ring plan w (Do n)) g in
-    let m = slots_stepped ring plan (known ring plan is_ring is_plan sound) w n s old new r.closed (closed_with plan w.done n r.closed (ready plan w n a.1.1.0)) (not_is (w.done n) a.1.0) at t change in
+    let m = slots_stepped ring plan (known ring plan is_ring is_plan sound) w n s old new r.closed (closed_with plan w.done n r.closed (ready plan w n a.1.1.0)) (not-true (w.done n) a.1.0) at t change in
     let k = step_leaves (record w { done = with_number w.done n }) s in
     let f : effect ring plan w (Do n) ≡ step_effect (record w { done = with_number w.done n }) s
     = ap (λ (o : Option Step). elim o as (λ _. World) [ Some x ↦ step_effect (record w { done = with_number w.done n }) x | None ↦ w ]) at in

@@ -2,21 +2,16 @@
 use Rattle.std.proofs.Common.{◌≡◌, inl, inr, ◌∙◌, ℕ, suc, ◌+◌, ◌≤◌, Bool, true, false, cond, List, [], ◌∷◌, length, get_or, refl, sym, ap, arith, eq-eqb}
 use Rattle.std.specs.Prelude.{◌==◌, ◌&&◌, ◌||◌}
 use Rattle.std.proofs.lemmas.Bool.Decides.{eqb_tells}
+use Rattle.std.proofs.lemmas.Bool.{and_from, or_left}
 use Rattle.ring_names.specs.Lists.{has}
 use Rattle.plan_check.specs.World.{count}
 use Rattle.plan_check.specs.Effects.{with_number}
 use Rattle.plan_check.proofs.Prefix.{found, Rises, rising, count_same}
-use Rattle.plan_stage.proofs.Truth.{all_of, first_of_two}
 
 -- no number passes what none passes
 pub count_none : (test : ℕ → Bool) (ss : List ℕ) → count (λ s. false && test s) ss ≡ 0
 count_none test [] = refl
 count_none test (s ∷ ss) = count_none test ss
-
--- nor where none passes
-pub count_zero : (ss : List ℕ) → count (λ s. false) ss ≡ 0
-count_zero [] = refl
-count_zero (s ∷ ss) = count_zero ss
 
 -- no more pass than there are
 pub count_within : (test : ℕ → Bool) (ss : List ℕ) → count test ss ≤ length ss
@@ -73,7 +68,7 @@ count_one D T n (s ∷ ss) r h off on = elim (eqb_tells n s) [
     first : n ≡ s → (b : Bool) → has n ss ≡ b → count E (s ∷ ss) ≡ count F (s ∷ ss) + 1
     first e true is = absurd (once n s ss r e is)
     first e false out =
-        let here : E s ≡ true = all_of (with_number D n s) (T s) (first_of_two (s == n) (D s) (eq-eqb s n (sym e))) (ap T (sym e) ∙ on) in
+        let here : E s ≡ true = and_from (with_number D n s) (T s) (or_left (s == n) (D s) (eq-eqb s n (sym e))) (ap T (sym e) ∙ on) in
         let before : F s ≡ false = rw (← e, off) refl in
         let rest : count E ss ≡ count F ss = count_apart D T n ss out in
         ap (λ (b : Bool). cond b (count E ss + 1) (count E ss)) here ∙ ap (λ (k : ℕ). k + 1) rest ∙ sym (ap (λ (b : Bool). cond b (count F ss + 1) (count F ss) + 1) before)

@@ -14,10 +14,11 @@ use Rattle.plan_stage.proofs.Stages.{stage-more, after-next}
 use Rattle.plan_check.specs.World.{count, mirror_at}
 use Rattle.plan_check.specs.Effects.{with_number}
 use Rattle.plan_check.specs.Reached.{Closed}
-use Rattle.plan_check.proofs.Groups.{on_steps, steps_on}
+use Rattle.plan_check.proofs.Groups.{steps_on}
 use Rattle.plan_check.proofs.Mirrored.{Known, rises, down}
 use Rattle.plan_check.proofs.Prefix.{found, one_more, count_same}
 use Rattle.store_tells.proofs.StageCounts.{count_apart, count_failing, count_one}
+use Rattle.plan_stage.proofs.Holders.{has-from}
 
 -- ---- which steps are the slot's
 
@@ -31,7 +32,7 @@ planned_at plan n s at = by (slice_get plan n) at
 
 -- a step on the slot is among its steps
 among : (plan : List Planned) (n : ℕ) (s : Step) (slot : Slot) → step_at plan n ≡ Some s → is_on slot s ≡ true → has n (steps_of plan slot) ≡ true
-among plan n s slot at on = (let z : 0 + n ≡ n = omega arith in subst (λ (m : ℕ). has m (steps_of plan slot) ≡ true) z (on_steps 0 n plan slot s at on))
+among plan n s slot at on = (let z : 0 + n ≡ n = omega arith in subst (λ (m : ℕ). has m (steps_of plan slot) ≡ true) z (has-from 0 n plan slot s at on))
 
 -- one that is not on it is not
 apart : (plan : List Planned) (n : ℕ) (s : Step) (slot : Slot) → step_at plan n ≡ Some s → is_on slot s ≡ false → has n (steps_of plan slot) ≡ false

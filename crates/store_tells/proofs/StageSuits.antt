@@ -1,7 +1,6 @@
 -- The steps of a plan that suits a ring, one by one.
-use Rattle.std.proofs.Common.{◌≡◌, ℕ, zero, suc, ◌<◌, true, not, List, [], ◌∷◌, length, ltb-true}
+use Rattle.std.proofs.Common.{◌≡◌, ℕ, ◌<◌, true, not, List, [], ◌∷◌, length, ltb-true}
 use Rattle.std.specs.Prelude.{Some}
-use Rattle.std.specs.List.{list_all}
 use Rattle.std.proofs.lemmas.Bool.{and_parts}
 use Rattle.ring_names.specs.declared.ids.NodeId.{NodeId}
 use Rattle.ring_names.specs.declared.ids.Slot.{Slot}
@@ -11,17 +10,11 @@ use Rattle.plan_text.specs.declared.step.Step.TheVariants.{Join, Mirror}
 use Rattle.plan_text.specs.declared.step.Planned.{Planned}
 use Rattle.plan_text.specs.Valid.{Suits, step_suits, is_ring_slot, is_declared}
 use Rattle.plan_stage.specs.Each.{step_at}
-
-each_suits : (ring : RingValue) (plan : List Planned) → list_all (λ (x : Planned). step_suits ring x.step) plan ≡ true → (m : ℕ) (s : Step) → step_at plan m ≡ Some s → step_suits ring s ≡ true
-each_suits ring [] h m s at = absurd cc
-each_suits ring (x ∷ xs) h zero s at =
-    let e : x.step ≡ s = cc in
-    rw (← e) (and_parts (step_suits ring x.step) (list_all (λ (y : Planned). step_suits ring y.step) xs) h).0
-each_suits ring (x ∷ xs) h (suc m) s at = each_suits ring xs (and_parts (step_suits ring x.step) (list_all (λ (y : Planned). step_suits ring y.step) xs) h).1 m s at
+use Rattle.plan_stage.proofs.Enough.{suits-at}
 
 -- each step suits the ring
 pub step_suiting : (ring : RingValue) (plan : List Planned) → Suits ring plan → (m : ℕ) (s : Step) → step_at plan m ≡ Some s → step_suits ring s ≡ true
-step_suiting ring plan suits m s at = each_suits ring plan suits.steps m s at
+step_suiting ring plan suits m s at = suits-at ring plan suits.steps m s at
 
 -- a node that joins is declared
 pub joins_within : (ring : RingValue) (plan : List Planned) → Suits ring plan → (m : ℕ) (x : NodeId) → step_at plan m ≡ Some (Join x) → x.0 < length ring.nodes

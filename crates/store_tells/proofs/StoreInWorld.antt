@@ -24,11 +24,11 @@ use Rattle.store_tables.specs.declared.slots.SlotNow.{SlotNow}
 use Rattle.store_tables.specs.Slots.{slot_now}
 use Rattle.store_tells.specs.Slots.{IsNow}
 use Rattle.store_tells.proofs.StageCounts.{count_within}
-use Rattle.store_tells.proofs.SlotsNow.{within_ring}
 use Rattle.store_tells.proofs.SlotsFit.{kept_within, kept_is, owner_kept, mirror_kept}
 use Rattle.store_tells.specs.declared.parts.Parts.{Parts}
 use Rattle.store_tells.specs.Kept.{Kept, Tells}
 use Rattle.store_tells.specs.Parts.{Meets, IsSound}
+use Rattle.plan_check.proofs.Suited.{within as within_ring}
 
 -- what follows from any world in which it may be, and can be so in one way alone, is so
 pub holds : (a : Parts) {P : Type 0} → IsSound a → IsProp P → ((w : World) → Meets a w → P) → P

@@ -3,6 +3,7 @@ use Rattle.std.proofs.Common.{◌≡◌, ℕ, Bool, true, false, List, refl}
 use Rattle.std.specs.Prelude.{◌&&◌, ◌||◌, Option, Some, None}
 use Rattle.ring_names.specs.declared.ids.NodeId.{NodeId}
 use Rattle.ring_names.specs.declared.ids.Slot.{Slot}
+use Rattle.ring_names.proofs.Logic.{or_assoc}
 use Rattle.ring_table.specs.Value.{RingValue}
 use Rattle.plan_text.specs.declared.step.Source.{Source}
 use Rattle.plan_text.specs.declared.step.Planned.{Planned}
@@ -34,10 +35,6 @@ grown w clock old more new test extra a b m x s k =
 
 -- ---- what comes stands in front of what was there
 
-or_twice : (a b c : Bool) → (a || (b || c)) ≡ ((a || b) || c)
-or_twice true b c = refl
-or_twice false b c = refl
-
 pub mirror_more : (test : ℕ → Slot → ℕ → Bool) (o : Option NodeId) (s : Slot) (more : ℕ → Bool) (y : ℕ) (t : Slot) (v : ℕ) → with_mirror_puts test o s more y t v ≡ (at_mirror o s more y t v || test y t v)
 mirror_more test None s more y t v = refl
 mirror_more test (Some x) s more y t v = refl
@@ -47,7 +44,7 @@ served_more ring plan w s more y t v = by (stage_now ring plan w s).mirror (stag
   where
     by : (o : Option NodeId) (x : NodeId) → with_mirror_puts (with_puts w.stored x s more) o s more y t v ≡ ((at_mirror o s more y t v || at_node x s more y t v) || w.stored y t v)
     by None x = refl
-    by (Some z) x = or_twice (at_node z s more y t v) (at_node x s more y t v) (w.stored y t v)
+    by (Some z) x = or_assoc (at_node z s more y t v) (at_node x s more y t v) (w.stored y t v)
 
 pub copied_more : (ring : RingValue) (plan : List Planned) (w : World) (n c : ℕ) (y : ℕ) (t : Slot) (v : ℕ) → copied_puts ring plan w n c y t v ≡ (copied ring plan w n c y t v || w.stored y t v)
 copied_more ring plan w n c y t v = by (copy_at plan n)

@@ -1,7 +1,6 @@
 -- What a store keeps that tells of a world tells of it still where versions read as before, and where a key was numbered.
 use Rattle.std.proofs.Common.{◌≡◌, inl, inr, ℕ, ◌<◌, List, [], ◌++◌, ◌∷◌, sym, subst}
 use Rattle.std.specs.Prelude.{Option, Some, None, is_some, if◌then◌else◌}
-use Rattle.std.proofs.Math.Path.{fun_ext}
 use Rattle.ring_names.specs.Names.{place, with_name}
 use Rattle.ring_names.specs.declared.ids.Slot.{Slot}
 use Rattle.ring_table.specs.Value.{RingValue}
@@ -14,10 +13,7 @@ use Rattle.store_tells.proofs.PutsLists.{appended_at}
 use Rattle.store_tells.proofs.PutsKeys.{numbered_named, none_behind_named, puts_stay_named, gets_stay_named}
 use Rattle.store_tells.specs.HintsFit.{KeysFit}
 use Rattle.store_tells.specs.Kept.{Kept, Tells}
-
--- functions of a node, a slot and a key that read the same are one
-pub one_reading : (old new : ℕ → Slot → List ℕ → List Version) → ((x : ℕ) (s : Slot) (key : List ℕ) → new x s key ≡ old x s key) → new ≡ old
-one_reading old new same = fun_ext (λ x. fun_ext (λ s. fun_ext (λ key. same x s key)))
+use Rattle.ring_store.proofs.MergesAtNodes.{one_reading}
 
 module _ (ring : RingValue) (plan : List Planned) (k : Kept) (w : World) where
   -- what nodes store reads the same

@@ -1,7 +1,7 @@
 -- Who keeps hints for what, by the versions that are kept.
 use Rattle.std.proofs.Common.{◌≡◌, inl, ◌∙◌, ℕ, ◌<◌, Bool, true, false, not, List, [], ◌∷◌, length, refl, sym, ap, subst, eqb-true, eq-eqb}
 use Rattle.std.specs.Prelude.{◌≢◌, ◌↔◌, ◌==◌, ◌&&◌}
-use Rattle.std.proofs.lemmas.Bool.{and_parts}
+use Rattle.std.proofs.lemmas.Bool.{and_parts, and_from}
 use Rattle.std.proofs.lemmas.Slice.Eq.{bytes_eq-Decides}
 use Rattle.ring_names.specs.declared.ids.Slot.{Slot}
 use Rattle.ring_table.specs.Value.{RingValue}
@@ -10,7 +10,6 @@ use Rattle.ring_versions.specs.declared.version.Version.{Version}
 use Rattle.ring_versions.specs.Versions.{Covers}
 use Rattle.plan_text.specs.declared.step.Planned.{Planned}
 use Rattle.plan_stage.specs.Each.{sibling}
-use Rattle.plan_stage.proofs.Truth.{all_of}
 use Rattle.plan_check.specs.Guards.{keeps_of_key}
 use Rattle.plan_check.specs.Reached.{Reached}
 use Rattle.plan_check.specs.Versions.{is_in_chunk}
@@ -43,7 +42,7 @@ module _ (ring : RingValue) (plan : List Planned) (k : Kept) (w : World) (m : Te
   pub shown : (x : ℕ) (s : Slot) (v : ℕ) → w.hinted x s v ≡ true → k.hinted x s (key_of_put w v) ≡ [] → ⊥
   shown x s v h none =
       let of = (bytes_eq-Decides (key_of_put w v) (key_of_put w v)).1 refl in
-      let c = (m.hinted x s (key_of_put w v)).covers v (all_of (w.hinted x s v) (is_of_key w (key_of_put w v) v) h of) in
+      let c = (m.hinted x s (key_of_put w v)).covers v (and_from (w.hinted x s v) (is_of_key w (key_of_put w v) v) h of) in
       (subst (λ (held : List Version). Covers held (clock_at k.puts v)) none c).1
 
   -- where there are versions of a key, a put of the key is kept
@@ -70,7 +69,7 @@ module _ (ring : RingValue) (plan : List Planned) (k : Kept) (w : World) (m : Te
       by (y ∷ ys) e out = absurd (
           let p = kept_put x s key (λ none. (let f = sym e ∙ none in absurd cc)) in
           let of = (bytes_eq-Decides (key_of_put w p.0) key).1 p.3 in
-          let i = some_is (length w.puts) (λ v. is_of_key w key v && w.hinted x s v) p.0 p.1 (all_of (is_of_key w key p.0) (w.hinted x s p.0) of p.2) in
+          let i = some_is (length w.puts) (λ v. is_of_key w key v && w.hinted x s v) p.0 p.1 (and_from (is_of_key w key p.0) (w.hinted x s p.0) of p.2) in
           cc)
 
       none_of : (b : Bool) → keeps_of_key w key s x ≡ b → k.hinted x s key ≡ [] → keeps_of_key w key s x ≡ false
@@ -125,7 +124,7 @@ module _ (ring : RingValue) (plan : List Planned) (k : Kept) (w : World) (m : Te
           let within = kept_slot x s e in
           let is : sibling slot s.index ≡ s = ap (λ (n : ℕ). sibling (record { partition = n; index = s.index }) s.index) (sym p) in
           let at = some_is ring.n (λ j. not (j == slot.index) && keeps w x (sibling slot j)) s.index within.1
-          (all_of (not (s.index == slot.index)) (keeps w x (sibling slot s.index)) (apart (s.index == slot.index) refl) (rw is e)) in
+          (and_from (not (s.index == slot.index)) (keeps w x (sibling slot s.index)) (apart (s.index == slot.index) refl) (rw is e)) in
           cc)
         where
           apart : (b : Bool) → (s.index == slot.index) ≡ b → not b ≡ true
@@ -172,7 +171,7 @@ module _ (ring : RingValue) (plan : List Planned) (k : Kept) (w : World) (m : Te
           let part : ((place_of ring.q (key_of_put w p.0)).partition == s.partition) ≡ true = is_same ((place_of ring.q (key_of_put w p.0)).partition) s.partition (r.hinted x s p.0 p.2).1 in
           let chunk : ((place_of ring.q (key_of_put w p.0)).chunk == c) ≡ true = is_same ((place_of ring.q (key_of_put w p.0)).chunk) c (rw p.3 lies) in
           let i = some_is (length w.puts) (λ v. is_in_chunk ring w s c v && w.hinted x s v) p.0 p.1
-          (all_of (is_in_chunk ring w s c p.0) (w.hinted x s p.0) (all_of ((place_of ring.q (key_of_put w p.0)).partition == s.partition) ((place_of ring.q (key_of_put w p.0)).chunk == c) part chunk) p.2) in
+          (and_from (is_in_chunk ring w s c p.0) (w.hinted x s p.0) (and_from ((place_of ring.q (key_of_put w p.0)).partition == s.partition) ((place_of ring.q (key_of_put w p.0)).chunk == c) part chunk) p.2) in
           cc)
         where
           is_same : (a b : ℕ) → a ≡ b → (a == b) ≡ true

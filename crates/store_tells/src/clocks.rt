@@ -19,17 +19,23 @@ ghost use Rattle.store_tells.specs.Clocks.{AreClocksOf, IsLastOf, IsInputOf, sta
 /// Of two puts of one key the first one's clock is at most the second's exactly where the second succeeds the first.
 pub fn clocks_tell_succession()
     ensures { (w : World) (clock : ℕ → List TheEntry) → AreClocksOf w clock
-        → (u v : ℕ) → u < length w.puts → v < length w.puts → key_of_put w u ≡ key_of_put w v → IsAtMost (clock v) (clock u) ↔ Succeeds w u v }
+        → (u v : ℕ) → u < length w.puts → v < length w.puts → key_of_put w u ≡ key_of_put w v
+        → IsAtMost (clock v) (clock u) ↔ Succeeds w u v }
 {}
 
 /// At the start any clocks will do, an event that starts no put leaves all clocks as they are, and one that starts a put leaves
 /// those of the others, where its own is made of its inputs' clocks.
 pub fn clocks_are_kept()
     ensures opening { (ring : RingValue) (clock : ℕ → List TheEntry) → AreClocksOf (opening_world ring) clock }
-    ensures stay { (ring : RingValue) (plan : List Planned) (w u : World) (e : TheEvent) (r : TheReply) (clock : ℕ → List TheEntry)
-        → Reached ring plan w → AreClocksOf w clock → answer ring plan w e ≡ Ok (u, r) → starts_put e ≡ false → AreClocksOf u clock }
-    ensures grow { (ring : RingValue) (plan : List Planned) (w u : World) (writer : TheWriter) (key value seen : List ℕ) (r : TheReply)
+    ensures stay { (ring : RingValue) (plan : List Planned) (w u : World) (e : TheEvent) (r : TheReply)
+        (clock : ℕ → List TheEntry)
+        → Reached ring plan w → AreClocksOf w clock → answer ring plan w e ≡ Ok (u, r) → starts_put e ≡ false
+        → AreClocksOf u clock }
+    ensures grow { (ring : RingValue) (plan : List Planned) (w u : World) (writer : TheWriter) (key value seen : List ℕ)
+        (r : TheReply)
         (last : Option ℕ) (clock : ℕ → List TheEntry) (c : List TheEntry)
-        → Reached ring plan w → AreClocksOf w clock → IsLastOf w writer.0 key last → IsNext clock (IsInputOf w seen last) writer.0 c
-        → answer ring plan w (StartPut writer key value seen) ≡ Ok (u, r) → AreClocksOf u (with_clock clock (length w.puts) c) }
+        → Reached ring plan w → AreClocksOf w clock → IsLastOf w writer.0 key last
+        → IsNext clock (IsInputOf w seen last) writer.0 c
+        → answer ring plan w (StartPut writer key value seen) ≡ Ok (u, r)
+        → AreClocksOf u (with_clock clock (length w.puts) c) }
 {}

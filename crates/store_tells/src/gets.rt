@@ -25,22 +25,30 @@ ghost use Rattle.store_tells.specs.Found.{IsJoinOfFound};
 /// A read finds the puts of the versions that show what the slot has of the key, and their merge with what the get found before
 /// shows what it found then.
 pub fn reads_are_merged()
-    ensures shows { (ring : RingValue) (plan : List Planned) (w u : World) (clock : ℕ → List TheEntry) (value : ℕ → List ℕ) (g : ℕ) (r : TheReply)
+    ensures shows { (ring : RingValue) (plan : List Planned) (w u : World) (clock : ℕ → List TheEntry)
+        (value : ℕ → List ℕ) (g : ℕ) (r : TheReply)
         → Reached ring plan w → AreClocksOf w clock → (i : ℕ) (found at_slot new : List TheVersion)
-        → answer ring plan w (Read g i) ≡ Ok (u, r) → Shows clock value found (found_by ring w g) → Shows clock value at_slot (can_find ring plan w g i)
+        → answer ring plan w (Read g i) ≡ Ok (u, r) → Shows clock value found (found_by ring w g)
+        → Shows clock value at_slot (can_find ring plan w g i)
         → IsMerge found at_slot new → Shows clock value new (found_by ring u g) }
-    ensures reply { (ring : RingValue) (plan : List Planned) (w u : World) (clock : ℕ → List TheEntry) (value : ℕ → List ℕ) (g : ℕ) (r : TheReply)
+    ensures reply { (ring : RingValue) (plan : List Planned) (w u : World) (clock : ℕ → List TheEntry)
+        (value : ℕ → List ℕ) (g : ℕ) (r : TheReply)
         → Reached ring plan w → AreClocksOf w clock → (i : ℕ) (at_slot : List TheVersion) (ns : List ℕ)
-        → answer ring plan w (Read g i) ≡ Ok (u, r) → Shows clock value at_slot (can_find ring plan w g i) → ArePuts at_slot ns → r ≡ Found ns }
+        → answer ring plan w (Read g i) ≡ Ok (u, r) → Shows clock value at_slot (can_find ring plan w g i)
+        → ArePuts at_slot ns → r ≡ Found ns }
 {}
 
 /// A get that ends is answered the puts of the versions that show what it found, and these versions then show its reply.
 pub fn ended_gets_show_replies()
-    ensures shows { (ring : RingValue) (plan : List Planned) (w u : World) (clock : ℕ → List TheEntry) (value : ℕ → List ℕ) (g : ℕ) (r : TheReply) (found : List TheVersion)
-        → Reached ring plan w → AreClocksOf w clock → answer ring plan w (EndGet g) ≡ Ok (u, r) → Shows clock value found (found_by ring w g)
+    ensures shows { (ring : RingValue) (plan : List Planned) (w u : World) (clock : ℕ → List TheEntry)
+        (value : ℕ → List ℕ) (g : ℕ) (r : TheReply) (found : List TheVersion)
+        → Reached ring plan w → AreClocksOf w clock → answer ring plan w (EndGet g) ≡ Ok (u, r)
+        → Shows clock value found (found_by ring w g)
         → Shows clock value found (replied u.gets g) }
-    ensures reply { (ring : RingValue) (plan : List Planned) (w u : World) (clock : ℕ → List TheEntry) (value : ℕ → List ℕ) (g : ℕ) (r : TheReply) (found : List TheVersion)
-        → Reached ring plan w → AreClocksOf w clock → answer ring plan w (EndGet g) ≡ Ok (u, r) → Shows clock value found (found_by ring w g)
+    ensures reply { (ring : RingValue) (plan : List Planned) (w u : World) (clock : ℕ → List TheEntry)
+        (value : ℕ → List ℕ) (g : ℕ) (r : TheReply) (found : List TheVersion)
+        → Reached ring plan w → AreClocksOf w clock → answer ring plan w (EndGet g) ≡ Ok (u, r)
+        → Shows clock value found (found_by ring w g)
         → (ns : List ℕ) → ArePuts found ns → r ≡ Answer ns }
 {}
 
@@ -54,7 +62,8 @@ pub fn gets_are_kept()
 /// Where the versions that gets found show what their replies had, the least clock above those of these versions and of the
 /// writer's last put is the join of the clocks of the inputs of a put that names these gets.
 pub fn found_clocks_join()
-    ensures { (w : World) (clock : ℕ → List TheEntry) (value : ℕ → List ℕ) (found : ℕ → List TheVersion) (seen : List ℕ) (last : Option ℕ) (d : List TheEntry)
+    ensures { (w : World) (clock : ℕ → List TheEntry) (value : ℕ → List ℕ) (found : ℕ → List TheVersion) (seen : List ℕ)
+        (last : Option ℕ) (d : List TheEntry)
         → ((g : ℕ) → has g seen ≡ true → Shows clock value (found g) (replied w.gets g))
         → IsJoinOfFound clock found seen last d → IsJoinOf clock (IsInputOf w seen last) d }
 {}

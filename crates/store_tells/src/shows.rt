@@ -24,25 +24,31 @@ pub fn shown_sets_merge()
     ensures merge { (clock : ℕ → List TheEntry) (value : ℕ → List ℕ) (a b c : List TheVersion) (f g : ℕ → Bool)
         → Shows clock value a f → Shows clock value b g → IsMerge a b c → Shows clock value c (λ v. f v || g v) }
     ensures none { (clock : ℕ → List TheEntry) (value : ℕ → List ℕ) → Shows clock value [] (λ v. false) }
-    ensures one { (clock : ℕ → List TheEntry) (value : ℕ → List ℕ) (x : TheVersion) → x.clock ≡ clock x.put → x.value ≡ value x.put → Shows clock value (x ∷ []) (λ v. v == x.put) }
+    ensures one { (clock : ℕ → List TheEntry) (value : ℕ → List ℕ) (x : TheVersion) → x.clock ≡ clock x.put
+        → x.value ≡ value x.put → Shows clock value (x ∷ []) (λ v. v == x.put) }
     ensures with_none { (held : List TheVersion) → IsApart held → IsMerge held [] held }
     ensures other_test { (clock : ℕ → List TheEntry) (value : ℕ → List ℕ) (held : List TheVersion) (f g : ℕ → Bool)
         → ((v : ℕ) → f v ≡ g v) → Shows clock value held f → Shows clock value held g }
-    ensures other_clock { (clock other : ℕ → List TheEntry) (value : ℕ → List ℕ) (held : List TheVersion) (test : ℕ → Bool)
+    ensures other_clock { (clock other : ℕ → List TheEntry) (value : ℕ → List ℕ) (held : List TheVersion)
+        (test : ℕ → Bool)
         → ((v : ℕ) → test v ≡ true → other v ≡ clock v) → Shows clock value held test → Shows other value held test }
-    ensures other_value { (clock : ℕ → List TheEntry) (value other : ℕ → List ℕ) (held : List TheVersion) (test : ℕ → Bool)
+    ensures other_value { (clock : ℕ → List TheEntry) (value other : ℕ → List ℕ) (held : List TheVersion)
+        (test : ℕ → Bool)
         → ((v : ℕ) → test v ≡ true → other v ≡ value v) → Shows clock value held test → Shows clock other held test }
-    ensures new_clock { (w : World) (clock : ℕ → List TheEntry) (value : ℕ → List ℕ) (c : List TheEntry) (held : List TheVersion) (test : ℕ → Bool)
+    ensures new_clock { (w : World) (clock : ℕ → List TheEntry) (value : ℕ → List ℕ) (c : List TheEntry)
+        (held : List TheVersion) (test : ℕ → Bool)
         → ArePutsOf w test → Shows clock value held test → Shows (with_clock clock (length w.puts) c) value held test }
 {}
 
 /// The versions that show puts of one key are those of the latest of these puts: their numbers, ascending, are the latest, and
 /// they show the latest alone as well.
 pub fn shown_numbers_are_the_latest()
-    ensures numbers { (w : World) (clock : ℕ → List TheEntry) (value : ℕ → List ℕ) (held : List TheVersion) (test : ℕ → Bool)
+    ensures numbers { (w : World) (clock : ℕ → List TheEntry) (value : ℕ → List ℕ) (held : List TheVersion)
+        (test : ℕ → Bool)
         → AreClocksOf w clock → ArePutsOf w test → OfOneKey w test → Shows clock value held test
         → (ns : List ℕ) → ArePuts held ns → ns ≡ latest w (passing_below (length w.puts) test) }
-    ensures shown { (w : World) (clock : ℕ → List TheEntry) (value : ℕ → List ℕ) (held : List TheVersion) (test : ℕ → Bool)
+    ensures shown { (w : World) (clock : ℕ → List TheEntry) (value : ℕ → List ℕ) (held : List TheVersion)
+        (test : ℕ → Bool)
         → AreClocksOf w clock → ArePutsOf w test → OfOneKey w test → Shows clock value held test
         → Shows clock value held (λ v. has v (latest w (passing_below (length w.puts) test))) }
 {}
@@ -50,11 +56,14 @@ pub fn shown_numbers_are_the_latest()
 /// A slot holds a put where the versions that show its owner's puts of the key, or those that show a keeper's hints of it for the
 /// slot, cover the put's clock.
 pub fn slot_is_held_where_covered()
-    ensures { (ring : RingValue) (plan : List Planned) (w : World) (clock : ℕ → List TheEntry) (value : ℕ → List ℕ) (v : ℕ) (slot : TheSlot)
+    ensures { (ring : RingValue) (plan : List Planned) (w : World) (clock : ℕ → List TheEntry) (value : ℕ → List ℕ)
+        (v : ℕ) (slot : TheSlot)
         (owner_held : List TheVersion) (hint_held : ℕ → List TheVersion)
         → Reached ring plan w → AreClocksOf w clock → v < length w.puts
-        → Shows clock value owner_held (λ u. w.stored (stage_now ring plan w slot).owner.0 slot u && is_of_key w (key_of_put w v) u)
-        → ((x : ℕ) → x < length ring.nodes → Shows clock value (hint_held x) (λ u. w.hinted x slot u && is_of_key w (key_of_put w v) u))
+        → Shows clock value owner_held
+        (λ u. w.stored (stage_now ring plan w slot).owner.0 slot u && is_of_key w (key_of_put w v) u)
+        → ((x : ℕ) → x < length ring.nodes
+        → Shows clock value (hint_held x) (λ u. w.hinted x slot u && is_of_key w (key_of_put w v) u))
         → (is_held ring plan w v slot ≡ true)
         ↔ (Covers owner_held (clock v) ⊎ ((x : ℕ) × (x < length ring.nodes) × Covers (hint_held x) (clock v))) }
 {}

@@ -6,6 +6,7 @@ use Rattle.std.proofs.lemmas.Str.Parse.{IsNumeralModel, numerals_by_fold}
 use Rattle.std.proofs.lemmas.Fmt.{decimal-digits_value, digits_decimal, digits_value-decimal, first_decimal, decimal_digit}
 use Rattle.std.proofs.lemmas.Bool.{lt-ltb, eqb-true, ltb-false, le-ltb, and_parts}
 use Rattle.ring_names.specs.declared.refusal.Refusal.TheVariants.{TooLarge}
+use Rattle.ring_names.proofs.Logic.{cond_some}
 use Rattle.texts.specs.Number.{value_from, is_number, decimal_value}
 use Rattle.texts.specs.Judging.{limited, number_at}
 use Rattle.texts.specs.Laws.{IsItem}
@@ -18,14 +19,10 @@ or_is : (a b : Bool) → (a || b) ≡ true → a ≡ false → b ≡ true
 or_is true b e f = absurd cc
 or_is false b e f = e
 
-some_by : (b : Bool) (x n : ℕ) → cond b (Some x) None ≡ Some n → (b ≡ true) × (x ≡ n)
-some_by true x n e = (refl, cc)
-some_by false x n e = absurd cc
-
 -- a field that spells n is n in decimal
 pub decimal-value : (f : List ℕ) (n : ℕ) → decimal_value f ≡ Some n → n < 2 ^ 64 → f ≡ decimal n
 decimal-value f n e small =
-    let s = some_by (is_number f) (value_from 0 f) n e in
+    let s = cond_some (is_number f) (value_from 0 f) n e in
     let parts = and_parts (all_ascii_digits f) (nat_lt 48 (get_or f 0 0) || eqb (length f) 1) s.0 in
     let lone : get_or f 0 0 ≡ 48 → length f ≡ 1 = λ z. eqb-true _ _ (or_is (nat_lt 48 (get_or f 0 0)) (eqb (length f) 1) parts.1 (rw z refl)) in
     let filled : 0 < length f = non_empty f parts.1 in
@@ -35,10 +32,6 @@ decimal-value f n e small =
     non_empty : (ds : List ℕ) → (nat_lt 48 (get_or ds 0 0) || eqb (length ds) 1) ≡ true → 0 < length ds
     non_empty [] h = absurd cc
     non_empty (d ∷ ds) h = omega arith
-
-or_true : (a : Bool) → (a || true) ≡ true
-or_true true = refl
-or_true false = refl
 
 leads : (n : ℕ) → n < 2 ^ 64 → (nat_lt 48 (get_or (decimal n) 0 0) || eqb (length (decimal n)) 1) ≡ true
 leads zero small = rw (decimal_digit 0 (omega arith)) refl

@@ -3,16 +3,13 @@ use Rattle.std.proofs.Common.{◌≡◌, ℕ, zero, suc, ◌<◌, ◌≤◌, Boo
 use Rattle.std.specs.Str.{bytes_eq}
 use Rattle.std.specs.List.{slice_split, onto_first}
 use Rattle.std.proofs.lemmas.List.Splits.{slice_split-cons_yes, slice_split-cons_no}
+use Rattle.std.proofs.lemmas.Bool.{or_parts}
 use Rattle.texts.specs.Parts.{fields_of, lines_of}
 use Rattle.texts.specs.Left.{begins_with}
 use Rattle.texts.proofs.Cuts.{first_part}
 
 FirstField : List ℕ → List ℕ → Type 0
 FirstField bs field = (line : List ℕ) × (lines : List (List ℕ)) × (fields : List (List ℕ)) × (slice_split (λ b. eqb b 10) bs ≡ line ∷ lines) × (fields_of line ≡ field ∷ fields)
-
-either : (a b : Bool) → (a || b) ≡ false → (a ≡ false) × (b ≡ false)
-either true b e = absurd cc
-either false b e = (refl, e)
 
 left : (a b : Bool) → (a || b) ≡ true → b ≡ false → a ≡ true
 left true b e f = refl
@@ -22,7 +19,7 @@ left false false e f = e
 more : (b : ℕ) (bs field : List ℕ) → (eqb b 32 || eqb b 10) ≡ false → FirstField bs field → FirstField (b ∷ bs) (b ∷ field)
 unfolding FirstField
 more b bs field e h =
-    let no = either (eqb b 32) (eqb b 10) e in (
+    let no = or_parts (eqb b 32) (eqb b 10) e in (
       b ∷ h.0,
       h.1,
       h.2,

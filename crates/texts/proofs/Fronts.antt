@@ -1,16 +1,16 @@
 -- Items behind which no number may stand, since they take all numbers that do.
-use Rattle.std.proofs.Common.{◌≡◌, ℕ, Bool, true, false, cond, nat_lt, List, [], ◌∷◌, ◌++◌, map, Some, None, Result, Ok, Err, refl, sym, ap, subst, ◌∙◌, arith, append_assoc}
+use Rattle.std.proofs.Common.{◌≡◌, ℕ, Bool, true, false, cond, nat_lt, List, [], ◌∷◌, ◌++◌, map, Some, Result, Ok, refl, sym, ap, subst, ◌∙◌, arith, append_assoc}
 use Rattle.std.specs.Fmt.{decimal}
 use Rattle.std.proofs.lemmas.List.{append-nil}
 use Rattle.std.proofs.lemmas.Bool.{ltb-true, and_parts}
 use Rattle.ring_names.specs.declared.refusal.Refusal.{Refusal}
-use Rattle.ring_names.specs.declared.refusal.Refusal.TheVariants.{BadLine}
+use Rattle.ring_names.proofs.Logic.{cond_some, pair_is, pair_of}
 use Rattle.texts.specs.Number.{value_from, is_number, decimal_value}
 use Rattle.texts.specs.Numbers.{numbers_of, beyond, are_small}
 use Rattle.texts.specs.Judging.{both_of, Item, ◌⊗◌, end_at, map_ok, map_item, whole, unless}
 use Rattle.texts.specs.Left.{◌>>=◌}
 use Rattle.texts.specs.Laws.{IsItem, IsLine}
-use Rattle.texts.proofs.Items.{both_is, map_is, bind_ok, unless_is, unless_ok, Passes}
+use Rattle.texts.proofs.Items.{both_is, map_is, bind_ok, unless_is, unless_ok, Passes, end_is}
 use Rattle.texts.proofs.Decimals.{decimal-value, value-decimal}
 
 -- no number stands in front
@@ -28,12 +28,6 @@ pub record IsFront {A : Type 0} (C : List (List ℕ) → Type 0) (item : Item A)
 
 pub front-item : {A : Type 0} (C : List (List ℕ) → Type 0) (a : Item A) (s : A → List (List ℕ)) (P : A → Type 0) → IsItem a s P → IsFront C a s P
 front-item C a s P ia = record { takes = ia.takes; gives = λ v rest p free. ia.gives v rest p }
-
-pub pair_is : {A B : Type 0} (p : A × B) (x : A) (y : B) → p ≡ (x, y) → (p.0 ≡ x) × (p.1 ≡ y)
-pair_is p x y e = (ap (λ q. q.0) e, ap (λ q. q.1) e)
-
-pub pair_of : {A B : Type 0} (p : A × B) (x : A) (y : B) → p.0 ≡ x → p.1 ≡ y → p ≡ (x, y)
-pair_of p x y e f = rw (← e, ← f) refl
 
 pub front-⊗ : {A B : Type 0} (C D : List (List ℕ) → Type 0) (a : Item A) (b : Item B) (s : A → List (List ℕ)) (t : B → List (List ℕ)) (P : A → Type 0) (Q : B → Type 0) → IsFront C a s P → IsFront D b t Q
     → ((y : B) (rest : List (List ℕ)) → D rest → C (t y ++ rest)) → IsFront D (a ⊗ b) (λ v. s v.0 ++ t v.1) (λ v. P v.0 × Q v.1)
@@ -67,10 +61,6 @@ front-map {A} {B} C a s P f g gf fg ia = record { takes = take; gives = give }
 
     give : (v : B) (rest : List (List ℕ)) → P (g v) → C rest → map_item f a (s (g v) ++ rest) ≡ (Ok v, rest)
     give v rest p free = rw (ia.gives (g v) rest p free, fg v) refl
-
-end_is : (k : ℕ) (fields rest : List (List ℕ)) → end_at k fields ≡ (Ok tt, rest) → fields ≡ []
-end_is k [] rest e = refl
-end_is k (f ∷ fs) rest e = let bad : Err (BadLine k) ≡ Ok tt = ap (λ p. p.0) e in absurd cc
 
 pub front-whole : {A : Type 0} (C : List (List ℕ) → Type 0) (k : ℕ) (a : Item A) (s : A → List (List ℕ)) (P : A → Type 0) → C [] → IsFront C a s P → IsLine (whole k a) s P
 unfolding both_of
@@ -119,10 +109,6 @@ item-unless {A} a s P tests ia = record { takes = take; gives = give }
 
 -- ---- numbers
 
-some_parts : (b : Bool) (x n : ℕ) → cond b (Some x) None ≡ Some n → (b ≡ true) × (x ≡ n)
-some_parts true x n e = (refl, cc)
-some_parts false x n e = absurd cc
-
 -- the numbers in front are spelled so
 pub numbers-taken : (fields : List (List ℕ)) → are_small (numbers_of fields) ≡ true → fields ≡ map decimal (numbers_of fields) ++ beyond fields
 numbers-taken [] small = refl
@@ -141,6 +127,6 @@ numbers-given [] rest small free = free
 numbers-given (x ∷ xs) rest small free =
     let p = and_parts (nat_lt x 4294967296) (are_small xs) small in
     let lt = ltb-true x 4294967296 p.0 in
-    let is = some_parts (is_number (decimal x)) (value_from 0 (decimal x)) x (value-decimal x (omega (arith, lt))) in
+    let is = cond_some (is_number (decimal x)) (value_from 0 (decimal x)) x (value-decimal x (omega (arith, lt))) in
     let i = numbers-given xs rest p.1 free in
     (rw (is.0, is.1, i.0) refl, rw (is.0, i.1) refl)

@@ -5,11 +5,11 @@ use Rattle.std.specs.Str.{all_ascii_digits}
 use Rattle.std.specs.Char.{is_ascii_digit}
 use Rattle.std.proofs.lemmas.Bool.{eqb-true}
 use Rattle.std.proofs.lemmas.List.Splits.{slice_split-cons_no}
+use Rattle.ring_names.proofs.Logic.{and_false}
 use Rattle.texts.specs.Parts.{fields_of}
 use Rattle.texts.specs.Number.{value_from, is_number}
 use Rattle.texts.specs.Numbers.{numbers_of, beyond}
 use Rattle.texts.proofs.Cuts.{first_part}
-use Rattle.texts.proofs.Numbers.{and-false}
 
 -- a field in front that is no number
 pub none_in_front : (bs x : List ℕ) (xs : List (List ℕ)) → fields_of bs ≡ x ∷ xs → is_number x ≡ false → numbers_of (fields_of bs) ≡ []
@@ -27,7 +27,7 @@ odd_field (b ∷ bs) zero l none space digit =
     (b ∷ s.0, s.1, slice_split-cons_no (λ c. eqb c 32) b bs space ∙ ap (onto_first b) s.2, ap (λ d. d && all_ascii_digits s.0) digit)
 odd_field (b ∷ bs) (suc i) l none space digit =
     let s = odd_field bs i (omega arith) (λ k h. none (suc k) (omega arith)) space digit in
-    (b ∷ s.0, s.1, slice_split-cons_no (λ c. eqb c 32) b bs (none 0 (omega arith)) ∙ ap (onto_first b) s.2, ap (λ d. is_ascii_digit b && d) s.3 ∙ and-false (is_ascii_digit b))
+    (b ∷ s.0, s.1, slice_split-cons_no (λ c. eqb c 32) b bs (none 0 (omega arith)) ∙ ap (onto_first b) s.2, ap (λ d. is_ascii_digit b && d) s.3 ∙ and_false (is_ascii_digit b))
 
 -- so it is no number
 pub odd_in_front : (bs : List ℕ) (i : ℕ) → i < length bs → ((k : ℕ) → k < i → eqb (get_or bs k 0) 32 ≡ false) → eqb (get_or bs i 0) 32 ≡ false → is_ascii_digit (get_or bs i 0) ≡ false → numbers_of (fields_of bs) ≡ []

@@ -6,6 +6,7 @@ use Rattle.std.proofs.lemmas.List.{append-nil}
 use Rattle.std.proofs.lemmas.Slice.Eq.{bytes_eq-Decides}
 use Rattle.ring_names.specs.declared.refusal.Refusal.{Refusal}
 use Rattle.ring_names.specs.declared.refusal.Refusal.TheVariants.{BadLine, TooLarge}
+use Rattle.ring_names.proofs.Logic.{pair_is, pair_of}
 use Rattle.texts.specs.Judging.{both_of, Item, ◌⊗◌, field_at, word_at, end_at, need_at, map_ok, map_item, whole, unless}
 use Rattle.texts.specs.Left.{Left, ◌>>=◌, next_number, first_line, next_line, one_line, then_part, map_part}
 use Rattle.texts.specs.Laws.{IsItem, IsLine, IsPart, SomeLeft, Any}
@@ -32,12 +33,6 @@ both_is (Ok x) (Err d) v e = absurd cc
 both_is (Err d) (Ok y) v e = absurd cc
 both_is (Err d) (Err g) v e = absurd cc
 
-pair_is : {A B : Type 0} (p : A × B) (x : A) (y : B) → p ≡ (x, y) → (p.0 ≡ x) × (p.1 ≡ y)
-pair_is p x y e = (ap (λ q. q.0) e, ap (λ q. q.1) e)
-
-pair_of : {A B : Type 0} (p : A × B) (x : A) (y : B) → p.0 ≡ x → p.1 ≡ y → p ≡ (x, y)
-pair_of p x y e f = rw (← e, ← f) refl
-
 pub IsItem-⊗ : {A B : Type 0} (a : Item A) (b : Item B) (s : A → List (List ℕ)) (t : B → List (List ℕ)) (P : A → Type 0) (Q : B → Type 0) → IsItem a s P → IsItem b t Q → IsItem (a ⊗ b) (λ v. s v.0 ++ t v.1) (λ v. P v.0 × Q v.1)
 unfolding both_of
 IsItem-⊗ {A} {B} a b s t P Q ia ib = record { takes = take; gives = give }
@@ -56,7 +51,7 @@ IsItem-⊗ {A} {B} a b s t P Q ia ib = record { takes = take; gives = give }
         let second = ib.gives v.1 rest p.1 in
         rw (append_assoc (s v.0) (t v.1) rest, first, second) refl
 
-end_is : (k : ℕ) (fields rest : List (List ℕ)) → end_at k fields ≡ (Ok tt, rest) → fields ≡ []
+pub end_is : (k : ℕ) (fields rest : List (List ℕ)) → end_at k fields ≡ (Ok tt, rest) → fields ≡ []
 end_is k [] rest e = refl
 end_is k (f ∷ fs) rest e = let bad : Err (BadLine k) ≡ Ok tt = ap (λ p. p.0) e in absurd cc
 

@@ -10,7 +10,7 @@ other-any : (test : List ℕ → Bool) (line : List (List ℕ)) (more : List (Li
 other-any test [] more h = refl
 other-any test (f ∷ fs) more h = h
 
-tail_is : (a b : List (List ℕ)) (xs ys : List (List (List ℕ))) → a ∷ xs ≡ b ∷ ys → xs ≡ ys
+pub tail_is : (a b : List (List ℕ)) (xs ys : List (List (List ℕ))) → a ∷ xs ≡ b ∷ ys → xs ≡ ys
 tail_is a b xs ys h = cc
 
 first-ok : (k : ℕ) (l : List (List ℕ)) (rest : List (List (List ℕ))) (z : List (List ℕ)) (zs : List (List (List ℕ))) → rest ≡ z ∷ zs → first_line k (l ∷ rest) ≡ Ok (l, record { line = next_number k; lines = rest })

@@ -4,14 +4,11 @@ use Rattle.std.specs.Prelude.{nat_le}
 use Rattle.std.specs.List.{list_all}
 use Rattle.std.proofs.lemmas.Bool.{ltb-true, lt-ltb, and_parts}
 use Rattle.std.proofs.lemmas.Bool.Decides.{nat_tests}
+use Rattle.ring_names.proofs.Logic.{and_true}
 use Rattle.texts.specs.Number.{capped}
 use Rattle.texts.specs.Numbers.{ascending, are_small}
 use Rattle.texts.specs.KeptRow.{Measures}
 use Rattle.texts.specs.declared.measure.Measure.{Measure}
-
-and_true : (a : Bool) → (a && true) ≡ a
-and_true true = refl
-and_true false = refl
 
 pub all_push : (f : ℕ → Bool) (xs : List ℕ) (n : ℕ) → list_all f (xs ++ n ∷ []) ≡ (list_all f xs && f n)
 all_push f [] n = and_true (f n)

@@ -3,6 +3,7 @@ use Rattle.std.proofs.Common.{◌≡◌, ℕ, zero, suc, ◌+◌, ◌-◌, ◌*�
 use Rattle.std.specs.Str.{all_ascii_digits}
 use Rattle.std.specs.Char.{is_ascii_digit}
 use Rattle.std.proofs.lemmas.List.{take_more}
+use Rattle.ring_names.proofs.Logic.{and_false, and_true}
 use Rattle.texts.specs.Number.{value_from, capped}
 
 pub value-push : (n : ℕ) (ds : List ℕ) (c : ℕ) → value_from n (ds ++ c ∷ []) ≡ 10 * value_from n ds + (c - 48)
@@ -13,26 +14,18 @@ and-assoc : (a b c : Bool) → ((a && b) && c) ≡ (a && (b && c))
 and-assoc true b c = refl
 and-assoc false b c = refl
 
-and-true : (a : Bool) → (a && true) ≡ a
-and-true true = refl
-and-true false = refl
-
 pub digits-push : (ds : List ℕ) (c : ℕ) → all_ascii_digits (ds ++ c ∷ []) ≡ (all_ascii_digits ds && is_ascii_digit c)
-digits-push [] c = and-true (is_ascii_digit c)
+digits-push [] c = and_true (is_ascii_digit c)
 digits-push (d ∷ ds) c = ap (λ b. is_ascii_digit d && b) (digits-push ds c) ∙ sym (and-assoc (is_ascii_digit d) (all_ascii_digits ds) (is_ascii_digit c))
 
 pub capped-step : (a d : ℕ) → min (10 * min a 4294967296 + d) 4294967296 ≡ min (10 * a + d) 4294967296
 capped-step a d = omega arith
 
-pub and-false : (a : Bool) → (a && false) ≡ false
-and-false true = refl
-and-false false = refl
-
 -- one byte that is no digit
 pub no_digits : (ds : List ℕ) (i : ℕ) → i < length ds → is_ascii_digit (get_or ds i 0) ≡ false → all_ascii_digits ds ≡ false
 no_digits [] i h e = absurd (omega arith)
 no_digits (d ∷ ds) zero h e = ap (λ b. b && all_ascii_digits ds) e
-no_digits (d ∷ ds) (suc i) h e = ap (λ b. is_ascii_digit d && b) (no_digits ds i (omega arith) e) ∙ and-false (is_ascii_digit d)
+no_digits (d ∷ ds) (suc i) h e = ap (λ b. is_ascii_digit d && b) (no_digits ds i (omega arith) e) ∙ and_false (is_ascii_digit d)
 
 -- the value of one more digit
 pub value-step : (ds : List ℕ) (i v : ℕ) → i < length ds → v ≡ capped (value_from 0 (take i ds)) → min (10 * v + (get_or ds i 0 - 48)) 4294967296 ≡ capped (value_from 0 (take (i + 1) ds))

@@ -102,7 +102,7 @@ name-byte-plain b e =
       ]
     ]
 
-name-bytes-plain : (bs : List ℕ) → list_all is_name_byte bs ≡ true → IsPlain bs
+pub name-bytes-plain : (bs : List ℕ) → list_all is_name_byte bs ≡ true → IsPlain bs
 name-bytes-plain [] e = tt
 name-bytes-plain (b ∷ bs) e =
     let p = and_parts (is_name_byte b) (list_all is_name_byte bs) e in

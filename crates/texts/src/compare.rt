@@ -6,7 +6,8 @@ ghost use Rattle.texts.specs.Number.{value_from, is_number};
 // Whether of as many digits the first spell less.
 fn is_less_digits(first: &[u8], second: &[u8]) -> bool
     requires { length first.now ≡ length second.now }
-    ensures { is_number first.now ≡ true → is_number second.now ≡ true → result ≡ nat_lt (value_from 0 first.now) (value_from 0 second.now) }
+    ensures { is_number first.now ≡ true → is_number second.now ≡ true
+        → result ≡ nat_lt (value_from 0 first.now) (value_from 0 second.now) }
 {
     for i in 0..first.len() {
         if first[i] < second[i] {
@@ -21,7 +22,8 @@ fn is_less_digits(first: &[u8], second: &[u8]) -> bool
 
 /// Whether the first of two numbers is less, of any length. Neither is parsed.
 pub fn is_less(first: &[u8], second: &[u8]) -> bool
-    ensures { is_number first.now ≡ true → is_number second.now ≡ true → result ≡ nat_lt (value_from 0 first.now) (value_from 0 second.now) }
+    ensures { is_number first.now ≡ true → is_number second.now ≡ true
+        → result ≡ nat_lt (value_from 0 first.now) (value_from 0 second.now) }
 {
     if first.len() < second.len() {
         return true;

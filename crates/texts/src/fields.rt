@@ -47,7 +47,8 @@ impl<'a> Fields<'a> {
 
     /// Takes the next field, if there is one.
     pub fn next(&mut self) -> Option<&'a [u8]>
-        ensures field { MatchOption result ((self.old.fields ≡ []) × (self.new.fields ≡ [])) (λ field. self.old.fields ≡ field.now ∷ self.new.fields) }
+        ensures field { MatchOption result ((self.old.fields ≡ []) × (self.new.fields ≡ []))
+            (λ field. self.old.fields ≡ field.now ∷ self.new.fields) }
         ensures line { self.new.number ≡ self.old.number }
     {
         self.rest.next()
@@ -115,7 +116,8 @@ impl<'a> Fields<'a> {
     /// The fields in front of the first that is this word, and those behind it, where there is one.
     pub fn split(self, word: &[u8]) -> (Fields<'a>, Option<Fields<'a>>)
         ensures front { result.0 ≡ record { number = self.entry.number; fields = front_of word.now self.entry.fields } }
-        ensures behind { result.1 ≡ option_map (λ fs. record { number = self.entry.number; fields = fs }) (behind_of word.now self.entry.fields) }
+        ensures behind { result.1 ≡ option_map (λ fs. record { number = self.entry.number; fields = fs })
+            (behind_of word.now self.entry.fields) }
     {
         let line = self.line;
         let (front, behind) = self.rest.split(word);

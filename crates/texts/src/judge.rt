@@ -64,7 +64,8 @@ pub fn finish_both<Z: Drop, A: Drop, B: Drop>(
     second: Result<B, Refusal>,
     fields: Fields,
 ) -> Result<(A, B), Refusal>
-    ensures { result ≡ map_ok (λ x. (x.0.0.1, x.0.1)) (both_of (both_of (both_of before first) second) (end_at fields.entry.number fields.entry.fields).0) }
+    ensures { result ≡ map_ok (λ x. (x.0.0.1, x.0.1))
+        (both_of (both_of (both_of before first) second) (end_at fields.entry.number fields.entry.fields).0) }
 {
     let faults = both(both(before, outcome(&first)), outcome(&second));
     match finish(faults, fields) {

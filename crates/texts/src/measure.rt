@@ -1,6 +1,7 @@
 //! What is kept of numbers that are taken one behind the other.
 
-ghost use Rattle.std.specs.Prelude.{◌≡◌, ◌≤◌, ◌<◌, ◌+◌, ◌++◌, ◌∷◌, ◌&&◌, [], ℕ, List, nat_le, length, take, is_some, IfSome};
+ghost use Rattle.std.specs.Prelude.{◌≡◌, ◌≤◌, ◌<◌, ◌+◌, ◌++◌, ◌∷◌, ◌&&◌, [], ℕ, List, nat_le, length, take, is_some};
+ghost use Rattle.std.specs.Prelude.{IfSome};
 ghost use Rattle.texts.specs.Number.{capped};
 ghost use Rattle.texts.specs.Numbers.{are_small};
 ghost use Rattle.texts.specs.KeptRow.{Measures};
@@ -35,7 +36,8 @@ impl Measure {
     // Keeps the next number, if it is one of the first.
     fn keep(&mut self, value: u64)
         requires { value ≤ 4294967296 }
-        ensures first { self.old.count < 8 → value < 4294967296 → take (self.old.count + 1) self.new.first ≡ take self.old.count self.old.first ++ value ∷ [] }
+        ensures first { self.old.count < 8 → value < 4294967296
+            → take (self.old.count + 1) self.new.first ≡ take self.old.count self.old.first ++ value ∷ [] }
         ensures count { self.new.count ≡ self.old.count }
         ensures bound { self.new.bound ≡ self.old.bound }
         ensures ascends { self.new.ascends ≡ self.old.ascends }

@@ -1,6 +1,7 @@
 //! Numbers in a row.
 
-ghost use Rattle.std.specs.Prelude.{◌≡◌, ◌∷◌, ◌≤◌, ◌==◌, ◌++◌, ◌&&◌, [], true, nat_lt, nat_le, length, ⊤, MatchOption, is_some, IfSome, OnOk, IfOk, IfErr};
+ghost use Rattle.std.specs.Prelude.{◌≡◌, ◌∷◌, ◌≤◌, ◌==◌, ◌++◌, ◌&&◌, [], true, nat_lt, nat_le, length, ⊤, MatchOption};
+ghost use Rattle.std.specs.Prelude.{is_some, IfSome, OnOk, IfOk, IfErr};
 ghost use Rattle.std.specs.List.{list_all};
 ghost use Rattle.ring_names.specs.declared.refusal.Refusal.TheVariants.{OutOfMemory};
 ghost use Rattle.texts.specs.Number.{value_from, is_number, capped};
@@ -45,7 +46,8 @@ impl<'a> Cursor<'a> {
     // Takes the next part if it is a number, and tells its value, at most `CAP`.
     #[tactic(auto, using(crate::proofs::InFront::none_beyond))]
     pub(crate) fn next_number(&mut self) -> Option<(&'a [u8], u64)>
-        ensures number { MatchOption result (numbers_of self.old ≡ []) (λ n. (is_number n.0.now ≡ true) × (numbers_of self.old ≡ value_from 0 n.0.now ∷ numbers_of self.new)) }
+        ensures number { MatchOption result (numbers_of self.old ≡ [])
+            (λ n. (is_number n.0.now ≡ true) × (numbers_of self.old ≡ value_from 0 n.0.now ∷ numbers_of self.new)) }
         ensures value { IfSome result (λ n. n.1 ≡ capped (value_from 0 n.0.now)) }
         ensures field { MatchOption result (self.new ≡ self.old) (λ n. self.old ≡ n.0.now ∷ self.new) }
         ensures rest { MatchOption result (beyond self.old ≡ self.old) (λ n. beyond self.old ≡ beyond self.new) }

@@ -1,5 +1,5 @@
 use Rattle.std.proofs.Common.{◌∙◌, sym, refl}
-use Rattle.plan_stage.proofs.Truth.{first_of_two, second_of_two}
+use Rattle.std.proofs.lemmas.Bool.{or_right, or_left}
 use Rattle.ring_hints.specs.Hints.{hinted_at}
 use Rattle.store_tells.specs.GuardsKept.{is_served_kept}
 use Rattle.store_events.proofs.GroupsRaised.{group_raised, group_left}
@@ -14,8 +14,8 @@ returns-then-keeps c =
     let served = is_served_kept c.args.slots.now c.args.slot c.args.node.0 in
     group_raised (hinted_at c.args.hints.now) c.args.node.0 c.args.slot c.keeps.result c.args.slots.now c.raise.new.self c.keeps.ensures
     (elim c.then-keeps.branch [
-      | then-keeps-via-then-keeps w ↦ second_of_two served c.keeps.result w.if-keeps.true
-      | then-keeps-via-else-keeps+then-is_served w ↦ first_of_two served c.keeps.result (sym w.is_served.ensures ∙ w.if-is_served.true)
+      | then-keeps-via-then-keeps w ↦ or_right served c.keeps.result w.if-keeps.true
+      | then-keeps-via-else-keeps+then-is_served w ↦ or_left served c.keeps.result (sym w.is_served.ensures ∙ w.if-is_served.true)
     ])
     c.raise.ensures
 
