@@ -4,6 +4,8 @@ use Rattle.std.specs.Fmt.{decimal}
 use Rattle.std.specs.List.{list_all, AllByRecursion, flat_map}
 use Rattle.std.proofs.lemmas.Bool.{ltb-true, lt-ltb, and_parts, and_from}
 use Rattle.std.proofs.lemmas.List.Concat.{flat_map-cons}
+use Rattle.std.specs.Str.{bytes_eq}
+use Rattle.std.proofs.lemmas.Slice.Eq.{bytes_eq-Decides}
 use Rattle.ring_names.specs.declared.refusal.Refusal.{Refusal}
 use Rattle.ring_names.specs.declared.refusal.Refusal.TheVariants.{BadLine, TooLarge}
 use Rattle.ring_names.proofs.Logic.{pair_is}
@@ -23,7 +25,6 @@ use Rattle.script_text.specs.Valid.{IsCount}
 use Rattle.script_text.proofs.FieldLaws.{item-count}
 use Rattle.history_text.specs.Reading.{judge_numbers, numbers_at, ticket_at, reply_at}
 use Rattle.history_text.specs.Valid.{IsReply}
-use Rattle.script_text.proofs.KindLaws.{choose}
 
 -- the fields of a reply
 abbrev pub reply_fields : Reply → List (List ℕ)
@@ -91,6 +92,14 @@ front-numbers k = record { takes = take; gives = give }
 -- a reply that was read, or is given back
 abbrev Pair : Type 0
 Pair = Result Reply Refusal × List (List ℕ)
+
+-- the word in front is this one, or reading goes on
+choose : (G : Type 0) (word : List ℕ) (z : Pair) (w : List ℕ) (x y : Pair) → cond (bytes_eq word w) x y ≡ z → ((word ≡ w) × (x ≡ z) → G) → (y ≡ z → G) → G
+choose G word z w x y e f g = by (bytes_eq word w) refl e
+  where
+    by : (b : Bool) → bytes_eq word w ≡ b → cond b x y ≡ z → G
+    by true h i = f ((bytes_eq-Decides word w).0 h, i)
+    by false h i = g i
 
 -- the fields are those of what was read, and it is allowed
 abbrev Spelled : List (List ℕ) → List (List ℕ) → Reply → Type 0

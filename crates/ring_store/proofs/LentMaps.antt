@@ -10,23 +10,19 @@ use Rattle.ring_versions.specs.declared.version.Version.{Version}
 use Rattle.ring_versions.specs.Fresh.{FitsIn}
 use Rattle.ring_versions.specs.declared.fresh.Fresh.{Fresh}
 use Rattle.store_maps.specs.Chunks.{chunk_of}
-use Rattle.store_maps.specs.Merges.{MergesAll, fresh_at, fresh_in}
-use Rattle.store_maps.specs.declared.fresh_keys.FreshKeys.{FreshKeys}
+use Rattle.store_maps.specs.Merges.{MergesAll, fresh_in}
 use Rattle.store_maps.specs.declared.fresh_maps.FreshMaps.{FreshMaps}
-use Rattle.store_maps.specs.Slots.{space_of, held_for}
+use Rattle.store_maps.specs.Slots.{space_of, held_for, has_place_for}
 use Rattle.store_maps.specs.declared.slot_map.SlotMap.{SlotMap}
 use Rattle.store_maps.proofs.OneAnswer.{none_where}
 use Rattle.ring_store.specs.Slots.{maps_of, held_by, placed_by, AreOf, PutsSlot, MergesInAll, at_slot}
 use Rattle.ring_store.specs.Store.{partitions, versions_at}
 use Rattle.ring_store.specs.declared.store.NodeStore.{NodeStore}
-use Rattle.ring_store.proofs.SlotMapsChanged.{puts_slot, same_by, merged_by, spaces_by, space_at, nothing_put}
+use Rattle.ring_store.proofs.SlotMapsChanged.{puts_slot, by_slot, same_by, merged_by, spaces_by, space_at, nothing_put}
 
 -- of the maps of a slot, in a hash space of q partitions
 abbrev pub IsReadyBy : Option SlotMap → List ℕ → Fresh → Type 0
 IsReadyBy o k f = (placed_by o k ≡ true) × FitsIn (held_by o k) f
-
-abbrev pub AreReadyBy : ℕ → Option SlotMap → ℕ → FreshKeys → Type 0
-AreReadyBy q o c f = (k : List ℕ) → IfSome (fresh_at f k) (λ x. (chunk_of q k ≡ c) × IsReadyBy o k x)
 
 abbrev pub AllReadyBy : ℕ → Option SlotMap → FreshMaps → Type 0
 AllReadyBy q o f = (c : ℕ) (k : List ℕ) → IfSome (fresh_in f c k) (λ x. (chunk_of q k ≡ c) × IsReadyBy o k x)
@@ -43,9 +39,6 @@ of_maps a slot {m} value P h = subst (P (space_of m)) (sym value) (subst (λ (q 
 
 no_ready : (o : Option SlotMap) (k : List ℕ) (f : Fresh) → o ≡ None → IsReadyBy o k f → ⊥
 no_ready o k f e ready = let no : placed_by o k ≡ false = ap (λ m. placed_by m k) e in let yes = ready.0 in cc
-
-pub none_ready : (o : Option SlotMap) (q c : ℕ) (f : FreshKeys) → o ≡ None → AreReadyBy q o c f → (k : List ℕ) → fresh_at f k ≡ None
-none_ready o q c f e h k = none_where (fresh_at f k) _ (λ x r. no_ready o k x e r.1) (h k)
 
 pub no_maps_ready : (o : Option SlotMap) (q : ℕ) (f : FreshMaps) → o ≡ None → AllReadyBy q o f → (k : List ℕ) (c : ℕ) → fresh_in f c k ≡ None
 no_maps_ready o q f e h k c = none_where (fresh_in f c k) _ (λ x r. no_ready o k x e r.1) (h c k)
@@ -78,6 +71,10 @@ module _ (a : NodeStore) (new : HashMap Slot SlotMap _) (slot : Slot) {m w : Slo
 
   pub same_set : ((k : List ℕ) → held_for w k ≡ held_for m k) → (s : Slot) (k : List ℕ) → held_by (maps_of new s) k ≡ reads s k
   same_set reads_same s k = same_by a.slots new slot (Some w) puts (λ k. reads_same k ∙ ap (λ o. held_by o k) value) s k ∙ same s k
+
+  pub stays_set : ((k : List ℕ) → has_place_for m k ≡ true → has_place_for w k ≡ true) → (s : Slot) (k : List ℕ) → placed_by (maps_of a.slots s) k ≡ true → placed_by (maps_of new s) k ≡ true
+  stays_set stays = by_slot a.slots new slot (Some w) puts (λ (s : Slot). (k : List ℕ) → placed_by (maps_of a.slots s) k ≡ true → placed_by (maps_of new s) k ≡ true)
+      (λ k h. ap (λ o. placed_by o k) puts.here ∙ stays k (ap (λ o. placed_by o k) value ∙ h)) (λ s e k h. ap (λ o. placed_by o k) (puts.others s e) ∙ h)
 
   -- what came to the maps came to the slot
   pub merged_set : (more : List ℕ → List Version) → MergesAll (held_for m) more (held_for w) → MergesInAll reads (at_slot slot more) (λ s k. held_by (maps_of new s) k)

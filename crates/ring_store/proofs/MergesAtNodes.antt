@@ -1,12 +1,14 @@
 -- Merges at one node after another.
-use Rattle.std.proofs.Common.{◌≡◌, ◌∙◌, ℕ, Bool, true, false, cond, List, [], refl, sym, subst, eqb-true}
+use Rattle.std.proofs.Common.{◌≡◌, inl, inr, ◌∙◌, ℕ, Bool, true, false, cond, List, [], refl, sym, subst, eqb-true}
 use Rattle.std.specs.Prelude.{◌≢◌, ◌==◌, ◌||◌, Some}
 use Rattle.std.proofs.Math.Path.{fun_ext}
 use Rattle.ring_names.specs.declared.ids.NodeId.{NodeId}
 use Rattle.ring_names.specs.declared.ids.Slot.{Slot}
 use Rattle.ring_versions.specs.declared.version.Version.{Version}
-use Rattle.ring_versions.specs.Versions.{IsMerge}
-use Rattle.store_maps.proofs.MergesInTurn.{merge_then_none, merge_after_none}
+use Rattle.ring_versions.specs.Versions.{IsApart, IsMerge}
+use Rattle.std.proofs.lemmas.Bool.{cases_eq}
+use Rattle.store_maps.proofs.Chunks.{chosen_other}
+use Rattle.store_maps.proofs.MergesInTurn.{merge_none, merge_then_none, merge_after_none}
 use Rattle.ring_store.specs.Nodes.{MergesAtAll, at_node, at_nodes}
 
 -- stores that read the same are one to read
@@ -45,3 +47,22 @@ pub given_both : (old mid late owned new : ℕ → Slot → List ℕ → List Ve
 given_both old mid late owned new owner mirror more P Q apart same made same_too made_too settle others settle_too = merges_both old owned new owner mirror more apart
     (given old late owned owner.0 more P (λ x s k. same_too x s k ∙ same x s k) made settle)
     (settle_too (subst Q (sym (fun_ext (λ s. fun_ext (λ k. others mirror.0 apart s k ∙ same_too mirror.0 s k)))) made_too))
+
+-- ---- a store that was taken out and put back
+
+-- nodes that read as old, mid without the store of one, given after a merge, and new with that store again
+module _ (old mid given new : ℕ → Slot → List ℕ → List Version) (from : ℕ) (taken : (x : ℕ) (s : Slot) (k : List ℕ) → x ≢ from → mid x s k ≡ old x s k)
+    (others : (x : ℕ) (s : Slot) (k : List ℕ) → x ≢ from → new x s k ≡ given x s k) (back : (s : Slot) (k : List ℕ) → new from s k ≡ old from s k) where
+  pub copied : (to : ℕ) (more : Slot → List ℕ → List Version) → to ≢ from → ((s : Slot) (k : List ℕ) → IsApart (old from s k)) → MergesAtAll mid (at_node to more) given → MergesAtAll old (at_node to more) new
+  copied to more apart fine h x s k = elim (cases_eq x from) [
+    | inl e ↦ subst (λ (y : ℕ). IsMerge (old y s k) (at_node to more y s k) (new y s k)) (sym e)
+        (subst (λ (comes : List Version). IsMerge (old from s k) comes (new from s k)) (sym (chosen_other from to (more s k) (λ same. apart (sym same))))
+        (subst (IsMerge (old from s k) []) (sym (back s k)) (merge_none (old from s k) (fine s k))))
+    | inr ne ↦ subst (IsMerge (old x s k) (at_node to more x s k)) (sym (others x s k ne)) (subst (λ (was : List Version). IsMerge was (at_node to more x s k) (given x s k)) (taken x s k ne) (h x s k))
+  ]
+
+  pub unchanged : ((x : ℕ) (s : Slot) (k : List ℕ) → given x s k ≡ mid x s k) → (x : ℕ) (s : Slot) (k : List ℕ) → new x s k ≡ old x s k
+  unchanged same x s k = elim (cases_eq x from) [
+    | inl e ↦ subst (λ (y : ℕ). new y s k ≡ old y s k) (sym e) (back s k)
+    | inr ne ↦ others x s k ne ∙ same x s k ∙ taken x s k ne
+  ]

@@ -1,7 +1,9 @@
 -- One node's store changed.
-use Rattle.std.proofs.Common.{◌≡◌, ◌≢◌, inl, inr, ◌∙◌, ℕ, ◌<◌, true, List, [], ◌∷◌, ◌++◌, length, refl, sym, ap, subst, Option, Some, None, set}
+use Rattle.std.proofs.Common.{◌≡◌, ◌≢◌, inl, inr, ◌∙◌, ℕ, ◌<◌, true, List, [], ◌∷◌, ◌++◌, length, refl, sym, ap, subst, Option, Some, None, cond, nat_eq, set, arith}
 use Rattle.std.specs.Prelude.{slice_get, IfSome}
 use Rattle.std.proofs.Math.ListN.{get_or}
+use Rattle.std.proofs.Math.Path.{fun_ext}
+use Rattle.std.proofs.lemmas.Option.{slice_get_cases}
 use Rattle.std.proofs.lemmas.Bool.{cases_eq}
 use Rattle.ring_names.specs.declared.ids.Slot.{Slot}
 use Rattle.ring_names.proofs.InLists.{get_lent}
@@ -10,21 +12,20 @@ use Rattle.ring_versions.specs.declared.fresh.Fresh.{Fresh}
 use Rattle.ring_versions.specs.declared.version.Version.{Version}
 use Rattle.ring_versions.specs.Versions.{IsApart, IsMerge}
 use Rattle.store_maps.specs.Chunks.{chunk_of}
-use Rattle.store_maps.specs.Merges.{fresh_at, fresh_in}
-use Rattle.store_maps.specs.declared.fresh_keys.FreshKeys.{FreshKeys}
+use Rattle.store_maps.specs.Merges.{fresh_in}
 use Rattle.store_maps.specs.declared.fresh_maps.FreshMaps.{FreshMaps}
 use Rattle.store_maps.proofs.OneAnswer.{on_some}
 use Rattle.store_maps.proofs.Chunks.{get_here, get_other, pushed, chosen_here, chosen_other}
 use Rattle.store_maps.proofs.MergesInTurn.{merge_none}
 use Rattle.ring_store.specs.Nodes.{stored_in, has_place_in, AreOfSpace, MergesAtAll, at_node}
 use Rattle.ring_store.specs.Slots.{maps_of, MergesInAll}
-use Rattle.ring_store.specs.Store.{partitions, versions_at, has_place_at}
-use Rattle.ring_store.specs.Stores.{shared_space, held_at, has_place_on, KeepsReady}
+use Rattle.ring_store.specs.Store.{partitions, versions_at, chunk_versions, has_place_at}
+use Rattle.ring_store.specs.Stores.{node_count, shared_space, held_at, chunk_held_at, has_place_on, KeepsReady}
 use Rattle.ring_store.specs.declared.store.NodeStore.{NodeStore}
 use Rattle.ring_store.specs.declared.stores.Stores.{Stores}
 use Rattle.ring_store.proofs.SlotMapsChanged.{apart_by}
 
-apart_in : (o : Option NodeStore) (s : Slot) (k : List ℕ) → IsApart (stored_in o s k)
+pub apart_in : (o : Option NodeStore) (s : Slot) (k : List ℕ) → IsApart (stored_in o s k)
 apart_in None s k = tt
 apart_in (Some a) s k = apart_by (maps_of a.slots s) k
 
@@ -34,9 +35,6 @@ apart_in (Some a) s k = apart_by (maps_of a.slots s) k
 abbrev pub IsReadyIn : Option NodeStore → Slot → List ℕ → Fresh → Type 0
 IsReadyIn o s k f = (has_place_in o s k ≡ true) × FitsIn (stored_in o s k) f
 
-abbrev pub AreReadyIn : ℕ → Option NodeStore → Slot → ℕ → FreshKeys → Type 0
-AreReadyIn q o s c f = (k : List ℕ) → IfSome (fresh_at f k) (λ y. (chunk_of q k ≡ c) × IsReadyIn o s k y)
-
 abbrev pub AllReadyIn : ℕ → Option NodeStore → Slot → FreshMaps → Type 0
 AllReadyIn q o s f = (c : ℕ) (k : List ℕ) → IfSome (fresh_in f c k) (λ y. (chunk_of q k ≡ c) × IsReadyIn o s k y)
 
@@ -45,7 +43,6 @@ keeps_ready : (old new : Stores) (x : ℕ) → shared_space new ≡ shared_space
     → ((s : Slot) (k : List ℕ) → has_place_on old x s k ≡ true → has_place_on new x s k ≡ true) → KeepsReady x old new
 keeps_ready old new x space same stays = record {
   key = ready;
-  chunk = λ s c f h k. on_some (fresh_at f k) _ _ (λ y r. (ap (λ (p : ℕ). chunk_of p k) space ∙ r.0, ready s k y r.1)) (h k);
   slot = λ s f h c k. on_some (fresh_in f c k) _ _ (λ y r. (ap (λ (p : ℕ). chunk_of p k) space ∙ r.0, ready s k y r.1)) (h c k);
 }
   where
@@ -57,6 +54,13 @@ keeps_ready old new x space same stays = record {
 module _ (a : Stores) {n : ℕ} {m : NodeStore} (w : NodeStore) (room : n < length a.list.items) (lends : m ≡ get_or a.list.items n m) where
   is : slice_get a.list.items n ≡ Some m
   is = get_lent a.list.items n m room lends
+
+  -- the store is of the hash space, and reads as the node does
+  pub space_lent : partitions m ≡ shared_space a
+  space_lent = a.spaces n m is
+
+  pub reads_lent : (s : Slot) (k : List ℕ) → versions_at m s k ≡ held_at a n s k
+  reads_lent s k = sym (ap (λ (o : Option NodeStore). stored_in o s k) is)
 
   -- what holds of the store and its hash space holds where it stands
   pub at_old : (P : ℕ → Option NodeStore → Type 0) → P (partitions m) (Some m) → P (shared_space a) (slice_get a.list.items n)
@@ -104,6 +108,30 @@ module _ (a : Stores) {n : ℕ} {m : NodeStore} (w : NodeStore) (room : n < leng
       (subst (λ (ys : List NodeStore). (s : Slot) (k : List ℕ) → stored_in (slice_get ys y) s k ≡ held_at a y s k) (sym new) (others_set y ne))
       (subst (λ (ys : List NodeStore). (s : Slot) (k : List ℕ) → has_place_on a y s k ≡ true → has_place_in (slice_get ys y) s k ≡ true) (sym new)
       (λ s k h. ap (λ o. has_place_in o s k) (get_other a.list.items n y w ne) ∙ h))
+
+-- ---- a store that was taken out and put back
+
+-- an index within the list is a node's number
+pub is_there : (a : Stores) (n : ℕ) → n < a.list.len → n < node_count a
+is_there a n less = let is = a.list.ok.0 in omega arith
+
+pub is_within : (a : Stores) (n : ℕ) → n < node_count a → n < a.list.len
+is_within a n less = let is = a.list.ok.0 in omega arith
+
+-- nothing is read of a node that there is not
+pub held_past : (a : Stores) (n : ℕ) → (n < node_count a → ⊥) → (s : Slot) (k : List ℕ) → held_at a n s k ≡ []
+held_past a n past s k = elim (slice_get_cases a.list.items n).1 [ inl h ↦ absurd (past h.1) | inr h ↦ ap (λ (o : Option NodeStore). stored_in o s k) h.1 ]
+
+pub back_again : (old mid new : Stores) (store : NodeStore) (n : ℕ) → node_count new ≡ node_count mid → node_count mid ≡ node_count old → ((s : Slot) (k : List ℕ) → versions_at store s k ≡ held_at old n s k)
+    → (n < node_count mid → (s : Slot) (k : List ℕ) → held_at new n s k ≡ versions_at store s k) → (s : Slot) (k : List ℕ) → held_at new n s k ≡ held_at old n s k
+back_again old mid new store n after before takes back s k = elim (slice_get_cases mid.list.items n).1 [
+  | inl h ↦ back h.1 s k ∙ takes s k
+  | inr h ↦ held_past new n (λ less. omega (arith, h.0, after)) s k ∙ sym (held_past old n (λ less. omega (arith, h.0, before)) s k)
+]
+
+-- a store that reads as a node did has of a chunk what the node had
+pub one_chunk : (a : Stores) (store : NodeStore) (n : ℕ) (s : Slot) (c : ℕ) → partitions store ≡ shared_space a → ((s : Slot) (k : List ℕ) → versions_at store s k ≡ held_at a n s k) → chunk_versions store s c ≡ chunk_held_at a n s c
+one_chunk a store n s c space reads = fun_ext (λ k. ap (λ (q : ℕ). cond (nat_eq (chunk_of q k) c) (versions_at store s k) []) space ∙ ap (λ (v : List Version). cond (nat_eq (chunk_of a.q k) c) v []) (reads s k))
 
 -- ---- the start
 

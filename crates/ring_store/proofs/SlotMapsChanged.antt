@@ -52,7 +52,7 @@ pub nothing_put : {S : Type 0} (slots : HashMap Slot SlotMap S) (slot : Slot) �
 nothing_put slots slot = record { here = refl; others = λ s e. refl }
 
 module _ {S : Type 0} (old new : HashMap Slot SlotMap S) (slot : Slot) (o : Option SlotMap) (p : PutsSlot old new slot o) where
-  by_slot : (P : Slot → Type 0) → P slot → ((s : Slot) → same_slot slot s ≡ false → P s) → (s : Slot) → P s
+  pub by_slot : (P : Slot → Type 0) → P slot → ((s : Slot) → same_slot slot s ≡ false → P s) → (s : Slot) → P s
   by_slot P here other s = elim (cases_Bool (same_slot slot s)) [ inl y ↦ subst P (slot_same slot s y) here | inr n ↦ other s n ]
 
   pub same_by : ((k : List ℕ) → held_by o k ≡ held_by (maps_of old slot) k) → (s : Slot) (k : List ℕ) → held_by (maps_of new s) k ≡ held_by (maps_of old s) k

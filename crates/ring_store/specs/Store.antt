@@ -4,10 +4,9 @@ use Rattle.ring_names.specs.declared.ids.Slot.{Slot}
 use Rattle.ring_versions.specs.Fresh.{FitsIn}
 use Rattle.ring_versions.specs.declared.fresh.Fresh.{Fresh}
 use Rattle.ring_versions.specs.declared.version.Version.{Version}
-use Rattle.store_maps.specs.declared.fresh_keys.FreshKeys.{FreshKeys}
 use Rattle.store_maps.specs.declared.fresh_maps.FreshMaps.{FreshMaps}
 use Rattle.store_maps.specs.Chunks.{chunk_of}
-use Rattle.store_maps.specs.Merges.{fresh_at, fresh_in}
+use Rattle.store_maps.specs.Merges.{fresh_in}
 use Rattle.ring_store.specs.declared.store.NodeStore.{NodeStore}
 use Rattle.ring_store.specs.Slots.{maps_of, held_by, placed_by}
 
@@ -30,10 +29,6 @@ has_place_at a s k = placed_by (maps_of a.slots s) k
 -- the key has a place in the slot, and f was made for its versions
 abbrev pub IsReadyAt : NodeStore → Slot → List ℕ → Fresh → Type 0
 IsReadyAt a s k f = (has_place_at a s k ≡ true) × FitsIn (versions_at a s k) f
-
--- each key of f lies in the chunk and has a place in the slot, and what f has for it was made for its versions
-abbrev pub AreReadyAt : NodeStore → Slot → ℕ → FreshKeys → Type 0
-AreReadyAt a s c f = (k : List ℕ) → IfSome (fresh_at f k) (λ x. (chunk_of a.q k ≡ c) × IsReadyAt a s k x)
 
 -- each key that f has in a chunk lies in that chunk and has a place in the slot, and what f has for it was made for its versions
 abbrev pub AllReadyAt : NodeStore → Slot → FreshMaps → Type 0

@@ -4,10 +4,9 @@ use Rattle.ring_names.specs.declared.ids.Slot.{Slot}
 use Rattle.ring_versions.specs.Fresh.{FitsIn}
 use Rattle.ring_versions.specs.declared.fresh.Fresh.{Fresh}
 use Rattle.ring_versions.specs.declared.version.Version.{Version}
-use Rattle.store_maps.specs.declared.fresh_keys.FreshKeys.{FreshKeys}
 use Rattle.store_maps.specs.declared.fresh_maps.FreshMaps.{FreshMaps}
 use Rattle.store_maps.specs.Chunks.{chunk_of}
-use Rattle.store_maps.specs.Merges.{fresh_at, fresh_in}
+use Rattle.store_maps.specs.Merges.{fresh_in}
 use Rattle.ring_store.specs.Nodes.{stored_in, has_place_in}
 use Rattle.ring_store.specs.declared.stores.Stores.{Stores}
 
@@ -35,16 +34,11 @@ has_place_on a x s k = has_place_in (slice_get a.list.items x) s k
 abbrev pub IsReadyOn : Stores → ℕ → Slot → List ℕ → Fresh → Type 0
 IsReadyOn a x s k f = (has_place_on a x s k ≡ true) × FitsIn (held_at a x s k) f
 
--- each key of f lies in the chunk and has a place in the slot at the node, and what f has for it was made for its versions
-abbrev pub AreReadyOn : Stores → ℕ → Slot → ℕ → FreshKeys → Type 0
-AreReadyOn a x s c f = (k : List ℕ) → IfSome (fresh_at f k) (λ y. (chunk_of a.q k ≡ c) × IsReadyOn a x s k y)
-
 -- each key that f has in a chunk lies in that chunk and has a place in the slot at the node, and what f has for it was made for its versions
 abbrev pub AllReadyOn : Stores → ℕ → Slot → FreshMaps → Type 0
 AllReadyOn a x s f = (c : ℕ) (k : List ℕ) → IfSome (fresh_in f c k) (λ y. (chunk_of a.q k ≡ c) × IsReadyOn a x s k y)
 
--- whatever was ready at the node, for a key, a chunk or a slot, is ready still
+-- whatever was ready at the node, for a key or a slot, is ready still
 pub record KeepsReady (node : ℕ) (old new : Stores) : Type 0 where
   pub key : (s : Slot) (k : List ℕ) (f : Fresh) → IsReadyOn old node s k f → IsReadyOn new node s k f
-  pub chunk : (s : Slot) (c : ℕ) (f : FreshKeys) → AreReadyOn old node s c f → AreReadyOn new node s c f
   pub slot : (s : Slot) (f : FreshMaps) → AllReadyOn old node s f → AllReadyOn new node s f

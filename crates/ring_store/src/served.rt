@@ -1,21 +1,22 @@
 //! Merges into what a slot's owner and its mirror have.
 
+use crate::store::NodeStore;
 use crate::stores::Stores;
 use ring_names::{NodeId, Refusal, Slot};
 use ring_versions::Versions;
-use store_maps::{KeyMap, SlotMap};
+use store_maps::SlotMap;
 
 impl Stores {
-    ghost use Rattle.std.specs.Prelude.{◌≡◌, ◌≢◌, ◌<◌, ℕ, true, List, Some, IfSome, IfErr, OnOk, OnErr};
+    ghost use Rattle.std.specs.Prelude.{◌≡◌, ◌≢◌, ◌<◌, ℕ, List, Some, IfSome, IfErr, OnOk, OnErr};
     ghost use Rattle.ring_names.specs.declared.ids.Slot.{Slot};
     ghost use Rattle.ring_names.specs.declared.refusal.Refusal.TheVariants.{OutOfMemory};
     ghost use Rattle.store_maps.specs.Chunks.{chunk_of};
-    ghost use Rattle.store_maps.specs.Held.{held, has_place};
     ghost use Rattle.store_maps.specs.Merges.{at_key};
     ghost use Rattle.store_maps.specs.Slots.{space_of, held_for};
     ghost use Rattle.ring_store.specs.Nodes.{MergesAtAll, at_node, at_nodes};
     ghost use Rattle.ring_store.specs.Slots.{at_slot};
-    ghost use Rattle.ring_store.specs.Stores.{node_count, shared_space, held_at};
+    ghost use Rattle.ring_store.specs.Store.{partitions, chunk_versions};
+    ghost use Rattle.ring_store.specs.Stores.{node_count, shared_space, held_at, chunk_held_at};
 
     // Merges versions of a key of the chunk into what one node has in the slot.
     fn give_to(
@@ -30,7 +31,8 @@ impl Stores {
         requires chunk { chunk_of (shared_space self.old) key.now ≡ chunk }
         ensures space { shared_space self.new ≡ shared_space self.old }
         ensures count { node_count self.new ≡ node_count self.old }
-        ensures ok { OnOk result (MergesAtAll (held_at self.old) (at_node node.0 (at_slot slot (at_key key.now more.now))) (held_at self.new)) }
+        ensures ok { OnOk result (MergesAtAll (held_at self.old)
+            (at_node node.0 (at_slot slot (at_key key.now more.now))) (held_at self.new)) }
         ensures err { OnErr result ((x : ℕ) (s : Slot) (k : List ℕ) → held_at self.new x s k ≡ held_at self.old x s k) }
         ensures memory { IfErr result (λ e. e ≡ OutOfMemory) }
     {
@@ -55,7 +57,8 @@ impl Stores {
         requires chunk { chunk_of (shared_space self.old) key.now ≡ chunk }
         ensures space { shared_space self.new ≡ shared_space self.old }
         ensures count { node_count self.new ≡ node_count self.old }
-        ensures ok { OnOk result (MergesAtAll (held_at self.old) (at_nodes owner (Some mirror) (at_slot slot (at_key key.now more.now))) (held_at self.new)) }
+        ensures ok { OnOk result (MergesAtAll (held_at self.old)
+            (at_nodes owner (Some mirror) (at_slot slot (at_key key.now more.now))) (held_at self.new)) }
         ensures err { OnErr result ((x : ℕ) (s : Slot) (k : List ℕ) → held_at self.new x s k ≡ held_at self.old x s k) }
         ensures memory { IfErr result (λ e. e ≡ OutOfMemory) }
     {
@@ -82,7 +85,8 @@ impl Stores {
         requires chunk { chunk_of (shared_space self.old) key.now ≡ chunk }
         ensures space { shared_space self.new ≡ shared_space self.old }
         ensures count { node_count self.new ≡ node_count self.old }
-        ensures ok { OnOk result (MergesAtAll (held_at self.old) (at_nodes owner mirror (at_slot slot (at_key key.now more.now))) (held_at self.new)) }
+        ensures ok { OnOk result (MergesAtAll (held_at self.old)
+            (at_nodes owner mirror (at_slot slot (at_key key.now more.now))) (held_at self.new)) }
         ensures err { OnErr result ((x : ℕ) (s : Slot) (k : List ℕ) → held_at self.new x s k ≡ held_at self.old x s k) }
         ensures memory { IfErr result (λ e. e ≡ OutOfMemory) }
     {
@@ -98,7 +102,8 @@ impl Stores {
         requires space { space_of other.now ≡ shared_space self.old }
         ensures space { shared_space self.new ≡ shared_space self.old }
         ensures count { node_count self.new ≡ node_count self.old }
-        ensures ok { OnOk result (MergesAtAll (held_at self.old) (at_node node.0 (at_slot slot (held_for other.now))) (held_at self.new)) }
+        ensures ok { OnOk result
+            (MergesAtAll (held_at self.old) (at_node node.0 (at_slot slot (held_for other.now))) (held_at self.new)) }
         ensures err { OnErr result ((x : ℕ) (s : Slot) (k : List ℕ) → held_at self.new x s k ≡ held_at self.old x s k) }
         ensures memory { IfErr result (λ e. e ≡ OutOfMemory) }
     {
@@ -121,7 +126,8 @@ impl Stores {
         requires space { space_of other.now ≡ shared_space self.old }
         ensures space { shared_space self.new ≡ shared_space self.old }
         ensures count { node_count self.new ≡ node_count self.old }
-        ensures ok { OnOk result (MergesAtAll (held_at self.old) (at_nodes owner (Some mirror) (at_slot slot (held_for other.now))) (held_at self.new)) }
+        ensures ok { OnOk result (MergesAtAll (held_at self.old)
+            (at_nodes owner (Some mirror) (at_slot slot (held_for other.now))) (held_at self.new)) }
         ensures err { OnErr result ((x : ℕ) (s : Slot) (k : List ℕ) → held_at self.new x s k ≡ held_at self.old x s k) }
         ensures memory { IfErr result (λ e. e ≡ OutOfMemory) }
     {
@@ -146,7 +152,8 @@ impl Stores {
         requires space { space_of other.now ≡ shared_space self.old }
         ensures space { shared_space self.new ≡ shared_space self.old }
         ensures count { node_count self.new ≡ node_count self.old }
-        ensures ok { OnOk result (MergesAtAll (held_at self.old) (at_nodes owner mirror (at_slot slot (held_for other.now))) (held_at self.new)) }
+        ensures ok { OnOk result (MergesAtAll (held_at self.old)
+            (at_nodes owner mirror (at_slot slot (held_for other.now))) (held_at self.new)) }
         ensures err { OnErr result ((x : ℕ) (s : Slot) (k : List ℕ) → held_at self.new x s k ≡ held_at self.old x s k) }
         ensures memory { IfErr result (λ e. e ≡ OutOfMemory) }
     {
@@ -156,25 +163,51 @@ impl Stores {
         }
     }
 
-    /// Merges a map of the chunk's keys into what one node has in the slot. Refused, it has changed no reading.
-    pub fn give_chunk(
+    // Merges what a store has of a chunk of the slot into what one node has of it.
+    fn give_chunk_of(
         &mut self,
+        store: &NodeStore,
         node: NodeId,
         slot: Slot,
         chunk: u32,
-        other: &KeyMap,
     ) -> Result<(), Refusal>
         requires node { node.0 < node_count self.old }
         requires chunk { chunk < 16 }
-        requires lies { (k : List ℕ) → has_place other.now k ≡ true → chunk_of (shared_space self.old) k ≡ chunk }
+        requires space { partitions store.now ≡ shared_space self.old }
         ensures space { shared_space self.new ≡ shared_space self.old }
         ensures count { node_count self.new ≡ node_count self.old }
-        ensures ok { OnOk result (MergesAtAll (held_at self.old) (at_node node.0 (at_slot slot (held other.now))) (held_at self.new)) }
+        ensures ok { OnOk result (MergesAtAll (held_at self.old)
+            (at_node node.0 (at_slot slot (chunk_versions store.now slot chunk))) (held_at self.new)) }
         ensures err { OnErr result ((x : ℕ) (s : Slot) (k : List ℕ) → held_at self.new x s k ≡ held_at self.old x s k) }
         ensures memory { IfErr result (λ e. e ≡ OutOfMemory) }
     {
-        let fresh = self.prepare_chunk(node, slot, chunk, other)?;
-        self.settle_chunk(node, slot, chunk, fresh);
-        Ok(())
+        match store.chunk_map(slot, chunk) {
+            Some(map) => self.give_chunk(node, slot, chunk, map),
+            None => Ok(()),
+        }
+    }
+
+    /// Merges what one node has of a chunk of the slot into what another has of it, as it stands. Refused, it has changed no reading.
+    pub fn copy_chunk(
+        &mut self,
+        from: NodeId,
+        to: NodeId,
+        slot: Slot,
+        chunk: u32,
+    ) -> Result<(), Refusal>
+        requires to { to.0 < node_count self.old }
+        requires apart { to.0 ≢ from.0 }
+        requires chunk { chunk < 16 }
+        ensures space { shared_space self.new ≡ shared_space self.old }
+        ensures count { node_count self.new ≡ node_count self.old }
+        ensures ok { OnOk result (MergesAtAll (held_at self.old)
+            (at_node to.0 (at_slot slot (chunk_held_at self.old from.0 slot chunk))) (held_at self.new)) }
+        ensures err { OnErr result ((x : ℕ) (s : Slot) (k : List ℕ) → held_at self.new x s k ≡ held_at self.old x s k) }
+        ensures memory { IfErr result (λ e. e ≡ OutOfMemory) }
+    {
+        let source = self.take(from);
+        let answer = self.give_chunk_of(&source, to, slot, chunk);
+        self.put_back(from, source);
+        answer
     }
 }

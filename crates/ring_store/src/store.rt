@@ -9,7 +9,7 @@ use ring_space::place;
 use ring_versions::{Fresh, Versions};
 use std::alloc::Global;
 use std::collections::HashMap;
-use store_maps::{FreshKeys, FreshMaps, KeyMap, SlotMap};
+use store_maps::{FreshMaps, KeyMap, SlotMap};
 
 /// The versions that a node stores, by slot and key. A look-up costs the key's length times the logarithm of the number of keys of its
 /// chunk, and its digest where the call takes no chunk. A refused growth leaves every reading as it was.
@@ -30,10 +30,11 @@ impl NodeStore {
     ghost use Rattle.ring_versions.specs.declared.version.Version.{Version};
     ghost use Rattle.store_maps.specs.Chunks.{chunk_of};
     ghost use Rattle.store_maps.specs.Held.{held, has_place, AreKeys};
-    ghost use Rattle.store_maps.specs.Merges.{at_key, AreFreshFor, AreFreshMaps};
+    ghost use Rattle.store_maps.specs.Merges.{at_key, AreFreshMaps};
     ghost use Rattle.store_maps.specs.Slots.{space_of, held_for};
     ghost use Rattle.ring_store.specs.Slots.{maps_of, MergesInAll, PutsSlot, at_slot};
-    ghost use Rattle.ring_store.specs.Store.{partitions, versions_at, chunk_versions, has_place_at, IsReadyAt, AreReadyAt, AllReadyAt};
+    ghost use Rattle.ring_store.specs.Store.{partitions, versions_at, chunk_versions, has_place_at, IsReadyAt};
+    ghost use Rattle.ring_store.specs.Store.{AllReadyAt};
 
     /// Nothing stored, in a hash space of q partitions.
     pub fn new(alloc: Global, q: u32) -> NodeStore
@@ -81,7 +82,8 @@ impl NodeStore {
     pub fn chunk_map(&self, slot: Slot, chunk: u32) -> Option<&KeyMap>
         requires { chunk < 16 }
         ensures some { IfSome result (λ m. (k : List ℕ) → held m.now k ≡ chunk_versions self.now slot chunk k) }
-        ensures lies { IfSome result (λ m. (k : List ℕ) → has_place m.now k ≡ true → chunk_of (partitions self.now) k ≡ chunk) }
+        ensures lies { IfSome result
+            (λ m. (k : List ℕ) → has_place m.now k ≡ true → chunk_of (partitions self.now) k ≡ chunk) }
         ensures none { IfNone result ((k : List ℕ) → chunk_versions self.now slot chunk k ≡ []) }
     {
         match self.slots.get(&slot) {
@@ -108,7 +110,8 @@ impl NodeStore {
         ensures space { partitions self.new ≡ partitions self.old }
         ensures ok { OnOk result (PutsSlot self.old.slots self.new.slots slot (Some maps)) }
         ensures err { OnErr result ((s : Slot) (k : List ℕ) → versions_at self.new s k ≡ versions_at self.old s k) }
-        ensures places { OnErr result ((s : Slot) (k : List ℕ) → has_place_at self.new s k ≡ has_place_at self.old s k) }
+        ensures places { OnErr result
+            ((s : Slot) (k : List ℕ) → has_place_at self.new s k ≡ has_place_at self.old s k) }
         ensures memory { IfErr result (λ e. e ≡ OutOfMemory) }
     {
         self.slots.insert(slot, maps)?;
@@ -131,7 +134,8 @@ impl NodeStore {
 
     /// A merge at one key of a slot in one call. Refused, it has changed no reading.
     pub fn merge_key(&mut self, slot: Slot, key: &[u8], more: &Versions) -> Result<(), Refusal>
-        ensures ok { OnOk result (MergesInAll (versions_at self.old) (at_slot slot (at_key key.now more.now)) (versions_at self.new)) }
+        ensures ok { OnOk result
+            (MergesInAll (versions_at self.old) (at_slot slot (at_key key.now more.now)) (versions_at self.new)) }
         ensures err { OnErr result ((s : Slot) (k : List ℕ) → versions_at self.new s k ≡ versions_at self.old s k) }
         ensures memory { IfErr result (λ e. e ≡ OutOfMemory) }
         ensures space { partitions self.new ≡ partitions self.old }
@@ -177,39 +181,19 @@ impl NodeStore {
         }
     }
 
-    /// The first half of a merge of a chunk of a slot with a whole map, whose keys lie in the chunk: makes the places that are missing, and
-    /// what the other map brings. No reading changes, whatever the answer.
-    pub fn prepare_chunk(
-        &mut self,
-        slot: Slot,
-        chunk: u32,
-        other: &KeyMap,
-    ) -> Result<FreshKeys, Refusal>
+    /// Merges a map of the chunk's keys into what a slot has. Refused, it has changed no reading. Costs what `KeyMap::take_in` does.
+    pub fn merge_chunk(&mut self, slot: Slot, chunk: u32, other: &KeyMap) -> Result<(), Refusal>
         requires chunk { chunk < 16 }
         requires lies { (k : List ℕ) → has_place other.now k ≡ true → chunk_of (partitions self.old) k ≡ chunk }
-        ensures same { (s : Slot) (k : List ℕ) → versions_at self.new s k ≡ versions_at self.old s k }
-        ensures stays { (s : Slot) (k : List ℕ) → has_place_at self.old s k ≡ true → has_place_at self.new s k ≡ true }
-        ensures ok { IfOk result (λ f. AreFreshFor (versions_at self.old slot) (held other.now) f) }
-        ensures ready { IfOk result (λ f. AreReadyAt self.new slot chunk f) }
+        ensures ok { OnOk result
+            (MergesInAll (versions_at self.old) (at_slot slot (held other.now)) (versions_at self.new)) }
+        ensures err { OnErr result ((s : Slot) (k : List ℕ) → versions_at self.new s k ≡ versions_at self.old s k) }
         ensures memory { IfErr result (λ e. e ≡ OutOfMemory) }
         ensures space { partitions self.new ≡ partitions self.old }
     {
         self.room(slot)?;
         let maps = self.slots.get_mut(&slot).unwrap();
-        maps.prepare_chunk(chunk, other)
-    }
-
-    /// The second half of a merge of a chunk of a slot with a whole map, which cannot fail.
-    pub fn settle_chunk(&mut self, slot: Slot, chunk: u32, fresh: FreshKeys)
-        requires chunk { chunk < 16 }
-        requires ready { AreReadyAt self.old slot chunk fresh }
-        ensures merged { (more : List ℕ → List Version) → AreFreshFor (versions_at self.old slot) more fresh
-            → MergesInAll (versions_at self.old) (at_slot slot more) (versions_at self.new) }
-        ensures space { partitions self.new ≡ partitions self.old }
-    {
-        if let Some(maps) = self.slots.get_mut(&slot) {
-            maps.settle_chunk(chunk, fresh);
-        }
+        maps.merge_chunk(chunk, other)
     }
 
     /// The first half of a merge of a slot with all maps of another, in a hash space of as many partitions: makes the places that are missing,

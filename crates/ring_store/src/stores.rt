@@ -8,7 +8,8 @@ use crate::store::NodeStore;
 use ring_names::{NodeId, Refusal, Slot};
 use ring_versions::{Fresh, Versions};
 use std::alloc::Global;
-use store_maps::{FreshKeys, FreshMaps, KeyMap, SlotMap};
+use std::mem;
+use store_maps::{FreshMaps, KeyMap, SlotMap};
 
 /// The versions that the nodes store, by node, slot and key. A change that touches two nodes is made in halves: first all that it needs is
 /// made ready at both, which may be refused and changes no reading, and then all is taken in, which cannot fail.
@@ -22,18 +23,20 @@ pub struct Stores {
 }
 
 impl Stores {
-    ghost use Rattle.std.specs.Prelude.{◌≢◌, ◌⊎◌, ◌<◌, ℕ, [], List, IfSome, IfNone, IfOk, IfErr};
+    ghost use Rattle.std.specs.Prelude.{◌≢◌, ◌⊎◌, ◌<◌, ℕ, [], List, IfSome, IfNone, IfOk, IfErr, OnOk, OnErr};
     ghost use Rattle.ring_names.specs.declared.ids.Slot.{Slot};
     ghost use Rattle.ring_names.specs.declared.refusal.Refusal.TheVariants.{OutOfMemory};
     ghost use Rattle.ring_versions.specs.Fresh.{IsFreshFor};
     ghost use Rattle.ring_versions.specs.declared.version.Version.{Version};
     ghost use Rattle.store_maps.specs.Chunks.{chunk_of};
     ghost use Rattle.store_maps.specs.Held.{held, has_place};
-    ghost use Rattle.store_maps.specs.Merges.{at_key, AreFreshFor, AreFreshMaps};
+    ghost use Rattle.store_maps.specs.Merges.{at_key, AreFreshMaps};
     ghost use Rattle.store_maps.specs.Slots.{space_of, held_for};
     ghost use Rattle.ring_store.specs.Nodes.{MergesAtAll, at_node};
     ghost use Rattle.ring_store.specs.Slots.{at_slot};
-    ghost use Rattle.ring_store.specs.Stores.{node_count, shared_space, held_at, chunk_held_at, IsReadyOn, AreReadyOn, AllReadyOn, KeepsReady};
+    ghost use Rattle.ring_store.specs.Store.{partitions, versions_at};
+    ghost use Rattle.ring_store.specs.Stores.{node_count, shared_space, held_at, chunk_held_at, IsReadyOn, AllReadyOn};
+    ghost use Rattle.ring_store.specs.Stores.{KeepsReady};
 
     /// Nothing stored at any of so many nodes, in a hash space of q partitions.
     pub fn start(alloc: Global, q: u32, nodes: u32) -> Result<Stores, Refusal>
@@ -72,7 +75,8 @@ impl Stores {
     pub fn chunk_map(&self, node: NodeId, slot: Slot, chunk: u32) -> Option<&KeyMap>
         requires { chunk < 16 }
         ensures some { IfSome result (λ m. (k : List ℕ) → held m.now k ≡ chunk_held_at self.now node.0 slot chunk k) }
-        ensures lies { IfSome result (λ m. (k : List ℕ) → has_place m.now k ≡ true → chunk_of (shared_space self.now) k ≡ chunk) }
+        ensures lies { IfSome result
+            (λ m. (k : List ℕ) → has_place m.now k ≡ true → chunk_of (shared_space self.now) k ≡ chunk) }
         ensures none { IfNone result ((k : List ℕ) → chunk_held_at self.now node.0 slot chunk k ≡ []) }
     {
         match self.list.get(node.0 as usize) {
@@ -114,51 +118,67 @@ impl Stores {
         ensures count { node_count self.new ≡ node_count self.old }
         ensures merged { (more : List Version) → IsFreshFor (held_at self.old node.0 slot key.now) more fresh
             → MergesAtAll (held_at self.old) (at_node node.0 (at_slot slot (at_key key.now more))) (held_at self.new) }
-        ensures others { (y : ℕ) → y ≢ node.0 → (t : Slot) (j : List ℕ) → held_at self.new y t j ≡ held_at self.old y t j }
+        ensures others { (y : ℕ) → y ≢ node.0 → (t : Slot) (j : List ℕ)
+            → held_at self.new y t j ≡ held_at self.old y t j }
         ensures keeps { (y : ℕ) → y ≢ node.0 → KeepsReady y self.old self.new }
     {
         let store = &mut self.list[node.0 as usize];
         store.settle(slot, chunk, key, fresh);
     }
 
-    /// The first half of a merge of a chunk of a slot at a node with a whole map, whose keys lie in the chunk: makes the places that are
-    /// missing, and what the other map brings. No reading changes, whatever the answer, and all that was made ready before stays so.
-    pub fn prepare_chunk(
+    /// Merges a map of the chunk's keys into what one node has in the slot. Refused, it has changed no reading.
+    /// Costs what `KeyMap::take_in` does.
+    pub fn give_chunk(
         &mut self,
         node: NodeId,
         slot: Slot,
         chunk: u32,
         other: &KeyMap,
-    ) -> Result<FreshKeys, Refusal>
+    ) -> Result<(), Refusal>
         requires node { node.0 < node_count self.old }
         requires chunk { chunk < 16 }
         requires lies { (k : List ℕ) → has_place other.now k ≡ true → chunk_of (shared_space self.old) k ≡ chunk }
         ensures space { shared_space self.new ≡ shared_space self.old }
         ensures count { node_count self.new ≡ node_count self.old }
-        ensures same { (x : ℕ) (s : Slot) (k : List ℕ) → held_at self.new x s k ≡ held_at self.old x s k }
-        ensures keeps { (y : ℕ) → KeepsReady y self.old self.new }
-        ensures ok { IfOk result (λ f. AreFreshFor (held_at self.old node.0 slot) (held other.now) f) }
-        ensures ready { IfOk result (λ f. AreReadyOn self.new node.0 slot chunk f) }
+        ensures ok { OnOk result
+            (MergesAtAll (held_at self.old) (at_node node.0 (at_slot slot (held other.now))) (held_at self.new)) }
+        ensures err { OnErr result ((x : ℕ) (s : Slot) (k : List ℕ) → held_at self.new x s k ≡ held_at self.old x s k) }
         ensures memory { IfErr result (λ e. e ≡ OutOfMemory) }
     {
         let store = &mut self.list[node.0 as usize];
-        store.prepare_chunk(slot, chunk, other)
+        store.merge_chunk(slot, chunk, other)
     }
 
-    /// The second half of a merge of a chunk of a slot at a node with a whole map, which cannot fail. What was made ready at other nodes stays so.
-    pub fn settle_chunk(&mut self, node: NodeId, slot: Slot, chunk: u32, fresh: FreshKeys)
-        requires node { node.0 < node_count self.old }
-        requires chunk { chunk < 16 }
-        requires ready { AreReadyOn self.old node.0 slot chunk fresh }
+    // Takes the store of a node out and leaves an empty one in its place. A node that there is not has an empty one.
+    pub(crate) fn take(&mut self, node: NodeId) -> NodeStore
         ensures space { shared_space self.new ≡ shared_space self.old }
         ensures count { node_count self.new ≡ node_count self.old }
-        ensures merged { (more : List ℕ → List Version) → AreFreshFor (held_at self.old node.0 slot) more fresh
-            → MergesAtAll (held_at self.old) (at_node node.0 (at_slot slot more)) (held_at self.new) }
-        ensures others { (y : ℕ) → y ≢ node.0 → (t : Slot) (j : List ℕ) → held_at self.new y t j ≡ held_at self.old y t j }
-        ensures keeps { (y : ℕ) → y ≢ node.0 → KeepsReady y self.old self.new }
+        ensures of_space { partitions result ≡ shared_space self.old }
+        ensures takes { (s : Slot) (k : List ℕ) → versions_at result s k ≡ held_at self.old node.0 s k }
+        ensures others { (x : ℕ) (s : Slot) (k : List ℕ) → x ≢ node.0
+            → held_at self.new x s k ≡ held_at self.old x s k }
     {
-        let store = &mut self.list[node.0 as usize];
-        store.settle_chunk(slot, chunk, fresh);
+        let empty = NodeStore::new(self.alloc, self.q);
+        match self.list.get_mut(node.0 as usize) {
+            Some(store) => mem::replace(store, empty),
+            None => empty,
+        }
+    }
+
+    // Puts a store in the place of a node's, if there is the node.
+    pub(crate) fn put_back(&mut self, node: NodeId, store: NodeStore)
+        requires { partitions store ≡ shared_space self.old }
+        ensures space { shared_space self.new ≡ shared_space self.old }
+        ensures count { node_count self.new ≡ node_count self.old }
+        ensures back { node.0 < node_count self.old → (s : Slot) (k : List ℕ)
+            → held_at self.new node.0 s k ≡ versions_at store s k }
+        ensures others { (x : ℕ) (s : Slot) (k : List ℕ) → x ≢ node.0
+            → held_at self.new x s k ≡ held_at self.old x s k }
+    {
+        let index = node.0 as usize;
+        if index < self.list.len() {
+            self.list[index] = store;
+        }
     }
 
     /// The first half of a merge of a slot at a node with all maps of another, in a hash space of as many partitions: makes the places that are
@@ -191,7 +211,8 @@ impl Stores {
         ensures count { node_count self.new ≡ node_count self.old }
         ensures merged { (more : List ℕ → List Version) → AreFreshMaps (held_at self.old node.0 slot) more fresh
             → MergesAtAll (held_at self.old) (at_node node.0 (at_slot slot more)) (held_at self.new) }
-        ensures others { (y : ℕ) → y ≢ node.0 → (t : Slot) (j : List ℕ) → held_at self.new y t j ≡ held_at self.old y t j }
+        ensures others { (y : ℕ) → y ≢ node.0 → (t : Slot) (j : List ℕ)
+            → held_at self.new y t j ≡ held_at self.old y t j }
         ensures keeps { (y : ℕ) → y ≢ node.0 → KeepsReady y self.old self.new }
     {
         let store = &mut self.list[node.0 as usize];
@@ -203,7 +224,8 @@ impl Stores {
         ensures space { shared_space self.new ≡ shared_space self.old }
         ensures count { node_count self.new ≡ node_count self.old }
         ensures gone { (k : List ℕ) → held_at self.new node.0 slot k ≡ [] }
-        ensures others { (x : ℕ) (s : Slot) (k : List ℕ) → (x ≢ node.0) ⊎ (s ≢ slot) → held_at self.new x s k ≡ held_at self.old x s k }
+        ensures others { (x : ℕ) (s : Slot) (k : List ℕ) → (x ≢ node.0) ⊎ (s ≢ slot)
+            → held_at self.new x s k ≡ held_at self.old x s k }
     {
         let index = node.0 as usize;
         if index < self.list.len() {
@@ -217,7 +239,8 @@ impl Stores {
         ensures space { shared_space self.new ≡ shared_space self.old }
         ensures count { node_count self.new ≡ node_count self.old }
         ensures gone { (s : Slot) (k : List ℕ) → held_at self.new node.0 s k ≡ [] }
-        ensures others { (x : ℕ) (s : Slot) (k : List ℕ) → x ≢ node.0 → held_at self.new x s k ≡ held_at self.old x s k }
+        ensures others { (x : ℕ) (s : Slot) (k : List ℕ) → x ≢ node.0
+            → held_at self.new x s k ≡ held_at self.old x s k }
     {
         let index = node.0 as usize;
         if index < self.list.len() {

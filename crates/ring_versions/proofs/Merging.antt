@@ -1,12 +1,12 @@
 -- The parts of a merge, one version after the other.
-use Rattle.std.proofs.Common.{◌≡◌, ◌⊎◌, inl, inr, Bool, false, IsTrue, List, [], ◌∷◌, ◌++◌, length, refl, sym, subst, arith}
+use Rattle.std.proofs.Common.{◌≡◌, ◌∙◌, ◌⊎◌, inl, inr, Bool, false, IsTrue, List, [], ◌∷◌, ◌++◌, length, refl, sym, subst, arith}
 use Rattle.ring_clock.specs.declared.entry.Entry.{Entry}
 use Rattle.ring_versions.specs.declared.version.Version.{Version}
-use Rattle.ring_versions.specs.Versions.{IsIn, Covers, InConflict, IsApart, IsMerge}
+use Rattle.ring_versions.specs.Versions.{IsIn, Covers, IsApart, IsMerge}
 use Rattle.ring_versions.specs.declared.fresh.Fresh.{Fresh}
-use Rattle.ring_versions.specs.Fresh.{IsFreshFor, BringsNothing}
-use Rattle.ring_versions.specs.Parts.{IsFresh, IsKept}
-use Rattle.ring_versions.proofs.Members.{in_first, in_either, in_last, covers_down, covers_first, covers_second, covers_either, covers_front, Cross, apart_join, apart_cross, apart_first, apart_second}
+use Rattle.ring_versions.specs.Fresh.{Brings, IsFreshFor, BringsNothing}
+use Rattle.ring_versions.specs.Parts.{IsFresh}
+use Rattle.ring_versions.proofs.Members.{in_either, in_last, covers_down, covers_first, covers_second, covers_front, apart_join, apart_cross, apart_first, apart_second}
 use Rattle.std.proofs.lemmas.List.{append_assoc}
 
 pub neither : (b : Bool) → b ≡ false → IsTrue b → ⊥
@@ -78,118 +78,47 @@ sifted held versions [] out none s = record {
   apart = apart_first out [] s.apart;
 }
 
-turned : (u v : Version) → InConflict u v → InConflict v u
-turned u v c = (c.1, c.0)
+-- ---- the merge
 
--- those that are kept so far, with some left to go through from the end
-pub record Moved (fresh versions left kept : List Version) : Type 0 where
-  pub rest : (v : Version) → IsIn v left → IsIn v versions
-  pub drawn : (v : Version) → IsIn v kept → IsIn v versions
-  pub old : (v : Version) → IsIn v kept → Covers fresh v.clock → ⊥
-  pub covers : (k : List Entry) → Covers versions k → (Covers fresh k ⊎ Covers kept k) ⊎ Covers left k
-  pub apart : IsApart left
-  pub conflicts : IsApart kept
-  pub cross : Cross left kept
-
-pub move_none : (fresh versions : List Version) → IsApart versions → Moved fresh versions versions []
-move_none fresh versions a = record {
-  rest = λ v h. h;
-  drawn = λ v h. absurd h;
-  old = λ v h. absurd h;
-  covers = λ k h. inr h;
-  apart = a;
-  conflicts = tt;
-  cross = λ u v h k. absurd k;
-}
-
-pub move_covered : (fresh versions left less kept : List Version) (x : Version) → left ≡ less ++ x ∷ [] → Covers fresh x.clock → Moved fresh versions left kept → Moved fresh versions less kept
-move_covered fresh versions left less kept x is covered s =
-    let t = subst (λ (r : List Version). Moved fresh versions r kept) is s in
-    record {
-      rest = λ v h. t.rest v (in_first v less (x ∷ []) h);
-      drawn = t.drawn;
-      old = t.old;
-      covers = λ k h. elim (t.covers k h) [
-        | inl found ↦ inl found
-        | inr more ↦ elim (covers_either less (x ∷ []) k more) [
-          | inl m ↦ inr m
-          | inr last ↦ elim (covers_front x [] k last) [ inl le ↦ inl (inl (covers_down fresh k x.clock le covered)) | inr none ↦ absurd none.1 ]
-        ]
-      ];
-      apart = apart_first less (x ∷ []) t.apart;
-      conflicts = t.conflicts;
-      cross = λ u v h k. t.cross u v (in_first u less (x ∷ []) h) k;
-    }
-
-pub move_one : (fresh versions left less kept : List Version) (x : Version) → left ≡ less ++ x ∷ [] → (Covers fresh x.clock → ⊥) → Moved fresh versions left kept → Moved fresh versions less (kept ++ x ∷ [])
-move_one fresh versions left less kept x is free s =
-    let t = subst (λ (r : List Version). Moved fresh versions r kept) is s in
-    record {
-      rest = λ v h. t.rest v (in_first v less (x ∷ []) h);
-      drawn = λ v h. elim (in_either v kept (x ∷ []) h) [
-        | inl old ↦ t.drawn v old
-        | inr last ↦ elim last [ inl at ↦ subst (λ (z : Version). IsIn z versions) at (t.rest x (in_last x less)) | inr none ↦ absurd none ]
-      ];
-      old = λ v h. elim (in_either v kept (x ∷ []) h) [
-        | inl old ↦ t.old v old
-        | inr last ↦ elim last [ inl at ↦ subst (λ (z : Version). Covers fresh z.clock → ⊥) at free | inr none ↦ absurd none ]
-      ];
-      covers = λ k h. elim (t.covers k h) [
-        | inl found ↦ elim found [ inl new ↦ inl (inl new) | inr mine ↦ inl (inr (covers_first kept (x ∷ []) k mine)) ]
-        | inr more ↦ elim (covers_either less (x ∷ []) k more) [
-          | inl m ↦ inr m
-          | inr last ↦ inl (inr (covers_second kept (x ∷ []) k last))
-        ]
-      ];
-      apart = apart_first less (x ∷ []) t.apart;
-      conflicts = apart_join kept (x ∷ []) t.conflicts (tt, tt) (λ u v h k. elim k [
-        | inl at ↦ subst (InConflict u) at (turned x u (t.cross x u (in_last x less) h))
-        | inr none ↦ absurd none
-      ]);
-      cross = λ u v h k. elim (in_either v kept (x ∷ []) k) [
-        | inl old ↦ t.cross u v (in_first u less (x ∷ []) h) old
-        | inr last ↦ apart_cross less (x ∷ []) t.apart u v h last
-      ];
-    }
-
-pub moved : (fresh versions left kept out : List Version) → length left ≡ 0 → out ≡ fresh ++ kept → Moved fresh versions left kept → IsKept fresh versions out
-moved fresh versions (x ∷ xs) kept out none is s = absurd (omega arith)
-moved fresh versions [] kept out none is s = record {
-  kept = kept;
-  all = is;
-  drawn = s.drawn;
-  old = s.old;
-  covers = λ k h. elim (s.covers k h) [ inl found ↦ found | inr more ↦ absurd more.1 ];
-  apart = s.conflicts;
-}
-
--- the parts make the merge
-pub merge : (olds others fresh out : List Version) → IsFresh olds others fresh → IsKept fresh olds out → IsMerge olds others out
-merge olds others fresh out f k =
-    let kept = k.kept in
-    let drawn : (v : Version) → IsIn v (fresh ++ kept) → IsIn v olds ⊎ IsIn v others = λ v h. elim (in_either v fresh kept h) [
+-- the fresh ones, and behind them those that they leave of the ones held
+pub merge : (olds others fresh stay : List Version) → IsFresh olds others fresh → IsFresh fresh olds stay → IsMerge olds others (fresh ++ stay)
+merge olds others fresh stay f k =
+    let drawn : (v : Version) → IsIn v (fresh ++ stay) → IsIn v olds ⊎ IsIn v others = λ v h. elim (in_either v fresh stay h) [
       | inl new ↦ inr (f.drawn v new)
       | inr old ↦ inl (k.drawn v old)
     ] in
-    let old_too : (c : List Entry) → Covers olds c → Covers (fresh ++ kept) c = λ c h. elim (k.covers c h) [
-      | inl new ↦ covers_first fresh kept c new
-      | inr old ↦ covers_second fresh kept c old
+    let old_too : (c : List Entry) → Covers olds c → Covers (fresh ++ stay) c = λ c h. elim (k.covers c h) [
+      | inl new ↦ covers_first fresh stay c new
+      | inr old ↦ covers_second fresh stay c old
     ] in
-    let m : IsMerge olds others (fresh ++ kept) = record {
+    record {
       drawn = drawn;
       covers = λ c. (
         λ h. elim (drawn h.0 h.1) [ inl old ↦ inl (h.0, old, h.2) | inr new ↦ inr (h.0, new, h.2) ],
         λ h. elim h [
           | inl old ↦ old_too c old
-          | inr new ↦ elim (f.covers c new) [ inl old ↦ old_too c old | inr mine ↦ covers_first fresh kept c mine ]
+          | inr new ↦ elim (f.covers c new) [ inl old ↦ old_too c old | inr mine ↦ covers_first fresh stay c mine ]
         ],
       );
-      apart = apart_join fresh kept f.apart k.apart (λ u v a b. (
+      apart = apart_join fresh stay f.apart k.apart (λ u v a b. (
         λ le. f.new u a (v, k.drawn v b, le),
-        λ le. k.old v b (u, a, le),
+        λ le. k.new v b (u, a, le),
       ));
-    } in
-    subst (IsMerge olds others) (sym k.all) m
+    }
+
+-- where they leave none, it is the others
+pub merge_others : (olds others fresh : List Version) → IsApart others → IsFresh olds others fresh → IsFresh fresh olds [] → IsMerge olds others others
+merge_others olds others fresh a f k = record {
+  drawn = λ v h. inr h;
+  covers = λ c. (
+    λ h. inr h,
+    λ h. elim h [
+      | inl old ↦ elim (k.covers c old) [ inl new ↦ (new.0, f.drawn new.0 new.1, new.2) | inr none ↦ absurd none.1 ]
+      | inr new ↦ new
+    ],
+  );
+  apart = a;
+}
 
 -- where nothing is fresh, the merge is what was held
 pub merge_nothing : (olds others : List Version) → IsApart olds → IsFresh olds others [] → IsMerge olds others olds
@@ -199,5 +128,35 @@ merge_nothing olds others a f = record {
   apart = a;
 }
 
+-- where nothing is held, it is the others
+merge_into_none : (others : List Version) → IsApart others → IsMerge [] others others
+merge_into_none others a = record {
+  drawn = λ v h. inr h;
+  covers = λ c. (λ h. inr h, λ h. elim h [ inl none ↦ absurd none.1 | inr new ↦ new ]);
+  apart = a;
+}
+
+pub brings_all : (others : List Version) → IsApart others → Brings [] others others
+brings_all others a = record {
+  merge = λ some. merge_into_none others a;
+  same = λ none. subst (IsMerge [] others) none (merge_into_none others a);
+}
+
+no_versions : (vs : List Version) → ((k : List Entry) → Covers vs k → ⊥) → vs ≡ []
+no_versions [] none = refl
+no_versions (v ∷ vs) none = absurd (none v.clock (v, inl refl, λ w. omega arith))
+
+pub brings_merge : (olds others made : List Version) → IsMerge olds others made → Brings olds others made
+brings_merge olds others made m = record {
+  merge = λ some. m;
+  same = λ none. subst (IsMerge olds others) (none ∙ sym (no_versions olds (λ k h. (subst (λ (vs : List Version). Covers vs k) none ((m.covers k).1 (inl h))).1))) m;
+}
+
+pub brings_nothing : (olds others made : List Version) → made ≡ [] → IsApart olds → IsFresh olds others [] → Brings olds others made
+brings_nothing olds others made none a f = record {
+  merge = λ some. absurd (some none);
+  same = λ is. merge_nothing olds others a f;
+}
+
 pub merge_with_none : (olds others : List Version) (f : Fresh) → IsApart olds → BringsNothing f → IsFreshFor olds others f → IsMerge olds others olds
-merge_with_none olds others f a e for = merge_nothing olds others a (subst (IsFresh olds others) e for.fresh)
+merge_with_none olds others f a e for = for.same e

@@ -9,7 +9,7 @@ use Rattle.ring_versions.specs.declared.kept.Kept.{Kept}
 use Rattle.ring_versions.specs.declared.tops.Tops.{Tops}
 use Rattle.ring_versions.specs.declared.version.Version.{Version}
 use Rattle.ring_versions.specs.Versions.{IsIn, Covers, IsMerge}
-use Rattle.ring_versions.specs.Parts.{IsKept}
+use Rattle.ring_versions.specs.Parts.{IsFresh}
 use Rattle.ring_versions.specs.Raised.{RaisesTo, IsClockIn}
 use Rattle.ring_versions.specs.Tops.{HasJoin, AreTops}
 use Rattle.ring_versions.proofs.Members.{in_first, in_second, in_either}
@@ -76,35 +76,35 @@ raised (Err e) c xs ys was more = tt
 raised (Ok t) c xs ys was more = join_more c t.join xs ys was more
 
 -- the join of versions is that of those which stay where the others go that they cover
-join_kept : (c : List Entry) (olds fresh out : List Version) → IsKept fresh olds out → RaisesTo [] (IsClockIn (olds ++ fresh)) c → RaisesTo [] (IsClockIn out) c
-join_kept c olds fresh out k j =
-    let back : (v : Version) → IsIn v out → IsIn v (olds ++ fresh) = λ v h. elim (in_either v fresh k.kept (subst (λ (vs : List Version). IsIn v vs) k.all h)) [
+join_kept : (c : List Entry) (olds fresh stay : List Version) → IsFresh fresh olds stay → RaisesTo [] (IsClockIn (olds ++ fresh)) c → RaisesTo [] (IsClockIn (fresh ++ stay)) c
+join_kept c olds fresh stay k j =
+    let back : (v : Version) → IsIn v (fresh ++ stay) → IsIn v (olds ++ fresh) = λ v h. elim (in_either v fresh stay h) [
       | inl new ↦ in_second v olds fresh new
       | inr old ↦ in_first v olds fresh (k.drawn v old)
     ] in
-    let to : (v : Version) → IsIn v (fresh ++ k.kept) → IsIn v out = λ v h. subst (λ (vs : List Version). IsIn v vs) (sym k.all) h in
-    let stands : (d : List Entry) (w : ℕ) → Covers fresh d ⊎ Covers k.kept d → counter d w ≡ counter c w → (e : List Entry) × IsClockIn out e × (counter e w ≡ counter c w) = λ d w h e. elim h [
-      | inl v ↦ (v.0.clock, (v.0, to v.0 (in_first v.0 fresh k.kept v.1), refl), (let up = v.2 w in let down = below_join c (olds ++ fresh) j v.0 (back v.0 (to v.0 (in_first v.0 fresh k.kept v.1))) w in omega arith))
-      | inr v ↦ (v.0.clock, (v.0, to v.0 (in_second v.0 fresh k.kept v.1), refl), (let up = v.2 w in let down = below_join c (olds ++ fresh) j v.0 (back v.0 (to v.0 (in_second v.0 fresh k.kept v.1))) w in omega arith))
-    ] in
+    let stands : (d : List Entry) (w : ℕ) (v : Version) → IsIn v (fresh ++ stay) → IsAtMost d v.clock → counter d w ≡ counter c w → (e : List Entry) × IsClockIn (fresh ++ stay) e × (counter e w ≡ counter c w) = λ d w v at le e.
+    (v.clock, (v, at, refl), (let up = le w in let down = below_join c (olds ++ fresh) j v (back v at) w in omega arith)) in
     record {
       before = λ w. omega arith;
       above = λ d h. j.above d (h.0, back h.0 h.1, h.2);
       from = λ w. elim (j.from w) [
         | inl none ↦ inl none
         | inr x ↦ elim (in_either x.1.0 olds fresh x.1.1) [
-          | inl old ↦ inr (stands x.0 w (k.covers x.0 (x.1.0, old, λ u. subst (λ (d : List Entry). counter x.0 u ≤ counter d u) (sym x.1.2) (omega arith))) x.2)
-          | inr new ↦ inr (x.0, (x.1.0, to x.1.0 (in_first x.1.0 fresh k.kept new), x.1.2), x.2)
+          | inl old ↦ inr (elim (k.covers x.0 (x.1.0, old, λ u. subst (λ (d : List Entry). counter x.0 u ≤ counter d u) (sym x.1.2) (omega arith))) [
+            | inl v ↦ stands x.0 w v.0 (in_first v.0 fresh stay v.1) v.2 x.2
+            | inr v ↦ stands x.0 w v.0 (in_second v.0 fresh stay v.1) v.2 x.2
+          ])
+          | inr new ↦ inr (x.0, (x.1.0, in_first x.1.0 fresh stay new, x.1.2), x.2)
         ]
       ];
     }
 
-has_join_kept : (o : Option (Box Tops Global)) (olds fresh out : List Version) → IsKept fresh olds out → HasJoin o (olds ++ fresh) → HasJoin o out
-has_join_kept None olds fresh out k j = tt
-has_join_kept (Some t) olds fresh out k j = join_kept t.value.join olds fresh out k j
+has_join_kept : (o : Option (Box Tops Global)) (olds fresh stay : List Version) → IsFresh fresh olds stay → HasJoin o (olds ++ fresh) → HasJoin o (fresh ++ stay)
+has_join_kept None olds fresh stay k j = tt
+has_join_kept (Some t) olds fresh stay k j = join_kept t.value.join olds fresh stay k j
 
-pub tops_kept : (tops : Kept) (olds fresh out : List Version) → IsKept fresh olds out → AreTops tops (olds ++ fresh) → AreTops tops out
-tops_kept tops olds fresh out k j = has_join_kept tops.tops olds fresh out k j
+pub tops_kept : (tops : Kept) (olds fresh stay : List Version) → IsFresh fresh olds stay → AreTops tops (olds ++ fresh) → AreTops tops (fresh ++ stay)
+tops_kept tops olds fresh stay k j = has_join_kept tops.tops olds fresh stay k j
 
 -- a clock that is raised to the join is raised to all
 pub raised_by_join : (old new join : List Entry) (vs : List Version) → ((w : ℕ) → counter new w ≡ max (counter old w) (counter join w)) → RaisesTo [] (IsClockIn vs) join → RaisesTo old (IsClockIn vs) new

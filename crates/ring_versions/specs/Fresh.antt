@@ -1,21 +1,17 @@
 -- The two halves of a merge.
-use Rattle.std.specs.Prelude.{◌≡◌, ◌≢◌, ◌+◌, ◌≤◌, List, [], ◌++◌, length}
-use Rattle.std.specs.Vec.{vec_len, vec_capacity}
+use Rattle.std.specs.Prelude.{◌≡◌, ◌≢◌, List, []}
 use Rattle.ring_versions.specs.declared.fresh.Fresh.{Fresh}
 use Rattle.ring_versions.specs.declared.version.Version.{Version}
-use Rattle.ring_versions.specs.Parts.{IsFresh}
-use Rattle.ring_versions.specs.Tops.{AreTops}
+use Rattle.ring_versions.specs.Versions.{IsMerge}
 
--- f can take in those held: there is room for them behind its versions, and it has tops of its versions and of all
-pub record IsMadeFor (held : List Version) (f : Fresh) : Type 0 where
-  pub room : vec_len f.list + length held ≤ vec_capacity f.list
-  pub own : AreTops f.own f.list.items
-  pub both : AreTops f.both (held ++ f.list.items)
+-- what is made of the versions held and the others: their merge, or no version where the merge is what is held
+pub record Brings (held others made : List Version) : Type 0 where
+  pub merge : made ≢ [] → IsMerge held others made
+  pub same : made ≡ [] → IsMerge held others held
 
--- f has those of the others that the versions held do not cover, and where it has any it can take in those held
-pub record IsFreshFor (held others : List Version) (f : Fresh) : Type 0 where
-  pub fresh : IsFresh held others f.list.items
-  pub made : f.list.items ≢ [] → IsMadeFor held f
+-- f has what the others make of the versions held
+abbrev pub IsFreshFor : List Version → List Version → Fresh → Type 0
+IsFreshFor held others f = Brings held others f.merged
 
 -- f was made for a set of these versions
 abbrev pub FitsIn : List Version → Fresh → Type 0
@@ -23,4 +19,4 @@ FitsIn held f = (others : List Version) × IsFreshFor held others f
 
 -- f has no versions
 abbrev pub BringsNothing : Fresh → Type 0
-BringsNothing f = f.list.items ≡ []
+BringsNothing f = f.merged ≡ []

@@ -1,6 +1,7 @@
-pub mod Versions
-pub mod Parts
-pub mod Raised
-pub mod Tops
 pub mod Fresh
+pub mod Parts
 pub mod Puts
+pub mod Raised
+pub mod Shared
+pub mod Tops
+pub mod Versions

@@ -1,5 +1,5 @@
 -- The parts of a merge.
-use Rattle.std.specs.Prelude.{◌≡◌, ◌⊎◌, List, ◌++◌}
+use Rattle.std.specs.Prelude.{◌⊎◌, List}
 use Rattle.ring_clock.specs.declared.entry.Entry.{Entry}
 use Rattle.ring_versions.specs.declared.version.Version.{Version}
 use Rattle.ring_versions.specs.Versions.{IsIn, Covers, IsApart}
@@ -10,12 +10,3 @@ pub record IsFresh (held versions out : List Version) : Type 0 where
   pub new : (v : Version) → IsIn v out → Covers held v.clock → ⊥
   pub covers : (k : List Entry) → Covers versions k → Covers held k ⊎ Covers out k
   pub apart : IsApart out
-
--- the fresh ones, and behind them those of the versions that they do not cover
-pub record IsKept (fresh versions out : List Version) : Type 0 where
-  pub kept : List Version
-  pub all : out ≡ fresh ++ kept
-  pub drawn : (v : Version) → IsIn v kept → IsIn v versions
-  pub old : (v : Version) → IsIn v kept → Covers fresh v.clock → ⊥
-  pub covers : (k : List Entry) → Covers versions k → Covers fresh k ⊎ Covers kept k
-  pub apart : IsApart kept

@@ -2,17 +2,12 @@
 
 ghost use Rattle.std.specs.Prelude.{◌↔◌, IsTrue};
 
-use crate::kept::Kept;
-use crate::version::Version;
+use crate::versions::Versions;
 
-/// Versions that a set does not cover yet, copied, with room behind them for those that the set has: so a merge that was made ready
-/// cannot fail.
+/// The merge of a set and another, made aside, so that taking it in cannot fail; no version where the set covers the other's.
 #[derive(Drop)]
 pub struct Fresh {
-    pub(crate) list: Vec<Version>,
-    // Tops of the list alone, and of it and the set together.
-    pub(crate) own: Kept,
-    pub(crate) both: Kept,
+    pub(crate) merged: Versions,
 }
 
 impl Fresh {
@@ -22,6 +17,6 @@ impl Fresh {
     pub fn is_empty(&self) -> bool
         ensures { IsTrue result ↔ BringsNothing self.now }
     {
-        self.list.is_empty()
+        self.merged.list().is_empty()
     }
 }

@@ -1,6 +1,6 @@
 //! Tops, which are kept where versions are many.
 
-ghost use Rattle.std.specs.Prelude.{◌≡◌, ◌<◌, ◌++◌, [], List, length, IfOk, IfErr};
+ghost use Rattle.std.specs.Prelude.{◌≡◌, ◌++◌, [], List, IfOk, IfErr};
 ghost use Rattle.ring_names.specs.declared.refusal.Refusal.TheVariants.{OutOfMemory};
 ghost use Rattle.ring_versions.specs.Raised.{RaisesTo, IsClockIn};
 ghost use Rattle.ring_versions.specs.Tops.{AreTops};
@@ -76,8 +76,8 @@ pub fn tops_of_both(
     Ok(Kept { tops: Some(tops) })
 }
 
-/// Leads the tops to where the versions stand, if those are many: so many fresh ones in front, and behind them those that stay of so
-/// many held, the last first.
+/// Leads the tops to where the versions stand, if those are many: so many fresh ones in front, and behind them, in their order, those that
+/// stay of so many held.
 pub fn settle(kept: &mut Kept, versions: &[Version], fresh: usize, held: usize)
     ensures { (vs : List Version) → AreTops kept.old vs → AreTops kept.new vs }
 {
@@ -90,14 +90,13 @@ pub fn settle(kept: &mut Kept, versions: &[Version], fresh: usize, held: usize)
     }
 }
 
-// Where all of those held have stayed, each place is known from the one before.
+// Where all of those held have stayed, each is so many places later.
 fn lead(tops: &mut Tops, versions: &[Version], fresh: usize, held: usize)
-    requires { 0 < length versions.now }
     ensures { tops.new.join ≡ tops.old.join }
 {
     match versions.len().checked_sub(fresh) {
         Some(kept) if kept == held => {
-            tops.turn(versions.len() - 1);
+            tops.shift(fresh);
             tops.place(&versions[..fresh]);
         }
         _ => tops.place(versions),
@@ -113,18 +112,5 @@ pub fn join(alloc: Global, kept: &Kept, versions: &[Version]) -> Result<Clock, R
     match &kept.tops {
         Some(tops) => tops.join.try_copy(),
         None => join_of(alloc, versions),
-    }
-}
-
-/// The same tops once more.
-pub fn copied(alloc: Global, kept: &Kept) -> Result<Kept, Refusal>
-    ensures same { IfOk result (λ k. (vs : List Version) → AreTops kept.now vs → AreTops k vs) }
-    ensures memory { IfErr result (λ e. e ≡ OutOfMemory) }
-{
-    match &kept.tops {
-        Some(tops) => Ok(Kept {
-            tops: Some(Box::new(alloc, tops.try_copy(alloc)?)?),
-        }),
-        None => Ok(Kept { tops: None }),
     }
 }

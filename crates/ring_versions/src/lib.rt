@@ -10,6 +10,7 @@ mod puts;
 mod tops;
 mod version;
 mod versions;
+mod whole;
 
 pub use found::Found;
 pub use fresh::Fresh;

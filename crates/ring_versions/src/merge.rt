@@ -1,17 +1,18 @@
 //! Two lists of versions made one.
 
-ghost use Rattle.std.specs.Prelude.{◌≡◌, ◌↔◌, ◌+◌, ◌≤◌, [], List, IsTrue, IfOk, IfErr, OnOk};
-ghost use Rattle.std.specs.Vec.{vec_len, vec_capacity};
+ghost use Rattle.std.specs.Prelude.{◌≡◌, ◌↔◌, ◌++◌, [], List, IsTrue, IfOk, IfErr, OnOk};
 ghost use Rattle.ring_names.specs.declared.refusal.Refusal.TheVariants.{OutOfMemory};
-ghost use Rattle.ring_versions.specs.Versions.{Covers, IsApart, IsMerge};
-ghost use Rattle.ring_versions.specs.Fresh.{IsFreshFor, FitsIn};
+ghost use Rattle.ring_versions.specs.Fresh.{Brings};
+ghost use Rattle.ring_versions.specs.Parts.{IsFresh};
+ghost use Rattle.ring_versions.specs.Shared.{IsWhole};
 ghost use Rattle.ring_versions.specs.Tops.{AreTops};
-ghost use Rattle.ring_versions.specs.Parts.{IsFresh, IsKept};
-ghost use Rattle.ring_versions.specs.declared.version.Version.{Version};
+ghost use Rattle.ring_versions.specs.Versions.{Covers, IsApart, IsMerge};
+ghost use Rattle.ring_versions.specs.declared.version.Version.{Version as TheVersion};
 
-use crate::fresh::Fresh;
 use crate::kept::{Kept, settle, tops_of_both, tops_of_fresh};
 use crate::version::Version;
+use crate::versions::Versions;
+use crate::whole::Whole;
 use ring_clock::Clock;
 use ring_names::Refusal;
 use std::alloc::Global;
@@ -47,20 +48,6 @@ pub fn is_covered(versions: &[Version], kept: &Kept, clock: &Clock) -> bool
     is_among(versions, clock)
 }
 
-/// Adds copies of the versions.
-pub fn push_copies(out: &mut Vec<Version>, versions: &[Version]) -> Result<(), Refusal>
-    requires { out.old.items ≡ [] }
-    ensures ok { OnOk result (out.new.items ≡ versions.now) }
-    ensures memory { IfErr result (λ e. e ≡ OutOfMemory) }
-{
-    let mut rest = versions;
-    'versions: while let Some((version, later)) = rest.split_first() {
-        out.push(version.try_copy()?)?;
-        rest = later;
-    }
-    Ok(())
-}
-
 // Adds copies of the versions that those held do not cover.
 fn push_fresh(
     out: &mut Vec<Version>,
@@ -84,68 +71,58 @@ fn push_fresh(
     Ok(())
 }
 
-// Moves those of the versions that the fresh ones do not cover behind them.
-fn move_kept(out: &mut Vec<Version>, kept: &Kept, versions: &mut Vec<Version>)
-    requires above { AreTops kept.now out.old.items }
-    requires room { vec_len out.old + vec_len versions.old ≤ vec_capacity out.old }
-    requires apart { IsApart versions.old.items }
-    ensures { IsKept out.old.items versions.old.items out.new.items }
-{
-    let fresh = out.len();
-    'versions: while let Some(version) = versions.pop() {
-        if !is_covered(&out[..fresh], kept, &version.clock) {
-            out.push_reserved(version);
-        }
-    }
-}
-
-/// What the others bring to the versions held. Takes no memory where those cover them all.
-pub fn fresh_of(
+// The fresh versions, and behind them those that stay of the ones held.
+fn joined(
     alloc: Global,
-    held: &[Version],
-    kept: &Kept,
-    others: &[Version],
-) -> Result<Fresh, Refusal>
-    requires above { AreTops kept.now held.now }
-    requires apart { IsApart others.now }
-    ensures ok { IfOk result (λ f. IsFreshFor held.now others.now f) }
+    held: &Whole,
+    mut fresh: Vec<Version>,
+    mut stay: Vec<Version>,
+) -> Result<Versions, Refusal>
+    requires held { IsWhole held.now }
+    requires fresh { (others : List TheVersion) × IsFresh held.now.list.items others fresh.items }
+    requires stay { IsFresh fresh.items held.now.list.items stay.items }
+    ensures ok { IfOk result (λ s. s ≡ fresh.items ++ stay.items) }
     ensures memory { IfErr result (λ e. e ≡ OutOfMemory) }
 {
-    let mut list = Vec::new(alloc);
-    push_fresh(&mut list, others, held, kept)?;
-    if list.is_empty() {
-        return Ok(Fresh {
-            list,
-            own: Kept { tops: None },
-            both: Kept { tops: None },
-        });
-    }
-    list.reserve(held.len())?;
-    let own = tops_of_fresh(alloc, held, list.as_slice())?;
-    let both = tops_of_both(alloc, held, kept, list.as_slice())?;
-    Ok(Fresh { list, own, both })
+    let (new, old) = (fresh.len(), held.list.len());
+    let mut kept = tops_of_both(alloc, held.list.as_slice(), &held.kept, fresh.as_slice())?;
+    fresh.append(&mut stay)?;
+    settle(&mut kept, fresh.as_slice(), new, old);
+    Versions::whole(alloc, Whole { list: fresh, kept })
 }
 
-/// Makes the list the merge of it and the versions for which the fresh ones were made, and what tops it has those of the merge.
-pub fn absorb(list: &mut Vec<Version>, kept: &mut Kept, fresh: Fresh)
-    requires fits { FitsIn list.old.items fresh }
-    requires apart { IsApart list.old.items }
-    requires above { AreTops kept.old list.old.items }
-    ensures merge { (others : List Version) → IsFreshFor list.old.items others fresh
-        → IsMerge list.old.items others list.new.items }
-    ensures above { AreTops kept.new list.new.items }
+// Those that the fresh versions leave of the ones held are put behind them; where they leave none, the others are the merge.
+fn merged_with(
+    alloc: Global,
+    held: &Whole,
+    others: &Versions,
+    fresh: Vec<Version>,
+) -> Result<Versions, Refusal>
+    requires held { IsWhole held.now }
+    requires fresh { IsFresh held.now.list.items others.now fresh.items }
+    ensures ok { IfOk result (IsMerge held.now.list.items others.now) }
+    ensures memory { IfErr result (λ e. e ≡ OutOfMemory) }
 {
-    let Fresh {
-        list: mut merged,
-        own,
-        mut both,
-    } = fresh;
-    if !merged.is_empty() {
-        let fresh = merged.len();
-        let held = list.len();
-        move_kept(&mut merged, &own, list);
-        settle(&mut both, merged.as_slice(), fresh, held);
-        *kept = both;
-        *list = merged;
+    let own = tops_of_fresh(alloc, held.list.as_slice(), fresh.as_slice())?;
+    let mut stay = Vec::new(alloc);
+    push_fresh(&mut stay, held.list.as_slice(), fresh.as_slice(), &own)?;
+    if stay.is_empty() {
+        return others.try_copy();
     }
+    joined(alloc, held, fresh, stay)
+}
+
+/// What the others make of the versions held: the merge, or no version where those held cover them all. Takes no memory there, and where
+/// the others cover all of those held.
+pub fn merged(alloc: Global, held: &Whole, others: &Versions) -> Result<Versions, Refusal>
+    requires { IsWhole held.now }
+    ensures ok { IfOk result (Brings held.now.list.items others.now) }
+    ensures memory { IfErr result (λ e. e ≡ OutOfMemory) }
+{
+    let mut fresh = Vec::new(alloc);
+    push_fresh(&mut fresh, others.list(), held.list.as_slice(), &held.kept)?;
+    if fresh.is_empty() {
+        return Ok(Versions::new(alloc));
+    }
+    merged_with(alloc, held, others, fresh)
 }

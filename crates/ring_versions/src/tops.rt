@@ -120,12 +120,12 @@ impl Tops {
         }
     }
 
-    /// Turns the places round, so that the one behind all others is in front.
-    pub fn turn(&mut self, last: usize)
+    /// Lets the places be so many later.
+    pub fn shift(&mut self, by: usize)
         ensures { self.new.join ≡ self.old.join }
     {
         for guide in self.guides.iter_mut() {
-            guide.place = last.wrapping_sub(guide.place);
+            guide.place = guide.place.wrapping_add(by);
         }
     }
 
@@ -164,16 +164,5 @@ impl Tops {
         let own = self.guide_at(place_of(entries, writer, 0)).own;
         let place = self.guide_at(place_of(entries, own, 0)).place;
         versions.get(place)
-    }
-
-    /// The same once more.
-    pub fn try_copy(&self, alloc: Global) -> Result<Tops, Refusal>
-        ensures same { IfOk result (λ t. t.join ≡ self.now.join) }
-        ensures memory { IfErr result (λ e. e ≡ OutOfMemory) }
-    {
-        Ok(Tops {
-            join: self.join.try_copy()?,
-            guides: Vec::from_slice(alloc, self.guides.as_slice())?,
-        })
     }
 }

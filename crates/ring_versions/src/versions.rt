@@ -2,45 +2,53 @@
 
 ghost use Rattle.std.specs.Prelude.{◌≡◌, ◌↔◌, ◌∷◌, [], List, IsTrue, IfOk, IfErr, OnOk, OnErr};
 ghost use Rattle.ring_names.specs.declared.refusal.Refusal.TheVariants.{OutOfMemory};
-ghost use Rattle.ring_versions.specs.Fresh.{IsFreshFor, FitsIn};
+ghost use Rattle.ring_versions.specs.Fresh.{Brings, IsFreshFor, FitsIn};
 ghost use Rattle.ring_versions.specs.Puts.{ArePuts};
 ghost use Rattle.ring_versions.specs.Raised.{RaisesTo, IsClockIn};
+ghost use Rattle.ring_versions.specs.Shared.{IsWhole};
 ghost use Rattle.ring_versions.specs.Versions.{Covers, IsApart, IsMerge};
 ghost use Rattle.ring_versions.specs.declared.version.Version.{Version};
 
 use crate::fresh::Fresh;
-use crate::kept::{Kept, copied, join};
-use crate::merge::{absorb, fresh_of, is_covered, push_copies};
+use crate::kept::{Kept, join};
+use crate::merge::{is_covered, merged};
 use crate::puts::puts_of;
 use crate::version::Version;
+use crate::whole::Whole;
 use ring_clock::Clock;
 use ring_names::{Listed, Refusal};
 use std::alloc::Global;
 use std::marker::Model;
+use std::sync::Arc;
 
-/// Versions of which no one's clock is at most another's.
+/// Versions of which no one's clock is at most another's. Copies share them.
 ///
 /// Costs are told for the clocks of puts, where a version is covered just where its own writer's counter is reached, and for sets of eight
 /// versions or more. Of other clocks each of the looks may cost a comparison with each version.
-#[derive(Drop)]
 pub struct Versions {
     alloc: Global,
-    list: Vec<Version>,
-    // Above the versions' clocks, where they are many.
-    kept: Kept,
+    // None where there are none.
+    shared: Option<Arc<Whole>>,
 }
 
 impl Model for Versions {
     ghost use Rattle.std.specs.Prelude.{List};
+    ghost use Rattle.ring_versions.specs.Shared.{shared_versions, AreWhole};
     ghost use Rattle.ring_versions.specs.declared.version.Version.{Version};
-    ghost use Rattle.ring_versions.specs.Versions.{IsApart};
-    ghost use Rattle.ring_versions.specs.Tops.{AreTops};
 
     ghost Value = { List Version };
 
-    ghost view = { λ a. a.list.items };
+    ghost view = { λ a. shared_versions a.shared };
 
-    ghost invariant = { λ a. IsApart a.list.items × AreTops a.kept a.list.items };
+    ghost invariant = { λ a. AreWhole a.shared };
+}
+
+// Dropped by a call, so that no crate above goes through the two cases wherever a set ends.
+impl Drop for Versions {
+    fn drop(self) {
+        let Versions { alloc: _, shared } = self;
+        drop(shared);
+    }
 }
 
 impl Versions {
@@ -50,8 +58,22 @@ impl Versions {
     {
         Versions {
             alloc,
-            list: Vec::new(alloc),
-            kept: Kept { tops: None },
+            shared: None,
+        }
+    }
+
+    // The set that has these.
+    pub(crate) fn whole(alloc: Global, whole: Whole) -> Result<Versions, Refusal>
+        requires { IsWhole whole }
+        ensures same { IfOk result (λ s. s ≡ whole.list.items) }
+        ensures memory { IfErr result (λ e. e ≡ OutOfMemory) }
+    {
+        match Arc::new(alloc, whole) {
+            Ok(shared) => Ok(Versions {
+                alloc,
+                shared: Some(shared),
+            }),
+            Err(_) => Err(Refusal::OutOfMemory),
         }
     }
 
@@ -60,13 +82,10 @@ impl Versions {
         ensures one { IfOk result (λ s. s ≡ version ∷ []) }
         ensures memory { IfErr result (λ e. e ≡ OutOfMemory) }
     {
-        let mut list = Vec::new(alloc);
-        list.push(version)?;
-        Ok(Versions {
-            alloc,
-            list,
-            kept: Kept { tops: None },
-        })
+        let mut list = Vec::with_capacity(alloc, 1)?;
+        list.push_reserved(version);
+        let kept = Kept { tops: None };
+        Versions::whole(alloc, Whole { list, kept })
     }
 
     /// The versions, in no order that is promised.
@@ -74,7 +93,10 @@ impl Versions {
         ensures value { result.now ≡ self.now }
         ensures apart { IsApart self.now }
     {
-        self.list.as_slice()
+        match &self.shared {
+            Some(whole) => whole.list.as_slice(),
+            None => &[],
+        }
     }
 
     /// Whether some version has a clock that is at least this one. Takes no memory. Costs a look: some logarithms, and where some version
@@ -82,43 +104,54 @@ impl Versions {
     pub fn covers(&self, clock: &Clock) -> bool
         ensures { IsTrue result ↔ Covers self.now clock.now }
     {
-        is_covered(self.list.as_slice(), &self.kept, clock)
+        match &self.shared {
+            Some(whole) => is_covered(whole.list.as_slice(), &whole.kept, clock),
+            None => false,
+        }
     }
 
     /// Adds another set's versions: what is drawn from both covers the clocks that either covered, and ancestors go. Costs a look for each
-    /// version of the two sets, and where some are new, copies of those, and their entries and the writers of both sets. Into a set of no
-    /// version it costs a copy. A refused growth leaves the set as it was.
+    /// version of the two sets; where some are new and some of the set's own stay, copies of these, the entries of the new ones and the
+    /// writers of both sets. Takes no memory else. A refused growth leaves the set as it was.
     pub fn merge(&mut self, other: &Versions) -> Result<(), Refusal>
         ensures ok { OnOk result (IsMerge self.old other.now self.new) }
         ensures err { OnErr result (self.new ≡ self.old) }
         ensures memory { IfErr result (λ e. e ≡ OutOfMemory) }
     {
-        if self.list.is_empty() && !other.list().is_empty() {
-            *self = other.try_copy()?;
-            return Ok(());
-        }
         let fresh = self.fresh_of(other)?;
         self.absorb(fresh);
         Ok(())
     }
 
-    /// The first half of a merge: copies of those of the other versions that this set does not cover, with room for its own. Takes
-    /// no memory where it covers them all. Costs a look for each of them, and where some are new, copies of those, and their entries and the
-    /// writers of both sets.
+    /// The first half of a merge: the merge, made aside, or nothing where this set covers the other's versions. Costs what `merge` does.
     pub fn fresh_of(&self, other: &Versions) -> Result<Fresh, Refusal>
         ensures ok { IfOk result (λ f. IsFreshFor self.now other.now f) }
         ensures memory { IfErr result (λ e. e ≡ OutOfMemory) }
     {
-        fresh_of(self.alloc, self.list.as_slice(), &self.kept, other.list())
+        let merged = self.made_with(other)?;
+        Ok(Fresh { merged })
     }
 
-    /// The second half of a merge, which cannot fail: takes in what was made for this very set, and lets ancestors go. Costs a look for each
-    /// of its versions, and where ancestors go, a look-up more.
+    // What the other makes of this set: the merge, or no version where this one covers the other's.
+    fn made_with(&self, other: &Versions) -> Result<Versions, Refusal>
+        ensures ok { IfOk result (Brings self.now other.now) }
+        ensures memory { IfErr result (λ e. e ≡ OutOfMemory) }
+    {
+        match &self.shared {
+            Some(whole) => merged(self.alloc, whole, other),
+            None => other.try_copy(),
+        }
+    }
+
+    /// The second half of a merge, which cannot fail: takes in what was made for this very set. Costs what letting the old versions go does.
     pub fn absorb(&mut self, fresh: Fresh)
         requires { FitsIn self.old fresh }
         ensures { (other : List Version) → IsFreshFor self.old other fresh → IsMerge self.old other self.new }
     {
-        absorb(&mut self.list, &mut self.kept, fresh);
+        let Fresh { merged } = fresh;
+        if !merged.list().is_empty() {
+            *self = merged;
+        }
     }
 
     /// The numbers of the puts, ascending. Costs a sort of them.
@@ -126,7 +159,7 @@ impl Versions {
         ensures ok { IfOk result (λ ns. ArePuts self.now ns) }
         ensures memory { IfErr result (λ e. e ≡ OutOfMemory) }
     {
-        puts_of(self.alloc, self.list.as_slice())
+        puts_of(self.alloc, self.list())
     }
 
     // The join of the clocks of the versions. Costs nothing for eight versions or more, and else their entries.
@@ -134,20 +167,25 @@ impl Versions {
         ensures ok { IfOk result (RaisesTo [] (IsClockIn self.now)) }
         ensures memory { IfErr result (λ e. e ≡ OutOfMemory) }
     {
-        join(self.alloc, &self.kept, self.list.as_slice())
+        match &self.shared {
+            Some(whole) => join(self.alloc, &whole.kept, whole.list.as_slice()),
+            None => Ok(Clock::new(self.alloc)),
+        }
     }
 
-    /// The same set once more.
+    /// The same set once more, which shares the versions. Takes no memory; refused only where 2^64 sets would share them.
     pub fn try_copy(&self) -> Result<Versions, Refusal>
         ensures same { IfOk result (λ s. s ≡ self.now) }
+        ensures apart { IsApart self.now }
         ensures memory { IfErr result (λ e. e ≡ OutOfMemory) }
     {
-        let mut list = Vec::new(self.alloc);
-        push_copies(&mut list, self.list.as_slice())?;
+        let shared = match &self.shared {
+            Some(whole) => Some(Arc::try_clone(whole)?),
+            None => None,
+        };
         Ok(Versions {
             alloc: self.alloc,
-            list,
-            kept: copied(self.alloc, &self.kept)?,
+            shared,
         })
     }
 }

@@ -55,6 +55,7 @@ use Rattle.store_tells.specs.Kept.{Kept, Tells}
 use Rattle.store_tells.specs.Parts.{ring_of, plan_of, kept_of, IsSound, Passes}
 use Rattle.store_tells.specs.declared.parts.Parts.{Parts}
 use Rattle.store_tells.proofs.StoreInWorld.{holds, reached_of, suits_of}
+use Rattle.store_events.specs.Parties.{mirror_kept}
 use Rattle.store_events.specs.Sources.{ShowsChunk, are_kept, is_kept, reads_kept}
 use Rattle.store_events.proofs.TellsOnVersions.{comes, lasts, goes_on}
 use Rattle.store_events.proofs.ShownBrought.{node_shows, node_come}
@@ -125,15 +126,14 @@ module _ (ring : RingValue) (plan : List Planned) (k : Kept) (w : World) (m : Te
             let t = and_parts ((place_of ring.q (key_of_put w v)).partition == slot.partition) ((place_of ring.q (key_of_put w v)).chunk == c) s.1 in
             out (sym (of_chunk v p.1) ∙ eqb-true ((place_of ring.q (key_of_put w v)).chunk) c t.1))
 
-    whole : (clock : ℕ → List Entry) (read versions : List ℕ → List Version) → ShowsChunk ring.q w clock c read (source_has ring plan w slot source) → (chunk_of ring.q key ≡ c → versions key ≡ read key)
+    whole : (clock : ℕ → List Entry) (versions : List ℕ → List Version) → ShowsChunk ring.q w clock c versions (source_has ring plan w slot source)
         → ((chunk_of ring.q key ≡ c → ⊥) → versions key ≡ []) → Shows clock (value_of w) (versions key) (λ v. is_copied ring plan w slot source c v && is_of_key w key v)
-    whole clock read versions shows same others = by (chunk_of ring.q key == c) refl
+    whole clock versions shows others = by (chunk_of ring.q key == c) refl
       where
         by : (b : Bool) → (chunk_of ring.q key == c) ≡ b → Shows clock (value_of w) (versions key) (λ v. is_copied ring plan w slot source c v && is_of_key w key v)
         by true e =
             let lies = eqb-true (chunk_of ring.q key) c e in
-            subst (λ (vs : List Version). Shows clock (value_of w) vs (λ v. is_copied ring plan w slot source c v && is_of_key w key v)) (sym (same lies))
-            (other_test clock (value_of w) (read key) (λ v. source_has ring plan w slot source v && is_of_key w key v) (λ v. is_copied ring plan w slot source c v && is_of_key w key v) (here lies) (shows key lies))
+            other_test clock (value_of w) (versions key) (λ v. source_has ring plan w slot source v && is_of_key w key v) (λ v. is_copied ring plan w slot source c v && is_of_key w key v) (here lies) (shows key lies)
         by false e =
             let out : chunk_of ring.q key ≡ c → ⊥ = λ lies. (let f = eq-eqb (chunk_of ring.q key) c lies in cc) in
             subst (λ (vs : List Version). Shows clock (value_of w) vs (λ v. is_copied ring plan w slot source c v && is_of_key w key v)) (sym (others out))
@@ -204,14 +204,14 @@ module _ (ring : RingValue) (plan : List Planned) (k : Kept) (w : World) (m : Te
           )
 
       -- where there is a mirror, it is given what was read
-      pub copied_to : (x : NodeId) (read versions : List ℕ → List Version) (new : ℕ → Slot → List ℕ → List Version) → served.mirror ≡ Some x
-          → ShowsChunk ring.q w (clock_at k.puts) c read (source_has ring plan w slot source) → ((key : List ℕ) → chunk_of ring.q key ≡ c → versions key ≡ read key)
+      copied_to : (x : NodeId) (versions : List ℕ → List Version) (new : ℕ → Slot → List ℕ → List Version) → served.mirror ≡ Some x
+          → ShowsChunk ring.q w (clock_at k.puts) c versions (source_has ring plan w slot source)
           → ((key : List ℕ) → (chunk_of ring.q key ≡ c → ⊥) → versions key ≡ []) → MergesAtAll k.stored (at_node x.0 (at_slot slot versions)) new
           → (u : World) × (answer ring plan w (ChunkCopy n c) ≡ Ok (u, reply.Plain)) × Tells ring plan (record k { steps = steps; stored = new }) u
-      copied_to x read versions new mirrored shows same others merges =
+      copied_to x versions new mirrored shows others merges =
           chunked (at_node x.0 (at_slot slot versions)) new
           (subst (λ (o : Option NodeId). ShowAll w (clock_at k.puts) (at_node x.0 (at_slot slot versions)) (at_mirror o slot (is_copied ring plan w slot source c))) (sym mirrored)
-          (node_shows w (clock_at k.puts) x slot versions (is_copied ring plan w slot source c) (λ key. whole slot source c key (clock_at k.puts) read versions shows (same key) (others key))))
+          (node_shows w (clock_at k.puts) x slot versions (is_copied ring plan w slot source c) (λ key. whole slot source c key (clock_at k.puts) versions shows (others key))))
           merges
 
       -- where there is none, nothing is given
@@ -220,6 +220,17 @@ module _ (ring : RingValue) (plan : List Planned) (k : Kept) (w : World) (m : Te
           chunked (λ y t key. []) k.stored
           (subst (λ (o : Option NodeId). ShowAll w (clock_at k.puts) (λ y t key. []) (at_mirror o slot (is_copied ring plan w slot source c))) (sym mirrored) (λ y t key. none (clock_at k.puts) (value_of w)))
           (λ y t key. with_none (k.stored y t key) (m.stored y t key).apart)
+
+    -- what was read is given to the mirror, and then the chunk is marked
+    pub given : (slot : Slot) (source : Source) (at : step_at plan n ≡ Some (Copy slot source)) (served : SlotNow) (kept : slot_now k.rows slot ≡ Some served) (x : NodeId) (versions : List ℕ → List Version) (mid : Kept) (steps : List StepNow)
+        → served.mirror ≡ Some x → ShowsChunk ring.q w (clock_at k.puts) c versions (source_has ring plan w slot source) → ((key : List ℕ) → (chunk_of ring.q key ≡ c → ⊥) → versions key ≡ [])
+        → MergesAtAll k.stored (at_node x.0 (at_slot slot versions)) mid.stored → mid ≡ record k { stored = mid.stored } → steps ≡ changed mid.steps n (λ y. record y { marks = with_mark y.marks c })
+        → (n < length mid.steps → (i d : ℕ) → is_marked_at steps i d ≡ with_chunk (is_marked_at mid.steps) n c i d)
+        → (u : World) × (answer ring plan w (ChunkCopy n c) ≡ Ok (u, reply.Plain)) × Tells ring plan (record mid { steps = steps }) u
+    given slot source at served kept x versions mid steps mirrored shows others merges rest =
+        subst (λ (j : Kept). steps ≡ changed j.steps n (λ y. record y { marks = with_mark y.marks c }) → (n < length j.steps → (i d : ℕ) → is_marked_at steps i d ≡ with_chunk (is_marked_at j.steps) n c i d)
+        → (u : World) × (answer ring plan w (ChunkCopy n c) ≡ Ok (u, reply.Plain)) × Tells ring plan (record j { steps = steps }) u) (sym rest)
+        (λ stepped marked. copied_to slot source at served kept steps stepped marked x versions mid.stored mirrored shows others merges)
 
 -- ---- of a store that is sound
 
@@ -240,3 +251,11 @@ module _ (a : Parts) (s : IsSound a) (n : ℕ) (slot : Slot) (source : Source) (
 -- a slot that is kept is there
 pub kept_there : (rows : List (List SlotNow)) (slot : Slot) → is_kept rows slot ≡ true → slot_now rows slot ≡ None → ⊥
 kept_there rows slot kept gone = (let e : is_some (slot_now rows slot) ≡ false = ap is_some gone in cc)
+
+-- a slot with a mirror is kept
+pub mirrored_there : (rows : List (List SlotNow)) (slot : Slot) (y : NodeId) → mirror_kept rows slot ≡ Some y → is_some (slot_now rows slot) ≡ true
+mirrored_there rows slot y = by (slot_now rows slot)
+  where
+    by : (o : Option SlotNow) → option_and_then (λ x. x.mirror) o ≡ Some y → is_some o ≡ true
+    by None e = absurd cc
+    by (Some x) e = refl

@@ -1,6 +1,6 @@
 -- What is read of a chunk, one source after the other.
 use Rattle.std.proofs.Common.{◌≡◌, inl, inr, ◌∙◌, ℕ, Bool, true, false, cond, List, [], ◌∷◌, length, map, refl, sym, ap, subst, eq-eqb}
-use Rattle.std.specs.Prelude.{◌&&◌, ◌||◌, ◌==◌, ◌↔◌, Option, Some, None, MatchOption, option_map, is_some}
+use Rattle.std.specs.Prelude.{◌≢◌, ◌&&◌, ◌||◌, ◌==◌, ◌↔◌, Option, Some, None, option_map, is_some}
 use Rattle.std.specs.List.{list_any}
 use Rattle.std.proofs.Math.Bool.{or_assoc}
 use Rattle.std.proofs.lemmas.Bool.{and_parts, or_right, or_cases, or_left}
@@ -9,12 +9,10 @@ use Rattle.ring_names.specs.declared.ids.Slot.{Slot}
 use Rattle.ring_names.proofs.Logic.{or_false, bool_same}
 use Rattle.ring_clock.specs.declared.entry.Entry.{Entry}
 use Rattle.ring_table.specs.Value.{RingValue}
-use Rattle.ring_versions.specs.Fresh.{IsFreshFor}
 use Rattle.ring_versions.specs.declared.version.Version.{Version}
-use Rattle.ring_versions.specs.Versions.{IsMerge}
 use Rattle.store_maps.specs.Chunks.{chunk_of}
-use Rattle.store_maps.specs.Merges.{MergesAll, AreFreshFor, fresh_at}
-use Rattle.store_maps.specs.declared.fresh_keys.FreshKeys.{FreshKeys}
+use Rattle.store_maps.specs.Merges.{MergesAll}
+use Rattle.store_maps.proofs.Chunks.{chosen_other}
 use Rattle.ring_hints.specs.Views.{in_keepers}
 use Rattle.ring_hints.proofs.KeeperSets.{node_tie, equal}
 use Rattle.plan_text.specs.declared.step.Planned.{Planned}
@@ -36,16 +34,6 @@ use Rattle.store_tells.proofs.KeepersDeclared.{keeper_within}
 use Rattle.store_tells.proofs.GetsChanges.{some_none}
 use Rattle.store_tells.proofs.WhoKeepsHints.{shown}
 use Rattle.store_events.specs.Sources.{ShowsChunk, Gathers, are_kept, is_kept}
-
--- ---- merges in two halves
-
--- what was made before nothing changed fits still
-pub fresh_still : (old mid more : List ℕ → List Version) (f : FreshKeys) → ((k : List ℕ) → mid k ≡ old k) → AreFreshFor old more f → AreFreshFor mid more f
-fresh_still old mid more f same h k = subst (λ (vs : List Version). MatchOption (fresh_at f k) (IsMerge vs (more k) vs) (IsFreshFor vs (more k))) (sym (same k)) (h k)
-
--- a merge into what reads the same
-pub merged_still : (old mid more new : List ℕ → List Version) → ((k : List ℕ) → mid k ≡ old k) → MergesAll mid more new → MergesAll old more new
-merged_still old mid more new same h k = subst (λ (vs : List Version). IsMerge vs (more k) (new k)) (same k) (h k)
 
 -- ---- versions of a chunk's keys that show puts
 
@@ -72,6 +60,10 @@ module _ (q : ℕ) (w : World) (clock : ℕ → List Entry) (c : ℕ) where
       other_test clock (value_of w) (held k) (λ v. (f v && is_of_key w k v) || (g v && is_of_key w k v)) (λ v. (f v || g v) && is_of_key w k v) (λ v. either_of (f v) (g v) (is_of_key w k v))
       (merge clock (value_of w) (held k) [] (held k) (λ v. f v && is_of_key w k v) (λ v. g v && is_of_key w k v) (shows k e) (brings k e) (with_none (held k) (shows k e).apart))
 
+  -- what reads the same for the chunk's keys shows the same
+  pub read_as : (read versions : List ℕ → List Version) (f : ℕ → Bool) → ((k : List ℕ) → chunk_of q k ≡ c → versions k ≡ read k) → ShowsChunk q w clock c read f → ShowsChunk q w clock c versions f
+  read_as read versions f same shows k e = subst (λ (vs : List Version). Shows clock (value_of w) vs (λ v. f v && is_of_key w k v)) (sym (same k e)) (shows k e)
+
   -- no versions show no puts
   pub none_shown : (held : List ℕ → List Version) → ((k : List ℕ) → held k ≡ []) → ShowsChunk q w clock c held (λ v. false)
   none_shown held empty k e = subst (λ (vs : List Version). Shows clock (value_of w) vs (λ v. false)) (sym (empty k)) (none clock (value_of w))
@@ -82,6 +74,10 @@ module _ (q : ℕ) (w : World) (clock : ℕ → List Entry) (c : ℕ) where
   part_shown p kept held f space shows part k e =
       let here : (chunk_of p k == c) ≡ true = eq-eqb (chunk_of p k) c (ap (λ (n : ℕ). chunk_of n k) space ∙ e) in
       subst (λ (vs : List Version). Shows clock (value_of w) vs (λ v. f v && is_of_key w k v)) (sym (part k ∙ ap (λ (b : Bool). cond b (kept k) []) here)) (shows k)
+
+-- the part of a chunk has nothing of other keys
+pub part_apart : (p q c : ℕ) (kept : List ℕ → List Version) → p ≡ q → (k : List ℕ) → chunk_of q k ≢ c → cond (chunk_of p k == c) (kept k) [] ≡ []
+part_apart p q c kept space k ne = chosen_other (chunk_of p k) c (kept k) (λ e. ne (sym (ap (λ (n : ℕ). chunk_of n k) space) ∙ e))
 
 -- ---- one source after the other
 
@@ -201,13 +197,13 @@ pub from_nothing : (a : Parts) (c : ℕ) (old new : List ℕ → List Version) (
 from_nothing a c old new read empty h w m = h w m (λ v. false) (none_shown (ring_of a).q w (clock_at a.puts) c old empty)
 
 -- from listed slots
-pub from_slots : (a : Parts) (c : ℕ) (slot : Slot) (read from : List ℕ) (old new : List ℕ → List Version) → read ≡ from → ((k : List ℕ) → old k ≡ [])
-    → Gathers a c old new (λ w v. list_any (λ i. slot_has (ring_of a) (plan_of a) w (slot_at slot.partition i) v) read)
+pub from_slots : (a : Parts) (c : ℕ) (slot : Slot) (from : List ℕ) (old new : List ℕ → List Version) → ((k : List ℕ) → old k ≡ [])
+    → Gathers a c old new (λ w v. list_any (λ i. slot_has (ring_of a) (plan_of a) w (slot_at slot.partition i) v) from)
     → (w : World) → Meets a w → ShowsChunk (ring_of a).q w (clock_at a.puts) c new (source_has (ring_of a) (plan_of a) w slot (Slots from))
-from_slots a c slot read from old new same empty h w m =
-    other_puts (ring_of a).q w (clock_at a.puts) c new (λ v. list_any (λ i. slot_has (ring_of a) (plan_of a) w (slot_at slot.partition i) v) read) (source_has (ring_of a) (plan_of a) w slot (Slots from))
-    (λ v. any_map (slot_at slot.partition) (λ s. slot_has (ring_of a) (plan_of a) w s v) read ∙ ap (λ (xs : List ℕ). list_any (λ s. slot_has (ring_of a) (plan_of a) w s v) (map (slot_at slot.partition) xs)) same)
-    (from_nothing a c old new (λ u v. list_any (λ i. slot_has (ring_of a) (plan_of a) u (slot_at slot.partition i) v) read) empty h w m)
+from_slots a c slot from old new empty h w m =
+    other_puts (ring_of a).q w (clock_at a.puts) c new (λ v. list_any (λ i. slot_has (ring_of a) (plan_of a) w (slot_at slot.partition i) v) from) (source_has (ring_of a) (plan_of a) w slot (Slots from))
+    (λ v. any_map (slot_at slot.partition) (λ s. slot_has (ring_of a) (plan_of a) w s v) from)
+    (from_nothing a c old new (λ u v. list_any (λ i. slot_has (ring_of a) (plan_of a) u (slot_at slot.partition i) v) from) empty h w m)
 
 -- a list of no length is empty
 pub none_left : {A : Type 0} (xs : List A) → length xs ≡ 0 → xs ≡ []

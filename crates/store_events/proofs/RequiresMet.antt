@@ -1,6 +1,6 @@
 -- What calls need of a store that is sound, and of an event that passes its tests.
 use Rattle.std.proofs.Common.{◌≡◌, ◌∙◌, ℕ, ◌<◌, ◌≤◌, Bool, true, false, cond, List, length, refl, sym, ap, subst, arith, eqb-true, ltb-true, leb-true}
-use Rattle.std.specs.Prelude.{◌≢◌, ◌==◌, nat_lt, nat_le, Option, Some, None, is_some, option_and_then, IfSome}
+use Rattle.std.specs.Prelude.{◌≢◌, ◌==◌, nat_lt, nat_le, Option, Some, None, is_some, option_map, option_and_then, IfSome}
 use Rattle.std.proofs.Props.{props}
 use Rattle.ring_names.specs.declared.ids.NodeId.{NodeId}
 use Rattle.ring_names.specs.declared.ids.Slot.{Slot}
@@ -24,6 +24,7 @@ use Rattle.store_tells.proofs.StepsNow.{step_within, other_within, copy_within}
 use Rattle.store_tells.specs.declared.parts.Parts.{Parts}
 use Rattle.store_tells.specs.Parts.{Meets, IsSound, Passes, ring_of, plan_of, kept_of}
 use Rattle.store_tells.proofs.StoreInWorld.{holds, reached_of, owner_within}
+use Rattle.store_events.specs.Parties.{mirror_kept}
 use Rattle.store_events.proofs.StepsOn.{no_copy, is_other}
 use Rattle.store_events.proofs.PutAndSlot.{mirror_prop, mirror_fits}
 
@@ -82,6 +83,16 @@ module _ (a : Parts) (s : IsSound a) where
   -- so is its mirror, and another one
   pub mirror_ready : (t : Slot) (x : SlotNow) → Some x ≡ slot_now a.slots t → IfSome x.mirror (λ y. (y.0 < node_count a.stores) × (y.0 ≢ x.owner.0))
   mirror_ready t x at = holds a s (mirror_prop x.mirror (node_count a.stores) x.owner.0) (λ w m. mirror_fits (ring_of a) (plan_of a) (kept_of a) w m t x (node_count a.stores) s.sized.nodes (sym at))
+
+  -- whatever node mirrors a slot is one of the nodes that store, and is not the slot's owner
+  pub mirror_stands : (t : Slot) (y : NodeId) → mirror_kept a.slots t ≡ Some y → (y.0 < node_count a.stores) × ((owner : NodeId) → Some owner ≡ option_map (λ x. x.owner) (slot_now a.slots t) → y.0 ≢ owner.0)
+  mirror_stands t y = by (slot_now a.slots t) refl
+    where
+      by : (o : Option SlotNow) → slot_now a.slots t ≡ o → option_and_then (λ x. x.mirror) o ≡ Some y → (y.0 < node_count a.stores) × ((owner : NodeId) → Some owner ≡ option_map (λ x. x.owner) o → y.0 ≢ owner.0)
+      by None at e = absurd cc
+      by (Some x) at e =
+          let fits : (y.0 < node_count a.stores) × (y.0 ≢ x.owner.0) = subst (λ (o : Option NodeId). IfSome o (λ z. (z.0 < node_count a.stores) × (z.0 ≢ x.owner.0))) e (mirror_ready t x (sym at)) in
+          (fits.0, λ owner is. subst (λ (z : NodeId). y.0 ≢ z.0) (let same : x.owner ≡ owner = cc in same) fits.1)
 
   -- ---- losses
 

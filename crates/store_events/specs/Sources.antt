@@ -1,18 +1,23 @@
 -- What copies read of a chunk.
-use Rattle.std.specs.Prelude.{◌≡◌, ℕ, Bool, ◌&&◌, ◌||◌, List, is_some}
+use Rattle.std.specs.Prelude.{◌≡◌, ◌≢◌, ℕ, Bool, ◌&&◌, ◌||◌, List, [], is_some}
 use Rattle.std.specs.List.{list_all}
 use Rattle.ring_clock.specs.declared.entry.Entry.{Entry}
 use Rattle.ring_versions.specs.declared.version.Version.{Version}
 use Rattle.store_maps.specs.Chunks.{chunk_of}
+use Rattle.ring_store.specs.Nodes.{MergesAtAll, at_node}
+use Rattle.ring_store.specs.Slots.{at_slot}
+use Rattle.ring_store.specs.Stores.{held_at}
 use Rattle.plan_text.specs.declared.step.Source.{Source}
 use Rattle.plan_text.specs.declared.step.Source.TheVariants.{Owner, Slots}
+use Rattle.ring_names.specs.declared.ids.NodeId.{NodeId}
 use Rattle.ring_names.specs.declared.ids.Slot.{Slot}
+use Rattle.plan_check.specs.Effects.{source_has}
 use Rattle.plan_check.specs.World.{World, is_of_key, slot_at}
 use Rattle.store_tells.specs.Shows.{Shows, value_of}
 use Rattle.store_tells.specs.Puts.{clock_at}
 use Rattle.store_tables.specs.declared.slots.SlotNow.{SlotNow}
 use Rattle.store_tables.specs.Slots.{slot_now}
-use Rattle.store_tells.specs.Parts.{ring_of, Meets}
+use Rattle.store_tells.specs.Parts.{ring_of, plan_of, kept_of, Meets}
 use Rattle.store_tells.specs.declared.parts.Parts.{Parts}
 
 -- for each key of the chunk, among q partitions, the versions show those puts of the key that pass the test
@@ -36,3 +41,11 @@ are_kept rows p from = list_all (λ i. is_kept rows (slot_at p i)) from
 abbrev pub reads_kept : List (List SlotNow) → Slot → Source → Bool
 reads_kept rows slot Owner = is_kept rows slot
 reads_kept rows slot (Slots from) = are_kept rows slot.partition from
+
+-- what the copy reads of the chunk has come to the slot at the node, and nothing else has changed
+pub record Gives (old new : Parts) (node : NodeId) (slot : Slot) (source : Source) (c : ℕ) : Type 0 where
+  pub versions : List ℕ → List Version
+  pub shows : (w : World) → Meets old w → ShowsChunk (ring_of old).q w (clock_at old.puts) c versions (source_has (ring_of old) (plan_of old) w slot source)
+  pub others : (k : List ℕ) → chunk_of (ring_of old).q k ≢ c → versions k ≡ []
+  pub merged : MergesAtAll (held_at old.stores) (at_node node.0 (at_slot slot versions)) (held_at new.stores)
+  pub rest : kept_of new ≡ record (kept_of old) { stored = held_at new.stores }

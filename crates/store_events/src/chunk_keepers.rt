@@ -23,7 +23,8 @@ fn with_keeper(
 ) -> Option<NodeId>
     requires chunk { chunk < 16 }
     requires sized { IsSized parts.now }
-    ensures { Lessens parts.now least result (λ w x. (x == keeper.0) && keeps_part (ring_of parts.now) w slot chunk keeper.0) }
+    ensures { Lessens parts.now least result
+        (λ w x. (x == keeper.0) && keeps_part (ring_of parts.now) w slot chunk keeper.0) }
 {
     if parts.nodes.is_up(keeper) {
         return least;
@@ -76,7 +77,8 @@ fn with_slot(parts: &Parts, found: Option<NodeId>, slot: Slot, chunk: u32) -> Op
 fn with_slots(parts: &Parts, partition: u32, from: &[u32], chunk: u32) -> Option<NodeId>
     requires chunk { chunk < 16 }
     requires sized { IsSized parts.now }
-    ensures { Lessens parts.now None result (λ w x. list_any (λ i. keeps_part (ring_of parts.now) w (slot_at partition i) chunk x) from.now) }
+    ensures { Lessens parts.now None result
+        (λ w x. list_any (λ i. keeps_part (ring_of parts.now) w (slot_at partition i) chunk x) from.now) }
 {
     let mut least = None;
     let mut rest = from;

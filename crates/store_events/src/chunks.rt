@@ -6,12 +6,13 @@ ghost use Rattle.plan_stage.specs.Clauses.{first_failing};
 ghost use Rattle.plan_check.specs.declared.event.Event.TheVariants.{ChunkCopy};
 ghost use Rattle.plan_check.specs.Guards.{has_copy, keepers_up};
 ghost use Rattle.plan_check.specs.World.{World};
-ghost use Rattle.store_tells.specs.Parts.{ring_of, plan_of, Meets, IsSound, IsSized, Follows, Tests, Passes, Answers, Stays};
+ghost use Rattle.store_tells.specs.Parts.{ring_of, plan_of, Meets, IsSound, IsSized, Follows, Tests, Passes, Answers};
+ghost use Rattle.store_tells.specs.Parts.{Stays};
 
 use crate::chunk_keepers::least_keeper;
 use crate::kinds::has_copy;
 use crate::parties::party_refusal;
-use crate::sources::read_source;
+use crate::sources::give_source;
 use plan_check::Reply;
 use plan_text::Step;
 use ring_names::Refusal;
@@ -29,7 +30,8 @@ fn keeper_refusal(parts: &Parts, step: u32, chunk: u32) -> Option<Refusal>
     requires chunk { chunk < 16 }
     requires sized { IsSized parts.now }
     requires copy { has_copy (plan_of parts.now) step ≡ true }
-    ensures { (w : World) → Meets parts.now w → result ≡ first_failing (keepers_up (ring_of parts.now) (plan_of parts.now) w step chunk) }
+    ensures { (w : World) → Meets parts.now w
+        → result ≡ first_failing (keepers_up (ring_of parts.now) (plan_of parts.now) w step chunk) }
 {
     let Step::Copy(slot, source) = parts.approved.plan().step(step) else {
         unreachable!();
@@ -64,7 +66,8 @@ pub fn chunk_refusal(parts: &Parts, step: u32, chunk: u32) -> Option<Refusal>
 }
 
 /// Copies a chunk: all that the copy reads of it goes to the slot's mirror, and the chunk is marked. Only a growth can be refused, and then
-/// nothing has changed. Costs a look-up and a merge for each key of the chunk at each place that is read, and once more at the mirror.
+/// nothing has changed. Where the copy reads the owner alone, it costs what `KeyMap::take_in` does for the owner's map at the mirror; else
+/// that for each map of the chunk that is read, merged aside, and once more at the mirror.
 pub fn chunk_copy(parts: &mut Parts, step: u32, chunk: u32) -> Result<Reply, Refusal>
     requires sound { IsSound parts.old }
     requires passes { Passes parts.old (ChunkCopy step chunk) }
@@ -83,10 +86,7 @@ pub fn chunk_copy(parts: &mut Parts, step: u32, chunk: u32) -> Result<Reply, Ref
         parts.steps.mark(step, chunk);
         return Ok(Reply::Plain);
     };
-    let read = read_source(parts, *slot, source, chunk)?;
-    parts
-        .stores
-        .give_chunk(mirror, *slot, chunk, read.chunk(chunk))?;
+    give_source(parts, mirror, *slot, source, chunk)?;
     parts.steps.mark(step, chunk);
     Ok(Reply::Plain)
 }

@@ -41,7 +41,8 @@ fn raise_to_gets(clock: &mut Clock, gets: &Gets, seen: &[u32]) -> Result<(), Ref
 
 // Raises a clock to that of a put, if there is the put.
 fn raise_to_put(clock: &mut Clock, puts: &Puts, put: u32) -> Result<(), Refusal>
-    ensures ok { OnOk result ((w : ℕ) → counter clock.new w ≡ max (counter clock.old w) (counter (clock_at puts.now put) w)) }
+    ensures ok { OnOk result
+        ((w : ℕ) → counter clock.new w ≡ max (counter clock.old w) (counter (clock_at puts.now put) w)) }
     ensures memory { IfErr result (λ e. e ≡ OutOfMemory) }
 {
     let Some(now) = puts.get(put) else {
@@ -81,7 +82,8 @@ pub fn next_clock(
     seen: &[u32],
     writer: WriterId,
 ) -> Result<Clock, Refusal>
-    requires { (d : List TheEntry) → IsJoinOfFound (clock_at puts.now) (found_at gets.now) seen.now last d → counter d writer.0 < 18446744073709551615 }
+    requires { (d : List TheEntry) → IsJoinOfFound (clock_at puts.now) (found_at gets.now) seen.now last d
+        → counter d writer.0 < 18446744073709551615 }
     ensures ok { IfOk result (IsNextOfFound (clock_at puts.now) (found_at gets.now) seen.now last writer.0) }
     ensures memory { IfErr result (λ e. e ≡ OutOfMemory) }
 {

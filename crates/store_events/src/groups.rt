@@ -26,8 +26,10 @@ fn raise_group(slots: &mut Slots, hints: &Hints, slot: Slot, node: NodeId)
 
 // Raises the generation of those of the first n slots of a partition in whose group the node is.
 fn raise_partition(slots: &mut Slots, hints: &Hints, n: u32, partition: u32, node: NodeId)
-    requires { (t : TheSlot) → t.partition ≡ partition → IfSome (slot_now slots.old t) (λ x. x.generation < 4294967295) }
-    ensures { RaisesGroups (hinted_at hints.now) node.0 (λ t. (t.partition == partition) && nat_lt t.index n) slots.old slots.new }
+    requires { (t : TheSlot) → t.partition ≡ partition
+        → IfSome (slot_now slots.old t) (λ x. x.generation < 4294967295) }
+    ensures { RaisesGroups (hinted_at hints.now) node.0
+        (λ t. (t.partition == partition) && nat_lt t.index n) slots.old slots.new }
 {
     'indexes: for index in 0..n {
         raise_group(slots, hints, Slot { partition, index }, node);

@@ -68,7 +68,8 @@ pub fn merge_hints(
 ) -> Result<(), Refusal>
     requires chunk { chunk_of (partitions hints.now) key.now ≡ chunk }
     requires apart { IsApart all.old }
-    ensures ok { OnOk result (MergesOthers all.old (λ x. in_keepers x keepers.now.keys) (λ x. hinted_at hints.now x slot key.now) all.new) }
+    ensures ok { OnOk result
+        (MergesOthers all.old (λ x. in_keepers x keepers.now.keys) (λ x. hinted_at hints.now x slot key.now) all.new) }
     ensures memory { IfErr result (λ e. e ≡ OutOfMemory) }
 {
     'keepers: for keeper in keepers {

@@ -36,7 +36,8 @@ fn owner_versions(parts: &Parts, slot: Slot, chunk: u32, key: &[u8]) -> Result<V
 fn slot_versions(parts: &Parts, slot: Slot, chunk: u32, key: &[u8]) -> Result<Versions, Refusal>
     requires stores { chunk_of (shared_space parts.now.stores) key.now ≡ chunk }
     requires hints { chunk_of (partitions parts.now.hints) key.now ≡ chunk }
-    ensures ok { IfOk result (MergesOthers (owned_at parts.now.slots (held_at parts.now.stores) slot key.now) (λ x. true)
+    ensures ok { IfOk result
+        (MergesOthers (owned_at parts.now.slots (held_at parts.now.stores) slot key.now) (λ x. true)
         (λ x. hinted_at parts.now.hints x slot key.now)) }
     ensures memory { IfErr result (λ e. e ≡ OutOfMemory) }
 {

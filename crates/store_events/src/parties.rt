@@ -19,7 +19,8 @@ pub(crate) fn party_refusal(parts: &Parts, step: u32) -> Option<Refusal>
     requires sound { IsSound parts.now }
     requires ready { (w : World) → Meets parts.now w
         → (has_copy (plan_of parts.now) step ≡ true) × Ready (plan_of parts.now) w.done step × (w.done step ≡ false) }
-    ensures { (w : World) → Meets parts.now w → result ≡ first_failing (parties_up (ring_of parts.now) (plan_of parts.now) w step) }
+    ensures { (w : World) → Meets parts.now w
+        → result ≡ first_failing (parties_up (ring_of parts.now) (plan_of parts.now) w step) }
 {
     let Step::Copy(slot, source) = parts.approved.plan().step(step) else {
         unreachable!();
@@ -46,7 +47,8 @@ fn least_party(parts: &Parts, slot: Slot, source: &Source) -> Option<NodeId>
 
 // The least node that is down among the owners of these slots of a partition.
 fn least_owner(parts: &Parts, partition: u32, from: &[u32]) -> Option<NodeId>
-    ensures { result ≡ least_down (is_up_at parts.now.nodes) (map (owner_kept parts.now.slots) (map (slot_at partition) from.now)) }
+    ensures { result ≡ least_down (is_up_at parts.now.nodes)
+        (map (owner_kept parts.now.slots) (map (slot_at partition) from.now)) }
 {
     let mut least = None;
     for k in (0..from.len()).rev() {

@@ -1,6 +1,7 @@
 //! Puts that start.
 
-ghost use Rattle.std.specs.Prelude.{◌≡◌, ◌<◌, ◌++◌, ◌∷◌, ◌&&◌, ◌==◌, ℕ, [], List, Some, length, if◌then◌else◌, IfOk, IfErr, OnOk, OnErr};
+ghost use Rattle.std.specs.Prelude.{◌≡◌, ◌<◌, ◌++◌, ◌∷◌, ◌&&◌, ◌==◌, ℕ, [], List, Some, length, if◌then◌else◌, IfOk};
+ghost use Rattle.std.specs.Prelude.{IfErr, OnOk, OnErr};
 ghost use Rattle.std.specs.List.{list_all};
 ghost use Rattle.ring_names.specs.declared.refusal.Refusal.TheVariants.{OutOfMemory};
 ghost use Rattle.ring_clock.specs.declared.entry.Entry.{Entry as TheEntry};
@@ -99,9 +100,11 @@ fn new_put(
     seen: &[u32],
 ) -> Result<PutNow, Refusal>
     requires few { length parts.now.puts < 4294967295 }
-    requires clocks { (d : List TheEntry) → IsJoinOfFound (clock_at parts.now.puts) (found_at parts.now.gets) seen.now (last_of parts.now.lasts key writer.0) d
+    requires clocks { (d : List TheEntry) → IsJoinOfFound (clock_at parts.now.puts) (found_at parts.now.gets) seen.now
+        (last_of parts.now.lasts key writer.0) d
         → counter d writer.0 < 18446744073709551615 }
-    ensures ok { IfOk result (IsNewPut parts.now.puts parts.now.gets (last_of parts.now.lasts) key writer.0 value.now seen.now) }
+    ensures ok { IfOk result
+        (IsNewPut parts.now.puts parts.now.gets (last_of parts.now.lasts) key writer.0 value.now seen.now) }
     ensures memory { IfErr result (λ e. e ≡ OutOfMemory) }
 {
     let alloc = parts.alloc;
@@ -129,7 +132,8 @@ fn push_put(
     ensures number { IfOk result (λ n. n ≡ length puts.old) }
     ensures puts { OnOk result (puts.new ≡ puts.old ++ put ∷ []) }
     ensures lasts { OnOk result ((k w : ℕ)
-        → last_of lasts.new k w ≡ (if (k == put.key) && (w == writer.0) then Some (length puts.old) else last_of lasts.old k w)) }
+        → last_of lasts.new k w
+        ≡ (if (k == put.key) && (w == writer.0) then Some (length puts.old) else last_of lasts.old k w)) }
     ensures same_puts { OnErr result (puts.new ≡ puts.old) }
     ensures same_lasts { OnErr result ((k w : ℕ) → last_of lasts.new k w ≡ last_of lasts.old k w) }
     ensures memory { IfErr result (λ e. e ≡ OutOfMemory) }

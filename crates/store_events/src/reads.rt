@@ -18,7 +18,8 @@ use store_tells::Parts;
 // Why the slot is not read for the key now, if it is not: its owner is down, or a node that keeps versions of the key for it.
 fn down_refusal(parts: &Parts, slot: Slot, chunk: u32, key: &[u8]) -> Option<Refusal>
     requires { chunk_of (partitions parts.now.hints) key.now ≡ chunk }
-    ensures { StopsRead parts.now.slots (is_up_at parts.now.nodes) (λ x. hinted_at parts.now.hints x slot key.now) slot result }
+    ensures { StopsRead parts.now.slots (is_up_at parts.now.nodes)
+        (λ x. hinted_at parts.now.hints x slot key.now) slot result }
 {
     if let Some(owner) = parts.slots.owner(slot) {
         if !parts.nodes.is_up(owner) {
@@ -53,8 +54,8 @@ pub fn read_refusal(parts: &Parts, get: u32, index: u32) -> Option<Refusal>
     down_refusal(parts, Slot { partition, index }, place.chunk, key)
 }
 
-/// The get reads the slot, and the reply is the numbers of the puts that it finds there. Refused, it has changed nothing. Costs a copy of
-/// what the slot has of the get's key and of what the get had found, a merge of the two, and a look-up for each node that keeps anything
+/// The get reads the slot, and the reply is the numbers of the puts that it finds there. Refused, it has changed nothing. Costs a merge of
+/// what the slot has of the get's key with what the get had found, a sort of the numbers, and a look-up for each node that keeps anything
 /// for the slot.
 pub fn read(parts: &mut Parts, get: u32, index: u32) -> Result<Reply, Refusal>
     requires sound { IsSound parts.old }

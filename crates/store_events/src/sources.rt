@@ -1,38 +1,24 @@
-//! What a copy reads of a chunk.
+//! What a copy reads of a chunk, and what comes of it to the mirror.
 
-ghost use Rattle.std.specs.Prelude.{◌≡◌, ◌<◌, ℕ, true, List, IfOk, IfErr, OnOk};
+ghost use Rattle.std.specs.Prelude.{◌≡◌, ◌<◌, true, Some, IfOk, IfErr, OnOk, OnErr};
 ghost use Rattle.std.specs.List.{list_any};
 ghost use Rattle.ring_names.specs.declared.refusal.Refusal.TheVariants.{OutOfMemory};
-ghost use Rattle.store_maps.specs.Chunks.{chunk_of};
-ghost use Rattle.store_maps.specs.Held.{held, has_place};
-ghost use Rattle.store_maps.specs.Merges.{MergesAll};
 ghost use Rattle.store_maps.specs.Slots.{space_of, held_for};
 ghost use Rattle.store_tells.specs.Puts.{clock_at};
+ghost use Rattle.plan_text.specs.declared.step.Source.TheVariants.{Owner, Slots};
 ghost use Rattle.plan_check.specs.Effects.{source_has};
 ghost use Rattle.plan_check.specs.Versions.{some_hinted, slot_has};
 ghost use Rattle.plan_check.specs.World.{World, slot_at, stage_now};
-ghost use Rattle.store_tells.specs.Parts.{ring_of, plan_of, Meets, IsSized};
-ghost use Rattle.store_events.specs.Sources.{ShowsChunk, Gathers, are_kept, is_kept, reads_kept};
+ghost use Rattle.store_tells.specs.Parts.{ring_of, plan_of, Meets, IsSound, IsSized, Follows, Stays};
+ghost use Rattle.store_events.specs.Parties.{mirror_kept};
+ghost use Rattle.store_events.specs.Sources.{ShowsChunk, Gathers, Gives, are_kept, is_kept, reads_kept};
 
 use plan_text::Source;
 use ring_hints::KeptFor;
 use ring_names::{NodeId, Refusal, Slot};
 use std::collections::BTreeSet;
-use store_maps::{KeyMap, SlotMap};
+use store_maps::SlotMap;
 use store_tells::Parts;
-
-// A map of keys of the chunk is merged into what was read.
-fn add(read: &mut SlotMap, chunk: u32, map: &KeyMap) -> Result<(), Refusal>
-    requires chunk { chunk < 16 }
-    requires lies { (k : List ℕ) → has_place map.now k ≡ true → chunk_of (space_of read.old) k ≡ chunk }
-    ensures space { space_of read.new ≡ space_of read.old }
-    ensures ok { OnOk result (MergesAll (held_for read.old) (held map.now) (held_for read.new)) }
-    ensures memory { IfErr result (λ e. e ≡ OutOfMemory) }
-{
-    let fresh = read.prepare_chunk(chunk, map)?;
-    read.settle_chunk(chunk, fresh);
-    Ok(())
-}
 
 // What the slot's owner has of the chunk is read.
 fn add_owner(parts: &Parts, read: &mut SlotMap, slot: Slot, chunk: u32) -> Result<(), Refusal>
@@ -49,7 +35,7 @@ fn add_owner(parts: &Parts, read: &mut SlotMap, slot: Slot, chunk: u32) -> Resul
         unreachable!()
     };
     if let Some(map) = parts.stores.chunk_map(owner, slot, chunk) {
-        add(read, chunk, map)?;
+        read.merge_chunk(chunk, map)?;
     }
     Ok(())
 }
@@ -76,7 +62,7 @@ fn add_keepers(
             slot,
         };
         if let Some(map) = parts.hints.chunk_map(pair, chunk) {
-            add(read, chunk, map)?;
+            read.merge_chunk(chunk, map)?;
         }
     }
     Ok(())
@@ -88,7 +74,8 @@ fn add_hints(parts: &Parts, read: &mut SlotMap, slot: Slot, chunk: u32) -> Resul
     requires sized { IsSized parts.now }
     requires space { space_of read.old ≡ (ring_of parts.now).q }
     ensures space { space_of read.new ≡ space_of read.old }
-    ensures ok { OnOk result (Gathers parts.now chunk (held_for read.old) (held_for read.new) (λ w. some_hinted (ring_of parts.now) w slot)) }
+    ensures ok { OnOk result (Gathers parts.now chunk (held_for read.old) (held_for read.new)
+        (λ w. some_hinted (ring_of parts.now) w slot)) }
     ensures memory { IfErr result (λ e. e ≡ OutOfMemory) }
 {
     if let Some(keepers) = parts.hints.keepers(slot) {
@@ -127,30 +114,81 @@ fn add_slots(
     Ok(())
 }
 
-/// What a copy of the slot reads of the chunk, merged aside. Costs a look-up and a merge for each key of the chunk at each place that is read.
-pub(crate) fn read_source(
-    parts: &Parts,
-    slot: Slot,
-    source: &Source,
-    chunk: u32,
-) -> Result<SlotMap, Refusal>
+// What a copy of the slot that lists these slots reads of the chunk, merged aside.
+fn read_slots(parts: &Parts, slot: Slot, from: &[u32], chunk: u32) -> Result<SlotMap, Refusal>
     requires chunk { chunk < 16 }
     requires sized { IsSized parts.now }
-    requires kept { reads_kept parts.now.slots slot source.now ≡ true }
+    requires kept { are_kept parts.now.slots slot.partition from.now ≡ true }
     ensures space { IfOk result (λ read. space_of read ≡ (ring_of parts.now).q) }
-    ensures shows { IfOk result (λ read. (w : World) → Meets parts.now w → ShowsChunk (ring_of parts.now).q w (clock_at parts.now.puts) chunk (held_for read)
-        (source_has (ring_of parts.now) (plan_of parts.now) w slot source.now)) }
+    ensures shows { IfOk result (λ read. (w : World) → Meets parts.now w
+        → ShowsChunk (ring_of parts.now).q w (clock_at parts.now.puts) chunk (held_for read)
+        (source_has (ring_of parts.now) (plan_of parts.now) w slot (Slots from.now))) }
     ensures memory { IfErr result (λ e. e ≡ OutOfMemory) }
 {
     let mut read = SlotMap::new(parts.alloc, parts.approved.ring().q())?;
+    add_slots(parts, &mut read, slot.partition, from, chunk)?;
+    Ok(read)
+}
+
+// It comes to the slot's mirror.
+fn give_slots(
+    parts: &mut Parts,
+    mirror: NodeId,
+    slot: Slot,
+    from: &[u32],
+    chunk: u32,
+) -> Result<(), Refusal>
+    requires chunk { chunk < 16 }
+    requires sound { IsSound parts.old }
+    requires kept { are_kept parts.old.slots slot.partition from.now ≡ true }
+    requires mirror { mirror_kept parts.old.slots slot ≡ Some mirror }
+    ensures ok { OnOk result (Gives parts.old parts.new mirror slot (Slots from.now) chunk) }
+    ensures err { OnErr result (Stays parts.old parts.new) }
+    ensures memory { IfErr result (λ e. e ≡ OutOfMemory) }
+    ensures follows { Follows parts.old parts.new }
+{
+    let read = read_slots(parts, slot, from, chunk)?;
+    parts
+        .stores
+        .give_chunk(mirror, slot, chunk, read.chunk(chunk))
+}
+
+// What the slot's owner has of the chunk comes to its mirror.
+fn give_owner(parts: &mut Parts, mirror: NodeId, slot: Slot, chunk: u32) -> Result<(), Refusal>
+    requires chunk { chunk < 16 }
+    requires sound { IsSound parts.old }
+    requires mirror { mirror_kept parts.old.slots slot ≡ Some mirror }
+    ensures ok { OnOk result (Gives parts.old parts.new mirror slot Owner chunk) }
+    ensures err { OnErr result (Stays parts.old parts.new) }
+    ensures memory { IfErr result (λ e. e ≡ OutOfMemory) }
+    ensures follows { Follows parts.old parts.new }
+{
+    let Some(owner) = parts.slots.owner(slot) else {
+        unreachable!()
+    };
+    parts.stores.copy_chunk(owner, mirror, slot, chunk)
+}
+
+/// What a copy of the slot reads of the chunk comes to the slot's mirror: the owner's map as it stands, where the copy reads the owner alone,
+/// and else what is read of the listed slots, merged aside first. Only a growth can be refused, and then nothing has changed.
+pub(crate) fn give_source(
+    parts: &mut Parts,
+    mirror: NodeId,
+    slot: Slot,
+    source: &Source,
+    chunk: u32,
+) -> Result<(), Refusal>
+    requires chunk { chunk < 16 }
+    requires sound { IsSound parts.old }
+    requires kept { reads_kept parts.old.slots slot source.now ≡ true }
+    requires mirror { mirror_kept parts.old.slots slot ≡ Some mirror }
+    ensures ok { OnOk result (Gives parts.old parts.new mirror slot source.now chunk) }
+    ensures err { OnErr result (Stays parts.old parts.new) }
+    ensures memory { IfErr result (λ e. e ≡ OutOfMemory) }
+    ensures follows { Follows parts.old parts.new }
+{
     match source {
-        Source::Owner => {
-            add_owner(parts, &mut read, slot, chunk)?;
-            Ok(read)
-        }
-        Source::Slots(from) => {
-            add_slots(parts, &mut read, slot.partition, from.as_slice(), chunk)?;
-            Ok(read)
-        }
+        Source::Owner => give_owner(parts, mirror, slot, chunk),
+        Source::Slots(from) => give_slots(parts, mirror, slot, from.as_slice(), chunk),
     }
 }

@@ -162,6 +162,13 @@ module _ (a : SlotMap) (c : ℕ) (m n : KeyMap) (below : c < 16) (lends : m ≡ 
     | inr e ↦ subst (λ (comes : List Version). IsMerge (held_of (slice_get a.chunks.items (chunk_of a.q k)) k) comes (held_of (slice_get a.chunks.items (chunk_of a.q k)) k)) (sym (at_other key k more e)) (merge_none (held_of (slice_get a.chunks.items (chunk_of a.q k)) k) (apart_of (slice_get a.chunks.items (chunk_of a.q k)) k))
   ])
 
+  -- what came from a map whose keys lie in the chunk came to the slot
+  pub merged_map : (other : KeyMap) → ((k : List ℕ) → has_place other k ≡ true → chunk_of a.q k ≡ c) → MergesAll (held m) (held other) (held n)
+      → MergesAll (λ k. held_of (slice_get a.chunks.items (chunk_of a.q k)) k) (held other) (λ k. held_of (slice_get (set a.chunks.items c n) (chunk_of a.q k)) k)
+  merged_map other lies merged = merged_set (held other) (λ k e. merged k) (λ k ne.
+      subst (λ (comes : List Version). IsMerge (held_of (slice_get a.chunks.items (chunk_of a.q k)) k) comes (held_of (slice_get a.chunks.items (chunk_of a.q k)) k)) (sym (no_place other k (false_from_ne_true (has_place other k) (λ h. ne (lies k h)))))
+      (merge_none (held_of (slice_get a.chunks.items (chunk_of a.q k)) k) (apart_of (slice_get a.chunks.items (chunk_of a.q k)) k)))
+
   pub fresh_old : (key : List ℕ) (more : List Version) (f : Fresh) → chunk_of a.q key ≡ c → IsFreshFor (held m key) more f → IsFreshFor (held_of (slice_get a.chunks.items (chunk_of a.q key)) key) more f
   fresh_old key more f lies h = subst (λ (held : List Version). IsFreshFor held more f) (old_held key lies) h
 

@@ -1,7 +1,6 @@
 -- Facts of one answer among several.
 use Rattle.std.proofs.Common.{◌≡◌, false, refl, sym, subst, Option, Some, None, Result, Ok, Err}
 use Rattle.std.specs.Prelude.{OnOk, OnErr, IfOk, IfSome, IfNone, MatchOption, is_some}
-use Rattle.std.proofs.lemmas.Bool.{false_from_ne_true}
 
 pub on_ok : {A E : Type 0} (r : Result A E) (P Q : Type 0) → (P → Q) → OnOk r P → OnOk r Q
 on_ok (Ok a) P Q f h = f h

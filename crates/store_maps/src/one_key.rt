@@ -48,7 +48,8 @@ impl KeyMap {
         ensures err { OnErr result ((k : List ℕ) → held self.new k ≡ held self.old k) }
         ensures stays { (k : List ℕ) → has_place self.old k ≡ true → has_place self.new k ≡ true }
         ensures only { (k : List ℕ) → has_place self.new k ≡ true → (has_place self.old k ≡ true) ⊎ (k ≡ key.now) }
-        ensures filled { (k : List ℕ) → has_place self.new k ≡ true → (has_place self.old k ≡ true) ⊎ (held self.new k ≢ []) }
+        ensures filled { (k : List ℕ) → has_place self.new k ≡ true
+            → (has_place self.old k ≡ true) ⊎ (held self.new k ≢ []) }
         ensures places { OnErr result ((k : List ℕ) → has_place self.new k ≡ has_place self.old k) }
         ensures memory { IfErr result (λ e. e ≡ OutOfMemory) }
     {

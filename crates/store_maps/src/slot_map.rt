@@ -20,7 +20,8 @@ pub struct SlotMap {
 }
 
 impl SlotMap {
-    ghost use Rattle.std.specs.Prelude.{◌≢◌, ◌↔◌, ◌⊎◌, ◌<◌, ℕ, true, false, [], List, IsTrue, IfSome, IfNone, IfOk, IfErr, OnOk, OnErr};
+    ghost use Rattle.std.specs.Prelude.{◌≢◌, ◌↔◌, ◌⊎◌, ◌<◌, ℕ, true, false, [], List, IsTrue, IfSome, IfNone, IfOk};
+    ghost use Rattle.std.specs.Prelude.{IfErr, OnOk, OnErr};
     ghost use Rattle.ring_names.specs.declared.refusal.Refusal.TheVariants.{OutOfMemory};
     ghost use Rattle.ring_versions.specs.Fresh.{IsFreshFor};
     ghost use Rattle.ring_versions.specs.declared.version.Version.{Version};
@@ -48,7 +49,8 @@ impl SlotMap {
         requires { chunk < 16 }
         ensures lies { (k : List ℕ) → has_place result.now k ≡ true → chunk_of (space_of self.now) k ≡ chunk }
         ensures same { (k : List ℕ) → chunk_of (space_of self.now) k ≡ chunk → held result.now k ≡ held_for self.now k }
-        ensures places { (k : List ℕ) → chunk_of (space_of self.now) k ≡ chunk → has_place result.now k ≡ has_place_for self.now k }
+        ensures places { (k : List ℕ) → chunk_of (space_of self.now) k ≡ chunk
+            → has_place result.now k ≡ has_place_for self.now k }
     {
         &self.chunks[chunk as usize]
     }
@@ -97,7 +99,8 @@ impl SlotMap {
         ensures ok { OnOk result (MergesAll (held_for self.old) (at_key key.now more.now) (held_for self.new)) }
         ensures err { OnErr result ((k : List ℕ) → held_for self.new k ≡ held_for self.old k) }
         ensures stays { (k : List ℕ) → has_place_for self.old k ≡ true → has_place_for self.new k ≡ true }
-        ensures filled { (k : List ℕ) → has_place_for self.new k ≡ true → (has_place_for self.old k ≡ true) ⊎ (held_for self.new k ≢ []) }
+        ensures filled { (k : List ℕ) → has_place_for self.new k ≡ true
+            → (has_place_for self.old k ≡ true) ⊎ (held_for self.new k ≢ []) }
         ensures places { OnErr result ((k : List ℕ) → has_place_for self.new k ≡ has_place_for self.old k) }
         ensures memory { IfErr result (λ e. e ≡ OutOfMemory) }
     {
@@ -105,9 +108,23 @@ impl SlotMap {
         map.merge(key, more)
     }
 
-    /// The first half of a merge of a chunk with a whole map: makes the places that are missing, and what the other map brings. No reading
-    /// changes, whatever the answer.
-    pub fn prepare_chunk(&mut self, chunk: u32, other: &KeyMap) -> Result<FreshKeys, Refusal>
+    /// Merges a map of the chunk's keys. Refused, it has changed no reading. Costs what `KeyMap::take_in` does.
+    pub fn merge_chunk(&mut self, chunk: u32, other: &KeyMap) -> Result<(), Refusal>
+        requires chunk { chunk < 16 }
+        requires lies { (k : List ℕ) → has_place other.now k ≡ true → chunk_of (space_of self.old) k ≡ chunk }
+        ensures space { space_of self.new ≡ space_of self.old }
+        ensures ok { OnOk result (MergesAll (held_for self.old) (held other.now) (held_for self.new)) }
+        ensures err { OnErr result ((k : List ℕ) → held_for self.new k ≡ held_for self.old k) }
+        ensures stays { (k : List ℕ) → has_place_for self.old k ≡ true → has_place_for self.new k ≡ true }
+        ensures memory { IfErr result (λ e. e ≡ OutOfMemory) }
+    {
+        let map = &mut self.chunks[chunk as usize];
+        map.take_in(other)
+    }
+
+    // The first half of a merge of a chunk with a whole map: makes the places that are missing, and what the other map brings. No reading
+    // changes, whatever the answer.
+    pub(crate) fn prepare_chunk(&mut self, chunk: u32, other: &KeyMap) -> Result<FreshKeys, Refusal>
         requires chunk { chunk < 16 }
         requires lies { (k : List ℕ) → has_place other.now k ≡ true → chunk_of (space_of self.old) k ≡ chunk }
         ensures space { space_of self.new ≡ space_of self.old }
@@ -121,14 +138,15 @@ impl SlotMap {
         map.prepare_all(other)
     }
 
-    /// The second half of a merge of a chunk with a whole map, which cannot fail.
-    pub fn settle_chunk(&mut self, chunk: u32, fresh: FreshKeys)
+    // The second half of a merge of a chunk with a whole map, which cannot fail.
+    pub(crate) fn settle_chunk(&mut self, chunk: u32, fresh: FreshKeys)
         requires chunk { chunk < 16 }
         requires ready { AreReadyFor self.old chunk fresh }
         ensures space { space_of self.new ≡ space_of self.old }
         ensures merged { (more : List ℕ → List Version) → AreFreshFor (held_for self.old) more fresh
             → MergesAll (held_for self.old) more (held_for self.new) }
-        ensures others { (k : List ℕ) → chunk_of (space_of self.old) k ≢ chunk → held_for self.new k ≡ held_for self.old k }
+        ensures others { (k : List ℕ) → chunk_of (space_of self.old) k ≢ chunk
+            → held_for self.new k ≡ held_for self.old k }
         ensures places { (k : List ℕ) → has_place_for self.new k ≡ has_place_for self.old k }
     {
         let map = &mut self.chunks[chunk as usize];

@@ -41,9 +41,11 @@ fn maps_merged<RT: Abort>(
 ) -> Result<(), Fail> {
     map.merge(b"a", set)?;
     merged_in_halves(rt, map, set)?;
+    first.take_in(map)?;
     first.merge_all(map)?;
     let fresh = first.prepare_all(map)?;
     first.settle_all(fresh);
+    first.take_in(map)?;
     same!(rt; first.keys()?.len(), 2);
     same!(rt; first.try_copy()?.keys()?.len(), 2);
     Ok(())

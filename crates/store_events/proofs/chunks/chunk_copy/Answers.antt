@@ -1,16 +1,13 @@
-use Rattle.std.proofs.Common.{◌≡◌, ◌∙◌, ◌<◌, ℕ, List, sym, ap, subst}
-use Rattle.std.specs.Prelude.{Some}
-use Rattle.std.proofs.Props.{props}
+use Rattle.std.proofs.Common.{◌∙◌, sym, ap, subst}
+use Rattle.std.specs.Prelude.{Some, option_and_then}
 use Rattle.plan_text.specs.declared.step.Step.{Step}
-use Rattle.store_maps.specs.Chunks.{chunk_of}
-use Rattle.store_maps.specs.Held.{held, has_place}
-use Rattle.store_maps.specs.Slots.{held_for}
-use Rattle.ring_store.specs.Stores.{held_at}
+use Rattle.plan_check.specs.Approval.{Approval}
+use Rattle.store_tables.specs.declared.slots.SlotNow.{SlotNow}
+use Rattle.store_tells.specs.Kept.{Tells}
 use Rattle.store_tells.specs.Parts.{ring_of, plan_of, kept_of}
-use Rattle.store_tells.proofs.StoreInWorld.{holds, mirror_within}
 use Rattle.store_events.proofs.RequiresMet.{copy_there, is_no_other}
 use Rattle.store_events.proofs.StepsOn.{read_at, read_within}
-use Rattle.store_events.proofs.ChunkCopies.{copy_known, chunk_few, slot_known, source_known, kept_there, nothing_apart, copied_to, copied_nowhere}
+use Rattle.store_events.proofs.ChunkCopies.{copy_known, chunk_few, slot_known, source_known, kept_there, given, copied_nowhere}
 use Rattle.store_events.proofs.chunks.chunk_copy.Goals as goal
 
 pub step-requires : goal.step-requires
@@ -30,26 +27,17 @@ unreachable-requires-in_default-at c =
     let at = read_at (plan_of a) c.plan.result.now c.args.step c.step.result.now c.plan.ensures.value c.step.ensures.value ∙ ap (λ (s : Step). Some s) c.in-Copy.is in
     kept_there a.slots c.in-Copy.slot (slot_known a c.requires.sound c.args.step c.in-Copy.slot c.in-Copy.source at) (sym c.at.ensures ∙ c.in_default-at.is)
 
-pub read_source-requires-clause-chunk : goal.read_source-requires-clause-chunk
-read_source-requires-clause-chunk c = chunk_few c.args.parts.now c.requires.sound c.args.step c.args.chunk c.requires.passes
+pub give_source-requires-clause-chunk : goal.give_source-requires-clause-chunk
+give_source-requires-clause-chunk c = chunk_few c.args.parts.now c.requires.sound c.args.step c.args.chunk c.requires.passes
 
-pub read_source-requires-clause-kept : goal.read_source-requires-clause-kept
-read_source-requires-clause-kept c =
+pub give_source-requires-clause-kept : goal.give_source-requires-clause-kept
+give_source-requires-clause-kept c =
     let a = c.args.parts.now in
     let at = read_at (plan_of a) c.plan.result.now c.args.step c.step.result.now c.plan.ensures.value c.step.ensures.value ∙ ap (λ (s : Step). Some s) c.in-Copy.is in
     source_known a c.requires.sound c.args.step c.in-Copy.slot c.in-Copy.source at
 
-pub chunk-requires : goal.chunk-requires
-chunk-requires c = chunk_few c.args.parts.now c.requires.sound c.args.step c.args.chunk c.requires.passes
-
-pub give_chunk-requires-clause-node : goal.give_chunk-requires-clause-node
-give_chunk-requires-clause-node c =
-    let a = c.args.parts.now in
-    holds a c.requires.sound (hlevel props) (λ w m. subst (λ (n : ℕ). c.in-Some-mirror.mirror.0 < n) (sym c.requires.sound.sized.nodes)
-    (mirror_within (ring_of a) (plan_of a) (kept_of a) w m c.in-Copy.slot c.in-Some.served c.in-Some-mirror.mirror (sym c.at.ensures ∙ c.in-Some.is) c.in-Some-mirror.is))
-
-pub give_chunk-requires-clause-chunk : goal.give_chunk-requires-clause-chunk
-give_chunk-requires-clause-chunk c = chunk_few c.args.parts.now c.requires.sound c.args.step c.args.chunk c.requires.passes
+pub give_source-requires-clause-mirror : goal.give_source-requires-clause-mirror
+give_source-requires-clause-mirror c = ap (option_and_then (λ (x : SlotNow). x.mirror)) (sym c.at.ensures ∙ c.in-Some.is) ∙ c.in-Some-mirror.is
 
 pub mark-requires : goal.mark-requires
 mark-requires c = chunk_few c.args.parts.now c.requires.sound c.args.step c.args.chunk c.requires.passes
@@ -68,8 +56,8 @@ pub returns-clause-ok : goal.returns-clause-ok
 returns-clause-ok c w m =
     let a = c.args.parts.now in
     let at = read_at (plan_of a) c.plan.result.now c.args.step c.step.result.now c.plan.ensures.value c.step.ensures.value ∙ ap (λ (s : Step). Some s) c.in-Copy.is in
-    let space = (c.in_ok-read.ensures).space in
-    let lies : (key : List ℕ) → has_place c.chunk.result.now key ≡ _ → chunk_of (ring_of a).q key ≡ c.args.chunk = λ key h. ap (λ (q : ℕ). chunk_of q key) (sym space) ∙ c.chunk.ensures.lies key h in
-    copied_to (ring_of a) (plan_of a) (kept_of a) w m c.args.step c.args.chunk (sym (c.requires.passes w m)) c.in-Copy.slot c.in-Copy.source at c.in-Some.served (sym c.at.ensures ∙ c.in-Some.is)
-    c.mark-2.new.self c.mark-2.ensures.steps c.mark-2.ensures.marks c.in-Some-mirror.mirror (held_for c.in_ok-read.read) (held c.chunk.result.now) (held_at c.give_chunk.new.self) c.in-Some-mirror.is
-    ((c.in_ok-read.ensures).shows w m) (λ key h. c.chunk.ensures.same key (ap (λ (q : ℕ). chunk_of q key) space ∙ h)) (nothing_apart (ring_of a).q c.args.chunk c.chunk.result.now lies) (c.in_ok-give_chunk.ensures).ok
+    let k = kept_of c.give_source.new.parts in
+    let gives = (c.in_ok-give_source.ensures).ok in
+    let on = given (ring_of a) (plan_of a) (kept_of a) w m c.args.step c.args.chunk (sym (c.requires.passes w m)) c.in-Copy.slot c.in-Copy.source at c.in-Some.served (sym c.at.ensures ∙ c.in-Some.is)
+    c.in-Some-mirror.mirror gives.versions k c.mark-2.new.self c.in-Some-mirror.is (gives.shows w m) gives.others gives.merged gives.rest c.mark-2.ensures.steps c.mark-2.ensures.marks in
+    (on.0, on.1, subst (λ (both : Approval). Tells both.ring both.plan (record k { steps = c.mark-2.new.self }) on.0) (sym (c.in_ok-give_source.ensures).follows.approved) on.2)

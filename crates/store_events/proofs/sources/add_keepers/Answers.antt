@@ -18,8 +18,8 @@ keepers-init c =
           (visits_first a c.args.chunk (λ (w : World) (y : NodeId). w.hinted y.0 c.args.slot) nodes old),
     )
 
-pub add-requires-clause-lies : goal.add-requires-clause-lies
-add-requires-clause-lies c k h = ap (λ n. chunk_of n k) (c.keepers.invariant.0 ∙ c.requires.space ∙ sym c.requires.sized.hints) ∙ (c.in-Some-chunk_map.ensures).lies k h
+pub merge_chunk-requires-clause-lies : goal.merge_chunk-requires-clause-lies
+merge_chunk-requires-clause-lies c k h = ap (λ n. chunk_of n k) (c.keepers.invariant.0 ∙ c.requires.space ∙ sym c.requires.sized.hints) ∙ (c.in-Some-chunk_map.ensures).lies k h
 
 pub keepers-preserved : goal.keepers-preserved
 keepers-preserved c =
@@ -36,11 +36,11 @@ pub keepers-preserved-in-Continue-1 : goal.keepers-preserved-in-Continue-1
 keepers-preserved-in-Continue-1 c =
     let a = c.args.parts.now in
     let y = c.in-Some.keeper.now in
-    let new = held_for c.add.new.read in (
-      (c.in_ok-add.ensures).space ∙ c.keepers.invariant.0,
+    let new = held_for c.merge_chunk.new.self in (
+      (c.in_ok-merge_chunk.ensures).space ∙ c.keepers.invariant.0,
       visits_more a c.args.chunk (λ (w : World) (z : NodeId). w.hinted z.0 c.args.slot) c.args.keepers.now.keys (held_for c.args.read.now) (held_for c.keepers.read) new c.keepers.keeper-iterator c.next.new.self y (c.in-Some.ensures).steps
           (gathers a c.args.chunk a.hints.q (λ w. hinted_at a.hints y.0 c.args.slot) (held_for c.keepers.read) (held c.in-Some-chunk_map.map.now) new (λ w. w.hinted y.0 c.args.slot) c.requires.sized.hints
-          (λ w m. m.hinted y.0 c.args.slot) (λ w k. (c.in-Some-chunk_map.ensures).some k) (c.in_ok-add.ensures).ok)
+          (λ w m. m.hinted y.0 c.args.slot) (λ w k. (c.in-Some-chunk_map.ensures).some k) (c.in_ok-merge_chunk.ensures).ok)
           c.keepers.invariant.1,
     )
 

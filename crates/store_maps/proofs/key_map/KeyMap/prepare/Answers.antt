@@ -16,4 +16,4 @@ pub returns-clause-ready : goal.returns-clause-ready
 returns-clause-ready c =
     let put = (c.in_ok-put.ensures).ok in
     let was : held c.put.new.self c.args.key.now ≡ c.new-2.result = ap (λ (o : Option (List Version)). unwrap_or o []) put.here ∙ c.new.ensures ∙ sym c.new-2.ensures in
-    IfOk-weaker c.fresh_of-3.result _ _ (λ f h. (ap is_some put.here, (c.args.more.now, subst (λ (held : List Version). IsFreshFor held c.args.more.now f) (sym was) h))) c.fresh_of-3.ensures.ok
+    IfOk-weaker c.fresh_of-2.result _ _ (λ f h. (ap is_some put.here, (c.args.more.now, subst (λ (held : List Version). IsFreshFor held c.args.more.now f) (sym was) h))) c.fresh_of-2.ensures.ok
