@@ -1,5 +1,5 @@
 -- The parts of a merge, one version after the other.
-use Rattle.std.proofs.Common.{◌≡◌, ◌∙◌, ◌⊎◌, inl, inr, Bool, false, IsTrue, List, [], ◌∷◌, ◌++◌, length, refl, sym, subst, arith}
+use Rattle.std.proofs.Common.{◌≡◌, ◌≢◌, ◌∙◌, ◌⊎◌, inl, inr, Bool, false, IsTrue, List, [], ◌∷◌, ◌++◌, length, refl, sym, subst, arith}
 use Rattle.ring_clock.specs.declared.entry.Entry.{Entry}
 use Rattle.ring_versions.specs.declared.version.Version.{Version}
 use Rattle.ring_versions.specs.Versions.{IsIn, Covers, IsApart, IsMerge}
@@ -136,26 +136,34 @@ merge_into_none others a = record {
   apart = a;
 }
 
-pub brings_all : (others : List Version) → IsApart others → Brings [] others others
-brings_all others a = record {
-  merge = λ some. merge_into_none others a;
-  same = λ none. subst (IsMerge [] others) none (merge_into_none others a);
-}
-
 no_versions : (vs : List Version) → ((k : List Entry) → Covers vs k → ⊥) → vs ≡ []
 no_versions [] none = refl
 no_versions (v ∷ vs) none = absurd (none v.clock (v, inl refl, λ w. omega arith))
 
-pub brings_merge : (olds others made : List Version) → IsMerge olds others made → Brings olds others made
-brings_merge olds others made m = record {
-  merge = λ some. m;
-  same = λ none. subst (IsMerge olds others) (none ∙ sym (no_versions olds (λ k h. (subst (λ (vs : List Version). Covers vs k) none ((m.covers k).1 (inl h))).1))) m;
+pub brings_all : (others : List Version) → IsApart others → Brings [] others others
+brings_all others a = record {
+  merge = λ some. merge_into_none others a;
+  same = λ none. subst (IsMerge [] others) none (merge_into_none others a);
+  new = λ some covered. some (no_versions others (λ k h. (covered k h).1));
 }
+
+-- where some are fresh
+pub brings_merge : (olds others fresh made : List Version) → IsFresh olds others fresh → fresh ≢ [] → IsMerge olds others made → Brings olds others made
+brings_merge olds others fresh made f some m = record {
+  merge = λ filled. m;
+  same = λ none. subst (IsMerge olds others) (none ∙ sym (no_versions olds (λ k h. (subst (λ (vs : List Version). Covers vs k) none ((m.covers k).1 (inl h))).1))) m;
+  new = λ filled covered. some (none_new fresh (λ v h. f.new v h (covered v.clock (v, f.drawn v h, λ w. omega arith))));
+}
+  where
+    none_new : (vs : List Version) → ((v : Version) → IsIn v vs → ⊥) → vs ≡ []
+    none_new [] none = refl
+    none_new (v ∷ vs) none = absurd (none v (inl refl))
 
 pub brings_nothing : (olds others made : List Version) → made ≡ [] → IsApart olds → IsFresh olds others [] → Brings olds others made
 brings_nothing olds others made none a f = record {
   merge = λ some. absurd (some none);
   same = λ is. merge_nothing olds others a f;
+  new = λ some. absurd (some none);
 }
 
 pub merge_with_none : (olds others : List Version) (f : Fresh) → IsApart olds → BringsNothing f → IsFreshFor olds others f → IsMerge olds others olds

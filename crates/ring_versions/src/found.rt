@@ -57,7 +57,7 @@ impl Found {
         self.versions.puts()
     }
 
-    /// These and what another set brings, merged aside. Costs a copy of these, what a merge costs, and a comparison of the two joins.
+    /// These and what another set brings, merged aside. Costs what a merge costs, and the entries of the two joins.
     pub fn with(&self, more: &Versions) -> Result<Found, Refusal>
         ensures ok { IfOk result (IsMerge self.now more.now) }
         ensures memory { IfErr result (λ e. e ≡ OutOfMemory) }

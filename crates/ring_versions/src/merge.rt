@@ -112,8 +112,8 @@ fn merged_with(
     joined(alloc, held, fresh, stay)
 }
 
-/// What the others make of the versions held: the merge, or no version where those held cover them all. Takes no memory there, and where
-/// the others cover all of those held.
+/// What the others make of the versions held: the merge, or no version where those held cover them all. Takes no memory there. Where the
+/// others cover all of those held, they are the merge, shared.
 pub fn merged(alloc: Global, held: &Whole, others: &Versions) -> Result<Versions, Refusal>
     requires { IsWhole held.now }
     ensures ok { IfOk result (Brings held.now.list.items others.now) }

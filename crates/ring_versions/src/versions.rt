@@ -111,8 +111,9 @@ impl Versions {
     }
 
     /// Adds another set's versions: what is drawn from both covers the clocks that either covered, and ancestors go. Costs a look for each
-    /// version of the two sets; where some are new and some of the set's own stay, copies of these, the entries of the new ones and the
-    /// writers of both sets. Takes no memory else. A refused growth leaves the set as it was.
+    /// version of the two sets. Takes no memory where this set covers the other's; else copies of those that are new, made aside, and where
+    /// some of its own stay, copies of these, the entries of the new ones and the writers of both sets. A refused growth leaves the set as
+    /// it was.
     pub fn merge(&mut self, other: &Versions) -> Result<(), Refusal>
         ensures ok { OnOk result (IsMerge self.old other.now self.new) }
         ensures err { OnErr result (self.new ≡ self.old) }
