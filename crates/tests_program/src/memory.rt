@@ -28,19 +28,25 @@ impl<'a> Read for MemoryReader<'a> {
     }
 }
 
-/// Takes at most `step` bytes a call, and fails once `calls` calls were made.
+/// Takes at most `step` bytes a call and `room` bytes in all, and fails once `calls` calls were made.
 #[derive(Drop)]
 pub struct MemoryWriter {
     pub bytes: Vec<u8>,
     pub step: usize,
+    pub room: usize,
     pub calls: usize,
 }
 
 impl MemoryWriter {
     pub fn new(alloc: Global, step: usize, calls: usize) -> MemoryWriter {
+        MemoryWriter::with_room(alloc, step, 4096, calls)
+    }
+
+    pub fn with_room(alloc: Global, step: usize, room: usize, calls: usize) -> MemoryWriter {
         MemoryWriter {
             bytes: Vec::new(alloc),
             step,
+            room,
             calls,
         }
     }
@@ -51,8 +57,9 @@ impl Write for MemoryWriter {
 
     fn write(&mut self, buf: &[u8]) -> io::Result<usize> {
         use_call(&mut self.calls)?;
-        let count = buf.len().min(self.step);
+        let count = buf.len().min(self.step).min(self.room);
         self.bytes.extend_from_slice(&buf[..count])?;
+        self.room -= count;
         Ok(count)
     }
 

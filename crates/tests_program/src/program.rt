@@ -34,12 +34,6 @@ fn ends_with<RT: Abort>(rt: &RT, ended: u8, status: u8, shown: &[u8], text: &[u8
     assert_eq!(rt; ended, status);
 }
 
-// The run whose reader or writer failed after so many calls ended with 3 and printed the text.
-fn fails_at<RT: Abort>(rt: &RT, calls: usize, ended: u8, shown: &[u8], text: &[u8]) {
-    assert_eq!(rt; ended, 3, "at {calls}");
-    assert_eq!(rt; shown, text);
-}
-
 // The command line ends with this status, and prints a text that contains the other.
 fn told<RT: AllocGlobal + Threads + Wait + Sync + Abort>(
     rt: &RT,
@@ -190,40 +184,6 @@ fn interrupted_reads_and_writes(rt: HostRuntime) {
     };
     let ended = run(&rt, CHECK.as_slice(), &mut input, &mut output);
     ends_with(&rt, ended, 0, output.inner.bytes.as_slice(), b"yes\n");
-}
-
-#[test]
-fn failed_reads(rt: HostRuntime) {
-    for calls in 0..2 {
-        let mut input = MemoryReader {
-            rest: BUNDLE,
-            step: 100,
-            calls,
-        };
-        let mut output = MemoryWriter::new(rt.alloc(), 9, 9);
-        let ended = run(&rt, CHECK.as_slice(), &mut input, &mut output);
-        fails_at(&rt, calls, ended, output.bytes.as_slice(), b"no 61\n");
-    }
-}
-
-#[test]
-fn failed_writes(rt: HostRuntime) {
-    for calls in 0..5 {
-        let mut input = MemoryReader {
-            rest: BUNDLE,
-            step: 4096,
-            calls: 9,
-        };
-        let mut output = MemoryWriter::new(rt.alloc(), 1, calls);
-        let ended = run(&rt, CHECK.as_slice(), &mut input, &mut output);
-        fails_at(
-            &rt,
-            calls,
-            ended,
-            output.bytes.as_slice(),
-            &b"yes\n"[..calls],
-        );
-    }
 }
 
 // Of nine calls eight are left.

@@ -9,6 +9,11 @@
     hostile_scripts.py keepers K N    > bundle    K nodes keep another key for a slot, which N gets read
     hostile_scripts.py down K N       > bundle    the same where a keeper of the key is down, and N reads are refused
     hostile_scripts.py keys M K       > bundle    a slot with K keys moves M times
+    hostile_scripts.py kept K M N     > bundle    K nodes keep the same M/2 versions for a slot, which N gets read
+    hostile_scripts.py long_clocks M N > bundle   N hints of versions whose clocks have M/2 entries
+    hostile_scripts.py long_keys N    > bundle    N keys of 64 bytes, each taken by two slots
+    hostile_scripts.py names N        > bundle    1,024 names that differ in their last bytes, named by N lines
+    hostile_scripts.py waits N        > bundle    a chunk that 1,016 keepers have something for, one of them down, asked for N times
 
 Each prints one bundle of ring, plan, certificate and script. Limits: 1,000,000 events, 1,024 writers and 64 MiB.
 """
@@ -121,16 +126,72 @@ def keys(m, k):
     return small(), plan, cert, out
 
 
-FAMILIES = {"reads": reads, "writes": writes, "seen": seen, "values": values, "hints": hints, "keepers": keepers, "down": down, "keys": keys}
+def kept(k, m, n):
+    """K nodes keep the same M/2 versions for a slot, which N gets read."""
+    names, text = wide(1)
+    half = m // 2
+    out = ["put w%d k x" % p for p in range(m)]
+    out += ["hint %d 0 %s" % (p, names[at]) for at in range(7, 7 + k) for p in range(half, m)]
+    for g in range(n):
+        out += ["get k", "read %d 0" % g]
+    return text, [], [], out
+
+
+def long_clocks(m, n):
+    """The versions of `reads` are kept as hints, n of them."""
+    names, text = wide(1)
+    out, puts, _ = in_conflict(m)
+    out = [line for line in out if not line.startswith(("read", "endget"))]
+    at = out.index("get k")
+    out[at + 1:at + 1] = ["read 0 %d" % i for i in range(4)] + ["endget 0"]
+    out += ["hint %d %d %s" % (m // 2 + (k // 1017) % (m - m // 2), k % 1017 % 7, names[7 + k % 1017]) for k in range(n)]
+    return text, [], [], out
+
+
+def long_keys(n):
+    """N keys of 64 bytes, each with a put that two slots take."""
+    out = []
+    for k in range(n):
+        out += ["put w0 %s%08d x" % ("k" * 56, k), "write %d 0" % k, "write %d 1" % k]
+    return small(), [], [], out
+
+
+def names(n):
+    """1,024 nodes whose names differ in their last bytes alone, named N times."""
+    nodes = ["n" * 28 + "%04d" % k for k in range(1024)]
+    out = ["up %s" % nodes[(37 * k) % 1024] for k in range(n)]
+    return ring(nodes, 1, lambda p: nodes[:3]), [], [], out
+
+
+
+def waits(n):
+    """A chunk that is refused since one of 1,017 keepers is down, tried N times."""
+    names, text = wide(1)
+    text = text[:-2] + ["slots 0 " + " ".join(names[:7]), "end"]
+    plan = ["mirror 0 0 %s" % names[1023], "copy 0 0 slots 0 1 2 3 after 0", "switch 0 0 after 1"]
+    cert = ["chain %s 1" % names[k] for k in (0, 1, 2, 3, 1023)]
+    out = ["put w0 k x"] + ["hint 0 1 %s" % names[m] for m in range(7, 1023)] + ["do 0", "down %s" % names[1022], "open 1"]
+    return text, plan, cert, out + ["chunk 1 %d" % (k % 16) for k in range(n)]
+
+
+FAMILIES = {
+    family.__name__: family
+    for family in (reads, writes, seen, values, hints, keepers, down, keys, kept, long_clocks, long_keys, names, waits)
+}
+
+
+def bundle(name, *numbers):
+    text, plan, cert, script = FAMILIES[name](*numbers)
+    lines = text + ["plan 1"] + plan + ["end", "cert 1"] + cert + ["end", "script 1"] + script + ["end"]
+    return "\n".join(lines) + "\n"
 
 
 def main():
     family, numbers = FAMILIES.get(sys.argv[1] if len(sys.argv) > 1 else ""), sys.argv[2:]
     if not family or len(numbers) != family.__code__.co_argcount:
         sys.exit(__doc__)
-    text, plan, cert, script = family(*map(int, numbers))
-    lines = text + ["plan 1"] + plan + ["end", "cert 1"] + cert + ["end", "script 1"] + script + ["end"]
-    sys.stdout.write("\n".join(lines) + "\n")
+    sys.stdout.write(bundle(sys.argv[1], *map(int, numbers)))
 
 
-main()
+if __name__ == "__main__":
+    main()

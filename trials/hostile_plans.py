@@ -1,12 +1,12 @@
 #!/usr/bin/env python3
 """Bundles that a text's author could make to cost the checker much, for measuring.
 
-    hostile.py moves N    > bundle    one slot moved to and fro, N steps in all, each move's copy in a fact and in two chains
-    hostile.py facts N    > bundle    the same 4,000 steps, and N facts, long ones first
-    hostile.py chains N   > bundle    N chains of each of two nodes, each with all copies of 180 moves
-    hostile.py names N    > bundle    1,024 names that differ in their last bytes, looked up N times
-    hostile.py rows N     > bundle    N steps that wait for 4,096 others, with wide numbers
-    hostile.py retires N  > bundle    many slots moved to one node, N steps, which then retires
+    hostile_plans.py moves N    > bundle    one slot moved to and fro, N steps in all, each move's copy in a fact and in two chains
+    hostile_plans.py facts N    > bundle    the same 4,000 steps, and N facts, long ones first
+    hostile_plans.py chains N   > bundle    N chains of each of two nodes, each with all copies of 180 moves
+    hostile_plans.py names N    > bundle    1,024 names that differ in their last bytes, looked up N times
+    hostile_plans.py rows N     > bundle    N steps that wait for 4,096 others, with wide numbers
+    hostile_plans.py retires N  > bundle    many slots moved to one node, N steps, which then retires
 
 Each prints one bundle of ring, plan and certificate. Limits: 131,072 steps, 262,144 facts, 65,536 chains, 524,288 dependencies
 and 64 MiB.
@@ -95,8 +95,12 @@ def retires(n):
 
 KINDS = {f.__name__: f for f in (moves, facts, chains, names, rows, retires)}
 
+def bundle(name, number):
+    front, plan, cert = KINDS[name](number)
+    return "\n".join(front + ["plan 1"] + plan + ["end", "cert 1"] + cert + ["end"]) + "\n"
+
+
 if __name__ == "__main__":
     if len(sys.argv) != 3 or sys.argv[1] not in KINDS:
         sys.exit(__doc__)
-    front, plan, cert = KINDS[sys.argv[1]](int(sys.argv[2]))
-    print("\n".join(front + ["plan 1"] + plan + ["end", "cert 1"] + cert + ["end"]))
+    sys.stdout.write(bundle(sys.argv[1], int(sys.argv[2])))

@@ -1,0 +1,168 @@
+//! Runs of each subcommand whose input or output fails at some call, or takes no more.
+
+use crate::memory::{MemoryReader, MemoryWriter};
+use ringplan_run::run;
+use std::process::Abort;
+use std::sync::Wait;
+use std::test::Fail;
+use std::thread::Threads;
+
+const PLAN: &[u8] =
+    b"ring 1\nspace 1\nquorum 1 1 1\nnode a 1 in\nnode b 1 out\nslots 0 a\nend\nchange 1\njoin b\nleave a\nend\n";
+
+const CHECK: &[u8] =
+    b"ring 1\nspace 1\nquorum 1 1 1\nnode a 1 in\nslots 0 a\nend\nplan 1\nend\ncert 1\nend\n";
+
+const PLAY: &[u8] =
+    b"ring 1\nspace 1\nquorum 1 1 1\nnode a 1 in\nslots 0 a\nend\nplan 1\nend\ncert 1\nend\nscript 1\nput w k x\nwrite 0 0\nack 0\nend\n";
+
+const REPLAY: &[u8] =
+    b"ring 1\nspace 1\nquorum 1 1 1\nnode a 1 in\nslots 0 a\nend\nplan 1\nend\ncert 1\nend\nhistory 1\nput w k x = put 0\nend\n";
+
+const DRIVE: &[u8] =
+    b"ring 1\nspace 1\nquorum 1 1 1\nnode a 1 in\nslots 0 a\nend\nplan 1\nend\ncert 1\nend\nscript 1\nput w k x\nget k\nend\n";
+
+// More than any of these runs makes.
+const MANY: usize = 4096;
+
+// A run that reads 16 bytes a call, and how many reads it made.
+fn reads_of<RT: AllocGlobal + Threads + Wait + Sync + Abort>(
+    rt: &RT,
+    word: &str,
+    bundle: &[u8],
+) -> usize {
+    let mut input = MemoryReader {
+        rest: bundle,
+        step: 16,
+        calls: MANY,
+    };
+    let mut output = MemoryWriter::new(rt.alloc(), MANY, MANY);
+    let ended = run(rt, &["ringplan", word], &mut input, &mut output);
+    assert_eq!(rt; ended, 0);
+    MANY.saturating_sub(input.calls)
+}
+
+// The run ended with 3 and printed the text.
+fn failed<RT: Abort>(rt: &RT, ended: u8, shown: &[u8], text: &[u8]) {
+    assert_eq!(rt; ended, 3);
+    assert_eq!(rt; shown, text);
+}
+
+// Each read of the bundle fails in turn.
+fn reads_fail<RT: AllocGlobal + Threads + Wait + Sync + Abort>(rt: &RT, word: &str, bundle: &[u8]) {
+    let reads = reads_of(rt, word, bundle);
+    assert!(rt; reads > bundle.len() / 16);
+    for calls in 0..reads {
+        let mut input = MemoryReader {
+            rest: bundle,
+            step: 16,
+            calls,
+        };
+        let mut output = MemoryWriter::new(rt.alloc(), MANY, MANY);
+        let ended = run(rt, &["ringplan", word], &mut input, &mut output);
+        failed(rt, ended, output.bytes.as_slice(), b"no 61\n");
+    }
+}
+
+#[test]
+fn each_read_fails(rt: HostRuntime) {
+    reads_fail(&rt, "plan", PLAN);
+    reads_fail(&rt, "check", CHECK);
+    reads_fail(&rt, "play", PLAY);
+    reads_fail(&rt, "replay", REPLAY);
+    reads_fail(&rt, "drive", DRIVE);
+    reads_fail(&rt, "migrate", CHECK);
+}
+
+// A run with this input, to this output.
+fn written<RT: AllocGlobal + Threads + Wait + Sync + Abort>(
+    rt: &RT,
+    word: &str,
+    bundle: &[u8],
+    output: &mut MemoryWriter,
+) -> u8 {
+    let mut input = MemoryReader {
+        rest: bundle,
+        step: MANY,
+        calls: MANY,
+    };
+    run(rt, &["ringplan", word], &mut input, output)
+}
+
+// What the whole output is, where a write takes a byte, and that the last call is no write.
+fn output_of<RT: AllocGlobal + Threads + Wait + Sync + Abort>(
+    rt: &RT,
+    word: &str,
+    bundle: &[u8],
+) -> Vec<u8> {
+    let mut output = MemoryWriter::new(rt.alloc(), 1, MANY);
+    let ended = written(rt, word, bundle, &mut output);
+    assert_eq!(rt; ended, 0);
+    assert!(rt; output.bytes.len() >= 4);
+    output.bytes
+}
+
+// The run ended with 3 and printed so much of the text.
+fn broke_off<RT: Abort>(rt: &RT, ended: u8, shown: &[u8], text: &[u8], count: usize) {
+    assert_eq!(rt; ended, 3);
+    assert_eq!(rt; shown.len(), count);
+    assert!(rt; text.starts_with(shown));
+}
+
+// The call behind so many writes of a byte each fails, a write or the flush behind the last one.
+fn call_fails<RT: AllocGlobal + Threads + Wait + Sync + Abort>(
+    rt: &RT,
+    word: &str,
+    bundle: &[u8],
+    text: &[u8],
+    calls: usize,
+) {
+    let mut output = MemoryWriter::new(rt.alloc(), 1, calls);
+    let ended = written(rt, word, bundle, &mut output);
+    broke_off(rt, ended, output.bytes.as_slice(), text, calls);
+}
+
+// Each write fails in turn, and the flush behind them.
+fn writes_fail<RT: AllocGlobal + Threads + Wait + Sync + Abort>(
+    rt: &RT,
+    word: &str,
+    bundle: &[u8],
+    text: &[u8],
+) {
+    for calls in 0..text.len() {
+        call_fails(rt, word, bundle, text, calls);
+    }
+    call_fails(rt, word, bundle, text, text.len());
+}
+
+// Each write but the first ones takes nothing, in turn: so much is out, and no further call is made.
+fn writes_take_nothing<RT: AllocGlobal + Threads + Wait + Sync + Abort>(
+    rt: &RT,
+    word: &str,
+    bundle: &[u8],
+    text: &[u8],
+) {
+    for room in 0..text.len() {
+        let mut output = MemoryWriter::with_room(rt.alloc(), 1, room, MANY);
+        let ended = written(rt, word, bundle, &mut output);
+        broke_off(rt, ended, output.bytes.as_slice(), text, room);
+        assert_eq!(rt; MANY.saturating_sub(output.calls), room.saturating_add(1));
+    }
+}
+
+// Each write of the run fails in turn, or takes nothing.
+fn ends_fail<RT: AllocGlobal + Threads + Wait + Sync + Abort>(rt: &RT, word: &str, bundle: &[u8]) {
+    let text = output_of(rt, word, bundle);
+    writes_fail(rt, word, bundle, text.as_slice());
+    writes_take_nothing(rt, word, bundle, text.as_slice());
+}
+
+#[test]
+fn each_write_fails(rt: HostRuntime) {
+    ends_fail(&rt, "plan", PLAN);
+    ends_fail(&rt, "check", CHECK);
+    ends_fail(&rt, "play", PLAY);
+    ends_fail(&rt, "replay", REPLAY);
+    ends_fail(&rt, "drive", DRIVE);
+    ends_fail(&rt, "migrate", CHECK);
+}

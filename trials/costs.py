@@ -1,0 +1,141 @@
+#!/usr/bin/env python3
+"""What bundles that were made to cost much cost, at each doubling: trials/costs.py [WORD..], once `rt ci` or `rt run` has built crates/ringplan. With
+words, the families alone whose command or name is one of them.
+
+For each family of `hostile_plans.py` and `hostile_scripts.py`, and for rings whose members change, a line for each size: the bundle's and the output's
+megabytes, the seconds of processor time, how many times those of half the size, and the most memory. It says of which line a bound is passed,
+and ends with 0 only where none is: from a megabyte and a tenth of a second on 2.3 times at a doubling; a second for ten megabytes of bundle and of
+output; memory of 8 times the bundle and the output, of `play`, `replay` and `drive` 16 times, and 16 MB beside.
+"""
+import os
+import subprocess
+import sys
+
+sys.path.insert(0, os.path.dirname(os.path.abspath(__file__)))
+sys.dont_write_bytecode = True
+import hostile_plans
+import hostile_scripts
+from measured import RUN, Measured
+
+
+def members(leave, partitions):
+    """A ring of 1,024 nodes, 7 slots a partition, of whose nodes some leave and as many join."""
+    names = ["n%04d" % n for n in range(1024)]
+    stay = names[: 1024 - leave]
+    lines = ["ring 1", "space %d" % partitions, "quorum 7 4 4"] + ["node %s 4 %s" % (x, "in" if k < len(stay) else "out") for k, x in enumerate(names)]
+    lines += ["slots %d %s" % (p, " ".join(stay[(7 * p + i) % len(stay)] for i in range(7))) for p in range(partitions)]
+    lines += ["end", "change 1"] + ["join " + x for x in names[len(stay):]] + ["leave " + x for x in stay[:leave]] + ["end"]
+    return "\n".join(lines) + "\n"
+
+
+def history(bundle):
+    """The bundle of a replay of what a play of this one answers."""
+    front, _, script = bundle.rpartition("script 1\n")
+    events = script.split("\n")[:-2]
+    played = subprocess.run([RUN, "play"], input=bundle.encode(), stdout=subprocess.PIPE).stdout.decode().split("\n")[1:]
+    replies = [line.partition(" ")[2] for line in played[: len(events)]]
+    entries = ["%s = %s" % (event, reply) for event, reply in zip(events, replies) if not reply.startswith("no ")]
+    return front + "\n".join(["history 1", *entries, "end"]) + "\n"
+
+
+def clients(writers, lines):
+    """Eight scripts of a drive with so many lines in all: puts of one key by so many writers, each of which knows a get."""
+    out = hostile_scripts.small() + ["plan 1", "end", "cert 1", "end"]
+    for client in range(8):
+        out.append("script 1")
+        for n in range(lines // 16):
+            out += ["get k", "put w%d k x%s seen %d" % (writers // 8 * client + n % (writers // 8), "ab" * 16, n)]
+        out.append("end")
+    return "\n".join(out) + "\n"
+
+
+def plans(name, first, last):
+    return [lambda n=n: hostile_plans.bundle(name, n) for n in doubled(first, last)]
+
+
+def scripts(name, first, last, *front, behind=()):
+    return [lambda n=n: hostile_scripts.bundle(name, *front, n, *behind) for n in doubled(first, last)]
+
+
+def doubled(first, last):
+    out = [first]
+    while out[-1] * 2 <= last:
+        out.append(out[-1] * 2)
+    return out
+
+
+def families():
+    """The command's words, the family's name, and what makes its bundles, each twice as large as the one before."""
+    checks = {
+        "moves": plans("moves", 16384, 131072),
+        "facts": plans("facts", 200, 6400),
+        "chains": plans("chains", 800, 32768),
+        "names": plans("names", 16384, 131072),
+        "rows": plans("rows", 31, 124),
+        "retires": plans("retires", 2048, 16384),
+    }
+    for words in (["check"], ["check", "--workers", "4"], ["migrate"]):
+        for name, made in checks.items():
+            yield words, name, made
+    yield ["plan"], "a tenth of the nodes", [lambda q=q: members(102, q) for q in doubled(512, 4096)]
+    yield ["plan"], "half of the nodes", [lambda q=q: members(512, q) for q in doubled(512, 4096)]
+    plays = {
+        "reads, versions": [lambda m=m: hostile_scripts.bundle("reads", m, 500) for m in doubled(128, 1024)],
+        "reads, gets": scripts("reads", 500, 32000, 1024),
+        "writes": scripts("writes", 62500, 500000, 1024),
+        "seen": scripts("seen", 8000, 256000, 1024),
+        "values": scripts("values", 500, 16000, 1024),
+        "hints": scripts("hints", 62500, 500000),
+        "keepers": scripts("keepers", 31250, 250000, 1000),
+        "down": scripts("down", 62500, 500000, 1000),
+        "keys, moves and keys": [lambda m=m: hostile_scripts.bundle("keys", m, 20 * m) for m in doubled(125, 2000)],
+        "keys, moves": [lambda m=m: hostile_scripts.bundle("keys", m, 1000) for m in doubled(1000, 8000)],
+        "kept, versions": [lambda m=m: hostile_scripts.bundle("kept", 100, m, 20) for m in doubled(128, 1024)],
+        "kept, gets": [lambda n=n: hostile_scripts.bundle("kept", 100, 256, n) for n in doubled(500, 4000)],
+        "long_clocks": scripts("long_clocks", 62500, 500000, 1024),
+        "long_keys": scripts("long_keys", 20000, 160000),
+        "names": scripts("names", 31250, 1000000),
+        "waits": scripts("waits", 62500, 500000),
+    }
+    for name, made in plays.items():
+        yield ["play"], name, made
+    for name, made in plays.items():
+        yield ["replay"], name, [lambda it=it: history(it()) for it in made]
+    yield ["drive"], "one writer a client", [lambda n=n: clients(8, n) for n in doubled(12500, 100000)]
+    yield ["drive"], "1,024 writers", [lambda n=n: clients(1024, n) for n in doubled(12500, 100000)]
+
+
+def main():
+    wanted, passed = sys.argv[1:], 0
+    for words, name, made in families():
+        if wanted and not {words[0], name.split(",")[0]} & {*wanted}:
+            continue
+        print("%s, %s" % (" ".join(words), name), flush=True)
+        before = None
+        for make in made:
+            bundle = make().encode()
+            if len(bundle) > 67108864:
+                break
+            made = Measured(words, bundle)
+            out, status, seconds, memory = made.size, made.status, made.seconds, made.memory
+            size, both = len(bundle) / 1e6, (len(bundle) + out) / 1e6
+            over = []
+            if before and size >= 1 and seconds >= 0.1 and seconds > 2.3 * before[0] and out < 2.3 * before[1]:
+                over.append("time grows")
+            if seconds > max(1, both / 10):
+                over.append("time")
+            if memory / 1e6 > (16 if words[0] in ("play", "replay", "drive") else 8) * both + 16:
+                over.append("memory")
+            grows = "%5.1f" % (seconds / before[0]) if before and before[0] >= 0.02 else "    -"
+            print("  %6.2f MB, output %6.2f MB, status %d: %6.2f s, %s times; %5.0f MB, %4.1f times%s"
+                  % (size, out / 1e6, status, seconds, grows, memory / 1e6, memory / 1e6 / size, "  <- " + ", ".join(over) if over else ""), flush=True)
+            passed += len(over)
+            before = seconds, out
+            if seconds > 60:
+                break
+    print("costs: %d bounds passed" % passed)
+    return 1 if passed else 0
+
+
+if __name__ == "__main__":
+    sys.exit(main())
