@@ -129,7 +129,7 @@ impl<'a> World<'a> {
         requires { chunk_of (ring_of self.now).q key.now ≡ chunk }
         ensures { IsTrue result ↔ ((x : ℕ) × Covers (hinted_at self.now.parts.hints x slot key.now) clock.now) }
     {
-        let Some(keepers) = self.parts.hints.keepers(slot) else {
+        let Some(keepers) = self.parts.hints.key_keepers(slot, key) else {
             return false;
         };
         'keepers: for keeper in keepers {
@@ -188,7 +188,7 @@ impl<'a> World<'a> {
     }
 
     /// The slots that hold the put or one that succeeds it: bit i is set where the slot of index i of the put's partition does. Once the
-    /// put is acknowledged, any R slots include one whose bit is set. Takes no memory, and looks at each slot's owner and at the keepers of hints for it.
+    /// put is acknowledged, any R slots include one whose bit is set. Takes no memory, and looks at each slot's owner and at the keepers of the put's key for it.
     pub fn held_slots(&self, put: u32) -> u32
         requires { put < length self.now.parts.puts }
         ensures acknowledged { (w : TheWorld) → Meets self.now w → is_acked w put ≡ true

@@ -16,10 +16,10 @@ use Rattle.ring_names.specs.declared.ids.Slot.{Slot}
 use Rattle.store_maps.proofs.OneAnswer.{none_from_empty}
 use Rattle.store_maps.specs.Slots.{space_of, held_for, has_place_for}
 use Rattle.store_maps.specs.declared.slot_map.SlotMap.{SlotMap}
-use Rattle.ring_hints.specs.Hints.{partitions, hinted_at}
+use Rattle.ring_hints.specs.Maps.{partitions, hinted_at}
 use Rattle.ring_hints.specs.Kept.{map_of, held_by, IsKept, PutsMap}
 use Rattle.ring_hints.specs.Views.{by_keeper, is_of}
-use Rattle.ring_hints.specs.declared.hints.Hints.{Hints}
+use Rattle.ring_hints.specs.declared.maps.Maps.{Maps}
 use Rattle.ring_hints.specs.declared.kept_for.KeptFor.{KeptFor}
 use Rattle.ring_hints.proofs.PairChanged.{some_held}
 use Rattle.ring_hints.proofs.KeeperSets.{pair_is, pair_same, pair_tie, pair_turned}
@@ -29,7 +29,7 @@ abbrev pub left_of : List (KeptFor × SlotMap) → KeptFor → Option SlotMap
 left_of rest p = lookup (is_at (by_keeper p)) rest
 
 -- what is copied so far, with some pairs left
-pub record Copying (from copy : Hints) (rest : List (KeptFor × SlotMap)) : Type 0 where
+pub record Copying (from copy : Maps) (rest : List (KeptFor × SlotMap)) : Type 0 where
   pub space : partitions copy ≡ partitions from
   pub order : IsStrictlySortedBy by_keeper (keys_of rest)
   pub done : (p : KeptFor) → left_of rest p ≡ None → (k : List ℕ) → held_by (map_of copy.maps p) k ≡ held_by (map_of from.maps p) k
@@ -42,7 +42,7 @@ none_later : (pair : KeptFor) (later : List (KeptFor × SlotMap)) → AllByRecur
 none_later pair [] h = refl
 none_later pair (e ∷ es) h = rw (h.0) (none_later pair es h.1)
 
-pub copying_none : (from copy : Hints) → partitions copy ≡ partitions from → ((x : ℕ) (s : Slot) (k : List ℕ) → hinted_at copy x s k ≡ [])
+pub copying_none : (from copy : Maps) → partitions copy ≡ partitions from → ((x : ℕ) (s : Slot) (k : List ℕ) → hinted_at copy x s k ≡ [])
     → IsOrdered by_keeper from.maps → Copying from copy from.maps.entries
 copying_none from copy space versions order = record {
   space = space;
@@ -52,12 +52,12 @@ copying_none from copy space versions order = record {
 }
 
 -- the next pair is not copied yet
-pub next_absent : (from copy : Hints) (rest later : List (KeptFor × SlotMap)) (pair : KeptFor) (m : SlotMap) → rest ≡ (pair, m) ∷ later → Copying from copy rest → map_of copy.maps pair ≡ None
+pub next_absent : (from copy : Maps) (rest later : List (KeptFor × SlotMap)) (pair : KeptFor) (m : SlotMap) → rest ≡ (pair, m) ∷ later → Copying from copy rest → map_of copy.maps pair ≡ None
 next_absent from copy rest later pair m is s =
     let first = ap (λ (b : Bool). is_some (cond b (Some m) (left_of later pair))) (pair_tie pair pair ∙ pair_same pair) in
     s.todo pair (ap (λ es. is_some (left_of es pair)) is ∙ first)
 
-pub copying_more : (from copy more : Hints) (rest later : List (KeptFor × SlotMap)) (pair : KeptFor) (m n : SlotMap) → rest ≡ (pair, m) ∷ later → map_of from.maps pair ≡ Some m
+pub copying_more : (from copy more : Maps) (rest later : List (KeptFor × SlotMap)) (pair : KeptFor) (m n : SlotMap) → rest ≡ (pair, m) ∷ later → map_of from.maps pair ≡ Some m
     → ((k : List ℕ) → held_for n k ≡ held_for m k) → partitions more ≡ partitions copy → PutsMap copy.maps more.maps pair (Some n) → Copying from copy rest → Copying from more later
 unfolding IsStrictlySortedBy
 copying_more from copy more rest later pair m n is at same space put s =

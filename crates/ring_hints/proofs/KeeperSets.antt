@@ -22,7 +22,7 @@ use Rattle.ring_hints.specs.contracts.kept_for.KeptForPartialEq.TheImpl as pair_
 use Rattle.ring_hints.specs.declared.sets.Sets.{Sets}
 use Rattle.ring_hints.specs.Sets.{set_at, AddsValue, RemovesValue}
 use Rattle.ring_hints.specs.Views.{by_keeper, is_of, has_slot, has_keeper, in_order, pair_of}
-use Rattle.ring_hints.proofs.Members.{any_inserted, others_stay}
+use Rattle.store_maps.proofs.Members.{any_inserted, others_stay}
 
 pub equal : (x y : ℕ) → (x == y) ≡ true → x ≡ y
 equal x y h = grind (arith, nat_tests)

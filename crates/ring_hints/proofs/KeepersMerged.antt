@@ -10,9 +10,9 @@ use Rattle.ring_versions.specs.Versions.{IsMerge}
 use Rattle.store_maps.specs.Held.{held, AreKeys}
 use Rattle.store_maps.specs.Merges.{MergesAll}
 use Rattle.store_maps.specs.declared.key_map.KeyMap.{KeyMap}
-use Rattle.ring_hints.specs.Hints.{chunk_hints, hinted_at, IsUnhinted, AreKeysBut}
+use Rattle.ring_hints.specs.Maps.{chunk_hints, hinted_at, IsUnhinted, AreKeysBut}
 use Rattle.ring_hints.specs.Views.{in_keepers, pair_of}
-use Rattle.ring_hints.specs.declared.hints.Hints.{Hints}
+use Rattle.ring_hints.specs.declared.maps.Maps.{Maps}
 use Rattle.ring_hints.proofs.PairChanged.{not_emptied}
 use Rattle.ring_hints.proofs.KeeperSets.{node_tie, equal}
 
@@ -37,11 +37,11 @@ merged_empty all map more others same merged k = (
 )
 
 -- with some keepers left, all has the keys of the others, and no key that no node has
-pub record Gathering (a : Hints) (keys : List NodeId) (s : Slot) (c : ℕ) (all : KeyMap) (rest : List NodeId) : Type 0 where
+pub record Gathering (a : Maps) (keys : List NodeId) (s : Slot) (c : ℕ) (all : KeyMap) (rest : List NodeId) : Type 0 where
   pub each : (k : List ℕ) → held all k ≡ [] → (x : ℕ) → in_keepers x keys ≡ true → in_keepers x rest ≡ false → chunk_hints a (pair_of x s) c k ≡ []
   pub only : (k : List ℕ) → IsUnhinted a s c k → held all k ≡ []
 
-pub gathering_none : (a : Hints) (keys : List NodeId) (s : Slot) (c : ℕ) (all : KeyMap) → ((k : List ℕ) → held all k ≡ []) → Gathering a keys s c all keys
+pub gathering_none : (a : Maps) (keys : List NodeId) (s : Slot) (c : ℕ) (all : KeyMap) → ((k : List ℕ) → held all k ≡ []) → Gathering a keys s c all keys
 gathering_none a keys s c all none = record {
   each = λ k e x h out. absurd cc;
   only = λ k h. none k;
@@ -50,7 +50,7 @@ gathering_none a keys s c all none = record {
 pub left_out : (x : ℕ) (y : NodeId) (rest later : List NodeId) → rest ≡ y ∷ later → (x == y.0) ≡ false → in_keepers x later ≡ false → in_keepers x rest ≡ false
 left_out x y rest later is e out = ap (in_keepers x) is ∙ ap (λ (b : Bool). b || in_keepers x later) (node_tie x y.0 ∙ e) ∙ out
 
-pub gathering_more : (a : Hints) (keys : List NodeId) (s : Slot) (c : ℕ) (all more : KeyMap) (rest later : List NodeId) (y : NodeId) → rest ≡ y ∷ later
+pub gathering_more : (a : Maps) (keys : List NodeId) (s : Slot) (c : ℕ) (all more : KeyMap) (rest later : List NodeId) (y : NodeId) → rest ≡ y ∷ later
     → ((k : List ℕ) → (held more k ≡ []) ↔ ((held all k ≡ []) × (chunk_hints a (pair_of y.0 s) c k ≡ []))) → Gathering a keys s c all rest → Gathering a keys s c more later
 gathering_more a keys s c all more rest later y is merged g = record {
   each = λ k e x h out. elim (cases_Bool (x == y.0)) [
@@ -64,10 +64,10 @@ cond_none : (b : Bool) (v : List Version) → v ≡ [] → cond b v [] ≡ []
 cond_none true v e = e
 cond_none false v e = refl
 
-pub chunk_none : (a : Hints) (x : ℕ) (s : Slot) (c : ℕ) (k : List ℕ) → hinted_at a x s k ≡ [] → chunk_hints a (pair_of x s) c k ≡ []
+pub chunk_none : (a : Maps) (x : ℕ) (s : Slot) (c : ℕ) (k : List ℕ) → hinted_at a x s k ≡ [] → chunk_hints a (pair_of x s) c k ≡ []
 chunk_none a x s c k e = cond_none _ (hinted_at a x s k) e
 
-pub gathered_keys : (a : Hints) (nodes : List NodeId) (s : Slot) (c : ℕ) (all : KeyMap) (keys : List (List ℕ)) → ((x : ℕ) → (in_keepers x nodes ≡ false) ↔ ((k : List ℕ) → hinted_at a x s k ≡ []))
+pub gathered_keys : (a : Maps) (nodes : List NodeId) (s : Slot) (c : ℕ) (all : KeyMap) (keys : List (List ℕ)) → ((x : ℕ) → (in_keepers x nodes ≡ false) ↔ ((k : List ℕ) → hinted_at a x s k ≡ []))
     → ((k : List ℕ) → held all k ≡ [] → (x : ℕ) → in_keepers x nodes ≡ true → chunk_hints a (pair_of x s) c k ≡ []) → ((k : List ℕ) → IsUnhinted a s c k → held all k ≡ [])
     → AreKeys (held all) keys → AreKeysBut (IsUnhinted a s c) keys
 gathered_keys a nodes s c all keys keepers each only are = record {
@@ -76,7 +76,7 @@ gathered_keys a nodes s c all keys keepers each only are = record {
   only = λ k h none. are.only k h (only k none);
 }
 
-pub no_keys : (a : Hints) (s : Slot) (c : ℕ) (keys : List (List ℕ)) → keys ≡ [] → ((x : ℕ) (k : List ℕ) → hinted_at a x s k ≡ []) → AreKeysBut (IsUnhinted a s c) keys
+pub no_keys : (a : Maps) (s : Slot) (c : ℕ) (keys : List (List ℕ)) → keys ≡ [] → ((x : ℕ) (k : List ℕ) → hinted_at a x s k ≡ []) → AreKeysBut (IsUnhinted a s c) keys
 unfolding IsStrictlySortedBy
 no_keys a s c (x ∷ xs) e none = absurd cc
 no_keys a s c [] e none = record { rises = tt; each = λ k some. absurd (some (λ x. chunk_none a x s c k (none x k))); only = λ k h. absurd (omega (arith, h.1)) }

@@ -1,61 +1,48 @@
 -- What nodes keep for slots whose nodes were out of reach.
-use Rattle.std.specs.Prelude.{◌≡◌, ◌==◌, ℕ, List, [], if◌then◌else◌}
-use Rattle.std.specs.Cmp.Lexicographic.{slice_cmp}
-use Rattle.std.specs.List.{Contains}
-use Rattle.std.specs.List.Sorted.{IsStrictlySortedBy}
-use Rattle.std.specs.Ordering.{nat_cmp}
+pub use Rattle.ring_hints.specs.Maps.{AreKeysBut}
+use Rattle.std.specs.Prelude.{ℕ, List}
 use Rattle.ring_names.specs.declared.ids.Slot.{Slot}
-use Rattle.ring_versions.specs.Versions.{IsMerge}
 use Rattle.ring_versions.specs.declared.version.Version.{Version}
-use Rattle.store_maps.specs.Chunks.{chunk_of}
 use Rattle.ring_hints.specs.declared.hints.Hints.{Hints}
 use Rattle.ring_hints.specs.declared.kept_for.KeptFor.{KeptFor}
-use Rattle.ring_hints.specs.Kept.{map_of, held_by}
-use Rattle.ring_hints.specs.Pairs.{pair_count, pairs_of}
-use Rattle.ring_hints.specs.Views.{is_of, pair_of}
+use Rattle.ring_hints.specs.Maps as maps
 
 -- how many partitions the hash space has
 abbrev pub partitions : Hints → ℕ
-partitions a = a.q
+partitions a = maps.partitions a.kept
 
 -- the versions of the key that the node keeps for the slot
 abbrev pub hinted_at : Hints → ℕ → Slot → List ℕ → List Version
-hinted_at a x s k = held_by (map_of a.maps (pair_of x s)) k
+hinted_at a = maps.hinted_at a.kept
 
 -- at the pair what comes is merged in, and at others nothing
 abbrev pub AddsHints : Hints → Hints → KeptFor → (List ℕ → List Version) → Type 0
-AddsHints old new pair more = (x : ℕ) (s : Slot) (k : List ℕ) → IsMerge (hinted_at old x s k) (if is_of pair x s then more k else []) (hinted_at new x s k)
+AddsHints old new = maps.AddsHints old.kept new.kept
 
 -- all is as before
 abbrev pub AreSameHints : Hints → Hints → Type 0
-AreSameHints old new = (x : ℕ) (s : Slot) (k : List ℕ) → hinted_at new x s k ≡ hinted_at old x s k
+AreSameHints old new = maps.AreSameHints old.kept new.kept
 
 -- what was at the pair is gone, and all else is as before
 abbrev pub TakesHints : Hints → Hints → KeptFor → Type 0
-TakesHints old new pair = (x : ℕ) (s : Slot) (k : List ℕ) → hinted_at new x s k ≡ (if is_of pair x s then [] else hinted_at old x s k)
+TakesHints old new = maps.TakesHints old.kept new.kept
 
 -- those of the keys of a chunk
 abbrev pub chunk_hints : Hints → KeptFor → ℕ → List ℕ → List Version
-chunk_hints a pair c k = if chunk_of a.q k == c then hinted_at a pair.keeper.0 pair.slot k else []
+chunk_hints a = maps.chunk_hints a.kept
 
 -- the node keeps something for the slot: not every key is without versions
 abbrev pub Keeps : Hints → ℕ → Slot → Type 0
-Keeps a x s = ((k : List ℕ) → hinted_at a x s k ≡ []) → ⊥
+Keeps a = maps.Keeps a.kept
 
 -- how many pairs there are of a node and a slot for which it keeps something
 abbrev pub kept_count : Hints → ℕ
-kept_count a = pair_count a.pairs
+kept_count a = maps.kept_count a.kept
 
 -- no node keeps versions of the key, or it is a key of another chunk
 abbrev pub IsUnhinted : Hints → Slot → ℕ → List ℕ → Type 0
-IsUnhinted a s c k = (x : ℕ) → chunk_hints a (pair_of x s) c k ≡ []
-
--- the keys of which IsNone does not hold, in ascending byte order, each once
-pub record AreKeysBut (IsNone : List ℕ → Type 0) (keys : List (List ℕ)) : Type 0 where
-  pub rises : IsStrictlySortedBy (slice_cmp nat_cmp) keys
-  pub each : (k : List ℕ) → (IsNone k → ⊥) → Contains keys k
-  pub only : (k : List ℕ) → Contains keys k → IsNone k → ⊥
+IsUnhinted a = maps.IsUnhinted a.kept
 
 -- the nodes with the slots for which they keep something, in the order of their numbers, each once
 abbrev pub kept_pairs : Hints → List KeptFor
-kept_pairs a = pairs_of a.pairs
+kept_pairs a = maps.kept_pairs a.kept

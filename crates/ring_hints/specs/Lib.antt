@@ -3,4 +3,7 @@ pub mod Views
 pub mod Numbered
 pub mod Pairs
 pub mod Kept
+pub mod Maps
+pub mod SlotHolders
+pub mod Held
 pub mod Hints

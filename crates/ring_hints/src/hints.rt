@@ -1,16 +1,15 @@
 //! The hints of all keepers.
 
-ghost use Rattle.std.specs.Prelude.{◌≡◌, true};
-ghost use Rattle.ring_names.specs.Space.{is_space};
-ghost use Rattle.ring_hints.specs.Kept.{AreKept, AreKept-prop, ArePaired};
+ghost use Rattle.ring_hints.specs.Held.{AreHeld, AreHeld-prop};
 
 use crate::kept_for::KeptFor;
-use crate::pairs::Pairs;
+use crate::maps::Maps;
+use crate::slot_holders::SlotHolders;
 use ring_names::{Listed, NodeId, Refusal, Slot};
 use ring_space::place;
 use ring_versions::{Version, Versions};
 use std::alloc::Global;
-use std::collections::{BTreeMap, BTreeSet};
+use std::collections::BTreeSet;
 use store_maps::{KeyMap, SlotMap};
 
 /// The versions that nodes keep for slots whose nodes were out of reach, by keeper, slot and key. A look-up costs the logarithm of the number
@@ -19,18 +18,16 @@ use store_maps::{KeyMap, SlotMap};
 #[derive(Drop)]
 pub struct Hints {
     alloc: Global,
-    q: u32,
-    pairs: Pairs,
-    maps: BTreeMap<KeptFor, SlotMap>,
-    ghost space: { is_space q ≡ true },
-    ghost paired: { ArePaired pairs maps },
-    ghost kept: { AreKept q maps } by { AreKept-prop q maps },
+    kept: Maps,
+    holders: SlotHolders,
+    ghost held: { AreHeld kept holders } by { AreHeld-prop kept holders },
 }
 
 impl Hints {
-    ghost use Rattle.std.specs.Prelude.{◌≢◌, ◌↔◌, ◌≤◌, ◌<◌, ◌+◌, ℕ, false, [], ◌∷◌, List, Some, None, is_some};
+    ghost use Rattle.std.specs.Prelude.{◌≡◌, ◌≢◌, ◌↔◌, ◌≤◌, ◌<◌, ◌+◌, ℕ, true, false, [], ◌∷◌, List, is_some};
     ghost use Rattle.std.specs.Prelude.{slice_get, option_map, if◌then◌else◌};
     ghost use Rattle.std.specs.Prelude.{IfSome, IfNone, IfOk, IfErr, OnOk, OnErr};
+    ghost use Rattle.ring_names.specs.Space.{is_space};
     ghost use Rattle.ring_names.specs.declared.ids.Slot.{Slot};
     ghost use Rattle.ring_names.specs.declared.refusal.Refusal.TheVariants.{OutOfMemory};
     ghost use Rattle.store_maps.specs.Chunks.{chunk_of};
@@ -39,7 +36,6 @@ impl Hints {
     ghost use Rattle.store_maps.specs.Slots.{held_for, space_of};
     ghost use Rattle.ring_hints.specs.Hints.{partitions, hinted_at, chunk_hints, kept_count, kept_pairs};
     ghost use Rattle.ring_hints.specs.Hints.{AddsHints, AreKeysBut, AreSameHints, IsUnhinted, Keeps, TakesHints};
-    ghost use Rattle.ring_hints.specs.Kept.{map_of, IsKept, PutsMap};
     ghost use Rattle.ring_hints.specs.Views.{pair_of, in_keepers};
 
     /// No hints, in a hash space of q partitions.
@@ -50,9 +46,8 @@ impl Hints {
     {
         Hints {
             alloc,
-            q,
-            pairs: Pairs::new(alloc),
-            maps: BTreeMap::new(alloc),
+            kept: Maps::new(alloc, q),
+            holders: SlotHolders::new(alloc),
         }
     }
 
@@ -61,21 +56,21 @@ impl Hints {
         ensures value { result ≡ partitions self.now }
         ensures space { is_space result ≡ true }
     {
-        self.q
+        self.kept.q()
     }
 
     /// Whether the node keeps anything for the slot. One look-up, no memory.
     pub fn keeps(&self, keeper: NodeId, slot: Slot) -> bool
         ensures { (result ≡ false) ↔ ((k : List ℕ) → hinted_at self.now keeper.0 slot k ≡ []) }
     {
-        self.pairs.has(KeptFor { keeper, slot })
+        self.kept.keeps(keeper, slot)
     }
 
     /// Whether the node keeps anything for any slot. Takes no memory.
     pub fn keeps_any(&self, keeper: NodeId) -> bool
         ensures { (result ≡ false) ↔ ((s : Slot) (k : List ℕ) → hinted_at self.now keeper.0 s k ≡ []) }
     {
-        self.pairs.has_keeper(keeper)
+        self.kept.keeps_any(keeper)
     }
 
     /// Whether the node keeps anything for another slot of the partition. At most seven look-ups, no memory.
@@ -83,13 +78,7 @@ impl Hints {
         ensures { (result ≡ false) ↔ ((s : Slot) → s.partition ≡ slot.partition → s.index ≢ slot.index → (k : List ℕ)
             → hinted_at self.now keeper.0 s k ≡ []) }
     {
-        let partition = slot.partition;
-        'indexes: for index in 0..7u32 {
-            if index != slot.index && self.keeps(keeper, Slot { partition, index }) {
-                return true;
-            }
-        }
-        false
+        self.kept.keeps_other(keeper, slot)
     }
 
     /// The versions of a key that the node keeps for the slot, if it has any. Takes no memory.
@@ -97,8 +86,7 @@ impl Hints {
         ensures some { IfSome result (λ v. (v.now ≡ hinted_at self.now keeper.0 slot key.now) × (v.now ≢ [])) }
         ensures none { IfNone result (hinted_at self.now keeper.0 slot key.now ≡ []) }
     {
-        let chunk = place(self.q, key).chunk;
-        self.key_versions_in(KeptFor { keeper, slot }, chunk, key)
+        self.kept.key_versions(keeper, slot, key)
     }
 
     /// The versions of a key of the chunk that the pair's node keeps for its slot, if it has any. Takes no memory.
@@ -108,10 +96,7 @@ impl Hints {
             (λ v. (v.now ≡ hinted_at self.now pair.keeper.0 pair.slot key.now) × (v.now ≢ [])) }
         ensures none { IfNone result (hinted_at self.now pair.keeper.0 pair.slot key.now ≡ []) }
     {
-        match self.maps.get(&pair) {
-            Some(map) => map.key_versions(chunk, key),
-            None => None,
-        }
+        self.kept.key_versions_in(pair, chunk, key)
     }
 
     /// The nodes that keep anything for the slot, ascending by number. Takes no memory.
@@ -120,7 +105,7 @@ impl Hints {
             → (in_keepers x nodes.now.keys ≡ false) ↔ ((k : List ℕ) → hinted_at self.now x slot k ≡ [])) }
         ensures none { IfNone result ((x : ℕ) (k : List ℕ) → hinted_at self.now x slot k ≡ []) }
     {
-        self.pairs.keepers(slot)
+        self.kept.keepers(slot)
     }
 
     /// The n-th node with a slot for which it keeps anything, in an order that stays while nothing is added or taken. Takes no memory.
@@ -129,10 +114,7 @@ impl Hints {
         ensures some { IfSome result (λ pair. Keeps self.now pair.0.0 pair.1) }
         ensures none { IfNone result (kept_count self.now ≤ n) }
     {
-        match self.pairs.nth(n) {
-            Some(pair) => Some((pair.keeper, pair.slot)),
-            None => None,
-        }
+        self.kept.nth(n)
     }
 
     /// All that the pair's node keeps for its slot, if it keeps anything. Takes no memory.
@@ -142,7 +124,7 @@ impl Hints {
         ensures space { IfSome result (λ m. space_of m.now ≡ partitions self.now) }
         ensures none { IfNone result ((k : List ℕ) → hinted_at self.now pair.keeper.0 pair.slot k ≡ []) }
     {
-        self.maps.get(&pair)
+        self.kept.map(pair)
     }
 
     /// The map of a chunk of what the pair's node keeps for its slot, if it keeps anything. Takes no memory.
@@ -154,31 +136,7 @@ impl Hints {
         ensures filled { IfSome result (λ m. (k : List ℕ) → has_place m.now k ≡ true → held m.now k ≢ []) }
         ensures none { IfNone result ((k : List ℕ) → chunk_hints self.now pair chunk k ≡ []) }
     {
-        match self.maps.get(&pair) {
-            Some(map) => Some(map.chunk(chunk)),
-            None => None,
-        }
-    }
-
-    // What these nodes keep of the chunk for the slot, merged aside.
-    fn gather(&self, keepers: &BTreeSet<NodeId>, slot: Slot, chunk: u32) -> Result<KeyMap, Refusal>
-        requires { chunk < 16 }
-        ensures each { IfOk result (λ m. (k : List ℕ) → held m k ≡ [] → (x : ℕ) → in_keepers x keepers.now.keys ≡ true
-            → chunk_hints self.now (pair_of x slot) chunk k ≡ []) }
-        ensures only { IfOk result (λ m. (k : List ℕ) → IsUnhinted self.now slot chunk k → held m k ≡ []) }
-        ensures memory { IfErr result (λ e. e ≡ OutOfMemory) }
-    {
-        let mut all = KeyMap::new(self.alloc);
-        'keepers: for keeper in keepers {
-            let pair = KeptFor {
-                keeper: *keeper,
-                slot,
-            };
-            if let Some(map) = self.chunk_map(pair, chunk) {
-                all.merge_all(map)?;
-            }
-        }
-        Ok(all)
+        self.kept.chunk_map(pair, chunk)
     }
 
     /// The keys of a chunk of which any node keeps versions for the slot, in ascending byte order. Walks the maps of that chunk alone.
@@ -187,10 +145,7 @@ impl Hints {
         ensures ok { IfOk result (λ keys. AreKeysBut (IsUnhinted self.now slot chunk) keys.items) }
         ensures memory { IfErr result (λ e. e ≡ OutOfMemory) }
     {
-        match self.keepers(slot) {
-            Some(keepers) => self.gather(keepers, slot, chunk)?.keys(),
-            None => Ok(Vec::new(self.alloc)),
-        }
+        self.kept.chunk_keys(slot, chunk)
     }
 
     /// Whether the node keeps anything of a chunk for the slot. One look-up, no memory.
@@ -198,27 +153,16 @@ impl Hints {
         requires { chunk < 16 }
         ensures { (result ≡ false) ↔ ((k : List ℕ) → chunk_hints self.now (pair_of keeper.0 slot) chunk k ≡ []) }
     {
-        match self.chunk_map(KeptFor { keeper, slot }, chunk) {
-            Some(map) => !map.is_empty(),
-            None => false,
-        }
+        self.kept.keeps_chunk(keeper, slot, chunk)
     }
 
-    // The map of a pair that had none.
-    fn put(&mut self, pair: KeptFor, map: SlotMap) -> Result<(), Refusal>
-        requires absent { map_of self.old.maps pair ≡ None }
-        requires kept { IsKept (partitions self.old) pair map }
-        ensures space { partitions self.new ≡ partitions self.old }
-        ensures ok { OnOk result (PutsMap self.old.maps self.new.maps pair (Some map)) }
-        ensures err { OnErr result (AreSameHints self.old self.new) }
-        ensures memory { IfErr result (λ e. e ≡ OutOfMemory) }
+    /// The nodes that keep versions of the key for the slot, ascending by number. Takes no memory, and looks at no other keeper.
+    pub fn key_keepers(&self, slot: Slot, key: &[u8]) -> Option<&BTreeSet<NodeId>>
+        ensures some { IfSome result (λ nodes. (x : ℕ)
+            → (in_keepers x nodes.now.keys ≡ false) ↔ (hinted_at self.now x slot key.now ≡ [])) }
+        ensures none { IfNone result ((x : ℕ) → hinted_at self.now x slot key.now ≡ []) }
     {
-        self.maps.insert(pair, map)?;
-        if let Err(refusal) = self.pairs.add(pair) {
-            self.maps.remove(&pair);
-            return Err(refusal);
-        }
-        Ok(())
+        self.holders.of(slot, key)
     }
 
     /// Merges versions of a key of the chunk into what the pair's node keeps for its slot. Refused, it has changed nothing.
@@ -237,12 +181,13 @@ impl Hints {
         ensures memory { IfErr result (λ e. e ≡ OutOfMemory) }
         ensures space { partitions self.new ≡ partitions self.old }
     {
-        if let Some(map) = self.maps.get_mut(&pair) {
-            return map.merge(chunk, key, more);
+        let had = self.kept.key_versions_in(pair, chunk, key).is_some();
+        self.holders.add(pair, key)?;
+        let added = self.kept.add_set(pair, chunk, key, more);
+        if added.is_err() && !had {
+            self.holders.remove(pair, key);
         }
-        let mut map = SlotMap::new(self.alloc, self.q)?;
-        map.merge(chunk, key, more)?;
-        self.put(pair, map)
+        added
     }
 
     /// Merges one version of a key into what the node keeps for the slot. Refused, it has changed nothing.
@@ -260,13 +205,13 @@ impl Hints {
         ensures memory { IfErr result (λ e. e ≡ OutOfMemory) }
         ensures space { partitions self.new ≡ partitions self.old }
     {
-        let chunk = place(self.q, key).chunk;
+        let chunk = place(self.q(), key).chunk;
         let copy = version.try_copy()?;
         let one = Versions::of(self.alloc, copy)?;
         self.add_set(KeptFor { keeper, slot }, chunk, key, &one)
     }
 
-    /// Takes out what the node keeps for the slot. Takes no memory.
+    /// Takes out what the node keeps for the slot. Takes no memory, and costs a look-up for each key of it.
     pub fn take(&mut self, keeper: NodeId, slot: Slot) -> Option<SlotMap>
         ensures some { IfSome result (λ m. (k : List ℕ) → held_for m k ≡ hinted_at self.old keeper.0 slot k) }
         ensures map_space { IfSome result (λ m. space_of m ≡ partitions self.old) }
@@ -275,9 +220,11 @@ impl Hints {
         ensures count { kept_count self.new + (if is_some result then 1 else 0) ≡ kept_count self.old }
         ensures space { partitions self.new ≡ partitions self.old }
     {
-        let pair = KeptFor { keeper, slot };
-        self.pairs.remove(pair);
-        self.maps.remove(&pair)
+        let taken = self.kept.take(keeper, slot);
+        if let Some(map) = &taken {
+            self.holders.forget(KeptFor { keeper, slot }, map);
+        }
+        taken
     }
 
     /// Forgets all that the node keeps, for any slot. Takes no memory.
@@ -287,7 +234,7 @@ impl Hints {
             → hinted_at self.new x s k ≡ hinted_at self.old x s k }
         ensures space { partitions self.new ≡ partitions self.old }
     {
-        'slots: while let Some(slot) = self.pairs.slot_of(keeper) {
+        'slots: while let Some(slot) = self.kept.slot_of(keeper) {
             self.take(keeper, slot);
         }
     }
@@ -298,10 +245,12 @@ impl Hints {
         ensures same { IfOk result (AreSameHints self.now) }
         ensures memory { IfErr result (λ e. e ≡ OutOfMemory) }
     {
-        let mut copy = Hints::new(self.alloc, self.q);
-        'maps: for (pair, map) in &self.maps {
-            copy.put(*pair, map.try_copy(self.alloc)?)?;
-        }
-        Ok(copy)
+        let kept = self.kept.try_copy()?;
+        let holders = self.holders.try_copy()?;
+        Ok(Hints {
+            alloc: self.alloc,
+            kept,
+            holders,
+        })
     }
 }

@@ -3,9 +3,11 @@
 
 mod hints;
 mod kept_for;
+mod maps;
 mod numbered;
 mod pairs;
 mod sets;
+mod slot_holders;
 
 pub use hints::Hints;
 pub use kept_for::KeptFor;

@@ -40,7 +40,7 @@ fn first_down(
     None
 }
 
-/// The refusal of the first of the nodes that keep versions of the key for the slot that is down. Walks the slot's keepers alone.
+/// The refusal of the first of the nodes that keep versions of the key for the slot that is down. Walks the key's keepers alone.
 pub fn keeper_refusal(
     nodes: &Nodes,
     hints: &Hints,
@@ -51,7 +51,7 @@ pub fn keeper_refusal(
     requires { chunk_of (partitions hints.now) key.now ≡ chunk }
     ensures { IsFirstDown (is_up_at nodes.now) (λ x. hinted_at hints.now x slot key.now) result }
 {
-    match hints.keepers(slot) {
+    match hints.key_keepers(slot, key) {
         Some(keepers) => first_down(nodes, hints, keepers, slot, chunk, key),
         None => None,
     }

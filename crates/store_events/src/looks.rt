@@ -42,7 +42,7 @@ fn slot_versions(parts: &Parts, slot: Slot, chunk: u32, key: &[u8]) -> Result<Ve
     ensures memory { IfErr result (λ e. e ≡ OutOfMemory) }
 {
     let mut all = owner_versions(parts, slot, chunk, key)?;
-    if let Some(keepers) = parts.hints.keepers(slot) {
+    if let Some(keepers) = parts.hints.key_keepers(slot, key) {
         merge_hints(&mut all, &parts.hints, keepers, slot, chunk, key)?;
     }
     Ok(all)

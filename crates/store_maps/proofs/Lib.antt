@@ -7,3 +7,5 @@ pub mod Puts
 pub mod EntriesLeft
 pub mod WholeMaps
 pub mod Slots
+pub mod Members
+pub mod HoldersChanged

@@ -10,6 +10,10 @@ pub on_err : {A E : Type 0} (r : Result A E) (P Q : Type 0) → (P → Q) → On
 on_err (Ok a) P Q f h = tt
 on_err (Err e) P Q f h = f h
 
+pub always_err : {A E : Type 0} (r : Result A E) (P : Type 0) → P → OnErr r P
+always_err (Ok a) P h = tt
+always_err (Err e) P h = h
+
 -- what holds of either answer
 pub on_either : {A E : Type 0} (r : Result A E) (P Q G : Type 0) → OnOk r P → OnErr r Q → (P → G) → (Q → G) → G
 on_either (Ok a) P Q G p q f g = f p

@@ -3,3 +3,4 @@ pub mod Held
 pub mod Merges
 pub mod Chunks
 pub mod Slots
+pub mod Holders

@@ -4,6 +4,7 @@
 mod all_keys;
 mod fresh_keys;
 mod fresh_maps;
+mod holders;
 mod key_map;
 mod one_key;
 mod slot_map;
@@ -11,5 +12,6 @@ mod whole_slot;
 
 pub use fresh_keys::FreshKeys;
 pub use fresh_maps::FreshMaps;
+pub use holders::Holders;
 pub use key_map::KeyMap;
 pub use slot_map::SlotMap;

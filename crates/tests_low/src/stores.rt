@@ -175,6 +175,24 @@ fn stores_of_keys(rt: HostRuntime) -> Result<(), Fail> {
     stored(&rt, &mut store, &set)
 }
 
+// So many nodes keep the key for the slot.
+fn kept_by<RT: Abort>(rt: &RT, hints: &Hints, count: usize) {
+    let found = match hints.key_keepers(SLOT, b"a") {
+        Some(nodes) => nodes.len(),
+        None => 0,
+    };
+    same!(rt; found, count);
+}
+
+// One node keeps the key, in a copy too, and none once it is taken out.
+fn forgotten<RT: Abort>(rt: &RT, hints: &mut Hints) -> Result<(), Fail> {
+    kept_by(rt, hints, 1);
+    kept_by(rt, &hints.try_copy()?, 1);
+    hints.take(NodeId(3), SLOT);
+    kept_by(rt, hints, 0);
+    Ok(())
+}
+
 // A hint that a node keeps.
 fn hinted<RT: Abort>(rt: &RT, hints: &mut Hints, set: &Versions) -> Result<(), Fail> {
     if let Some(version) = set.list().first() {
@@ -182,7 +200,7 @@ fn hinted<RT: Abort>(rt: &RT, hints: &mut Hints, set: &Versions) -> Result<(), F
     }
     holds!(rt; hints.keeps(NodeId(3), SLOT));
     same!(rt; hints.nth(0), Some((NodeId(3), SLOT)));
-    Ok(())
+    forgotten(rt, hints)
 }
 
 #[test]

@@ -17,12 +17,12 @@ returns-clause-ok c =
     let others = λ (x : ℕ). hinted_at a.hints x c.args.slot key in
     let mid = c.in_ok-all.all in
     let copied = (c.in_ok-all.ensures).ok in
-    elim c.match-keepers.branch [
+    elim c.match-key_keepers.branch [
       | in-Some+in_ok-merge_hints w ↦
           subst (λ (xs : List Version). MergesOthers owned (λ x. true) others xs) (sym w.all-is)
           (under_copy owned mid others w.merge_hints.new.all copied
-          (among_all mid (λ x. in_keepers x w.in-Some.keepers.now.keys) others w.merge_hints.new.all (λ x e. ((w.in-Some.ensures).some x).0 e key) (w.in_ok-merge_hints.ensures).ok))
+          (among_all mid (λ x. in_keepers x w.in-Some.keepers.now.keys) others w.merge_hints.new.all (λ x e. ((w.in-Some.ensures).some x).0 e) (w.in_ok-merge_hints.ensures).ok))
       | in_default w ↦
           subst (λ (xs : List Version). MergesOthers owned (λ x. true) others xs) (sym w.all-is)
-          (under_copy owned mid others mid copied (none_among mid others copied.apart (λ x. (w.in_default.ensures).none x key)))
+          (under_copy owned mid others mid copied (none_among mid others copied.apart (λ x. (w.in_default.ensures).none x)))
     ]

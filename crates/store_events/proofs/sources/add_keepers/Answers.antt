@@ -28,7 +28,7 @@ keepers-preserved c =
     let held_now = held_for c.keepers.read in (
       c.keepers.invariant.0,
       visits_more a c.args.chunk (λ (w : World) (z : NodeId). w.hinted z.0 c.args.slot) c.args.keepers.now.keys (held_for c.args.read.now) held_now held_now c.keepers.keeper-iterator c.next.new.self y (c.in-Some.ensures).steps
-          (gathers_none a c.args.chunk a.hints.q (λ w. hinted_at a.hints y.0 c.args.slot) held_now (λ w. w.hinted y.0 c.args.slot) c.requires.sized.hints (λ w m. m.hinted y.0 c.args.slot) (λ w k. (c.in_default.ensures).none k))
+          (gathers_none a c.args.chunk a.hints.kept.q (λ w. hinted_at a.hints y.0 c.args.slot) held_now (λ w. w.hinted y.0 c.args.slot) c.requires.sized.hints (λ w m. m.hinted y.0 c.args.slot) (λ w k. (c.in_default.ensures).none k))
           c.keepers.invariant.1,
     )
 
@@ -39,7 +39,7 @@ keepers-preserved-in-Continue-1 c =
     let new = held_for c.merge_chunk.new.self in (
       (c.in_ok-merge_chunk.ensures).space ∙ c.keepers.invariant.0,
       visits_more a c.args.chunk (λ (w : World) (z : NodeId). w.hinted z.0 c.args.slot) c.args.keepers.now.keys (held_for c.args.read.now) (held_for c.keepers.read) new c.keepers.keeper-iterator c.next.new.self y (c.in-Some.ensures).steps
-          (gathers a c.args.chunk a.hints.q (λ w. hinted_at a.hints y.0 c.args.slot) (held_for c.keepers.read) (held c.in-Some-chunk_map.map.now) new (λ w. w.hinted y.0 c.args.slot) c.requires.sized.hints
+          (gathers a c.args.chunk a.hints.kept.q (λ w. hinted_at a.hints y.0 c.args.slot) (held_for c.keepers.read) (held c.in-Some-chunk_map.map.now) new (λ w. w.hinted y.0 c.args.slot) c.requires.sized.hints
           (λ w m. m.hinted y.0 c.args.slot) (λ w k. (c.in-Some-chunk_map.ensures).some k) (c.in_ok-merge_chunk.ensures).ok)
           c.keepers.invariant.1,
     )

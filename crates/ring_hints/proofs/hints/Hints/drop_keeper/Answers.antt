@@ -1,7 +1,7 @@
 use Rattle.std.proofs.Common.{◌∙◌}
 use Rattle.ring_hints.specs.Hints.{hinted_at, kept_count}
 use Rattle.ring_hints.specs.Views.{pair_of}
-use Rattle.ring_hints.proofs.PairChanged.{keeps_is, others_stay, fewer, was_some}
+use Rattle.ring_hints.proofs.PairChanged.{others_stay, fewer, was_some}
 use Rattle.ring_hints.proofs.hints.Hints.drop_keeper.Goals as goal
 
 pub slots-preserved : goal.slots-preserved
@@ -12,9 +12,8 @@ slots-preserved c = (
 
 pub slots-smaller : goal.slots-smaller
 slots-smaller c =
-    let a = c.slots.self in
-    fewer c.take.result (kept_count c.take.new.self) (kept_count a)
-    (was_some c.take.result _ c.take.ensures.none (λ none. let absent = (keeps_is a.q a.pairs a.maps a.paired a.kept c.args.keeper.0 c.in-Some.slot).1 none in let there = (c.in-Some.ensures).some in cc))
+    fewer c.take.result (kept_count c.take.new.self) (kept_count c.slots.self)
+    (was_some c.take.result _ c.take.ensures.none (λ none. (c.in-Some.ensures).some none))
     c.take.ensures.count
 
 pub slots-preserved-in-Some : goal.slots-preserved-in-Some
@@ -25,13 +24,12 @@ slots-preserved-in-Some c = (
 
 pub slots-smaller-in-Some : goal.slots-smaller-in-Some
 slots-smaller-in-Some c =
-    let a = c.slots.self in
-    fewer c.take.result (kept_count c.take.new.self) (kept_count a)
-    (was_some c.take.result _ c.take.ensures.none (λ none. let absent = (keeps_is a.q a.pairs a.maps a.paired a.kept c.args.keeper.0 c.in-Some.slot).1 none in let there = (c.in-Some.ensures).some in cc))
+    fewer c.take.result (kept_count c.take.new.self) (kept_count c.slots.self)
+    (was_some c.take.result _ c.take.ensures.none (λ none. (c.in-Some.ensures).some none))
     c.take.ensures.count
 
 pub returns-clause-gone : goal.returns-clause-gone
-returns-clause-gone c s = let a = c.slots.self in (keeps_is a.q a.pairs a.maps a.paired a.kept c.args.keeper.0 s).0 ((c.in_default.ensures).none s)
+returns-clause-gone c = (c.in_default.ensures).none
 
 pub returns-clause-others : goal.returns-clause-others
 returns-clause-others c = c.slots.invariant.1

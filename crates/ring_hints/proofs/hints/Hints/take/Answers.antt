@@ -1,30 +1,23 @@
-use Rattle.std.proofs.Common.{◌≡◌, ◌+◌, ◌∙◌, Bool, cond, refl, ap, sym, subst, None}
-use Rattle.std.specs.Prelude.{is_some}
-use Rattle.ring_hints.specs.Pairs.{is_pair, pair_count}
-use Rattle.ring_hints.specs.Views.{is_of, pair_of}
-use Rattle.ring_hints.proofs.PairChanged.{puts_map, kept_by, paired_by, without_pair, gone_by}
+use Rattle.std.proofs.Common.{◌≡◌, ℕ, List, [], subst, Option}
+use Rattle.std.specs.Prelude.{IfSome, IfNone}
+use Rattle.store_maps.specs.declared.slot_map.SlotMap.{SlotMap}
+use Rattle.store_maps.specs.Slots.{held_for}
+use Rattle.ring_hints.specs.Maps.{hinted_at}
+use Rattle.ring_hints.specs.Views.{pair_of}
+use Rattle.ring_hints.proofs.HeldChanged.{held_taken, held_left}
 use Rattle.ring_hints.proofs.hints.Hints.take.Goals as goal
 
 pub invariant_of-self : goal.invariant_of-self
 invariant_of-self c =
     let a = c.args.self.now in
-    let pair = pair_of c.args.keeper.0 c.args.slot in
-    let new = c.remove-2.new.self in
-    let out = puts_map a.maps new pair None c.remove-2.ensures.updates in
+    let mine = subst (λ (o : Option SlotMap). IfSome o (λ m. (k : List ℕ) → held_for m k ≡ hinted_at a.kept c.args.keeper.0 c.args.slot k)) c.in-Some.is c.take-taken.ensures.some in
     record {
-      space = a.space;
-      paired = paired_by a.maps new pair None out a.pairs c.remove.new.self (λ x s. without_pair (is_of pair x s) (is_pair a.pairs x s) (is_pair c.remove.new.self x s) (c.remove.ensures.pairs x s)) a.paired;
-      kept = kept_by a.maps new pair None out a.q (λ m e. absurd cc) a.kept;
+      held = held_taken a.kept c.take-taken.new.self a.holders c.forget.new.self (pair_of c.args.keeper.0 c.args.slot) a.held c.in-Some.map c.take-taken.ensures.after mine
+          c.forget.ensures.others c.forget.ensures.gone c.forget.ensures.stays;
     }
 
-pub returns-clause-after : goal.returns-clause-after
-returns-clause-after c =
+pub invariant_of-self-in_default : goal.invariant_of-self-in_default
+invariant_of-self-in_default c =
     let a = c.args.self.now in
-    let pair = pair_of c.args.keeper.0 c.args.slot in
-    gone_by a.maps c.remove-2.new.self pair None (puts_map a.maps c.remove-2.new.self pair None c.remove-2.ensures.updates) refl
-
-pub returns-clause-count : goal.returns-clause-count
-returns-clause-count c =
-    let a = c.args.self.now in
-    let found = a.paired c.args.keeper.0 c.args.slot ∙ sym (ap is_some c.remove-2.ensures.value) in
-    subst (λ (b : Bool). pair_count c.remove.new.self + cond b 1 0 ≡ pair_count a.pairs) found c.remove.ensures.count
+    let none = subst (λ (o : Option SlotMap). IfNone o ((k : List ℕ) → hinted_at a.kept c.args.keeper.0 c.args.slot k ≡ [])) c.in_default.is c.take-taken.ensures.none in
+    record { held = held_left a.kept c.take-taken.new.self a.holders (pair_of c.args.keeper.0 c.args.slot) a.held c.take-taken.ensures.after none }

@@ -1,0 +1,109 @@
+//! Which nodes keep something of which keys, for which slots.
+
+use crate::kept_for::KeptFor;
+use ring_names::{NodeId, Refusal, Slot};
+use std::alloc::Global;
+use std::collections::{BTreeSet, HashMap};
+use store_maps::{Holders, SlotMap};
+
+/// The keepers of each key, slot by slot, so that whoever looks for those of one key walks no other.
+#[derive(Drop)]
+pub(crate) struct SlotHolders {
+    alloc: Global,
+    slots: HashMap<Slot, Holders>,
+}
+
+impl SlotHolders {
+    ghost use Rattle.std.specs.Prelude.{◌≡◌, ◌&&◌, ◌||◌, if◌then◌else◌, not, ℕ, true, false, List, Some, IfSome, IfNone, IfOk, IfErr, OnOk, OnErr};
+    ghost use Rattle.std.specs.Str.{bytes_eq};
+    ghost use Rattle.ring_names.specs.declared.ids.Slot.{Slot};
+    ghost use Rattle.ring_names.specs.declared.refusal.Refusal.TheVariants.{OutOfMemory};
+    ghost use Rattle.store_maps.specs.Holders.{is_among};
+    ghost use Rattle.store_maps.specs.Slots.{has_place_for};
+    ghost use Rattle.ring_hints.specs.SlotHolders.{is_slot, holders_for, holds_for};
+    ghost use Rattle.ring_hints.specs.Views.{is_of};
+
+    /// No keeper of any key.
+    pub(crate) fn new(alloc: Global) -> SlotHolders
+        ensures { (s : Slot) (k : List ℕ) (x : ℕ) → holds_for result s k x ≡ false }
+    {
+        SlotHolders {
+            alloc,
+            slots: HashMap::new(alloc),
+        }
+    }
+
+    /// The keepers of the key for the slot, ascending by number. Takes no memory.
+    pub(crate) fn of(&self, slot: Slot, key: &[u8]) -> Option<&BTreeSet<NodeId>>
+        ensures some { IfSome result (λ nodes. (x : ℕ) → is_among x nodes.now.keys ≡ holds_for self.now slot key.now x) }
+        ensures none { IfNone result ((x : ℕ) → holds_for self.now slot key.now x ≡ false) }
+    {
+        match self.slots.get(&slot) {
+            Some(holders) => holders.of(key),
+            None => None,
+        }
+    }
+
+    /// The pair's node is one of the key's keepers for its slot from here on.
+    pub(crate) fn add(&mut self, pair: KeptFor, key: &[u8]) -> Result<(), Refusal>
+        ensures ok { OnOk result ((s : Slot) (k : List ℕ) (x : ℕ)
+            → holds_for self.new s k x ≡ ((is_of pair x s && bytes_eq key.now k) || holds_for self.old s k x)) }
+        ensures err { OnErr result ((s : Slot) (k : List ℕ) (x : ℕ)
+            → holds_for self.new s k x ≡ holds_for self.old s k x) }
+        ensures memory { IfErr result (λ e. e ≡ OutOfMemory) }
+    {
+        if let Some(holders) = self.slots.get_mut(&pair.slot) {
+            return holders.add(key, pair.keeper);
+        }
+        let mut holders = Holders::new(self.alloc);
+        holders.add(key, pair.keeper)?;
+        self.put(pair.slot, holders)
+    }
+
+    // These holders for the slot.
+    fn put(&mut self, slot: Slot, holders: Holders) -> Result<(), Refusal>
+        ensures ok { OnOk result ((s : Slot)
+            → holders_for self.new s ≡ (if is_slot slot s then Some holders else holders_for self.old s)) }
+        ensures err { OnErr result ((s : Slot) (k : List ℕ) (x : ℕ)
+            → holds_for self.new s k x ≡ holds_for self.old s k x) }
+        ensures memory { IfErr result (λ e. e ≡ OutOfMemory) }
+    {
+        self.slots.insert(slot, holders)?;
+        Ok(())
+    }
+
+    /// The pair's node is none of the key's keepers for its slot from here on. Takes no memory.
+    pub(crate) fn remove(&mut self, pair: KeptFor, key: &[u8])
+        ensures { (s : Slot) (k : List ℕ) (x : ℕ)
+            → holds_for self.new s k x ≡ (not (is_of pair x s && bytes_eq key.now k) && holds_for self.old s k x) }
+    {
+        if let Some(holders) = self.slots.get_mut(&pair.slot) {
+            holders.remove(key, pair.keeper);
+        }
+    }
+
+    /// The pair's node is none of those of the map's keys for its slot from here on. Takes no memory, and costs a look-up for each of these keys.
+    pub(crate) fn forget(&mut self, pair: KeptFor, map: &SlotMap)
+        ensures others { (s : Slot) (k : List ℕ) (x : ℕ)
+            → is_of pair x s ≡ false → holds_for self.new s k x ≡ holds_for self.old s k x }
+        ensures gone { (k : List ℕ) → has_place_for map.now k ≡ true → holds_for self.new pair.slot k pair.keeper.0 ≡ false }
+        ensures stays { (k : List ℕ) → holds_for self.old pair.slot k pair.keeper.0 ≡ false
+            → holds_for self.new pair.slot k pair.keeper.0 ≡ false }
+    {
+        if let Some(holders) = self.slots.get_mut(&pair.slot) {
+            holders.forget(pair.keeper, map);
+        }
+    }
+
+    /// The same once more.
+    pub(crate) fn try_copy(&self) -> Result<SlotHolders, Refusal>
+        ensures same { IfOk result (λ a. (s : Slot) (k : List ℕ) (x : ℕ) → holds_for a s k x ≡ holds_for self.now s k x) }
+        ensures memory { IfErr result (λ e. e ≡ OutOfMemory) }
+    {
+        let mut copy = SlotHolders::new(self.alloc);
+        'slots: for (slot, holders) in &self.slots {
+            copy.put(*slot, holders.try_copy()?)?;
+        }
+        Ok(copy)
+    }
+}
