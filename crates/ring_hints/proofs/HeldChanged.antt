@@ -57,12 +57,12 @@ module _ (old new : Maps) (before behind : SlotHolders) (pair : KeptFor) (held :
   pub held_taken : (m : SlotMap) → TakesHints old new pair → ((k : List ℕ) → held_for m k ≡ hinted_at old pair.keeper.0 pair.slot k)
       → ((s : Slot) (k : List ℕ) (x : ℕ) → is_of pair x s ≡ false → holds_for behind s k x ≡ holds_for before s k x)
       → ((k : List ℕ) → has_place_for m k ≡ true → holds_for behind pair.slot k pair.keeper.0 ≡ false)
-      → ((k : List ℕ) → holds_for before pair.slot k pair.keeper.0 ≡ false → holds_for behind pair.slot k pair.keeper.0 ≡ false) → AreHeld new behind
+      → ((k : List ℕ) → has_place_for m k ≡ false → holds_for behind pair.slot k pair.keeper.0 ≡ holds_for before pair.slot k pair.keeper.0) → AreHeld new behind
   held_taken m takes mine others gone stays x s k = by (is_of pair x s) refl
     where
       away : (b : Bool) → has_place_for m k ≡ b → holds_for behind pair.slot k pair.keeper.0 ≡ false
       away true e = gone k e
-      away false e = stays k (held pair.keeper.0 pair.slot k ∙ ap has_any (sym (mine k) ∙ bare_held (slice_get m.chunks.items (chunk_of m.q k)) k e))
+      away false e = stays k e ∙ (held pair.keeper.0 pair.slot k ∙ ap has_any (sym (mine k) ∙ bare_held (slice_get m.chunks.items (chunk_of m.q k)) k e))
 
       by : (b : Bool) → is_of pair x s ≡ b → holds_for behind s k x ≡ has_any (hinted_at new x s k)
       by true e =

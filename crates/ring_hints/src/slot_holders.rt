@@ -87,8 +87,8 @@ impl SlotHolders {
         ensures others { (s : Slot) (k : List ℕ) (x : ℕ)
             → is_of pair x s ≡ false → holds_for self.new s k x ≡ holds_for self.old s k x }
         ensures gone { (k : List ℕ) → has_place_for map.now k ≡ true → holds_for self.new pair.slot k pair.keeper.0 ≡ false }
-        ensures stays { (k : List ℕ) → holds_for self.old pair.slot k pair.keeper.0 ≡ false
-            → holds_for self.new pair.slot k pair.keeper.0 ≡ false }
+        ensures stays { (k : List ℕ) → has_place_for map.now k ≡ false
+            → holds_for self.new pair.slot k pair.keeper.0 ≡ holds_for self.old pair.slot k pair.keeper.0 }
     {
         if let Some(holders) = self.slots.get_mut(&pair.slot) {
             holders.forget(pair.keeper, map);

@@ -96,25 +96,28 @@ module _ {A : Type 0} (m n : BTreeMap (Vec ℕ A) (BTreeSet NodeId)) (key : List
 pub record Forgetting {A X : Type 0} (node : ℕ) (old now : List ℕ → ℕ → Bool) (all : List ℕ → Option X) (rest : List (Vec ℕ A × X)) : Type 0 where
   pub others : (k : List ℕ) (x : ℕ) → x ≢ node → now k x ≡ old k x
   pub gone : (k : List ℕ) → is_some (all k) ≡ true → value_in rest k ≡ None → now k node ≡ false
-  pub stays : (k : List ℕ) → old k node ≡ false → now k node ≡ false
+  pub stays : (k : List ℕ) → is_some (all k) ≡ false → now k node ≡ old k node
 
 pub forgetting_none : {A X : Type 0} (node : ℕ) (old : List ℕ → ℕ → Bool) (m : BTreeMap (Vec ℕ A) X) → Forgetting node old old (value_at m) m.entries
 forgetting_none node old m = record {
   others = λ k x ne. refl;
   gone = λ k some none. absurd (let there = ap is_some none in cc);
-  stays = λ k h. h;
+  stays = λ k h. refl;
 }
 
 pub forgetting_more : {A X : Type 0} (node : ℕ) (old now new : List ℕ → ℕ → Bool) (all : List ℕ → Option X) (rest later : List (Vec ℕ A × X)) (key : Vec ℕ A) (x : X)
-    → rest ≡ (key, x) ∷ later → ((k : List ℕ) (x : ℕ) → new k x ≡ (not (bytes_eq key.items k && (node == x)) && now k x))
+    → rest ≡ (key, x) ∷ later → all key.items ≡ Some x → ((k : List ℕ) (x : ℕ) → new k x ≡ (not (bytes_eq key.items k && (node == x)) && now k x))
     → Forgetting node old now all rest → Forgetting node old new all later
-forgetting_more node old now new all rest later key x is took s = record {
+forgetting_more node old now new all rest later key x is at took s = record {
   others = λ k x ne. took k x ∙ ap (λ (b : Bool). not (bytes_eq key.items k && b) && now k x) (ne_eqb node x (λ e. ne (sym e))) ∙ unasked (bytes_eq key.items k) (now k x) ∙ s.others k x ne;
   gone = λ k some none. by_bytes key.items (λ (k : List ℕ). is_some (all k) ≡ true → value_in later k ≡ None → new k node ≡ false)
       (λ _ _. took key.items node ∙ (λ i. not (same_bytes key.items i && eq-eqb node node refl i) && now key.items node))
       (λ k e there away. took k node ∙ lesser (bytes_eq key.items k && (node == node)) (now k node) (s.gone k there (later_in key x rest later is k e ∙ away)))
       k some none;
-  stays = λ k h. took k node ∙ lesser (bytes_eq key.items k && (node == node)) (now k node) (s.stays k h);
+  stays = λ k none. by_bytes key.items (λ (k : List ℕ). is_some (all k) ≡ false → new k node ≡ old k node)
+      (λ away. absurd (let there = ap is_some at in cc))
+      (λ k e away. took k node ∙ ap (λ (b : Bool). not (b && (node == node)) && now k node) e ∙ s.stays k away)
+      k none;
 }
   where
     unasked : (b c : Bool) → (not (b && false) && c) ≡ c
@@ -131,13 +134,13 @@ forgetting_more node old now new all rest later key x is took s = record {
 pub record ForgettingChunks (node : ℕ) (old now : List ℕ → ℕ → Bool) (map : SlotMap) (count : ℕ) : Type 0 where
   pub others : (k : List ℕ) (x : ℕ) → x ≢ node → now k x ≡ old k x
   pub gone : (k : List ℕ) → has_place_for map k ≡ true → chunk_of (space_of map) k < count → now k node ≡ false
-  pub stays : (k : List ℕ) → old k node ≡ false → now k node ≡ false
+  pub stays : (k : List ℕ) → has_place_for map k ≡ false → now k node ≡ old k node
 
 pub chunks_none : (node : ℕ) (old : List ℕ → ℕ → Bool) (map : SlotMap) → ForgettingChunks node old old map 0
 chunks_none node old map = record {
   others = λ k x ne. refl;
   gone = λ k there l. absurd (omega arith);
-  stays = λ k h. h;
+  stays = λ k h. refl;
 }
 
 split : (i c : ℕ) → i < c + 1 → (i ≡ c) ⊎ (i < c)
@@ -148,13 +151,22 @@ split (suc i) (suc c) l = elim (split i c (omega arith)) [ inl e ↦ inl (ap suc
 
 pub chunks_more : (node : ℕ) (old now new : List ℕ → ℕ → Bool) (map : SlotMap) (c : ℕ) (one : KeyMap)
     → ((k : List ℕ) → chunk_of (space_of map) k ≡ c → has_place one k ≡ has_place_for map k) → ((k : List ℕ) (x : ℕ) → x ≢ node → new k x ≡ now k x)
-    → ((k : List ℕ) → has_place one k ≡ true → new k node ≡ false) → ((k : List ℕ) → now k node ≡ false → new k node ≡ false)
+    → ((k : List ℕ) → has_place one k ≡ true → new k node ≡ false) → ((k : List ℕ) → has_place one k ≡ false → new k node ≡ now k node)
+    → ((k : List ℕ) → has_place one k ≡ true → chunk_of (space_of map) k ≡ c)
     → ForgettingChunks node old now map c → ForgettingChunks node old new map (c + 1)
-chunks_more node old now new map c one places others gone stays s = record {
+chunks_more node old now new map c one places others gone stays lies s = record {
   others = λ k x ne. others k x ne ∙ s.others k x ne;
-  gone = λ k there l. elim (split (chunk_of (space_of map) k) c l) [ inl e ↦ gone k (places k e ∙ there) | inr h ↦ stays k (s.gone k there h) ];
-  stays = λ k h. stays k (s.stays k h);
+  gone = λ k there l. elim (split (chunk_of (space_of map) k) c l) [ inl e ↦ gone k (places k e ∙ there) | inr h ↦ below k there h (has_place one k) refl ];
+  stays = λ k h. apart k h (has_place one k) refl;
 }
+  where
+    below : (k : List ℕ) → has_place_for map k ≡ true → chunk_of (space_of map) k < c → (b : Bool) → has_place one k ≡ b → new k node ≡ false
+    below k there h true e = gone k e
+    below k there h false e = stays k e ∙ s.gone k there h
+
+    apart : (k : List ℕ) → has_place_for map k ≡ false → (b : Bool) → has_place one k ≡ b → new k node ≡ old k node
+    apart k h true e = absurd (let mine = sym (places k (lies k e)) ∙ e in cc)
+    apart k h false e = stays k e ∙ s.stays k h
 
 pub chunk_within : (q : ℕ) (k : List ℕ) (c : ℕ) → 16 ≤ c → chunk_of q k < c
 chunk_within q k c l = let below = chunk_below q k (chunk_of q k) refl in omega arith

@@ -98,7 +98,7 @@ impl Holders {
     fn forget_keys(&mut self, node: NodeId, map: &KeyMap)
         ensures others { (k : List ℕ) (x : ℕ) → x ≢ node.0 → holds self.new k x ≡ holds self.old k x }
         ensures gone { (k : List ℕ) → has_place map.now k ≡ true → holds self.new k node.0 ≡ false }
-        ensures stays { (k : List ℕ) → holds self.old k node.0 ≡ false → holds self.new k node.0 ≡ false }
+        ensures stays { (k : List ℕ) → has_place map.now k ≡ false → holds self.new k node.0 ≡ holds self.old k node.0 }
     {
         'keys: for (key, _) in &map.map {
             self.remove(key.as_slice(), node);
@@ -109,7 +109,8 @@ impl Holders {
     pub fn forget(&mut self, node: NodeId, map: &SlotMap)
         ensures others { (k : List ℕ) (x : ℕ) → x ≢ node.0 → holds self.new k x ≡ holds self.old k x }
         ensures gone { (k : List ℕ) → has_place_for map.now k ≡ true → holds self.new k node.0 ≡ false }
-        ensures stays { (k : List ℕ) → holds self.old k node.0 ≡ false → holds self.new k node.0 ≡ false }
+        ensures stays { (k : List ℕ) → has_place_for map.now k ≡ false
+            → holds self.new k node.0 ≡ holds self.old k node.0 }
     {
         'chunks: for chunk in 0..16u32 {
             self.forget_keys(node, map.chunk(chunk));

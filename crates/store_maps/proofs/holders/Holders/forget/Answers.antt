@@ -9,7 +9,7 @@ chunks-init c = chunks_none c.args.node.0 (holds c.args.self.now) c.args.map.now
 pub chunks-preserved : goal.chunks-preserved
 chunks-preserved c =
     chunks_more c.args.node.0 (holds c.args.self.now) (holds c.chunks.self) (holds c.forget_keys.new.self) c.args.map.now c.chunks.chunk c.chunk.result.now
-    c.chunk.ensures.places c.forget_keys.ensures.others c.forget_keys.ensures.gone c.forget_keys.ensures.stays c.chunks.invariant
+    c.chunk.ensures.places c.forget_keys.ensures.others c.forget_keys.ensures.gone c.forget_keys.ensures.stays c.chunk.ensures.lies c.chunks.invariant
 
 pub returns-clause-others : goal.returns-clause-others
 returns-clause-others c = c.chunks.invariant.others
