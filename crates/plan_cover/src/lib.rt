@@ -10,3 +10,4 @@ mod linked;
 mod present;
 
 pub use check::{check_node, check_nodes};
+pub use present::{Present, Serving};
