@@ -1,0 +1,49 @@
+//! How many copies run one behind the other.
+
+ghost use Rattle.std.specs.Prelude.{◌≡◌, ◌<◌, ◌≤◌, true, nat_lt, nat_le, length, IfOk, IfErr};
+ghost use Rattle.std.specs.List.{list_all};
+ghost use Rattle.ring_names.specs.declared.refusal.Refusal.TheVariants.{OutOfMemory};
+ghost use Rattle.plan_moves.specs.Rounds.{greatest, copies, AreRounds};
+
+use plan_text::{Plan, Step};
+use ring_names::Refusal;
+use std::alloc::Global;
+
+// The greatest of the values at these places, or 0.
+fn greatest(values: &[u32], places: &[u32]) -> u32
+    requires { list_all (λ place. nat_lt place (length values.now)) places.now ≡ true }
+    ensures { result ≡ greatest values.now places.now }
+{
+    let mut most = 0;
+    let mut rest = places;
+    'places: while let Some((place, later)) = rest.split_first() {
+        most = most.max(values[*place as usize]);
+        rest = later;
+    }
+    most
+}
+
+// 1 for a copy, and else 0.
+fn copies(step: &Step) -> u32
+    ensures { result ≡ copies step.now }
+{
+    if matches!(step, Step::Copy(_, _)) {
+        1
+    } else {
+        0
+    }
+}
+
+/// The round of each step, by its number: the greatest number of copies, itself among them, on a path of dependencies that ends with it. So copies of
+/// one round may run side by side, and each waits for one of the round before. Costs a look at each dependency.
+pub fn rounds(alloc: Global, plan: &Plan) -> Result<Vec<u32>, Refusal>
+    ensures ok { IfOk result (λ found. AreRounds plan.now found.items) }
+    ensures memory { IfErr result (λ e. e ≡ OutOfMemory) }
+{
+    let mut found = Vec::new(alloc);
+    for number in 0..plan.len() {
+        let before = greatest(found.as_slice(), plan.deps(number));
+        found.push(before + copies(plan.step(number)))?;
+    }
+    Ok(found)
+}

@@ -1,0 +1,106 @@
+//! What each node owns, gives, takes and may bear.
+
+use crate::numbers::{at, raise};
+use crate::shown::AllShown;
+use plan_cert::Cert;
+use plan_moves::owned;
+use ring_names::{Listed, NodeId, Refusal};
+use ring_table::{Allowance, Ring, Side};
+use std::alloc::Global;
+
+/// Numbers by node.
+#[derive(Drop)]
+pub struct Loads {
+    /// Slots owned before the first step.
+    pub before: Vec<u32>,
+    /// Slots owned behind the last.
+    pub after: Vec<u32>,
+    /// Moves whose copies read from the node.
+    pub gives: Vec<u32>,
+    /// Moves to the node.
+    pub takes: Vec<u32>,
+    // chains of the certificate
+    joint: Vec<u32>,
+    taking: Vec<u32>,
+    giving: Vec<u32>,
+}
+
+impl Loads {
+    pub fn of(
+        alloc: Global,
+        ring: &Ring,
+        cert: &Cert,
+        shown: &AllShown,
+        last_rows: &[Listed<NodeId>],
+    ) -> Result<Loads, Refusal> {
+        let nodes = ring.nodes().len();
+        let mut loads = Loads {
+            before: owned(alloc, nodes, ring.rows())?,
+            after: owned(alloc, nodes, last_rows)?,
+            gives: vec![in alloc; 0u32; nodes]?,
+            takes: vec![in alloc; 0u32; nodes]?,
+            joint: vec![in alloc; 0u32; nodes]?,
+            taking: vec![in alloc; 0u32; nodes]?,
+            giving: vec![in alloc; 0u32; nodes]?,
+        };
+        loads.count_moves(shown);
+        loads.count_chains(cert);
+        Ok(loads)
+    }
+
+    fn count_moves(&mut self, shown: &AllShown) {
+        for one in shown.moves.as_slice() {
+            raise(self.takes.as_mut_slice(), one.to as usize);
+            for node in shown.read_by(one) {
+                raise(self.gives.as_mut_slice(), *node as usize);
+            }
+        }
+    }
+
+    fn count_chains(&mut self, cert: &Cert) {
+        for place in 0..cert.chains.len() {
+            let of = cert.chains.of(place);
+            let node = of.node.0 as usize;
+            match of.side {
+                Side::Both => raise(self.joint.as_mut_slice(), node),
+                Side::Take => raise(self.taking.as_mut_slice(), node),
+                Side::Give => raise(self.giving.as_mut_slice(), node),
+            }
+        }
+    }
+
+    /// How many transfers the certificate has the node in at once, of how many it may bear: `3 of 4`, or `2 of 2 in, 1 of 2 out`. Nothing
+    /// where it has no chain of a side.
+    pub fn push_at_once(
+        &self,
+        out: &mut Vec<u8>,
+        allowance: Allowance,
+        node: u32,
+    ) -> Result<(), Refusal> {
+        let place = node as usize;
+        match allowance {
+            Allowance::Joint(most) => push_of(out, at(self.joint.as_slice(), place), most, b""),
+            Allowance::Split { take, give } => {
+                let taken = at(self.taking.as_slice(), place);
+                let given = at(self.giving.as_slice(), place);
+                push_of(out, taken, take, b" in")?;
+                if taken > 0 && given > 0 {
+                    out.extend_from_slice(b", ")?;
+                }
+                push_of(out, given, give, b" out")
+            }
+        }
+    }
+}
+
+// `3 of 4`, and the word behind it; nothing of none.
+fn push_of(out: &mut Vec<u8>, count: u32, most: u32, word: &[u8]) -> Result<(), Refusal> {
+    if count == 0 {
+        return Ok(());
+    }
+    ring_names::push_decimal(out, count)?;
+    out.extend_from_slice(b" of ")?;
+    ring_names::push_decimal(out, most)?;
+    out.extend_from_slice(word)?;
+    Ok(())
+}

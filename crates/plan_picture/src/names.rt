@@ -1,0 +1,45 @@
+//! The names of nodes.
+
+use crate::writing::push_many;
+use ring_names::Refusal;
+use ring_table::Ring;
+
+/// The name of the node of that number.
+pub fn name(ring: &Ring, node: u32) -> &[u8] {
+    match ring.nodes().get(node as usize) {
+        Some(node) => node.name.as_slice(),
+        None => &[],
+    }
+}
+
+/// The names of the nodes: `a`, `a and b`, `a, b and c`. Of more than `most` nodes the last stand as a number: `a, b and 7 others`.
+pub fn push_names(
+    out: &mut Vec<u8>,
+    ring: &Ring,
+    nodes: &[u32],
+    most: usize,
+) -> Result<(), Refusal> {
+    let shown = if nodes.len() > most {
+        most.saturating_sub(1)
+    } else {
+        nodes.len()
+    };
+    let others = crate::numbers::small(nodes.len().saturating_sub(shown));
+    let mut place = 0usize;
+    for node in nodes {
+        if place >= shown {
+            break;
+        }
+        if place > 0 {
+            let is_last = others == 0 && place.saturating_add(1) == shown;
+            out.extend_from_slice(if is_last { b" and " } else { b", " })?;
+        }
+        out.extend_from_slice(name(ring, *node))?;
+        place = place.saturating_add(1);
+    }
+    if others > 0 {
+        out.extend_from_slice(b" and ")?;
+        push_many(out, others, b"other", b"others")?;
+    }
+    Ok(())
+}

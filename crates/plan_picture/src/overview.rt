@@ -1,0 +1,479 @@
+//! The summary of a plan, in words.
+
+use crate::domains::sharing;
+use crate::failing::{all_pairs, kept_by_one, pairs};
+use crate::names::{name, push_names};
+use crate::numbers::{at, small};
+use crate::progress::Progress;
+use crate::rounds::push_rounds;
+use crate::scene::Scene;
+use crate::table::push_table;
+use crate::writing::{push_line, push_many, push_tenths, push_times};
+use plan_text::{Plan, Step};
+use ring_names::{Refusal, Slot, push_decimal};
+use ring_table::Ring;
+use std::alloc::Global;
+
+/// How much a summary shows.
+#[derive(Clone, Copy, Debug, PartialEq, Eq)]
+pub enum Shape {
+    /// At most 24 nodes, 12 rounds and 6 entries of a round; the rest is summed.
+    Short,
+    /// All.
+    Whole,
+}
+
+/// What a summary is made of.
+#[derive(Clone, Copy)]
+pub struct View<'a> {
+    pub alloc: Global,
+    pub ring: &'a Ring,
+    pub plan: &'a Plan,
+    pub scene: &'a Scene,
+    pub shape: Shape,
+    /// The byte behind which a node's name names its rack, where racks are asked for.
+    pub racks_behind: Option<u8>,
+}
+
+// Behind which column of a line its words begin.
+const INDENT: usize = 12;
+
+// `a and b join`, or nothing where nobody does.
+fn push_who(
+    view: &View,
+    out: &mut Vec<u8>,
+    nodes: &[u32],
+    one: &[u8],
+    more: &[u8],
+) -> Result<(), Refusal> {
+    let mut width = 0usize;
+    for node in nodes {
+        width = width.saturating_add(name(view.ring, *node).len());
+    }
+    if nodes.len() <= 3 && width <= 40 {
+        push_names(out, view.ring, nodes, 3)?;
+    } else {
+        push_many(out, small(nodes.len()), b"node", b"nodes")?;
+    }
+    out.push(b' ')?;
+    out.extend_from_slice(if nodes.len() == 1 { one } else { more })?;
+    Ok(())
+}
+
+/// Who joins and who leaves.
+pub fn push_change(view: &View, out: &mut Vec<u8>) -> Result<(), Refusal> {
+    let (joins, leaves) = (view.scene.joins.as_slice(), view.scene.leaves.as_slice());
+    if joins.is_empty() && leaves.is_empty() {
+        out.extend_from_slice(b"Nobody joins or leaves")?;
+    }
+    if !joins.is_empty() {
+        push_who(view, out, joins, b"joins", b"join")?;
+    }
+    if !joins.is_empty() && !leaves.is_empty() {
+        out.extend_from_slice(b" and ")?;
+    }
+    if !leaves.is_empty() {
+        push_who(view, out, leaves, b"leaves", b"leave")?;
+    }
+    Ok(())
+}
+
+// The first line.
+fn push_head(view: &View, out: &mut Vec<u8>) -> Result<(), Refusal> {
+    let ring = view.ring;
+    let mut line = Vec::new(view.alloc);
+    push_change(view, &mut line)?;
+    line.extend_from_slice(b" a ring of ")?;
+    push_many(&mut line, ring.q(), b"partition of ", b"partitions of ")?;
+    push_many(&mut line, ring.n(), b"slot", b"slots")?;
+    line.extend_from_slice(b": any ")?;
+    push_many(
+        &mut line,
+        ring.r(),
+        b"answers a read, any ",
+        b"answer a read, any ",
+    )?;
+    push_many(&mut line, ring.w(), b"takes a write", b"take a write")?;
+    if ring.loss() > 0 {
+        line.extend_from_slice(b", ")?;
+        push_many(
+            &mut line,
+            ring.loss(),
+            b"store may be lost",
+            b"stores may be lost",
+        )?;
+    }
+    line.push(b'.')?;
+    push_line(out, line.as_slice(), 2)
+}
+
+// The fewest slots that must move where these nodes join and leave: each of a leaver, and as many more as give each joiner its share of all,
+// rounded down.
+fn fewest_moves(view: &View) -> u32 {
+    let members = count_members(view);
+    let total = view.ring.q().saturating_mul(view.ring.n());
+    let share = match total.checked_div(members) {
+        Some(share) => share,
+        None => 0,
+    };
+    let joins = small(view.scene.joins.len());
+    let (mut leaving, mut given) = (0u32, 0u32);
+    for row in view.ring.rows() {
+        let mut left = 0u32;
+        for node in row.as_slice() {
+            if view.scene.leaves.as_slice().contains(&node.0) {
+                left = left.saturating_add(1);
+            }
+        }
+        leaving = leaving.saturating_add(left);
+        given = given.saturating_add(left.min(joins));
+    }
+    leaving.saturating_add(share.saturating_mul(joins).saturating_sub(given))
+}
+
+// How many members there are in the end.
+fn count_members(view: &View) -> u32 {
+    let mut count = 0u32;
+    for node in 0..small(view.ring.nodes().len()) {
+        if view.scene.stays(view.ring, node) {
+            count = count.saturating_add(1);
+        }
+    }
+    count
+}
+
+fn push_moves(view: &View, out: &mut Vec<u8>) -> Result<(), Refusal> {
+    let total = view.ring.q().saturating_mul(view.ring.n());
+    let moves = view.scene.move_count();
+    let mut line = Vec::from_slice(view.alloc, b"  moves     ")?;
+    push_decimal(&mut line, moves)?;
+    line.extend_from_slice(b" of ")?;
+    push_many(&mut line, total, b"slot (", b"slots (")?;
+    push_decimal(&mut line, crate::numbers::parts_of(moves, total, 100))?;
+    line.extend_from_slice(b" %)")?;
+    let fewest = fewest_moves(view);
+    let changes = !view.scene.joins.is_empty() || !view.scene.leaves.is_empty();
+    if changes && moves == fewest {
+        line.extend_from_slice(b", no more than must")?;
+    }
+    if changes && moves > fewest {
+        line.extend_from_slice(b", where ")?;
+        push_decimal(&mut line, fewest)?;
+        line.extend_from_slice(b" would do")?;
+    }
+    push_line(out, line.as_slice(), INDENT)
+}
+
+fn push_round_count(view: &View, out: &mut Vec<u8>) -> Result<(), Refusal> {
+    let mut line = Vec::from_slice(view.alloc, b"  rounds    ")?;
+    push_decimal(&mut line, view.scene.round_count())?;
+    line.extend_from_slice(b" of copies behind one another; the widest has ")?;
+    push_decimal(&mut line, view.scene.widest())?;
+    push_line(out, line.as_slice(), INDENT)
+}
+
+// What mirrors cost, and which copies read more than the owner.
+fn push_writes(view: &View, out: &mut Vec<u8>) -> Result<(), Refusal> {
+    let (mut early, mut listed) = (0u32, 0u32);
+    for shown in view.scene.shown.moves.as_slice() {
+        if shown.round > shown.opens.saturating_add(1) {
+            early = early.saturating_add(1);
+        }
+        if shown.is_listed {
+            listed = listed.saturating_add(1);
+        }
+    }
+    let mut line = Vec::from_slice(
+        view.alloc,
+        b"  writes    twice for a slot while its mirror is open; ",
+    )?;
+    if early > 0 {
+        push_many(
+            &mut line,
+            early,
+            b"mirror opens rounds before its copy",
+            b"mirrors open rounds before their copies",
+        )?;
+    } else {
+        line.extend_from_slice(b"each opens just before its copy")?;
+    }
+    push_line(out, line.as_slice(), INDENT)?;
+    if listed == 0 {
+        return Ok(());
+    }
+    let mut line = Vec::from_slice(view.alloc, b"  sources   ")?;
+    push_many(&mut line, listed, b"copy reads", b"copies read")?;
+    line.extend_from_slice(b" listed slots of the partition in place of the owner")?;
+    push_line(out, line.as_slice(), INDENT)
+}
+
+// The fewest and the most slots among nodes.
+#[derive(Clone, Copy)]
+struct Span {
+    least: u32,
+    most: u32,
+}
+
+impl Span {
+    fn new() -> Span {
+        Span {
+            least: u32::MAX,
+            most: 0,
+        }
+    }
+
+    fn add(&mut self, count: u32) {
+        self.least = self.least.min(count);
+        self.most = self.most.max(count);
+    }
+
+    // `4`, or `3 to 5`.
+    fn push(&self, out: &mut Vec<u8>) -> Result<(), Refusal> {
+        push_decimal(out, self.least.min(self.most))?;
+        if self.least < self.most {
+            out.extend_from_slice(b" to ")?;
+            push_decimal(out, self.most)?;
+        }
+        Ok(())
+    }
+}
+
+fn push_balance(view: &View, out: &mut Vec<u8>) -> Result<(), Refusal> {
+    let (mut now, mut then) = (Span::new(), Span::new());
+    let loads = &view.scene.loads;
+    for node in 0..small(view.ring.nodes().len()) {
+        if view.ring.is_member(ring_names::NodeId(node)) {
+            now.add(at(loads.before.as_slice(), node as usize));
+        }
+        if view.scene.stays(view.ring, node) {
+            then.add(at(loads.after.as_slice(), node as usize));
+        }
+    }
+    let total = view.ring.q().saturating_mul(view.ring.n());
+    let even = crate::numbers::parts_of(total, count_members(view), 10);
+    let mut line = Vec::from_slice(view.alloc, b"  balance   a member owns ")?;
+    now.push(&mut line)?;
+    line.extend_from_slice(b" slots now and ")?;
+    then.push(&mut line)?;
+    line.extend_from_slice(b" in the end; even would be ")?;
+    push_tenths(&mut line, even)?;
+    push_line(out, line.as_slice(), INDENT)
+}
+
+fn push_racks(view: &View, out: &mut Vec<u8>) -> Result<(), Refusal> {
+    let Some(behind) = view.racks_behind else {
+        return Ok(());
+    };
+    let now = sharing(view.ring, view.ring.rows(), behind);
+    let then = sharing(view.ring, view.scene.last_rows.as_slice(), behind);
+    let mut line = Vec::from_slice(view.alloc, b"  racks     ")?;
+    push_many(&mut line, now, b"partition has", b"partitions have")?;
+    line.extend_from_slice(b" two slots in one rack now, ")?;
+    push_decimal(&mut line, then)?;
+    line.extend_from_slice(b" in the end")?;
+    if then > now {
+        line.extend_from_slice(b"   WORSE")?;
+    }
+    push_line(out, line.as_slice(), INDENT)
+}
+
+fn push_failing(view: &View, out: &mut Vec<u8>) -> Result<(), Refusal> {
+    let ring = view.ring;
+    let loads = &view.scene.loads;
+    let mut line = Vec::from_slice(view.alloc, b"  if one fails   ")?;
+    push_decimal(&mut line, kept_by_one(ring, loads.before.as_slice()))?;
+    line.extend_from_slice(b" of ")?;
+    push_many(&mut line, ring.q(), b"partition", b"partitions")?;
+    line.extend_from_slice(b" still answer reads and writes now, ")?;
+    push_decimal(&mut line, kept_by_one(ring, loads.after.as_slice()))?;
+    line.extend_from_slice(b" in the end")?;
+    push_line(out, line.as_slice(), INDENT)?;
+    let mut line = Vec::from_slice(view.alloc, b"  if two fail    ")?;
+    let members = count_before(view);
+    push_decimal(&mut line, pairs(view.alloc, ring, ring.rows())?)?;
+    line.extend_from_slice(b" of ")?;
+    push_many(
+        &mut line,
+        all_pairs(members as usize),
+        b"pair of members",
+        b"pairs of members",
+    )?;
+    line.extend_from_slice(b" share a partition now, ")?;
+    push_decimal(
+        &mut line,
+        pairs(view.alloc, ring, view.scene.last_rows.as_slice())?,
+    )?;
+    line.extend_from_slice(b" of ")?;
+    push_decimal(&mut line, all_pairs(count_members(view) as usize))?;
+    line.extend_from_slice(b" in the end")?;
+    push_line(out, line.as_slice(), INDENT)
+}
+
+// How many members there are before the first step.
+fn count_before(view: &View) -> u32 {
+    let mut count = 0u32;
+    for node in view.ring.nodes() {
+        if node.is_member {
+            count = count.saturating_add(1);
+        }
+    }
+    count
+}
+
+// `mirror 7.0 n13`: what the step of that number does.
+fn push_step(view: &View, out: &mut Vec<u8>, number: u32) -> Result<(), Refusal> {
+    if number >= view.plan.len() {
+        return Ok(());
+    }
+    match view.plan.step(number) {
+        Step::Join(node) => push_words(view, out, b"join", None, Some(node.0)),
+        Step::Mirror(slot, node) => push_words(view, out, b"mirror", Some(*slot), Some(node.0)),
+        Step::Copy(slot, _) => push_words(view, out, b"copy", Some(*slot), None),
+        Step::Switch(slot) => push_words(view, out, b"switch", Some(*slot), None),
+        Step::Drop(slot, node) => push_words(view, out, b"drop", Some(*slot), Some(node.0)),
+        Step::Retire(node) => push_words(view, out, b"retire", None, Some(node.0)),
+    }
+}
+
+fn push_words(
+    view: &View,
+    out: &mut Vec<u8>,
+    word: &[u8],
+    slot: Option<Slot>,
+    node: Option<u32>,
+) -> Result<(), Refusal> {
+    out.extend_from_slice(word)?;
+    if let Some(slot) = slot {
+        out.push(b' ')?;
+        push_decimal(out, slot.partition)?;
+        out.push(b'.')?;
+        push_decimal(out, slot.index)?;
+    }
+    if let Some(node) = node {
+        out.push(b' ')?;
+        out.extend_from_slice(name(view.ring, node))?;
+    }
+    Ok(())
+}
+
+// The lines of what a history has done.
+fn push_progress(view: &View, out: &mut Vec<u8>, progress: &Progress) -> Result<(), Refusal> {
+    push_done(view, out, progress)?;
+    push_open(view, out, progress)?;
+    push_next(view, out, progress)?;
+    out.push(b'\n')?;
+    Ok(())
+}
+
+fn push_done(view: &View, out: &mut Vec<u8>, progress: &Progress) -> Result<(), Refusal> {
+    let steps = view.plan.len();
+    let done = progress.count();
+    let full = match done.saturating_mul(40).checked_div(steps) {
+        Some(full) => full.min(40) as usize,
+        None => 40,
+    };
+    let (mut copies, mut copied) = (0u32, 0u32);
+    for number in 0..steps {
+        if let Step::Copy(_, _) = view.plan.step(number) {
+            copies = copies.saturating_add(1);
+            if progress.is_done(number) {
+                copied = copied.saturating_add(1);
+            }
+        }
+    }
+    out.extend_from_slice(b"  done      [")?;
+    push_times(out, b'#', full)?;
+    push_times(out, b'.', 40 - full)?;
+    out.extend_from_slice(b"] ")?;
+    push_decimal(out, done)?;
+    out.extend_from_slice(b" of ")?;
+    push_many(out, steps, b"step, ", b"steps, ")?;
+    push_decimal(out, copied)?;
+    out.extend_from_slice(b" of ")?;
+    push_many(out, copies, b"copy\n", b"copies\n")
+}
+
+fn push_open(view: &View, out: &mut Vec<u8>, progress: &Progress) -> Result<(), Refusal> {
+    for number in 0..view.plan.len() {
+        if progress.is_open(number) {
+            out.extend_from_slice(b"  open      step ")?;
+            push_decimal(out, number)?;
+            out.push(b' ')?;
+            push_step(view, out, number)?;
+            out.extend_from_slice(b": ")?;
+            push_decimal(out, progress.chunks(number))?;
+            out.extend_from_slice(b" of 16 chunks\n")?;
+        }
+    }
+    Ok(())
+}
+
+fn push_next(view: &View, out: &mut Vec<u8>, progress: &Progress) -> Result<(), Refusal> {
+    let mut line = Vec::from_slice(view.alloc, b"  next      ")?;
+    let mut count = 0u32;
+    for number in 0..view.plan.len() {
+        if !progress.is_ready(view.plan, number) {
+            continue;
+        }
+        if count < 4 {
+            if count > 0 {
+                line.extend_from_slice(b"; ")?;
+            }
+            line.extend_from_slice(b"step ")?;
+            push_decimal(&mut line, number)?;
+            line.push(b' ')?;
+            push_step(view, &mut line, number)?;
+        }
+        count = count.saturating_add(1);
+    }
+    if count == 0 {
+        line.extend_from_slice(b"nothing")?;
+    }
+    if count > 4 {
+        line.extend_from_slice(b"; ")?;
+        push_decimal(&mut line, count - 4)?;
+        line.extend_from_slice(b" more")?;
+    }
+    push_line(out, line.as_slice(), INDENT)
+}
+
+// The last line.
+fn push_total(view: &View, out: &mut Vec<u8>) -> Result<(), Refusal> {
+    let scene = view.scene;
+    out.extend_from_slice(b"Plan: ")?;
+    push_decimal(out, small(scene.joins.len()))?;
+    out.extend_from_slice(b" to join, ")?;
+    push_decimal(out, small(scene.leaves.len()))?;
+    out.extend_from_slice(b" to leave, ")?;
+    push_many(
+        out,
+        scene.move_count(),
+        b"slot to move in ",
+        b"slots to move in ",
+    )?;
+    push_many(out, scene.round_count(), b"round.\n", b"rounds.\n")
+}
+
+/// The summary of a plan: who joins and leaves, what moves in how many rounds, what it does to balance, racks and failures, the table of nodes, the
+/// rounds, and where there is a history how far it has come. Lines have at most 100 bytes. Its only refusal is `OutOfMemory`.
+pub fn summary(view: &View, progress: Option<&Progress>) -> Result<Vec<u8>, Refusal> {
+    let mut out = Vec::new(view.alloc);
+    push_head(view, &mut out)?;
+    out.push(b'\n')?;
+    push_moves(view, &mut out)?;
+    push_round_count(view, &mut out)?;
+    push_writes(view, &mut out)?;
+    push_balance(view, &mut out)?;
+    push_racks(view, &mut out)?;
+    push_failing(view, &mut out)?;
+    out.push(b'\n')?;
+    push_table(view, &mut out)?;
+    out.push(b'\n')?;
+    push_rounds(view, &mut out)?;
+    out.push(b'\n')?;
+    if let Some(progress) = progress {
+        push_progress(view, &mut out, progress)?;
+    }
+    push_total(view, &mut out)?;
+    Ok(out)
+}

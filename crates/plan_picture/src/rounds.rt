@@ -1,0 +1,250 @@
+//! The rounds of copies.
+
+use crate::names::name;
+use crate::numbers::{at, small};
+use crate::overview::{Shape, View};
+use crate::pieces::Flow;
+use crate::shown::Shown;
+use crate::writing::{push_many, push_number_right, push_spaces};
+use ring_names::{Refusal, push_decimal};
+use std::alloc::Global;
+
+// How many rounds a short list has, and how many it shows where there are more.
+const SHORT: u32 = 12;
+
+const SHOWN: u32 = 10;
+
+// How many pairs of nodes, and slots of a pair, a short list has in a round.
+const ENTRIES: usize = 6;
+
+// How far the copies of a round are indented.
+const INDENT: usize = 18;
+
+// A move among those that are listed: by round, then by whom it reads and to whom it goes. Copies that read listed slots stand by themselves.
+#[derive(Clone, Copy, PartialEq, Eq, PartialOrd, Ord)]
+struct Placed {
+    round: u32,
+    reads: u64,
+    to: u32,
+    place: u32,
+}
+
+// The moves that have a copy, in the order in which they are listed.
+fn in_order(alloc: Global, moves: &[Shown]) -> Result<Vec<Placed>, Refusal> {
+    let mut order = Vec::new(alloc);
+    let mut place = 0u32;
+    for shown in moves {
+        if shown.round > 0 {
+            let apart = u64::from(u32::MAX).saturating_add(u64::from(place));
+            order.push(Placed {
+                round: shown.round,
+                reads: if shown.is_listed {
+                    apart
+                } else {
+                    u64::from(shown.from)
+                },
+                to: shown.to,
+                place,
+            })?;
+        }
+        place = place.saturating_add(1);
+    }
+    order.sort_unstable();
+    Ok(order)
+}
+
+// Whether the two stand in one entry.
+fn are_alike(one: &Placed, other: &Placed) -> bool {
+    one.round == other.round && one.reads == other.reads && one.to == other.to
+}
+
+// How many of these stand in one entry with the first.
+fn alike_in_front(order: &[Placed]) -> usize {
+    let mut count = 0usize;
+    let Some(first) = order.first() else {
+        return 0;
+    };
+    for one in order {
+        if !are_alike(first, one) {
+            break;
+        }
+        count = count.saturating_add(1);
+    }
+    count
+}
+
+// The first so many of these, and the others.
+fn cut(order: &[Placed], count: usize) -> (&[Placed], &[Placed]) {
+    if count <= order.len() {
+        return (&order[..count], &order[count..]);
+    }
+    (order, &[])
+}
+
+// `5.1`: partition and slot.
+fn push_slot(out: &mut Vec<u8>, shown: &Shown) -> Result<(), Refusal> {
+    push_decimal(out, shown.slot.partition)?;
+    out.push(b'.')?;
+    push_decimal(out, shown.slot.index)?;
+    Ok(())
+}
+
+// Whom the copy reads.
+fn push_read(view: &View, out: &mut Vec<u8>, shown: &Shown) -> Result<(), Refusal> {
+    let nodes = view.scene.shown.read_by(shown);
+    if nodes.len() > 2 {
+        return push_many(out, small(nodes.len()), b"node", b"nodes");
+    }
+    let mut is_first = true;
+    for node in nodes {
+        if !is_first {
+            out.push(b'+')?;
+        }
+        out.extend_from_slice(name(view.ring, *node))?;
+        is_first = false;
+    }
+    Ok(())
+}
+
+// The word for a copy: the first of an entry has the nodes in front.
+fn word_of(view: &View, shown: &Shown, is_first: bool) -> Result<Vec<u8>, Refusal> {
+    let mut word = Vec::new(view.alloc);
+    if is_first {
+        push_read(view, &mut word, shown)?;
+        word.extend_from_slice(b" > ")?;
+        word.extend_from_slice(name(view.ring, shown.to))?;
+        word.extend_from_slice(b": ")?;
+    }
+    push_slot(&mut word, shown)?;
+    Ok(word)
+}
+
+// The entry of copies between the same nodes.
+fn push_entry(
+    view: &View,
+    out: &mut Vec<u8>,
+    flow: &mut Flow,
+    entry: &[Placed],
+) -> Result<(), Refusal> {
+    let most = match view.shape {
+        Shape::Short if entry.len() > ENTRIES => ENTRIES - 1,
+        _ => entry.len(),
+    };
+    let mut count = 0usize;
+    for one in entry {
+        if count >= most {
+            break;
+        }
+        let is_first = count == 0;
+        if let Some(shown) = view.scene.shown.moves.as_slice().get(one.place as usize) {
+            let word = word_of(view, shown, is_first)?;
+            flow.push(out, word.as_slice(), if is_first { 3 } else { 1 })?;
+        }
+        count = count.saturating_add(1);
+    }
+    push_more(view, out, flow, entry.len().saturating_sub(count), b"more")
+}
+
+// `and 5 more`, or nothing of none.
+fn push_more(
+    view: &View,
+    out: &mut Vec<u8>,
+    flow: &mut Flow,
+    count: usize,
+    what: &[u8],
+) -> Result<(), Refusal> {
+    if count == 0 {
+        return Ok(());
+    }
+    let mut word = Vec::from_slice(view.alloc, b"and ")?;
+    push_decimal(&mut word, small(count))?;
+    word.push(b' ')?;
+    word.extend_from_slice(what)?;
+    flow.push(out, word.as_slice(), 1)
+}
+
+// How many entries the round has.
+fn entries(round: &[Placed]) -> usize {
+    let mut count = 0usize;
+    let mut rest = round;
+    for turn in 0..round.len() {
+        let alike = alike_in_front(rest);
+        if alike == 0 {
+            break;
+        }
+        count = count.saturating_add(1);
+        rest = cut(rest, alike).1;
+    }
+    count
+}
+
+// The lines of a round.
+fn push_round(view: &View, out: &mut Vec<u8>, round: &[Placed]) -> Result<(), Refusal> {
+    let Some(first) = round.first() else {
+        return Ok(());
+    };
+    push_spaces(out, 2)?;
+    push_number_right(view.alloc, out, first.round, 5)?;
+    push_spaces(out, 2)?;
+    push_number_right(view.alloc, out, small(round.len()), 6)?;
+    push_spaces(out, 3)?;
+    let most = match view.shape {
+        Shape::Short if entries(round) > ENTRIES => ENTRIES - 1,
+        _ => round.len(),
+    };
+    push_entries(view, out, round, most)?;
+    out.push(b'\n')?;
+    Ok(())
+}
+
+// The first so many entries of a round, and how many copies the others have.
+fn push_entries(
+    view: &View,
+    out: &mut Vec<u8>,
+    round: &[Placed],
+    most: usize,
+) -> Result<(), Refusal> {
+    let mut flow = Flow::new(INDENT);
+    let mut rest = round;
+    for turn in 0..most {
+        if rest.is_empty() {
+            break;
+        }
+        let (entry, others) = cut(rest, alike_in_front(rest));
+        push_entry(view, out, &mut flow, entry)?;
+        rest = others;
+    }
+    push_more(view, out, &mut flow, rest.len(), b"copies more")
+}
+
+/// The rounds, with the copies of each.
+pub fn push_rounds(view: &View, out: &mut Vec<u8>) -> Result<(), Refusal> {
+    let order = in_order(view.alloc, view.scene.shown.moves.as_slice())?;
+    let count = view.scene.round_count();
+    let most = match view.shape {
+        Shape::Short if count > SHORT => SHOWN,
+        _ => count,
+    };
+    out.extend_from_slice(b"  round  copies   from > to: partition.slot\n")?;
+    let mut rest = order.as_slice();
+    for round in 0..most {
+        let width = at(view.scene.widths.as_slice(), round as usize) as usize;
+        let (these, others) = cut(rest, width);
+        push_round(view, out, these)?;
+        rest = others;
+    }
+    if rest.is_empty() {
+        return Ok(());
+    }
+    out.extend_from_slice(b"     ..  ")?;
+    push_number_right(view.alloc, out, small(rest.len()), 6)?;
+    out.extend_from_slice(b"   in ")?;
+    push_many(
+        out,
+        count.saturating_sub(most),
+        b"round more",
+        b"rounds more",
+    )?;
+    out.extend_from_slice(b" (--all)\n")?;
+    Ok(())
+}

@@ -1,0 +1,121 @@
+//! What is shown of a plan.
+
+use crate::loads::Loads;
+use crate::numbers::{at, raise};
+use crate::shown::{AllShown, Shown};
+use plan_cert::Cert;
+use plan_check::Approved;
+use plan_moves::{last_owners, moves, rounds};
+use plan_text::{Plan, Step};
+use ring_names::{Listed, NodeId, Refusal};
+use ring_table::Ring;
+use std::alloc::Global;
+
+/// An approved plan with all that is said of it: its moves and their rounds, what each node gives and takes, and who owns what in the end.
+#[derive(Drop)]
+pub struct Scene {
+    pub(crate) shown: AllShown,
+    // by step
+    pub(crate) rounds: Vec<u32>,
+    // by round, from 1 on: how many copies it has
+    pub(crate) widths: Vec<u32>,
+    // in the order of the plan's steps
+    pub(crate) joins: Vec<u32>,
+    pub(crate) leaves: Vec<u32>,
+    pub(crate) last_rows: Vec<Listed<NodeId>>,
+    pub(crate) loads: Loads,
+}
+
+impl Scene {
+    /// What is shown of a plan that the checker accepted by the certificate. Its only refusal is `OutOfMemory`.
+    pub fn of(alloc: Global, approved: &Approved, cert: &Cert) -> Result<Scene, Refusal> {
+        let (ring, plan) = (approved.ring(), approved.plan());
+        let begun = moves(alloc, ring, plan)?;
+        let rounds = rounds(alloc, plan)?;
+        let shown = AllShown::of(alloc, ring, plan, begun.as_slice(), rounds.as_slice())?;
+        let widths = widths(alloc, shown.moves.as_slice())?;
+        let joins = joining(alloc, plan)?;
+        let leaves = retiring(alloc, plan)?;
+        let last_rows = last_owners(alloc, ring, plan)?;
+        let loads = Loads::of(alloc, ring, cert, &shown, last_rows.as_slice())?;
+        Ok(Scene {
+            shown,
+            rounds,
+            widths,
+            joins,
+            leaves,
+            last_rows,
+            loads,
+        })
+    }
+
+    /// How many rounds of copies run one behind the other.
+    pub fn round_count(&self) -> u32 {
+        crate::numbers::small(self.widths.len())
+    }
+
+    /// How many copies the widest round has.
+    pub fn widest(&self) -> u32 {
+        let mut most = 0u32;
+        for width in self.widths.as_slice() {
+            most = most.max(*width);
+        }
+        most
+    }
+
+    /// How many slots move.
+    pub fn move_count(&self) -> u32 {
+        crate::numbers::small(self.shown.moves.len())
+    }
+
+    /// Whether the node is a member in the end.
+    pub(crate) fn stays(&self, ring: &Ring, node: u32) -> bool {
+        let is_member = ring.is_member(NodeId(node)) || self.joins.as_slice().contains(&node);
+        is_member && !self.leaves.as_slice().contains(&node)
+    }
+
+    /// Whether the node joins, leaves, gives or takes.
+    pub(crate) fn takes_part(&self, node: u32) -> bool {
+        at(self.loads.gives.as_slice(), node as usize) > 0
+            || at(self.loads.takes.as_slice(), node as usize) > 0
+            || self.joins.as_slice().contains(&node)
+            || self.leaves.as_slice().contains(&node)
+    }
+}
+
+// How many copies each round has.
+fn widths(alloc: Global, moves: &[Shown]) -> Result<Vec<u32>, Refusal> {
+    let mut most = 0u32;
+    for shown in moves {
+        most = most.max(shown.round);
+    }
+    let mut widths = vec![in alloc; 0u32; most as usize]?;
+    for shown in moves {
+        if shown.round > 0 {
+            raise(widths.as_mut_slice(), shown.round as usize - 1);
+        }
+    }
+    Ok(widths)
+}
+
+// The nodes that join, in the order of the steps.
+fn joining(alloc: Global, plan: &Plan) -> Result<Vec<u32>, Refusal> {
+    let mut nodes = Vec::new(alloc);
+    for number in 0..plan.len() {
+        if let Step::Join(node) = plan.step(number) {
+            nodes.push(node.0)?;
+        }
+    }
+    Ok(nodes)
+}
+
+// The nodes that retire, in the order of the steps.
+fn retiring(alloc: Global, plan: &Plan) -> Result<Vec<u32>, Refusal> {
+    let mut nodes = Vec::new(alloc);
+    for number in 0..plan.len() {
+        if let Step::Retire(node) = plan.step(number) {
+            nodes.push(node.0)?;
+        }
+    }
+    Ok(nodes)
+}

@@ -1,0 +1,269 @@
+//! The table of the nodes that take part.
+
+use crate::names::{name, push_names};
+use crate::numbers::{at, parts_of, small};
+use crate::overview::{Shape, View};
+use crate::scene::Scene;
+use crate::writing::{
+    WIDTH, digits, push_left, push_number_right, push_right, push_spaces, push_times, push_trimmed,
+};
+use ring_names::{NodeId, Refusal};
+use ring_table::Node;
+use std::alloc::Global;
+
+// How many rows a short table has.
+const SHORT: usize = 24;
+
+// How wide the longest bar is.
+const BAR: usize = 24;
+
+// The rows of a table, and what they have in common.
+#[derive(Drop)]
+struct Table {
+    // the nodes of the rows, by number
+    rows: Vec<u32>,
+    // those that take part and have no row
+    hidden: Vec<u32>,
+    names: usize,
+    at_once: usize,
+    // the most slots that a node of a row owns before or behind the plan
+    top: u32,
+}
+
+// The nodes that take part, by number.
+fn taking_part(view: &View) -> Result<Vec<u32>, Refusal> {
+    let mut nodes = Vec::new(view.alloc);
+    for node in 0..small(view.ring.nodes().len()) {
+        if view.scene.takes_part(node) {
+            nodes.push(node)?;
+        }
+    }
+    Ok(nodes)
+}
+
+// What a node does in a plan, for the order in which nodes get a row.
+fn kind(scene: &Scene, node: u32) -> usize {
+    if scene.leaves.as_slice().contains(&node) {
+        0
+    } else if scene.joins.as_slice().contains(&node) {
+        1
+    } else {
+        2
+    }
+}
+
+// How many transfers the node has.
+fn work(scene: &Scene, node: u32) -> u32 {
+    let gives = at(scene.loads.gives.as_slice(), node as usize);
+    gives.saturating_add(at(scene.loads.takes.as_slice(), node as usize))
+}
+
+// The nodes of one kind, those with the most transfers first.
+fn busiest(view: &View, nodes: &[u32], wanted: usize) -> Result<Vec<u32>, Refusal> {
+    let mut ranked = Vec::new(view.alloc);
+    for node in nodes {
+        if kind(view.scene, *node) == wanted {
+            ranked.push((u32::MAX - work(view.scene, *node), *node))?;
+        }
+    }
+    ranked.sort_unstable();
+    let mut found = Vec::new(view.alloc);
+    for (_, node) in ranked.as_slice() {
+        found.push(*node)?;
+    }
+    Ok(found)
+}
+
+// Those of the nodes that get one of so many rows: the busiest that leave, that join and that stay, in turns.
+fn chosen(view: &View, nodes: &[u32], most: usize) -> Result<Vec<u32>, Refusal> {
+    let leaving = busiest(view, nodes, 0)?;
+    let joining = busiest(view, nodes, 1)?;
+    let staying = busiest(view, nodes, 2)?;
+    let mut found = Vec::new(view.alloc);
+    for place in 0..most {
+        for list in [leaving.as_slice(), joining.as_slice(), staying.as_slice()] {
+            if let Some(node) = list.get(place) {
+                if found.len() < most {
+                    found.push(*node)?;
+                }
+            }
+        }
+    }
+    found.sort_unstable();
+    Ok(found)
+}
+
+// Those of the nodes that are not among the others.
+fn without(alloc: Global, nodes: &[u32], others: &[u32]) -> Result<Vec<u32>, Refusal> {
+    let mut found = Vec::new(alloc);
+    for node in nodes {
+        if !others.contains(node) {
+            found.push(*node)?;
+        }
+    }
+    Ok(found)
+}
+
+impl Table {
+    fn of(view: &View) -> Result<Table, Refusal> {
+        let nodes = taking_part(view)?;
+        let most = match view.shape {
+            Shape::Short => SHORT,
+            Shape::Whole => nodes.len(),
+        };
+        let rows = chosen(view, nodes.as_slice(), most)?;
+        let hidden = without(view.alloc, nodes.as_slice(), rows.as_slice())?;
+        let mut table = Table {
+            rows,
+            hidden,
+            names: 4,
+            at_once: 9,
+            top: 1,
+        };
+        table.measure(view)?;
+        Ok(table)
+    }
+
+    // Makes the columns as wide as what stands in them.
+    fn measure(&mut self, view: &View) -> Result<(), Refusal> {
+        let loads = &view.scene.loads;
+        for node in self.rows.as_slice() {
+            let place = *node as usize;
+            self.names = self.names.max(name(view.ring, *node).len());
+            self.at_once = self.at_once.max(at_once(view, *node)?.len());
+            self.top = self.top.max(at(loads.before.as_slice(), place));
+            self.top = self.top.max(at(loads.after.as_slice(), place));
+        }
+        Ok(())
+    }
+
+    // The line of a node.
+    fn push_row(&self, view: &View, out: &mut Vec<u8>, node: u32) -> Result<(), Refusal> {
+        let (alloc, scene) = (view.alloc, view.scene);
+        let place = node as usize;
+        let before = at(scene.loads.before.as_slice(), place);
+        let after = at(scene.loads.after.as_slice(), place);
+        let is_gone = scene.leaves.as_slice().contains(&node);
+        let mut line = Vec::from_slice(alloc, b"  ")?;
+        line.push(sign(scene, node))?;
+        line.push(b' ')?;
+        push_left(&mut line, name(view.ring, node), self.names)?;
+        push_spaces(&mut line, 2)?;
+        push_left(&mut line, at_once(view, node)?.as_slice(), self.at_once)?;
+        push_spaces(&mut line, 2)?;
+        push_count(alloc, &mut line, at(scene.loads.gives.as_slice(), place))?;
+        push_spaces(&mut line, 2)?;
+        push_count(alloc, &mut line, at(scene.loads.takes.as_slice(), place))?;
+        push_spaces(&mut line, 3)?;
+        push_number_right(alloc, &mut line, before, 4)?;
+        line.extend_from_slice(b" -> ")?;
+        let then = digits(alloc, after)?;
+        push_left(
+            &mut line,
+            if is_gone { b"gone" } else { then.as_slice() },
+            4,
+        )?;
+        line.push(b' ')?;
+        self.push_bar(&mut line, before, after)?;
+        push_trimmed(out, line.as_slice())
+    }
+
+    // A bar of what the node owns: `=` for what it keeps, `-` for what it gives and `+` for what it takes.
+    fn push_bar(&self, line: &mut Vec<u8>, before: u32, after: u32) -> Result<(), Refusal> {
+        let room = WIDTH.saturating_sub(line.len()).min(BAR);
+        let scale = small(room).min(self.top);
+        let start = parts_of(before, self.top, scale) as usize;
+        let end = parts_of(after, self.top, scale) as usize;
+        push_times(line, b'=', start.min(end))?;
+        push_times(line, b'+', end.saturating_sub(start))?;
+        push_times(line, b'-', start.saturating_sub(end))
+    }
+
+    // The line of those without a row.
+    fn push_hidden(&self, out: &mut Vec<u8>, scene: &Scene) -> Result<(), Refusal> {
+        if self.hidden.is_empty() {
+            return Ok(());
+        }
+        let (mut gives, mut takes) = (0u32, 0u32);
+        for node in self.hidden.as_slice() {
+            gives = gives.saturating_add(at(scene.loads.gives.as_slice(), *node as usize));
+            takes = takes.saturating_add(at(scene.loads.takes.as_slice(), *node as usize));
+        }
+        push_spaces(out, 4)?;
+        crate::writing::push_many(
+            out,
+            small(self.hidden.len()),
+            b"node more: gives ",
+            b"nodes more: give ",
+        )?;
+        ring_names::push_decimal(out, gives)?;
+        out.extend_from_slice(b", take ")?;
+        ring_names::push_decimal(out, takes)?;
+        out.extend_from_slice(b" slots (--all)\n")?;
+        Ok(())
+    }
+}
+
+// How many transfers the node has at once, or a point.
+fn at_once(view: &View, node: u32) -> Result<Vec<u8>, Refusal> {
+    let mut text = Vec::new(view.alloc);
+    if let Some(Node { allowance, .. }) = view.ring.nodes().get(node as usize) {
+        view.scene.loads.push_at_once(&mut text, *allowance, node)?;
+    }
+    if text.is_empty() {
+        text.push(b'.')?;
+    }
+    Ok(text)
+}
+
+fn sign(scene: &Scene, node: u32) -> u8 {
+    match kind(scene, node) {
+        0 => b'-',
+        1 => b'+',
+        _ => b'~',
+    }
+}
+
+// A number, or a point for none.
+fn push_count(alloc: Global, line: &mut Vec<u8>, count: u32) -> Result<(), Refusal> {
+    if count == 0 {
+        return push_right(line, b".", 5);
+    }
+    push_number_right(alloc, line, count, 5)
+}
+
+// The line of the members that do nothing.
+fn push_idle(view: &View, out: &mut Vec<u8>) -> Result<(), Refusal> {
+    let mut idle = Vec::new(view.alloc);
+    for node in 0..small(view.ring.nodes().len()) {
+        if view.ring.is_member(NodeId(node)) && !view.scene.takes_part(node) {
+            idle.push(node)?;
+        }
+    }
+    if idle.is_empty() {
+        return Ok(());
+    }
+    push_spaces(out, 4)?;
+    if idle.len() < 6 {
+        push_names(out, view.ring, idle.as_slice(), 6)?;
+    } else {
+        crate::writing::push_many(out, small(idle.len()), b"other member", b"other members")?;
+    }
+    out.extend_from_slice(b": no part\n")?;
+    Ok(())
+}
+
+/// The table: for each node that takes part, how many transfers it has at once, gives and takes, and how many slots it owns now and then.
+pub fn push_table(view: &View, out: &mut Vec<u8>) -> Result<(), Refusal> {
+    let table = Table::of(view)?;
+    push_spaces(out, 4)?;
+    push_left(out, b"node", table.names)?;
+    push_spaces(out, 2)?;
+    push_left(out, b"at once", table.at_once)?;
+    out.extend_from_slice(b"  gives  takes   slots\n")?;
+    for node in table.rows.as_slice() {
+        table.push_row(view, out, *node)?;
+    }
+    table.push_hidden(out, view.scene)?;
+    push_idle(view, out)
+}

@@ -1,0 +1,134 @@
+//! Words and numbers in lines of text.
+
+use ring_names::{Refusal, push_decimal};
+use std::alloc::Global;
+
+/// The widest line, in bytes.
+pub const WIDTH: usize = 100;
+
+/// The digits of a number.
+pub fn digits(alloc: Global, number: u32) -> Result<Vec<u8>, Refusal> {
+    let mut text = Vec::new(alloc);
+    push_decimal(&mut text, number)?;
+    Ok(text)
+}
+
+/// So many spaces.
+pub fn push_spaces(out: &mut Vec<u8>, count: usize) -> Result<(), Refusal> {
+    push_times(out, b' ', count)
+}
+
+/// The byte so many times.
+pub fn push_times(out: &mut Vec<u8>, byte: u8, count: usize) -> Result<(), Refusal> {
+    for place in 0..count {
+        out.push(byte)?;
+    }
+    Ok(())
+}
+
+/// The text, and spaces behind it up to the width.
+pub fn push_left(out: &mut Vec<u8>, text: &[u8], width: usize) -> Result<(), Refusal> {
+    out.extend_from_slice(text)?;
+    push_spaces(out, width.saturating_sub(text.len()))
+}
+
+/// The text, and spaces in front of it up to the width.
+pub fn push_right(out: &mut Vec<u8>, text: &[u8], width: usize) -> Result<(), Refusal> {
+    push_spaces(out, width.saturating_sub(text.len()))?;
+    out.extend_from_slice(text)?;
+    Ok(())
+}
+
+/// The number, and spaces in front of it up to the width.
+pub fn push_number_right(
+    alloc: Global,
+    out: &mut Vec<u8>,
+    number: u32,
+    width: usize,
+) -> Result<(), Refusal> {
+    let text = digits(alloc, number)?;
+    push_right(out, text.as_slice(), width)
+}
+
+/// The number, a space, and the word for one or that for more.
+pub fn push_many(out: &mut Vec<u8>, number: u32, one: &[u8], more: &[u8]) -> Result<(), Refusal> {
+    push_decimal(out, number)?;
+    out.push(b' ')?;
+    out.extend_from_slice(if number == 1 { one } else { more })?;
+    Ok(())
+}
+
+/// The number, and its tenths behind a point.
+pub fn push_tenths(out: &mut Vec<u8>, tenths: u32) -> Result<(), Refusal> {
+    push_decimal(out, tenths / 10)?;
+    out.push(b'.')?;
+    push_decimal(out, tenths % 10)?;
+    Ok(())
+}
+
+// Where the last space stands that has something in front of it and at most so many bytes, if there is one.
+fn last_space(line: &[u8], room: usize) -> Option<usize> {
+    let mut found = None;
+    let mut has_word = false;
+    let mut place = 0usize;
+    for byte in line {
+        if place > room {
+            return found;
+        }
+        if *byte != b' ' {
+            has_word = true;
+        } else if has_word {
+            found = Some(place);
+        }
+        place = place.saturating_add(1);
+    }
+    found
+}
+
+/// A line, broken at spaces where it is too wide; what is broken off stands behind so many spaces.
+pub fn push_line(out: &mut Vec<u8>, line: &[u8], indent: usize) -> Result<(), Refusal> {
+    let mut rest = line;
+    let mut room = WIDTH;
+    for turn in 0..line.len() {
+        if rest.len() <= room {
+            break;
+        }
+        let Some(space) = last_space(rest, room) else {
+            break;
+        };
+        let (front, behind) = cut_at(rest, space);
+        out.extend_from_slice(front)?;
+        out.push(b'\n')?;
+        push_spaces(out, indent)?;
+        rest = behind;
+        room = WIDTH.saturating_sub(indent);
+    }
+    out.extend_from_slice(rest)?;
+    out.push(b'\n')?;
+    Ok(())
+}
+
+// What stands in front of the byte at the place, and what behind it.
+fn cut_at(line: &[u8], place: usize) -> (&[u8], &[u8]) {
+    if place < line.len() {
+        return (&line[..place], &line[place + 1..]);
+    }
+    (line, &[])
+}
+
+/// The line without the spaces at its end.
+pub fn push_trimmed(out: &mut Vec<u8>, line: &[u8]) -> Result<(), Refusal> {
+    let mut width = 0usize;
+    let mut place = 0usize;
+    for byte in line {
+        place = place.saturating_add(1);
+        if *byte != b' ' {
+            width = place;
+        }
+    }
+    if width <= line.len() {
+        out.extend_from_slice(&line[..width])?;
+    }
+    out.push(b'\n')?;
+    Ok(())
+}
