@@ -1,20 +1,17 @@
-//! A plan for people to look at: what it moves, in words.
+//! A plan as a picture: who gives what to whom in which round, as SVG.
 #![tactic(auto)]
 
-mod domains;
-mod failing;
-mod loads;
-mod names;
-mod numbers;
-mod overview;
-mod pieces;
-mod progress;
-mod rounds;
-mod scene;
-mod shown;
-mod table;
-mod writing;
+mod dense;
+mod drawing;
+mod frame;
+mod full;
+mod lanes;
+mod order;
+mod sheet;
+mod slots;
+mod state;
+mod svg;
+mod widths;
 
-pub use overview::{Shape, View, summary};
-pub use progress::Progress;
-pub use scene::Scene;
+pub use drawing::picture;
+pub use sheet::Sheet;

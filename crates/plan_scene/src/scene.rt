@@ -14,16 +14,18 @@ use std::alloc::Global;
 /// An approved plan with all that is said of it: its moves and their rounds, what each node gives and takes, and who owns what in the end.
 #[derive(Drop)]
 pub struct Scene {
-    pub(crate) shown: AllShown,
-    // by step
-    pub(crate) rounds: Vec<u32>,
-    // by round, from 1 on: how many copies it has
-    pub(crate) widths: Vec<u32>,
-    // in the order of the plan's steps
-    pub(crate) joins: Vec<u32>,
-    pub(crate) leaves: Vec<u32>,
-    pub(crate) last_rows: Vec<Listed<NodeId>>,
-    pub(crate) loads: Loads,
+    pub shown: AllShown,
+    /// By step.
+    pub rounds: Vec<u32>,
+    /// By round, from 1 on: how many copies it has.
+    pub widths: Vec<u32>,
+    /// The nodes that join, in the order of the plan's steps.
+    pub joins: Vec<u32>,
+    /// Those that retire.
+    pub leaves: Vec<u32>,
+    /// The owners in the end, by partition.
+    pub last_rows: Vec<Listed<NodeId>>,
+    pub loads: Loads,
 }
 
 impl Scene {
@@ -69,13 +71,13 @@ impl Scene {
     }
 
     /// Whether the node is a member in the end.
-    pub(crate) fn stays(&self, ring: &Ring, node: u32) -> bool {
+    pub fn stays(&self, ring: &Ring, node: u32) -> bool {
         let is_member = ring.is_member(NodeId(node)) || self.joins.as_slice().contains(&node);
         is_member && !self.leaves.as_slice().contains(&node)
     }
 
     /// Whether the node joins, leaves, gives or takes.
-    pub(crate) fn takes_part(&self, node: u32) -> bool {
+    pub fn takes_part(&self, node: u32) -> bool {
         at(self.loads.gives.as_slice(), node as usize) > 0
             || at(self.loads.takes.as_slice(), node as usize) > 0
             || self.joins.as_slice().contains(&node)

@@ -1,11 +1,9 @@
 //! The rounds of copies.
 
-use crate::names::name;
-use crate::numbers::{at, small};
 use crate::overview::{Shape, View};
 use crate::pieces::Flow;
-use crate::shown::Shown;
-use crate::writing::{push_many, push_number_right, push_spaces};
+use crate::writing::{push_number_right, push_spaces};
+use plan_scene::{Shown, at, name, push_many, small};
 use ring_names::{Refusal, push_decimal};
 use std::alloc::Global;
 
@@ -142,25 +140,20 @@ fn push_entry(
         }
         count = count.saturating_add(1);
     }
-    push_more(view, out, flow, entry.len().saturating_sub(count), b"more")
+    if count < entry.len() {
+        let word = word_of_more(view, entry.len() - count, b"more")?;
+        flow.push(out, word.as_slice(), 1)?;
+    }
+    Ok(())
 }
 
-// `and 5 more`, or nothing of none.
-fn push_more(
-    view: &View,
-    out: &mut Vec<u8>,
-    flow: &mut Flow,
-    count: usize,
-    what: &[u8],
-) -> Result<(), Refusal> {
-    if count == 0 {
-        return Ok(());
-    }
+// `and 5 more`.
+fn word_of_more(view: &View, count: usize, what: &[u8]) -> Result<Vec<u8>, Refusal> {
     let mut word = Vec::from_slice(view.alloc, b"and ")?;
     push_decimal(&mut word, small(count))?;
     word.push(b' ')?;
     word.extend_from_slice(what)?;
-    flow.push(out, word.as_slice(), 1)
+    Ok(word)
 }
 
 // How many entries the round has.
@@ -214,7 +207,11 @@ fn push_entries(
         push_entry(view, out, &mut flow, entry)?;
         rest = others;
     }
-    push_more(view, out, &mut flow, rest.len(), b"copies more")
+    if !rest.is_empty() {
+        let word = word_of_more(view, rest.len(), b"copies more")?;
+        flow.push(out, word.as_slice(), 3)?;
+    }
+    Ok(())
 }
 
 /// The rounds, with the copies of each.

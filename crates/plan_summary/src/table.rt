@@ -1,12 +1,10 @@
 //! The table of the nodes that take part.
 
-use crate::names::{name, push_names};
-use crate::numbers::{at, parts_of, small};
 use crate::overview::{Shape, View};
-use crate::scene::Scene;
 use crate::writing::{
     WIDTH, digits, push_left, push_number_right, push_right, push_spaces, push_times, push_trimmed,
 };
+use plan_scene::{Scene, at, name, parts_of, push_many, push_names, small};
 use ring_names::{NodeId, Refusal};
 use ring_table::Node;
 use std::alloc::Global;
@@ -190,7 +188,7 @@ impl Table {
             takes = takes.saturating_add(at(scene.loads.takes.as_slice(), *node as usize));
         }
         push_spaces(out, 4)?;
-        crate::writing::push_many(
+        push_many(
             out,
             small(self.hidden.len()),
             b"node more: gives ",
@@ -247,7 +245,7 @@ fn push_idle(view: &View, out: &mut Vec<u8>) -> Result<(), Refusal> {
     if idle.len() < 6 {
         push_names(out, view.ring, idle.as_slice(), 6)?;
     } else {
-        crate::writing::push_many(out, small(idle.len()), b"other member", b"other members")?;
+        push_many(out, small(idle.len()), b"other member", b"other members")?;
     }
     out.extend_from_slice(b": no part\n")?;
     Ok(())

@@ -1,7 +1,6 @@
-//! The names of nodes.
+//! The names of nodes, and counts in words.
 
-use crate::writing::push_many;
-use ring_names::Refusal;
+use ring_names::{Refusal, push_decimal};
 use ring_table::Ring;
 
 /// The name of the node of that number.
@@ -41,5 +40,13 @@ pub fn push_names(
         out.extend_from_slice(b" and ")?;
         push_many(out, others, b"other", b"others")?;
     }
+    Ok(())
+}
+
+/// The number, a space, and the word for one or that for more.
+pub fn push_many(out: &mut Vec<u8>, number: u32, one: &[u8], more: &[u8]) -> Result<(), Refusal> {
+    push_decimal(out, number)?;
+    out.push(b' ')?;
+    out.extend_from_slice(if number == 1 { one } else { more })?;
     Ok(())
 }

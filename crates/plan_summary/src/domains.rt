@@ -1,6 +1,6 @@
 //! Racks, as the names of nodes tell them.
 
-use crate::names::name;
+use plan_scene::name;
 use ring_names::{Listed, NodeId};
 use ring_table::Ring;
 

@@ -1,6 +1,6 @@
 //! What remains where nodes fail.
 
-use crate::numbers::small;
+use plan_scene::small;
 use ring_names::{Listed, NodeId, Refusal};
 use ring_table::Ring;
 use std::alloc::Global;

@@ -50,14 +50,6 @@ pub fn push_number_right(
     push_right(out, text.as_slice(), width)
 }
 
-/// The number, a space, and the word for one or that for more.
-pub fn push_many(out: &mut Vec<u8>, number: u32, one: &[u8], more: &[u8]) -> Result<(), Refusal> {
-    push_decimal(out, number)?;
-    out.push(b' ')?;
-    out.extend_from_slice(if number == 1 { one } else { more })?;
-    Ok(())
-}
-
 /// The number, and its tenths behind a point.
 pub fn push_tenths(out: &mut Vec<u8>, tenths: u32) -> Result<(), Refusal> {
     push_decimal(out, tenths / 10)?;

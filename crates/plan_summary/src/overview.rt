@@ -2,15 +2,15 @@
 
 use crate::domains::sharing;
 use crate::failing::{all_pairs, kept_by_one, pairs};
-use crate::names::{name, push_names};
-use crate::numbers::{at, small};
-use crate::progress::Progress;
 use crate::rounds::push_rounds;
-use crate::scene::Scene;
+use crate::running::push_progress;
 use crate::table::push_table;
-use crate::writing::{push_line, push_many, push_tenths, push_times};
-use plan_text::{Plan, Step};
-use ring_names::{Refusal, Slot, push_decimal};
+use crate::writing::{push_line, push_tenths};
+use plan_scene::{
+    Progress, Scene, at, count_members, fewest_moves, parts_of, push_change, push_many, small,
+};
+use plan_text::Plan;
+use ring_names::{NodeId, Refusal, push_decimal};
 use ring_table::Ring;
 use std::alloc::Global;
 
@@ -38,51 +38,11 @@ pub struct View<'a> {
 // Behind which column of a line its words begin.
 const INDENT: usize = 12;
 
-// `a and b join`, or nothing where nobody does.
-fn push_who(
-    view: &View,
-    out: &mut Vec<u8>,
-    nodes: &[u32],
-    one: &[u8],
-    more: &[u8],
-) -> Result<(), Refusal> {
-    let mut width = 0usize;
-    for node in nodes {
-        width = width.saturating_add(name(view.ring, *node).len());
-    }
-    if nodes.len() <= 3 && width <= 40 {
-        push_names(out, view.ring, nodes, 3)?;
-    } else {
-        push_many(out, small(nodes.len()), b"node", b"nodes")?;
-    }
-    out.push(b' ')?;
-    out.extend_from_slice(if nodes.len() == 1 { one } else { more })?;
-    Ok(())
-}
-
-/// Who joins and who leaves.
-pub fn push_change(view: &View, out: &mut Vec<u8>) -> Result<(), Refusal> {
-    let (joins, leaves) = (view.scene.joins.as_slice(), view.scene.leaves.as_slice());
-    if joins.is_empty() && leaves.is_empty() {
-        out.extend_from_slice(b"Nobody joins or leaves")?;
-    }
-    if !joins.is_empty() {
-        push_who(view, out, joins, b"joins", b"join")?;
-    }
-    if !joins.is_empty() && !leaves.is_empty() {
-        out.extend_from_slice(b" and ")?;
-    }
-    if !leaves.is_empty() {
-        push_who(view, out, leaves, b"leaves", b"leave")?;
-    }
-    Ok(())
-}
-
 // The first line.
 fn push_head(view: &View, out: &mut Vec<u8>) -> Result<(), Refusal> {
     let ring = view.ring;
     let mut line = Vec::new(view.alloc);
-    push_change(view, &mut line)?;
+    push_change(&mut line, ring, view.scene)?;
     line.extend_from_slice(b" a ring of ")?;
     push_many(&mut line, ring.q(), b"partition of ", b"partitions of ")?;
     push_many(&mut line, ring.n(), b"slot", b"slots")?;
@@ -107,41 +67,6 @@ fn push_head(view: &View, out: &mut Vec<u8>) -> Result<(), Refusal> {
     push_line(out, line.as_slice(), 2)
 }
 
-// The fewest slots that must move where these nodes join and leave: each of a leaver, and as many more as give each joiner its share of all,
-// rounded down.
-fn fewest_moves(view: &View) -> u32 {
-    let members = count_members(view);
-    let total = view.ring.q().saturating_mul(view.ring.n());
-    let share = match total.checked_div(members) {
-        Some(share) => share,
-        None => 0,
-    };
-    let joins = small(view.scene.joins.len());
-    let (mut leaving, mut given) = (0u32, 0u32);
-    for row in view.ring.rows() {
-        let mut left = 0u32;
-        for node in row.as_slice() {
-            if view.scene.leaves.as_slice().contains(&node.0) {
-                left = left.saturating_add(1);
-            }
-        }
-        leaving = leaving.saturating_add(left);
-        given = given.saturating_add(left.min(joins));
-    }
-    leaving.saturating_add(share.saturating_mul(joins).saturating_sub(given))
-}
-
-// How many members there are in the end.
-fn count_members(view: &View) -> u32 {
-    let mut count = 0u32;
-    for node in 0..small(view.ring.nodes().len()) {
-        if view.scene.stays(view.ring, node) {
-            count = count.saturating_add(1);
-        }
-    }
-    count
-}
-
 fn push_moves(view: &View, out: &mut Vec<u8>) -> Result<(), Refusal> {
     let total = view.ring.q().saturating_mul(view.ring.n());
     let moves = view.scene.move_count();
@@ -149,9 +74,9 @@ fn push_moves(view: &View, out: &mut Vec<u8>) -> Result<(), Refusal> {
     push_decimal(&mut line, moves)?;
     line.extend_from_slice(b" of ")?;
     push_many(&mut line, total, b"slot (", b"slots (")?;
-    push_decimal(&mut line, crate::numbers::parts_of(moves, total, 100))?;
+    push_decimal(&mut line, parts_of(moves, total, 100))?;
     line.extend_from_slice(b" %)")?;
-    let fewest = fewest_moves(view);
+    let fewest = fewest_moves(view.ring, view.scene);
     let changes = !view.scene.joins.is_empty() || !view.scene.leaves.is_empty();
     if changes && moves == fewest {
         line.extend_from_slice(b", no more than must")?;
@@ -242,7 +167,7 @@ fn push_balance(view: &View, out: &mut Vec<u8>) -> Result<(), Refusal> {
     let (mut now, mut then) = (Span::new(), Span::new());
     let loads = &view.scene.loads;
     for node in 0..small(view.ring.nodes().len()) {
-        if view.ring.is_member(ring_names::NodeId(node)) {
+        if view.ring.is_member(NodeId(node)) {
             now.add(at(loads.before.as_slice(), node as usize));
         }
         if view.scene.stays(view.ring, node) {
@@ -250,7 +175,7 @@ fn push_balance(view: &View, out: &mut Vec<u8>) -> Result<(), Refusal> {
         }
     }
     let total = view.ring.q().saturating_mul(view.ring.n());
-    let even = crate::numbers::parts_of(total, count_members(view), 10);
+    let even = parts_of(total, count_members(view.ring, view.scene), 10);
     let mut line = Vec::from_slice(view.alloc, b"  balance   a member owns ")?;
     now.push(&mut line)?;
     line.extend_from_slice(b" slots now and ")?;
@@ -304,7 +229,10 @@ fn push_failing(view: &View, out: &mut Vec<u8>) -> Result<(), Refusal> {
         pairs(view.alloc, ring, view.scene.last_rows.as_slice())?,
     )?;
     line.extend_from_slice(b" of ")?;
-    push_decimal(&mut line, all_pairs(count_members(view) as usize))?;
+    push_decimal(
+        &mut line,
+        all_pairs(count_members(view.ring, view.scene) as usize),
+    )?;
     line.extend_from_slice(b" in the end")?;
     push_line(out, line.as_slice(), INDENT)
 }
@@ -318,123 +246,6 @@ fn count_before(view: &View) -> u32 {
         }
     }
     count
-}
-
-// `mirror 7.0 n13`: what the step of that number does.
-fn push_step(view: &View, out: &mut Vec<u8>, number: u32) -> Result<(), Refusal> {
-    if number >= view.plan.len() {
-        return Ok(());
-    }
-    match view.plan.step(number) {
-        Step::Join(node) => push_words(view, out, b"join", None, Some(node.0)),
-        Step::Mirror(slot, node) => push_words(view, out, b"mirror", Some(*slot), Some(node.0)),
-        Step::Copy(slot, _) => push_words(view, out, b"copy", Some(*slot), None),
-        Step::Switch(slot) => push_words(view, out, b"switch", Some(*slot), None),
-        Step::Drop(slot, node) => push_words(view, out, b"drop", Some(*slot), Some(node.0)),
-        Step::Retire(node) => push_words(view, out, b"retire", None, Some(node.0)),
-    }
-}
-
-fn push_words(
-    view: &View,
-    out: &mut Vec<u8>,
-    word: &[u8],
-    slot: Option<Slot>,
-    node: Option<u32>,
-) -> Result<(), Refusal> {
-    out.extend_from_slice(word)?;
-    if let Some(slot) = slot {
-        out.push(b' ')?;
-        push_decimal(out, slot.partition)?;
-        out.push(b'.')?;
-        push_decimal(out, slot.index)?;
-    }
-    if let Some(node) = node {
-        out.push(b' ')?;
-        out.extend_from_slice(name(view.ring, node))?;
-    }
-    Ok(())
-}
-
-// The lines of what a history has done.
-fn push_progress(view: &View, out: &mut Vec<u8>, progress: &Progress) -> Result<(), Refusal> {
-    push_done(view, out, progress)?;
-    push_open(view, out, progress)?;
-    push_next(view, out, progress)?;
-    out.push(b'\n')?;
-    Ok(())
-}
-
-fn push_done(view: &View, out: &mut Vec<u8>, progress: &Progress) -> Result<(), Refusal> {
-    let steps = view.plan.len();
-    let done = progress.count();
-    let full = match done.saturating_mul(40).checked_div(steps) {
-        Some(full) => full.min(40) as usize,
-        None => 40,
-    };
-    let (mut copies, mut copied) = (0u32, 0u32);
-    for number in 0..steps {
-        if let Step::Copy(_, _) = view.plan.step(number) {
-            copies = copies.saturating_add(1);
-            if progress.is_done(number) {
-                copied = copied.saturating_add(1);
-            }
-        }
-    }
-    out.extend_from_slice(b"  done      [")?;
-    push_times(out, b'#', full)?;
-    push_times(out, b'.', 40 - full)?;
-    out.extend_from_slice(b"] ")?;
-    push_decimal(out, done)?;
-    out.extend_from_slice(b" of ")?;
-    push_many(out, steps, b"step, ", b"steps, ")?;
-    push_decimal(out, copied)?;
-    out.extend_from_slice(b" of ")?;
-    push_many(out, copies, b"copy\n", b"copies\n")
-}
-
-fn push_open(view: &View, out: &mut Vec<u8>, progress: &Progress) -> Result<(), Refusal> {
-    for number in 0..view.plan.len() {
-        if progress.is_open(number) {
-            out.extend_from_slice(b"  open      step ")?;
-            push_decimal(out, number)?;
-            out.push(b' ')?;
-            push_step(view, out, number)?;
-            out.extend_from_slice(b": ")?;
-            push_decimal(out, progress.chunks(number))?;
-            out.extend_from_slice(b" of 16 chunks\n")?;
-        }
-    }
-    Ok(())
-}
-
-fn push_next(view: &View, out: &mut Vec<u8>, progress: &Progress) -> Result<(), Refusal> {
-    let mut line = Vec::from_slice(view.alloc, b"  next      ")?;
-    let mut count = 0u32;
-    for number in 0..view.plan.len() {
-        if !progress.is_ready(view.plan, number) {
-            continue;
-        }
-        if count < 4 {
-            if count > 0 {
-                line.extend_from_slice(b"; ")?;
-            }
-            line.extend_from_slice(b"step ")?;
-            push_decimal(&mut line, number)?;
-            line.push(b' ')?;
-            push_step(view, &mut line, number)?;
-        }
-        count = count.saturating_add(1);
-    }
-    if count == 0 {
-        line.extend_from_slice(b"nothing")?;
-    }
-    if count > 4 {
-        line.extend_from_slice(b"; ")?;
-        push_decimal(&mut line, count - 4)?;
-        line.extend_from_slice(b" more")?;
-    }
-    push_line(out, line.as_slice(), INDENT)
 }
 
 // The last line.

@@ -1,0 +1,578 @@
+//! A picture of many rounds or many nodes: columns of equal numbers of rounds, a row of bars for each of the busiest nodes, and the others summed.
+
+use crate::frame::{LEAST, name_style, push_frame, push_key};
+use crate::order::kind;
+use crate::sheet::Sheet;
+use crate::slots::{most_owned, push_slots};
+use crate::state::{State, state_of};
+use crate::svg::{
+    Area, DONE, GIVE, Point, TAKE, push_area, push_picture, push_rule, push_titled, push_words,
+};
+use crate::widths::width;
+use plan_scene::{Shown, at, name, parts_of, push_many, raise, small};
+use ring_names::{Refusal, push_decimal};
+
+// How many nodes have a row of their own, and how many columns there are at most.
+const NAMED: usize = 27;
+
+const COLUMNS: u32 = 60;
+
+// Where the bars of all copies begin, how high they are, and where the first row begins.
+const TOP: u32 = 96;
+
+const ALL: u32 = 74;
+
+const FIRST: u32 = 204;
+
+// What stands at the right of the rows.
+const PANEL: u32 = 270;
+
+// A row: a node, or so many of one kind together.
+#[derive(Clone, Copy)]
+struct Band {
+    node: Option<u32>,
+    kind: u32,
+    count: u32,
+}
+
+// The rows, and the row of each node.
+#[derive(Drop)]
+struct Bands {
+    bands: Vec<Band>,
+    // by node, 1 and its row, or 0
+    rows: Vec<u32>,
+}
+
+// How many nodes of each kind get a row: in turns, until there are enough.
+fn rooms(sheet: &Sheet, nodes: &[u32]) -> [usize; 3] {
+    let mut counts = [0usize; 3];
+    for node in nodes {
+        let place = kind(sheet, *node) as usize;
+        if place < 3 {
+            counts[place] = counts[place].saturating_add(1);
+        }
+    }
+    let mut rooms = [0usize; 3];
+    let mut left = NAMED;
+    for turn in 0..NAMED {
+        for place in 0..3 {
+            if left > 0 && rooms[place] < counts[place] {
+                rooms[place] = rooms[place].saturating_add(1);
+                left -= 1;
+            }
+        }
+    }
+    rooms
+}
+
+impl Bands {
+    // The nodes come by kind, the busiest of each first.
+    fn of(sheet: &Sheet, nodes: &[u32]) -> Result<Bands, Refusal> {
+        let mut bands = Bands {
+            bands: Vec::new(sheet.alloc),
+            rows: vec![in sheet.alloc; 0u32; sheet.ring.nodes().len()]?,
+        };
+        let rooms = rooms(sheet, nodes);
+        for wanted in 0..3u32 {
+            let mut seen = 0usize;
+            for node in nodes {
+                if kind(sheet, *node) == wanted {
+                    bands.add(
+                        *node,
+                        wanted,
+                        seen < rooms[wanted as usize],
+                        seen == rooms[wanted as usize],
+                    )?;
+                    seen = seen.saturating_add(1);
+                }
+            }
+        }
+        Ok(bands)
+    }
+
+    // Gives the node a row of its own, or the last one.
+    fn add(&mut self, node: u32, kind: u32, is_named: bool, is_first: bool) -> Result<(), Refusal> {
+        if is_named || is_first {
+            self.bands.push(Band {
+                node: if is_named { Some(node) } else { None },
+                kind,
+                count: 0,
+            })?;
+        }
+        let row = self.bands.len();
+        if let Some(band) = self.bands.as_mut_slice().last_mut() {
+            band.count = band.count.saturating_add(1);
+        }
+        if let Some(place) = self.rows.get_mut(node as usize) {
+            *place = small(row);
+        }
+        Ok(())
+    }
+
+    fn row(&self, node: u32) -> Option<usize> {
+        match at(self.rows.as_slice(), node as usize) {
+            0 => None,
+            number => Some(number as usize - 1),
+        }
+    }
+}
+
+// How many copies each row takes and gives in each column, and how many of them are done.
+#[derive(Drop)]
+struct Tally {
+    // how many rounds a column has, and how many columns there are
+    rounds: u32,
+    columns: usize,
+    takes: Vec<u32>,
+    gives: Vec<u32>,
+    took: Vec<u32>,
+    gave: Vec<u32>,
+    all: Vec<u32>,
+    done: Vec<u32>,
+}
+
+impl Tally {
+    fn of(sheet: &Sheet, bands: &Bands) -> Result<Tally, Refusal> {
+        let count = sheet.scene.round_count().max(1);
+        let rounds = count.saturating_add(COLUMNS - 1) / COLUMNS;
+        let columns = match count
+            .saturating_add(rounds)
+            .saturating_sub(1)
+            .checked_div(rounds)
+        {
+            Some(columns) => columns as usize,
+            None => 1,
+        };
+        let cells = bands.bands.len().saturating_mul(columns);
+        let mut tally = Tally {
+            rounds,
+            columns,
+            takes: vec![in sheet.alloc; 0u32; cells]?,
+            gives: vec![in sheet.alloc; 0u32; cells]?,
+            took: vec![in sheet.alloc; 0u32; cells]?,
+            gave: vec![in sheet.alloc; 0u32; cells]?,
+            all: vec![in sheet.alloc; 0u32; columns]?,
+            done: vec![in sheet.alloc; 0u32; columns]?,
+        };
+        for shown in sheet.scene.shown.moves.as_slice() {
+            if shown.round > 0 {
+                tally.count(sheet, bands, shown);
+            }
+        }
+        Ok(tally)
+    }
+
+    // The column of a round.
+    fn column(&self, round: u32) -> usize {
+        match round.saturating_sub(1).checked_div(self.rounds) {
+            Some(column) => column as usize,
+            None => 0,
+        }
+    }
+
+    fn cell(&self, row: usize, column: usize) -> usize {
+        row.saturating_mul(self.columns).saturating_add(column)
+    }
+
+    fn count(&mut self, sheet: &Sheet, bands: &Bands, shown: &Shown) {
+        let column = self.column(shown.round);
+        let is_done = state_of(sheet, shown) == State::Copied;
+        raise(self.all.as_mut_slice(), column);
+        if is_done {
+            raise(self.done.as_mut_slice(), column);
+        }
+        if let Some(row) = bands.row(shown.to) {
+            let cell = self.cell(row, column);
+            raise(self.takes.as_mut_slice(), cell);
+            if is_done {
+                raise(self.took.as_mut_slice(), cell);
+            }
+        }
+        for node in sheet.scene.shown.read_by(shown) {
+            if let Some(row) = bands.row(*node) {
+                let cell = self.cell(row, column);
+                raise(self.gives.as_mut_slice(), cell);
+                if is_done {
+                    raise(self.gave.as_mut_slice(), cell);
+                }
+            }
+        }
+    }
+
+    // The most copies that a cell of a named row has, or of a summed one; at least 1.
+    fn most(&self, bands: &Bands, is_named: bool) -> u32 {
+        let mut most = 1u32;
+        let mut row = 0usize;
+        for band in bands.bands.as_slice() {
+            if band.node.is_some() == is_named {
+                for column in 0..self.columns {
+                    let cell = self.cell(row, column);
+                    most = most.max(at(self.takes.as_slice(), cell));
+                    most = most.max(at(self.gives.as_slice(), cell));
+                }
+            }
+            row = row.saturating_add(1);
+        }
+        most
+    }
+}
+
+// Where the rows and columns stand.
+#[derive(Drop)]
+struct Grid {
+    left: u32,
+    column: u32,
+    right: u32,
+    row: u32,
+    bottom: u32,
+    wide: u32,
+    // the copies at full height of a named row, and of a summed one
+    scale: u32,
+    sum_scale: u32,
+    most: u32,
+}
+
+// The words in front of a row.
+fn label(sheet: &Sheet, band: &Band) -> Result<Vec<u8>, Refusal> {
+    let mut words = Vec::new(sheet.alloc);
+    match band.node {
+        Some(node) => {
+            if band.kind == 0 {
+                words.extend_from_slice(b"- ")?;
+            }
+            if band.kind == 1 {
+                words.extend_from_slice(b"+ ")?;
+            }
+            words.extend_from_slice(name(sheet.ring, node))?;
+        }
+        None => match band.kind {
+            0 => push_many(&mut words, band.count, b"more leaves", b"more leave")?,
+            1 => push_many(&mut words, band.count, b"more joins", b"more join")?,
+            _ => push_many(&mut words, band.count, b"more node", b"more nodes")?,
+        },
+    }
+    Ok(words)
+}
+
+impl Grid {
+    fn of(sheet: &Sheet, nodes: &[u32], bands: &Bands, tally: &Tally) -> Result<Grid, Refusal> {
+        let mut words = 110u32;
+        for band in bands.bands.as_slice() {
+            words = words.max(width(label(sheet, band)?.as_slice(), 12));
+        }
+        let left = words.saturating_add(40);
+        let columns = small(tally.columns).max(1);
+        let room = 1180u32.saturating_sub(PANEL).saturating_sub(left);
+        let column = match room.checked_div(columns) {
+            Some(column) => column.min(150).max(8),
+            None => 8,
+        };
+        let right = left.saturating_add(column.saturating_mul(columns));
+        let rows = small(bands.bands.len());
+        let row = if rows > 18 { 20 } else { 24 };
+        Ok(Grid {
+            left,
+            column,
+            right,
+            row,
+            bottom: FIRST.saturating_add(rows.saturating_mul(row)),
+            wide: right.saturating_add(PANEL).max(LEAST),
+            scale: tally.most(bands, true),
+            sum_scale: tally.most(bands, false),
+            most: most_owned(sheet, nodes),
+        })
+    }
+
+    fn start(&self, column: usize) -> u32 {
+        self.left
+            .saturating_add(self.column.saturating_mul(small(column)))
+    }
+
+    // The copies of all nodes, by column.
+    fn push_all(&self, sheet: &Sheet, out: &mut Vec<u8>, tally: &Tally) -> Result<(), Refusal> {
+        let mut most = 1u32;
+        for count in tally.all.as_slice() {
+            most = most.max(*count);
+        }
+        let floor = TOP + ALL;
+        for column in 0..tally.columns {
+            let count = at(tally.all.as_slice(), column);
+            let high = parts_of(count, most, ALL);
+            let mut bar = Area {
+                x: self.start(column),
+                y: floor.saturating_sub(high),
+                width: self.column.saturating_sub(1),
+                height: high,
+            };
+            let about = rounds_words(sheet, tally, column, b": copies ", count)?;
+            let fill = if sheet.progress.is_some() {
+                b"#c9d1d9"
+            } else {
+                b"#8a95a3"
+            };
+            push_titled(out, bar, fill, b"", about.as_slice())?;
+            let done = parts_of(at(tally.done.as_slice(), column), most, ALL);
+            if done > 0 {
+                bar.y = floor.saturating_sub(done);
+                bar.height = done;
+                push_area(out, bar, DONE, b"")?;
+            }
+        }
+        let mut words = Vec::new(sheet.alloc);
+        push_many(&mut words, most, b"copy", b"copies")?;
+        let right = Point {
+            x: self.right.saturating_add(8),
+            y: TOP + 9,
+        };
+        push_words(out, right, b" class=\"h\"", words.as_slice())?;
+        let before = Point {
+            x: self.left.saturating_sub(12),
+            y: floor.saturating_sub(4),
+        };
+        push_words(
+            out,
+            before,
+            b" class=\"n\" text-anchor=\"end\" font-weight=\"bold\"",
+            b"all copies",
+        )
+    }
+
+    // The numbers of the rounds with which columns begin, and the heads of what stands at the right.
+    fn push_heads(&self, sheet: &Sheet, out: &mut Vec<u8>, tally: &Tally) -> Result<(), Refusal> {
+        let every = (tally.columns / 12).max(1);
+        for column in 0..tally.columns {
+            if column % every == 0 {
+                let mut words = Vec::new(sheet.alloc);
+                let first = small(column).saturating_mul(tally.rounds).saturating_add(1);
+                push_decimal(&mut words, first)?;
+                let place = Point {
+                    x: self.start(column),
+                    y: FIRST - 14,
+                };
+                push_words(out, place, b" class=\"h\"", words.as_slice())?;
+            }
+        }
+        let once = Point {
+            x: self.right.saturating_add(8),
+            y: FIRST - 14,
+        };
+        push_words(out, once, b" class=\"h\"", b"at once")?;
+        let owned = Point {
+            x: self.right.saturating_add(104),
+            y: FIRST - 14,
+        };
+        push_words(
+            out,
+            owned,
+            b" class=\"h\"",
+            b"slots owned, now \xe2\x86\x92 then",
+        )
+    }
+
+    // The middle of the row of that number.
+    fn middle(&self, number: usize) -> u32 {
+        let above = self.row.saturating_mul(small(number));
+        FIRST.saturating_add(above).saturating_add(self.row / 2)
+    }
+
+    // What stands at both ends of a row.
+    fn push_ends(
+        &self,
+        sheet: &Sheet,
+        out: &mut Vec<u8>,
+        number: usize,
+        band: &Band,
+    ) -> Result<(), Refusal> {
+        let middle = self.middle(number);
+        let from = Point {
+            x: self.left,
+            y: middle,
+        };
+        push_rule(
+            out,
+            from,
+            Point {
+                x: self.right,
+                y: middle,
+            },
+        )?;
+        let y = middle.saturating_add(4);
+        let before = Point {
+            x: self.left.saturating_sub(12),
+            y,
+        };
+        let words = label(sheet, band)?;
+        let Some(node) = band.node else {
+            return push_words(
+                out,
+                before,
+                b" class=\"s\" text-anchor=\"end\"",
+                words.as_slice(),
+            );
+        };
+        let style = name_style(sheet, node)?;
+        push_words(out, before, style.as_slice(), words.as_slice())?;
+        let once = Point {
+            x: self.right.saturating_add(8),
+            y,
+        };
+        push_words(out, once, b" class=\"h\"", sheet.at_once(node)?.as_slice())?;
+        let owned = Point {
+            x: self.right.saturating_add(104),
+            y: middle.saturating_sub(5),
+        };
+        push_slots(sheet, out, node, owned, self.most)
+    }
+
+    // The bars of a row: takes upwards, gives downwards.
+    fn push_bars(
+        &self,
+        sheet: &Sheet,
+        out: &mut Vec<u8>,
+        tally: &Tally,
+        numbered: (usize, &Band),
+    ) -> Result<(), Refusal> {
+        let (number, band) = numbered;
+        let scale = if band.node.is_some() {
+            self.scale
+        } else {
+            self.sum_scale
+        };
+        let room = (self.row / 2).saturating_sub(1);
+        for column in 0..tally.columns {
+            let cell = tally.cell(number, column);
+            let takes = at(tally.takes.as_slice(), cell);
+            let gives = at(tally.gives.as_slice(), cell);
+            let mut bar = Bar {
+                x: self.start(column),
+                width: self.column.saturating_sub(1),
+                middle: self.middle(number),
+                high: parts_of(takes, scale, room).max(1),
+            };
+            bar.push(sheet, out, (takes, at(tally.took.as_slice(), cell)), true)?;
+            bar.high = parts_of(gives, scale, room).max(1);
+            bar.push(sheet, out, (gives, at(tally.gave.as_slice(), cell)), false)?;
+        }
+        Ok(())
+    }
+
+    // What is said below the rows; how high the picture is with it.
+    fn push_notes(&self, sheet: &Sheet, out: &mut Vec<u8>, tally: &Tally) -> Result<u32, Refusal> {
+        let y = self.bottom.saturating_add(24);
+        let next = push_key(out, Point { x: self.left, y }, TAKE, b"", b"takes, upwards")?;
+        let mut next = push_key(out, next, GIVE, b"", b"gives, downwards")?;
+        if sheet.progress.is_some() {
+            next = push_key(out, next, DONE, b"", b"done; pale: still to do")?;
+        }
+        let mut words = Vec::from_slice(sheet.alloc, b"full height: ")?;
+        push_many(&mut words, self.scale, b"copy", b"copies")?;
+        words.extend_from_slice(b", in a row of many ")?;
+        push_decimal(&mut words, self.sum_scale)?;
+        push_words(out, next, b" class=\"h\"", words.as_slice())?;
+        let mut words = Vec::new(sheet.alloc);
+        push_many(
+            &mut words,
+            tally.rounds,
+            b"round a column.",
+            b"rounds a column.",
+        )?;
+        words.extend_from_slice(
+            b" In a round stand the copies that wait only for copies to their left; nothing stops between rounds.",
+        )?;
+        let below = Point {
+            x: self.left,
+            y: y.saturating_add(20),
+        };
+        push_words(out, below, b" class=\"h\"", words.as_slice())?;
+        Ok(y.saturating_add(36))
+    }
+}
+
+// A bar upwards or downwards from the middle of a row.
+#[derive(Clone, Copy)]
+struct Bar {
+    x: u32,
+    width: u32,
+    middle: u32,
+    high: u32,
+}
+
+impl Bar {
+    // Of so many copies, of which so many are done; nothing of none.
+    fn push(
+        &self,
+        sheet: &Sheet,
+        out: &mut Vec<u8>,
+        counts: (u32, u32),
+        is_upwards: bool,
+    ) -> Result<(), Refusal> {
+        let (count, done) = counts;
+        if count == 0 {
+            return Ok(());
+        }
+        let fill = if is_upwards { TAKE } else { GIVE };
+        let mut area = Area {
+            x: self.x,
+            y: if is_upwards {
+                self.middle.saturating_sub(self.high)
+            } else {
+                self.middle
+            },
+            width: self.width,
+            height: self.high,
+        };
+        if sheet.progress.is_none() || done >= count {
+            return push_area(out, area, fill, b"");
+        }
+        push_area(out, area, fill, b" opacity=\"0.28\"")?;
+        area.width = parts_of(done, count, self.width);
+        if area.width > 0 {
+            push_area(out, area, fill, b"")?;
+        }
+        Ok(())
+    }
+}
+
+// `rounds 1 to 4: copies 12`
+fn rounds_words(
+    sheet: &Sheet,
+    tally: &Tally,
+    column: usize,
+    what: &[u8],
+    count: u32,
+) -> Result<Vec<u8>, Refusal> {
+    let first = small(column).saturating_mul(tally.rounds);
+    let mut words = Vec::from_slice(sheet.alloc, b"rounds ")?;
+    push_decimal(&mut words, first.saturating_add(1))?;
+    words.extend_from_slice(b" to ")?;
+    push_decimal(
+        &mut words,
+        first
+            .saturating_add(tally.rounds)
+            .min(sheet.scene.round_count()),
+    )?;
+    words.extend_from_slice(what)?;
+    push_decimal(&mut words, count)?;
+    Ok(words)
+}
+
+/// The picture of many rounds or nodes.
+pub fn dense_picture(sheet: &Sheet, nodes: &[u32]) -> Result<Vec<u8>, Refusal> {
+    let bands = Bands::of(sheet, nodes)?;
+    let tally = Tally::of(sheet, &bands)?;
+    let grid = Grid::of(sheet, nodes, &bands, &tally)?;
+    let mut shapes = Vec::new(sheet.alloc);
+    push_frame(sheet, &mut shapes, grid.wide)?;
+    grid.push_all(sheet, &mut shapes, &tally)?;
+    grid.push_heads(sheet, &mut shapes, &tally)?;
+    let mut number = 0usize;
+    for band in bands.bands.as_slice() {
+        grid.push_ends(sheet, &mut shapes, number, band)?;
+        grid.push_bars(sheet, &mut shapes, &tally, (number, band))?;
+        number = number.saturating_add(1);
+    }
+    let height = grid.push_notes(sheet, &mut shapes, &tally)?;
+    let mut out = Vec::new(sheet.alloc);
+    push_picture(&mut out, grid.wide, height, shapes.as_slice())?;
+    Ok(out)
+}

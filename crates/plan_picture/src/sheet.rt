@@ -1,0 +1,51 @@
+//! What a picture is made of.
+
+use plan_scene::{Progress, Scene, Shown, at};
+use plan_text::Plan;
+use ring_names::Refusal;
+use ring_table::Ring;
+use std::alloc::Global;
+
+/// An approved plan with what is shown of it, and how far a run has come, where there is one.
+#[derive(Clone, Copy)]
+pub struct Sheet<'a> {
+    pub alloc: Global,
+    pub ring: &'a Ring,
+    pub plan: &'a Plan,
+    pub scene: &'a Scene,
+    pub progress: Option<&'a Progress>,
+}
+
+impl<'a> Sheet<'a> {
+    /// The move of that place.
+    pub fn shown(&self, place: u32) -> Option<&Shown> {
+        self.scene.shown.moves.as_slice().get(place as usize)
+    }
+
+    /// Whether the node retires.
+    pub fn leaves(&self, node: u32) -> bool {
+        self.scene.leaves.as_slice().contains(&node)
+    }
+
+    /// Whether the node joins.
+    pub fn joins(&self, node: u32) -> bool {
+        self.scene.joins.as_slice().contains(&node)
+    }
+
+    /// How many transfers the node has.
+    pub fn work(&self, node: u32) -> u32 {
+        let gives = at(self.scene.loads.gives.as_slice(), node as usize);
+        gives.saturating_add(at(self.scene.loads.takes.as_slice(), node as usize))
+    }
+
+    /// How many transfers the node has at once, of how many it may bear.
+    pub fn at_once(&self, node: u32) -> Result<Vec<u8>, Refusal> {
+        let mut text = Vec::new(self.alloc);
+        if let Some(declared) = self.ring.nodes().get(node as usize) {
+            self.scene
+                .loads
+                .push_at_once(&mut text, declared.allowance, node)?;
+        }
+        Ok(text)
+    }
+}

@@ -1,0 +1,19 @@
+//! What is shown of a plan: its moves and their rounds, what each node owns, gives and takes, and how far a run has come. Nothing is promised of it but what
+//! `plan_moves` says of moves, rounds and owners.
+#![tactic(auto)]
+
+mod change;
+mod loads;
+mod names;
+mod numbers;
+mod progress;
+mod scene;
+mod shown;
+
+pub use change::{count_members, fewest_moves, push_change};
+pub use loads::Loads;
+pub use names::{name, push_many, push_names};
+pub use numbers::{at, parts_of, raise, row, small};
+pub use progress::Progress;
+pub use scene::Scene;
+pub use shown::{AllShown, Shown};
