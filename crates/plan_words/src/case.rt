@@ -1,0 +1,263 @@
+//! A bundle whose texts are in order, and whose plan is refused.
+
+use plan_cert::Cert;
+use plan_stage::{Stage, stage_at};
+use plan_text::{Plan, Source, Step};
+use ring_names::{NodeId, Refusal, Slot, push_decimal};
+use ring_table::Ring;
+use std::alloc::Global;
+use text_words::{Change, Mend, Page, digits, field, joined, place_of, span_of};
+
+/// A bundle, and what was read of it.
+#[derive(Clone, Copy)]
+pub struct Case<'a> {
+    pub alloc: Global,
+    pub page: Page<'a>,
+    pub ring: &'a Ring,
+    pub plan: &'a Plan,
+    pub cert: &'a Cert,
+}
+
+/// A number of items as one of lines.
+pub fn small(count: usize) -> u32 {
+    u32::try_from(count).unwrap_or(u32::MAX)
+}
+
+impl<'a> Case<'a> {
+    // The line `plan 1`.
+    fn plan_line(&self) -> u32 {
+        small(self.ring.nodes().len())
+            .saturating_add(self.ring.q())
+            .saturating_add(5)
+    }
+
+    /// The line of a step.
+    pub fn step_line(&self, step: u32) -> u32 {
+        self.plan_line().saturating_add(1).saturating_add(step)
+    }
+
+    /// The first line of the certificate.
+    pub fn cert_line(&self) -> u32 {
+        self.plan_line()
+            .saturating_add(self.plan.len())
+            .saturating_add(2)
+    }
+
+    /// The line of a fact.
+    pub fn fact_line(&self, fact: u32) -> u32 {
+        self.cert_line().saturating_add(1).saturating_add(fact)
+    }
+
+    /// The line of a chain.
+    pub fn chain_line(&self, chain: u32) -> u32 {
+        self.fact_line(small(self.cert.facts.len()))
+            .saturating_add(chain)
+    }
+
+    /// The last line of the certificate.
+    pub fn cert_end(&self) -> u32 {
+        self.chain_line(small(self.cert.chains.len()))
+    }
+
+    /// The line of a node.
+    pub fn node_line(&self, node: u32) -> u32 {
+        node.saturating_add(4)
+    }
+
+    /// The name of a node.
+    pub fn name(&self, node: u32) -> &'a [u8] {
+        match self.ring.nodes().get(node as usize) {
+            Some(node) => node.name.as_slice(),
+            None => b"",
+        }
+    }
+
+    /// The step of that number, if the plan has it.
+    pub fn step(&self, number: u32) -> Option<&'a Step> {
+        if number < self.plan.len() {
+            Some(self.plan.step(number))
+        } else {
+            None
+        }
+    }
+
+    /// The slot of a step, if it has one.
+    pub fn slot(&self, number: u32) -> Option<Slot> {
+        match self.step(number)? {
+            Step::Mirror(slot, _)
+            | Step::Copy(slot, _)
+            | Step::Switch(slot)
+            | Step::Drop(slot, _) => Some(*slot),
+            Step::Join(_) | Step::Retire(_) => None,
+        }
+    }
+
+    // How many of the slot's steps stand in front of the step.
+    fn place(&self, slot: Slot, number: u32) -> u32 {
+        let mut count = 0u32;
+        for other in self.plan.slot_steps(slot) {
+            if *other < number {
+                count = count.saturating_add(1);
+            }
+        }
+        count
+    }
+
+    /// The slot's last step in front of the step.
+    pub fn before(&self, slot: Slot, number: u32) -> Option<u32> {
+        let mut found = None;
+        for other in self.plan.slot_steps(slot) {
+            if *other < number {
+                found = Some(*other);
+            }
+        }
+        found
+    }
+
+    /// The stage of the slot in front of the step.
+    pub fn stage(&self, slot: Slot, number: u32) -> Result<Option<Stage>, Refusal> {
+        if slot.partition >= self.ring.q() || slot.index >= self.ring.n() {
+            return Ok(None);
+        }
+        let place = self.place(slot, number);
+        let stage = stage_at(self.alloc, self.ring, self.plan, slot, place)?;
+        Ok(Some(stage))
+    }
+
+    /// Whether the one step is known to come before the other: by a direct dependency, or by a fact.
+    pub fn is_ordered(&self, first: u32, second: u32) -> bool {
+        if second >= self.plan.len() {
+            return false;
+        }
+        if self.plan.depends(first, second) {
+            return true;
+        }
+        for place in 0..self.cert.facts.len() {
+            let path = self.cert.facts.row(place);
+            if path.first() == Some(&first) && path.last() == Some(&second) {
+                return true;
+            }
+        }
+        false
+    }
+
+    /// Whether the node takes part in the copy: as the mirror that is given what is copied, or as an owner whose slot is read.
+    pub fn part(&self, node: u32, number: u32) -> Result<Option<Role>, Refusal> {
+        let Some(Step::Copy(slot, source)) = self.step(number) else {
+            return Ok(None);
+        };
+        let Some(stage) = self.stage(*slot, number)? else {
+            return Ok(None);
+        };
+        if stage.mirror == Some(NodeId(node)) {
+            return Ok(Some(Role::Takes));
+        }
+        match source {
+            Source::Owner => Ok(if stage.owner.0 == node {
+                Some(Role::Gives)
+            } else {
+                None
+            }),
+            Source::Slots(from) => {
+                for index in from.as_slice() {
+                    let listed = Slot {
+                        partition: slot.partition,
+                        index: *index,
+                    };
+                    if let Some(stage) = self.stage(listed, number)? {
+                        if stage.owner.0 == node {
+                            return Ok(Some(Role::Gives));
+                        }
+                    }
+                }
+                Ok(None)
+            }
+        }
+    }
+
+    /// `slot 1 of partition 0`
+    pub fn slot_words(&self, slot: Slot) -> Result<Vec<u8>, Refusal> {
+        let index = digits(self.alloc, slot.index)?;
+        let partition = digits(self.alloc, slot.partition)?;
+        joined(
+            self.alloc,
+            &[
+                b"slot ",
+                index.as_slice(),
+                b" of partition ",
+                partition.as_slice(),
+            ],
+        )
+    }
+
+    /// `step 7` and what is said of it.
+    pub fn step_words(&self, number: u32, about: &[u8]) -> Result<Vec<u8>, Refusal> {
+        let step = digits(self.alloc, number)?;
+        joined(self.alloc, &[b"step ", step.as_slice(), about])
+    }
+
+    // The line of a step, with one more step that it waits for.
+    fn waiting(&self, number: u32, more: u32) -> Result<Vec<u8>, Refusal> {
+        let line = self
+            .page
+            .line(self.step_line(number))
+            .unwrap_or(b"".as_slice());
+        let end = match place_of(line, b"after") {
+            Some(place) => match span_of(line, place) {
+                Some(at) => at.from.saturating_sub(1),
+                None => line.len(),
+            },
+            None => line.len(),
+        };
+        let mut out = joined(self.alloc, &[&line[..end.min(line.len())], b" after"])?;
+        let mut is_in = false;
+        if number < self.plan.len() {
+            for earlier in self.plan.deps(number) {
+                if !is_in && more < *earlier {
+                    out.push(b' ')?;
+                    push_decimal(&mut out, more)?;
+                    is_in = true;
+                }
+                is_in = is_in || *earlier == more;
+                out.push(b' ')?;
+                push_decimal(&mut out, *earlier)?;
+            }
+        }
+        if !is_in {
+            out.push(b' ')?;
+            push_decimal(&mut out, more)?;
+        }
+        out.push(b'\n')?;
+        Ok(out)
+    }
+
+    /// A mend: the step waits for the other one too, which is in front of it.
+    pub fn wait(&self, says: &[u8], number: u32, more: u32) -> Result<Mend, Refusal> {
+        let mut changes = Vec::new(self.alloc);
+        changes.push(Change {
+            line: self.step_line(number),
+            new: self.waiting(number, more)?,
+        })?;
+        Ok(Mend {
+            says: joined(self.alloc, &[says])?,
+            changes,
+        })
+    }
+
+    /// The first word of the line of a step.
+    pub fn word(&self, number: u32) -> &'a [u8] {
+        field(
+            self.page
+                .line(self.step_line(number))
+                .unwrap_or(b"".as_slice()),
+            0,
+        )
+    }
+}
+
+/// How a node takes part in a copy.
+#[derive(Clone, Copy, Debug, PartialEq, Eq)]
+pub enum Role {
+    Takes,
+    Gives,
+}

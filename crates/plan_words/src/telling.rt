@@ -1,0 +1,48 @@
+//! Why a plan is refused.
+
+use crate::case::Case;
+use crate::certificates::{bad_path, chain_broken, cover_missing, too_many_chains};
+use crate::holders::{not_joined, retired_in_use, shared_in_plan};
+use crate::sources::{bad_source, moving_source};
+use crate::stages::{unordered_slot, wrong_stage};
+use plan_cert::Cert;
+use plan_text::Plan;
+use ring_names::Refusal;
+use ring_table::Ring;
+use std::alloc::Global;
+use text_words::{Page, Said};
+
+/// A bundle's texts, with what was read of them.
+#[derive(Clone, Copy)]
+pub struct Read<'a> {
+    pub bytes: &'a [u8],
+    pub ring: &'a Ring,
+    pub plan: &'a Plan,
+    pub cert: &'a Cert,
+}
+
+/// Why the plan of a bundle is refused, where the checker refuses it.
+pub fn tell_plan(alloc: Global, read: Read, refusal: &Refusal) -> Result<Option<Said>, Refusal> {
+    let case = Case {
+        alloc,
+        page: Page { bytes: read.bytes },
+        ring: read.ring,
+        plan: read.plan,
+        cert: read.cert,
+    };
+    let said = match refusal {
+        Refusal::WrongStage(step) => wrong_stage(case, *step)?,
+        Refusal::UnorderedSlot(step) => unordered_slot(case, *step)?,
+        Refusal::BadSource(step) => bad_source(case, *step)?,
+        Refusal::MovingSource(step) => moving_source(case, *step)?,
+        Refusal::SharedInPlan(step) => shared_in_plan(case, *step)?,
+        Refusal::NotJoined(step) => not_joined(case, *step)?,
+        Refusal::RetiredInUse(step) => retired_in_use(case, *step)?,
+        Refusal::BadPath(fact) => bad_path(case, *fact)?,
+        Refusal::CoverMissing(node, step) => cover_missing(case, *node, *step)?,
+        Refusal::ChainBroken(chain) => chain_broken(case, *chain)?,
+        Refusal::TooManyChains(node) => too_many_chains(case, *node)?,
+        _ => return Ok(None),
+    };
+    Ok(Some(said))
+}

@@ -1,0 +1,99 @@
+//! What the lines of each part of a bundle may be.
+
+use crate::page::{Page, field};
+
+/// A part of a bundle.
+#[derive(Clone, Copy, Debug, PartialEq, Eq)]
+pub enum Part {
+    Ring,
+    Change,
+    Plan,
+    Cert,
+    /// What stands behind a certificate, or behind a change.
+    Behind,
+}
+
+/// The part in which the line stands, and its first line.
+pub fn part_of(page: Page, line: u32) -> (Part, u32) {
+    let section = page.section(line);
+    let second = field(page.behind_ring().unwrap_or(b"".as_slice()), 0);
+    let has_change = second == b"change".as_slice();
+    let part = match section.number {
+        0 => Part::Ring,
+        1 if has_change => Part::Change,
+        1 => Part::Plan,
+        2 if !has_change => Part::Cert,
+        _ => Part::Behind,
+    };
+    (part, section.start)
+}
+
+/// What a part is called.
+pub fn called(part: Part) -> &'static [u8] {
+    match part {
+        Part::Ring => b"ring",
+        Part::Change => b"change",
+        Part::Plan => b"plan",
+        Part::Cert => b"certificate",
+        Part::Behind => b"bundle",
+    }
+}
+
+/// The forms of a part's lines, behind its first.
+pub fn forms(part: Part) -> &'static [&'static [u8]] {
+    match part {
+        Part::Ring => &[
+            b"space <partitions>",
+            b"quorum <slots> <read> <write>",
+            b"node <name> <allowance> in|out",
+            b"slots <partition> <owner> ..",
+            b"end",
+        ],
+        Part::Change => &[b"join <node>", b"leave <node>", b"end"],
+        Part::Plan => &[
+            b"join <node>",
+            b"mirror <partition> <slot> <node>",
+            b"copy <partition> <slot> owner",
+            b"copy <partition> <slot> slots <slot> ..",
+            b"switch <partition> <slot>",
+            b"drop <partition> <slot> <node>",
+            b"retire <node>",
+            b"end",
+        ],
+        Part::Cert => &[
+            b"fact <step> <step> ..",
+            b"chain <node> <step> ..",
+            b"take <node> <step> ..",
+            b"give <node> <step> ..",
+            b"end",
+        ],
+        Part::Behind => &[],
+    }
+}
+
+/// The first form that begins with the word, if there is one.
+pub fn form_of(part: Part, word: &[u8]) -> Option<&'static [u8]> {
+    for form in forms(part) {
+        if field(form, 0) == word {
+            return Some(*form);
+        }
+    }
+    None
+}
+
+/// The line with which a part begins.
+pub fn first_line(page: Page, part: Part) -> &'static [u8] {
+    match part {
+        Part::Ring => b"ring 1",
+        Part::Change => b"change 1",
+        Part::Plan => b"plan 1",
+        Part::Cert => {
+            if page.line(1) == Some(b"ring 1".as_slice()) {
+                b"cert 1"
+            } else {
+                b"cert 2"
+            }
+        }
+        Part::Behind => b"",
+    }
+}
