@@ -109,6 +109,16 @@ impl Bands {
         Ok(())
     }
 
+    // Whether some rows are of many nodes together.
+    fn have_sums(&self) -> bool {
+        for band in self.bands.as_slice() {
+            if band.node.is_none() {
+                return true;
+            }
+        }
+        false
+    }
+
     fn row(&self, node: u32) -> Option<usize> {
         match at(self.rows.as_slice(), node as usize) {
             0 => None,
@@ -226,7 +236,7 @@ struct Grid {
     row: u32,
     bottom: u32,
     wide: u32,
-    // the copies at full height of a named row, and of a summed one
+    // the copies at full height of a named row, and of a summed one, if there is one
     scale: u32,
     sum_scale: u32,
     most: u32,
@@ -278,7 +288,11 @@ impl Grid {
             bottom: FIRST.saturating_add(rows.saturating_mul(row)),
             wide: right.saturating_add(PANEL).max(LEAST),
             scale: tally.most(bands, true),
-            sum_scale: tally.most(bands, false),
+            sum_scale: if bands.have_sums() {
+                tally.most(bands, false)
+            } else {
+                0
+            },
             most: most_owned(sheet, nodes),
         })
     }
@@ -466,8 +480,10 @@ impl Grid {
         }
         let mut words = Vec::from_slice(sheet.alloc, b"full height: ")?;
         push_many(&mut words, self.scale, b"copy", b"copies")?;
-        words.extend_from_slice(b", in a row of many ")?;
-        push_decimal(&mut words, self.sum_scale)?;
+        if self.sum_scale > 0 {
+            words.extend_from_slice(b", in a row of many ")?;
+            push_decimal(&mut words, self.sum_scale)?;
+        }
         push_words(out, next, b" class=\"h\"", words.as_slice())?;
         let mut words = Vec::new(sheet.alloc);
         push_many(

@@ -7,7 +7,8 @@ use crate::running::push_progress;
 use crate::table::push_table;
 use crate::writing::{push_line, push_tenths};
 use plan_scene::{
-    Progress, Scene, at, count_members, fewest_moves, parts_of, push_change, push_many, small,
+    Progress, Scene, at, count_members, fewest_moves, parts_of, push_change, push_many, raise,
+    small,
 };
 use plan_text::Plan;
 use ring_names::{NodeId, Refusal, push_decimal};
@@ -67,26 +68,54 @@ fn push_head(view: &View, out: &mut Vec<u8>) -> Result<(), Refusal> {
     push_line(out, line.as_slice(), 2)
 }
 
+// How many different slots move.
+fn moved_slots(view: &View) -> Result<u32, Refusal> {
+    let mut marks = vec![in view.alloc; 0u32; (view.ring.q() as usize).saturating_mul(7)]?;
+    let mut count = 0u32;
+    for shown in view.scene.shown.moves.as_slice() {
+        let row = (shown.slot.partition as usize).saturating_mul(7);
+        let place = row.saturating_add(shown.slot.index as usize);
+        if at(marks.as_slice(), place) == 0 {
+            count = count.saturating_add(1);
+        }
+        raise(marks.as_mut_slice(), place);
+    }
+    Ok(count)
+}
+
 fn push_moves(view: &View, out: &mut Vec<u8>) -> Result<(), Refusal> {
     let total = view.ring.q().saturating_mul(view.ring.n());
     let moves = view.scene.move_count();
+    let slots = moved_slots(view)?;
     let mut line = Vec::from_slice(view.alloc, b"  moves     ")?;
-    push_decimal(&mut line, moves)?;
+    if moves > slots {
+        push_many(&mut line, moves, b"move of ", b"moves of ")?;
+    }
+    push_decimal(&mut line, slots)?;
     line.extend_from_slice(b" of ")?;
     push_many(&mut line, total, b"slot (", b"slots (")?;
-    push_decimal(&mut line, parts_of(moves, total, 100))?;
+    push_decimal(&mut line, parts_of(slots, total, 100))?;
     line.extend_from_slice(b" %)")?;
+    push_fewest(view, &mut line)?;
+    push_line(out, line.as_slice(), INDENT)
+}
+
+// Whether fewer moves would do.
+fn push_fewest(view: &View, line: &mut Vec<u8>) -> Result<(), Refusal> {
+    if view.scene.joins.is_empty() && view.scene.leaves.is_empty() {
+        return Ok(());
+    }
+    let moves = view.scene.move_count();
     let fewest = fewest_moves(view.ring, view.scene);
-    let changes = !view.scene.joins.is_empty() || !view.scene.leaves.is_empty();
-    if changes && moves == fewest {
+    if moves == fewest {
         line.extend_from_slice(b", no more than must")?;
     }
-    if changes && moves > fewest {
+    if moves > fewest {
         line.extend_from_slice(b", where ")?;
-        push_decimal(&mut line, fewest)?;
+        push_decimal(line, fewest)?;
         line.extend_from_slice(b" would do")?;
     }
-    push_line(out, line.as_slice(), INDENT)
+    Ok(())
 }
 
 fn push_round_count(view: &View, out: &mut Vec<u8>) -> Result<(), Refusal> {
@@ -152,13 +181,18 @@ impl Span {
         self.most = self.most.max(count);
     }
 
-    // `4`, or `3 to 5`.
+    // `4 slots`, or `3 to 5 slots`.
     fn push(&self, out: &mut Vec<u8>) -> Result<(), Refusal> {
         push_decimal(out, self.least.min(self.most))?;
         if self.least < self.most {
             out.extend_from_slice(b" to ")?;
             push_decimal(out, self.most)?;
         }
+        out.extend_from_slice(if self.most == 1 && self.least >= 1 {
+            b" slot"
+        } else {
+            b" slots"
+        })?;
         Ok(())
     }
 }
@@ -178,7 +212,7 @@ fn push_balance(view: &View, out: &mut Vec<u8>) -> Result<(), Refusal> {
     let even = parts_of(total, count_members(view.ring, view.scene), 10);
     let mut line = Vec::from_slice(view.alloc, b"  balance   a member owns ")?;
     now.push(&mut line)?;
-    line.extend_from_slice(b" slots now and ")?;
+    line.extend_from_slice(b" now and ")?;
     then.push(&mut line)?;
     line.extend_from_slice(b" in the end; even would be ")?;
     push_tenths(&mut line, even)?;
@@ -208,8 +242,13 @@ fn push_failing(view: &View, out: &mut Vec<u8>) -> Result<(), Refusal> {
     let mut line = Vec::from_slice(view.alloc, b"  if one fails   ")?;
     push_decimal(&mut line, kept_by_one(ring, loads.before.as_slice()))?;
     line.extend_from_slice(b" of ")?;
-    push_many(&mut line, ring.q(), b"partition", b"partitions")?;
-    line.extend_from_slice(b" still answer reads and writes now, ")?;
+    push_many(
+        &mut line,
+        ring.q(),
+        b"partition still answers",
+        b"partitions still answer",
+    )?;
+    line.extend_from_slice(b" reads and writes now, ")?;
     push_decimal(&mut line, kept_by_one(ring, loads.after.as_slice()))?;
     line.extend_from_slice(b" in the end")?;
     push_line(out, line.as_slice(), INDENT)?;

@@ -1,0 +1,96 @@
+//! Runs the program for people on the bundles that its arguments name, and prints the command, the name, the answer and the exit status of each. The words `why`, `show`,
+//! `all`, `draw`, `bundle` and `after` among them say which command is meant from there on; `all` is `show --all --racks-behind .`.
+#![tactic(auto)]
+
+use ringside_run::run;
+use std::fs::File;
+use std::io::Write;
+use std::rt::Runtime;
+use std::{env, io, str};
+
+// What the program is asked to do with a bundle.
+#[derive(Clone, Copy)]
+enum Asked {
+    Why,
+    Show,
+    All,
+    Draw,
+    Bundle,
+    After,
+}
+
+fn main(rt: HostRuntime) -> io::Result<()> {
+    let mut asked = Asked::Why;
+    for word in env::args(&rt)?.skip(1) {
+        match word.as_str() {
+            "why" => asked = Asked::Why,
+            "show" => asked = Asked::Show,
+            "all" => asked = Asked::All,
+            "draw" => asked = Asked::Draw,
+            "bundle" => asked = Asked::Bundle,
+            "after" => asked = Asked::After,
+            name => tell(&rt, asked, name)?,
+        }
+    }
+    Ok(())
+}
+
+// Keeps what is written.
+#[derive(Drop)]
+struct Kept {
+    bytes: Vec<u8>,
+}
+
+impl Write for Kept {
+    fn write(&mut self, part: &[u8]) -> io::Result<usize> {
+        self.bytes.extend_from_slice(part)?;
+        Ok(part.len())
+    }
+
+    fn flush(&mut self) -> io::Result<()> {
+        Ok(())
+    }
+}
+
+// The command's word.
+fn word(asked: Asked) -> &'static str {
+    match asked {
+        Asked::Why => "why",
+        Asked::Show | Asked::All => "show",
+        Asked::Draw => "draw",
+        Asked::Bundle => "bundle",
+        Asked::After => "after",
+    }
+}
+
+// What the program writes of the bundle, and its exit status.
+fn said<RT: Runtime + AllocGlobal>(
+    rt: &RT,
+    asked: Asked,
+    path: &str,
+    kept: &mut Kept,
+) -> io::Result<u8> {
+    let mut bundle = File::open(rt, path)?;
+    let status = match asked {
+        Asked::All => run(
+            rt.alloc(),
+            &["ringside", "show", "--all", "--racks-behind", "."],
+            &mut bundle,
+            kept,
+        ),
+        _ => run(rt.alloc(), &["ringside", word(asked)], &mut bundle, kept),
+    };
+    Ok(status)
+}
+
+// Prints the command, the name of a bundle, the program's answer to it and the exit status.
+fn tell<RT: Runtime + AllocGlobal>(rt: &RT, asked: Asked, name: &str) -> io::Result<()> {
+    let path = format!(in rt.alloc(); "{name}.bundle")?;
+    let mut kept = Kept {
+        bytes: Vec::new(rt.alloc()),
+    };
+    let status = said(rt, asked, path.as_str(), &mut kept)?;
+    let text = str::from_utf8(kept.bytes.as_slice()).unwrap_or("no text\n");
+    let command = word(asked);
+    print!(rt; "{command} {name}\n{text}{status}\n")
+}

@@ -1,0 +1,2 @@
+-- What is proved of the ring behind a plan.
+pub mod Members

@@ -1,0 +1,22 @@
+-- The ring that a plan leaves.
+use Rattle.std.specs.Prelude.{◌≡◌, ℕ, suc, zero, Bool, not, ◌&&◌, ◌||◌, List, [], ◌∷◌, ◌++◌, map}
+use Rattle.ring_names.specs.declared.ids.NodeId.{NodeId}
+use Rattle.ring_names.specs.Lists.{has}
+use Rattle.ring_table.specs.Value.{RingValue, is_member}
+use Rattle.ring_table.specs.Valid.{IsRing}
+use Rattle.ring_table.specs.Spelling.{ring_text}
+use Rattle.plan_text.specs.declared.step.Planned.{Planned}
+use Rattle.plan_text.specs.Steps.{joined, retired}
+
+-- the text is that of a ring with these owners and members
+abbrev pub IsRingOf : List ℕ → List (List NodeId) → List Bool → Type 0
+IsRingOf text rows members = (ring : RingValue) × IsRing ring × (text ≡ ring_text ring) × (ring.owners ≡ rows) × (map (λ x. x.is_member) ring.nodes ≡ members)
+
+-- whether the node is a member once the plan is done: it was or it joined, and it did not retire
+abbrev pub member_after : RingValue → List Planned → NodeId → Bool
+member_after ring plan x = (is_member ring.nodes x || has x.0 (joined plan)) && not (has x.0 (retired plan))
+
+-- the same of the first nodes
+unfoldable pub members_after : RingValue → List Planned → ℕ → List Bool
+members_after ring plan zero = []
+members_after ring plan (suc x) = members_after ring plan x ++ member_after ring plan (record { 0 = x }) ∷ []

@@ -1,0 +1,3 @@
+-- What the program for people prints.
+pub mod After
+pub mod Why

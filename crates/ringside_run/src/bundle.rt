@@ -1,0 +1,43 @@
+//! Whole bundles: a ring, a plan of it and its certificate.
+
+ghost use Rattle.std.specs.Prelude.{IfOk};
+ghost use Rattle.ringplan_run.specs.Verdict.{TextsKeepPromises};
+
+use crate::sections::{Kind, front, kind_of};
+use ring_names::Refusal;
+use ringplan_run::{check_bundle, plan_bundle};
+use std::alloc::Global;
+
+// The ring's text, and behind it a plan that makes the change, with its certificate.
+fn planned(alloc: Global, bytes: &[u8]) -> Result<Vec<u8>, Refusal> {
+    let plan = plan_bundle(alloc, bytes)?;
+    let mut text = Vec::from_slice(alloc, &bytes[..front(bytes, 1)])?;
+    text.extend_from_slice(plan.as_slice())?;
+    Ok(text)
+}
+
+/// The texts of a ring, a plan and its certificate, without what stands behind them; a plan is made first where there is a change. Nothing is checked.
+pub fn texts_of(alloc: Global, bytes: &[u8]) -> Result<Vec<u8>, Refusal> {
+    match kind_of(bytes) {
+        Kind::Change => planned(alloc, bytes),
+        Kind::Plan => {
+            let text = Vec::from_slice(alloc, bytes)?;
+            Ok(text)
+        }
+        Kind::History => {
+            let text = Vec::from_slice(alloc, &bytes[..front(bytes, 3)])?;
+            Ok(text)
+        }
+    }
+}
+
+/// The texts of the ring, the plan and the certificate of a bundle, in one; where it has a change in place of a plan, of a plan that makes the change. Refused
+/// is what the planner or the checker refuses, or the first fault of the texts.
+pub fn whole_bundle(alloc: Global, bytes: &[u8]) -> Result<Vec<u8>, Refusal>
+    // They are such texts, and the plan keeps its promises.
+    ensures keeps { IfOk result (λ text. TextsKeepPromises text.items) }
+{
+    let text = texts_of(alloc, bytes)?;
+    check_bundle(alloc, text.as_slice())?;
+    Ok(text)
+}

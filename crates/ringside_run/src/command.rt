@@ -1,0 +1,238 @@
+//! The command line.
+
+use crate::job::{Job, Making, Wish};
+use clap::error::ErrorKind;
+use clap::{Arg, ArgAction, ArgMatches, Command, Error};
+use plan_summary::Shape;
+use std::alloc::{AllocError, Global};
+use std::convert::AsStr;
+
+const ABOUT: &str =
+    "Says why a plan is refused, shows and draws what a plan does to a ring, prints whole bundles, and the ring that a plan leaves";
+
+const WHY: &str = "Says why a bundle is refused: the lines concerned, and lines that may mend it";
+
+const BUNDLE: &str =
+    "Prints ring, plan and certificate in one text; a plan is made first where there is a change";
+
+const AFTER: &str = "Prints the ring that the plan leaves, or what a history has done of it";
+
+const SHOW: &str = "Prints a summary of the plan, and with a history how far it has come";
+
+const DRAW: &str = "Prints a picture of the plan as SVG, and with a history of how far it has come";
+
+const ALL: &str =
+    "Shows every node, round and copy; without it at most 24 nodes, 12 rounds and 6 entries of a round";
+
+const RACKS: &str =
+    "Says how many partitions have two slots in one rack, which is what stands behind the last C of a node's name";
+
+const NO_BYTE: &[u8; 102] =
+    b"error: invalid value for '--racks-behind <C>': not one character\n\nFor more information, try '--help'.\n";
+
+const STREAMS: &str = "\
+Example: ringside show < examples/plan_replace.bundle
+
+Standard input: a bundle, which is the text of a ring, and behind it that of a change, which is planned first, or those of a plan and its certificate, and
+perhaps that of a history behind these.
+Standard output: what the command prints, where the checker accepts the plan; else one line of `no`, the refusal's number and its values.
+
+Exit status:
+  0  it was printed
+  1  the plan is refused, there is none, or the history is no run of it
+  2  a text or the command line is refused
+  3  out of memory, or the input or the output failed";
+
+const WHY_STREAMS: &str = "\
+Example: ringside why < examples/node_enters_before_it_left.bundle
+
+Standard input: a bundle: a ring with a change, or with a plan and its certificate, and perhaps a history.
+Standard output: the line that `ringplan check` prints of a ring, a plan and its certificate, and then words: the lines of the bundle that are concerned,
+with `^` under what is at fault and `-` under what belongs to it, and new lines in place of some of these, which are shown only where the checker was asked
+about the bundle with them. `then the checker says yes` stands where it does.
+
+Exit status: 0 yes, 1 no plan, one that is refused, or a history that is no run, 2 a text or the command line is refused, 3 memory, input or output";
+
+const BUNDLE_STREAMS: &str = "\
+Example: ringside bundle < examples/plan_replace.bundle > planned.bundle
+
+Standard input: a bundle: a ring with a change, or with a plan and its certificate.
+Standard output: the texts of the ring, a plan and its certificate, which `ringplan check` accepts; else one line of `no`.
+
+Exit status: 0 printed, 1 no plan or one that is refused, 2 a text or the command line is refused, 3 memory, input or output";
+
+const AFTER_STREAMS: &str = "\
+Example: ringside after < examples/planned_replace.bundle
+
+Standard input: a bundle: a ring with a change, or with a plan and its certificate, and perhaps a history.
+Standard output: the text of a ring with the same nodes, and with the owners and members once the plan is done, or the steps that the history has
+done: the next change begins with it. A move that a history has begun and not switched is `no 21` and the step that began it.
+
+Exit status: 0 printed, 1 no plan, one that is refused, or an open move, 2 a text or the command line is refused, 3 memory, input or output";
+
+const SHOW_STREAMS: &str = "\
+Example: ringside show --racks-behind . < examples/plan_grow.bundle
+
+Standard input: a bundle: a ring with a change, or with a plan and its certificate, and perhaps a history.
+Standard output: who joins and leaves, what moves in how many rounds, what becomes of balance, racks and failures, the nodes that take part, and the copies
+of each round; with a history what is done, open and next. Partitions, slots, steps and rounds have their numbers; `5.1` is slot 1 of partition 5.
+
+Exit status: 0 printed, 1 no plan, one that is refused, or a history that is no run, 2 a text or the command line is refused, 3 memory, input or output";
+
+const DRAW_STREAMS: &str = "\
+Example: ringside draw < examples/plan_grow.bundle > plan.svg
+
+Standard input: a bundle: a ring with a change, or with a plan and its certificate, and perhaps a history.
+Standard output: an SVG file that needs no other: a row for each node that takes part, a column for each round, a bar for each copy, which shows its step
+where a pointer rests on it; with a history what is copied, open and still to do. Above 40 rounds or 90 copies side by side columns and rows are summed.
+
+Exit status: 0 printed, 1 no plan, one that is refused, or a history that is no run, 2 a text or the command line is refused, 3 memory, input or output";
+
+const STANDARD_INPUT: &[u8] =
+    b"\nA bundle is read from standard input and from no file that is named: ringside show < FILE\n";
+
+/// What a command line asks for.
+#[derive(Debug, Drop)]
+pub enum CommandLine {
+    /// To do something with a bundle.
+    Do(Job),
+    /// To be told how to use the program, by this text.
+    Help(Vec<u8>),
+    /// Nothing that there is, as this text says.
+    Refused(Vec<u8>),
+    /// What it asks is not known, since memory was refused.
+    OutOfMemory,
+}
+
+/// Reads a command line, whose first word is the program's name.
+pub fn parse<S: AsStr>(alloc: Global, words: &[S]) -> CommandLine {
+    match try_parse(alloc, words) {
+        Ok(line) => line,
+        Err(_) => CommandLine::OutOfMemory,
+    }
+}
+
+fn try_parse<S: AsStr>(alloc: Global, words: &[S]) -> Result<CommandLine, AllocError> {
+    match command(alloc)?.try_get_matches_from(words) {
+        Ok(matches) => line_of(alloc, &matches),
+        Err(error) => {
+            let text = said_of(alloc, &error)?;
+            match error.kind() {
+                ErrorKind::OutOfMemory => Ok(CommandLine::OutOfMemory),
+                ErrorKind::DisplayHelp => Ok(CommandLine::Help(text)),
+                _ => Ok(CommandLine::Refused(text)),
+            }
+        }
+    }
+}
+
+// What is said of a line that asks for nothing, or for help. A word that is no argument may be meant as a file's name.
+fn said_of(alloc: Global, error: &Error) -> Result<Vec<u8>, AllocError> {
+    let mut text = format!(in alloc; "{error}")?.into_bytes();
+    if matches!(error.kind(), ErrorKind::UnknownArgument) {
+        text.extend_from_slice(STANDARD_INPUT)?;
+    }
+    Ok(text)
+}
+
+// What a line without a fault asks for.
+fn line_of(alloc: Global, matches: &ArgMatches) -> Result<CommandLine, AllocError> {
+    if matches.subcommand_matches("why").is_some() {
+        return Ok(CommandLine::Do(Job::Why));
+    }
+    if matches.subcommand_matches("bundle").is_some() {
+        return Ok(CommandLine::Do(Job::Make(Making::Bundle)));
+    }
+    if matches.subcommand_matches("after").is_some() {
+        return Ok(CommandLine::Do(Job::Make(Making::After)));
+    }
+    if matches.subcommand_matches("draw").is_some() {
+        return Ok(CommandLine::Do(Job::Make(Making::Draw)));
+    }
+    let Some((_, options)) = matches.subcommand() else {
+        return Ok(CommandLine::Do(Job::Make(Making::Bundle)));
+    };
+    let shape = match options.try_get_one::<bool>("all") {
+        Ok(Some(true)) => Shape::Whole,
+        _ => Shape::Short,
+    };
+    match rack_byte(options) {
+        Racks::Unasked => Ok(show_line(shape, None)),
+        Racks::Behind(byte) => Ok(show_line(shape, Some(byte))),
+        Racks::NoByte => {
+            let text = Vec::from_slice(alloc, NO_BYTE)?;
+            Ok(CommandLine::Refused(text))
+        }
+    }
+}
+
+fn show_line(shape: Shape, racks_behind: Option<u8>) -> CommandLine {
+    CommandLine::Do(Job::Make(Making::Show(Wish {
+        shape,
+        racks_behind,
+    })))
+}
+
+// What is said of racks: nothing, the byte in front of them, or what is no one byte.
+#[derive(Clone, Copy)]
+enum Racks {
+    Unasked,
+    Behind(u8),
+    NoByte,
+}
+
+fn rack_byte(options: &ArgMatches) -> Racks {
+    match options.get_str("racks-behind") {
+        None => Racks::Unasked,
+        Some(text) => {
+            let bytes = text.as_bytes();
+            match bytes.first() {
+                Some(byte) if bytes.len() == 1 => Racks::Behind(*byte),
+                _ => Racks::NoByte,
+            }
+        }
+    }
+}
+
+// A command with one subcommand more: its word, what it does, and what it reads and prints.
+fn with_job<'a>(
+    alloc: Global,
+    command: Command<'a>,
+    word: &'a str,
+    about: &'a str,
+    streams: &'a str,
+) -> Result<Command<'a>, AllocError> {
+    let job = Command::new(alloc, word).about(about).after_help(streams);
+    command.subcommand(job)
+}
+
+// A command with the subcommand `show` more.
+fn with_show<'a>(alloc: Global, command: Command<'a>) -> Result<Command<'a>, AllocError> {
+    let all = Arg::new(alloc, "all")
+        .long("all")
+        .help(ALL)
+        .action(ArgAction::SetTrue);
+    let racks = Arg::new(alloc, "racks-behind")
+        .long("racks-behind")
+        .value_name("C")
+        .help(RACKS);
+    let show = Command::new(alloc, "show")
+        .about(SHOW)
+        .after_help(SHOW_STREAMS)
+        .arg(all)?
+        .arg(racks)?;
+    command.subcommand(show)
+}
+
+// The command lines that there are.
+fn command<'a>(alloc: Global) -> Result<Command<'a>, AllocError> {
+    let alone = Command::new(alloc, "ringside")
+        .about(ABOUT)
+        .after_help(STREAMS)
+        .subcommand_required(true);
+    let whys = with_job(alloc, alone, "why", WHY, WHY_STREAMS)?;
+    let shows = with_show(alloc, whys)?;
+    let draws = with_job(alloc, shows, "draw", DRAW, DRAW_STREAMS)?;
+    let bundles = with_job(alloc, draws, "bundle", BUNDLE, BUNDLE_STREAMS)?;
+    with_job(alloc, bundles, "after", AFTER, AFTER_STREAMS)
+}

@@ -1,0 +1,33 @@
+//! What there is to be done with a bundle.
+
+use plan_summary::Shape;
+
+/// What a summary is to show.
+#[derive(Clone, Copy, Debug)]
+pub struct Wish {
+    pub shape: Shape,
+    /// The byte behind which a node's name names its rack, where racks are asked for.
+    pub racks_behind: Option<u8>,
+}
+
+/// What can be made of a bundle whose plan is accepted.
+#[derive(Clone, Copy, Debug)]
+pub enum Making {
+    /// Ring, plan and certificate in one text.
+    Bundle,
+    /// The ring that the plan, or what a history has done of it, leaves.
+    After,
+    /// A summary.
+    Show(Wish),
+    /// A picture.
+    Draw,
+}
+
+/// What there is to be done with a bundle.
+#[derive(Clone, Copy, Debug)]
+pub enum Job {
+    /// To say why it is refused, or what a yes says.
+    Why,
+    /// To make something of it.
+    Make(Making),
+}

@@ -1,0 +1,19 @@
+//! The program for people, over any input and any output: plans in words, whole bundles, and the ring that a plan leaves.
+#![tactic(auto)]
+
+mod after;
+mod bundle;
+mod command;
+mod job;
+mod program;
+mod sections;
+mod show;
+mod study;
+mod why;
+
+pub use after::{after_bundle, ring_after};
+pub use bundle::whole_bundle;
+pub use job::{Job, Making, Wish};
+pub use program::{end_without_words, run};
+pub use show::{draw_bundle, show_bundle};
+pub use why::why_bundle;

@@ -1,0 +1,206 @@
+#!/usr/bin/env python3
+"""Tries `ringside` from outside, beside `ringplan`; it wants both programs as they are built. `trials/people.py EDITS` gives each bundle so many edits, else 40.
+
+Mends: each example, and each with edits as people make them (a typo, a line that is lost, doubled or exchanged, a number that is changed, a dependency that is
+lost), drawn from a fixed seed. The first line and the status of `why` are those of `ringplan check`, and each mend that it shows is applied and asked of it.
+Large plans: 131,072 steps over 1,024 nodes, and 32,767 rounds, by each command: within a second and 200 MB, a picture of at most 1 MB, and the bytes that
+people.sums names. Pictures: each is well-formed, and the words of each bar are no wider than it."""
+import glob, hashlib, os, random, re, resource, subprocess, sys, time, xml.dom.minidom
+
+top = os.path.dirname(os.path.dirname(os.path.abspath(__file__)))
+PLAN, SIDE = f"{top}/crates/ringplan/out/ringplan", f"{top}/crates/ringside/out/ringside"
+EDITS = int(sys.argv[1]) if len(sys.argv) > 1 else 40
+
+
+def ask(program, words, text):
+    ran = subprocess.run([program, *words.split()], input=text.encode(), stdout=subprocess.PIPE, timeout=60)
+    return ran.stdout.decode(), ran.returncode
+
+
+def edited(lines, draw):
+    """The lines with one edit."""
+    lines, k, kind = list(lines), draw.randrange(len(lines)), draw.randrange(9)
+    fields = lines[k].split(" ")
+    if kind == 0 and lines[k]:
+        at = draw.randrange(len(lines[k]))
+        lines[k] = lines[k][:at] + draw.choice("abxz0 19") + lines[k][at + 1 :]
+    elif kind == 1:
+        del lines[k]
+    elif kind == 2:
+        lines.insert(k, lines[k])
+    elif kind == 3:
+        other = draw.randrange(len(lines))
+        lines[k], lines[other] = lines[other], lines[k]
+    elif kind == 4:
+        numbers = [j for j, it in enumerate(fields) if it.isdigit()]
+        if numbers:
+            fields[draw.choice(numbers)] = str(draw.randrange(12))
+            lines[k] = " ".join(fields)
+    elif kind == 5 and "after" in fields:
+        del fields[draw.randrange(fields.index("after"), len(fields))]
+        lines[k] = " ".join(fields)
+    elif kind == 6 and len(fields) > 1:
+        del fields[draw.randrange(len(fields))]
+        lines[k] = " ".join(fields)
+    elif kind == 7 and len(lines[k]) > 2:
+        at = draw.randrange(len(lines[k]) - 1)
+        lines[k] = lines[k][:at] + lines[k][at + 1] + lines[k][at] + lines[k][at + 2 :]
+    else:
+        lines[k] = draw.choice([lines[k] + " ", " " + lines[k], lines[k] + "\r", lines[k].replace(" ", "\t", 1), "# " + lines[k], ""])
+    return lines
+
+
+def mended(text, told):
+    """The text with the mend that the words show, and what they say of it; None where they show none."""
+    found = re.search(r"\n  mend: ([^\n]*)\n((?: *\d+ \+ [^\n]*\n)*)  then the checker (says yes|goes on, to `([^`]*)`)[.,]", told)
+    if not found:
+        return None
+    new = {}
+    for line in found[2].splitlines():
+        number, words = re.match(r" *(\d+) \+ (.*)", line).groups()
+        new.setdefault(int(number), []).append(words)
+    gone = re.search(r"line (\d+) goes", found[1])
+    if gone:
+        new[int(gone[1])] = []
+    out = []
+    for number, line in enumerate(text.split("\n"), 1):
+        out += new.get(number, [line])
+    return "\n".join(out), found[4] or "yes"
+
+
+def mends():
+    """Bundles, mends shown, mends accepted, and how often each number was answered."""
+    draw, counts, numbers = random.Random(20261126), [0, 0, 0], {}
+    for path in sorted(glob.glob(f"{top}/examples/*.bundle")):
+        with open(path) as it:
+            whole = it.read()
+        if "\ncert " not in whole or "\nscript " in whole or "\nhistory " in whole:
+            continue
+        for turn in range(EDITS + 1):
+            text = whole if turn == 0 else "\n".join(edited(whole.split("\n"), draw))
+            (line, status), (told, ends) = ask(PLAN, "check", text), ask(SIDE, "why", text)
+            counts[0] += 1
+            if told.split("\n")[0] + "\n" != line or status != ends:
+                faults.append(f"{path}, edit {turn}: check says {line.strip()!r} ({status}), why {told[:60]!r} ({ends})")
+            if status and len(told.split("\n")) < 3:
+                faults.append(f"{path}, edit {turn}: no word about {line.strip()!r}")
+            if status:
+                numbers[line.split()[1]] = numbers.get(line.split()[1], 0) + 1
+            mend = mended(text, told)
+            if mend:
+                answer = ask(PLAN, "check", mend[0])[0].strip()
+                counts[1], counts[2] = counts[1] + 1, counts[2] + (answer == "yes")
+                if answer != mend[1]:
+                    faults.append(f"{path}, edit {turn}: the mend is said to lead to {mend[1]!r}, and leads to {answer!r}")
+    return counts, numbers
+
+
+def steps(count):
+    """A sound plan of so many steps, a multiple of four: eight slots of each of 4,096 partitions go to nodes of their own."""
+    nodes, q, n, out, plan, chains, last = 1024, 4096, 3, [], [], {}, {}
+    owners = [[(p * 7 + i * 131) % nodes for i in range(n)] for p in range(q)]
+    for k in range(0, count, 4):
+        move = k // 4
+        p, i = move % q, move // q % n
+        old = owners[p][i]
+        new = (p * 7 + 401 + 17 * (move // q)) % nodes
+        after = [last[p, i]] if (p, i) in last else []
+        waits = set()
+        for x in (old, new):
+            lane = chains.setdefault(x, [[] for _ in range(32)])
+            seat = min(range(32), key=lambda j: len(lane[j]))
+            if lane[seat]:
+                waits.add(lane[seat][-1])
+            lane[seat].append(k + 1)
+        plan.append(f"mirror {p} {i} n{new}" + ("" if not after else f" after {after[0]}"))
+        plan.append(f"copy {p} {i} owner after " + " ".join(map(str, sorted(waits | {k}))))
+        plan.append(f"switch {p} {i} after {k + 1}")
+        plan.append(f"drop {p} {i} n{old} after {k + 2}")
+        owners[p][i], last[p, i] = new, k + 3
+    first = [[(p * 7 + i * 131) % nodes for i in range(n)] for p in range(q)]
+    out += ["ring 1", f"space {q}", f"quorum {n} 2 2"] + [f"node n{x} 64 in" for x in range(nodes)]
+    out += [f"slots {p} " + " ".join(f"n{x}" for x in first[p]) for p in range(q)] + ["end", "plan 1", *plan, "end", "cert 1"]
+    out += [f"chain n{x} " + " ".join(map(str, lane)) for x in sorted(chains) for lane in chains[x] if lane] + ["end"]
+    return "\n".join(out) + "\n"
+
+
+def rounds(moves):
+    """A slot that goes to and fro between two nodes."""
+    out, copies, last = ["ring 1", "space 1", "quorum 3 2 2", "node a 4 in", "node b 4 in", "node c 4 in", "node d 4 out", "slots 0 a b c", "end", "plan 1", "join d"], [], 0
+    owner, other = "a", "d"
+    for k in range(1, 4 * moves, 4):
+        out.append(f"mirror 0 0 {other} after 0" + (f" {last}" if last else ""))
+        out.append("copy 0 0 owner after " + " ".join(map(str, copies[-1:] + [k])))
+        out += [f"switch 0 0 after {k + 1}", f"drop 0 0 {owner} after {k + 2}"]
+        copies.append(k + 1)
+        last, owner, other = k + 3, other, owner
+    chain = " ".join(map(str, copies))
+    return "\n".join(out + ["end", "cert 1", f"chain a {chain}", f"chain d {chain}", "end"]) + "\n"
+
+
+# The width of a character in hundredths of the font's size, rounded up: DejaVu Sans.
+WIDTHS = {**dict.fromkeys("0123456789bdghnpqu", 64), **dict.fromkeys("aeo", 62), **dict.fromkeys("sz", 53), **dict.fromkeys("ijl", 28), **dict.fromkeys(" ,.", 32), **dict.fromkeys("vxy", 60)}
+WIDTHS |= {"c": 55, "k": 58, "f": 36, "t": 40, "r": 42, "w": 82, "m": 98, "-": 37, "_": 50, ":": 34, "\u2190": 84, "\u2192": 84}
+
+
+def look(name, picture):
+    """Whether the picture is well-formed, and how many bars have words: none wider than its bar."""
+    root, bar, count = xml.dom.minidom.parseString(picture).documentElement, None, 0
+    for shape in root.childNodes:
+        if shape.nodeName == "rect" and shape.getElementsByTagName("title"):
+            bar = int(shape.getAttribute("width"))
+        elif shape.nodeName == "text" and shape.getAttribute("class") == "b" and shape.getAttribute("text-anchor") == "middle":
+            words = shape.firstChild.data
+            count += 1
+            if sum(WIDTHS.get(it, 100) for it in words) * 11 / 100 > bar:
+                faults.append(f"{name}: {words!r} is wider than its bar of {bar}")
+    return count
+
+
+def run(words, text):
+    """What the program writes, its seconds, and the most memory that any run has taken, in MB."""
+    begun = time.time()
+    ran = subprocess.run([SIDE, *words.split()], input=text, stdout=subprocess.PIPE, timeout=60)
+    return ran.stdout, ran.returncode, time.time() - begun, resource.getrusage(resource.RUSAGE_CHILDREN).ru_maxrss // 1024
+
+
+def large():
+    """Each command on the large plans: the sums of what it writes, and the most seconds and memory."""
+    wanted, found, most, memory = {}, [], 0, 0
+    sums = f"{top}/trials/people.sums"
+    if os.path.isfile(sums):
+        with open(sums) as it:
+            wanted = dict(reversed(line.split("  ")) for line in it.read().splitlines())
+    for name, text in (("steps", steps(131072)), ("rounds", rounds(32767))):
+        for words in ("why", "show --racks-behind n", "show --all", "draw", "bundle", "after"):
+            out, status, seconds, megabytes = run(words, text.encode())
+            label = f"{name} {words}"
+            found.append(f"{hashlib.md5(out).hexdigest()}  {label}")
+            most, memory = max(most, seconds), max(memory, megabytes)
+            if status or seconds > 1 or (words == "draw" and len(out) > 1_000_000):
+                faults.append(f"{label}: status {status}, {seconds:.2f} s, {len(out)} bytes")
+            if wanted.get(label) != found[-1].split("  ")[0]:
+                faults.append(f"{label}: writes other bytes than people.sums names: {found[-1]}")
+            if words == "draw":
+                look(label, out)
+    if memory > 200:
+        faults.append(f"{memory} MB")
+    return most, memory
+
+
+faults = []
+(bundles, shown, accepted), numbers = mends()
+print(f"mends: {bundles} bundles, {shown} mends shown, {accepted} of them accepted; refusals by number: " + ", ".join(f"{k}: {numbers[k]}" for k in sorted(numbers, key=int)))
+most, memory = large()
+print(f"large plans: 12 runs of at most {most:.2f} s and {memory} MB")
+bars, pictures = 0, 0
+for path in sorted(glob.glob(f"{top}/examples/*.bundle") + glob.glob(f"{top}/crates/ringside_cases/data/*64*.bundle")):
+    with open(path) as it:
+        drawn, status = ask(SIDE, "draw", it.read())
+    if not status:
+        pictures, bars = pictures + 1, bars + look(path, drawn)
+print(f"pictures: {pictures} well-formed, {bars} bars with words")
+for it in faults:
+    print(it)
+print(f"{len(faults)} faults")
+sys.exit(bool(faults))
