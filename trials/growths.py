@@ -1,6 +1,6 @@
 #!/usr/bin/env python3
 """Refuses each growth of memory in turn, one to a run, and each start of a thread: trials/growths.py, once `rt ci` or `rt run` has built
-crates/ringplan and crates/tests_growths. It needs a C compiler, for what it preloads; where there is none it says so and ends with 0.
+crates/ringplan, crates/ringside and crates/tests_growths. It needs a C compiler, for what it preloads; where there is none it says so and ends with 0.
 
 Of each case of `tests_cases` the program prints what it prints with memory and all its threads, or `no 60` with status 3; the checks are also done
 by three workers. Of a drive by several workers, in which the threads' turns are not the same in two runs, the first line alone is compared. The stores of `tests_growths`, which run through all kinds of event, print the same, for an
@@ -18,6 +18,7 @@ import time
 HERE = os.path.dirname(os.path.abspath(__file__))
 CRATES = os.path.join(os.path.dirname(HERE), "crates")
 RUN = os.path.join(CRATES, "ringplan", "out", "ringplan")
+SIDE = os.path.join(CRATES, "ringside", "out", "ringside")
 STORES = os.path.join(CRATES, "tests_growths", "out", "tests_growths")
 CASES = os.path.join(CRATES, "tests_cases")
 
@@ -34,6 +35,20 @@ COMMANDS = {
 }
 
 
+# What is asked of the program for people: each command of some bundles, and of others why they are refused.
+MADE = ["plan_replace", "replay_a_move", "node_enters_before_it_left"]
+REFUSED = ["broken_fact", "more_chains_than_allowance", "retired_in_use", "copy_in_no_chain", "chain_out_of_order", "moving_source", "switch_without_copy", "no_certificate",
+    "node_that_has_not_joined", "quorums_need_not_meet", "owner_twice_apart", "plan_the_last_member", "replay_an_early_ack", "replay_another_reply"]
+
+
+def people():
+    """The same of the program for people."""
+    for name in MADE + REFUSED:
+        for words in ("why", "show --all --racks-behind .", "draw", "bundle", "after") if name in MADE else ("why",):
+            given = os.path.join(CRATES, "ringside_cases", "data", name + ".bundle")
+            yield "%s %s, ringside" % (name, words), [SIDE, *words.split()], given, (3, b"no 60\n"), False
+
+
 def cases():
     """The runs: a name, the program with its words, its input, what is owed where memory is refused, and whether the first line alone counts."""
     yield "stores", [STORES], os.path.join(CRATES, "tests_growths", "stdin"), (1, b""), False
@@ -47,6 +62,7 @@ def cases():
         for words in COMMANDS[kinds[0]]:
             label = " ".join([name, *words])
             yield label, [RUN, *words], os.path.join(CASES, "data", name + ".bundle"), (3, b"no 60\n"), kinds[0] == "race"
+    yield from people()
 
 
 def run(words, given, first, preload, **environment):

@@ -2,7 +2,7 @@
 """Tries `ringside` from outside, beside `ringplan`; it wants both programs as they are built. `trials/people.py EDITS` gives each bundle so many edits, else 40.
 
 Mends: each example, and each with edits as people make them (a typo, a line that is lost, doubled or exchanged, a number that is changed, a dependency that is
-lost), drawn from a fixed seed. The first line and the status of `why` are those of `ringplan check`, and each mend that it shows is applied and asked of it.
+lost), drawn from a fixed seed. The first line and the status of `why` are those of `ringplan check`, and each mend that it shows is applied and asked of it. Walks: mends alone, one behind the other, from a refused example to an accepted one.
 Large plans: 131,072 steps over 1,024 nodes, and 32,767 rounds, by each command: within a second and 200 MB, a picture of at most 1 MB, and the bytes that
 people.sums names. Pictures: each is well-formed, and the words of each bar are no wider than it."""
 import glob, hashlib, os, random, re, resource, subprocess, sys, time, xml.dom.minidom
@@ -93,6 +93,25 @@ def mends():
                 if answer != mend[1]:
                     faults.append(f"{path}, edit {turn}: the mend is said to lead to {mend[1]!r}, and leads to {answer!r}")
     return counts, numbers
+
+
+def walks():
+    """Of the refused examples, how many have a mend, and how many become accepted by mends alone."""
+    begun, ended = 0, 0
+    for path in sorted(glob.glob(f"{top}/examples/*.bundle")):
+        with open(path) as it:
+            text = it.read()
+        mend, turns = mended(text, ask(SIDE, "why", text)[0]), 0
+        begun += mend is not None
+        while mend and mend[1] != "yes" and turns < 20:
+            text, turns = mend[0], turns + 1
+            mend = mended(text, ask(SIDE, "why", text)[0])
+        if mend:
+            line, status = ask(PLAN, "check", mend[0])
+            ended += not status
+            if status:
+                faults.append(f"{path}: mends lead to {line.strip()!r}")
+    return begun, ended
 
 
 def steps(count):
@@ -191,6 +210,8 @@ def large():
 faults = []
 (bundles, shown, accepted), numbers = mends()
 print(f"mends: {bundles} bundles, {shown} mends shown, {accepted} of them accepted; refusals by number: " + ", ".join(f"{k}: {numbers[k]}" for k in sorted(numbers, key=int)))
+begun, ended = walks()
+print(f"walks: {begun} refused examples have a mend, and {ended} of them become accepted by mends alone")
 most, memory = large()
 print(f"large plans: 12 runs of at most {most:.2f} s and {memory} MB")
 bars, pictures = 0, 0

@@ -3,6 +3,8 @@
 #![tactic(auto)]
 
 mod change;
+mod copies;
+mod least;
 mod loads;
 mod names;
 mod numbers;

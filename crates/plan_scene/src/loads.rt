@@ -1,9 +1,12 @@
 //! What each node owns, gives, takes and may bear.
 
+use crate::copies::Copies;
+use crate::least::Order;
 use crate::numbers::{at, raise};
 use crate::shown::AllShown;
 use plan_cert::Cert;
 use plan_moves::owned;
+use plan_text::Plan;
 use ring_names::{Listed, NodeId, Refusal};
 use ring_table::{Allowance, Ring, Side};
 use std::alloc::Global;
@@ -19,7 +22,7 @@ pub struct Loads {
     pub gives: Vec<u32>,
     /// Moves to the node.
     pub takes: Vec<u32>,
-    // chains of the certificate
+    // transfers at once, by the side that the allowance counts
     joint: Vec<u32>,
     taking: Vec<u32>,
     giving: Vec<u32>,
@@ -57,6 +60,29 @@ impl Loads {
         }
     }
 
+    /// Has the fewest transfers that the plan's order allows stand in the place of the certificate's chains, as far as they are found.
+    pub fn count_fewest(
+        &mut self,
+        alloc: Global,
+        ring: &Ring,
+        plan: &Plan,
+        shown: &AllShown,
+    ) -> Result<(), Refusal> {
+        let mut order = Order::of(alloc, plan)?;
+        let copies = Copies::of(alloc, ring, shown)?;
+        for node in 0..ring.nodes().len() {
+            let taken = order.fewest(alloc, copies.taken(node))?;
+            let given = order.fewest(alloc, copies.given(node))?;
+            if copies.is_split(node) {
+                put(self.taking.as_mut_slice(), node, taken);
+                put(self.giving.as_mut_slice(), node, given);
+            } else {
+                put(self.joint.as_mut_slice(), node, taken);
+            }
+        }
+        Ok(())
+    }
+
     fn count_chains(&mut self, cert: &Cert) {
         for place in 0..cert.chains.len() {
             let of = cert.chains.of(place);
@@ -69,8 +95,7 @@ impl Loads {
         }
     }
 
-    /// How many transfers the certificate has the node in at once, of how many it may bear: `3 of 4`, or `2 of 2 in, 1 of 2 out`. Nothing
-    /// where it has no chain of a side.
+    /// How many transfers the node has at once, of how many it may bear: `3 of 4`, or `2 of 2 in, 1 of 2 out`. Nothing where it has none of a side.
     pub fn push_at_once(
         &self,
         out: &mut Vec<u8>,
@@ -90,6 +115,13 @@ impl Loads {
                 push_of(out, given, give, b" out")
             }
         }
+    }
+}
+
+// Writes what was found.
+fn put(numbers: &mut [u32], place: usize, found: Option<u32>) {
+    if let (Some(number), Some(found)) = (numbers.get_mut(place), found) {
+        *number = found;
     }
 }
 

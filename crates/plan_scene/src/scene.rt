@@ -39,7 +39,8 @@ impl Scene {
         let joins = joining(alloc, plan)?;
         let leaves = retiring(alloc, plan)?;
         let last_rows = last_owners(alloc, ring, plan)?;
-        let loads = Loads::of(alloc, ring, cert, &shown, last_rows.as_slice())?;
+        let mut loads = Loads::of(alloc, ring, cert, &shown, last_rows.as_slice())?;
+        loads.count_fewest(alloc, ring, plan, &shown)?;
         Ok(Scene {
             shown,
             rounds,

@@ -387,8 +387,10 @@ pub fn after_bundle(alloc: Global, bytes: &[u8]) -> Result<Vec<u8>, Refusal> {
 
 /// Which steps must come first where `after_bundle` refuses a history for the move that the step begins; None where that is not why.
 pub fn open_words(alloc: Global, bytes: &[u8], step: u32) -> Result<Option<Vec<u8>>, Refusal> {
-    let Ok(found) = studied(alloc, bytes) else {
-        return Ok(None);
+    let found = match studied(alloc, bytes) {
+        Ok(found) => found,
+        Err(Refusal::OutOfMemory) => return Err(Refusal::OutOfMemory),
+        Err(_) => return Ok(None),
     };
     let plan = found.approved.plan();
     let (Some(history), Some(slot)) = (&found.history, slot_of(plan, step)) else {

@@ -7,8 +7,11 @@ ghost use Rattle.ringside_run.specs.Why.{AnswersCheck};
 use crate::sections::{Kind, front, kind_of};
 use crate::study::{Study, studied};
 use change_text::read_wanted;
+use history_text::read_replay;
+use plan_check::{Approved, Entry, Event, check};
 use plan_words::{Read, tell_plan};
 use ring_names::{Refusal, push_decimal};
+use ring_replay::replay;
 use ring_script::{Kind as Sections, read_bundle};
 use ringplan_run::{Answer, Job, answer_of, check_bundle, make, plan_bundle};
 use std::alloc::Global;
@@ -111,8 +114,10 @@ fn tell_read(alloc: Global, bytes: &[u8], refusal: &Refusal) -> Result<Option<Sa
         _ => {}
     }
     let texts = &bytes[..front(bytes, 3)];
-    let Ok(bundle) = read_bundle(alloc, Sections::Check, texts) else {
-        return Ok(None);
+    let bundle = match read_bundle(alloc, Sections::Check, texts) {
+        Ok(bundle) => bundle,
+        Err(Refusal::OutOfMemory) => return Err(Refusal::OutOfMemory),
+        Err(_) => return Ok(None),
     };
     let read = Read {
         bytes: texts,
@@ -125,8 +130,10 @@ fn tell_read(alloc: Global, bytes: &[u8], refusal: &Refusal) -> Result<Option<Sa
 
 // Why there is no plan for a change.
 fn tell_no_plan(alloc: Global, bytes: &[u8]) -> Result<Option<Said>, Refusal> {
-    let Ok(wanted) = read_wanted(alloc, bytes) else {
-        return Ok(None);
+    let wanted = match read_wanted(alloc, bytes) {
+        Ok(wanted) => wanted,
+        Err(Refusal::OutOfMemory) => return Err(Refusal::OutOfMemory),
+        Err(_) => return Ok(None),
     };
     let mut members = 0u32;
     for node in wanted.ring.nodes() {
@@ -193,10 +200,6 @@ fn tell_history(
     entry: u32,
     code: u32,
 ) -> Result<Option<Said>, Refusal> {
-    let start = Page {
-        bytes: &bytes[..front(bytes, 3)],
-    }
-    .count();
     let number = digits(alloc, entry)?;
     let title = joined(
         alloc,
@@ -207,12 +210,125 @@ fn tell_history(
         ],
     )?;
     let mut said = Said::new(alloc, title.as_slice())?;
-    let line = start.saturating_add(2).saturating_add(entry);
+    let line = line_behind(bytes, 3)
+        .saturating_add(1)
+        .saturating_add(entry);
     said.mark(fault(line, joined(alloc, &[reason(code)])?))?;
     if entry > 0 {
-        said.mark(beside(line - 1, joined(alloc, &[b"up to here it is a run"])?))?;
+        said.mark(beside(
+            line.saturating_sub(1),
+            joined(alloc, &[b"up to here it is a run"])?,
+        ))?;
+    }
+    if let Some(found) = replayed(alloc, bytes)? {
+        tell_entry(alloc, &mut said, bytes, &found, entry)?;
     }
     Ok(Some(said))
+}
+
+// An approved plan, and a history of it.
+#[derive(Drop)]
+struct Recorded {
+    approved: Approved,
+    history: Vec<Entry>,
+}
+
+// The plan and the history of a bundle, where its texts are in order and the checker accepts the plan.
+fn replayed(alloc: Global, bytes: &[u8]) -> Result<Option<Recorded>, Refusal> {
+    let bundle = match read_replay(alloc, bytes) {
+        Ok(bundle) => bundle,
+        Err(Refusal::OutOfMemory) => return Err(Refusal::OutOfMemory),
+        Err(_) => return Ok(None),
+    };
+    match check(alloc, bundle.ring, bundle.plan, &bundle.cert) {
+        Ok(approved) => Ok(Some(Recorded {
+            approved,
+            history: bundle.history,
+        })),
+        Err(turned) => {
+            let refusal = turned.refusal;
+            if refusal == Refusal::OutOfMemory {
+                return Err(refusal);
+            }
+            Ok(None)
+        }
+    }
+}
+
+// The line behind the first parts.
+fn line_behind(bytes: &[u8], parts: u32) -> u32 {
+    let page = Page {
+        bytes: &bytes[..front(bytes, parts)],
+    };
+    page.count().saturating_add(1)
+}
+
+// The step of an event, if it has one.
+fn step_of(event: &Event) -> Option<u32> {
+    match event {
+        Event::Do(step)
+        | Event::OpenCopy(step)
+        | Event::ChunkCopy(step, _)
+        | Event::CloseCopy(step)
+        | Event::AbortCopy(step) => Some(*step),
+        _ => None,
+    }
+}
+
+// The step of the entry's event, and the reply that was due.
+fn tell_entry(
+    alloc: Global,
+    said: &mut Said,
+    bytes: &[u8],
+    found: &Recorded,
+    entry: u32,
+) -> Result<(), Refusal> {
+    let history = found.history.as_slice();
+    let Some(wrong) = history.get(entry as usize) else {
+        return Ok(());
+    };
+    if let Some(step) = step_of(&wrong.event) {
+        let line = line_behind(bytes, 1).saturating_add(1).saturating_add(step);
+        let number = digits(alloc, step)?;
+        said.mark(beside(line, joined(alloc, &[b"step ", number.as_slice()])?))?;
+    }
+    if let Some(reply) = due(alloc, &found.approved, history, entry as usize)? {
+        let words = joined(
+            alloc,
+            &[b"The reply that was due: `", reply.as_slice(), b"`."],
+        )?;
+        said.note(words.as_slice())?;
+    }
+    Ok(())
+}
+
+// The reply to an entry's event, behind the entries in front of it; None where it is refused.
+fn due(
+    alloc: Global,
+    approved: &Approved,
+    history: &[Entry],
+    place: usize,
+) -> Result<Option<Vec<u8>>, Refusal> {
+    if place >= history.len() || place > 1_000_000 {
+        return Ok(None);
+    }
+    let mut world = match replay(alloc, approved, &history[..place]) {
+        Ok(world) => world,
+        Err(Refusal::OutOfMemory) => return Err(Refusal::OutOfMemory),
+        Err(_) => return Ok(None),
+    };
+    if world.puts() == u32::MAX || world.gets() == u32::MAX {
+        return Ok(None);
+    }
+    match world.apply(&history[place].event) {
+        Ok(reply) => {
+            let mut text = Vec::new(alloc);
+            reply.write_text(&mut text)?;
+            Ok(Some(text))
+        }
+        Err(Refusal::OutOfMemory) => Err(Refusal::OutOfMemory),
+        Err(_) => Ok(None),
+    }
 }
 
 /// Why a bundle is refused so, in words: nothing where there is no more to say than its line.
