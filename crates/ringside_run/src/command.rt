@@ -35,7 +35,7 @@ Example: ringside show < examples/plan_replace.bundle
 
 Standard input: a bundle, which is the text of a ring, and behind it that of a change, which is planned first, or those of a plan and its certificate, and
 perhaps that of a history behind these.
-Standard output: what the command prints, where the checker accepts the plan; else one line of `no`, the refusal's number and its values.
+Standard output: what the command prints, where the checker accepts the plan; else what `why` prints.
 
 Exit status:
   0  it was printed
@@ -57,7 +57,7 @@ const BUNDLE_STREAMS: &str = "\
 Example: ringside bundle < examples/plan_replace.bundle > planned.bundle
 
 Standard input: a bundle: a ring with a change, or with a plan and its certificate.
-Standard output: the texts of the ring, a plan and its certificate, which `ringplan check` accepts; else one line of `no`.
+Standard output: the texts of the ring, a plan and its certificate, which `ringplan check` accepts; else what `why` prints.
 
 Exit status: 0 printed, 1 no plan or one that is refused, 2 a text or the command line is refused, 3 memory, input or output";
 

@@ -147,7 +147,7 @@ fn tell_no_plan(alloc: Global, bytes: &[u8]) -> Result<Option<Said>, Refusal> {
     for node in wanted.change.leaves.as_slice() {
         members = members.saturating_sub(if wanted.ring.is_member(*node) { 1 } else { 0 });
     }
-    let (count, slots) = (digits(alloc, members)?, digits(alloc, wanted.ring.n())?);
+    let count = digits(alloc, members)?;
     let mut said = Said::new(alloc, b"the planner found no plan")?;
     if members < wanted.ring.n() {
         said.title = joined(
@@ -158,15 +158,9 @@ fn tell_no_plan(alloc: Global, bytes: &[u8]) -> Result<Option<Said>, Refusal> {
                 b" members would be left",
             ],
         )?;
-        let words = joined(
-            alloc,
-            &[
-                b"Partition 0 cannot be filled: its ",
-                slots.as_slice(),
-                b" slots, as those of each, want so many different members.",
-            ],
+        said.note(
+            b"Partition 0 cannot be filled, nor any other: each slot of one wants a member of its own.",
         )?;
-        said.note(words.as_slice())?;
         said.note(b"Let fewer nodes leave, or more join.")?;
     }
     Ok(Some(said))
