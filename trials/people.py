@@ -3,7 +3,7 @@
 
 Mends: each example, and each with edits as people make them (a typo, a line that is lost, doubled or exchanged, a number that is changed, a dependency that is
 lost), drawn from a fixed seed. The first line and the status of `why` are those of `ringplan check`, and each mend that it shows is applied and asked of it. Walks: mends alone, one behind the other, from a refused example to an accepted one.
-Large plans: 131,072 steps over 1,024 nodes, and 32,767 rounds, by each command: within a second and 200 MB, a picture of at most 1 MB, and the bytes that
+Large plans: 131,072 steps over 1,024 nodes, and 32,768 rounds, by each command: within a second and 200 MB, a picture of at most 1 MB, and the bytes that
 people.sums names. Pictures: each is well-formed, and the words of each bar are no wider than it."""
 import glob, hashlib, os, random, re, resource, subprocess, sys, time, xml.dom.minidom
 
@@ -145,10 +145,10 @@ def steps(count):
 
 def rounds(moves):
     """A slot that goes to and fro between two nodes."""
-    out, copies, last = ["ring 1", "space 1", "quorum 3 2 2", "node a 4 in", "node b 4 in", "node c 4 in", "node d 4 out", "slots 0 a b c", "end", "plan 1", "join d"], [], 0
+    out, copies, last = ["ring 1", "space 1", "quorum 3 2 2", "node a 4 in", "node b 4 in", "node c 4 in", "node d 4 in", "slots 0 a b c", "end", "plan 1"], [], 0
     owner, other = "a", "d"
-    for k in range(1, 4 * moves, 4):
-        out.append(f"mirror 0 0 {other} after 0" + (f" {last}" if last else ""))
+    for k in range(0, 4 * moves, 4):
+        out.append(f"mirror 0 0 {other}" + (f" after {last}" if last else ""))
         out.append("copy 0 0 owner after " + " ".join(map(str, copies[-1:] + [k])))
         out += [f"switch 0 0 after {k + 1}", f"drop 0 0 {owner} after {k + 2}"]
         copies.append(k + 1)
@@ -190,7 +190,7 @@ def large():
     if os.path.isfile(sums):
         with open(sums) as it:
             wanted = dict(reversed(line.split("  ")) for line in it.read().splitlines())
-    for name, text in (("steps", steps(131072)), ("rounds", rounds(32767))):
+    for name, text in (("steps", steps(131072)), ("rounds", rounds(32768))):
         for words in ("why", "show --racks-behind n", "show --all", "draw", "bundle", "after"):
             out, status, seconds, megabytes = run(words, text.encode())
             label = f"{name} {words}"

@@ -3,7 +3,7 @@
 use crate::case::{Case, Role, small};
 use ring_names::{Refusal, push_decimal};
 use ring_table::{Allowance, NodeSide, Side};
-use text_words::{Change, Mark, Mend, Said, Span, beside, digits, fault, joined, span_of};
+use text_words::{Change, Mark, Mend, Said, Span, beside, digits, fault, field, joined, span_of};
 
 // The steps of a path, as long as there are any.
 fn links(path: &[u32], place: usize) -> Option<(u32, u32)> {
@@ -170,6 +170,7 @@ pub fn chain_broken(case: Case, number: u32) -> Result<Said, Refusal> {
             if *step < case.plan.len() {
                 said.mark(beside(case.step_line(*step), case.step_words(*step, b"")?))?;
             }
+            said.mend = Some(shortened(case, number, *step)?);
             return Ok(said);
         }
     }
@@ -183,6 +184,37 @@ pub fn chain_broken(case: Case, number: u32) -> Result<Said, Refusal> {
         }
     }
     Ok(said)
+}
+
+// The chain without the step; where that was all it had, no chain.
+fn shortened(case: Case, number: u32, step: u32) -> Result<Mend, Refusal> {
+    let alloc = case.alloc;
+    let line = case.chain_line(number);
+    let text = case.page.line(line).unwrap_or(b"".as_slice());
+    let mut new = Vec::from_slice(alloc, field(text, 0))?;
+    new.push(b' ')?;
+    new.extend_from_slice(field(text, 1))?;
+    let mut left = 0u32;
+    if (number as usize) < case.cert.chains.len() {
+        for other in case.cert.chains.steps(number as usize) {
+            if *other != step {
+                new.push(b' ')?;
+                push_decimal(&mut new, *other)?;
+                left = left.saturating_add(1);
+            }
+        }
+    }
+    new.push(b'\n')?;
+    let at = digits(alloc, line)?;
+    let says = if left > 0 {
+        joined(alloc, &[b"without that step"])?
+    } else {
+        new.clear();
+        joined(alloc, &[b"line ", at.as_slice(), b" goes"])?
+    };
+    let mut changes = Vec::new(alloc);
+    changes.push(Change { line, new })?;
+    Ok(Mend { says, changes })
 }
 
 // Two steps of a chain that are not in order.
