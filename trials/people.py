@@ -3,8 +3,8 @@
 
 Mends: each example, and each with edits as people make them (a typo, a line that is lost, doubled or exchanged, a number that is changed, a dependency that is
 lost), drawn from a fixed seed. The first line and the status of `why` are those of `ringplan check`, and each mend that it shows is applied and asked of it. Walks: mends alone, one behind the other, from a refused example to an accepted one.
-Large plans: 131,072 steps over 1,024 nodes, and 32,768 rounds, by each command: within a second and 200 MB, a picture of at most 1 MB, and the bytes that
-people.sums names. Pictures: each is well-formed, and the words of each bar are no wider than it."""
+Large plans: 131,072 steps over 1,024 nodes, and 32,768 rounds, by each command: the seconds are printed (10 are a fault), at most 200 MB, a picture of at most 1 MB, and
+the bytes that people.sums names. Pictures: each is well-formed, and the words of each bar are no wider than it."""
 import glob, hashlib, os, random, re, resource, subprocess, sys, time, xml.dom.minidom
 
 top = os.path.dirname(os.path.dirname(os.path.abspath(__file__)))
@@ -196,7 +196,7 @@ def large():
             label = f"{name} {words}"
             found.append(f"{hashlib.md5(out).hexdigest()}  {label}")
             most, memory = max(most, seconds), max(memory, megabytes)
-            if status or seconds > 1 or (words == "draw" and len(out) > 1_000_000):
+            if status or seconds > 10 or (words == "draw" and len(out) > 1_000_000):
                 faults.append(f"{label}: status {status}, {seconds:.2f} s, {len(out)} bytes")
             if wanted.get(label) != found[-1].split("  ")[0]:
                 faults.append(f"{label}: writes other bytes than people.sums names: {found[-1]}")
