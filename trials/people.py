@@ -4,8 +4,9 @@
 Mends: each example, and each with edits as people make them (a typo, a line that is lost, doubled or exchanged, a number that is changed, a dependency that is
 lost), drawn from a fixed seed. The first line and the status of `why` are those of `ringplan check`, and each mend that it shows is applied and asked of it. Walks: mends alone, one behind the other, from a refused example to an accepted one.
 Large plans: 131,072 steps over 1,024 nodes, and 32,768 rounds, by each command: the seconds are printed (10 are a fault), at most 200 MB, a picture of at most 1 MB, and
-the bytes that people.sums names. Pictures: each is well-formed, and the words of each bar are no wider than it."""
-import glob, hashlib, os, random, re, resource, subprocess, sys, time, xml.dom.minidom
+the bytes that people.sums names. Terminals: a replay of a long history tells a terminal on standard error how far it is, and wipes that out; what is no terminal is told
+nothing. Pictures: each is well-formed, and the words of each bar are no wider than it."""
+import glob, hashlib, os, pty, random, re, resource, subprocess, sys, tempfile, time, xml.dom.minidom
 
 top = os.path.dirname(os.path.dirname(os.path.abspath(__file__)))
 PLAN, SIDE = f"{top}/crates/ringplan/out/ringplan", f"{top}/crates/ringside/out/ringside"
@@ -207,6 +208,54 @@ def large():
     return most, memory
 
 
+def told(program, words, text, terminal):
+    """What the program writes to its output, and to its standard error, which is a terminal or a file."""
+    with tempfile.TemporaryFile() as bundle, tempfile.TemporaryFile() as out, tempfile.TemporaryFile() as errors:
+        bundle.write(text.encode())
+        bundle.seek(0)
+        ours, theirs = pty.openpty() if terminal else (None, errors.fileno())
+        with subprocess.Popen([program, *words.split()], stdin=bundle, stdout=out, stderr=theirs) as ran:
+            if terminal:
+                os.close(theirs)
+                seen = b""
+                try:
+                    while part := os.read(ours, 65536):
+                        seen += part
+                except OSError:
+                    # a terminal whose other side is closed
+                    pass
+                os.close(ours)
+            ran.wait(timeout=60)
+        if not terminal:
+            errors.seek(0)
+            seen = errors.read()
+        out.seek(0)
+        return out.read().decode(), seen.decode(), ran.returncode
+
+
+def terminals(puts):
+    """How many lines a terminal is shown by a replay of so many puts."""
+    with open(f"{top}/examples/move_one_slot.bundle") as it:
+        texts = it.read()
+    events = [f"{word}" for k in range(puts) for word in (f"put w{k % 2} k{k % 8} x31", f"write {k} 0", f"write {k} 1", f"ack {k}")]
+    script = "\n".join(["script 1", *events, "end"]) + "\n"
+    replies = ask(PLAN, "play", texts + script)[0].split("\n")
+    history = texts + "\n".join(["history 1", *(f"{event} = {reply}" for event, reply in zip(events, replies[1:])), "end"]) + "\n"
+    plain, errors, status = told(SIDE, "show", history, False)
+    if status or errors:
+        faults.append(f"a long replay: status {status}, and {errors[:60]!r} where there is no terminal")
+    shown, seen, status = told(SIDE, "show", history, True)
+    lines = re.findall(r"\rringside: (\d+) of (\d+) entries", seen)
+    places = [int(done) for done, of in lines if int(of) == len(events)]
+    wiped = "".join(f"\rringside: {done} of {of} entries" for done, of in lines) + "\r" + " " * 44 + "\r"
+    if not lines or len(places) != len(lines) or places != sorted(places) or seen != wiped or shown != plain or status:
+        faults.append(f"a long replay at a terminal: status {status}, {len(lines)} lines, {seen[-80:]!r}")
+    short, seen, status = told(SIDE, "show", texts, True)
+    if seen or status:
+        faults.append(f"a short run at a terminal: status {status}, {seen[:60]!r}")
+    return len(lines)
+
+
 faults = []
 (bundles, shown, accepted), numbers = mends()
 print(f"mends: {bundles} bundles, {shown} mends shown, {accepted} of them accepted; refusals by number: " + ", ".join(f"{k}: {numbers[k]}" for k in sorted(numbers, key=int)))
@@ -214,6 +263,7 @@ begun, ended = walks()
 print(f"walks: {begun} refused examples have a mend, and {ended} of them become accepted by mends alone")
 most, memory = large()
 print(f"large plans: 12 runs of at most {most:.2f} s and {memory} MB")
+print(f"terminals: {terminals(240000)} lines of a replay of 960,000 entries, wiped out; none where there is no terminal")
 bars, pictures = 0, 0
 for path in sorted(glob.glob(f"{top}/examples/*.bundle") + glob.glob(f"{top}/crates/ringside_cases/data/*64*.bundle")):
     with open(path) as it:

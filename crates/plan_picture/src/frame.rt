@@ -3,7 +3,7 @@
 use crate::sheet::Sheet;
 use crate::svg::{Area, DONE, GIVE, INK, Point, TAKE, push_area, push_words};
 use crate::widths::width;
-use plan_scene::{fewest_moves, parts_of, push_change, push_many, push_names, small};
+use plan_scene::{fewest_moves, parts_of, push_change, push_many, push_names, push_quorum, small};
 use ring_names::{NodeId, Refusal, push_decimal};
 
 /// How wide a picture is at least, and how wide the bar of progress in its corner.
@@ -11,55 +11,42 @@ pub const LEAST: u32 = 760;
 
 const BAR: u32 = 210;
 
-/// The title of a picture, and what is said below it.
-pub fn push_frame(sheet: &Sheet, out: &mut Vec<u8>, wide: u32) -> Result<(), Refusal> {
-    let (ring, scene) = (sheet.ring, sheet.scene);
-    let mut title = Vec::new(sheet.alloc);
-    push_change(&mut title, ring, scene)?;
-    title.extend_from_slice(b": ")?;
+// What the plan does.
+fn tell_change(sheet: &Sheet, out: &mut Vec<u8>) -> Result<(), Refusal> {
+    let scene = sheet.scene;
+    push_change(out, sheet.ring, scene)?;
+    out.extend_from_slice(b": ")?;
     push_many(
-        &mut title,
+        out,
         scene.move_count(),
         b"slot moves in ",
         b"slots move in ",
     )?;
-    push_many(&mut title, scene.round_count(), b"round", b"rounds")?;
-    push_words(
-        out,
-        Point { x: 24, y: 34 },
-        b" class=\"t\"",
-        title.as_slice(),
-    )?;
+    push_many(out, scene.round_count(), b"round", b"rounds")
+}
+
+// What the ring is, and how wide the rounds are.
+fn tell_ring(sheet: &Sheet, out: &mut Vec<u8>) -> Result<(), Refusal> {
+    let scene = sheet.scene;
+    push_quorum(out, sheet.ring, b", any ", b" and any ")?;
+    out.extend_from_slice(b". The widest round has ")?;
+    push_many(out, scene.widest(), b"copy.", b"copies.")?;
+    if scene.move_count() > 0 && scene.move_count() == fewest_moves(sheet.ring, scene) {
+        out.extend_from_slice(b" No plan moves fewer.")?;
+    }
+    Ok(())
+}
+
+/// The title of a picture, and what is said below it.
+pub fn push_frame(sheet: &Sheet, out: &mut Vec<u8>, wide: u32) -> Result<(), Refusal> {
     let mut words = Vec::new(sheet.alloc);
-    push_many(&mut words, ring.q(), b"partition of ", b"partitions of ")?;
-    push_many(&mut words, ring.n(), b"slot, any ", b"slots, any ")?;
-    push_many(
-        &mut words,
-        ring.r(),
-        b"answers a read and any ",
-        b"answer a read and any ",
-    )?;
-    push_many(&mut words, ring.w(), b"takes a write", b"take a write")?;
-    if ring.loss() > 0 {
-        words.extend_from_slice(b", ")?;
-        push_many(
-            &mut words,
-            ring.loss(),
-            b"store may be lost",
-            b"stores may be lost",
-        )?;
-    }
-    words.extend_from_slice(b". The widest round has ")?;
-    push_many(&mut words, scene.widest(), b"copy.", b"copies.")?;
-    if sheet.scene.move_count() > 0 && scene.move_count() == fewest_moves(ring, scene) {
-        words.extend_from_slice(b" No plan moves fewer.")?;
-    }
-    push_words(
-        out,
-        Point { x: 24, y: 55 },
-        b" class=\"s\"",
-        words.as_slice(),
-    )?;
+    tell_change(sheet, &mut words)?;
+    let at = Point { x: 24, y: 34 };
+    push_words(out, at, b" class=\"t\"", words.as_slice())?;
+    words.clear();
+    tell_ring(sheet, &mut words)?;
+    let at = Point { x: 24, y: 55 };
+    push_words(out, at, b" class=\"s\"", words.as_slice())?;
     push_progress(sheet, out, wide)
 }
 

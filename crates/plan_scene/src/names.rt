@@ -50,3 +50,29 @@ pub fn push_many(out: &mut Vec<u8>, number: u32, one: &[u8], more: &[u8]) -> Res
     out.extend_from_slice(if number == 1 { one } else { more })?;
     Ok(())
 }
+
+/// How many partitions the ring has of how many slots, how many of those answer a read and take a write, and how many may be lost; in front of the answers and
+/// between them stand these words.
+pub fn push_quorum(
+    out: &mut Vec<u8>,
+    ring: &Ring,
+    first: &[u8],
+    second: &[u8],
+) -> Result<(), Refusal> {
+    push_many(out, ring.q(), b"partition of ", b"partitions of ")?;
+    push_many(out, ring.n(), b"slot", b"slots")?;
+    out.extend_from_slice(first)?;
+    push_many(out, ring.r(), b"answers a read", b"answer a read")?;
+    out.extend_from_slice(second)?;
+    push_many(out, ring.w(), b"takes a write", b"take a write")?;
+    if ring.loss() > 0 {
+        out.extend_from_slice(b", ")?;
+        push_many(
+            out,
+            ring.loss(),
+            b"store may be lost",
+            b"stores may be lost",
+        )?;
+    }
+    Ok(())
+}

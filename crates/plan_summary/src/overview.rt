@@ -5,10 +5,10 @@ use crate::failing::{all_pairs, kept_by_one, pairs};
 use crate::rounds::push_rounds;
 use crate::running::push_progress;
 use crate::table::push_table;
-use crate::writing::{push_line, push_tenths};
+use crate::writing::{end_line, push_tenths};
 use plan_scene::{
-    Progress, Scene, at, count_members, fewest_moves, parts_of, push_change, push_many, raise,
-    small,
+    Progress, Scene, at, count_members, fewest_moves, parts_of, push_change, push_many,
+    push_quorum, raise, small,
 };
 use plan_text::Plan;
 use ring_names::{NodeId, Refusal, push_decimal};
@@ -39,33 +39,13 @@ pub struct View<'a> {
 // Behind which column of a line its words begin.
 const INDENT: usize = 12;
 
-// The first line.
-fn push_head(view: &View, out: &mut Vec<u8>) -> Result<(), Refusal> {
-    let ring = view.ring;
-    let mut line = Vec::new(view.alloc);
-    push_change(&mut line, ring, view.scene)?;
+// What the plan does to its ring.
+fn tell_change(view: &View, line: &mut Vec<u8>) -> Result<(), Refusal> {
+    push_change(line, view.ring, view.scene)?;
     line.extend_from_slice(b" a ring of ")?;
-    push_many(&mut line, ring.q(), b"partition of ", b"partitions of ")?;
-    push_many(&mut line, ring.n(), b"slot", b"slots")?;
-    line.extend_from_slice(b": any ")?;
-    push_many(
-        &mut line,
-        ring.r(),
-        b"answers a read, any ",
-        b"answer a read, any ",
-    )?;
-    push_many(&mut line, ring.w(), b"takes a write", b"take a write")?;
-    if ring.loss() > 0 {
-        line.extend_from_slice(b", ")?;
-        push_many(
-            &mut line,
-            ring.loss(),
-            b"store may be lost",
-            b"stores may be lost",
-        )?;
-    }
+    push_quorum(line, view.ring, b": any ", b", any ")?;
     line.push(b'.')?;
-    push_line(out, line.as_slice(), 2)
+    Ok(())
 }
 
 // How many different slots move.
@@ -83,21 +63,19 @@ fn moved_slots(view: &View) -> Result<u32, Refusal> {
     Ok(count)
 }
 
-fn push_moves(view: &View, out: &mut Vec<u8>) -> Result<(), Refusal> {
+fn tell_moves(view: &View, line: &mut Vec<u8>, slots: u32) -> Result<(), Refusal> {
     let total = view.ring.q().saturating_mul(view.ring.n());
     let moves = view.scene.move_count();
-    let slots = moved_slots(view)?;
-    let mut line = Vec::from_slice(view.alloc, b"  moves     ")?;
+    line.extend_from_slice(b"  moves     ")?;
     if moves > slots {
-        push_many(&mut line, moves, b"move of ", b"moves of ")?;
+        push_many(line, moves, b"move of ", b"moves of ")?;
     }
-    push_decimal(&mut line, slots)?;
+    push_decimal(line, slots)?;
     line.extend_from_slice(b" of ")?;
-    push_many(&mut line, total, b"slot (", b"slots (")?;
-    push_decimal(&mut line, parts_of(slots, total, 100))?;
+    push_many(line, total, b"slot (", b"slots (")?;
+    push_decimal(line, parts_of(slots, total, 100))?;
     line.extend_from_slice(b" %)")?;
-    push_fewest(view, &mut line)?;
-    push_line(out, line.as_slice(), INDENT)
+    push_fewest(view, line)
 }
 
 // Whether fewer moves would do.
@@ -118,47 +96,58 @@ fn push_fewest(view: &View, line: &mut Vec<u8>) -> Result<(), Refusal> {
     Ok(())
 }
 
-fn push_round_count(view: &View, out: &mut Vec<u8>) -> Result<(), Refusal> {
-    let mut line = Vec::from_slice(view.alloc, b"  rounds    ")?;
-    push_decimal(&mut line, view.scene.round_count())?;
+fn tell_round_count(view: &View, line: &mut Vec<u8>) -> Result<(), Refusal> {
+    line.extend_from_slice(b"  rounds    ")?;
+    push_decimal(line, view.scene.round_count())?;
     line.extend_from_slice(b" of copies behind one another; the widest has ")?;
-    push_decimal(&mut line, view.scene.widest())?;
-    push_line(out, line.as_slice(), INDENT)
+    push_decimal(line, view.scene.widest())?;
+    Ok(())
 }
 
-// What mirrors cost, and which copies read more than the owner.
-fn push_writes(view: &View, out: &mut Vec<u8>) -> Result<(), Refusal> {
-    let (mut early, mut listed) = (0u32, 0u32);
+// How many mirrors open rounds before their copies.
+fn count_early(view: &View) -> u32 {
+    let mut early = 0u32;
     for shown in view.scene.shown.moves.as_slice() {
         if shown.round > shown.opens.saturating_add(1) {
             early = early.saturating_add(1);
         }
+    }
+    early
+}
+
+// How many copies read listed slots.
+fn count_listed(view: &View) -> u32 {
+    let mut listed = 0u32;
+    for shown in view.scene.shown.moves.as_slice() {
         if shown.is_listed {
             listed = listed.saturating_add(1);
         }
     }
-    let mut line = Vec::from_slice(
-        view.alloc,
-        b"  writes    twice for a slot while its mirror is open; ",
-    )?;
-    if early > 0 {
-        push_many(
-            &mut line,
-            early,
-            b"mirror opens rounds before its copy",
-            b"mirrors open rounds before their copies",
-        )?;
-    } else {
+    listed
+}
+
+// What mirrors cost.
+fn tell_writes(view: &View, line: &mut Vec<u8>) -> Result<(), Refusal> {
+    line.extend_from_slice(b"  writes    twice for a slot while its mirror is open; ")?;
+    let early = count_early(view);
+    if early == 0 {
         line.extend_from_slice(b"each opens just before its copy")?;
-    }
-    push_line(out, line.as_slice(), INDENT)?;
-    if listed == 0 {
         return Ok(());
     }
-    let mut line = Vec::from_slice(view.alloc, b"  sources   ")?;
-    push_many(&mut line, listed, b"copy reads", b"copies read")?;
+    push_many(
+        line,
+        early,
+        b"mirror opens rounds before its copy",
+        b"mirrors open rounds before their copies",
+    )
+}
+
+// How many copies read more than the owner.
+fn tell_sources(line: &mut Vec<u8>, listed: u32) -> Result<(), Refusal> {
+    line.extend_from_slice(b"  sources   ")?;
+    push_many(line, listed, b"copy reads", b"copies read")?;
     line.extend_from_slice(b" listed slots of the partition in place of the owner")?;
-    push_line(out, line.as_slice(), INDENT)
+    Ok(())
 }
 
 // The fewest and the most slots among nodes.
@@ -197,83 +186,87 @@ impl Span {
     }
 }
 
-fn push_balance(view: &View, out: &mut Vec<u8>) -> Result<(), Refusal> {
-    let (mut now, mut then) = (Span::new(), Span::new());
+// How many slots the members own, now or in the end.
+fn span_of(view: &View, is_end: bool) -> Span {
+    let mut span = Span::new();
     let loads = &view.scene.loads;
     for node in 0..small(view.ring.nodes().len()) {
-        if view.ring.is_member(NodeId(node)) {
-            now.add(at(loads.before.as_slice(), node as usize));
-        }
-        if view.scene.stays(view.ring, node) {
-            then.add(at(loads.after.as_slice(), node as usize));
+        if is_end {
+            if view.scene.stays(view.ring, node) {
+                span.add(at(loads.after.as_slice(), node as usize));
+            }
+        } else if view.ring.is_member(NodeId(node)) {
+            span.add(at(loads.before.as_slice(), node as usize));
         }
     }
-    let total = view.ring.q().saturating_mul(view.ring.n());
-    let even = parts_of(total, count_members(view.ring, view.scene), 10);
-    let mut line = Vec::from_slice(view.alloc, b"  balance   a member owns ")?;
-    now.push(&mut line)?;
-    line.extend_from_slice(b" now and ")?;
-    then.push(&mut line)?;
-    line.extend_from_slice(b" in the end; even would be ")?;
-    push_tenths(&mut line, even)?;
-    push_line(out, line.as_slice(), INDENT)
+    span
 }
 
-fn push_racks(view: &View, out: &mut Vec<u8>) -> Result<(), Refusal> {
-    let Some(behind) = view.racks_behind else {
-        return Ok(());
-    };
+fn tell_balance(view: &View, line: &mut Vec<u8>) -> Result<(), Refusal> {
+    let total = view.ring.q().saturating_mul(view.ring.n());
+    line.extend_from_slice(b"  balance   a member owns ")?;
+    span_of(view, false).push(line)?;
+    line.extend_from_slice(b" now and ")?;
+    span_of(view, true).push(line)?;
+    line.extend_from_slice(b" in the end; even would be ")?;
+    push_tenths(
+        line,
+        parts_of(total, count_members(view.ring, view.scene), 10),
+    )
+}
+
+fn tell_racks(view: &View, line: &mut Vec<u8>, behind: u8) -> Result<(), Refusal> {
     let now = sharing(view.ring, view.ring.rows(), behind);
     let then = sharing(view.ring, view.scene.last_rows.as_slice(), behind);
-    let mut line = Vec::from_slice(view.alloc, b"  racks     ")?;
-    push_many(&mut line, now, b"partition has", b"partitions have")?;
+    line.extend_from_slice(b"  racks     ")?;
+    push_many(line, now, b"partition has", b"partitions have")?;
     line.extend_from_slice(b" two slots in one rack now, ")?;
-    push_decimal(&mut line, then)?;
+    push_decimal(line, then)?;
     line.extend_from_slice(b" in the end")?;
     if then > now {
         line.extend_from_slice(b"   WORSE")?;
     }
-    push_line(out, line.as_slice(), INDENT)
+    Ok(())
 }
 
-fn push_failing(view: &View, out: &mut Vec<u8>) -> Result<(), Refusal> {
-    let ring = view.ring;
-    let loads = &view.scene.loads;
-    let mut line = Vec::from_slice(view.alloc, b"  if one fails   ")?;
-    push_decimal(&mut line, kept_by_one(ring, loads.before.as_slice()))?;
+fn tell_one_fails(view: &View, line: &mut Vec<u8>) -> Result<(), Refusal> {
+    let (ring, loads) = (view.ring, &view.scene.loads);
+    line.extend_from_slice(b"  if one fails   ")?;
+    push_decimal(line, kept_by_one(ring, loads.before.as_slice()))?;
     line.extend_from_slice(b" of ")?;
     push_many(
-        &mut line,
+        line,
         ring.q(),
         b"partition still answers",
         b"partitions still answer",
     )?;
     line.extend_from_slice(b" reads and writes now, ")?;
-    push_decimal(&mut line, kept_by_one(ring, loads.after.as_slice()))?;
+    push_decimal(line, kept_by_one(ring, loads.after.as_slice()))?;
     line.extend_from_slice(b" in the end")?;
-    push_line(out, line.as_slice(), INDENT)?;
-    let mut line = Vec::from_slice(view.alloc, b"  if two fail    ")?;
-    let members = count_before(view);
-    push_decimal(&mut line, pairs(view.alloc, ring, ring.rows())?)?;
+    Ok(())
+}
+
+fn tell_two_fail(view: &View, line: &mut Vec<u8>) -> Result<(), Refusal> {
+    let now = pairs(view.alloc, view.ring, view.ring.rows())?;
+    let then = pairs(view.alloc, view.ring, view.scene.last_rows.as_slice())?;
+    line.extend_from_slice(b"  if two fail    ")?;
+    push_decimal(line, now)?;
     line.extend_from_slice(b" of ")?;
     push_many(
-        &mut line,
-        all_pairs(members as usize),
+        line,
+        all_pairs(count_before(view) as usize),
         b"pair of members",
         b"pairs of members",
     )?;
     line.extend_from_slice(b" share a partition now, ")?;
-    push_decimal(
-        &mut line,
-        pairs(view.alloc, ring, view.scene.last_rows.as_slice())?,
-    )?;
+    push_decimal(line, then)?;
     line.extend_from_slice(b" of ")?;
     push_decimal(
-        &mut line,
+        line,
         all_pairs(count_members(view.ring, view.scene) as usize),
     )?;
     line.extend_from_slice(b" in the end")?;
-    push_line(out, line.as_slice(), INDENT)
+    Ok(())
 }
 
 // How many members there are before the first step.
@@ -304,26 +297,59 @@ fn push_total(view: &View, out: &mut Vec<u8>) -> Result<(), Refusal> {
     push_many(out, scene.round_count(), b"round.\n", b"rounds.\n")
 }
 
+// What the plan does, line by line; the second text is that of one line.
+fn push_overview(view: &View, out: &mut Vec<u8>, line: &mut Vec<u8>) -> Result<(), Refusal> {
+    tell_change(view, line)?;
+    end_line(out, line, 2)?;
+    out.push(b'\n')?;
+    tell_moves(view, line, moved_slots(view)?)?;
+    end_line(out, line, INDENT)?;
+    tell_round_count(view, line)?;
+    end_line(out, line, INDENT)?;
+    tell_writes(view, line)?;
+    end_line(out, line, INDENT)?;
+    let listed = count_listed(view);
+    if listed > 0 {
+        tell_sources(line, listed)?;
+        end_line(out, line, INDENT)?;
+    }
+    tell_balance(view, line)?;
+    end_line(out, line, INDENT)?;
+    if let Some(behind) = view.racks_behind {
+        tell_racks(view, line, behind)?;
+        end_line(out, line, INDENT)?;
+    }
+    tell_one_fails(view, line)?;
+    end_line(out, line, INDENT)?;
+    tell_two_fail(view, line)?;
+    end_line(out, line, INDENT)?;
+    out.push(b'\n')?;
+    Ok(())
+}
+
+// All of the summary; the second text is that of one line.
+fn push_summary(
+    view: &View,
+    out: &mut Vec<u8>,
+    line: &mut Vec<u8>,
+    progress: Option<&Progress>,
+) -> Result<(), Refusal> {
+    push_overview(view, out, line)?;
+    push_table(view, out, line)?;
+    out.push(b'\n')?;
+    push_rounds(view, out, line)?;
+    out.push(b'\n')?;
+    if let Some(progress) = progress {
+        push_progress(view, out, line, progress)?;
+    }
+    push_total(view, out)
+}
+
 /// The summary of a plan: who joins and leaves, what moves in how many rounds, what it does to balance, racks and failures, the table of nodes, the
 /// rounds, and where there is a history how far it has come. Lines have at most 100 bytes. Its only refusal is `OutOfMemory`.
 pub fn summary(view: &View, progress: Option<&Progress>) -> Result<Vec<u8>, Refusal> {
     let mut out = Vec::new(view.alloc);
-    push_head(view, &mut out)?;
-    out.push(b'\n')?;
-    push_moves(view, &mut out)?;
-    push_round_count(view, &mut out)?;
-    push_writes(view, &mut out)?;
-    push_balance(view, &mut out)?;
-    push_racks(view, &mut out)?;
-    push_failing(view, &mut out)?;
-    out.push(b'\n')?;
-    push_table(view, &mut out)?;
-    out.push(b'\n')?;
-    push_rounds(view, &mut out)?;
-    out.push(b'\n')?;
-    if let Some(progress) = progress {
-        push_progress(view, &mut out, progress)?;
-    }
-    push_total(view, &mut out)?;
+    let mut line = Vec::new(view.alloc);
+    push_summary(view, &mut out, &mut line, progress)?;
     Ok(out)
 }

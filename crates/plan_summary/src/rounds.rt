@@ -105,55 +105,58 @@ fn push_read(view: &View, out: &mut Vec<u8>, shown: &Shown) -> Result<(), Refusa
 }
 
 // The word for a copy: the first of an entry has the nodes in front.
-fn word_of(view: &View, shown: &Shown, is_first: bool) -> Result<Vec<u8>, Refusal> {
-    let mut word = Vec::new(view.alloc);
+fn tell_copy(
+    view: &View,
+    word: &mut Vec<u8>,
+    shown: &Shown,
+    is_first: bool,
+) -> Result<(), Refusal> {
+    word.clear();
     if is_first {
-        push_read(view, &mut word, shown)?;
+        push_read(view, word, shown)?;
         word.extend_from_slice(b" > ")?;
         word.extend_from_slice(name(view.ring, shown.to))?;
         word.extend_from_slice(b": ")?;
     }
-    push_slot(&mut word, shown)?;
-    Ok(word)
+    push_slot(word, shown)
 }
 
-// The entry of copies between the same nodes.
+// `and 5 more`.
+fn tell_more(word: &mut Vec<u8>, count: usize, what: &[u8]) -> Result<(), Refusal> {
+    word.clear();
+    word.extend_from_slice(b"and ")?;
+    push_decimal(word, small(count))?;
+    word.push(b' ')?;
+    word.extend_from_slice(what)?;
+    Ok(())
+}
+
+// The entry of copies between the same nodes. The last text is that of one word.
 fn push_entry(
     view: &View,
     out: &mut Vec<u8>,
     flow: &mut Flow,
     entry: &[Placed],
+    word: &mut Vec<u8>,
 ) -> Result<(), Refusal> {
     let most = match view.shape {
         Shape::Short if entry.len() > ENTRIES => ENTRIES - 1,
         _ => entry.len(),
     };
-    let mut count = 0usize;
-    for one in entry {
-        if count >= most {
-            break;
-        }
-        let is_first = count == 0;
+    let (these, others) = cut(entry, most);
+    let mut gap = 3usize;
+    for one in these {
         if let Some(shown) = view.scene.shown.moves.as_slice().get(one.place as usize) {
-            let word = word_of(view, shown, is_first)?;
-            flow.push(out, word.as_slice(), if is_first { 3 } else { 1 })?;
+            tell_copy(view, word, shown, gap == 3)?;
+            flow.push(out, word.as_slice(), gap)?;
         }
-        count = count.saturating_add(1);
+        gap = 1;
     }
-    if count < entry.len() {
-        let word = word_of_more(view, entry.len() - count, b"more")?;
-        flow.push(out, word.as_slice(), 1)?;
+    if others.is_empty() {
+        return Ok(());
     }
-    Ok(())
-}
-
-// `and 5 more`.
-fn word_of_more(view: &View, count: usize, what: &[u8]) -> Result<Vec<u8>, Refusal> {
-    let mut word = Vec::from_slice(view.alloc, b"and ")?;
-    push_decimal(&mut word, small(count))?;
-    word.push(b' ')?;
-    word.extend_from_slice(what)?;
-    Ok(word)
+    tell_more(word, others.len(), b"more")?;
+    flow.push(out, word.as_slice(), 1)
 }
 
 // How many entries the round has.
@@ -171,21 +174,26 @@ fn entries(round: &[Placed]) -> usize {
     count
 }
 
-// The lines of a round.
-fn push_round(view: &View, out: &mut Vec<u8>, round: &[Placed]) -> Result<(), Refusal> {
+// The lines of a round. The last text is that of one word.
+fn push_round(
+    view: &View,
+    out: &mut Vec<u8>,
+    round: &[Placed],
+    word: &mut Vec<u8>,
+) -> Result<(), Refusal> {
     let Some(first) = round.first() else {
         return Ok(());
     };
     push_spaces(out, 2)?;
-    push_number_right(view.alloc, out, first.round, 5)?;
+    push_number_right(out, first.round, 5)?;
     push_spaces(out, 2)?;
-    push_number_right(view.alloc, out, small(round.len()), 6)?;
+    push_number_right(out, small(round.len()), 6)?;
     push_spaces(out, 3)?;
     let most = match view.shape {
         Shape::Short if entries(round) > ENTRIES => ENTRIES - 1,
         _ => round.len(),
     };
-    push_entries(view, out, round, most)?;
+    push_entries(view, out, round, most, word)?;
     out.push(b'\n')?;
     Ok(())
 }
@@ -196,6 +204,7 @@ fn push_entries(
     out: &mut Vec<u8>,
     round: &[Placed],
     most: usize,
+    word: &mut Vec<u8>,
 ) -> Result<(), Refusal> {
     let mut flow = Flow::new(INDENT);
     let mut rest = round;
@@ -204,37 +213,40 @@ fn push_entries(
             break;
         }
         let (entry, others) = cut(rest, alike_in_front(rest));
-        push_entry(view, out, &mut flow, entry)?;
+        push_entry(view, out, &mut flow, entry, word)?;
         rest = others;
     }
-    if !rest.is_empty() {
-        let word = word_of_more(view, rest.len(), b"copies more")?;
-        flow.push(out, word.as_slice(), 3)?;
+    if rest.is_empty() {
+        return Ok(());
     }
-    Ok(())
+    tell_more(word, rest.len(), b"copies more")?;
+    flow.push(out, word.as_slice(), 3)
 }
 
-/// The rounds, with the copies of each.
-pub fn push_rounds(view: &View, out: &mut Vec<u8>) -> Result<(), Refusal> {
-    let order = in_order(view.alloc, view.scene.shown.moves.as_slice())?;
+// The rounds in this order, with the copies of each.
+fn push_in_order(
+    view: &View,
+    out: &mut Vec<u8>,
+    word: &mut Vec<u8>,
+    order: &[Placed],
+) -> Result<(), Refusal> {
     let count = view.scene.round_count();
     let most = match view.shape {
         Shape::Short if count > SHORT => SHOWN,
         _ => count,
     };
-    out.extend_from_slice(b"  round  copies   from > to: partition.slot\n")?;
-    let mut rest = order.as_slice();
+    let mut rest = order;
     for round in 0..most {
         let width = at(view.scene.widths.as_slice(), round as usize) as usize;
         let (these, others) = cut(rest, width);
-        push_round(view, out, these)?;
+        push_round(view, out, these, word)?;
         rest = others;
     }
     if rest.is_empty() {
         return Ok(());
     }
     out.extend_from_slice(b"     ..  ")?;
-    push_number_right(view.alloc, out, small(rest.len()), 6)?;
+    push_number_right(out, small(rest.len()), 6)?;
     out.extend_from_slice(b"   in ")?;
     push_many(
         out,
@@ -243,5 +255,14 @@ pub fn push_rounds(view: &View, out: &mut Vec<u8>) -> Result<(), Refusal> {
         b"rounds more",
     )?;
     out.extend_from_slice(b" (--all)\n")?;
+    Ok(())
+}
+
+/// The rounds, with the copies of each. The second text is that of one word; it is empty before and behind.
+pub fn push_rounds(view: &View, out: &mut Vec<u8>, word: &mut Vec<u8>) -> Result<(), Refusal> {
+    out.extend_from_slice(b"  round  copies   from > to: partition.slot\n")?;
+    let order = in_order(view.alloc, view.scene.shown.moves.as_slice())?;
+    push_in_order(view, out, word, order.as_slice())?;
+    word.clear();
     Ok(())
 }

@@ -1,7 +1,7 @@
 //! How far a run of a plan has come, in words.
 
 use crate::overview::View;
-use crate::writing::{push_line, push_times};
+use crate::writing::{end_line, push_times};
 use plan_scene::{Progress, name, push_many};
 use plan_text::Step;
 use ring_names::{Refusal, Slot, push_decimal};
@@ -46,10 +46,16 @@ fn push_words(
 }
 
 /// The lines of what a history has done.
-pub fn push_progress(view: &View, out: &mut Vec<u8>, progress: &Progress) -> Result<(), Refusal> {
+pub fn push_progress(
+    view: &View,
+    out: &mut Vec<u8>,
+    line: &mut Vec<u8>,
+    progress: &Progress,
+) -> Result<(), Refusal> {
     push_done(view, out, progress)?;
     push_open(view, out, progress)?;
-    push_next(view, out, progress)?;
+    tell_next(view, line, progress)?;
+    end_line(out, line, INDENT)?;
     out.push(b'\n')?;
     Ok(())
 }
@@ -97,21 +103,19 @@ fn push_open(view: &View, out: &mut Vec<u8>, progress: &Progress) -> Result<(), 
     Ok(())
 }
 
-fn push_next(view: &View, out: &mut Vec<u8>, progress: &Progress) -> Result<(), Refusal> {
-    let mut line = Vec::from_slice(view.alloc, b"  next      ")?;
+// The first four steps that are ready, and how many more are.
+fn tell_next(view: &View, line: &mut Vec<u8>, progress: &Progress) -> Result<(), Refusal> {
+    line.extend_from_slice(b"  next      ")?;
     let mut count = 0u32;
     for number in 0..view.plan.len() {
         if !progress.is_ready(view.plan, number) {
             continue;
         }
         if count < 4 {
-            if count > 0 {
-                line.extend_from_slice(b"; ")?;
-            }
-            line.extend_from_slice(b"step ")?;
-            push_decimal(&mut line, number)?;
+            line.extend_from_slice(if count > 0 { b"; step " } else { b"step " })?;
+            push_decimal(line, number)?;
             line.push(b' ')?;
-            push_step(view, &mut line, number)?;
+            push_step(view, line, number)?;
         }
         count = count.saturating_add(1);
     }
@@ -120,8 +124,8 @@ fn push_next(view: &View, out: &mut Vec<u8>, progress: &Progress) -> Result<(), 
     }
     if count > 4 {
         line.extend_from_slice(b"; ")?;
-        push_decimal(&mut line, count - 4)?;
+        push_decimal(line, count - 4)?;
         line.extend_from_slice(b" more")?;
     }
-    push_line(out, line.as_slice(), INDENT)
+    Ok(())
 }

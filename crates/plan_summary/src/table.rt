@@ -2,10 +2,11 @@
 
 use crate::overview::{Shape, View};
 use crate::writing::{
-    WIDTH, digits, push_left, push_number_right, push_right, push_spaces, push_times, push_trimmed,
+    WIDTH, push_left, push_number_left, push_number_right, push_right, push_spaces, push_times,
+    push_trimmed,
 };
 use plan_scene::{Scene, at, name, parts_of, push_many, push_names, small};
-use ring_names::{NodeId, Refusal};
+use ring_names::{NodeId, Refusal, push_decimal};
 use ring_table::Node;
 use std::alloc::Global;
 
@@ -56,39 +57,53 @@ fn work(scene: &Scene, node: u32) -> u32 {
     gives.saturating_add(at(scene.loads.takes.as_slice(), node as usize))
 }
 
-// The nodes of one kind, those with the most transfers first.
-fn busiest(view: &View, nodes: &[u32], wanted: usize) -> Result<Vec<u32>, Refusal> {
-    let mut ranked = Vec::new(view.alloc);
+// The nodes by kind, and among those of a kind the ones with the most transfers first.
+fn ranked(view: &View, nodes: &[u32]) -> Result<Vec<(usize, u32, u32)>, Refusal> {
+    let mut order = Vec::new(view.alloc);
     for node in nodes {
-        if kind(view.scene, *node) == wanted {
-            ranked.push((u32::MAX - work(view.scene, *node), *node))?;
-        }
+        let rank = u32::MAX - work(view.scene, *node);
+        order.push((kind(view.scene, *node), rank, *node))?;
     }
-    ranked.sort_unstable();
-    let mut found = Vec::new(view.alloc);
-    for (_, node) in ranked.as_slice() {
+    order.sort_unstable();
+    Ok(order)
+}
+
+// The same in turns: the first of each kind, then the second of each, and so on.
+fn in_turns(
+    alloc: Global,
+    ranked: &[(usize, u32, u32)],
+) -> Result<Vec<(usize, usize, u32)>, Refusal> {
+    let mut turns = Vec::new(alloc);
+    let (mut kind, mut place) = (0usize, 0usize);
+    for (of, _, node) in ranked {
+        place = if *of == kind { place } else { 0 };
+        kind = *of;
+        turns.push((place, kind, *node))?;
+        place = place.saturating_add(1);
+    }
+    turns.sort_unstable();
+    Ok(turns)
+}
+
+// The first so many of these, by number.
+fn first_of(
+    alloc: Global,
+    turns: &[(usize, usize, u32)],
+    most: usize,
+) -> Result<Vec<u32>, Refusal> {
+    let mut found = Vec::new(alloc);
+    for (_, _, node) in &turns[..turns.len().min(most)] {
         found.push(*node)?;
     }
+    found.sort_unstable();
     Ok(found)
 }
 
 // Those of the nodes that get one of so many rows: the busiest that leave, that join and that stay, in turns.
 fn chosen(view: &View, nodes: &[u32], most: usize) -> Result<Vec<u32>, Refusal> {
-    let leaving = busiest(view, nodes, 0)?;
-    let joining = busiest(view, nodes, 1)?;
-    let staying = busiest(view, nodes, 2)?;
-    let mut found = Vec::new(view.alloc);
-    for place in 0..most {
-        for list in [leaving.as_slice(), joining.as_slice(), staying.as_slice()] {
-            if let Some(node) = list.get(place) {
-                if found.len() < most {
-                    found.push(*node)?;
-                }
-            }
-        }
-    }
-    found.sort_unstable();
-    Ok(found)
+    let order = ranked(view, nodes)?;
+    let turns = in_turns(view.alloc, order.as_slice())?;
+    first_of(view.alloc, turns.as_slice(), most)
 }
 
 // Those of the nodes that are not among the others.
@@ -111,59 +126,69 @@ impl Table {
         };
         let rows = chosen(view, nodes.as_slice(), most)?;
         let hidden = without(view.alloc, nodes.as_slice(), rows.as_slice())?;
-        let mut table = Table {
+        Ok(Table {
             rows,
             hidden,
             names: 4,
             at_once: 9,
             top: 1,
-        };
-        table.measure(view)?;
-        Ok(table)
+        })
     }
 
-    // Makes the columns as wide as what stands in them.
-    fn measure(&mut self, view: &View) -> Result<(), Refusal> {
+    // Makes the columns as wide as what stands in them; the text is empty, and is so behind it.
+    fn measure(&mut self, view: &View, line: &mut Vec<u8>) -> Result<(), Refusal> {
         let loads = &view.scene.loads;
         for node in self.rows.as_slice() {
             let place = *node as usize;
             self.names = self.names.max(name(view.ring, *node).len());
-            self.at_once = self.at_once.max(at_once(view, *node)?.len());
+            self.at_once = self.at_once.max(push_at_once(view, line, *node)?);
+            line.clear();
             self.top = self.top.max(at(loads.before.as_slice(), place));
             self.top = self.top.max(at(loads.after.as_slice(), place));
         }
         Ok(())
     }
 
-    // The line of a node.
-    fn push_row(&self, view: &View, out: &mut Vec<u8>, node: u32) -> Result<(), Refusal> {
-        let (alloc, scene) = (view.alloc, view.scene);
-        let place = node as usize;
-        let before = at(scene.loads.before.as_slice(), place);
-        let after = at(scene.loads.after.as_slice(), place);
-        let is_gone = scene.leaves.as_slice().contains(&node);
-        let mut line = Vec::from_slice(alloc, b"  ")?;
+    // The line of a node, up to its bar.
+    fn tell_row(&self, view: &View, line: &mut Vec<u8>, node: u32) -> Result<(), Refusal> {
+        let (scene, place) = (view.scene, node as usize);
+        line.extend_from_slice(b"  ")?;
         line.push(sign(scene, node))?;
         line.push(b' ')?;
-        push_left(&mut line, name(view.ring, node), self.names)?;
-        push_spaces(&mut line, 2)?;
-        push_left(&mut line, at_once(view, node)?.as_slice(), self.at_once)?;
-        push_spaces(&mut line, 2)?;
-        push_count(alloc, &mut line, at(scene.loads.gives.as_slice(), place))?;
-        push_spaces(&mut line, 2)?;
-        push_count(alloc, &mut line, at(scene.loads.takes.as_slice(), place))?;
-        push_spaces(&mut line, 3)?;
-        push_number_right(alloc, &mut line, before, 4)?;
+        push_left(line, name(view.ring, node), self.names)?;
+        push_spaces(line, 2)?;
+        let wide = push_at_once(view, line, node)?;
+        push_spaces(line, self.at_once.saturating_sub(wide).saturating_add(2))?;
+        push_count(line, at(scene.loads.gives.as_slice(), place))?;
+        push_spaces(line, 2)?;
+        push_count(line, at(scene.loads.takes.as_slice(), place))?;
+        push_spaces(line, 3)?;
+        push_number_right(line, at(scene.loads.before.as_slice(), place), 4)?;
         line.extend_from_slice(b" -> ")?;
-        let then = digits(alloc, after)?;
-        push_left(
-            &mut line,
-            if is_gone { b"gone" } else { then.as_slice() },
-            4,
-        )?;
+        if scene.leaves.as_slice().contains(&node) {
+            line.extend_from_slice(b"gone ")?;
+            return Ok(());
+        }
+        push_number_left(line, at(scene.loads.after.as_slice(), place), 4)?;
         line.push(b' ')?;
-        self.push_bar(&mut line, before, after)?;
-        push_trimmed(out, line.as_slice())
+        Ok(())
+    }
+
+    // The line of a node, all of it; the second text is that of one line.
+    fn push_row(
+        &self,
+        view: &View,
+        out: &mut Vec<u8>,
+        line: &mut Vec<u8>,
+        node: u32,
+    ) -> Result<(), Refusal> {
+        let loads = &view.scene.loads;
+        self.tell_row(view, line, node)?;
+        let before = at(loads.before.as_slice(), node as usize);
+        self.push_bar(line, before, at(loads.after.as_slice(), node as usize))?;
+        push_trimmed(out, line.as_slice())?;
+        line.clear();
+        Ok(())
     }
 
     // A bar of what the node owns: `=` for what it keeps, `-` for what it gives and `+` for what it takes.
@@ -175,6 +200,19 @@ impl Table {
         push_times(line, b'=', start.min(end))?;
         push_times(line, b'+', end.saturating_sub(start))?;
         push_times(line, b'-', start.saturating_sub(end))
+    }
+
+    // The head, and a line for each row.
+    fn push_all(&self, view: &View, out: &mut Vec<u8>, line: &mut Vec<u8>) -> Result<(), Refusal> {
+        push_spaces(out, 4)?;
+        push_left(out, b"node", self.names)?;
+        push_spaces(out, 2)?;
+        push_left(out, b"at once", self.at_once)?;
+        out.extend_from_slice(b"  gives  takes   slots\n")?;
+        for node in self.rows.as_slice() {
+            self.push_row(view, out, line, *node)?;
+        }
+        self.push_hidden(out, view.scene)
     }
 
     // The line of those without a row.
@@ -194,24 +232,24 @@ impl Table {
             b"node more: gives ",
             b"nodes more: give ",
         )?;
-        ring_names::push_decimal(out, gives)?;
+        push_decimal(out, gives)?;
         out.extend_from_slice(b", take ")?;
-        ring_names::push_decimal(out, takes)?;
+        push_decimal(out, takes)?;
         out.extend_from_slice(b" slots (--all)\n")?;
         Ok(())
     }
 }
 
-// How many transfers the node has at once, or a point.
-fn at_once(view: &View, node: u32) -> Result<Vec<u8>, Refusal> {
-    let mut text = Vec::new(view.alloc);
+// Adds how many transfers the node has at once, or a point, and tells how many bytes that takes.
+fn push_at_once(view: &View, line: &mut Vec<u8>, node: u32) -> Result<usize, Refusal> {
+    let begin = line.len();
     if let Some(Node { allowance, .. }) = view.ring.nodes().get(node as usize) {
-        view.scene.loads.push_at_once(&mut text, *allowance, node)?;
+        view.scene.loads.push_at_once(line, *allowance, node)?;
     }
-    if text.is_empty() {
-        text.push(b'.')?;
+    if line.len() == begin {
+        line.push(b'.')?;
     }
-    Ok(text)
+    Ok(line.len().saturating_sub(begin))
 }
 
 fn sign(scene: &Scene, node: u32) -> u8 {
@@ -223,11 +261,11 @@ fn sign(scene: &Scene, node: u32) -> u8 {
 }
 
 // A number, or a point for none.
-fn push_count(alloc: Global, line: &mut Vec<u8>, count: u32) -> Result<(), Refusal> {
+fn push_count(line: &mut Vec<u8>, count: u32) -> Result<(), Refusal> {
     if count == 0 {
         return push_right(line, b".", 5);
     }
-    push_number_right(alloc, line, count, 5)
+    push_number_right(line, count, 5)
 }
 
 // The line of the members that do nothing.
@@ -252,16 +290,11 @@ fn push_idle(view: &View, out: &mut Vec<u8>) -> Result<(), Refusal> {
 }
 
 /// The table: for each node that takes part, how many transfers it has at once, gives and takes, and how many slots it owns now and then.
-pub fn push_table(view: &View, out: &mut Vec<u8>) -> Result<(), Refusal> {
-    let table = Table::of(view)?;
-    push_spaces(out, 4)?;
-    push_left(out, b"node", table.names)?;
-    push_spaces(out, 2)?;
-    push_left(out, b"at once", table.at_once)?;
-    out.extend_from_slice(b"  gives  takes   slots\n")?;
-    for node in table.rows.as_slice() {
-        table.push_row(view, out, *node)?;
-    }
-    table.push_hidden(out, view.scene)?;
+///
+/// The second text is that of one line.
+pub fn push_table(view: &View, out: &mut Vec<u8>, line: &mut Vec<u8>) -> Result<(), Refusal> {
+    let mut table = Table::of(view)?;
+    table.measure(view, line)?;
+    table.push_all(view, out, line)?;
     push_idle(view, out)
 }

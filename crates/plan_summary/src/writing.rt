@@ -1,17 +1,9 @@
 //! Words and numbers in lines of text.
 
 use ring_names::{Refusal, push_decimal};
-use std::alloc::Global;
 
 /// The widest line, in bytes.
 pub const WIDTH: usize = 100;
-
-/// The digits of a number.
-pub fn digits(alloc: Global, number: u32) -> Result<Vec<u8>, Refusal> {
-    let mut text = Vec::new(alloc);
-    push_decimal(&mut text, number)?;
-    Ok(text)
-}
 
 /// So many spaces.
 pub fn push_spaces(out: &mut Vec<u8>, count: usize) -> Result<(), Refusal> {
@@ -39,15 +31,30 @@ pub fn push_right(out: &mut Vec<u8>, text: &[u8], width: usize) -> Result<(), Re
     Ok(())
 }
 
+// How many digits the number has.
+fn count_digits(number: u32) -> usize {
+    let mut count = 1usize;
+    let mut rest = number / 10;
+    for turn in 0..9 {
+        if rest > 0 {
+            count = count.saturating_add(1);
+        }
+        rest /= 10;
+    }
+    count
+}
+
 /// The number, and spaces in front of it up to the width.
-pub fn push_number_right(
-    alloc: Global,
-    out: &mut Vec<u8>,
-    number: u32,
-    width: usize,
-) -> Result<(), Refusal> {
-    let text = digits(alloc, number)?;
-    push_right(out, text.as_slice(), width)
+pub fn push_number_right(out: &mut Vec<u8>, number: u32, width: usize) -> Result<(), Refusal> {
+    push_spaces(out, width.saturating_sub(count_digits(number)))?;
+    push_decimal(out, number)?;
+    Ok(())
+}
+
+/// The number, and spaces behind it up to the width.
+pub fn push_number_left(out: &mut Vec<u8>, number: u32, width: usize) -> Result<(), Refusal> {
+    push_decimal(out, number)?;
+    push_spaces(out, width.saturating_sub(count_digits(number)))
 }
 
 /// The number, and its tenths behind a point.
@@ -77,8 +84,8 @@ fn last_space(line: &[u8], room: usize) -> Option<usize> {
     found
 }
 
-/// A line, broken at spaces where it is too wide; what is broken off stands behind so many spaces.
-pub fn push_line(out: &mut Vec<u8>, line: &[u8], indent: usize) -> Result<(), Refusal> {
+// A line, broken at spaces where it is too wide; what is broken off stands behind so many spaces.
+fn push_line(out: &mut Vec<u8>, line: &[u8], indent: usize) -> Result<(), Refusal> {
     let mut rest = line;
     let mut room = WIDTH;
     for turn in 0..line.len() {
@@ -97,6 +104,13 @@ pub fn push_line(out: &mut Vec<u8>, line: &[u8], indent: usize) -> Result<(), Re
     }
     out.extend_from_slice(rest)?;
     out.push(b'\n')?;
+    Ok(())
+}
+
+/// Adds the line, broken at spaces where it is too wide, and empties it; what is broken off stands behind so many spaces.
+pub fn end_line(out: &mut Vec<u8>, line: &mut Vec<u8>, indent: usize) -> Result<(), Refusal> {
+    push_line(out, line.as_slice(), indent)?;
+    line.clear();
     Ok(())
 }
 

@@ -3,10 +3,10 @@
 use plan_cert::Cert;
 use plan_stage::{Stage, stage_at};
 use plan_text::{Plan, Source, Step};
-use ring_names::{NodeId, Refusal, Slot, push_decimal};
+use ring_names::{NodeId, Refusal, Slot};
 use ring_table::Ring;
 use std::alloc::Global;
-use text_words::{Change, Mend, Page, digits, field, joined, place_of, span_of};
+use text_words::{Page, Said, place_of, span_of};
 
 /// A bundle, and what was read of it.
 #[derive(Clone, Copy)]
@@ -21,6 +21,17 @@ pub struct Case<'a> {
 /// A number of items as one of lines.
 pub fn small(count: usize) -> u32 {
     u32::try_from(count).unwrap_or(u32::MAX)
+}
+
+// The line without the steps that it waits for.
+fn head(line: &[u8]) -> &[u8] {
+    let Some(place) = place_of(line, b"after") else {
+        return line;
+    };
+    match span_of(line, place) {
+        Some(at) => &line[..at.from.saturating_sub(1).min(line.len())],
+        None => line,
+    }
 }
 
 impl<'a> Case<'a> {
@@ -141,117 +152,80 @@ impl<'a> Case<'a> {
         false
     }
 
+    // Whether the node owns the slot, and whether it is its mirror, in front of the step.
+    fn holds(&self, node: u32, slot: Slot, number: u32) -> Result<(bool, bool), Refusal> {
+        match self.stage(slot, number)? {
+            Some(stage) => Ok((stage.owner.0 == node, stage.mirror == Some(NodeId(node)))),
+            None => Ok((false, false)),
+        }
+    }
+
     /// Whether the node takes part in the copy: as the mirror that is given what is copied, or as an owner whose slot is read.
     pub fn part(&self, node: u32, number: u32) -> Result<Option<Role>, Refusal> {
         let Some(Step::Copy(slot, source)) = self.step(number) else {
             return Ok(None);
         };
-        let Some(stage) = self.stage(*slot, number)? else {
-            return Ok(None);
-        };
-        if stage.mirror == Some(NodeId(node)) {
+        let (is_owner, is_mirror) = self.holds(node, *slot, number)?;
+        if is_mirror {
             return Ok(Some(Role::Takes));
         }
-        match source {
-            Source::Owner => Ok(if stage.owner.0 == node {
-                Some(Role::Gives)
-            } else {
-                None
-            }),
-            Source::Slots(from) => {
-                for index in from.as_slice() {
-                    let listed = Slot {
-                        partition: slot.partition,
-                        index: *index,
-                    };
-                    if let Some(stage) = self.stage(listed, number)? {
-                        if stage.owner.0 == node {
-                            return Ok(Some(Role::Gives));
-                        }
-                    }
-                }
-                Ok(None)
+        let gives = match source {
+            Source::Owner => is_owner,
+            Source::Slots(from) => self.is_read(node, slot.partition, from.as_slice(), number)?,
+        };
+        Ok(if gives { Some(Role::Gives) } else { None })
+    }
+
+    // Whether the node owns one of the listed slots.
+    fn is_read(
+        &self,
+        node: u32,
+        partition: u32,
+        listed: &[u32],
+        number: u32,
+    ) -> Result<bool, Refusal> {
+        for index in listed {
+            let slot = Slot {
+                partition,
+                index: *index,
+            };
+            if self.holds(node, slot, number)?.0 {
+                return Ok(true);
             }
         }
+        Ok(false)
     }
 
-    /// `slot 1 of partition 0`
-    pub fn slot_words(&self, slot: Slot) -> Result<Vec<u8>, Refusal> {
-        let index = digits(self.alloc, slot.index)?;
-        let partition = digits(self.alloc, slot.partition)?;
-        joined(
-            self.alloc,
-            &[
-                b"slot ",
-                index.as_slice(),
-                b" of partition ",
-                partition.as_slice(),
-            ],
-        )
+    /// Shows the line of a step that is at fault.
+    pub fn fault(&self, said: &mut Said, number: u32) -> Result<(), Refusal> {
+        said.fault(self.step_line(number), b"step #", &[], &[number])
     }
 
-    /// `step 7` and what is said of it.
-    pub fn step_words(&self, number: u32, about: &[u8]) -> Result<Vec<u8>, Refusal> {
-        let step = digits(self.alloc, number)?;
-        joined(self.alloc, &[b"step ", step.as_slice(), about])
+    /// Shows the line of a step that belongs to what is at fault.
+    pub fn beside(&self, said: &mut Said, number: u32) -> Result<(), Refusal> {
+        said.beside(self.step_line(number), b"step #", &[], &[number])
     }
 
-    // The line of a step, with one more step that it waits for.
-    fn waiting(&self, number: u32, more: u32) -> Result<Vec<u8>, Refusal> {
-        let line = self
-            .page
-            .line(self.step_line(number))
-            .unwrap_or(b"".as_slice());
-        let end = match place_of(line, b"after") {
-            Some(place) => match span_of(line, place) {
-                Some(at) => at.from.saturating_sub(1),
-                None => line.len(),
-            },
-            None => line.len(),
-        };
-        let mut out = joined(self.alloc, &[&line[..end.min(line.len())], b" after"])?;
+    /// The lines of a mend: the step waits for the other one too, which is in front of it.
+    pub fn wait(&self, said: &mut Said, number: u32, more: u32) -> Result<(), Refusal> {
+        let line = self.step_line(number);
+        said.put(line)?;
+        said.add(b"@ after", &[head(self.page.text(line))], &[])?;
         let mut is_in = false;
         if number < self.plan.len() {
             for earlier in self.plan.deps(number) {
                 if !is_in && more < *earlier {
-                    out.push(b' ')?;
-                    push_decimal(&mut out, more)?;
+                    said.add(b" #", &[], &[more])?;
                     is_in = true;
                 }
                 is_in = is_in || *earlier == more;
-                out.push(b' ')?;
-                push_decimal(&mut out, *earlier)?;
+                said.add(b" #", &[], &[*earlier])?;
             }
         }
         if !is_in {
-            out.push(b' ')?;
-            push_decimal(&mut out, more)?;
+            said.add(b" #", &[], &[more])?;
         }
-        out.push(b'\n')?;
-        Ok(out)
-    }
-
-    /// A mend: the step waits for the other one too, which is in front of it.
-    pub fn wait(&self, says: &[u8], number: u32, more: u32) -> Result<Mend, Refusal> {
-        let mut changes = Vec::new(self.alloc);
-        changes.push(Change {
-            line: self.step_line(number),
-            new: self.waiting(number, more)?,
-        })?;
-        Ok(Mend {
-            says: joined(self.alloc, &[says])?,
-            changes,
-        })
-    }
-
-    /// The first word of the line of a step.
-    pub fn word(&self, number: u32) -> &'a [u8] {
-        field(
-            self.page
-                .line(self.step_line(number))
-                .unwrap_or(b"".as_slice()),
-            0,
-        )
+        said.add(b"\n", &[], &[])
     }
 }
 

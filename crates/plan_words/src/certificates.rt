@@ -1,63 +1,49 @@
 //! Certificates that do not show what they must.
 
 use crate::case::{Case, Role, small};
-use ring_names::{Refusal, push_decimal};
+use ring_names::{NodeId, Refusal};
 use ring_table::{Allowance, NodeSide, Side};
-use text_words::{Change, Mark, Mend, Said, Span, beside, digits, fault, field, joined, span_of};
+use text_words::{Said, field};
 
-// The steps of a path, as long as there are any.
-fn links(path: &[u32], place: usize) -> Option<(u32, u32)> {
-    let first = path.get(place)?;
-    let second = path.get(place.saturating_add(1))?;
-    Some((*first, *second))
+// The first two steps of a path, one behind the other, of which that is not known: their place, and they.
+fn gap(case: Case, path: &[u32], is_fact: bool) -> Option<(usize, u32, u32)> {
+    for place in 1..path.len() {
+        let (first, second) = (path[place - 1], path[place]);
+        let is_known = second < case.plan.len()
+            && if is_fact {
+                case.plan.depends(first, second)
+            } else {
+                case.is_ordered(first, second)
+            };
+        if !is_known {
+            return Some((place, first, second));
+        }
+    }
+    None
 }
 
 /// A fact is no path of dependencies.
-pub fn bad_path(case: Case, number: u32) -> Result<Said, Refusal> {
-    let alloc = case.alloc;
-    let fact = digits(alloc, number)?;
-    let title = joined(
-        alloc,
-        &[b"fact ", fact.as_slice(), b" is no path of the plan"],
-    )?;
-    let mut said = Said::new(alloc, title.as_slice())?;
+pub fn bad_path(case: Case, said: &mut Said, number: u32) -> Result<(), Refusal> {
+    said.title(b"fact # is no path of the plan", &[], &[number])?;
     if number as usize >= case.cert.facts.len() {
-        return Ok(said);
+        return Ok(());
     }
     let line = case.fact_line(number);
     let path = case.cert.facts.row(number as usize);
-    for place in 0..path.len() {
-        let Some((first, second)) = links(path, place) else {
-            break;
-        };
-        if second >= case.plan.len() || !case.plan.depends(first, second) {
-            let text = case.page.line(line).unwrap_or(b"".as_slice());
-            let from = span_of(text, place.saturating_add(1)).unwrap_or(Span { from: 0, to: 0 });
-            let to = span_of(text, place.saturating_add(2)).unwrap_or(from);
-            let (one, other) = (digits(alloc, first)?, digits(alloc, second)?);
-            said.mark(Mark {
-                line,
-                is_fault: true,
-                from: from.from,
-                to: to.to,
-                note: joined(
-                    alloc,
-                    &[
-                        b"step ",
-                        other.as_slice(),
-                        b" does not wait for step ",
-                        one.as_slice(),
-                    ],
-                )?,
-            })?;
-            if second < case.plan.len() {
-                said.mark(beside(case.step_line(second), case.step_words(second, b"")?))?;
-            }
-            return Ok(said);
-        }
+    let Some((place, first, second)) = gap(case, path, true) else {
+        return said.fault(line, b"", &[], &[]);
+    };
+    let at = case.page.at(line, place, place.saturating_add(1));
+    said.fault_at(
+        at,
+        b"step # does not wait for step #",
+        &[],
+        &[second, first],
+    )?;
+    if second < case.plan.len() {
+        case.beside(said, second)?;
     }
-    said.mark(fault(line, Vec::new(alloc)))?;
-    Ok(said)
+    Ok(())
 }
 
 // The word of a chain for that part of the node.
@@ -72,58 +58,36 @@ fn chain_word(case: Case, node: u32, role: Role) -> &'static [u8] {
     }
 }
 
-/// A copy stands in no chain of a node that takes part in it.
-pub fn cover_missing(case: Case, node: u32, number: u32) -> Result<Said, Refusal> {
-    let alloc = case.alloc;
-    let name = case.name(node);
-    let step = digits(alloc, number)?;
-    let title = joined(
-        alloc,
-        &[
-            b"no chain of ",
-            name,
-            b" has its copy, step ",
-            step.as_slice(),
-        ],
-    )?;
-    let mut said = Said::new(alloc, title.as_slice())?;
-    let role = case.part(node, number)?.unwrap_or(Role::Gives);
-    let mut about = Vec::from_slice(
-        alloc,
-        if role == Role::Takes {
-            b" copies to ".as_slice()
-        } else {
-            b" reads from ".as_slice()
-        },
-    )?;
-    about.extend_from_slice(name)?;
-    said.mark(fault(
-        case.step_line(number),
-        case.step_words(number, about.as_slice())?,
-    ))?;
+// Shows the first six chains of the node; where a side is named, of that side.
+fn show_chains(case: Case, said: &mut Said, node: u32, side: Option<Side>) -> Result<(), Refusal> {
     let mut count = 0u32;
     for place in 0..case.cert.chains.len() {
-        if case.cert.chains.of(place).node.0 == node && count < 6 {
+        let of = case.cert.chains.of(place);
+        let is_one = of.node.0 == node && (side.is_none() || side == Some(of.side));
+        if is_one && count < 6 {
             count = count.saturating_add(1);
-            said.mark(beside(case.chain_line(small(place)), Vec::new(alloc)))?;
+            said.beside(case.chain_line(small(place)), b"", &[], &[])?;
         }
     }
-    let mut new = Vec::from_slice(alloc, chain_word(case, node, role))?;
-    new.push(b' ')?;
-    new.extend_from_slice(name)?;
-    new.push(b' ')?;
-    push_decimal(&mut new, number)?;
-    new.extend_from_slice(b"\nend\n")?;
-    let mut changes = Vec::new(alloc);
-    changes.push(Change {
-        line: case.cert_end(),
-        new,
-    })?;
-    said.mend = Some(Mend {
-        says: joined(alloc, &[b"a chain of its own"])?,
-        changes,
-    });
-    Ok(said)
+    Ok(())
+}
+
+/// A copy stands in no chain of a node that takes part in it.
+pub fn cover_missing(case: Case, said: &mut Said, node: u32, number: u32) -> Result<(), Refusal> {
+    let name = case.name(node);
+    said.title(b"no chain of @ has its copy, step #", &[name], &[number])?;
+    let role = case.part(node, number)?.unwrap_or(Role::Gives);
+    let about: &[u8] = if role == Role::Takes {
+        b"step # copies to @"
+    } else {
+        b"step # reads from @"
+    };
+    said.fault(case.step_line(number), about, &[name], &[number])?;
+    show_chains(case, said, node, None)?;
+    said.mend(b"a chain of its own", &[], &[])?;
+    said.put(case.cert_end())?;
+    said.add(b"@", &[chain_word(case, node, role)], &[])?;
+    said.add(b" @ #\nend\n", &[name], &[number])
 }
 
 // Whether the copy is one in which the node has a part that the side counts.
@@ -136,114 +100,89 @@ fn suits(case: Case, of: NodeSide, number: u32) -> Result<bool, Refusal> {
     })
 }
 
+// The first step of a chain that is none of the node's copies.
+fn misfit(case: Case, of: NodeSide, steps: &[u32]) -> Result<Option<u32>, Refusal> {
+    for step in steps {
+        if !suits(case, of, *step)? {
+            return Ok(Some(*step));
+        }
+    }
+    Ok(None)
+}
+
 /// A chain has a step that is none of the node's copies, or two that are not in order.
-pub fn chain_broken(case: Case, number: u32) -> Result<Said, Refusal> {
-    let alloc = case.alloc;
-    let chain = digits(alloc, number)?;
-    let title = joined(alloc, &[b"chain ", chain.as_slice(), b" is not in order"])?;
-    let mut said = Said::new(alloc, title.as_slice())?;
+pub fn chain_broken(case: Case, said: &mut Said, number: u32) -> Result<(), Refusal> {
+    said.title(b"chain # is not in order", &[], &[number])?;
     if number as usize >= case.cert.chains.len() {
-        return Ok(said);
+        return Ok(());
     }
     let of = case.cert.chains.of(number as usize);
     let steps = case.cert.chains.steps(number as usize);
     let name = case.name(of.node.0);
-    let about = joined(alloc, &[b"chain ", chain.as_slice(), b", of ", name])?;
-    said.mark(fault(case.chain_line(number), about))?;
-    for step in steps {
-        if !suits(case, of, *step)? {
-            let at = digits(alloc, *step)?;
-            said.title = joined(
-                alloc,
-                &[
-                    b"chain ",
-                    chain.as_slice(),
-                    b" of ",
-                    name,
-                    b" has step ",
-                    at.as_slice(),
-                    b", in which ",
-                    name,
-                    b" has no such part",
-                ],
-            )?;
-            if *step < case.plan.len() {
-                said.mark(beside(case.step_line(*step), case.step_words(*step, b"")?))?;
-            }
-            said.mend = Some(shortened(case, number, *step)?);
-            return Ok(said);
+    said.fault(
+        case.chain_line(number),
+        b"chain #, of @",
+        &[name],
+        &[number],
+    )?;
+    if let Some(step) = misfit(case, of, steps)? {
+        said.title(
+            b"chain # of @ has step #, in which @ has no such part",
+            &[name, name],
+            &[number, step],
+        )?;
+        if step < case.plan.len() {
+            case.beside(said, step)?;
         }
+        return shorten(case, said, number, step);
     }
-    for place in 0..steps.len() {
-        let Some((first, second)) = links(steps, place) else {
-            break;
-        };
-        if !case.is_ordered(first, second) {
-            tell_link(case, &mut said, first, second)?;
-            return Ok(said);
-        }
+    match gap(case, steps, false) {
+        Some((_, first, second)) => tell_link(case, said, first, second),
+        None => Ok(()),
     }
-    Ok(said)
 }
 
 // The chain without the step; where that was all it had, no chain.
-fn shortened(case: Case, number: u32, step: u32) -> Result<Mend, Refusal> {
-    let alloc = case.alloc;
+fn shorten(case: Case, said: &mut Said, number: u32, step: u32) -> Result<(), Refusal> {
+    if number as usize >= case.cert.chains.len() {
+        return Ok(());
+    }
     let line = case.chain_line(number);
-    let text = case.page.line(line).unwrap_or(b"".as_slice());
-    let mut new = Vec::from_slice(alloc, field(text, 0))?;
-    new.push(b' ')?;
-    new.extend_from_slice(field(text, 1))?;
-    let mut left = 0u32;
-    if (number as usize) < case.cert.chains.len() {
-        for other in case.cert.chains.steps(number as usize) {
-            if *other != step {
-                new.push(b' ')?;
-                push_decimal(&mut new, *other)?;
-                left = left.saturating_add(1);
-            }
+    let steps = case.cert.chains.steps(number as usize);
+    said.put(line)?;
+    if steps.iter().all(|other| *other == step) {
+        return said.mend(b"line # goes", &[], &[line]);
+    }
+    said.mend(b"without that step", &[], &[])?;
+    let text = case.page.text(line);
+    said.add(b"@ @", &[field(text, 0), field(text, 1)], &[])?;
+    for other in steps {
+        if *other != step {
+            said.add(b" #", &[], &[*other])?;
         }
     }
-    new.push(b'\n')?;
-    let at = digits(alloc, line)?;
-    let says = if left > 0 {
-        joined(alloc, &[b"without that step"])?
-    } else {
-        new.clear();
-        joined(alloc, &[b"line ", at.as_slice(), b" goes"])?
-    };
-    let mut changes = Vec::new(alloc);
-    changes.push(Change { line, new })?;
-    Ok(Mend { says, changes })
+    said.add(b"\n", &[], &[])
 }
 
 // Two steps of a chain that are not in order.
 fn tell_link(case: Case, said: &mut Said, first: u32, second: u32) -> Result<(), Refusal> {
-    let alloc = case.alloc;
-    let one = digits(alloc, first)?;
-    said.mark(beside(case.step_line(first), case.step_words(first, b"")?))?;
-    let about = joined(alloc, &[b" does not wait for step ", one.as_slice()])?;
-    said.mark(beside(
+    case.beside(said, first)?;
+    said.beside(
         case.step_line(second),
-        case.step_words(second, about.as_slice())?,
-    ))?;
-    if first < second {
-        let other = digits(alloc, second)?;
-        let says = joined(
-            alloc,
-            &[
-                b"let step ",
-                other.as_slice(),
-                b" wait for step ",
-                one.as_slice(),
-            ],
-        )?;
-        said.mend = Some(case.wait(says.as_slice(), second, first)?);
-        said.note(
-            b"Where it waits for it by way of others, a fact with the steps of that way shows it.",
-        )?;
+        b"step # does not wait for step #",
+        &[],
+        &[second, first],
+    )?;
+    if first >= second {
+        return Ok(());
     }
-    Ok(())
+    said.mend(b"let step # wait for step #", &[], &[second, first])?;
+    case.wait(said, second, first)?;
+    said.note(
+        b"Where it waits for it by way of others, a fact with the steps of that way shows it.",
+        &[],
+        &[],
+    )
 }
 
 // The last two chains of that side of the node, if it has two.
@@ -259,19 +198,25 @@ fn last_two(case: Case, of: NodeSide) -> Option<(usize, usize)> {
     Some((before?, last?))
 }
 
+// How many chains that side of the node has.
+fn count_chains(case: Case, of: NodeSide) -> u32 {
+    let mut count = 0u32;
+    for place in 0..case.cert.chains.len() {
+        if case.cert.chains.of(place) == of {
+            count = count.saturating_add(1);
+        }
+    }
+    count
+}
+
 // The side of the node that has more chains than it may, and how many it has and may have.
 fn crowded(case: Case, node: u32) -> Option<(NodeSide, u32, u32)> {
     for side in [Side::Both, Side::Take, Side::Give] {
         let of = NodeSide {
-            node: ring_names::NodeId(node),
+            node: NodeId(node),
             side,
         };
-        let mut count = 0u32;
-        for place in 0..case.cert.chains.len() {
-            if case.cert.chains.of(place) == of {
-                count = count.saturating_add(1);
-            }
-        }
+        let count = count_chains(case, of);
         if let Some(most) = case.ring.allowance(of) {
             if count > most {
                 return Some((of, count, most));
@@ -282,78 +227,54 @@ fn crowded(case: Case, node: u32) -> Option<(NodeSide, u32, u32)> {
 }
 
 /// A node has more chains than its allowance.
-pub fn too_many_chains(case: Case, node: u32) -> Result<Said, Refusal> {
-    let alloc = case.alloc;
-    let name = case.name(node);
-    let mut said = Said::new(alloc, b"a node has more chains than its allowance")?;
+pub fn too_many_chains(case: Case, said: &mut Said, node: u32) -> Result<(), Refusal> {
     let Some((of, count, most)) = crowded(case, node) else {
-        return Ok(said);
+        return said.title(b"a node has more chains than its allowance", &[], &[]);
     };
-    let (has, bears) = (digits(alloc, count)?, digits(alloc, most)?);
-    said.title = joined(
-        alloc,
-        &[
-            name,
-            b" may be in ",
-            has.as_slice(),
-            b" transfers at once, and bears ",
-            bears.as_slice(),
-        ],
+    said.title(
+        b"@ may be in # transfers at once, and bears #",
+        &[case.name(node)],
+        &[count, most],
     )?;
-    said.mark(beside(case.node_line(node), joined(alloc, &[b"its allowance"])?))?;
-    let mut shown = 0u32;
-    for place in 0..case.cert.chains.len() {
-        if case.cert.chains.of(place) == of && shown < 6 {
-            shown = shown.saturating_add(1);
-            said.mark(beside(case.chain_line(small(place)), Vec::new(alloc)))?;
-        }
-    }
+    said.beside(case.node_line(node), b"its allowance", &[], &[])?;
+    show_chains(case, said, node, Some(of.side))?;
     said.note(
         b"Each chain is one transfer at a time. Join two: let the first copy of one wait for the last of the other.",
+        &[],
+        &[],
     )?;
-    if let Some((first, second)) = last_two(case, of) {
-        said.mend = joining(case, first, second)?;
+    match last_two(case, of) {
+        Some((first, second)) => put_behind(case, said, first, second),
+        None => Ok(()),
     }
-    Ok(said)
 }
 
-// One chain behind the other, where they can be.
-fn joining(case: Case, first: usize, second: usize) -> Result<Option<Mend>, Refusal> {
-    let alloc = case.alloc;
+// A mend: one chain behind the other, where they can be.
+fn put_behind(case: Case, said: &mut Said, first: usize, second: usize) -> Result<(), Refusal> {
     if first >= case.cert.chains.len() || second >= case.cert.chains.len() {
-        return Ok(None);
+        return Ok(());
     }
     let (one, other) = (
         case.cert.chains.steps(first),
         case.cert.chains.steps(second),
     );
     let (Some(last), Some(next)) = (one.last(), other.first()) else {
-        return Ok(None);
+        return Ok(());
     };
     if *last >= *next {
-        return Ok(None);
+        return Ok(());
     }
-    let gone = digits(alloc, case.chain_line(small(second)))?;
-    let says = joined(
-        alloc,
-        &[
-            b"one behind the other, and line ",
-            gone.as_slice(),
-            b" goes",
-        ],
-    )?;
-    let mut mend = case.wait(says.as_slice(), *next, *last)?;
-    let line = case.chain_line(small(first));
-    let mut new = joined(alloc, &[case.page.line(line).unwrap_or(b"".as_slice())])?;
+    let (line, gone) = (
+        case.chain_line(small(first)),
+        case.chain_line(small(second)),
+    );
+    said.mend(b"one behind the other, and line # goes", &[], &[gone])?;
+    case.wait(said, *next, *last)?;
+    said.put(line)?;
+    said.add(b"@", &[case.page.text(line)], &[])?;
     for step in other {
-        new.push(b' ')?;
-        push_decimal(&mut new, *step)?;
+        said.add(b" #", &[], &[*step])?;
     }
-    new.push(b'\n')?;
-    mend.changes.push(Change { line, new })?;
-    mend.changes.push(Change {
-        line: case.chain_line(small(second)),
-        new: Vec::new(alloc),
-    })?;
-    Ok(Some(mend))
+    said.add(b"\n", &[], &[])?;
+    said.put(gone)
 }

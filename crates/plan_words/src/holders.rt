@@ -3,7 +3,7 @@
 use crate::case::Case;
 use plan_text::Step;
 use ring_names::{NodeId, Refusal, Slot};
-use text_words::{Said, beside, digits, fault, joined};
+use text_words::Said;
 
 // A node's time with a slot: the step with which it enters, none at the start, and the switch with which another takes its place.
 #[derive(Clone, Copy)]
@@ -13,52 +13,64 @@ struct Stay {
     to: Option<u32>,
 }
 
+// A slot as its steps go by: its owner and the step with which that entered, and the mirror with its step.
+#[derive(Clone, Copy)]
+struct Time {
+    owner: NodeId,
+    from: Option<u32>,
+    mirror: Option<(NodeId, u32)>,
+}
+
+impl Time {
+    // The mirror takes the owner's place.
+    fn switch(&mut self) {
+        if let Some((next, begun)) = self.mirror {
+            self.owner = next;
+            self.from = Some(begun);
+            self.mirror = None;
+        }
+    }
+
+    // The stay that lasts beyond the slot's last step.
+    fn last(&self, slot: Slot, node: NodeId, number: u32) -> Option<Stay> {
+        let (from, to) = (self.from, None);
+        if self.owner == node && begins(from, number) {
+            return Some(Stay { slot, from, to });
+        }
+        let (next, begun) = self.mirror?;
+        let from = Some(begun);
+        if next == node && begun < number {
+            return Some(Stay { slot, from, to });
+        }
+        None
+    }
+}
+
 // The first stay of the node with the slot that has begun before the step and is not over by then.
 fn stay_with(case: Case, node: NodeId, slot: Slot, number: u32) -> Option<Stay> {
     if slot.partition >= case.ring.q() || slot.index >= case.ring.n() {
         return None;
     }
-    let (mut owner, mut from) = (case.ring.owner(slot), None);
-    let mut mirror: Option<(NodeId, u32)> = None;
+    let mut time = Time {
+        owner: case.ring.owner(slot),
+        from: None,
+        mirror: None,
+    };
     for other in case.plan.slot_steps(slot) {
         match case.step(*other) {
-            Some(Step::Mirror(_, next)) => mirror = Some((*next, *other)),
+            Some(Step::Mirror(_, next)) => time.mirror = Some((*next, *other)),
             Some(Step::Switch(_)) => {
-                let is_in = owner == node
-                    && begins(from, number)
-                    && !case.is_ordered(*other, number);
-                if is_in {
-                    return Some(Stay {
-                        slot,
-                        from,
-                        to: Some(*other),
-                    });
+                let (from, to) = (time.from, Some(*other));
+                let is_in = time.owner == node && begins(from, number);
+                if is_in && !case.is_ordered(*other, number) {
+                    return Some(Stay { slot, from, to });
                 }
-                if let Some((next, begun)) = mirror {
-                    owner = next;
-                    from = Some(begun);
-                    mirror = None;
-                }
+                time.switch();
             }
             _ => {}
         }
     }
-    if owner == node && begins(from, number) {
-        return Some(Stay {
-            slot,
-            from,
-            to: None,
-        });
-    }
-    let (next, begun) = mirror?;
-    if next == node && begun < number {
-        return Some(Stay {
-            slot,
-            from: Some(begun),
-            to: None,
-        });
-    }
-    None
+    time.last(slot, node, number)
 }
 
 fn begins(from: Option<u32>, number: u32) -> bool {
@@ -85,50 +97,67 @@ fn other_stay(case: Case, node: NodeId, slot: Slot, number: u32) -> Option<Stay>
 }
 
 /// A mirror brings a node into a second slot of a partition.
-pub fn shared_in_plan(case: Case, number: u32) -> Result<Said, Refusal> {
-    let alloc = case.alloc;
-    let mut said = Said::new(
-        alloc,
-        b"a mirror brings a node into a second slot of a partition",
-    )?;
+pub fn shared_in_plan(case: Case, said: &mut Said, number: u32) -> Result<(), Refusal> {
     let Some(Step::Mirror(slot, node)) = case.step(number) else {
-        return Ok(said);
+        return said.title(
+            b"a mirror brings a node into a second slot of a partition",
+            &[],
+            &[],
+        );
     };
-    let (name, partition, index) = (
-        case.name(node.0),
-        digits(alloc, slot.partition)?,
-        digits(alloc, slot.index)?,
-    );
-    let about = joined(
-        alloc,
-        &[
-            b" brings ",
-            name,
-            b" into a second slot of partition ",
-            partition.as_slice(),
-        ],
+    let name = case.name(node.0);
+    said.title(
+        b"step # brings @ into a second slot of partition #",
+        &[name],
+        &[number, slot.partition],
     )?;
-    said.title = case.step_words(number, about.as_slice())?;
-    let enters = joined(alloc, &[b": ", name, b" enters slot ", index.as_slice()])?;
-    said.mark(fault(
+    said.fault(
         case.step_line(number),
-        case.step_words(number, enters.as_slice())?,
-    ))?;
-    let Some(found) = other_stay(case, *node, *slot, number) else {
-        return Ok(said);
-    };
-    tell_stay(case, &mut said, name, found, number)?;
-    said.note(b"Two replicas of a key on one node would count twice in a quorum.")?;
-    if let Some(end) = found.to {
-        if end < number {
-            let says = joined(alloc, &[b"let it wait until ", name, b" has left"])?;
-            said.mend = Some(case.wait(says.as_slice(), number, end)?);
-        }
+        b"step #: @ enters slot #",
+        &[name],
+        &[number, slot.index],
+    )?;
+    match other_stay(case, *node, *slot, number) {
+        Some(found) => tell_stay(case, said, name, found, number),
+        None => Ok(()),
     }
-    Ok(said)
 }
 
-// When the node entered the other slot, and when it leaves it.
+// When the node entered the other slot.
+fn tell_entry(case: Case, said: &mut Said, name: &[u8], found: Stay) -> Result<(), Refusal> {
+    let index = found.slot.index;
+    match found.from {
+        Some(begin) => {
+            let line = case.step_line(begin);
+            said.beside(line, b"step #: it enters slot #", &[], &[begin, index])
+        }
+        None => said.note(b"@ owns slot # of it from the start.", &[name], &[index]),
+    }
+}
+
+// When it leaves that slot.
+fn tell_exit(
+    case: Case,
+    said: &mut Said,
+    name: &[u8],
+    found: Stay,
+    number: u32,
+) -> Result<(), Refusal> {
+    let index = found.slot.index;
+    let Some(end) = found.to else {
+        let note = b"No step takes @ out of slot #: move that slot first, or mirror another node.";
+        return said.note(note, &[name], &[index]);
+    };
+    let line = case.step_line(end);
+    said.beside(line, b"step #: it leaves slot #", &[], &[end, index])?;
+    if end > number {
+        let note = b"It leaves that slot behind this step: move its steps in front.";
+        said.note(note, &[], &[])?;
+    }
+    Ok(())
+}
+
+// When the node entered the other slot, and when it leaves it; what it must wait for.
 fn tell_stay(
     case: Case,
     said: &mut Said,
@@ -136,93 +165,46 @@ fn tell_stay(
     found: Stay,
     number: u32,
 ) -> Result<(), Refusal> {
-    let alloc = case.alloc;
-    let index = digits(alloc, found.slot.index)?;
-    match found.from {
-        Some(begin) => {
-            let about = joined(alloc, &[b": it enters slot ", index.as_slice()])?;
-            said.mark(beside(
-                case.step_line(begin),
-                case.step_words(begin, about.as_slice())?,
-            ))?;
-        }
-        None => {
-            let words = joined(
-                alloc,
-                &[
-                    name,
-                    b" owns slot ",
-                    index.as_slice(),
-                    b" of it from the start.",
-                ],
-            )?;
-            said.note(words.as_slice())?;
-        }
-    }
+    tell_entry(case, said, name, found)?;
+    tell_exit(case, said, name, found, number)?;
+    let note = b"Two replicas of a key on one node would count twice in a quorum.";
+    said.note(note, &[], &[])?;
     match found.to {
-        Some(end) => {
-            let about = joined(alloc, &[b": it leaves slot ", index.as_slice()])?;
-            said.mark(beside(case.step_line(end), case.step_words(end, about.as_slice())?))?;
-            if end > number {
-                said.note(b"It leaves that slot behind this step: move its steps in front.")?;
-            }
+        Some(end) if end < number => {
+            said.mend(b"let it wait until @ has left", &[name], &[])?;
+            case.wait(said, number, end)
         }
-        None => {
-            let words = joined(
-                alloc,
-                &[
-                    b"No step takes ",
-                    name,
-                    b" out of slot ",
-                    index.as_slice(),
-                    b": move that slot first, or mirror another node.",
-                ],
-            )?;
-            said.note(words.as_slice())?;
-        }
+        _ => Ok(()),
     }
-    Ok(())
+}
+
+// The node that the step mirrors to or retires.
+fn used(case: Case, number: u32) -> Option<NodeId> {
+    match case.step(number)? {
+        Step::Mirror(_, node) => Some(*node),
+        Step::Retire(node) => Some(*node),
+        _ => None,
+    }
 }
 
 /// A node is no member when a step needs it to be one.
-pub fn not_joined(case: Case, number: u32) -> Result<Said, Refusal> {
-    let alloc = case.alloc;
-    let mut said = Said::new(alloc, b"a node is no member when a step needs it")?;
-    let node = match case.step(number) {
-        Some(Step::Mirror(_, node)) | Some(Step::Retire(node)) => *node,
-        _ => return Ok(said),
+pub fn not_joined(case: Case, said: &mut Said, number: u32) -> Result<(), Refusal> {
+    let Some(node) = used(case, number) else {
+        return said.title(b"a node is no member when a step needs it", &[], &[]);
     };
     let name = case.name(node.0);
-    let step = digits(alloc, number)?;
-    said.title = joined(
-        alloc,
-        &[
-            name,
-            b" is no member when step ",
-            step.as_slice(),
-            b" comes",
-        ],
-    )?;
-    said.mark(fault(case.step_line(number), case.step_words(number, b"")?))?;
-    match case.plan.join_of(node) {
-        Some(join) => {
-            said.mark(beside(case.step_line(join), case.step_words(join, b" joins it")?))?;
-            if join < number {
-                said.mend = Some(case.wait(b"let it wait for the join", number, join)?);
-            } else {
-                said.note(b"Its join stands behind: move it in front.")?;
-            }
-        }
-        None => {
-            said.mark(beside(case.node_line(node.0), joined(alloc, &[b"declared `out`"])?))?;
-            let words = joined(
-                alloc,
-                &[b"No step joins it: put `join ", name, b"` in front."],
-            )?;
-            said.note(words.as_slice())?;
-        }
+    said.title(b"@ is no member when step # comes", &[name], &[number])?;
+    case.fault(said, number)?;
+    let Some(join) = case.plan.join_of(node) else {
+        said.beside(case.node_line(node.0), b"declared `out`", &[], &[])?;
+        return said.note(b"No step joins it: put `join @` in front.", &[name], &[]);
+    };
+    said.beside(case.step_line(join), b"step # joins it", &[], &[join])?;
+    if join >= number {
+        return said.note(b"Its join stands behind: move it in front.", &[], &[]);
     }
-    Ok(said)
+    said.mend(b"let it wait for the join", &[], &[])?;
+    case.wait(said, number, join)
 }
 
 // The first drop of the node's that stands behind the place among the slot's steps at which it enters.
@@ -263,11 +245,7 @@ impl Left {
 }
 
 // What the node has held by the plan's end without a drop in front of its retirement.
-fn left_of(case: Case, node: NodeId, number: u32) -> Result<Left, Refusal> {
-    let mut left = Left {
-        slots: Vec::new(case.alloc),
-        drops: Vec::new(case.alloc),
-    };
+fn find_left(case: Case, left: &mut Left, node: NodeId, number: u32) -> Result<(), Refusal> {
     let mut partition = 0u32;
     for row in case.ring.rows() {
         let mut index = 0u32;
@@ -287,56 +265,76 @@ fn left_of(case: Case, node: NodeId, number: u32) -> Result<Left, Refusal> {
             }
         }
     }
-    Ok(left)
+    Ok(())
+}
+
+// Says which slots a node holds without a drop, as far as a few lines can.
+fn tell_slots(said: &mut Said, slots: &[Slot]) -> Result<(), Refusal> {
+    for slot in slots {
+        said.note(
+            b"It holds slot # of partition #, and no step drops that: move the slot to another node and drop it.",
+            &[],
+            &[slot.index, slot.partition],
+        )?;
+        if said.noted() > 500 {
+            return said.note(b"..", &[], &[]);
+        }
+    }
+    Ok(())
+}
+
+// Shows the first six drops for which a retirement does not wait.
+fn tell_drops(case: Case, said: &mut Said, drops: &[u32]) -> Result<(), Refusal> {
+    for drop in &drops[..drops.len().min(6)] {
+        said.beside(
+            case.step_line(*drop),
+            b"step #: the retirement does not wait for it",
+            &[],
+            &[*drop],
+        )?;
+    }
+    Ok(())
+}
+
+// Says what a node holds when it retires.
+fn tell_left(case: Case, said: &mut Said, left: &Left, number: u32) -> Result<(), Refusal> {
+    tell_slots(said, left.slots.as_slice())?;
+    let drops = left.drops.as_slice();
+    tell_drops(case, said, drops)?;
+    let Some(drop) = drops.first() else {
+        return Ok(());
+    };
+    if *drop >= number || !left.slots.is_empty() {
+        return Ok(());
+    }
+    let says: &[u8] = if drops.len() == 1 {
+        b"let it wait for the drop"
+    } else {
+        b"let it wait for the first of its drops"
+    };
+    said.mend(says, &[], &[])?;
+    case.wait(said, number, *drop)
 }
 
 /// A node retires with slots that it has not dropped.
-pub fn retired_in_use(case: Case, number: u32) -> Result<Said, Refusal> {
-    let alloc = case.alloc;
-    let mut said = Said::new(alloc, b"a node retires with slots that it has not dropped")?;
+pub fn retired_in_use(case: Case, said: &mut Said, number: u32) -> Result<(), Refusal> {
     let Some(Step::Retire(node)) = case.step(number) else {
-        return Ok(said);
+        return said.title(
+            b"a node retires with slots that it has not dropped",
+            &[],
+            &[],
+        );
     };
-    let name = case.name(node.0);
-    said.title = joined(
-        alloc,
-        &[name, b" retires with slots that it has not dropped"],
+    said.title(
+        b"@ retires with slots that it has not dropped",
+        &[case.name(node.0)],
+        &[],
     )?;
-    said.mark(fault(case.step_line(number), case.step_words(number, b"")?))?;
-    let found = left_of(case, *node, number)?;
-    for slot in found.slots.as_slice() {
-        let place = case.slot_words(*slot)?;
-        let words = joined(
-            alloc,
-            &[
-                b"It holds ",
-                place.as_slice(),
-                b", and no step drops that: move the slot to another node and drop it.",
-            ],
-        )?;
-        said.note(words.as_slice())?;
-        if said.notes.len() > 500 {
-            said.note(b"..")?;
-            break;
-        }
-    }
-    let mut count = 0u32;
-    for drop in found.drops.as_slice() {
-        count = count.saturating_add(1);
-        if count <= 6 {
-            let note = case.step_words(*drop, b": the retirement does not wait for it")?;
-            said.mark(beside(case.step_line(*drop), note))?;
-        }
-    }
-    if let Some(drop) = found.drops.as_slice().first() {
-        if *drop < number && found.slots.is_empty() {
-            let says: &[u8] = if count == 1 {
-                b"let it wait for the drop"
-            } else {
-                b"let it wait for the first of its drops"
-            };
-            said.mend = Some(case.wait(says, number, *drop)?);
-        }
-    }
-    Ok(said)
+    case.fault(said, number)?;
+    let mut left = Left {
+        slots: Vec::new(case.alloc),
+        drops: Vec::new(case.alloc),
+    };
+    find_left(case, &mut left, *node, number)?;
+    tell_left(case, said, &left, number)
 }

@@ -3,160 +3,156 @@
 use crate::case::Case;
 use plan_stage::Stage;
 use plan_text::Step;
-use ring_names::{Refusal, Slot};
-use text_words::{Said, beside, digits, fault, joined};
+use ring_names::{NodeId, Refusal, Slot};
+use text_words::Said;
 
-// Why the step does not fit the stage.
-fn cause(case: Case, step: &Step, stage: &Stage) -> Result<Vec<u8>, Refusal> {
+// Why the step does not fit the stage; the node is `@`.
+fn cause(step: &Step, stage: &Stage) -> &'static [u8] {
     match step {
-        Step::Switch(_) if stage.mirror.is_none() => joined(
-            case.alloc,
-            &[b"the slot has no mirror"],
-        ),
-        Step::Switch(_) => joined(case.alloc, &[b"nothing was copied"]),
-        Step::Copy(_, _) if stage.mirror.is_none() => joined(
-            case.alloc,
-            &[b"there is no mirror to copy to"],
-        ),
-        Step::Copy(_, _) => joined(case.alloc, &[b"it is copied already"]),
-        Step::Mirror(_, _) if stage.mirror.is_some() => joined(
-            case.alloc,
-            &[b"the slot has a mirror"],
-        ),
+        Step::Switch(_) if stage.mirror.is_none() => {
+            b"step # cannot come here: the slot has no mirror"
+        }
+        Step::Switch(_) => b"step # cannot come here: nothing was copied",
+        Step::Copy(_, _) if stage.mirror.is_none() => {
+            b"step # cannot come here: there is no mirror to copy to"
+        }
+        Step::Copy(_, _) => b"step # cannot come here: it is copied already",
+        Step::Mirror(_, _) if stage.mirror.is_some() => {
+            b"step # cannot come here: the slot has a mirror"
+        }
         Step::Mirror(_, node) if stage.owner.0 == node.0 => {
-            joined(case.alloc, &[case.name(node.0), b" owns the slot"])
+            b"step # cannot come here: @ owns the slot"
         }
-        Step::Mirror(_, node) => {
-            joined(
-                case.alloc,
-                &[case.name(node.0), b" owned the slot and has not dropped it"],
-            )
+        Step::Mirror(_, _) => {
+            b"step # cannot come here: @ owned the slot and has not dropped it"
         }
-        Step::Drop(_, node) => joined(
-            case.alloc,
-            &[case.name(node.0), b" has nothing left of the slot"],
-        ),
-        Step::Join(_) | Step::Retire(_) => joined(case.alloc, &[b"it has no slot"]),
+        Step::Drop(_, _) => b"step # cannot come here: @ has nothing left of the slot",
+        Step::Join(_) | Step::Retire(_) => b"step # cannot come here: it has no slot",
+    }
+}
+
+// The node of a step, if it has one.
+fn node_of(step: &Step) -> Option<NodeId> {
+    match step {
+        Step::Mirror(_, node) => Some(*node),
+        Step::Drop(_, node) => Some(*node),
+        _ => None,
     }
 }
 
 // Who has what of the slot in the stage.
-fn stage_words(case: Case, slot: Slot, stage: &Stage) -> Result<Vec<u8>, Refusal> {
-    let about = case.slot_words(slot)?;
-    let mut words = joined(
-        case.alloc,
-        &[
-            b"In front of it ",
-            about.as_slice(),
-            b" is owned by ",
-            case.name(stage.owner.0),
-        ],
+fn tell_stage(case: Case, said: &mut Said, slot: Slot, stage: &Stage) -> Result<(), Refusal> {
+    said.add_note(
+        b"  In front of it slot # of partition # is owned by @",
+        &[case.name(stage.owner.0)],
+        &[slot.index, slot.partition],
     )?;
     if let Some(mirror) = stage.mirror {
-        words.extend_from_slice(b", mirrored to ")?;
-        words.extend_from_slice(case.name(mirror.0))?;
-        words.extend_from_slice(if stage.copied {
-            b" and copied"
+        let words: &[u8] = if stage.copied {
+            b", mirrored to @ and copied"
         } else {
-            b" and not copied"
-        })?;
+            b", mirrored to @ and not copied"
+        };
+        said.add_note(words, &[case.name(mirror.0)], &[])?;
     }
-    let mut is_first = true;
+    let mut words: &[u8] = b"; to be dropped by @";
     for node in stage.leftovers.as_slice() {
-        words.extend_from_slice(if is_first {
-            b"; to be dropped by "
-        } else {
-            b", "
-        })?;
-        words.extend_from_slice(case.name(node.0))?;
-        is_first = false;
+        said.add_note(words, &[case.name(node.0)], &[])?;
+        words = b", @";
     }
-    words.push(b'.')?;
-    Ok(words)
+    said.add_note(b".\n", &[], &[])
+}
+
+// That a copy is missing between the slot's mirror and the switch, which come behind that step.
+fn tell_copy(said: &mut Said, slot: Slot, before: u32) -> Result<(), Refusal> {
+    let numbers = [slot.partition, slot.index, before];
+    let note = b"A copy is missing in between, as `copy # # owner after #`;";
+    said.note(note, &[], &numbers)?;
+    let note = b"the numbers of all steps behind it then rise by one.";
+    said.note(note, &[], &[])
+}
+
+// The step does not fit the stage.
+fn tell_misfit(
+    case: Case,
+    said: &mut Said,
+    slot: Slot,
+    stage: &Stage,
+    number: u32,
+) -> Result<(), Refusal> {
+    let Some(step) = case.step(number) else {
+        return Ok(());
+    };
+    let name = match node_of(step) {
+        Some(node) => case.name(node.0),
+        None => b"",
+    };
+    said.title(cause(step, stage), &[name], &[number])?;
+    let before = case.before(slot, number);
+    if let Some(before) = before {
+        let line = case.step_line(before);
+        said.beside(line, b"step #, the slot's step before it", &[], &[before])?;
+    }
+    case.fault(said, number)?;
+    tell_stage(case, said, slot, stage)?;
+    let note = b"A slot goes through mirror, copy, switch and drop, in this order.";
+    said.note(note, &[], &[])?;
+    match (step, stage.mirror, before) {
+        (Step::Switch(_), Some(_), Some(before)) => tell_copy(said, slot, before),
+        _ => Ok(()),
+    }
 }
 
 /// A step does not fit what the slot's steps in front of it leave.
-pub fn wrong_stage(case: Case, number: u32) -> Result<Said, Refusal> {
-    let alloc = case.alloc;
-    let mut said = Said::new(alloc, b"a step cannot come where it stands")?;
-    let (Some(step), Some(slot)) = (case.step(number), case.slot(number)) else {
-        return Ok(said);
+pub fn wrong_stage(case: Case, said: &mut Said, number: u32) -> Result<(), Refusal> {
+    said.title(b"a step cannot come where it stands", &[], &[])?;
+    let Some(slot) = case.slot(number) else {
+        return Ok(());
     };
-    let Some(stage) = case.stage(slot, number)? else {
-        return Ok(said);
-    };
-    let why = cause(case, step, &stage)?;
-    let about = joined(alloc, &[b" cannot come here: ", why.as_slice()])?;
-    said.title = case.step_words(number, about.as_slice())?;
-    if let Some(before) = case.before(slot, number) {
-        let note = case.step_words(before, b", the slot's step before it")?;
-        said.mark(beside(case.step_line(before), note))?;
+    match case.stage(slot, number)? {
+        Some(stage) => tell_misfit(case, said, slot, &stage, number),
+        None => Ok(()),
     }
-    said.mark(fault(case.step_line(number), case.step_words(number, b"")?))?;
-    let words = stage_words(case, slot, &stage)?;
-    said.note(words.as_slice())?;
-    said.note(b"A slot goes through mirror, copy, switch and drop, in this order.")?;
-    if let (Step::Switch(_), Some(_), Some(before)) = (
-        step,
-        stage.mirror,
-        case.before(slot, number),
-    ) {
-        let (partition, index, after) = (
-            digits(alloc, slot.partition)?,
-            digits(alloc, slot.index)?,
-            digits(alloc, before)?,
-        );
-        let missing = joined(
-            alloc,
-            &[
-                b"A copy is missing in between, as `copy ",
-                partition.as_slice(),
-                b" ",
-                index.as_slice(),
-                b" owner after ",
-                after.as_slice(),
-                b"`;",
-            ],
-        )?;
-        said.note(missing.as_slice())?;
-        said.note(b"the numbers of all steps behind it then rise by one.")?;
+}
+
+// That the step may run before the slot's step before it.
+fn tell_order(
+    case: Case,
+    said: &mut Said,
+    slot: Slot,
+    number: u32,
+    before: u32,
+) -> Result<(), Refusal> {
+    let title = b"step # may run before step #, which must come first";
+    said.title(title, &[], &[number, before])?;
+    let words = b"step #, the step of slot # of partition # before it";
+    let numbers = [before, slot.index, slot.partition];
+    said.beside(case.step_line(before), words, &[], &numbers)?;
+    let line = case.step_line(number);
+    said.fault(line, b"step # does not wait for it", &[], &[number])?;
+    if let Some(Step::Copy(_, _)) = case.step(number) {
+        let note = b"A put that is written between the copy and the mirror would miss the mirror.";
+        said.note(note, &[], &[])?;
     }
-    Ok(said)
+    said.mend(b"let it wait", &[], &[])?;
+    case.wait(said, number, before)
 }
 
 /// A step does not wait for the slot's step before it.
-pub fn unordered_slot(case: Case, number: u32) -> Result<Said, Refusal> {
-    let alloc = case.alloc;
-    let mut said = Said::new(alloc, b"a step does not wait for the slot's step before it")?;
+pub fn unordered_slot(case: Case, said: &mut Said, number: u32) -> Result<(), Refusal> {
     let Some(slot) = case.slot(number) else {
-        return Ok(said);
+        return said.title(
+            b"a step does not wait for the slot's step before it",
+            &[],
+            &[],
+        );
     };
-    let Some(before) = case.before(slot, number) else {
-        return Ok(said);
-    };
-    let first = digits(alloc, before)?;
-    let about = joined(
-        alloc,
-        &[
-            b" may run before step ",
-            first.as_slice(),
-            b", which must come first",
-        ],
-    )?;
-    said.title = case.step_words(number, about.as_slice())?;
-    let place = case.slot_words(slot)?;
-    let near = joined(alloc, &[b", the step of ", place.as_slice(), b" before it"])?;
-    said.mark(beside(
-        case.step_line(before),
-        case.step_words(before, near.as_slice())?,
-    ))?;
-    said.mark(fault(
-        case.step_line(number),
-        case.step_words(number, b" does not wait for it")?,
-    ))?;
-    if let Some(Step::Copy(_, _)) = case.step(number) {
-        said.note(b"A put that is written between the copy and the mirror would miss the mirror.")?;
+    match case.before(slot, number) {
+        Some(before) => tell_order(case, said, slot, number, before),
+        None => said.title(
+            b"a step does not wait for the slot's step before it",
+            &[],
+            &[],
+        ),
     }
-    said.mend = Some(case.wait(b"let it wait", number, before)?);
-    Ok(said)
 }

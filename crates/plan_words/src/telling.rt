@@ -21,8 +21,13 @@ pub struct Read<'a> {
     pub cert: &'a Cert,
 }
 
-/// Why the plan of a bundle is refused, where the checker refuses it.
-pub fn tell_plan(alloc: Global, read: Read, refusal: &Refusal) -> Result<Option<Said>, Refusal> {
+/// Says why the plan of a bundle is refused, where the checker refuses it so, and whether it does.
+pub fn tell_plan(
+    alloc: Global,
+    said: &mut Said,
+    read: Read,
+    refusal: &Refusal,
+) -> Result<bool, Refusal> {
     let case = Case {
         alloc,
         page: Page { bytes: read.bytes },
@@ -30,19 +35,19 @@ pub fn tell_plan(alloc: Global, read: Read, refusal: &Refusal) -> Result<Option<
         plan: read.plan,
         cert: read.cert,
     };
-    let said = match refusal {
-        Refusal::WrongStage(step) => wrong_stage(case, *step)?,
-        Refusal::UnorderedSlot(step) => unordered_slot(case, *step)?,
-        Refusal::BadSource(step) => bad_source(case, *step)?,
-        Refusal::MovingSource(step) => moving_source(case, *step)?,
-        Refusal::SharedInPlan(step) => shared_in_plan(case, *step)?,
-        Refusal::NotJoined(step) => not_joined(case, *step)?,
-        Refusal::RetiredInUse(step) => retired_in_use(case, *step)?,
-        Refusal::BadPath(fact) => bad_path(case, *fact)?,
-        Refusal::CoverMissing(node, step) => cover_missing(case, *node, *step)?,
-        Refusal::ChainBroken(chain) => chain_broken(case, *chain)?,
-        Refusal::TooManyChains(node) => too_many_chains(case, *node)?,
-        _ => return Ok(None),
-    };
-    Ok(Some(said))
+    match refusal {
+        Refusal::WrongStage(step) => wrong_stage(case, said, *step)?,
+        Refusal::UnorderedSlot(step) => unordered_slot(case, said, *step)?,
+        Refusal::BadSource(step) => bad_source(case, said, *step)?,
+        Refusal::MovingSource(step) => moving_source(case, said, *step)?,
+        Refusal::SharedInPlan(step) => shared_in_plan(case, said, *step)?,
+        Refusal::NotJoined(step) => not_joined(case, said, *step)?,
+        Refusal::RetiredInUse(step) => retired_in_use(case, said, *step)?,
+        Refusal::BadPath(fact) => bad_path(case, said, *fact)?,
+        Refusal::CoverMissing(node, step) => cover_missing(case, said, *node, *step)?,
+        Refusal::ChainBroken(chain) => chain_broken(case, said, *chain)?,
+        Refusal::TooManyChains(node) => too_many_chains(case, said, *node)?,
+        _ => return Ok(false),
+    }
+    Ok(true)
 }

@@ -4,6 +4,8 @@
 
 mod following;
 mod replaying;
+mod watching;
 
 pub use following::follow;
-pub use replaying::replay;
+pub use replaying::{replay, replay_watched};
+pub use watching::{Unwatched, Watch};

@@ -9,13 +9,14 @@ ghost use Rattle.ring_replay.specs.Replays.{Replays, Follows};
 ghost use Rattle.ring_replay.specs.Faults.{IsFirstFault};
 
 use crate::following::follow;
+use crate::watching::{Unwatched, Watch};
 use plan_check::{Approved, Entry};
 use ring_core::World;
 use ring_names::Refusal;
 use std::alloc::Global;
 
 // All entries in order.
-fn follow_all(world: &mut World, history: &[Entry]) -> Result<(), Refusal>
+fn follow_all<W: Watch>(world: &mut World, history: &[Entry], watch: &W) -> Result<(), Refusal>
     requires few { length history.now ≤ 1000000 }
     requires puts { put_count world.old ≡ 0 }
     requires gets { get_count world.old ≡ 0 }
@@ -24,6 +25,7 @@ fn follow_all(world: &mut World, history: &[Entry]) -> Result<(), Refusal>
         → IsFirstFault (ring_of world.old) (plan_of world.old) w 0 history.now e) }
 {
     for (place, entry) in history.iter().enumerate() {
+        watch.follows(place, history.len());
         follow(world, place as u32, entry)?;
     }
     Ok(())
@@ -47,8 +49,29 @@ pub fn replay<'a>(
     ensures only { IfErr result
         (λ e. e ≢ OutOfMemory → (w : TheWorld) → IsRun approved.now.ring approved.now.plan history.now w → ⊥) }
 {
+    replay_watched(alloc, approved, history, &Unwatched)
+}
+
+/// The same, where somebody is told of each entry before it is followed, and of the end.
+pub fn replay_watched<'a, W: Watch>(
+    alloc: Global,
+    approved: &'a Approved,
+    history: &[Entry],
+    watch: &W,
+) -> Result<World<'a>, Refusal>
+    requires few { length history.now ≤ 1000000 }
+    ensures ok { IfOk result (λ a. Replays approved.now.ring approved.now.plan a history.now) }
+    ensures ring { IfOk result (λ a. ring_of a ≡ approved.now.ring) }
+    ensures plan { IfOk result (λ a. plan_of a ≡ approved.now.plan) }
+    ensures err { IfErr result (λ e. e ≢ OutOfMemory
+        → IsFirstFault approved.now.ring approved.now.plan (opening_world approved.now.ring) 0 history.now e) }
+    ensures only { IfErr result
+        (λ e. e ≢ OutOfMemory → (w : TheWorld) → IsRun approved.now.ring approved.now.plan history.now w → ⊥) }
+{
     let mut world = World::start(alloc, approved)?;
-    match follow_all(&mut world, history) {
+    let found = follow_all(&mut world, history, watch);
+    watch.ends();
+    match found {
         Ok(()) => Ok(world),
         Err(refusal) => Err(refusal),
     }

@@ -2,9 +2,9 @@
 //! `all`, `draw`, `bundle` and `after` among them say which command is meant from there on; `all` is `show --all --racks-behind .`.
 #![tactic(auto)]
 
+use ring_replay::Unwatched;
 use ringside_run::run;
 use std::fs::File;
-use std::io::Write;
 use std::rt::Runtime;
 use std::{env, io, str};
 
@@ -35,23 +35,6 @@ fn main(rt: HostRuntime) -> io::Result<()> {
     Ok(())
 }
 
-// Keeps what is written.
-#[derive(Drop)]
-struct Kept {
-    bytes: Vec<u8>,
-}
-
-impl Write for Kept {
-    fn write(&mut self, part: &[u8]) -> io::Result<usize> {
-        self.bytes.extend_from_slice(part)?;
-        Ok(part.len())
-    }
-
-    fn flush(&mut self) -> io::Result<()> {
-        Ok(())
-    }
-}
-
 // The command's word.
 fn word(asked: Asked) -> &'static str {
     match asked {
@@ -68,7 +51,7 @@ fn said<RT: Runtime + AllocGlobal>(
     rt: &RT,
     asked: Asked,
     path: &str,
-    kept: &mut Kept,
+    kept: &mut Vec<u8>,
 ) -> io::Result<u8> {
     let mut bundle = File::open(rt, path)?;
     let status = match asked {
@@ -77,8 +60,15 @@ fn said<RT: Runtime + AllocGlobal>(
             &["ringside", "show", "--all", "--racks-behind", "."],
             &mut bundle,
             kept,
+            &Unwatched,
         ),
-        _ => run(rt.alloc(), &["ringside", word(asked)], &mut bundle, kept),
+        _ => run(
+            rt.alloc(),
+            &["ringside", word(asked)],
+            &mut bundle,
+            kept,
+            &Unwatched,
+        ),
     };
     Ok(status)
 }
@@ -86,11 +76,9 @@ fn said<RT: Runtime + AllocGlobal>(
 // Prints the command, the name of a bundle, the program's answer to it and the exit status.
 fn tell<RT: Runtime + AllocGlobal>(rt: &RT, asked: Asked, name: &str) -> io::Result<()> {
     let path = format!(in rt.alloc(); "{name}.bundle")?;
-    let mut kept = Kept {
-        bytes: Vec::new(rt.alloc()),
-    };
+    let mut kept = Vec::new(rt.alloc());
     let status = said(rt, asked, path.as_str(), &mut kept)?;
-    let text = str::from_utf8(kept.bytes.as_slice()).unwrap_or("no text\n");
+    let text = str::from_utf8(kept.as_slice()).unwrap_or("no text\n");
     let command = word(asked);
     print!(rt; "{command} {name}\n{text}{status}\n")
 }

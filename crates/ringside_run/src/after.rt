@@ -5,14 +5,16 @@ ghost use Rattle.plan_moves.specs.Owners.{last_owners};
 ghost use Rattle.ringside_run.specs.After.{IsRingOf, member_after, members_after};
 
 use crate::sections::front;
-use crate::study::studied;
+use crate::study::{Study, Work, studied};
 use plan_check::{Approved, Entry};
 use plan_moves::last_owners;
 use plan_scene::Progress;
 use plan_text::{Plan, Step};
-use ring_names::{Listed, NodeId, Refusal, Slot, push_decimal};
+use ring_names::{Listed, NodeId, Refusal, Slot};
+use ring_replay::Watch;
 use ring_table::{Node, Ring, push_row, read_ring};
 use std::alloc::Global;
+use text_words::push_words;
 
 // Whether the node is a member once the plan is done.
 fn is_member_after(ring: &Ring, plan: &Plan, node: NodeId) -> bool
@@ -236,8 +238,7 @@ impl<'a> Rewriting<'a> {
         Ok(())
     }
 
-    fn text(&mut self, alloc: Global, text: &[u8]) -> Result<Vec<u8>, Refusal> {
-        let mut out = Vec::new(alloc);
+    fn push(&mut self, out: &mut Vec<u8>, text: &[u8]) -> Result<(), Refusal> {
         let mut start = 0usize;
         for turn in 0..text.len() {
             if start >= text.len() {
@@ -245,11 +246,11 @@ impl<'a> Rewriting<'a> {
             }
             let end = line_end(text, start);
             if start <= end && end <= text.len() {
-                self.push_line(&mut out, &text[start..end])?;
+                self.push_line(out, &text[start..end])?;
             }
             start = end.saturating_add(1);
         }
-        Ok(out)
+        Ok(())
     }
 }
 
@@ -331,7 +332,8 @@ fn rewritten(
         node: 0,
         partition: 0,
     };
-    let out = rewriting.text(alloc, text)?;
+    let mut out = Vec::new(alloc);
+    rewriting.push(&mut out, text)?;
     held(alloc, out, rows, members)
 }
 
@@ -376,43 +378,68 @@ fn ring_behind(
 /// The text of the ring that the plan of a bundle leaves, or what a history has done of it: the same nodes, with the owners and the members behind
 /// the steps that are done. A move that a history has begun and not switched is `WrongStage` at the step that set the mirror, since no ring can say it. Else refused
 /// is what `studied` refuses.
-pub fn after_bundle(alloc: Global, bytes: &[u8]) -> Result<Vec<u8>, Refusal> {
-    let found = studied(alloc, bytes)?;
+pub fn after_bundle<W: Watch>(work: &Work<W>, bytes: &[u8]) -> Result<Vec<u8>, Refusal> {
+    let found = studied(work, bytes)?;
     let text = &bytes[..front(bytes, 1)];
     match &found.history {
-        Some(history) => ring_behind(alloc, &found.approved, history.as_slice(), text),
-        None => ring_after(alloc, &found.approved, text),
+        Some(history) => ring_behind(work.alloc, &found.approved, history.as_slice(), text),
+        None => ring_after(work.alloc, &found.approved, text),
     }
 }
 
-/// Which steps must come first where `after_bundle` refuses a history for the move that the step begins; None where that is not why.
-pub fn open_words(alloc: Global, bytes: &[u8], step: u32) -> Result<Option<Vec<u8>>, Refusal> {
-    let found = match studied(alloc, bytes) {
-        Ok(found) => found,
-        Err(Refusal::OutOfMemory) => return Err(Refusal::OutOfMemory),
-        Err(_) => return Ok(None),
-    };
+/// Adds which steps must come first where `after_bundle` refuses a history for the move that the step begins, and tells whether that is why.
+pub fn push_open<W: Watch>(
+    work: &Work<W>,
+    out: &mut Vec<u8>,
+    bytes: &[u8],
+    step: u32,
+) -> Result<bool, Refusal> {
+    match studied(work, bytes) {
+        Ok(found) => push_open_of(work.alloc, out, &found, step),
+        Err(Refusal::OutOfMemory) => Err(Refusal::OutOfMemory),
+        Err(_) => Ok(false),
+    }
+}
+
+fn push_open_of(
+    alloc: Global,
+    out: &mut Vec<u8>,
+    found: &Study,
+    step: u32,
+) -> Result<bool, Refusal> {
     let plan = found.approved.plan();
     let (Some(history), Some(slot)) = (&found.history, slot_of(plan, step)) else {
-        return Ok(None);
+        return Ok(false);
     };
     let progress = Progress::of(alloc, plan, history.as_slice())?;
-    let mut out = Vec::from_slice(alloc, b"refused: step ")?;
-    push_decimal(&mut out, step)?;
-    out.extend_from_slice(
-        b" has opened a mirror that no step has switched, and a ring cannot say that\n  Finish first:",
+    push_left(out, plan, &progress, slot, step)?;
+    Ok(true)
+}
+
+// The slot's steps behind that one, up to its switch, that are not done.
+fn push_left(
+    out: &mut Vec<u8>,
+    plan: &Plan,
+    progress: &Progress,
+    slot: Slot,
+    step: u32,
+) -> Result<(), Refusal> {
+    push_words(
+        out,
+        b"refused: step # has opened a mirror that no step has switched, and a ring cannot say that\n  Finish first:",
+        &[],
+        &[step],
     )?;
-    let mut is_first = true;
+    let mut words: &[u8] = b" step #";
     for number in plan.slot_steps(slot) {
         let is_left = *number > step && !progress.is_done(*number);
         if is_left && !is_drop(plan, *number) {
-            out.extend_from_slice(if is_first { b" step " } else { b", step " })?;
-            push_decimal(&mut out, *number)?;
-            is_first = false;
+            push_words(out, words, &[], &[*number])?;
+            words = b", step #";
         }
     }
     out.push(b'\n')?;
-    Ok(Some(out))
+    Ok(())
 }
 
 fn slot_of(plan: &Plan, number: u32) -> Option<Slot> {

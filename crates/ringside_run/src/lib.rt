@@ -16,4 +16,5 @@ pub use bundle::whole_bundle;
 pub use job::{Job, Making, Wish};
 pub use program::{end_without_words, run};
 pub use show::{draw_bundle, show_bundle};
+pub use study::Work;
 pub use why::why_bundle;

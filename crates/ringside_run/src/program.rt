@@ -1,12 +1,14 @@
 //! The program, over any input and any output.
 
-use crate::after::{after_bundle, open_words};
+use crate::after::{after_bundle, push_open};
 use crate::bundle::whole_bundle;
 use crate::command::{CommandLine, parse};
 use crate::job::{Job, Making};
 use crate::show::{draw_bundle, show_bundle};
-use crate::why::{why_bundle, words_of};
+use crate::study::Work;
+use crate::why::{push_words_of, why_bundle};
 use ring_names::Refusal;
+use ring_replay::Watch;
 use ringplan_run::{Answer, answer_of, end_without_memory, read_all, write_all};
 use std::alloc::Global;
 use std::convert::AsStr;
@@ -24,15 +26,18 @@ const REFUSED: u8 = 2;
 
 /// Runs a command line, whose first word is the program's name, and returns the exit status: 0 for what was printed and for help, 1 for a plan that is refused or that
 /// there is none of, and for a history that is no run, 2 for a text or a command line that is refused, and 3 where memory, the input or the output failed.
-pub fn run<S: AsStr, R: Read + Drop, W: Write>(
+///
+/// The watch is told how far each replay of a history has come.
+pub fn run<S: AsStr, R: Read + Drop, W: Write, P: Watch>(
     alloc: Global,
     words: &[S],
     input: &mut R,
     output: &mut W,
+    watch: &P,
 ) -> u8 {
     match parse(alloc, words) {
         CommandLine::Do(job) => {
-            let found = answer_of_input(alloc, job, input);
+            let found = answer_of_input(&Work { alloc, watch }, job, input);
             tell(alloc, found, output)
         }
         CommandLine::Help(text) => finish(output, text.as_slice(), 0),
@@ -47,63 +52,66 @@ pub fn end_without_words<W: Write>(output: &mut W) -> u8 {
 }
 
 // What is made of the bundle.
-fn make_of(alloc: Global, making: Making, bytes: &[u8]) -> Result<Vec<u8>, Refusal> {
+fn make_of<W: Watch>(work: &Work<W>, making: Making, bytes: &[u8]) -> Result<Vec<u8>, Refusal> {
     match making {
-        Making::Bundle => whole_bundle(alloc, bytes),
-        Making::After => after_bundle(alloc, bytes),
-        Making::Show(wish) => show_bundle(alloc, bytes, wish),
-        Making::Draw => draw_bundle(alloc, bytes),
+        Making::Bundle => whole_bundle(work.alloc, bytes),
+        Making::After => after_bundle(work, bytes),
+        Making::Show(wish) => show_bundle(work, bytes, wish),
+        Making::Draw => draw_bundle(work, bytes),
     }
 }
 
 // What is made of the bundle, or the refusal's line and why.
-fn made(alloc: Global, making: Making, bytes: &[u8]) -> Result<Answer, Refusal> {
-    let found = make_of(alloc, making, bytes);
-    let words = match &found {
-        Ok(_) | Err(Refusal::OutOfMemory) => Vec::new(alloc),
-        Err(refusal) => said_of(alloc, making, bytes, refusal)?,
-    };
-    let mut answer = answer_of(alloc, found)?;
+fn made<W: Watch>(work: &Work<W>, making: Making, bytes: &[u8]) -> Result<Answer, Refusal> {
+    let found = make_of(work, making, bytes);
+    let mut words = Vec::new(work.alloc);
+    match &found {
+        Ok(_) | Err(Refusal::OutOfMemory) => {}
+        Err(refusal) => push_said(work, &mut words, making, bytes, refusal)?,
+    }
+    let mut answer = answer_of(work.alloc, found)?;
     answer.output.extend_from_slice(words.as_slice())?;
     Ok(answer)
 }
 
-// Why it was refused.
-fn said_of(
-    alloc: Global,
+// Adds why it was refused.
+fn push_said<W: Watch>(
+    work: &Work<W>,
+    out: &mut Vec<u8>,
     making: Making,
     bytes: &[u8],
     refusal: &Refusal,
-) -> Result<Vec<u8>, Refusal> {
+) -> Result<(), Refusal> {
     if let (Making::After, Refusal::WrongStage(step)) = (making, refusal) {
-        if let Some(words) = open_words(alloc, bytes, *step)? {
-            return Ok(words);
+        if push_open(work, out, bytes, *step)? {
+            return Ok(());
         }
     }
-    words_of(alloc, bytes, refusal)
+    push_words_of(work, out, bytes, refusal)
 }
 
 // The answer where the input was not read.
-fn refused(alloc: Global, refusal: Refusal) -> Result<Answer, Refusal> {
-    let words = words_of(alloc, b"", &refusal)?;
-    let mut answer = answer_of(alloc, Err(refusal))?;
+fn refused<W: Watch>(work: &Work<W>, refusal: Refusal) -> Result<Answer, Refusal> {
+    let mut words = Vec::new(work.alloc);
+    push_words_of(work, &mut words, b"", &refusal)?;
+    let mut answer = answer_of(work.alloc, Err(refusal))?;
     answer.output.extend_from_slice(words.as_slice())?;
     Ok(answer)
 }
 
 // The answer to a job with the whole input.
-fn answer_of_input<R: Read + Drop>(
-    alloc: Global,
+fn answer_of_input<R: Read + Drop, P: Watch>(
+    work: &Work<P>,
     job: Job,
     input: &mut R,
 ) -> Result<Answer, Refusal> {
-    let bytes = match read_all(alloc, input) {
+    let bytes = match read_all(work.alloc, input) {
         Ok(bytes) => bytes,
-        Err(refusal) => return refused(alloc, refusal),
+        Err(refusal) => return refused(work, refusal),
     };
     match job {
-        Job::Why => why_bundle(alloc, bytes.as_slice()),
-        Job::Make(making) => made(alloc, making, bytes.as_slice()),
+        Job::Why => why_bundle(work, bytes.as_slice()),
+        Job::Make(making) => made(work, making, bytes.as_slice()),
     }
 }
 

@@ -6,8 +6,16 @@ use history_text::read_replay;
 use plan_cert::Cert;
 use plan_check::{Approved, Entry, check};
 use ring_names::Refusal;
-use ring_script::{Kind as Sections, read_bundle, replay_history};
+use ring_replay::{Watch, replay_watched};
+use ring_script::{Kind as Sections, read_bundle};
 use std::alloc::Global;
+
+/// What a job works with: memory, and who is told how far a replay has come.
+#[derive(Clone, Copy)]
+pub struct Work<'a, W> {
+    pub alloc: Global,
+    pub watch: &'a W,
+}
 
 /// An approved plan with its certificate, and what has happened of it.
 #[derive(Drop)]
@@ -36,11 +44,11 @@ fn study_plan(alloc: Global, bytes: &[u8]) -> Result<Study, Refusal> {
 }
 
 // A bundle with a history.
-fn study_history(alloc: Global, bytes: &[u8]) -> Result<Study, Refusal> {
-    let bundle = read_replay(alloc, bytes)?;
-    match check(alloc, bundle.ring, bundle.plan, &bundle.cert) {
+fn study_history<W: Watch>(work: &Work<W>, bytes: &[u8]) -> Result<Study, Refusal> {
+    let bundle = read_replay(work.alloc, bytes)?;
+    match check(work.alloc, bundle.ring, bundle.plan, &bundle.cert) {
         Ok(approved) => {
-            replay_history(alloc, &approved, bundle.history.as_slice())?;
+            let _ = replay_watched(work.alloc, &approved, bundle.history.as_slice(), work.watch)?;
             Ok(Study {
                 approved,
                 cert: bundle.cert,
@@ -56,9 +64,9 @@ fn study_history(alloc: Global, bytes: &[u8]) -> Result<Study, Refusal> {
 
 /// The plan of a bundle, where the checker accepts it; where the bundle has a change, a plan is made first. Refused is the first fault of the texts, what the
 /// planner or the checker refuses, and a history that is no run of the plan.
-pub fn studied(alloc: Global, bytes: &[u8]) -> Result<Study, Refusal> {
+pub fn studied<W: Watch>(work: &Work<W>, bytes: &[u8]) -> Result<Study, Refusal> {
     match kind_of(bytes) {
-        Kind::Change | Kind::Plan => study_plan(alloc, bytes),
-        Kind::History => study_history(alloc, bytes),
+        Kind::Change | Kind::Plan => study_plan(work.alloc, bytes),
+        Kind::History => study_history(work, bytes),
     }
 }

@@ -5,17 +5,18 @@ ghost use Rattle.ringplan_run.specs.Verdict.{TextsKeepPromises};
 ghost use Rattle.ringside_run.specs.Why.{AnswersCheck};
 
 use crate::sections::{Kind, front, kind_of};
-use crate::study::{Study, studied};
-use change_text::read_wanted;
+use crate::study::{Study, Work, studied};
+use change_text::{Wanted, read_wanted};
 use history_text::read_replay;
 use plan_check::{Approved, Entry, Event, check};
 use plan_words::{Read, tell_plan};
-use ring_names::{Refusal, push_decimal};
-use ring_replay::replay;
+use ring_core::World;
+use ring_names::Refusal;
+use ring_replay::{Watch, replay_watched};
 use ring_script::{Kind as Sections, read_bundle};
 use ringplan_run::{Answer, Job, answer_of, check_bundle, make, plan_bundle};
 use std::alloc::Global;
-use text_words::{Mend, Page, Said, beside, digits, fault, joined, tell_text};
+use text_words::{Page, Said, push_words, tell_text};
 
 // What comes of a mended bundle.
 #[derive(Clone, Copy, PartialEq, Eq)]
@@ -33,20 +34,20 @@ enum Outcome {
 }
 
 // What comes of a bundle that was refused so before it was mended.
-fn asked(alloc: Global, mended: &[u8], was: &Refusal) -> Result<Outcome, Refusal>
+fn asked<W: Watch>(work: &Work<W>, mended: &[u8], was: &Refusal) -> Result<Outcome, Refusal>
     // Where the checker says yes, the plan keeps its promises.
     ensures yes { IfOk result (λ o. o ≡ Outcome.Accepted → TextsKeepPromises mended.now) }
 {
     match kind_of(mended) {
-        Kind::Plan => match check_bundle(alloc, mended) {
+        Kind::Plan => match check_bundle(work.alloc, mended) {
             Ok(()) => Ok(Outcome::Accepted),
             Err(refusal) => next(refusal, was),
         },
-        Kind::Change => match plan_bundle(alloc, mended) {
+        Kind::Change => match plan_bundle(work.alloc, mended) {
             Ok(_) => Ok(Outcome::Planned),
             Err(refusal) => next(refusal, was),
         },
-        Kind::History => match studied(alloc, mended) {
+        Kind::History => match studied(work, mended) {
             Ok(_) => Ok(Outcome::Replayed),
             Err(refusal) => next(refusal, was),
         },
@@ -68,56 +69,67 @@ fn next(refusal: Refusal, was: &Refusal) -> Result<Outcome, Refusal>
 }
 
 // Adds the mend, with what comes of the mended bundle, unless that is refused as before.
-fn push_mend(
-    alloc: Global,
+fn push_mend<W: Watch>(
+    work: &Work<W>,
     out: &mut Vec<u8>,
     bytes: &[u8],
-    mend: &Mend,
+    said: &Said,
     was: &Refusal,
 ) -> Result<(), Refusal> {
-    let mended = mend.text(alloc, Page { bytes })?;
-    let outcome = asked(alloc, mended.as_slice(), was)?;
+    let mut mended = Vec::new(work.alloc);
+    said.mended(&mut mended, Page { bytes })?;
+    let outcome = asked(work, mended.as_slice(), was)?;
     if outcome == Outcome::Same {
         return Ok(());
     }
-    mend.push(alloc, out)?;
-    push_outcome(alloc, out, outcome)
+    said.push_mend(out)?;
+    push_outcome(out, outcome)
 }
 
-fn push_outcome(alloc: Global, out: &mut Vec<u8>, outcome: Outcome) -> Result<(), Refusal> {
-    match outcome {
-        Outcome::Accepted => out.extend_from_slice(b"  then the checker says yes.\n")?,
-        Outcome::Planned => out.extend_from_slice(b"  then there is a plan.\n")?,
-        Outcome::Replayed => {
-            out.extend_from_slice(
-                b"  then the checker says yes, and the history is a run of it.\n",
-            )?
-        }
-        Outcome::Next(refusal) => {
-            out.extend_from_slice(b"  then the checker goes on, to `")?;
-            let mut line = Vec::new(alloc);
-            refusal.write_line(&mut line)?;
-            line.pop();
-            out.extend_from_slice(line.as_slice())?;
-            out.extend_from_slice(b"`.\n")?;
-        }
-        Outcome::Same => {}
-    }
+fn push_outcome(out: &mut Vec<u8>, outcome: Outcome) -> Result<(), Refusal> {
+    let words: &[u8] = match outcome {
+        Outcome::Accepted => b"  then the checker says yes.\n",
+        Outcome::Planned => b"  then there is a plan.\n",
+        Outcome::Replayed => b"  then the checker says yes, and the history is a run of it.\n",
+        Outcome::Next(refusal) => return push_next(out, refusal),
+        Outcome::Same => b"",
+    };
+    out.extend_from_slice(words)?;
     Ok(())
 }
 
-// What is said of the refusal of a bundle whose texts are in order.
-fn tell_read(alloc: Global, bytes: &[u8], refusal: &Refusal) -> Result<Option<Said>, Refusal> {
+fn push_next(out: &mut Vec<u8>, refusal: Refusal) -> Result<(), Refusal> {
+    out.extend_from_slice(b"  then the checker goes on, to `")?;
+    refusal.write_line(out)?;
+    out.pop();
+    out.extend_from_slice(b"`.\n")?;
+    Ok(())
+}
+
+// Says what there is to say of the refusal of a bundle whose texts are in order.
+fn tell_read<W: Watch>(
+    work: &Work<W>,
+    said: &mut Said,
+    bytes: &[u8],
+    refusal: &Refusal,
+) -> Result<(), Refusal> {
     match refusal {
-        Refusal::NoPlan => return tell_no_plan(alloc, bytes),
-        Refusal::Mismatch(entry, code) => return tell_history(alloc, bytes, *entry, *code),
-        _ => {}
+        Refusal::NoPlan => tell_no_plan(work.alloc, said, bytes),
+        Refusal::Mismatch(entry, code) => tell_history(work, said, bytes, *entry, *code),
+        _ => tell_checked(work.alloc, said, &bytes[..front(bytes, 3)], refusal),
     }
-    let texts = &bytes[..front(bytes, 3)];
+}
+
+// Says why the checker refuses the plan of these texts.
+fn tell_checked(
+    alloc: Global,
+    said: &mut Said,
+    texts: &[u8],
+    refusal: &Refusal,
+) -> Result<(), Refusal> {
     let bundle = match read_bundle(alloc, Sections::Check, texts) {
         Ok(bundle) => bundle,
-        Err(Refusal::OutOfMemory) => return Err(Refusal::OutOfMemory),
-        Err(_) => return Ok(None),
+        Err(refusal) => return unless_memory(refusal),
     };
     let read = Read {
         bytes: texts,
@@ -125,45 +137,58 @@ fn tell_read(alloc: Global, bytes: &[u8], refusal: &Refusal) -> Result<Option<Sa
         plan: &bundle.plan,
         cert: &bundle.cert,
     };
-    tell_plan(alloc, read, refusal)
+    let _ = tell_plan(alloc, said, read, refusal)?;
+    Ok(())
 }
 
-// Why there is no plan for a change.
-fn tell_no_plan(alloc: Global, bytes: &[u8]) -> Result<Option<Said>, Refusal> {
-    let wanted = match read_wanted(alloc, bytes) {
-        Ok(wanted) => wanted,
-        Err(Refusal::OutOfMemory) => return Err(Refusal::OutOfMemory),
-        Err(_) => return Ok(None),
-    };
+// Nothing, but where memory is out.
+fn unless_memory(refusal: Refusal) -> Result<(), Refusal> {
+    if refusal == Refusal::OutOfMemory {
+        return Err(refusal);
+    }
+    Ok(())
+}
+
+// How many members the change would leave.
+fn members_left(wanted: &Wanted) -> u32 {
     let mut members = 0u32;
     for node in wanted.ring.nodes() {
-        if node.is_member {
-            members = members.saturating_add(1);
-        }
+        members = members.saturating_add(u32::from(node.is_member));
     }
     for node in wanted.change.joins.as_slice() {
-        members = members.saturating_add(if wanted.ring.is_member(*node) { 0 } else { 1 });
+        members = members.saturating_add(u32::from(!wanted.ring.is_member(*node)));
     }
     for node in wanted.change.leaves.as_slice() {
-        members = members.saturating_sub(if wanted.ring.is_member(*node) { 1 } else { 0 });
+        members = members.saturating_sub(u32::from(wanted.ring.is_member(*node)));
     }
-    let count = digits(alloc, members)?;
-    let mut said = Said::new(alloc, b"the planner found no plan")?;
-    if members < wanted.ring.n() {
-        said.title = joined(
-            alloc,
-            &[
-                b"there is no plan: ",
-                count.as_slice(),
-                b" members would be left",
-            ],
-        )?;
-        said.note(
-            b"Partition 0 cannot be filled, nor any other: each slot of one wants a member of its own.",
-        )?;
-        said.note(b"Let fewer nodes leave, or more join.")?;
+    members
+}
+
+// Says why there is no plan for a change.
+fn tell_no_plan(alloc: Global, said: &mut Said, bytes: &[u8]) -> Result<(), Refusal> {
+    let wanted = match read_wanted(alloc, bytes) {
+        Ok(wanted) => wanted,
+        Err(refusal) => return unless_memory(refusal),
+    };
+    tell_few(said, members_left(&wanted), wanted.ring.n())
+}
+
+// Says that so many members are too few for partitions of so many slots, where they are.
+fn tell_few(said: &mut Said, members: u32, slots: u32) -> Result<(), Refusal> {
+    if members >= slots {
+        return said.title(b"the planner found no plan", &[], &[]);
     }
-    Ok(Some(said))
+    said.title(
+        b"there is no plan: # members would be left",
+        &[],
+        &[members],
+    )?;
+    said.note(
+        b"Partition 0 cannot be filled, nor any other: each slot of one wants a member of its own.",
+        &[],
+        &[],
+    )?;
+    said.note(b"Let fewer nodes leave, or more join.", &[], &[])
 }
 
 // Why an event could not have happened.
@@ -187,37 +212,30 @@ fn reason(code: u32) -> &'static [u8] {
     }
 }
 
-// Why a history is no run.
-fn tell_history(
-    alloc: Global,
+// Says why a history is no run.
+fn tell_history<W: Watch>(
+    work: &Work<W>,
+    said: &mut Said,
     bytes: &[u8],
     entry: u32,
     code: u32,
-) -> Result<Option<Said>, Refusal> {
-    let number = digits(alloc, entry)?;
-    let title = joined(
-        alloc,
-        &[
-            b"the history is no run of the plan: entry ",
-            number.as_slice(),
-            b" cannot have happened so",
-        ],
+) -> Result<(), Refusal> {
+    said.title(
+        b"the history is no run of the plan: entry # cannot have happened so",
+        &[],
+        &[entry],
     )?;
-    let mut said = Said::new(alloc, title.as_slice())?;
     let line = line_behind(bytes, 3)
         .saturating_add(1)
         .saturating_add(entry);
-    said.mark(fault(line, joined(alloc, &[reason(code)])?))?;
+    said.fault(line, reason(code), &[], &[])?;
     if entry > 0 {
-        said.mark(beside(
-            line.saturating_sub(1),
-            joined(alloc, &[b"up to here it is a run"])?,
-        ))?;
+        said.beside(line.saturating_sub(1), b"up to here it is a run", &[], &[])?;
     }
-    if let Some(found) = replayed(alloc, bytes)? {
-        tell_entry(alloc, &mut said, bytes, &found, entry)?;
+    match replayed(work.alloc, bytes)? {
+        Some(found) => tell_entry(work, said, bytes, &found, entry),
+        None => Ok(()),
     }
-    Ok(Some(said))
 }
 
 // An approved plan, and a history of it.
@@ -269,9 +287,9 @@ fn step_of(event: &Event) -> Option<u32> {
     }
 }
 
-// The step of the entry's event, and the reply that was due.
-fn tell_entry(
-    alloc: Global,
+// Says which step the entry's event is of, and the reply that was due.
+fn tell_entry<W: Watch>(
+    work: &Work<W>,
     said: &mut Said,
     bytes: &[u8],
     found: &Recorded,
@@ -283,135 +301,169 @@ fn tell_entry(
     };
     if let Some(step) = step_of(&wrong.event) {
         let line = line_behind(bytes, 1).saturating_add(1).saturating_add(step);
-        let number = digits(alloc, step)?;
-        said.mark(beside(line, joined(alloc, &[b"step ", number.as_slice()])?))?;
+        said.beside(line, b"step #", &[], &[step])?;
     }
-    if let Some(reply) = due(alloc, &found.approved, history, entry as usize)? {
-        let words = joined(
-            alloc,
-            &[b"The reply that was due: `", reply.as_slice(), b"`."],
-        )?;
-        said.note(words.as_slice())?;
+    tell_reply(work, said, &found.approved, history, entry as usize)
+}
+
+// Says what the reply to the entry's event should have been, unless that is refused.
+fn tell_reply<W: Watch>(
+    work: &Work<W>,
+    said: &mut Said,
+    approved: &Approved,
+    history: &[Entry],
+    place: usize,
+) -> Result<(), Refusal> {
+    let mut text = Vec::new(work.alloc);
+    if due(work, &mut text, approved, history, place)? {
+        said.note(b"The reply that was due: `@`.", &[text.as_slice()], &[])?;
     }
     Ok(())
 }
 
-// The reply to an entry's event, behind the entries in front of it; None where it is refused.
-fn due(
-    alloc: Global,
+// The reply to an entry's event, behind the entries in front of it; false where it is refused.
+fn due<W: Watch>(
+    work: &Work<W>,
+    out: &mut Vec<u8>,
     approved: &Approved,
     history: &[Entry],
     place: usize,
-) -> Result<Option<Vec<u8>>, Refusal> {
+) -> Result<bool, Refusal> {
     if place >= history.len() || place > 1_000_000 {
-        return Ok(None);
+        return Ok(false);
     }
-    let mut world = match replay(alloc, approved, &history[..place]) {
-        Ok(world) => world,
-        Err(Refusal::OutOfMemory) => return Err(Refusal::OutOfMemory),
-        Err(_) => return Ok(None),
-    };
+    match replay_watched(work.alloc, approved, &history[..place], work.watch) {
+        Ok(mut world) => reply_of(&mut world, out, &history[place].event),
+        Err(Refusal::OutOfMemory) => Err(Refusal::OutOfMemory),
+        Err(_) => Ok(false),
+    }
+}
+
+// The reply of the world to the event; false where it is refused.
+fn reply_of(world: &mut World, out: &mut Vec<u8>, event: &Event) -> Result<bool, Refusal> {
     if world.puts() == u32::MAX || world.gets() == u32::MAX {
-        return Ok(None);
+        return Ok(false);
     }
-    match world.apply(&history[place].event) {
+    match world.apply(event) {
         Ok(reply) => {
-            let mut text = Vec::new(alloc);
-            reply.write_text(&mut text)?;
-            Ok(Some(text))
+            reply.write_text(out)?;
+            Ok(true)
         }
         Err(Refusal::OutOfMemory) => Err(Refusal::OutOfMemory),
-        Err(_) => Ok(None),
+        Err(_) => Ok(false),
     }
 }
 
-/// Why a bundle is refused so, in words: nothing where there is no more to say than its line.
-pub fn words_of(alloc: Global, bytes: &[u8], refusal: &Refusal) -> Result<Vec<u8>, Refusal> {
-    let mut out = Vec::new(alloc);
-    let said = match tell_text(alloc, bytes, refusal)? {
-        Some(said) => Some(said),
-        None => tell_read(alloc, bytes, refusal)?,
-    };
-    if let Some(said) = said {
-        said.push(alloc, &mut out, Page { bytes })?;
-        if let Some(mend) = &said.mend {
-            push_mend(alloc, &mut out, bytes, mend, refusal)?;
-        }
+// Adds why a bundle is refused so, in words: nothing where there is no more to say than its line.
+fn push_why<W: Watch>(
+    work: &Work<W>,
+    out: &mut Vec<u8>,
+    said: &mut Said,
+    bytes: &[u8],
+    refusal: &Refusal,
+) -> Result<(), Refusal> {
+    if !tell_text(work.alloc, said, bytes, refusal)? {
+        tell_read(work, said, bytes, refusal)?;
     }
-    Ok(out)
+    if !said.is_begun() {
+        return Ok(());
+    }
+    said.push(out, Page { bytes })?;
+    if said.has_mend() {
+        push_mend(work, out, bytes, said, refusal)?;
+    }
+    Ok(())
 }
 
-// What a yes says of a plan.
-fn accepted(alloc: Global, found: &Study) -> Result<Vec<u8>, Refusal> {
+/// Adds why a bundle is refused so, in words: nothing where there is no more to say than its line.
+pub fn push_words_of<W: Watch>(
+    work: &Work<W>,
+    out: &mut Vec<u8>,
+    bytes: &[u8],
+    refusal: &Refusal,
+) -> Result<(), Refusal> {
+    let mut said = Said::new(work.alloc);
+    push_why(work, out, &mut said, bytes, refusal)
+}
+
+// Adds what a yes says of a plan.
+fn push_accepted(out: &mut Vec<u8>, found: &Study) -> Result<(), Refusal> {
     let (ring, plan) = (found.approved.ring(), found.approved.plan());
-    let mut out = Vec::from_slice(alloc, b"accepted: ")?;
-    push_decimal(&mut out, plan.len())?;
-    out.extend_from_slice(if plan.len() == 1 { b" step" } else { b" steps" })?;
-    out.extend_from_slice(b". In every run of the plan, in any order that it allows:\n  any ")?;
-    push_decimal(&mut out, ring.r())?;
-    out.extend_from_slice(
-        b" slots of a partition include one that has each acknowledged put, or a successor",
-    )?;
+    let begin: &[u8] = if plan.len() == 1 {
+        b"accepted: # step. In every run of the plan, in any order that it allows:\n  any # slots of a partition include one that has each acknowledged put, or a successor"
+    } else {
+        b"accepted: # steps. In every run of the plan, in any order that it allows:\n  any # slots of a partition include one that has each acknowledged put, or a successor"
+    };
+    push_words(out, begin, &[], &[plan.len(), ring.r()])?;
     if ring.loss() > 0 {
-        out.extend_from_slice(b",\n  with ")?;
-        push_decimal(&mut out, ring.loss())?;
-        out.extend_from_slice(b" lost between")?;
+        push_words(out, b",\n  with # lost between", &[], &[ring.loss()])?;
     }
-    out.extend_from_slice(
-        b";\n  no two slots of a partition share a node;\n  no node has more transfers open than its allowance.\n",
-    )?;
+    let end =
+        b";\n  no two slots of a partition share a node;\n  no node has more transfers open than its allowance.\n";
+    out.extend_from_slice(end)?;
     if found.history.is_some() {
         out.extend_from_slice(b"  The history is a run of it.\n")?;
     }
-    Ok(out)
+    Ok(())
 }
 
-// The answer with words behind it.
-fn with_words(
-    alloc: Global,
-    found: Result<Vec<u8>, Refusal>,
-    words: &[u8],
-) -> Result<Answer, Refusal> {
-    let mut answer = answer_of(alloc, found)?;
-    answer.output.extend_from_slice(words)?;
-    Ok(answer)
+// Adds what a yes says of the plan of a bundle.
+fn push_yes<W: Watch>(work: &Work<W>, out: &mut Vec<u8>, bytes: &[u8]) -> Result<(), Refusal> {
+    let found = studied(work, bytes)?;
+    push_accepted(out, &found)
 }
 
 // Why a ring, a plan and its certificate are accepted or refused.
-fn why_plan(alloc: Global, bytes: &[u8]) -> Result<Answer, Refusal>
+fn why_plan<W: Watch>(work: &Work<W>, bytes: &[u8]) -> Result<Answer, Refusal>
     ensures { IfOk result (AnswersCheck bytes.now) }
 {
-    let found = make(alloc, Job::Check, bytes);
-    let words = match &found {
-        Ok(_) => accepted(alloc, &studied(alloc, bytes)?)?,
-        Err(refusal) => words_of(alloc, bytes, refusal)?,
-    };
-    let mut answer = answer_of(alloc, found)?;
+    let found = make(work.alloc, Job::Check, bytes);
+    let mut words = Vec::new(work.alloc);
+    match &found {
+        Ok(_) => push_yes(work, &mut words, bytes)?,
+        Err(refusal) => push_words_of(work, &mut words, bytes, refusal)?,
+    }
+    let mut answer = answer_of(work.alloc, found)?;
     answer.output.extend_from_slice(words.as_slice())?;
     Ok(answer)
 }
 
-// The same of a bundle with a change or a history.
-fn why_more(alloc: Global, bytes: &[u8]) -> Result<Answer, Refusal> {
-    match studied(alloc, bytes) {
+// Adds why a bundle with a change or a history is accepted or refused, and tells which.
+fn push_more<W: Watch>(
+    work: &Work<W>,
+    out: &mut Vec<u8>,
+    bytes: &[u8],
+) -> Result<Option<Refusal>, Refusal> {
+    match studied(work, bytes) {
         Ok(found) => {
-            let words = accepted(alloc, &found)?;
-            let yes = Vec::from_slice(alloc, b"yes\n")?;
-            with_words(alloc, Ok(yes), words.as_slice())
+            push_accepted(out, &found)?;
+            Ok(None)
         }
-        Err(Refusal::OutOfMemory) => Err(Refusal::OutOfMemory),
         Err(refusal) => {
-            let words = words_of(alloc, bytes, &refusal)?;
-            with_words(alloc, Err(refusal), words.as_slice())
+            unless_memory(refusal)?;
+            push_words_of(work, out, bytes, &refusal)?;
+            Ok(Some(refusal))
         }
     }
 }
 
+// The same with the line in front.
+fn why_more<W: Watch>(work: &Work<W>, bytes: &[u8]) -> Result<Answer, Refusal> {
+    let mut words = Vec::new(work.alloc);
+    let found = match push_more(work, &mut words, bytes)? {
+        Some(refusal) => Err(refusal),
+        None => Ok(Vec::from_slice(work.alloc, b"yes\n")?),
+    };
+    let mut answer = answer_of(work.alloc, found)?;
+    answer.output.extend_from_slice(words.as_slice())?;
+    Ok(answer)
+}
+
 /// What the checker says of a bundle, and why: its line, and then words with the lines concerned and a mend, where there is one. Of a bundle with a change the
 /// planner's refusal or the yes to its plan, of one with a history also whether that is a run. The status is that of the line.
-pub fn why_bundle(alloc: Global, bytes: &[u8]) -> Result<Answer, Refusal> {
+pub fn why_bundle<W: Watch>(work: &Work<W>, bytes: &[u8]) -> Result<Answer, Refusal> {
     match kind_of(bytes) {
-        Kind::Plan => why_plan(alloc, bytes),
-        Kind::Change | Kind::History => why_more(alloc, bytes),
+        Kind::Plan => why_plan(work, bytes),
+        Kind::Change | Kind::History => why_more(work, bytes),
     }
 }

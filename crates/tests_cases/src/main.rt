@@ -13,7 +13,6 @@ use crate::histories::{is_replayed, others};
 use ringplan_run::{check_bundle, plan_bundle, play_bundle, replay_bundle, run};
 use std::alloc::Global;
 use std::fs::File;
-use std::io::Write;
 use std::rt::Runtime;
 use std::sync::Wait;
 use std::thread::Threads;
@@ -57,23 +56,6 @@ struct Answer {
     status: u8,
 }
 
-// Keeps what is written.
-#[derive(Drop)]
-struct Kept {
-    bytes: Vec<u8>,
-}
-
-impl Write for Kept {
-    fn write(&mut self, part: &[u8]) -> io::Result<usize> {
-        self.bytes.extend_from_slice(part)?;
-        Ok(part.len())
-    }
-
-    fn flush(&mut self) -> io::Result<()> {
-        Ok(())
-    }
-}
-
 // What the program says of the bundle to these words.
 fn said<RT: Runtime + AllocGlobal + Threads + Wait + Sync>(
     rt: &RT,
@@ -81,14 +63,9 @@ fn said<RT: Runtime + AllocGlobal + Threads + Wait + Sync>(
     path: &str,
 ) -> io::Result<Answer> {
     let mut bundle = File::open(rt, path)?;
-    let mut kept = Kept {
-        bytes: Vec::new(rt.alloc()),
-    };
-    let status = run(rt, words, &mut bundle, &mut kept);
-    Ok(Answer {
-        bytes: kept.bytes,
-        status,
-    })
+    let mut bytes = Vec::new(rt.alloc());
+    let status = run(rt, words, &mut bundle, &mut bytes);
+    Ok(Answer { bytes, status })
 }
 
 // What the program says of the bundle.

@@ -7,11 +7,9 @@ mod forms;
 mod lines;
 mod near;
 mod page;
-mod parts;
 mod said;
 mod telling;
 
-pub use page::{Page, Span, field, place_of, span_of};
-pub use parts::{beside, digits, fault, joined};
-pub use said::{Change, Mark, Mend, Said};
+pub use page::{Page, Place, Span, field, place_of, span_of};
+pub use said::{Said, push_words};
 pub use telling::tell_text;

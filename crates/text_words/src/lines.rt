@@ -2,9 +2,8 @@
 
 use crate::forms::{Part, called, first_line, form_of, forms, part_of};
 use crate::near::Nearest;
-use crate::page::{Page, Span, count_fields, field, number, place_of, span_of};
-use crate::parts::{beside, by_line, digits, fault, joined};
-use crate::said::{Mark, Said};
+use crate::page::{Page, count_fields, field, number, place_of};
+use crate::said::Said;
 use ring_names::Refusal;
 use std::alloc::Global;
 use texts::is_name;
@@ -12,7 +11,6 @@ use texts::is_name;
 // A line at fault, and where it stands.
 #[derive(Clone, Copy)]
 struct Line<'a> {
-    alloc: Global,
     page: Page<'a>,
     number: u32,
     text: &'a [u8],
@@ -21,140 +19,170 @@ struct Line<'a> {
 }
 
 /// Why the line is no line of its part.
-pub fn bad_line(alloc: Global, page: Page, number: u32) -> Result<Said, Refusal> {
+pub fn bad_line(alloc: Global, said: &mut Said, page: Page, number: u32) -> Result<(), Refusal> {
     let (part, start) = part_of(page, number);
-    match page.line(number) {
-        Some(text) => {
-            let line = Line {
-                alloc,
-                page,
-                number,
-                text,
-                part,
-                start,
-            };
-            line.told()
-        }
-        None => missing(alloc, page, number, part, start),
+    let text = page.text(number);
+    let line = Line {
+        page,
+        number,
+        text,
+        part,
+        start,
+    };
+    if page.line(number).is_none() {
+        return line.missing(said);
+    }
+    if part == Part::Behind {
+        return line.behind(said);
+    }
+    said.title(b"line # is no line of a @", &[called(part)], &[number])?;
+    if line.spacing(said)? {
+        return Ok(());
+    }
+    if number == start {
+        return line.first(said);
+    }
+    match form_of(part, field(text, 0)) {
+        None => line.unknown(alloc, said),
+        Some(form) => line.fields(said, form),
     }
 }
 
-// The text is over before the line.
-fn missing(
-    alloc: Global,
-    page: Page,
-    number: u32,
-    part: Part,
-    start: u32,
-) -> Result<Said, Refusal> {
-    let is_whole_part = start == number;
-    let title = match part {
-        Part::Cert if is_whole_part => joined(alloc, &[b"the bundle has no certificate"])?,
-        Part::Plan if is_whole_part => joined(alloc, &[b"the bundle has no plan and no change"])?,
-        _ => joined(
-            alloc,
-            &[b"the bundle stops before its ", called(part), b" does"],
-        )?,
-    };
-    let mut said = Said::new(alloc, title.as_slice())?;
-    if number > 1 {
-        said.mark(beside(number - 1, joined(alloc, &[b"the last line"])?))?;
+// Whether the line has more than one space between fields, or one at an end.
+fn is_spaced(text: &[u8]) -> bool {
+    for place in 0..count_fields(text) {
+        if field(text, place).is_empty() {
+            return true;
+        }
     }
-    if part == Part::Cert && is_whole_part {
-        said.note(b"A certificate without facts and chains is the lines `cert 1` and `end`.")?;
-        return Ok(said);
+    false
+}
+
+// What is wrong with a number where one is wanted.
+fn number_fault(word: &[u8]) -> Option<&'static [u8]> {
+    if word.is_empty() || !word.iter().all(|byte| byte.is_ascii_digit()) {
+        return Some(b"no number");
     }
-    let line = digits(alloc, number)?;
-    let first = digits(alloc, start)?;
-    let words = joined(
-        alloc,
-        &[
-            b"Line ",
-            line.as_slice(),
-            b" should be there: the part that begins in line ",
-            first.as_slice(),
-            b" has no `end` yet.",
-        ],
-    )?;
-    said.note(words.as_slice())?;
-    Ok(said)
+    if word.len() > 1 && word.first() == Some(&b'0') {
+        return Some(b"a number has no zero in front");
+    }
+    None
+}
+
+// What is wrong with a field where the form has that.
+fn field_fault(word: &[u8], wanted: &[u8]) -> Option<&'static [u8]> {
+    let is_name_wanted = wanted == b"<node>".as_slice() || wanted == b"<name>".as_slice();
+    if is_name_wanted {
+        if !is_name(word) {
+            return Some(b"no name: 1 to 32 of a-z 0-9 _ . : -");
+        }
+        return None;
+    }
+    if wanted == b"owner".as_slice() {
+        if word != b"owner".as_slice() && word != b"slots".as_slice() {
+            return Some(b"`owner`, or `slots` and slots of the partition");
+        }
+        return None;
+    }
+    if wanted.first() == Some(&b'<') && wanted != b"<owner>".as_slice() {
+        return number_fault(word);
+    }
+    None
+}
+
+// The first field in which the line departs from the form, and what is wrong with it.
+fn wrong_field(text: &[u8], form: &[u8]) -> Option<(usize, &'static [u8])> {
+    let most = count_fields(form).min(count_fields(text));
+    for place in 1..most {
+        if let Some(fault) = field_fault(field(text, place), field(form, place)) {
+            return Some((place, fault));
+        }
+    }
+    None
+}
+
+// What is wrong with the steps behind `after` in the field of that place.
+fn after_fault(text: &[u8], after: usize) -> Option<(usize, &'static [u8])> {
+    let mut last: Option<u32> = None;
+    for at in after.saturating_add(1)..count_fields(text) {
+        let Some(step) = number(field(text, at)) else {
+            return Some((at, b"no number of a step"));
+        };
+        if let Some(before) = last {
+            if step <= before {
+                return Some((at, b"the steps behind `after` rise, and each stands once"));
+            }
+        }
+        last = Some(step);
+    }
+    if last.is_none() {
+        return Some((after, b"no step stands behind it"));
+    }
+    None
 }
 
 impl<'a> Line<'a> {
-    // `line 3 is no line of a ring`
-    fn begun(&self) -> Result<Said, Refusal> {
-        let number = digits(self.alloc, self.number)?;
-        let title = joined(
-            self.alloc,
-            &[
-                b"line ",
-                number.as_slice(),
-                b" is no line of a ",
-                called(self.part),
-            ],
-        )?;
-        Said::new(self.alloc, title.as_slice())
-    }
-
-    // The whole line is at fault for this.
-    fn whole(&self, note: &[u8]) -> Result<Said, Refusal> {
-        let mut said = self.begun()?;
-        said.mark(fault(self.number, joined(self.alloc, &[note])?))?;
-        Ok(said)
-    }
-
-    // The field of that place is.
-    fn part(&self, place: usize, note: &[u8]) -> Result<Said, Refusal> {
-        let mut said = self.begun()?;
-        let Span { from, to } = span_of(self.text, place).unwrap_or(Span { from: 0, to: 0 });
-        said.mark(Mark {
-            line: self.number,
-            is_fault: true,
-            from,
-            to,
-            note: joined(self.alloc, &[note])?,
-        })?;
-        Ok(said)
-    }
-
-    // The same with a line that may mend it.
-    fn with(&self, mut said: Said, says: &[u8], new: Vec<u8>) -> Result<Said, Refusal> {
-        said.mend = Some(by_line(self.alloc, says, self.number, new)?);
-        Ok(said)
-    }
-
-    fn told(&self) -> Result<Said, Refusal> {
-        if self.part == Part::Behind {
-            return self.behind();
+    // The text is over before the line.
+    fn missing(&self, said: &mut Said) -> Result<(), Refusal> {
+        let is_whole_part = self.start == self.number;
+        match self.part {
+            Part::Cert if is_whole_part => {
+                said.title(b"the bundle has no certificate", &[], &[])?;
+            }
+            Part::Plan if is_whole_part => {
+                said.title(b"the bundle has no plan and no change", &[], &[])?;
+            }
+            _ => {
+                let part = called(self.part);
+                said.title(b"the bundle stops before its @ does", &[part], &[])?;
+            }
         }
-        if let Some(said) = self.spacing()? {
-            return Ok(said);
+        if self.number > 1 {
+            said.beside(self.number - 1, b"the last line", &[], &[])?;
         }
-        if self.number == self.start {
-            return self.first();
+        if self.part == Part::Cert && is_whole_part {
+            return said.note(
+                b"A certificate without facts and chains is the lines `cert 1` and `end`.",
+                &[],
+                &[],
+            );
         }
-        match form_of(self.part, field(self.text, 0)) {
-            None => self.unknown(),
-            Some(form) => self.fields(form),
-        }
+        said.note(
+            b"Line # should be there: the part that begins in line # has no `end` yet.",
+            &[],
+            &[self.number, self.start],
+        )
     }
 
     // A line behind the certificate, or behind a change.
-    fn behind(&self) -> Result<Said, Refusal> {
-        let mut said = Said::new(
-            self.alloc,
+    fn behind(&self, said: &mut Said) -> Result<(), Refusal> {
+        said.title(
             b"there is more than a plan and its certificate, and it is no history",
+            &[],
+            &[],
         )?;
-        said.mark(fault(self.number, joined(self.alloc, &[b"no line of a history"])?))?;
+        said.fault(self.number, b"no line of a history", &[], &[])?;
         said.note(
             b"Behind a certificate may stand a history: `history 1`, a line for each event with its reply, `end`.",
-        )?;
-        Ok(said)
+            &[],
+            &[],
+        )
     }
 
-    // The fields of the line between single spaces.
-    fn respaced(&self) -> Result<Vec<u8>, Refusal> {
-        let mut out = Vec::new(self.alloc);
+    // The whole line is at fault for this.
+    fn whole(&self, said: &mut Said, words: &[u8]) -> Result<(), Refusal> {
+        said.fault(self.number, words, &[], &[])
+    }
+
+    // The field of that place is.
+    fn part(&self, said: &mut Said, place: usize, words: &[u8]) -> Result<(), Refusal> {
+        said.fault_at(self.page.at(self.number, place, place), words, &[], &[])
+    }
+
+    // A mend: the line with its fields between single spaces.
+    fn respace(&self, said: &mut Said, words: &[u8]) -> Result<(), Refusal> {
+        said.mend(words, &[], &[])?;
+        said.put(self.number)?;
         let mut is_begun = false;
         let mut is_apart = false;
         for byte in self.text {
@@ -162,281 +190,191 @@ impl<'a> Line<'a> {
                 is_apart = is_begun;
             } else {
                 if is_apart {
-                    out.push(b' ')?;
+                    said.add(b" ", &[], &[])?;
                 }
-                out.push(*byte)?;
+                said.add(b"@", &[&[*byte]], &[])?;
                 is_begun = true;
                 is_apart = false;
             }
         }
-        Ok(out)
+        said.add(b"\n", &[], &[])
     }
 
-    // What is wrong with how the line is written, whatever it says.
-    fn spacing(&self) -> Result<Option<Said>, Refusal> {
+    // What is wrong with how the line is written, whatever it says; whether something is.
+    fn spacing(&self, said: &mut Said) -> Result<bool, Refusal> {
         if self.text.is_empty() {
-            let mut said = self.whole(b"an empty line")?;
-            said.note(b"Take it out: texts have no empty lines and no comments.")?;
-            return Ok(Some(said));
+            self.whole(said, b"an empty line")?;
+            said.note(
+                b"Take it out: texts have no empty lines and no comments.",
+                &[],
+                &[],
+            )?;
+        } else if self.text.contains(&b'\r') {
+            self.whole(said, b"it has a carriage return, as texts of Windows do")?;
+            self.respace(said, b"without it")?;
+        } else if self.text.contains(&b'\t') {
+            self.whole(said, b"it has a tab")?;
+            self.respace(said, b"one space in its place")?;
+        } else if self.text.first() == Some(&b'#') || self.text.first() == Some(&b'/') {
+            self.whole(said, b"a comment")?;
+            said.note(b"Take it out: texts have no comments.", &[], &[])?;
+        } else if is_spaced(self.text) {
+            self.whole(said, b"more than one space, or one at an end")?;
+            self.respace(said, b"one space between fields")?;
+        } else {
+            return Ok(false);
         }
-        if self.text.contains(&b'\r') {
-            let said = self.whole(b"it has a carriage return, as texts of Windows do")?;
-            let said = self.with(said, b"without it", self.respaced()?)?;
-            return Ok(Some(said));
-        }
-        if self.text.contains(&b'\t') {
-            let said = self.whole(b"it has a tab")?;
-            let said = self.with(said, b"one space in its place", self.respaced()?)?;
-            return Ok(Some(said));
-        }
-        if self.text.first() == Some(&b'#') || self.text.first() == Some(&b'/') {
-            let mut said = self.whole(b"a comment")?;
-            said.note(b"Take it out: texts have no comments.")?;
-            return Ok(Some(said));
-        }
-        let respaced = self.respaced()?;
-        if respaced.as_slice() != self.text {
-            let said = self.whole(b"more than one space, or one at an end")?;
-            let said = self.with(said, b"one space between fields", respaced)?;
-            return Ok(Some(said));
-        }
-        Ok(None)
+        Ok(true)
     }
 
     // The first line of a part.
-    fn first(&self) -> Result<Said, Refusal> {
-        let wanted = first_line(self.page, self.part);
-        let note = joined(
-            self.alloc,
-            &[b"the ", called(self.part), b" begins with `", wanted, b"`"],
-        )?;
-        let said = self.whole(note.as_slice())?;
-        let says = joined(self.alloc, &[b"with `", wanted, b"` here"])?;
-        self.with(said, says.as_slice(), joined(self.alloc, &[wanted])?)
+    fn first(&self, said: &mut Said) -> Result<(), Refusal> {
+        let (part, wanted) = (called(self.part), first_line(self.page, self.part));
+        said.fault(self.number, b"the @ begins with `@`", &[part, wanted], &[])?;
+        said.mend(b"with `@` here", &[wanted], &[])?;
+        said.put(self.number)?;
+        said.add(b"@\n", &[wanted], &[])
     }
 
     // A line whose first word no line of its part has.
-    fn unknown(&self) -> Result<Said, Refusal> {
+    fn unknown(&self, alloc: Global, said: &mut Said) -> Result<(), Refusal> {
         let word = field(self.text, 0);
-        let note = joined(self.alloc, &[b"no word of a ", called(self.part)])?;
-        let mut said = self.part(0, note.as_slice())?;
+        let at = self.page.at(self.number, 0, 0);
+        said.fault_at(at, b"no word of a @", &[called(self.part)], &[])?;
         let mut nearest = Nearest::new(word);
         for form in forms(self.part) {
-            nearest.look(self.alloc, word, field(form, 0))?;
+            nearest.look(alloc, word, field(form, 0))?;
         }
-        if !nearest.word.is_empty() {
-            let says = joined(self.alloc, &[b"`", nearest.word, b"` was meant?"])?;
-            let mut new = Vec::from_slice(self.alloc, nearest.word)?;
-            if word.len() <= self.text.len() {
-                new.extend_from_slice(&self.text[word.len()..])?;
-            }
-            return self.with(said, says.as_slice(), new);
+        if nearest.word.is_empty() {
+            return self.allowed(said);
         }
-        let mut words = joined(self.alloc, &[b"Here may stand: "])?;
-        let mut is_first = true;
+        said.mend(b"`@` was meant?", &[nearest.word], &[])?;
+        said.put(self.number)?;
+        said.add(b"@", &[nearest.word], &[])?;
+        said.add(b"@\n", &[self.page.around(self.number, 0).1], &[])
+    }
+
+    // What lines its part may have.
+    fn allowed(&self, said: &mut Said) -> Result<(), Refusal> {
+        let mut words: &[u8] = b"  Here may stand: `@`";
         for form in forms(self.part) {
-            words.extend_from_slice(if is_first { b"`" } else { b", `" })?;
-            words.extend_from_slice(form)?;
-            words.push(b'`')?;
-            is_first = false;
+            said.add_note(words, &[form], &[])?;
+            words = b", `@`";
         }
-        said.note(words.as_slice())?;
-        Ok(said)
+        said.add_note(b"\n", &[], &[])
     }
 
     // A line of a known word whose fields are wrong.
-    fn fields(&self, form: &'static [u8]) -> Result<Said, Refusal> {
-        if let Some(said) = self.of_ring()? {
-            return Ok(said);
+    fn fields(&self, said: &mut Said, form: &[u8]) -> Result<(), Refusal> {
+        if self.part == Part::Ring && self.of_ring(said)? {
+            return Ok(());
         }
-        if let Some(said) = self.after()? {
-            return Ok(said);
+        if self.part == Part::Plan && self.after(said)? {
+            return Ok(());
         }
-        let count = count_fields(self.text);
-        let mut found = None;
-        for place in 1..count_fields(form) {
-            if found.is_none() && place < count {
-                found = self.wrong_field(place, field(form, place))?;
-            }
+        match wrong_field(self.text, form) {
+            Some((place, fault)) => self.part(said, place, fault)?,
+            None => self.miscounted(said, form)?,
         }
-        let mut said = match found {
-            Some(said) => said,
-            None => self.miscounted(form)?,
-        };
-        let words = joined(self.alloc, &[b"It is written `", form, b"`."])?;
-        said.note(words.as_slice())?;
-        Ok(said)
-    }
-
-    // What is wrong with a field where the form has that.
-    fn wrong_field(&self, place: usize, wanted: &[u8]) -> Result<Option<Said>, Refusal> {
-        let word = field(self.text, place);
-        let is_number = wanted == b"<partition>".as_slice()
-            || wanted == b"<slot>".as_slice()
-            || wanted == b"<step>".as_slice()
-            || wanted == b"<allowance>".as_slice()
-            || wanted == b"<partitions>".as_slice()
-            || wanted == b"<slots>".as_slice()
-            || wanted == b"<read>".as_slice()
-            || wanted == b"<write>".as_slice();
-        if is_number {
-            return self.wrong_number(place, word);
-        }
-        if wanted == b"<node>".as_slice() || wanted == b"<name>".as_slice() {
-            if !is_name(word) {
-                return Ok(Some(self.part(place, b"no name: 1 to 32 of a-z 0-9 _ . : -")?));
-            }
-        }
-        if wanted == b"owner".as_slice()
-            && word != b"owner".as_slice()
-            && word != b"slots".as_slice()
-        {
-            return Ok(Some(self.part(place, b"`owner`, or `slots` and slots of the partition")?));
-        }
-        Ok(None)
-    }
-
-    fn wrong_number(&self, place: usize, word: &[u8]) -> Result<Option<Said>, Refusal> {
-        if !word.is_empty() && word.iter().all(|byte| byte.is_ascii_digit()) {
-            if word.len() > 1 && word.first() == Some(&b'0') {
-                return Ok(Some(self.part(place, b"a number has no zero in front")?));
-            }
-            return Ok(None);
-        }
-        Ok(Some(self.part(place, b"no number")?))
+        said.note(b"It is written `@`.", &[form], &[])
     }
 
     // More or fewer fields than the form has.
-    fn miscounted(&self, form: &[u8]) -> Result<Said, Refusal> {
+    fn miscounted(&self, said: &mut Said, form: &[u8]) -> Result<(), Refusal> {
         let (count, wanted) = (count_fields(self.text), count_fields(form));
         if count < wanted {
-            return self.whole(b"it has too few fields");
+            return self.whole(said, b"it has too few fields");
         }
         if count > wanted && place_of(form, b"..").is_none() {
-            return self.part(wanted, b"more than the line has");
+            return self.part(said, wanted, b"more than the line has");
         }
-        self.whole(b"it does not end so")
+        self.whole(said, b"it does not end so")
     }
 
-    // What is wrong with the steps behind `after`.
-    fn after(&self) -> Result<Option<Said>, Refusal> {
-        if self.part != Part::Plan {
-            return Ok(None);
-        }
-        let Some(place) = place_of(self.text, b"after") else {
-            return Ok(None);
+    // What is wrong with the steps behind `after`; whether something is.
+    fn after(&self, said: &mut Said) -> Result<bool, Refusal> {
+        let Some(after) = place_of(self.text, b"after") else {
+            return Ok(false);
         };
-        if place.saturating_add(1) >= count_fields(self.text) {
-            return Ok(Some(self.part(place, b"no step stands behind it")?));
-        }
-        let mut last: Option<u32> = None;
-        for at in place.saturating_add(1)..count_fields(self.text) {
-            let Some(step) = number(field(self.text, at)) else {
-                return Ok(Some(self.part(at, b"no number of a step")?));
-            };
-            if let Some(before) = last {
-                if step <= before {
-                    return Ok(Some(self.part(
-                        at,
-                        b"the steps behind `after` rise, and each stands once",
-                    )?));
-                }
-            }
-            last = Some(step);
-        }
-        Ok(None)
+        let Some((place, fault)) = after_fault(self.text, after) else {
+            return Ok(false);
+        };
+        self.part(said, place, fault)?;
+        Ok(true)
     }
 
-    // What is wrong with a line of a ring beyond its fields.
-    fn of_ring(&self) -> Result<Option<Said>, Refusal> {
-        if self.part != Part::Ring {
-            return Ok(None);
-        }
+    // What is wrong with a line of a ring beyond its fields; whether something is.
+    fn of_ring(&self, said: &mut Said) -> Result<bool, Refusal> {
         let word = field(self.text, 0);
-        if word == b"space".as_slice()
-            && number(field(self.text, 1)).is_some()
-            && count_fields(self.text) == 2
-        {
-            let mut said = self.part(1, b"no power of two")?;
-            said.note(b"A ring has 1, 2, 4, .. or 4096 partitions.")?;
-            return Ok(Some(said));
+        let count = count_fields(self.text);
+        if word == b"space".as_slice() && number(field(self.text, 1)).is_some() && count == 2 {
+            self.part(said, 1, b"no power of two")?;
+            said.note(b"A ring has 1, 2, 4, .. or 4096 partitions.", &[], &[])?;
+            return Ok(true);
         }
-        if word == b"quorum".as_slice()
-            && count_fields(self.text) == 5
-            && self.page.line(1) != Some(b"ring 3".as_slice())
-        {
-            let mut said = self.part(
+        let is_format_3 = self.page.line(1) == Some(b"ring 3".as_slice());
+        if word == b"quorum".as_slice() && count == 5 && !is_format_3 {
+            self.part(
+                said,
                 4,
                 b"how many stores may be lost: a ring of format 3 says it",
             )?;
             said.note(
                 b"Write `ring 3` in line 1 and `cert 2` in the certificate, or take the number out.",
+                &[],
+                &[],
             )?;
-            return Ok(Some(said));
+            return Ok(true);
         }
         if word == b"slots".as_slice() {
-            return self.of_slots();
+            return self.of_slots(said);
         }
         if word == b"end".as_slice() || word == b"node".as_slice() {
-            return self.of_order();
+            return self.of_order(said);
         }
-        Ok(None)
+        Ok(false)
     }
 
     // How many lines `slots` stand in front of the line.
     fn partitions(&self) -> u32 {
         let mut count = 0u32;
-        for line in self.start..self.number {
-            if count > 0 || line > self.start.saturating_add(3) {
-                if field(self.page.line(line).unwrap_or(b"".as_slice()), 0) == b"slots".as_slice() {
-                    count = count.saturating_add(1);
-                }
+        for line in self.start.saturating_add(4)..self.number {
+            if field(self.page.text(line), 0) == b"slots".as_slice() {
+                count = count.saturating_add(1);
             }
         }
         count
     }
 
-    fn of_slots(&self) -> Result<Option<Said>, Refusal> {
-        let next = digits(self.alloc, self.partitions())?;
-        if field(self.text, 1) != next.as_slice() {
-            let note = joined(
-                self.alloc,
-                &[b"the next one is partition ", next.as_slice()],
-            )?;
-            return Ok(Some(self.part(1, note.as_slice())?));
+    fn of_slots(&self, said: &mut Said) -> Result<bool, Refusal> {
+        let next = self.partitions();
+        if number(field(self.text, 1)) != Some(next) {
+            let at = self.page.at(self.number, 1, 1);
+            said.fault_at(at, b"the next one is partition #", &[], &[next])?;
+            return Ok(true);
         }
-        let wanted = number(field(self.page.line(3).unwrap_or(b"".as_slice()), 1)).unwrap_or(0);
-        let count = count_fields(self.text).saturating_sub(2);
-        if count != wanted as usize {
-            let slots = digits(self.alloc, wanted)?;
-            let note = joined(
-                self.alloc,
-                &[
-                    b"each partition has ",
-                    slots.as_slice(),
-                    b" slots, and so many owners",
-                ],
-            )?;
-            return Ok(Some(self.whole(note.as_slice())?));
+        let wanted = number(field(self.page.text(3), 1)).unwrap_or(0);
+        if count_fields(self.text).saturating_sub(2) == wanted as usize {
+            return Ok(false);
         }
-        Ok(None)
+        said.fault(
+            self.number,
+            b"each partition has # slots, and so many owners",
+            &[],
+            &[wanted],
+        )?;
+        Ok(true)
     }
 
-    // A line `end` or `node` where one of `slots` must stand.
-    fn of_order(&self) -> Result<Option<Said>, Refusal> {
+    // A line `end` or `node` where one of `slots` must stand; whether that is so.
+    fn of_order(&self, said: &mut Said) -> Result<bool, Refusal> {
         let seen = self.partitions();
-        let wanted = number(field(self.page.line(2).unwrap_or(b"".as_slice()), 1)).unwrap_or(0);
-        if seen < wanted && (seen > 0 || field(self.text, 0) == b"end".as_slice()) {
-            let next = digits(self.alloc, seen)?;
-            let note = joined(
-                self.alloc,
-                &[b"`slots ", next.as_slice(), b"` must come here"],
-            )?;
-            let mut said = self.whole(note.as_slice())?;
-            let all = digits(self.alloc, wanted)?;
-            said.mark(beside(2, joined(self.alloc, &[all.as_slice(), b" partitions"])?))?;
-            return Ok(Some(said));
+        let wanted = number(field(self.page.text(2), 1)).unwrap_or(0);
+        if seen >= wanted || (seen == 0 && field(self.text, 0) != b"end".as_slice()) {
+            return Ok(false);
         }
-        Ok(None)
+        said.fault(self.number, b"`slots #` must come here", &[], &[seen])?;
+        said.beside(2, b"# partitions", &[], &[wanted])?;
+        Ok(true)
     }
 }

@@ -48,6 +48,35 @@ impl<'a> Page<'a> {
         Some(cut(rest).0)
     }
 
+    /// The line of that number, or nothing.
+    pub fn text(&self, number: u32) -> &'a [u8] {
+        self.line(number).unwrap_or(b"".as_slice())
+    }
+
+    /// Where the fields from one place up to another stand in the line; all of it where it has no such.
+    pub fn at(&self, line: u32, first: usize, last: usize) -> Place {
+        let text = self.text(line);
+        match (span_of(text, first), span_of(text, last)) {
+            (Some(first), Some(last)) => Place {
+                line,
+                from: first.from,
+                to: last.to,
+            },
+            _ => Place::whole(line),
+        }
+    }
+
+    /// What stands in the line in front of the field of that place, and what stands behind it; all in front where it has no such field.
+    pub fn around(&self, line: u32, place: usize) -> (&'a [u8], &'a [u8]) {
+        let text = self.text(line);
+        match span_of(text, place) {
+            Some(Span { from, to }) if from <= to && to <= text.len() => {
+                (&text[..from], &text[to..])
+            }
+            _ => (text, b""),
+        }
+    }
+
     /// The part in which the line stands.
     pub fn section(&self, number: u32) -> Section {
         let mut found = Section {
@@ -128,6 +157,25 @@ pub fn span_of(line: &[u8], place: usize) -> Option<Span> {
         });
     }
     None
+}
+
+/// A part of a line of a page: all of it where the first byte is not in front of the last.
+#[derive(Clone, Copy, Debug)]
+pub struct Place {
+    pub line: u32,
+    pub from: usize,
+    pub to: usize,
+}
+
+impl Place {
+    /// The whole line.
+    pub fn whole(line: u32) -> Place {
+        Place {
+            line,
+            from: 0,
+            to: 0,
+        }
+    }
 }
 
 /// The field of that place, or nothing.

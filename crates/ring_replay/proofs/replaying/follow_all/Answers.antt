@@ -12,14 +12,14 @@ use Rattle.ring_replay.proofs.Followed.{follows_one, fault_followed}
 use Rattle.ring_replay.proofs.replaying.follow_all.Goals as goal
 
 pub follow-requires : goal.follow-requires
-follow-requires c =
+follow-requires g c =
     let p = c.loop-place.invariant.puts in
     let g = c.loop-place.invariant.gets in
     let n = length-take c.loop-place.place c.args.history.now in
     has_number c.loop-place.world.parts c.index-history-place.result.event (omega arith) (omega arith)
 
 pub loop-place-preserved : goal.loop-place-preserved
-loop-place-preserved c =
+loop-place-preserved g c =
     let xs = c.args.history.now in
     let x = c.index-history-place.result in
     let front = take c.loop-place.place xs in
@@ -30,7 +30,7 @@ loop-place-preserved c =
     (subst (λ (r : Reply). Answers c.loop-place.world x.event r c.follow.new.world) told.0 told.1))
 
 pub returns-in_err-follow-clause-err : goal.returns-in_err-follow-clause-err
-returns-in_err-follow-clause-err c =
+returns-in_err-follow-clause-err g c =
     let start = c.args.world.now in
     let xs = c.args.history.now in
     let x = c.index-history-place.result in

@@ -3,4 +3,4 @@ use Rattle.ring_replay.specs.Replays.{Follows}
 use Rattle.ring_replay.proofs.replaying.follow_all.Given as goal
 
 abbrev pub invariant-loop-place : goal.invariant-loop-place
-invariant-loop-place l = Follows l.fn.world (take l.place l.history) l.world
+invariant-loop-place g l = Follows l.fn.world (take l.place l.history) l.world
