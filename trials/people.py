@@ -237,10 +237,11 @@ def terminals(puts):
     """How many lines a terminal is shown by a replay of so many puts."""
     with open(f"{top}/examples/move_one_slot.bundle") as it:
         texts = it.read()
-    events = [f"{word}" for k in range(puts) for word in (f"put w{k % 2} k{k % 8} x31", f"write {k} 0", f"write {k} 1", f"ack {k}")]
+    events = [word for k in range(puts) for word in (f"put w{k % 64} k x31", f"write {k} 0", f"write {k} 1", f"ack {k}")]
     script = "\n".join(["script 1", *events, "end"]) + "\n"
     replies = ask(PLAN, "play", texts + script)[0].split("\n")
-    history = texts + "\n".join(["history 1", *(f"{event} = {reply}" for event, reply in zip(events, replies[1:])), "end"]) + "\n"
+    said = (reply.split(" ", 1)[1] for reply in replies[1 : len(events) + 1])
+    history = texts + "\n".join(["history 1", *(f"{event} = {reply}" for event, reply in zip(events, said)), "end"]) + "\n"
     plain, errors, status = told(SIDE, "show", history, False)
     if status or errors:
         faults.append(f"a long replay: status {status}, and {errors[:60]!r} where there is no terminal")
