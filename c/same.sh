@@ -29,14 +29,14 @@ quietly() {
     }
 }
 
-[ -d "$top/crates/ringplan_run/out/rlib/ringplan_run.rlib" ] || (cd "$top/crates/ringplan_run" && quietly rt lib)
+[ -d "$top/crates/ringplan_jobs/out/rlib/ringplan_jobs.rlib" ] || (cd "$top/crates/ringplan_jobs" && quietly rt lib)
 [ -x "$program" ] || (cd "$top/crates/ringplan" && quietly rt run -- help)
 
 # The proof, and what each compiler makes of it.
 kit=$(dirname "$(dirname "$(readlink -f "$(command -v rt)")")")
 words=(--crate-name ringplan_c --crate-type staticlib --links ringplan_c= --antt-project "$kit/rattle/logic/antt-project.json")
 words+=(--extern "std=$kit/rlibs/std.rlib" -L "dependency=$kit/rlibs")
-for name in ringplan_run ring_names; do
+for name in ringplan_jobs ring_names; do
     words+=(--extern "$name=$top/crates/$name/out/rlib/$name.rlib")
 done
 for folder in "$top"/crates/*/out/rlib; do

@@ -22,7 +22,9 @@ use Rattle.change_text.specs.Valid.{may_join, may_leave, IsChange}
 use Rattle.change_text.specs.Spelling.{node_fields, change_lines, change_text}
 use Rattle.change_text.specs.Reading.{join_at, leave_at, joins_at, leaves_at, change_of, change_at, change_reading}
 use Rattle.change_text.proofs.Different.{numbers, different-next, new-there}
-use Rattle.change_text.proofs.ChangeLines.{names-of, is-node, has-name, IsJoin, join-line, IsLeave, leave-line}
+use Rattle.change_text.proofs.ChangeLines.{is-node, has-name, IsJoin, join-line, IsLeave, leave-line}
+use Rattle.texts.proofs.Texts.{appended}
+use Rattle.ring_table.proofs.NodesLaws.{names-of}
 
 -- ---- nodes that lines may name, each behind those in front of it
 
@@ -85,10 +87,6 @@ leaves-next ring joins seen (x ∷ xs) out may e =
 words-plain : IsPlain (codes "change") × IsPlain (codes "1") × IsPlain (codes "join") × IsPlain (codes "leave") × IsPlain (codes "end")
 words-plain = (search rules)
 
-both-all : (xs ys : List (List (List ℕ))) → AllByRecursion IsPlainLine xs → AllByRecursion IsPlainLine ys → AllByRecursion IsPlainLine (xs ++ ys)
-both-all [] ys a b = b
-both-all (x ∷ xs) ys a b = (a.0, both-all xs ys a.1 b)
-
 module _ (ring : RingValue) (valid : IsRing ring) where
   good : AreNames (names_of ring)
   good = names-of ring valid
@@ -106,8 +104,8 @@ module _ (ring : RingValue) (valid : IsRing ring) where
   lines-plain : (v : Change) → AllByRecursion IsPlainLine (change_lines ring v)
   lines-plain v = (
     (words-plain.0, (words-plain.1, tt)),
-    both-all (join_lines v.joins) (leave_lines v.leaves ++ end_fields ∷ []) (nodes-plain (codes "join") v.joins words-plain.2)
-        (both-all (leave_lines v.leaves) (end_fields ∷ []) (nodes-plain (codes "leave") v.leaves words-plain.3) ((words-plain.4, tt), tt)),
+    appended IsPlainLine (join_lines v.joins) (leave_lines v.leaves ++ end_fields ∷ []) (nodes-plain (codes "join") v.joins words-plain.2)
+        (appended IsPlainLine (leave_lines v.leaves) (end_fields ∷ []) (nodes-plain (codes "leave") v.leaves words-plain.3) ((words-plain.4, tt), tt)),
   )
 
   abbrev Parts : Change → Type 0

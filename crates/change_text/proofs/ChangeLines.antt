@@ -17,17 +17,11 @@ use Rattle.ring_table.specs.Value.{RingValue, names_of, is_member}
 use Rattle.ring_table.specs.Valid.{IsRing}
 use Rattle.ring_table.specs.Spelling.{name_at}
 use Rattle.ring_table.specs.Reading.{declared_at}
-use Rattle.ring_table.proofs.NodesLaws.{names-of_nodes}
 use Rattle.ring_table.proofs.RowLaws.{AreNames, IsItem-declared}
 use Rattle.change_text.specs.Spelling.{node_fields}
 use Rattle.change_text.specs.Reading.{joining_at, leaving_at, join_at, leave_at}
 use Rattle.change_text.proofs.Different.{numbers}
-
-pub names-of : (ring : RingValue) → IsRing ring → AreNames (names_of ring)
-names-of ring r = names-of_nodes ring.format ring.nodes (record { some_node = r.some_node; nodes = r.nodes; each_node = r.each_node; names = r.names })
-
-nodes-length : (nodes : List Node) → length (map (λ (x : Node). x.name) nodes) ≡ length nodes
-nodes-length nodes = simp length-map
+use Rattle.ring_table.proofs.NodesLaws.{names-of, nodes-length, item-node}
 
 -- a node with a name is one of the ring's, and so is its number small
 pub is-node : (ring : RingValue) (x : NodeId) → x.0 < length (names_of ring) → x.0 < length ring.nodes
@@ -48,10 +42,6 @@ pub record IsLeave (ring : RingValue) (joins seen : List NodeId) (x : NodeId) : 
   pub member : is_member ring.nodes x ≡ true
   pub stays : has x.0 (numbers joins) ≡ false
   pub new : has x.0 (numbers seen) ≡ false
-
-item-node : (ring : RingValue) (k : ℕ) → AreNames (names_of ring) → IsItem (declared_at ring k) (λ x. name_at (names_of ring) x ∷ []) (λ x. x.0 < length (names_of ring))
-unfolding declared_at
-item-node ring k good = IsItem-declared k (names_of ring) good
 
 item-joining : (ring : RingValue) (seen : List NodeId) (k : ℕ) → AreNames (names_of ring)
     → IsItem (joining_at ring seen k) (λ x. name_at (names_of ring) x ∷ []) (λ x. (x.0 < length (names_of ring)) × (((is_member ring.nodes x || has x.0 (numbers seen)) ≡ false) × Unit {0}))

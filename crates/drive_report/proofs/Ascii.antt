@@ -3,9 +3,9 @@ use Rattle.std.proofs.Common.{ℕ, zero, suc, ◌+◌, ◌/◌, ◌%◌, ◌<◌
 use Rattle.std.specs.Fmt.{decimal, digit_glyph, digits, digits_onto}
 use Rattle.std.proofs.lemmas.Str.{IsAscii-append, IsUtf8-from_ascii}
 use Rattle.std.proofs.lemmas.Str.Ascii.{IsAscii-nil, IsAscii-cons, IsAscii-from_all}
-use Rattle.plan_check.specs.declared.event.Reply.{Reply}
-use Rattle.plan_check.specs.declared.event.Reply.TheVariants.{Plain, Put, Ticket, Get, Found, Answer}
-use Rattle.plan_check.specs.Replies.{numbers_text, reply_text}
+use Rattle.plan_runs.specs.declared.event.Reply.{Reply}
+use Rattle.plan_runs.specs.declared.event.Reply.TheVariants.{Plain, Put, Ticket, Get, Found, Answer}
+use Rattle.plan_runs.specs.Replies.{numbers_text, reply_text}
 
 glyph-below : (t : Bool) (d : ℕ) → d < 10 → cond t (48 + d) (87 + d) < 128
 glyph-below true d h = omega arith

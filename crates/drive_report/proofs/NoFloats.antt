@@ -3,7 +3,7 @@ use Rattle.std.proofs.Common.{◌≡◌, ℕ, false, List, [], ◌∷◌, map, r
 use Rattle.serde_json.specs.View.{items_of}
 use Rattle.serde_json.specs.Written.{has_float, items_have_float}
 use Rattle.ring_table.specs.Value.{RingValue, names_of}
-use Rattle.plan_check.specs.declared.event.Entry.{Entry}
+use Rattle.plan_runs.specs.declared.event.Entry.{Entry}
 use Rattle.drive_report.specs.Report.{entry_data, step_data, report_value}
 
 entries-plain : (nodes names : List (List ℕ)) (history : List Entry) → items_have_float (items_of (map (entry_data nodes names) history)) ≡ false

@@ -4,7 +4,7 @@ use Rattle.std.specs.List.{AllByRecursion}
 use Rattle.ring_names.specs.declared.refusal.Refusal.{Refusal}
 use Rattle.ring_names.specs.declared.refusal.Refusal.TheVariants.{OutOfMemory, Disagree}
 use Rattle.ring_table.specs.Value.{RingValue, names_of}
-use Rattle.plan_check.specs.declared.event.Entry.{Entry}
+use Rattle.plan_runs.specs.declared.event.Entry.{Entry}
 use Rattle.history_text.specs.Spelling.{event_words}
 
 -- memory ran out, or the words are not UTF-8

@@ -9,7 +9,7 @@ ghost use Rattle.drive_report.specs.Report.{entry_data, step_data};
 ghost use Rattle.drive_report.specs.Refused.{IsRefusedWord, IsRefused};
 
 use crate::words::{event_value, reply_value};
-use plan_check::Entry;
+use plan_runs::Entry;
 use ring_names::{Names, Refusal};
 use ring_table::Ring;
 use serde_json::{Value, json};

@@ -5,11 +5,11 @@ ghost use Rattle.serde_json.specs.Data.{string};
 ghost use Rattle.serde_json.specs.View.{view};
 ghost use Rattle.ring_names.specs.declared.refusal.Refusal.TheVariants.{OutOfMemory, Disagree};
 ghost use Rattle.ring_table.specs.Value.{names_of};
-ghost use Rattle.plan_check.specs.Replies.{reply_text};
+ghost use Rattle.plan_runs.specs.Replies.{reply_text};
 ghost use Rattle.history_text.specs.Spelling.{event_words};
 ghost use Rattle.drive_report.specs.Refused.{IsRefusedWord};
 
-use plan_check::{Event, Reply};
+use plan_runs::{Event, Reply};
 use ring_names::{Names, Refusal};
 use ring_table::Ring;
 use script_text::push_event;

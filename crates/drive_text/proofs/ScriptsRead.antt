@@ -11,17 +11,13 @@ use Rattle.texts.specs.Late.{ReadsTo}
 use Rattle.texts.proofs.Items.{ok_is, bind_ok}
 use Rattle.texts.proofs.Lates.{Advances, advances-map, to-map, reads-less, next-after}
 use Rattle.ring_table.specs.Value.{RingValue}
-use Rattle.plan_check.specs.declared.event.Event.{Event}
+use Rattle.plan_runs.specs.declared.event.Event.{Event}
 use Rattle.script_text.specs.Client.{is_client_event}
 use Rattle.script_text.specs.declared.speaker.Speaker.TheVariants.{Client}
 use Rattle.script_text.specs.Reading.{client_at}
 use Rattle.script_text.proofs.ScriptLates.{section-on}
 use Rattle.script_text.proofs.ClientLaws.{section-client}
 use Rattle.drive_text.specs.Drives.{Scripts, next_at, scripts_from, scripts_at, AreOfClients}
-
--- two lines on is not in front of where it was
-pub two-on : (k : ℕ) → k ≤ lines_on 2 k
-two-on k = let a = next-after k in let b = next-after (lines_on 1 k) in omega arith
 
 -- a place in the first of two steps, or in the second
 module _ {A B : Type 0} (read : Left → Result (A × Left) Refusal) (again : A → Left → Result (B × Left) Refusal) where

@@ -11,7 +11,7 @@ use Rattle.plan_text.specs.Valid as plan
 use Rattle.plan_cert.specs.declared.cert.Cert.{Cert}
 use Rattle.plan_cert.specs.Reading.{cert_at}
 use Rattle.plan_cert.specs.Valid as cert
-use Rattle.plan_check.specs.declared.event.Event.{Event}
+use Rattle.plan_runs.specs.declared.event.Event.{Event}
 use Rattle.script_text.specs.Client.{is_client_event}
 use Rattle.script_text.specs.Reading.{client_at}
 use Rattle.drive_text.specs.declared.bundle.DriveBundle.{DriveBundle}

@@ -26,12 +26,12 @@ use Rattle.texts.proofs.Spaced.{join-more}
 use Rattle.ring_table.specs.Value.{RingValue, names_of}
 use Rattle.ring_table.specs.Spelling.{name_at}
 use Rattle.ring_table.proofs.RowLaws.{AreNames}
-use Rattle.plan_check.specs.Words.{is_key}
-use Rattle.plan_check.specs.declared.event.Entry.{Entry}
-use Rattle.plan_check.specs.declared.event.Event.{Event}
-use Rattle.plan_check.specs.declared.event.Event.TheVariants as event
-use Rattle.plan_check.specs.declared.event.Reply.{Reply}
-use Rattle.plan_check.specs.Replies.{reply_text}
+use Rattle.plan_runs.specs.Words.{is_key}
+use Rattle.plan_runs.specs.declared.event.Entry.{Entry}
+use Rattle.plan_runs.specs.declared.event.Event.{Event}
+use Rattle.plan_runs.specs.declared.event.Event.TheVariants as event
+use Rattle.plan_runs.specs.declared.event.Reply.{Reply}
+use Rattle.plan_runs.specs.Replies.{reply_text}
 use Rattle.script_text.specs.Known.{IsKnown}
 use Rattle.script_text.specs.Said.{event_of, names_after}
 use Rattle.script_text.specs.Spelling.{seen_fields, writer_at, event_fields}

@@ -4,8 +4,8 @@ use Rattle.std.proofs.lemmas.List.{length-map}
 use Rattle.texts.specs.Laws.{IsLine}
 use Rattle.ring_table.specs.Value.{RingValue, names_of}
 use Rattle.ring_table.proofs.RowLaws.{AreNames}
-use Rattle.plan_check.specs.declared.event.Entry.{Entry}
-use Rattle.plan_check.specs.declared.event.Event.{Event}
+use Rattle.plan_runs.specs.declared.event.Entry.{Entry}
+use Rattle.plan_runs.specs.declared.event.Event.{Event}
 use Rattle.script_text.specs.declared.said.SaidEvent.{SaidEvent}
 use Rattle.script_text.specs.Reading.{said_at}
 use Rattle.script_text.specs.Valid.{AreWriters}

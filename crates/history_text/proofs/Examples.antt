@@ -4,9 +4,9 @@ use Rattle.std.specs.Fmt.{digits}
 use Rattle.ring_table.specs.declared.allowance.Allowance.TheVariants.{Joint}
 use Rattle.ring_table.specs.declared.node.Node.{Node}
 use Rattle.ring_table.specs.Value.{RingValue}
-use Rattle.plan_check.specs.declared.event.Event.TheVariants.{StartPut, Write, Down}
-use Rattle.plan_check.specs.declared.event.Reply.TheVariants.{Plain, Put, Ticket}
-use Rattle.plan_check.specs.declared.event.Entry.{Entry}
+use Rattle.plan_runs.specs.declared.event.Event.TheVariants.{StartPut, Write, Down}
+use Rattle.plan_runs.specs.declared.event.Reply.TheVariants.{Plain, Put, Ticket}
+use Rattle.plan_runs.specs.declared.event.Entry.{Entry}
 use Rattle.history_text.specs.Spelling.{history_text}
 
 abbrev node : List ℕ → Node

@@ -8,7 +8,7 @@ use Rattle.texts.specs.Late.{ReadsTo}
 use Rattle.texts.proofs.Lates.{At, Advances, advances-line, advances-then, advances-map, to-first, to-second, to-map, reads-less, next-after, next-line, next-monotone}
 use Rattle.texts.proofs.FrameLaws.{header-at, end-at}
 use Rattle.ring_table.specs.Value.{RingValue}
-use Rattle.plan_check.specs.declared.event.Entry.{Entry}
+use Rattle.plan_runs.specs.declared.event.Entry.{Entry}
 use Rattle.script_text.specs.Said.{names_after}
 use Rattle.history_text.specs.Said.{SaidEntry, entry_of}
 use Rattle.history_text.specs.Reading.{said_at, entries_from, entries_at, history_at}

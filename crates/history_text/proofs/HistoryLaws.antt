@@ -17,15 +17,15 @@ use Rattle.texts.proofs.Wholes.{whole-takes, whole-gives}
 use Rattle.ring_table.specs.Value.{RingValue, names_of}
 use Rattle.ring_table.specs.Valid.{IsRing}
 use Rattle.ring_table.proofs.RowLaws.{AreNames}
-use Rattle.plan_check.specs.declared.event.Entry.{Entry}
-use Rattle.plan_check.specs.declared.event.Event.{Event}
+use Rattle.plan_runs.specs.declared.event.Entry.{Entry}
+use Rattle.plan_runs.specs.declared.event.Event.{Event}
 use Rattle.script_text.specs.Known.{AreKnown}
 use Rattle.script_text.specs.Said.{event_of, names_after}
 use Rattle.script_text.specs.declared.said.SaidEvent.{SaidEvent}
 use Rattle.script_text.specs.Spelling.{event_fields}
 use Rattle.script_text.specs.Valid.{AreWriters, IsEvent, IsScriptOf}
 use Rattle.script_text.proofs.SaidLines.{events_of, names_behind, EachSaid, Ends, ends-any, goes-on, first-ok}
-use Rattle.script_text.proofs.ScriptLaws.{names-of, events-plain, both-all, valid-of, of-valid}
+use Rattle.script_text.proofs.ScriptLaws.{events-plain, valid-of, of-valid}
 use Rattle.script_text.proofs.SightLaws.{rest-of, few-said, behind-writers, fields-more, lines-for}
 use Rattle.script_text.proofs.WriterLaws.{front-writers, after-writers}
 use Rattle.history_text.specs.Said.{SaidEntry, entry_of}
@@ -36,6 +36,8 @@ use Rattle.history_text.proofs.EntryLaws.{sign, entry_fields, said_entry, entry-
 use Rattle.history_text.proofs.EventLaws.{events_in, events-count}
 use Rattle.history_text.proofs.ReplyLaws.{reply_fields, reply-plain}
 use Rattle.texts.proofs.Many.{tail_is}
+use Rattle.texts.proofs.Texts.{appended}
+use Rattle.ring_table.proofs.NodesLaws.{names-of}
 
 -- ---- the entries that some lines say
 
@@ -348,7 +350,7 @@ module _ (ring : RingValue) (nodes : AreNames (names_of ring)) where
   lines-plain : (old : List (List ℕ)) (v : History) → Valid old v → AllByRecursion IsPlainLine (history_lines v)
   lines-plain old v p = (
     (words-plain.0, (words-plain.1, tt)),
-    both-all (body v) (end_fields ∷ []) (body-plain v.1 v.0 (valid-plain old v p) p.replies) ((words-plain.2, tt), tt),
+    appended IsPlainLine (body v) (end_fields ∷ []) (body-plain v.1 v.0 (valid-plain old v p) p.replies) ((words-plain.2, tt), tt),
   )
 
 -- ---- a whole text

@@ -13,14 +13,15 @@ use Rattle.texts.specs.Late.{IsAt}
 use Rattle.texts.proofs.Items.{both-map_right}
 use Rattle.texts.proofs.Lates.{At, at-both, at-if, at-map, at-whole, Judges, judges-⊗, judges-map, judges-need, judges-number}
 use Rattle.ring_table.specs.Value.{RingValue}
-use Rattle.plan_check.specs.declared.event.Entry.{Entry}
-use Rattle.plan_check.specs.declared.event.Reply.{Reply}
-use Rattle.plan_check.specs.declared.event.Reply.TheVariants.{Plain, Put, Ticket, Get, Found, Answer}
+use Rattle.plan_runs.specs.declared.event.Entry.{Entry}
+use Rattle.plan_runs.specs.declared.event.Reply.{Reply}
+use Rattle.plan_runs.specs.declared.event.Reply.TheVariants.{Plain, Put, Ticket, Get, Found, Answer}
 use Rattle.script_text.specs.Said.{Fits}
 use Rattle.script_text.specs.declared.said.SaidEvent.{SaidEvent}
 use Rattle.script_text.specs.Reading.{count_at, kind_at}
 use Rattle.script_text.proofs.NextLaws.{if-map, if-both, if-first, kind-fits}
-use Rattle.script_text.proofs.ScriptLates.{either-at, judges-kind}
+use Rattle.script_text.proofs.ScriptLates.{judges-kind}
+use Rattle.texts.proofs.Lates.{either-at}
 use Rattle.history_text.specs.declared.said.SaidReply.{SaidReply}
 use Rattle.history_text.specs.Said.{SaidEntry, reply_of, said_of}
 use Rattle.history_text.specs.Reading.{judge_numbers, numbers_at, ticket_at, reply_at, event_said, reply_said, reply_line, said_at}

@@ -17,9 +17,9 @@ use Rattle.texts.proofs.Items.{IsItem-⊗, ok_is}
 use Rattle.texts.proofs.Fronts.{Free, Last, IsFront, front-item, front-whole, front-word, numbers-taken, numbers-given}
 use Rattle.texts.proofs.Rows.{numbers-plain}
 use Rattle.texts.proofs.Wholes.{decimal-plain}
-use Rattle.plan_check.specs.declared.event.Reply.{Reply}
-use Rattle.plan_check.specs.declared.event.Reply.TheVariants.{Plain, Put, Ticket, Get, Found, Answer}
-use Rattle.plan_check.specs.Replies.{reply_text}
+use Rattle.plan_runs.specs.declared.event.Reply.{Reply}
+use Rattle.plan_runs.specs.declared.event.Reply.TheVariants.{Plain, Put, Ticket, Get, Found, Answer}
+use Rattle.plan_runs.specs.Replies.{reply_text}
 use Rattle.script_text.specs.Reading.{count_at}
 use Rattle.script_text.specs.Valid.{IsCount}
 use Rattle.script_text.proofs.FieldLaws.{item-count}

@@ -10,7 +10,7 @@ use Rattle.plan_text.specs.Valid as plan
 use Rattle.plan_cert.specs.declared.cert.Cert.{Cert}
 use Rattle.plan_cert.specs.Reading.{cert_at}
 use Rattle.plan_cert.specs.Valid as cert
-use Rattle.plan_check.specs.declared.event.Entry.{Entry}
+use Rattle.plan_runs.specs.declared.event.Entry.{Entry}
 use Rattle.history_text.specs.declared.bundle.ReplayBundle.{ReplayBundle}
 use Rattle.history_text.specs.Reading.{history_at}
 

@@ -1,8 +1,8 @@
 -- What a line says, and the entry that it is.
 use Rattle.std.specs.Prelude.{ℕ, List}
-use Rattle.plan_check.specs.declared.event.Entry.{Entry}
-use Rattle.plan_check.specs.declared.event.Reply.{Reply}
-use Rattle.plan_check.specs.declared.event.Reply.TheVariants as reply
+use Rattle.plan_runs.specs.declared.event.Entry.{Entry}
+use Rattle.plan_runs.specs.declared.event.Reply.{Reply}
+use Rattle.plan_runs.specs.declared.event.Reply.TheVariants as reply
 use Rattle.script_text.specs.Said.{event_of}
 use Rattle.script_text.specs.declared.said.SaidEvent.{SaidEvent}
 use Rattle.history_text.specs.declared.said.SaidReply.{SaidReply}

@@ -4,9 +4,9 @@ use Rattle.std.specs.List.{join_with_byte, flat_map}
 use Rattle.texts.specs.Parts.{line_text}
 use Rattle.texts.specs.Frames.{header_fields, end_fields}
 use Rattle.ring_table.specs.Value.{RingValue, names_of}
-use Rattle.plan_check.specs.declared.event.Event.{Event}
-use Rattle.plan_check.specs.declared.event.Entry.{Entry}
-use Rattle.plan_check.specs.Replies.{reply_text}
+use Rattle.plan_runs.specs.declared.event.Event.{Event}
+use Rattle.plan_runs.specs.declared.event.Entry.{Entry}
+use Rattle.plan_runs.specs.Replies.{reply_text}
 use Rattle.script_text.specs.Spelling.{event_fields}
 
 -- an event's text, as its line of a script has it, with these nodes and writers

@@ -2,9 +2,9 @@
 use Rattle.std.specs.Prelude.{◌≡◌, ℕ, true, List, map}
 use Rattle.std.specs.List.{AllByRecursion}
 use Rattle.ring_table.specs.Value.{RingValue}
-use Rattle.plan_check.specs.declared.event.Entry.{Entry}
-use Rattle.plan_check.specs.declared.event.Reply.{Reply}
-use Rattle.plan_check.specs.declared.event.Reply.TheVariants.{Plain, Put, Ticket, Get, Found, Answer}
+use Rattle.plan_runs.specs.declared.event.Entry.{Entry}
+use Rattle.plan_runs.specs.declared.event.Reply.{Reply}
+use Rattle.plan_runs.specs.declared.event.Reply.TheVariants.{Plain, Put, Ticket, Get, Found, Answer}
 use Rattle.script_text.specs.Valid.{IsCount, IsScriptOf}
 
 -- each number of a reply is of 32 bits

@@ -9,7 +9,7 @@ ghost use Rattle.history_text.specs.Replays.{parts_of, replay_at, IsReplay};
 
 use crate::reading::read_history_section;
 use plan_cert::{Cert, read_cert_section};
-use plan_check::Entry;
+use plan_runs::Entry;
 use plan_text::{Plan, read_plan_section};
 use ring_names::{Names, Refusal};
 use ring_table::{Ring, read_ring_section};

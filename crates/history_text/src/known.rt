@@ -5,7 +5,7 @@ ghost use Rattle.script_text.specs.Known.{IsKnown};
 ghost use Rattle.history_text.specs.Known.{AreKnownEntries};
 ghost use Rattle.ring_table.specs.Value.{names_of};
 
-use plan_check::{Entry, Event};
+use plan_runs::{Entry, Event};
 use ring_names::Names;
 use ring_table::Ring;
 

@@ -10,7 +10,7 @@ ghost use Rattle.history_text.specs.Reading.{event_said, reply_line, said_at};
 
 use crate::answers::said_reply;
 use crate::said::SaidReply;
-use plan_check::Entry;
+use plan_runs::Entry;
 use ring_names::{Names, Refusal};
 use ring_table::Ring;
 use script_text::{SaidEvent, keep_event, said_event};

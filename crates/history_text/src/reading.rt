@@ -5,14 +5,14 @@ ghost use Rattle.ring_names.specs.declared.refusal.Refusal.TheVariants.{OutOfMem
 ghost use Rattle.texts.specs.Left.{Reads};
 ghost use Rattle.texts.specs.Late.{Late, NoFaultBefore};
 ghost use Rattle.texts.specs.Judging.{Gives, map_ok};
-ghost use Rattle.plan_check.specs.declared.event.Entry.{Entry};
+ghost use Rattle.plan_runs.specs.declared.event.Entry.{Entry};
 ghost use Rattle.script_text.specs.Valid.{AreWriters};
 ghost use Rattle.history_text.specs.Spelling.{history_text};
 ghost use Rattle.history_text.specs.Reading.{entries_from, entries_at, history_at, history_reading};
 ghost use Rattle.history_text.specs.Valid.{IsHistoryOf};
 
 use crate::lines::{add, entry_line};
-use plan_check::Entry;
+use plan_runs::Entry;
 use ring_names::{Names, Refusal};
 use ring_table::Ring;
 use std::alloc::Global;

@@ -5,7 +5,7 @@ ghost use Rattle.ring_names.specs.declared.refusal.Refusal.TheVariants.{OutOfMem
 ghost use Rattle.texts.specs.Numbers.{are_small};
 ghost use Rattle.history_text.specs.Said.{reply_of};
 
-use plan_check::Reply;
+use plan_runs::Reply;
 use ring_names::{Listed, Refusal, Slot};
 use std::alloc::Global;
 use std::marker::Model;

@@ -7,7 +7,8 @@ ghost use Rattle.ring_table.specs.Value.{names_of};
 ghost use Rattle.history_text.specs.Known.{AreKnownEntries};
 ghost use Rattle.history_text.specs.Spelling.{entry_line, history_text};
 
-use plan_check::{Approved, Entry};
+use plan_check::Approved;
+use plan_runs::Entry;
 use ring_names::{Names, Refusal};
 use ring_table::Ring;
 use script_text::push_event;

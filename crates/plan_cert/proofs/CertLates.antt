@@ -17,6 +17,9 @@ use Rattle.ring_table.specs.Value.{RingValue, allowance_of}
 use Rattle.ring_table.proofs.RingLates.{judges-declared}
 use Rattle.plan_cert.specs.declared.cert.Chain.{Chain}
 use Rattle.plan_cert.specs.Reading.{path_at, steps_at, fact_at, judge_side, side_node_at, judge_node_side, node_side_at, chain_at, begins_chain, facts_at, chains_at, cert_of, cert_at}
+use Rattle.texts.proofs.Lates.{advances-map}
+use Rattle.texts.proofs.FrameLaws.{header-at}
+use Rattle.plan_cert.specs.declared.cert.Cert.{Cert}
 
 judges-path : (k : ℕ) → Judges k (path_at k)
 unfolding path_at
@@ -93,3 +96,19 @@ module _ (ring : RingValue) where
         let forward : t.line ≤ x.line = rw e at on in
         let more = next-monotone t.line x.line forward in
         omega arith
+
+-- ---- reading a certificate does not go back
+
+facts-all : Advances facts_at
+facts-all = record { on = λ s. many-on (is_word (codes "fact")) fact_at fact-at [] s.line s.lines }
+
+chains-all : (ring : RingValue) → Advances (chains_at ring)
+chains-all ring = record { on = λ s. many-on (begins_chain ring) (chain_at ring) (chain-at ring) [] s.line s.lines }
+
+pub cert-on : (ring : RingValue) → Advances (cert_at ring)
+unfolding cert_at
+cert-on ring = advances-map _ _ (advances-then _ _ (advances-line _ (header-at (codes "cert") (cert_format ring))) (λ _. advances-then _ _ facts-all (λ _. advances-then _ _ (chains-all ring) (λ _. advances-line end_line_at end-at))))
+
+-- it ends behind where it begins
+pub past-cert : (ring : RingValue) (s t : Left) (cert : Cert) → cert_at ring s ≡ Ok (cert, t) → s.line ≤ t.line
+past-cert ring s t cert e = (let on = (cert-on ring).on s in rw e at on)

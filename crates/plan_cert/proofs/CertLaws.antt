@@ -27,7 +27,10 @@ use Rattle.plan_cert.specs.declared.cert.Cert.{Cert}
 use Rattle.plan_cert.specs.Valid.{is_fact, is_chain, IsCert, Suits}
 use Rattle.plan_cert.specs.Spelling.{fact_fields, side_word, chain_fields, cert_format, cert_lines, cert_text}
 use Rattle.plan_cert.specs.Reading.{fact_at, chain_at, begins_chain, facts_at, chains_at, cert_of, cert_at, cert_reading}
-use Rattle.plan_cert.proofs.CertLines.{names-of, IsFactLine, fact-line, IsChainLine, chain-line}
+use Rattle.plan_cert.proofs.CertLines.{IsFactLine, fact-line, IsChainLine, chain-line}
+use Rattle.texts.proofs.Texts.{appended}
+use Rattle.ring_table.proofs.NodesLaws.{nodes-length}
+use Rattle.ring_table.proofs.NodesLaws.{names-of}
 
 -- ---- facts and chains, each allowed behind those in front, are a certificate that suits the ring
 
@@ -54,9 +57,6 @@ facts-next seen (x ∷ xs) p =
     let grown = length-append seen (x ∷ []) in
     let few = p.few in
     (record { room = omega arith; path_is = record { two = two.0; few = two.1; small = s.0 } }, facts-next (seen ++ x ∷ []) xs (record { few = omega arith; facts = f.1; small = s.1 }))
-
-nodes-length : (nodes : List Node) → length (map (λ (x : Node). x.name) nodes) ≡ length nodes
-nodes-length nodes = simp length-map
 
 declared-below : (ring : RingValue) (c : Chain) → is_some (allowance_of ring c.node.0 c.side) ≡ true → c.node.0 < length (names_of ring)
 declared-below ring c e = rw nodes-length (side-below ring c.node.0 c.side e)
@@ -131,10 +131,6 @@ end-other ring = by (not (ring.format == 1))
     by true = refl
     by false = refl
 
-both-all : (xs ys : List (List (List ℕ))) → AllByRecursion IsPlainLine xs → AllByRecursion IsPlainLine ys → AllByRecursion IsPlainLine (xs ++ ys)
-both-all [] ys a b = b
-both-all (x ∷ xs) ys a b = (a.0, both-all xs ys a.1 b)
-
 facts-plain : (seen xs : List (List ℕ)) → EachNext IsFactLine seen xs → AllByRecursion IsPlainLine (map fact_fields xs)
 facts-plain seen [] next = tt
 facts-plain seen (x ∷ xs) next = ((words-plain.3, numbers-plain x next.0.path_is.small), facts-plain (seen ++ x ∷ []) xs next.1)
@@ -153,8 +149,8 @@ module _ (ring : RingValue) (valid : IsRing ring) where
   lines-plain : (v : Cert) → Parts v → AllByRecursion IsPlainLine (cert_lines ring v)
   lines-plain v p = (
     (words-plain.0, (format-plain ring, tt)),
-    both-all (map fact_fields v.facts) (map (chain_fields (names_of ring)) v.chains ++ end_fields ∷ []) (facts-plain [] v.facts p.0)
-        (both-all (map (chain_fields (names_of ring)) v.chains) (end_fields ∷ []) (chains-plain [] v.chains p.1) ((words-plain.4, tt), tt)),
+    appended IsPlainLine (map fact_fields v.facts) (map (chain_fields (names_of ring)) v.chains ++ end_fields ∷ []) (facts-plain [] v.facts p.0)
+        (appended IsPlainLine (map (chain_fields (names_of ring)) v.chains) (end_fields ∷ []) (chains-plain [] v.chains p.1) ((words-plain.4, tt), tt)),
   )
 
   facts-part : IsPart (BeginsOther (is_word (codes "fact"))) facts_at (λ xs. map fact_fields xs) (EachNext IsFactLine [])

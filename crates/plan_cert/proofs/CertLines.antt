@@ -21,7 +21,6 @@ use Rattle.ring_table.specs.declared.allowance.Side.{Side}
 use Rattle.ring_table.specs.declared.allowance.Side.TheVariants.{Both, Take, Give}
 use Rattle.ring_table.specs.Value.{RingValue, names_of, allowance_of}
 use Rattle.ring_table.specs.Valid.{IsRing}
-use Rattle.ring_table.proofs.NodesLaws.{names-of_nodes}
 use Rattle.ring_table.specs.Spelling.{name_at}
 use Rattle.ring_table.specs.Reading.{declared_at}
 use Rattle.ring_table.proofs.RowLaws.{AreNames, IsItem-declared}
@@ -31,9 +30,7 @@ use Rattle.plan_cert.specs.Said.{chain_said}
 use Rattle.plan_cert.specs.Chains.{chain_of, side_of}
 use Rattle.plan_cert.specs.Spelling.{fact_fields, side_word, chain_fields}
 use Rattle.plan_cert.specs.Reading.{judge_path, path_at, judge_steps, steps_at, fact_at, judge_side, side_node_at, judge_node_side, node_side_at, chain_at}
-
-pub names-of : (ring : RingValue) → IsRing ring → AreNames (names_of ring)
-names-of ring r = names-of_nodes ring.format ring.nodes (record { some_node = r.some_node; nodes = r.nodes; each_node = r.each_node; names = r.names })
+use Rattle.ring_table.proofs.NodesLaws.{names-of, item-node}
 
 -- ---- numbers in a row
 
@@ -116,10 +113,6 @@ pub record IsChainLine (ring : RingValue) (seen : List Chain) (x : Chain) : Type
   pub node_is : x.node.0 < length (names_of ring)
   pub side_is : is_some (allowance_of ring x.node.0 x.side) ≡ true
   pub steps_are : AreSteps x.steps
-
-item-node : (ring : RingValue) (k : ℕ) → AreNames (names_of ring) → IsItem (declared_at ring k) (λ x. name_at (names_of ring) x ∷ []) (λ x. x.0 < length (names_of ring))
-unfolding declared_at
-item-node ring k good = IsItem-declared k (names_of ring) good
 
 -- ---- a side of a node
 

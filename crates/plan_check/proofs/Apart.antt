@@ -14,25 +14,26 @@ use Rattle.plan_text.specs.declared.step.Step.TheVariants.{Join, Mirror, Copy, S
 use Rattle.plan_text.specs.declared.step.Planned.{Planned}
 use Rattle.plan_text.specs.Steps.{steps_of, copy_of}
 use Rattle.plan_stage.specs.Stage.{opening, stage}
-use Rattle.plan_check.specs.declared.event.Event.{Event}
-use Rattle.plan_check.specs.declared.event.Event.TheVariants.{Do, OpenCopy, ChunkCopy, CloseCopy, AbortCopy, StartPut, Write, Hint, Ack, StartGet, Read, EndGet, Down, Up, Handoff, Lose}
-use Rattle.plan_check.specs.World.{World, opening_world, count, keeps_other}
-use Rattle.plan_check.specs.Versions.{put_slot}
-use Rattle.plan_check.specs.Guards.{serves_in, step_guards, guards}
-use Rattle.plan_check.specs.Effects.{with_number, without_number, without_puts, changed, step_effect, served_puts, with_ticket, lose_effect, effect}
+use Rattle.plan_runs.specs.declared.event.Event.{Event}
+use Rattle.plan_runs.specs.declared.event.Event.TheVariants.{Do, OpenCopy, ChunkCopy, CloseCopy, AbortCopy, StartPut, Write, Hint, Ack, StartGet, Read, EndGet, Down, Up, Handoff, Lose}
+use Rattle.plan_runs.specs.World.{World, opening_world, count, keeps_other}
+use Rattle.plan_runs.specs.Versions.{put_slot}
+use Rattle.plan_runs.specs.Guards.{serves_in, step_guards, guards}
+use Rattle.plan_runs.specs.Effects.{with_number, without_number, without_puts, changed, step_effect, served_puts, with_ticket, lose_effect, effect}
 use Rattle.plan_stage.specs.Each.{step_at}
-use Rattle.plan_check.specs.declared.event.Entry.{Entry}
-use Rattle.plan_check.specs.Runs.{Leads}
+use Rattle.plan_runs.specs.declared.event.Entry.{Entry}
+use Rattle.plan_runs.specs.Runs.{Leads}
 use Rattle.plan_check.specs.Safe.{GroupsAreApart}
-use Rattle.plan_check.specs.Headline.{Always, AreFinishedFirst}
-use Rattle.plan_check.proofs.Prefix.{prefix}
-use Rattle.plan_check.proofs.Groups.{Served, InGroup, in_group}
+use Rattle.plan_runs.specs.Runs.{Always}
+use Rattle.plan_check.specs.Headline.{AreFinishedFirst}
+use Rattle.plan_runs.proofs.Prefix.{prefix}
+use Rattle.plan_runs.proofs.Groups.{Served, InGroup, in_group}
 use Rattle.plan_check.proofs.Mirrored.{Known, down}
-use Rattle.plan_check.specs.Reached.{Ready}
-use Rattle.plan_check.proofs.Answered.{answered}
-use Rattle.plan_check.proofs.Passed.{AllMet, all_met, ready}
-use Rattle.plan_check.proofs.Storing.{without_puts_was, lose_hinted}
-use Rattle.plan_check.proofs.Reached.{event_reached, start_reached}
+use Rattle.plan_runs.specs.Reached.{Ready}
+use Rattle.plan_runs.proofs.Answered.{answered}
+use Rattle.plan_runs.proofs.Passed.{AllMet, all_met, ready}
+use Rattle.plan_runs.proofs.Storing.{without_puts_was, lose_hinted}
+use Rattle.plan_runs.proofs.Reached.{event_reached, start_reached}
 use Rattle.plan_check.proofs.Entering.{Apart, Inv, MayMirror, done_apart, less_apart, hint_apart}
 
 -- ---- steps

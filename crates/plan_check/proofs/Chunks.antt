@@ -16,21 +16,21 @@ use Rattle.plan_text.specs.declared.step.Step.TheVariants.{Copy}
 use Rattle.plan_text.specs.declared.step.Planned.{Planned}
 use Rattle.plan_text.specs.Valid.{is_ring_slot}
 use Rattle.plan_stage.specs.Each.{step_at, sibling}
-use Rattle.plan_check.specs.World.{World, key_of_put, is_acked, copy_at, stage_now}
-use Rattle.plan_check.specs.Succession.{Succeeds}
-use Rattle.plan_check.specs.Versions.{put_slot, is_in_chunk, some_hinted, slot_has, IsHeld}
-use Rattle.plan_check.specs.Effects.{with_mark, with_mirror_puts, source_has, is_copied}
+use Rattle.plan_runs.specs.World.{World, key_of_put, is_acked, copy_at, stage_now}
+use Rattle.plan_runs.specs.Succession.{Succeeds}
+use Rattle.plan_runs.specs.Versions.{put_slot, is_in_chunk, some_hinted, slot_has, IsHeld}
+use Rattle.plan_runs.specs.Effects.{with_mark, with_mirror_puts, source_has, is_copied}
 use Rattle.plan_check.specs.Firm.{IsGiven, IsMirrored, chunk_of_put, IsFirm, Holding}
-use Rattle.plan_check.specs.Reached.{Reached}
-use Rattle.plan_check.proofs.Filling.{with_mirror_more, with_mirror_new, at_mirror}
-use Rattle.plan_check.proofs.Lasting.{Extends, names_ended, succeeds_stays, succeeds_same_key}
+use Rattle.plan_runs.specs.Reached.{Reached}
+use Rattle.plan_runs.proofs.Filling.{with_mirror_more, with_mirror_new, at_mirror}
+use Rattle.plan_runs.proofs.Lasting.{Extends, names_ended, succeeds_stays, succeeds_same_key}
 use Rattle.plan_check.proofs.Mirrored.{Known}
 use Rattle.plan_check.proofs.Partakers.{copy_is}
 use Rattle.plan_check.proofs.Quiet.{tickets_keep, more_slots}
 use Rattle.plan_check.proofs.Quorums.{meet}
-use Rattle.plan_check.proofs.Serial.{acked_exists}
+use Rattle.plan_runs.proofs.Serial.{acked_exists}
 use Rattle.plan_check.proofs.Standing.{SlotKeeps, KeepsFirm, held_exists, hint_exists, held_stays, mirrored_stays, twice_stays, same_chunk}
-use Rattle.plan_check.proofs.Suited.{suits-at}
+use Rattle.plan_runs.proofs.Suited.{suits-at}
 
 -- every read meets every write, with as many slots to spare as stores may be lost
 pub quorum_more : (n r w loss : ℕ) → is_quorum n r w loss ≡ true → n + loss < r + w

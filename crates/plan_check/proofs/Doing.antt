@@ -11,29 +11,29 @@ use Rattle.plan_text.specs.declared.step.Step.TheVariants.{Join, Mirror, Copy, S
 use Rattle.plan_text.specs.declared.step.Planned.{Planned}
 use Rattle.plan_text.specs.Steps.{is_slot}
 use Rattle.plan_stage.specs.Each.{step_at}
-use Rattle.plan_check.specs.declared.event.Event.{Event}
-use Rattle.plan_check.specs.declared.event.Event.TheVariants.{Do, OpenCopy, ChunkCopy, CloseCopy, AbortCopy, StartPut, Write, Hint, Ack, StartGet, Read}
-use Rattle.plan_check.specs.declared.event.Event.TheVariants.{EndGet, Down, Up, Handoff, Lose}
-use Rattle.plan_check.specs.World.{GetRecord, World, copy_at, stage_now}
-use Rattle.plan_check.specs.Versions.{put_slot}
-use Rattle.plan_check.specs.Guards.{has_copy, current_tickets, guards}
-use Rattle.plan_check.specs.Effects.{with_number, without_number, without_puts, with_mark, with_mirror_puts, served_puts, step_effect, is_copied, effect}
+use Rattle.plan_runs.specs.declared.event.Event.{Event}
+use Rattle.plan_runs.specs.declared.event.Event.TheVariants.{Do, OpenCopy, ChunkCopy, CloseCopy, AbortCopy, StartPut, Write, Hint, Ack, StartGet, Read}
+use Rattle.plan_runs.specs.declared.event.Event.TheVariants.{EndGet, Down, Up, Handoff, Lose}
+use Rattle.plan_runs.specs.World.{GetRecord, World, copy_at, stage_now}
+use Rattle.plan_runs.specs.Versions.{put_slot}
+use Rattle.plan_runs.specs.Guards.{has_copy, current_tickets, guards}
+use Rattle.plan_runs.specs.Effects.{with_number, without_number, without_puts, with_mark, with_mirror_puts, served_puts, step_effect, is_copied, effect}
 use Rattle.plan_check.specs.Firm.{Holding}
-use Rattle.plan_check.specs.Reached.{Ready, Reached}
+use Rattle.plan_runs.specs.Reached.{Ready, Reached}
 use Rattle.plan_check.proofs.Chunks.{chunk_keeps}
-use Rattle.plan_check.proofs.Copying.{still_passes}
+use Rattle.plan_runs.proofs.Copying.{still_passes}
 use Rattle.plan_check.proofs.Entering.{with_done}
-use Rattle.plan_check.proofs.Lasting.{Extends, event_extends}
+use Rattle.plan_runs.proofs.Lasting.{Extends, event_extends}
 use Rattle.plan_check.proofs.Mirrored.{Known}
-use Rattle.plan_check.proofs.Passed.{AllMet, ready}
+use Rattle.plan_runs.proofs.Passed.{AllMet, ready}
 use Rattle.plan_check.proofs.Partakers.{copy_is}
 use Rattle.plan_check.proofs.Putting.{start_put_keeps, write_keeps, hint_keeps, ack_keeps}
-use Rattle.plan_check.proofs.Members.{member_within}
+use Rattle.plan_runs.proofs.Members.{member_within}
 use Rattle.plan_check.proofs.Quiet.{tickets_keep, quiet_keeps, more_slots, handed_slots}
-use Rattle.plan_check.proofs.Serial.{acked_exists}
+use Rattle.plan_runs.proofs.Serial.{acked_exists}
 use Rattle.plan_check.proofs.Standing.{KeepsFirm}
 use Rattle.plan_check.proofs.Stepping.{Goes, stepped}
-use Rattle.plan_check.proofs.Ticketed.{generation_more}
+use Rattle.plan_runs.proofs.Ticketed.{generation_more}
 use Rattle.plan_stage.proofs.Truth.{slot-is}
 
 -- ---- steps

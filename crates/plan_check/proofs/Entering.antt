@@ -8,16 +8,16 @@ use Rattle.ring_table.specs.Value.{RingValue}
 use Rattle.plan_text.specs.declared.step.Step.{Step}
 use Rattle.plan_text.specs.declared.step.Step.TheVariants.{Join, Mirror, Copy, Switch, Drop, Retire}
 use Rattle.plan_text.specs.declared.step.Planned.{Planned}
-use Rattle.plan_check.specs.World.{PutRecord, World, stage_now, keeps, keeps_other, is_served}
-use Rattle.plan_check.specs.Guards.{serves_in}
-use Rattle.plan_check.specs.Effects.{with_number, with_puts}
+use Rattle.plan_runs.specs.World.{PutRecord, World, stage_now, keeps, keeps_other, is_served}
+use Rattle.plan_runs.specs.Guards.{serves_in}
+use Rattle.plan_runs.specs.Effects.{with_number, with_puts}
 use Rattle.plan_stage.specs.Each.{step_at, sibling}
-use Rattle.plan_check.proofs.Groups.{Served, Keeps, InGroup, served_is, moved}
-use Rattle.plan_check.proofs.Passing.{some_is}
+use Rattle.plan_runs.proofs.Groups.{Served, Keeps, InGroup, served_is, moved}
+use Rattle.plan_runs.proofs.Passing.{some_is}
 use Rattle.plan_check.proofs.Mirrored.{Known, rises, down, mirrored_alone}
-use Rattle.plan_check.proofs.Copying.{closed_with}
-use Rattle.plan_check.proofs.Storing.{with_puts_is}
-use Rattle.plan_check.specs.Reached.{Ready, Reached}
+use Rattle.plan_runs.proofs.Copying.{closed_with}
+use Rattle.plan_runs.proofs.Storing.{with_puts_is}
+use Rattle.plan_runs.specs.Reached.{Ready, Reached}
 
 -- two slots of a partition share no node
 abbrev pub Apart : RingValue → List Planned → World → Type 0

@@ -7,16 +7,16 @@ use Rattle.std.proofs.lemmas.Bool.{and_parts, or_right, or_cases}
 use Rattle.plan_text.specs.declared.step.Planned.{Planned}
 use Rattle.plan_order.specs.Before.{Before}
 use Rattle.plan_order.proofs.Reaching.{join}
-use Rattle.plan_check.specs.World.{passing_below, copy_at}
+use Rattle.plan_runs.specs.World.{passing_below, copy_at}
 use Rattle.plan_check.specs.Safe.{takes_part_now, TransfersAreFew}
 use Rattle.plan_cover.specs.Clauses.{in_some}
 use Rattle.plan_check.specs.Sound.{IsChain, AreChains, Covers, is_party_of}
-use Rattle.plan_check.specs.Headline.{Always}
+use Rattle.plan_runs.specs.Runs.{Always}
 use Rattle.plan_check.proofs.Quorums.{without, kept-in, different-without, one-taken, by_equal}
-use Rattle.plan_check.proofs.Passing.{below_is, none_twice, passing_ascend}
+use Rattle.plan_runs.proofs.Passing.{below_is, none_twice, passing_ascend}
 use Rattle.plan_check.proofs.Mirrored.{Known, before_ready}
-use Rattle.plan_check.specs.Reached.{Reached}
-use Rattle.plan_check.proofs.Reached.{reached}
+use Rattle.plan_runs.specs.Reached.{Reached}
+use Rattle.plan_runs.proofs.Reached.{reached}
 use Rattle.plan_check.proofs.Partakers.{party}
 
 -- ---- chains

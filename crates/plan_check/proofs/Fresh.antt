@@ -9,31 +9,31 @@ use Rattle.ring_names.specs.Lists.{has}
 use Rattle.ring_names.specs.declared.ids.NodeId.{NodeId}
 use Rattle.ring_table.specs.Value.{RingValue}
 use Rattle.plan_text.specs.declared.step.Planned.{Planned}
-use Rattle.plan_check.specs.declared.event.Event.{Event}
-use Rattle.plan_check.specs.declared.event.Event.TheVariants.{Lose}
-use Rattle.plan_check.specs.declared.event.Entry.{Entry}
-use Rattle.plan_check.specs.World.{World, passing_below, is_of_key, is_acked, key_of_put, key_of_get, found_at, slot_of}
-use Rattle.plan_check.specs.Succession.{Succeeds, itself, some_succeeds, latest}
-use Rattle.plan_check.specs.Versions.{put_slot, get_slot, slot_has, IsHeld}
-use Rattle.plan_check.specs.Guards.{guards}
-use Rattle.plan_check.specs.Effects.{finds, effect}
+use Rattle.plan_runs.specs.declared.event.Event.{Event}
+use Rattle.plan_runs.specs.declared.event.Event.TheVariants.{Lose}
+use Rattle.plan_runs.specs.declared.event.Entry.{Entry}
+use Rattle.plan_runs.specs.World.{World, passing_below, is_of_key, is_acked, key_of_put, key_of_get, found_at, slot_of}
+use Rattle.plan_runs.specs.Succession.{Succeeds, itself, some_succeeds, latest}
+use Rattle.plan_runs.specs.Versions.{put_slot, get_slot, slot_has, IsHeld}
+use Rattle.plan_runs.specs.Guards.{guards}
+use Rattle.plan_runs.specs.Effects.{finds, effect}
 use Rattle.plan_check.specs.Firm.{FirmSlots, Holding}
-use Rattle.plan_check.specs.Reached.{Reached}
-use Rattle.plan_check.specs.Runs.{Leads}
-use Rattle.plan_check.proofs.Answered.{answered}
-use Rattle.plan_check.proofs.Asking.{StaysAsked, event_asked, event_acked}
+use Rattle.plan_runs.specs.Reached.{Reached}
+use Rattle.plan_runs.specs.Runs.{Leads}
+use Rattle.plan_runs.proofs.Answered.{answered}
+use Rattle.plan_runs.proofs.Asking.{StaysAsked, event_asked, event_acked}
 use Rattle.plan_check.proofs.Entering.{Inv}
 use Rattle.plan_check.proofs.Doing.{event_keeps}
 use Rattle.plan_check.proofs.Holdings.{lose_or_not, next_inv, next_holding}
-use Rattle.plan_check.proofs.Lasting.{Extends, event_extends, names_ended, succeeds_stays, succeeds_same_key}
-use Rattle.plan_check.proofs.Latest.{some_succeeds_found, latest_of_is, is_latest_of}
+use Rattle.plan_runs.proofs.Lasting.{Extends, event_extends, names_ended, succeeds_stays, succeeds_same_key}
+use Rattle.plan_runs.proofs.Latest.{some_succeeds_found, latest_of_is, is_latest_of}
 use Rattle.plan_check.proofs.Losing.{lose_slots}
 use Rattle.plan_check.proofs.Mirrored.{Known}
-use Rattle.plan_check.proofs.Passed.{AllMet, all_met}
-use Rattle.plan_check.proofs.Passing.{below_is, is_below}
-use Rattle.plan_check.proofs.Serial.{acked_exists}
+use Rattle.plan_runs.proofs.Passed.{AllMet, all_met}
+use Rattle.plan_runs.proofs.Passing.{below_is, is_below}
+use Rattle.plan_runs.proofs.Serial.{acked_exists}
 use Rattle.plan_check.proofs.Standing.{KeepsFirm, held_exists, slots_stay}
-use Rattle.plan_check.proofs.Succeeding.{not_less, succeeds_through}
+use Rattle.plan_runs.proofs.Succeeding.{not_less, succeeds_through}
 
 -- ---- the latest of some puts
 

@@ -17,11 +17,11 @@ use Rattle.plan_stage.specs.Each.{step_at}
 use Rattle.plan_stage.proofs.Stages.{after-next, stage-more}
 use Rattle.plan_stage.proofs.Places.{placed}
 use Rattle.plan_stage.proofs.Truth.{slot-is, slot-same}
-use Rattle.plan_check.specs.World.{World, count, copy_at, mirror_at, stage_now, mirrors_done}
-use Rattle.plan_check.specs.Effects.{with_number}
+use Rattle.plan_runs.specs.World.{World, count, copy_at, mirror_at, stage_now, mirrors_done}
+use Rattle.plan_runs.specs.Effects.{with_number}
 use Rattle.plan_check.specs.Firm.{mirrors_before, IsGiven}
-use Rattle.plan_check.specs.Reached.{Ready, Closed, CopiesFit}
-use Rattle.plan_check.proofs.Prefix.{found, rising, IsPrefix, prefix, count_same}
+use Rattle.plan_runs.specs.Reached.{Ready, Closed, CopiesFit}
+use Rattle.plan_runs.proofs.Prefix.{found, rising, IsPrefix, prefix, count_same}
 use Rattle.plan_check.proofs.Mirrored.{Known, rises, down}
 use Rattle.plan_check.proofs.Numbering.{both_off, mirrors_up, mirrors_ahead}
 use Rattle.plan_check.proofs.Partakers.{copy_is}

@@ -4,28 +4,28 @@ use Rattle.std.specs.Prelude.{Ok}
 use Rattle.ring_names.specs.declared.ids.NodeId.{NodeId}
 use Rattle.ring_table.specs.Value.{RingValue}
 use Rattle.plan_text.specs.declared.step.Planned.{Planned}
-use Rattle.plan_check.specs.declared.event.Event.{Event}
-use Rattle.plan_check.specs.declared.event.Event.TheVariants.{Do, OpenCopy, ChunkCopy, CloseCopy, AbortCopy, StartPut, Write, Hint, Ack, StartGet, Read}
-use Rattle.plan_check.specs.declared.event.Event.TheVariants.{EndGet, Down, Up, Handoff, Lose}
-use Rattle.plan_check.specs.declared.event.Entry.{Entry}
-use Rattle.plan_check.specs.World.{World, opening_world, is_acked}
-use Rattle.plan_check.specs.Guards.{guards}
-use Rattle.plan_check.specs.Effects.{effect}
+use Rattle.plan_runs.specs.declared.event.Event.{Event}
+use Rattle.plan_runs.specs.declared.event.Event.TheVariants.{Do, OpenCopy, ChunkCopy, CloseCopy, AbortCopy, StartPut, Write, Hint, Ack, StartGet, Read}
+use Rattle.plan_runs.specs.declared.event.Event.TheVariants.{EndGet, Down, Up, Handoff, Lose}
+use Rattle.plan_runs.specs.declared.event.Entry.{Entry}
+use Rattle.plan_runs.specs.World.{World, opening_world, is_acked}
+use Rattle.plan_runs.specs.Guards.{guards}
+use Rattle.plan_runs.specs.Effects.{effect}
 use Rattle.plan_check.specs.Firm.{Holding}
-use Rattle.plan_check.specs.Headline.{Always}
-use Rattle.plan_check.specs.Reached.{Reached}
-use Rattle.plan_check.specs.Answers.{answer}
-use Rattle.plan_check.specs.Runs.{Leads}
+use Rattle.plan_runs.specs.Runs.{Always}
+use Rattle.plan_runs.specs.Reached.{Reached}
+use Rattle.plan_runs.specs.Answers.{answer}
+use Rattle.plan_runs.specs.Runs.{Leads}
 use Rattle.plan_check.specs.Safe.{MeetsEveryRead}
-use Rattle.plan_check.proofs.Answered.{answered}
+use Rattle.plan_runs.proofs.Answered.{answered}
 use Rattle.plan_check.proofs.Apart.{run_inv, start_inv}
 use Rattle.plan_check.proofs.Chunks.{quorum_more}
 use Rattle.plan_check.proofs.Doing.{event_keeps}
 use Rattle.plan_check.proofs.Entering.{Inv}
-use Rattle.plan_check.proofs.Lasting.{event_extends}
+use Rattle.plan_runs.proofs.Lasting.{event_extends}
 use Rattle.plan_check.proofs.Losing.{lose_holding}
 use Rattle.plan_check.proofs.Mirrored.{Known}
-use Rattle.plan_check.proofs.Passed.{AllMet, all_met}
+use Rattle.plan_runs.proofs.Passed.{AllMet, all_met}
 use Rattle.plan_check.proofs.Quorums.{meet}
 use Rattle.plan_check.proofs.Standing.{keeps_holding}
 

@@ -9,24 +9,24 @@ use Rattle.ring_names.specs.declared.ids.NodeId.{NodeId}
 use Rattle.ring_names.specs.declared.ids.Slot.{Slot}
 use Rattle.ring_table.specs.Value.{RingValue}
 use Rattle.plan_text.specs.declared.step.Planned.{Planned}
-use Rattle.plan_check.specs.World.{World, key_of_put, stage_now, keeps, is_served, is_in_group, mirrors_done, generation}
-use Rattle.plan_check.specs.Versions.{put_slot, some_hinted}
-use Rattle.plan_check.specs.Guards.{is_current}
-use Rattle.plan_check.specs.Effects.{without_node, lose_effect}
+use Rattle.plan_runs.specs.World.{World, key_of_put, stage_now, keeps, is_served, is_in_group, mirrors_done, generation}
+use Rattle.plan_runs.specs.Versions.{put_slot, some_hinted}
+use Rattle.plan_runs.specs.Guards.{is_current}
+use Rattle.plan_runs.specs.Effects.{without_node, lose_effect}
 use Rattle.plan_check.specs.Firm.{IsTwice, FirmSlots, Holding}
-use Rattle.plan_check.specs.Reached.{Reached}
+use Rattle.plan_runs.specs.Reached.{Reached}
 use Rattle.plan_check.proofs.Entering.{Inv}
-use Rattle.plan_check.proofs.Filling.{at_mirror_more}
-use Rattle.plan_check.proofs.Groups.{InGroup, served_is, in_group}
-use Rattle.plan_check.proofs.Lasting.{Extends}
+use Rattle.plan_runs.proofs.Filling.{at_mirror_more}
+use Rattle.plan_runs.proofs.Groups.{InGroup, served_is, in_group}
+use Rattle.plan_runs.proofs.Lasting.{Extends}
 use Rattle.plan_check.proofs.Mirrored.{Known}
-use Rattle.plan_check.proofs.Passing.{some_found, some_is}
-use Rattle.plan_check.proofs.Places.{partition_within}
+use Rattle.plan_runs.proofs.Passing.{some_found, some_is}
+use Rattle.plan_runs.proofs.Places.{partition_within}
 use Rattle.plan_check.proofs.Quiet.{tickets_keep}
 use Rattle.plan_check.proofs.Quorums.{without, kept-in, different-without, one-taken}
-use Rattle.plan_check.proofs.Serial.{acked_exists}
+use Rattle.plan_runs.proofs.Serial.{acked_exists}
 use Rattle.plan_check.proofs.Standing.{SlotKeeps, twice_stays, firm_stays}
-use Rattle.plan_check.proofs.Ticketed.{generation_more, lose_more}
+use Rattle.plan_runs.proofs.Ticketed.{generation_more, lose_more}
 use Rattle.plan_stage.proofs.Truth.{list_all-met, list_all-all}
 
 -- ---- lists

@@ -17,11 +17,11 @@ use Rattle.plan_order.proofs.Reaching.{less}
 use Rattle.plan_stage.specs.declared.stage.Stage.{Stage}
 use Rattle.plan_stage.specs.Stage.{stage, after}
 use Rattle.plan_stage.specs.Occupancy.{is_node, leaving, mirror_end}
-use Rattle.plan_check.specs.World.{count}
+use Rattle.plan_runs.specs.World.{count}
 use Rattle.plan_stage.specs.Each.{step_at, sibling, place_in}
 use Rattle.plan_check.specs.Sound.{Meets, EndsBefore, Sound}
-use Rattle.plan_check.specs.Reached.{Ready, Closed}
-use Rattle.plan_check.proofs.Prefix.{found, found_later, Rises, Down, prefix, place}
+use Rattle.plan_runs.specs.Reached.{Ready, Closed}
+use Rattle.plan_runs.proofs.Prefix.{found, found_later, Rises, Down, prefix, place}
 use Rattle.plan_check.specs.Occupies.{FromStart, FromMirror, Serves}
 use Rattle.plan_check.proofs.Occupied.{occupied, ends_later, mirror_ends_later}
 use Rattle.plan_stage.proofs.Truth.{slot-same}

@@ -10,11 +10,11 @@ use Rattle.ring_table.specs.Value.{RingValue}
 use Rattle.plan_text.specs.declared.step.Planned.{Planned}
 use Rattle.plan_text.specs.Steps.{steps_of}
 use Rattle.plan_order.specs.Before.{Before}
-use Rattle.plan_check.specs.World.{count, mirror_at}
-use Rattle.plan_check.specs.Effects.{with_number}
+use Rattle.plan_runs.specs.World.{count, mirror_at}
+use Rattle.plan_runs.specs.Effects.{with_number}
 use Rattle.plan_check.specs.Firm.{mirrors_before}
-use Rattle.plan_check.specs.Reached.{Ready, Closed}
-use Rattle.plan_check.proofs.Prefix.{found, rising, count_same, count_in, count_less}
+use Rattle.plan_runs.specs.Reached.{Ready, Closed}
+use Rattle.plan_runs.proofs.Prefix.{found, rising, count_same, count_in, count_less}
 use Rattle.plan_check.proofs.Mirrored.{Known, before_ready, rises}
 use Rattle.plan_check.proofs.Partakers.{in_turn}
 

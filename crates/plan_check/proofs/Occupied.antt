@@ -23,6 +23,7 @@ use Rattle.plan_stage.specs.Each.{step_at}
 use Rattle.plan_check.specs.Occupies.{FromStart, FromMirror, Serves}
 use Rattle.plan_stage.proofs.Truth.{slot-is}
 use Rattle.plan_stage.proofs.Leavings.{some_is}
+use Rattle.std.proofs.lemmas.Bool.{or_right}
 
 -- ---- leaving, step by step
 
@@ -46,13 +47,9 @@ leaving-in plan x a (s ∷ ss) e h = by (ends_at plan x a s) h (leaving-in plan 
     some_same : (m n : ℕ) → Some m ≡ Some n → m ≡ n
     some_same m n q = cc
 
-    or_true : (b c : Bool) → c ≡ true → (b || c) ≡ true
-    or_true true c q = refl
-    or_true false c q = q
-
     by : (b : Bool) → cond b (Some s) (leaving plan x (after plan a s) ss) ≡ Some e → (leaving plan x (after plan a s) ss ≡ Some e → has e ss ≡ true) → ((e == s) || has e ss) ≡ true
     by true q more = rw (eq-eqb e s (sym (some_same s e q))) refl
-    by false q more = or_true (e == s) (has e ss) (more q)
+    by false q more = or_right (e == s) (has e ss) (more q)
 
 -- ---- parts of lists
 

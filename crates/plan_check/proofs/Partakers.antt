@@ -21,13 +21,13 @@ use Rattle.plan_stage.specs.declared.stage.Stage.{Stage}
 use Rattle.plan_stage.specs.Stage.{stage, after, next, is_among, with_node}
 use Rattle.plan_stage.specs.Parties.{count_below, stage_before, source_slots, owners_before, sources_of, target_of, with_target, on_side}
 use Rattle.plan_stage.proofs.Stages.{after-next, stage-more}
-use Rattle.plan_check.specs.World.{World, stage_now, count, copy_at}
+use Rattle.plan_runs.specs.World.{World, stage_now, count, copy_at}
 use Rattle.plan_stage.specs.Each.{step_at, sibling}
 use Rattle.plan_check.specs.Safe.{mirrors_now, gives_now, takes_part_now}
 use Rattle.plan_check.specs.Sound.{is_party_of}
-use Rattle.plan_check.proofs.Prefix.{found, Rises, IsPrefix, prefix, count_below_is, place}
+use Rattle.plan_runs.proofs.Prefix.{found, Rises, IsPrefix, prefix, count_below_is, place}
 use Rattle.plan_check.proofs.Mirrored.{Known, before_done, before_ready, rises, down}
-use Rattle.plan_check.specs.Reached.{Ready, Closed}
+use Rattle.plan_runs.specs.Reached.{Ready, Closed}
 use Rattle.plan_stage.proofs.Places.{placed}
 use Rattle.plan_stage.proofs.Truth.{slot-is, slot-same}
 use Rattle.plan_stage.proofs.Holders.{has-from}

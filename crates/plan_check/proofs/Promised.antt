@@ -6,31 +6,31 @@ use Rattle.std.proofs.lemmas.Slice.Eq.{bytes_eq-Decides}
 use Rattle.ring_names.specs.Lists.{has}
 use Rattle.ring_table.specs.Value.{RingValue}
 use Rattle.plan_text.specs.declared.step.Planned.{Planned}
-use Rattle.plan_check.specs.declared.event.Event.TheVariants.{StartGet, EndGet}
-use Rattle.plan_check.specs.declared.event.Entry.{Entry}
-use Rattle.plan_check.specs.declared.event.Reply.TheVariants as reply
-use Rattle.plan_check.specs.World.{GetRecord, World, opening_world, some_below, passing_below, is_of_key, is_acked, key_of_put, found_at}
-use Rattle.plan_check.specs.Succession.{Succeeds, latest}
-use Rattle.plan_check.specs.Guards.{slots_read, guards}
-use Rattle.plan_check.specs.Effects.{answers, has_found, effect}
-use Rattle.plan_check.specs.Answers.{answer}
+use Rattle.plan_runs.specs.declared.event.Event.TheVariants.{StartGet, EndGet}
+use Rattle.plan_runs.specs.declared.event.Entry.{Entry}
+use Rattle.plan_runs.specs.declared.event.Reply.TheVariants as reply
+use Rattle.plan_runs.specs.World.{GetRecord, World, opening_world, some_below, passing_below, is_of_key, is_acked, key_of_put, found_at}
+use Rattle.plan_runs.specs.Succession.{Succeeds, latest}
+use Rattle.plan_runs.specs.Guards.{slots_read, guards}
+use Rattle.plan_runs.specs.Effects.{answers, has_found, effect}
+use Rattle.plan_runs.specs.Answers.{answer}
 use Rattle.plan_check.specs.Firm.{Holding}
 use Rattle.plan_check.specs.Headline.{IsAnswered, GetsAreFresh, KeepsPromises}
-use Rattle.plan_check.proofs.Answered.{answered}
+use Rattle.plan_runs.proofs.Answered.{answered}
 use Rattle.plan_check.proofs.Apart.{run_inv, start_inv, apart_always}
-use Rattle.plan_check.proofs.Changed.{part_new}
+use Rattle.plan_runs.proofs.Changed.{part_new}
 use Rattle.plan_check.proofs.Chunks.{quorum_more}
 use Rattle.plan_check.proofs.Entering.{Inv}
 use Rattle.plan_check.proofs.Few.{few_always}
 use Rattle.plan_check.proofs.Fresh.{some_latest, SeesPut, Watched, watched_through}
 use Rattle.plan_check.proofs.Holdings.{next_inv, next_holding, holding_always, held_always}
-use Rattle.plan_check.proofs.Lasting.{event_extends, names_ended, succeeds_stays}
-use Rattle.plan_check.proofs.Latest.{latest_of_is}
+use Rattle.plan_runs.proofs.Lasting.{event_extends, names_ended, succeeds_stays}
+use Rattle.plan_runs.proofs.Latest.{latest_of_is}
 use Rattle.plan_check.proofs.Mirrored.{Known}
-use Rattle.plan_check.proofs.Passed.{AllMet, all_met}
-use Rattle.plan_check.proofs.Passing.{some_is, below_is, is_below, passing_ascend, none_twice}
+use Rattle.plan_runs.proofs.Passed.{AllMet, all_met}
+use Rattle.plan_runs.proofs.Passing.{some_is, below_is, is_below, passing_ascend, none_twice}
 use Rattle.plan_check.proofs.Quorums.{meet}
-use Rattle.plan_check.proofs.Succeeding.{succeeds_through}
+use Rattle.plan_runs.proofs.Succeeding.{succeeds_through}
 use Rattle.plan_stage.proofs.Truth.{list_all-all}
 
 -- ---- a get starts

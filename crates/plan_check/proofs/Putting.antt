@@ -7,20 +7,20 @@ use Rattle.ring_names.specs.declared.ids.NodeId.{NodeId}
 use Rattle.ring_names.specs.declared.ids.Slot.{Slot}
 use Rattle.ring_table.specs.Value.{RingValue}
 use Rattle.plan_text.specs.declared.step.Planned.{Planned}
-use Rattle.plan_check.specs.World.{PutRecord, World, passing_below, some_below, stage_now, generation, ticket_of}
-use Rattle.plan_check.specs.Succession.{itself}
-use Rattle.plan_check.specs.Versions.{put_slot, some_hinted}
-use Rattle.plan_check.specs.Guards.{is_current, current_tickets}
-use Rattle.plan_check.specs.Effects.{with_puts, with_value, changed, served_puts, with_ticket, write_effect, hint_effect, ack_effect}
+use Rattle.plan_runs.specs.World.{PutRecord, World, passing_below, some_below, stage_now, generation, ticket_of}
+use Rattle.plan_runs.specs.Succession.{itself}
+use Rattle.plan_runs.specs.Versions.{put_slot, some_hinted}
+use Rattle.plan_runs.specs.Guards.{is_current, current_tickets}
+use Rattle.plan_runs.specs.Effects.{with_puts, with_value, changed, served_puts, with_ticket, write_effect, hint_effect, ack_effect}
 use Rattle.plan_check.specs.Firm.{IsMirrored, IsTwice, IsFirm, FirmSlots, IsFirmEnough, Holding}
-use Rattle.plan_check.specs.Reached.{Reached}
-use Rattle.plan_check.proofs.Changed.{part_changed}
-use Rattle.plan_check.proofs.Lasting.{Extends}
-use Rattle.plan_check.proofs.Filling.{with_puts_more, with_puts_new, served_more, served_owner, served_mirror, at_mirror}
-use Rattle.plan_check.proofs.Passing.{some_is, below_is, passing_ascend, none_twice}
-use Rattle.plan_check.proofs.Serial.{changed_acked, new_put_acked}
+use Rattle.plan_runs.specs.Reached.{Reached}
+use Rattle.plan_runs.proofs.Changed.{part_changed}
+use Rattle.plan_runs.proofs.Lasting.{Extends}
+use Rattle.plan_runs.proofs.Filling.{with_puts_more, with_puts_new, served_more, served_owner, served_mirror, at_mirror}
+use Rattle.plan_runs.proofs.Passing.{some_is, below_is, passing_ascend, none_twice}
+use Rattle.plan_runs.proofs.Serial.{changed_acked, new_put_acked}
 use Rattle.plan_check.proofs.Standing.{SlotKeeps, KeepsFirm, TicketsAreDue, twice_stays, same_slot}
-use Rattle.plan_check.proofs.Ticketed.{new_put_ticket, changed_ticket}
+use Rattle.plan_runs.proofs.Ticketed.{new_put_ticket, changed_ticket}
 use Rattle.plan_check.proofs.Quiet.{quiet_keeps, more_slots}
 use Rattle.plan_stage.proofs.Truth.{list_all-all}
 

@@ -5,15 +5,15 @@ use Rattle.ring_names.specs.declared.ids.NodeId.{NodeId}
 use Rattle.ring_names.specs.declared.ids.Slot.{Slot}
 use Rattle.ring_table.specs.Value.{RingValue}
 use Rattle.plan_text.specs.declared.step.Planned.{Planned}
-use Rattle.plan_check.specs.World.{PutRecord, GetRecord, World, some_below, stage_now, generation}
-use Rattle.plan_check.specs.Versions.{put_slot, some_hinted}
-use Rattle.plan_check.specs.Guards.{is_current}
-use Rattle.plan_check.specs.Effects.{without_puts, served_puts}
+use Rattle.plan_runs.specs.World.{PutRecord, GetRecord, World, some_below, stage_now, generation}
+use Rattle.plan_runs.specs.Versions.{put_slot, some_hinted}
+use Rattle.plan_runs.specs.Guards.{is_current}
+use Rattle.plan_runs.specs.Effects.{without_puts, served_puts}
 use Rattle.plan_check.specs.Firm.{IsTwice, Holding}
-use Rattle.plan_check.specs.Reached.{Reached}
-use Rattle.plan_check.proofs.Lasting.{Extends}
-use Rattle.plan_check.proofs.Filling.{served_more, served_owner, served_mirror, at_mirror_more, at_mirror, some_more, kept_or_gone}
-use Rattle.plan_check.proofs.Serial.{acked_exists, ticket_exists, current_ticket, is_current_by}
+use Rattle.plan_runs.specs.Reached.{Reached}
+use Rattle.plan_runs.proofs.Lasting.{Extends}
+use Rattle.plan_runs.proofs.Filling.{served_more, served_owner, served_mirror, at_mirror_more, at_mirror, some_more, kept_or_gone}
+use Rattle.plan_runs.proofs.Serial.{acked_exists, ticket_exists, current_ticket, is_current_by}
 use Rattle.plan_check.proofs.Standing.{SlotKeeps, KeepsFirm, TicketsAreDue, AcksAreDue, twice_stays, firm_stays, same_slot}
 
 -- ---- tickets and acknowledged puts

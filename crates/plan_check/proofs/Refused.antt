@@ -28,7 +28,7 @@ use Rattle.plan_check.specs.Certified.{IsCertified, ordered_by}
 use Rattle.plan_check.specs.First.{fact_clauses, first_refusal}
 use Rattle.plan_stage.specs.Partition.{Test, is_settled, has_left, has_joined, has_dropped, step_clauses, steps_clauses, slot_step_clauses, slot_clauses, partition_clauses}
 use Rattle.plan_stage.proofs.Truth.{push, two-met, two-all, parted, together, asked-met, asked-all, clauses-met, clauses-all, same, slot-same}
-use Rattle.plan_check.proofs.Suited.{step-within, slot-within, retires-within, owner-within, allowance-within}
+use Rattle.plan_runs.proofs.Suited.{step-within, slot-within, retires-within, owner-within, allowance-within}
 use Rattle.plan_check.proofs.Firsts.{holds, facts-met, facts-all, order-met, order-all, retire-is, settled-met, settled-all, left_first-met, left_later-met, left-all, joined-met, joined-all, dropped_first-met, dropped_later-met, dropped-all, AreGood, IsAllowed, AllGood, chains-met, chains-all, party-step, few-met, few-all}
 
 -- ---- the clauses, one by one

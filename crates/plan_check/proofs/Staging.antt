@@ -11,13 +11,13 @@ use Rattle.plan_text.specs.Steps.{steps_of, is_on}
 use Rattle.plan_stage.specs.Stage.{stage, next, fits}
 use Rattle.plan_stage.specs.Each.{step_at}
 use Rattle.plan_stage.proofs.Stages.{after-next, fits_at-fits, stage-more}
-use Rattle.plan_check.specs.World.{count}
-use Rattle.plan_check.specs.Effects.{with_number}
-use Rattle.plan_check.specs.Reached.{Ready, Closed}
-use Rattle.plan_check.proofs.Prefix.{found, one_more, count_same}
+use Rattle.plan_runs.specs.World.{count}
+use Rattle.plan_runs.specs.Effects.{with_number}
+use Rattle.plan_runs.specs.Reached.{Ready, Closed}
+use Rattle.plan_runs.proofs.Prefix.{found, one_more, count_same}
 use Rattle.plan_check.proofs.Mirrored.{Known, rises, down}
-use Rattle.plan_check.proofs.Groups.{steps_on}
-use Rattle.plan_check.proofs.Copying.{closed_with}
+use Rattle.plan_runs.proofs.Groups.{steps_on}
+use Rattle.plan_runs.proofs.Copying.{closed_with}
 use Rattle.plan_stage.proofs.Holders.{has-from, has-step}
 
 -- and each of its steps is on it

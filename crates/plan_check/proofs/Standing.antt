@@ -6,15 +6,15 @@ use Rattle.ring_names.specs.declared.ids.Slot.{Slot}
 use Rattle.ring_space.specs.Place.{place_of}
 use Rattle.ring_table.specs.Value.{RingValue}
 use Rattle.plan_text.specs.declared.step.Planned.{Planned}
-use Rattle.plan_check.specs.World.{World, is_acked, ticket_of, stage_now, slot_at}
-use Rattle.plan_check.specs.Succession.{Succeeds}
-use Rattle.plan_check.specs.Versions.{put_slot, some_hinted, slot_has, IsHeld}
-use Rattle.plan_check.specs.Guards.{is_current}
+use Rattle.plan_runs.specs.World.{World, is_acked, ticket_of, stage_now, slot_at}
+use Rattle.plan_runs.specs.Succession.{Succeeds}
+use Rattle.plan_runs.specs.Versions.{put_slot, some_hinted, slot_has, IsHeld}
+use Rattle.plan_runs.specs.Guards.{is_current}
 use Rattle.plan_check.specs.Firm.{IsGiven, mirror_has, IsMirrored, IsTwice, chunk_of_put, IsFirm, FirmSlots, IsFirmEnough, Holding}
-use Rattle.plan_check.specs.Reached.{Reached}
-use Rattle.plan_check.proofs.Lasting.{Extends, names_ended, succeeds_stays}
-use Rattle.plan_check.proofs.Passing.{some_found}
-use Rattle.plan_check.proofs.Serial.{acked_exists}
+use Rattle.plan_runs.specs.Reached.{Reached}
+use Rattle.plan_runs.proofs.Lasting.{Extends, names_ended, succeeds_stays}
+use Rattle.plan_runs.proofs.Passing.{some_found}
+use Rattle.plan_runs.proofs.Serial.{acked_exists}
 
 -- some put that succeeds v passes the test
 abbrev pub Successor : World → ℕ → (ℕ → Bool) → Type 0

@@ -13,23 +13,23 @@ use Rattle.plan_text.specs.Steps.{steps_of, is_on, mirror_of}
 use Rattle.plan_stage.specs.declared.stage.Stage.{Stage}
 use Rattle.plan_stage.specs.Stage.{stage, is_among, switched}
 use Rattle.plan_stage.specs.Each.{step_at}
-use Rattle.plan_check.specs.World.{World, count, stage_now, mirror_at, mirrors_done, generation}
-use Rattle.plan_check.specs.Versions.{slot_has, some_hinted}
+use Rattle.plan_runs.specs.World.{World, count, stage_now, mirror_at, mirrors_done, generation}
+use Rattle.plan_runs.specs.Versions.{slot_has, some_hinted}
 use Rattle.plan_check.specs.Firm.{mirror_has, IsMirrored, IsTwice, chunk_of_put, IsFirm}
 use Rattle.plan_check.specs.Occupies.{IsGoodStage, IsGoodMirror}
-use Rattle.plan_check.specs.Reached.{Ready, Reached}
+use Rattle.plan_runs.specs.Reached.{Ready, Reached}
 use Rattle.plan_check.proofs.Entering.{with_done}
-use Rattle.plan_check.proofs.Filling.{at_mirror, from_mirror}
+use Rattle.plan_runs.proofs.Filling.{at_mirror, from_mirror}
 use Rattle.plan_check.proofs.Given.{copied_given, none_given}
 use Rattle.plan_check.proofs.Good.{good-stages}
-use Rattle.plan_check.proofs.Groups.{Served}
-use Rattle.plan_check.proofs.Lasting.{Extends}
+use Rattle.plan_runs.proofs.Groups.{Served}
+use Rattle.plan_runs.proofs.Lasting.{Extends}
 use Rattle.plan_check.proofs.Mirrored.{Known, down}
 use Rattle.plan_check.proofs.Numbering.{mirrors_left, mirrors_up}
-use Rattle.plan_check.proofs.Prefix.{prefix}
+use Rattle.plan_runs.proofs.Prefix.{prefix}
 use Rattle.plan_check.proofs.Staging.{on_it, count_left, stage_done}
 use Rattle.plan_check.proofs.Standing.{SlotKeeps, held_stays, mirrored_by, twice_stays, firm_stays}
-use Rattle.plan_check.proofs.Suited.{step-within}
+use Rattle.plan_runs.proofs.Suited.{step-within}
 use Rattle.plan_stage.proofs.Truth.{slot-same}
 use Rattle.plan_stage.proofs.Holders.{has-step}
 

@@ -7,7 +7,7 @@ use Rattle.plan_text.specs.declared.step.Source.TheVariants.{Owner, Slots}
 use Rattle.plan_text.specs.declared.step.Step.TheVariants.{Join, Mirror, Copy, Switch, Drop, Retire}
 use Rattle.plan_stage.specs.Clauses.{below}
 use Rattle.plan_check.specs.First.{first_refusal}
-use Rattle.plan_check.proofs.Examples.{node, the, at, step, ring_of_four}
+use Rattle.plan_runs.proofs.Examples.{node, the, at, step, ring_of_four}
 
 -- the same, with fewer transfers at b, and with a fifth node that is `out`
 abbrev narrow_ring : RingValue

@@ -8,10 +8,10 @@ use Rattle.ring_table.specs.Value.{RingValue}
 use Rattle.plan_text.specs.declared.step.Source.{Source}
 use Rattle.plan_text.specs.declared.step.Planned.{Planned}
 use Rattle.plan_text.specs.Steps.{steps_of}
-use Rattle.plan_check.specs.World.{World, count, key_of_put, is_acked, copy_at, mirror_at, stage_now, mirrors_done}
-use Rattle.plan_check.specs.Succession.{Succeeds}
-use Rattle.plan_check.specs.Versions.{put_slot, some_hinted, IsHeld}
-use Rattle.plan_check.specs.Guards.{is_current}
+use Rattle.plan_runs.specs.World.{World, count, key_of_put, is_acked, copy_at, mirror_at, stage_now, mirrors_done}
+use Rattle.plan_runs.specs.Succession.{Succeeds}
+use Rattle.plan_runs.specs.Versions.{put_slot, some_hinted, IsHeld}
+use Rattle.plan_runs.specs.Guards.{is_current}
 
 -- how many of the slot's mirrors have a smaller number than step n
 abbrev pub mirrors_before : List Planned → Slot → ℕ → ℕ

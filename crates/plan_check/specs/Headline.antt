@@ -5,19 +5,15 @@ use Rattle.ring_names.specs.declared.ids.Slot.{Slot}
 use Rattle.ring_table.specs.Value.{RingValue}
 use Rattle.plan_text.specs.declared.step.Planned.{Planned}
 use Rattle.plan_text.specs.Steps.{steps_of}
-use Rattle.plan_check.specs.declared.event.Entry.{Entry}
-use Rattle.plan_check.specs.declared.event.Event.TheVariants.{StartGet, EndGet}
-use Rattle.plan_check.specs.declared.event.Reply.TheVariants as reply
-use Rattle.plan_check.specs.declared.words.Key.{Key}
-use Rattle.plan_check.specs.World.{World, count, is_acked, is_of_key}
-use Rattle.plan_check.specs.Succession.{Succeeds}
-use Rattle.plan_check.specs.Answers.{answer}
-use Rattle.plan_check.specs.Runs.{Leads, IsRun}
+use Rattle.plan_runs.specs.declared.event.Entry.{Entry}
+use Rattle.plan_runs.specs.declared.event.Event.TheVariants.{StartGet, EndGet}
+use Rattle.plan_runs.specs.declared.event.Reply.TheVariants as reply
+use Rattle.plan_runs.specs.declared.words.Key.{Key}
+use Rattle.plan_runs.specs.World.{World, count, is_acked, is_of_key}
+use Rattle.plan_runs.specs.Succession.{Succeeds}
+use Rattle.plan_runs.specs.Answers.{answer}
+use Rattle.plan_runs.specs.Runs.{Always, Leads, IsRun}
 use Rattle.plan_check.specs.Safe.{Safe}
-
--- at every moment of every run the store is so; a moment is what some first events of a run lead to, so the end of a run too
-abbrev pub Always : RingValue → List Planned → (World → Type 0) → Type 0
-Always ring plan Holds = (run : List Entry) (w : World) → IsRun ring plan run w → Holds w
 
 -- the put or one that succeeds it is among those that the get answers
 abbrev pub IsAnswered : World → ℕ → List ℕ → Type 0

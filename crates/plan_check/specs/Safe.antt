@@ -9,8 +9,8 @@ use Rattle.ring_table.specs.Value.{RingValue, allowance_of}
 use Rattle.plan_text.specs.declared.step.Source.{Source}
 use Rattle.plan_text.specs.declared.step.Planned.{Planned}
 use Rattle.plan_stage.specs.Parties.{source_slots}
-use Rattle.plan_check.specs.World.{World, passing_below, is_acked, copy_at, slot_at, stage_now, mirrors, is_in_group}
-use Rattle.plan_check.specs.Versions.{put_slot, IsHeld}
+use Rattle.plan_runs.specs.World.{World, passing_below, is_acked, copy_at, slot_at, stage_now, mirrors, is_in_group}
+use Rattle.plan_runs.specs.Versions.{put_slot, IsHeld}
 
 -- of any R different slots of its key's partition one holds the put
 abbrev pub MeetsEveryRead : RingValue → List Planned → World → ℕ → Type 0

@@ -4,23 +4,16 @@ ghost use Rattle.std.specs.Prelude.{◌≡◌, ◌↔◌, ◌<◌, ◌+◌, ℕ,
 ghost use Rattle.std.specs.List.{list_all};
 ghost use Rattle.ring_names.specs.Lists.{has, all_different};
 ghost use Rattle.plan_text.specs.Valid.{Suits};
-ghost use Rattle.ring_clock.specs.declared.causes.Cause.{Cause};
-ghost use Rattle.ring_clock.specs.Causes.{IsEarlier};
 ghost use Rattle.plan_cert.specs.declared.cert.Cert.{Cert as TheCert};
 ghost use Rattle.ring_table.specs.Value.{RingValue, migrated};
 ghost use Rattle.plan_text.specs.declared.step.Planned.{Planned};
 ghost use Rattle.plan_stage.specs.Clauses.{AllStaged};
-ghost use Rattle.plan_check.specs.World.{World};
-ghost use Rattle.plan_check.specs.Succession.{IsSuccessionTested};
-ghost use Rattle.plan_check.specs.Versions.{IsHoldingTested};
-ghost use Rattle.plan_check.specs.Causes.{puts_of, AreCausesOf, AgreeOn};
 ghost use Rattle.plan_check.specs.Sound.{Sound};
 ghost use Rattle.plan_check.specs.Certified.{IsCertified};
 ghost use Rattle.plan_check.specs.First.{first_refusal};
-ghost use Rattle.plan_check.specs.Reached.{Reached};
-ghost use Rattle.plan_check.specs.Runs.{SplitAnywhere};
 ghost use Rattle.plan_check.specs.Safe.{GroupsAreApart, TransfersAreFew};
-ghost use Rattle.plan_check.specs.Headline.{Always, AreFinishedFirst, KeepsPromises};
+ghost use Rattle.plan_runs.specs.Runs.{Always};
+ghost use Rattle.plan_check.specs.Headline.{AreFinishedFirst, KeepsPromises};
 ghost use Rattle.plan_check.specs.Occupies.{ServersOccupy, OccupantsServe, AreGoodStages};
 
 use plan_cert::Cert;
@@ -59,13 +52,6 @@ pub fn servers_occupy(ring: &Ring, plan: &Plan)
 {
     let _ = (ring.n(), plan.len());
 }
-
-/// What every run of a plan leads to, sound or not: what finished steps depend on is finished, open copies are ready and not
-/// finished, only ready copies have marks, nodes have puts of the slot's partition, gets found and answered puts of their key, and no more
-/// stores were lost than the ring allows.
-pub fn runs_reach()
-    ensures { (ring : RingValue) (plan : List Planned) → Always ring plan (Reached ring plan) }
-{}
 
 /// In every run of a sound plan the finished steps of a slot are its first ones.
 pub fn finished_steps_come_first(ring: &Ring, plan: &Plan)
@@ -107,30 +93,6 @@ pub fn accepted_plans_keep_promises(ring: &Ring, plan: &Plan, cert: &Cert)
     certified_is_sound();
     sound_plans_keep_promises(ring, plan);
 }
-
-/// A run in two parts is a run of the first, and then of the second from the world to which the first leads.
-pub fn runs_split()
-    ensures { (ring : RingValue) (plan : List Planned) → SplitAnywhere ring plan }
-{}
-
-/// The test whether one put succeeds another one tells just that.
-pub fn succession_is_tested()
-    ensures { (w : World) → IsSuccessionTested w }
-{}
-
-/// The test whether a slot holds a put tells just that.
-pub fn holding_is_tested()
-    ensures { (ring : RingValue) (plan : List Planned) (w : World) → IsHoldingTested ring plan w }
-{}
-
-/// Of the puts of one key, one succeeds another where its cause, as clocks are made of them, succeeds the other's; and causes see
-/// earlier puts alone, as the making of clocks asks.
-pub fn succession_is_of_causes()
-    ensures earlier { (w : World) (key : List ℕ) (causes : List Cause) → AreCausesOf w (puts_of w key) causes
-        → IsEarlier causes }
-    ensures agree { (w : World) (key : List ℕ) (causes : List Cause) → AreCausesOf w (puts_of w key) causes
-        → AgreeOn w (puts_of w key) causes }
-{}
 
 /// Two lists of different numbers below n that are together longer than n share a number: every read meets every write.
 pub fn quorums_meet()

@@ -17,6 +17,7 @@ mod round_sets;
 mod rounds;
 mod steps;
 mod takers;
+mod task;
 mod urgency;
 mod writing;
 

@@ -3,13 +3,12 @@
 //! What one node gives limits how soon it can be left: from its own slots all is read at its pace. From R slots that do not move, a copy loads their owners
 //! instead, each a little. It costs R + 1 parties in place of 2, so it is done only where it saves at least half of the rounds.
 
-use crate::choice::Choice;
 use crate::groups::Groups;
 use crate::moves::Move;
 use crate::numbers::{at, lower, parts, raise, small};
 use crate::rounds::counts;
+use crate::task::Task;
 use ring_names::{Refusal, Rows};
-use std::alloc::Global;
 
 // The slots, by index, that each move's copy lists; none where it reads the owner.
 #[derive(Drop)]
@@ -29,7 +28,8 @@ fn most(groups: &Groups, group: usize, rounds: u32) -> u32 {
 
 impl Listing {
     // How much of so many rounds the owner of the slot has left, in parts of 64; none for a slot that moves or whose owner has nothing left.
-    fn left(&self, choice: &Choice, groups: &Groups, place: usize, rounds: u32) -> Option<u32> {
+    fn left(&self, task: &Task, place: usize, rounds: u32) -> Option<u32> {
+        let (choice, groups) = (task.choice, task.groups);
         let group = groups.giver(choice.owner(place));
         let left = most(groups, group, rounds).saturating_sub(at(&self.counts, group));
         if choice.moves(place) || left == 0 {
@@ -39,11 +39,12 @@ impl Listing {
     }
 
     // The first slot of the partition, besides those that are listed, whose owner has most left.
-    fn best(&self, choice: &Choice, groups: &Groups, partition: usize, rounds: u32) -> Option<u32> {
+    fn best(&self, task: &Task, partition: usize, rounds: u32) -> Option<u32> {
+        let choice = task.choice;
         let mut best = None;
         let mut most = None;
         for index in 0..choice.slots {
-            let left = self.left(choice, groups, choice.place(partition, index), rounds);
+            let left = self.left(task, choice.place(partition, index), rounds);
             if most < left && !self.row.contains(&small(index)) {
                 most = left;
                 best = Some(small(index));
@@ -53,7 +54,8 @@ impl Listing {
     }
 
     // A copy reads the listed slots and no longer the owner.
-    fn count(&mut self, choice: &Choice, groups: &Groups, step: &Move) {
+    fn count(&mut self, task: &Task, step: &Move) {
+        let (choice, groups) = (task.choice, task.groups);
         if self.row.is_empty() {
             return;
         }
@@ -65,44 +67,29 @@ impl Listing {
     }
 
     // Lists R slots for a copy whose owner has more than so many rounds allow; none where there are fewer.
-    fn list(
-        &mut self,
-        choice: &Choice,
-        groups: &Groups,
-        step: &Move,
-        reads: u32,
-        rounds: u32,
-    ) -> Result<(), Refusal> {
+    fn list(&mut self, task: &Task, step: &Move, rounds: u32) -> Result<(), Refusal> {
         self.row.clear();
-        let giver = groups.giver(step.from);
-        if at(&self.counts, giver) > most(groups, giver, rounds) {
-            for _ in 0..reads {
-                let Some(index) = self.best(choice, groups, step.slot.partition as usize, rounds)
-                else {
+        let giver = task.groups.giver(step.from);
+        if at(&self.counts, giver) > most(task.groups, giver, rounds) {
+            for _ in 0..task.reads {
+                let Some(index) = self.best(task, step.slot.partition as usize, rounds) else {
                     self.row.clear();
                     break;
                 };
                 self.row.push(index)?;
             }
             self.row.sort_unstable();
-            self.count(choice, groups, step);
+            self.count(task, step);
         }
         self.slots.push(&self.row)
     }
 
     // The same for each move. Answers whether no group has more copies than so many rounds allow.
-    fn list_all(
-        &mut self,
-        alloc: Global,
-        choice: &Choice,
-        groups: &Groups,
-        moves: &[Move],
-        reads: u32,
-        rounds: u32,
-    ) -> Result<bool, Refusal> {
-        self.counts = counts(alloc, groups, moves)?;
-        for step in moves {
-            self.list(choice, groups, step, reads, rounds)?;
+    fn list_all(&mut self, task: &Task, rounds: u32) -> Result<bool, Refusal> {
+        let groups = task.groups;
+        self.counts = counts(task.alloc, groups, task.moves)?;
+        for step in task.moves {
+            self.list(task, step, rounds)?;
         }
         for group in 0..groups.len() {
             if at(&self.counts, group) > most(groups, group, rounds) {
@@ -114,20 +101,13 @@ impl Listing {
 }
 
 // Sources by which so many rounds may be enough, if that is found.
-fn try_rounds(
-    alloc: Global,
-    choice: &Choice,
-    groups: &Groups,
-    moves: &[Move],
-    reads: u32,
-    rounds: u32,
-) -> Result<Option<Rows>, Refusal> {
+fn try_rounds(task: &Task, rounds: u32) -> Result<Option<Rows>, Refusal> {
     let mut listing = Listing {
-        slots: Rows::new(alloc),
-        row: Vec::new(alloc),
-        counts: Vec::new(alloc),
+        slots: Rows::new(task.alloc),
+        row: Vec::new(task.alloc),
+        counts: Vec::new(task.alloc),
     };
-    if listing.list_all(alloc, choice, groups, moves, reads, rounds)? {
+    if listing.list_all(task, rounds)? {
         return Ok(Some(listing.slots));
     }
     Ok(None)
@@ -148,14 +128,9 @@ pub fn is_worth(rounds: u32, from_owners: u32) -> bool {
 }
 
 /// The slots, by index, that each move's copy lists, so that the fewest rounds may be enough; none where it reads the owner.
-pub fn sources(
-    alloc: Global,
-    choice: &Choice,
-    groups: &Groups,
-    moves: &[Move],
-    reads: u32,
-) -> Result<Option<Rows>, Refusal> {
-    let from_owners = fewest(groups, &counts(alloc, groups, moves)?);
+pub fn sources(task: &Task) -> Result<Option<Rows>, Refusal> {
+    let groups = task.groups;
+    let from_owners = fewest(groups, &counts(task.alloc, groups, task.moves)?);
     let mut found = None;
     let mut low = 1u32;
     let mut high = from_owners / 2;
@@ -165,7 +140,7 @@ pub fn sources(
             break;
         }
         let middle = low.saturating_add(high.saturating_sub(low) / 2);
-        match try_rounds(alloc, choice, groups, moves, reads, middle)? {
+        match try_rounds(task, middle)? {
             Some(better) => {
                 found = Some(better);
                 high = middle.saturating_sub(1);

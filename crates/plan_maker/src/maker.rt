@@ -4,6 +4,7 @@ use crate::choice::Choice;
 use crate::members::Members;
 use crate::moves::{Move, moves};
 use crate::rounds::Schedule;
+use crate::task::Task;
 use crate::writing::write;
 use plan_cert::Cert;
 use plan_text::Plan;
@@ -20,7 +21,13 @@ fn make_of_moves(
     reads: u32,
 ) -> Result<(Plan, Cert), Refusal> {
     let mut schedule = Schedule::new(alloc);
-    schedule.fill(alloc, choice, &members.groups, moves, reads)?;
+    schedule.fill(&Task {
+        alloc,
+        choice,
+        groups: &members.groups,
+        moves,
+        reads,
+    })?;
     write(alloc, members, moves, &schedule)
 }
 

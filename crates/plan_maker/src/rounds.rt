@@ -1,11 +1,11 @@
 //! The round of each move, and where its copy reads.
 
-use crate::choice::Choice;
 use crate::colours::Colours;
 use crate::groups::Groups;
 use crate::listed::{fewest, is_worth, sources};
 use crate::moves::Move;
 use crate::numbers::{at, raise, row, set, small};
+use crate::task::Task;
 use crate::urgency::by_urgency;
 use ring_names::{Refusal, Rows};
 use std::alloc::Global;
@@ -58,16 +58,15 @@ impl Later {
     // Adds the round of each copy.
     fn add_rounds(
         &mut self,
-        alloc: Global,
-        groups: &Groups,
-        moves: &[Move],
+        task: &Task,
         colours: &Colours,
         rounds: &mut Vec<u32>,
     ) -> Result<(), Refusal> {
+        let (alloc, groups) = (task.alloc, task.groups);
         self.last = vec![in alloc; small(colours.rounds); groups.len()]?;
         self.taken = vec![in alloc; 0u32; groups.len()]?;
         let mut copy = 0usize;
-        for step in moves {
+        for step in task.moves {
             rounds.push(match colours.round(copy) {
                 Some(round) => small(round),
                 None => self.round(groups, groups.giver(step.from), groups.taker(step.to)),
@@ -88,14 +87,9 @@ pub struct Schedule {
 }
 
 // The groups that take part in a copy: those whose slots it lists, or the owner's, and the one that receives it.
-fn parties(
-    alloc: Global,
-    choice: &Choice,
-    groups: &Groups,
-    step: &Move,
-    listed: &[u32],
-) -> Result<Vec<u32>, Refusal> {
-    let mut parties = Vec::new(alloc);
+fn parties(task: &Task, step: &Move, listed: &[u32]) -> Result<Vec<u32>, Refusal> {
+    let (choice, groups) = (task.choice, task.groups);
+    let mut parties = Vec::new(task.alloc);
     for index in listed {
         let place = choice.place(step.slot.partition as usize, *index as usize);
         parties.push(small(groups.giver(choice.owner(place))))?;
@@ -118,17 +112,11 @@ impl Schedule {
     }
 
     // The groups that take part in each copy, by the slots that copies list.
-    fn add_parties(
-        &mut self,
-        alloc: Global,
-        choice: &Choice,
-        groups: &Groups,
-        moves: &[Move],
-    ) -> Result<(), Refusal> {
-        self.parties = Rows::new(alloc);
+    fn add_parties(&mut self, task: &Task) -> Result<(), Refusal> {
+        self.parties = Rows::new(task.alloc);
         let mut number = 0usize;
-        for step in moves {
-            let parties = parties(alloc, choice, groups, step, row(&self.listed, number))?;
+        for step in task.moves {
+            let parties = parties(task, step, row(&self.listed, number))?;
             self.parties.push(&parties)?;
             number = number.saturating_add(1);
         }
@@ -136,32 +124,25 @@ impl Schedule {
     }
 
     // Copies from owners.
-    fn read_owners(
-        &mut self,
-        alloc: Global,
-        groups: &Groups,
-        moves: &[Move],
-    ) -> Result<(), Refusal> {
+    fn read_owners(&mut self, task: &Task) -> Result<(), Refusal> {
+        let alloc = task.alloc;
         let mut colours = Colours::new(alloc);
-        colours.colour_all(alloc, groups, moves)?;
+        colours.colour_all(alloc, task.groups, task.moves)?;
         let mut later = Later {
             last: Vec::new(alloc),
             taken: Vec::new(alloc),
         };
-        later.add_rounds(alloc, groups, moves, &colours, &mut self.rounds)
+        later.add_rounds(task, &colours, &mut self.rounds)
     }
 
     // Copies of which some list slots. Answers whether that saves enough rounds.
-    fn read_listed(
-        &mut self,
-        alloc: Global,
-        groups: &Groups,
-        moves: &[Move],
-    ) -> Result<bool, Refusal> {
-        let Some(rounds) = by_urgency(alloc, groups, &self.parties)? else {
+    fn read_listed(&mut self, task: &Task) -> Result<bool, Refusal> {
+        let groups = task.groups;
+        let Some(rounds) = by_urgency(task.alloc, groups, &self.parties)? else {
             return Ok(false);
         };
-        if !is_worth(rounds.count, fewest(groups, &counts(alloc, groups, moves)?)) {
+        let counts = counts(task.alloc, groups, task.moves)?;
+        if !is_worth(rounds.count, fewest(groups, &counts)) {
             return Ok(false);
         }
         self.rounds = rounds.of_copies;
@@ -170,24 +151,17 @@ impl Schedule {
 
     /// Gives the moves rounds, in each of which a group has no more copies than its allowance. Copies read their owners, but where it saves at
     /// least half of the rounds some list R slots that do not move.
-    pub fn fill(
-        &mut self,
-        alloc: Global,
-        choice: &Choice,
-        groups: &Groups,
-        moves: &[Move],
-        reads: u32,
-    ) -> Result<(), Refusal> {
-        if let Some(listed) = sources(alloc, choice, groups, moves, reads)? {
+    pub fn fill(&mut self, task: &Task) -> Result<(), Refusal> {
+        if let Some(listed) = sources(task)? {
             self.listed = listed;
-            self.add_parties(alloc, choice, groups, moves)?;
-            if self.read_listed(alloc, groups, moves)? {
+            self.add_parties(task)?;
+            if self.read_listed(task)? {
                 return Ok(());
             }
-            self.listed = Rows::new(alloc);
+            self.listed = Rows::new(task.alloc);
         }
-        self.add_parties(alloc, choice, groups, moves)?;
-        self.read_owners(alloc, groups, moves)
+        self.add_parties(task)?;
+        self.read_owners(task)
     }
 
     /// The moves by round, and in a round by partition and index: the round of each, and its place among the moves.

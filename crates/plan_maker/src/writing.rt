@@ -13,7 +13,9 @@ use std::alloc::Global;
 
 // A plan that is being written, and its certificate.
 #[derive(Drop)]
-struct Writer {
+struct Writer<'a> {
+    alloc: Global,
+    groups: &'a Groups,
     plan: Plan,
     cert: Cert,
     // the copies of each group, and the drops of each node, by number
@@ -30,7 +32,7 @@ fn source(alloc: Global, listed: &[u32]) -> Result<Source, Refusal> {
     Ok(Source::Slots(Listed::from_vec(slots)))
 }
 
-impl Writer {
+impl<'a> Writer<'a> {
     // The new members join.
     fn join(&mut self, members: &Members) -> Result<(), Refusal> {
         for node in members.joiners.iter() {
@@ -40,9 +42,9 @@ impl Writer {
     }
 
     // The copy that must be done before the group can have one more open.
-    fn link(&self, groups: &Groups, group: u32) -> Option<u32> {
+    fn link(&self, group: u32) -> Option<u32> {
         let copies = self.copies.items(&group);
-        let most = groups.most(group as usize) as usize;
+        let most = self.groups.most(group as usize) as usize;
         match copies.len().checked_sub(most) {
             Some(place) if most > 0 => Some(at(copies, place)),
             _ => None,
@@ -50,10 +52,10 @@ impl Writer {
     }
 
     // The copies that must be done before one in which these groups take part, ascending.
-    fn links(&self, alloc: Global, groups: &Groups, parties: &[u32]) -> Result<Vec<u32>, Refusal> {
-        let mut links = Vec::new(alloc);
+    fn links(&self, parties: &[u32]) -> Result<Vec<u32>, Refusal> {
+        let mut links = Vec::new(self.alloc);
         for group in parties {
-            if let Some(copy) = self.link(groups, *group) {
+            if let Some(copy) = self.link(*group) {
                 if !links.contains(&copy) {
                     links.push(copy)?;
                 }
@@ -64,9 +66,9 @@ impl Writer {
     }
 
     // The mirror of a move: behind the copies that its own copy must wait for, so that it does not stand open before that may begin.
-    fn mirror(&mut self, alloc: Global, step: &Move, links: &[u32]) -> Result<u32, Refusal> {
+    fn mirror(&mut self, step: &Move, links: &[u32]) -> Result<u32, Refusal> {
         let node = NodeId(step.to);
-        let mut after = Vec::new(alloc);
+        let mut after = Vec::new(self.alloc);
         if let Some(join) = self.plan.join_of(node) {
             after.push(join)?;
         }
@@ -75,32 +77,18 @@ impl Writer {
     }
 
     // The copy of a move, by the slots that it lists, behind its mirror.
-    fn copy(
-        &mut self,
-        alloc: Global,
-        groups: &Groups,
-        step: &Move,
-        listed: &[u32],
-        parties: &[u32],
-    ) -> Result<u32, Refusal> {
-        let mut after = self.links(alloc, groups, parties)?;
-        let mirror = self.mirror(alloc, step, &after)?;
+    fn copy(&mut self, step: &Move, listed: &[u32], parties: &[u32]) -> Result<u32, Refusal> {
+        let mut after = self.links(parties)?;
+        let mirror = self.mirror(step, &after)?;
         after.push(mirror)?;
-        let source = source(alloc, listed)?;
+        let source = source(self.alloc, listed)?;
         add(&mut self.plan, Step::Copy(step.slot, source), &after)
     }
 
     // The four steps of a move.
-    fn add_move(
-        &mut self,
-        alloc: Global,
-        groups: &Groups,
-        step: &Move,
-        listed: &[u32],
-        parties: &[u32],
-    ) -> Result<(), Refusal> {
+    fn add_move(&mut self, step: &Move, listed: &[u32], parties: &[u32]) -> Result<(), Refusal> {
         let slot = step.slot;
-        let copy = self.copy(alloc, groups, step, listed, parties)?;
+        let copy = self.copy(step, listed, parties)?;
         let switch = add(&mut self.plan, Step::Switch(slot), &[copy])?;
         let drop = add(
             &mut self.plan,
@@ -128,15 +116,8 @@ impl Writer {
     }
 
     // A chain of each so many-th copy of the group, from that one on.
-    fn add_chain(
-        &mut self,
-        alloc: Global,
-        groups: &Groups,
-        group: u32,
-        first: usize,
-        most: usize,
-    ) -> Result<(), Refusal> {
-        let mut chain = Vec::new(alloc);
+    fn add_chain(&mut self, group: u32, first: usize, most: usize) -> Result<(), Refusal> {
+        let mut chain = Vec::new(self.alloc);
         let mut turn = 0usize;
         for copy in self.copies.items(&group) {
             if turn.checked_rem(most) == Some(first) {
@@ -144,15 +125,15 @@ impl Writer {
             }
             turn = turn.saturating_add(1);
         }
-        self.cert.chains.push(groups.side(group), &chain)
+        self.cert.chains.push(self.groups.side(group), &chain)
     }
 
     // As many chains for each group as it may have copies open, so that copies of uneven length wait for one another as little as can be.
-    fn add_chains(&mut self, alloc: Global, groups: &Groups) -> Result<(), Refusal> {
-        for group in 0..small(groups.len()) {
-            let most = groups.most(group as usize) as usize;
+    fn add_chains(&mut self) -> Result<(), Refusal> {
+        for group in 0..small(self.groups.len()) {
+            let most = self.groups.most(group as usize) as usize;
             for first in 0..most.min(self.copies.items(&group).len()) {
-                self.add_chain(alloc, groups, group, first, most)?;
+                self.add_chain(group, first, most)?;
             }
         }
         Ok(())
@@ -161,27 +142,20 @@ impl Writer {
     // The moves, and what comes before and behind them.
     fn add_all(
         &mut self,
-        alloc: Global,
         members: &Members,
         moves: &[Move],
         schedule: &Schedule,
     ) -> Result<(), Refusal> {
         self.join(members)?;
-        for (_, number) in schedule.order(alloc)?.iter() {
+        for (_, number) in schedule.order(self.alloc)?.iter() {
             let place = *number as usize;
             if let Some(step) = moves.get(place) {
                 let listed = row(&schedule.listed, place);
-                self.add_move(
-                    alloc,
-                    &members.groups,
-                    step,
-                    listed,
-                    row(&schedule.parties, place),
-                )?;
+                self.add_move(step, listed, row(&schedule.parties, place))?;
             }
         }
         self.retire(members)?;
-        self.add_chains(alloc, &members.groups)
+        self.add_chains()
     }
 }
 
@@ -193,6 +167,8 @@ pub fn write(
     schedule: &Schedule,
 ) -> Result<(Plan, Cert), Refusal> {
     let mut writer = Writer {
+        alloc,
+        groups: &members.groups,
         plan: Plan::new(alloc),
         cert: Cert {
             facts: Rows::new(alloc),
@@ -201,6 +177,6 @@ pub fn write(
         copies: Lists::new(alloc),
         drops: Lists::new(alloc),
     };
-    writer.add_all(alloc, members, moves, schedule)?;
+    writer.add_all(members, moves, schedule)?;
     Ok((writer.plan, writer.cert))
 }

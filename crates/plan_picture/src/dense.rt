@@ -6,11 +6,13 @@ use crate::sheet::Sheet;
 use crate::slots::{most_owned, push_slots};
 use crate::state::{State, state_of};
 use crate::svg::{
-    Area, DONE, GIVE, Point, TAKE, push_area, push_picture, push_rule, push_titled, push_words,
+    Area, DONE, GIVE, Point, TAKE, push_area, push_picture, push_rule, push_said, push_titled,
+    push_words,
 };
 use crate::widths::width;
 use plan_scene::{Shown, at, name, parts_of, push_many, raise, small};
-use ring_names::{Refusal, push_decimal};
+use ring_names::Refusal;
+use words::Words;
 
 // How many nodes have a row of their own, and how many columns there are at most.
 const NAMED: usize = 27;
@@ -243,32 +245,32 @@ struct Grid {
 }
 
 // The words in front of a row.
-fn label(sheet: &Sheet, band: &Band) -> Result<Vec<u8>, Refusal> {
-    let mut words = Vec::new(sheet.alloc);
+fn label(sheet: &Sheet, band: &Band) -> Words {
+    let mut words = Words::new(sheet.alloc);
     match band.node {
         Some(node) => {
             if band.kind == 0 {
-                words.extend_from_slice(b"- ")?;
+                words.text(b"- ");
             }
             if band.kind == 1 {
-                words.extend_from_slice(b"+ ")?;
+                words.text(b"+ ");
             }
-            words.extend_from_slice(name(sheet.ring, node))?;
+            words.text(name(sheet.ring, node));
         }
         None => match band.kind {
-            0 => push_many(&mut words, band.count, b"more leaves", b"more leave")?,
-            1 => push_many(&mut words, band.count, b"more joins", b"more join")?,
-            _ => push_many(&mut words, band.count, b"more node", b"more nodes")?,
+            0 => push_many(&mut words, band.count, b"more leaves", b"more leave"),
+            1 => push_many(&mut words, band.count, b"more joins", b"more join"),
+            _ => push_many(&mut words, band.count, b"more node", b"more nodes"),
         },
     }
-    Ok(words)
+    words
 }
 
 impl Grid {
     fn of(sheet: &Sheet, nodes: &[u32], bands: &Bands, tally: &Tally) -> Result<Grid, Refusal> {
         let mut words = 110u32;
         for band in bands.bands.as_slice() {
-            words = words.max(width(label(sheet, band)?.as_slice(), 12));
+            words = words.max(width(label(sheet, band).end()?.as_slice(), 12));
         }
         let left = words.saturating_add(40);
         let columns = small(tally.columns).max(1);
@@ -302,47 +304,47 @@ impl Grid {
             .saturating_add(self.column.saturating_mul(small(column)))
     }
 
+    // The bar of the copies of all nodes in a column, of which the most are so many.
+    fn push_sum(&self, sheet: &Sheet, out: &mut Words, tally: &Tally, sum: (usize, u32)) {
+        let (column, most) = sum;
+        let floor = TOP + ALL;
+        let count = at(tally.all.as_slice(), column);
+        let high = parts_of(count, most, ALL);
+        let mut bar = Area {
+            x: self.start(column),
+            y: floor.saturating_sub(high),
+            width: self.column.saturating_sub(1),
+            height: high,
+        };
+        let about = rounds_words(sheet, tally, column, b": copies ", count);
+        let fill = if sheet.progress.is_some() {
+            b"#c9d1d9"
+        } else {
+            b"#8a95a3"
+        };
+        push_titled(out, bar, fill, b"", &about);
+        let done = parts_of(at(tally.done.as_slice(), column), most, ALL);
+        if done > 0 {
+            bar.y = floor.saturating_sub(done);
+            bar.height = done;
+            push_area(out, bar, DONE, b"");
+        }
+    }
+
     // The copies of all nodes, by column.
-    fn push_all(&self, sheet: &Sheet, out: &mut Vec<u8>, tally: &Tally) -> Result<(), Refusal> {
+    fn push_all(&self, sheet: &Sheet, out: &mut Words, tally: &Tally) {
         let mut most = 1u32;
         for count in tally.all.as_slice() {
             most = most.max(*count);
         }
-        let floor = TOP + ALL;
         for column in 0..tally.columns {
-            let count = at(tally.all.as_slice(), column);
-            let high = parts_of(count, most, ALL);
-            let mut bar = Area {
-                x: self.start(column),
-                y: floor.saturating_sub(high),
-                width: self.column.saturating_sub(1),
-                height: high,
-            };
-            let about = rounds_words(sheet, tally, column, b": copies ", count)?;
-            let fill = if sheet.progress.is_some() {
-                b"#c9d1d9"
-            } else {
-                b"#8a95a3"
-            };
-            push_titled(out, bar, fill, b"", about.as_slice())?;
-            let done = parts_of(at(tally.done.as_slice(), column), most, ALL);
-            if done > 0 {
-                bar.y = floor.saturating_sub(done);
-                bar.height = done;
-                push_area(out, bar, DONE, b"")?;
-            }
+            self.push_sum(sheet, out, tally, (column, most));
         }
-        let mut words = Vec::new(sheet.alloc);
-        push_many(&mut words, most, b"copy", b"copies")?;
-        let right = Point {
-            x: self.right.saturating_add(8),
-            y: TOP + 9,
-        };
-        push_words(out, right, b" class=\"h\"", words.as_slice())?;
-        let before = Point {
-            x: self.left.saturating_sub(12),
-            y: floor.saturating_sub(4),
-        };
+        let mut words = Words::new(sheet.alloc);
+        push_many(&mut words, most, b"copy", b"copies");
+        let right = Point::at(self.right.saturating_add(8), TOP + 9);
+        push_said(out, right, b" class=\"h\"", &words);
+        let before = Point::at(self.left.saturating_sub(12), TOP + ALL - 4);
         push_words(
             out,
             before,
@@ -352,29 +354,20 @@ impl Grid {
     }
 
     // The numbers of the rounds with which columns begin, and the heads of what stands at the right.
-    fn push_heads(&self, sheet: &Sheet, out: &mut Vec<u8>, tally: &Tally) -> Result<(), Refusal> {
+    fn push_heads(&self, sheet: &Sheet, out: &mut Words, tally: &Tally) {
         let every = (tally.columns / 12).max(1);
         for column in 0..tally.columns {
             if column % every == 0 {
-                let mut words = Vec::new(sheet.alloc);
+                let mut words = Words::new(sheet.alloc);
                 let first = small(column).saturating_mul(tally.rounds).saturating_add(1);
-                push_decimal(&mut words, first)?;
-                let place = Point {
-                    x: self.start(column),
-                    y: FIRST - 14,
-                };
-                push_words(out, place, b" class=\"h\"", words.as_slice())?;
+                words.number(first);
+                let place = Point::at(self.start(column), FIRST - 14);
+                push_said(out, place, b" class=\"h\"", &words);
             }
         }
-        let once = Point {
-            x: self.right.saturating_add(8),
-            y: FIRST - 14,
-        };
-        push_words(out, once, b" class=\"h\"", b"at once")?;
-        let owned = Point {
-            x: self.right.saturating_add(104),
-            y: FIRST - 14,
-        };
+        let once = Point::at(self.right.saturating_add(8), FIRST - 14);
+        push_words(out, once, b" class=\"h\"", b"at once");
+        let owned = Point::at(self.right.saturating_add(104), FIRST - 14);
         push_words(
             out,
             owned,
@@ -390,62 +383,27 @@ impl Grid {
     }
 
     // What stands at both ends of a row.
-    fn push_ends(
-        &self,
-        sheet: &Sheet,
-        out: &mut Vec<u8>,
-        number: usize,
-        band: &Band,
-    ) -> Result<(), Refusal> {
+    fn push_ends(&self, sheet: &Sheet, out: &mut Words, number: usize, band: &Band) {
         let middle = self.middle(number);
-        let from = Point {
-            x: self.left,
-            y: middle,
-        };
-        push_rule(
-            out,
-            from,
-            Point {
-                x: self.right,
-                y: middle,
-            },
-        )?;
+        let from = Point::at(self.left, middle);
+        push_rule(out, from, Point::at(self.right, middle));
         let y = middle.saturating_add(4);
-        let before = Point {
-            x: self.left.saturating_sub(12),
-            y,
-        };
-        let words = label(sheet, band)?;
+        let before = Point::at(self.left.saturating_sub(12), y);
+        let words = label(sheet, band);
         let Some(node) = band.node else {
-            return push_words(
-                out,
-                before,
-                b" class=\"s\" text-anchor=\"end\"",
-                words.as_slice(),
-            );
+            return push_said(out, before, b" class=\"s\" text-anchor=\"end\"", &words);
         };
-        let style = name_style(sheet, node)?;
-        push_words(out, before, style.as_slice(), words.as_slice())?;
-        let once = Point {
-            x: self.right.saturating_add(8),
-            y,
-        };
-        push_words(out, once, b" class=\"h\"", sheet.at_once(node)?.as_slice())?;
-        let owned = Point {
-            x: self.right.saturating_add(104),
-            y: middle.saturating_sub(5),
-        };
+        let style = name_style(sheet, node);
+        push_said(out, before, style.as_slice(), &words);
+        out.heed(&style);
+        let once = Point::at(self.right.saturating_add(8), y);
+        push_said(out, once, b" class=\"h\"", &sheet.at_once(node));
+        let owned = Point::at(self.right.saturating_add(104), middle.saturating_sub(5));
         push_slots(sheet, out, node, owned, self.most)
     }
 
     // The bars of a row: takes upwards, gives downwards.
-    fn push_bars(
-        &self,
-        sheet: &Sheet,
-        out: &mut Vec<u8>,
-        tally: &Tally,
-        numbered: (usize, &Band),
-    ) -> Result<(), Refusal> {
+    fn push_bars(&self, sheet: &Sheet, out: &mut Words, tally: &Tally, numbered: (usize, &Band)) {
         let (number, band) = numbered;
         let scale = if band.node.is_some() {
             self.scale
@@ -463,44 +421,41 @@ impl Grid {
                 middle: self.middle(number),
                 high: parts_of(takes, scale, room).max(1),
             };
-            bar.push(sheet, out, (takes, at(tally.took.as_slice(), cell)), true)?;
+            bar.push(sheet, out, (takes, at(tally.took.as_slice(), cell)), true);
             bar.high = parts_of(gives, scale, room).max(1);
-            bar.push(sheet, out, (gives, at(tally.gave.as_slice(), cell)), false)?;
+            bar.push(sheet, out, (gives, at(tally.gave.as_slice(), cell)), false);
         }
-        Ok(())
     }
 
     // What is said below the rows; how high the picture is with it.
-    fn push_notes(&self, sheet: &Sheet, out: &mut Vec<u8>, tally: &Tally) -> Result<u32, Refusal> {
+    fn push_notes(&self, sheet: &Sheet, out: &mut Words, tally: &Tally) -> u32 {
         let y = self.bottom.saturating_add(24);
-        let next = push_key(out, Point { x: self.left, y }, TAKE, b"", b"takes, upwards")?;
-        let mut next = push_key(out, next, GIVE, b"", b"gives, downwards")?;
+        let next = push_key(out, Point::at(self.left, y), TAKE, b"", b"takes, upwards");
+        let mut next = push_key(out, next, GIVE, b"", b"gives, downwards");
         if sheet.progress.is_some() {
-            next = push_key(out, next, DONE, b"", b"done; pale: still to do")?;
+            next = push_key(out, next, DONE, b"", b"done; pale: still to do");
         }
-        let mut words = Vec::from_slice(sheet.alloc, b"full height: ")?;
-        push_many(&mut words, self.scale, b"copy", b"copies")?;
+        let mut words = Words::new(sheet.alloc);
+        words.text(b"full height: ");
+        push_many(&mut words, self.scale, b"copy", b"copies");
         if self.sum_scale > 0 {
-            words.extend_from_slice(b", in a row of many ")?;
-            push_decimal(&mut words, self.sum_scale)?;
+            words.text(b", in a row of many ");
+            words.number(self.sum_scale);
         }
-        push_words(out, next, b" class=\"h\"", words.as_slice())?;
-        let mut words = Vec::new(sheet.alloc);
+        push_said(out, next, b" class=\"h\"", &words);
+        let mut words = Words::new(sheet.alloc);
         push_many(
             &mut words,
             tally.rounds,
             b"round a column.",
             b"rounds a column.",
-        )?;
-        words.extend_from_slice(
+        );
+        words.text(
             b" In a round stand the copies that wait only for copies to their left; nothing stops between rounds.",
-        )?;
-        let below = Point {
-            x: self.left,
-            y: y.saturating_add(20),
-        };
-        push_words(out, below, b" class=\"h\"", words.as_slice())?;
-        Ok(y.saturating_add(36))
+        );
+        let below = Point::at(self.left, y.saturating_add(20));
+        push_said(out, below, b" class=\"h\"", &words);
+        y.saturating_add(36)
     }
 }
 
@@ -515,16 +470,10 @@ struct Bar {
 
 impl Bar {
     // Of so many copies, of which so many are done; nothing of none.
-    fn push(
-        &self,
-        sheet: &Sheet,
-        out: &mut Vec<u8>,
-        counts: (u32, u32),
-        is_upwards: bool,
-    ) -> Result<(), Refusal> {
+    fn push(&self, sheet: &Sheet, out: &mut Words, counts: (u32, u32), is_upwards: bool) {
         let (count, done) = counts;
         if count == 0 {
-            return Ok(());
+            return;
         }
         let fill = if is_upwards { TAKE } else { GIVE };
         let mut area = Area {
@@ -540,36 +489,29 @@ impl Bar {
         if sheet.progress.is_none() || done >= count {
             return push_area(out, area, fill, b"");
         }
-        push_area(out, area, fill, b" opacity=\"0.28\"")?;
+        push_area(out, area, fill, b" opacity=\"0.28\"");
         area.width = parts_of(done, count, self.width);
         if area.width > 0 {
-            push_area(out, area, fill, b"")?;
+            push_area(out, area, fill, b"");
         }
-        Ok(())
     }
 }
 
 // `rounds 1 to 4: copies 12`
-fn rounds_words(
-    sheet: &Sheet,
-    tally: &Tally,
-    column: usize,
-    what: &[u8],
-    count: u32,
-) -> Result<Vec<u8>, Refusal> {
+fn rounds_words(sheet: &Sheet, tally: &Tally, column: usize, what: &[u8], count: u32) -> Words {
     let first = small(column).saturating_mul(tally.rounds);
-    let mut words = Vec::from_slice(sheet.alloc, b"rounds ")?;
-    push_decimal(&mut words, first.saturating_add(1))?;
-    words.extend_from_slice(b" to ")?;
-    push_decimal(
-        &mut words,
+    let mut words = Words::new(sheet.alloc);
+    words.text(b"rounds ");
+    words.number(first.saturating_add(1));
+    words.text(b" to ");
+    words.number(
         first
             .saturating_add(tally.rounds)
             .min(sheet.scene.round_count()),
-    )?;
-    words.extend_from_slice(what)?;
-    push_decimal(&mut words, count)?;
-    Ok(words)
+    );
+    words.text(what);
+    words.number(count);
+    words
 }
 
 /// The picture of many rounds or nodes.
@@ -577,18 +519,18 @@ pub fn dense_picture(sheet: &Sheet, nodes: &[u32]) -> Result<Vec<u8>, Refusal> {
     let bands = Bands::of(sheet, nodes)?;
     let tally = Tally::of(sheet, &bands)?;
     let grid = Grid::of(sheet, nodes, &bands, &tally)?;
-    let mut shapes = Vec::new(sheet.alloc);
-    push_frame(sheet, &mut shapes, grid.wide)?;
-    grid.push_all(sheet, &mut shapes, &tally)?;
-    grid.push_heads(sheet, &mut shapes, &tally)?;
+    let mut shapes = Words::new(sheet.alloc);
+    push_frame(sheet, &mut shapes, grid.wide);
+    grid.push_all(sheet, &mut shapes, &tally);
+    grid.push_heads(sheet, &mut shapes, &tally);
     let mut number = 0usize;
     for band in bands.bands.as_slice() {
-        grid.push_ends(sheet, &mut shapes, number, band)?;
-        grid.push_bars(sheet, &mut shapes, &tally, (number, band))?;
+        grid.push_ends(sheet, &mut shapes, number, band);
+        grid.push_bars(sheet, &mut shapes, &tally, (number, band));
         number = number.saturating_add(1);
     }
-    let height = grid.push_notes(sheet, &mut shapes, &tally)?;
-    let mut out = Vec::new(sheet.alloc);
-    push_picture(&mut out, grid.wide, height, shapes.as_slice())?;
-    Ok(out)
+    let height = grid.push_notes(sheet, &mut shapes, &tally);
+    let mut out = Words::new(sheet.alloc);
+    push_picture(&mut out, grid.wide, height, &shapes);
+    out.end()
 }

@@ -7,11 +7,12 @@ use crate::sheet::Sheet;
 use crate::slots::{most_owned, push_slots};
 use crate::state::{State, state_of};
 use crate::svg::{
-    Area, GIVE, Point, TAKE, push_area, push_picture, push_rule, push_titled, push_words,
+    Area, GIVE, Point, TAKE, push_area, push_picture, push_rule, push_said, push_titled, push_words,
 };
 use crate::widths::width;
 use plan_scene::{Shown, name, small};
-use ring_names::{Refusal, push_decimal};
+use ring_names::Refusal;
+use words::Words;
 
 // How high a lane is, and the least that a row is.
 const LANE: u32 = 19;
@@ -49,7 +50,7 @@ impl Plot {
         let mut words = 110u32;
         for node in nodes {
             words = words.max(width(name(sheet.ring, *node), 12));
-            words = words.max(width(told(sheet, *node)?.as_slice(), 10));
+            words = words.max(width(told(sheet, *node).end()?.as_slice(), 10));
         }
         let left = words.saturating_add(44);
         let rounds = sheet.scene.round_count().max(1);
@@ -95,7 +96,7 @@ impl Plot {
     }
 
     // The columns, and their numbers.
-    fn push_columns(&self, sheet: &Sheet, out: &mut Vec<u8>) -> Result<(), Refusal> {
+    fn push_columns(&self, sheet: &Sheet, out: &mut Words) {
         let rounds = sheet.scene.round_count();
         for round in 1..=rounds {
             let column = Area {
@@ -113,29 +114,12 @@ impl Plot {
                     b"#fafbfc"
                 },
                 b"",
-            )?;
+            );
             if rounds <= 24 || round % 5 == 1 {
-                let mut words = Vec::new(sheet.alloc);
-                if self.column > 56 {
-                    words.extend_from_slice(b"round ")?;
-                }
-                push_decimal(&mut words, round)?;
-                let middle = Point {
-                    x: column.x.saturating_add(self.column / 2),
-                    y: TOP - 13,
-                };
-                push_words(
-                    out,
-                    middle,
-                    b" class=\"h\" text-anchor=\"middle\"",
-                    words.as_slice(),
-                )?;
+                self.push_round(sheet, out, round);
             }
         }
-        let head = Point {
-            x: self.right.saturating_add(24),
-            y: TOP - 13,
-        };
+        let head = Point::at(self.right.saturating_add(24), TOP - 13);
         push_words(
             out,
             head,
@@ -144,45 +128,34 @@ impl Plot {
         )
     }
 
+    // The number of a round over its column.
+    fn push_round(&self, sheet: &Sheet, out: &mut Words, round: u32) {
+        let mut words = Words::new(sheet.alloc);
+        if self.column > 56 {
+            words.text(b"round ");
+        }
+        words.number(round);
+        let middle = self.start(round).saturating_add(self.column / 2);
+        let place = Point::at(middle, TOP - 13);
+        push_said(out, place, b" class=\"h\" text-anchor=\"middle\"", &words);
+    }
+
     // What stands at both ends of a row.
-    fn push_ends(&self, sheet: &Sheet, out: &mut Vec<u8>, row: &Row) -> Result<(), Refusal> {
+    fn push_ends(&self, sheet: &Sheet, out: &mut Words, row: &Row) {
         let middle = row.y.saturating_add(row.height / 2);
-        let style = name_style(sheet, row.node)?;
+        let style = name_style(sheet, row.node);
         let x = self.left.saturating_sub(12);
-        let above = Point {
-            x,
-            y: middle.saturating_sub(1),
-        };
-        push_words(out, above, style.as_slice(), name(sheet.ring, row.node))?;
-        let below = Point {
-            x,
-            y: middle.saturating_add(13),
-        };
-        let words = told(sheet, row.node)?;
-        push_words(
-            out,
-            below,
-            b" class=\"k\" text-anchor=\"end\"",
-            words.as_slice(),
-        )?;
-        let panel = Point {
-            x: self.right.saturating_add(24),
-            y: middle.saturating_sub(5),
-        };
-        push_slots(sheet, out, row.node, panel, self.most)?;
+        let above = Point::at(x, middle.saturating_sub(1));
+        push_words(out, above, style.as_slice(), name(sheet.ring, row.node));
+        out.heed(&style);
+        let below = Point::at(x, middle.saturating_add(13));
+        let words = told(sheet, row.node);
+        push_said(out, below, b" class=\"k\" text-anchor=\"end\"", &words);
+        let panel = Point::at(self.right.saturating_add(24), middle.saturating_sub(5));
+        push_slots(sheet, out, row.node, panel, self.most);
         let line = row.y.saturating_add(row.height).saturating_add(4);
-        let from = Point {
-            x: self.left,
-            y: line,
-        };
-        push_rule(
-            out,
-            from,
-            Point {
-                x: self.right,
-                y: line,
-            },
-        )
+        let from = Point::at(self.left, line);
+        push_rule(out, from, Point::at(self.right, line))
     }
 
     // The bar of a copy in a row's lane.
@@ -201,145 +174,124 @@ impl Plot {
     }
 
     // What is said below the rows; how high the picture is with it.
-    fn push_notes(&self, sheet: &Sheet, out: &mut Vec<u8>) -> Result<u32, Refusal> {
+    fn push_notes(&self, sheet: &Sheet, out: &mut Words) -> Result<u32, Refusal> {
         let y = self.bottom.saturating_add(18);
-        let start = Point { x: self.left, y };
+        let start = Point::at(self.left, y);
         if sheet.progress.is_some() {
-            let next = push_key(out, start, b"#8a95a3", b" rx=\"2\"", b"copied")?;
-            let next = push_key(
-                out,
-                next,
-                b"#c9d1d9",
-                b" rx=\"2\" stroke=\"#8a95a3\"",
-                b"open, as far as it is",
-            )?;
-            push_key(
-                out,
-                next,
-                b"#ffffff",
-                b" rx=\"2\" stroke=\"#8a95a3\"",
-                b"still to do",
-            )?;
+            push_done_keys(out, start);
         } else {
-            let next = push_key(out, start, GIVE, b" rx=\"2\"", b"gives a slot")?;
-            push_key(
-                out,
-                next,
-                TAKE,
-                b" rx=\"2\"",
-                b"takes a slot; 5.1 is slot 1 of partition 5",
-            )?;
+            push_plan_keys(out, start);
         }
-        let lines: [&[u8]; 2] = [
-            b"In a round stand the copies that wait only for copies to their left. Nothing stops between rounds:",
-            b"a copy begins as soon as the steps are done that it waits for.",
-        ];
         let mut below = y.saturating_add(20);
-        for line in lines {
-            push_words(
-                out,
-                Point {
-                    x: self.left,
-                    y: below,
-                },
-                b" class=\"h\"",
-                line,
-            )?;
+        for line in LINES {
+            push_words(out, Point::at(self.left, below), b" class=\"h\"", line);
             below = below.saturating_add(15);
         }
-        push_idle(
-            sheet,
-            out,
-            Point {
-                x: self.left,
-                y: below.saturating_add(5),
-            },
-        )?;
+        push_idle(sheet, out, Point::at(self.left, below.saturating_add(5)))?;
         Ok(below.saturating_add(20))
     }
 }
 
+// What stands below every picture.
+const LINES: [&[u8]; 2] = [
+    b"In a round stand the copies that wait only for copies to their left. Nothing stops between rounds:",
+    b"a copy begins as soon as the steps are done that it waits for.",
+];
+
+// What the bars mean where a run has begun.
+fn push_done_keys(out: &mut Words, start: Point) {
+    let outline = b" rx=\"2\" stroke=\"#8a95a3\"";
+    let next = push_key(out, start, b"#8a95a3", b" rx=\"2\"", b"copied");
+    let next = push_key(out, next, b"#c9d1d9", outline, b"open, as far as it is");
+    push_key(out, next, b"#ffffff", outline, b"still to do");
+}
+
+// What the bars mean of a plan alone.
+fn push_plan_keys(out: &mut Words, start: Point) {
+    let round = b" rx=\"2\"";
+    let next = push_key(out, start, GIVE, round, b"gives a slot");
+    let takes = b"takes a slot; 5.1 is slot 1 of partition 5";
+    push_key(out, next, TAKE, round, takes);
+}
+
 // `joins, 4 of 4 at once`
-fn told(sheet: &Sheet, node: u32) -> Result<Vec<u8>, Refusal> {
-    let mut words = Vec::new(sheet.alloc);
+fn told(sheet: &Sheet, node: u32) -> Words {
+    let mut words = Words::new(sheet.alloc);
     if sheet.joins(node) {
-        words.extend_from_slice(b"joins")?;
+        words.text(b"joins");
     }
     if sheet.leaves(node) {
-        words.extend_from_slice(b"leaves")?;
+        words.text(b"leaves");
     }
-    let at_once = sheet.at_once(node)?;
-    if !at_once.is_empty() {
-        if !words.is_empty() {
-            words.extend_from_slice(b", ")?;
+    let at_once = sheet.at_once(node);
+    words.heed(&at_once);
+    if at_once.len() > 0 {
+        if words.len() > 0 {
+            words.text(b", ");
         }
-        words.extend_from_slice(at_once.as_slice())?;
-        words.extend_from_slice(b" at once")?;
+        words.text(at_once.as_slice());
+        words.text(b" at once");
     }
-    Ok(words)
+    words
 }
 
 // `5.1`
-fn slot_word(sheet: &Sheet, shown: &Shown) -> Result<Vec<u8>, Refusal> {
-    let mut word = Vec::new(sheet.alloc);
-    push_decimal(&mut word, shown.slot.partition)?;
-    word.push(b'.')?;
-    push_decimal(&mut word, shown.slot.index)?;
-    Ok(word)
+fn slot_word(sheet: &Sheet, shown: &Shown) -> Words {
+    let mut word = Words::new(sheet.alloc);
+    word.number(shown.slot.partition);
+    word.byte(b'.');
+    word.number(shown.slot.index);
+    word
 }
 
 // The words of a bar: the slot with the other node where there is room for it, the slot alone, or nothing.
-fn label(sheet: &Sheet, shown: &Shown, takes: bool, room: u32) -> Result<Vec<u8>, Refusal> {
-    let slot = slot_word(sheet, shown)?;
-    let mut long = Vec::from_slice(sheet.alloc, slot.as_slice())?;
-    long.extend_from_slice(if takes {
+fn label(sheet: &Sheet, shown: &Shown, takes: bool, room: u32) -> Words {
+    let slot = slot_word(sheet, shown);
+    let mut long = Words::new(sheet.alloc);
+    long.words(&slot);
+    long.text(if takes {
         b" \xe2\x86\x90 "
     } else {
         b" \xe2\x86\x92 "
-    })?;
+    });
     let reads = sheet.scene.shown.read_by(shown);
     if !takes {
-        long.extend_from_slice(name(sheet.ring, shown.to))?;
+        long.text(name(sheet.ring, shown.to));
     } else if reads.len() == 1 {
-        long.extend_from_slice(name(sheet.ring, reads[0]))?;
+        long.text(name(sheet.ring, reads[0]));
     } else {
-        push_decimal(&mut long, small(reads.len()))?;
-        long.extend_from_slice(b" nodes")?;
+        long.number(small(reads.len()));
+        long.text(b" nodes");
     }
     if width(long.as_slice(), 11) <= room {
-        return Ok(long);
+        return long;
     }
     if width(slot.as_slice(), 11) <= room {
-        return Ok(slot);
+        return slot;
     }
-    Ok(Vec::new(sheet.alloc))
+    Words::new(sheet.alloc)
 }
 
 // What a bar says to a pointer.
-fn title(sheet: &Sheet, shown: &Shown) -> Result<Vec<u8>, Refusal> {
-    let mut words = Vec::from_slice(sheet.alloc, b"step ")?;
-    push_decimal(&mut words, shown.copy.unwrap_or(0))?;
-    words.extend_from_slice(b": copy of slot ")?;
-    push_decimal(&mut words, shown.slot.index)?;
-    words.extend_from_slice(b" of partition ")?;
-    push_decimal(&mut words, shown.slot.partition)?;
-    words.extend_from_slice(b" from ")?;
-    plan_scene::push_names(&mut words, sheet.ring, sheet.scene.shown.read_by(shown), 7)?;
-    words.extend_from_slice(b" to ")?;
-    words.extend_from_slice(name(sheet.ring, shown.to))?;
-    Ok(words)
+fn title(sheet: &Sheet, shown: &Shown) -> Words {
+    let mut words = Words::new(sheet.alloc);
+    words.text(b"step ");
+    words.number(shown.copy.unwrap_or(0));
+    words.text(b": copy of slot ");
+    words.number(shown.slot.index);
+    words.text(b" of partition ");
+    words.number(shown.slot.partition);
+    words.text(b" from ");
+    plan_scene::push_names(&mut words, sheet.ring, sheet.scene.shown.read_by(shown), 7);
+    words.text(b" to ");
+    words.text(name(sheet.ring, shown.to));
+    words
 }
 
 // The bar of a copy at one of its nodes.
-fn push_bar(
-    sheet: &Sheet,
-    out: &mut Vec<u8>,
-    area: Area,
-    shown: &Shown,
-    takes: bool,
-) -> Result<(), Refusal> {
+fn push_bar(sheet: &Sheet, out: &mut Words, area: Area, shown: &Shown, takes: bool) {
     let fill = if takes { TAKE } else { GIVE };
-    let about = title(sheet, shown)?;
+    let about = title(sheet, shown);
     let outline = if takes {
         b" rx=\"3\" stroke=\"#1d5fd0\""
     } else {
@@ -347,65 +299,47 @@ fn push_bar(
     };
     let mut ink = b" class=\"b\" text-anchor=\"middle\" style=\"fill:#ffffff\"".as_slice();
     match state_of(sheet, shown) {
-        State::Planned | State::Copied => push_titled(
-            out,
-            area,
-            fill,
-            b" rx=\"3\"",
-            about.as_slice(),
-        )?,
+        State::Planned | State::Copied => push_titled(out, area, fill, b" rx=\"3\"", &about),
         State::Open(chunks) => {
-            push_titled(out, area, b"#ffffff", outline.as_slice(), about.as_slice())?;
+            push_titled(out, area, b"#ffffff", outline.as_slice(), &about);
             let mut part = area;
             part.width = plan_scene::parts_of(chunks, 16, area.width);
-            push_area(out, part, fill, b" rx=\"3\" opacity=\"0.4\"")?;
+            push_area(out, part, fill, b" rx=\"3\" opacity=\"0.4\"");
             ink = b" class=\"b\" text-anchor=\"middle\"".as_slice();
         }
         State::Left => {
-            push_titled(out, area, b"#ffffff", outline.as_slice(), about.as_slice())?;
+            push_titled(out, area, b"#ffffff", outline.as_slice(), &about);
             ink = b" class=\"b\" text-anchor=\"middle\"".as_slice();
         }
     }
-    let words = label(sheet, shown, takes, area.width)?;
-    if words.is_empty() {
-        return Ok(());
+    let words = label(sheet, shown, takes, area.width);
+    out.heed(&words);
+    if words.len() == 0 {
+        return;
     }
-    let middle = Point {
-        x: area.x.saturating_add(area.width / 2),
-        y: area.y.saturating_add(12),
-    };
-    push_words(out, middle, ink, words.as_slice())
+    let middle = Point::at(
+        area.x.saturating_add(area.width / 2),
+        area.y.saturating_add(12),
+    );
+    push_said(out, middle, ink, &words)
 }
 
 // The bars of a copy, one for each of its nodes.
-fn push_copy(
-    sheet: &Sheet,
-    out: &mut Vec<u8>,
-    plot: &Plot,
-    lanes: &mut Lanes,
-    shown: &Shown,
-) -> Result<(), Refusal> {
-    push_part(sheet, out, plot, lanes, (shown, shown.to))?;
+fn push_copy(sheet: &Sheet, out: &mut Words, plot: &Plot, lanes: &mut Lanes, shown: &Shown) {
+    push_part(sheet, out, plot, lanes, (shown, shown.to));
     for node in sheet.scene.shown.read_by(shown) {
-        push_part(sheet, out, plot, lanes, (shown, *node))?;
+        push_part(sheet, out, plot, lanes, (shown, *node));
     }
-    Ok(())
 }
 
 // The bar of a copy at that node.
-fn push_part(
-    sheet: &Sheet,
-    out: &mut Vec<u8>,
-    plot: &Plot,
-    lanes: &mut Lanes,
-    part: (&Shown, u32),
-) -> Result<(), Refusal> {
+fn push_part(sheet: &Sheet, out: &mut Words, plot: &Plot, lanes: &mut Lanes, part: (&Shown, u32)) {
     let (shown, node) = part;
     let Some(place) = lanes.row(node) else {
-        return Ok(());
+        return;
     };
     let Some(row) = plot.rows.as_slice().get(place) else {
-        return Ok(());
+        return;
     };
     let lane = lanes.take(place, shown.round);
     let area = plot.area(row, shown.round, lane);
@@ -415,20 +349,20 @@ fn push_part(
 /// The picture of every copy.
 pub fn full_picture(sheet: &Sheet, nodes: &[u32], counted: &Lanes) -> Result<Vec<u8>, Refusal> {
     let plot = Plot::of(sheet, nodes, counted)?;
-    let mut shapes = Vec::new(sheet.alloc);
-    push_frame(sheet, &mut shapes, plot.wide)?;
-    plot.push_columns(sheet, &mut shapes)?;
+    let mut shapes = Words::new(sheet.alloc);
+    push_frame(sheet, &mut shapes, plot.wide);
+    plot.push_columns(sheet, &mut shapes);
     for row in plot.rows.as_slice() {
-        plot.push_ends(sheet, &mut shapes, row)?;
+        plot.push_ends(sheet, &mut shapes, row);
     }
     let mut lanes = Lanes::new(sheet, nodes)?;
     for place in by_copy(sheet)?.as_slice() {
         if let Some(shown) = sheet.shown(*place) {
-            push_copy(sheet, &mut shapes, &plot, &mut lanes, shown)?;
+            push_copy(sheet, &mut shapes, &plot, &mut lanes, shown);
         }
     }
     let height = plot.push_notes(sheet, &mut shapes)?;
-    let mut out = Vec::new(sheet.alloc);
-    push_picture(&mut out, plot.wide, height, shapes.as_slice())?;
-    Ok(out)
+    let mut out = Words::new(sheet.alloc);
+    push_picture(&mut out, plot.wide, height, &shapes);
+    out.end()
 }

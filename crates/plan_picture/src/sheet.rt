@@ -2,9 +2,9 @@
 
 use plan_scene::{Progress, Scene, Shown, at};
 use plan_text::Plan;
-use ring_names::Refusal;
 use ring_table::Ring;
 use std::alloc::Global;
+use words::Words;
 
 /// An approved plan with what is shown of it, and how far a run has come, where there is one.
 #[derive(Clone, Copy)]
@@ -39,13 +39,13 @@ impl<'a> Sheet<'a> {
     }
 
     /// How many transfers the node has at once, of how many it may bear.
-    pub fn at_once(&self, node: u32) -> Result<Vec<u8>, Refusal> {
-        let mut text = Vec::new(self.alloc);
+    pub fn at_once(&self, node: u32) -> Words {
+        let mut text = Words::new(self.alloc);
         if let Some(declared) = self.ring.nodes().get(node as usize) {
             self.scene
                 .loads
-                .push_at_once(&mut text, declared.allowance, node)?;
+                .push_at_once(&mut text, declared.allowance, node);
         }
-        Ok(text)
+        text
     }
 }

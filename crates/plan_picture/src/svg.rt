@@ -1,6 +1,6 @@
 //! Shapes as SVG. Coordinates are whole pixels, so that the same picture has the same bytes.
 
-use ring_names::{Refusal, push_decimal};
+use words::Words;
 
 /// The colour of what is given.
 pub const GIVE: &[u8] = b"#c2570c";
@@ -33,78 +33,74 @@ pub struct Point {
     pub y: u32,
 }
 
+impl Point {
+    /// The place at so many to the right and so many down.
+    pub fn at(x: u32, y: u32) -> Point {
+        Point { x, y }
+    }
+}
+
 // ` x="12"`
-fn push_measure(out: &mut Vec<u8>, name: &[u8], number: u32) -> Result<(), Refusal> {
-    out.push(b' ')?;
-    out.extend_from_slice(name)?;
-    out.extend_from_slice(b"=\"")?;
-    push_decimal(out, number)?;
-    out.push(b'"')?;
-    Ok(())
+fn push_measure(out: &mut Words, name: &[u8], number: u32) {
+    out.byte(b' ');
+    out.text(name);
+    out.text(b"=\"");
+    out.number(number);
+    out.byte(b'"');
 }
 
 // The beginning of a rectangle, up to what closes it.
-fn push_open(out: &mut Vec<u8>, area: Area, fill: &[u8], more: &[u8]) -> Result<(), Refusal> {
-    out.extend_from_slice(b"<rect")?;
-    push_measure(out, b"x", area.x)?;
-    push_measure(out, b"y", area.y)?;
-    push_measure(out, b"width", area.width)?;
-    push_measure(out, b"height", area.height)?;
-    out.extend_from_slice(b" fill=\"")?;
-    out.extend_from_slice(fill)?;
-    out.push(b'"')?;
-    out.extend_from_slice(more)?;
-    Ok(())
+fn push_open(out: &mut Words, area: Area, fill: &[u8], more: &[u8]) {
+    out.text(b"<rect");
+    push_measure(out, b"x", area.x);
+    push_measure(out, b"y", area.y);
+    push_measure(out, b"width", area.width);
+    push_measure(out, b"height", area.height);
+    out.text(b" fill=\"");
+    out.text(fill);
+    out.byte(b'"');
+    out.text(more);
 }
 
 /// A rectangle, with further attributes, each behind a space.
-pub fn push_area(out: &mut Vec<u8>, area: Area, fill: &[u8], more: &[u8]) -> Result<(), Refusal> {
-    push_open(out, area, fill, more)?;
-    out.extend_from_slice(b"/>\n")?;
-    Ok(())
+pub fn push_area(out: &mut Words, area: Area, fill: &[u8], more: &[u8]) {
+    push_open(out, area, fill, more);
+    out.text(b"/>\n");
 }
 
 /// The same, with words that show where a pointer rests on it.
-pub fn push_titled(
-    out: &mut Vec<u8>,
-    area: Area,
-    fill: &[u8],
-    more: &[u8],
-    title: &[u8],
-) -> Result<(), Refusal> {
-    push_open(out, area, fill, more)?;
-    out.extend_from_slice(b"><title>")?;
-    out.extend_from_slice(title)?;
-    out.extend_from_slice(b"</title></rect>\n")?;
-    Ok(())
+pub fn push_titled(out: &mut Words, area: Area, fill: &[u8], more: &[u8], title: &Words) {
+    push_open(out, area, fill, more);
+    out.text(b"><title>");
+    out.words(title);
+    out.text(b"</title></rect>\n");
 }
 
 /// Words at a place, with attributes, each behind a space. Names of nodes and the words here have no character that must be escaped.
-pub fn push_words(
-    out: &mut Vec<u8>,
-    at: Point,
-    attributes: &[u8],
-    words: &[u8],
-) -> Result<(), Refusal> {
-    out.extend_from_slice(b"<text")?;
-    push_measure(out, b"x", at.x)?;
-    push_measure(out, b"y", at.y)?;
-    out.extend_from_slice(attributes)?;
-    out.push(b'>')?;
-    out.extend_from_slice(words)?;
-    out.extend_from_slice(b"</text>\n")?;
-    Ok(())
+pub fn push_words(out: &mut Words, at: Point, attributes: &[u8], words: &[u8]) {
+    out.text(b"<text");
+    push_measure(out, b"x", at.x);
+    push_measure(out, b"y", at.y);
+    out.text(attributes);
+    out.byte(b'>');
+    out.text(words);
+    out.text(b"</text>\n");
+}
+
+/// The same, of words that were written elsewhere.
+pub fn push_said(out: &mut Words, at: Point, attributes: &[u8], words: &Words) {
+    push_words(out, at, attributes, words.as_slice());
+    out.heed(words);
 }
 
 /// A thin line from one place to another.
-pub fn push_rule(out: &mut Vec<u8>, from: Point, to: Point) -> Result<(), Refusal> {
-    out.extend_from_slice(b"<line")?;
-    push_measure(out, b"x1", from.x)?;
-    push_measure(out, b"y1", from.y)?;
-    push_measure(out, b"x2", to.x)?;
-    push_measure(out, b"y2", to.y)?;
-    out.extend_from_slice(b" stroke=\"#dfe4ea\"/>\n")?;
-    Ok(())
+pub fn push_rule(out: &mut Words, from: Point, to: Point) {
+    out.text(b"<line");
+    push_measure(out, b"x1", from.x);
+    push_measure(out, b"y1", from.y);
+    push_measure(out, b"x2", to.x);
+    push_measure(out, b"y2", to.y);
+    out.text(b" stroke=\"#dfe4ea\"/>\n");
 }
 
 // The fonts and sizes of words, by class.
@@ -112,29 +108,23 @@ const STYLE: &[u8] =
     b"<style>text{font-family:'DejaVu Sans',Verdana,sans-serif;fill:#16202c}\n.t{font-size:19px;font-weight:bold}.s{font-size:12px;fill:#5d6b7a}.n{font-size:12px}.b{font-size:11px}.h{font-size:11px;fill:#5d6b7a}.k{font-size:10px;fill:#5d6b7a}</style>\n";
 
 /// A whole picture of that size round its shapes, on white.
-pub fn push_picture(
-    out: &mut Vec<u8>,
-    width: u32,
-    height: u32,
-    shapes: &[u8],
-) -> Result<(), Refusal> {
-    out.extend_from_slice(b"<svg xmlns=\"http://www.w3.org/2000/svg\" viewBox=\"0 0 ")?;
-    push_decimal(out, width)?;
-    out.push(b' ')?;
-    push_decimal(out, height)?;
-    out.push(b'"')?;
-    push_measure(out, b"width", width)?;
-    push_measure(out, b"height", height)?;
-    out.extend_from_slice(b" role=\"img\">\n")?;
-    out.extend_from_slice(STYLE)?;
+pub fn push_picture(out: &mut Words, width: u32, height: u32, shapes: &Words) {
+    out.text(b"<svg xmlns=\"http://www.w3.org/2000/svg\" viewBox=\"0 0 ");
+    out.number(width);
+    out.byte(b' ');
+    out.number(height);
+    out.byte(b'"');
+    push_measure(out, b"width", width);
+    push_measure(out, b"height", height);
+    out.text(b" role=\"img\">\n");
+    out.text(STYLE);
     let whole = Area {
         x: 0,
         y: 0,
         width,
         height,
     };
-    push_area(out, whole, b"#ffffff", b"")?;
-    out.extend_from_slice(shapes)?;
-    out.extend_from_slice(b"</svg>\n")?;
-    Ok(())
+    push_area(out, whole, b"#ffffff", b"");
+    out.words(shapes);
+    out.text(b"</svg>\n");
 }

@@ -3,47 +3,39 @@
 use crate::names::{name, push_many, push_names};
 use crate::numbers::small;
 use crate::scene::Scene;
-use ring_names::Refusal;
 use ring_table::Ring;
+use words::Words;
 
 // `a and b join`, or nothing where nobody does.
-fn push_who(
-    out: &mut Vec<u8>,
-    ring: &Ring,
-    nodes: &[u32],
-    one: &[u8],
-    more: &[u8],
-) -> Result<(), Refusal> {
+fn push_who(out: &mut Words, ring: &Ring, nodes: &[u32], one: &[u8], more: &[u8]) {
     let mut width = 0usize;
     for node in nodes {
         width = width.saturating_add(name(ring, *node).len());
     }
     if nodes.len() <= 3 && width <= 40 {
-        push_names(out, ring, nodes, 3)?;
+        push_names(out, ring, nodes, 3);
     } else {
-        push_many(out, small(nodes.len()), b"node", b"nodes")?;
+        push_many(out, small(nodes.len()), b"node", b"nodes");
     }
-    out.push(b' ')?;
-    out.extend_from_slice(if nodes.len() == 1 { one } else { more })?;
-    Ok(())
+    out.byte(b' ');
+    out.text(if nodes.len() == 1 { one } else { more });
 }
 
 /// Who joins and who leaves.
-pub fn push_change(out: &mut Vec<u8>, ring: &Ring, scene: &Scene) -> Result<(), Refusal> {
+pub fn push_change(out: &mut Words, ring: &Ring, scene: &Scene) {
     let (joins, leaves) = (scene.joins.as_slice(), scene.leaves.as_slice());
     if joins.is_empty() && leaves.is_empty() {
-        out.extend_from_slice(b"Nobody joins or leaves")?;
+        out.text(b"Nobody joins or leaves");
     }
     if !joins.is_empty() {
-        push_who(out, ring, joins, b"joins", b"join")?;
+        push_who(out, ring, joins, b"joins", b"join");
     }
     if !joins.is_empty() && !leaves.is_empty() {
-        out.extend_from_slice(b" and ")?;
+        out.text(b" and ");
     }
     if !leaves.is_empty() {
-        push_who(out, ring, leaves, b"leaves", b"leave")?;
+        push_who(out, ring, leaves, b"leaves", b"leave");
     }
-    Ok(())
 }
 
 /// The fewest slots that must move where these nodes join and leave: each of a leaver, and as many more as give each joiner its share of all,

@@ -10,6 +10,7 @@ use plan_text::Plan;
 use ring_names::{Listed, NodeId, Refusal};
 use ring_table::{Allowance, Ring, Side};
 use std::alloc::Global;
+use words::Words;
 
 /// Numbers by node.
 #[derive(Drop)]
@@ -96,21 +97,16 @@ impl Loads {
     }
 
     /// How many transfers the node has at once, of how many it may bear: `3 of 4`, or `2 of 2 in, 1 of 2 out`. Nothing where it has none of a side.
-    pub fn push_at_once(
-        &self,
-        out: &mut Vec<u8>,
-        allowance: Allowance,
-        node: u32,
-    ) -> Result<(), Refusal> {
+    pub fn push_at_once(&self, out: &mut Words, allowance: Allowance, node: u32) {
         let place = node as usize;
         match allowance {
             Allowance::Joint(most) => push_of(out, at(self.joint.as_slice(), place), most, b""),
             Allowance::Split { take, give } => {
                 let taken = at(self.taking.as_slice(), place);
                 let given = at(self.giving.as_slice(), place);
-                push_of(out, taken, take, b" in")?;
+                push_of(out, taken, take, b" in");
                 if taken > 0 && given > 0 {
-                    out.extend_from_slice(b", ")?;
+                    out.text(b", ");
                 }
                 push_of(out, given, give, b" out")
             }
@@ -126,13 +122,12 @@ fn put(numbers: &mut [u32], place: usize, found: Option<u32>) {
 }
 
 // `3 of 4`, and the word behind it; nothing of none.
-fn push_of(out: &mut Vec<u8>, count: u32, most: u32, word: &[u8]) -> Result<(), Refusal> {
+fn push_of(out: &mut Words, count: u32, most: u32, word: &[u8]) {
     if count == 0 {
-        return Ok(());
+        return;
     }
-    ring_names::push_decimal(out, count)?;
-    out.extend_from_slice(b" of ")?;
-    ring_names::push_decimal(out, most)?;
-    out.extend_from_slice(word)?;
-    Ok(())
+    out.number(count);
+    out.text(b" of ");
+    out.number(most);
+    out.text(word);
 }

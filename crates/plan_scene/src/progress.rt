@@ -1,6 +1,6 @@
 //! How far a run of a plan has come.
 
-use plan_check::{Entry, Event};
+use plan_runs::{Entry, Event};
 use plan_text::Plan;
 use ring_names::Refusal;
 use std::alloc::Global;

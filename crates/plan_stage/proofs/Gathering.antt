@@ -23,17 +23,13 @@ use Rattle.plan_text.specs.Steps.{is_on, steps_from, steps_of, is_retire_of, fir
 use Rattle.plan_stage.specs.Each.{slot_in}
 use Rattle.plan_stage.specs.Looking.Gathered.{mirrored_node, are_steps, Grows, HasRetirement, HasStep, HasSlot, IsGathered}
 use Rattle.plan_stage.proofs.Truth.{same, list_all-met, list_all-all}
+use Rattle.ring_names.proofs.Logic.{or_swapped}
 
 -- ---- one more number
 
 pub has-push : (x k : ℕ) (ks : List ℕ) → has x (ks ++ k ∷ []) ≡ ((x == k) || has x ks)
 has-push x k [] = refl
-has-push x k (y ∷ ys) = rw (has-push x k ys) (swapped (x == y) (x == k) (has x ys))
-  where
-    swapped : (a b c : Bool) → (a || (b || c)) ≡ (b || (a || c))
-    swapped true true c = refl
-    swapped true false c = refl
-    swapped false b c = refl
+has-push x k (y ∷ ys) = rw (has-push x k ys) (or_swapped (x == y) (x == k) (has x ys))
 
 pub push-has : (k : ℕ) (old new : List ℕ) → new ≡ old ++ k ∷ [] → has k new ≡ true
 push-has k old new e = rw (e, has-push k k old) (or_left (k == k) (has k old) (same k))

@@ -14,6 +14,7 @@ use plan_text::Plan;
 use ring_names::{NodeId, Refusal, push_decimal};
 use ring_table::Ring;
 use std::alloc::Global;
+use words::Words;
 
 /// How much a summary shows.
 #[derive(Clone, Copy, Debug, PartialEq, Eq)]
@@ -40,12 +41,11 @@ pub struct View<'a> {
 const INDENT: usize = 12;
 
 // What the plan does to its ring.
-fn tell_change(view: &View, line: &mut Vec<u8>) -> Result<(), Refusal> {
-    push_change(line, view.ring, view.scene)?;
-    line.extend_from_slice(b" a ring of ")?;
-    push_quorum(line, view.ring, b": any ", b", any ")?;
-    line.push(b'.')?;
-    Ok(())
+fn tell_change(view: &View, line: &mut Words) {
+    push_change(line, view.ring, view.scene);
+    line.text(b" a ring of ");
+    push_quorum(line, view.ring, b": any ", b", any ");
+    line.byte(b'.');
 }
 
 // How many different slots move.
@@ -63,45 +63,43 @@ fn moved_slots(view: &View) -> Result<u32, Refusal> {
     Ok(count)
 }
 
-fn tell_moves(view: &View, line: &mut Vec<u8>, slots: u32) -> Result<(), Refusal> {
+fn tell_moves(view: &View, line: &mut Words, slots: u32) {
     let total = view.ring.q().saturating_mul(view.ring.n());
     let moves = view.scene.move_count();
-    line.extend_from_slice(b"  moves     ")?;
+    line.text(b"  moves     ");
     if moves > slots {
-        push_many(line, moves, b"move of ", b"moves of ")?;
+        push_many(line, moves, b"move of ", b"moves of ");
     }
-    push_decimal(line, slots)?;
-    line.extend_from_slice(b" of ")?;
-    push_many(line, total, b"slot (", b"slots (")?;
-    push_decimal(line, parts_of(slots, total, 100))?;
-    line.extend_from_slice(b" %)")?;
+    line.number(slots);
+    line.text(b" of ");
+    push_many(line, total, b"slot (", b"slots (");
+    line.number(parts_of(slots, total, 100));
+    line.text(b" %)");
     push_fewest(view, line)
 }
 
 // Whether fewer moves would do.
-fn push_fewest(view: &View, line: &mut Vec<u8>) -> Result<(), Refusal> {
+fn push_fewest(view: &View, line: &mut Words) {
     if view.scene.joins.is_empty() && view.scene.leaves.is_empty() {
-        return Ok(());
+        return;
     }
     let moves = view.scene.move_count();
     let fewest = fewest_moves(view.ring, view.scene);
     if moves == fewest {
-        line.extend_from_slice(b", no more than must")?;
+        line.text(b", no more than must");
     }
     if moves > fewest {
-        line.extend_from_slice(b", where ")?;
-        push_decimal(line, fewest)?;
-        line.extend_from_slice(b" would do")?;
+        line.text(b", where ");
+        line.number(fewest);
+        line.text(b" would do");
     }
-    Ok(())
 }
 
-fn tell_round_count(view: &View, line: &mut Vec<u8>) -> Result<(), Refusal> {
-    line.extend_from_slice(b"  rounds    ")?;
-    push_decimal(line, view.scene.round_count())?;
-    line.extend_from_slice(b" of copies behind one another; the widest has ")?;
-    push_decimal(line, view.scene.widest())?;
-    Ok(())
+fn tell_round_count(view: &View, line: &mut Words) {
+    line.text(b"  rounds    ");
+    line.number(view.scene.round_count());
+    line.text(b" of copies behind one another; the widest has ");
+    line.number(view.scene.widest());
 }
 
 // How many mirrors open rounds before their copies.
@@ -127,12 +125,12 @@ fn count_listed(view: &View) -> u32 {
 }
 
 // What mirrors cost.
-fn tell_writes(view: &View, line: &mut Vec<u8>) -> Result<(), Refusal> {
-    line.extend_from_slice(b"  writes    twice for a slot while its mirror is open; ")?;
+fn tell_writes(view: &View, line: &mut Words) {
+    line.text(b"  writes    twice for a slot while its mirror is open; ");
     let early = count_early(view);
     if early == 0 {
-        line.extend_from_slice(b"each opens just before its copy")?;
-        return Ok(());
+        line.text(b"each opens just before its copy");
+        return;
     }
     push_many(
         line,
@@ -143,11 +141,10 @@ fn tell_writes(view: &View, line: &mut Vec<u8>) -> Result<(), Refusal> {
 }
 
 // How many copies read more than the owner.
-fn tell_sources(line: &mut Vec<u8>, listed: u32) -> Result<(), Refusal> {
-    line.extend_from_slice(b"  sources   ")?;
-    push_many(line, listed, b"copy reads", b"copies read")?;
-    line.extend_from_slice(b" listed slots of the partition in place of the owner")?;
-    Ok(())
+fn tell_sources(line: &mut Words, listed: u32) {
+    line.text(b"  sources   ");
+    push_many(line, listed, b"copy reads", b"copies read");
+    line.text(b" listed slots of the partition in place of the owner");
 }
 
 // The fewest and the most slots among nodes.
@@ -171,18 +168,17 @@ impl Span {
     }
 
     // `4 slots`, or `3 to 5 slots`.
-    fn push(&self, out: &mut Vec<u8>) -> Result<(), Refusal> {
-        push_decimal(out, self.least.min(self.most))?;
+    fn push(&self, out: &mut Words) {
+        out.number(self.least.min(self.most));
         if self.least < self.most {
-            out.extend_from_slice(b" to ")?;
-            push_decimal(out, self.most)?;
+            out.text(b" to ");
+            out.number(self.most);
         }
-        out.extend_from_slice(if self.most == 1 && self.least >= 1 {
+        out.text(if self.most == 1 && self.least >= 1 {
             b" slot"
         } else {
             b" slots"
-        })?;
-        Ok(())
+        });
     }
 }
 
@@ -202,70 +198,65 @@ fn span_of(view: &View, is_end: bool) -> Span {
     span
 }
 
-fn tell_balance(view: &View, line: &mut Vec<u8>) -> Result<(), Refusal> {
+fn tell_balance(view: &View, line: &mut Words) {
     let total = view.ring.q().saturating_mul(view.ring.n());
-    line.extend_from_slice(b"  balance   a member owns ")?;
-    span_of(view, false).push(line)?;
-    line.extend_from_slice(b" now and ")?;
-    span_of(view, true).push(line)?;
-    line.extend_from_slice(b" in the end; even would be ")?;
+    line.text(b"  balance   a member owns ");
+    span_of(view, false).push(line);
+    line.text(b" now and ");
+    span_of(view, true).push(line);
+    line.text(b" in the end; even would be ");
     push_tenths(
         line,
         parts_of(total, count_members(view.ring, view.scene), 10),
     )
 }
 
-fn tell_racks(view: &View, line: &mut Vec<u8>, behind: u8) -> Result<(), Refusal> {
+fn tell_racks(view: &View, line: &mut Words, behind: u8) {
     let now = sharing(view.ring, view.ring.rows(), behind);
     let then = sharing(view.ring, view.scene.last_rows.as_slice(), behind);
-    line.extend_from_slice(b"  racks     ")?;
-    push_many(line, now, b"partition has", b"partitions have")?;
-    line.extend_from_slice(b" two slots in one rack now, ")?;
-    push_decimal(line, then)?;
-    line.extend_from_slice(b" in the end")?;
+    line.text(b"  racks     ");
+    push_many(line, now, b"partition has", b"partitions have");
+    line.text(b" two slots in one rack now, ");
+    line.number(then);
+    line.text(b" in the end");
     if then > now {
-        line.extend_from_slice(b"   WORSE")?;
+        line.text(b"   WORSE");
     }
-    Ok(())
 }
 
-fn tell_one_fails(view: &View, line: &mut Vec<u8>) -> Result<(), Refusal> {
+fn tell_one_fails(view: &View, line: &mut Words) {
     let (ring, loads) = (view.ring, &view.scene.loads);
-    line.extend_from_slice(b"  if one fails   ")?;
-    push_decimal(line, kept_by_one(ring, loads.before.as_slice()))?;
-    line.extend_from_slice(b" of ")?;
+    line.text(b"  if one fails   ");
+    line.number(kept_by_one(ring, loads.before.as_slice()));
+    line.text(b" of ");
     push_many(
         line,
         ring.q(),
         b"partition still answers",
         b"partitions still answer",
-    )?;
-    line.extend_from_slice(b" reads and writes now, ")?;
-    push_decimal(line, kept_by_one(ring, loads.after.as_slice()))?;
-    line.extend_from_slice(b" in the end")?;
-    Ok(())
+    );
+    line.text(b" reads and writes now, ");
+    line.number(kept_by_one(ring, loads.after.as_slice()));
+    line.text(b" in the end");
 }
 
-fn tell_two_fail(view: &View, line: &mut Vec<u8>) -> Result<(), Refusal> {
+fn tell_two_fail(view: &View, line: &mut Words) -> Result<(), Refusal> {
     let now = pairs(view.alloc, view.ring, view.ring.rows())?;
     let then = pairs(view.alloc, view.ring, view.scene.last_rows.as_slice())?;
-    line.extend_from_slice(b"  if two fail    ")?;
-    push_decimal(line, now)?;
-    line.extend_from_slice(b" of ")?;
+    line.text(b"  if two fail    ");
+    line.number(now);
+    line.text(b" of ");
     push_many(
         line,
         all_pairs(count_before(view) as usize),
         b"pair of members",
         b"pairs of members",
-    )?;
-    line.extend_from_slice(b" share a partition now, ")?;
-    push_decimal(line, then)?;
-    line.extend_from_slice(b" of ")?;
-    push_decimal(
-        line,
-        all_pairs(count_members(view.ring, view.scene) as usize),
-    )?;
-    line.extend_from_slice(b" in the end")?;
+    );
+    line.text(b" share a partition now, ");
+    line.number(then);
+    line.text(b" of ");
+    line.number(all_pairs(count_members(view.ring, view.scene) as usize));
+    line.text(b" in the end");
     Ok(())
 }
 
@@ -281,75 +272,77 @@ fn count_before(view: &View) -> u32 {
 }
 
 // The last line.
-fn push_total(view: &View, out: &mut Vec<u8>) -> Result<(), Refusal> {
+fn push_total(view: &View, out: &mut Words) {
     let scene = view.scene;
-    out.extend_from_slice(b"Plan: ")?;
-    push_decimal(out, small(scene.joins.len()))?;
-    out.extend_from_slice(b" to join, ")?;
-    push_decimal(out, small(scene.leaves.len()))?;
-    out.extend_from_slice(b" to leave, ")?;
+    out.text(b"Plan: ");
+    out.number(small(scene.joins.len()));
+    out.text(b" to join, ");
+    out.number(small(scene.leaves.len()));
+    out.text(b" to leave, ");
     push_many(
         out,
         scene.move_count(),
         b"slot to move in ",
         b"slots to move in ",
-    )?;
-    push_many(out, scene.round_count(), b"round.\n", b"rounds.\n")
+    );
+    push_many(out, scene.round_count(), b"round.\n", b"rounds.\n");
 }
 
 // What the plan does, line by line; the second text is that of one line.
-fn push_overview(view: &View, out: &mut Vec<u8>, line: &mut Vec<u8>) -> Result<(), Refusal> {
-    tell_change(view, line)?;
-    end_line(out, line, 2)?;
-    out.push(b'\n')?;
-    tell_moves(view, line, moved_slots(view)?)?;
-    end_line(out, line, INDENT)?;
-    tell_round_count(view, line)?;
-    end_line(out, line, INDENT)?;
-    tell_writes(view, line)?;
-    end_line(out, line, INDENT)?;
+fn push_overview(view: &View, out: &mut Words, line: &mut Words) -> Result<(), Refusal> {
+    tell_change(view, line);
+    end_line(out, line, 2);
+    out.byte(b'\n');
+    tell_moves(view, line, moved_slots(view)?);
+    end_line(out, line, INDENT);
+    tell_round_count(view, line);
+    end_line(out, line, INDENT);
+    tell_writes(view, line);
+    end_line(out, line, INDENT);
     let listed = count_listed(view);
     if listed > 0 {
-        tell_sources(line, listed)?;
-        end_line(out, line, INDENT)?;
+        tell_sources(line, listed);
+        end_line(out, line, INDENT);
     }
-    tell_balance(view, line)?;
-    end_line(out, line, INDENT)?;
+    tell_balance(view, line);
+    end_line(out, line, INDENT);
     if let Some(behind) = view.racks_behind {
-        tell_racks(view, line, behind)?;
-        end_line(out, line, INDENT)?;
+        tell_racks(view, line, behind);
+        end_line(out, line, INDENT);
     }
-    tell_one_fails(view, line)?;
-    end_line(out, line, INDENT)?;
+    tell_one_fails(view, line);
+    end_line(out, line, INDENT);
     tell_two_fail(view, line)?;
-    end_line(out, line, INDENT)?;
-    out.push(b'\n')?;
+    end_line(out, line, INDENT);
+    out.byte(b'\n');
     Ok(())
 }
 
 // All of the summary; the second text is that of one line.
 fn push_summary(
     view: &View,
-    out: &mut Vec<u8>,
-    line: &mut Vec<u8>,
+    out: &mut Words,
+    line: &mut Words,
     progress: Option<&Progress>,
 ) -> Result<(), Refusal> {
     push_overview(view, out, line)?;
     push_table(view, out, line)?;
-    out.push(b'\n')?;
+    out.byte(b'\n');
     push_rounds(view, out, line)?;
-    out.push(b'\n')?;
+    out.byte(b'\n');
     if let Some(progress) = progress {
-        push_progress(view, out, line, progress)?;
+        push_progress(view, out, line, progress);
     }
-    push_total(view, out)
+    push_total(view, out);
+    Ok(())
 }
 
 /// The summary of a plan: who joins and leaves, what moves in how many rounds, what it does to balance, racks and failures, the table of nodes, the
 /// rounds, and where there is a history how far it has come. Lines have at most 100 bytes. Its only refusal is `OutOfMemory`.
 pub fn summary(view: &View, progress: Option<&Progress>) -> Result<Vec<u8>, Refusal> {
-    let mut out = Vec::new(view.alloc);
-    let mut line = Vec::new(view.alloc);
+    let mut out = Words::new(view.alloc);
+    let mut line = Words::new(view.alloc);
     push_summary(view, &mut out, &mut line, progress)?;
-    Ok(out)
+    line.end()?;
+    out.end()
 }

@@ -1,7 +1,7 @@
 //! Words that flow into lines.
 
 use crate::writing::{WIDTH, push_spaces};
-use ring_names::Refusal;
+use words::Words;
 
 /// A line that is being filled with words. What does not fit goes to a line of its own behind the indent.
 #[derive(Clone, Copy)]
@@ -20,18 +20,17 @@ impl Flow {
     }
 
     /// Adds a word behind so many spaces.
-    pub fn push(&mut self, out: &mut Vec<u8>, word: &[u8], gap: usize) -> Result<(), Refusal> {
+    pub fn push(&mut self, out: &mut Words, word: &[u8], gap: usize) {
         let end = self.column.saturating_add(gap).saturating_add(word.len());
         if self.column > self.indent && end > WIDTH {
-            out.push(b'\n')?;
-            push_spaces(out, self.indent)?;
+            out.byte(b'\n');
+            push_spaces(out, self.indent);
             self.column = self.indent;
         } else if self.column > self.indent {
-            push_spaces(out, gap)?;
+            push_spaces(out, gap);
             self.column = self.column.saturating_add(gap);
         }
-        out.extend_from_slice(word)?;
+        out.text(word);
         self.column = self.column.saturating_add(word.len());
-        Ok(())
     }
 }

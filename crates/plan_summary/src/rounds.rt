@@ -4,8 +4,9 @@ use crate::overview::{Shape, View};
 use crate::pieces::Flow;
 use crate::writing::{push_number_right, push_spaces};
 use plan_scene::{Shown, at, name, push_many, small};
-use ring_names::{Refusal, push_decimal};
+use ring_names::Refusal;
 use std::alloc::Global;
+use words::Words;
 
 // How many rounds a short list has, and how many it shows where there are more.
 const SHORT: u32 = 12;
@@ -80,15 +81,14 @@ fn cut(order: &[Placed], count: usize) -> (&[Placed], &[Placed]) {
 }
 
 // `5.1`: partition and slot.
-fn push_slot(out: &mut Vec<u8>, shown: &Shown) -> Result<(), Refusal> {
-    push_decimal(out, shown.slot.partition)?;
-    out.push(b'.')?;
-    push_decimal(out, shown.slot.index)?;
-    Ok(())
+fn push_slot(out: &mut Words, shown: &Shown) {
+    out.number(shown.slot.partition);
+    out.byte(b'.');
+    out.number(shown.slot.index);
 }
 
 // Whom the copy reads.
-fn push_read(view: &View, out: &mut Vec<u8>, shown: &Shown) -> Result<(), Refusal> {
+fn push_read(view: &View, out: &mut Words, shown: &Shown) {
     let nodes = view.scene.shown.read_by(shown);
     if nodes.len() > 2 {
         return push_many(out, small(nodes.len()), b"node", b"nodes");
@@ -96,49 +96,36 @@ fn push_read(view: &View, out: &mut Vec<u8>, shown: &Shown) -> Result<(), Refusa
     let mut is_first = true;
     for node in nodes {
         if !is_first {
-            out.push(b'+')?;
+            out.byte(b'+');
         }
-        out.extend_from_slice(name(view.ring, *node))?;
+        out.text(name(view.ring, *node));
         is_first = false;
     }
-    Ok(())
 }
 
 // The word for a copy: the first of an entry has the nodes in front.
-fn tell_copy(
-    view: &View,
-    word: &mut Vec<u8>,
-    shown: &Shown,
-    is_first: bool,
-) -> Result<(), Refusal> {
+fn tell_copy(view: &View, word: &mut Words, shown: &Shown, is_first: bool) {
     word.clear();
     if is_first {
-        push_read(view, word, shown)?;
-        word.extend_from_slice(b" > ")?;
-        word.extend_from_slice(name(view.ring, shown.to))?;
-        word.extend_from_slice(b": ")?;
+        push_read(view, word, shown);
+        word.text(b" > ");
+        word.text(name(view.ring, shown.to));
+        word.text(b": ");
     }
     push_slot(word, shown)
 }
 
 // `and 5 more`.
-fn tell_more(word: &mut Vec<u8>, count: usize, what: &[u8]) -> Result<(), Refusal> {
+fn tell_more(word: &mut Words, count: usize, what: &[u8]) {
     word.clear();
-    word.extend_from_slice(b"and ")?;
-    push_decimal(word, small(count))?;
-    word.push(b' ')?;
-    word.extend_from_slice(what)?;
-    Ok(())
+    word.text(b"and ");
+    word.number(small(count));
+    word.byte(b' ');
+    word.text(what);
 }
 
 // The entry of copies between the same nodes. The last text is that of one word.
-fn push_entry(
-    view: &View,
-    out: &mut Vec<u8>,
-    flow: &mut Flow,
-    entry: &[Placed],
-    word: &mut Vec<u8>,
-) -> Result<(), Refusal> {
+fn push_entry(view: &View, out: &mut Words, flow: &mut Flow, entry: &[Placed], word: &mut Words) {
     let most = match view.shape {
         Shape::Short if entry.len() > ENTRIES => ENTRIES - 1,
         _ => entry.len(),
@@ -147,15 +134,15 @@ fn push_entry(
     let mut gap = 3usize;
     for one in these {
         if let Some(shown) = view.scene.shown.moves.as_slice().get(one.place as usize) {
-            tell_copy(view, word, shown, gap == 3)?;
-            flow.push(out, word.as_slice(), gap)?;
+            tell_copy(view, word, shown, gap == 3);
+            flow.push(out, word.as_slice(), gap);
         }
         gap = 1;
     }
     if others.is_empty() {
-        return Ok(());
+        return;
     }
-    tell_more(word, others.len(), b"more")?;
+    tell_more(word, others.len(), b"more");
     flow.push(out, word.as_slice(), 1)
 }
 
@@ -175,37 +162,25 @@ fn entries(round: &[Placed]) -> usize {
 }
 
 // The lines of a round. The last text is that of one word.
-fn push_round(
-    view: &View,
-    out: &mut Vec<u8>,
-    round: &[Placed],
-    word: &mut Vec<u8>,
-) -> Result<(), Refusal> {
+fn push_round(view: &View, out: &mut Words, round: &[Placed], word: &mut Words) {
     let Some(first) = round.first() else {
-        return Ok(());
+        return;
     };
-    push_spaces(out, 2)?;
-    push_number_right(out, first.round, 5)?;
-    push_spaces(out, 2)?;
-    push_number_right(out, small(round.len()), 6)?;
-    push_spaces(out, 3)?;
+    push_spaces(out, 2);
+    push_number_right(out, first.round, 5);
+    push_spaces(out, 2);
+    push_number_right(out, small(round.len()), 6);
+    push_spaces(out, 3);
     let most = match view.shape {
         Shape::Short if entries(round) > ENTRIES => ENTRIES - 1,
         _ => round.len(),
     };
-    push_entries(view, out, round, most, word)?;
-    out.push(b'\n')?;
-    Ok(())
+    push_entries(view, out, round, most, word);
+    out.byte(b'\n');
 }
 
 // The first so many entries of a round, and how many copies the others have.
-fn push_entries(
-    view: &View,
-    out: &mut Vec<u8>,
-    round: &[Placed],
-    most: usize,
-    word: &mut Vec<u8>,
-) -> Result<(), Refusal> {
+fn push_entries(view: &View, out: &mut Words, round: &[Placed], most: usize, word: &mut Words) {
     let mut flow = Flow::new(INDENT);
     let mut rest = round;
     for turn in 0..most {
@@ -213,23 +188,18 @@ fn push_entries(
             break;
         }
         let (entry, others) = cut(rest, alike_in_front(rest));
-        push_entry(view, out, &mut flow, entry, word)?;
+        push_entry(view, out, &mut flow, entry, word);
         rest = others;
     }
     if rest.is_empty() {
-        return Ok(());
+        return;
     }
-    tell_more(word, rest.len(), b"copies more")?;
+    tell_more(word, rest.len(), b"copies more");
     flow.push(out, word.as_slice(), 3)
 }
 
 // The rounds in this order, with the copies of each.
-fn push_in_order(
-    view: &View,
-    out: &mut Vec<u8>,
-    word: &mut Vec<u8>,
-    order: &[Placed],
-) -> Result<(), Refusal> {
+fn push_in_order(view: &View, out: &mut Words, word: &mut Words, order: &[Placed]) {
     let count = view.scene.round_count();
     let most = match view.shape {
         Shape::Short if count > SHORT => SHOWN,
@@ -239,30 +209,29 @@ fn push_in_order(
     for round in 0..most {
         let width = at(view.scene.widths.as_slice(), round as usize) as usize;
         let (these, others) = cut(rest, width);
-        push_round(view, out, these, word)?;
+        push_round(view, out, these, word);
         rest = others;
     }
     if rest.is_empty() {
-        return Ok(());
+        return;
     }
-    out.extend_from_slice(b"     ..  ")?;
-    push_number_right(out, small(rest.len()), 6)?;
-    out.extend_from_slice(b"   in ")?;
+    out.text(b"     ..  ");
+    push_number_right(out, small(rest.len()), 6);
+    out.text(b"   in ");
     push_many(
         out,
         count.saturating_sub(most),
         b"round more",
         b"rounds more",
-    )?;
-    out.extend_from_slice(b" (--all)\n")?;
-    Ok(())
+    );
+    out.text(b" (--all)\n");
 }
 
 /// The rounds, with the copies of each. The second text is that of one word; it is empty before and behind.
-pub fn push_rounds(view: &View, out: &mut Vec<u8>, word: &mut Vec<u8>) -> Result<(), Refusal> {
-    out.extend_from_slice(b"  round  copies   from > to: partition.slot\n")?;
+pub fn push_rounds(view: &View, out: &mut Words, word: &mut Words) -> Result<(), Refusal> {
+    out.text(b"  round  copies   from > to: partition.slot\n");
     let order = in_order(view.alloc, view.scene.shown.moves.as_slice())?;
-    push_in_order(view, out, word, order.as_slice())?;
+    push_in_order(view, out, word, order.as_slice());
     word.clear();
     Ok(())
 }

@@ -6,9 +6,10 @@ use crate::writing::{
     push_trimmed,
 };
 use plan_scene::{Scene, at, name, parts_of, push_many, push_names, small};
-use ring_names::{NodeId, Refusal, push_decimal};
+use ring_names::{NodeId, Refusal};
 use ring_table::Node;
 use std::alloc::Global;
+use words::Words;
 
 // How many rows a short table has.
 const SHORT: usize = 24;
@@ -136,120 +137,110 @@ impl Table {
     }
 
     // Makes the columns as wide as what stands in them; the text is empty, and is so behind it.
-    fn measure(&mut self, view: &View, line: &mut Vec<u8>) -> Result<(), Refusal> {
+    fn measure(&mut self, view: &View, line: &mut Words) {
         let loads = &view.scene.loads;
         for node in self.rows.as_slice() {
             let place = *node as usize;
             self.names = self.names.max(name(view.ring, *node).len());
-            self.at_once = self.at_once.max(push_at_once(view, line, *node)?);
+            self.at_once = self.at_once.max(push_at_once(view, line, *node));
             line.clear();
             self.top = self.top.max(at(loads.before.as_slice(), place));
             self.top = self.top.max(at(loads.after.as_slice(), place));
         }
-        Ok(())
     }
 
     // The line of a node, up to its bar.
-    fn tell_row(&self, view: &View, line: &mut Vec<u8>, node: u32) -> Result<(), Refusal> {
+    fn tell_row(&self, view: &View, line: &mut Words, node: u32) {
         let (scene, place) = (view.scene, node as usize);
-        line.extend_from_slice(b"  ")?;
-        line.push(sign(scene, node))?;
-        line.push(b' ')?;
-        push_left(line, name(view.ring, node), self.names)?;
-        push_spaces(line, 2)?;
-        let wide = push_at_once(view, line, node)?;
-        push_spaces(line, self.at_once.saturating_sub(wide).saturating_add(2))?;
-        push_count(line, at(scene.loads.gives.as_slice(), place))?;
-        push_spaces(line, 2)?;
-        push_count(line, at(scene.loads.takes.as_slice(), place))?;
-        push_spaces(line, 3)?;
-        push_number_right(line, at(scene.loads.before.as_slice(), place), 4)?;
-        line.extend_from_slice(b" -> ")?;
+        line.text(b"  ");
+        line.byte(sign(scene, node));
+        line.byte(b' ');
+        push_left(line, name(view.ring, node), self.names);
+        push_spaces(line, 2);
+        let wide = push_at_once(view, line, node);
+        push_spaces(line, self.at_once.saturating_sub(wide).saturating_add(2));
+        push_count(line, at(scene.loads.gives.as_slice(), place));
+        push_spaces(line, 2);
+        push_count(line, at(scene.loads.takes.as_slice(), place));
+        push_spaces(line, 3);
+        push_number_right(line, at(scene.loads.before.as_slice(), place), 4);
+        line.text(b" -> ");
         if scene.leaves.as_slice().contains(&node) {
-            line.extend_from_slice(b"gone ")?;
-            return Ok(());
+            line.text(b"gone ");
+            return;
         }
-        push_number_left(line, at(scene.loads.after.as_slice(), place), 4)?;
-        line.push(b' ')?;
-        Ok(())
+        push_number_left(line, at(scene.loads.after.as_slice(), place), 4);
+        line.byte(b' ');
     }
 
     // The line of a node, all of it; the second text is that of one line.
-    fn push_row(
-        &self,
-        view: &View,
-        out: &mut Vec<u8>,
-        line: &mut Vec<u8>,
-        node: u32,
-    ) -> Result<(), Refusal> {
+    fn push_row(&self, view: &View, out: &mut Words, line: &mut Words, node: u32) {
         let loads = &view.scene.loads;
-        self.tell_row(view, line, node)?;
+        self.tell_row(view, line, node);
         let before = at(loads.before.as_slice(), node as usize);
-        self.push_bar(line, before, at(loads.after.as_slice(), node as usize))?;
-        push_trimmed(out, line.as_slice())?;
+        self.push_bar(line, before, at(loads.after.as_slice(), node as usize));
+        push_trimmed(out, line.as_slice());
         line.clear();
-        Ok(())
     }
 
     // A bar of what the node owns: `=` for what it keeps, `-` for what it gives and `+` for what it takes.
-    fn push_bar(&self, line: &mut Vec<u8>, before: u32, after: u32) -> Result<(), Refusal> {
+    fn push_bar(&self, line: &mut Words, before: u32, after: u32) {
         let room = WIDTH.saturating_sub(line.len()).min(BAR);
         let scale = small(room).min(self.top);
         let start = parts_of(before, self.top, scale) as usize;
         let end = parts_of(after, self.top, scale) as usize;
-        push_times(line, b'=', start.min(end))?;
-        push_times(line, b'+', end.saturating_sub(start))?;
+        push_times(line, b'=', start.min(end));
+        push_times(line, b'+', end.saturating_sub(start));
         push_times(line, b'-', start.saturating_sub(end))
     }
 
     // The head, and a line for each row.
-    fn push_all(&self, view: &View, out: &mut Vec<u8>, line: &mut Vec<u8>) -> Result<(), Refusal> {
-        push_spaces(out, 4)?;
-        push_left(out, b"node", self.names)?;
-        push_spaces(out, 2)?;
-        push_left(out, b"at once", self.at_once)?;
-        out.extend_from_slice(b"  gives  takes   slots\n")?;
+    fn push_all(&self, view: &View, out: &mut Words, line: &mut Words) {
+        push_spaces(out, 4);
+        push_left(out, b"node", self.names);
+        push_spaces(out, 2);
+        push_left(out, b"at once", self.at_once);
+        out.text(b"  gives  takes   slots\n");
         for node in self.rows.as_slice() {
-            self.push_row(view, out, line, *node)?;
+            self.push_row(view, out, line, *node);
         }
         self.push_hidden(out, view.scene)
     }
 
     // The line of those without a row.
-    fn push_hidden(&self, out: &mut Vec<u8>, scene: &Scene) -> Result<(), Refusal> {
+    fn push_hidden(&self, out: &mut Words, scene: &Scene) {
         if self.hidden.is_empty() {
-            return Ok(());
+            return;
         }
         let (mut gives, mut takes) = (0u32, 0u32);
         for node in self.hidden.as_slice() {
             gives = gives.saturating_add(at(scene.loads.gives.as_slice(), *node as usize));
             takes = takes.saturating_add(at(scene.loads.takes.as_slice(), *node as usize));
         }
-        push_spaces(out, 4)?;
+        push_spaces(out, 4);
         push_many(
             out,
             small(self.hidden.len()),
             b"node more: gives ",
             b"nodes more: give ",
-        )?;
-        push_decimal(out, gives)?;
-        out.extend_from_slice(b", take ")?;
-        push_decimal(out, takes)?;
-        out.extend_from_slice(b" slots (--all)\n")?;
-        Ok(())
+        );
+        out.number(gives);
+        out.text(b", take ");
+        out.number(takes);
+        out.text(b" slots (--all)\n");
     }
 }
 
 // Adds how many transfers the node has at once, or a point, and tells how many bytes that takes.
-fn push_at_once(view: &View, line: &mut Vec<u8>, node: u32) -> Result<usize, Refusal> {
+fn push_at_once(view: &View, line: &mut Words, node: u32) -> usize {
     let begin = line.len();
     if let Some(Node { allowance, .. }) = view.ring.nodes().get(node as usize) {
-        view.scene.loads.push_at_once(line, *allowance, node)?;
+        view.scene.loads.push_at_once(line, *allowance, node);
     }
     if line.len() == begin {
-        line.push(b'.')?;
+        line.byte(b'.');
     }
-    Ok(line.len().saturating_sub(begin))
+    line.len().saturating_sub(begin)
 }
 
 fn sign(scene: &Scene, node: u32) -> u8 {
@@ -261,7 +252,7 @@ fn sign(scene: &Scene, node: u32) -> u8 {
 }
 
 // A number, or a point for none.
-fn push_count(line: &mut Vec<u8>, count: u32) -> Result<(), Refusal> {
+fn push_count(line: &mut Words, count: u32) {
     if count == 0 {
         return push_right(line, b".", 5);
     }
@@ -269,7 +260,7 @@ fn push_count(line: &mut Vec<u8>, count: u32) -> Result<(), Refusal> {
 }
 
 // The line of the members that do nothing.
-fn push_idle(view: &View, out: &mut Vec<u8>) -> Result<(), Refusal> {
+fn push_idle(view: &View, out: &mut Words) -> Result<(), Refusal> {
     let mut idle = Vec::new(view.alloc);
     for node in 0..small(view.ring.nodes().len()) {
         if view.ring.is_member(NodeId(node)) && !view.scene.takes_part(node) {
@@ -279,22 +270,22 @@ fn push_idle(view: &View, out: &mut Vec<u8>) -> Result<(), Refusal> {
     if idle.is_empty() {
         return Ok(());
     }
-    push_spaces(out, 4)?;
+    push_spaces(out, 4);
     if idle.len() < 6 {
-        push_names(out, view.ring, idle.as_slice(), 6)?;
+        push_names(out, view.ring, idle.as_slice(), 6);
     } else {
-        push_many(out, small(idle.len()), b"other member", b"other members")?;
+        push_many(out, small(idle.len()), b"other member", b"other members");
     }
-    out.extend_from_slice(b": no part\n")?;
+    out.text(b": no part\n");
     Ok(())
 }
 
 /// The table: for each node that takes part, how many transfers it has at once, gives and takes, and how many slots it owns now and then.
 ///
 /// The second text is that of one line.
-pub fn push_table(view: &View, out: &mut Vec<u8>, line: &mut Vec<u8>) -> Result<(), Refusal> {
+pub fn push_table(view: &View, out: &mut Words, line: &mut Words) -> Result<(), Refusal> {
     let mut table = Table::of(view)?;
-    table.measure(view, line)?;
-    table.push_all(view, out, line)?;
+    table.measure(view, line);
+    table.push_all(view, out, line);
     push_idle(view, out)
 }

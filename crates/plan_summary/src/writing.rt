@@ -1,34 +1,32 @@
 //! Words and numbers in lines of text.
 
-use ring_names::{Refusal, push_decimal};
+use words::Words;
 
 /// The widest line, in bytes.
 pub const WIDTH: usize = 100;
 
 /// So many spaces.
-pub fn push_spaces(out: &mut Vec<u8>, count: usize) -> Result<(), Refusal> {
+pub fn push_spaces(out: &mut Words, count: usize) {
     push_times(out, b' ', count)
 }
 
 /// The byte so many times.
-pub fn push_times(out: &mut Vec<u8>, byte: u8, count: usize) -> Result<(), Refusal> {
+pub fn push_times(out: &mut Words, byte: u8, count: usize) {
     for place in 0..count {
-        out.push(byte)?;
+        out.byte(byte);
     }
-    Ok(())
 }
 
 /// The text, and spaces behind it up to the width.
-pub fn push_left(out: &mut Vec<u8>, text: &[u8], width: usize) -> Result<(), Refusal> {
-    out.extend_from_slice(text)?;
+pub fn push_left(out: &mut Words, text: &[u8], width: usize) {
+    out.text(text);
     push_spaces(out, width.saturating_sub(text.len()))
 }
 
 /// The text, and spaces in front of it up to the width.
-pub fn push_right(out: &mut Vec<u8>, text: &[u8], width: usize) -> Result<(), Refusal> {
-    push_spaces(out, width.saturating_sub(text.len()))?;
-    out.extend_from_slice(text)?;
-    Ok(())
+pub fn push_right(out: &mut Words, text: &[u8], width: usize) {
+    push_spaces(out, width.saturating_sub(text.len()));
+    out.text(text);
 }
 
 // How many digits the number has.
@@ -45,24 +43,22 @@ fn count_digits(number: u32) -> usize {
 }
 
 /// The number, and spaces in front of it up to the width.
-pub fn push_number_right(out: &mut Vec<u8>, number: u32, width: usize) -> Result<(), Refusal> {
-    push_spaces(out, width.saturating_sub(count_digits(number)))?;
-    push_decimal(out, number)?;
-    Ok(())
+pub fn push_number_right(out: &mut Words, number: u32, width: usize) {
+    push_spaces(out, width.saturating_sub(count_digits(number)));
+    out.number(number);
 }
 
 /// The number, and spaces behind it up to the width.
-pub fn push_number_left(out: &mut Vec<u8>, number: u32, width: usize) -> Result<(), Refusal> {
-    push_decimal(out, number)?;
+pub fn push_number_left(out: &mut Words, number: u32, width: usize) {
+    out.number(number);
     push_spaces(out, width.saturating_sub(count_digits(number)))
 }
 
 /// The number, and its tenths behind a point.
-pub fn push_tenths(out: &mut Vec<u8>, tenths: u32) -> Result<(), Refusal> {
-    push_decimal(out, tenths / 10)?;
-    out.push(b'.')?;
-    push_decimal(out, tenths % 10)?;
-    Ok(())
+pub fn push_tenths(out: &mut Words, tenths: u32) {
+    out.number(tenths / 10);
+    out.byte(b'.');
+    out.number(tenths % 10);
 }
 
 // Where the last space stands that has something in front of it and at most so many bytes, if there is one.
@@ -85,7 +81,7 @@ fn last_space(line: &[u8], room: usize) -> Option<usize> {
 }
 
 // A line, broken at spaces where it is too wide; what is broken off stands behind so many spaces.
-fn push_line(out: &mut Vec<u8>, line: &[u8], indent: usize) -> Result<(), Refusal> {
+fn push_line(out: &mut Words, line: &[u8], indent: usize) {
     let mut rest = line;
     let mut room = WIDTH;
     for turn in 0..line.len() {
@@ -96,22 +92,20 @@ fn push_line(out: &mut Vec<u8>, line: &[u8], indent: usize) -> Result<(), Refusa
             break;
         };
         let (front, behind) = cut_at(rest, space);
-        out.extend_from_slice(front)?;
-        out.push(b'\n')?;
-        push_spaces(out, indent)?;
+        out.text(front);
+        out.byte(b'\n');
+        push_spaces(out, indent);
         rest = behind;
         room = WIDTH.saturating_sub(indent);
     }
-    out.extend_from_slice(rest)?;
-    out.push(b'\n')?;
-    Ok(())
+    out.text(rest);
+    out.byte(b'\n');
 }
 
 /// Adds the line, broken at spaces where it is too wide, and empties it; what is broken off stands behind so many spaces.
-pub fn end_line(out: &mut Vec<u8>, line: &mut Vec<u8>, indent: usize) -> Result<(), Refusal> {
-    push_line(out, line.as_slice(), indent)?;
+pub fn end_line(out: &mut Words, line: &mut Words, indent: usize) {
+    push_line(out, line.as_slice(), indent);
     line.clear();
-    Ok(())
 }
 
 // What stands in front of the byte at the place, and what behind it.
@@ -123,7 +117,7 @@ fn cut_at(line: &[u8], place: usize) -> (&[u8], &[u8]) {
 }
 
 /// The line without the spaces at its end.
-pub fn push_trimmed(out: &mut Vec<u8>, line: &[u8]) -> Result<(), Refusal> {
+pub fn push_trimmed(out: &mut Words, line: &[u8]) {
     let mut width = 0usize;
     let mut place = 0usize;
     for byte in line {
@@ -133,8 +127,7 @@ pub fn push_trimmed(out: &mut Vec<u8>, line: &[u8]) -> Result<(), Refusal> {
         }
     }
     if width <= line.len() {
-        out.extend_from_slice(&line[..width])?;
+        out.text(&line[..width]);
     }
-    out.push(b'\n')?;
-    Ok(())
+    out.byte(b'\n');
 }

@@ -26,6 +26,10 @@ use Rattle.plan_text.specs.declared.step.Planned.{Planned}
 use Rattle.plan_text.specs.Said.{planned_of}
 use Rattle.plan_text.specs.Steps.{dependencies, joined, retired}
 use Rattle.plan_text.specs.Reading.{judge_below, slot_at, slot_node_at, joining_at, retiring_at, judge_indexes, source_at, copy_at, kind_at, judge_after, after_at, said_at, step_at, steps_from, steps_at, plan_at}
+use Rattle.texts.proofs.Lates.{either-at}
+use Rattle.std.proofs.Common.{sym}
+use Rattle.texts.proofs.Lates.{Advances, advances-then, advances-map}
+use Rattle.texts.proofs.FrameLaws.{header-at}
 
 -- ---- a line
 
@@ -56,11 +60,6 @@ judges-retiring ring plan k = record { at = λ fields. at-bind k (declared_at ri
 
 indexes-at : (n k : ℕ) (xs : List ℕ) → At k (judge_indexes n k xs)
 indexes-at n k xs = at-unless k ((eqb (length xs) 0, BadLine k) ∷ (not (nat_le (length xs) 7), TooLarge k) ∷ (not (list_all (λ i. nat_lt i n) xs), TooLarge k) ∷ []) xs (refl, (refl, (refl, tt)))
-
--- one of two items, by the word in front
-either-at : {A : Type 0} (k : ℕ) (t : Bool) (x y : Result A Refusal × List (List ℕ)) → At k x.0 → At k y.0 → At k (cond t x y).0
-either-at k true x y p q = p
-either-at k false x y p q = q
 
 judges-source : (n k : ℕ) → Judges k (source_at n k)
 unfolding source_at
@@ -174,3 +173,16 @@ module _ (ring : RingValue) where
   unfolding plan_at
   plan-steps s t u start k p = to-map (λ (x : Unit {0} × (List Planned × Unit {0})). x.1.0) (then_part (one_line (header_at (codes "plan") (codes "1"))) steps_on) k s
       (to-second (one_line (header_at (codes "plan") (codes "1"))) steps_on k s t u start (to-first (steps_at ring) last k t (λ steps. advances-line end_line_at end-at) p))
+
+-- ---- reading a plan does not go back
+
+steps-all : (ring : RingValue) → Advances (steps_at ring)
+steps-all ring = record { on = λ s. rw (sym (steps-at ring s)) (steps-on ring [] s.line s.lines) }
+
+pub plan-on : (ring : RingValue) → Advances (plan_at ring)
+unfolding plan_at
+plan-on ring = advances-map _ _ (advances-then _ _ (advances-line _ (header-at (codes "plan") (codes "1"))) (λ _. advances-then _ _ (steps-all ring) (λ _. advances-line end_line_at end-at)))
+
+-- it ends behind where it begins
+pub past-plan : (ring : RingValue) (s t : Left) (plan : List Planned) → plan_at ring s ≡ Ok (plan, t) → s.line ≤ t.line
+past-plan ring s t plan e = (let on = (plan-on ring).on s in rw e at on)

@@ -31,6 +31,7 @@ use Rattle.plan_text.specs.Reading.{slot_at, slot_node_at, joining_at, retiring_
 use Rattle.plan_text.proofs.NextLaws.{small_all, IsSource, IsAfter, indexes-are, after-are}
 use Rattle.texts.proofs.Fronts.{Free, Last, IsFront, front-item, front-⊗, front-whole, front-word, item-unless, numbers-taken, numbers-given}
 use Rattle.plan_text.proofs.Below.{item-below}
+use Rattle.ring_table.proofs.NodesLaws.{item-node}
 
 -- ---- the steps that a step waits for
 
@@ -83,10 +84,6 @@ item-slot ring k q n =
     let pair = IsItem-⊗ _ _ (λ x. decimal x ∷ []) (λ x. decimal x ∷ []) (λ x. x < ring.q) (λ x. x < ring.n) (item-below k ring.q (omega arith)) (item-below k ring.n (omega arith)) in
     let made = IsItem-map {B = Slot} _ _ _ (λ x. record { partition = x.0; index = x.1 }) (λ s. (s.partition, s.index)) (λ a. refl) (λ b. refl) pair in
     IsItem-as _ _ _ _ _ (λ v. refl) (λ v p. p) (λ v p. p) made
-
-pub item-node : (ring : RingValue) (k : ℕ) → AreNames (names_of ring) → IsItem (declared_at ring k) (λ x. name_at (names_of ring) x ∷ []) (λ x. x.0 < length (names_of ring))
-unfolding declared_at
-item-node ring k good = IsItem-declared k (names_of ring) good
 
 item-slot_node : (ring : RingValue) (k : ℕ) → ring.q ≤ 4096 → ring.n ≤ 7 → AreNames (names_of ring) → IsItem (slot_node_at ring k) (λ x. slot_fields x.0 ++ name_at (names_of ring) x.1 ∷ []) (λ x. ((x.0.partition < ring.q) × (x.0.index < ring.n)) × (x.1.0 < length (names_of ring)))
 unfolding slot_node_at

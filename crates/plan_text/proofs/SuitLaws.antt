@@ -22,9 +22,7 @@ use Rattle.texts.specs.Numbers.{are_small}
 use Rattle.plan_text.proofs.Pushed.{IsPlan-push, joined-push, retired-push}
 use Rattle.plan_text.proofs.StepLaws.{SaidSuits, IsStepLine}
 use Rattle.plan_text.proofs.PlanLaws.{said_of, line_of, AreNext}
-
-nodes-length : (nodes : List Node) → length (map (λ (x : Node). x.name) nodes) ≡ length nodes
-nodes-length nodes = simp length-map
+use Rattle.ring_table.proofs.NodesLaws.{nodes-length}
 
 declared-true : (ring : RingValue) (x : ℕ) → x < length (names_of ring) → nat_lt x (length ring.nodes) ≡ true
 declared-true ring x lt = lt-ltb x (length ring.nodes) (rw nodes-length at lt)

@@ -14,7 +14,6 @@ use Rattle.ring_table.specs.Spelling.{name_at}
 use Rattle.ring_table.proofs.LineLaws.{space-le}
 use Rattle.ring_table.proofs.RowLaws.{AreNames}
 use Rattle.ring_table.proofs.RingLaws.{name_at-plain}
-use Rattle.ring_table.proofs.NodesLaws.{names-of_nodes}
 use Rattle.plan_text.specs.declared.step.Step.{Step}
 use Rattle.plan_text.specs.declared.step.Step.TheVariants.{Join, Mirror, Copy, Switch, Drop, Retire}
 use Rattle.plan_text.specs.declared.step.Source.TheVariants.{Owner, Slots}
@@ -27,9 +26,7 @@ use Rattle.plan_text.proofs.NextLaws.{small_all}
 use Rattle.plan_text.proofs.StepLaws.{SaidSuits}
 use Rattle.plan_text.proofs.PlanLaws.{said_of, AreNext, plan-part}
 use Rattle.plan_text.proofs.SuitLaws.{plan-of-next, next-of}
-
-pub names-of : (ring : RingValue) → IsRing ring → AreNames (names_of ring)
-names-of ring r = names-of_nodes ring.format ring.nodes (record { some_node = r.some_node; nodes = r.nodes; each_node = r.each_node; names = r.names })
+use Rattle.ring_table.proofs.NodesLaws.{names-of}
 
 -- ---- the lines of a plan are plain
 

@@ -197,35 +197,35 @@ impl<'a> Case<'a> {
     }
 
     /// Shows the line of a step that is at fault.
-    pub fn fault(&self, said: &mut Said, number: u32) -> Result<(), Refusal> {
-        said.fault(self.step_line(number), b"step #", &[], &[number])
+    pub fn fault(&self, said: &mut Said, number: u32) {
+        said.fault_with(self.step_line(number), b"step #", &[], &[number])
     }
 
     /// Shows the line of a step that belongs to what is at fault.
-    pub fn beside(&self, said: &mut Said, number: u32) -> Result<(), Refusal> {
-        said.beside(self.step_line(number), b"step #", &[], &[number])
+    pub fn beside(&self, said: &mut Said, number: u32) {
+        said.beside_with(self.step_line(number), b"step #", &[], &[number])
     }
 
     /// The lines of a mend: the step waits for the other one too, which is in front of it.
-    pub fn wait(&self, said: &mut Said, number: u32, more: u32) -> Result<(), Refusal> {
+    pub fn wait(&self, said: &mut Said, number: u32, more: u32) {
         let line = self.step_line(number);
-        said.put(line)?;
-        said.add(b"@ after", &[head(self.page.text(line))], &[])?;
+        said.put(line);
+        said.add_with(b"@ after", &[head(self.page.text(line))], &[]);
         let mut is_in = false;
         if number < self.plan.len() {
             for earlier in self.plan.deps(number) {
                 if !is_in && more < *earlier {
-                    said.add(b" #", &[], &[more])?;
+                    said.add_with(b" #", &[], &[more]);
                     is_in = true;
                 }
                 is_in = is_in || *earlier == more;
-                said.add(b" #", &[], &[*earlier])?;
+                said.add_with(b" #", &[], &[*earlier]);
             }
         }
         if !is_in {
-            said.add(b" #", &[], &[more])?;
+            said.add_with(b" #", &[], &[more]);
         }
-        said.add(b"\n", &[], &[])
+        said.add(b"\n")
     }
 }
 

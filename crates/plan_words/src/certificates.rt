@@ -23,27 +23,26 @@ fn gap(case: Case, path: &[u32], is_fact: bool) -> Option<(usize, u32, u32)> {
 }
 
 /// A fact is no path of dependencies.
-pub fn bad_path(case: Case, said: &mut Said, number: u32) -> Result<(), Refusal> {
-    said.title(b"fact # is no path of the plan", &[], &[number])?;
+pub fn bad_path(case: Case, said: &mut Said, number: u32) {
+    said.title_with(b"fact # is no path of the plan", &[], &[number]);
     if number as usize >= case.cert.facts.len() {
-        return Ok(());
+        return;
     }
     let line = case.fact_line(number);
     let path = case.cert.facts.row(number as usize);
     let Some((place, first, second)) = gap(case, path, true) else {
-        return said.fault(line, b"", &[], &[]);
+        return said.fault(line, b"");
     };
     let at = case.page.at(line, place, place.saturating_add(1));
-    said.fault_at(
+    said.fault_at_with(
         at,
         b"step # does not wait for step #",
         &[],
         &[second, first],
-    )?;
+    );
     if second < case.plan.len() {
-        case.beside(said, second)?;
+        case.beside(said, second);
     }
-    Ok(())
 }
 
 // The word of a chain for that part of the node.
@@ -59,35 +58,35 @@ fn chain_word(case: Case, node: u32, role: Role) -> &'static [u8] {
 }
 
 // Shows the first six chains of the node; where a side is named, of that side.
-fn show_chains(case: Case, said: &mut Said, node: u32, side: Option<Side>) -> Result<(), Refusal> {
+fn show_chains(case: Case, said: &mut Said, node: u32, side: Option<Side>) {
     let mut count = 0u32;
     for place in 0..case.cert.chains.len() {
         let of = case.cert.chains.of(place);
         let is_one = of.node.0 == node && (side.is_none() || side == Some(of.side));
         if is_one && count < 6 {
             count = count.saturating_add(1);
-            said.beside(case.chain_line(small(place)), b"", &[], &[])?;
+            said.beside(case.chain_line(small(place)), b"");
         }
     }
-    Ok(())
 }
 
 /// A copy stands in no chain of a node that takes part in it.
 pub fn cover_missing(case: Case, said: &mut Said, node: u32, number: u32) -> Result<(), Refusal> {
     let name = case.name(node);
-    said.title(b"no chain of @ has its copy, step #", &[name], &[number])?;
+    said.title_with(b"no chain of @ has its copy, step #", &[name], &[number]);
     let role = case.part(node, number)?.unwrap_or(Role::Gives);
     let about: &[u8] = if role == Role::Takes {
         b"step # copies to @"
     } else {
         b"step # reads from @"
     };
-    said.fault(case.step_line(number), about, &[name], &[number])?;
-    show_chains(case, said, node, None)?;
-    said.mend(b"a chain of its own", &[], &[])?;
-    said.put(case.cert_end())?;
-    said.add(b"@", &[chain_word(case, node, role)], &[])?;
-    said.add(b" @ #\nend\n", &[name], &[number])
+    said.fault_with(case.step_line(number), about, &[name], &[number]);
+    show_chains(case, said, node, None);
+    said.mend(b"a chain of its own");
+    said.put(case.cert_end());
+    said.add_with(b"@", &[chain_word(case, node, role)], &[]);
+    said.add_with(b" @ #\nend\n", &[name], &[number]);
+    Ok(())
 }
 
 // Whether the copy is one in which the node has a part that the side counts.
@@ -112,76 +111,75 @@ fn misfit(case: Case, of: NodeSide, steps: &[u32]) -> Result<Option<u32>, Refusa
 
 /// A chain has a step that is none of the node's copies, or two that are not in order.
 pub fn chain_broken(case: Case, said: &mut Said, number: u32) -> Result<(), Refusal> {
-    said.title(b"chain # is not in order", &[], &[number])?;
+    said.title_with(b"chain # is not in order", &[], &[number]);
     if number as usize >= case.cert.chains.len() {
         return Ok(());
     }
     let of = case.cert.chains.of(number as usize);
     let steps = case.cert.chains.steps(number as usize);
     let name = case.name(of.node.0);
-    said.fault(
+    said.fault_with(
         case.chain_line(number),
         b"chain #, of @",
         &[name],
         &[number],
-    )?;
+    );
     if let Some(step) = misfit(case, of, steps)? {
-        said.title(
+        said.title_with(
             b"chain # of @ has step #, in which @ has no such part",
             &[name, name],
             &[number, step],
-        )?;
+        );
         if step < case.plan.len() {
-            case.beside(said, step)?;
+            case.beside(said, step);
         }
-        return shorten(case, said, number, step);
+        shorten(case, said, number, step);
+        return Ok(());
     }
-    match gap(case, steps, false) {
-        Some((_, first, second)) => tell_link(case, said, first, second),
-        None => Ok(()),
+    if let Some((_, first, second)) = gap(case, steps, false) {
+        tell_link(case, said, first, second);
     }
+    Ok(())
 }
 
 // The chain without the step; where that was all it had, no chain.
-fn shorten(case: Case, said: &mut Said, number: u32, step: u32) -> Result<(), Refusal> {
+fn shorten(case: Case, said: &mut Said, number: u32, step: u32) {
     if number as usize >= case.cert.chains.len() {
-        return Ok(());
+        return;
     }
     let line = case.chain_line(number);
     let steps = case.cert.chains.steps(number as usize);
-    said.put(line)?;
+    said.put(line);
     if steps.iter().all(|other| *other == step) {
-        return said.mend(b"line # goes", &[], &[line]);
+        return said.mend_with(b"line # goes", &[], &[line]);
     }
-    said.mend(b"without that step", &[], &[])?;
+    said.mend(b"without that step");
     let text = case.page.text(line);
-    said.add(b"@ @", &[field(text, 0), field(text, 1)], &[])?;
+    said.add_with(b"@ @", &[field(text, 0), field(text, 1)], &[]);
     for other in steps {
         if *other != step {
-            said.add(b" #", &[], &[*other])?;
+            said.add_with(b" #", &[], &[*other]);
         }
     }
-    said.add(b"\n", &[], &[])
+    said.add(b"\n")
 }
 
 // Two steps of a chain that are not in order.
-fn tell_link(case: Case, said: &mut Said, first: u32, second: u32) -> Result<(), Refusal> {
-    case.beside(said, first)?;
-    said.beside(
+fn tell_link(case: Case, said: &mut Said, first: u32, second: u32) {
+    case.beside(said, first);
+    said.beside_with(
         case.step_line(second),
         b"step # does not wait for step #",
         &[],
         &[second, first],
-    )?;
+    );
     if first >= second {
-        return Ok(());
+        return;
     }
-    said.mend(b"let step # wait for step #", &[], &[second, first])?;
-    case.wait(said, second, first)?;
+    said.mend_with(b"let step # wait for step #", &[], &[second, first]);
+    case.wait(said, second, first);
     said.note(
         b"Where it waits for it by way of others, a fact with the steps of that way shows it.",
-        &[],
-        &[],
     )
 }
 
@@ -227,54 +225,52 @@ fn crowded(case: Case, node: u32) -> Option<(NodeSide, u32, u32)> {
 }
 
 /// A node has more chains than its allowance.
-pub fn too_many_chains(case: Case, said: &mut Said, node: u32) -> Result<(), Refusal> {
+pub fn too_many_chains(case: Case, said: &mut Said, node: u32) {
     let Some((of, count, most)) = crowded(case, node) else {
-        return said.title(b"a node has more chains than its allowance", &[], &[]);
+        return said.title(b"a node has more chains than its allowance");
     };
-    said.title(
+    said.title_with(
         b"@ may be in # transfers at once, and bears #",
         &[case.name(node)],
         &[count, most],
-    )?;
-    said.beside(case.node_line(node), b"its allowance", &[], &[])?;
-    show_chains(case, said, node, Some(of.side))?;
+    );
+    said.beside(case.node_line(node), b"its allowance");
+    show_chains(case, said, node, Some(of.side));
     said.note(
         b"Each chain is one transfer at a time. Join two: let the first copy of one wait for the last of the other.",
-        &[],
-        &[],
-    )?;
+    );
     match last_two(case, of) {
         Some((first, second)) => put_behind(case, said, first, second),
-        None => Ok(()),
+        None => {}
     }
 }
 
 // A mend: one chain behind the other, where they can be.
-fn put_behind(case: Case, said: &mut Said, first: usize, second: usize) -> Result<(), Refusal> {
+fn put_behind(case: Case, said: &mut Said, first: usize, second: usize) {
     if first >= case.cert.chains.len() || second >= case.cert.chains.len() {
-        return Ok(());
+        return;
     }
     let (one, other) = (
         case.cert.chains.steps(first),
         case.cert.chains.steps(second),
     );
     let (Some(last), Some(next)) = (one.last(), other.first()) else {
-        return Ok(());
+        return;
     };
     if *last >= *next {
-        return Ok(());
+        return;
     }
     let (line, gone) = (
         case.chain_line(small(first)),
         case.chain_line(small(second)),
     );
-    said.mend(b"one behind the other, and line # goes", &[], &[gone])?;
-    case.wait(said, *next, *last)?;
-    said.put(line)?;
-    said.add(b"@", &[case.page.text(line)], &[])?;
+    said.mend_with(b"one behind the other, and line # goes", &[], &[gone]);
+    case.wait(said, *next, *last);
+    said.put(line);
+    said.add_with(b"@", &[case.page.text(line)], &[]);
     for step in other {
-        said.add(b" #", &[], &[*step])?;
+        said.add_with(b" #", &[], &[*step]);
     }
-    said.add(b"\n", &[], &[])?;
+    said.add(b"\n");
     said.put(gone)
 }

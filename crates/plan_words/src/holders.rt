@@ -97,84 +97,67 @@ fn other_stay(case: Case, node: NodeId, slot: Slot, number: u32) -> Option<Stay>
 }
 
 /// A mirror brings a node into a second slot of a partition.
-pub fn shared_in_plan(case: Case, said: &mut Said, number: u32) -> Result<(), Refusal> {
+pub fn shared_in_plan(case: Case, said: &mut Said, number: u32) {
     let Some(Step::Mirror(slot, node)) = case.step(number) else {
-        return said.title(
-            b"a mirror brings a node into a second slot of a partition",
-            &[],
-            &[],
-        );
+        return said.title(b"a mirror brings a node into a second slot of a partition");
     };
     let name = case.name(node.0);
-    said.title(
+    said.title_with(
         b"step # brings @ into a second slot of partition #",
         &[name],
         &[number, slot.partition],
-    )?;
-    said.fault(
+    );
+    said.fault_with(
         case.step_line(number),
         b"step #: @ enters slot #",
         &[name],
         &[number, slot.index],
-    )?;
+    );
     match other_stay(case, *node, *slot, number) {
         Some(found) => tell_stay(case, said, name, found, number),
-        None => Ok(()),
+        None => {}
     }
 }
 
 // When the node entered the other slot.
-fn tell_entry(case: Case, said: &mut Said, name: &[u8], found: Stay) -> Result<(), Refusal> {
+fn tell_entry(case: Case, said: &mut Said, name: &[u8], found: Stay) {
     let index = found.slot.index;
     match found.from {
         Some(begin) => {
             let line = case.step_line(begin);
-            said.beside(line, b"step #: it enters slot #", &[], &[begin, index])
+            said.beside_with(line, b"step #: it enters slot #", &[], &[begin, index])
         }
-        None => said.note(b"@ owns slot # of it from the start.", &[name], &[index]),
+        None => said.note_with(b"@ owns slot # of it from the start.", &[name], &[index]),
     }
 }
 
 // When it leaves that slot.
-fn tell_exit(
-    case: Case,
-    said: &mut Said,
-    name: &[u8],
-    found: Stay,
-    number: u32,
-) -> Result<(), Refusal> {
+fn tell_exit(case: Case, said: &mut Said, name: &[u8], found: Stay, number: u32) {
     let index = found.slot.index;
     let Some(end) = found.to else {
         let note = b"No step takes @ out of slot #: move that slot first, or mirror another node.";
-        return said.note(note, &[name], &[index]);
+        return said.note_with(note, &[name], &[index]);
     };
     let line = case.step_line(end);
-    said.beside(line, b"step #: it leaves slot #", &[], &[end, index])?;
+    said.beside_with(line, b"step #: it leaves slot #", &[], &[end, index]);
     if end > number {
         let note = b"It leaves that slot behind this step: move its steps in front.";
-        said.note(note, &[], &[])?;
+        said.note(note);
     }
-    Ok(())
 }
 
 // When the node entered the other slot, and when it leaves it; what it must wait for.
-fn tell_stay(
-    case: Case,
-    said: &mut Said,
-    name: &[u8],
-    found: Stay,
-    number: u32,
-) -> Result<(), Refusal> {
-    tell_entry(case, said, name, found)?;
-    tell_exit(case, said, name, found, number)?;
+fn tell_stay(case: Case, said: &mut Said, name: &[u8], found: Stay, number: u32) {
+    tell_entry(case, said, name, found);
+    tell_exit(case, said, name, found, number);
     let note = b"Two replicas of a key on one node would count twice in a quorum.";
-    said.note(note, &[], &[])?;
+    said.note(note);
     match found.to {
         Some(end) if end < number => {
-            said.mend(b"let it wait until @ has left", &[name], &[])?;
+            said.mend_with(b"let it wait until @ has left", &[name], &[]);
             case.wait(said, number, end)
         }
-        _ => Ok(()),
+        _ => {}
     }
 }
 
@@ -188,22 +171,22 @@ fn used(case: Case, number: u32) -> Option<NodeId> {
 }
 
 /// A node is no member when a step needs it to be one.
-pub fn not_joined(case: Case, said: &mut Said, number: u32) -> Result<(), Refusal> {
+pub fn not_joined(case: Case, said: &mut Said, number: u32) {
     let Some(node) = used(case, number) else {
-        return said.title(b"a node is no member when a step needs it", &[], &[]);
+        return said.title(b"a node is no member when a step needs it");
     };
     let name = case.name(node.0);
-    said.title(b"@ is no member when step # comes", &[name], &[number])?;
-    case.fault(said, number)?;
+    said.title_with(b"@ is no member when step # comes", &[name], &[number]);
+    case.fault(said, number);
     let Some(join) = case.plan.join_of(node) else {
-        said.beside(case.node_line(node.0), b"declared `out`", &[], &[])?;
-        return said.note(b"No step joins it: put `join @` in front.", &[name], &[]);
+        said.beside(case.node_line(node.0), b"declared `out`");
+        return said.note_with(b"No step joins it: put `join @` in front.", &[name], &[]);
     };
-    said.beside(case.step_line(join), b"step # joins it", &[], &[join])?;
+    said.beside_with(case.step_line(join), b"step # joins it", &[], &[join]);
     if join >= number {
-        return said.note(b"Its join stands behind: move it in front.", &[], &[]);
+        return said.note(b"Its join stands behind: move it in front.");
     }
-    said.mend(b"let it wait for the join", &[], &[])?;
+    said.mend(b"let it wait for the join");
     case.wait(said, number, join)
 }
 
@@ -269,72 +252,68 @@ fn find_left(case: Case, left: &mut Left, node: NodeId, number: u32) -> Result<(
 }
 
 // Says which slots a node holds without a drop, as far as a few lines can.
-fn tell_slots(said: &mut Said, slots: &[Slot]) -> Result<(), Refusal> {
+fn tell_slots(said: &mut Said, slots: &[Slot]) {
     for slot in slots {
-        said.note(
+        said.note_with(
             b"It holds slot # of partition #, and no step drops that: move the slot to another node and drop it.",
             &[],
             &[slot.index, slot.partition],
-        )?;
+        );
         if said.noted() > 500 {
-            return said.note(b"..", &[], &[]);
+            return said.note(b"..");
         }
     }
-    Ok(())
 }
 
 // Shows the first six drops for which a retirement does not wait.
-fn tell_drops(case: Case, said: &mut Said, drops: &[u32]) -> Result<(), Refusal> {
+fn tell_drops(case: Case, said: &mut Said, drops: &[u32]) {
     for drop in &drops[..drops.len().min(6)] {
-        said.beside(
+        said.beside_with(
             case.step_line(*drop),
             b"step #: the retirement does not wait for it",
             &[],
             &[*drop],
-        )?;
+        );
     }
-    Ok(())
 }
 
 // Says what a node holds when it retires.
-fn tell_left(case: Case, said: &mut Said, left: &Left, number: u32) -> Result<(), Refusal> {
-    tell_slots(said, left.slots.as_slice())?;
+fn tell_left(case: Case, said: &mut Said, left: &Left, number: u32) {
+    tell_slots(said, left.slots.as_slice());
     let drops = left.drops.as_slice();
-    tell_drops(case, said, drops)?;
+    tell_drops(case, said, drops);
     let Some(drop) = drops.first() else {
-        return Ok(());
+        return;
     };
     if *drop >= number || !left.slots.is_empty() {
-        return Ok(());
+        return;
     }
     let says: &[u8] = if drops.len() == 1 {
         b"let it wait for the drop"
     } else {
         b"let it wait for the first of its drops"
     };
-    said.mend(says, &[], &[])?;
+    said.mend(says);
     case.wait(said, number, *drop)
 }
 
 /// A node retires with slots that it has not dropped.
 pub fn retired_in_use(case: Case, said: &mut Said, number: u32) -> Result<(), Refusal> {
     let Some(Step::Retire(node)) = case.step(number) else {
-        return said.title(
-            b"a node retires with slots that it has not dropped",
-            &[],
-            &[],
-        );
+        said.title(b"a node retires with slots that it has not dropped");
+        return Ok(());
     };
-    said.title(
+    said.title_with(
         b"@ retires with slots that it has not dropped",
         &[case.name(node.0)],
         &[],
-    )?;
-    case.fault(said, number)?;
+    );
+    case.fault(said, number);
     let mut left = Left {
         slots: Vec::new(case.alloc),
         drops: Vec::new(case.alloc),
     };
     find_left(case, &mut left, *node, number)?;
-    tell_left(case, said, &left, number)
+    tell_left(case, said, &left, number);
+    Ok(())
 }

@@ -2,7 +2,7 @@
 
 use crate::case::Case;
 use plan_text::{Source, Step};
-use ring_names::{Refusal, Slot};
+use ring_names::Slot;
 use text_words::Said;
 
 // How many of the indexes are different.
@@ -17,20 +17,18 @@ fn different(indexes: &[u32]) -> u32 {
 }
 
 /// A copy lists a slot twice, or too few.
-pub fn bad_source(case: Case, said: &mut Said, number: u32) -> Result<(), Refusal> {
-    said.title(b"step # reads too few slots, or one twice", &[], &[number])?;
+pub fn bad_source(case: Case, said: &mut Said, number: u32) {
+    said.title_with(b"step # reads too few slots, or one twice", &[], &[number]);
     if let Some(Step::Copy(_, Source::Slots(from))) = case.step(number) {
-        said.fault(
+        said.fault_with(
             case.step_line(number),
             b"# different, where a read asks for #, each once",
             &[],
             &[different(from.as_slice()), case.ring.r()],
-        )?;
+        );
     }
     said.note(
         b"List as many slots of the partition as a read asks for, each once, or copy from `owner`.",
-        &[],
-        &[],
     )
 }
 
@@ -53,30 +51,30 @@ fn moving(case: Case, slot: Slot, from: &[u32], number: u32) -> Option<(u32, u32
 }
 
 /// A copy reads a slot whose owner may change under it.
-pub fn moving_source(case: Case, said: &mut Said, number: u32) -> Result<(), Refusal> {
-    said.title(
+pub fn moving_source(case: Case, said: &mut Said, number: u32) {
+    said.title_with(
         b"step # reads a slot whose owner may change under it",
         &[],
         &[number],
-    )?;
+    );
     let Some(Step::Copy(slot, Source::Slots(from))) = case.step(number) else {
-        return Ok(());
+        return;
     };
     let Some((switch, index)) = moving(case, *slot, from.as_slice(), number) else {
-        return Ok(());
+        return;
     };
-    said.fault(
+    said.fault_with(
         case.step_line(number),
         b"step # reads slot #",
         &[],
         &[number, index],
-    )?;
-    said.beside(
+    );
+    said.beside_with(
         case.step_line(switch),
         b"step # changes its owner: before the copy, or behind it?",
         &[],
         &[switch],
-    )?;
-    said.mend(b"let the later one wait", &[], &[])?;
+    );
+    said.mend(b"let the later one wait");
     case.wait(said, number.max(switch), number.min(switch))
 }

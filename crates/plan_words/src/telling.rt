@@ -37,16 +37,16 @@ pub fn tell_plan(
     };
     match refusal {
         Refusal::WrongStage(step) => wrong_stage(case, said, *step)?,
-        Refusal::UnorderedSlot(step) => unordered_slot(case, said, *step)?,
-        Refusal::BadSource(step) => bad_source(case, said, *step)?,
-        Refusal::MovingSource(step) => moving_source(case, said, *step)?,
-        Refusal::SharedInPlan(step) => shared_in_plan(case, said, *step)?,
-        Refusal::NotJoined(step) => not_joined(case, said, *step)?,
+        Refusal::UnorderedSlot(step) => unordered_slot(case, said, *step),
+        Refusal::BadSource(step) => bad_source(case, said, *step),
+        Refusal::MovingSource(step) => moving_source(case, said, *step),
+        Refusal::SharedInPlan(step) => shared_in_plan(case, said, *step),
+        Refusal::NotJoined(step) => not_joined(case, said, *step),
         Refusal::RetiredInUse(step) => retired_in_use(case, said, *step)?,
-        Refusal::BadPath(fact) => bad_path(case, said, *fact)?,
+        Refusal::BadPath(fact) => bad_path(case, said, *fact),
         Refusal::CoverMissing(node, step) => cover_missing(case, said, *node, *step)?,
         Refusal::ChainBroken(chain) => chain_broken(case, said, *chain)?,
-        Refusal::TooManyChains(node) => too_many_chains(case, said, *node)?,
+        Refusal::TooManyChains(node) => too_many_chains(case, said, *node),
         _ => return Ok(false),
     }
     Ok(true)

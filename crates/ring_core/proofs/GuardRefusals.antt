@@ -16,11 +16,11 @@ use Rattle.plan_text.specs.declared.step.Planned.{Planned}
 use Rattle.plan_stage.specs.Clauses.{Guard, first_failing}
 use Rattle.plan_stage.specs.Each.{step_at}
 use Rattle.plan_stage.specs.Parties.{parties}
-use Rattle.plan_check.specs.declared.event.Event.{Event}
-use Rattle.plan_check.specs.declared.event.Event.TheVariants.{Do, OpenCopy, ChunkCopy, CloseCopy, AbortCopy, StartPut, Write, Hint, Ack, StartGet, Read, EndGet, Down, Up, Handoff, Lose}
-use Rattle.plan_check.specs.World.{World, copy_at, passing_below, stage_now, key_of_get}
-use Rattle.plan_check.specs.Versions.{put_slot, get_slot}
-use Rattle.plan_check.specs.Guards.{guards, step_guards, parties_up, keepers_up, mirror_up, nodes_up, keeps_source, keeps_of_key, up_guard}
+use Rattle.plan_runs.specs.declared.event.Event.{Event}
+use Rattle.plan_runs.specs.declared.event.Event.TheVariants.{Do, OpenCopy, ChunkCopy, CloseCopy, AbortCopy, StartPut, Write, Hint, Ack, StartGet, Read, EndGet, Down, Up, Handoff, Lose}
+use Rattle.plan_runs.specs.World.{World, copy_at, passing_below, stage_now, key_of_get}
+use Rattle.plan_runs.specs.Versions.{put_slot, get_slot}
+use Rattle.plan_runs.specs.Guards.{guards, step_guards, parties_up, keepers_up, mirror_up, nodes_up, keeps_source, keeps_of_key, up_guard}
 
 -- the refusal is another one
 is_other : Refusal → Bool

@@ -3,7 +3,7 @@ use Rattle.std.proofs.Common.{◌≡◌, Bool, true, false, refl}
 use Rattle.std.specs.Prelude.{Option, Some, None, IfSome}
 use Rattle.ring_names.specs.declared.ids.NodeId.{NodeId}
 use Rattle.ring_names.specs.declared.ids.Slot.{Slot}
-use Rattle.plan_check.specs.World.{World, keeps}
+use Rattle.plan_runs.specs.World.{World, keeps}
 use Rattle.ring_hints.specs.Hints.{Keeps}
 use Rattle.store_tells.specs.declared.parts.Parts.{Parts}
 use Rattle.store_tells.specs.Parts.{ring_of, plan_of, kept_of, Meets}

@@ -10,3 +10,6 @@ pub mod SoundAfterEvent
 pub mod OpenCopies
 pub mod RunPromises
 pub mod ReplyCopies
+pub use Rattle.store_tables.proofs.Counting
+pub use Rattle.store_tells.proofs.KeepersDeclared
+pub use Rattle.store_tells.proofs.StoreInWorld

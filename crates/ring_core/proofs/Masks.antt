@@ -5,8 +5,8 @@ use Rattle.std.specs.Int.{w32, bit_at}
 use Rattle.std.proofs.lemmas.Bool.Decides.{eqb_tells, nat_tests}
 use Rattle.std.proofs.lemmas.Nat.Bits.{bit_at_set_same, bit_at_set_other}
 use Rattle.ring_names.proofs.Logic.{lt_self}
-use Rattle.plan_check.specs.Versions.{put_slot, is_held}
-use Rattle.plan_check.specs.World.{World as TheWorld}
+use Rattle.plan_runs.specs.Versions.{put_slot, is_held}
+use Rattle.plan_runs.specs.World.{World as TheWorld}
 use Rattle.ring_core.specs.declared.world.World.{World}
 use Rattle.ring_core.specs.World.{ring_of, plan_of, Meets}
 

@@ -5,12 +5,12 @@ use Rattle.std.specs.Prelude.{Result, Ok, Err, IfOk, OnErr}
 use Rattle.ring_names.specs.declared.refusal.Refusal.{Refusal}
 use Rattle.ring_table.specs.Value.{RingValue}
 use Rattle.plan_text.specs.declared.step.Planned.{Planned}
-use Rattle.plan_check.specs.declared.event.Event.{Event}
-use Rattle.plan_check.specs.declared.event.Event.TheVariants.{Do, OpenCopy, ChunkCopy, CloseCopy, AbortCopy, StartPut, Write, Hint, Ack, StartGet, Read, EndGet, Down, Up, Handoff, Lose}
-use Rattle.plan_check.specs.declared.event.Reply.{Reply}
-use Rattle.plan_check.specs.Answers.{reply_to, answer}
-use Rattle.plan_check.specs.World.{World}
-use Rattle.plan_check.proofs.Answered.{answered}
+use Rattle.plan_runs.specs.declared.event.Event.{Event}
+use Rattle.plan_runs.specs.declared.event.Event.TheVariants.{Do, OpenCopy, ChunkCopy, CloseCopy, AbortCopy, StartPut, Write, Hint, Ack, StartGet, Read, EndGet, Down, Up, Handoff, Lose}
+use Rattle.plan_runs.specs.declared.event.Reply.{Reply}
+use Rattle.plan_runs.specs.Answers.{reply_to, answer}
+use Rattle.plan_runs.specs.World.{World}
+use Rattle.plan_runs.proofs.Answered.{answered}
 use Rattle.ring_core.specs.Numbers.{lists_puts}
 use Rattle.store_tells.specs.declared.parts.Parts.{Parts}
 use Rattle.store_tells.specs.Parts.{ring_of, plan_of, IsSound, Answers, Stays}

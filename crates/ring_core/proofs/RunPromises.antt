@@ -5,15 +5,15 @@ use Rattle.std.specs.Int.{bit_at}
 use Rattle.ring_names.specs.declared.refusal.Refusal.{Refusal}
 use Rattle.ring_table.specs.Value.{RingValue}
 use Rattle.plan_text.specs.declared.step.Planned.{Planned}
-use Rattle.plan_check.specs.declared.event.Event.{Event}
-use Rattle.plan_check.specs.declared.event.Event.TheVariants.{EndGet}
-use Rattle.plan_check.specs.declared.event.Reply.{Reply}
-use Rattle.plan_check.specs.declared.event.Reply.TheVariants.{Answer}
+use Rattle.plan_runs.specs.declared.event.Event.{Event}
+use Rattle.plan_runs.specs.declared.event.Event.TheVariants.{EndGet}
+use Rattle.plan_runs.specs.declared.event.Reply.{Reply}
+use Rattle.plan_runs.specs.declared.event.Reply.TheVariants.{Answer}
 use Rattle.plan_check.specs.Headline.{KeepsPromises}
-use Rattle.plan_check.specs.Versions.{put_slot}
-use Rattle.plan_check.specs.World.{World as TheWorld, is_acked}
-use Rattle.plan_check.proofs.Passed.{among}
-use Rattle.plan_check.proofs.Succeeding.{is_held_from}
+use Rattle.plan_runs.specs.Versions.{put_slot}
+use Rattle.plan_runs.specs.World.{World as TheWorld, is_acked}
+use Rattle.plan_runs.proofs.Passed.{among}
+use Rattle.plan_runs.proofs.Succeeding.{is_held_from}
 use Rattle.ring_core.specs.declared.world.World.{World}
 use Rattle.ring_core.specs.World.{ring_of, plan_of, Meets}
 use Rattle.ring_core.specs.Promises.{MeetsEveryRead, SeesAcknowledged, IsFresh}

@@ -11,8 +11,8 @@ use Rattle.ring_versions.specs.declared.version.Version.{Version}
 use Rattle.ring_versions.specs.Versions.{Covers}
 use Rattle.plan_text.specs.declared.step.Planned.{Planned}
 use Rattle.plan_text.specs.Valid.{is_ring_slot}
-use Rattle.plan_check.specs.World.{PutRecord, World, slot_at, stage_now, key_of_put, is_of_key}
-use Rattle.plan_check.specs.Versions.{put_slot, is_held}
+use Rattle.plan_runs.specs.World.{PutRecord, World, slot_at, stage_now, key_of_put, is_of_key}
+use Rattle.plan_runs.specs.Versions.{put_slot, is_held}
 use Rattle.store_tells.specs.Shows.{Shows, value_of}
 use Rattle.store_tells.proofs.SlotHolds.{held}
 use Rattle.store_tables.specs.KeyTable.{KeyTable}

@@ -11,7 +11,7 @@ use Rattle.plan_text.specs.Steps.{steps_of}
 use Rattle.plan_text.specs.Valid.{is_ring_slot}
 use Rattle.plan_stage.specs.Stage.{stage}
 use Rattle.plan_stage.proofs.Places.{placed}
-use Rattle.plan_check.specs.World.{World, count, stage_now, slot_at}
+use Rattle.plan_runs.specs.World.{World, count, stage_now, slot_at}
 use Rattle.store_tables.specs.declared.slots.SlotNow.{SlotNow}
 use Rattle.store_tells.specs.Kept.{Kept, Tells}
 use Rattle.store_tells.proofs.StoreInWorld.{slot_there}

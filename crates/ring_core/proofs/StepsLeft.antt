@@ -2,7 +2,7 @@
 use Rattle.std.proofs.Common.{◌≡◌, ◌∙◌, ℕ, zero, suc, ◌+◌, Bool, true, false, not, cond, List, [], ◌∷◌, length, refl, sym, ap, arith}
 use Rattle.std.proofs.lemmas.List.Recursion.{is_count_by}
 use Rattle.plan_text.specs.declared.step.Planned.{Planned}
-use Rattle.plan_check.specs.World.{World, passing_from, passing_below}
+use Rattle.plan_runs.specs.World.{World, passing_from, passing_below}
 use Rattle.store_tables.specs.declared.steps.StepNow.{StepNow}
 use Rattle.store_tables.specs.Steps.{steps_left, is_done_at}
 use Rattle.store_tells.specs.Steps.{StepsMeet}

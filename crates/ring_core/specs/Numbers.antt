@@ -1,9 +1,9 @@
 -- Which events need a number, which may need memory, and which replies list puts.
 use Rattle.std.specs.Prelude.{◌<◌, Bool, true, false, length}
-use Rattle.plan_check.specs.declared.event.Event.{Event}
-use Rattle.plan_check.specs.declared.event.Event.TheVariants.{ChunkCopy, StartPut, Write, Hint, StartGet, Read, EndGet, Handoff}
-use Rattle.plan_check.specs.declared.event.Reply.{Reply}
-use Rattle.plan_check.specs.declared.event.Reply.TheVariants.{Found, Answer}
+use Rattle.plan_runs.specs.declared.event.Event.{Event}
+use Rattle.plan_runs.specs.declared.event.Event.TheVariants.{ChunkCopy, StartPut, Write, Hint, StartGet, Read, EndGet, Handoff}
+use Rattle.plan_runs.specs.declared.event.Reply.{Reply}
+use Rattle.plan_runs.specs.declared.event.Reply.TheVariants.{Found, Answer}
 use Rattle.store_tells.specs.declared.parts.Parts.{Parts}
 
 -- a put or get that starts has a number below 4,294,967,295

@@ -4,17 +4,17 @@ use Rattle.std.specs.List.{list_all}
 use Rattle.std.specs.Int.{bit_at}
 use Rattle.ring_names.specs.Lists.{has, all_different}
 use Rattle.ring_table.specs.Value.{RingValue}
-use Rattle.plan_check.specs.declared.event.Event.{Event}
-use Rattle.plan_check.specs.declared.event.Event.TheVariants.{Do, OpenCopy, ChunkCopy, CloseCopy, AbortCopy, StartPut, Write, Hint}
-use Rattle.plan_check.specs.declared.event.Event.TheVariants.{Ack, StartGet, Read, EndGet, Down, Up, Handoff, Lose}
-use Rattle.plan_check.specs.declared.event.Entry.{Entry}
-use Rattle.plan_check.specs.declared.event.Reply.{Reply}
-use Rattle.plan_check.specs.declared.event.Reply.TheVariants as reply
-use Rattle.plan_check.specs.declared.words.Key.{Key}
-use Rattle.plan_check.specs.Answers.{answer}
+use Rattle.plan_runs.specs.declared.event.Event.{Event}
+use Rattle.plan_runs.specs.declared.event.Event.TheVariants.{Do, OpenCopy, ChunkCopy, CloseCopy, AbortCopy, StartPut, Write, Hint}
+use Rattle.plan_runs.specs.declared.event.Event.TheVariants.{Ack, StartGet, Read, EndGet, Down, Up, Handoff, Lose}
+use Rattle.plan_runs.specs.declared.event.Entry.{Entry}
+use Rattle.plan_runs.specs.declared.event.Reply.{Reply}
+use Rattle.plan_runs.specs.declared.event.Reply.TheVariants as reply
+use Rattle.plan_runs.specs.declared.words.Key.{Key}
+use Rattle.plan_runs.specs.Answers.{answer}
 use Rattle.plan_check.specs.Headline.{IsAnswered}
-use Rattle.plan_check.specs.Runs.{Leads, IsRun}
-use Rattle.plan_check.specs.World.{World as TheWorld, is_acked, is_of_key}
+use Rattle.plan_runs.specs.Runs.{Leads, IsRun}
+use Rattle.plan_runs.specs.World.{World as TheWorld, is_acked, is_of_key}
 use Rattle.ring_core.specs.declared.world.World.{World}
 use Rattle.ring_core.specs.World.{ring_of, plan_of, Meets}
 

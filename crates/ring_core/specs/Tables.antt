@@ -11,8 +11,8 @@ use Rattle.store_tables.specs.Slots.{slot_now}
 use Rattle.store_tables.specs.Steps.{is_done_at, is_open_at}
 use Rattle.store_tells.specs.GuardsKept.{is_ready_kept}
 use Rattle.store_tells.specs.Kept.{Kept}
-use Rattle.plan_check.specs.Guards.{is_ready}
-use Rattle.plan_check.specs.World.{World, passing_below, stage_now, slot_at}
+use Rattle.plan_runs.specs.Guards.{is_ready}
+use Rattle.plan_runs.specs.World.{World, passing_below, stage_now, slot_at}
 
 -- the values at the numbers below n, in order
 abbrev pub values_below : {A : Type 0} → ℕ → (ℕ → A) → List A

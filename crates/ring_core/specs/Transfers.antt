@@ -7,7 +7,7 @@ use Rattle.ring_table.specs.declared.allowance.Side.TheVariants.{Both, Take, Giv
 use Rattle.plan_text.specs.declared.step.Source.{Source}
 use Rattle.plan_text.specs.declared.step.Planned.{Planned}
 use Rattle.plan_stage.specs.Parties.{source_slots}
-use Rattle.plan_check.specs.World.{copy_at}
+use Rattle.plan_runs.specs.World.{copy_at}
 use Rattle.store_tables.specs.declared.slots.SlotNow.{SlotNow}
 use Rattle.store_tables.specs.declared.steps.StepNow.{StepNow}
 use Rattle.store_tables.specs.Slots.{slot_now}

@@ -3,15 +3,15 @@ use Rattle.std.specs.Prelude.{◌≡◌, ℕ, ◌+◌, ◌≤◌, List, length, 
 use Rattle.ring_names.specs.declared.refusal.Refusal.{Refusal}
 use Rattle.ring_table.specs.Value.{RingValue}
 use Rattle.plan_text.specs.declared.step.Planned.{Planned}
-use Rattle.plan_check.specs.declared.event.Event.{Event}
-use Rattle.plan_check.specs.declared.event.Reply.{Reply}
-use Rattle.plan_check.specs.Answers.{answer}
-use Rattle.plan_check.specs.World.{World as TheWorld}
+use Rattle.plan_runs.specs.declared.event.Event.{Event}
+use Rattle.plan_runs.specs.declared.event.Reply.{Reply}
+use Rattle.plan_runs.specs.Answers.{answer}
+use Rattle.plan_runs.specs.World.{World as TheWorld}
 use Rattle.ring_clock.specs.declared.entry.Entry.{Entry}
+use Rattle.ring_core.specs.declared.world.World.{World}
 use Rattle.store_tells.specs.Puts.{clock_at}
 use Rattle.store_tells.specs.Parts as parts
 use Rattle.ring_core.specs.Numbers as numbers
-use Rattle.ring_core.specs.declared.world.World.{World}
 
 -- the ring and the plan that the store follows
 abbrev pub ring_of : World → RingValue

@@ -5,14 +5,16 @@ ghost use Rattle.ring_names.specs.declared.refusal.Refusal.TheVariants.{OutOfMem
 ghost use Rattle.store_tells.specs.Parts.{IsSound, Tests, Passes, Answers, Stays, Follows};
 ghost use Rattle.ring_core.specs.Numbers.{HasNumber, may_need_memory, lists_puts};
 
-use plan_check::{Event, Reply};
+use plan_runs::{Event, Reply};
 use ring_names::Refusal;
+use store_clients::{
+    ack, ack_refusal, end_get, end_get_with_copy, end_refusal, put_refusal, read, read_refusal,
+    read_with_copy, start_get, start_put,
+};
 use store_events::{
-    abort_copy, abort_refusal, ack, ack_refusal, chunk_copy, chunk_refusal, close_copy,
-    close_refusal, do_refusal, do_step, down, down_refusal, end_get, end_get_with_copy,
-    end_refusal, handoff, handoff_refusal, hint, hint_refusal, lose, lose_refusal, open_copy,
-    open_refusal, put_refusal, read, read_refusal, read_with_copy, start_get, start_put, up,
-    up_refusal, write, write_refusal,
+    abort_copy, abort_refusal, chunk_copy, chunk_refusal, close_copy, close_refusal, do_refusal,
+    do_step, down, down_refusal, handoff, handoff_refusal, hint, hint_refusal, lose, lose_refusal,
+    open_copy, open_refusal, up, up_refusal, write, write_refusal,
 };
 use store_tells::Parts;
 

@@ -12,8 +12,8 @@ impl<'a> World<'a> {
     ghost use Rattle.std.specs.Int.{bit_at};
     ghost use Rattle.ring_names.specs.declared.refusal.Refusal.TheVariants.{OutOfMemory};
     ghost use Rattle.plan_text.specs.Valid.{is_ring_slot};
-    ghost use Rattle.plan_check.specs.Versions.{put_slot, is_held};
-    ghost use Rattle.plan_check.specs.World.{World as TheWorld, is_acked, key_of_put, stage_now, keeps, slot_at};
+    ghost use Rattle.plan_runs.specs.Versions.{put_slot, is_held};
+    ghost use Rattle.plan_runs.specs.World.{World as TheWorld, is_acked, key_of_put, stage_now, keeps, slot_at};
     ghost use Rattle.ring_hints.specs.Hints.{hinted_at, kept_count, kept_pairs};
     ghost use Rattle.store_maps.specs.Chunks.{chunk_of};
     ghost use Rattle.store_tells.specs.Parts.{kept_of};
@@ -23,7 +23,7 @@ impl<'a> World<'a> {
     ghost use Rattle.ring_core.specs.Tables.{can_begin_kept, IsNextStep, NoNextStep};
     ghost use Rattle.ring_core.specs.World.{ring_of, plan_of, Meets, put_count, get_count, clock_of};
     ghost use Rattle.ring_clock.specs.Clock.{IsAtMost};
-    ghost use Rattle.plan_check.specs.Succession.{Succeeds};
+    ghost use Rattle.plan_runs.specs.Succession.{Succeeds};
     ghost use Rattle.plan_check.specs.Safe.{GroupsAreApart};
     ghost use Rattle.ring_core.specs.Promises.{MeetsEveryRead};
 

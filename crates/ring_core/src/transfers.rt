@@ -12,7 +12,7 @@ impl<'a> World<'a> {
     ghost use Rattle.ring_table.specs.Value.{allowance_of};
     ghost use Rattle.plan_stage.specs.Parties.{source_slots};
     ghost use Rattle.plan_check.specs.Safe.{open_copies, takes_part_now};
-    ghost use Rattle.plan_check.specs.World.{World as TheWorld, copy_at, passing_below, slot_at};
+    ghost use Rattle.plan_runs.specs.World.{World as TheWorld, copy_at, passing_below, slot_at};
     ghost use Rattle.ring_core.specs.Transfers.{owns_kept, mirrors_kept, part_kept, is_open_kept};
     ghost use Rattle.ring_core.specs.World.{ring_of, plan_of, Meets};
 

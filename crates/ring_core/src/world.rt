@@ -4,7 +4,8 @@ ghost use Rattle.std.specs.Prelude.{◌≤◌, length};
 ghost use Rattle.store_tells.specs.Parts.{IsSound};
 
 use crate::events::{happen, happen_with_copy, refusal};
-use plan_check::{Approved, Event, Reply};
+use plan_check::Approved;
+use plan_runs::{Event, Reply};
 use ring_names::Refusal;
 use std::alloc::Global;
 use store_tells::Parts;
@@ -21,7 +22,7 @@ pub struct World<'a> {
 impl<'a> World<'a> {
     ghost use Rattle.std.specs.Prelude.{◌≡◌, ◌≢◌, ◌⊎◌, ℕ, ◌<◌, true, false, length, None, IfOk, IfErr, OnOk, OnErr};
     ghost use Rattle.ring_names.specs.declared.refusal.Refusal.TheVariants.{OutOfMemory};
-    ghost use Rattle.plan_check.specs.World.{World as TheWorld, opening_world};
+    ghost use Rattle.plan_runs.specs.World.{World as TheWorld, opening_world};
     ghost use Rattle.ring_core.specs.World.{ring_of, plan_of, Meets, Passes, Answers, Refuses, Stays, HasNumber};
     ghost use Rattle.ring_core.specs.World.{IsOneMore, put_count, get_count};
     ghost use Rattle.ring_core.specs.Numbers.{may_need_memory};

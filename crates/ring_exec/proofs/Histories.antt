@@ -7,14 +7,14 @@ use Rattle.ring_names.specs.declared.refusal.Refusal.{Refusal}
 use Rattle.ring_names.specs.declared.refusal.Refusal.TheVariants.{HistoryFull}
 use Rattle.ring_table.specs.Value.{RingValue}
 use Rattle.plan_text.specs.declared.step.Planned.{Planned}
-use Rattle.plan_check.specs.declared.event.Entry.{Entry}
-use Rattle.plan_check.specs.declared.event.Event.{Event}
-use Rattle.plan_check.specs.declared.event.Reply.{Reply}
-use Rattle.plan_check.specs.Answers.{answer}
-use Rattle.plan_check.specs.World.{opening_world}
-use Rattle.plan_check.proofs.Answered.{first_refused}
-use Rattle.plan_check.proofs.Split.{joined}
-use Rattle.store_tells.proofs.StoreInWorld.{holds}
+use Rattle.plan_runs.specs.declared.event.Entry.{Entry}
+use Rattle.plan_runs.specs.declared.event.Event.{Event}
+use Rattle.plan_runs.specs.declared.event.Reply.{Reply}
+use Rattle.plan_runs.specs.Answers.{answer}
+use Rattle.plan_runs.specs.World.{opening_world}
+use Rattle.plan_runs.proofs.Answered.{first_refused}
+use Rattle.plan_runs.proofs.Split.{joined}
+use Rattle.ring_core.proofs.StoreInWorld.{holds}
 use Rattle.ring_core.specs.declared.world.World.{World}
 use Rattle.ring_core.specs.World.{ring_of, plan_of, put_count, get_count, Meets, Answers, Refuses, Stays}
 use Rattle.ring_core.proofs.GuardRefusals.{never_full}

@@ -2,3 +2,4 @@ pub mod Histories
 pub mod Sums
 pub mod Looks
 pub mod Replied
+pub use Rattle.ring_replay.proofs.FirstFault

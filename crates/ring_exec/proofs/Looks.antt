@@ -8,13 +8,13 @@ use Rattle.ring_names.specs.Lists.{has}
 use Rattle.ring_table.specs.Value.{RingValue}
 use Rattle.plan_text.specs.declared.step.Planned.{Planned}
 use Rattle.plan_text.specs.Valid.{is_ring_slot}
-use Rattle.plan_check.specs.World.{World as TheWorld, keeps, key_of_put, passing_below}
-use Rattle.plan_check.proofs.Passing.{some_found, is_below, below_is}
-use Rattle.plan_check.proofs.Places.{partition_within}
-use Rattle.store_tables.proofs.Counting.{count_most}
-use Rattle.store_tells.specs.Parts.{kept_of}
-use Rattle.store_tells.proofs.KeepersDeclared.{keeper_within}
-use Rattle.store_tells.proofs.StoreInWorld.{holds, reached_of}
+use Rattle.plan_runs.specs.World.{World as TheWorld, keeps, key_of_put, passing_below}
+use Rattle.plan_runs.proofs.Passing.{some_found, is_below, below_is}
+use Rattle.plan_runs.proofs.Places.{partition_within}
+use Rattle.ring_core.proofs.Counting.{count_most}
+use Rattle.ring_core.specs.Parts.{kept_of}
+use Rattle.ring_core.proofs.KeepersDeclared.{keeper_within}
+use Rattle.ring_core.proofs.StoreInWorld.{holds, reached_of}
 use Rattle.ring_core.specs.declared.world.World.{World}
 use Rattle.ring_core.specs.World.{ring_of, plan_of, Meets}
 use Rattle.ring_core.specs.Tables.{left_of, IsNextStep, AllDone}

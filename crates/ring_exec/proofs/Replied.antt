@@ -3,13 +3,13 @@ use Rattle.std.proofs.Common.{◌≡◌, true, List, refl, subst}
 use Rattle.std.proofs.Props.{props}
 use Rattle.ring_table.specs.Value.{RingValue}
 use Rattle.plan_text.specs.declared.step.Planned.{Planned}
-use Rattle.plan_check.specs.declared.event.Event.{Event}
-use Rattle.plan_check.specs.declared.event.Event.TheVariants.{Do, OpenCopy, ChunkCopy, CloseCopy, AbortCopy, StartPut, Write, Hint, Ack, StartGet, Read, EndGet, Down, Up, Handoff, Lose}
-use Rattle.plan_check.specs.declared.event.Reply.{Reply}
-use Rattle.plan_check.specs.Answers.{reply_to}
-use Rattle.plan_check.specs.World.{World as TheWorld}
-use Rattle.plan_check.proofs.Answered.{answered}
-use Rattle.store_tells.proofs.StoreInWorld.{holds}
+use Rattle.plan_runs.specs.declared.event.Event.{Event}
+use Rattle.plan_runs.specs.declared.event.Event.TheVariants.{Do, OpenCopy, ChunkCopy, CloseCopy, AbortCopy, StartPut, Write, Hint, Ack, StartGet, Read, EndGet, Down, Up, Handoff, Lose}
+use Rattle.plan_runs.specs.declared.event.Reply.{Reply}
+use Rattle.plan_runs.specs.Answers.{reply_to}
+use Rattle.plan_runs.specs.World.{World as TheWorld}
+use Rattle.plan_runs.proofs.Answered.{answered}
+use Rattle.ring_core.proofs.StoreInWorld.{holds}
 use Rattle.ring_core.specs.declared.world.World.{World}
 use Rattle.ring_core.specs.World.{ring_of, plan_of, Answers}
 use Rattle.ring_exec.specs.Replies.{fits_reply}

@@ -1,9 +1,9 @@
 -- Which kind of reply an event is answered.
 use Rattle.std.specs.Prelude.{Bool, true, false}
-use Rattle.plan_check.specs.declared.event.Event.{Event}
-use Rattle.plan_check.specs.declared.event.Event.TheVariants as event
-use Rattle.plan_check.specs.declared.event.Reply.{Reply}
-use Rattle.plan_check.specs.declared.event.Reply.TheVariants.{Plain, Put, Ticket, Get, Found, Answer}
+use Rattle.plan_runs.specs.declared.event.Event.{Event}
+use Rattle.plan_runs.specs.declared.event.Event.TheVariants as event
+use Rattle.plan_runs.specs.declared.event.Reply.{Reply}
+use Rattle.plan_runs.specs.declared.event.Reply.TheVariants.{Plain, Put, Ticket, Get, Found, Answer}
 
 abbrev pub is_plain : Reply → Bool
 is_plain Plain = true

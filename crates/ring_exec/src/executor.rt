@@ -5,7 +5,8 @@ ghost use Rattle.std.specs.Prelude.{◌≡◌};
 use crate::ledgered::Ledgered;
 use crate::run_ledger::RunLedger;
 use crate::share::Share;
-use plan_check::{Approved, Entry, Event};
+use plan_check::Approved;
+use plan_runs::{Entry, Event};
 use ring_names::{NodeId, Refusal, Slot};
 use ring_receipts::Receipt;
 use std::alloc::Global;
@@ -27,8 +28,8 @@ impl<'a, L: RunLedger> Executor<'a, L> {
     ghost use Rattle.std.specs.List.{sum_by};
     ghost use Rattle.ring_names.specs.declared.refusal.Refusal.TheVariants.{OutOfMemory, HistoryFull, Disagree};
     ghost use Rattle.plan_text.specs.Valid.{is_ring_slot};
-    ghost use Rattle.plan_check.specs.Runs.{IsRun};
-    ghost use Rattle.plan_check.specs.World.{World as TheWorld, opening_world};
+    ghost use Rattle.plan_runs.specs.Runs.{IsRun};
+    ghost use Rattle.plan_runs.specs.World.{World as TheWorld, opening_world};
     ghost use Rattle.ring_replay.specs.Faults.{IsFirstFault};
     ghost use Rattle.ring_exec.specs.Replies.{fits_reply};
 

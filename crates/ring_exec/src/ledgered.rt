@@ -7,7 +7,8 @@ ghost use Rattle.ring_replay.specs.Replays.{Replays};
 use crate::restoring::retold;
 use crate::run_ledger::RunLedger;
 use crate::share::{Share, count_of};
-use plan_check::{Approved, Entry, Event};
+use plan_check::Approved;
+use plan_runs::{Entry, Event};
 use ring_core::World;
 use ring_names::Refusal;
 use ring_receipts::Receipt;
@@ -39,7 +40,7 @@ impl<'a, L: RunLedger> Ledgered<'a, L> {
     ghost use Rattle.std.specs.Prelude.{IfErr, OnOk, OnErr, IsTrue};
     ghost use Rattle.std.specs.List.{sum_by};
     ghost use Rattle.ring_names.specs.declared.refusal.Refusal.TheVariants.{OutOfMemory, HistoryFull};
-    ghost use Rattle.plan_check.specs.World.{World as TheWorld, opening_world};
+    ghost use Rattle.plan_runs.specs.World.{World as TheWorld, opening_world};
     ghost use Rattle.ring_core.specs.World.{Meets, Passes, Answers, Refuses, Stays};
     ghost use Rattle.ring_core.specs.Tables.{AllDone};
     ghost use Rattle.ring_replay.specs.Replays.{Replays};

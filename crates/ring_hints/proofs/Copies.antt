@@ -17,7 +17,8 @@ use Rattle.store_maps.proofs.OneAnswer.{none_from_empty}
 use Rattle.store_maps.specs.Slots.{space_of, held_for, has_place_for}
 use Rattle.store_maps.specs.declared.slot_map.SlotMap.{SlotMap}
 use Rattle.ring_hints.specs.Maps.{partitions, hinted_at}
-use Rattle.ring_hints.specs.Kept.{map_of, held_by, IsKept, PutsMap}
+use Rattle.ring_hints.specs.Kept.{map_of, IsKept, PutsMap}
+use Rattle.store_maps.specs.Slots.{held_by}
 use Rattle.ring_hints.specs.Views.{by_keeper, is_of}
 use Rattle.ring_hints.specs.declared.maps.Maps.{Maps}
 use Rattle.ring_hints.specs.declared.kept_for.KeptFor.{KeptFor}

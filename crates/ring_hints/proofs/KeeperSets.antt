@@ -23,23 +23,15 @@ use Rattle.ring_hints.specs.declared.sets.Sets.{Sets}
 use Rattle.ring_hints.specs.Sets.{set_at, AddsValue, RemovesValue}
 use Rattle.ring_hints.specs.Views.{by_keeper, is_of, has_slot, has_keeper, in_order, pair_of}
 use Rattle.store_maps.proofs.Members.{any_inserted, others_stay}
+use Rattle.store_maps.proofs.HoldersChanged.{node_tie, node_same, node_exact}
 
 pub equal : (x y : ℕ) → (x == y) ≡ true → x ≡ y
 equal x y h = grind (arith, nat_tests)
 
 -- ---- nodes and slots that compare as equal are the same
 
-pub node_tie : (x y : ℕ) → is_at ((node_order.ghosts).cmp (record { 0 = x })) (record { 0 = y }) ≡ (x == y)
-node_tie x y = sym (unsigned_ties x y)
-
 pub slot_tie : (s t : Slot) → is_at ((slot_order.ghosts).cmp s) t ≡ ((s.partition == t.partition) && (s.index == t.index))
 slot_tie s t = sym (tied_then (nat_cmp s.partition t.partition) (nat_cmp s.index t.index)) ∙ rw (← unsigned_ties s.partition t.partition, ← unsigned_ties s.index t.index) refl
-
-node_same : (x : NodeId) → is_at ((node_order.ghosts).cmp x) x ≡ true
-node_same x = node_tie x.0 x.0 ∙ eq-eqb x.0 x.0 refl
-
-node_exact : (x y : NodeId) → is_at ((node_order.ghosts).cmp x) y ≡ true → x ≡ y
-node_exact x y h = λ i. record { 0 = equal x.0 y.0 (sym (node_tie x.0 y.0) ∙ h) i }
 
 slot_same : (s : Slot) → is_at ((slot_order.ghosts).cmp s) s ≡ true
 slot_same s = slot_tie s s ∙ (λ i. eq-eqb s.partition s.partition refl i && eq-eqb s.index s.index refl i)

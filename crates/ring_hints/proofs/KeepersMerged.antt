@@ -14,7 +14,8 @@ use Rattle.ring_hints.specs.Maps.{chunk_hints, hinted_at, IsUnhinted, AreKeysBut
 use Rattle.ring_hints.specs.Views.{in_keepers, pair_of}
 use Rattle.ring_hints.specs.declared.maps.Maps.{Maps}
 use Rattle.ring_hints.proofs.PairChanged.{not_emptied}
-use Rattle.ring_hints.proofs.KeeperSets.{node_tie, equal}
+use Rattle.ring_hints.proofs.KeeperSets.{equal}
+use Rattle.store_maps.proofs.HoldersChanged.{node_tie}
 
 emptied : (a b c : List Version) → IsMerge a b c → c ≡ [] → (a ≡ []) × (b ≡ [])
 emptied [] [] c m e = (refl, refl)

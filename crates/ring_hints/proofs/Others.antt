@@ -6,7 +6,8 @@ use Rattle.std.proofs.lemmas.Bool.{cases_Bool, cases_lt, false_from_ne_true}
 use Rattle.std.proofs.lemmas.Bool.Decides.{nat_tests}
 use Rattle.ring_names.specs.declared.ids.Slot.{Slot}
 use Rattle.store_maps.specs.declared.slot_map.SlotMap.{SlotMap}
-use Rattle.ring_hints.specs.Kept.{map_of, held_by, AreKept, ArePaired}
+use Rattle.ring_hints.specs.Kept.{map_of, AreKept, ArePaired}
+use Rattle.store_maps.specs.Slots.{held_by}
 use Rattle.ring_hints.specs.Pairs.{is_pair}
 use Rattle.ring_hints.specs.Views.{pair_of}
 use Rattle.ring_hints.specs.declared.kept_for.KeptFor.{KeptFor}

@@ -21,28 +21,13 @@ use Rattle.ring_space.specs.Place.{place_of}
 use Rattle.ring_space.specs.declared.found.Place.{Place}
 use Rattle.ring_hints.specs.declared.kept_for.KeptFor.{KeptFor}
 use Rattle.ring_hints.specs.declared.pairs.Pairs.{Pairs}
-use Rattle.ring_hints.specs.Kept.{map_of, held_by, IsKept, AreKept, ArePaired, PutsMap}
+use Rattle.ring_hints.specs.Kept.{map_of, IsKept, AreKept, ArePaired, PutsMap}
+use Rattle.store_maps.specs.Slots.{held_by}
 use Rattle.ring_hints.specs.Pairs.{is_pair}
 use Rattle.ring_hints.specs.Views.{by_keeper, is_of, pair_of}
 use Rattle.ring_hints.proofs.KeeperSets.{pair_is, pair_same, pair_tie, or_cond}
 use Rattle.store_maps.proofs.Puts.{at_here}
-
--- the chunk of a place that was computed
-pub chunk_at : (q : ℕ) (k : List ℕ) (p : Place) → p ≡ place_of q k → chunk_of q k ≡ p.chunk
-unfolding chunk_of
-chunk_at q k p e = sym (ap (λ (r : Place). r.chunk) e)
-
--- the chunk of a key among the map's own partitions
-pub chunk_in : (m : SlotMap) (q : ℕ) (k : List ℕ) (c : ℕ) → space_of m ≡ q → chunk_of q k ≡ c → chunk_of (space_of m) k ≡ c
-chunk_in m q k c e h = ap (λ (p : ℕ). chunk_of p k) e ∙ h
-
-pub always_err : {A E : Type 0} (r : Result A E) (P : Type 0) → P → OnErr r P
-always_err (Ok a) P h = tt
-always_err (Err e) P h = h
-
-pub apart_by : (o : Option SlotMap) (k : List ℕ) → IsApart (held_by o k)
-apart_by None k = tt
-apart_by (Some m) k = slot_apart m k
+use Rattle.store_maps.proofs.KeyPlaces.{apart_by}
 
 -- ---- what merges keep
 
@@ -183,15 +168,6 @@ without_pair true c d e = e
 without_pair false c d e = e
 
 -- ---- the keys of a chunk
-
-pub in_chunk : (q c : ℕ) (k : List ℕ) (v w : List Version) → (chunk_of q k ≡ c → v ≡ w) → (chunk_of q k ≢ c → v ≡ []) → v ≡ cond (nat_eq (chunk_of q k) c) w []
-in_chunk q c k v w here other = elim (cases_Bool (nat_eq (chunk_of q k) c)) [
-  | inl y ↦ here (eqb-true (chunk_of q k) c y) ∙ rw y refl
-  | inr n ↦ other (λ e. let y = eq-eqb (chunk_of q k) c e in cc) ∙ rw n refl
-]
-
-pub no_place : (m : KeyMap) (k : List ℕ) → (has_place m k ≡ true → ⊥) → held m k ≡ []
-no_place m k h = ap (λ (o : Option (List Version)). unwrap_or o []) (none_from_empty (value_at m.map k) (false_from_ne_true (has_place m k) h))
 
 -- ---- all pairs of a node
 

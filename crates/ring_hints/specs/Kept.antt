@@ -15,11 +15,6 @@ use Rattle.ring_hints.specs.Views.{by_keeper, is_of, pair_of}
 abbrev pub map_of : BTreeMap KeptFor SlotMap → KeptFor → Option SlotMap
 map_of maps pair = get by_keeper maps pair
 
--- the versions of the key, none where there is no map
-abbrev pub held_by : Option SlotMap → List ℕ → List Version
-held_by None k = []
-held_by (Some m) k = held_for m k
-
 -- the slot is one that a partition may have, the map is of a hash space of q partitions, has a key, and versions of each of its keys
 pub record IsKept (q : ℕ) (pair : KeptFor) (m : SlotMap) : Type 0 where
   pub few : pair.slot.index < 7

@@ -10,7 +10,8 @@ use Rattle.ring_versions.specs.declared.version.Version.{Version}
 use Rattle.store_maps.specs.Chunks.{chunk_of}
 use Rattle.ring_hints.specs.declared.maps.Maps.{Maps}
 use Rattle.ring_hints.specs.declared.kept_for.KeptFor.{KeptFor}
-use Rattle.ring_hints.specs.Kept.{map_of, held_by}
+use Rattle.ring_hints.specs.Kept.{map_of}
+use Rattle.store_maps.specs.Slots.{held_by}
 use Rattle.ring_hints.specs.Pairs.{pair_count, pairs_of}
 use Rattle.ring_hints.specs.Views.{is_of, pair_of}
 

@@ -157,61 +157,6 @@ impl Refusal {
         out.push(b'\n')?;
         Ok(())
     }
-}
-
-impl Refusal {
-    // What the refusal says, without its values.
-    fn message(&self) -> &'static str {
-        match self {
-            Refusal::BadLine(_) => "a line is not in the grammar",
-            Refusal::TooLarge(_) => "a line passes a limit",
-            Refusal::UnknownNode(_) => "a line names a node that is not declared",
-            Refusal::Repeated(_) => "a line repeats what may stand once",
-            Refusal::QuorumTooSmall(_) => "the quorums need not meet",
-            Refusal::SharedNode(_) => "one node owns two slots of a partition",
-            Refusal::NotMember(_) => "the node is no member",
-            Refusal::LaterDependency(_) => "a step waits for one that is not earlier",
-            Refusal::WrongStage(_) => "the step does not fit the stage of its slot",
-            Refusal::UnorderedSlot(_) => {
-                "the step is not ordered after the step of its slot before it"
-            }
-            Refusal::BadSource(_) => "the copy lists a source twice, or too few",
-            Refusal::MovingSource(_) => "the copy reads a slot that may be switched meanwhile",
-            Refusal::SharedInPlan(_) => {
-                "the mirrored node may still serve another slot of the partition"
-            }
-            Refusal::NotJoined(_) => "the step is not ordered after a join of its node",
-            Refusal::RetiredInUse(_) => "the retired node may still hold versions",
-            Refusal::NoPlan => "no plan was found",
-            Refusal::BadPath(_) => "the fact is no path of dependencies",
-            Refusal::CoverMissing(_, _) => {
-                "the copy is in no chain of a node that takes part in it"
-            }
-            Refusal::ChainBroken(_) => {
-                "the chain has a step that is no copy of its node, or not ordered after the step before it"
-            }
-            Refusal::TooManyChains(_) => "the node has more chains than its allowance",
-            Refusal::NotReady => "what must come first has not come",
-            Refusal::AlreadyDone => "it is so already",
-            Refusal::NodeDown(_) => "a node that must be up is down",
-            Refusal::KeeperTaken => "the keeper has a hint for another slot of the partition",
-            Refusal::KeeperInPartition => "the keeper serves a slot of the partition",
-            Refusal::StaleTickets(_) => "too few slots have a current ticket",
-            Refusal::TooFewSlots(_) => "too few slots were read",
-            Refusal::UnknownNumber => "there is no such number",
-            Refusal::HintsLeft => "hints must be handed off first",
-            Refusal::NotOpen => "the copy is not open",
-            Refusal::ChunksLeft(_) => "chunks of the copy are not marked",
-            Refusal::HistoryFull => "the history is full",
-            Refusal::LossesSpent => "as many stores were lost as the ring allows",
-            Refusal::OutOfMemory => "out of memory",
-            Refusal::ReadFailed => "the input could not be read",
-            Refusal::WriteFailed => "the output could not be written",
-            Refusal::Mismatch(_, _) => "an entry does not replay",
-            Refusal::Disagree => "the records disagree",
-            Refusal::TurnsSpent => "a limit of turns was used up",
-        }
-    }
 
     // The values that the line has, in order.
     fn values(&self) -> (Option<u32>, Option<u32>)
@@ -241,37 +186,26 @@ impl Refusal {
             | Refusal::TooFewSlots(a)
             | Refusal::ChunksLeft(a) => (Some(*a), None),
             Refusal::CoverMissing(a, b) | Refusal::Mismatch(a, b) => (Some(*a), Some(*b)),
-            Refusal::NoPlan
-            | Refusal::NotReady
-            | Refusal::AlreadyDone
-            | Refusal::KeeperTaken
-            | Refusal::KeeperInPartition
-            | Refusal::UnknownNumber
-            | Refusal::HintsLeft
-            | Refusal::NotOpen
-            | Refusal::HistoryFull
-            | Refusal::LossesSpent
-            | Refusal::OutOfMemory
-            | Refusal::ReadFailed
-            | Refusal::WriteFailed
-            | Refusal::Disagree
-            | Refusal::TurnsSpent => (None, None),
+            _ => (None, None),
         }
     }
 }
 
+// The line, without the byte at its end.
 impl fmt::Display for Refusal {
     fn fmt<W: fmt::Write>(&self, f: &mut fmt::Formatter<W>) -> fmt::Result {
-        f.write_str(self.message())
+        let number = self.number();
+        match self.values() {
+            (Some(first), Some(second)) => write!(f, "no {number} {first} {second}"),
+            (Some(first), None) => write!(f, "no {number} {first}"),
+            _ => write!(f, "no {number}"),
+        }
     }
 }
 
 impl fmt::Debug for Refusal {
     fn fmt<W: fmt::Write>(&self, f: &mut fmt::Formatter<W>) -> fmt::Result {
-        let number = self.number();
-        let (first, second) = self.values();
-        let text = self.message();
-        write!(f, "no {number} {first:?} {second:?}: {text}")
+        write!(f, "{self}")
     }
 }
 

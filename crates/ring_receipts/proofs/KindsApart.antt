@@ -1,8 +1,8 @@
 -- No event is of two kinds.
 use Rattle.std.proofs.Common.{◌≡◌, ℕ, true, false, refl, sym}
 use Rattle.std.proofs.lemmas.Bool.{true≢false}
-use Rattle.plan_check.specs.declared.event.Event.{Event}
-use Rattle.plan_check.specs.declared.event.Event.TheVariants.{Write, Hint, Ack, Read, EndGet}
+use Rattle.plan_runs.specs.declared.event.Event.{Event}
+use Rattle.plan_runs.specs.declared.event.Event.TheVariants.{Write, Hint, Ack, Read, EndGet}
 use Rattle.script_text.specs.Client.{is_client_event}
 use Rattle.ring_receipts.specs.Kinds.{sends, acknowledges, reads, ends}
 

@@ -1,8 +1,8 @@
 -- A list of blocks is empty, or begins with what a client begins by itself.
 use Rattle.std.proofs.Common.{◌≡◌, ◌∙◌, Bool, true, false, List, [], ◌∷◌, ◌++◌, refl, sym, ap, subst, inl, inr}
 use Rattle.std.specs.Prelude.{◌⊎◌}
-use Rattle.plan_check.specs.declared.event.Event.{Event}
-use Rattle.plan_check.specs.declared.event.Event.TheVariants.{StartPut, StartGet, Down, Up}
+use Rattle.plan_runs.specs.declared.event.Event.{Event}
+use Rattle.plan_runs.specs.declared.event.Event.TheVariants.{StartPut, StartGet, Down, Up}
 use Rattle.ring_receipts.specs.declared.receipt.Receipt.{Receipt}
 use Rattle.script_text.specs.Client.{is_client_event}
 use Rattle.ring_receipts.specs.declared.asked.Asked.{Asked}

@@ -1,8 +1,8 @@
 -- When lists of receipts are those of the threads of a drive.
 use Rattle.std.specs.Prelude.{◌≡◌, ℕ, ◌+◌, ◌<◌, true, List, [], length, slice_index_or}
 use Rattle.std.specs.List.{list_all}
-use Rattle.plan_check.specs.declared.event.Entry.{Entry}
-use Rattle.plan_check.specs.declared.event.Event.{Event}
+use Rattle.plan_runs.specs.declared.event.Entry.{Entry}
+use Rattle.plan_runs.specs.declared.event.Event.{Event}
 use Rattle.ring_receipts.specs.declared.receipt.Receipt.{Receipt}
 use Rattle.ring_receipts.specs.Kinds.{is_step, is_handoff}
 use Rattle.ring_receipts.specs.Interleaving.{Interleaves}

@@ -1,7 +1,7 @@
 -- Entries of histories.
-use Rattle.plan_check.specs.declared.event.Entry.{Entry}
-use Rattle.plan_check.specs.declared.event.Event.{Event}
-use Rattle.plan_check.specs.declared.event.Reply.{Reply}
+use Rattle.plan_runs.specs.declared.event.Entry.{Entry}
+use Rattle.plan_runs.specs.declared.event.Event.{Event}
+use Rattle.plan_runs.specs.declared.event.Reply.{Reply}
 
 -- an event with its reply
 abbrev pub entry : Event → Reply → Entry

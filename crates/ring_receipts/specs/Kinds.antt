@@ -1,9 +1,9 @@
 -- What an event is to a list of receipts.
 use Rattle.std.specs.Prelude.{ℕ, Bool, true, false, ◌==◌, Option, Some, None}
-use Rattle.plan_check.specs.declared.event.Event.{Event}
-use Rattle.plan_check.specs.declared.event.Event.TheVariants.{Do, OpenCopy, ChunkCopy, CloseCopy, AbortCopy, Write, Hint, Ack, Read, EndGet, Handoff}
-use Rattle.plan_check.specs.declared.event.Reply.{Reply}
-use Rattle.plan_check.specs.declared.event.Reply.TheVariants.{Put, Get}
+use Rattle.plan_runs.specs.declared.event.Event.{Event}
+use Rattle.plan_runs.specs.declared.event.Event.TheVariants.{Do, OpenCopy, ChunkCopy, CloseCopy, AbortCopy, Write, Hint, Ack, Read, EndGet, Handoff}
+use Rattle.plan_runs.specs.declared.event.Reply.{Reply}
+use Rattle.plan_runs.specs.declared.event.Reply.TheVariants.{Put, Get}
 
 -- it is of a step of the plan
 abbrev pub is_step : Event → Bool

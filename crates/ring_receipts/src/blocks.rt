@@ -2,7 +2,7 @@
 
 ghost use Rattle.std.specs.Prelude.{◌≡◌, List, true, IfOk, IfErr, IfSome, IfNone};
 ghost use Rattle.ring_names.specs.declared.refusal.Refusal.TheVariants.{OutOfMemory};
-ghost use Rattle.plan_check.specs.declared.event.Event.TheVariants.{StartPut, StartGet};
+ghost use Rattle.plan_runs.specs.declared.event.Event.TheVariants.{StartPut, StartGet};
 ghost use Rattle.ring_receipts.specs.declared.asked.Asked.{Asked as TheAsked};
 ghost use Rattle.ring_receipts.specs.Kinds.{sends, acknowledges, reads, ends};
 ghost use Rattle.ring_receipts.specs.Behind.{behind, behind_one, begins_with};
@@ -13,7 +13,7 @@ use crate::kinds::{is_acknowledged, is_end, is_read, is_sent};
 use crate::receipt::Receipt;
 use crate::same::same_event;
 use crate::starts::{all_ended, get_started, put_started};
-use plan_check::{Event, Key, Seen};
+use plan_runs::{Event, Key, Seen};
 use ring_names::{Refusal, Value, WriterId};
 use std::alloc::Global;
 

@@ -6,7 +6,7 @@ ghost use Rattle.ring_receipts.specs.Blocks.{IsClient};
 
 use crate::blocks::behind_line;
 use crate::receipt::Receipt;
-use plan_check::Event;
+use plan_runs::Event;
 use ring_names::Refusal;
 use std::alloc::Global;
 

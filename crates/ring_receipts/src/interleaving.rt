@@ -7,7 +7,7 @@ ghost use Rattle.ring_receipts.specs.Interleaving.{rises, Stands, standing, Inte
 
 use crate::receipt::Receipt;
 use crate::same::{is_same_reply, same_event};
-use plan_check::Entry;
+use plan_runs::Entry;
 use ring_names::{Listed, Refusal};
 use std::alloc::Global;
 

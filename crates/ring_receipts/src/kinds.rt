@@ -5,7 +5,7 @@ ghost use Rattle.std.specs.List.{list_all};
 ghost use Rattle.ring_receipts.specs.Kinds.{is_step, is_handoff, finished_by, sends, acknowledges, reads, ends};
 
 use crate::receipt::Receipt;
-use plan_check::Event;
+use plan_runs::Event;
 
 fn is_of_step(event: &Event) -> bool
     ensures { result ≡ is_step event.now }

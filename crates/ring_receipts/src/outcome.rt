@@ -1,7 +1,7 @@
 //! What comes of a drive.
 
 use crate::receipt::Receipt;
-use plan_check::Entry;
+use plan_runs::Entry;
 use ring_names::Listed;
 
 /// The history of a drive, the receipts of each of its threads, and the number of the worker that finished each step. The lists are those of

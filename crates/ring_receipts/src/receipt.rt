@@ -1,6 +1,6 @@
 //! What an event was answered, and where it stands.
 
-use plan_check::{Event, Reply};
+use plan_runs::{Event, Reply};
 
 /// The place of an event in the history, from 0, the event and its reply.
 #[derive(Debug, Drop)]

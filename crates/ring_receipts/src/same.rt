@@ -2,7 +2,7 @@
 
 ghost use Rattle.std.specs.Prelude.{◌≡◌, ◌↔◌, IsTrue};
 
-use plan_check::{Event, Reply};
+use plan_runs::{Event, Reply};
 use ring_names::Slot;
 
 fn same_slot(a: Slot, b: Slot) -> bool

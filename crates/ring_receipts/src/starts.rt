@@ -2,13 +2,13 @@
 
 ghost use Rattle.std.specs.Str.{bytes_eq};
 ghost use Rattle.std.specs.Prelude.{◌≡◌, ◌&&◌, ◌↔◌, ℕ, Some, None, false, slice_get, IfSome, IfNone, IsTrue};
-ghost use Rattle.plan_check.specs.declared.event.Event.TheVariants.{StartPut, StartGet};
-ghost use Rattle.plan_check.specs.declared.event.Reply.TheVariants.{Put, Get};
+ghost use Rattle.plan_runs.specs.declared.event.Event.TheVariants.{StartPut, StartGet};
+ghost use Rattle.plan_runs.specs.declared.event.Reply.TheVariants.{Put, Get};
 ghost use Rattle.ring_receipts.specs.Blocks.{number_at, numbers_of, are_ended};
 
 use crate::asked::Asked;
 use crate::receipt::Receipt;
-use plan_check::{Event, Key, Reply, Seen};
+use plan_runs::{Event, Key, Reply, Seen};
 use ring_names::{Value, WriterId};
 
 /// Whether each number is that of an earlier get of the script, of that key and with an end.

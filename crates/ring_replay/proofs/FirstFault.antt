@@ -6,11 +6,11 @@ use Rattle.ring_names.specs.Refusals.{number_of}
 use Rattle.ring_names.proofs.Logic.{plus_zero}
 use Rattle.ring_table.specs.Value.{RingValue}
 use Rattle.plan_text.specs.declared.step.Planned.{Planned}
-use Rattle.plan_check.specs.declared.event.Entry.{Entry}
-use Rattle.plan_check.specs.declared.event.Reply.{Reply}
-use Rattle.plan_check.specs.Answers.{answer}
-use Rattle.plan_check.specs.Runs.{Leads}
-use Rattle.plan_check.specs.World.{World as TheWorld}
+use Rattle.plan_runs.specs.declared.event.Entry.{Entry}
+use Rattle.plan_runs.specs.declared.event.Reply.{Reply}
+use Rattle.plan_runs.specs.Answers.{answer}
+use Rattle.plan_runs.specs.Runs.{Leads}
+use Rattle.plan_runs.specs.World.{World as TheWorld}
 use Rattle.ring_replay.specs.Faults.{FailsAt, IsFirstFault}
 
 plus_one : (k : ℕ) (y : Entry) (front : List Entry) → k + length (y ∷ front) ≡ (k + 1) + length front

@@ -4,11 +4,11 @@ use Rattle.std.proofs.lemmas.List.{length-take, take-append-drop}
 use Rattle.ring_names.specs.declared.refusal.Refusal.{Refusal}
 use Rattle.ring_table.specs.Value.{RingValue}
 use Rattle.plan_text.specs.declared.step.Planned.{Planned}
-use Rattle.plan_check.specs.declared.event.Entry.{Entry}
-use Rattle.plan_check.specs.Answers.{answer}
-use Rattle.plan_check.specs.Runs.{Leads}
-use Rattle.plan_check.specs.World.{World as TheWorld, opening_world}
-use Rattle.plan_check.proofs.Split.{joined}
+use Rattle.plan_runs.specs.declared.event.Entry.{Entry}
+use Rattle.plan_runs.specs.Answers.{answer}
+use Rattle.plan_runs.specs.Runs.{Leads}
+use Rattle.plan_runs.specs.World.{World as TheWorld, opening_world}
+use Rattle.plan_runs.proofs.Split.{joined}
 use Rattle.ring_core.specs.declared.world.World.{World}
 use Rattle.ring_core.specs.World.{ring_of, plan_of, Meets, Answers, IsOneMore}
 use Rattle.ring_replay.specs.Replays.{Replays, Follows}

@@ -1,2 +1,3 @@
 pub mod FirstFault
 pub mod Followed
+pub use Rattle.ring_core.proofs.SoundAfterEvent

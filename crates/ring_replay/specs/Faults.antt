@@ -5,10 +5,10 @@ use Rattle.ring_names.specs.declared.refusal.Refusal.TheVariants.{Mismatch}
 use Rattle.ring_names.specs.Refusals.{number_of}
 use Rattle.ring_table.specs.Value.{RingValue}
 use Rattle.plan_text.specs.declared.step.Planned.{Planned}
-use Rattle.plan_check.specs.declared.event.Entry.{Entry}
-use Rattle.plan_check.specs.declared.event.Reply.{Reply}
-use Rattle.plan_check.specs.Answers.{answer}
-use Rattle.plan_check.specs.World.{World}
+use Rattle.plan_runs.specs.declared.event.Entry.{Entry}
+use Rattle.plan_runs.specs.declared.event.Reply.{Reply}
+use Rattle.plan_runs.specs.Answers.{answer}
+use Rattle.plan_runs.specs.World.{World}
 
 -- the entry fails at place k: its event is refused, or answered otherwise
 abbrev pub FailsAt : RingValue → List Planned → World → ℕ → Entry → Refusal → Type 0

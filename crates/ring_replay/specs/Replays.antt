@@ -2,10 +2,10 @@
 use Rattle.std.specs.Prelude.{◌≡◌, ◌+◌, ◌≤◌, List, length}
 use Rattle.ring_table.specs.Value.{RingValue}
 use Rattle.plan_text.specs.declared.step.Planned.{Planned}
-use Rattle.plan_check.specs.declared.event.Entry.{Entry}
-use Rattle.plan_check.specs.Runs.{Leads, IsRun}
-use Rattle.plan_check.specs.World.{World as TheWorld}
-use Rattle.ring_core.specs.declared.world.World.{World}
+use Rattle.plan_runs.specs.declared.event.Entry.{Entry}
+use Rattle.plan_runs.specs.Runs.{Leads, IsRun}
+use Rattle.plan_runs.specs.World.{World as TheWorld}
+pub use Rattle.ring_core.specs.declared.world.World.{World}
 use Rattle.ring_core.specs.World.{ring_of, plan_of, Meets, put_count, get_count}
 
 -- the history is a run of the plan, which leads to a world that the store is in

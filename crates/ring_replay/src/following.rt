@@ -2,11 +2,11 @@
 
 ghost use Rattle.std.specs.Prelude.{◌≡◌, ◌≢◌, IfOk, IfErr};
 ghost use Rattle.ring_names.specs.declared.refusal.Refusal.TheVariants.{OutOfMemory};
-ghost use Rattle.plan_check.specs.World.{World as TheWorld};
+ghost use Rattle.plan_runs.specs.World.{World as TheWorld};
 ghost use Rattle.ring_core.specs.World.{ring_of, plan_of, Meets, Passes, Answers, IsOneMore, HasNumber};
 ghost use Rattle.ring_replay.specs.Faults.{FailsAt};
 
-use plan_check::{Entry, Reply};
+use plan_runs::{Entry, Reply};
 use ring_core::World;
 use ring_names::Refusal;
 use ring_receipts::is_same_reply;

@@ -8,4 +8,5 @@ mod watching;
 
 pub use following::follow;
 pub use replaying::{replay, replay_watched};
+pub use ring_core::World;
 pub use watching::{Unwatched, Watch};

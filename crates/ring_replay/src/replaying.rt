@@ -2,15 +2,16 @@
 
 ghost use Rattle.std.specs.Prelude.{◌≡◌, ◌≢◌, ◌≤◌, length, IfOk, IfErr, OnOk};
 ghost use Rattle.ring_names.specs.declared.refusal.Refusal.TheVariants.{OutOfMemory};
-ghost use Rattle.plan_check.specs.Runs.{IsRun};
-ghost use Rattle.plan_check.specs.World.{World as TheWorld, opening_world};
+ghost use Rattle.plan_runs.specs.Runs.{IsRun};
+ghost use Rattle.plan_runs.specs.World.{World as TheWorld, opening_world};
 ghost use Rattle.ring_core.specs.World.{ring_of, plan_of, Meets, put_count, get_count};
 ghost use Rattle.ring_replay.specs.Replays.{Replays, Follows};
 ghost use Rattle.ring_replay.specs.Faults.{IsFirstFault};
 
 use crate::following::follow;
 use crate::watching::{Unwatched, Watch};
-use plan_check::{Approved, Entry};
+use plan_check::Approved;
+use plan_runs::Entry;
 use ring_core::World;
 use ring_names::Refusal;
 use std::alloc::Global;

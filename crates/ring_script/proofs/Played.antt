@@ -11,13 +11,13 @@ use Rattle.texts.specs.Frames.{end_fields}
 use Rattle.ring_table.specs.Value.{RingValue, names_of}
 use Rattle.ring_table.specs.Spelling.{rows_lines}
 use Rattle.plan_text.specs.declared.step.Planned.{Planned}
-use Rattle.plan_check.specs.declared.event.Event.{Event}
-use Rattle.plan_check.specs.declared.event.Reply.{Reply}
-use Rattle.plan_check.specs.Answers.{answer}
-use Rattle.plan_check.specs.World.{World as TheWorld, opening_world}
-use Rattle.ring_core.specs.declared.world.World.{World}
-use Rattle.ring_core.specs.Tables.{owners_now}
-use Rattle.ring_core.specs.World.{ring_of, plan_of, Meets}
+use Rattle.plan_runs.specs.declared.event.Event.{Event}
+use Rattle.plan_runs.specs.declared.event.Reply.{Reply}
+use Rattle.plan_runs.specs.Answers.{answer}
+use Rattle.plan_runs.specs.World.{World as TheWorld, opening_world}
+use Rattle.ring_replay.specs.Replays.{World}
+use Rattle.ring_replay.specs.Tables.{owners_now}
+use Rattle.ring_replay.specs.World.{ring_of, plan_of, Meets}
 use Rattle.ring_script.specs.Play.{behind, said, event_line, world_after, event_lines, owners_text, play_text}
 use Rattle.ring_script.specs.Steps.{Happens, Plays}
 

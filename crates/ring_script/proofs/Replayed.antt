@@ -5,10 +5,10 @@ use Rattle.std.proofs.Math.Logic.{∥∥₁_map}
 use Rattle.ring_names.specs.declared.refusal.Refusal.{Refusal}
 use Rattle.ring_table.specs.Value.{RingValue}
 use Rattle.plan_text.specs.declared.step.Planned.{Planned}
-use Rattle.plan_check.specs.declared.event.Entry.{Entry}
-use Rattle.plan_check.specs.World.{World as TheWorld}
-use Rattle.ring_core.specs.declared.world.World.{World}
-use Rattle.ring_core.specs.World.{plan_of, Meets}
+use Rattle.plan_runs.specs.declared.event.Entry.{Entry}
+use Rattle.plan_runs.specs.World.{World as TheWorld}
+use Rattle.ring_replay.specs.Replays.{World}
+use Rattle.ring_replay.specs.World.{plan_of, Meets}
 use Rattle.ring_replay.specs.Replays.{Replays}
 use Rattle.ring_script.specs.Replay.{ending_text, IsReplayed}
 

@@ -10,7 +10,7 @@ use Rattle.plan_text.specs.Valid as plan
 use Rattle.plan_cert.specs.declared.cert.Cert.{Cert}
 use Rattle.plan_cert.specs.Reading.{cert_at}
 use Rattle.plan_cert.specs.Valid as cert
-use Rattle.plan_check.specs.declared.event.Event.{Event}
+use Rattle.plan_runs.specs.declared.event.Event.{Event}
 use Rattle.script_text.specs.Reading.{script_at}
 use Rattle.ring_script.specs.declared.bundle.Bundle.{Bundle}
 use Rattle.ring_script.specs.declared.bundle.Kind.{Kind}

@@ -8,12 +8,12 @@ use Rattle.texts.specs.Frames.{end_fields}
 use Rattle.ring_table.specs.Value.{RingValue, names_of}
 use Rattle.ring_table.specs.Spelling.{rows_lines}
 use Rattle.plan_text.specs.declared.step.Planned.{Planned}
-use Rattle.plan_check.specs.declared.event.Event.{Event}
-use Rattle.plan_check.specs.declared.event.Reply.{Reply}
-use Rattle.plan_check.specs.Answers.{answer}
-use Rattle.plan_check.specs.Replies.{reply_text}
-use Rattle.plan_check.specs.World.{World, opening_world}
-use Rattle.ring_core.specs.Tables.{owners_now}
+use Rattle.plan_runs.specs.declared.event.Event.{Event}
+use Rattle.plan_runs.specs.declared.event.Reply.{Reply}
+use Rattle.plan_runs.specs.Answers.{answer}
+use Rattle.plan_runs.specs.Replies.{reply_text}
+use Rattle.plan_runs.specs.World.{World, opening_world}
+use Rattle.ring_replay.specs.Tables.{owners_now}
 
 -- the world behind an event: the same where it is refused
 abbrev pub behind : World → Result (World × Reply) Refusal → World

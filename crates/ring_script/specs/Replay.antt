@@ -2,9 +2,9 @@
 use Rattle.std.specs.Prelude.{◌≡◌, ℕ, List, ◌∷◌, ◌++◌, codes}
 use Rattle.ring_table.specs.Value.{RingValue}
 use Rattle.plan_text.specs.declared.step.Planned.{Planned}
-use Rattle.plan_check.specs.declared.event.Entry.{Entry}
-use Rattle.plan_check.specs.Runs.{IsRun}
-use Rattle.plan_check.specs.World.{World}
+use Rattle.plan_runs.specs.declared.event.Entry.{Entry}
+use Rattle.plan_runs.specs.Runs.{IsRun}
+use Rattle.plan_runs.specs.World.{World}
 use Rattle.ring_script.specs.Play.{owners_text}
 
 -- `yes`, and the owners in a world

@@ -8,3 +8,4 @@ mod replaying;
 pub use bundle::{Bundle, Kind, read_bundle};
 pub use playing::play;
 pub use replaying::replay_history;
+pub use ring_replay::{Unwatched, Watch, World, replay_watched};

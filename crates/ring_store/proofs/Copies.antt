@@ -12,7 +12,8 @@ use Rattle.ring_names.specs.declared.ids.Slot.{Slot}
 use Rattle.store_maps.specs.Slots.{held_for}
 use Rattle.store_maps.specs.declared.slot_map.SlotMap.{SlotMap}
 use Rattle.ring_store.specs.declared.store.NodeStore.{NodeStore}
-use Rattle.ring_store.specs.Slots.{same_slot, maps_of, held_by, PutsSlot}
+use Rattle.ring_store.specs.Slots.{same_slot, maps_of, PutsSlot}
+use Rattle.store_maps.specs.Slots.{held_by}
 use Rattle.ring_store.specs.Store.{partitions, versions_at}
 use Rattle.ring_store.proofs.SlotMapsChanged.{slot_same, same_itself}
 

@@ -15,7 +15,8 @@ use Rattle.store_maps.specs.declared.fresh_maps.FreshMaps.{FreshMaps}
 use Rattle.store_maps.specs.Slots.{space_of, held_for, has_place_for}
 use Rattle.store_maps.specs.declared.slot_map.SlotMap.{SlotMap}
 use Rattle.store_maps.proofs.OneAnswer.{none_where}
-use Rattle.ring_store.specs.Slots.{maps_of, held_by, placed_by, AreOf, PutsSlot, MergesInAll, at_slot}
+use Rattle.ring_store.specs.Slots.{maps_of, placed_by, AreOf, PutsSlot, MergesInAll, at_slot}
+use Rattle.store_maps.specs.Slots.{held_by}
 use Rattle.ring_store.specs.Store.{partitions, versions_at}
 use Rattle.ring_store.specs.declared.store.NodeStore.{NodeStore}
 use Rattle.ring_store.proofs.SlotMapsChanged.{puts_slot, by_slot, same_by, merged_by, spaces_by, space_at, nothing_put}

@@ -23,7 +23,7 @@ use Rattle.ring_store.specs.Store.{partitions, versions_at, chunk_versions, has_
 use Rattle.ring_store.specs.Stores.{node_count, shared_space, held_at, chunk_held_at, has_place_on, KeepsReady}
 use Rattle.ring_store.specs.declared.store.NodeStore.{NodeStore}
 use Rattle.ring_store.specs.declared.stores.Stores.{Stores}
-use Rattle.ring_store.proofs.SlotMapsChanged.{apart_by}
+use Rattle.store_maps.proofs.KeyPlaces.{apart_by}
 
 pub apart_in : (o : Option NodeStore) (s : Slot) (k : List ℕ) → IsApart (stored_in o s k)
 apart_in None s k = tt

@@ -20,12 +20,9 @@ use Rattle.store_maps.proofs.Chunks.{slot_apart}
 use Rattle.store_maps.proofs.MergesInTurn.{merge_none}
 use Rattle.ring_space.specs.Place.{place_of}
 use Rattle.ring_space.specs.declared.found.Place.{Place}
-use Rattle.ring_store.specs.Slots.{same_slot, maps_of, held_by, AreOf, PutsSlot, MergesInAll, at_slot}
-
--- the chunk of a place that was computed
-pub chunk_at : (q : ℕ) (k : List ℕ) (p : Place) → p ≡ place_of q k → chunk_of q k ≡ p.chunk
-unfolding chunk_of
-chunk_at q k p e = sym (ap (λ (r : Place). r.chunk) e)
+use Rattle.ring_store.specs.Slots.{same_slot, maps_of, AreOf, PutsSlot, MergesInAll, at_slot}
+use Rattle.store_maps.specs.Slots.{held_by}
+use Rattle.store_maps.proofs.KeyPlaces.{apart_by}
 
 both_true : (a b : Bool) → (a && b) ≡ true → (a ≡ true) × (b ≡ true)
 both_true true b h = (refl, h)
@@ -40,10 +37,6 @@ slot_same a b h =
 
 pub same_itself : (a : Slot) → same_slot a a ≡ true
 same_itself a = let p = eq-eqb a.partition a.partition refl in let i = eq-eqb a.index a.index refl in rw p (rw i refl)
-
-pub apart_by : (o : Option SlotMap) (k : List ℕ) → IsApart (held_by o k)
-apart_by None k = tt
-apart_by (Some m) k = slot_apart m k
 
 pub puts_slot : {S : Type 0} (old new : HashMap Slot SlotMap S) (slot : Slot) (o : Option SlotMap) → UpdatesBy ((slot_eq.ghosts).eq) (λ k. ((slot_eq.ghosts).eq) slot k) old new o → PutsSlot old new slot o
 puts_slot old new slot o u = record { here = u.1; others = λ s e. u.2 s e }
@@ -76,17 +69,7 @@ module _ {S : Type 0} (old new : HashMap Slot SlotMap S) (slot : Slot) (o : Opti
 pub space_at : {w : SlotMap} {q : ℕ} → space_of w ≡ q → (n : SlotMap) → Some w ≡ Some n → space_of n ≡ q
 space_at {w} {q} e n at = let same : w ≡ n = cc in subst (λ (x : SlotMap). space_of x ≡ q) same e
 
--- the chunk of a key among the slot's own partitions
-pub chunk_in : (m : SlotMap) (q : ℕ) (k : List ℕ) (c : ℕ) → space_of m ≡ q → chunk_of q k ≡ c → chunk_of (space_of m) k ≡ c
-chunk_in m q k c e h = ap (λ (p : ℕ). chunk_of p k) e ∙ h
-
 -- ---- the keys of a chunk
-
-pub in_chunk : (q c : ℕ) (k : List ℕ) (v w : List Version) → (chunk_of q k ≡ c → v ≡ w) → (chunk_of q k ≢ c → v ≡ []) → v ≡ cond (nat_eq (chunk_of q k) c) w []
-in_chunk q c k v w here other = elim (cases_Bool (nat_eq (chunk_of q k) c)) [
-  | inl y ↦ here (eqb-true (chunk_of q k) c y) ∙ rw y refl
-  | inr n ↦ other (λ e. let y = eq-eqb (chunk_of q k) c e in cc) ∙ rw n refl
-]
 
 pub keys_same : (f g : List ℕ → List Version) (ks : List (List ℕ)) → ((k : List ℕ) → f k ≡ g k) → AreKeys f ks → AreKeys g ks
 keys_same f g ks e are = record {
@@ -99,6 +82,3 @@ pub keys_none : (g : List ℕ → List Version) (ks : List (List ℕ)) → ks �
 unfolding IsStrictlySortedBy
 keys_none g (x ∷ xs) e none = absurd cc
 keys_none g [] e none = record { rises = tt; each = λ k ne. absurd (ne (none k)); only = λ k h. absurd (omega (arith, h.1)) }
-
-pub no_place : (m : KeyMap) (k : List ℕ) → (has_place m k ≡ true → ⊥) → held m k ≡ []
-no_place m k h = ap (λ (o : Option (List Version)). unwrap_or o []) (none_from_empty (value_at m.map k) (false_from_ne_true (has_place m k) h))

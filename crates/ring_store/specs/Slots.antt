@@ -17,11 +17,6 @@ same_slot a b = ((slot_eq.ghosts).eq) a b
 abbrev pub maps_of : {S : Type 0} → HashMap Slot SlotMap S → Slot → Option SlotMap
 maps_of slots s = map.get ((slot_eq.ghosts).eq) slots s
 
--- the versions of the key, none where there are no maps
-abbrev pub held_by : Option SlotMap → List ℕ → List Version
-held_by None k = []
-held_by (Some m) k = held_for m k
-
 -- whether the key has a place, if there are maps
 abbrev pub placed_by : Option SlotMap → List ℕ → Bool
 placed_by None k = false

@@ -8,7 +8,8 @@ use Rattle.store_maps.specs.declared.fresh_maps.FreshMaps.{FreshMaps}
 use Rattle.store_maps.specs.Chunks.{chunk_of}
 use Rattle.store_maps.specs.Merges.{fresh_in}
 use Rattle.ring_store.specs.declared.store.NodeStore.{NodeStore}
-use Rattle.ring_store.specs.Slots.{maps_of, held_by, placed_by}
+use Rattle.ring_store.specs.Slots.{maps_of, placed_by}
+use Rattle.store_maps.specs.Slots.{held_by}
 
 -- how many partitions the hash space has
 abbrev pub partitions : NodeStore → ℕ

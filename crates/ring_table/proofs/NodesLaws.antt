@@ -26,6 +26,13 @@ use Rattle.ring_table.specs.Spelling.{node_fields}
 use Rattle.ring_table.specs.Reading.{node_at, nodes_at}
 use Rattle.ring_table.proofs.LineLaws.{node-line-law}
 use Rattle.ring_table.proofs.RowLaws.{AreNames, each_at}
+use Rattle.std.proofs.lemmas.List.{length-map}
+use Rattle.ring_names.specs.declared.ids.NodeId.{NodeId}
+use Rattle.texts.specs.Laws.{IsItem}
+use Rattle.ring_table.specs.Value.{names_of}
+use Rattle.ring_table.specs.Spelling.{name_at}
+use Rattle.ring_table.specs.Reading.{declared_at}
+use Rattle.ring_table.proofs.RowLaws.{IsItem-declared}
 
 -- each node is new behind those in front of it
 abbrev pub AreNew : ℕ → List Node → List Node → Type 0
@@ -158,3 +165,18 @@ ring-wider ring r one = record {
   partitions = r.partitions;
   rows = r.rows;
 }
+
+-- ---- of a ring
+
+-- the names of its nodes can be told apart
+pub names-of : (ring : RingValue) → IsRing ring → AreNames (names_of ring)
+names-of ring r = names-of_nodes ring.format ring.nodes (record { some_node = r.some_node; nodes = r.nodes; each_node = r.each_node; names = r.names })
+
+-- there are as many as nodes
+pub nodes-length : (nodes : List Node) → length (map (λ (x : Node). x.name) nodes) ≡ length nodes
+nodes-length nodes = simp length-map
+
+-- a field that names one of them
+pub item-node : (ring : RingValue) (k : ℕ) → AreNames (names_of ring) → IsItem (declared_at ring k) (λ x. name_at (names_of ring) x ∷ []) (λ x. x.0 < length (names_of ring))
+unfolding declared_at
+item-node ring k good = IsItem-declared k (names_of ring) good

@@ -26,6 +26,7 @@ use Rattle.ring_table.specs.Reading.{format_at, space_at, quorum_at, nodes_at, r
 use Rattle.ring_table.proofs.LineLaws.{format-line, space-line, quorum-line, format-le, loss-le, space-le, quorum-parts}
 use Rattle.ring_table.proofs.RowLaws.{rows-part}
 use Rattle.ring_table.proofs.NodesLaws.{AreNodes, IsOther, nodes-part, names-of_nodes}
+use Rattle.texts.proofs.Texts.{appended}
 
 abbrev names : List Node → List (List ℕ)
 names nodes = map (λ x. x.name) nodes
@@ -171,10 +172,6 @@ rows-plain : (ns : List (List ℕ)) (p : ℕ) (rows : List (List NodeId)) → Al
 rows-plain ns p [] all le = tt
 rows-plain ns p (row ∷ rows) all le = ((codes-plain.6, (decimal-plain p (omega arith), row-names-plain ns row all)), rows-plain ns (p + 1) rows all (omega arith))
 
-both-all : (xs ys : List (List (List ℕ))) → AllByRecursion IsPlainLine xs → AllByRecursion IsPlainLine ys → AllByRecursion IsPlainLine (xs ++ ys)
-both-all [] ys a b = b
-both-all (x ∷ xs) ys a b = (a.0, both-all xs ys a.1 b)
-
 pub ring-plain : (v : RingValue) → IsRing v → AllByRecursion IsPlainLine (ring_lines v)
 ring-plain v r =
     let q-small = space-le v.q r.space in
@@ -185,8 +182,8 @@ ring-plain v r =
         (codes-plain.1, (decimal-plain v.q (omega arith), tt)),
         (
           (codes-plain.2, (decimal-plain v.n (omega (arith, r.slots)), (decimal-plain v.r (omega (arith, r.slots, parts.0)), (decimal-plain v.w (omega (arith, r.slots, parts.1)), loss-plain v.format v.loss (loss-le v.format v.loss r.loss))))),
-          both-all (map node_fields v.nodes) (rows_lines (names_of v) 0 v.owners ++ end_fields ∷ []) (nodes-plain v.format v.nodes r.each_node)
-              (both-all (rows_lines (names_of v) 0 v.owners) (end_fields ∷ []) (rows-plain (names_of v) 0 v.owners all (omega (arith, r.partitions))) ((codes-plain.7, tt), tt)),
+          appended IsPlainLine (map node_fields v.nodes) (rows_lines (names_of v) 0 v.owners ++ end_fields ∷ []) (nodes-plain v.format v.nodes r.each_node)
+              (appended IsPlainLine (rows_lines (names_of v) 0 v.owners) (end_fields ∷ []) (rows-plain (names_of v) 0 v.owners all (omega (arith, r.partitions))) ((codes-plain.7, tt), tt)),
         ),
       ),
     )

@@ -18,6 +18,7 @@ use Rattle.texts.specs.Numbers.{ascending}
 use Rattle.ring_versions.specs.declared.version.Version.{Version}
 use Rattle.ring_versions.specs.Versions.{IsIn}
 use Rattle.ring_versions.specs.Puts.{ArePuts}
+use Rattle.std.proofs.lemmas.Bool.{or_right}
 
 -- ---- the same numbers, in order
 
@@ -34,16 +35,12 @@ put_has : (v : Version) (vs : List Version) → IsIn v vs → has v.put (map (λ
 put_has v [] h = absurd h
 put_has v (x ∷ xs) h = elim h [
   | inl is ↦ first (v.put == x.put) (has v.put (map (λ (w : Version). w.put) xs)) (eq-eqb v.put x.put (sym (ap (λ (w : Version). w.put) is)))
-  | inr more ↦ rest (v.put == x.put) (has v.put (map (λ (w : Version). w.put) xs)) (put_has v xs more)
+  | inr more ↦ or_right (v.put == x.put) (has v.put (map (λ (w : Version). w.put) xs)) (put_has v xs more)
 ]
   where
     first : (a b : Bool) → a ≡ true → (a || b) ≡ true
     first true b h = refl
     first false b h = absurd cc
-
-    rest : (a b : Bool) → b ≡ true → (a || b) ≡ true
-    rest true b h = refl
-    rest false b h = h
 
 has_put : (n : ℕ) (vs : List Version) → has n (map (λ (w : Version). w.put) vs) ≡ true → (v : Version) × IsIn v vs × (v.put ≡ n)
 has_put n [] h = absurd cc

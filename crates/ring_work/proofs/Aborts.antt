@@ -4,7 +4,7 @@ use Rattle.std.specs.List.{filter, range_with_len}
 use Rattle.std.proofs.lemmas.List.{map-id}
 use Rattle.std.proofs.lemmas.List.FromFn.{filter_of_map_range_with_len_more}
 use Rattle.ring_names.proofs.Logic.{zero_plus}
-use Rattle.plan_check.specs.declared.event.Entry.{Entry}
+use Rattle.plan_runs.specs.declared.event.Entry.{Entry}
 use Rattle.ring_work.specs.Resumed.{is_open, open_copies}
 
 -- of a step more

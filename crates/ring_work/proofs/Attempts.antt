@@ -2,9 +2,9 @@
 use Rattle.std.proofs.Common.{◌≡◌, ◌∙◌, ◌≤◌, ℕ, Bool, true, false, cond, List, [], ◌∷◌, ◌++◌, length, refl, sym, ap, subst, append_assoc, append-nil, inl, inr, arith}
 use Rattle.std.specs.Prelude.{not, Option, is_some}
 use Rattle.ring_names.specs.declared.refusal.Refusal.{Refusal}
-use Rattle.plan_check.specs.declared.event.Event.{Event}
-use Rattle.plan_check.specs.declared.event.Event.TheVariants.{StartGet}
-use Rattle.plan_check.specs.declared.event.Reply.TheVariants.{Put, Get}
+use Rattle.plan_runs.specs.declared.event.Event.{Event}
+use Rattle.plan_runs.specs.declared.event.Event.TheVariants.{StartGet}
+use Rattle.plan_runs.specs.declared.event.Reply.TheVariants.{Put, Get}
 use Rattle.ring_receipts.specs.declared.receipt.Receipt.{Receipt}
 use Rattle.ring_receipts.specs.Kinds.{sends, acknowledges, reads, ends}
 use Rattle.ring_work.specs.Noted.{Completes}

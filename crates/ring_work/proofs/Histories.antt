@@ -4,12 +4,12 @@ use Rattle.std.proofs.Math.Logic.{∥∥₁_map}
 use Rattle.std.specs.Prelude.{◌↔◌, Bool, IsTrue}
 use Rattle.ring_table.specs.Value.{RingValue}
 use Rattle.plan_text.specs.declared.step.Planned.{Planned}
-use Rattle.plan_check.specs.declared.event.Entry.{Entry}
-use Rattle.plan_check.specs.World.{World as TheWorld}
-use Rattle.ring_core.specs.declared.world.World.{World}
-use Rattle.ring_core.specs.World.{Meets}
-use Rattle.ring_core.specs.Tables.{AllDone}
-use Rattle.ring_replay.specs.Replays.{Replays}
+use Rattle.plan_runs.specs.declared.event.Entry.{Entry}
+use Rattle.plan_runs.specs.World.{World as TheWorld}
+use Rattle.ring_exec.specs.Kept.{World}
+use Rattle.ring_exec.specs.World.{Meets}
+use Rattle.ring_exec.specs.Tables.{AllDone}
+use Rattle.ring_exec.specs.Replays.{Replays}
 use Rattle.ring_work.specs.Driven.{IsHistory, IsWhole}
 
 -- a history that a store replays is a run

@@ -7,10 +7,10 @@ use Rattle.ring_names.specs.declared.refusal.Refusal.{Refusal}
 use Rattle.ring_names.specs.declared.refusal.Refusal.TheVariants.{HistoryFull}
 use Rattle.ring_table.specs.Value.{RingValue}
 use Rattle.plan_text.specs.declared.step.Planned.{Planned}
-use Rattle.plan_check.specs.declared.event.Entry.{Entry}
-use Rattle.plan_check.specs.Runs.{IsRun}
-use Rattle.plan_check.specs.World.{World, opening_world}
-use Rattle.ring_replay.proofs.FirstFault.{leads_without_fault}
+use Rattle.plan_runs.specs.declared.event.Entry.{Entry}
+use Rattle.plan_runs.specs.Runs.{IsRun}
+use Rattle.plan_runs.specs.World.{World, opening_world}
+use Rattle.ring_exec.proofs.FirstFault.{leads_without_fault}
 use Rattle.ring_work.specs.Driven.{IsFault}
 use Rattle.ring_work.specs.Resumed.{TellsFault}
 

@@ -4,12 +4,12 @@ use Rattle.ring_names.specs.declared.refusal.Refusal.{Refusal}
 use Rattle.ring_names.specs.declared.refusal.Refusal.TheVariants.{OutOfMemory, Disagree, TurnsSpent}
 use Rattle.ring_table.specs.Value.{RingValue}
 use Rattle.plan_text.specs.declared.step.Planned.{Planned}
-use Rattle.plan_check.specs.declared.event.Entry.{Entry}
-use Rattle.plan_check.specs.declared.event.Event.{Event}
-use Rattle.plan_check.specs.World.{World}
-use Rattle.plan_check.specs.Runs.{IsRun}
+use Rattle.plan_runs.specs.declared.event.Entry.{Entry}
+use Rattle.plan_runs.specs.declared.event.Event.{Event}
+use Rattle.plan_runs.specs.World.{World}
+use Rattle.plan_runs.specs.Runs.{IsRun}
 use Rattle.plan_check.specs.Safe.{Safe}
-use Rattle.ring_core.specs.Tables.{AllDone}
+use Rattle.ring_exec.specs.Tables.{AllDone}
 use Rattle.ring_receipts.specs.declared.receipt.Receipt.{Receipt}
 use Rattle.ring_receipts.specs.Agreed.{Agrees}
 

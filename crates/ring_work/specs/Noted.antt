@@ -1,7 +1,7 @@
 -- What submitting events does to a list of receipts.
 use Rattle.std.specs.Prelude.{◌≡◌, ◌+◌, ℕ, Bool, true, List, [], ◌∷◌, ◌++◌, length, cond}
 use Rattle.std.specs.List.{list_all}
-use Rattle.plan_check.specs.declared.event.Event.{Event}
+use Rattle.plan_runs.specs.declared.event.Event.{Event}
 use Rattle.ring_receipts.specs.declared.receipt.Receipt.{Receipt}
 use Rattle.ring_exec.specs.Replies.{fits_reply}
 

@@ -5,11 +5,11 @@ use Rattle.ring_names.specs.declared.refusal.Refusal.{Refusal}
 use Rattle.ring_names.specs.declared.refusal.Refusal.TheVariants.{OutOfMemory, HistoryFull}
 use Rattle.ring_table.specs.Value.{RingValue}
 use Rattle.plan_text.specs.declared.step.Planned.{Planned}
-use Rattle.plan_check.specs.declared.event.Entry.{Entry}
-use Rattle.plan_check.specs.declared.event.Event.{Event}
-use Rattle.plan_check.specs.declared.event.Event.TheVariants.{OpenCopy, CloseCopy, AbortCopy}
-use Rattle.plan_check.specs.World.{opening_world}
-use Rattle.ring_replay.specs.Faults.{IsFirstFault}
+use Rattle.plan_runs.specs.declared.event.Entry.{Entry}
+use Rattle.plan_runs.specs.declared.event.Event.{Event}
+use Rattle.plan_runs.specs.declared.event.Event.TheVariants.{OpenCopy, CloseCopy, AbortCopy}
+use Rattle.plan_runs.specs.World.{opening_world}
+use Rattle.ring_exec.specs.Faults.{IsFirstFault}
 use Rattle.ring_receipts.specs.declared.receipt.Receipt.{Receipt}
 use Rattle.ring_receipts.specs.Finishing.{list_at}
 use Rattle.ring_work.specs.Driven.{Driven, IsFault}

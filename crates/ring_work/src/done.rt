@@ -1,7 +1,7 @@
 //! What a thread hands back.
 
 use crate::noting::note;
-use plan_check::Event;
+use plan_runs::Event;
 use ring_board::Seat;
 use ring_exec::{Executor, RunLedger, Share};
 use ring_names::Refusal;

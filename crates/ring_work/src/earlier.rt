@@ -7,7 +7,7 @@ ghost use Rattle.ring_work.specs.Resumed.{receipt_at, receipts_from, open_behind
 ghost use Rattle.ring_work.specs.Resumed.{Continues};
 
 use crate::noting::note;
-use plan_check::{Entry, Event, Reply};
+use plan_runs::{Entry, Event, Reply};
 use ring_board::{Board, Claim, Seat};
 use ring_exec::{Executor, RunLedger, Share};
 use ring_names::{Listed, Refusal};

@@ -1,6 +1,6 @@
 //! What comes of a drive that breaks off.
 
-use plan_check::Entry;
+use plan_runs::Entry;
 use ring_names::Refusal;
 
 /// Why a drive broke off, and the history that stood when its threads had ended. It is empty where no store was made, and where the threads'

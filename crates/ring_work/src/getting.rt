@@ -1,8 +1,8 @@
 //! A get through the lock.
 
 ghost use Rattle.std.specs.Prelude.{◌≡◌, ◌+◌, ◌<◌, ◌∷◌, ◌++◌, [], true, vec_len, IfOk, IfErr, OnErr, is_some};
-ghost use Rattle.plan_check.specs.declared.event.Event.TheVariants.{StartGet};
-ghost use Rattle.plan_check.specs.declared.event.Reply.TheVariants.{Get};
+ghost use Rattle.plan_runs.specs.declared.event.Event.TheVariants.{StartGet};
+ghost use Rattle.plan_runs.specs.declared.event.Reply.TheVariants.{Get};
 ghost use Rattle.ring_receipts.specs.declared.receipt.Receipt.{Receipt as TheReceipt};
 ghost use Rattle.ring_receipts.specs.Kinds.{reads, ends};
 ghost use Rattle.ring_work.specs.Noted.{Grows, Completes, IsCounted};
@@ -10,7 +10,7 @@ ghost use Rattle.ring_work.specs.Attempts.{starts_get, AddsGet, IsGetAttempt};
 
 use crate::attempt::Attempt;
 use crate::noting::{MAX_ROUNDS, get_number, go_on, note};
-use plan_check::{Event, Key};
+use plan_runs::{Event, Key};
 use ring_exec::{Executor, RunLedger, Share};
 use ring_names::Refusal;
 use ring_receipts::Receipt;

@@ -23,3 +23,4 @@ pub use fault::Fault;
 pub use getting::get_all;
 pub use putting::put_all;
 pub use resuming::resume;
+pub use ring_exec::MAX_ENTRIES;

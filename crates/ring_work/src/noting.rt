@@ -3,10 +3,10 @@
 ghost use Rattle.std.specs.Prelude.{◌≡◌, ◌≢◌, ◌+◌, ◌∷◌, ◌++◌, ◌⊎◌, [], true, vec_len, IfOk, IfErr, OnOk, OnErr};
 ghost use Rattle.ring_names.specs.declared.refusal.Refusal.TheVariants.{HistoryFull, OutOfMemory, TurnsSpent};
 ghost use Rattle.ring_exec.specs.Replies.{is_put, is_get};
-ghost use Rattle.plan_check.specs.declared.event.Reply.TheVariants.{Put, Get};
+ghost use Rattle.plan_runs.specs.declared.event.Reply.TheVariants.{Put, Get};
 ghost use Rattle.ring_work.specs.Noted.{Adds, IsCounted};
 
-use plan_check::{Event, Reply};
+use plan_runs::{Event, Reply};
 use ring_exec::{Executor, RunLedger, Share};
 use ring_names::Refusal;
 use ring_receipts::Receipt;

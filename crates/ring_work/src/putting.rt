@@ -1,8 +1,8 @@
 //! A put through the lock.
 
 ghost use Rattle.std.specs.Prelude.{◌≡◌, ◌+◌, ◌∷◌, ◌++◌, [], true, vec_len, IfOk, IfErr, OnErr, is_some};
-ghost use Rattle.plan_check.specs.declared.event.Event.TheVariants.{StartPut};
-ghost use Rattle.plan_check.specs.declared.event.Reply.TheVariants.{Put};
+ghost use Rattle.plan_runs.specs.declared.event.Event.TheVariants.{StartPut};
+ghost use Rattle.plan_runs.specs.declared.event.Reply.TheVariants.{Put};
 ghost use Rattle.ring_receipts.specs.declared.receipt.Receipt.{Receipt as TheReceipt};
 ghost use Rattle.ring_receipts.specs.Kinds.{sends, acknowledges};
 ghost use Rattle.ring_work.specs.Noted.{Grows, Completes, IsCounted};
@@ -10,7 +10,7 @@ ghost use Rattle.ring_work.specs.Attempts.{starts_put, AddsPut, IsPutAttempt};
 
 use crate::attempt::Attempt;
 use crate::noting::{MAX_ROUNDS, go_on, note, put_number};
-use plan_check::{Event, Key, Seen};
+use plan_runs::{Event, Key, Seen};
 use ring_exec::{Executor, RunLedger, Share};
 use ring_names::{NodeId, Refusal, Value, WriterId};
 use ring_receipts::Receipt;

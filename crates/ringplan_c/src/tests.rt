@@ -4,7 +4,7 @@ use crate::{
     ringplan_check, ringplan_migrate, ringplan_plan, ringplan_play, ringplan_replay,
     ringplan_version,
 };
-use ringplan_run::Job;
+use ringplan_jobs::Job;
 use std::alloc::Global;
 use std::process::Abort;
 

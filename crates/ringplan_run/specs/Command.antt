@@ -12,10 +12,10 @@ use Rattle.ringplan_run.specs.declared.command.CommandLine.{CommandLine}
 use Rattle.ringplan_run.specs.declared.command.CommandLine.TheVariants.{Do, CheckBy, Drive, Help, Refused, OutOfMemory}
 use Rattle.ringplan_run.specs.declared.command.Workers.{Workers}
 use Rattle.ringplan_run.specs.declared.command.Workers.TheVariants.{Unnamed, Many, NoNumber}
-use Rattle.ringplan_run.specs.declared.job.Form.{Form}
-use Rattle.ringplan_run.specs.declared.job.Form.TheVariants.{History, Report}
-use Rattle.ringplan_run.specs.declared.job.Job.{Job}
-use Rattle.ringplan_run.specs.declared.job.Job.TheVariants.{Check, Migrate, Plan, Play, Replay}
+use Rattle.ringplan_run.specs.declared.form.Form.{Form}
+use Rattle.ringplan_run.specs.declared.form.Form.TheVariants.{History, Report}
+use Rattle.ringplan_jobs.specs.declared.job.Job.{Job}
+use Rattle.ringplan_jobs.specs.declared.job.Job.TheVariants.{Check, Migrate, Plan, Play, Replay}
 
 -- the word that asks for a job
 abbrev pub word_of : Job → List ℕ

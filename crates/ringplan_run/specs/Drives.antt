@@ -6,8 +6,8 @@ use Rattle.ring_names.specs.declared.refusal.Refusal.TheVariants.{OutOfMemory}
 use Rattle.texts.specs.Left.{whole_text}
 use Rattle.ring_table.specs.Value.{RingValue}
 use Rattle.plan_text.specs.declared.step.Planned.{Planned}
-use Rattle.plan_check.specs.declared.event.Entry.{Entry}
-use Rattle.plan_check.specs.declared.event.Event.{Event}
+use Rattle.plan_runs.specs.declared.event.Entry.{Entry}
+use Rattle.plan_runs.specs.declared.event.Event.{Event}
 use Rattle.plan_check.specs.First.{first_refusal}
 use Rattle.ring_receipts.specs.declared.receipt.Receipt.{Receipt}
 use Rattle.ring_work.specs.Driven.{Driven, IsFault}
@@ -15,8 +15,8 @@ use Rattle.history_text.specs.Spelling.{history_text}
 use Rattle.drive_report.specs.Report.{report_value}
 use Rattle.drive_text.specs.Drives.{drive_at}
 use Rattle.drive_text.specs.declared.bundle.DriveBundle.{DriveBundle}
-use Rattle.ringplan_run.specs.declared.job.Form.{Form}
-use Rattle.ringplan_run.specs.declared.job.Form.TheVariants.{History, Report}
+use Rattle.ringplan_run.specs.declared.form.Form.{Form}
+use Rattle.ringplan_run.specs.declared.form.Form.TheVariants.{History, Report}
 
 -- the text of an outcome: `yes` and the history, or the line of the report
 abbrev pub outcome_text : RingValue → List (List ℕ) → List Entry → List ℕ → ℕ → Form → List ℕ

@@ -4,27 +4,19 @@ use Rattle.std.specs.Io.KnownBytes.{Appends}
 use Rattle.ring_names.specs.declared.refusal.Refusal.{Refusal}
 use Rattle.ring_names.specs.declared.refusal.Refusal.TheVariants.{TooLarge, OutOfMemory, ReadFailed}
 use Rattle.ring_names.specs.Refusals.{line_of}
-use Rattle.ringplan_run.specs.Answers.{output_of, status_of}
+use Rattle.ringplan_jobs.specs.Answers.{output_of, status_of}
 use Rattle.ringplan_run.specs.Command.{Asked, Asks, AsksDrive, IsRefused, WantsHelp}
-use Rattle.ringplan_run.specs.Io.{AppendsPart, max_input}
-use Rattle.ringplan_run.specs.Verdict.{Makes}
+use Rattle.ringplan_jobs.specs.Io.{AppendsPart, max_input}
+use Rattle.ringplan_jobs.specs.Outcomes.{Outcome}
 use Rattle.ringplan_run.specs.Drives.{Drives}
-use Rattle.ringplan_run.specs.declared.job.Form.{Form}
-use Rattle.ringplan_run.specs.declared.job.Job.{Job}
+use Rattle.ringplan_run.specs.declared.form.Form.{Form}
+use Rattle.ringplan_jobs.specs.declared.job.Job.{Job}
 
--- what comes of an input: what the job makes of it, and of more than the most that may come that it is too large
-abbrev pub Outcome : Job → List ℕ → Result (List ℕ) Refusal → Type 0
-Outcome job bytes r = ((length bytes ≤ max_input) × Makes job bytes r) ⊎ ((max_input < length bytes) × (r ≡ Err (TooLarge 0)))
-
--- what was found is what comes of the input, where memory was there and no read failed
-abbrev pub Finds : Job → List ℕ → Result (List ℕ) Refusal → Type 0
-Finds job bytes (Ok text) = Outcome job bytes (Ok text)
-Finds job bytes (Err e) = e ≢ OutOfMemory → e ≢ ReadFailed → Outcome job bytes (Err e)
-
--- the same of a drive by so many workers, printed in that form
+-- what comes of an input to a drive by so many workers, printed in that form: what the drive makes of it, and of more than the most that may come that it is too large
 abbrev pub DriveOutcome : ℕ → Form → List ℕ → Result (List ℕ) Refusal → Type 0
 DriveOutcome workers form bytes r = ((length bytes ≤ max_input) × Drives workers form bytes r) ⊎ ((max_input < length bytes) × (r ≡ Err (TooLarge 0)))
 
+-- what was found is what comes of the input, where memory was there and no read failed
 abbrev pub FindsDrive : ℕ → Form → List ℕ → Result (List ℕ) Refusal → Type 0
 FindsDrive workers form bytes (Ok text) = DriveOutcome workers form bytes (Ok text)
 FindsDrive workers form bytes (Err e) = e ≢ OutOfMemory → e ≢ ReadFailed → DriveOutcome workers form bytes (Err e)

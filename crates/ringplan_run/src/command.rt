@@ -5,11 +5,12 @@ ghost use Rattle.clap.specs.Words.{app_of, found_of, new_app, one_text, rule_of,
 ghost use Rattle.ringplan_run.specs.Command.{Answers, asked, asked_by, checking, driving, job_named, ringplan};
 ghost use Rattle.ringplan_run.specs.Command.{task_named, to_do, to_drive, wanting, word_of, workers_option, IsForm};
 ghost use Rattle.ringplan_run.specs.Command.{MeansWorkers};
-ghost use Rattle.ringplan_run.specs.declared.job.Job.{Job};
+ghost use Rattle.ringplan_jobs.specs.declared.job.Job.{Job};
 
-use crate::job::{Form, Job};
+use crate::form::Form;
 use clap::error::ErrorKind;
 use clap::{Arg, ArgAction, ArgMatches, Command, Error, value_parser};
+use ringplan_jobs::Job;
 use std::alloc::{AllocError, Global};
 use std::convert::AsStr;
 

@@ -2,21 +2,19 @@
 
 ghost use Rattle.std.specs.Prelude.{◌≡◌, ◌<◌, ◌≤◌, ◌∷◌, ℕ, List, [], IfOk, drop, map};
 ghost use Rattle.ring_names.specs.Refusals.{line_of};
-ghost use Rattle.ringplan_run.specs.Answers.{texts_of};
+ghost use Rattle.ringplan_jobs.specs.Answers.{texts_of};
 ghost use Rattle.ringplan_run.specs.Command.{asked, only, word_of};
-ghost use Rattle.ringplan_run.specs.Io.{Tells};
-ghost use Rattle.ringplan_run.specs.Run.{Finds, FindsDrive, Prints, PrintsFound, Runs};
-ghost use Rattle.ringplan_run.specs.declared.job.Job.{Job};
-ghost use Rattle.ringplan_run.specs.declared.job.Job.TheVariants.{Check};
+ghost use Rattle.ringplan_jobs.specs.Io.{Tells};
+ghost use Rattle.ringplan_jobs.specs.Outcomes.{Finds};
+ghost use Rattle.ringplan_run.specs.Run.{FindsDrive, Prints, PrintsFound, Runs};
+ghost use Rattle.ringplan_jobs.specs.declared.job.Job.{Job};
+ghost use Rattle.ringplan_jobs.specs.declared.job.Job.TheVariants.{Check};
 
-use crate::answer::answer_of;
-use crate::bundle::{make_check_by, make_whole};
 use crate::command::{CommandLine, parse};
 use crate::driving::drive_bundle;
-use crate::input::read_all;
-use crate::job::{Form, Job};
-use crate::output::write_all;
+use crate::form::Form;
 use ring_names::Refusal;
+use ringplan_jobs::{Job, answer_of, make_check_by, make_whole, read_all, write_all};
 use std::alloc::Global;
 use std::convert::AsStr;
 use std::io::{Read, Write};

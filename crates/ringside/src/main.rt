@@ -1,9 +1,7 @@
 //! Plans for people to look at: a bundle on standard input, words on standard output.
 #![tactic(auto)]
 
-use ring_replay::Watch;
-use ringplan_run::end_without_memory;
-use ringside_run::{end_without_words, run};
+use ringside_run::{Watch, end_without_memory, end_without_words, run};
 use std::env;
 use std::io::{ErrorKind, IsTerminal};
 use std::process::ExitCode;

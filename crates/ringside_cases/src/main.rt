@@ -2,8 +2,7 @@
 //! `all`, `draw`, `bundle` and `after` among them say which command is meant from there on; `all` is `show --all --racks-behind .`.
 #![tactic(auto)]
 
-use ring_replay::Unwatched;
-use ringside_run::run;
+use ringside_run::{Unwatched, run};
 use std::fs::File;
 use std::rt::Runtime;
 use std::{env, io, str};

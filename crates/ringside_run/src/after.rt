@@ -6,15 +6,16 @@ ghost use Rattle.ringside_run.specs.After.{IsRingOf, member_after, members_after
 
 use crate::sections::front;
 use crate::study::{Study, Work, studied};
-use plan_check::{Approved, Entry};
+use plan_check::Approved;
 use plan_moves::last_owners;
+use plan_runs::Entry;
 use plan_scene::Progress;
 use plan_text::{Plan, Step};
 use ring_names::{Listed, NodeId, Refusal, Slot};
-use ring_replay::Watch;
 use ring_table::{Node, Ring, push_row, read_ring};
+use ringplan_jobs::Watch;
 use std::alloc::Global;
-use text_words::push_words;
+use words::Words;
 
 // Whether the node is a member once the plan is done.
 fn is_member_after(ring: &Ring, plan: &Plan, node: NodeId) -> bool
@@ -390,7 +391,7 @@ pub fn after_bundle<W: Watch>(work: &Work<W>, bytes: &[u8]) -> Result<Vec<u8>, R
 /// Adds which steps must come first where `after_bundle` refuses a history for the move that the step begins, and tells whether that is why.
 pub fn push_open<W: Watch>(
     work: &Work<W>,
-    out: &mut Vec<u8>,
+    out: &mut Words,
     bytes: &[u8],
     step: u32,
 ) -> Result<bool, Refusal> {
@@ -401,45 +402,32 @@ pub fn push_open<W: Watch>(
     }
 }
 
-fn push_open_of(
-    alloc: Global,
-    out: &mut Vec<u8>,
-    found: &Study,
-    step: u32,
-) -> Result<bool, Refusal> {
+fn push_open_of(alloc: Global, out: &mut Words, found: &Study, step: u32) -> Result<bool, Refusal> {
     let plan = found.approved.plan();
     let (Some(history), Some(slot)) = (&found.history, slot_of(plan, step)) else {
         return Ok(false);
     };
     let progress = Progress::of(alloc, plan, history.as_slice())?;
-    push_left(out, plan, &progress, slot, step)?;
+    push_left(out, plan, &progress, slot, step);
     Ok(true)
 }
 
 // The slot's steps behind that one, up to its switch, that are not done.
-fn push_left(
-    out: &mut Vec<u8>,
-    plan: &Plan,
-    progress: &Progress,
-    slot: Slot,
-    step: u32,
-) -> Result<(), Refusal> {
-    push_words(
-        out,
+fn push_left(out: &mut Words, plan: &Plan, progress: &Progress, slot: Slot, step: u32) {
+    out.fill(
         b"refused: step # has opened a mirror that no step has switched, and a ring cannot say that\n  Finish first:",
         &[],
         &[step],
-    )?;
+    );
     let mut words: &[u8] = b" step #";
     for number in plan.slot_steps(slot) {
         let is_left = *number > step && !progress.is_done(*number);
         if is_left && !is_drop(plan, *number) {
-            push_words(out, words, &[], &[*number])?;
+            out.fill(words, &[], &[*number]);
             words = b", step #";
         }
     }
-    out.push(b'\n')?;
-    Ok(())
+    out.byte(b'\n');
 }
 
 fn slot_of(plan: &Plan, number: u32) -> Option<Slot> {

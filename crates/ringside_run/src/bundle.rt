@@ -1,11 +1,11 @@
 //! Whole bundles: a ring, a plan of it and its certificate.
 
 ghost use Rattle.std.specs.Prelude.{IfOk};
-ghost use Rattle.ringplan_run.specs.Verdict.{TextsKeepPromises};
+ghost use Rattle.ringplan_jobs.specs.Verdict.{TextsKeepPromises};
 
 use crate::sections::{Kind, front, kind_of};
 use ring_names::Refusal;
-use ringplan_run::{check_bundle, plan_bundle};
+use ringplan_jobs::{check_bundle, plan_bundle};
 use std::alloc::Global;
 
 // The ring's text, and behind it a plan that makes the change, with its certificate.

@@ -8,11 +8,14 @@ use crate::show::{draw_bundle, show_bundle};
 use crate::study::Work;
 use crate::why::{push_words_of, why_bundle};
 use ring_names::Refusal;
-use ring_replay::Watch;
-use ringplan_run::{Answer, answer_of, end_without_memory, read_all, write_all};
+use ringplan_jobs::{Answer, Watch, answer_of, read_all, write_all};
 use std::alloc::Global;
 use std::convert::AsStr;
 use std::io::{Read, Write};
+use words::Words;
+
+// The line of a refusal for want of memory, which itself needs none.
+const NO_MEMORY: &[u8; 6] = b"no 60\n";
 
 // What is said of words that are no text.
 const NO_WORDS: &[u8; 123] =
@@ -46,6 +49,11 @@ pub fn run<S: AsStr, R: Read + Drop, W: Write, P: Watch>(
     }
 }
 
+/// Says that memory was refused, and returns the exit status of that, 3.
+pub fn end_without_memory<W: Write>(output: &mut W) -> u8 {
+    finish(output, NO_MEMORY, FAILED)
+}
+
 /// Says that the words of a command line are no text, and returns the exit status of that, 2.
 pub fn end_without_words<W: Write>(output: &mut W) -> u8 {
     finish(output, NO_WORDS, REFUSED)
@@ -64,11 +72,12 @@ fn make_of<W: Watch>(work: &Work<W>, making: Making, bytes: &[u8]) -> Result<Vec
 // What is made of the bundle, or the refusal's line and why.
 fn made<W: Watch>(work: &Work<W>, making: Making, bytes: &[u8]) -> Result<Answer, Refusal> {
     let found = make_of(work, making, bytes);
-    let mut words = Vec::new(work.alloc);
+    let mut words = Words::new(work.alloc);
     match &found {
         Ok(_) | Err(Refusal::OutOfMemory) => {}
         Err(refusal) => push_said(work, &mut words, making, bytes, refusal)?,
     }
+    let words = words.end()?;
     let mut answer = answer_of(work.alloc, found)?;
     answer.output.extend_from_slice(words.as_slice())?;
     Ok(answer)
@@ -77,7 +86,7 @@ fn made<W: Watch>(work: &Work<W>, making: Making, bytes: &[u8]) -> Result<Answer
 // Adds why it was refused.
 fn push_said<W: Watch>(
     work: &Work<W>,
-    out: &mut Vec<u8>,
+    out: &mut Words,
     making: Making,
     bytes: &[u8],
     refusal: &Refusal,
@@ -92,8 +101,9 @@ fn push_said<W: Watch>(
 
 // The answer where the input was not read.
 fn refused<W: Watch>(work: &Work<W>, refusal: Refusal) -> Result<Answer, Refusal> {
-    let mut words = Vec::new(work.alloc);
+    let mut words = Words::new(work.alloc);
     push_words_of(work, &mut words, b"", &refusal)?;
+    let words = words.end()?;
     let mut answer = answer_of(work.alloc, Err(refusal))?;
     answer.output.extend_from_slice(words.as_slice())?;
     Ok(answer)

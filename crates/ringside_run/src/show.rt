@@ -6,7 +6,7 @@ use plan_picture::{Sheet, picture};
 use plan_scene::{Progress, Scene};
 use plan_summary::{View, summary};
 use ring_names::Refusal;
-use ring_replay::Watch;
+use ringplan_jobs::Watch;
 use std::alloc::Global;
 
 // How far the history has come, where there is one.

@@ -4,10 +4,10 @@ use crate::bundle::texts_of;
 use crate::sections::{Kind, kind_of};
 use history_text::read_replay;
 use plan_cert::Cert;
-use plan_check::{Approved, Entry, check};
+use plan_check::{Approved, check};
+use plan_runs::Entry;
 use ring_names::Refusal;
-use ring_replay::{Watch, replay_watched};
-use ring_script::{Kind as Sections, read_bundle};
+use ringplan_jobs::{Kind as Sections, Watch, read_bundle, replay_watched};
 use std::alloc::Global;
 
 /// What a job works with: memory, and who is told how far a replay has come.

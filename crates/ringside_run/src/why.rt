@@ -1,22 +1,24 @@
 //! Why a bundle is refused.
 
 ghost use Rattle.std.specs.Prelude.{◌≡◌, ◌≢◌, IfOk};
-ghost use Rattle.ringplan_run.specs.Verdict.{TextsKeepPromises};
+ghost use Rattle.ringplan_jobs.specs.Verdict.{TextsKeepPromises};
 ghost use Rattle.ringside_run.specs.Why.{AnswersCheck};
 
 use crate::sections::{Kind, front, kind_of};
 use crate::study::{Study, Work, studied};
 use change_text::{Wanted, read_wanted};
 use history_text::read_replay;
-use plan_check::{Approved, Entry, Event, check};
+use plan_check::{Approved, check};
+use plan_runs::{Entry, Event};
 use plan_words::{Read, tell_plan};
-use ring_core::World;
 use ring_names::Refusal;
-use ring_replay::{Watch, replay_watched};
-use ring_script::{Kind as Sections, read_bundle};
-use ringplan_run::{Answer, Job, answer_of, check_bundle, make, plan_bundle};
+use ringplan_jobs::{
+    Answer, Job, Kind as Sections, Watch, World, answer_of, check_bundle, make, plan_bundle,
+    read_bundle, replay_watched,
+};
 use std::alloc::Global;
-use text_words::{Page, Said, push_words, tell_text};
+use text_words::{Page, Said, tell_text};
+use words::Words;
 
 // What comes of a mended bundle.
 #[derive(Clone, Copy, PartialEq, Eq)]
@@ -71,38 +73,42 @@ fn next(refusal: Refusal, was: &Refusal) -> Result<Outcome, Refusal>
 // Adds the mend, with what comes of the mended bundle, unless that is refused as before.
 fn push_mend<W: Watch>(
     work: &Work<W>,
-    out: &mut Vec<u8>,
+    out: &mut Words,
     bytes: &[u8],
     said: &Said,
     was: &Refusal,
 ) -> Result<(), Refusal> {
-    let mut mended = Vec::new(work.alloc);
-    said.mended(&mut mended, Page { bytes })?;
-    let outcome = asked(work, mended.as_slice(), was)?;
+    let mut mended = Words::new(work.alloc);
+    said.mended(&mut mended, Page { bytes });
+    let outcome = asked(work, mended.end()?.as_slice(), was)?;
     if outcome == Outcome::Same {
         return Ok(());
     }
-    said.push_mend(out)?;
-    push_outcome(out, outcome)
+    said.push_mend(out);
+    push_outcome(work.alloc, out, outcome)
 }
 
-fn push_outcome(out: &mut Vec<u8>, outcome: Outcome) -> Result<(), Refusal> {
+fn push_outcome(alloc: Global, out: &mut Words, outcome: Outcome) -> Result<(), Refusal> {
     let words: &[u8] = match outcome {
         Outcome::Accepted => b"  then the checker says yes.\n",
         Outcome::Planned => b"  then there is a plan.\n",
         Outcome::Replayed => b"  then the checker says yes, and the history is a run of it.\n",
-        Outcome::Next(refusal) => return push_next(out, refusal),
+        Outcome::Next(refusal) => return push_next(alloc, out, refusal),
         Outcome::Same => b"",
     };
-    out.extend_from_slice(words)?;
+    out.text(words);
     Ok(())
 }
 
-fn push_next(out: &mut Vec<u8>, refusal: Refusal) -> Result<(), Refusal> {
-    out.extend_from_slice(b"  then the checker goes on, to `")?;
-    refusal.write_line(out)?;
-    out.pop();
-    out.extend_from_slice(b"`.\n")?;
+fn push_next(alloc: Global, out: &mut Words, refusal: Refusal) -> Result<(), Refusal> {
+    let mut line = Vec::new(alloc);
+    refusal.write_line(&mut line)?;
+    line.pop();
+    out.fill(
+        b"  then the checker goes on, to `@`.\n",
+        &[line.as_slice()],
+        &[],
+    );
     Ok(())
 }
 
@@ -170,25 +176,25 @@ fn tell_no_plan(alloc: Global, said: &mut Said, bytes: &[u8]) -> Result<(), Refu
         Ok(wanted) => wanted,
         Err(refusal) => return unless_memory(refusal),
     };
-    tell_few(said, members_left(&wanted), wanted.ring.n())
+    tell_few(said, members_left(&wanted), wanted.ring.n());
+    Ok(())
 }
 
 // Says that so many members are too few for partitions of so many slots, where they are.
-fn tell_few(said: &mut Said, members: u32, slots: u32) -> Result<(), Refusal> {
+fn tell_few(said: &mut Said, members: u32, slots: u32) {
     if members >= slots {
-        return said.title(b"the planner found no plan", &[], &[]);
+        said.title(b"the planner found no plan");
+        return;
     }
-    said.title(
+    said.title_with(
         b"there is no plan: # members would be left",
         &[],
         &[members],
-    )?;
+    );
     said.note(
         b"Partition 0 cannot be filled, nor any other: each slot of one wants a member of its own.",
-        &[],
-        &[],
-    )?;
-    said.note(b"Let fewer nodes leave, or more join.", &[], &[])
+    );
+    said.note(b"Let fewer nodes leave, or more join.")
 }
 
 // Why an event could not have happened.
@@ -220,17 +226,17 @@ fn tell_history<W: Watch>(
     entry: u32,
     code: u32,
 ) -> Result<(), Refusal> {
-    said.title(
+    said.title_with(
         b"the history is no run of the plan: entry # cannot have happened so",
         &[],
         &[entry],
-    )?;
+    );
     let line = line_behind(bytes, 3)
         .saturating_add(1)
         .saturating_add(entry);
-    said.fault(line, reason(code), &[], &[])?;
+    said.fault(line, reason(code));
     if entry > 0 {
-        said.beside(line.saturating_sub(1), b"up to here it is a run", &[], &[])?;
+        said.beside(line.saturating_sub(1), b"up to here it is a run");
     }
     match replayed(work.alloc, bytes)? {
         Some(found) => tell_entry(work, said, bytes, &found, entry),
@@ -301,7 +307,7 @@ fn tell_entry<W: Watch>(
     };
     if let Some(step) = step_of(&wrong.event) {
         let line = line_behind(bytes, 1).saturating_add(1).saturating_add(step);
-        said.beside(line, b"step #", &[], &[step])?;
+        said.beside_with(line, b"step #", &[], &[step]);
     }
     tell_reply(work, said, &found.approved, history, entry as usize)
 }
@@ -316,7 +322,7 @@ fn tell_reply<W: Watch>(
 ) -> Result<(), Refusal> {
     let mut text = Vec::new(work.alloc);
     if due(work, &mut text, approved, history, place)? {
-        said.note(b"The reply that was due: `@`.", &[text.as_slice()], &[])?;
+        said.note_with(b"The reply that was due: `@`.", &[text.as_slice()], &[]);
     }
     Ok(())
 }
@@ -357,7 +363,7 @@ fn reply_of(world: &mut World, out: &mut Vec<u8>, event: &Event) -> Result<bool,
 // Adds why a bundle is refused so, in words: nothing where there is no more to say than its line.
 fn push_why<W: Watch>(
     work: &Work<W>,
-    out: &mut Vec<u8>,
+    out: &mut Words,
     said: &mut Said,
     bytes: &[u8],
     refusal: &Refusal,
@@ -365,10 +371,7 @@ fn push_why<W: Watch>(
     if !tell_text(work.alloc, said, bytes, refusal)? {
         tell_read(work, said, bytes, refusal)?;
     }
-    if !said.is_begun() {
-        return Ok(());
-    }
-    said.push(out, Page { bytes })?;
+    said.push(out, Page { bytes });
     if said.has_mend() {
         push_mend(work, out, bytes, said, refusal)?;
     }
@@ -378,7 +381,7 @@ fn push_why<W: Watch>(
 /// Adds why a bundle is refused so, in words: nothing where there is no more to say than its line.
 pub fn push_words_of<W: Watch>(
     work: &Work<W>,
-    out: &mut Vec<u8>,
+    out: &mut Words,
     bytes: &[u8],
     refusal: &Refusal,
 ) -> Result<(), Refusal> {
@@ -387,30 +390,30 @@ pub fn push_words_of<W: Watch>(
 }
 
 // Adds what a yes says of a plan.
-fn push_accepted(out: &mut Vec<u8>, found: &Study) -> Result<(), Refusal> {
+fn push_accepted(out: &mut Words, found: &Study) {
     let (ring, plan) = (found.approved.ring(), found.approved.plan());
     let begin: &[u8] = if plan.len() == 1 {
         b"accepted: # step. In every run of the plan, in any order that it allows:\n  any # slots of a partition include one that has each acknowledged put, or a successor"
     } else {
         b"accepted: # steps. In every run of the plan, in any order that it allows:\n  any # slots of a partition include one that has each acknowledged put, or a successor"
     };
-    push_words(out, begin, &[], &[plan.len(), ring.r()])?;
+    out.fill(begin, &[], &[plan.len(), ring.r()]);
     if ring.loss() > 0 {
-        push_words(out, b",\n  with # lost between", &[], &[ring.loss()])?;
+        out.fill(b",\n  with # lost between", &[], &[ring.loss()]);
     }
     let end =
         b";\n  no two slots of a partition share a node;\n  no node has more transfers open than its allowance.\n";
-    out.extend_from_slice(end)?;
+    out.text(end);
     if found.history.is_some() {
-        out.extend_from_slice(b"  The history is a run of it.\n")?;
+        out.text(b"  The history is a run of it.\n");
     }
-    Ok(())
 }
 
 // Adds what a yes says of the plan of a bundle.
-fn push_yes<W: Watch>(work: &Work<W>, out: &mut Vec<u8>, bytes: &[u8]) -> Result<(), Refusal> {
+fn push_yes<W: Watch>(work: &Work<W>, out: &mut Words, bytes: &[u8]) -> Result<(), Refusal> {
     let found = studied(work, bytes)?;
-    push_accepted(out, &found)
+    push_accepted(out, &found);
+    Ok(())
 }
 
 // Why a ring, a plan and its certificate are accepted or refused.
@@ -418,11 +421,12 @@ fn why_plan<W: Watch>(work: &Work<W>, bytes: &[u8]) -> Result<Answer, Refusal>
     ensures { IfOk result (AnswersCheck bytes.now) }
 {
     let found = make(work.alloc, Job::Check, bytes);
-    let mut words = Vec::new(work.alloc);
+    let mut words = Words::new(work.alloc);
     match &found {
         Ok(_) => push_yes(work, &mut words, bytes)?,
         Err(refusal) => push_words_of(work, &mut words, bytes, refusal)?,
     }
+    let words = words.end()?;
     let mut answer = answer_of(work.alloc, found)?;
     answer.output.extend_from_slice(words.as_slice())?;
     Ok(answer)
@@ -431,12 +435,12 @@ fn why_plan<W: Watch>(work: &Work<W>, bytes: &[u8]) -> Result<Answer, Refusal>
 // Adds why a bundle with a change or a history is accepted or refused, and tells which.
 fn push_more<W: Watch>(
     work: &Work<W>,
-    out: &mut Vec<u8>,
+    out: &mut Words,
     bytes: &[u8],
 ) -> Result<Option<Refusal>, Refusal> {
     match studied(work, bytes) {
         Ok(found) => {
-            push_accepted(out, &found)?;
+            push_accepted(out, &found);
             Ok(None)
         }
         Err(refusal) => {
@@ -449,11 +453,12 @@ fn push_more<W: Watch>(
 
 // The same with the line in front.
 fn why_more<W: Watch>(work: &Work<W>, bytes: &[u8]) -> Result<Answer, Refusal> {
-    let mut words = Vec::new(work.alloc);
+    let mut words = Words::new(work.alloc);
     let found = match push_more(work, &mut words, bytes)? {
         Some(refusal) => Err(refusal),
         None => Ok(Vec::from_slice(work.alloc, b"yes\n")?),
     };
+    let words = words.end()?;
     let mut answer = answer_of(work.alloc, found)?;
     answer.output.extend_from_slice(words.as_slice())?;
     Ok(answer)

@@ -14,7 +14,7 @@ use Rattle.texts.specs.Frames.{header_at, end_line_at}
 use Rattle.texts.proofs.Items.{ok_is, bind_ok}
 use Rattle.ring_table.specs.Value.{RingValue}
 use Rattle.ring_table.specs.Reading.{declared_at}
-use Rattle.plan_check.specs.declared.event.Event.{Event}
+use Rattle.plan_runs.specs.declared.event.Event.{Event}
 use Rattle.script_text.specs.Client.{is_client_event}
 use Rattle.script_text.specs.Said.{event_of, names_after}
 use Rattle.script_text.specs.declared.said.SaidEvent.{SaidEvent}

@@ -26,7 +26,7 @@ use Rattle.ring_table.specs.Value.{RingValue, names_of}
 use Rattle.ring_table.specs.Spelling.{name_at}
 use Rattle.ring_table.specs.Reading.{declared_at}
 use Rattle.ring_table.proofs.RowLaws.{AreNames, IsItem-declared}
-use Rattle.plan_check.specs.Words.{is_key}
+use Rattle.plan_runs.specs.Words.{is_key}
 use Rattle.script_text.specs.Said.{writer_of, with_writer}
 use Rattle.script_text.specs.declared.said.SaidWriter.{SaidWriter}
 use Rattle.script_text.specs.declared.said.SaidWriter.TheVariants.{Known, New}

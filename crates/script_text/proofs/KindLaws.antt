@@ -16,8 +16,8 @@ use Rattle.texts.proofs.Fronts.{Last, IsFront, front-item, front-⊗, front-whol
 use Rattle.ring_table.specs.Value.{RingValue, names_of}
 use Rattle.ring_table.specs.Reading.{declared_at}
 use Rattle.ring_table.proofs.RowLaws.{AreNames}
-use Rattle.plan_check.specs.Words.{is_key}
-use Rattle.plan_check.specs.declared.event.Event.{Event}
+use Rattle.plan_runs.specs.Words.{is_key}
+use Rattle.plan_runs.specs.declared.event.Event.{Event}
 use Rattle.script_text.specs.Said.{writer_of, with_writer, event_of, names_after}
 use Rattle.script_text.specs.declared.said.SaidWriter.{SaidWriter}
 use Rattle.script_text.specs.declared.said.SaidWriter.TheVariants.{Known, New}

@@ -10,7 +10,7 @@ use Rattle.texts.specs.Name.{is_name}
 use Rattle.texts.specs.Judging.{map_ok, map_item, field_at, need_at, end_at, both_of, whole, ◌⊗◌}
 use Rattle.ring_table.specs.Value.{RingValue}
 use Rattle.ring_table.specs.Reading.{declared_at}
-use Rattle.plan_check.specs.declared.event.Event.{Event}
+use Rattle.plan_runs.specs.declared.event.Event.{Event}
 use Rattle.script_text.specs.Said.{FitsWriter, Fits, IsNext}
 use Rattle.script_text.specs.declared.said.SaidWriter.{SaidWriter}
 use Rattle.script_text.specs.declared.said.SaidWriter.TheVariants.{Known, New}

@@ -7,8 +7,8 @@ use Rattle.texts.specs.Laws.{SomeLeft}
 use Rattle.texts.proofs.Items.{ok_is, bind_ok, first_is, some_lines}
 use Rattle.ring_table.specs.Value.{RingValue, names_of}
 use Rattle.ring_table.proofs.RowLaws.{AreNames}
-use Rattle.plan_check.specs.declared.event.Event.{Event}
-use Rattle.plan_check.specs.declared.event.Event.TheVariants as event
+use Rattle.plan_runs.specs.declared.event.Event.{Event}
+use Rattle.plan_runs.specs.declared.event.Event.TheVariants as event
 use Rattle.script_text.specs.Said.{event_of, names_after}
 use Rattle.script_text.specs.declared.said.SaidEvent.{SaidEvent}
 use Rattle.script_text.specs.declared.speaker.Speaker.TheVariants.{Anyone}

@@ -17,8 +17,8 @@ use Rattle.texts.proofs.FrameLaws.{header-at, end-at}
 use Rattle.ring_table.specs.Value.{RingValue}
 use Rattle.ring_table.specs.Reading.{declared_at}
 use Rattle.ring_table.proofs.RingLates.{judges-declared}
-use Rattle.plan_check.specs.Words.{is_key}
-use Rattle.plan_check.specs.declared.event.Event.{Event}
+use Rattle.plan_runs.specs.Words.{is_key}
+use Rattle.plan_runs.specs.declared.event.Event.{Event}
 use Rattle.script_text.specs.Digits.{is_value_text, value_of}
 use Rattle.script_text.specs.Said.{event_of, names_after}
 use Rattle.script_text.specs.declared.said.SaidWriter.{SaidWriter}
@@ -27,6 +27,7 @@ use Rattle.script_text.specs.declared.said.SaidEvent.{SaidEvent}
 use Rattle.script_text.specs.declared.said.SaidEvent.TheVariants.{Do, OpenCopy, ChunkCopy, CloseCopy, AbortCopy, StartPut, Write, Hint, Ack, StartGet, Read, EndGet, Down, Up, Handoff, Lose}
 use Rattle.script_text.specs.declared.speaker.Speaker.{Speaker}
 use Rattle.script_text.specs.Reading.{count_at, pair_at, judge_writer, judge_key, judge_value, judge_seen, seen_at, put_at, hint_at, handoff_at, kind_at, said_at, may_say, heard_at, events_from, events_at, section_at}
+use Rattle.texts.proofs.Lates.{either-at}
 
 -- ---- a line
 
@@ -57,11 +58,6 @@ row-at k xs = at-unless k (
     ∷ (not (nat_le (length xs) 16), TooLarge k)
     ∷ (not (list_all (λ x. nat_lt x 4294967296) xs), TooLarge k)
     ∷ []) xs (refl, (refl, (refl, (refl, tt))))
-
--- one of two items, by the word in front
-pub either-at : {A : Type 0} (k : ℕ) (t : Bool) (x y : Result A Refusal × List (List ℕ)) → At k x.0 → At k y.0 → At k (cond t x y).0
-either-at k true x y p q = p
-either-at k false x y p q = q
 
 judges-seen : (k : ℕ) → Judges k (seen_at k)
 unfolding seen_at

@@ -18,12 +18,11 @@ use Rattle.texts.proofs.Wholes.{whole-takes, whole-gives, decimal-plain, name-by
 use Rattle.ring_table.specs.Value.{RingValue, names_of}
 use Rattle.ring_table.specs.Valid.{IsRing}
 use Rattle.ring_table.specs.Spelling.{name_at}
-use Rattle.ring_table.proofs.NodesLaws.{names-of_nodes}
 use Rattle.ring_table.proofs.RowLaws.{AreNames}
 use Rattle.ring_table.proofs.RingLaws.{name_at-plain}
-use Rattle.plan_check.specs.Words.{is_key}
-use Rattle.plan_check.specs.declared.event.Event.{Event}
-use Rattle.plan_check.specs.declared.event.Event.TheVariants as event
+use Rattle.plan_runs.specs.Words.{is_key}
+use Rattle.plan_runs.specs.declared.event.Event.{Event}
+use Rattle.plan_runs.specs.declared.event.Event.TheVariants as event
 use Rattle.script_text.specs.Known.{IsKnown, AreKnown}
 use Rattle.script_text.specs.declared.speaker.Speaker.TheVariants.{Anyone}
 use Rattle.script_text.specs.Spelling.{seen_fields, event_fields, script_lines, script_text}
@@ -33,6 +32,8 @@ use Rattle.script_text.proofs.ValueLaws.{value-plain}
 use Rattle.script_text.proofs.WriterLaws.{front-writers, writer-plain}
 use Rattle.script_text.proofs.SaidLines.{events_of, names_behind, lines_of, Ends, lines-read, lines-given}
 use Rattle.script_text.proofs.SightLaws.{IsRest, rest-of, few-said, behind-writers, lines-same, lines-for}
+use Rattle.texts.proofs.Texts.{appended}
+use Rattle.ring_table.proofs.NodesLaws.{names-of}
 
 -- ---- the lines of a script are plain
 
@@ -62,15 +63,6 @@ key-plain key e = name-bytes-plain key (and_parts (nat_le 1 (length key) && nat_
 seen-plain : (gets : List ℕ) → AreGets gets → AllByRecursion IsPlain (seen_fields gets)
 seen-plain [] p = tt
 seen-plain (g ∷ gs) p = (words-plain.3, numbers-plain (g ∷ gs) p.counts)
-
--- the nodes of a ring have names that can be told apart
-pub names-of : (ring : RingValue) → IsRing ring → AreNames (names_of ring)
-names-of ring r = names-of_nodes ring.format ring.nodes (record { some_node = r.some_node; nodes = r.nodes; each_node = r.each_node; names = r.names })
-
--- lines behind lines
-pub both-all : (xs ys : List (List (List ℕ))) → AllByRecursion IsPlainLine xs → AllByRecursion IsPlainLine ys → AllByRecursion IsPlainLine (xs ++ ys)
-both-all [] ys a b = b
-both-all (x ∷ xs) ys a b = (a.0, both-all xs ys a.1 b)
 
 module _ (ring : RingValue) (nodes : AreNames (names_of ring)) where
   -- names of nodes are plain
@@ -186,7 +178,7 @@ module _ (ring : RingValue) (nodes : AreNames (names_of ring)) where
   lines-plain : (old : List (List ℕ)) (v : Script) → Valid old v → AllByRecursion IsPlainLine (script_lines ring v.1 v.0)
   lines-plain old v p = (
     (words-plain.0, (words-plain.1, tt)),
-    both-all (body v) (end_fields ∷ []) (events-plain v.1 v.0 p.writers p.events p.known) ((words-plain.2, tt), tt),
+    appended IsPlainLine (body v) (end_fields ∷ []) (events-plain v.1 v.0 p.writers p.events p.known) ((words-plain.2, tt), tt),
   )
 
 -- ---- a whole text

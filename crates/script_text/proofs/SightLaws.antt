@@ -9,8 +9,8 @@ use Rattle.ring_names.specs.Names.{place}
 use Rattle.ring_names.specs.declared.ids.WriterId.{WriterId}
 use Rattle.ring_names.proofs.InLists.{get_front, get_last}
 use Rattle.ring_table.specs.Value.{RingValue, names_of}
-use Rattle.plan_check.specs.declared.event.Event.{Event}
-use Rattle.plan_check.specs.declared.event.Event.TheVariants as event
+use Rattle.plan_runs.specs.declared.event.Event.{Event}
+use Rattle.plan_runs.specs.declared.event.Event.TheVariants as event
 use Rattle.script_text.specs.Said.{event_of, names_after}
 use Rattle.script_text.specs.declared.said.SaidWriter.{SaidWriter}
 use Rattle.script_text.specs.declared.said.SaidWriter.TheVariants.{Known, New}

@@ -1,7 +1,7 @@
 -- What a client of a store can do by itself.
 use Rattle.std.specs.Prelude.{Bool, true, false}
-use Rattle.plan_check.specs.declared.event.Event.{Event}
-use Rattle.plan_check.specs.declared.event.Event.TheVariants as event
+use Rattle.plan_runs.specs.declared.event.Event.{Event}
+use Rattle.plan_runs.specs.declared.event.Event.TheVariants as event
 
 -- a put or a get starts, or a node goes down or comes up
 abbrev pub is_client_event : Event → Bool

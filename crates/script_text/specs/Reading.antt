@@ -14,8 +14,8 @@ use Rattle.texts.specs.Left.{Left, ◌>>=◌, next_number, begins_with, first_li
 use Rattle.texts.specs.Frames.{header_at, end_line_at}
 use Rattle.ring_table.specs.Value.{RingValue}
 use Rattle.ring_table.specs.Reading.{declared_at}
-use Rattle.plan_check.specs.Words.{is_key}
-use Rattle.plan_check.specs.declared.event.Event.{Event}
+use Rattle.plan_runs.specs.Words.{is_key}
+use Rattle.plan_runs.specs.declared.event.Event.{Event}
 use Rattle.script_text.specs.Digits.{is_value_text, value_of}
 use Rattle.script_text.specs.Said.{event_of, names_after}
 use Rattle.script_text.specs.declared.said.SaidWriter.{SaidWriter}

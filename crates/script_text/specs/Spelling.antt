@@ -7,8 +7,8 @@ use Rattle.texts.specs.Parts.{text_of}
 use Rattle.texts.specs.Frames.{header_fields, end_fields}
 use Rattle.ring_table.specs.Value.{RingValue, names_of}
 use Rattle.ring_table.specs.Spelling.{name_at}
-use Rattle.plan_check.specs.declared.event.Event.{Event}
-use Rattle.plan_check.specs.declared.event.Event.TheVariants as event
+use Rattle.plan_runs.specs.declared.event.Event.{Event}
+use Rattle.plan_runs.specs.declared.event.Event.TheVariants as event
 
 -- one of `0-9a-f`
 abbrev pub digit_text : ℕ → ℕ

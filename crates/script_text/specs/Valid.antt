@@ -6,9 +6,9 @@ use Rattle.ring_names.specs.Values.{is_value}
 use Rattle.texts.specs.Name.{is_name}
 use Rattle.texts.specs.Numbers.{are_small}
 use Rattle.ring_table.specs.Value.{RingValue}
-use Rattle.plan_check.specs.Words.{is_key, is_seen}
-use Rattle.plan_check.specs.declared.event.Event.{Event}
-use Rattle.plan_check.specs.declared.event.Event.TheVariants as event
+use Rattle.plan_runs.specs.Words.{is_key, is_seen}
+use Rattle.plan_runs.specs.declared.event.Event.{Event}
+use Rattle.plan_runs.specs.declared.event.Event.TheVariants as event
 use Rattle.script_text.specs.Known.{AreKnown}
 
 -- distinct names of writers, at most 1,024: each stands at its own number

@@ -3,7 +3,7 @@
 ghost use Rattle.std.specs.Prelude.{◌≡◌};
 ghost use Rattle.script_text.specs.Client.{is_client_event};
 
-use plan_check::Event;
+use plan_runs::Event;
 
 /// Whether a client can bring the event about: a put or a get that starts, a node that goes down or comes up.
 pub fn is_client_event(event: &Event) -> bool

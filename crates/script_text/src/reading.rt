@@ -7,7 +7,7 @@ ghost use Rattle.texts.specs.Left.{Reads};
 ghost use Rattle.texts.specs.Late.{IsAt, Late, NoFaultBefore};
 ghost use Rattle.texts.specs.Judging.{Gives, map_ok};
 ghost use Rattle.script_text.specs.Said.{IsNext};
-ghost use Rattle.plan_check.specs.declared.event.Event.{Event};
+ghost use Rattle.plan_runs.specs.declared.event.Event.{Event};
 ghost use Rattle.script_text.specs.Client.{is_client_event};
 ghost use Rattle.script_text.specs.Reading.{said_at, heard_at, events_from, events_at, section_at, script_at};
 ghost use Rattle.script_text.specs.Reading.{client_at, script_reading};

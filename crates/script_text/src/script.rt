@@ -6,7 +6,7 @@ ghost use Rattle.ring_names.specs.declared.refusal.Refusal.TheVariants.{OutOfMem
 ghost use Rattle.script_text.specs.Client.{is_client_event};
 
 use crate::client::is_client_event;
-use plan_check::Event;
+use plan_runs::Event;
 use ring_names::Refusal;
 use std::alloc::Global;
 use std::marker::Model;
@@ -19,7 +19,7 @@ pub struct Script {
 
 impl Model for Script {
     ghost use Rattle.std.specs.Prelude.{List, length, ◌≤◌};
-    ghost use Rattle.plan_check.specs.declared.event.Event.{Event};
+    ghost use Rattle.plan_runs.specs.declared.event.Event.{Event};
 
     ghost Value = { List Event };
 

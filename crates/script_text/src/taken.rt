@@ -7,7 +7,7 @@ ghost use Rattle.script_text.specs.Said.{writer_of, with_writer, FitsWriter, eve
 
 use crate::said::{SaidEvent, SaidPut, SaidWriter};
 use crate::script::Script;
-use plan_check::Event;
+use plan_runs::Event;
 use ring_names::{Names, Refusal, WriterId};
 use std::alloc::Global;
 

@@ -3,10 +3,10 @@
 ghost use Rattle.std.specs.Prelude.{◌≡◌, ◌++◌, ◌&&◌, ◌+◌, ◌*◌, ◌≤◌, is_some, IfSome, IfOk, IfErr, true, length};
 ghost use Rattle.ring_names.specs.declared.refusal.Refusal.TheVariants.{OutOfMemory};
 ghost use Rattle.texts.specs.Numbers.{are_small};
-ghost use Rattle.plan_check.specs.Words.{is_key, is_seen};
+ghost use Rattle.plan_runs.specs.Words.{is_key, is_seen};
 ghost use Rattle.script_text.specs.Digits.{is_digit, digit_value, are_pairs, bytes_of, is_value_text, value_of};
 
-use plan_check::{Key, Seen};
+use plan_runs::{Key, Seen};
 use ring_names::{Refusal, Value};
 use std::alloc::Global;
 use std::marker::Model;
@@ -34,7 +34,7 @@ pub struct KeyWord<'a> {
 
 impl<'a> Model for KeyWord<'a> {
     ghost use Rattle.std.specs.Prelude.{List, ℕ, ◌≡◌, true};
-    ghost use Rattle.plan_check.specs.Words.{is_key};
+    ghost use Rattle.plan_runs.specs.Words.{is_key};
 
     ghost Value = { List ℕ };
 
@@ -182,7 +182,7 @@ pub struct SeenRow<'a> {
 impl<'a> Model for SeenRow<'a> {
     ghost use Rattle.std.specs.Prelude.{List, ℕ, ◌≡◌, true};
     ghost use Rattle.texts.specs.Numbers.{are_small};
-    ghost use Rattle.plan_check.specs.Words.{is_seen};
+    ghost use Rattle.plan_runs.specs.Words.{is_seen};
 
     ghost Value = { List ℕ };
 

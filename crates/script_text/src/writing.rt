@@ -12,7 +12,7 @@ ghost use Rattle.script_text.specs.Spelling.{digit_text, byte_text, value_text, 
 ghost use Rattle.script_text.specs.Spelling.{script_text};
 
 use crate::script::Script;
-use plan_check::Event;
+use plan_runs::Event;
 use ring_names::{Names, NodeId, Refusal, WriterId};
 use ring_table::{Ring, push_name};
 use std::alloc::{AllocError, Global};

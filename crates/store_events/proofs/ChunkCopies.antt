@@ -25,18 +25,18 @@ use Rattle.plan_text.specs.Steps.{copy_of}
 use Rattle.plan_text.specs.Valid.{is_ring_slot, source_suits}
 use Rattle.plan_stage.specs.Clauses.{first_failing}
 use Rattle.plan_stage.specs.Each.{step_at}
-use Rattle.plan_check.specs.declared.event.Event.{Event}
-use Rattle.plan_check.specs.declared.event.Event.TheVariants.{ChunkCopy}
-use Rattle.plan_check.specs.declared.event.Reply.TheVariants as reply
-use Rattle.plan_check.specs.World.{World, is_of_key, key_of_put, slot_at, stage_now}
-use Rattle.plan_check.specs.Guards.{guards, has_copy}
-use Rattle.plan_check.specs.Effects.{changed, effect, source_has, is_copied, with_mark as with_chunk}
-use Rattle.plan_check.specs.Answers.{answer, reply_to}
-use Rattle.plan_check.specs.Reached.{Reached, IsPutOf}
-use Rattle.plan_check.specs.Versions.{is_in_chunk, slot_has, some_hinted}
-use Rattle.plan_check.proofs.Answered.{allowed}
-use Rattle.plan_check.proofs.Passed.{all_met}
-use Rattle.plan_check.proofs.Passing.{some_found}
+use Rattle.plan_runs.specs.declared.event.Event.{Event}
+use Rattle.plan_runs.specs.declared.event.Event.TheVariants.{ChunkCopy}
+use Rattle.plan_runs.specs.declared.event.Reply.TheVariants as reply
+use Rattle.plan_runs.specs.World.{World, is_of_key, key_of_put, slot_at, stage_now}
+use Rattle.plan_runs.specs.Guards.{guards, has_copy}
+use Rattle.plan_runs.specs.Effects.{changed, effect, source_has, is_copied, with_mark as with_chunk}
+use Rattle.plan_runs.specs.Answers.{answer, reply_to}
+use Rattle.plan_runs.specs.Reached.{Reached, IsPutOf}
+use Rattle.plan_runs.specs.Versions.{is_in_chunk, slot_has, some_hinted}
+use Rattle.plan_runs.proofs.Answered.{allowed}
+use Rattle.plan_runs.proofs.Passed.{all_met}
+use Rattle.plan_runs.proofs.Passing.{some_found}
 use Rattle.store_tables.specs.declared.slots.SlotNow.{SlotNow}
 use Rattle.store_tables.specs.declared.steps.StepNow.{StepNow}
 use Rattle.store_tables.specs.Marks.{with_mark}

@@ -14,13 +14,14 @@ use Rattle.store_maps.specs.Chunks.{chunk_of}
 use Rattle.store_maps.specs.Merges.{MergesAll}
 use Rattle.store_maps.proofs.Chunks.{chosen_other}
 use Rattle.ring_hints.specs.Views.{in_keepers}
-use Rattle.ring_hints.proofs.KeeperSets.{node_tie, equal}
+use Rattle.ring_hints.proofs.KeeperSets.{equal}
+use Rattle.store_maps.proofs.HoldersChanged.{node_tie}
 use Rattle.plan_text.specs.declared.step.Planned.{Planned}
 use Rattle.plan_text.specs.declared.step.Source.TheVariants.{Slots}
-use Rattle.plan_check.specs.Effects.{source_has}
-use Rattle.plan_check.specs.Versions.{some_hinted, slot_has}
-use Rattle.plan_check.specs.World.{World, is_of_key, stage_now, key_of_put, slot_at}
-use Rattle.plan_check.proofs.Passing.{some_found, some_is}
+use Rattle.plan_runs.specs.Effects.{source_has}
+use Rattle.plan_runs.specs.Versions.{some_hinted, slot_has}
+use Rattle.plan_runs.specs.World.{World, is_of_key, stage_now, key_of_put, slot_at}
+use Rattle.plan_runs.proofs.Passing.{some_found, some_is}
 use Rattle.store_tables.specs.declared.slots.SlotNow.{SlotNow}
 use Rattle.store_tables.specs.Slots.{slot_now}
 use Rattle.store_tells.specs.Shows.{Shows, value_of}

@@ -13,12 +13,12 @@ use Rattle.plan_text.specs.declared.step.Step.TheVariants.{Copy}
 use Rattle.plan_text.specs.Steps.{copy_of}
 use Rattle.plan_stage.specs.Clauses.{Guard, first_failing}
 use Rattle.plan_stage.specs.Each.{step_at}
-use Rattle.plan_check.specs.declared.event.Event.TheVariants.{ChunkCopy}
-use Rattle.plan_check.specs.Guards.{guards, has_copy, nodes_up, keeps_source, parties_up, keepers_up}
-use Rattle.plan_check.specs.Reached.{Ready}
-use Rattle.plan_check.specs.Versions.{is_in_chunk}
-use Rattle.plan_check.specs.World.{World, some_below, slot_at}
-use Rattle.plan_check.proofs.Passing.{some_found}
+use Rattle.plan_runs.specs.declared.event.Event.TheVariants.{ChunkCopy}
+use Rattle.plan_runs.specs.Guards.{guards, has_copy, nodes_up, keeps_source, parties_up, keepers_up}
+use Rattle.plan_runs.specs.Reached.{Ready}
+use Rattle.plan_runs.specs.Versions.{is_in_chunk}
+use Rattle.plan_runs.specs.World.{World, some_below, slot_at}
+use Rattle.plan_runs.proofs.Passing.{some_found}
 use Rattle.store_tables.specs.Nodes.{is_up_at}
 use Rattle.store_tables.specs.Steps.{is_open_at, is_marked_at}
 use Rattle.store_tells.proofs.NodesNow.{nodes_meet}
@@ -26,9 +26,9 @@ use Rattle.store_tells.specs.Parts.{ring_of, plan_of, kept_of, Meets, Tests}
 use Rattle.store_tells.specs.declared.parts.Parts.{Parts}
 use Rattle.store_tells.proofs.KeepersDeclared.{keeper_within}
 use Rattle.store_tells.proofs.StoreInWorld.{reached_of}
-use Rattle.store_events.specs.ChunkKeepers.{IsLeastDown}
+use Rattle.store_tells.specs.LeastDown.{IsLeastDown}
 use Rattle.store_events.proofs.ChunkCopies.{some_slot}
-use Rattle.store_events.proofs.FirstDown.{keepers_refused}
+use Rattle.store_tells.proofs.LeastDown.{keepers_refused}
 
 -- ---- guards one after the other
 

@@ -4,11 +4,11 @@ use Rattle.std.specs.Prelude.{None}
 use Rattle.ring_table.specs.Value.{RingValue}
 use Rattle.plan_text.specs.declared.step.Planned.{Planned}
 use Rattle.plan_stage.specs.Clauses.{first_failing}
-use Rattle.plan_check.specs.declared.event.Event.TheVariants.{OpenCopy, CloseCopy, AbortCopy}
-use Rattle.plan_check.specs.declared.event.Reply.TheVariants.{Plain}
-use Rattle.plan_check.specs.World.{World}
-use Rattle.plan_check.specs.Guards.{guards}
-use Rattle.plan_check.specs.Effects.{changed, effect}
+use Rattle.plan_runs.specs.declared.event.Event.TheVariants.{OpenCopy, CloseCopy, AbortCopy}
+use Rattle.plan_runs.specs.declared.event.Reply.TheVariants.{Plain}
+use Rattle.plan_runs.specs.World.{World}
+use Rattle.plan_runs.specs.Guards.{guards}
+use Rattle.plan_runs.specs.Effects.{changed, effect}
 use Rattle.store_tables.specs.declared.steps.StepNow.{StepNow}
 use Rattle.store_tells.proofs.NodesNow.{nodes_stay}
 use Rattle.store_tells.proofs.StepsNow.{steps_open, steps_close, steps_abort}

@@ -12,9 +12,9 @@ use Rattle.plan_text.specs.declared.step.Step.TheVariants as step
 use Rattle.plan_text.specs.declared.step.Planned.{Planned}
 use Rattle.plan_stage.specs.Each.{step_at}
 use Rattle.plan_stage.specs.Clauses.{first_failing, Guard}
-use Rattle.plan_check.specs.declared.event.Event.TheVariants.{Do, OpenCopy, CloseCopy, AbortCopy, Down, Up, Lose}
-use Rattle.plan_check.specs.World.{World, passing_below, keeps_other, keeps_any}
-use Rattle.plan_check.specs.Guards.{has_copy, has_other, is_ready, parties_up, step_guards, guards}
+use Rattle.plan_runs.specs.declared.event.Event.TheVariants.{Do, OpenCopy, CloseCopy, AbortCopy, Down, Up, Lose}
+use Rattle.plan_runs.specs.World.{World, passing_below, keeps_other, keeps_any}
+use Rattle.plan_runs.specs.Guards.{has_copy, has_other, is_ready, parties_up, step_guards, guards}
 use Rattle.ring_hints.specs.Hints.{hinted_at}
 use Rattle.store_tables.specs.Nodes.{is_up_at}
 use Rattle.store_tables.specs.declared.steps.StepNow.{StepNow}

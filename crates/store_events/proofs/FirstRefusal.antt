@@ -9,10 +9,10 @@ use Rattle.ring_table.specs.Value.{RingValue}
 use Rattle.plan_text.specs.declared.step.Planned.{Planned}
 use Rattle.plan_text.specs.Valid.{is_ring_slot}
 use Rattle.plan_stage.specs.Clauses.{Guard, first_failing}
-use Rattle.plan_check.specs.declared.event.Event.TheVariants.{Hint, Handoff}
-use Rattle.plan_check.specs.World.{World, keeps, keeps_other}
-use Rattle.plan_check.specs.Guards.{guards, put_exists, serves_in}
-use Rattle.plan_check.specs.Versions.{put_slot}
+use Rattle.plan_runs.specs.declared.event.Event.TheVariants.{Hint, Handoff}
+use Rattle.plan_runs.specs.World.{World, keeps, keeps_other}
+use Rattle.plan_runs.specs.Guards.{guards, put_exists, serves_in}
+use Rattle.plan_runs.specs.Versions.{put_slot}
 use Rattle.store_tables.specs.Nodes.{is_up_at, is_member_at}
 use Rattle.store_tells.specs.GuardsKept.{serves_in_kept, served_up_kept}
 use Rattle.store_tells.proofs.NodesNow.{nodes_meet}

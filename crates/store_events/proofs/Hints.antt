@@ -11,17 +11,17 @@ use Rattle.store_maps.specs.Merges.{at_key}
 use Rattle.ring_hints.specs.Views.{is_of, pair_of}
 use Rattle.plan_text.specs.declared.step.Planned.{Planned}
 use Rattle.plan_stage.specs.Clauses.{first_failing}
-use Rattle.plan_check.specs.declared.event.Event.{Event}
-use Rattle.plan_check.specs.declared.event.Event.TheVariants.{Hint}
-use Rattle.plan_check.specs.declared.event.Reply.TheVariants as reply
-use Rattle.plan_check.specs.World.{World}
-use Rattle.plan_check.specs.Versions.{put_slot}
-use Rattle.plan_check.specs.Guards.{guards, put_exists}
-use Rattle.plan_check.specs.Effects.{effect}
-use Rattle.plan_check.specs.Answers.{answer, reply_to}
-use Rattle.plan_check.specs.Reached.{Reached}
-use Rattle.plan_check.proofs.Answered.{allowed}
-use Rattle.plan_check.proofs.Passed.{all_met}
+use Rattle.plan_runs.specs.declared.event.Event.{Event}
+use Rattle.plan_runs.specs.declared.event.Event.TheVariants.{Hint}
+use Rattle.plan_runs.specs.declared.event.Reply.TheVariants as reply
+use Rattle.plan_runs.specs.World.{World}
+use Rattle.plan_runs.specs.Versions.{put_slot}
+use Rattle.plan_runs.specs.Guards.{guards, put_exists}
+use Rattle.plan_runs.specs.Effects.{effect}
+use Rattle.plan_runs.specs.Answers.{answer, reply_to}
+use Rattle.plan_runs.specs.Reached.{Reached}
+use Rattle.plan_runs.proofs.Answered.{allowed}
+use Rattle.plan_runs.proofs.Passed.{all_met}
 use Rattle.store_tables.specs.declared.puts.PutNow.{PutNow}
 use Rattle.store_tables.specs.declared.slots.SlotNow.{SlotNow}
 use Rattle.store_tables.specs.Slots.{slot_now}

@@ -15,15 +15,16 @@ use Rattle.plan_text.specs.declared.step.Planned.{Planned}
 use Rattle.plan_text.specs.declared.step.Source.{Source}
 use Rattle.plan_text.specs.declared.step.Source.TheVariants.{Slots}
 use Rattle.plan_stage.proofs.Truth.{same}
-use Rattle.plan_check.specs.Guards.{keeps_source}
-use Rattle.plan_check.specs.Versions.{is_in_chunk}
-use Rattle.plan_check.specs.World.{World, some_below, slot_at}
+use Rattle.plan_runs.specs.Guards.{keeps_source}
+use Rattle.plan_runs.specs.Versions.{is_in_chunk}
+use Rattle.plan_runs.specs.World.{World, some_below, slot_at}
 use Rattle.store_tables.specs.Nodes.{is_up_at}
 use Rattle.store_tells.specs.Kept.{Kept, Tells}
 use Rattle.store_tells.specs.Parts.{ring_of, Meets}
 use Rattle.store_tells.specs.declared.parts.Parts.{Parts}
 use Rattle.store_tells.proofs.WhoKeepsHints.{both_tell, chunk_tells}
-use Rattle.store_events.specs.ChunkKeepers.{keeps_part, IsLeastDown, Lessens}
+use Rattle.store_events.specs.ChunkKeepers.{keeps_part, Lessens}
+use Rattle.store_tells.specs.LeastDown.{IsLeastDown}
 use Rattle.store_events.proofs.ChunkSources.{any_map, some_node, named_node}
 
 -- ---- one node more

@@ -8,11 +8,11 @@ use Rattle.ring_versions.specs.declared.version.Version.{Version}
 use Rattle.plan_text.specs.declared.step.Planned.{Planned}
 use Rattle.plan_text.specs.Valid.{is_ring_slot}
 use Rattle.plan_stage.specs.Clauses.{first_failing}
-use Rattle.plan_check.specs.declared.event.Event.TheVariants.{Down, Up, Lose}
-use Rattle.plan_check.specs.declared.event.Reply.TheVariants.{Plain}
-use Rattle.plan_check.specs.World.{World, keeps}
-use Rattle.plan_check.specs.Guards.{guards}
-use Rattle.plan_check.specs.Effects.{changed, effect}
+use Rattle.plan_runs.specs.declared.event.Event.TheVariants.{Down, Up, Lose}
+use Rattle.plan_runs.specs.declared.event.Reply.TheVariants.{Plain}
+use Rattle.plan_runs.specs.World.{World, keeps}
+use Rattle.plan_runs.specs.Guards.{guards}
+use Rattle.plan_runs.specs.Effects.{changed, effect}
 use Rattle.store_tables.specs.declared.nodes.NodeNow.{NodeNow}
 use Rattle.store_tables.specs.declared.slots.SlotNow.{SlotNow}
 use Rattle.store_tables.specs.Slots.{slot_now}

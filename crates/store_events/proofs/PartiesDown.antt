@@ -22,9 +22,9 @@ use Rattle.plan_stage.specs.Parties.{stage_before, source_slots, owners_before, 
 use Rattle.plan_stage.specs.Each.{step_at, sibling}
 use Rattle.plan_stage.specs.Clauses.{first_failing}
 use Rattle.plan_stage.proofs.Truth.{slot-same, same, list_all-met}
-use Rattle.plan_check.specs.World.{World, slot_at, stage_now}
-use Rattle.plan_check.specs.Guards.{up_guard, parties_up}
-use Rattle.plan_check.specs.Reached.{Ready}
+use Rattle.plan_runs.specs.World.{World, slot_at, stage_now}
+use Rattle.plan_runs.specs.Guards.{up_guard, parties_up}
+use Rattle.plan_runs.specs.Reached.{Ready}
 use Rattle.plan_check.proofs.Mirrored.{Known, known}
 use Rattle.plan_check.proofs.Partakers.{own_count, owner_same}
 use Rattle.store_tables.specs.declared.slots.SlotNow.{SlotNow}

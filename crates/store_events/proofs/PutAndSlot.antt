@@ -12,9 +12,9 @@ use Rattle.ring_table.specs.Value.{RingValue}
 use Rattle.store_maps.specs.Chunks.{chunk_of}
 use Rattle.plan_text.specs.declared.step.Planned.{Planned}
 use Rattle.plan_text.specs.Valid.{is_ring_slot}
-use Rattle.plan_check.specs.World.{PutRecord, World, key_of_put, slot_at}
-use Rattle.plan_check.specs.Guards.{put_exists}
-use Rattle.plan_check.specs.Versions.{put_slot}
+use Rattle.plan_runs.specs.World.{PutRecord, World, key_of_put, slot_at}
+use Rattle.plan_runs.specs.Guards.{put_exists}
+use Rattle.plan_runs.specs.Versions.{put_slot}
 use Rattle.store_tables.specs.declared.puts.PutNow.{PutNow}
 use Rattle.store_tables.specs.declared.slots.SlotNow.{SlotNow}
 use Rattle.store_tables.specs.Slots.{slot_now}

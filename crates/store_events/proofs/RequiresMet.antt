@@ -12,10 +12,10 @@ use Rattle.plan_text.specs.declared.step.Planned.{Planned}
 use Rattle.plan_text.specs.Steps.{copy_of}
 use Rattle.plan_stage.specs.Each.{step_at}
 use Rattle.plan_stage.specs.Clauses.{first_failing}
-use Rattle.plan_check.specs.declared.event.Event.TheVariants.{Do, Lose}
-use Rattle.plan_check.specs.World.{World}
-use Rattle.plan_check.specs.Guards.{has_copy, has_other, guards}
-use Rattle.plan_check.proofs.Passed.{all_met}
+use Rattle.plan_runs.specs.declared.event.Event.TheVariants.{Do, Lose}
+use Rattle.plan_runs.specs.World.{World}
+use Rattle.plan_runs.specs.Guards.{has_copy, has_other, guards}
+use Rattle.plan_runs.proofs.Passed.{all_met}
 use Rattle.ring_store.specs.Stores.{node_count}
 use Rattle.store_tables.specs.declared.slots.SlotNow.{SlotNow}
 use Rattle.store_tables.specs.Slots.{slot_now, ChangesSlot}

@@ -9,8 +9,8 @@ use Rattle.ring_names.proofs.Logic.{eqb_turned, bool_same}
 use Rattle.ring_clock.specs.declared.entry.Entry.{Entry}
 use Rattle.ring_versions.specs.declared.version.Version.{Version}
 use Rattle.plan_text.specs.Steps.{is_slot}
-use Rattle.plan_check.specs.World.{World, is_of_key, key_of_put}
-use Rattle.plan_check.specs.Effects.{without_puts}
+use Rattle.plan_runs.specs.World.{World, is_of_key, key_of_put}
+use Rattle.plan_runs.specs.Effects.{without_puts}
 use Rattle.store_maps.specs.Merges.{at_key}
 use Rattle.ring_store.specs.Nodes.{at_nodes, at_node}
 use Rattle.ring_store.specs.Slots.{at_slot}

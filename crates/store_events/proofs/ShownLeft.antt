@@ -7,7 +7,7 @@ use Rattle.ring_clock.specs.declared.entry.Entry.{Entry}
 use Rattle.ring_versions.specs.declared.version.Version.{Version}
 use Rattle.plan_text.specs.Steps.{is_slot}
 use Rattle.plan_stage.proofs.Truth.{slot-is, slot-same}
-use Rattle.plan_check.specs.World.{World, is_of_key}
+use Rattle.plan_runs.specs.World.{World, is_of_key}
 use Rattle.store_tells.specs.Shows.{Shows, value_of}
 use Rattle.store_tells.specs.Stored.{ShowAll}
 use Rattle.store_tells.proofs.ShownSets.{none}

@@ -12,12 +12,12 @@ use Rattle.plan_text.specs.declared.step.Planned.{Planned}
 use Rattle.plan_text.specs.Steps.{is_slot, copy_of}
 use Rattle.plan_stage.specs.Each.{step_at}
 use Rattle.plan_stage.specs.Clauses.{first_failing}
-use Rattle.plan_check.specs.declared.event.Event.TheVariants.{Do}
-use Rattle.plan_check.specs.declared.event.Reply.TheVariants.{Plain}
-use Rattle.plan_check.specs.World.{World}
-use Rattle.plan_check.specs.Guards.{has_other, guards}
-use Rattle.plan_check.specs.Effects.{changed, with_number, step_effect, effect}
-use Rattle.plan_check.proofs.Passed.{all_met}
+use Rattle.plan_runs.specs.declared.event.Event.TheVariants.{Do}
+use Rattle.plan_runs.specs.declared.event.Reply.TheVariants.{Plain}
+use Rattle.plan_runs.specs.World.{World}
+use Rattle.plan_runs.specs.Guards.{has_other, guards}
+use Rattle.plan_runs.specs.Effects.{changed, with_number, step_effect, effect}
+use Rattle.plan_runs.proofs.Passed.{all_met}
 use Rattle.store_tables.specs.declared.nodes.NodeNow.{NodeNow}
 use Rattle.store_tables.specs.declared.slots.SlotNow.{SlotNow}
 use Rattle.store_tells.specs.NodesTold.{NodesTell, step_leaves_nodes}

@@ -11,18 +11,18 @@ use Rattle.ring_store.specs.Nodes.{MergesAtAll, at_nodes}
 use Rattle.ring_store.specs.Slots.{at_slot}
 use Rattle.plan_text.specs.declared.step.Planned.{Planned}
 use Rattle.plan_stage.specs.Clauses.{first_failing}
-use Rattle.plan_check.specs.declared.event.Event.{Event}
-use Rattle.plan_check.specs.declared.event.Event.TheVariants.{Write}
-use Rattle.plan_check.specs.declared.event.Reply.TheVariants as reply
-use Rattle.plan_check.specs.World.{PutRecord, World, stage_now, key_of_put, is_of_key}
-use Rattle.plan_check.specs.Versions.{put_slot}
-use Rattle.plan_check.specs.Guards.{guards, put_exists}
-use Rattle.plan_check.specs.Effects.{changed, effect}
-use Rattle.plan_check.specs.Answers.{answer, reply_to}
-use Rattle.plan_check.specs.Reached.{Reached}
-use Rattle.plan_check.proofs.Answered.{allowed}
-use Rattle.plan_check.proofs.Changed.{part_changed}
-use Rattle.plan_check.proofs.Passed.{all_met}
+use Rattle.plan_runs.specs.declared.event.Event.{Event}
+use Rattle.plan_runs.specs.declared.event.Event.TheVariants.{Write}
+use Rattle.plan_runs.specs.declared.event.Reply.TheVariants as reply
+use Rattle.plan_runs.specs.World.{PutRecord, World, stage_now, key_of_put, is_of_key}
+use Rattle.plan_runs.specs.Versions.{put_slot}
+use Rattle.plan_runs.specs.Guards.{guards, put_exists}
+use Rattle.plan_runs.specs.Effects.{changed, effect}
+use Rattle.plan_runs.specs.Answers.{answer, reply_to}
+use Rattle.plan_runs.specs.Reached.{Reached}
+use Rattle.plan_runs.proofs.Answered.{allowed}
+use Rattle.plan_runs.proofs.Changed.{part_changed}
+use Rattle.plan_runs.proofs.Passed.{all_met}
 use Rattle.store_tables.specs.declared.puts.PutNow.{PutNow}
 use Rattle.store_tables.specs.declared.slots.SlotNow.{SlotNow}
 use Rattle.store_tables.specs.Puts.{with_ticket}

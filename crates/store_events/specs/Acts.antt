@@ -5,7 +5,7 @@ use Rattle.ring_versions.specs.declared.version.Version.{Version}
 use Rattle.plan_text.specs.declared.step.Step.{Step}
 use Rattle.plan_text.specs.declared.step.Step.TheVariants as step
 use Rattle.plan_text.specs.Steps.{is_slot}
-use Rattle.plan_check.specs.Effects.{changed}
+use Rattle.plan_runs.specs.Effects.{changed}
 use Rattle.store_tells.specs.SlotsStepped.{StepsSlots}
 use Rattle.store_tells.specs.Kept.{Kept}
 

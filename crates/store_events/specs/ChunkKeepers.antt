@@ -1,22 +1,18 @@
 -- Which keepers of hints are down.
-use Rattle.std.specs.Prelude.{◌≡◌, ℕ, ◌<◌, Bool, true, false, ◌&&◌, ◌||◌, length, Option, MatchOption}
+use Rattle.std.specs.Prelude.{ℕ, Bool, ◌&&◌, ◌||◌, length, Option}
 use Rattle.ring_names.specs.declared.ids.NodeId.{NodeId}
 use Rattle.ring_names.specs.declared.ids.Slot.{Slot}
 use Rattle.ring_table.specs.Value.{RingValue}
-use Rattle.plan_check.specs.Versions.{is_in_chunk}
-use Rattle.plan_check.specs.World.{World, some_below}
+use Rattle.plan_runs.specs.Versions.{is_in_chunk}
+use Rattle.plan_runs.specs.World.{World, some_below}
 use Rattle.store_tables.specs.Nodes.{is_up_at}
+use Rattle.store_tells.specs.LeastDown.{IsLeastDown}
 use Rattle.store_tells.specs.Parts.{Meets}
 use Rattle.store_tells.specs.declared.parts.Parts.{Parts}
 
 -- whether the node keeps a put of the chunk as a hint for the slot
 abbrev pub keeps_part : RingValue → World → Slot → ℕ → ℕ → Bool
 keeps_part ring w slot c x = some_below (length w.puts) (λ v. is_in_chunk ring w slot c v && w.hinted x slot v)
-
--- of the nodes that pass the test and are down it is the least, if there is one
-abbrev pub IsLeastDown : (ℕ → Bool) → (ℕ → Bool) → Option NodeId → Type 0
-IsLeastDown up test o = MatchOption o ((x : ℕ) → test x ≡ true → up x ≡ true)
-    (λ y. (test y.0 ≡ true) × (up y.0 ≡ false) × ((x : ℕ) → x < y.0 → test x ≡ true → up x ≡ true))
 
 -- in whatever world the store is: whatever nodes the old one is the least of, the new one is the least of these and of those that pass the test
 abbrev pub Lessens : Parts → Option NodeId → Option NodeId → (World → ℕ → Bool) → Type 0

@@ -1,13 +1,6 @@
 pub mod Groups
 pub mod Acts
 pub mod Parties
-pub mod Acks
-pub mod Clocks
-pub mod Gets
-pub mod Keepers
-pub mod Looks
-pub mod Puts
-pub mod Reads
 pub mod Targets
 pub mod Sources
 pub mod ChunkKeepers

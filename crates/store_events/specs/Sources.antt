@@ -11,8 +11,8 @@ use Rattle.plan_text.specs.declared.step.Source.{Source}
 use Rattle.plan_text.specs.declared.step.Source.TheVariants.{Owner, Slots}
 use Rattle.ring_names.specs.declared.ids.NodeId.{NodeId}
 use Rattle.ring_names.specs.declared.ids.Slot.{Slot}
-use Rattle.plan_check.specs.Effects.{source_has}
-use Rattle.plan_check.specs.World.{World, is_of_key, slot_at}
+use Rattle.plan_runs.specs.Effects.{source_has}
+use Rattle.plan_runs.specs.World.{World, is_of_key, slot_at}
 use Rattle.store_tells.specs.Shows.{Shows, value_of}
 use Rattle.store_tells.specs.Puts.{clock_at}
 use Rattle.store_tables.specs.declared.slots.SlotNow.{SlotNow}

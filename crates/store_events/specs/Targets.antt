@@ -2,9 +2,9 @@
 use Rattle.std.specs.Prelude.{◌≡◌, ℕ, ◌<◌, true, false, Option, MatchOption}
 use Rattle.ring_names.specs.declared.ids.Slot.{Slot}
 use Rattle.ring_table.specs.Value.{RingValue}
-use Rattle.plan_check.specs.Guards.{put_exists}
-use Rattle.plan_check.specs.Versions.{put_slot}
-use Rattle.plan_check.specs.World.{World}
+use Rattle.plan_runs.specs.Guards.{put_exists}
+use Rattle.plan_runs.specs.Versions.{put_slot}
+use Rattle.plan_runs.specs.World.{World}
 
 -- it is the slot of that index of the put's partition, if there are both
 abbrev pub IsPutSlot : RingValue → World → ℕ → ℕ → Option Slot → Type 0

@@ -3,9 +3,9 @@
 ghost use Rattle.std.specs.Prelude.{◌≡◌, ◌<◌, ◌&&◌, true, nat_lt, IfOk, IfErr, OnErr};
 ghost use Rattle.ring_names.specs.declared.refusal.Refusal.TheVariants.{OutOfMemory};
 ghost use Rattle.plan_stage.specs.Clauses.{first_failing};
-ghost use Rattle.plan_check.specs.declared.event.Event.TheVariants.{ChunkCopy};
-ghost use Rattle.plan_check.specs.Guards.{has_copy, keepers_up};
-ghost use Rattle.plan_check.specs.World.{World};
+ghost use Rattle.plan_runs.specs.declared.event.Event.TheVariants.{ChunkCopy};
+ghost use Rattle.plan_runs.specs.Guards.{has_copy, keepers_up};
+ghost use Rattle.plan_runs.specs.World.{World};
 ghost use Rattle.store_tells.specs.Parts.{ring_of, plan_of, Meets, IsSound, IsSized, Follows, Tests, Passes, Answers};
 ghost use Rattle.store_tells.specs.Parts.{Stays};
 
@@ -13,7 +13,7 @@ use crate::chunk_keepers::least_keeper;
 use crate::kinds::has_copy;
 use crate::parties::party_refusal;
 use crate::sources::give_source;
-use plan_check::Reply;
+use plan_runs::Reply;
 use plan_text::Step;
 use ring_names::Refusal;
 use store_tells::Parts;

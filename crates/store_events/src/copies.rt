@@ -1,11 +1,11 @@
 //! Copies that are opened, closed and broken off.
 
-ghost use Rattle.plan_check.specs.declared.event.Event.TheVariants.{OpenCopy, CloseCopy, AbortCopy};
+ghost use Rattle.plan_runs.specs.declared.event.Event.TheVariants.{OpenCopy, CloseCopy, AbortCopy};
 ghost use Rattle.store_tells.specs.Parts.{IsSound, Tests, Passes, Answers, Follows};
 
 use crate::kinds::{has_copy, is_ready};
 use crate::parties::party_refusal;
-use plan_check::Reply;
+use plan_runs::Reply;
 use ring_names::Refusal;
 use store_tells::Parts;
 

@@ -2,11 +2,11 @@
 
 ghost use Rattle.std.specs.Prelude.{◌≡◌, IfOk, IfErr, OnErr};
 ghost use Rattle.ring_names.specs.declared.refusal.Refusal.TheVariants.{OutOfMemory};
-ghost use Rattle.plan_check.specs.declared.event.Event.TheVariants.{Handoff};
+ghost use Rattle.plan_runs.specs.declared.event.Event.TheVariants.{Handoff};
 ghost use Rattle.store_tells.specs.Parts.{IsSound, Follows, Tests, Passes, Answers, Stays};
 
 use crate::served::served_refusal;
-use plan_check::Reply;
+use plan_runs::Reply;
 use ring_hints::KeptFor;
 use ring_names::{NodeId, Refusal, Slot};
 use store_tells::Parts;

@@ -2,13 +2,13 @@
 
 ghost use Rattle.std.specs.Prelude.{◌≡◌, IfOk, IfErr, OnErr};
 ghost use Rattle.ring_names.specs.declared.refusal.Refusal.TheVariants.{OutOfMemory};
-ghost use Rattle.plan_check.specs.declared.event.Event.TheVariants.{Hint};
+ghost use Rattle.plan_runs.specs.declared.event.Event.TheVariants.{Hint};
 ghost use Rattle.store_tells.specs.GuardsKept.{serves_in_kept};
 ghost use Rattle.store_tells.specs.Parts.{ring_of, IsSound, Follows, Tests, Passes, Answers, Stays};
 
 use crate::served::is_served;
 use crate::targets::put_slot;
-use plan_check::Reply;
+use plan_runs::Reply;
 use ring_hints::KeptFor;
 use ring_names::{NodeId, Refusal, Slot};
 use store_tells::Parts;

@@ -3,7 +3,7 @@
 ghost use Rattle.std.specs.Prelude.{◌≡◌, ◌<◌, length, is_some};
 ghost use Rattle.std.specs.List.{list_all};
 ghost use Rattle.plan_text.specs.Steps.{copy_of};
-ghost use Rattle.plan_check.specs.Guards.{has_copy, has_other};
+ghost use Rattle.plan_runs.specs.Guards.{has_copy, has_other};
 ghost use Rattle.store_tables.specs.Steps.{is_done_at};
 ghost use Rattle.store_tells.specs.GuardsKept.{is_ready_kept};
 ghost use Rattle.store_tells.specs.Parts.{plan_of};

@@ -1,10 +1,10 @@
 //! Nodes that go down, come up again, and lose what they have.
 
-ghost use Rattle.plan_check.specs.declared.event.Event.TheVariants.{Down, Up, Lose};
+ghost use Rattle.plan_runs.specs.declared.event.Event.TheVariants.{Down, Up, Lose};
 ghost use Rattle.store_tells.specs.Parts.{IsSound, Tests, Passes, Answers, Follows};
 
 use crate::groups::raise_groups;
-use plan_check::Reply;
+use plan_runs::Reply;
 use ring_names::{NodeId, Refusal};
 use store_tells::Parts;
 

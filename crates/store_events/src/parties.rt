@@ -2,9 +2,9 @@
 
 ghost use Rattle.std.specs.Prelude.{◌≡◌, true, false, map};
 ghost use Rattle.plan_stage.specs.Clauses.{first_failing};
-ghost use Rattle.plan_check.specs.Guards.{has_copy, parties_up};
-ghost use Rattle.plan_check.specs.Reached.{Ready};
-ghost use Rattle.plan_check.specs.World.{World, slot_at};
+ghost use Rattle.plan_runs.specs.Guards.{has_copy, parties_up};
+ghost use Rattle.plan_runs.specs.Reached.{Ready};
+ghost use Rattle.plan_runs.specs.World.{World, slot_at};
 ghost use Rattle.store_tables.specs.Nodes.{is_up_at};
 ghost use Rattle.store_tells.specs.Parts.{Meets, IsSound, ring_of, plan_of};
 ghost use Rattle.store_events.specs.Parties.{owner_kept, party_kept, with_down, least_down};

@@ -6,9 +6,9 @@ ghost use Rattle.ring_names.specs.declared.refusal.Refusal.TheVariants.{OutOfMem
 ghost use Rattle.store_maps.specs.Slots.{space_of, held_for};
 ghost use Rattle.store_tells.specs.Puts.{clock_at};
 ghost use Rattle.plan_text.specs.declared.step.Source.TheVariants.{Owner, Slots};
-ghost use Rattle.plan_check.specs.Effects.{source_has};
-ghost use Rattle.plan_check.specs.Versions.{some_hinted, slot_has};
-ghost use Rattle.plan_check.specs.World.{World, slot_at, stage_now};
+ghost use Rattle.plan_runs.specs.Effects.{source_has};
+ghost use Rattle.plan_runs.specs.Versions.{some_hinted, slot_has};
+ghost use Rattle.plan_runs.specs.World.{World, slot_at, stage_now};
 ghost use Rattle.store_tells.specs.Parts.{ring_of, plan_of, Meets, IsSound, IsSized, Follows, Stays};
 ghost use Rattle.store_events.specs.Parties.{mirror_kept};
 ghost use Rattle.store_events.specs.Sources.{ShowsChunk, Gathers, Gives, are_kept, is_kept, reads_kept};

@@ -3,14 +3,14 @@
 ghost use Rattle.std.specs.Prelude.{◌≡◌, false, is_some};
 ghost use Rattle.plan_text.specs.Steps.{copy_of};
 ghost use Rattle.plan_stage.specs.Clauses.{first_failing};
-ghost use Rattle.plan_check.specs.declared.event.Event.TheVariants.{Do};
-ghost use Rattle.plan_check.specs.Guards.{step_guards};
-ghost use Rattle.plan_check.specs.World.{World};
+ghost use Rattle.plan_runs.specs.declared.event.Event.TheVariants.{Do};
+ghost use Rattle.plan_runs.specs.Guards.{step_guards};
+ghost use Rattle.plan_runs.specs.World.{World};
 ghost use Rattle.store_tells.specs.Parts.{Meets, IsSound, Tests, Passes, Answers, Follows, ring_of, kept_of};
 ghost use Rattle.store_events.specs.Acts.{Acts};
 
 use crate::kinds::{has_other, is_ready};
-use plan_check::Reply;
+use plan_runs::Reply;
 use plan_text::Step;
 use ring_names::Refusal;
 use store_tells::Parts;

@@ -1,6 +1,6 @@
 //! The slot that a put goes to.
 
-ghost use Rattle.plan_check.specs.World.{World};
+ghost use Rattle.plan_runs.specs.World.{World};
 ghost use Rattle.store_events.specs.Targets.{IsPutSlot};
 ghost use Rattle.store_tells.specs.Parts.{ring_of, Meets, IsSound};
 

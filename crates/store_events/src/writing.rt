@@ -2,12 +2,12 @@
 
 ghost use Rattle.std.specs.Prelude.{◌≡◌, IfOk, IfErr, OnErr};
 ghost use Rattle.ring_names.specs.declared.refusal.Refusal.TheVariants.{OutOfMemory};
-ghost use Rattle.plan_check.specs.declared.event.Event.TheVariants.{Write};
+ghost use Rattle.plan_runs.specs.declared.event.Event.TheVariants.{Write};
 ghost use Rattle.store_tells.specs.Parts.{IsSound, Follows, Tests, Passes, Answers, Stays};
 
 use crate::served::served_refusal;
 use crate::targets::put_slot;
-use plan_check::Reply;
+use plan_runs::Reply;
 use ring_names::{Refusal, Slot};
 use store_tells::Parts;
 

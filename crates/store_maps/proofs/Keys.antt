@@ -17,6 +17,8 @@ use Rattle.store_maps.specs.Held.{held, AreKeys}
 use Rattle.ring_names.specs.AtBytes.{value_in, value_at, Puts}
 use Rattle.ring_names.proofs.AtBytes.{same_bytes, bytes_same, by_bytes}
 use Rattle.store_maps.proofs.EntriesLeft.{by_items, later_in}
+use Rattle.ring_names.proofs.Logic.{or_swapped}
+use Rattle.std.proofs.lemmas.Bool.{or_right}
 
 -- ---- a copy
 
@@ -66,12 +68,7 @@ rising_front xs [] e h = subst (IsStrictlySortedBy (slice_cmp nat_cmp)) (append-
 
 any_push : (k key : List ℕ) (keys : List (List ℕ)) → list_any (bytes_eq k) (keys ++ key ∷ []) ≡ (bytes_eq k key || list_any (bytes_eq k) keys)
 any_push k key [] = refl
-any_push k key (x ∷ xs) = rw (any_push k key xs) (swapped (bytes_eq k x) (bytes_eq k key) (list_any (bytes_eq k) xs))
-  where
-    swapped : (a b c : Bool) → (a || (b || c)) ≡ (b || (a || c))
-    swapped true true c = refl
-    swapped true false c = refl
-    swapped false b c = refl
+any_push k key (x ∷ xs) = rw (any_push k key xs) (or_swapped (bytes_eq k x) (bytes_eq k key) (list_any (bytes_eq k) xs))
 
 pub listing_none : (a : KeyMap) (keys : List (List ℕ)) → keys ≡ [] → IsStrictlySortedBy by_items (keys_of a.map.entries) → Listing a a.map.entries keys
 listing_none a (x ∷ xs) e order = absurd cc
@@ -103,17 +100,13 @@ module _ {A : Type 0} (a : KeyMap) (rest later : List (Vec ℕ A × List Version
     rises = subst (IsStrictlySortedBy (slice_cmp nat_cmp)) (sym (append_assoc keys (key.items ∷ []) (bytes_left later))) rises;
     each = by_bytes key.items (λ (k : List ℕ). held a k ≢ [] → value_in later k ≡ None → list_any (bytes_eq k) (keys ++ key.items ∷ []) ≡ true)
         (λ _ none. any_push key.items key.items keys ∙ first (bytes_eq key.items key.items) (list_any (bytes_eq key.items) keys) (same_bytes key.items))
-        (λ k apart holds none. any_push k key.items keys ∙ rest_too (bytes_eq k key.items) (list_any (bytes_eq k) keys) (s.each k holds (later_in key v rest later is k apart ∙ none)));
+        (λ k apart holds none. any_push k key.items keys ∙ or_right (bytes_eq k key.items) (list_any (bytes_eq k) keys) (s.each k holds (later_in key v rest later is k apart ∙ none)));
     only = λ k h. only_these k (bytes_eq k key.items) refl (sym (any_push k key.items keys) ∙ h);
   })
     where
       first : (b c : Bool) → b ≡ true → (b || c) ≡ true
       first true c h = refl
       first false c h = absurd cc
-
-      rest_too : (b c : Bool) → c ≡ true → (b || c) ≡ true
-      rest_too true c h = refl
-      rest_too false c h = h
 
       only_these : (k : List ℕ) (b : Bool) → b ≡ bytes_eq k key.items → (b || list_any (bytes_eq k) keys) ≡ true → held a k ≢ []
       only_these k true e h = λ none. ne (sym mine ∙ ap (held a) (sym (bytes_same k key.items (sym e))) ∙ none)

@@ -9,3 +9,4 @@ pub mod WholeMaps
 pub mod Slots
 pub mod Members
 pub mod HoldersChanged
+pub mod KeyPlaces

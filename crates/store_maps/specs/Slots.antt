@@ -1,5 +1,5 @@
 -- What the maps of a slot hold.
-use Rattle.std.specs.Prelude.{◌≡◌, ℕ, Bool, true, List, IfSome, slice_get}
+use Rattle.std.specs.Prelude.{◌≡◌, ℕ, Bool, true, List, [], Option, Some, None, IfSome, slice_get}
 use Rattle.ring_versions.specs.Fresh.{FitsIn}
 use Rattle.ring_versions.specs.declared.fresh.Fresh.{Fresh}
 use Rattle.ring_versions.specs.declared.version.Version.{Version}
@@ -32,3 +32,8 @@ AreReadyFor a c f = (k : List ℕ) → IfSome (fresh_at f k) (λ x. (chunk_of a.
 -- each key that f has in a chunk lies in that chunk and has a place, and what f has for it was made for its versions
 abbrev pub AllReadyFor : SlotMap → FreshMaps → Type 0
 AllReadyFor a f = (c : ℕ) (k : List ℕ) → IfSome (fresh_in f c k) (λ x. (chunk_of a.q k ≡ c) × IsReadyFor a k x)
+
+-- the versions of the key, none where there are no maps
+abbrev pub held_by : Option SlotMap → List ℕ → List Version
+held_by None k = []
+held_by (Some m) k = held_for m k

@@ -1,6 +1,6 @@
 -- How many numbers pass a test.
 use Rattle.std.proofs.Common.{◌≡◌, ℕ, zero, suc, ◌+◌, ◌≤◌, Bool, true, false, cond, List, [], ◌∷◌, length, refl, ap, arith}
-use Rattle.plan_check.specs.World.{passing_from, passing_below}
+use Rattle.plan_runs.specs.World.{passing_from, passing_below}
 
 -- one where the test holds, else none
 abbrev pub one : Bool → ℕ

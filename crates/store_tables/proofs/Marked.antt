@@ -4,8 +4,8 @@ use Rattle.std.specs.Prelude.{◌==◌, ◌&&◌, ◌||◌, nat_lt, Option, Some
 use Rattle.std.proofs.lemmas.Bool.Decides.{eqb_tells}
 use Rattle.std.proofs.lemmas.Nat.Bits.{bit_at-zero}
 use Rattle.ring_names.proofs.InLists.{get_lent}
-use Rattle.plan_check.specs.World.{passing_below}
-use Rattle.plan_check.specs.Effects.{with_mark as with_chunk}
+use Rattle.plan_runs.specs.World.{passing_below}
+use Rattle.plan_runs.specs.Effects.{with_mark as with_chunk}
 use Rattle.store_tables.specs.declared.steps.StepNow.{StepNow}
 use Rattle.store_tables.specs.declared.marks.Marks.{Marks}
 use Rattle.store_tables.specs.Marks.{no_marks, has_mark}

@@ -3,7 +3,7 @@ use Rattle.std.proofs.Common.{◌≡◌, ◌≢◌, inl, inr, ℕ, zero, suc, �
 use Rattle.std.specs.Prelude.{◌==◌, Option, Some}
 use Rattle.std.proofs.lemmas.Bool.Decides.{eqb_tells}
 use Rattle.std.proofs.lemmas.Bool.{ne_eqb}
-use Rattle.plan_check.specs.Effects.{with_value}
+use Rattle.plan_runs.specs.Effects.{with_value}
 use Rattle.store_tables.specs.Puts.{ticket_in, with_ticket}
 
 -- a write in place, where there is a place

@@ -1,6 +1,6 @@
 -- Items that are written in place.
 use Rattle.std.proofs.Common.{◌≡◌, ℕ, zero, suc, ◌<◌, ◌≤◌, List, [], ◌∷◌, length, get_or, slice_set, refl, ap, sym, arith}
-use Rattle.plan_check.specs.Effects.{changed}
+use Rattle.plan_runs.specs.Effects.{changed}
 
 -- the item that is there gives way to what f makes of it
 pub set_changes : {A : Type 0} (xs : List A) (n : ℕ) (y : A) (f : A → A) → n < length xs → f (get_or xs n y) ≡ y → slice_set xs n y ≡ changed xs n f

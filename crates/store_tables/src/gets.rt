@@ -3,8 +3,8 @@
 ghost use Rattle.std.specs.Prelude.{◌≡◌, ◌<◌, ◌++◌, ◌∷◌, ◌||◌, ◌==◌, ℕ, [], length, slice_get, option_map, Some, IfErr};
 ghost use Rattle.std.specs.Prelude.{OnOk, OnErr};
 ghost use Rattle.ring_names.specs.declared.refusal.Refusal.TheVariants.{OutOfMemory};
-ghost use Rattle.plan_check.specs.World.{passing_below};
-ghost use Rattle.plan_check.specs.Effects.{changed};
+ghost use Rattle.plan_runs.specs.World.{passing_below};
+ghost use Rattle.plan_runs.specs.Effects.{changed};
 ghost use Rattle.store_tables.specs.Marks.{with_mark};
 ghost use Rattle.store_tables.specs.Gets.{is_read_at};
 

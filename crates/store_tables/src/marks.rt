@@ -1,7 +1,7 @@
 //! Small sets of numbers.
 
 ghost use Rattle.std.specs.Prelude.{◌≡◌, ◌<◌, ◌≤◌, ℕ, false, ◌||◌, ◌==◌, length};
-ghost use Rattle.plan_check.specs.World.{passing_below};
+ghost use Rattle.plan_runs.specs.World.{passing_below};
 ghost use Rattle.store_tables.specs.Marks.{no_marks, has_mark, with_mark};
 
 /// A set of numbers below 16, as the chunks of a copy or the slots of a partition.

@@ -2,7 +2,7 @@
 
 ghost use Rattle.std.specs.Prelude.{◌≡◌, true, false, map, IfOk, IfErr};
 ghost use Rattle.ring_names.specs.declared.refusal.Refusal.TheVariants.{OutOfMemory};
-ghost use Rattle.plan_check.specs.Effects.{changed};
+ghost use Rattle.plan_runs.specs.Effects.{changed};
 ghost use Rattle.store_tables.specs.Nodes.{node_at_start, is_up_at, is_member_at};
 
 use ring_names::{NodeId, Refusal};

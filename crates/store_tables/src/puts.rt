@@ -3,7 +3,7 @@
 ghost use Rattle.std.specs.Prelude.{◌≡◌, ◌<◌, ◌++◌, ◌∷◌, ℕ, List, [], true, length, slice_get, option_map, IfErr, OnOk};
 ghost use Rattle.std.specs.Prelude.{OnErr};
 ghost use Rattle.ring_names.specs.declared.refusal.Refusal.TheVariants.{OutOfMemory};
-ghost use Rattle.plan_check.specs.Effects.{changed, with_value};
+ghost use Rattle.plan_runs.specs.Effects.{changed, with_value};
 ghost use Rattle.store_tables.specs.declared.puts.PutNow.{PutNow as ThePut};
 ghost use Rattle.store_tables.specs.Puts.{ticket_in, ticket_of, with_ticket};
 

@@ -2,8 +2,8 @@
 
 ghost use Rattle.std.specs.Prelude.{◌≡◌, ◌<◌, ℕ, true, false, length, replicate, IfOk, IfErr};
 ghost use Rattle.ring_names.specs.declared.refusal.Refusal.TheVariants.{OutOfMemory};
-ghost use Rattle.plan_check.specs.World.{passing_below};
-ghost use Rattle.plan_check.specs.Effects.{changed, with_mark as with_chunk};
+ghost use Rattle.plan_runs.specs.World.{passing_below};
+ghost use Rattle.plan_runs.specs.Effects.{changed, with_mark as with_chunk};
 ghost use Rattle.store_tables.specs.Marks.{with_mark};
 ghost use Rattle.store_tables.specs.Steps.{step_at_start, is_done_at, is_open_at, is_marked_at, marks_at, steps_left};
 

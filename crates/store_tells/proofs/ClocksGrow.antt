@@ -7,11 +7,11 @@ use Rattle.std.proofs.lemmas.Bool.{or_right, or_cases as either}
 use Rattle.ring_clock.specs.declared.entry.Entry.{Entry}
 use Rattle.ring_clock.specs.Clock.{counter, IsAtMost}
 use Rattle.ring_clock.specs.Built.{IsJoinOf, Bumps, IsNext, with_clock}
-use Rattle.plan_check.specs.World.{PutRecord, World, key_of_put, writer_of, seen_of}
-use Rattle.plan_check.specs.Succession.{some_replied, is_direct}
-use Rattle.plan_check.proofs.Changed.{part_new}
-use Rattle.plan_check.proofs.Lasting.{Extends, NamesEnded, direct_stays}
-use Rattle.plan_check.proofs.Succeeding.{direct_parts}
+use Rattle.plan_runs.specs.World.{PutRecord, World, key_of_put, writer_of, seen_of}
+use Rattle.plan_runs.specs.Succession.{some_replied, is_direct}
+use Rattle.plan_runs.proofs.Changed.{part_new}
+use Rattle.plan_runs.proofs.Lasting.{Extends, NamesEnded, direct_stays}
+use Rattle.plan_runs.proofs.Succeeding.{direct_parts}
 use Rattle.store_tells.specs.Clocks.{AreClocksOf, IsOwn, IsLastOf, IsInputOf}
 use Rattle.store_tells.proofs.ClocksOrder.{direct_from, own_direct, facts}
 use Rattle.store_tells.proofs.ShownSets.{before}

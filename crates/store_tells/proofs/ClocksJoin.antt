@@ -7,8 +7,8 @@ use Rattle.ring_clock.specs.declared.entry.Entry.{Entry}
 use Rattle.ring_clock.specs.Clock.{counter}
 use Rattle.ring_clock.specs.Built.{IsJoinOf}
 use Rattle.ring_versions.specs.declared.version.Version.{Version}
-use Rattle.plan_check.specs.World.{GetRecord, World}
-use Rattle.plan_check.specs.Succession.{replied, some_replied}
+use Rattle.plan_runs.specs.World.{GetRecord, World}
+use Rattle.plan_runs.specs.Succession.{replied, some_replied}
 use Rattle.store_tells.specs.Shows.{Shows}
 use Rattle.store_tells.specs.Clocks.{IsInputOf}
 use Rattle.store_tells.specs.Found.{IsJoinOfFound}

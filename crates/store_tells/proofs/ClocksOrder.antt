@@ -8,10 +8,10 @@ use Rattle.std.proofs.lemmas.Bool.{and_from, cases_lt, or_left}
 use Rattle.ring_clock.specs.declared.entry.Entry.{Entry}
 use Rattle.ring_clock.specs.Clock.{counter, IsAtMost}
 use Rattle.ring_clock.proofs.Causing.{Follows, follows}
-use Rattle.plan_check.specs.World.{World, key_of_put, writer_of, seen_of}
-use Rattle.plan_check.specs.Succession.{some_replied, is_direct, Succeeds, itself, by}
-use Rattle.plan_check.proofs.Lasting.{succeeds_same_key}
-use Rattle.plan_check.proofs.Succeeding.{is_known, direct_parts, succeeds_through}
+use Rattle.plan_runs.specs.World.{World, key_of_put, writer_of, seen_of}
+use Rattle.plan_runs.specs.Succession.{some_replied, is_direct, Succeeds, itself, by}
+use Rattle.plan_runs.proofs.Lasting.{succeeds_same_key}
+use Rattle.plan_runs.proofs.Succeeding.{is_known, direct_parts, succeeds_through}
 use Rattle.store_tells.specs.Clocks.{AreClocksOf}
 
 pub direct_from : (w : World) (u v : ℕ) → v < u → u < length w.puts → key_of_put w u ≡ key_of_put w v → is_known w u v ≡ true → is_direct w u v ≡ true

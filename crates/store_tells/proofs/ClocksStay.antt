@@ -13,22 +13,23 @@ use Rattle.plan_text.specs.declared.step.Planned.{Planned}
 use Rattle.plan_stage.specs.Each.{step_at}
 use Rattle.ring_clock.specs.declared.entry.Entry.{Entry}
 use Rattle.ring_clock.specs.Built.{IsNext, with_clock}
-use Rattle.plan_check.specs.declared.event.Event.{Event}
-use Rattle.plan_check.specs.declared.event.Event.TheVariants.{Do, OpenCopy, ChunkCopy, CloseCopy, AbortCopy, StartPut, Write, Hint, Ack, StartGet, Read, EndGet, Down, Up, Handoff, Lose}
-use Rattle.plan_check.specs.declared.event.Reply.{Reply}
-use Rattle.plan_check.specs.World.{GetRecord, World, opening_world, generation, key_of_put, key_of_get, is_get_of}
-use Rattle.plan_check.specs.Succession.{replied, some_replied}
-use Rattle.plan_check.specs.Versions.{put_slot}
-use Rattle.plan_check.specs.Guards.{guards}
-use Rattle.plan_check.specs.Effects.{with_number, with_value, step_effect, effect}
-use Rattle.plan_check.specs.Answers.{answer}
-use Rattle.plan_check.specs.Reached.{Reached}
-use Rattle.plan_check.proofs.Answered.{answered}
-use Rattle.plan_check.proofs.Changed.{length_changed}
-use Rattle.plan_check.proofs.Lasting.{event_extends, names_ended}
-use Rattle.plan_check.proofs.Passed.{AllMet, all_met, among}
+use Rattle.plan_runs.specs.declared.event.Event.{Event}
+use Rattle.plan_runs.specs.declared.event.Event.TheVariants.{Do, OpenCopy, ChunkCopy, CloseCopy, AbortCopy, StartPut, Write, Hint, Ack, StartGet, Read, EndGet, Down, Up, Handoff, Lose}
+use Rattle.plan_runs.specs.declared.event.Reply.{Reply}
+use Rattle.plan_runs.specs.World.{GetRecord, World, opening_world, generation, key_of_put, key_of_get, is_get_of}
+use Rattle.plan_runs.specs.Succession.{replied, some_replied}
+use Rattle.plan_runs.specs.Versions.{put_slot}
+use Rattle.plan_runs.specs.Guards.{guards}
+use Rattle.plan_runs.specs.Effects.{with_number, with_value, step_effect, effect}
+use Rattle.plan_runs.specs.Answers.{answer}
+use Rattle.plan_runs.specs.Reached.{Reached}
+use Rattle.plan_runs.proofs.Answered.{answered}
+use Rattle.plan_runs.proofs.Changed.{length_changed}
+use Rattle.plan_runs.proofs.Lasting.{event_extends, names_ended}
+use Rattle.plan_runs.proofs.Passed.{AllMet, all_met, among}
 use Rattle.store_tells.specs.Clocks.{AreClocksOf, IsLastOf, IsInputOf, starts_put}
 use Rattle.store_tells.proofs.ClocksGrow.{stays, put_clocks}
+use Rattle.std.proofs.lemmas.Bool.{or_right}
 
 pub opening_clocks : (ring : RingValue) (clock : ℕ → List Entry) → AreClocksOf (opening_world ring) clock
 opening_clocks ring clock k l = absurd (omega arith)
@@ -76,12 +77,8 @@ pub some_reply : (gets : List GetRecord) (gs : List ℕ) (v : ℕ) → some_repl
 some_reply gets [] v h = absurd cc
 some_reply gets (g ∷ gs) v h = elim (or_cases (replied gets g v) (some_replied gets gs v) h) [
   | inl e ↦ (g, rw (eq-eqb g g refl) refl, e)
-  | inr e ↦ (let r = some_reply gets gs v e in (r.0, later (r.0 == g) (has r.0 gs) r.1, r.2))
+  | inr e ↦ (let r = some_reply gets gs v e in (r.0, or_right (r.0 == g) (has r.0 gs) r.1, r.2))
 ]
-  where
-    later : (a b : Bool) → b ≡ true → (a || b) ≡ true
-    later true b e = refl
-    later false b e = e
 
 get_key : (key : List ℕ) (o : Option GetRecord) → (elim o [ Some x ↦ bytes_eq x.key key | None ↦ false ]) ≡ true → (elim o [ Some x ↦ x.key | None ↦ [] ]) ≡ key
 get_key key None h = absurd cc

@@ -11,18 +11,18 @@ use Rattle.ring_versions.specs.declared.version.Version.{Version}
 use Rattle.ring_versions.specs.Versions.{IsMerge}
 use Rattle.ring_versions.specs.Puts.{ArePuts}
 use Rattle.plan_text.specs.declared.step.Planned.{Planned}
-use Rattle.plan_check.specs.declared.event.Event.TheVariants.{StartGet, Read, EndGet}
-use Rattle.plan_check.specs.declared.event.Reply.{Reply}
-use Rattle.plan_check.specs.declared.event.Reply.TheVariants as reply
-use Rattle.plan_check.specs.World.{GetRecord, World, some_below}
-use Rattle.plan_check.specs.Succession.{replied}
-use Rattle.plan_check.specs.Guards.{has_ended, guards}
-use Rattle.plan_check.specs.Effects.{changed, with_value, finds, answers, has_found, effect}
-use Rattle.plan_check.specs.Answers.{answer}
-use Rattle.plan_check.specs.Reached.{Reached}
-use Rattle.plan_check.proofs.Answered.{answered}
-use Rattle.plan_check.proofs.Changed.{length_changed, part_changed}
-use Rattle.plan_check.proofs.Passed.{all_met}
+use Rattle.plan_runs.specs.declared.event.Event.TheVariants.{StartGet, Read, EndGet}
+use Rattle.plan_runs.specs.declared.event.Reply.{Reply}
+use Rattle.plan_runs.specs.declared.event.Reply.TheVariants as reply
+use Rattle.plan_runs.specs.World.{GetRecord, World, some_below}
+use Rattle.plan_runs.specs.Succession.{replied}
+use Rattle.plan_runs.specs.Guards.{has_ended, guards}
+use Rattle.plan_runs.specs.Effects.{changed, with_value, finds, answers, has_found, effect}
+use Rattle.plan_runs.specs.Answers.{answer}
+use Rattle.plan_runs.specs.Reached.{Reached}
+use Rattle.plan_runs.proofs.Answered.{answered}
+use Rattle.plan_runs.proofs.Changed.{length_changed, part_changed}
+use Rattle.plan_runs.proofs.Passed.{all_met}
 use Rattle.store_tells.specs.Shows.{Shows, value_of}
 use Rattle.store_tells.specs.Clocks.{AreClocksOf}
 use Rattle.store_tells.specs.GetsFind.{can_find, found_by}

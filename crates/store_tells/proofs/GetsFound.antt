@@ -15,21 +15,21 @@ use Rattle.plan_text.specs.declared.step.Step.{Step}
 use Rattle.plan_text.specs.declared.step.Step.TheVariants.{Join, Mirror, Copy, Switch, Drop, Retire}
 use Rattle.plan_text.specs.declared.step.Planned.{Planned}
 use Rattle.plan_stage.specs.Each.{step_at}
-use Rattle.plan_check.specs.declared.event.Event.{Event}
-use Rattle.plan_check.specs.declared.event.Event.TheVariants.{Do, OpenCopy, ChunkCopy, CloseCopy, AbortCopy, StartPut, Write, Hint, Ack, StartGet, Read, EndGet, Down, Up, Handoff, Lose}
-use Rattle.plan_check.specs.declared.event.Reply.{Reply}
-use Rattle.plan_check.specs.declared.event.Reply.TheVariants as reply
-use Rattle.plan_check.specs.World.{GetRecord, World, some_below, stage_now, key_of_put, key_of_get, found_at, is_of_key}
-use Rattle.plan_check.specs.Succession.{replied}
-use Rattle.plan_check.specs.Versions.{get_slot, some_hinted, slot_has}
-use Rattle.plan_check.specs.Guards.{guards}
-use Rattle.plan_check.specs.Effects.{with_number, with_value, changed, step_effect, finds, answers, has_found, effect}
-use Rattle.plan_check.specs.Answers.{answer}
-use Rattle.plan_check.specs.Reached.{Reached, IsPutForGet}
-use Rattle.plan_check.proofs.Answered.{answered}
-use Rattle.plan_check.proofs.Changed.{get_other}
-use Rattle.plan_check.proofs.Passed.{AllMet, all_met}
-use Rattle.plan_check.proofs.Passing.{some_found, some_is}
+use Rattle.plan_runs.specs.declared.event.Event.{Event}
+use Rattle.plan_runs.specs.declared.event.Event.TheVariants.{Do, OpenCopy, ChunkCopy, CloseCopy, AbortCopy, StartPut, Write, Hint, Ack, StartGet, Read, EndGet, Down, Up, Handoff, Lose}
+use Rattle.plan_runs.specs.declared.event.Reply.{Reply}
+use Rattle.plan_runs.specs.declared.event.Reply.TheVariants as reply
+use Rattle.plan_runs.specs.World.{GetRecord, World, some_below, stage_now, key_of_put, key_of_get, found_at, is_of_key}
+use Rattle.plan_runs.specs.Succession.{replied}
+use Rattle.plan_runs.specs.Versions.{get_slot, some_hinted, slot_has}
+use Rattle.plan_runs.specs.Guards.{guards}
+use Rattle.plan_runs.specs.Effects.{with_number, with_value, changed, step_effect, finds, answers, has_found, effect}
+use Rattle.plan_runs.specs.Answers.{answer}
+use Rattle.plan_runs.specs.Reached.{Reached, IsPutForGet}
+use Rattle.plan_runs.proofs.Answered.{answered}
+use Rattle.plan_runs.proofs.Changed.{get_other}
+use Rattle.plan_runs.proofs.Passed.{AllMet, all_met}
+use Rattle.plan_runs.proofs.Passing.{some_found, some_is}
 use Rattle.store_tells.specs.Shows.{Shows, OfOneKey}
 use Rattle.store_tells.specs.Clocks.{AreClocksOf}
 use Rattle.store_tells.specs.GetsFind.{can_find, found_by, is_of_get}

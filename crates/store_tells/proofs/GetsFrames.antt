@@ -5,16 +5,16 @@ use Rattle.ring_table.specs.Value.{RingValue}
 use Rattle.ring_clock.specs.declared.entry.Entry.{Entry}
 use Rattle.plan_text.specs.declared.step.Planned.{Planned}
 use Rattle.plan_stage.specs.Each.{step_at}
-use Rattle.plan_check.specs.declared.event.Event.{Event}
-use Rattle.plan_check.specs.declared.event.Event.TheVariants.{Do, OpenCopy, ChunkCopy, CloseCopy, AbortCopy, StartPut, Write, Hint, Ack, StartGet, Read, EndGet, Down, Up, Handoff, Lose}
-use Rattle.plan_check.specs.declared.event.Reply.{Reply}
-use Rattle.plan_check.specs.World.{GetRecord, World, opening_world}
-use Rattle.plan_check.specs.Succession.{replied}
-use Rattle.plan_check.specs.Effects.{has_found, effect}
-use Rattle.plan_check.specs.Answers.{answer}
-use Rattle.plan_check.specs.Reached.{Reached}
-use Rattle.plan_check.proofs.Answered.{answered}
-use Rattle.plan_check.proofs.Passing.{some_found}
+use Rattle.plan_runs.specs.declared.event.Event.{Event}
+use Rattle.plan_runs.specs.declared.event.Event.TheVariants.{Do, OpenCopy, ChunkCopy, CloseCopy, AbortCopy, StartPut, Write, Hint, Ack, StartGet, Read, EndGet, Down, Up, Handoff, Lose}
+use Rattle.plan_runs.specs.declared.event.Reply.{Reply}
+use Rattle.plan_runs.specs.World.{GetRecord, World, opening_world}
+use Rattle.plan_runs.specs.Succession.{replied}
+use Rattle.plan_runs.specs.Effects.{has_found, effect}
+use Rattle.plan_runs.specs.Answers.{answer}
+use Rattle.plan_runs.specs.Reached.{Reached}
+use Rattle.plan_runs.proofs.Answered.{answered}
+use Rattle.plan_runs.proofs.Passing.{some_found}
 use Rattle.store_tells.specs.Shows.{Shows, value_of}
 use Rattle.store_tells.specs.GetsFind.{found_by}
 use Rattle.store_tells.proofs.ShownSets.{other_clock, other_value}
@@ -23,7 +23,7 @@ use Rattle.store_tables.specs.declared.gets.GetNow.{GetNow}
 use Rattle.store_tells.specs.Gets.{GetsMeet}
 use Rattle.store_tells.specs.GetsChange.{changes_gets}
 use Rattle.store_tells.proofs.PutsLists.{stays_there}
-use Rattle.plan_check.proofs.Asking.{do_gets}
+use Rattle.plan_runs.proofs.Asking.{do_gets}
 
 -- no gets are those of the world at the start
 pub gets_open : (ring : RingValue) (clock : ℕ → List Entry) (keys : List (List ℕ)) → GetsMeet ring clock keys [] (opening_world ring)

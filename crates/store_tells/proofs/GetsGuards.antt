@@ -8,9 +8,9 @@ use Rattle.ring_table.specs.Valid.{IsRing}
 use Rattle.ring_clock.specs.declared.entry.Entry.{Entry}
 use Rattle.plan_text.specs.declared.step.Planned.{Planned}
 use Rattle.plan_stage.specs.Clauses.{Guard}
-use Rattle.plan_check.specs.World.{World, stage_now, generation, key_of_get, found_at, is_get_of, is_acked}
-use Rattle.plan_check.specs.Versions.{put_slot, get_slot}
-use Rattle.plan_check.specs.Guards.{up_guard, nodes_up, has_ended, keeps_of_key, current_tickets, slots_read, start_put_guards, ack_guards, read_guards, end_get_guards}
+use Rattle.plan_runs.specs.World.{World, stage_now, generation, key_of_get, found_at, is_get_of, is_acked}
+use Rattle.plan_runs.specs.Versions.{put_slot, get_slot}
+use Rattle.plan_runs.specs.Guards.{up_guard, nodes_up, has_ended, keeps_of_key, current_tickets, slots_read, start_put_guards, ack_guards, read_guards, end_get_guards}
 use Rattle.store_tables.specs.declared.puts.PutNow.{PutNow}
 use Rattle.store_tables.specs.declared.gets.GetNow.{GetNow}
 use Rattle.store_tables.specs.Gets.{is_read_at}

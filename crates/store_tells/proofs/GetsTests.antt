@@ -13,17 +13,17 @@ use Rattle.ring_table.specs.Value.{RingValue}
 use Rattle.ring_table.specs.Valid.{IsRing}
 use Rattle.ring_clock.specs.declared.entry.Entry.{Entry}
 use Rattle.plan_text.specs.declared.step.Planned.{Planned}
-use Rattle.plan_check.specs.declared.event.Event.{Event}
-use Rattle.plan_check.specs.declared.event.Event.TheVariants.{StartGet, Read, EndGet}
-use Rattle.plan_check.specs.declared.event.Reply.{Reply}
-use Rattle.plan_check.specs.World.{GetRecord, World, opening_world, passing_below, is_get_of}
-use Rattle.plan_check.specs.World as world
-use Rattle.plan_check.specs.Guards.{get_exists, has_ended, slots_read, guards}
-use Rattle.plan_check.specs.Effects.{changed, with_value, finds, answers, effect}
-use Rattle.plan_check.specs.Answers.{answer}
-use Rattle.plan_check.proofs.Answered.{answered}
-use Rattle.plan_check.proofs.Changed.{part_changed}
-use Rattle.plan_check.proofs.Passed.{AllMet, all_met}
+use Rattle.plan_runs.specs.declared.event.Event.{Event}
+use Rattle.plan_runs.specs.declared.event.Event.TheVariants.{StartGet, Read, EndGet}
+use Rattle.plan_runs.specs.declared.event.Reply.{Reply}
+use Rattle.plan_runs.specs.World.{GetRecord, World, opening_world, passing_below, is_get_of}
+use Rattle.plan_runs.specs.World as world
+use Rattle.plan_runs.specs.Guards.{get_exists, has_ended, slots_read, guards}
+use Rattle.plan_runs.specs.Effects.{changed, with_value, finds, answers, effect}
+use Rattle.plan_runs.specs.Answers.{answer}
+use Rattle.plan_runs.proofs.Answered.{answered}
+use Rattle.plan_runs.proofs.Changed.{part_changed}
+use Rattle.plan_runs.proofs.Passed.{AllMet, all_met}
 use Rattle.store_tables.specs.declared.gets.GetNow.{GetNow}
 use Rattle.store_tables.specs.Gets.{is_read, is_read_at}
 use Rattle.store_tells.specs.Gets.{GetMeets, GetsMeet}

@@ -38,3 +38,4 @@ pub mod WhoKeepsHints
 pub mod TellsStill
 pub mod TellsStart
 pub mod KeepersDeclared
+pub mod LeastDown

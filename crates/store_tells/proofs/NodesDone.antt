@@ -6,9 +6,9 @@ use Rattle.ring_names.proofs.Logic.{bool_same}
 use Rattle.plan_text.specs.declared.step.Step.{Step}
 use Rattle.plan_text.specs.declared.step.Planned.{Planned}
 use Rattle.plan_stage.specs.Each.{some_step, step_at, passes}
-use Rattle.plan_check.specs.Effects.{with_number}
-use Rattle.plan_check.proofs.Copying.{still_passes}
-use Rattle.plan_check.proofs.Prefix.{passed}
+use Rattle.plan_runs.specs.Effects.{with_number}
+use Rattle.plan_runs.proofs.Copying.{still_passes}
+use Rattle.plan_runs.proofs.Prefix.{passed}
 use Rattle.plan_stage.proofs.Truth.{same, some-met, some-all}
 
 -- no step passes a test that none passes

@@ -13,14 +13,14 @@ use Rattle.plan_text.specs.Steps.{is_join_of, is_retire_of, copy_of}
 use Rattle.plan_text.specs.Valid.{Suits}
 use Rattle.plan_stage.specs.Each.{some_step, step_at, passes}
 use Rattle.plan_stage.specs.Clauses.{first_failing}
-use Rattle.plan_check.specs.declared.event.Event.{Event}
-use Rattle.plan_check.specs.declared.event.Event.TheVariants.{Do, OpenCopy, ChunkCopy, CloseCopy, AbortCopy, StartPut, Write, Hint, Ack, StartGet, Read, EndGet, Down, Up, Handoff, Lose}
-use Rattle.plan_check.specs.World.{World, opening_world, is_member_now}
-use Rattle.plan_check.specs.Guards.{guards}
-use Rattle.plan_check.specs.Effects.{changed, with_number, without_number, step_effect, effect}
-use Rattle.plan_check.proofs.Changed.{length_changed, part_changed}
-use Rattle.plan_check.proofs.Passed.{all_met}
-use Rattle.plan_check.proofs.Suited.{retires-within}
+use Rattle.plan_runs.specs.declared.event.Event.{Event}
+use Rattle.plan_runs.specs.declared.event.Event.TheVariants.{Do, OpenCopy, ChunkCopy, CloseCopy, AbortCopy, StartPut, Write, Hint, Ack, StartGet, Read, EndGet, Down, Up, Handoff, Lose}
+use Rattle.plan_runs.specs.World.{World, opening_world, is_member_now}
+use Rattle.plan_runs.specs.Guards.{guards}
+use Rattle.plan_runs.specs.Effects.{changed, with_number, without_number, step_effect, effect}
+use Rattle.plan_runs.proofs.Changed.{length_changed, part_changed}
+use Rattle.plan_runs.proofs.Passed.{all_met}
+use Rattle.plan_runs.proofs.Suited.{retires-within}
 use Rattle.store_tables.specs.declared.nodes.NodeNow.{NodeNow}
 use Rattle.store_tables.specs.Nodes.{node_at_start, is_up_at}
 use Rattle.store_tells.specs.Nodes.{NodesMeet}
@@ -28,6 +28,7 @@ use Rattle.store_tells.specs.NodesTold.{is_joined_at, is_retired_at, has_joined,
 use Rattle.store_tells.proofs.NodesRead.{read_within, read_with, read_without}
 use Rattle.store_tells.proofs.StageSuits.{joins_within}
 use Rattle.store_tells.proofs.NodesDone.{none_done, some_with, some_without}
+use Rattle.ring_names.proofs.Logic.{or_swapped}
 
 -- nodes that tell each fact by itself meet the world
 pub nodes_meet : (ring : RingValue) (plan : List Planned) (nodes : List NodeNow) (w : World) → NodesTell ring plan nodes w → NodesMeet ring plan nodes w
@@ -114,13 +115,8 @@ nodes_join ring plan w n x old new suits at t is = rw (done_is ring plan w n (st
     here : x.0 < length old
     here = (let l = joins_within ring plan suits n x at in let e = t.each in omega arith)
 
-    swap : (a b c : Bool) → (a || (b || c)) ≡ (b || (a || c))
-    swap true true c = refl
-    swap true false c = refl
-    swap false b c = refl
-
     joined : (y : ℕ) → ((y == x.0) || has_joined ring plan w y) ≡ has_joined ring plan (record w { done = with_number w.done n; up = with_number w.up x.0 }) y
-    joined y = swap (y == x.0) (is_member ring.nodes (record { 0 = y })) (some_step (λ m s. w.done m && is_join_of y s) 0 plan)
+    joined y = or_swapped (y == x.0) (is_member ring.nodes (record { 0 = y })) (some_step (λ m s. w.done m && is_join_of y s) 0 plan)
         ∙ sym (rw (some_with w.done n (is_join_of y) plan, at, passes) refl)
 
 -- one that retires it

@@ -4,8 +4,8 @@ use Rattle.std.specs.Prelude.{Option, Some, None, slice_get, option_map}
 use Rattle.std.proofs.lemmas.Bool.Decides.{eqb_tells}
 use Rattle.std.proofs.lemmas.Option.{slice_get_within}
 use Rattle.ring_names.proofs.InLists.{get_there}
-use Rattle.plan_check.specs.Effects.{changed, with_number, without_number}
-use Rattle.plan_check.proofs.Changed.{read_at, get_changed, get_other}
+use Rattle.plan_runs.specs.Effects.{changed, with_number, without_number}
+use Rattle.plan_runs.proofs.Changed.{read_at, get_changed, get_other}
 
 -- where a test is passed there is an item
 pub read_within : {A : Type 0} (read : A → Bool) (xs : List A) (n : ℕ) → read_at read false xs n ≡ true → n < length xs

@@ -5,22 +5,22 @@ use Rattle.ring_names.specs.declared.ids.NodeId.{NodeId}
 use Rattle.ring_table.specs.Value.{RingValue}
 use Rattle.ring_clock.specs.declared.entry.Entry.{Entry}
 use Rattle.plan_text.specs.declared.step.Planned.{Planned}
-use Rattle.plan_check.specs.declared.event.Event.TheVariants.{Write, Hint, Ack}
-use Rattle.plan_check.specs.declared.event.Reply.{Reply}
-use Rattle.plan_check.specs.World.{PutRecord, World, generation, key_of_put, writer_of}
-use Rattle.plan_check.specs.Versions.{put_slot}
-use Rattle.plan_check.specs.Effects.{changed, with_value, effect}
-use Rattle.plan_check.specs.Answers.{answer}
-use Rattle.plan_check.specs.Reached.{Reached}
-use Rattle.plan_check.proofs.Answered.{answered}
-use Rattle.plan_check.proofs.Changed.{length_changed, part_changed}
+use Rattle.plan_runs.specs.declared.event.Event.TheVariants.{Write, Hint, Ack}
+use Rattle.plan_runs.specs.declared.event.Reply.{Reply}
+use Rattle.plan_runs.specs.World.{PutRecord, World, generation, key_of_put, writer_of}
+use Rattle.plan_runs.specs.Versions.{put_slot}
+use Rattle.plan_runs.specs.Effects.{changed, with_value, effect}
+use Rattle.plan_runs.specs.Answers.{answer}
+use Rattle.plan_runs.specs.Reached.{Reached}
+use Rattle.plan_runs.proofs.Answered.{answered}
+use Rattle.plan_runs.proofs.Changed.{length_changed, part_changed}
 use Rattle.store_tells.specs.Clocks.{AreClocksOf}
 use Rattle.store_tells.proofs.ClocksStay.{clocks_stay}
 use Rattle.store_tells.proofs.ClocksGrow.{next_same}
 use Rattle.store_tables.specs.declared.puts.PutNow.{PutNow}
 use Rattle.store_tables.specs.Puts.{with_ticket}
 use Rattle.store_tables.proofs.Ticketing.{ticket_read}
-use Rattle.plan_check.specs.Succession.{is_direct}
+use Rattle.plan_runs.specs.Succession.{is_direct}
 use Rattle.store_tells.specs.Puts.{clock_in, clock_at, PutMeets, PutsMeet}
 use Rattle.store_tells.proofs.PutsLists.{changed_at}
 use Rattle.store_tells.proofs.PutsFrames.{last_stays}

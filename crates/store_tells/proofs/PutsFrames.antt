@@ -8,14 +8,14 @@ use Rattle.plan_text.specs.declared.step.Step.{Step}
 use Rattle.plan_text.specs.declared.step.Step.TheVariants.{Join, Mirror, Copy, Switch, Drop, Retire}
 use Rattle.plan_text.specs.declared.step.Planned.{Planned}
 use Rattle.plan_stage.specs.Each.{step_at}
-use Rattle.plan_check.specs.declared.event.Event.{Event}
-use Rattle.plan_check.specs.declared.event.Event.TheVariants.{Do, OpenCopy, ChunkCopy, CloseCopy, AbortCopy, StartPut, Write, Hint, Ack, StartGet, Read, EndGet, Down, Up, Handoff, Lose}
-use Rattle.plan_check.specs.declared.event.Reply.{Reply}
-use Rattle.plan_check.specs.World.{PutRecord, World, opening_world, key_of_put, writer_of}
-use Rattle.plan_check.specs.Effects.{with_number, step_effect, effect}
-use Rattle.plan_check.specs.Answers.{answer}
-use Rattle.plan_check.specs.Reached.{Reached}
-use Rattle.plan_check.proofs.Answered.{answered}
+use Rattle.plan_runs.specs.declared.event.Event.{Event}
+use Rattle.plan_runs.specs.declared.event.Event.TheVariants.{Do, OpenCopy, ChunkCopy, CloseCopy, AbortCopy, StartPut, Write, Hint, Ack, StartGet, Read, EndGet, Down, Up, Handoff, Lose}
+use Rattle.plan_runs.specs.declared.event.Reply.{Reply}
+use Rattle.plan_runs.specs.World.{PutRecord, World, opening_world, key_of_put, writer_of}
+use Rattle.plan_runs.specs.Effects.{with_number, step_effect, effect}
+use Rattle.plan_runs.specs.Answers.{answer}
+use Rattle.plan_runs.specs.Reached.{Reached}
+use Rattle.plan_runs.proofs.Answered.{answered}
 use Rattle.store_tells.specs.Clocks.{AreClocksOf, IsOwn, IsLastOf, starts_put}
 use Rattle.store_tells.proofs.ClocksStay.{opening_clocks, clocks_stay}
 use Rattle.store_tables.specs.declared.puts.PutNow.{PutNow}

@@ -14,18 +14,18 @@ use Rattle.ring_clock.specs.Built.{IsJoinOf, IsNext, with_clock}
 use Rattle.ring_versions.specs.declared.version.Version.{Version}
 use Rattle.plan_text.specs.declared.step.Planned.{Planned}
 use Rattle.plan_stage.specs.Clauses.{first_failing}
-use Rattle.plan_check.specs.declared.event.Event.TheVariants.{StartPut}
-use Rattle.plan_check.specs.declared.event.Reply.{Reply}
-use Rattle.plan_check.specs.declared.event.Reply.TheVariants as reply
-use Rattle.plan_check.specs.World.{PutRecord, GetRecord, World, key_of_put, writer_of, is_of_key}
-use Rattle.plan_check.specs.Succession.{replied}
-use Rattle.plan_check.specs.Guards.{has_ended, guards}
-use Rattle.plan_check.specs.Effects.{effect}
-use Rattle.plan_check.specs.Answers.{answer}
-use Rattle.plan_check.specs.Reached.{Reached}
-use Rattle.plan_check.proofs.Answered.{answered}
-use Rattle.plan_check.proofs.Changed.{part_before, part_new, part_past}
-use Rattle.plan_check.proofs.Passed.{all_met, among}
+use Rattle.plan_runs.specs.declared.event.Event.TheVariants.{StartPut}
+use Rattle.plan_runs.specs.declared.event.Reply.{Reply}
+use Rattle.plan_runs.specs.declared.event.Reply.TheVariants as reply
+use Rattle.plan_runs.specs.World.{PutRecord, GetRecord, World, key_of_put, writer_of, is_of_key}
+use Rattle.plan_runs.specs.Succession.{replied}
+use Rattle.plan_runs.specs.Guards.{has_ended, guards}
+use Rattle.plan_runs.specs.Effects.{effect}
+use Rattle.plan_runs.specs.Answers.{answer}
+use Rattle.plan_runs.specs.Reached.{Reached}
+use Rattle.plan_runs.proofs.Answered.{answered}
+use Rattle.plan_runs.proofs.Changed.{part_before, part_new, part_past}
+use Rattle.plan_runs.proofs.Passed.{all_met, among}
 use Rattle.store_tells.specs.Shows.{Shows, ArePutsOf, value_of}
 use Rattle.store_tells.specs.Clocks.{AreClocksOf, IsOwn, IsLastOf, IsInputOf}
 use Rattle.store_tells.specs.Found.{IsJoinOfFound}

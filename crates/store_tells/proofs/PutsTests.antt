@@ -5,10 +5,10 @@ use Rattle.std.proofs.lemmas.Option.{slice_get_cases, slice_get_past}
 use Rattle.ring_names.proofs.InLists.{get_there}
 use Rattle.ring_table.specs.Value.{RingValue}
 use Rattle.plan_text.specs.declared.step.Planned.{Planned}
-use Rattle.plan_check.specs.World.{PutRecord, World, passing_from, passing_below, generation, is_acked}
-use Rattle.plan_check.specs.World as world
-use Rattle.plan_check.specs.Versions.{put_slot}
-use Rattle.plan_check.specs.Guards.{put_exists, is_current, current_tickets}
+use Rattle.plan_runs.specs.World.{PutRecord, World, passing_from, passing_below, generation, is_acked}
+use Rattle.plan_runs.specs.World as world
+use Rattle.plan_runs.specs.Versions.{put_slot}
+use Rattle.plan_runs.specs.Guards.{put_exists, is_current, current_tickets}
 use Rattle.store_tables.specs.declared.puts.PutNow.{PutNow}
 use Rattle.store_tables.specs.Puts.{ticket_at, ticket_of}
 use Rattle.store_tells.specs.Puts.{PutMeets, PutsMeet}

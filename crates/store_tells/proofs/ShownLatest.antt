@@ -9,11 +9,11 @@ use Rattle.ring_versions.specs.declared.version.Version.{Version}
 use Rattle.ring_versions.specs.Versions.{IsIn, InConflict, IsApart}
 use Rattle.ring_versions.specs.Puts.{ArePuts}
 use Rattle.ring_versions.proofs.Members.{apart_cross}
-use Rattle.plan_check.specs.World.{World, passing_below}
-use Rattle.plan_check.specs.Succession.{Succeeds, latest}
-use Rattle.plan_check.proofs.Latest.{latest_is, is_latest, latest_ascend}
-use Rattle.plan_check.proofs.Passing.{below_is, is_below, passing_ascend, same_numbers}
-use Rattle.plan_check.proofs.Succeeding.{not_less}
+use Rattle.plan_runs.specs.World.{World, passing_below}
+use Rattle.plan_runs.specs.Succession.{Succeeds, latest}
+use Rattle.plan_runs.proofs.Latest.{latest_is, is_latest, latest_ascend}
+use Rattle.plan_runs.proofs.Passing.{below_is, is_below, passing_ascend, same_numbers}
+use Rattle.plan_runs.proofs.Succeeding.{not_less}
 use Rattle.store_tells.specs.Shows.{Shows, OfOneKey, ArePutsOf}
 use Rattle.store_tells.specs.Clocks.{AreClocksOf}
 use Rattle.store_tells.proofs.ClocksOrder.{tells}

@@ -7,7 +7,7 @@ use Rattle.ring_clock.specs.Clock.{counter, IsAtMost}
 use Rattle.ring_clock.specs.Built.{with_clock}
 use Rattle.ring_versions.specs.declared.version.Version.{Version}
 use Rattle.ring_versions.specs.Versions.{Covers, IsApart, IsMerge}
-use Rattle.plan_check.specs.World.{World}
+use Rattle.plan_runs.specs.World.{World}
 use Rattle.store_tells.specs.Shows.{Shows, ArePutsOf}
 
 pub same_is_most : (c d : List Entry) → c ≡ d → IsAtMost c d

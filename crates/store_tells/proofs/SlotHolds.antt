@@ -11,13 +11,13 @@ use Rattle.ring_versions.specs.declared.version.Version.{Version}
 use Rattle.ring_versions.specs.Versions.{Covers}
 use Rattle.ring_versions.proofs.Members.{covers_down}
 use Rattle.plan_text.specs.declared.step.Planned.{Planned}
-use Rattle.plan_check.specs.World.{World, stage_now, key_of_put, is_of_key}
-use Rattle.plan_check.specs.Succession.{Succeeds}
-use Rattle.plan_check.specs.Versions.{some_hinted, is_held}
-use Rattle.plan_check.specs.Reached.{Reached}
-use Rattle.plan_check.proofs.Lasting.{succeeds_same_key}
-use Rattle.plan_check.proofs.Passing.{some_found, some_is}
-use Rattle.plan_check.proofs.Succeeding.{held_is, is_held_from}
+use Rattle.plan_runs.specs.World.{World, stage_now, key_of_put, is_of_key}
+use Rattle.plan_runs.specs.Succession.{Succeeds}
+use Rattle.plan_runs.specs.Versions.{some_hinted, is_held}
+use Rattle.plan_runs.specs.Reached.{Reached}
+use Rattle.plan_runs.proofs.Lasting.{succeeds_same_key}
+use Rattle.plan_runs.proofs.Passing.{some_found, some_is}
+use Rattle.plan_runs.proofs.Succeeding.{held_is, is_held_from}
 use Rattle.store_tells.specs.Shows.{Shows}
 use Rattle.store_tells.specs.Clocks.{AreClocksOf}
 use Rattle.store_tells.proofs.ClocksOrder.{above, tells}

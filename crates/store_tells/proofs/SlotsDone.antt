@@ -13,9 +13,9 @@ use Rattle.plan_stage.specs.declared.stage.Stage.{Stage}
 use Rattle.plan_stage.specs.Stage.{stage, next}
 use Rattle.plan_stage.specs.Each.{step_at}
 use Rattle.plan_stage.proofs.Truth.{slot-is, slot-same}
-use Rattle.plan_check.specs.World.{World, count, mirror_at, stage_now, mirrors_done}
-use Rattle.plan_check.specs.Effects.{with_number}
-use Rattle.plan_check.specs.Reached.{Closed}
+use Rattle.plan_runs.specs.World.{World, count, mirror_at, stage_now, mirrors_done}
+use Rattle.plan_runs.specs.Effects.{with_number}
+use Rattle.plan_runs.specs.Reached.{Closed}
 use Rattle.plan_check.proofs.Mirrored.{Known}
 use Rattle.store_tables.specs.declared.slots.SlotNow.{SlotNow}
 use Rattle.store_tables.specs.Slots.{slot_now, switched, ChangesSlot}

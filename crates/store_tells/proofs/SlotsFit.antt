@@ -12,11 +12,11 @@ use Rattle.plan_text.specs.Steps.{steps_of}
 use Rattle.plan_text.specs.Valid.{IsPlan, Suits, is_ring_slot}
 use Rattle.plan_stage.specs.Each.{step_at}
 use Rattle.plan_stage.proofs.Truth.{slot-same}
-use Rattle.plan_check.specs.declared.event.Event.{Event}
-use Rattle.plan_check.specs.declared.event.Event.TheVariants.{Do, OpenCopy, ChunkCopy, CloseCopy, AbortCopy, StartPut, Write, Hint, Ack, StartGet, Read, EndGet, Down, Up, Handoff, Lose}
-use Rattle.plan_check.specs.World.{World, opening_world, count, mirror_at, is_in_group}
-use Rattle.plan_check.specs.Effects.{with_number, step_effect, effect}
-use Rattle.plan_check.specs.Reached.{Reached}
+use Rattle.plan_runs.specs.declared.event.Event.{Event}
+use Rattle.plan_runs.specs.declared.event.Event.TheVariants.{Do, OpenCopy, ChunkCopy, CloseCopy, AbortCopy, StartPut, Write, Hint, Ack, StartGet, Read, EndGet, Down, Up, Handoff, Lose}
+use Rattle.plan_runs.specs.World.{World, opening_world, count, mirror_at, is_in_group}
+use Rattle.plan_runs.specs.Effects.{with_number, step_effect, effect}
+use Rattle.plan_runs.specs.Reached.{Reached}
 use Rattle.store_tables.specs.declared.slots.SlotNow.{SlotNow}
 use Rattle.store_tables.specs.Slots.{slot_now, ChangesSlot}
 use Rattle.store_tells.specs.Slots.{IsNow, SlotsMeet}

@@ -11,11 +11,11 @@ use Rattle.ring_table.specs.Value.{RingValue}
 use Rattle.plan_text.specs.declared.step.Planned.{Planned}
 use Rattle.plan_text.specs.Valid.{is_ring_slot}
 use Rattle.plan_stage.specs.Clauses.{Guard, first_failing}
-use Rattle.plan_check.specs.declared.event.Event.TheVariants.{Write, Hint, Handoff, Lose, Read}
-use Rattle.plan_check.specs.World.{World, some_below, stage_now, is_member_now, is_served, slot_at, keeps, keeps_other, is_in_group, key_of_get, found_at}
-use Rattle.plan_check.specs.Versions.{put_slot, get_slot}
-use Rattle.plan_check.specs.Guards.{up_guard, slot_up, served_up, nodes_up, put_exists, serves_in, get_exists, has_ended, keeps_of_key, guards}
-use Rattle.plan_check.specs.Effects.{effect}
+use Rattle.plan_runs.specs.declared.event.Event.TheVariants.{Write, Hint, Handoff, Lose, Read}
+use Rattle.plan_runs.specs.World.{World, some_below, stage_now, is_member_now, is_served, slot_at, keeps, keeps_other, is_in_group, key_of_get, found_at}
+use Rattle.plan_runs.specs.Versions.{put_slot, get_slot}
+use Rattle.plan_runs.specs.Guards.{up_guard, slot_up, served_up, nodes_up, put_exists, serves_in, get_exists, has_ended, keeps_of_key, guards}
+use Rattle.plan_runs.specs.Effects.{effect}
 use Rattle.store_tables.specs.declared.nodes.NodeNow.{NodeNow}
 use Rattle.store_tables.specs.declared.slots.SlotNow.{SlotNow}
 use Rattle.store_tables.specs.Nodes.{is_up_at, is_member_at}

@@ -14,18 +14,18 @@ use Rattle.plan_text.specs.Valid.{IsPlan, is_ring_slot}
 use Rattle.plan_stage.specs.Stage.{opening, stage}
 use Rattle.plan_stage.specs.Each.{step_at}
 use Rattle.plan_stage.specs.Clauses.{first_failing}
-use Rattle.plan_check.specs.declared.event.Event.{Event}
-use Rattle.plan_check.specs.declared.event.Event.TheVariants.{Do, OpenCopy, ChunkCopy, CloseCopy, AbortCopy, StartPut, Write, Hint, Ack, StartGet, Read, EndGet, Down, Up, Handoff, Lose}
+use Rattle.plan_runs.specs.declared.event.Event.{Event}
+use Rattle.plan_runs.specs.declared.event.Event.TheVariants.{Do, OpenCopy, ChunkCopy, CloseCopy, AbortCopy, StartPut, Write, Hint, Ack, StartGet, Read, EndGet, Down, Up, Handoff, Lose}
 use Rattle.plan_check.specs.Sound.{Sound}
-use Rattle.plan_check.specs.World.{World, opening_world, count, mirror_at, mirrors_done, is_in_group}
-use Rattle.plan_check.specs.Guards.{guards}
-use Rattle.plan_check.specs.Effects.{with_number, without_number, step_effect, effect}
-use Rattle.plan_check.specs.Reached.{Reached}
-use Rattle.plan_check.proofs.Copying.{closed_with}
+use Rattle.plan_runs.specs.World.{World, opening_world, count, mirror_at, mirrors_done, is_in_group}
+use Rattle.plan_runs.specs.Guards.{guards}
+use Rattle.plan_runs.specs.Effects.{with_number, without_number, step_effect, effect}
+use Rattle.plan_runs.specs.Reached.{Reached}
+use Rattle.plan_runs.proofs.Copying.{closed_with}
 use Rattle.plan_check.proofs.Mirrored.{known}
 use Rattle.plan_check.proofs.Occupied.{occupied}
-use Rattle.plan_check.proofs.Passed.{all_met, ready}
-use Rattle.plan_check.proofs.Suited.{owner-within, within}
+use Rattle.plan_runs.proofs.Passed.{all_met, ready}
+use Rattle.plan_runs.proofs.Suited.{owner-within, within}
 use Rattle.store_tables.specs.declared.slots.SlotNow.{SlotNow}
 use Rattle.store_tables.specs.Slots.{slot_at_start, slot_now, switched, ChangesSlot}
 use Rattle.store_tells.specs.Slots.{IsNow, SlotsMeet}

@@ -4,9 +4,9 @@ use Rattle.std.specs.Prelude.{◌==◌, ◌&&◌, ◌||◌}
 use Rattle.std.proofs.lemmas.Bool.Decides.{eqb_tells}
 use Rattle.std.proofs.lemmas.Bool.{and_from, or_left}
 use Rattle.ring_names.specs.Lists.{has}
-use Rattle.plan_check.specs.World.{count}
-use Rattle.plan_check.specs.Effects.{with_number}
-use Rattle.plan_check.proofs.Prefix.{found, Rises, rising, count_same}
+use Rattle.plan_runs.specs.World.{count}
+use Rattle.plan_runs.specs.Effects.{with_number}
+use Rattle.plan_runs.proofs.Prefix.{found, Rises, rising, count_same}
 
 -- no number passes what none passes
 pub count_none : (test : ℕ → Bool) (ss : List ℕ) → count (λ s. false && test s) ss ≡ 0

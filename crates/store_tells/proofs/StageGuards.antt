@@ -15,9 +15,9 @@ use Rattle.plan_text.specs.declared.step.Planned.{Planned}
 use Rattle.plan_stage.specs.Each.{step_at}
 use Rattle.plan_stage.specs.Parties.{parties}
 use Rattle.plan_stage.specs.Clauses.{Guard}
-use Rattle.plan_check.specs.declared.event.Event.TheVariants.{Do, OpenCopy, ChunkCopy, CloseCopy, AbortCopy, Down, Up, Lose}
-use Rattle.plan_check.specs.World.{World, passing_from, passing_below, copy_at, keeps, keeps_other, keeps_any}
-use Rattle.plan_check.specs.Guards.{up_guard, nodes_up, is_ready, step_guards, parties_up, keeps_source, keepers_up, chunks_left, guards}
+use Rattle.plan_runs.specs.declared.event.Event.TheVariants.{Do, OpenCopy, ChunkCopy, CloseCopy, AbortCopy, Down, Up, Lose}
+use Rattle.plan_runs.specs.World.{World, passing_from, passing_below, copy_at, keeps, keeps_other, keeps_any}
+use Rattle.plan_runs.specs.Guards.{up_guard, nodes_up, is_ready, step_guards, parties_up, keeps_source, keepers_up, chunks_left, guards}
 use Rattle.store_tables.specs.declared.nodes.NodeNow.{NodeNow}
 use Rattle.store_tables.specs.declared.steps.StepNow.{StepNow}
 use Rattle.store_tables.specs.Nodes.{is_up_at}

@@ -11,12 +11,12 @@ use Rattle.plan_text.specs.Steps.{steps_of, is_on, mirror_of}
 use Rattle.plan_stage.specs.Stage.{stage, after, next}
 use Rattle.plan_stage.specs.Each.{step_at}
 use Rattle.plan_stage.proofs.Stages.{stage-more, after-next}
-use Rattle.plan_check.specs.World.{count, mirror_at}
-use Rattle.plan_check.specs.Effects.{with_number}
-use Rattle.plan_check.specs.Reached.{Closed}
-use Rattle.plan_check.proofs.Groups.{steps_on}
+use Rattle.plan_runs.specs.World.{count, mirror_at}
+use Rattle.plan_runs.specs.Effects.{with_number}
+use Rattle.plan_runs.specs.Reached.{Closed}
+use Rattle.plan_runs.proofs.Groups.{steps_on}
 use Rattle.plan_check.proofs.Mirrored.{Known, rises, down}
-use Rattle.plan_check.proofs.Prefix.{found, one_more, count_same}
+use Rattle.plan_runs.proofs.Prefix.{found, one_more, count_same}
 use Rattle.store_tells.proofs.StageCounts.{count_apart, count_failing, count_one}
 use Rattle.plan_stage.proofs.Holders.{has-from}
 

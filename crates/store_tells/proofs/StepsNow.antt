@@ -13,15 +13,15 @@ use Rattle.plan_text.specs.declared.step.Planned.{Planned}
 use Rattle.plan_text.specs.Steps.{copy_of}
 use Rattle.plan_stage.specs.Each.{step_at}
 use Rattle.plan_stage.specs.Clauses.{first_failing}
-use Rattle.plan_check.specs.declared.event.Event.{Event}
-use Rattle.plan_check.specs.declared.event.Event.TheVariants.{Do, OpenCopy, ChunkCopy, CloseCopy, AbortCopy, StartPut, Write, Hint, Ack, StartGet, Read, EndGet, Down, Up, Handoff, Lose}
-use Rattle.plan_check.specs.World.{World, opening_world}
-use Rattle.plan_check.specs.Guards.{has_copy, has_other, guards}
-use Rattle.plan_check.specs.Effects.{changed, with_number, without_number, with_mark as with_chunk, step_effect, effect}
-use Rattle.plan_check.specs.Reached.{Reached}
-use Rattle.plan_check.proofs.Changed.{read_at, length_changed, part_changed}
-use Rattle.plan_check.proofs.Copying.{other_is_no_copy}
-use Rattle.plan_check.proofs.Passed.{all_met}
+use Rattle.plan_runs.specs.declared.event.Event.{Event}
+use Rattle.plan_runs.specs.declared.event.Event.TheVariants.{Do, OpenCopy, ChunkCopy, CloseCopy, AbortCopy, StartPut, Write, Hint, Ack, StartGet, Read, EndGet, Down, Up, Handoff, Lose}
+use Rattle.plan_runs.specs.World.{World, opening_world}
+use Rattle.plan_runs.specs.Guards.{has_copy, has_other, guards}
+use Rattle.plan_runs.specs.Effects.{changed, with_number, without_number, with_mark as with_chunk, step_effect, effect}
+use Rattle.plan_runs.specs.Reached.{Reached}
+use Rattle.plan_runs.proofs.Changed.{read_at, length_changed, part_changed}
+use Rattle.plan_runs.proofs.Copying.{other_is_no_copy}
+use Rattle.plan_runs.proofs.Passed.{all_met}
 use Rattle.store_tables.specs.declared.steps.StepNow.{StepNow}
 use Rattle.store_tables.specs.Marks.{with_mark}
 use Rattle.store_tables.specs.Steps.{step_at_start, is_marked, is_marked_at}

@@ -9,17 +9,17 @@ use Rattle.plan_text.specs.declared.step.Planned.{Planned}
 use Rattle.plan_text.specs.Steps.{steps_of}
 use Rattle.plan_text.specs.Valid.{Suits, is_ring_slot}
 use Rattle.plan_stage.proofs.Truth.{same}
-use Rattle.plan_check.specs.declared.event.Event.{Event}
-use Rattle.plan_check.specs.declared.event.Reply.{Reply}
-use Rattle.plan_check.specs.declared.event.Entry.{Entry}
-use Rattle.plan_check.specs.Answers.{answer}
+use Rattle.plan_runs.specs.declared.event.Event.{Event}
+use Rattle.plan_runs.specs.declared.event.Reply.{Reply}
+use Rattle.plan_runs.specs.declared.event.Entry.{Entry}
+use Rattle.plan_runs.specs.Answers.{answer}
 use Rattle.plan_check.specs.Occupies.{IsGoodMirror}
-use Rattle.plan_check.specs.Reached.{Reached}
-use Rattle.plan_check.specs.Runs.{IsRun}
-use Rattle.plan_check.specs.World.{World, opening_world, count, stage_now}
+use Rattle.plan_runs.specs.Reached.{Reached}
+use Rattle.plan_runs.specs.Runs.{IsRun}
+use Rattle.plan_runs.specs.World.{World, opening_world, count, stage_now}
 use Rattle.plan_check.proofs.Good.{good-stages}
-use Rattle.plan_check.proofs.Reached.{reached}
-use Rattle.plan_check.proofs.Split.{joined}
+use Rattle.plan_runs.proofs.Reached.{reached}
+use Rattle.plan_runs.proofs.Split.{joined}
 use Rattle.store_tables.specs.declared.slots.SlotNow.{SlotNow}
 use Rattle.store_tables.specs.Slots.{slot_now}
 use Rattle.store_tells.specs.Slots.{IsNow}
@@ -28,7 +28,7 @@ use Rattle.store_tells.proofs.SlotsFit.{kept_within, kept_is, owner_kept, mirror
 use Rattle.store_tells.specs.declared.parts.Parts.{Parts}
 use Rattle.store_tells.specs.Kept.{Kept, Tells}
 use Rattle.store_tells.specs.Parts.{Meets, IsSound}
-use Rattle.plan_check.proofs.Suited.{within as within_ring}
+use Rattle.plan_runs.proofs.Suited.{within as within_ring}
 
 -- what follows from any world in which it may be, and can be so in one way alone, is so
 pub holds : (a : Parts) {P : Type 0} → IsSound a → IsProp P → ((w : World) → Meets a w → P) → P

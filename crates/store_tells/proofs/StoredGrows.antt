@@ -9,8 +9,8 @@ use Rattle.plan_text.specs.declared.step.Source.{Source}
 use Rattle.plan_text.specs.declared.step.Planned.{Planned}
 use Rattle.ring_clock.specs.declared.entry.Entry.{Entry}
 use Rattle.ring_versions.specs.declared.version.Version.{Version}
-use Rattle.plan_check.specs.World.{World, is_of_key, copy_at, stage_now}
-use Rattle.plan_check.specs.Effects.{with_puts, with_mirror_puts, served_puts, is_copied, copied_puts}
+use Rattle.plan_runs.specs.World.{World, is_of_key, copy_at, stage_now}
+use Rattle.plan_runs.specs.Effects.{with_puts, with_mirror_puts, served_puts, is_copied, copied_puts}
 use Rattle.store_tells.specs.Shows.{value_of}
 use Rattle.store_tells.specs.Stored.{ShowAll, MergeAll, at_node, at_mirror, at_served, copied}
 use Rattle.store_tells.proofs.ShownSets.{merge, other_test}

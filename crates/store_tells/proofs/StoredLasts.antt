@@ -9,14 +9,14 @@ use Rattle.ring_clock.specs.declared.entry.Entry.{Entry}
 use Rattle.ring_clock.specs.Built.{with_clock}
 use Rattle.ring_versions.specs.declared.version.Version.{Version}
 use Rattle.plan_text.specs.declared.step.Planned.{Planned}
-use Rattle.plan_check.specs.declared.event.Event.{Event}
-use Rattle.plan_check.specs.declared.event.Reply.{Reply}
-use Rattle.plan_check.specs.World.{World, is_of_key}
-use Rattle.plan_check.specs.Guards.{guards}
-use Rattle.plan_check.specs.Answers.{answer}
-use Rattle.plan_check.proofs.Answered.{answered}
-use Rattle.plan_check.proofs.Lasting.{Extends, event_extends}
-use Rattle.plan_check.proofs.Passed.{all_met}
+use Rattle.plan_runs.specs.declared.event.Event.{Event}
+use Rattle.plan_runs.specs.declared.event.Reply.{Reply}
+use Rattle.plan_runs.specs.World.{World, is_of_key}
+use Rattle.plan_runs.specs.Guards.{guards}
+use Rattle.plan_runs.specs.Answers.{answer}
+use Rattle.plan_runs.proofs.Answered.{answered}
+use Rattle.plan_runs.proofs.Lasting.{Extends, event_extends}
+use Rattle.plan_runs.proofs.Passed.{all_met}
 use Rattle.store_tells.specs.Shows.{ArePutsOf, value_of}
 use Rattle.store_tells.specs.Stored.{ShowAll}
 use Rattle.store_tells.proofs.ShownSets.{other_test, other_value, new_clock}

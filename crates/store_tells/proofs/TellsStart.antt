@@ -8,7 +8,7 @@ use Rattle.ring_versions.specs.declared.version.Version.{Version}
 use Rattle.plan_text.specs.declared.step.Planned.{Planned}
 use Rattle.plan_text.specs.Valid.{IsPlan}
 use Rattle.plan_check.specs.Approval.{IsApproved}
-use Rattle.plan_check.specs.World.{opening_world}
+use Rattle.plan_runs.specs.World.{opening_world}
 use Rattle.store_tables.specs.Nodes.{node_at_start}
 use Rattle.store_tables.specs.Slots.{slot_now, slot_at_start}
 use Rattle.store_tables.specs.Steps.{step_at_start}

@@ -7,7 +7,7 @@ use Rattle.ring_table.specs.Value.{RingValue}
 use Rattle.ring_space.specs.Place.{place_of}
 use Rattle.ring_versions.specs.declared.version.Version.{Version}
 use Rattle.plan_text.specs.declared.step.Planned.{Planned}
-use Rattle.plan_check.specs.World.{World}
+use Rattle.plan_runs.specs.World.{World}
 use Rattle.store_tells.specs.Puts.{clock_at}
 use Rattle.store_tells.proofs.PutsLists.{appended_at}
 use Rattle.store_tells.proofs.PutsKeys.{numbered_named, none_behind_named, puts_stay_named, gets_stay_named}

@@ -6,15 +6,15 @@ use Rattle.plan_text.specs.declared.step.Step.{Step}
 use Rattle.plan_text.specs.declared.step.Step.TheVariants.{Join, Mirror, Copy, Switch, Drop, Retire}
 use Rattle.plan_text.specs.declared.step.Planned.{Planned}
 use Rattle.plan_stage.specs.Each.{step_at}
-use Rattle.plan_check.specs.declared.event.Event.{Event}
-use Rattle.plan_check.specs.declared.event.Event.TheVariants.{Do, OpenCopy, ChunkCopy, CloseCopy, AbortCopy, StartPut, Write, Hint, Ack, StartGet, Read, EndGet, Down, Up, Handoff, Lose}
-use Rattle.plan_check.specs.declared.event.Reply.{Reply}
-use Rattle.plan_check.specs.World.{PutRecord, World, generation}
-use Rattle.plan_check.specs.Versions.{put_slot}
-use Rattle.plan_check.specs.Effects.{with_number, with_value, step_effect, effect}
-use Rattle.plan_check.specs.Answers.{answer}
-use Rattle.plan_check.proofs.Answered.{answered}
-use Rattle.plan_check.proofs.Changed.{part_changed, part_before}
+use Rattle.plan_runs.specs.declared.event.Event.{Event}
+use Rattle.plan_runs.specs.declared.event.Event.TheVariants.{Do, OpenCopy, ChunkCopy, CloseCopy, AbortCopy, StartPut, Write, Hint, Ack, StartGet, Read, EndGet, Down, Up, Handoff, Lose}
+use Rattle.plan_runs.specs.declared.event.Reply.{Reply}
+use Rattle.plan_runs.specs.World.{PutRecord, World, generation}
+use Rattle.plan_runs.specs.Versions.{put_slot}
+use Rattle.plan_runs.specs.Effects.{with_number, with_value, step_effect, effect}
+use Rattle.plan_runs.specs.Answers.{answer}
+use Rattle.plan_runs.proofs.Answered.{answered}
+use Rattle.plan_runs.proofs.Changed.{part_changed, part_before}
 use Rattle.store_tells.specs.Shows.{value_of}
 
 do_values : (w : World) (n v : ℕ) (t : Option Step) → value_of (elim t as (λ _. World) [ Some s ↦ step_effect (record w { done = with_number w.done n }) s | None ↦ w ]) v ≡ value_of w v

@@ -10,11 +10,11 @@ use Rattle.ring_versions.specs.declared.version.Version.{Version}
 use Rattle.ring_versions.specs.Versions.{Covers}
 use Rattle.plan_text.specs.declared.step.Planned.{Planned}
 use Rattle.plan_stage.specs.Each.{sibling}
-use Rattle.plan_check.specs.Guards.{keeps_of_key}
-use Rattle.plan_check.specs.Reached.{Reached}
-use Rattle.plan_check.specs.Versions.{is_in_chunk}
-use Rattle.plan_check.specs.World.{World, some_below, key_of_put, is_of_key, slot_at, keeps, keeps_other, keeps_any}
-use Rattle.plan_check.proofs.Passing.{some_found, some_is}
+use Rattle.plan_runs.specs.Guards.{keeps_of_key}
+use Rattle.plan_runs.specs.Reached.{Reached}
+use Rattle.plan_runs.specs.Versions.{is_in_chunk}
+use Rattle.plan_runs.specs.World.{World, some_below, key_of_put, is_of_key, slot_at, keeps, keeps_other, keeps_any}
+use Rattle.plan_runs.proofs.Passing.{some_found, some_is}
 use Rattle.store_maps.specs.Chunks.{chunk_of}
 use Rattle.store_tells.specs.Puts.{clock_at}
 use Rattle.store_tells.proofs.PutsFrames.{put_key}

@@ -2,10 +2,10 @@
 use Rattle.std.specs.Prelude.{◌≡◌, ◌⊎◌, ℕ, ◌<◌, ◌≤◌, Bool, true, false, List, length, Option, Some, None}
 use Rattle.ring_clock.specs.declared.entry.Entry.{Entry}
 use Rattle.ring_clock.specs.Built.{IsNext}
-use Rattle.plan_check.specs.declared.event.Event.{Event}
-use Rattle.plan_check.specs.declared.event.Event.TheVariants.{StartPut}
-use Rattle.plan_check.specs.World.{World, key_of_put, writer_of}
-use Rattle.plan_check.specs.Succession.{some_replied, is_direct}
+use Rattle.plan_runs.specs.declared.event.Event.{Event}
+use Rattle.plan_runs.specs.declared.event.Event.TheVariants.{StartPut}
+use Rattle.plan_runs.specs.World.{World, key_of_put, writer_of}
+use Rattle.plan_runs.specs.Succession.{some_replied, is_direct}
 
 -- the clock of each put of the world is the join of those of the puts that it directly succeeds, with one more for its writer
 abbrev pub AreClocksOf : World → (ℕ → List Entry) → Type 0

@@ -2,8 +2,8 @@
 use Rattle.std.specs.Prelude.{◌≡◌, ℕ, true, List, length, Some, slice_get, is_some}
 use Rattle.ring_clock.specs.declared.entry.Entry.{Entry}
 use Rattle.ring_table.specs.Value.{RingValue}
-use Rattle.plan_check.specs.World.{GetRecord, World}
-use Rattle.plan_check.specs.Succession.{replied}
+use Rattle.plan_runs.specs.World.{GetRecord, World}
+use Rattle.plan_runs.specs.Succession.{replied}
 use Rattle.store_tells.specs.Shows.{Shows, value_of}
 use Rattle.store_tells.specs.GetsFind.{found_by}
 use Rattle.store_tables.specs.declared.gets.GetNow.{GetNow}

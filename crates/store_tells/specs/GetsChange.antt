@@ -1,8 +1,8 @@
 -- Which events change gets, and what the kept ones found.
 use Rattle.std.specs.Prelude.{ℕ, Bool, true, false, List, [], Some, None, slice_get}
 use Rattle.ring_versions.specs.declared.version.Version.{Version}
-use Rattle.plan_check.specs.declared.event.Event.{Event}
-use Rattle.plan_check.specs.declared.event.Event.TheVariants.{StartGet, Read, EndGet}
+use Rattle.plan_runs.specs.declared.event.Event.{Event}
+use Rattle.plan_runs.specs.declared.event.Event.TheVariants.{StartGet, Read, EndGet}
 use Rattle.store_tables.specs.declared.gets.GetNow.{GetNow}
 
 -- whether the event starts a get, reads for one or ends one

@@ -2,11 +2,11 @@
 use Rattle.std.specs.Prelude.{ℕ, Bool, false, ◌&&◌, ◌==◌, List}
 use Rattle.ring_table.specs.Value.{RingValue}
 use Rattle.plan_text.specs.declared.step.Planned.{Planned}
-use Rattle.plan_check.specs.declared.event.Event.{Event}
-use Rattle.plan_check.specs.declared.event.Event.TheVariants.{Read, EndGet}
-use Rattle.plan_check.specs.World.{World, some_below, key_of_get, is_of_key}
-use Rattle.plan_check.specs.Versions.{get_slot, slot_has}
-use Rattle.plan_check.specs.Effects.{has_found}
+use Rattle.plan_runs.specs.declared.event.Event.{Event}
+use Rattle.plan_runs.specs.declared.event.Event.TheVariants.{Read, EndGet}
+use Rattle.plan_runs.specs.World.{World, some_below, key_of_get, is_of_key}
+use Rattle.plan_runs.specs.Versions.{get_slot, slot_has}
+use Rattle.plan_runs.specs.Effects.{has_found}
 
 -- whether the slot of that index has the put, and it is of the get's key
 abbrev pub can_find : RingValue → List Planned → World → ℕ → ℕ → ℕ → Bool

@@ -1,7 +1,7 @@
 -- What events need of gets, tested on those that are kept.
 use Rattle.std.specs.Prelude.{◌≡◌, ℕ, ◌<◌, Bool, true, false, ◌&&◌, ◌==◌, nat_lt, List, length, Some, None, slice_get, is_some}
 use Rattle.ring_table.specs.Value.{RingValue}
-use Rattle.plan_check.specs.World.{World, passing_below, found_at}
+use Rattle.plan_runs.specs.World.{World, passing_below, found_at}
 use Rattle.store_tables.specs.declared.gets.GetNow.{GetNow}
 use Rattle.store_tables.specs.Gets.{is_read_at}
 

@@ -14,8 +14,8 @@ use Rattle.plan_text.specs.Valid.{is_ring_slot}
 use Rattle.plan_stage.specs.Each.{step_at}
 use Rattle.plan_stage.specs.Parties.{parties}
 use Rattle.plan_stage.specs.Clauses.{Guard}
-use Rattle.plan_check.specs.World.{some_below, passing_below, copy_at, slot_at}
-use Rattle.plan_check.specs.Guards.{up_guard, slot_up, nodes_up, has_copy, has_other}
+use Rattle.plan_runs.specs.World.{some_below, passing_below, copy_at, slot_at}
+use Rattle.plan_runs.specs.Guards.{up_guard, slot_up, nodes_up, has_copy, has_other}
 use Rattle.store_tables.specs.declared.nodes.NodeNow.{NodeNow}
 use Rattle.store_tables.specs.declared.slots.SlotNow.{SlotNow}
 use Rattle.store_tables.specs.declared.steps.StepNow.{StepNow}

@@ -3,7 +3,7 @@ use Rattle.std.specs.Prelude.{◌≡◌, ℕ, ◌<◌, true, List, Some, slice_g
 use Rattle.ring_names.specs.declared.ids.Slot.{Slot}
 use Rattle.ring_table.specs.Value.{RingValue}
 use Rattle.ring_space.specs.Place.{place_of}
-use Rattle.plan_check.specs.World.{World}
+use Rattle.plan_runs.specs.World.{World}
 
 -- hints are kept for slot indexes of the ring alone
 abbrev pub HintsFit : RingValue → World → Type 0

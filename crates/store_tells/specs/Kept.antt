@@ -6,10 +6,10 @@ use Rattle.ring_table.specs.Valid.{IsRing}
 use Rattle.ring_versions.specs.declared.version.Version.{Version}
 use Rattle.plan_text.specs.declared.step.Planned.{Planned}
 use Rattle.plan_text.specs.Valid.{IsPlan}
-use Rattle.plan_check.specs.declared.event.Entry.{Entry}
+use Rattle.plan_runs.specs.declared.event.Entry.{Entry}
 use Rattle.plan_check.specs.Approval.{IsApproved}
-use Rattle.plan_check.specs.Runs.{IsRun}
-use Rattle.plan_check.specs.World.{World}
+use Rattle.plan_runs.specs.Runs.{IsRun}
+use Rattle.plan_runs.specs.World.{World}
 use Rattle.store_tables.specs.declared.gets.GetNow.{GetNow}
 use Rattle.store_tables.specs.declared.nodes.NodeNow.{NodeNow}
 use Rattle.store_tables.specs.declared.puts.PutNow.{PutNow}

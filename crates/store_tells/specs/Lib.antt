@@ -20,3 +20,4 @@ pub mod GetsTests
 pub mod HintsFit
 pub mod Kept
 pub mod Parts
+pub mod LeastDown

@@ -6,9 +6,9 @@ use Rattle.plan_text.specs.declared.step.Step.TheVariants as step
 use Rattle.plan_text.specs.declared.step.Planned.{Planned}
 use Rattle.plan_text.specs.Steps.{is_join_of, is_retire_of}
 use Rattle.plan_stage.specs.Each.{some_step, step_at}
-use Rattle.plan_check.specs.declared.event.Event.{Event}
-use Rattle.plan_check.specs.declared.event.Event.TheVariants.{Do, Down, Up}
-use Rattle.plan_check.specs.World.{World}
+use Rattle.plan_runs.specs.declared.event.Event.{Event}
+use Rattle.plan_runs.specs.declared.event.Event.TheVariants.{Do, Down, Up}
+use Rattle.plan_runs.specs.World.{World}
 use Rattle.store_tables.specs.declared.nodes.NodeNow.{NodeNow}
 use Rattle.store_tables.specs.Nodes.{is_up_at}
 

@@ -4,11 +4,11 @@ use Rattle.ring_names.specs.declared.refusal.Refusal.{Refusal}
 use Rattle.ring_table.specs.Value.{RingValue}
 use Rattle.plan_text.specs.declared.step.Planned.{Planned}
 use Rattle.plan_stage.specs.Clauses.{first_failing}
-use Rattle.plan_check.specs.declared.event.Event.{Event}
-use Rattle.plan_check.specs.declared.event.Reply.{Reply}
-use Rattle.plan_check.specs.Answers.{answer}
-use Rattle.plan_check.specs.Guards.{guards}
-use Rattle.plan_check.specs.World.{World}
+use Rattle.plan_runs.specs.declared.event.Event.{Event}
+use Rattle.plan_runs.specs.declared.event.Reply.{Reply}
+use Rattle.plan_runs.specs.Answers.{answer}
+use Rattle.plan_runs.specs.Guards.{guards}
+use Rattle.plan_runs.specs.World.{World}
 use Rattle.store_tables.specs.Lasts.{last_of}
 use Rattle.ring_store.specs.Stores.{held_at, node_count, shared_space}
 use Rattle.ring_hints.specs.Hints.{hinted_at, partitions}

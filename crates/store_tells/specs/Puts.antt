@@ -2,7 +2,7 @@
 use Rattle.std.specs.Prelude.{◌≡◌, ℕ, List, [], ◌∷◌, length, Option, Some, None, slice_get}
 use Rattle.ring_clock.specs.declared.entry.Entry.{Entry}
 use Rattle.ring_versions.specs.declared.version.Version.{Version}
-use Rattle.plan_check.specs.World.{PutRecord, World}
+use Rattle.plan_runs.specs.World.{PutRecord, World}
 use Rattle.store_tells.specs.Clocks.{AreClocksOf, IsLastOf}
 use Rattle.store_tables.specs.declared.puts.PutNow.{PutNow}
 use Rattle.store_tables.specs.Puts.{ticket_at}

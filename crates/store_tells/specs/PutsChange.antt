@@ -1,8 +1,8 @@
 -- Which events change puts, and the numbers of keys.
 use Rattle.std.specs.Prelude.{◌≡◌, ℕ, ◌≤◌, Bool, true, false, List, Option, Some, None, slice_get}
 use Rattle.ring_names.specs.Names.{place}
-use Rattle.plan_check.specs.declared.event.Event.{Event}
-use Rattle.plan_check.specs.declared.event.Event.TheVariants.{StartPut, Write, Hint, Ack}
+use Rattle.plan_runs.specs.declared.event.Event.{Event}
+use Rattle.plan_runs.specs.declared.event.Event.TheVariants.{StartPut, Write, Hint, Ack}
 
 -- whether the event starts a put, gives one a ticket or acknowledges one
 abbrev pub changes_puts : Event → Bool

@@ -1,6 +1,6 @@
 -- What events need of puts, tested on those that are kept.
 use Rattle.std.specs.Prelude.{ℕ, Bool, false, ◌&&◌, ◌==◌, nat_lt, List, length, Some, None, slice_get}
-use Rattle.plan_check.specs.World.{passing_below}
+use Rattle.plan_runs.specs.World.{passing_below}
 use Rattle.store_tables.specs.declared.puts.PutNow.{PutNow}
 use Rattle.store_tables.specs.Puts.{ticket_of}
 

@@ -3,7 +3,7 @@ use Rattle.std.specs.Prelude.{◌≡◌, ℕ, ◌<◌, Bool, true, List, [], len
 use Rattle.ring_clock.specs.declared.entry.Entry.{Entry}
 use Rattle.ring_versions.specs.declared.version.Version.{Version}
 use Rattle.ring_versions.specs.Versions.{IsIn, Covers, IsApart}
-use Rattle.plan_check.specs.World.{World, key_of_put}
+use Rattle.plan_runs.specs.World.{World, key_of_put}
 
 -- the put's value
 abbrev pub value_of : World → ℕ → List ℕ

@@ -1,7 +1,7 @@
 -- How many losses slots may have had.
 use Rattle.std.specs.Prelude.{◌≤◌}
 use Rattle.ring_names.specs.declared.ids.Slot.{Slot}
-use Rattle.plan_check.specs.World.{World}
+use Rattle.plan_runs.specs.World.{World}
 
 -- no slot has had more losses than there were
 abbrev pub LossesFit : World → Type 0

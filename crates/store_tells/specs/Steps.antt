@@ -1,7 +1,7 @@
 -- What the steps that are kept say of a world.
 use Rattle.std.specs.Prelude.{◌≡◌, ℕ, List, length}
 use Rattle.plan_text.specs.declared.step.Planned.{Planned}
-use Rattle.plan_check.specs.World.{World}
+use Rattle.plan_runs.specs.World.{World}
 use Rattle.store_tables.specs.declared.steps.StepNow.{StepNow}
 use Rattle.store_tables.specs.Steps.{is_done_at, is_open_at, is_marked_at}
 

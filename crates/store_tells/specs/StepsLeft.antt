@@ -1,7 +1,7 @@
 -- Which events leave the steps as they are.
 use Rattle.std.specs.Prelude.{Bool, true, false}
-use Rattle.plan_check.specs.declared.event.Event.{Event}
-use Rattle.plan_check.specs.declared.event.Event.TheVariants.{Do, OpenCopy, ChunkCopy, CloseCopy, AbortCopy}
+use Rattle.plan_runs.specs.declared.event.Event.{Event}
+use Rattle.plan_runs.specs.declared.event.Event.TheVariants.{Do, OpenCopy, ChunkCopy, CloseCopy, AbortCopy}
 
 -- whether the event does no step, and opens, copies, closes or aborts no copy
 abbrev pub leaves_steps : Event → Bool

@@ -8,9 +8,9 @@ use Rattle.plan_text.specs.Steps.{is_slot}
 use Rattle.ring_clock.specs.declared.entry.Entry.{Entry}
 use Rattle.ring_versions.specs.declared.version.Version.{Version}
 use Rattle.ring_versions.specs.Versions.{IsMerge}
-use Rattle.plan_check.specs.World.{World, is_of_key, copy_at, stage_now}
-use Rattle.plan_check.specs.Versions.{put_slot}
-use Rattle.plan_check.specs.Effects.{is_copied}
+use Rattle.plan_runs.specs.World.{World, is_of_key, copy_at, stage_now}
+use Rattle.plan_runs.specs.Versions.{put_slot}
+use Rattle.plan_runs.specs.Effects.{is_copied}
 use Rattle.store_tells.specs.Shows.{Shows, value_of}
 
 -- ---- versions by node, slot and key

@@ -7,13 +7,13 @@ ghost use Rattle.ring_clock.specs.declared.entry.Entry.{Entry as TheEntry};
 ghost use Rattle.ring_clock.specs.Clock.{IsAtMost};
 ghost use Rattle.ring_clock.specs.Built.{IsNext, with_clock};
 ghost use Rattle.plan_text.specs.declared.step.Planned.{Planned};
-ghost use Rattle.plan_check.specs.declared.event.Event.{Event as TheEvent};
-ghost use Rattle.plan_check.specs.declared.event.Event.TheVariants.{StartPut};
-ghost use Rattle.plan_check.specs.declared.event.Reply.{Reply as TheReply};
-ghost use Rattle.plan_check.specs.World.{World, opening_world, key_of_put};
-ghost use Rattle.plan_check.specs.Succession.{Succeeds};
-ghost use Rattle.plan_check.specs.Answers.{answer};
-ghost use Rattle.plan_check.specs.Reached.{Reached};
+ghost use Rattle.plan_runs.specs.declared.event.Event.{Event as TheEvent};
+ghost use Rattle.plan_runs.specs.declared.event.Event.TheVariants.{StartPut};
+ghost use Rattle.plan_runs.specs.declared.event.Reply.{Reply as TheReply};
+ghost use Rattle.plan_runs.specs.World.{World, opening_world, key_of_put};
+ghost use Rattle.plan_runs.specs.Succession.{Succeeds};
+ghost use Rattle.plan_runs.specs.Answers.{answer};
+ghost use Rattle.plan_runs.specs.Reached.{Reached};
 ghost use Rattle.store_tells.specs.Clocks.{AreClocksOf, IsLastOf, IsInputOf, starts_put};
 
 /// Of two puts of one key the first one's clock is at most the second's exactly where the second succeeds the first.

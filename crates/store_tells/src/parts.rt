@@ -2,7 +2,7 @@
 
 ghost use Rattle.std.specs.Prelude.{◌≡◌, IfOk, IfErr};
 ghost use Rattle.ring_names.specs.declared.refusal.Refusal.TheVariants.{OutOfMemory};
-ghost use Rattle.plan_check.specs.World.{opening_world};
+ghost use Rattle.plan_runs.specs.World.{opening_world};
 ghost use Rattle.store_tells.specs.Parts.{Meets, IsSized};
 
 use plan_check::Approved;

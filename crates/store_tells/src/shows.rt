@@ -11,10 +11,10 @@ ghost use Rattle.ring_versions.specs.declared.version.Version.{Version as TheVer
 ghost use Rattle.ring_versions.specs.Versions.{Covers, IsApart, IsMerge};
 ghost use Rattle.ring_versions.specs.Puts.{ArePuts};
 ghost use Rattle.plan_text.specs.declared.step.Planned.{Planned};
-ghost use Rattle.plan_check.specs.World.{World, passing_below, stage_now, key_of_put, is_of_key};
-ghost use Rattle.plan_check.specs.Succession.{latest};
-ghost use Rattle.plan_check.specs.Versions.{is_held};
-ghost use Rattle.plan_check.specs.Reached.{Reached};
+ghost use Rattle.plan_runs.specs.World.{World, passing_below, stage_now, key_of_put, is_of_key};
+ghost use Rattle.plan_runs.specs.Succession.{latest};
+ghost use Rattle.plan_runs.specs.Versions.{is_held};
+ghost use Rattle.plan_runs.specs.Reached.{Reached};
 ghost use Rattle.store_tells.specs.Shows.{Shows, OfOneKey, ArePutsOf};
 ghost use Rattle.store_tells.specs.Clocks.{AreClocksOf};
 

@@ -1,7 +1,7 @@
 //! What a replay says of the history of a play, and of that history with a fault. What it should say is read off a play of the same events. And
 //! whether it says yes to what a drive printed.
 
-use ringplan_run::{play_bundle, replay_bundle};
+use ringplan_jobs::{play_bundle, replay_bundle};
 use std::alloc::{AllocError, Global};
 use std::str;
 

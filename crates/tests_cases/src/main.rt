@@ -10,7 +10,8 @@
 mod histories;
 
 use crate::histories::{is_replayed, others};
-use ringplan_run::{check_bundle, plan_bundle, play_bundle, replay_bundle, run};
+use ringplan_jobs::{check_bundle, plan_bundle, play_bundle, replay_bundle};
+use ringplan_run::run;
 use std::alloc::Global;
 use std::fs::File;
 use std::rt::Runtime;

@@ -4,7 +4,8 @@ ghost use Rattle.std.specs.Prelude.{◌≡◌, ◌≤◌};
 
 use crate::same::{holds, same};
 use plan_cert::read_cert;
-use plan_check::{Approved, Event, check};
+use plan_check::{Approved, check};
+use plan_runs::Event;
 use plan_text::read_plan;
 use ring_exec::{Executor, Ledgered, RunLedger, Share};
 use ring_names::{NodeId, Refusal};

@@ -4,7 +4,8 @@ ghost use Rattle.std.specs.Prelude.{◌≡◌, ◌≤◌};
 
 use crate::executors::{CHAINS, MOVE, RING, approved, finished, two};
 use crate::same::{holds, same};
-use plan_check::{Approved, Entry, Event, Key, Reply, Seen};
+use plan_check::Approved;
+use plan_runs::{Entry, Event, Key, Reply, Seen};
 use ring_exec::{Executor, RunLedger, Share};
 use ring_names::{NodeId, Refusal, Slot, Value, WriterId};
 use ring_receipts::Receipt;

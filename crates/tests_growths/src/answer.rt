@@ -1,6 +1,6 @@
 //! Lines of answers.
 
-use plan_check::Reply;
+use plan_runs::Reply;
 use ring_names::{Refusal, push_decimal};
 
 /// The line of a reply, or of a refusal, behind the event's place.

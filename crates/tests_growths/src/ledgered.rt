@@ -4,7 +4,8 @@ ghost use Rattle.std.specs.Prelude.{◌≡◌, ◌<◌, ◌≤◌, length};
 
 use crate::answer::{push_answer, push_changed};
 use crate::mark::{mark, mixed};
-use plan_check::{Approved, Entry, Event, Reply};
+use plan_check::Approved;
+use plan_runs::{Entry, Event, Reply};
 use ring_exec::{Ledgered, RunLedger, Share};
 use ring_names::Refusal;
 use std::alloc::Global;

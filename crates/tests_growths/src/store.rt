@@ -4,7 +4,8 @@ ghost use Rattle.std.specs.Prelude.{◌≤◌, length};
 
 use crate::answer::{push_answer, push_changed};
 use crate::mark::mark;
-use plan_check::{Approved, Event, Reply};
+use plan_check::Approved;
+use plan_runs::{Event, Reply};
 use ring_core::World;
 use ring_names::Refusal;
 use std::alloc::Global;

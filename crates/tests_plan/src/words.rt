@@ -1,7 +1,7 @@
 //! The words of events and the texts of replies.
 
 use crate::same::{holds, same};
-use plan_check::{Key, Reply, Seen};
+use plan_runs::{Key, Reply, Seen};
 use ring_names::{Listed, Slot};
 use std::alloc::{AllocError, Global};
 use std::process::Abort;

@@ -6,10 +6,11 @@
 ghost use Rattle.plan_text.specs.Valid.{Suits};
 
 use plan_cert::read_cert;
-use plan_check::{Approved, Event, Reply, Turned, check};
+use plan_check::{Approved, Turned, check};
+use plan_runs::{Event, Reply};
 use plan_text::{Plan, read_plan};
-use ring_core::World;
 use ring_names::{Names, Refusal};
+use ring_replay::World;
 use ring_table::{Ring, read_ring};
 use script_text::{Script, read_script};
 use std::alloc::Global;
@@ -125,7 +126,7 @@ fn refusal_added<RT: Abort>(
 }
 
 // Adds the line that the event is answered, which is what was allowed.
-#[tactic(auto, using(ring_core::proofs::SoundAfterEvent::has_number))]
+#[tactic(auto, using(ring_replay::proofs::SoundAfterEvent::has_number))]
 fn answer<RT: Abort>(
     rt: &RT,
     world: &mut World,

@@ -2,7 +2,8 @@
 
 use crate::answering::{LOSS, RING, approved};
 use history_text::{are_known, read_history, read_replay, write_history};
-use plan_check::{Approved, Entry};
+use plan_check::Approved;
+use plan_runs::Entry;
 use ring_names::{Names, Refusal};
 use ring_table::{Ring, read_ring};
 use std::alloc::Global;

@@ -1,10 +1,10 @@
 //! Histories of what a script's events were answered.
 
 use crate::answering::{MOVE, approved, script_of};
-use plan_check::{Approved, Entry, Event};
-use ring_core::World;
+use plan_check::Approved;
+use plan_runs::{Entry, Event};
 use ring_names::{Listed, NodeId};
-use ring_replay::replay;
+use ring_replay::{World, replay};
 use ring_script::play;
 use script_text::Script;
 use std::process::Abort;
@@ -53,7 +53,7 @@ end
 const OWNERS: &[u8] = b"slots 0 a d c\nslots 1 a b c\nslots 2 a b c\nslots 3 a b c\nend\n";
 
 // Notes the event with its reply, where it is answered.
-#[tactic(auto, using(ring_core::proofs::SoundAfterEvent::has_number))]
+#[tactic(auto, using(ring_replay::proofs::SoundAfterEvent::has_number))]
 fn note<RT: AllocGlobal + Abort>(
     rt: &RT,
     world: &mut World,

@@ -4,7 +4,8 @@ ghost use Rattle.plan_text.specs.Valid.{Suits};
 
 use crate::answering::{RING, approved_of};
 use plan_cert::Cert;
-use plan_check::{Event, check};
+use plan_check::check;
+use plan_runs::Event;
 use plan_text::Plan;
 use ring_names::{Names, NodeId, Refusal};
 use ring_script::{Kind, play, read_bundle};

@@ -3,7 +3,8 @@
 ghost use Rattle.std.specs.Prelude.{◌≡◌, ◌<◌};
 
 use crate::inputs::{MOVE, MOVE_CHAINS, RING, approved, ring};
-use plan_check::{Approved, Event, Key, Seen};
+use plan_check::Approved;
+use plan_runs::{Event, Key, Seen};
 use ring_exec::{Executor, RunLedger, Share};
 use ring_names::{NodeId, Refusal, Value, WriterId};
 use ring_work::{Attempt, get_all, put_all};

@@ -5,7 +5,8 @@ ghost use Rattle.std.specs.List.{list_all};
 ghost use Rattle.script_text.specs.Client.{is_client_event};
 ghost use Rattle.drive_text.specs.Drives.{AreOfClients};
 
-use plan_check::{Approved, Entry, Gate};
+use plan_check::{Approved, Gate};
+use plan_runs::Entry;
 use ring_core::World;
 use ring_names::Refusal;
 use ring_receipts::{Outcome, agrees};

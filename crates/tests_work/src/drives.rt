@@ -9,7 +9,8 @@ use crate::inputs::{
     FOUR, JOIN, NO_CHAINS, NOTHING, RING, SILENCE, TWO_CHAINS, TWO_COPIES, approved, ring, script,
 };
 use crate::turnstile::Turnstile;
-use plan_check::{Event, Gate, OpenGate};
+use plan_check::{Gate, OpenGate};
+use plan_runs::Event;
 use ring_names::{NodeId, Refusal};
 use script_text::Script;
 use std::alloc::Global;

@@ -1,7 +1,8 @@
 //! What the judge of receipts says of lists that are not a drive's.
 
 use crate::inputs::{JOIN, NO_CHAINS, RING, SILENCE, approved, ring, script};
-use plan_check::{Approved, Entry, Event, Reply};
+use plan_check::Approved;
+use plan_runs::{Entry, Event, Reply};
 use ring_names::{Listed, NodeId, Refusal};
 use ring_receipts::{Outcome, Receipt, agrees};
 use script_text::Script;

@@ -6,7 +6,8 @@ ghost use Rattle.script_text.specs.Client.{is_client_event};
 
 use crate::inputs::{FOUR, approved, ring, script};
 use crate::turnstile::Behind;
-use plan_check::{Approved, Entry, Event};
+use plan_check::Approved;
+use plan_runs::{Entry, Event};
 use ring_names::Refusal;
 use ring_work::drive;
 use script_text::Script;

@@ -8,25 +8,21 @@ use ring_names::Refusal;
 use std::alloc::Global;
 
 /// A limit is passed.
-pub fn too_large(said: &mut Said, line: u32) -> Result<(), Refusal> {
+pub fn too_large(said: &mut Said, line: u32) {
     if line == 0 {
-        return said.title(b"the bundle is larger than 67,108,864 bytes", &[], &[]);
+        return said.title(b"the bundle is larger than 67,108,864 bytes");
     }
-    said.title(
+    said.title_with(
         b"a number or a count in line # is above its limit",
         &[],
         &[line],
-    )?;
-    said.fault(line, b"here", &[], &[])?;
+    );
+    said.fault(line, b"here");
     said.note(
         b"Limits: 4,096 partitions of at most 7 slots, 1,024 nodes, allowances of 64; 131,072 steps, 4,096",
-        &[],
-        &[],
-    )?;
+    );
     said.note(
         b"dependencies of a step; 262,144 facts of 1,024 steps; 65,536 chains. Partitions and slots count from 0.",
-        &[],
-        &[],
     )
 }
 
@@ -92,56 +88,53 @@ fn nearest_name<'a>(alloc: Global, page: Page<'a>, name: &[u8]) -> Result<&'a [u
 pub fn unknown_node(alloc: Global, said: &mut Said, page: Page, line: u32) -> Result<(), Refusal> {
     let place = undeclared(page, line).unwrap_or(1);
     let name = field(page.text(line), place);
-    said.title(b"no node `@` is declared", &[name], &[])?;
+    said.title_with(b"no node `@` is declared", &[name], &[]);
     let at = page.at(line, place, place);
-    said.fault_at(at, b"not among the ring's `node` lines", &[], &[])?;
+    said.fault_at(at, b"not among the ring's `node` lines");
     let near = nearest_name(alloc, page, name)?;
     if near.is_empty() {
         return Ok(());
     }
     let (front, behind) = page.around(line, place);
-    said.mend(b"`@` was meant?", &[near], &[])?;
-    said.put(line)?;
-    said.add(b"@@@\n", &[front, near, behind], &[])
+    said.mend_with(b"`@` was meant?", &[near], &[]);
+    said.put(line);
+    said.add_with(b"@@@\n", &[front, near, behind], &[]);
+    Ok(())
 }
 
 /// A node is declared, joined, retired or named a second time, or joins though it is a member.
-pub fn repeated(said: &mut Said, page: Page, line: u32) -> Result<(), Refusal> {
+pub fn repeated(said: &mut Said, page: Page, line: u32) {
     let text = page.text(line);
     let (part, start) = part_of(page, line);
-    said.title(b"`@` is named a second time", &[field(text, 1)], &[])?;
+    said.title_with(b"`@` is named a second time", &[field(text, 1)], &[]);
     let declared = declared(page, field(text, 1));
     if part == Part::Ring {
         return declared_again(said, line, declared);
     }
-    said.fault(line, b"here", &[], &[])?;
+    said.fault(line, b"here");
     if let Some(node) = declared {
         let is_member = last_field(page.text(node)) == b"in".as_slice();
         if is_member && field(text, 0) == b"join".as_slice() {
-            said.beside(node, b"it is a member already", &[], &[])?;
-            return said.note(
-                b"A node joins that is declared `out`. Take the line out.",
-                &[],
-                &[],
-            );
+            said.beside(node, b"it is a member already");
+            return said.note(b"A node joins that is declared `out`. Take the line out.");
         }
     }
     if let Some(first) = earlier(page, line, start) {
-        said.beside(first, b"the first time", &[], &[])?;
+        said.beside(first, b"the first time");
     }
     let note =
         b"A plan joins and retires a node once, and a change names it once. Take one of the lines out.";
-    said.note(note, &[], &[])
+    said.note(note)
 }
 
 // A ring declares a node twice: in this line, and first in that one.
-fn declared_again(said: &mut Said, line: u32, first: Option<u32>) -> Result<(), Refusal> {
-    said.fault(line, b"the second declaration", &[], &[])?;
+fn declared_again(said: &mut Said, line: u32, first: Option<u32>) {
+    said.fault(line, b"the second declaration");
     if let Some(first) = first {
-        said.beside(first, b"the first", &[], &[])?;
+        said.beside(first, b"the first");
     }
     let note = b"Take one of the two out, or give the second another name.";
-    said.note(note, &[], &[])
+    said.note(note)
 }
 
 // The first line of the part that says the same of the node, or in a change names it.
@@ -189,7 +182,7 @@ impl Asked {
         read < 1 || write < 1 || read > slots || write > slots
     }
 
-    fn tell(&self, said: &mut Said, line: u32) -> Result<(), Refusal> {
+    fn tell(&self, said: &mut Said, line: u32) {
         let Asked {
             slots,
             read,
@@ -197,14 +190,14 @@ impl Asked {
             loss,
         } = *self;
         if loss > 0 {
-            return said.fault(
+            return said.fault_with(
                 line,
                 b"# + # is not above # + #",
                 &[],
                 &[read, write, slots, loss],
             );
         }
-        said.fault(line, b"# + # is not above #", &[], &[read, write, slots])
+        said.fault_with(line, b"# + # is not above #", &[], &[read, write, slots])
     }
 
     // For how many slots a write must ask, so that it meets each read.
@@ -217,27 +210,27 @@ impl Asked {
 }
 
 /// Reads and writes need not meet.
-pub fn quorum(said: &mut Said, page: Page, line: u32) -> Result<(), Refusal> {
+pub fn quorum(said: &mut Said, page: Page, line: u32) {
     let asked = Asked::of(page.text(line));
     let (slots, wanted) = (asked.slots, asked.wanted());
     if asked.is_out() {
-        said.title(
+        said.title_with(
             b"a read and a write ask for 1 to # slots each",
             &[],
             &[slots],
-        )?;
-        return said.fault(line, b"R is # and W is #", &[], &[asked.read, asked.write]);
+        );
+        return said.fault_with(line, b"R is # and W is #", &[], &[asked.read, asked.write]);
     }
-    said.title(b"a read and a write need not meet in a slot", &[], &[])?;
-    asked.tell(said, line)?;
+    said.title(b"a read and a write need not meet in a slot");
+    asked.tell(said, line);
     if wanted > slots {
         let note = b"Let fewer stores be lost, or let partitions have more slots.";
-        return said.note(note, &[], &[]);
+        return said.note(note);
     }
     let (front, behind) = page.around(line, 3);
-    said.mend(b"let a write ask for # slots", &[], &[wanted])?;
-    said.put(line)?;
-    said.add(b"@#@\n", &[front, behind], &[wanted])
+    said.mend_with(b"let a write ask for # slots", &[], &[wanted]);
+    said.put(line);
+    said.add_with(b"@#@\n", &[front, behind], &[wanted])
 }
 
 // The first field that names the owner of a slot in front, if one does.
@@ -253,22 +246,20 @@ fn owner_again(text: &[u8]) -> Option<usize> {
 }
 
 /// One owner stands twice in a partition.
-pub fn shared_node(said: &mut Said, page: Page, line: u32) -> Result<(), Refusal> {
+pub fn shared_node(said: &mut Said, page: Page, line: u32) {
     let text = page.text(line);
     let Some(place) = owner_again(text) else {
-        said.title(b"a node owns two slots of a partition", &[], &[])?;
-        return said.fault(line, b"", &[], &[]);
+        said.title(b"a node owns two slots of a partition");
+        return said.fault(line, b"");
     };
-    said.title(
+    said.title_with(
         b"`@` owns two slots of partition @",
         &[field(text, place), field(text, 1)],
         &[],
-    )?;
+    );
     said.fault_at(
         page.at(line, place, place),
         b"each slot of a partition has an owner of its own",
-        &[],
-        &[],
     )
 }
 
@@ -285,24 +276,22 @@ fn outsider(page: Page, text: &[u8]) -> Option<(usize, u32)> {
 }
 
 /// A node that is no member owns a slot, or shall leave.
-pub fn not_member(said: &mut Said, page: Page, line: u32) -> Result<(), Refusal> {
+pub fn not_member(said: &mut Said, page: Page, line: u32) {
     let text = page.text(line);
     let Some((place, node)) = outsider(page, text) else {
-        said.title(b"a node that is no member is named as one", &[], &[])?;
-        return said.fault(line, b"", &[], &[]);
+        said.title(b"a node that is no member is named as one");
+        return said.fault(line, b"");
     };
     let what: &[u8] = if field(text, 0) == b"leave".as_slice() {
         b"`@` shall leave and is no member"
     } else {
         b"`@` owns a slot and is no member"
     };
-    said.title(what, &[field(text, place)], &[])?;
-    said.beside(node, b"declared `out`", &[], &[])?;
-    said.fault_at(page.at(line, place, place), b"here", &[], &[])?;
+    said.title_with(what, &[field(text, place)], &[]);
+    said.beside(node, b"declared `out`");
+    said.fault_at(page.at(line, place, place), b"here");
     said.note(
         b"A node that is `out` owns slots only once a plan has joined it and moved them to it.",
-        &[],
-        &[],
     )
 }
 
@@ -320,21 +309,21 @@ fn later(text: &[u8], step: u32) -> Option<usize> {
 }
 
 /// A step waits for one that is not in front of it.
-pub fn later_dependency(said: &mut Said, page: Page, line: u32) -> Result<(), Refusal> {
+pub fn later_dependency(said: &mut Said, page: Page, line: u32) {
     let text = page.text(line);
     let start = page.section(line).start;
     let step = line.saturating_sub(start).saturating_sub(1);
     if let Some(place) = later(text, step) {
-        said.title(
+        said.title_with(
             b"step # waits for step @, which is not in front of it",
             &[field(text, place)],
             &[step],
-        )?;
-        said.fault_at(page.at(line, place, place), b"this is step #", &[], &[step])?;
+        );
+        said.fault_at_with(page.at(line, place, place), b"this is step #", &[], &[step]);
     } else {
-        said.title(b"a step waits for one that is not in front of it", &[], &[])?;
+        said.title(b"a step waits for one that is not in front of it");
     }
-    said.note(
+    said.note_with(
         b"Steps count from 0 in the order of their lines: step n stands in line # + n.",
         &[],
         &[start.saturating_add(1)],

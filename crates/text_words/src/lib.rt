@@ -11,5 +11,5 @@ mod said;
 mod telling;
 
 pub use page::{Page, Place, Span, field, place_of, span_of};
-pub use said::{Said, push_words};
+pub use said::Said;
 pub use telling::tell_text;

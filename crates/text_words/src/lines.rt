@@ -30,22 +30,26 @@ pub fn bad_line(alloc: Global, said: &mut Said, page: Page, number: u32) -> Resu
         start,
     };
     if page.line(number).is_none() {
-        return line.missing(said);
+        line.missing(said);
+        return Ok(());
     }
     if part == Part::Behind {
-        return line.behind(said);
+        line.behind(said);
+        return Ok(());
     }
-    said.title(b"line # is no line of a @", &[called(part)], &[number])?;
-    if line.spacing(said)? {
+    said.title_with(b"line # is no line of a @", &[called(part)], &[number]);
+    if line.spacing(said) {
         return Ok(());
     }
     if number == start {
-        return line.first(said);
+        line.first(said);
+        return Ok(());
     }
     match form_of(part, field(text, 0)) {
-        None => line.unknown(alloc, said),
+        None => line.unknown(alloc, said)?,
         Some(form) => line.fields(said, form),
     }
+    Ok(())
 }
 
 // Whether the line has more than one space between fields, or one at an end.
@@ -123,31 +127,29 @@ fn after_fault(text: &[u8], after: usize) -> Option<(usize, &'static [u8])> {
 
 impl<'a> Line<'a> {
     // The text is over before the line.
-    fn missing(&self, said: &mut Said) -> Result<(), Refusal> {
+    fn missing(&self, said: &mut Said) {
         let is_whole_part = self.start == self.number;
         match self.part {
             Part::Cert if is_whole_part => {
-                said.title(b"the bundle has no certificate", &[], &[])?;
+                said.title(b"the bundle has no certificate");
             }
             Part::Plan if is_whole_part => {
-                said.title(b"the bundle has no plan and no change", &[], &[])?;
+                said.title(b"the bundle has no plan and no change");
             }
             _ => {
                 let part = called(self.part);
-                said.title(b"the bundle stops before its @ does", &[part], &[])?;
+                said.title_with(b"the bundle stops before its @ does", &[part], &[]);
             }
         }
         if self.number > 1 {
-            said.beside(self.number - 1, b"the last line", &[], &[])?;
+            said.beside(self.number - 1, b"the last line");
         }
         if self.part == Part::Cert && is_whole_part {
             return said.note(
                 b"A certificate without facts and chains is the lines `cert 1` and `end`.",
-                &[],
-                &[],
             );
         }
-        said.note(
+        said.note_with(
             b"Line # should be there: the part that begins in line # has no `end` yet.",
             &[],
             &[self.number, self.start],
@@ -155,34 +157,28 @@ impl<'a> Line<'a> {
     }
 
     // A line behind the certificate, or behind a change.
-    fn behind(&self, said: &mut Said) -> Result<(), Refusal> {
-        said.title(
-            b"there is more than a plan and its certificate, and it is no history",
-            &[],
-            &[],
-        )?;
-        said.fault(self.number, b"no line of a history", &[], &[])?;
+    fn behind(&self, said: &mut Said) {
+        said.title(b"there is more than a plan and its certificate, and it is no history");
+        said.fault(self.number, b"no line of a history");
         said.note(
             b"Behind a certificate may stand a history: `history 1`, a line for each event with its reply, `end`.",
-            &[],
-            &[],
         )
     }
 
     // The whole line is at fault for this.
-    fn whole(&self, said: &mut Said, words: &[u8]) -> Result<(), Refusal> {
-        said.fault(self.number, words, &[], &[])
+    fn whole(&self, said: &mut Said, words: &[u8]) {
+        said.fault(self.number, words)
     }
 
     // The field of that place is.
-    fn part(&self, said: &mut Said, place: usize, words: &[u8]) -> Result<(), Refusal> {
-        said.fault_at(self.page.at(self.number, place, place), words, &[], &[])
+    fn part(&self, said: &mut Said, place: usize, words: &[u8]) {
+        said.fault_at(self.page.at(self.number, place, place), words)
     }
 
     // A mend: the line with its fields between single spaces.
-    fn respace(&self, said: &mut Said, words: &[u8]) -> Result<(), Refusal> {
-        said.mend(words, &[], &[])?;
-        said.put(self.number)?;
+    fn respace(&self, said: &mut Said, words: &[u8]) {
+        said.mend(words);
+        said.put(self.number);
         let mut is_begun = false;
         let mut is_apart = false;
         for byte in self.text {
@@ -190,97 +186,95 @@ impl<'a> Line<'a> {
                 is_apart = is_begun;
             } else {
                 if is_apart {
-                    said.add(b" ", &[], &[])?;
+                    said.add(b" ");
                 }
-                said.add(b"@", &[&[*byte]], &[])?;
+                said.add_with(b"@", &[&[*byte]], &[]);
                 is_begun = true;
                 is_apart = false;
             }
         }
-        said.add(b"\n", &[], &[])
+        said.add(b"\n")
     }
 
     // What is wrong with how the line is written, whatever it says; whether something is.
-    fn spacing(&self, said: &mut Said) -> Result<bool, Refusal> {
+    fn spacing(&self, said: &mut Said) -> bool {
         if self.text.is_empty() {
-            self.whole(said, b"an empty line")?;
-            said.note(
-                b"Take it out: texts have no empty lines and no comments.",
-                &[],
-                &[],
-            )?;
+            self.whole(said, b"an empty line");
+            said.note(b"Take it out: texts have no empty lines and no comments.");
         } else if self.text.contains(&b'\r') {
-            self.whole(said, b"it has a carriage return, as texts of Windows do")?;
-            self.respace(said, b"without it")?;
+            self.whole(said, b"it has a carriage return, as texts of Windows do");
+            self.respace(said, b"without it");
         } else if self.text.contains(&b'\t') {
-            self.whole(said, b"it has a tab")?;
-            self.respace(said, b"one space in its place")?;
+            self.whole(said, b"it has a tab");
+            self.respace(said, b"one space in its place");
         } else if self.text.first() == Some(&b'#') || self.text.first() == Some(&b'/') {
-            self.whole(said, b"a comment")?;
-            said.note(b"Take it out: texts have no comments.", &[], &[])?;
+            self.whole(said, b"a comment");
+            said.note(b"Take it out: texts have no comments.");
         } else if is_spaced(self.text) {
-            self.whole(said, b"more than one space, or one at an end")?;
-            self.respace(said, b"one space between fields")?;
+            self.whole(said, b"more than one space, or one at an end");
+            self.respace(said, b"one space between fields");
         } else {
-            return Ok(false);
+            return false;
         }
-        Ok(true)
+        true
     }
 
     // The first line of a part.
-    fn first(&self, said: &mut Said) -> Result<(), Refusal> {
+    fn first(&self, said: &mut Said) {
         let (part, wanted) = (called(self.part), first_line(self.page, self.part));
-        said.fault(self.number, b"the @ begins with `@`", &[part, wanted], &[])?;
-        said.mend(b"with `@` here", &[wanted], &[])?;
-        said.put(self.number)?;
-        said.add(b"@\n", &[wanted], &[])
+        said.fault_with(self.number, b"the @ begins with `@`", &[part, wanted], &[]);
+        said.mend_with(b"with `@` here", &[wanted], &[]);
+        said.put(self.number);
+        said.add_with(b"@\n", &[wanted], &[])
     }
 
     // A line whose first word no line of its part has.
     fn unknown(&self, alloc: Global, said: &mut Said) -> Result<(), Refusal> {
         let word = field(self.text, 0);
         let at = self.page.at(self.number, 0, 0);
-        said.fault_at(at, b"no word of a @", &[called(self.part)], &[])?;
+        said.fault_at_with(at, b"no word of a @", &[called(self.part)], &[]);
         let mut nearest = Nearest::new(word);
         for form in forms(self.part) {
             nearest.look(alloc, word, field(form, 0))?;
         }
         if nearest.word.is_empty() {
-            return self.allowed(said);
+            self.allowed(said);
+            return Ok(());
         }
-        said.mend(b"`@` was meant?", &[nearest.word], &[])?;
-        said.put(self.number)?;
-        said.add(b"@", &[nearest.word], &[])?;
-        said.add(b"@\n", &[self.page.around(self.number, 0).1], &[])
+        said.mend_with(b"`@` was meant?", &[nearest.word], &[]);
+        said.put(self.number);
+        said.add_with(b"@", &[nearest.word], &[]);
+        said.add_with(b"@\n", &[self.page.around(self.number, 0).1], &[]);
+        Ok(())
     }
 
     // What lines its part may have.
-    fn allowed(&self, said: &mut Said) -> Result<(), Refusal> {
+    fn allowed(&self, said: &mut Said) {
         let mut words: &[u8] = b"  Here may stand: `@`";
         for form in forms(self.part) {
-            said.add_note(words, &[form], &[])?;
+            said.add_note_with(words, &[form], &[]);
             words = b", `@`";
         }
-        said.add_note(b"\n", &[], &[])
+        said.add_note(b"\n")
     }
 
     // A line of a known word whose fields are wrong.
-    fn fields(&self, said: &mut Said, form: &[u8]) -> Result<(), Refusal> {
-        if self.part == Part::Ring && self.of_ring(said)? {
-            return Ok(());
+    fn fields(&self, said: &mut Said, form: &[u8]) {
+        if self.part == Part::Ring && self.of_ring(said) {
+            return;
         }
-        if self.part == Part::Plan && self.after(said)? {
-            return Ok(());
+        if self.part == Part::Plan && self.after(said) {
+            return;
         }
         match wrong_field(self.text, form) {
-            Some((place, fault)) => self.part(said, place, fault)?,
-            None => self.miscounted(said, form)?,
+            Some((place, fault)) => self.part(said, place, fault),
+            None => self.miscounted(said, form),
         }
-        said.note(b"It is written `@`.", &[form], &[])
+        said.note_with(b"It is written `@`.", &[form], &[])
     }
 
     // More or fewer fields than the form has.
-    fn miscounted(&self, said: &mut Said, form: &[u8]) -> Result<(), Refusal> {
+    fn miscounted(&self, said: &mut Said, form: &[u8]) {
         let (count, wanted) = (count_fields(self.text), count_fields(form));
         if count < wanted {
             return self.whole(said, b"it has too few fields");
@@ -292,25 +286,25 @@ impl<'a> Line<'a> {
     }
 
     // What is wrong with the steps behind `after`; whether something is.
-    fn after(&self, said: &mut Said) -> Result<bool, Refusal> {
+    fn after(&self, said: &mut Said) -> bool {
         let Some(after) = place_of(self.text, b"after") else {
-            return Ok(false);
+            return false;
         };
         let Some((place, fault)) = after_fault(self.text, after) else {
-            return Ok(false);
+            return false;
         };
-        self.part(said, place, fault)?;
-        Ok(true)
+        self.part(said, place, fault);
+        true
     }
 
     // What is wrong with a line of a ring beyond its fields; whether something is.
-    fn of_ring(&self, said: &mut Said) -> Result<bool, Refusal> {
+    fn of_ring(&self, said: &mut Said) -> bool {
         let word = field(self.text, 0);
         let count = count_fields(self.text);
         if word == b"space".as_slice() && number(field(self.text, 1)).is_some() && count == 2 {
-            self.part(said, 1, b"no power of two")?;
-            said.note(b"A ring has 1, 2, 4, .. or 4096 partitions.", &[], &[])?;
-            return Ok(true);
+            self.part(said, 1, b"no power of two");
+            said.note(b"A ring has 1, 2, 4, .. or 4096 partitions.");
+            return true;
         }
         let is_format_3 = self.page.line(1) == Some(b"ring 3".as_slice());
         if word == b"quorum".as_slice() && count == 5 && !is_format_3 {
@@ -318,13 +312,11 @@ impl<'a> Line<'a> {
                 said,
                 4,
                 b"how many stores may be lost: a ring of format 3 says it",
-            )?;
+            );
             said.note(
                 b"Write `ring 3` in line 1 and `cert 2` in the certificate, or take the number out.",
-                &[],
-                &[],
-            )?;
-            return Ok(true);
+            );
+            return true;
         }
         if word == b"slots".as_slice() {
             return self.of_slots(said);
@@ -332,7 +324,7 @@ impl<'a> Line<'a> {
         if word == b"end".as_slice() || word == b"node".as_slice() {
             return self.of_order(said);
         }
-        Ok(false)
+        false
     }
 
     // How many lines `slots` stand in front of the line.
@@ -346,35 +338,35 @@ impl<'a> Line<'a> {
         count
     }
 
-    fn of_slots(&self, said: &mut Said) -> Result<bool, Refusal> {
+    fn of_slots(&self, said: &mut Said) -> bool {
         let next = self.partitions();
         if number(field(self.text, 1)) != Some(next) {
             let at = self.page.at(self.number, 1, 1);
-            said.fault_at(at, b"the next one is partition #", &[], &[next])?;
-            return Ok(true);
+            said.fault_at_with(at, b"the next one is partition #", &[], &[next]);
+            return true;
         }
         let wanted = number(field(self.page.text(3), 1)).unwrap_or(0);
         if count_fields(self.text).saturating_sub(2) == wanted as usize {
-            return Ok(false);
+            return false;
         }
-        said.fault(
+        said.fault_with(
             self.number,
             b"each partition has # slots, and so many owners",
             &[],
             &[wanted],
-        )?;
-        Ok(true)
+        );
+        true
     }
 
     // A line `end` or `node` where one of `slots` must stand; whether that is so.
-    fn of_order(&self, said: &mut Said) -> Result<bool, Refusal> {
+    fn of_order(&self, said: &mut Said) -> bool {
         let seen = self.partitions();
         let wanted = number(field(self.page.text(2), 1)).unwrap_or(0);
         if seen >= wanted || (seen == 0 && field(self.text, 0) != b"end".as_slice()) {
-            return Ok(false);
+            return false;
         }
-        said.fault(self.number, b"`slots #` must come here", &[], &[seen])?;
-        said.beside(2, b"# partitions", &[], &[wanted])?;
-        Ok(true)
+        said.fault_with(self.number, b"`slots #` must come here", &[], &[seen]);
+        said.beside_with(2, b"# partitions", &[], &[wanted]);
+        true
     }
 }

@@ -1,8 +1,8 @@
 //! What is said of a refusal.
 
 use crate::page::{Page, Place, cut_line};
-use ring_names::{Refusal, push_decimal};
 use std::alloc::Global;
+use words::Words;
 
 // A line that is shown, and what is said of a part of it.
 #[derive(Clone, Copy)]
@@ -23,50 +23,25 @@ struct Change {
     end: usize,
 }
 
-/// Why something is refused: a title, the lines concerned, notes, and a mend. All words are given as a template, in which `@` is the next name and `#` the next number.
+/// Why something is refused: a title, the lines concerned, notes, and a mend. Words are given as they are, or by a template, in which `@` is the next name and `#` the next number.
+/// Where memory is refused, what is pushed of it is lost with it.
 #[derive(Drop)]
 pub struct Said {
-    title: Vec<u8>,
+    title: Words,
     marks: Vec<Mark>,
     // What is said of the marks.
-    words: Vec<u8>,
+    words: Words,
     // Whole lines.
-    notes: Vec<u8>,
+    notes: Words,
     // What the mend says.
-    says: Vec<u8>,
+    says: Words,
     changes: Vec<Change>,
     // The lines of the changes, each with its line feed.
-    news: Vec<u8>,
+    news: Words,
 }
 
 // How many bytes of a line are shown.
 const SHOWN: usize = 90;
-
-/// The words, with the next of the names for each `@` and the next of the numbers for each `#`; nothing where there are too few.
-pub fn push_words(
-    out: &mut Vec<u8>,
-    words: &[u8],
-    names: &[&[u8]],
-    numbers: &[u32],
-) -> Result<(), Refusal> {
-    let (mut name, mut number) = (0usize, 0usize);
-    for byte in words {
-        if *byte == b'@' {
-            if let Some(text) = names.get(name) {
-                out.extend_from_slice(text)?;
-            }
-            name = name.saturating_add(1);
-        } else if *byte == b'#' {
-            if let Some(count) = numbers.get(number) {
-                push_decimal(out, *count)?;
-            }
-            number = number.saturating_add(1);
-        } else {
-            out.push(*byte)?;
-        }
-    }
-    Ok(())
-}
 
 // The bytes from one place up to another, as far as there are such.
 fn cut_out(text: &[u8], begin: usize, end: usize) -> &[u8] {
@@ -80,91 +55,102 @@ impl Said {
     /// Nothing is said yet.
     pub fn new(alloc: Global) -> Said {
         Said {
-            title: Vec::new(alloc),
+            title: Words::new(alloc),
             marks: Vec::new(alloc),
-            words: Vec::new(alloc),
-            notes: Vec::new(alloc),
-            says: Vec::new(alloc),
+            words: Words::new(alloc),
+            notes: Words::new(alloc),
+            says: Words::new(alloc),
             changes: Vec::new(alloc),
-            news: Vec::new(alloc),
+            news: Words::new(alloc),
         }
     }
 
-    /// Whether there is a title.
-    pub fn is_begun(&self) -> bool {
-        !self.title.is_empty()
+    /// The title, in the place of one that was given before.
+    pub fn title(&mut self, words: &[u8]) {
+        self.title.clear();
+        self.title.text(words);
     }
 
-    /// The title, in the place of one that was given before.
-    pub fn title(&mut self, words: &[u8], names: &[&[u8]], numbers: &[u32]) -> Result<(), Refusal> {
+    /// The same by a template.
+    pub fn title_with(&mut self, words: &[u8], names: &[&[u8]], numbers: &[u32]) {
         self.title.clear();
-        push_words(&mut self.title, words, names, numbers)
+        self.title.fill(words, names, numbers);
     }
 
     // Shows the line, and marks the words that follow from the place on as those said of it.
-    fn mark(&mut self, place: Place, is_fault: bool, begin: usize) -> Result<(), Refusal> {
-        self.marks.push(Mark {
+    fn mark(&mut self, place: Place, is_fault: bool, begin: usize) {
+        let end = self.words.len();
+        let mark = Mark {
             place,
             is_fault,
             begin,
-            end: self.words.len(),
-        })?;
-        Ok(())
+            end,
+        };
+        if self.marks.push(mark).is_err() {
+            self.words.lose();
+        }
     }
 
     /// Shows a line of which that part is at fault. A line is shown once: what is said last of it stays.
-    pub fn fault_at(
-        &mut self,
-        place: Place,
-        words: &[u8],
-        names: &[&[u8]],
-        numbers: &[u32],
-    ) -> Result<(), Refusal> {
+    pub fn fault_at(&mut self, place: Place, words: &[u8]) {
         let begin = self.words.len();
-        push_words(&mut self.words, words, names, numbers)?;
+        self.words.text(words);
+        self.mark(place, true, begin)
+    }
+
+    /// The same by a template.
+    pub fn fault_at_with(&mut self, place: Place, words: &[u8], names: &[&[u8]], numbers: &[u32]) {
+        let begin = self.words.len();
+        self.words.fill(words, names, numbers);
         self.mark(place, true, begin)
     }
 
     /// Shows a line that is at fault, all of it.
-    pub fn fault(
-        &mut self,
-        line: u32,
-        words: &[u8],
-        names: &[&[u8]],
-        numbers: &[u32],
-    ) -> Result<(), Refusal> {
-        self.fault_at(Place::whole(line), words, names, numbers)
+    pub fn fault(&mut self, line: u32, words: &[u8]) {
+        self.fault_at(Place::whole(line), words)
+    }
+
+    /// The same by a template.
+    pub fn fault_with(&mut self, line: u32, words: &[u8], names: &[&[u8]], numbers: &[u32]) {
+        self.fault_at_with(Place::whole(line), words, names, numbers)
     }
 
     /// Shows a line that belongs to what is at fault.
-    pub fn beside(
-        &mut self,
-        line: u32,
-        words: &[u8],
-        names: &[&[u8]],
-        numbers: &[u32],
-    ) -> Result<(), Refusal> {
+    pub fn beside(&mut self, line: u32, words: &[u8]) {
         let begin = self.words.len();
-        push_words(&mut self.words, words, names, numbers)?;
+        self.words.text(words);
+        self.mark(Place::whole(line), false, begin)
+    }
+
+    /// The same by a template.
+    pub fn beside_with(&mut self, line: u32, words: &[u8], names: &[&[u8]], numbers: &[u32]) {
+        let begin = self.words.len();
+        self.words.fill(words, names, numbers);
         self.mark(Place::whole(line), false, begin)
     }
 
     /// One more note.
-    pub fn note(&mut self, words: &[u8], names: &[&[u8]], numbers: &[u32]) -> Result<(), Refusal> {
-        self.notes.extend_from_slice(b"  ")?;
-        self.add_note(words, names, numbers)?;
-        self.notes.push(b'\n')?;
-        Ok(())
+    pub fn note(&mut self, words: &[u8]) {
+        self.notes.text(b"  ");
+        self.notes.text(words);
+        self.notes.byte(b'\n');
+    }
+
+    /// The same by a template.
+    pub fn note_with(&mut self, words: &[u8], names: &[&[u8]], numbers: &[u32]) {
+        self.notes.text(b"  ");
+        self.notes.fill(words, names, numbers);
+        self.notes.byte(b'\n');
     }
 
     /// Goes on with a note that was begun by hand: it has two spaces in front and a line feed at its end.
-    pub fn add_note(
-        &mut self,
-        words: &[u8],
-        names: &[&[u8]],
-        numbers: &[u32],
-    ) -> Result<(), Refusal> {
-        push_words(&mut self.notes, words, names, numbers)
+    pub fn add_note(&mut self, words: &[u8]) {
+        self.notes.text(words);
+    }
+
+    /// The same by a template.
+    pub fn add_note_with(&mut self, words: &[u8], names: &[&[u8]], numbers: &[u32]) {
+        self.notes.fill(words, names, numbers);
     }
 
     /// How many bytes the notes have.
@@ -173,9 +159,15 @@ impl Said {
     }
 
     /// What a mend does. Its lines follow by `put` and `add`.
-    pub fn mend(&mut self, words: &[u8], names: &[&[u8]], numbers: &[u32]) -> Result<(), Refusal> {
+    pub fn mend(&mut self, words: &[u8]) {
         self.says.clear();
-        push_words(&mut self.says, words, names, numbers)
+        self.says.text(words);
+    }
+
+    /// The same by a template.
+    pub fn mend_with(&mut self, words: &[u8], names: &[&[u8]], numbers: &[u32]) {
+        self.says.clear();
+        self.says.fill(words, names, numbers);
     }
 
     /// Whether there is a mend.
@@ -184,23 +176,35 @@ impl Said {
     }
 
     /// Begins what the mended text has in the place of the line. Where nothing is added, the line goes.
-    pub fn put(&mut self, line: u32) -> Result<(), Refusal> {
+    pub fn put(&mut self, line: u32) {
         let end = self.news.len();
-        self.changes.push(Change {
+        let change = Change {
             line,
             begin: end,
             end,
-        })?;
-        Ok(())
+        };
+        if self.changes.push(change).is_err() {
+            self.news.lose();
+        }
     }
 
     /// Goes on with the lines, each of which wants its line feed.
-    pub fn add(&mut self, words: &[u8], names: &[&[u8]], numbers: &[u32]) -> Result<(), Refusal> {
-        push_words(&mut self.news, words, names, numbers)?;
+    pub fn add(&mut self, words: &[u8]) {
+        self.news.text(words);
+        self.end_change();
+    }
+
+    /// The same by a template.
+    pub fn add_with(&mut self, words: &[u8], names: &[&[u8]], numbers: &[u32]) {
+        self.news.fill(words, names, numbers);
+        self.end_change();
+    }
+
+    // The last change goes up to here.
+    fn end_change(&mut self) {
         if let Some(change) = self.changes.last_mut() {
             change.end = self.news.len();
         }
-        Ok(())
     }
 
     // The next line to show behind that one, and its last mark.
@@ -220,35 +224,50 @@ impl Said {
         found
     }
 
-    /// The words: `refused:` and the title, the lines, and the notes.
-    pub fn push(&self, out: &mut Vec<u8>, page: Page) -> Result<(), Refusal> {
-        push_words(out, b"refused: @\n", &[self.title.as_slice()], &[])?;
-        if !self.marks.is_empty() {
-            self.push_marks(out, page)?;
+    /// The words: `refused:` and the title, the lines, and the notes. Nothing where there is no title.
+    pub fn push(&self, out: &mut Words, page: Page) {
+        self.tell_losses(out);
+        if self.title.len() == 0 {
+            return;
         }
-        out.extend_from_slice(self.notes.as_slice())?;
-        Ok(())
+        out.fill(b"refused: @\n", &[self.title.as_slice()], &[]);
+        if !self.marks.is_empty() {
+            self.push_marks(out, page);
+        }
+        out.words(&self.notes);
     }
 
-    fn push_marks(&self, out: &mut Vec<u8>, page: Page) -> Result<(), Refusal> {
+    // Where memory was refused to something that is said, it was to all.
+    fn tell_losses(&self, out: &mut Words) {
+        for part in [
+            &self.title,
+            &self.words,
+            &self.notes,
+            &self.says,
+            &self.news,
+        ] {
+            out.heed(part);
+        }
+    }
+
+    fn push_marks(&self, out: &mut Words, page: Page) {
         let width = self.width();
-        push_margin(out, b' ', width)?;
-        out.push(b'\n')?;
+        push_margin(out, b' ', width);
+        out.byte(b'\n');
         let mut behind = 0u32;
         for turn in 0..self.marks.len() {
             let Some(mark) = self.next(behind) else {
                 break;
             };
             if behind > 0 && mark.place.line > behind.saturating_add(1) {
-                push_margin(out, b'.', width)?;
-                out.push(b'\n')?;
+                push_margin(out, b'.', width);
+                out.byte(b'\n');
             }
-            self.push_mark(out, page, mark, width)?;
+            self.push_mark(out, page, mark, width);
             behind = mark.place.line;
         }
-        push_margin(out, b' ', width)?;
-        out.push(b'\n')?;
-        Ok(())
+        push_margin(out, b' ', width);
+        out.byte(b'\n');
     }
 
     // How many digits the numbers of the shown lines have.
@@ -261,34 +280,28 @@ impl Said {
     }
 
     // A line with its number, and what is said of it below.
-    fn push_mark(
-        &self,
-        out: &mut Vec<u8>,
-        page: Page,
-        mark: Mark,
-        width: usize,
-    ) -> Result<(), Refusal> {
-        push_number(out, mark.place.line, width)?;
-        out.extend_from_slice(b" | ")?;
+    fn push_mark(&self, out: &mut Words, page: Page, mark: Mark, width: usize) {
+        push_number(out, mark.place.line, width);
+        out.text(b" | ");
         let line = page.text(mark.place.line);
         let shown = line.len().min(SHOWN);
-        push_clean(out, &line[..shown])?;
+        push_clean(out, &line[..shown]);
         if shown < line.len() {
-            out.extend_from_slice(b"...")?;
+            out.text(b"...");
         }
-        out.push(b'\n')?;
+        out.byte(b'\n');
         let note = cut_out(self.words.as_slice(), mark.begin, mark.end);
         if note.is_empty() {
-            return Ok(());
+            return;
         }
-        push_margin(out, b' ', width)?;
-        out.push(b' ')?;
-        push_under(out, mark, shown)?;
-        push_words(out, b" @\n", &[note], &[])
+        push_margin(out, b' ', width);
+        out.byte(b' ');
+        push_under(out, mark, shown);
+        out.fill(b" @\n", &[note], &[])
     }
 
     /// The whole text with the mend's changes.
-    pub fn mended(&self, out: &mut Vec<u8>, page: Page) -> Result<(), Refusal> {
+    pub fn mended(&self, out: &mut Words, page: Page) {
         let mut line = 0u32;
         let mut rest = page.bytes;
         for turn in 0..page.bytes.len() {
@@ -297,10 +310,10 @@ impl Said {
             }
             let (one, behind) = cut_line(rest);
             line = line.saturating_add(1);
-            out.extend_from_slice(self.changed(line).unwrap_or(one))?;
+            out.text(self.changed(line).unwrap_or(one));
             rest = behind;
         }
-        Ok(())
+        self.tell_losses(out);
     }
 
     // What stands in the place of the line, where that changes.
@@ -314,13 +327,12 @@ impl Said {
     }
 
     /// `mend:`, what it does, and the new lines, each behind the number of the line in whose place it stands.
-    pub fn push_mend(&self, out: &mut Vec<u8>) -> Result<(), Refusal> {
-        push_words(out, b"  mend: @\n", &[self.says.as_slice()], &[])?;
+    pub fn push_mend(&self, out: &mut Words) {
+        out.fill(b"  mend: @\n", &[self.says.as_slice()], &[]);
         for change in self.changes.as_slice() {
             let new = cut_out(self.news.as_slice(), change.begin, change.end);
-            push_new(out, new, change.line)?;
+            push_new(out, new, change.line);
         }
-        Ok(())
     }
 }
 
@@ -338,59 +350,48 @@ fn count_digits(number: u32) -> usize {
 }
 
 // The number, with spaces in front up to the width.
-fn push_number(out: &mut Vec<u8>, number: u32, width: usize) -> Result<(), Refusal> {
-    push_times(out, b' ', width.saturating_sub(count_digits(number)))?;
-    push_decimal(out, number)?;
-    Ok(())
+fn push_number(out: &mut Words, number: u32, width: usize) {
+    out.times(b' ', width.saturating_sub(count_digits(number)));
+    out.number(number);
 }
 
 // The byte up to the width, and then ` |`.
-fn push_margin(out: &mut Vec<u8>, byte: u8, width: usize) -> Result<(), Refusal> {
-    push_times(out, byte, width)?;
-    out.extend_from_slice(b" |")?;
-    Ok(())
-}
-
-fn push_times(out: &mut Vec<u8>, byte: u8, count: usize) -> Result<(), Refusal> {
-    for turn in 0..count {
-        out.push(byte)?;
-    }
-    Ok(())
+fn push_margin(out: &mut Words, byte: u8, width: usize) {
+    out.times(byte, width);
+    out.text(b" |");
 }
 
 // What stands under the marked part of a line of which so many bytes are shown.
-fn push_under(out: &mut Vec<u8>, mark: Mark, shown: usize) -> Result<(), Refusal> {
+fn push_under(out: &mut Words, mark: Mark, shown: usize) {
     let Place { from, to, .. } = mark.place;
     let (from, to) = if from < to {
         (from.min(shown), to.min(shown))
     } else {
         (0, shown)
     };
-    push_times(out, b' ', from)?;
+    out.times(b' ', from);
     let byte = if mark.is_fault { b'^' } else { b'-' };
-    push_times(out, byte, to.saturating_sub(from).max(1))
+    out.times(byte, to.saturating_sub(from).max(1))
 }
 
 // The bytes, with a question mark for each that is no printable one.
-fn push_clean(out: &mut Vec<u8>, line: &[u8]) -> Result<(), Refusal> {
+fn push_clean(out: &mut Words, line: &[u8]) {
     for byte in line {
         let is_clean = b' ' <= *byte && *byte <= b'~';
-        out.push(if is_clean { *byte } else { b'?' })?;
+        out.byte(if is_clean { *byte } else { b'?' });
     }
-    Ok(())
 }
 
 // The new lines in the place of the line.
-fn push_new(out: &mut Vec<u8>, new: &[u8], line: u32) -> Result<(), Refusal> {
+fn push_new(out: &mut Words, new: &[u8], line: u32) {
     let mut rest = new;
     for turn in 0..new.len() {
         if rest.is_empty() {
             break;
         }
         let (one, behind) = cut_line(rest);
-        push_number(out, line, 8)?;
-        push_words(out, b" + @", &[one], &[])?;
+        push_number(out, line, 8);
+        out.fill(b" + @", &[one], &[]);
         rest = behind;
     }
-    Ok(())
 }

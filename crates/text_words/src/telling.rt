@@ -19,13 +19,13 @@ pub fn tell_text(
     let page = Page { bytes };
     match refusal {
         Refusal::BadLine(line) => bad_line(alloc, said, page, *line)?,
-        Refusal::TooLarge(line) => too_large(said, *line)?,
+        Refusal::TooLarge(line) => too_large(said, *line),
         Refusal::UnknownNode(line) => unknown_node(alloc, said, page, *line)?,
-        Refusal::Repeated(line) => repeated(said, page, *line)?,
-        Refusal::QuorumTooSmall(line) => quorum(said, page, *line)?,
-        Refusal::SharedNode(line) => shared_node(said, page, *line)?,
-        Refusal::NotMember(line) => not_member(said, page, *line)?,
-        Refusal::LaterDependency(line) => later_dependency(said, page, *line)?,
+        Refusal::Repeated(line) => repeated(said, page, *line),
+        Refusal::QuorumTooSmall(line) => quorum(said, page, *line),
+        Refusal::SharedNode(line) => shared_node(said, page, *line),
+        Refusal::NotMember(line) => not_member(said, page, *line),
+        Refusal::LaterDependency(line) => later_dependency(said, page, *line),
         _ => return Ok(false),
     }
     Ok(true)

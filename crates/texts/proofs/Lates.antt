@@ -257,3 +257,8 @@ late-whole {A} {B} n m (Err y) e text s new read is h start late = λ memory.
 pub at-mapped : {A B : Type 0} (k : ℕ) (f : A → B) (r : Result A Refusal) (read : Result B Refusal) → map_ok f r ≡ read → At k read → At k r
 at-mapped k f (Ok x) read e p = tt
 at-mapped k f (Err d) read e p = rw (sym e) at p
+
+-- one of two
+pub either-at : {A : Type 0} (k : ℕ) (t : Bool) (x y : Result A Refusal × List (List ℕ)) → At k x.0 → At k y.0 → At k (cond t x y).0
+either-at k true x y p q = p
+either-at k false x y p q = q

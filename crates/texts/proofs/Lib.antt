@@ -16,3 +16,4 @@ pub mod Firsts
 pub mod InFront
 pub mod Faults
 pub mod Halves
+pub mod Parts

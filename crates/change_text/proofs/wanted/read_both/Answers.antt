@@ -1,8 +1,9 @@
 use Rattle.std.proofs.Common.{arith}
 use Rattle.texts.proofs.Lates.{late-part}
 use Rattle.change_text.specs.Wanted.{wanted_at}
-use Rattle.change_text.proofs.Wanting.{in-ring, in-change, two-on}
+use Rattle.change_text.proofs.Wanting.{in-ring, in-change}
 use Rattle.change_text.proofs.wanted.read_both.Goals as goal
+use Rattle.texts.proofs.Parts.{two-on}
 
 pub returns-in_err-ring-clause-late : goal.returns-in_err-ring-clause-late
 returns-in_err-ring-clause-late c = late-part 4 c.from_residual.result c.in_err-ring.field-0.0 c.args.lines.now c.read_ring_section.new.lines (wanted_at c.args.lines.now) c.from_residual.ensures.1 c.in_err-ring.ensures.late

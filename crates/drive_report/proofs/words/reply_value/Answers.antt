@@ -1,6 +1,6 @@
 use Rattle.std.proofs.Common.{◌≡◌, ◌++◌, IsUtf8, inl, inr, sym, ap, subst, ◌∙◌}
 use Rattle.std.proofs.lemmas.Result.{IfErr-weaker}
-use Rattle.plan_check.specs.Replies.{reply_text}
+use Rattle.plan_runs.specs.Replies.{reply_text}
 use Rattle.drive_report.proofs.Ascii.{reply-utf8}
 use Rattle.drive_report.proofs.words.reply_value.Goals as goal
 

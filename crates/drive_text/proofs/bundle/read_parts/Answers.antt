@@ -1,9 +1,11 @@
 use Rattle.std.proofs.Common.{arith}
 use Rattle.texts.proofs.Lates.{late-part}
 use Rattle.drive_text.specs.Drives.{drive_at}
-use Rattle.drive_text.proofs.ScriptsRead.{two-on}
-use Rattle.drive_text.proofs.BundleRead.{bad-scripts, in-ring, in-plan, in-cert, in-scripts, past-plan, past-cert}
+use Rattle.drive_text.proofs.BundleRead.{bad-scripts, in-ring, in-plan, in-cert, in-scripts}
 use Rattle.drive_text.proofs.bundle.read_parts.Goals as goal
+use Rattle.texts.proofs.Parts.{two-on}
+use Rattle.plan_text.proofs.PlanLates.{past-plan}
+use Rattle.plan_cert.proofs.CertLates.{past-cert}
 
 pub returns-in_err-ring-clause-late : goal.returns-in_err-ring-clause-late
 returns-in_err-ring-clause-late c = late-part 4 c.from_residual.result c.in_err-ring.field-0.0 c.args.lines.now c.read_ring_section.new.lines (drive_at c.args.lines.now) c.from_residual.ensures.1 c.in_err-ring.ensures.late

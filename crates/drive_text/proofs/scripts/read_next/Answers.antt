@@ -1,8 +1,9 @@
 use Rattle.std.proofs.Common.{arith}
 use Rattle.texts.proofs.Lates.{late-part, late-here}
 use Rattle.drive_text.specs.Drives.{Scripts, next_at}
-use Rattle.drive_text.proofs.ScriptsRead.{two-on, in-next, past-next}
+use Rattle.drive_text.proofs.ScriptsRead.{in-next, past-next}
 use Rattle.drive_text.proofs.scripts.read_next.Goals as goal
+use Rattle.texts.proofs.Parts.{two-on}
 
 pub returns-in_err-script-clause-late : goal.returns-in_err-script-clause-late
 returns-in_err-script-clause-late c =

@@ -1,9 +1,10 @@
 use Rattle.texts.proofs.Lates.{at-mapped}
 use Rattle.plan_cert.specs.Said.{chain_said}
 use Rattle.plan_cert.specs.Reading.{chain_at}
-use Rattle.plan_cert.proofs.CertLines.{chain-said, names-of}
+use Rattle.plan_cert.proofs.CertLines.{chain-said}
 use Rattle.plan_cert.proofs.CertLates.{chain-at}
 use Rattle.plan_cert.proofs.lines.chain_line.Goals as goal
+use Rattle.ring_table.proofs.NodesLaws.{names-of}
 
 pub returns-clause-small : goal.returns-clause-small
 returns-clause-small c = (chain-said c.args.ring.now (names-of c.args.ring.now c.n-slots.ensures.valid) c.args.seen.now c.args.fields.number c.args.fields.fields c.judge_chain.result c.judge_chain.ensures).0

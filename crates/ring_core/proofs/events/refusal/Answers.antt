@@ -1,5 +1,5 @@
 use Rattle.std.proofs.Common.{refl}
-use Rattle.plan_check.specs.Guards.{guards}
+use Rattle.plan_runs.specs.Guards.{guards}
 use Rattle.ring_core.proofs.events.refusal.Goals as goal
 
 -- src/events.rt:23:1

@@ -1,8 +1,8 @@
 use Rattle.std.proofs.Common.{rules, ◌≡◌, ◌≢◌, ◌∙◌, ◌+◌, List, [], ◌∷◌, ◌++◌, take, append_assoc, Err, IfErr, sym, ap, subst, arith}
 use Rattle.std.proofs.lemmas.List.{length-take, take_more}
 use Rattle.ring_names.specs.declared.refusal.Refusal.TheVariants.{OutOfMemory}
-use Rattle.plan_check.specs.declared.event.Entry.{Entry}
-use Rattle.plan_check.specs.World.{World as TheWorld}
+use Rattle.plan_runs.specs.declared.event.Entry.{Entry}
+use Rattle.plan_runs.specs.World.{World as TheWorld}
 use Rattle.ring_core.specs.World.{ring_of, plan_of, Meets}
 use Rattle.ring_core.proofs.SoundAfterEvent.{has_number}
 use Rattle.ring_replay.specs.Replays.{Follows}

@@ -1,6 +1,6 @@
 use Rattle.std.proofs.Common.{List, sym, subst, subst₂}
 use Rattle.std.specs.Prelude.{IfOk, IfSome, IfNone}
-use Rattle.plan_check.specs.declared.event.Event.{Event}
+use Rattle.plan_runs.specs.declared.event.Event.{Event}
 use Rattle.ring_receipts.specs.declared.asked.Asked.{Asked}
 use Rattle.ring_receipts.specs.Blocks.{Leaves, HasNoBlock}
 use Rattle.ring_receipts.proofs.blocks.behind_line.Goals as goal

@@ -1,4 +1,4 @@
-use Rattle.plan_check.specs.World.{opening_world}
+use Rattle.plan_runs.specs.World.{opening_world}
 use Rattle.ring_replay.proofs.FirstFault.{leads_without_fault}
 use Rattle.ring_replay.proofs.Followed.{replays_all, fault_from_start}
 use Rattle.ring_replay.proofs.replaying.replay_watched.Goals as goal

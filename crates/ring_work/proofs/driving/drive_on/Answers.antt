@@ -1,5 +1,5 @@
 use Rattle.std.proofs.Common.{◌∙◌, List, length, sym, ap, subst}
-use Rattle.plan_check.specs.declared.event.Entry.{Entry}
+use Rattle.plan_runs.specs.declared.event.Entry.{Entry}
 use Rattle.plan_text.specs.declared.step.Planned.{Planned}
 use Rattle.ring_work.specs.Driven.{IsHistory, MayStop}
 use Rattle.ring_work.proofs.driving.drive_on.Goals as goal

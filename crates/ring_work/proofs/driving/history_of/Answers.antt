@@ -1,7 +1,7 @@
 use Rattle.std.proofs.Common.{List, sym, subst}
 use Rattle.ring_table.specs.Value.{RingValue}
 use Rattle.plan_text.specs.declared.step.Planned.{Planned}
-use Rattle.plan_check.specs.declared.event.Entry.{Entry}
+use Rattle.plan_runs.specs.declared.event.Entry.{Entry}
 use Rattle.ring_work.specs.Driven.{IsHistory, IsWhole}
 use Rattle.ring_work.proofs.Histories.{history, whole}
 use Rattle.ring_work.proofs.driving.history_of.Goals as goal

@@ -1,4 +1,4 @@
-use Rattle.plan_check.specs.declared.event.Event.TheVariants.{StartPut}
+use Rattle.plan_runs.specs.declared.event.Event.TheVariants.{StartPut}
 use Rattle.ring_work.proofs.Attempts.{put_alone}
 use Rattle.ring_work.proofs.putting.put_all.Goals as goal
 

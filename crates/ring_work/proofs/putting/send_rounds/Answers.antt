@@ -1,5 +1,5 @@
 use Rattle.std.proofs.Common.{rules, refl, eq-eqb}
-use Rattle.plan_check.specs.declared.event.Event.TheVariants.{Ack}
+use Rattle.plan_runs.specs.declared.event.Event.TheVariants.{Ack}
 use Rattle.ring_receipts.specs.declared.receipt.Receipt.{Receipt}
 use Rattle.ring_receipts.specs.Kinds.{sends, acknowledges}
 use Rattle.ring_work.proofs.Growing.{grows_not, grows_on, completes_by, completes_not}

@@ -2,8 +2,8 @@
 use Rattle.std.proofs.Common.{◌≡◌, ◌≢◌, ℕ, arith}
 use Rattle.ring_names.specs.declared.refusal.Refusal.{Refusal}
 use Rattle.ring_names.specs.declared.refusal.Refusal.TheVariants.{HistoryFull, OutOfMemory, TurnsSpent, Mismatch}
-use Rattle.plan_check.specs.World.{opening_world}
-use Rattle.ring_replay.proofs.FirstFault.{fault_mismatch, fault_once}
+use Rattle.plan_runs.specs.World.{opening_world}
+use Rattle.ring_exec.proofs.FirstFault.{fault_mismatch, fault_once}
 use Rattle.ring_work.proofs.resuming.stopped.Goals as goal
 
 turns_not_full : (e : Refusal) → e ≡ TurnsSpent → e ≢ HistoryFull

@@ -3,7 +3,7 @@ use Rattle.std.specs.List.{join_with_byte}
 use Rattle.std.proofs.lemmas.Result.{on_ok_weaker}
 use Rattle.texts.specs.Parts.{spaced}
 use Rattle.ring_table.specs.Value.{names_of}
-use Rattle.plan_check.specs.declared.event.Event.{Event}
+use Rattle.plan_runs.specs.declared.event.Event.{Event}
 use Rattle.script_text.specs.Spelling.{writer_at, value_text, seen_fields, event_fields}
 use Rattle.script_text.proofs.WriteLaws.{put-written}
 use Rattle.script_text.proofs.writing.push_event.Goals as goal

@@ -3,7 +3,8 @@ use Rattle.std.specs.Prelude.{Option}
 use Rattle.ring_names.specs.declared.ids.NodeId.{NodeId}
 use Rattle.store_tables.specs.Nodes.{is_up_at}
 use Rattle.store_tells.specs.Parts.{ring_of, plan_of, kept_of}
-use Rattle.store_events.specs.ChunkKeepers.{keeps_part, IsLeastDown}
+use Rattle.store_events.specs.ChunkKeepers.{keeps_part}
+use Rattle.store_tells.specs.LeastDown.{IsLeastDown}
 use Rattle.store_events.proofs.LeastKeeperDown.{less_none, less_first, less_old, less_new, part_kept}
 use Rattle.store_events.proofs.chunk_keepers.with_keeper.Goals as goal
 

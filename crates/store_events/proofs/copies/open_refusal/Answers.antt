@@ -1,6 +1,6 @@
 use Rattle.std.proofs.Common.{◌∙◌, sym}
 use Rattle.std.proofs.lemmas.Bool.{or_right, or_from, or_left}
-use Rattle.plan_check.proofs.Passed.{ready}
+use Rattle.plan_runs.proofs.Passed.{ready}
 use Rattle.store_tables.specs.Steps.{is_done_at, is_open_at}
 use Rattle.store_tells.proofs.StageGuards.{ready_kept}
 use Rattle.store_tells.specs.Parts.{plan_of}

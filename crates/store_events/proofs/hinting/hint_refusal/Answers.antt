@@ -1,5 +1,5 @@
 use Rattle.std.proofs.Common.{◌∙◌, refl, not, sym, ap, []}
-use Rattle.plan_check.specs.World.{keeps_other}
+use Rattle.plan_runs.specs.World.{keeps_other}
 use Rattle.ring_names.specs.declared.refusal.Refusal.TheVariants.{KeeperTaken}
 use Rattle.store_tells.specs.Parts.{ring_of, plan_of, kept_of}
 use Rattle.store_tells.proofs.WhoKeepsHints.{other_tells, both_tell}

@@ -1,5 +1,5 @@
 use Rattle.std.proofs.Common.{◌≡◌, false}
-use Rattle.plan_check.specs.World.{some_below, slot_at}
+use Rattle.plan_runs.specs.World.{some_below, slot_at}
 use Rattle.store_tells.specs.GuardsKept.{is_served_kept}
 use Rattle.store_events.proofs.hinting.serves_in.Given as goal
 

@@ -1,6 +1,6 @@
 use Rattle.std.specs.List.{list_any}
 use Rattle.store_maps.specs.Slots.{held_for}
-use Rattle.plan_check.specs.Versions.{some_hinted}
+use Rattle.plan_runs.specs.Versions.{some_hinted}
 use Rattle.store_tells.specs.Parts.{ring_of, plan_of, kept_of}
 use Rattle.store_events.proofs.ChunkSources.{gathers_same, gathers_no, keepers_have, none_have}
 use Rattle.store_events.proofs.sources.add_hints.Goals as goal

@@ -4,7 +4,7 @@ use Rattle.store_maps.specs.Chunks.{chunk_of}
 use Rattle.store_maps.specs.Held.{held}
 use Rattle.store_maps.specs.Slots.{held_for}
 use Rattle.ring_hints.specs.Hints.{hinted_at}
-use Rattle.plan_check.specs.World.{World}
+use Rattle.plan_runs.specs.World.{World}
 use Rattle.store_events.proofs.ChunkSources.{Visits, visits_first, visits_more, visits_all, gathers, gathers_none}
 use Rattle.store_events.proofs.sources.add_keepers.Goals as goal
 

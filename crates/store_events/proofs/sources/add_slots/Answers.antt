@@ -1,7 +1,7 @@
 use Rattle.std.proofs.Common.{◌∙◌, ℕ, refl}
 use Rattle.store_maps.specs.Slots.{held_for}
-use Rattle.plan_check.specs.Versions.{slot_has, some_hinted}
-use Rattle.plan_check.specs.World.{World, slot_at, stage_now}
+use Rattle.plan_runs.specs.Versions.{slot_has, some_hinted}
+use Rattle.plan_runs.specs.World.{World, slot_at, stage_now}
 use Rattle.store_tells.specs.Parts.{ring_of, plan_of}
 use Rattle.store_events.proofs.ChunkSources.{visits_first, visits_more, visits_all, gathers_both, kept_later, none_left}
 use Rattle.store_events.proofs.sources.add_slots.Goals as goal

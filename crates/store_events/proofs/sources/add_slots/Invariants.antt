@@ -1,6 +1,6 @@
 use Rattle.std.proofs.Common.{◌≡◌, true, length}
-use Rattle.plan_check.specs.Versions.{slot_has}
-use Rattle.plan_check.specs.World.{slot_at}
+use Rattle.plan_runs.specs.Versions.{slot_has}
+use Rattle.plan_runs.specs.World.{slot_at}
 use Rattle.store_maps.specs.Slots.{space_of, held_for}
 use Rattle.store_tells.specs.Parts.{ring_of, plan_of}
 use Rattle.store_events.specs.Sources.{are_kept}

@@ -1,7 +1,7 @@
 use Rattle.std.proofs.Common.{refl}
 use Rattle.store_maps.proofs.OneAnswer.{on_ok}
 use Rattle.ring_store.specs.Stores.{held_at, chunk_held_at}
-use Rattle.plan_check.specs.World.{stage_now}
+use Rattle.plan_runs.specs.World.{stage_now}
 use Rattle.store_tells.specs.Puts.{clock_at}
 use Rattle.store_tells.specs.Parts.{ring_of, plan_of, kept_of}
 use Rattle.store_events.proofs.ChunkSources.{part_shown, part_apart, owner_shows, owner_there}

@@ -4,7 +4,7 @@ use Rattle.store_maps.specs.Chunks.{chunk_of}
 use Rattle.store_maps.specs.Held.{held}
 use Rattle.store_maps.specs.Slots.{held_for}
 use Rattle.store_maps.proofs.OneAnswer.{on_ok}
-use Rattle.plan_check.specs.Effects.{source_has}
+use Rattle.plan_runs.specs.Effects.{source_has}
 use Rattle.store_tells.specs.Puts.{clock_at}
 use Rattle.store_tells.specs.Parts.{ring_of, plan_of}
 use Rattle.store_events.proofs.ChunkSources.{read_as}

@@ -1,10 +1,10 @@
 use Rattle.std.proofs.Common.{◌≡◌, ◌∙◌, List, sym, ap, subst}
 use Rattle.std.specs.Prelude.{Ok}
 use Rattle.std.proofs.Props.{props}
-use Rattle.plan_check.specs.declared.event.Event.TheVariants.{Write}
-use Rattle.plan_check.specs.declared.event.Reply.TheVariants as reply
-use Rattle.plan_check.specs.Answers.{answer}
-use Rattle.plan_check.specs.World.{World, slot_at}
+use Rattle.plan_runs.specs.declared.event.Event.TheVariants.{Write}
+use Rattle.plan_runs.specs.declared.event.Reply.TheVariants as reply
+use Rattle.plan_runs.specs.Answers.{answer}
+use Rattle.plan_runs.specs.World.{World, slot_at}
 use Rattle.store_maps.specs.Chunks.{chunk_of}
 use Rattle.ring_store.specs.Stores.{held_at}
 use Rattle.store_tables.specs.declared.puts.PutNow.{PutNow}

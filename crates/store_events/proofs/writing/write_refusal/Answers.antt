@@ -1,5 +1,5 @@
 use Rattle.std.proofs.Common.{◌∙◌, true, false, sym}
-use Rattle.plan_check.specs.World.{slot_at}
+use Rattle.plan_runs.specs.World.{slot_at}
 use Rattle.store_tells.proofs.NodesNow.{nodes_meet}
 use Rattle.store_tells.proofs.SlotsGuards.{write_kept}
 use Rattle.store_tells.specs.Parts.{ring_of, plan_of}

@@ -1,6 +1,6 @@
 use Rattle.store_tells.proofs.StoredGrows.{mirror_more, served_more, copied_more}
 use Rattle.std.proofs.Common.{refl}
-use Rattle.plan_check.specs.Versions.{put_slot}
+use Rattle.plan_runs.specs.Versions.{put_slot}
 use Rattle.store_tells.proofs.stored.puts_come_in_front.Goals as goal
 
 pub returns-clause-node : goal.returns-clause-node

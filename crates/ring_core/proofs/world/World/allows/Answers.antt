@@ -1,6 +1,6 @@
 use Rattle.std.proofs.Common.{sym}
 use Rattle.std.proofs.Props.{props}
-use Rattle.plan_check.proofs.Answered.{refused}
+use Rattle.plan_runs.proofs.Answered.{refused}
 use Rattle.store_tells.proofs.StoreInWorld.{holds}
 use Rattle.ring_core.specs.World.{ring_of, plan_of}
 use Rattle.ring_core.proofs.GuardRefusals.{never_memory}

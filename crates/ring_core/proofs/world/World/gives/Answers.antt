@@ -2,7 +2,7 @@ use Rattle.std.proofs.Common.{◌∙◌, ℕ, List, sym, ap}
 use Rattle.std.specs.List.{list_any}
 use Rattle.plan_text.specs.declared.step.Source.{Source}
 use Rattle.plan_stage.specs.Parties.{source_slots}
-use Rattle.plan_check.specs.World.{slot_at}
+use Rattle.plan_runs.specs.World.{slot_at}
 use Rattle.ring_core.specs.Transfers.{owns_kept}
 use Rattle.ring_core.proofs.OpenCopies.{any_index}
 use Rattle.ring_core.proofs.world.World.gives.Goals as goal

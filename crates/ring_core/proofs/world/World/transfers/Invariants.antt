@@ -1,5 +1,5 @@
 use Rattle.std.proofs.Common.{◌≡◌, length}
-use Rattle.plan_check.specs.World.{passing_below}
+use Rattle.plan_runs.specs.World.{passing_below}
 use Rattle.ring_core.specs.Transfers.{is_open_kept}
 use Rattle.ring_core.specs.World.{plan_of}
 use Rattle.ring_core.proofs.world.World.transfers.Given as goal

@@ -1,7 +1,7 @@
 -- What a store was restored from is a run.
 use Rattle.std.proofs.Common.{List, subst}
 use Rattle.std.proofs.Math.Logic.{∥∥₁_map}
-use Rattle.plan_check.specs.declared.event.Entry.{Entry}
+use Rattle.plan_runs.specs.declared.event.Entry.{Entry}
 use Rattle.ring_replay.specs.Replays.{Replays}
 use Rattle.ring_exec.proofs.executor.Executor.restore.Goals as goal
 

@@ -1,5 +1,5 @@
 use Rattle.std.proofs.Common.{List, subst, sym}
-use Rattle.plan_check.specs.declared.event.Entry.{Entry}
+use Rattle.plan_runs.specs.declared.event.Entry.{Entry}
 use Rattle.ring_replay.specs.Replays.{Replays}
 use Rattle.ring_exec.proofs.ledgered.Ledgered.entries.Goals as goal
 

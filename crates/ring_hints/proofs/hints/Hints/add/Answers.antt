@@ -1,6 +1,6 @@
 use Rattle.std.proofs.Common.{◌∙◌, ℕ, ap}
 use Rattle.ring_space.specs.Place.{place_of}
-use Rattle.ring_hints.proofs.PairChanged.{chunk_at}
+use Rattle.store_maps.proofs.KeyPlaces.{chunk_at}
 use Rattle.ring_hints.proofs.hints.Hints.add.Goals as goal
 
 pub place-chunk-requires : goal.place-chunk-requires

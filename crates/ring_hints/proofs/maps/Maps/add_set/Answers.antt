@@ -3,9 +3,12 @@ use Rattle.std.specs.Prelude.{IsSome, is_some}
 use Rattle.store_maps.specs.Merges.{at_key}
 use Rattle.store_maps.specs.Slots.{held_for}
 use Rattle.store_maps.proofs.OneAnswer.{on_ok, on_err, on_either}
-use Rattle.ring_hints.specs.Kept.{map_of, held_by, AreKept, ArePaired, PutsMap}
+use Rattle.ring_hints.specs.Kept.{map_of, AreKept, ArePaired, PutsMap}
+use Rattle.store_maps.specs.Slots.{held_by}
 use Rattle.ring_hints.specs.Views.{pair_of}
-use Rattle.ring_hints.proofs.PairChanged.{chunk_in, puts_map, same_by, merged_by, kept_by, kept_at, kept_merged, kept_first, not_emptied, paired_stays, merged_at, always_err}
+use Rattle.ring_hints.proofs.PairChanged.{puts_map, same_by, merged_by, kept_by, kept_at, kept_merged, kept_first, not_emptied, paired_stays, merged_at}
+use Rattle.store_maps.proofs.OneAnswer.{always_err}
+use Rattle.store_maps.proofs.KeyPlaces.{chunk_in}
 use Rattle.ring_hints.proofs.maps.Maps.add_set.Goals as goal
 
 pub merge-requires : goal.merge-requires

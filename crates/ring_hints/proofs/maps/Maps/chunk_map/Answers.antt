@@ -1,8 +1,10 @@
 use Rattle.std.proofs.Common.{◌∙◌, [], refl, sym, ap}
 use Rattle.store_maps.specs.Chunks.{chunk_of}
 use Rattle.store_maps.specs.Held.{held}
-use Rattle.ring_hints.specs.Kept.{held_by}
-use Rattle.ring_hints.proofs.PairChanged.{in_chunk, no_place, chunk_in}
+use Rattle.store_maps.specs.Slots.{held_by}
+use Rattle.store_maps.proofs.KeyPlaces.{no_place}
+use Rattle.store_maps.proofs.KeyPlaces.{in_chunk}
+use Rattle.store_maps.proofs.KeyPlaces.{chunk_in}
 use Rattle.ring_hints.proofs.maps.Maps.chunk_map.Goals as goal
 
 pub chunk-requires : goal.chunk-requires

@@ -1,4 +1,4 @@
-use Rattle.ring_hints.proofs.PairChanged.{chunk_at}
+use Rattle.store_maps.proofs.KeyPlaces.{chunk_at}
 use Rattle.ring_hints.proofs.maps.Maps.key_versions.Goals as goal
 
 pub place-chunk-requires : goal.place-chunk-requires

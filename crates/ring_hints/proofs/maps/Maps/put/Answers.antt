@@ -1,5 +1,5 @@
 use Rattle.std.proofs.Common.{refl, ap, Some, None}
-use Rattle.ring_hints.specs.Kept.{held_by}
+use Rattle.store_maps.specs.Slots.{held_by}
 use Rattle.ring_hints.specs.Pairs.{is_pair}
 use Rattle.ring_hints.specs.Views.{is_of, pair_of}
 use Rattle.ring_hints.proofs.PairChanged.{puts_map, put_back, kept_same, paired_same, kept_by, kept_at, paired_by, with_pair}

@@ -1,8 +1,10 @@
 use Rattle.std.proofs.Common.{◌∙◌, [], refl, sym, ap}
 use Rattle.store_maps.specs.Chunks.{chunk_of}
 use Rattle.store_maps.specs.Held.{held}
-use Rattle.ring_store.specs.Slots.{held_by}
-use Rattle.ring_store.proofs.SlotMapsChanged.{in_chunk, no_place, chunk_in}
+use Rattle.store_maps.specs.Slots.{held_by}
+use Rattle.store_maps.proofs.KeyPlaces.{no_place}
+use Rattle.store_maps.proofs.KeyPlaces.{in_chunk}
+use Rattle.store_maps.proofs.KeyPlaces.{chunk_in}
 use Rattle.ring_store.proofs.store.NodeStore.chunk_map.Goals as goal
 
 pub returns-in-Some-clause-some : goal.returns-in-Some-clause-some

@@ -1,5 +1,5 @@
 use Rattle.std.proofs.Common.{ap, None}
-use Rattle.ring_store.specs.Slots.{held_by}
+use Rattle.store_maps.specs.Slots.{held_by}
 use Rattle.ring_store.proofs.SlotMapsChanged.{puts_slot, spaces_by, others_by}
 use Rattle.ring_store.proofs.store.NodeStore.drop_slot.Goals as goal
 

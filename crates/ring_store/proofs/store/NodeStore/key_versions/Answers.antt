@@ -1,4 +1,4 @@
-use Rattle.ring_store.proofs.SlotMapsChanged.{chunk_at}
+use Rattle.store_maps.proofs.KeyPlaces.{chunk_at}
 use Rattle.ring_store.proofs.store.NodeStore.key_versions.Goals as goal
 
 pub key_versions_in-requires : goal.key_versions_in-requires

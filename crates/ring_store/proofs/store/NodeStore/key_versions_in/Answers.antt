@@ -1,7 +1,7 @@
 use Rattle.std.proofs.Common.{◌∙◌, sym, ap}
 use Rattle.store_maps.proofs.OneAnswer.{on_some, on_none}
-use Rattle.ring_store.specs.Slots.{held_by}
-use Rattle.ring_store.proofs.SlotMapsChanged.{chunk_in}
+use Rattle.store_maps.specs.Slots.{held_by}
+use Rattle.store_maps.proofs.KeyPlaces.{chunk_in}
 use Rattle.ring_store.proofs.store.NodeStore.key_versions_in.Goals as goal
 
 pub key_versions-requires : goal.key_versions-requires

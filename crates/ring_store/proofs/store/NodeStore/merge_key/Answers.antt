@@ -1,7 +1,8 @@
 use Rattle.std.proofs.Common.{◌∙◌, sym}
 use Rattle.store_maps.specs.Merges.{at_key}
 use Rattle.store_maps.proofs.OneAnswer.{on_ok, on_err}
-use Rattle.ring_store.proofs.SlotMapsChanged.{chunk_at, chunk_in}
+use Rattle.store_maps.proofs.KeyPlaces.{chunk_in}
+use Rattle.store_maps.proofs.KeyPlaces.{chunk_at}
 use Rattle.ring_store.proofs.LentMaps.{found, spaces_set, same_set, merged_set}
 use Rattle.ring_store.proofs.store.NodeStore.merge_key.Goals as goal
 

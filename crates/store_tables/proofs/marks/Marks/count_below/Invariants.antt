@@ -1,5 +1,5 @@
 use Rattle.std.proofs.Common.{◌≡◌, length}
-use Rattle.plan_check.specs.World.{passing_below}
+use Rattle.plan_runs.specs.World.{passing_below}
 use Rattle.store_tables.specs.Marks.{has_mark}
 use Rattle.store_tables.proofs.marks.Marks.count_below.Given as goal
 

@@ -1,0 +1,11 @@
+pub mod Words
+pub mod Replies
+pub mod World
+pub mod Succession
+pub mod Versions
+pub mod Guards
+pub mod Effects
+pub mod Answers
+pub mod Reached
+pub mod Runs
+pub mod Causes

@@ -1,0 +1,144 @@
+//! What can happen to a store, and what it answers.
+
+ghost use Rattle.std.specs.Prelude.{◌≡◌, ◌++◌, IfOk, OnOk, map};
+ghost use Rattle.std.specs.Fmt.{decimal};
+ghost use Rattle.texts.specs.Parts.{spaced};
+ghost use Rattle.plan_runs.specs.Replies.{reply_text};
+ghost use Rattle.plan_runs.specs.declared.event.Event.TheVariants.{StartPut};
+
+use crate::words::{Key, Seen};
+use ring_names::{Listed, NodeId, Slot, Value, WriterId};
+use std::alloc::{AllocError, Global};
+use texts::push_numbers;
+
+/// One event. Steps, puts and gets are named by their numbers, puts and gets in order of their start.
+#[derive(Debug, Drop)]
+pub enum Event {
+    /// A step that is no copy is done.
+    Do(u32),
+    /// A copy begins, or goes on after it was broken off.
+    OpenCopy(u32),
+    /// One chunk of an open copy is given to the mirror.
+    ChunkCopy(u32, u32),
+    /// An open copy ends, with all its chunks marked.
+    CloseCopy(u32),
+    /// An open copy is broken off; the marks of its chunks stay.
+    AbortCopy(u32),
+    /// A writer starts a put, knowing the replies of these gets.
+    StartPut(WriterId, Key, Value, Seen),
+    /// A put is written to the slot of that index.
+    Write(u32, u32),
+    /// A put is left with a stand-in, as a hint for the slot of that index.
+    Hint(u32, u32, NodeId),
+    /// A put is acknowledged.
+    Ack(u32),
+    /// A get starts.
+    StartGet(Key),
+    /// A get reads the slot of that index.
+    Read(u32, u32),
+    /// A get ends with its reply.
+    EndGet(u32),
+    /// A node goes down; what it holds stays.
+    Down(NodeId),
+    /// A node is up again.
+    Up(NodeId),
+    /// A stand-in hands the hints that it keeps for a slot to the slot's owner and mirror.
+    Handoff(NodeId, Slot),
+    /// A node loses all that it stores and keeps; it stays up or down.
+    Lose(NodeId),
+}
+
+/// What an event is answered.
+#[derive(Debug, Drop)]
+pub enum Reply {
+    /// It is done.
+    Plain,
+    /// The number of the new put.
+    Put(u32),
+    /// The slot that has the put, and the slot's generation.
+    Ticket(Slot, u32),
+    /// The number of the new get.
+    Get(u32),
+    /// The puts that a read found, ascending.
+    Found(Listed<u32>),
+    /// The puts that a get answers, ascending.
+    Answer(Listed<u32>),
+}
+
+/// An event with the reply that it got.
+#[derive(Debug, Drop)]
+pub struct Entry {
+    pub event: Event,
+    pub reply: Reply,
+}
+
+impl Event {
+    /// The same event once more. Only a put and the start of a get take memory.
+    pub fn try_copy(&self, alloc: Global) -> Result<Event, AllocError>
+        ensures { IfOk result (λ event. event ≡ self.now) }
+    {
+        Ok(match self {
+            Event::Do(step) => Event::Do(*step),
+            Event::OpenCopy(step) => Event::OpenCopy(*step),
+            Event::ChunkCopy(step, chunk) => Event::ChunkCopy(*step, *chunk),
+            Event::CloseCopy(step) => Event::CloseCopy(*step),
+            Event::AbortCopy(step) => Event::AbortCopy(*step),
+            Event::StartPut(writer, key, value, seen) => {
+                return copied_put(alloc, *writer, key, value, seen);
+            }
+            Event::Write(put, index) => Event::Write(*put, *index),
+            Event::Hint(put, index, node) => Event::Hint(*put, *index, *node),
+            Event::Ack(put) => Event::Ack(*put),
+            Event::StartGet(key) => Event::StartGet(key.try_copy(alloc)?),
+            Event::Read(get, index) => Event::Read(*get, *index),
+            Event::EndGet(get) => Event::EndGet(*get),
+            Event::Down(node) => Event::Down(*node),
+            Event::Up(node) => Event::Up(*node),
+            Event::Handoff(node, slot) => Event::Handoff(*node, *slot),
+            Event::Lose(node) => Event::Lose(*node),
+        })
+    }
+}
+
+// The start of a put, of the same words.
+fn copied_put(
+    alloc: Global,
+    writer: WriterId,
+    key: &Key,
+    value: &Value,
+    seen: &Seen,
+) -> Result<Event, AllocError>
+    ensures { IfOk result (λ event. event ≡ StartPut writer key.now value.now seen.now) }
+{
+    let key = key.try_copy(alloc)?;
+    let value = value.try_copy()?;
+    let seen = seen.try_copy(alloc)?;
+    Ok(Event::StartPut(writer, key, value, seen))
+}
+
+impl Reply {
+    /// Adds the reply's text, as `ticket 0 1 2`; a list of puts without any is its word alone.
+    pub fn write_text(&self, out: &mut Vec<u8>) -> Result<(), AllocError>
+        ensures { OnOk result (out.new.items ≡ out.old.items ++ reply_text self.now) }
+    {
+        match self {
+            Reply::Plain => out.extend_from_slice(b"ok"),
+            Reply::Put(number) => push_words(out, b"put", &[*number]),
+            Reply::Ticket(slot, generation) => push_words(
+                out,
+                b"ticket",
+                &[slot.partition, slot.index, *generation],
+            ),
+            Reply::Get(number) => push_words(out, b"get", &[*number]),
+            Reply::Found(puts) => push_words(out, b"found", puts.as_slice()),
+            Reply::Answer(puts) => push_words(out, b"reply", puts.as_slice()),
+        }
+    }
+}
+
+fn push_words(out: &mut Vec<u8>, word: &[u8], numbers: &[u32]) -> Result<(), AllocError>
+    ensures { OnOk result (out.new.items ≡ out.old.items ++ word.now ++ spaced (map decimal numbers.now)) }
+{
+    out.extend_from_slice(word)?;
+    push_numbers(out, numbers)
+}

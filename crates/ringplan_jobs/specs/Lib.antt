@@ -1,0 +1,5 @@
+pub mod Io
+pub mod Verdict
+pub mod Answers
+pub mod Replays
+pub mod Outcomes

@@ -1,0 +1,240 @@
+//! What a job makes of a bundle.
+
+ghost use Rattle.std.specs.Prelude.{◌≡◌, ◌++◌, ◌∷◌, [], IfOk, IfErr, OnOk, codes};
+ghost use Rattle.ring_names.specs.declared.refusal.Refusal.TheVariants.{OutOfMemory};
+ghost use Rattle.texts.specs.Judging.{Gives};
+ghost use Rattle.texts.specs.Left.{whole_text};
+ghost use Rattle.texts.specs.Late.{NoFaultBefore};
+ghost use Rattle.ring_table.specs.Spelling.{ring_text};
+ghost use Rattle.plan_text.specs.Valid.{Suits};
+ghost use Rattle.plan_cert.specs.Spelling.{cert_text};
+ghost use Rattle.plan_cert.specs.Valid.{Suits as IsCertOf};
+ghost use Rattle.plan_check.specs.First.{first_refusal};
+ghost use Rattle.plan_check.specs.Headline.{KeepsPromises};
+ghost use Rattle.ring_script.specs.Bundles.{IsOfRing, bundle_at};
+ghost use Rattle.ring_script.specs.declared.bundle.Kind.TheVariants.{Check, Play};
+ghost use Rattle.change_text.specs.Wanted.{wanted_at};
+ghost use Rattle.ringplan_jobs.specs.declared.job.Job.TheVariants.{Check as Checking, Plan as Planning};
+ghost use Rattle.ringplan_jobs.specs.Answers.{texts_of};
+ghost use Rattle.ringplan_jobs.specs.Verdict.{TextsKeepPromises, MakesIf, judged, migrated_text, migration, plays};
+ghost use Rattle.ringplan_jobs.specs.Verdict.{shown, verdict};
+
+use crate::job::Job;
+use crate::replaying::{replay_bundle, replay_whole};
+use change_text::read_wanted;
+use plan_cert::{Cert, write_cert};
+use plan_check::{OpenGate, check, check_parallel};
+use plan_proposal::propose;
+use plan_text::{Plan, write_plan};
+use ring_names::Refusal;
+use ring_script::{Bundle, Kind, play, read_bundle};
+use ring_table::{Ring, write_ring};
+use std::alloc::Global;
+use std::sync::Wait;
+use std::thread::Threads;
+
+// The checker's answer to a plan of the ring with its certificate.
+fn check_plan(alloc: Global, ring: Ring, plan: Plan, cert: &Cert) -> Result<(), Refusal>
+    requires { Suits ring plan }
+    ensures answer { Gives result (judged (first_refusal ring plan cert.now)) }
+    ensures keeps { OnOk result (KeepsPromises ring plan) }
+{
+    match check(alloc, ring, plan, cert) {
+        Ok(_) => Ok(()),
+        Err(turned) => {
+            let refusal = turned.refusal;
+            Err(refusal)
+        }
+    }
+}
+
+/// The verdict on a bundle: `Ok` where it is a ring with a plan that the checker accepts by its certificate, which then keeps its promises. Else the first
+/// fault of the texts, and where there is none the checker's first refusal. `OutOfMemory` comes only where memory ran out, behind
+/// the first four lines of the ring.
+pub fn check_bundle(alloc: Global, bytes: &[u8]) -> Result<(), Refusal>
+    ensures read { Gives result (verdict bytes.now) }
+    // The headline.
+    ensures keeps { OnOk result (TextsKeepPromises bytes.now) }
+    // Memory may run out only if the first four lines have no fault.
+    ensures late { IfErr result (λ e. e ≡ OutOfMemory → NoFaultBefore 5 (whole_text (bundle_at Check) bytes.now)) }
+{
+    match read_bundle(alloc, Kind::Check, bytes) {
+        Ok(bundle) => check_plan(alloc, bundle.ring, bundle.plan, &bundle.cert),
+        Err(e) => Err(e),
+    }
+}
+
+// The same answer, by workers.
+fn check_plan_by<RT: Threads + Wait + Sync>(
+    rt: &RT,
+    alloc: Global,
+    workers: u32,
+    ring: Ring,
+    plan: Plan,
+    cert: &Cert,
+) -> Result<(), Refusal>
+    requires { Suits ring plan }
+    ensures answer { Gives result (judged (first_refusal ring plan cert.now)) }
+    ensures keeps { OnOk result (KeepsPromises ring plan) }
+{
+    match check_parallel(rt, alloc, workers, &OpenGate, ring, plan, cert) {
+        Ok(_) => Ok(()),
+        Err(turned) => {
+            let refusal = turned.refusal;
+            Err(refusal)
+        }
+    }
+}
+
+/// The same verdict as that of `check_bundle`, the headline with it, by that many workers, each with a share of the partitions; none is as one. May wait for them.
+pub fn check_bundle_by<RT: Threads + Wait + Sync>(
+    rt: &RT,
+    alloc: Global,
+    workers: u32,
+    bytes: &[u8],
+) -> Result<(), Refusal>
+    ensures read { Gives result (verdict bytes.now) }
+    // The headline.
+    ensures keeps { OnOk result (TextsKeepPromises bytes.now) }
+    // Memory may run out only if the first four lines have no fault.
+    ensures late { IfErr result (λ e. e ≡ OutOfMemory → NoFaultBefore 5 (whole_text (bundle_at Check) bytes.now)) }
+{
+    match read_bundle(alloc, Kind::Check, bytes) {
+        Ok(bundle) => check_plan_by(rt, alloc, workers, bundle.ring, bundle.plan, &bundle.cert),
+        Err(e) => Err(e),
+    }
+}
+
+// The text of the ring, the plan's text as it is given, and the certificate's text.
+fn write_parts(alloc: Global, ring: &Ring, plan: &[u8], cert: &Cert) -> Result<Vec<u8>, Refusal>
+    requires { IsCertOf ring.now cert.now }
+    ensures text { IfOk result (λ v. v.items ≡ ring_text ring.now ++ (plan.now ++ cert_text ring.now cert.now)) }
+    ensures memory { IfErr result (λ e. e ≡ OutOfMemory) }
+{
+    let mut out = write_ring(alloc, ring)?;
+    out.extend_from_slice(plan)?;
+    let chains = write_cert(alloc, ring, cert)?;
+    out.extend_from_slice(chains.as_slice())?;
+    Ok(out)
+}
+
+// The texts of a bundle, with the ring migrated. A plan's text names nodes, which stay.
+fn write_migrated(alloc: Global, bundle: Bundle) -> Result<Vec<u8>, Refusal>
+    requires { IsOfRing bundle }
+    ensures text { IfOk result (λ v. v.items ≡ migrated_text bundle) }
+    ensures memory { IfErr result (λ e. e ≡ OutOfMemory) }
+{
+    let Bundle {
+        ring,
+        plan,
+        cert,
+        ..
+    } = bundle;
+    let steps = write_plan(alloc, &ring, &plan)?;
+    let ring = ring.migrate();
+    write_parts(alloc, &ring, steps.as_slice(), &cert)
+}
+
+/// The texts of a bundle with a ring of format 1 in format 2, and the certificate in the format that goes with it. A ring of
+/// another format stays, and with it the texts. Nothing is checked: the only refusals are the first fault of the texts, and
+/// `OutOfMemory`, which comes only where memory ran out, behind the first four lines of the ring.
+pub fn migrate_bundle(alloc: Global, bytes: &[u8]) -> Result<Vec<u8>, Refusal>
+    ensures read { Gives (texts_of result) (migration bytes.now) }
+    // Memory may run out only if the first four lines have no fault.
+    ensures late { IfErr result (λ e. e ≡ OutOfMemory → NoFaultBefore 5 (whole_text (bundle_at Check) bytes.now)) }
+{
+    match read_bundle(alloc, Kind::Check, bytes) {
+        Ok(bundle) => write_migrated(alloc, bundle),
+        Err(e) => Err(e),
+    }
+}
+
+// What a play of the bundle's script prints, where the checker accepts its plan.
+fn play_checked(alloc: Global, bundle: Bundle) -> Result<Vec<u8>, Refusal>
+    requires { IsOfRing bundle }
+    ensures { Gives (texts_of result) (shown bundle) }
+{
+    match check(alloc, bundle.ring, bundle.plan, &bundle.cert) {
+        Ok(approved) => play(alloc, &approved, &bundle.script),
+        Err(turned) => {
+            let refusal = turned.refusal;
+            Err(refusal)
+        }
+    }
+}
+
+/// What a play of a bundle with a script prints, where it is a ring with a plan that the checker accepts by its certificate: `yes`, a line for
+/// each event, the owners behind the last, and `end`. Else the first fault of the texts, and where there is none the checker's first refusal.
+/// `OutOfMemory` comes only where memory ran out, at whatever event, behind the first four lines of the ring.
+pub fn play_bundle(alloc: Global, bytes: &[u8]) -> Result<Vec<u8>, Refusal>
+    ensures read { Gives (texts_of result) (plays bytes.now) }
+    // Memory may run out only if the first four lines have no fault.
+    ensures late { IfErr result (λ e. e ≡ OutOfMemory → NoFaultBefore 5 (whole_text (bundle_at Play) bytes.now)) }
+{
+    match read_bundle(alloc, Kind::Play, bytes) {
+        Ok(bundle) => play_checked(alloc, bundle),
+        Err(e) => Err(e),
+    }
+}
+
+/// The texts of a plan that makes the change of a bundle of a ring and a change, and of the plan's certificate, where the checker accepts the plan.
+/// Else the first fault of the texts, and where there is none `NoPlan` or the checker's refusal; where nobody leaves there is always a plan.
+/// `OutOfMemory` comes only where memory ran out, behind the first four lines of the ring.
+pub fn plan_bundle(alloc: Global, bytes: &[u8]) -> Result<Vec<u8>, Refusal>
+    ensures plans { MakesIf Planning bytes.now (texts_of result) }
+    // Memory may run out only if the first four lines have no fault.
+    ensures late { IfErr result (λ e. e ≡ OutOfMemory → NoFaultBefore 5 (whole_text wanted_at bytes.now)) }
+{
+    match read_wanted(alloc, bytes) {
+        Ok(wanted) => propose(alloc, wanted.ring, &wanted.change),
+        Err(e) => Err(e),
+    }
+}
+
+// What is printed where a plan is accepted.
+fn yes(alloc: Global) -> Result<Vec<u8>, Refusal>
+    ensures text { IfOk result (λ v. v.items ≡ codes "yes" ++ 10 ∷ []) }
+    ensures memory { IfErr result (λ e. e ≡ OutOfMemory) }
+{
+    let text = Vec::from_slice(alloc, b"yes\n")?;
+    Ok(text)
+}
+
+/// The text that a job makes of a bundle, or the refusal. Where a check makes one, the plan keeps its promises.
+pub fn make(alloc: Global, job: Job, bytes: &[u8]) -> Result<Vec<u8>, Refusal>
+    ensures { MakesIf job bytes.now (texts_of result) }
+{
+    match job {
+        Job::Check => {
+            check_bundle(alloc, bytes)?;
+            yes(alloc)
+        }
+        Job::Migrate => migrate_bundle(alloc, bytes),
+        Job::Play => play_bundle(alloc, bytes),
+        Job::Plan => plan_bundle(alloc, bytes),
+        Job::Replay => replay_bundle(alloc, bytes),
+    }
+}
+
+/// The same of bytes that are given up.
+pub fn make_whole(alloc: Global, job: Job, bytes: Vec<u8>) -> Result<Vec<u8>, Refusal>
+    ensures { MakesIf job bytes.items (texts_of result) }
+{
+    match job {
+        Job::Replay => replay_whole(alloc, bytes),
+        Job::Check | Job::Migrate | Job::Play | Job::Plan => make(alloc, job, bytes.as_slice()),
+    }
+}
+
+/// The text that a check by workers makes of a bundle, or the refusal. Where it makes one, the plan keeps its promises.
+pub fn make_check_by<RT: Threads + Wait + Sync>(
+    rt: &RT,
+    alloc: Global,
+    workers: u32,
+    bytes: &[u8],
+) -> Result<Vec<u8>, Refusal>
+    ensures { MakesIf Checking bytes.now (texts_of result) }
+{
+    check_bundle_by(rt, alloc, workers, bytes)?;
+    yes(alloc)
+}

@@ -1,0 +1,40 @@
+//! The whole input, up to a limit.
+
+ghost use Rattle.std.specs.Prelude.{ℕ, List};
+ghost use Rattle.ringplan_jobs.specs.Io.{Reads, Tells};
+
+use ring_names::Refusal;
+use std::alloc::Global;
+use std::io::{ErrorKind, Read};
+
+/// The most bytes that an input may have: 64 MiB.
+pub const MAX_INPUT: usize = 67_108_864;
+
+// How many bytes one read asks for.
+const CHUNK: usize = 65_536;
+
+/// Reads until the input ends. Refused are an input of more than `MAX_INPUT` bytes (`TooLarge(0)`),
+/// a read that fails (`ReadFailed`), and a growth of memory (`OutOfMemory`). A read that a signal interrupted is tried again.
+pub fn read_all<R: Read + Drop>(alloc: Global, input: &mut R) -> Result<Vec<u8>, Refusal>
+    ensures { (bytes : List ℕ) × Tells (R.remaining input.old) bytes × Reads bytes result }
+{
+    let mut chunk = vec![in alloc; 0u8; CHUNK]?;
+    let mut bytes = Vec::new(alloc);
+    for turn in 0..u64::MAX {
+        match input.read(chunk.as_mut_slice()) {
+            Ok(0) => return Ok(bytes),
+            Ok(count) => {
+                if count > MAX_INPUT - bytes.len() {
+                    return Err(Refusal::TooLarge(0));
+                }
+                bytes.extend_from_slice(&chunk[..count])?;
+            }
+            Err(error) => {
+                if error.kind() != ErrorKind::Interrupted {
+                    return Err(Refusal::ReadFailed);
+                }
+            }
+        }
+    }
+    Err(Refusal::ReadFailed)
+}

@@ -1,0 +1,20 @@
+//! The jobs of the program over bytes: what comes of a bundle, with its exit status. No job here starts a thread but a check by workers.
+#![tactic(auto)]
+
+mod answer;
+mod bundle;
+mod input;
+mod job;
+mod output;
+mod replaying;
+
+pub use answer::{Answer, answer_of, status_of};
+pub use bundle::{
+    check_bundle, check_bundle_by, make, make_check_by, make_whole, migrate_bundle, plan_bundle,
+    play_bundle,
+};
+pub use input::{MAX_INPUT, read_all};
+pub use job::Job;
+pub use output::write_all;
+pub use replaying::replay_bundle;
+pub use ring_script::{Kind, Unwatched, Watch, World, read_bundle, replay_watched};

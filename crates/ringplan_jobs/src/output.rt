@@ -1,0 +1,51 @@
+//! The whole output.
+
+ghost use Rattle.std.specs.Prelude.{◌≡◌, IfErr, OnOk, OnErr};
+ghost use Rattle.std.specs.Io.KnownBytes.{Appends, Keeps};
+ghost use Rattle.ringplan_jobs.specs.Io.{AppendsPart};
+
+use ring_names::Refusal;
+use std::io::{ErrorKind, Write};
+
+// Flushes what was written.
+fn flush<W: Write>(output: &mut W) -> Result<(), Refusal>
+    ensures bytes { Keeps (W.contents output.old) (W.contents output.new) }
+    ensures fault { IfErr result (λ e. e ≡ Refusal.WriteFailed) }
+{
+    for turn in 0..u64::MAX {
+        match output.flush() {
+            Ok(()) => return Ok(()),
+            Err(error) => {
+                if error.kind() != ErrorKind::Interrupted {
+                    return Err(Refusal::WriteFailed);
+                }
+            }
+        }
+    }
+    Err(Refusal::WriteFailed)
+}
+
+/// Writes all the bytes, and then flushes. A write that fails or takes no byte, and a flush that
+/// fails, is `WriteFailed`; then some first part of the bytes was written. What a signal interrupted is tried again.
+pub fn write_all<W: Write>(output: &mut W, bytes: &[u8]) -> Result<(), Refusal>
+    ensures whole { OnOk result (Appends (W.contents output.old) (W.contents output.new) bytes.now) }
+    ensures part { OnErr result (AppendsPart (W.contents output.old) (W.contents output.new) bytes.now) }
+    ensures fault { IfErr result (λ e. e ≡ Refusal.WriteFailed) }
+{
+    let mut rest = bytes;
+    for turn in 0..u64::MAX {
+        if rest.is_empty() {
+            return flush(output);
+        }
+        match output.write(rest) {
+            Ok(0) => return Err(Refusal::WriteFailed),
+            Ok(count) => rest = &rest[count..],
+            Err(error) => {
+                if error.kind() != ErrorKind::Interrupted {
+                    return Err(Refusal::WriteFailed);
+                }
+            }
+        }
+    }
+    Err(Refusal::WriteFailed)
+}

@@ -1,0 +1,74 @@
+//! What a replay makes of a bundle.
+
+ghost use Rattle.std.specs.Prelude.{◌≡◌, ◌≤◌, length, IfErr};
+ghost use Rattle.ring_names.specs.declared.refusal.Refusal.TheVariants.{OutOfMemory};
+ghost use Rattle.texts.specs.Left.{whole_text};
+ghost use Rattle.texts.specs.Late.{NoFaultBefore};
+ghost use Rattle.history_text.specs.Replays.{parts_of, replay_at, IsReplay};
+ghost use Rattle.ringplan_jobs.specs.Answers.{texts_of};
+ghost use Rattle.ringplan_jobs.specs.Replays.{IsJudgedIf, ReplaysOfIf};
+ghost use Rattle.ringplan_jobs.specs.Verdict.{MakesIf};
+ghost use Rattle.ringplan_jobs.specs.declared.job.Job.TheVariants.{Replay as Replaying};
+
+use history_text::{ReplayBundle, read_replay};
+use plan_check::{Approved, check};
+use plan_runs::Entry;
+use ring_names::Refusal;
+use ring_script::replay_history;
+use std::alloc::Global;
+
+// What a replay of the history prints, of a plan that is accepted.
+fn replay_approved(
+    alloc: Global,
+    approved: &Approved,
+    history: &[Entry],
+) -> Result<Vec<u8>, Refusal>
+    requires { length history.now ≤ 1000000 }
+    ensures { IsJudgedIf approved.now.ring approved.now.plan history.now (texts_of result) }
+{
+    match replay_history(alloc, approved, history) {
+        Ok(text) => Ok(text),
+        Err(refusal) => Err(refusal),
+    }
+}
+
+// The same of a bundle, where the checker accepts its plan.
+fn replay_checked(alloc: Global, bundle: ReplayBundle) -> Result<Vec<u8>, Refusal>
+    requires { IsReplay bundle }
+    ensures { ReplaysOfIf (parts_of bundle) (texts_of result) }
+{
+    match check(alloc, bundle.ring, bundle.plan, &bundle.cert) {
+        Ok(approved) => replay_approved(alloc, &approved, bundle.history.as_slice()),
+        Err(turned) => {
+            let refusal = turned.refusal;
+            Err(refusal)
+        }
+    }
+}
+
+/// What a replay of a bundle with a history prints, where it is a ring with a plan that the checker accepts by its certificate, and the history is a
+/// run of it: `yes`, the owners behind the last entry, and `end`. Else the first fault of the texts, where there is none the checker's first
+/// refusal, and else `Mismatch` of the first entry that cannot have happened so. `OutOfMemory` comes only where memory ran out, at whatever
+/// entry, behind the first four lines of the ring.
+pub fn replay_bundle(alloc: Global, bytes: &[u8]) -> Result<Vec<u8>, Refusal>
+    ensures replays { MakesIf Replaying bytes.now (texts_of result) }
+    // Memory may run out only if the first four lines have no fault.
+    ensures late { IfErr result (λ e. e ≡ OutOfMemory → NoFaultBefore 5 (whole_text replay_at bytes.now)) }
+{
+    match read_replay(alloc, bytes) {
+        Ok(bundle) => replay_checked(alloc, bundle),
+        Err(e) => Err(e),
+    }
+}
+
+/// The same of bytes that are given up once they are read, so that the store takes their memory.
+pub(crate) fn replay_whole(alloc: Global, bytes: Vec<u8>) -> Result<Vec<u8>, Refusal>
+    ensures { MakesIf Replaying bytes.items (texts_of result) }
+{
+    let read = read_replay(alloc, bytes.as_slice());
+    drop(bytes);
+    match read {
+        Ok(bundle) => replay_checked(alloc, bundle),
+        Err(e) => Err(e),
+    }
+}

@@ -1,5 +1,0 @@
-use Rattle.ringplan_run.proofs.Verdicts.{gives-play}
-use Rattle.ringplan_run.proofs.bundle.play_checked.Goals as goal
-
-pub returns-in-Ok : goal.returns-in-Ok
-returns-in-Ok c = gives-play c.args.bundle c.in-Ok.approved.ring c.in-Ok.approved.plan c.play.result c.in-Ok.ensures.accepted c.in-Ok.ensures.same c.play.ensures.text c.play.ensures.memory

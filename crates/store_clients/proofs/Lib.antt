@@ -1,0 +1,12 @@
+pub mod NumberTests
+pub mod KeysNumbered
+pub mod TellsOnClients
+pub mod Acknowledgements
+pub mod GetsStartEnd
+pub mod FirstDown
+pub mod SlotKeepers
+pub mod SlotHasOfKey
+pub mod SlotReads
+pub mod ClocksRaised
+pub mod CountersFew
+pub mod PutStarts

@@ -1,0 +1,63 @@
+use Rattle.std.proofs.Common.{◌≡◌, ◌∙◌, ℕ, ◌<◌, length, sym, ap, subst, arith}
+use Rattle.std.specs.Prelude.{Some, slice_get, option_map}
+use Rattle.std.proofs.Props.{props}
+use Rattle.ring_space.specs.Place.{place_of}
+use Rattle.ring_table.specs.Value.{RingValue}
+use Rattle.store_tells.specs.Parts.{ring_of, plan_of, kept_of}
+use Rattle.store_tells.proofs.StoreInWorld.{holds}
+use Rattle.store_clients.proofs.SlotHasOfKey.{get_key_there, chunk_is}
+use Rattle.store_clients.proofs.SlotReads.{no_get, no_slot, get_ended, slot_read, nodes_stop}
+use Rattle.store_clients.proofs.reads.read_refusal.Goals.{In-Some, After-n}
+use Rattle.store_clients.proofs.reads.read_refusal.Goals as goal
+
+-- the ring's number of slots
+n_is : (c : After-n) → c.n.result ≡ (ring_of c.args.parts.now).n
+n_is c = c.n.ensures.value ∙ ap (λ (r : RingValue). r.n) c.ring.ensures.value
+
+-- the get's key has a number
+key_there : (c : In-Some) → c.in-Some.now.now.key < length c.args.parts.now.keys.keys
+key_there c =
+    let a = c.args.parts.now in
+    holds a c.requires (hlevel props) (λ w m. get_key_there (ring_of a) (plan_of a) (kept_of a) w m c.args.get c.in-Some.now.now (sym c.in-Some.ensures))
+
+pub returns-in_default : goal.returns-in_default
+returns-in_default c w m = (let a = c.args.parts.now in no_get (ring_of a) (plan_of a) (kept_of a) w m c.args.get c.args.index (sym c.in_default.ensures))
+
+pub returns-then-n-index : goal.returns-then-n-index
+returns-then-n-index c w m =
+    let a = c.args.parts.now in
+    let n = n_is (goal.at.returns-then-n-index c).After-n in
+    no_slot (ring_of a) (plan_of a) (kept_of a) w m c.args.get c.args.index (omega arith)
+
+pub returns-then-is_some : goal.returns-then-is_some
+returns-then-is_some c w m =
+    let a = c.args.parts.now in
+    let n = n_is (goal.at.returns-then-is_some c).After-n in
+    get_ended (ring_of a) (plan_of a) (kept_of a) w m c.args.get c.args.index c.in-Some.now.now (sym c.in-Some.ensures) (omega arith) (sym c.is_some.ensures ∙ c.if-is_some.true)
+
+pub returns-then-has : goal.returns-then-has
+returns-then-has c w m =
+    let a = c.args.parts.now in
+    let n = n_is (goal.at.returns-then-has c).After-n in
+    slot_read (ring_of a) (plan_of a) (kept_of a) w m c.args.get c.args.index c.in-Some.now.now (sym c.in-Some.ensures) (omega arith) (sym c.is_some.ensures ∙ c.if-is_some.false) (sym c.has.ensures ∙ c.if-has.true)
+
+pub place-place-requires : goal.place-place-requires
+place-place-requires c = key_there (goal.at.place-place-requires c).In-Some
+
+pub key-key-requires : goal.key-key-requires
+key-key-requires c = key_there (goal.at.key-key-requires c).In-Some
+
+pub down_refusal-requires : goal.down_refusal-requires
+down_refusal-requires c =
+    let s = c.requires.sized in
+    chunk_is _ _ c.args.parts.now.keys.keys c.in-Some.now.now.key c.place-place.result c.key-key.result.now (s.keys ∙ sym s.hints) c.place-place.ensures.place c.key-key.ensures
+
+pub returns : goal.returns
+returns c w m =
+    let a = c.args.parts.now in
+    let get = c.in-Some.now.now in
+    let place = c.place-place.result in
+    let n = n_is (goal.at.returns c).After-n in
+    let lies = subst (λ (q : ℕ). option_map (place_of q) (slice_get a.keys.keys get.key) ≡ Some place) c.requires.sized.keys c.place-place.ensures.place in
+    nodes_stop (ring_of a) (plan_of a) (kept_of a) w m c.args.get c.args.index get (sym c.in-Some.ensures) (omega arith) place c.key-key.result.now c.down_refusal.result
+    (sym c.is_some.ensures ∙ c.if-is_some.false) (sym c.has.ensures ∙ c.if-has.false) lies c.key-key.ensures c.down_refusal.ensures

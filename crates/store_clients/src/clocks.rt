@@ -1,0 +1,92 @@
+//! The clock of a put: the join of the clocks of what it follows, with one more for its writer.
+
+ghost use Rattle.std.specs.Prelude.{◌≡◌, ◌<◌, ℕ, List, max, IfOk, IfErr, OnOk};
+ghost use Rattle.ring_names.specs.declared.refusal.Refusal.TheVariants.{OutOfMemory};
+ghost use Rattle.ring_clock.specs.declared.entry.Entry.{Entry as TheEntry};
+ghost use Rattle.ring_clock.specs.Clock.{counter};
+ghost use Rattle.store_tells.specs.Found.{IsJoinOfFound};
+ghost use Rattle.store_tells.specs.Puts.{clock_at};
+ghost use Rattle.store_tells.specs.GetsChange.{found_at};
+ghost use Rattle.ring_versions.specs.Raised.{RaisesTo, IsClockIn};
+ghost use Rattle.store_clients.specs.Clocks.{IsFoundClock, IsNextOfFound};
+
+use ring_clock::Clock;
+use ring_names::{Refusal, WriterId};
+use std::alloc::Global;
+use store_tables::{Gets, Puts};
+
+// Raises a clock to those of all versions that a get found, if there is the get.
+fn raise_to_get(clock: &mut Clock, gets: &Gets, get: u32) -> Result<(), Refusal>
+    ensures ok { OnOk result (RaisesTo clock.old (IsClockIn (found_at gets.now get)) clock.new) }
+    ensures memory { IfErr result (λ e. e ≡ OutOfMemory) }
+{
+    match gets.get(get) {
+        Some(now) => clock.raise(now.found.join()),
+        None => Ok(()),
+    }
+}
+
+// Raises a clock to those of all versions that these gets found.
+fn raise_to_gets(clock: &mut Clock, gets: &Gets, seen: &[u32]) -> Result<(), Refusal>
+    ensures ok { OnOk result (RaisesTo clock.old (IsFoundClock (found_at gets.now) seen.now) clock.new) }
+    ensures memory { IfErr result (λ e. e ≡ OutOfMemory) }
+{
+    let mut rest = seen;
+    'gets: while let Some((get, later)) = rest.split_first() {
+        raise_to_get(clock, gets, *get)?;
+        rest = later;
+    }
+    Ok(())
+}
+
+// Raises a clock to that of a put, if there is the put.
+fn raise_to_put(clock: &mut Clock, puts: &Puts, put: u32) -> Result<(), Refusal>
+    ensures ok { OnOk result
+        ((w : ℕ) → counter clock.new w ≡ max (counter clock.old w) (counter (clock_at puts.now put) w)) }
+    ensures memory { IfErr result (λ e. e ≡ OutOfMemory) }
+{
+    let Some(now) = puts.get(put) else {
+        return Ok(());
+    };
+    match now.version.list().split_first() {
+        Some((version, _)) => clock.raise(&version.clock),
+        None => Ok(()),
+    }
+}
+
+// The join of the clocks of all versions that these gets found, and of that of the writer's last put.
+fn input_clock(
+    alloc: Global,
+    puts: &Puts,
+    gets: &Gets,
+    last: Option<u32>,
+    seen: &[u32],
+) -> Result<Clock, Refusal>
+    ensures ok { IfOk result (IsJoinOfFound (clock_at puts.now) (found_at gets.now) seen.now last) }
+    ensures memory { IfErr result (λ e. e ≡ OutOfMemory) }
+{
+    let mut clock = Clock::new(alloc);
+    raise_to_gets(&mut clock, gets, seen)?;
+    if let Some(put) = last {
+        raise_to_put(&mut clock, puts, put)?;
+    }
+    Ok(clock)
+}
+
+/// The clock of a put of the writer that names these gets, where `last` is the writer's last put on the key.
+pub fn next_clock(
+    alloc: Global,
+    puts: &Puts,
+    gets: &Gets,
+    last: Option<u32>,
+    seen: &[u32],
+    writer: WriterId,
+) -> Result<Clock, Refusal>
+    requires { (d : List TheEntry) → IsJoinOfFound (clock_at puts.now) (found_at gets.now) seen.now last d
+        → counter d writer.0 < 18446744073709551615 }
+    ensures ok { IfOk result (IsNextOfFound (clock_at puts.now) (found_at gets.now) seen.now last writer.0) }
+    ensures memory { IfErr result (λ e. e ≡ OutOfMemory) }
+{
+    let clock = input_clock(alloc, puts, gets, last, seen)?;
+    clock.bump(writer)
+}

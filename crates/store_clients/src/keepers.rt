@@ -1,0 +1,85 @@
+//! What the nodes that keep hints for a slot keep of one key.
+
+ghost use Rattle.std.specs.Prelude.{◌≡◌, ℕ, [], false, IfErr, OnOk};
+ghost use Rattle.ring_names.specs.declared.refusal.Refusal.TheVariants.{OutOfMemory};
+ghost use Rattle.ring_versions.specs.Versions.{IsApart};
+ghost use Rattle.store_maps.specs.Chunks.{chunk_of};
+ghost use Rattle.ring_hints.specs.Hints.{partitions, hinted_at};
+ghost use Rattle.ring_hints.specs.Views.{in_keepers};
+ghost use Rattle.store_tables.specs.Nodes.{is_up_at};
+ghost use Rattle.store_clients.specs.Keepers.{IsFirstDown, MergesOthers};
+
+use ring_hints::{Hints, KeptFor};
+use ring_names::{NodeId, Refusal, Slot};
+use ring_versions::Versions;
+use std::collections::BTreeSet;
+use store_tables::Nodes;
+
+// The refusal of the first of these nodes that keeps versions of the key for the slot and is down.
+fn first_down(
+    nodes: &Nodes,
+    hints: &Hints,
+    keepers: &BTreeSet<NodeId>,
+    slot: Slot,
+    chunk: u32,
+    key: &[u8],
+) -> Option<Refusal>
+    requires chunk { chunk_of (partitions hints.now) key.now ≡ chunk }
+    requires others { (x : ℕ) → in_keepers x keepers.now.keys ≡ false → hinted_at hints.now x slot key.now ≡ [] }
+    ensures { IsFirstDown (is_up_at nodes.now) (λ x. hinted_at hints.now x slot key.now) result }
+{
+    'keepers: for keeper in keepers {
+        let pair = KeptFor {
+            keeper: *keeper,
+            slot,
+        };
+        if hints.key_versions_in(pair, chunk, key).is_some() && !nodes.is_up(*keeper) {
+            return Some(Refusal::NodeDown(keeper.0));
+        }
+    }
+    None
+}
+
+/// The refusal of the first of the nodes that keep versions of the key for the slot that is down. Walks the key's keepers alone.
+pub fn keeper_refusal(
+    nodes: &Nodes,
+    hints: &Hints,
+    slot: Slot,
+    chunk: u32,
+    key: &[u8],
+) -> Option<Refusal>
+    requires { chunk_of (partitions hints.now) key.now ≡ chunk }
+    ensures { IsFirstDown (is_up_at nodes.now) (λ x. hinted_at hints.now x slot key.now) result }
+{
+    match hints.key_keepers(slot, key) {
+        Some(keepers) => first_down(nodes, hints, keepers, slot, chunk, key),
+        None => None,
+    }
+}
+
+/// Merges what these nodes keep of the key for the slot.
+pub fn merge_hints(
+    all: &mut Versions,
+    hints: &Hints,
+    keepers: &BTreeSet<NodeId>,
+    slot: Slot,
+    chunk: u32,
+    key: &[u8],
+) -> Result<(), Refusal>
+    requires chunk { chunk_of (partitions hints.now) key.now ≡ chunk }
+    requires apart { IsApart all.old }
+    ensures ok { OnOk result
+        (MergesOthers all.old (λ x. in_keepers x keepers.now.keys) (λ x. hinted_at hints.now x slot key.now) all.new) }
+    ensures memory { IfErr result (λ e. e ≡ OutOfMemory) }
+{
+    'keepers: for keeper in keepers {
+        let pair = KeptFor {
+            keeper: *keeper,
+            slot,
+        };
+        if let Some(held) = hints.key_versions_in(pair, chunk, key) {
+            all.merge(held)?;
+        }
+    }
+    Ok(())
+}

@@ -1,0 +1,87 @@
+//! Reads of slots for gets.
+
+ghost use Rattle.std.specs.Prelude.{◌≡◌, IfOk, IfErr, OnErr};
+ghost use Rattle.ring_names.specs.declared.refusal.Refusal.TheVariants.{OutOfMemory};
+ghost use Rattle.store_maps.specs.Chunks.{chunk_of};
+ghost use Rattle.ring_hints.specs.Hints.{hinted_at, partitions};
+ghost use Rattle.plan_runs.specs.declared.event.Event.TheVariants.{Read};
+ghost use Rattle.store_tables.specs.Nodes.{is_up_at};
+ghost use Rattle.store_tells.specs.Parts.{IsSound, Follows, Tests, Passes, Answers, Stays};
+ghost use Rattle.store_clients.specs.Reads.{StopsRead};
+
+use crate::keepers::keeper_refusal;
+use crate::looks::look;
+use plan_runs::Reply;
+use ring_names::{Listed, Refusal, Slot};
+use store_tells::Parts;
+
+// Why the slot is not read for the key now, if it is not: its owner is down, or a node that keeps versions of the key for it.
+fn down_refusal(parts: &Parts, slot: Slot, chunk: u32, key: &[u8]) -> Option<Refusal>
+    requires { chunk_of (partitions parts.now.hints) key.now ≡ chunk }
+    ensures { StopsRead parts.now.slots (is_up_at parts.now.nodes)
+        (λ x. hinted_at parts.now.hints x slot key.now) slot result }
+{
+    if let Some(owner) = parts.slots.owner(slot) {
+        if !parts.nodes.is_up(owner) {
+            return Some(Refusal::NodeDown(owner.0));
+        }
+    }
+    keeper_refusal(&parts.nodes, &parts.hints, slot, chunk, key)
+}
+
+/// Why a slot is not read for a get now, if it is not: there is no get of that number or no slot of that index, the get has ended or has
+/// read the slot already, or the slot's owner is down or a node that keeps versions of the get's key for the slot. Takes no memory, and
+/// costs a look-up for each node that keeps anything for the slot.
+pub fn read_refusal(parts: &Parts, get: u32, index: u32) -> Option<Refusal>
+    requires { IsSound parts.now }
+    ensures { Tests parts.now (Read get index) result }
+{
+    let Some(now) = parts.gets.get(get) else {
+        return Some(Refusal::UnknownNumber);
+    };
+    if parts.approved.ring().n() <= index {
+        return Some(Refusal::UnknownNumber);
+    }
+    if now.reply.is_some() {
+        return Some(Refusal::AlreadyDone);
+    }
+    if now.read.has(index) {
+        return Some(Refusal::AlreadyDone);
+    }
+    let place = parts.keys.place(now.key);
+    let partition = place.partition;
+    let key = parts.keys.key(now.key);
+    down_refusal(parts, Slot { partition, index }, place.chunk, key)
+}
+
+/// The get reads the slot, and the reply is the numbers of the puts that it finds there. Refused, it has changed nothing. Costs a merge of
+/// what the slot has of the get's key with what the get had found, a sort of the numbers, and a look-up for each node that keeps anything
+/// for the slot.
+pub fn read(parts: &mut Parts, get: u32, index: u32) -> Result<Reply, Refusal>
+    requires sound { IsSound parts.old }
+    requires passes { Passes parts.old (Read get index) }
+    ensures ok { IfOk result (λ r. Answers parts.old (Read get index) r parts.new) }
+    ensures same { OnErr result (Stays parts.old parts.new) }
+    ensures memory { IfErr result (λ e. e ≡ OutOfMemory) }
+    ensures follows { Follows parts.old parts.new }
+{
+    let (found, puts) = look(parts, get, index)?;
+    parts.gets.set_found(get, index, found);
+    Ok(Reply::Found(puts))
+}
+
+/// As `read`, with a copy of the reply beside it.
+pub fn read_with_copy(parts: &mut Parts, get: u32, index: u32) -> Result<(Reply, Reply), Refusal>
+    requires sound { IsSound parts.old }
+    requires passes { Passes parts.old (Read get index) }
+    ensures ok { IfOk result (λ r. Answers parts.old (Read get index) r.0 parts.new) }
+    ensures copy { IfOk result (λ r. r.1 ≡ r.0) }
+    ensures same { OnErr result (Stays parts.old parts.new) }
+    ensures memory { IfErr result (λ e. e ≡ OutOfMemory) }
+    ensures follows { Follows parts.old parts.new }
+{
+    let (found, puts) = look(parts, get, index)?;
+    let copy = Vec::from_slice(parts.alloc, puts.as_slice())?;
+    parts.gets.set_found(get, index, found);
+    Ok((Reply::Found(puts), Reply::Found(Listed::from_vec(copy))))
+}

@@ -1,7 +1,0 @@
-use Rattle.ring_hints.specs.Hints.{hinted_at}
-use Rattle.store_tables.specs.Nodes.{is_up_at}
-use Rattle.store_events.proofs.SlotKeepers.{Passing}
-use Rattle.store_events.proofs.keepers.first_down.Given as goal
-
-abbrev pub invariant-keepers : goal.invariant-keepers
-invariant-keepers l = Passing (is_up_at l.nodes) (λ x. hinted_at l.hints x l.slot l.key) l.keepers.keys l.keeper-iterator
