@@ -14,10 +14,10 @@ ghost use Rattle.plan_check.specs.Shares.{MayStop, MustStop};
 use crate::approval::{Approved, Turned};
 use crate::gate::Gate;
 use crate::laws::{certified_is_sound, first_is_none_where_certified, sound_plans_keep_promises};
-use crate::shares::{check_share, check_shares};
+use crate::shares::{Workers, check_share, check_shares};
 use plan_cert::Cert;
 use plan_cover::check_nodes;
-use plan_order::Facts;
+use plan_order::{Context, Facts};
 use plan_text::Plan;
 use ring_names::Refusal;
 use ring_table::Ring;
@@ -97,7 +97,13 @@ pub fn check_parallel<R: Threads + Wait + Sync, G: Gate + Sync>(
     first_is_none_where_certified(&ring, &plan, cert);
     certified_is_sound();
     sound_plans_keep_promises(&ring, &plan);
-    match check_all_by_workers(rt, alloc, workers, gate, &ring, &plan, cert) {
+    let by = Workers {
+        rt,
+        alloc,
+        workers,
+        gate,
+    };
+    match check_all_by_workers(&by, &ring, &plan, cert) {
         Some(Ok(())) => Ok(Approved::new(ring, plan)),
         Some(Err(refusal)) => Err(Turned {
             ring,
@@ -120,8 +126,13 @@ fn check_all(alloc: Global, ring: &Ring, plan: &Plan, cert: &Cert) -> Result<(),
 {
     match Facts::verify(alloc, plan, &cert.facts) {
         Ok(facts) => {
-            let found = check_share(alloc, ring, plan, &facts, 0, ring.q());
-            check_rest(alloc, ring, plan, &facts, cert, found)
+            let context = Context {
+                ring,
+                plan,
+                facts: &facts,
+            };
+            let found = check_share(alloc, &context, 0, ring.q());
+            check_rest(alloc, &context, cert, found)
         }
         Err(refusal) => Err(refusal),
     }
@@ -129,28 +140,32 @@ fn check_all(alloc: Global, ring: &Ring, plan: &Plan, cert: &Cert) -> Result<(),
 
 // Tests all clauses, those of the partitions by workers. None where the gate stopped one.
 fn check_all_by_workers<R: Threads + Wait + Sync, G: Gate + Sync>(
-    rt: &R,
-    alloc: Global,
-    workers: u32,
-    gate: &G,
+    by: &Workers<R, G>,
     ring: &Ring,
     plan: &Plan,
     cert: &Cert,
 ) -> Option<Result<(), Refusal>>
     requires { Suits ring.now plan.now }
-    ensures stopped { IfNone result (MayStop (G.may_refuse gate.now) workers ring.now.q) }
-    ensures turned { MustStop (G.must_refuse gate.now) workers ring.now.q
+    ensures stopped { IfNone result (MayStop (G.may_refuse by.now.gate.now) by.now.workers ring.now.q) }
+    ensures turned { MustStop (G.must_refuse by.now.gate.now) by.now.workers ring.now.q
         → first_failing (fact_clauses plan.now 0 cert.now.facts) ≡ None → IfSome result (λ r. r ≡ Err OutOfMemory) }
     ensures facts { IfNone result (first_failing (fact_clauses plan.now 0 cert.now.facts) ≡ None) }
     ensures first { IfSome result (λ r. Gives r (all_clauses ring.now plan.now cert.now)) }
     ensures late { IfSome result
         (λ r. IfErr r (λ e. e ≡ OutOfMemory → first_failing (fact_clauses plan.now 0 cert.now.facts) ≡ None)) }
 {
-    match Facts::verify_parallel(rt, alloc, plan, &cert.facts) {
-        Ok(facts) => match check_shares(rt, alloc, workers, gate, ring, plan, &facts) {
-            Some(found) => Some(check_rest(alloc, ring, plan, &facts, cert, found)),
-            None => None,
-        },
+    match Facts::verify_parallel(by.rt, by.alloc, plan, &cert.facts) {
+        Ok(facts) => {
+            let context = Context {
+                ring,
+                plan,
+                facts: &facts,
+            };
+            match check_shares(by, &context) {
+                Some(found) => Some(check_rest(by.alloc, &context, cert, found)),
+                None => None,
+            }
+        }
         Err(refusal) => Some(Err(refusal)),
     }
 }
@@ -158,19 +173,17 @@ fn check_all_by_workers<R: Threads + Wait + Sync, G: Gate + Sync>(
 // Tests the clauses of the nodes, behind what those of the partitions gave.
 fn check_rest(
     alloc: Global,
-    ring: &Ring,
-    plan: &Plan,
-    facts: &Facts,
+    context: &Context,
     cert: &Cert,
     found: Result<(), Refusal>,
 ) -> Result<(), Refusal>
-    requires suits { Suits ring.now plan.now }
-    requires facts { AreFactsOf plan.now facts.now }
-    requires found { Gives found
-        (below (partition_clauses ring.now plan.now (is_ordered plan.now facts.now)) ring.now.q) }
-    ensures first { Gives result (rest_clauses ring.now plan.now cert.now (is_ordered plan.now facts.now)) }
+    requires facts { AreFactsOf context.now.plan.now context.now.facts.now }
+    requires found { Gives found (below (partition_clauses context.now.ring.now context.now.plan.now
+        (is_ordered context.now.plan.now context.now.facts.now)) context.now.ring.now.q) }
+    ensures first { Gives result (rest_clauses context.now.ring.now context.now.plan.now cert.now
+        (is_ordered context.now.plan.now context.now.facts.now)) }
     ensures handed_on { IfErr found (λ e. result ≡ Err e) }
 {
     found?;
-    check_nodes(alloc, ring, plan, facts, cert)
+    check_nodes(alloc, context.ring, context.plan, context.facts, cert)
 }

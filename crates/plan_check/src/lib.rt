@@ -15,4 +15,3 @@ pub use laws::{
     first_is_none_where_certified, groups_stay_apart, migration_changes_no_refusal, quorums_meet,
     servers_occupy, sound_plans_keep_promises, stages_are_good, transfers_stay_few,
 };
-pub use shares::check_share;

@@ -71,7 +71,7 @@ fn add_parties(
     match step {
         Step::Copy(slot, source) => {
             add_mirror(copies, ring, present.at(ring, *slot).mirror, number)?;
-            add_sources(copies, present, ring, *slot, source, number)
+            present.add_sources(copies, ring, *slot, source, number)
         }
         Step::Join(_) | Step::Mirror(_, _) | Step::Switch(_) | Step::Drop(_, _) | Step::Retire(_) =>
             Ok(()),
@@ -94,66 +94,61 @@ fn add_mirror(
     }
 }
 
-// Gives the copy to the owners of the slots from which it reads.
-fn add_sources(
-    copies: &mut Lists<NodeSide, u32>,
-    present: &Present,
-    ring: &Ring,
-    slot: Slot,
-    source: &Source,
-    number: u32,
-) -> Result<(), Refusal>
-    requires slot { is_ring_slot ring.now slot ≡ true }
-    requires source { source_suits ring.now source.now ≡ true }
-    ensures ok { OnOk result
-        ((y : TheSide) → copies_kept copies.new y ≡ with_last_if (counts_at ring.now Give y && owns_some
-        (serving_at ring.now present.now) (source_slots slot source.now) y.node) number (copies_kept copies.old y)) }
-    ensures memory { IfErr result (λ e. e ≡ OutOfMemory) }
-{
-    match source {
-        Source::Owner => {
-            let owner = present.at(ring, slot).owner;
-            add_copy(copies, ring, owner, Side::Give, number)
-        }
-        Source::Slots(from) => {
-            add_owners(
-                copies,
-                present,
-                ring,
-                slot.partition,
-                from.as_slice(),
-                number,
-            )
+impl Present {
+    // Gives the copy to the owners of the slots from which it reads.
+    fn add_sources(
+        &self,
+        copies: &mut Lists<NodeSide, u32>,
+        ring: &Ring,
+        slot: Slot,
+        source: &Source,
+        number: u32,
+    ) -> Result<(), Refusal>
+        requires slot { is_ring_slot ring.now slot ≡ true }
+        requires source { source_suits ring.now source.now ≡ true }
+        ensures ok { OnOk result
+            ((y : TheSide) → copies_kept copies.new y ≡ with_last_if (counts_at ring.now Give y && owns_some
+            (serving_at ring.now self.now) (source_slots slot source.now) y.node) number (copies_kept copies.old y)) }
+        ensures memory { IfErr result (λ e. e ≡ OutOfMemory) }
+    {
+        match source {
+            Source::Owner => {
+                let owner = self.at(ring, slot).owner;
+                add_copy(copies, ring, owner, Side::Give, number)
+            }
+            Source::Slots(from) => {
+                self.add_owners(copies, ring, slot.partition, from.as_slice(), number)
+            }
         }
     }
-}
 
-// Gives the copy to the owners of the listed slots.
-fn add_owners(
-    copies: &mut Lists<NodeSide, u32>,
-    present: &Present,
-    ring: &Ring,
-    partition: u32,
-    from: &[u32],
-    number: u32,
-) -> Result<(), Refusal>
-    requires partition { partition < ring.now.q }
-    requires from { list_all (λ i. nat_lt i ring.now.n) from.now ≡ true }
-    ensures ok { OnOk result
-        ((y : TheSide) → copies_kept copies.new y ≡ with_last_if
-        (counts_at ring.now Give y && owns_some (serving_at ring.now present.now)
-        (map (λ i. record { partition = partition; index = i }) from.now) y.node) number (copies_kept copies.old y)) }
-    ensures memory { IfErr result (λ e. e ≡ OutOfMemory) }
-{
-    let mut rest = from;
-    'slots: while let Some((first, later)) = rest.split_first() {
-        let slot = Slot {
-            partition,
-            index: *first,
-        };
-        let owner = present.at(ring, slot).owner;
-        add_copy(copies, ring, owner, Side::Give, number)?;
-        rest = later;
+    // Gives the copy to the owners of the listed slots.
+    fn add_owners(
+        &self,
+        copies: &mut Lists<NodeSide, u32>,
+        ring: &Ring,
+        partition: u32,
+        from: &[u32],
+        number: u32,
+    ) -> Result<(), Refusal>
+        requires partition { partition < ring.now.q }
+        requires from { list_all (λ i. nat_lt i ring.now.n) from.now ≡ true }
+        ensures ok { OnOk result
+            ((y : TheSide) → copies_kept copies.new y ≡ with_last_if
+            (counts_at ring.now Give y && owns_some (serving_at ring.now self.now)
+            (map (λ i. record { partition = partition; index = i }) from.now) y.node) number (copies_kept copies.old y)) }
+        ensures memory { IfErr result (λ e. e ≡ OutOfMemory) }
+    {
+        let mut rest = from;
+        'slots: while let Some((first, later)) = rest.split_first() {
+            let slot = Slot {
+                partition,
+                index: *first,
+            };
+            let owner = self.at(ring, slot).owner;
+            add_copy(copies, ring, owner, Side::Give, number)?;
+            rest = later;
+        }
+        Ok(())
     }
-    Ok(())
 }

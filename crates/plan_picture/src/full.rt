@@ -24,6 +24,16 @@ const TOP: u32 = 112;
 
 const PANEL: u32 = 190;
 
+// The outline of a white bar at the node that takes, and at one that gives.
+const TAKER: &[u8] = b" rx=\"3\" stroke=\"#1d5fd0\"";
+
+const GIVER: &[u8] = b" rx=\"3\" stroke=\"#c2570c\"";
+
+// How words stand on a filled bar, and on a white one.
+const LIGHT: &[u8] = b" class=\"b\" text-anchor=\"middle\" style=\"fill:#ffffff\"";
+
+const DARK: &[u8] = b" class=\"b\" text-anchor=\"middle\"";
+
 // A row of a picture.
 #[derive(Clone, Copy)]
 struct Row {
@@ -288,40 +298,32 @@ fn title(sheet: &Sheet, shown: &Shown) -> Words {
     words
 }
 
-// The bar of a copy at one of its nodes.
+// The bar of a copy at one of its nodes. It is white while the copy is open, with a part for the chunks that are marked, and where it is left out.
 fn push_bar(sheet: &Sheet, out: &mut Words, area: Area, shown: &Shown, takes: bool) {
-    let fill = if takes { TAKE } else { GIVE };
+    let (fill, outline) = if takes { (TAKE, TAKER) } else { (GIVE, GIVER) };
     let about = title(sheet, shown);
-    let outline = if takes {
-        b" rx=\"3\" stroke=\"#1d5fd0\""
-    } else {
-        b" rx=\"3\" stroke=\"#c2570c\""
+    let state = state_of(sheet, shown);
+    let ink = match state {
+        State::Planned | State::Copied => {
+            push_titled(out, area, fill, b" rx=\"3\"", &about);
+            LIGHT
+        }
+        State::Open(_) | State::Left => {
+            push_titled(out, area, b"#ffffff", outline, &about);
+            DARK
+        }
     };
-    let mut ink = b" class=\"b\" text-anchor=\"middle\" style=\"fill:#ffffff\"".as_slice();
-    match state_of(sheet, shown) {
-        State::Planned | State::Copied => push_titled(out, area, fill, b" rx=\"3\"", &about),
-        State::Open(chunks) => {
-            push_titled(out, area, b"#ffffff", outline.as_slice(), &about);
-            let mut part = area;
-            part.width = plan_scene::parts_of(chunks, 16, area.width);
-            push_area(out, part, fill, b" rx=\"3\" opacity=\"0.4\"");
-            ink = b" class=\"b\" text-anchor=\"middle\"".as_slice();
-        }
-        State::Left => {
-            push_titled(out, area, b"#ffffff", outline.as_slice(), &about);
-            ink = b" class=\"b\" text-anchor=\"middle\"".as_slice();
-        }
+    if let State::Open(chunks) = state {
+        let mut part = area;
+        part.width = plan_scene::parts_of(chunks, 16, area.width);
+        push_area(out, part, fill, b" rx=\"3\" opacity=\"0.4\"");
     }
     let words = label(sheet, shown, takes, area.width);
     out.heed(&words);
-    if words.len() == 0 {
-        return;
+    if words.len() > 0 {
+        let x = area.x.saturating_add(area.width / 2);
+        push_said(out, Point::at(x, area.y.saturating_add(12)), ink, &words)
     }
-    let middle = Point::at(
-        area.x.saturating_add(area.width / 2),
-        area.y.saturating_add(12),
-    );
-    push_said(out, middle, ink, &words)
 }
 
 // The bars of a copy, one for each of its nodes.

@@ -1,6 +1,7 @@
 //! A plan as a picture: who gives what to whom in which round, as SVG.
 #![tactic(auto)]
 
+mod bands;
 mod dense;
 mod drawing;
 mod frame;

@@ -138,23 +138,25 @@ fn has_left_held(context: &Context, number: u32, node: NodeId, held: &Held) -> b
         && are_left(context, number, held.others(node))
 }
 
-// Whether the slot of that index is the step's own, or the node has left it by the step.
-fn is_left_at(
-    context: &Context,
-    holdings: &Holdings,
-    number: u32,
-    slot: Slot,
-    node: NodeId,
-    index: u32,
-) -> bool
-    ensures { result ≡ ((index == slot.index) || has_left_at (order context.now) number holdings.now index node) }
-{
-    if index == slot.index {
-        return true;
-    }
-    match holdings.slot(index) {
-        Some(held) => has_left_held(context, number, node, held),
-        None => true,
+impl Holdings {
+    // Whether the slot of that index is the step's own, or the node has left it by the step.
+    fn is_left_at(
+        &self,
+        context: &Context,
+        number: u32,
+        slot: Slot,
+        node: NodeId,
+        index: u32,
+    ) -> bool
+        ensures { result ≡ ((index == slot.index) || has_left_at (order context.now) number self.now index node) }
+    {
+        if index == slot.index {
+            return true;
+        }
+        match self.slot(index) {
+            Some(held) => has_left_held(context, number, node, held),
+            None => true,
+        }
     }
 }
 
@@ -202,7 +204,7 @@ fn has_left(context: &Context, holdings: &Holdings, number: u32, slot: Slot, nod
     ensures { result ≡ has_left context.now.ring.now context.now.plan.now (order context.now) number slot node }
 {
     for index in 0..context.ring.n() {
-        if !is_left_at(context, holdings, number, slot, node, index) {
+        if !holdings.is_left_at(context, number, slot, node, index) {
             return false;
         }
     }

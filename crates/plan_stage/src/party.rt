@@ -47,6 +47,15 @@ pub fn sources(
     parties_on(alloc, ring, plan, Side::Give, step)
 }
 
+// A step of a plan of a ring, in front of which is looked.
+#[derive(Clone, Copy)]
+struct Before<'a> {
+    alloc: Global,
+    ring: &'a Ring,
+    plan: &'a Plan,
+    step: u32,
+}
+
 // The nodes that take part in a copy on that side, by number. None where the step is no copy.
 fn parties_on(
     alloc: Global,
@@ -63,40 +72,44 @@ fn parties_on(
     if step >= plan.len() {
         return Ok(no_one);
     }
+    let before = Before {
+        alloc,
+        ring,
+        plan,
+        step,
+    };
     match plan.step(step) {
-        Step::Copy(slot, source) => copy_parties(alloc, ring, plan, side, step, *slot, source),
+        Step::Copy(slot, source) => copy_parties(&before, side, *slot, source),
         Step::Join(_) | Step::Mirror(_, _) | Step::Switch(_) | Step::Drop(_, _) | Step::Retire(_) =>
             Ok(no_one),
     }
 }
 
-// The nodes of the step that copies the slot.
+// The nodes of the step, which copies the slot.
 fn copy_parties(
-    alloc: Global,
-    ring: &Ring,
-    plan: &Plan,
+    before: &Before,
     side: Side,
-    step: u32,
     slot: Slot,
     source: &Source,
 ) -> Result<Listed<NodeId>, Refusal>
-    requires partition { slot.partition < ring.now.q }
-    requires index { slot.index < ring.now.n }
-    requires suits { source_suits ring.now source.now ≡ true }
-    ensures ok { IfOk result (λ list. list ≡ on_side side (stage_before ring.now plan.now slot step).mirror
-        (owners_before ring.now plan.now step (source_slots slot source.now))) }
+    requires partition { slot.partition < before.now.ring.now.q }
+    requires index { slot.index < before.now.ring.now.n }
+    requires suits { source_suits before.now.ring.now source.now ≡ true }
+    ensures ok { IfOk result
+        (λ list. list ≡ on_side side (stage_before before.now.ring.now before.now.plan.now slot before.now.step).mirror
+        (owners_before before.now.ring.now before.now.plan.now before.now.step (source_slots slot source.now))) }
     ensures memory { IfErr result (λ e. e ≡ OutOfMemory) }
 {
-    let mirror = stage_before(alloc, ring, plan, step, slot)?.mirror;
+    let mirror = stage_before(before, slot)?.mirror;
     let party = match side {
         Side::Both => {
-            let owners = owners_before(alloc, ring, plan, step, slot, source)?;
+            let owners = owners_before(before, slot, source)?;
             with_target(owners, mirror)?
         }
-        Side::Take => with_target(BTreeSet::new(alloc), mirror)?,
-        Side::Give => owners_before(alloc, ring, plan, step, slot, source)?,
+        Side::Take => with_target(BTreeSet::new(before.alloc), mirror)?,
+        Side::Give => owners_before(before, slot, source)?,
     };
-    Ok(Listed::from_vec(listed(alloc, &party)?))
+    Ok(Listed::from_vec(listed(before.alloc, &party)?))
 }
 
 // These nodes, and the mirror with them.
@@ -114,75 +127,53 @@ fn with_target(
 }
 
 // The owners of the slots from which the step copies, just before it.
-fn owners_before(
-    alloc: Global,
-    ring: &Ring,
-    plan: &Plan,
-    step: u32,
-    slot: Slot,
-    source: &Source,
-) -> Result<BTreeSet<NodeId>, Refusal>
-    requires partition { slot.partition < ring.now.q }
-    requires index { slot.index < ring.now.n }
-    requires suits { source_suits ring.now source.now ≡ true }
+fn owners_before(before: &Before, slot: Slot, source: &Source) -> Result<BTreeSet<NodeId>, Refusal>
+    requires partition { slot.partition < before.now.ring.now.q }
+    requires index { slot.index < before.now.ring.now.n }
+    requires suits { source_suits before.now.ring.now source.now ≡ true }
     ensures ok { IfOk result
-        (λ party. party.keys ≡ owners_before ring.now plan.now step (source_slots slot source.now)) }
+        (λ party. party.keys ≡ owners_before before.now.ring.now before.now.plan.now before.now.step (source_slots slot source.now)) }
     ensures memory { IfErr result (λ e. e ≡ OutOfMemory) }
 {
     match source {
         Source::Owner => {
-            let mut party = BTreeSet::new(alloc);
-            add_owner(alloc, ring, plan, step, slot, &mut party)?;
+            let mut party = BTreeSet::new(before.alloc);
+            add_owner(before, slot, &mut party)?;
             Ok(party)
         }
-        Source::Slots(from) => {
-            listed_owners(alloc, ring, plan, step, slot.partition, from.as_slice())
-        }
+        Source::Slots(from) => listed_owners(before, slot.partition, from.as_slice()),
     }
 }
 
 // The owners of the listed slots of a partition, just before the step.
-fn listed_owners(
-    alloc: Global,
-    ring: &Ring,
-    plan: &Plan,
-    step: u32,
-    partition: u32,
-    from: &[u32],
-) -> Result<BTreeSet<NodeId>, Refusal>
-    requires partition { partition < ring.now.q }
-    requires indexes { list_all (λ i. nat_lt i ring.now.n) from.now ≡ true }
-    ensures ok { IfOk result (λ party. party.keys
-        ≡ owners_before ring.now plan.now step (map (λ i. record { partition = partition; index = i }) from.now)) }
+fn listed_owners(before: &Before, partition: u32, from: &[u32]) -> Result<BTreeSet<NodeId>, Refusal>
+    requires partition { partition < before.now.ring.now.q }
+    requires indexes { list_all (λ i. nat_lt i before.now.ring.now.n) from.now ≡ true }
+    ensures ok { IfOk result
+        (λ party. party.keys ≡ owners_before before.now.ring.now before.now.plan.now before.now.step
+        (map (λ i. record { partition = partition; index = i }) from.now)) }
     ensures memory { IfErr result (λ e. e ≡ OutOfMemory) }
 {
-    let mut party = BTreeSet::new(alloc);
+    let mut party = BTreeSet::new(before.alloc);
     for k in (0..from.len()).rev() {
         let slot = Slot {
             partition,
             index: from[k],
         };
-        add_owner(alloc, ring, plan, step, slot, &mut party)?;
+        add_owner(before, slot, &mut party)?;
     }
     Ok(party)
 }
 
 // Puts the owner of the slot, just before the step, among the others.
-fn add_owner(
-    alloc: Global,
-    ring: &Ring,
-    plan: &Plan,
-    step: u32,
-    slot: Slot,
-    party: &mut BTreeSet<NodeId>,
-) -> Result<(), Refusal>
-    requires partition { slot.partition < ring.now.q }
-    requires index { slot.index < ring.now.n }
+fn add_owner(before: &Before, slot: Slot, party: &mut BTreeSet<NodeId>) -> Result<(), Refusal>
+    requires partition { slot.partition < before.now.ring.now.q }
+    requires index { slot.index < before.now.ring.now.n }
     ensures ok { OnOk result
-        (party.new.keys ≡ with_node (stage_before ring.now plan.now slot step).owner party.old.keys) }
+        (party.new.keys ≡ with_node (stage_before before.now.ring.now before.now.plan.now slot before.now.step).owner party.old.keys) }
     ensures memory { IfErr result (λ e. e ≡ OutOfMemory) }
 {
-    let stage = stage_before(alloc, ring, plan, step, slot)?;
+    let stage = stage_before(before, slot)?;
     add_node(party, stage.owner)
 }
 
@@ -196,19 +187,15 @@ fn add_node(party: &mut BTreeSet<NodeId>, node: NodeId) -> Result<(), Refusal>
 }
 
 // The stage of the slot just before the step.
-fn stage_before(
-    alloc: Global,
-    ring: &Ring,
-    plan: &Plan,
-    step: u32,
-    slot: Slot,
-) -> Result<Stage, Refusal>
-    requires partition { slot.partition < ring.now.q }
-    requires index { slot.index < ring.now.n }
-    ensures ok { IfOk result (λ stage. stage ≡ stage_before ring.now plan.now slot step) }
+fn stage_before(before: &Before, slot: Slot) -> Result<Stage, Refusal>
+    requires partition { slot.partition < before.now.ring.now.q }
+    requires index { slot.index < before.now.ring.now.n }
+    ensures ok { IfOk result
+        (λ stage. stage ≡ stage_before before.now.ring.now before.now.plan.now slot before.now.step) }
     ensures memory { IfErr result (λ e. e ≡ OutOfMemory) }
 {
-    stage_at(alloc, ring, plan, slot, count_before(plan, step, slot))
+    let count = count_before(before.plan, before.step, slot);
+    stage_at(before.alloc, before.ring, before.plan, slot, count)
 }
 
 // How many of the slot's steps stand before the step.

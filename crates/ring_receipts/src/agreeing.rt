@@ -53,19 +53,26 @@ fn are_clients(
     Ok(true)
 }
 
+// Who takes part in a drive: a plan's steps, clients with these scripts, and so many workers.
+#[derive(Clone, Copy)]
+struct Cast<'a> {
+    steps: u32,
+    scripts: &'a [Script],
+    workers: u32,
+}
+
 // Whether the lists are those of a drive, where so many stand in front of the workers'.
 fn agrees_behind(
     alloc: Global,
-    steps: u32,
-    scripts: &[Script],
-    workers: u32,
+    cast: &Cast,
     outcome: &Outcome,
     front: usize,
 ) -> Result<bool, Refusal>
-    requires { length outcome.now.receipts.items ≡ front + (workers + (length scripts.now + 1)) }
-    ensures exactly { IfOk result (λ b. IsTrue b ↔ AgreesBehind front steps scripts.now workers outcome.now.history.items outcome.now.receipts.items outcome.now.finishers.items) }
+    requires { length outcome.now.receipts.items ≡ front + (cast.now.workers + (length cast.now.scripts.now + 1)) }
+    ensures exactly { IfOk result (λ b. IsTrue b ↔ AgreesBehind front cast.now.steps cast.now.scripts.now cast.now.workers outcome.now.history.items outcome.now.receipts.items outcome.now.finishers.items) }
     ensures memory { IfErr result (λ e. e ≡ OutOfMemory) }
 {
+    let (scripts, workers) = (cast.scripts, cast.workers);
     let lists = outcome.receipts.as_slice();
     let finishers = outcome.finishers.as_slice();
     let clients = front + workers as usize;
@@ -74,7 +81,7 @@ fn agrees_behind(
     let served = are_clients(alloc, scripts, lists, clients)?;
     let worked = are_workers(lists, front, workers);
     let handed = are_of_handoffs(lists[clients + scripts.len()].as_slice());
-    let all = finishers.len() == steps as usize;
+    let all = finishers.len() == cast.steps as usize;
     Ok(interleaved && finished && served && worked && handed && all)
 }
 
@@ -96,12 +103,10 @@ pub fn agrees(
     let Some(front) = outcome.receipts.len().checked_sub(behind.saturating_add(1)) else {
         return Ok(false);
     };
-    agrees_behind(
-        alloc,
-        approved.plan().len(),
+    let cast = Cast {
+        steps: approved.plan().len(),
         scripts,
         workers,
-        outcome,
-        front,
-    )
+    };
+    agrees_behind(alloc, &cast, outcome, front)
 }

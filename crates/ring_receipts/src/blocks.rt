@@ -12,9 +12,9 @@ use crate::asked::Asked;
 use crate::kinds::{is_acknowledged, is_end, is_read, is_sent};
 use crate::receipt::Receipt;
 use crate::same::same_event;
-use crate::starts::{all_ended, get_started, put_started};
-use plan_runs::{Event, Key, Seen};
-use ring_names::{Refusal, Value, WriterId};
+use crate::starts::{PutLine, all_ended, get_started, put_started};
+use plan_runs::{Event, Key};
+use ring_names::Refusal;
 use std::alloc::Global;
 
 // What is left behind the writes and hints of the put, and at most one acknowledgement of it.
@@ -67,23 +67,21 @@ fn behind_end(get: u32, list: &[Receipt]) -> (bool, &[Receipt])
 // What is left of the list behind the block of a put's line, if there is one.
 fn behind_put_line<'a>(
     asked: &[Asked],
-    writer: WriterId,
-    key: &Key,
-    value: &Value,
-    seen: &Seen,
+    line: &PutLine,
     list: &'a [Receipt],
 ) -> Option<&'a [Receipt]>
-    ensures some { IfSome result
-        (λ rest. Leaves asked.now (StartPut writer key.now value.now seen.now) list.now rest.now asked.now) }
-    ensures none { IfNone result (HasNoBlock asked.now (StartPut writer key.now value.now seen.now) list.now) }
+    ensures some { IfSome result (λ rest. Leaves asked.now
+        (StartPut line.now.writer line.now.key.now line.now.value.now line.now.seen.now) list.now rest.now asked.now) }
+    ensures none { IfNone result
+        (HasNoBlock asked.now (StartPut line.now.writer line.now.key.now line.now.value.now line.now.seen.now) list.now) }
 {
-    if !all_ended(asked, key, seen) {
+    if !all_ended(asked, line.key, line.seen) {
         return Some(list);
     }
     let Some((start, later)) = list.split_first() else {
         return None;
     };
-    match put_started(asked, writer, key, value, seen, start) {
+    match put_started(asked, line, start) {
         Some(put) => Some(behind_put(put, later)),
         None => None,
     }
@@ -141,14 +139,15 @@ pub(crate) fn behind_line<'a>(
     ensures memory { IfErr result (λ e. e ≡ OutOfMemory) }
 {
     match line {
-        Event::StartPut(writer, key, value, seen) => Ok(behind_put_line(
-            asked.as_slice(),
-            *writer,
-            key,
-            value,
-            seen,
-            list,
-        )),
+        Event::StartPut(writer, key, value, seen) => {
+            let put = PutLine {
+                writer: *writer,
+                key,
+                value,
+                seen,
+            };
+            Ok(behind_put_line(asked.as_slice(), &put, list))
+        }
         Event::StartGet(key) => behind_get_line(alloc, asked, key, list),
         Event::Down(_) | Event::Up(_) => Ok(Some(behind_node_line(line, list))),
         _ => Ok(None),

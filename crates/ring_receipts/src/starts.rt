@@ -57,45 +57,43 @@ fn are_numbers(asked: &[Asked], seen: &[u32], numbers: &[u32]) -> bool
     rest.is_empty()
 }
 
-// Whether the event starts a put of those words, whose gets have these numbers.
-fn is_start_of(
-    asked: &[Asked],
-    writer: WriterId,
-    key: &Key,
-    value: &Value,
-    seen: &Seen,
-    event: &Event,
-) -> bool
-    ensures { IsTrue result ↔ (event.now ≡ StartPut writer key.now value.now (numbers_of asked.now seen.now)) }
+/// What a put's line says: who writes what under which key, and which of the script's gets the writer has seen.
+#[derive(Clone, Copy)]
+pub(crate) struct PutLine<'l> {
+    pub writer: WriterId,
+    pub key: &'l Key,
+    pub value: &'l Value,
+    pub seen: &'l Seen,
+}
+
+// Whether the event starts the line's put, whose gets have these numbers.
+fn is_start_of(asked: &[Asked], line: &PutLine, event: &Event) -> bool
+    ensures { IsTrue result ↔ (event.now
+        ≡ StartPut line.now.writer line.now.key.now line.now.value.now (numbers_of asked.now line.now.seen.now)) }
 {
     match event {
         Event::StartPut(by, of, with, knowing) => {
-            by.0 == writer.0
-                && of.as_slice() == key.as_slice()
-                && with.as_slice() == value.as_slice()
-                && are_numbers(asked, seen.as_slice(), knowing.as_slice())
+            by.0 == line.writer.0
+                && of.as_slice() == line.key.as_slice()
+                && with.as_slice() == line.value.as_slice()
+                && are_numbers(asked, line.seen.as_slice(), knowing.as_slice())
         }
         _ => false,
     }
 }
 
-/// The number of the put of those words that the receipt starts, if it does.
-pub(crate) fn put_started(
-    asked: &[Asked],
-    writer: WriterId,
-    key: &Key,
-    value: &Value,
-    seen: &Seen,
-    receipt: &Receipt,
-) -> Option<u32>
+/// The number of the line's put that the receipt starts, if it does.
+pub(crate) fn put_started(asked: &[Asked], line: &PutLine, receipt: &Receipt) -> Option<u32>
     ensures some { IfSome result (λ v. (receipt.now.event
-        ≡ StartPut writer key.now value.now (numbers_of asked.now seen.now)) × (receipt.now.reply ≡ Put v)) }
+        ≡ StartPut line.now.writer line.now.key.now line.now.value.now (numbers_of asked.now line.now.seen.now))
+        × (receipt.now.reply ≡ Put v)) }
     ensures none { IfNone result ((v : ℕ) → receipt.now.event
-        ≡ StartPut writer key.now value.now (numbers_of asked.now seen.now) → receipt.now.reply ≡ Put v → ⊥) }
+        ≡ StartPut line.now.writer line.now.key.now line.now.value.now (numbers_of asked.now line.now.seen.now)
+        → receipt.now.reply ≡ Put v → ⊥) }
 {
     match &receipt.reply {
         Reply::Put(put) => {
-            if is_start_of(asked, writer, key, value, seen, &receipt.event) {
+            if is_start_of(asked, line, &receipt.event) {
                 Some(*put)
             } else {
                 None

@@ -10,11 +10,11 @@ use crate::done::Done;
 use crate::getting::{finish_get, start_get};
 use crate::noting::{go_on, no_limit};
 use crate::putting::put_on;
-use crate::site::{Site, is_set, ring, set};
+use crate::site::{LockedStore, Site, is_set, ring, set};
 use plan_check::Gate;
 use plan_runs::{Event, Key, Seen};
-use ring_exec::{Executor, RunLedger, Share};
-use ring_names::{Refusal, Value, WriterId};
+use ring_exec::RunLedger;
+use ring_names::Refusal;
 use ring_receipts::{Asked, Receipt, all_ended, number_of};
 use script_text::Script;
 use std::alloc::Global;
@@ -30,23 +30,19 @@ fn numbers(alloc: Global, asked: &[Asked], seen: &Seen) -> Result<Vec<u32>, Refu
 }
 
 // The start of a line's put, whose gets have the numbers that they were answered.
-fn start_of(
-    alloc: Global,
-    asked: &[Asked],
-    writer: WriterId,
-    key: &Key,
-    value: &Value,
-    seen: &Seen,
-) -> Result<Event, Refusal>
+fn start_of(alloc: Global, asked: &[Asked], line: &Event) -> Result<Event, Refusal>
     ensures { IfOk result (λ start. starts_put start ≡ true) }
 {
+    let Event::StartPut(writer, key, value, seen) = line else {
+        return Err(Refusal::Disagree);
+    };
     // A later get has a greater number, so they ascend as those of the script do.
     let Some(seen) = Seen::of(numbers(alloc, asked, seen)?) else {
         return Err(Refusal::Disagree);
     };
     let key = key.try_copy(alloc)?;
     let value = value.try_copy()?;
-    Ok(Event::StartPut(writer, key, value, seen))
+    Ok(Event::StartPut(*writer, key, value, seen))
 }
 
 // Goes on behind an attempt, but where it met what ends all.
@@ -71,103 +67,89 @@ fn left_hints(receipts: &[Receipt], from: usize) -> bool {
 }
 
 // The put of a line, where each get that it names is an earlier one of the script, of its key, and has ended; else nothing.
-fn put_line<'e, 'a, L: RunLedger, R: Wait, G: Gate>(
-    rt: &R,
-    alloc: Global,
-    site: &Site<'e, 'a, L, G>,
+fn put_line<L: RunLedger, R: Wait, G: Gate>(
+    site: &Site<L, R, G>,
     done: &mut Done<L>,
     asked: &[Asked],
     line: &Event,
 ) -> Result<(), Refusal> {
-    let Event::StartPut(writer, key, value, seen) = line else {
+    let Event::StartPut(_, key, _, seen) = line else {
         return Ok(());
     };
     if !all_ended(asked, key, seen) {
         return Ok(());
     }
-    let start = start_of(alloc, asked, *writer, key, value, seen)?;
+    let start = start_of(site.job.alloc, asked, line)?;
     let before = done.receipts.len();
-    let refusal = put_on(
-        rt,
-        site.executor,
-        &mut done.share,
-        &mut done.receipts,
-        &start,
-    );
+    let refusal = put_on(site.store, &mut done.share, &mut done.receipts, &start);
     if left_hints(done.receipts.as_slice(), before) {
-        ring(site.bell);
+        ring(&site.flags.bell);
     }
     after(refusal)
 }
 
 // The get of a line. It is noted behind those that were asked.
-fn get_line<'a, L: RunLedger, R: Wait>(
-    rt: &R,
-    alloc: Global,
-    executor: &Executor<'a, L>,
+fn get_line<L: RunLedger, R: Wait, G: Gate>(
+    site: &Site<L, R, G>,
     done: &mut Done<L>,
     asked: &mut Vec<Asked>,
     key: &Key,
 ) -> Result<(), Refusal> {
     asked.reserve(1)?;
+    let alloc = site.job.alloc;
     let key = key.try_copy(alloc)?;
     let start = Event::StartGet(key.try_copy(alloc)?);
-    let number = start_get(rt, executor, &mut done.share, &mut done.receipts, &start)?;
-    let refusal = finish_get(rt, executor, &mut done.share, &mut done.receipts, number);
+    let number = start_get(site.store, &mut done.share, &mut done.receipts, &start)?;
+    let refusal = finish_get(site.store, &mut done.share, &mut done.receipts, number);
     let ended = refusal.is_none();
     asked.push_reserved(Asked { number, key, ended });
     after(refusal)
 }
 
 // The line of a node that goes down or comes up.
-fn node_line<'a, L: RunLedger, R: Wait>(
-    rt: &R,
-    executor: &Executor<'a, L>,
+fn node_line<L: RunLedger, R: Wait>(
+    store: &LockedStore<L, R>,
     done: &mut Done<L>,
     line: &Event,
 ) -> Result<(), Refusal> {
-    match done.note(rt, executor, line) {
+    match done.note(store, line) {
         Ok(()) => Ok(()),
         Err(refusal) => go_on(refusal),
     }
 }
 
 // What the line asks for.
-fn do_line<'e, 'a, L: RunLedger, R: Wait, G: Gate>(
-    rt: &R,
-    alloc: Global,
-    site: &Site<'e, 'a, L, G>,
+fn do_line<L: RunLedger, R: Wait, G: Gate>(
+    site: &Site<L, R, G>,
     done: &mut Done<L>,
     asked: &mut Vec<Asked>,
     line: &Event,
 ) -> Result<(), Refusal> {
     match line {
-        Event::StartPut(_, _, _, _) => put_line(rt, alloc, site, done, asked.as_slice(), line),
-        Event::StartGet(key) => get_line(rt, alloc, site.executor, done, asked, key),
-        _ => node_line(rt, site.executor, done, line),
+        Event::StartPut(_, _, _, _) => put_line(site, done, asked.as_slice(), line),
+        Event::StartGet(key) => get_line(site, done, asked, key),
+        _ => node_line(site.store, done, line),
     }
 }
 
 // The lines in order, until all are to stop. The refusal that ends them, if one does.
-fn do_lines<'e, 'a, L: RunLedger, R: Wait, G: Gate>(
-    rt: &R,
-    alloc: Global,
-    site: &Site<'e, 'a, L, G>,
+fn do_lines<L: RunLedger, R: Wait, G: Gate>(
+    site: &Site<L, R, G>,
     done: &mut Done<L>,
     client: u32,
     lines: &[Event],
 ) -> Result<(), Refusal>
-    ensures spent { IfErr result (λ e. e ≡ TurnsSpent → (line : ℕ) × G.may_refuse site.now.gate.now client line) }
+    ensures spent { IfErr result (λ e. e ≡ TurnsSpent → (line : ℕ) × G.may_refuse site.now.job.now.gate.now client line) }
 {
-    let mut asked = Vec::new(alloc);
+    let mut asked = Vec::new(site.job.alloc);
     for (number, line) in lines.iter().enumerate() {
-        if is_set(site.stop) {
+        if is_set(&site.flags.stop) {
             break;
         }
-        if !site.gate.pass(rt, client, number as u64) {
+        if !site.job.gate.pass(site.job.rt, client, number as u64) {
             return Err(Refusal::TurnsSpent);
         }
-        if let Err(refusal) = do_line(rt, alloc, site, done, &mut asked, line) {
+        if let Err(refusal) = do_line(site, done, &mut asked, line) {
             return Err(no_limit(refusal));
         }
     }
@@ -176,22 +158,20 @@ fn do_lines<'e, 'a, L: RunLedger, R: Wait, G: Gate>(
 
 /// A client: the lines of its script, one behind the other. It stops all where it meets a full history or want of memory, and where its gate
 /// answers false; other refusals stop nobody.
-pub(crate) fn serve<'e, 'a, L: RunLedger, R: Wait, G: Gate>(
-    rt: &R,
-    alloc: Global,
-    site: &Site<'e, 'a, L, G>,
+pub(crate) fn serve<L: RunLedger, R: Wait, G: Gate>(
+    site: &Site<L, R, G>,
+    done: Done<L>,
     client: u32,
     script: &Script,
-    share: Share<L>,
 ) -> Done<L>
-    ensures { IsSpent result.stopped → (line : ℕ) × G.may_refuse site.now.gate.now client line }
+    ensures { IsSpent result.stopped → (line : ℕ) × G.may_refuse site.now.job.now.gate.now client line }
 {
-    let mut done = Done::new(alloc, share);
-    let ended = do_lines(rt, alloc, site, &mut done, client, script.events());
+    let mut done = done;
+    let ended = do_lines(site, &mut done, client, script.events());
     done.stopped = match ended {
         Ok(()) => None,
         Err(refusal) => {
-            set(site.stop);
+            set(&site.flags.stop);
             Some(refusal)
         }
     };

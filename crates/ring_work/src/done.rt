@@ -1,9 +1,10 @@
 //! What a thread hands back.
 
 use crate::noting::note;
+use crate::site::LockedStore;
 use plan_runs::Event;
 use ring_board::Seat;
-use ring_exec::{Executor, RunLedger, Share};
+use ring_exec::{RunLedger, Share};
 use ring_names::Refusal;
 use ring_receipts::Receipt;
 use std::alloc::Global;
@@ -17,10 +18,11 @@ pub(crate) struct Done<L: RunLedger> {
     pub stopped: Option<Refusal>,
 }
 
-/// The same of a worker, with its seat at the board.
+/// The same of the worker of that number, with its seat at the board.
 #[derive(Drop)]
 pub(crate) struct Sat<L: RunLedger> {
     pub done: Done<L>,
+    pub worker: u32,
     pub seat: Seat,
 }
 
@@ -35,12 +37,11 @@ impl<L: RunLedger> Done<L> {
     }
 
     /// Submits the event and keeps its receipt.
-    pub fn note<'a, R: Wait>(
+    pub fn note<R: Wait>(
         &mut self,
-        rt: &R,
-        executor: &Executor<'a, L>,
+        store: &LockedStore<L, R>,
         event: &Event,
     ) -> Result<(), Refusal> {
-        note(rt, executor, &mut self.share, &mut self.receipts, event)
+        note(store, &mut self.share, &mut self.receipts, event)
     }
 }

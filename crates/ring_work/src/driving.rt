@@ -14,6 +14,7 @@ use crate::earlier::finish_all;
 use crate::fault::Fault;
 use crate::left::{Left, worse};
 use crate::noting::no_limit;
+use crate::site::Job;
 use crate::threads::run_all;
 use plan_check::{Approved, Gate};
 use plan_runs::Entry;
@@ -135,18 +136,15 @@ pub(crate) fn bare(alloc: Global, approved: &Approved, refusal: Refusal) -> Faul
 
 // Why the outcome is none of so many lists, if it is: what ended a thread or was refused behind it comes before steps that are left and receipts that
 // disagree.
-fn judge(
-    alloc: Global,
-    approved: &Approved,
-    scripts: &[Script],
-    workers: u32,
+fn judge<'a, R: Wait, G: Gate>(
+    job: &Job<'a, R, G>,
     lists: usize,
     outcome: &Outcome,
     finished: bool,
     stopped: Option<Refusal>,
 ) -> Option<Refusal>
     ensures finished { IfNone result (IsTrue finished) }
-    ensures agrees { IfNone result (Agrees (length approved.now.plan) scripts.now workers outcome.now.history.items outcome.now.receipts.items outcome.now.finishers.items) }
+    ensures agrees { IfNone result (Agrees (length job.now.approved.now.plan) job.now.scripts.now job.now.workers outcome.now.history.items outcome.now.receipts.items outcome.now.finishers.items) }
     ensures lists { IfNone result (length outcome.now.receipts.items ≡ lists) }
     ensures fault { IfSome result IsFault }
     ensures spent { IfSome result (λ e. e ≡ TurnsSpent → IsSpent stopped) }
@@ -157,7 +155,7 @@ fn judge(
     if !finished || outcome.receipts.len() != lists {
         return Some(Refusal::Disagree);
     }
-    match agrees(alloc, approved, scripts, workers, outcome) {
+    match agrees(job.alloc, job.approved, job.scripts, job.workers, outcome) {
         Ok(true) => None,
         Ok(false) => Some(Refusal::Disagree),
         Err(_) => Some(Refusal::OutOfMemory),
@@ -228,142 +226,171 @@ fn roomy(front: Vec<Listed<Receipt>>, threads: usize) -> Result<Vec<Listed<Recei
     Ok(front)
 }
 
+// How many threads a drive has: one for each worker, one for each client, and that of handoffs.
+fn threads_of<'a, R: Wait, G: Gate>(job: &Job<'a, R, G>) -> usize
+    requires workers { job.now.workers ≤ 64 }
+    requires scripts { length job.now.scripts.now ≤ 8 }
+    ensures { result ≡ job.now.workers + (length job.now.scripts.now + 1) }
+{
+    job.workers as usize + (job.scripts.len() + 1)
+}
+
 // What stands before the threads start: the board with its seats, and room for their lists.
-fn begun(
-    alloc: Global,
-    steps: u32,
-    workers: u32,
+fn begun<'a, R: Wait, G: Gate>(
+    job: &Job<'a, R, G>,
     entries: &[Entry],
     front: Vec<Listed<Receipt>>,
-    threads: usize,
 ) -> Result<(Board, Seat, Seat, Vec<Listed<Receipt>>), Refusal>
-    requires { workers ≤ 64 }
-    ensures board { IfOk result (λ r. (r.0.steps ≡ steps) × (r.0.workers ≡ workers + 1)) }
+    requires workers { job.now.workers ≤ 64 }
+    requires scripts { length job.now.scripts.now ≤ 8 }
+    ensures board { IfOk result
+        (λ r. (r.0.steps ≡ length job.now.approved.now.plan) × (r.0.workers ≡ job.now.workers + 1)) }
     ensures seats { IfOk result (λ r. (r.1.board ≡ r.0.id) × (r.2.board ≡ r.0.id)) }
     ensures front { IfOk result (λ r. r.3.items ≡ front.items) }
 {
-    let front = roomy(front, threads)?;
-    let (board, first, last) = board_of(alloc, steps, workers, entries)?;
+    let front = roomy(front, threads_of(job))?;
+    let steps = job.approved.plan().len();
+    let (board, first, last) = board_of(job.alloc, steps, job.workers, entries)?;
     Ok((board, first, last, front))
 }
 
-/// A drive whose store is behind the lock, and behind the entries: its threads, and what they come to. Their lists stand behind those in front.
-pub(crate) fn drive_on<'a, L: RunLedger + Send + Sync, R: Threads + Wait + Sync, G: Gate + Sync>(
-    rt: &R,
-    alloc: Global,
-    executor: Executor<'a, L>,
+// What the threads of a drive leave behind, where all seats are given back. Their lists stand behind those in front.
+#[derive(Drop)]
+struct Ran<L: RunLedger> {
+    shares: Vec<Share<L>>,
+    receipts: Vec<Listed<Receipt>>,
+    finishers: Vec<u32>,
+    refusal: Option<Refusal>,
+}
+
+// Runs the threads, on a board where the entries' steps are finished.
+fn run<'a, L: RunLedger + Send + Sync, R: Threads + Wait + Sync, G: Gate + Sync>(
+    job: &Job<'a, R, G>,
+    executor: &Executor<'a, L>,
     share: Share<L>,
-    approved: &Approved,
     entries: &[Entry],
     front: Vec<Listed<Receipt>>,
-    scripts: &[Script],
-    workers: u32,
-    gate: &G,
-) -> Result<Outcome, Fault>
-    requires front { vec_len front ≤ 1 }
-    requires parts { workers + length scripts.now + 2 ≤ share.token.parts }
-    requires ring { approved.now.ring ≡ L.ring }
-    requires plan { approved.now.plan ≡ L.plan }
-    requires workers { workers ≤ 64 }
-    requires scripts { length scripts.now ≤ 8 }
-    ensures ok { IfOk result (λ o. Driven approved.now.ring approved.now.plan scripts.now workers o.history.items o.receipts.items o.finishers.items) }
-    ensures threads { IfOk result (λ o. vec_len o.receipts ≡ vec_len front + (workers + (length scripts.now + 1))) }
-    ensures first { IfOk result (λ o. 0 < vec_len front → list_at o.receipts.items 0 ≡ list_at front.items 0) }
-    ensures refusal { IfErr result (λ f. IsFault f.refusal) }
-    ensures spent { IfErr result
-        (λ f. f.refusal ≡ TurnsSpent → MayStop (G.may_refuse gate.now) approved.now.plan (length scripts.now)) }
-    ensures history { IfErr result (λ f. IsHistory approved.now.ring approved.now.plan f.history.items) }
+) -> Result<Ran<L>, Refusal>
+    requires parts { job.now.workers + length job.now.scripts.now + 2 ≤ share.token.parts }
+    requires workers { job.now.workers ≤ 64 }
+    requires scripts { length job.now.scripts.now ≤ 8 }
+    ensures first { IfOk result (λ r. 0 < vec_len front → list_at r.receipts.items 0 ≡ list_at front.items 0) }
+    ensures spent { IfOk result (λ r. IsSpent r.refusal
+        → MayStop (G.may_refuse job.now.gate.now) job.now.approved.now.plan (length job.now.scripts.now)) }
 {
-    let plan = approved.plan();
-    let threads = workers as usize + (scripts.len() + 1);
-    let lists = front.len() + threads;
-    let (board, first, last, front) = match begun(
-        alloc,
-        plan.len(),
-        workers,
-        entries,
-        front,
-        threads,
-    ) {
-        Ok(begun) => begun,
-        Err(refusal) => {
-            executor.give_up();
-            return Err(bare(alloc, approved, told(no_limit(refusal))));
-        }
-    };
-    let (first, left) = match run_all(
-        rt, alloc, &executor, &board, gate, plan, scripts, workers, first, share,
-    ) {
-        Ok(back) => back,
-        Err(refusal) => {
-            executor.give_up();
-            return Err(bare(alloc, approved, told(refusal)));
-        }
-    };
+    let (board, first, last, front) = begun(job, entries, front)?;
+    let (first, left) = run_all(&*job, &*executor, &board, first, share)?;
     let Left {
         seats,
         shares,
         receipts,
         refusal,
     } = left;
-    let finishers = finishers_by(alloc, words_of(board, first, last, seats));
+    let finishers = finishers_by(job.alloc, words_of(board, first, last, seats));
+    let (receipts, refusal) = behind(front, receipts, refusal);
+    let (finishers, refusal) = noted(job.alloc, finishers, refusal);
+    Ok(Ran {
+        shares,
+        receipts,
+        finishers,
+        refusal,
+    })
+}
+
+// What a drive of so many lists comes to whose threads have ended.
+fn ended<'a, L: RunLedger, R: Wait, G: Gate>(
+    job: &Job<'a, R, G>,
+    executor: Executor<'a, L>,
+    ran: Ran<L>,
+    lists: usize,
+) -> Result<Outcome, Fault>
+    requires ring { job.now.approved.now.ring ≡ L.ring }
+    requires plan { job.now.approved.now.plan ≡ L.plan }
+    ensures ok { IfOk result (λ o. Driven job.now.approved.now.ring job.now.approved.now.plan job.now.scripts.now job.now.workers o.history.items o.receipts.items o.finishers.items) }
+    ensures lists { IfOk result (λ o. (vec_len o.receipts ≡ lists) × (o.receipts ≡ ran.receipts)) }
+    ensures refusal { IfErr result (λ f. IsFault f.refusal) }
+    ensures spent { IfErr result (λ f. f.refusal ≡ TurnsSpent → IsSpent ran.refusal) }
+    ensures history { IfErr result
+        (λ f. IsHistory job.now.approved.now.ring job.now.approved.now.plan f.history.items) }
+{
+    let Ran {
+        shares,
+        receipts,
+        finishers,
+        refusal,
+    } = ran;
     let ledgered = match executor.finish(shares) {
         Ok(ledgered) => ledgered,
-        Err(other) => return Err(bare(alloc, approved, told(worst(refusal, other)))),
+        Err(other) => return Err(bare(job.alloc, job.approved, told(worst(refusal, other)))),
     };
-    let (history, finished) = history_of(approved, ledgered);
-    let (receipts, refusal) = behind(front, receipts, refusal);
-    let (finishers, refusal) = noted(alloc, finishers, refusal);
+    let (history, finished) = history_of(job.approved, ledgered);
     let outcome = Outcome {
         history,
         receipts,
         finishers,
     };
-    match judge(
-        alloc, approved, scripts, workers, lists, &outcome, finished, refusal,
-    ) {
+    match judge(job, lists, &outcome, finished, refusal) {
         None => Ok(outcome),
         Some(refusal) => Err(fault_of(outcome, refusal)),
     }
 }
 
+/// A drive whose store is behind the lock, and behind the entries: its threads, and what they come to. Their lists stand behind those in front.
+pub(crate) fn drive_on<'a, L: RunLedger + Send + Sync, R: Threads + Wait + Sync, G: Gate + Sync>(
+    job: &Job<'a, R, G>,
+    executor: Executor<'a, L>,
+    share: Share<L>,
+    entries: &[Entry],
+    front: Vec<Listed<Receipt>>,
+) -> Result<Outcome, Fault>
+    requires front { vec_len front ≤ 1 }
+    requires parts { job.now.workers + length job.now.scripts.now + 2 ≤ share.token.parts }
+    requires ring { job.now.approved.now.ring ≡ L.ring }
+    requires plan { job.now.approved.now.plan ≡ L.plan }
+    requires workers { job.now.workers ≤ 64 }
+    requires scripts { length job.now.scripts.now ≤ 8 }
+    ensures ok { IfOk result (λ o. Driven job.now.approved.now.ring job.now.approved.now.plan job.now.scripts.now job.now.workers o.history.items o.receipts.items o.finishers.items) }
+    ensures threads { IfOk result
+        (λ o. vec_len o.receipts ≡ vec_len front + (job.now.workers + (length job.now.scripts.now + 1))) }
+    ensures first { IfOk result (λ o. 0 < vec_len front → list_at o.receipts.items 0 ≡ list_at front.items 0) }
+    ensures refusal { IfErr result (λ f. IsFault f.refusal) }
+    ensures spent { IfErr result (λ f. f.refusal ≡ TurnsSpent
+        → MayStop (G.may_refuse job.now.gate.now) job.now.approved.now.plan (length job.now.scripts.now)) }
+    ensures history { IfErr result
+        (λ f. IsHistory job.now.approved.now.ring job.now.approved.now.plan f.history.items) }
+{
+    let lists = front.len() + threads_of(job);
+    match run(job, &executor, share, entries, front) {
+        Ok(ran) => ended(job, executor, ran, lists),
+        Err(refusal) => {
+            executor.give_up();
+            Err(bare(job.alloc, job.approved, told(no_limit(refusal))))
+        }
+    }
+}
+
 // A drive by this ledger.
 fn drive_as<'a, L: RunLedger + Send + Sync, R: Threads + Wait + Sync, G: Gate + Sync>(
-    rt: &R,
-    alloc: Global,
+    job: &Job<'a, R, G>,
     blank: Blank,
-    approved: &'a Approved,
-    scripts: &[Script],
-    workers: u32,
-    gate: &G,
 ) -> Result<Outcome, Fault>
     requires name { blank.name ≡ L.name }
     requires parts { (blank.parts ≡ L.parts) × (blank.parts ≡ 128) }
-    requires ring { approved.now.ring ≡ L.ring }
-    requires plan { approved.now.plan ≡ L.plan }
-    requires workers { workers ≤ 64 }
-    requires scripts { length scripts.now ≤ 8 }
-    ensures ok { IfOk result (λ o. Driven approved.now.ring approved.now.plan scripts.now workers o.history.items o.receipts.items o.finishers.items) }
-    ensures threads { IfOk result (λ o. vec_len o.receipts ≡ workers + (length scripts.now + 1)) }
+    requires ring { job.now.approved.now.ring ≡ L.ring }
+    requires plan { job.now.approved.now.plan ≡ L.plan }
+    requires workers { job.now.workers ≤ 64 }
+    requires scripts { length job.now.scripts.now ≤ 8 }
+    ensures ok { IfOk result (λ o. Driven job.now.approved.now.ring job.now.approved.now.plan job.now.scripts.now job.now.workers o.history.items o.receipts.items o.finishers.items) }
+    ensures threads { IfOk result (λ o. vec_len o.receipts ≡ job.now.workers + (length job.now.scripts.now + 1)) }
     ensures refusal { IfErr result (λ f. IsFault f.refusal) }
-    ensures spent { IfErr result
-        (λ f. f.refusal ≡ TurnsSpent → MayStop (G.may_refuse gate.now) approved.now.plan (length scripts.now)) }
-    ensures history { IfErr result (λ f. IsHistory approved.now.ring approved.now.plan f.history.items) }
+    ensures spent { IfErr result (λ f. f.refusal ≡ TurnsSpent
+        → MayStop (G.may_refuse job.now.gate.now) job.now.approved.now.plan (length job.now.scripts.now)) }
+    ensures history { IfErr result
+        (λ f. IsHistory job.now.approved.now.ring job.now.approved.now.plan f.history.items) }
 {
-    match Executor::<L>::new(alloc, blank, approved) {
-        Ok((executor, share)) => drive_on(
-            rt,
-            alloc,
-            executor,
-            share,
-            approved,
-            &[],
-            Vec::new(alloc),
-            scripts,
-            workers,
-            gate,
-        ),
-        Err(refusal) => Err(bare(alloc, approved, told(refusal))),
+    match Executor::<L>::new(job.alloc, blank, job.approved) {
+        Ok((executor, share)) => drive_on(job, executor, share, &[], Vec::new(job.alloc)),
+        Err(refusal) => Err(bare(job.alloc, job.approved, told(refusal))),
     }
 }
 
@@ -392,5 +419,13 @@ pub fn drive<R: Threads + Wait + Sync, G: Gate + Sync>(
         (λ f. f.refusal ≡ TurnsSpent → MayStop (G.may_refuse gate.now) approved.now.plan (length scripts.now)) }
     ensures history { IfErr result (λ f. IsHistory approved.now.ring approved.now.plan f.history.items) }
 {
-    drive_as::<Brand, R, G>(rt, alloc, Blank::new(128), approved, scripts, workers, gate)
+    let job = Job {
+        rt,
+        alloc,
+        approved,
+        scripts,
+        workers,
+        gate,
+    };
+    drive_as::<Brand, R, G>(&job, Blank::new(128))
 }

@@ -7,9 +7,10 @@ ghost use Rattle.ring_work.specs.Resumed.{receipt_at, receipts_from, open_behind
 ghost use Rattle.ring_work.specs.Resumed.{Continues};
 
 use crate::noting::note;
+use crate::site::LockedStore;
 use plan_runs::{Entry, Event, Reply};
 use ring_board::{Board, Claim, Seat};
-use ring_exec::{Executor, RunLedger, Share};
+use ring_exec::{RunLedger, Share};
 use ring_names::{Listed, Refusal};
 use ring_receipts::Receipt;
 use std::alloc::{AllocError, Global};
@@ -124,9 +125,8 @@ fn copies_of(alloc: Global, steps: u32, entries: &[Entry]) -> Result<Vec<u32>, R
 }
 
 // Breaks the copies off, in order.
-fn break_off<'a, L: RunLedger, R: Wait>(
-    rt: &R,
-    executor: &Executor<'a, L>,
+fn break_off<L: RunLedger, R: Wait>(
+    store: &LockedStore<L, R>,
     share: &mut Share<L>,
     receipts: &mut Vec<Receipt>,
     copies: &[u32],
@@ -135,16 +135,15 @@ fn break_off<'a, L: RunLedger, R: Wait>(
     ensures parts { share.new.token.parts ≡ share.old.token.parts }
 {
     for copy in copies {
-        note(rt, executor, share, receipts, &Event::AbortCopy(*copy))?;
+        note(store, share, receipts, &Event::AbortCopy(*copy))?;
     }
     Ok(())
 }
 
 /// The receipts of the entries behind which the store is, and behind them those of the copies that they left open, each of which is broken off.
-pub(crate) fn continued<'a, L: RunLedger, R: Wait>(
-    rt: &R,
+pub(crate) fn continued<L: RunLedger, R: Wait>(
+    store: &LockedStore<L, R>,
     alloc: Global,
-    executor: &Executor<'a, L>,
     share: &mut Share<L>,
     steps: u32,
     entries: &[Entry],
@@ -155,7 +154,7 @@ pub(crate) fn continued<'a, L: RunLedger, R: Wait>(
 {
     let mut receipts = receipts_of(alloc, entries)?;
     let copies = copies_of(alloc, steps, entries)?;
-    break_off(rt, executor, share, &mut receipts, copies.as_slice())?;
+    break_off(store, share, &mut receipts, copies.as_slice())?;
     Ok(Listed::from_vec(receipts))
 }
 

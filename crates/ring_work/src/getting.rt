@@ -10,6 +10,7 @@ ghost use Rattle.ring_work.specs.Attempts.{starts_get, AddsGet, IsGetAttempt};
 
 use crate::attempt::Attempt;
 use crate::noting::{MAX_ROUNDS, get_number, go_on, note};
+use crate::site::LockedStore;
 use plan_runs::{Event, Key};
 use ring_exec::{Executor, RunLedger, Share};
 use ring_names::Refusal;
@@ -19,9 +20,8 @@ use std::sync::Wait;
 use std::thread;
 
 /// Starts the get. Its number.
-pub(crate) fn start_get<'a, L: RunLedger, R: Wait>(
-    rt: &R,
-    executor: &Executor<'a, L>,
+pub(crate) fn start_get<L: RunLedger, R: Wait>(
+    store: &LockedStore<L, R>,
     share: &mut Share<L>,
     receipts: &mut Vec<Receipt>,
     start: &Event,
@@ -34,7 +34,7 @@ pub(crate) fn start_get<'a, L: RunLedger, R: Wait>(
     ensures parts { share.new.token.parts ≡ share.old.token.parts }
 {
     receipts.reserve(1)?;
-    let receipt = executor.submit(rt, start, share)?;
+    let receipt = store.executor.submit(store.rt, start, share)?;
     let get = get_number(&receipt.reply);
     receipts.push_reserved(receipt);
     Ok(get)
@@ -63,9 +63,8 @@ impl Slots {
 }
 
 // Reads each slot that is not read, in order, until R slots are.
-fn read_round<'a, L: RunLedger, R: Wait>(
-    rt: &R,
-    executor: &Executor<'a, L>,
+fn read_round<L: RunLedger, R: Wait>(
+    store: &LockedStore<L, R>,
     share: &mut Share<L>,
     receipts: &mut Vec<Receipt>,
     get: u32,
@@ -75,10 +74,10 @@ fn read_round<'a, L: RunLedger, R: Wait>(
     ensures count { IsCounted share.old.count share.new.count receipts.old.items receipts.new.items }
     ensures parts { share.new.token.parts ≡ share.old.token.parts }
 {
-    let ring = executor.approved().ring();
+    let ring = store.executor.approved().ring();
     for index in 0..ring.n() {
         if slots.count < ring.r() && !slots.has(index) {
-            match note(rt, executor, share, receipts, &Event::Read(get, index)) {
+            match note(store, share, receipts, &Event::Read(get, index)) {
                 Ok(()) => slots.add(index),
                 Err(refusal) => go_on(refusal)?,
             }
@@ -88,9 +87,8 @@ fn read_round<'a, L: RunLedger, R: Wait>(
 }
 
 // Rounds, up to one behind which R slots are read.
-fn read_rounds<'a, L: RunLedger, R: Wait>(
-    rt: &R,
-    executor: &Executor<'a, L>,
+fn read_rounds<L: RunLedger, R: Wait>(
+    store: &LockedStore<L, R>,
     share: &mut Share<L>,
     receipts: &mut Vec<Receipt>,
     get: u32,
@@ -99,10 +97,10 @@ fn read_rounds<'a, L: RunLedger, R: Wait>(
     ensures count { IsCounted share.old.count share.new.count receipts.old.items receipts.new.items }
     ensures parts { share.new.token.parts ≡ share.old.token.parts }
 {
-    let enough = executor.approved().ring().r();
+    let enough = store.executor.approved().ring().r();
     let mut slots = Slots { mask: 0, count: 0 };
     'rounds: for _ in 0..MAX_ROUNDS {
-        read_round(rt, executor, share, receipts, get, &mut slots)?;
+        read_round(store, share, receipts, get, &mut slots)?;
         if slots.count >= enough {
             break;
         }
@@ -112,9 +110,8 @@ fn read_rounds<'a, L: RunLedger, R: Wait>(
 }
 
 /// The reads of a get that was started, and its end. The last refusal, where it did not end.
-pub(crate) fn finish_get<'a, L: RunLedger, R: Wait>(
-    rt: &R,
-    executor: &Executor<'a, L>,
+pub(crate) fn finish_get<L: RunLedger, R: Wait>(
+    store: &LockedStore<L, R>,
     share: &mut Share<L>,
     receipts: &mut Vec<Receipt>,
     get: u32,
@@ -124,19 +121,18 @@ pub(crate) fn finish_get<'a, L: RunLedger, R: Wait>(
     ensures count { IsCounted share.old.count share.new.count receipts.old.items receipts.new.items }
     ensures parts { share.new.token.parts ≡ share.old.token.parts }
 {
-    if let Err(refusal) = read_rounds(rt, executor, share, receipts, get) {
+    if let Err(refusal) = read_rounds(store, share, receipts, get) {
         return Some(refusal);
     }
-    match note(rt, executor, share, receipts, &Event::EndGet(get)) {
+    match note(store, share, receipts, &Event::EndGet(get)) {
         Ok(()) => None,
         Err(refusal) => Some(refusal),
     }
 }
 
 // A get, started by that event. The last refusal, where it did not end.
-fn get_on<'a, L: RunLedger, R: Wait>(
-    rt: &R,
-    executor: &Executor<'a, L>,
+fn get_on<L: RunLedger, R: Wait>(
+    store: &LockedStore<L, R>,
     share: &mut Share<L>,
     receipts: &mut Vec<Receipt>,
     key: Key,
@@ -145,8 +141,8 @@ fn get_on<'a, L: RunLedger, R: Wait>(
     ensures count { IsCounted share.old.count share.new.count receipts.old.items receipts.new.items }
     ensures parts { share.new.token.parts ≡ share.old.token.parts }
 {
-    match start_get(rt, executor, share, receipts, &Event::StartGet(key)) {
-        Ok(get) => finish_get(rt, executor, share, receipts, get),
+    match start_get(store, share, receipts, &Event::StartGet(key)) {
+        Ok(get) => finish_get(store, share, receipts, get),
         Err(refusal) => Some(refusal),
     }
 }
@@ -166,7 +162,8 @@ pub fn get_all<'a, L: RunLedger, R: Wait>(
     ensures count { share.new.count ≡ share.old.count + vec_len result.receipts }
     ensures parts { share.new.token.parts ≡ share.old.token.parts }
 {
+    let store = LockedStore { rt, executor };
     let mut receipts = Vec::new(alloc);
-    let refusal = get_on(rt, executor, share, &mut receipts, key);
+    let refusal = get_on(&store, share, &mut receipts, key);
     Attempt { receipts, refusal }
 }

@@ -7,21 +7,19 @@ use crate::noting::{go_on, no_limit};
 use crate::site::{Site, is_set, rung, set};
 use plan_check::Gate;
 use plan_runs::Event;
-use ring_exec::{RunLedger, Share};
+use ring_exec::RunLedger;
 use ring_names::{NodeId, Refusal, Slot};
-use std::alloc::Global;
 use std::sync::Wait;
 use std::thread;
 
 // Hands the node's hints for the slot off. Whether they went.
-fn hand<'e, 'a, L: RunLedger, R: Wait, G: Gate>(
-    rt: &R,
-    site: &Site<'e, 'a, L, G>,
+fn hand<L: RunLedger, R: Wait, G: Gate>(
+    site: &Site<L, R, G>,
     done: &mut Done<L>,
     node: NodeId,
     slot: Slot,
 ) -> Result<bool, Refusal> {
-    match done.note(rt, site.executor, &Event::Handoff(node, slot)) {
+    match done.note(site.store, &Event::Handoff(node, slot)) {
         Ok(()) => Ok(true),
         Err(refusal) => {
             go_on(refusal)?;
@@ -32,18 +30,18 @@ fn hand<'e, 'a, L: RunLedger, R: Wait, G: Gate>(
 
 // Walks over the hints, to the end of the first that began when all other threads had ended. A walk looks for the n-th hint; behind an
 // answered handoff n stays, and behind a refused one it is one more. Where a walk leaves no hint, the next one begins when the bell is rung.
-fn walks<'e, 'a, L: RunLedger, R: Wait, G: Gate>(
-    rt: &R,
-    site: &Site<'e, 'a, L, G>,
+fn walks<L: RunLedger, R: Wait, G: Gate>(
+    site: &Site<L, R, G>,
     done: &mut Done<L>,
 ) -> Result<(), Refusal> {
+    let rt = site.job.rt;
     let mut n = 0u32;
-    let mut heard = rung(site.bell);
-    let mut last = is_set(site.joined);
+    let mut heard = rung(&site.flags.bell);
+    let mut last = is_set(&site.flags.joined);
     for _ in rt.forever() {
-        match site.executor.hint_at(rt, n) {
+        match site.store.executor.hint_at(rt, n) {
             Some((node, slot)) => {
-                if !hand(rt, site, done, node, slot)? {
+                if !hand(site, done, node, slot)? {
                     n = n.saturating_add(1);
                 }
             }
@@ -52,13 +50,13 @@ fn walks<'e, 'a, L: RunLedger, R: Wait, G: Gate>(
                     break;
                 }
                 if n == 0 {
-                    site.bell.park(rt, heard);
+                    site.flags.bell.park(rt, heard);
                 } else {
                     thread::yield_now();
                 }
                 n = 0;
-                heard = rung(site.bell);
-                last = is_set(site.joined);
+                heard = rung(&site.flags.bell);
+                last = is_set(&site.flags.joined);
             }
         }
     }
@@ -67,20 +65,18 @@ fn walks<'e, 'a, L: RunLedger, R: Wait, G: Gate>(
 
 /// The handoffs: walks over the hints, to the end of the first that began when all other threads had ended. It stops all where it meets a full
 /// history or want of memory.
-pub(crate) fn hand_off<'e, 'a, L: RunLedger, R: Wait, G: Gate>(
-    rt: &R,
-    alloc: Global,
-    site: &Site<'e, 'a, L, G>,
-    share: Share<L>,
+pub(crate) fn hand_off<L: RunLedger, R: Wait, G: Gate>(
+    site: &Site<L, R, G>,
+    done: Done<L>,
 ) -> Done<L>
     ensures { IsSpent result.stopped → ⊥ }
 {
-    let mut done = Done::new(alloc, share);
-    let ended = walks(rt, site, &mut done);
+    let mut done = done;
+    let ended = walks(site, &mut done);
     done.stopped = match ended {
         Ok(()) => None,
         Err(refusal) => {
-            set(site.stop);
+            set(&site.flags.stop);
             Some(no_limit(refusal))
         }
     };

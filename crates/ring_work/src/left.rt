@@ -112,7 +112,11 @@ impl<L: RunLedger> Left<L> {
         ensures seats { All (λ s. s.board ≡ board.now.id) self.new.seats.items }
         ensures spent { IsSpent self.new.refusal → IsSpent self.old.refusal ⊎ IsSpent sat.done.stopped }
     {
-        let Sat { done, seat } = sat;
+        let Sat {
+            done,
+            worker: _,
+            seat,
+        } = sat;
         if self.seats.push(seat).is_err() {
             self.note(Some(Refusal::OutOfMemory));
         }

@@ -6,8 +6,9 @@ ghost use Rattle.ring_exec.specs.Replies.{is_put, is_get};
 ghost use Rattle.plan_runs.specs.declared.event.Reply.TheVariants.{Put, Get};
 ghost use Rattle.ring_work.specs.Noted.{Adds, IsCounted};
 
+use crate::site::LockedStore;
 use plan_runs::{Event, Reply};
-use ring_exec::{Executor, RunLedger, Share};
+use ring_exec::{RunLedger, Share};
 use ring_names::Refusal;
 use ring_receipts::Receipt;
 use std::sync::Wait;
@@ -16,9 +17,8 @@ use std::sync::Wait;
 pub(crate) const MAX_ROUNDS: u32 = 64;
 
 /// Submits the event and keeps its receipt, for which there is room before the lock is asked. Refused, nothing is kept.
-pub(crate) fn note<'a, L: RunLedger, R: Wait>(
-    rt: &R,
-    executor: &Executor<'a, L>,
+pub(crate) fn note<L: RunLedger, R: Wait>(
+    store: &LockedStore<L, R>,
     share: &mut Share<L>,
     receipts: &mut Vec<Receipt>,
     event: &Event,
@@ -29,7 +29,7 @@ pub(crate) fn note<'a, L: RunLedger, R: Wait>(
     ensures parts { share.new.token.parts ≡ share.old.token.parts }
 {
     receipts.reserve(1)?;
-    let receipt = executor.submit(rt, event, share)?;
+    let receipt = store.executor.submit(store.rt, event, share)?;
     receipts.push_reserved(receipt);
     Ok(())
 }

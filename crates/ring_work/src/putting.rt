@@ -10,6 +10,7 @@ ghost use Rattle.ring_work.specs.Attempts.{starts_put, AddsPut, IsPutAttempt};
 
 use crate::attempt::Attempt;
 use crate::noting::{MAX_ROUNDS, go_on, note, put_number};
+use crate::site::LockedStore;
 use plan_runs::{Event, Key, Seen};
 use ring_exec::{Executor, RunLedger, Share};
 use ring_names::{NodeId, Refusal, Value, WriterId};
@@ -19,9 +20,8 @@ use std::sync::Wait;
 use std::thread;
 
 // Starts the put. Its number.
-fn start_put<'a, L: RunLedger, R: Wait>(
-    rt: &R,
-    executor: &Executor<'a, L>,
+fn start_put<L: RunLedger, R: Wait>(
+    store: &LockedStore<L, R>,
     share: &mut Share<L>,
     receipts: &mut Vec<Receipt>,
     start: &Event,
@@ -34,16 +34,15 @@ fn start_put<'a, L: RunLedger, R: Wait>(
     ensures parts { share.new.token.parts ≡ share.old.token.parts }
 {
     receipts.reserve(1)?;
-    let receipt = executor.submit(rt, start, share)?;
+    let receipt = store.executor.submit(store.rt, start, share)?;
     let put = put_number(&receipt.reply);
     receipts.push_reserved(receipt);
     Ok(put)
 }
 
 // Leaves the put with a stand-in for the slot: the first node, by number, that takes it, if one does.
-fn leave_hint<'a, L: RunLedger, R: Wait>(
-    rt: &R,
-    executor: &Executor<'a, L>,
+fn leave_hint<L: RunLedger, R: Wait>(
+    store: &LockedStore<L, R>,
     share: &mut Share<L>,
     receipts: &mut Vec<Receipt>,
     put: u32,
@@ -53,11 +52,10 @@ fn leave_hint<'a, L: RunLedger, R: Wait>(
     ensures count { IsCounted share.old.count share.new.count receipts.old.items receipts.new.items }
     ensures parts { share.new.token.parts ≡ share.old.token.parts }
 {
-    let nodes = executor.approved().ring().nodes().len() as u32;
+    let nodes = store.executor.approved().ring().nodes().len() as u32;
     for node in 0..nodes {
         match note(
-            rt,
-            executor,
+            store,
             share,
             receipts,
             &Event::Hint(put, index, NodeId(node)),
@@ -70,9 +68,8 @@ fn leave_hint<'a, L: RunLedger, R: Wait>(
 }
 
 // Writes the put to the slot, or leaves a hint where a node of the slot is down.
-fn send<'a, L: RunLedger, R: Wait>(
-    rt: &R,
-    executor: &Executor<'a, L>,
+fn send<L: RunLedger, R: Wait>(
+    store: &LockedStore<L, R>,
     share: &mut Share<L>,
     receipts: &mut Vec<Receipt>,
     put: u32,
@@ -82,17 +79,16 @@ fn send<'a, L: RunLedger, R: Wait>(
     ensures count { IsCounted share.old.count share.new.count receipts.old.items receipts.new.items }
     ensures parts { share.new.token.parts ≡ share.old.token.parts }
 {
-    match note(rt, executor, share, receipts, &Event::Write(put, index)) {
+    match note(store, share, receipts, &Event::Write(put, index)) {
         Ok(()) => Ok(()),
-        Err(Refusal::NodeDown(_)) => leave_hint(rt, executor, share, receipts, put, index),
+        Err(Refusal::NodeDown(_)) => leave_hint(store, share, receipts, put, index),
         Err(refusal) => go_on(refusal),
     }
 }
 
 // Sends the put to each slot in order.
-fn send_round<'a, L: RunLedger, R: Wait>(
-    rt: &R,
-    executor: &Executor<'a, L>,
+fn send_round<L: RunLedger, R: Wait>(
+    store: &LockedStore<L, R>,
     share: &mut Share<L>,
     receipts: &mut Vec<Receipt>,
     put: u32,
@@ -101,16 +97,15 @@ fn send_round<'a, L: RunLedger, R: Wait>(
     ensures count { IsCounted share.old.count share.new.count receipts.old.items receipts.new.items }
     ensures parts { share.new.token.parts ≡ share.old.token.parts }
 {
-    for index in 0..executor.approved().ring().n() {
-        send(rt, executor, share, receipts, put, index)?;
+    for index in 0..store.executor.approved().ring().n() {
+        send(store, share, receipts, put, index)?;
     }
     Ok(())
 }
 
 // Rounds, up to one behind which the put is acknowledged. The last refusal, where none is.
-fn send_rounds<'a, L: RunLedger, R: Wait>(
-    rt: &R,
-    executor: &Executor<'a, L>,
+fn send_rounds<L: RunLedger, R: Wait>(
+    store: &LockedStore<L, R>,
     share: &mut Share<L>,
     receipts: &mut Vec<Receipt>,
     put: u32,
@@ -122,10 +117,10 @@ fn send_rounds<'a, L: RunLedger, R: Wait>(
 {
     let mut current = 0u32;
     'rounds: for _ in 0..MAX_ROUNDS {
-        if let Err(refusal) = send_round(rt, executor, share, receipts, put) {
+        if let Err(refusal) = send_round(store, share, receipts, put) {
             return Some(refusal);
         }
-        match note(rt, executor, share, receipts, &Event::Ack(put)) {
+        match note(store, share, receipts, &Event::Ack(put)) {
             Ok(()) => return None,
             Err(Refusal::StaleTickets(now)) => current = now,
             Err(refusal) => return Some(refusal),
@@ -137,9 +132,8 @@ fn send_rounds<'a, L: RunLedger, R: Wait>(
 
 /// A put, started by that event: rounds of at most 64 in which it is sent to each slot, or to a stand-in, and then asks to be acknowledged. Its
 /// receipts are put behind the others. The last refusal, where it was not acknowledged.
-pub(crate) fn put_on<'a, L: RunLedger, R: Wait>(
-    rt: &R,
-    executor: &Executor<'a, L>,
+pub(crate) fn put_on<L: RunLedger, R: Wait>(
+    store: &LockedStore<L, R>,
     share: &mut Share<L>,
     receipts: &mut Vec<Receipt>,
     start: &Event,
@@ -149,8 +143,8 @@ pub(crate) fn put_on<'a, L: RunLedger, R: Wait>(
     ensures count { IsCounted share.old.count share.new.count receipts.old.items receipts.new.items }
     ensures parts { share.new.token.parts ≡ share.old.token.parts }
 {
-    match start_put(rt, executor, share, receipts, start) {
-        Ok(put) => send_rounds(rt, executor, share, receipts, put),
+    match start_put(store, share, receipts, start) {
+        Ok(put) => send_rounds(store, share, receipts, put),
         Err(refusal) => Some(refusal),
     }
 }
@@ -175,7 +169,8 @@ pub fn put_all<'a, L: RunLedger, R: Wait>(
     ensures parts { share.new.token.parts ≡ share.old.token.parts }
 {
     let start = Event::StartPut(writer, key, value, seen);
+    let store = LockedStore { rt, executor };
     let mut receipts = Vec::new(alloc);
-    let refusal = put_on(rt, executor, share, &mut receipts, &start);
+    let refusal = put_on(&store, share, &mut receipts, &start);
     Attempt { receipts, refusal }
 }

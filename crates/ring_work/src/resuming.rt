@@ -14,6 +14,7 @@ use crate::driving::{bare, drive_on, history_of, told};
 use crate::earlier::continued;
 use crate::fault::Fault;
 use crate::noting::no_limit;
+use crate::site::{Job, LockedStore};
 use plan_check::{Approved, Gate};
 use plan_runs::Entry;
 use ring_exec::{Executor, MAX_ENTRIES, RunLedger, Share};
@@ -36,21 +37,25 @@ fn alone(alloc: Global, list: Listed<Receipt>) -> Result<Vec<Listed<Receipt>>, R
 }
 
 // The list of what came before the threads, with every copy broken off that the entries left open. It stands alone.
-fn front_of<'a, L: RunLedger, R: Wait>(
-    rt: &R,
-    alloc: Global,
+fn front_of<'a, L: RunLedger, R: Wait, G: Gate>(
+    job: &Job<'a, R, G>,
     executor: &Executor<'a, L>,
     share: &mut Share<L>,
-    steps: u32,
     entries: &[Entry],
 ) -> Result<Vec<Listed<Receipt>>, Refusal>
     requires few { length entries.now ≤ 1000000 }
     ensures one { IfOk result (λ v. vec_len v ≡ 1) }
-    ensures first { IfOk result (λ v. Continues steps entries.now (list_at v.items 0)) }
+    ensures first { IfOk result
+        (λ v. Continues (length job.now.approved.now.plan) entries.now (list_at v.items 0)) }
     ensures parts { share.new.token.parts ≡ share.old.token.parts }
 {
-    let list = continued(rt, alloc, executor, share, steps, entries)?;
-    alone(alloc, list)
+    let store = LockedStore {
+        rt: job.rt,
+        executor,
+    };
+    let steps = job.approved.plan().len();
+    let list = continued(&store, job.alloc, share, steps, entries)?;
+    alone(job.alloc, list)
 }
 
 // The fault of a store that is given up before its threads, with the history that stands.
@@ -79,46 +84,40 @@ fn broken_off<'a, L: RunLedger>(
 
 // A drive whose store is behind the lock, and behind the entries.
 fn resume_on<'a, L: RunLedger + Send + Sync, R: Threads + Wait + Sync, G: Gate + Sync>(
-    rt: &R,
-    alloc: Global,
+    job: &Job<'a, R, G>,
     executor: Executor<'a, L>,
     share: Share<L>,
-    approved: &Approved,
     entries: &[Entry],
-    scripts: &[Script],
-    workers: u32,
-    gate: &G,
 ) -> Result<Outcome, Fault>
     requires few { length entries.now ≤ 1000000 }
-    requires parts { workers + length scripts.now + 2 ≤ share.token.parts }
-    requires ring { approved.now.ring ≡ L.ring }
-    requires plan { approved.now.plan ≡ L.plan }
-    requires workers { workers ≤ 64 }
-    requires scripts { length scripts.now ≤ 8 }
-    ensures ok { IfOk result (λ o. Resumed approved.now.ring approved.now.plan scripts.now workers entries.now o.history.items o.receipts.items o.finishers.items) }
-    ensures threads { IfOk result (λ o. vec_len o.receipts ≡ 1 + (workers + (length scripts.now + 1))) }
+    requires parts { job.now.workers + length job.now.scripts.now + 2 ≤ share.token.parts }
+    requires ring { job.now.approved.now.ring ≡ L.ring }
+    requires plan { job.now.approved.now.plan ≡ L.plan }
+    requires workers { job.now.workers ≤ 64 }
+    requires scripts { length job.now.scripts.now ≤ 8 }
+    ensures ok { IfOk result (λ o. Resumed job.now.approved.now.ring job.now.approved.now.plan job.now.scripts.now job.now.workers entries.now o.history.items o.receipts.items o.finishers.items) }
+    ensures threads { IfOk result
+        (λ o. vec_len o.receipts ≡ 1 + (job.now.workers + (length job.now.scripts.now + 1))) }
     ensures refusal { IfErr result (λ f. IsFault f.refusal) }
-    ensures spent { IfErr result
-        (λ f. f.refusal ≡ TurnsSpent → MayStop (G.may_refuse gate.now) approved.now.plan (length scripts.now)) }
-    ensures history { IfErr result (λ f. IsHistory approved.now.ring approved.now.plan f.history.items) }
+    ensures spent { IfErr result (λ f. f.refusal ≡ TurnsSpent
+        → MayStop (G.may_refuse job.now.gate.now) job.now.approved.now.plan (length job.now.scripts.now)) }
+    ensures history { IfErr result
+        (λ f. IsHistory job.now.approved.now.ring job.now.approved.now.plan f.history.items) }
 {
     let mut share = share;
-    let steps = approved.plan().len();
     // Room for the share, so that the history stands where an abort is refused.
-    let mut shares = match Vec::with_capacity(alloc, 1) {
+    let mut shares = match Vec::with_capacity(job.alloc, 1) {
         Ok(shares) => shares,
         Err(_) => {
             executor.give_up();
-            return Err(bare(alloc, approved, told(Refusal::OutOfMemory)));
+            return Err(bare(job.alloc, job.approved, told(Refusal::OutOfMemory)));
         }
     };
-    match front_of(rt, alloc, &executor, &mut share, steps, entries) {
-        Ok(front) => drive_on(
-            rt, alloc, executor, share, approved, entries, front, scripts, workers, gate,
-        ),
+    match front_of(job, &executor, &mut share, entries) {
+        Ok(front) => drive_on(job, executor, share, entries, front),
         Err(refusal) => {
             shares.push_reserved(share);
-            Err(broken_off(alloc, executor, shares, approved, refusal))
+            Err(broken_off(job.alloc, executor, shares, job.approved, refusal))
         }
     }
 }
@@ -142,36 +141,34 @@ fn stopped(approved: &Approved, entries: &[Entry], refusal: Refusal) -> Refusal
 
 // The same from the entries alone, by this ledger.
 fn resume_as<'a, L: RunLedger + Send + Sync, R: Threads + Wait + Sync, G: Gate + Sync>(
-    rt: &R,
-    alloc: Global,
+    job: &Job<'a, R, G>,
     blank: Blank,
-    approved: &'a Approved,
     entries: &[Entry],
-    scripts: &[Script],
-    workers: u32,
-    gate: &G,
 ) -> Result<Outcome, Fault>
     requires few { length entries.now ≤ 1000000 }
     requires name { blank.name ≡ L.name }
     requires parts { (blank.parts ≡ L.parts) × (blank.parts ≡ 128) }
-    requires ring { approved.now.ring ≡ L.ring }
-    requires plan { approved.now.plan ≡ L.plan }
-    requires workers { workers ≤ 64 }
-    requires scripts { length scripts.now ≤ 8 }
-    ensures ok { IfOk result (λ o. Resumed approved.now.ring approved.now.plan scripts.now workers entries.now o.history.items o.receipts.items o.finishers.items) }
-    ensures threads { IfOk result (λ o. vec_len o.receipts ≡ 1 + (workers + (length scripts.now + 1))) }
-    ensures refusal { IfErr result (λ f. IsStop approved.now.ring approved.now.plan entries.now f.refusal) }
+    requires ring { job.now.approved.now.ring ≡ L.ring }
+    requires plan { job.now.approved.now.plan ≡ L.plan }
+    requires workers { job.now.workers ≤ 64 }
+    requires scripts { length job.now.scripts.now ≤ 8 }
+    ensures ok { IfOk result (λ o. Resumed job.now.approved.now.ring job.now.approved.now.plan job.now.scripts.now job.now.workers entries.now o.history.items o.receipts.items o.finishers.items) }
+    ensures threads { IfOk result
+        (λ o. vec_len o.receipts ≡ 1 + (job.now.workers + (length job.now.scripts.now + 1))) }
+    ensures refusal { IfErr result
+        (λ f. IsStop job.now.approved.now.ring job.now.approved.now.plan entries.now f.refusal) }
     ensures full { IfErr result (λ f. (f.refusal ≡ HistoryFull) ↔ (1000000 < length entries.now)) }
-    ensures fault { IfErr result (λ f. TellsFault approved.now.ring approved.now.plan entries.now f.refusal) }
-    ensures spent { IfErr result
-        (λ f. f.refusal ≡ TurnsSpent → MayStop (G.may_refuse gate.now) approved.now.plan (length scripts.now)) }
-    ensures history { IfErr result (λ f. IsHistory approved.now.ring approved.now.plan f.history.items) }
+    ensures fault { IfErr result
+        (λ f. TellsFault job.now.approved.now.ring job.now.approved.now.plan entries.now f.refusal) }
+    ensures spent { IfErr result (λ f. f.refusal ≡ TurnsSpent
+        → MayStop (G.may_refuse job.now.gate.now) job.now.approved.now.plan (length job.now.scripts.now)) }
+    ensures history { IfErr result
+        (λ f. IsHistory job.now.approved.now.ring job.now.approved.now.plan f.history.items) }
     ensures empty { IfErr result (λ f. (IsFault f.refusal → ⊥) → f.history.items ≡ []) }
 {
+    let (alloc, approved) = (job.alloc, job.approved);
     match Executor::<L>::restore(alloc, blank, approved, entries) {
-        Ok((executor, share)) => resume_on(
-            rt, alloc, executor, share, approved, entries, scripts, workers, gate,
-        ),
+        Ok((executor, share)) => resume_on(job, executor, share, entries),
         Err(refusal) => Err(bare(alloc, approved, stopped(approved, entries, refusal))),
     }
 }
@@ -210,14 +207,13 @@ pub fn resume<R: Threads + Wait + Sync, G: Gate + Sync>(
     if entries.len() > MAX_ENTRIES {
         return Err(bare(alloc, approved, Refusal::HistoryFull));
     }
-    resume_as::<Brand, R, G>(
+    let job = Job {
         rt,
         alloc,
-        Blank::new(128),
         approved,
-        entries,
         scripts,
         workers,
         gate,
-    )
+    };
+    resume_as::<Brand, R, G>(&job, Blank::new(128), entries)
 }

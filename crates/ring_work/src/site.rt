@@ -1,20 +1,59 @@
 //! What the threads of a drive share.
 
-use plan_check::Gate;
+use plan_check::{Approved, Gate};
+use plan_text::Plan;
 use ring_board::Board;
 use ring_exec::{Executor, RunLedger};
+use script_text::Script;
+use std::alloc::Global;
+use std::sync::Wait;
 use std::sync::atomic::{AtomicBool, AtomicU64, Ordering};
 
-/// The store behind its lock, the board, the gate that threads pass, two flags: that all are to stop, and that all but the thread of handoffs have
-/// ended; and the bell of that thread, which counts how often it was rung.
+/// What a drive is asked for: an approved plan, its clients' scripts, how many workers, and the gate that threads pass.
 #[derive(Drop)]
-pub(crate) struct Site<'e, 'a, L: RunLedger, G: Gate> {
+pub(crate) struct Job<'a, R: Wait, G: Gate> {
+    pub rt: &'a R,
+    pub alloc: Global,
+    pub approved: &'a Approved,
+    pub scripts: &'a [Script],
+    pub workers: u32,
+    pub gate: &'a G,
+}
+
+/// The store behind its lock, and what waits for the lock.
+#[derive(Drop)]
+pub(crate) struct LockedStore<'r, 'e, 'a, L: RunLedger, R: Wait> {
+    pub rt: &'r R,
     pub executor: &'e Executor<'a, L>,
+}
+
+/// That all threads are to stop, that all but the one of handoffs have ended, and the bell of that one, which counts how often it was rung.
+#[derive(Drop)]
+pub(crate) struct Flags {
+    pub stop: AtomicBool,
+    pub joined: AtomicBool,
+    pub bell: AtomicU64,
+}
+
+impl Flags {
+    /// None set, and the bell not rung.
+    pub fn new() -> Flags {
+        Flags {
+            stop: AtomicBool::new(false),
+            joined: AtomicBool::new(false),
+            bell: AtomicU64::new(0),
+        }
+    }
+}
+
+/// The job and its plan, the store, the board and the flags.
+#[derive(Drop)]
+pub(crate) struct Site<'e, 'a, L: RunLedger, R: Wait, G: Gate> {
+    pub job: &'e Job<'a, R, G>,
+    pub plan: &'e Plan,
+    pub store: &'e LockedStore<'a, 'e, 'a, L, R>,
     pub board: &'e Board,
-    pub gate: &'e G,
-    pub stop: &'e AtomicBool,
-    pub joined: &'e AtomicBool,
-    pub bell: &'e AtomicU64,
+    pub flags: &'e Flags,
 }
 
 /// Whether the flag is set.

@@ -8,40 +8,39 @@ use crate::client::serve;
 use crate::done::{Done, Sat};
 use crate::handing::hand_off;
 use crate::left::Left;
-use crate::site::{Site, ring, set};
+use crate::site::{Flags, Job, LockedStore, Site, ring, set};
 use crate::worker::work;
 use plan_check::Gate;
 use plan_text::Plan;
 use ring_board::{Board, Seat};
 use ring_exec::{Executor, RunLedger, Share};
 use ring_names::Refusal;
-use script_text::Script;
 use std::alloc::Global;
+use std::snapshot::Snapshot;
 use std::sync::Wait;
-use std::sync::atomic::{AtomicBool, AtomicU64};
 use std::thread;
-use std::thread::{Promise, PromisedHandle, Threads};
+use std::thread::{Promise, PromisedHandle, Scope, Threads};
 
 // What a worker hands back has its seat at this board, and met no limit of turns where this plan has no step.
-#[derive(Clone, Copy)]
-struct AtBoard<'a>(&'a Board, &'a Plan);
+#[derive(Drop)]
+struct AtBoard(Snapshot<Board>, Snapshot<Plan>);
 
-impl<'a, L: RunLedger> Promise<Sat<L>> for AtBoard<'a> {
+impl<L: RunLedger> Promise<Sat<L>> for AtBoard {
     ghost use Rattle.std.specs.Prelude.{◌≡◌, ◌<◌, length};
     ghost use Rattle.ring_work.specs.Driven.{IsSpent};
 
-    ghost kept_by = { λ p r. (r.seat.board ≡ p.0.now.id) × (IsSpent r.done.stopped → 0 < length p.1.now) };
+    ghost kept_by = { λ p r. (r.seat.board ≡ p.0.value.id) × (IsSpent r.done.stopped → 0 < length p.1.value) };
 }
 
 // What the client of that number hands back met no limit of turns that this gate may not make it meet.
-#[derive(Clone, Copy)]
-struct ByGate<'a, G: Gate>(&'a G, u32);
+#[derive(Drop)]
+struct ByGate<G: Gate>(Snapshot<G>, u32);
 
-impl<'a, L: RunLedger, G: Gate> Promise<Done<L>> for ByGate<'a, G> {
+impl<L: RunLedger, G: Gate> Promise<Done<L>> for ByGate<G> {
     ghost use Rattle.std.specs.Prelude.{ℕ};
     ghost use Rattle.ring_work.specs.Driven.{IsSpent};
 
-    ghost kept_by = { λ p r. IsSpent r.stopped → (line : ℕ) × G.may_refuse p.0.now p.1 line };
+    ghost kept_by = { λ p r. IsSpent r.stopped → (line : ℕ) × G.may_refuse p.0.value p.1 line };
 }
 
 // What the thread of handoffs hands back met no limit of turns.
@@ -54,76 +53,199 @@ impl<L: RunLedger> Promise<Done<L>> for Never {
     ghost kept_by = { λ p r. IsSpent r.stopped → ⊥ };
 }
 
-// Keeps the handle. Whether that was refused, which it is not where there is room.
-fn keep<'b, L: RunLedger>(
-    board: &Board,
-    plan: &Plan,
-    handles: &mut Vec<PromisedHandle<Sat<L>, AtBoard<'b>>>,
-    handle: PromisedHandle<Sat<L>, AtBoard<'b>>,
-) -> bool
-    requires old { All (λ h. (h.promise.0.now.id ≡ board.now.id) × (h.promise.1.now ≡ plan.now)) handles.old.items }
-    requires one { (handle.promise.0.now.id ≡ board.now.id) × (handle.promise.1.now ≡ plan.now) }
-    ensures { All (λ h. (h.promise.0.now.id ≡ board.now.id) × (h.promise.1.now ≡ plan.now)) handles.new.items }
-{
-    handles.push(handle).is_err()
+// The handles of the workers and of the clients, and what all threads leave behind.
+#[derive(Drop)]
+struct Room<L: RunLedger, G: Gate> {
+    sitting: Vec<PromisedHandle<Sat<L>, AtBoard>>,
+    serving: Vec<PromisedHandle<Done<L>, ByGate<G>>>,
+    left: Left<L>,
 }
 
-// The same of a client's.
-fn keep_client<'b, L: RunLedger, G: Gate>(
-    gate: &G,
-    clients: usize,
-    handles: &mut Vec<PromisedHandle<Done<L>, ByGate<'b, G>>>,
-    handle: PromisedHandle<Done<L>, ByGate<'b, G>>,
+impl<L: RunLedger, G: Gate> Room<L, G> {
+    // Room for so many workers and clients.
+    fn new(alloc: Global, workers: usize, clients: usize) -> Result<Room<L, G>, Refusal>
+        ensures none { IfOk result (λ r. (vec_len r.sitting ≡ 0) × (vec_len r.serving ≡ 0)) }
+        ensures left { IfOk result (λ r. (vec_len r.left.seats ≡ 0) × (r.left.refusal ≡ None)) }
+        ensures memory { IfErr result (λ e. e ≡ OutOfMemory) }
+    {
+        let sitting = Vec::with_capacity(alloc, workers)?;
+        let serving = Vec::with_capacity(alloc, clients)?;
+        let left = Left::with_room(alloc, workers, clients)?;
+        Ok(Room {
+            sitting,
+            serving,
+            left,
+        })
+    }
+}
+
+// Starts the thread of handoffs.
+fn start_handoffs<'s, 'x, 'e, 'a, L: RunLedger + Send + Sync, R: Wait + Sync, G: Gate + Sync>(
+    scope: &Scope<'s, &'x ()>,
+    site: &'s Site<'e, 'a, L, R, G>,
+    done: Done<L>,
+) -> Option<PromisedHandle<Done<L>, Never>> {
+    let spawned = scope.spawn_with(
+        Never,
+        move || -> Done<L>
+            ensures { IsSpent result.stopped → ⊥ }
+        { hand_off(site, done) },
+    );
+    match spawned {
+        Ok(handle) => Some(handle),
+        Err(_refusal) => None,
+    }
+}
+
+// Starts a worker and keeps its handle. Whether that was refused.
+fn start_worker<'s, 'x, 'e, 'a, L: RunLedger + Send + Sync, R: Wait + Sync, G: Gate + Sync>(
+    scope: &Scope<'s, &'x ()>,
+    site: &'s Site<'e, 'a, L, R, G>,
+    handles: &mut Vec<PromisedHandle<Sat<L>, AtBoard>>,
+    sat: Sat<L>,
 ) -> bool
-    requires old { All (λ h. (h.promise.0.now ≡ gate.now) × (64 ≤ h.promise.1)
-        × (h.promise.1 < 64 + clients)) handles.old.items }
-    requires one { (handle.promise.0.now ≡ gate.now) × (64 ≤ handle.promise.1) × (handle.promise.1 < 64 + clients) }
-    ensures { All (λ h. (h.promise.0.now ≡ gate.now) × (64 ≤ h.promise.1)
-        × (h.promise.1 < 64 + clients)) handles.new.items }
+    requires board { (sat.seat.board ≡ site.now.board.now.id) × (is_some sat.seat.worker ≡ true) }
+    requires steps { site.now.board.now.steps ≡ length site.now.plan.now }
+    requires old { All (λ h. (h.promise.0.value.id ≡ site.now.board.now.id)
+        × (h.promise.1.value ≡ site.now.plan.now)) handles.old.items }
+    ensures { All (λ h. (h.promise.0.value.id ≡ site.now.board.now.id)
+        × (h.promise.1.value ≡ site.now.plan.now)) handles.new.items }
 {
-    handles.push(handle).is_err()
+    let spawned = scope.spawn_with(
+        AtBoard(Snapshot::of(site.board), Snapshot::of(site.plan)),
+        move || -> Sat<L>
+            requires { (sat.seat.board ≡ site.now.board.now.id) × (is_some sat.seat.worker ≡ true)
+                × (site.now.board.now.steps ≡ length site.now.plan.now) }
+            ensures { (result.seat.board ≡ site.entry.now.board.now.id)
+                × (IsSpent result.done.stopped → 0 < length site.entry.now.plan.now) }
+        { work(site, sat) },
+    );
+    match spawned {
+        Ok(handle) => handles.push(handle).is_err(),
+        Err(_refusal) => true,
+    }
+}
+
+// Starts all workers, from the last one on, so that their handles are joined from the first one on. Whether one was refused.
+fn start_workers<'s, 'x, 'e, 'a, L: RunLedger + Send + Sync, R: Wait + Sync, G: Gate + Sync>(
+    scope: &Scope<'s, &'x ()>,
+    site: &'s Site<'e, 'a, L, R, G>,
+    handles: &mut Vec<PromisedHandle<Sat<L>, AtBoard>>,
+    first: &mut Seat,
+    root: &mut Share<L>,
+) -> bool
+    requires first { first.old.board ≡ site.now.board.now.id }
+    requires steps { site.now.board.now.steps ≡ length site.now.plan.now }
+    requires workers { site.now.job.now.workers ≤ site.now.board.now.workers }
+    requires parts { site.now.job.now.workers < root.old.token.parts }
+    requires none { vec_len handles.old ≡ 0 }
+    ensures first { first.new.board ≡ site.now.board.now.id }
+    ensures parts { root.new.token.parts + site.now.job.now.workers ≡ root.old.token.parts }
+    ensures handles { All (λ h. (h.promise.0.value.id ≡ site.now.board.now.id)
+        × (h.promise.1.value ≡ site.now.plan.now)) handles.new.items }
+{
+    let workers = site.job.workers;
+    let mut refused = false;
+    for started in 0..workers {
+        let worker = workers - 1 - started;
+        let Ok(seat) = site.board.seat(first, worker) else {
+            unreachable!()
+        };
+        let done = Done::new(site.job.alloc, root.split());
+        refused = start_worker(scope, site, handles, Sat { done, worker, seat }) || refused;
+    }
+    refused
+}
+
+// Starts the client of that number and keeps its handle. Whether that was refused.
+fn start_client<'s, 'x, 'e, 'a, L: RunLedger + Send + Sync, R: Wait + Sync, G: Gate + Sync>(
+    scope: &Scope<'s, &'x ()>,
+    site: &'s Site<'e, 'a, L, R, G>,
+    handles: &mut Vec<PromisedHandle<Done<L>, ByGate<G>>>,
+    number: usize,
+    done: Done<L>,
+) -> bool
+    requires scripts { (number < length site.now.job.now.scripts.now) × (length site.now.job.now.scripts.now ≤ 8) }
+    requires old { All (λ h. (h.promise.0.value ≡ site.now.job.now.gate.now) × (64 ≤ h.promise.1)
+        × (h.promise.1 < 64 + length site.now.job.now.scripts.now)) handles.old.items }
+    ensures { All (λ h. (h.promise.0.value ≡ site.now.job.now.gate.now) × (64 ≤ h.promise.1)
+        × (h.promise.1 < 64 + length site.now.job.now.scripts.now)) handles.new.items }
+{
+    let client = 64 + number as u32;
+    let script = &site.job.scripts[number];
+    let spawned = scope.spawn_with(
+        ByGate(Snapshot::of(site.job.gate), client),
+        move || -> Done<L>
+            ensures { IsSpent result.stopped
+                → (line : ℕ) × G.may_refuse site.entry.now.job.now.gate.now client line }
+        { serve(site, done, client, script) },
+    );
+    match spawned {
+        Ok(handle) => handles.push(handle).is_err(),
+        Err(_refusal) => true,
+    }
+}
+
+// Starts a client for each script, from the last one on. Whether one was refused.
+fn start_clients<'s, 'x, 'e, 'a, L: RunLedger + Send + Sync, R: Wait + Sync, G: Gate + Sync>(
+    scope: &Scope<'s, &'x ()>,
+    site: &'s Site<'e, 'a, L, R, G>,
+    handles: &mut Vec<PromisedHandle<Done<L>, ByGate<G>>>,
+    root: &mut Share<L>,
+) -> bool
+    requires scripts { length site.now.job.now.scripts.now ≤ 8 }
+    requires parts { length site.now.job.now.scripts.now < root.old.token.parts }
+    requires none { vec_len handles.old ≡ 0 }
+    ensures { All (λ h. (h.promise.0.value ≡ site.now.job.now.gate.now) × (64 ≤ h.promise.1)
+        × (h.promise.1 < 64 + length site.now.job.now.scripts.now)) handles.new.items }
+{
+    let clients = site.job.scripts.len();
+    let mut refused = false;
+    for started in 0..clients {
+        let done = Done::new(site.job.alloc, root.split());
+        refused = start_client(scope, site, handles, clients - 1 - started, done) || refused;
+    }
+    refused
 }
 
 // Takes what the workers hand back, the last one's handle first.
-fn join_workers<'b, L: RunLedger, R: Threads + Wait>(
-    rt: &R,
-    board: &Board,
-    plan: &Plan,
-    handles: Vec<PromisedHandle<Sat<L>, AtBoard<'b>>>,
+fn join_workers<L: RunLedger, R: Threads + Wait, G: Gate>(
+    site: &Site<L, R, G>,
+    handles: Vec<PromisedHandle<Sat<L>, AtBoard>>,
     left: Left<L>,
 ) -> Left<L>
-    requires handles { All (λ h. (h.promise.0.now.id ≡ board.now.id) × (h.promise.1.now ≡ plan.now)) handles.items }
-    requires seats { All (λ s. s.board ≡ board.now.id) left.seats.items }
-    ensures seats { All (λ s. s.board ≡ board.now.id) result.seats.items }
-    ensures spent { IsSpent result.refusal → IsSpent left.refusal ⊎ (0 < length plan.now) }
+    requires handles { All (λ h. (h.promise.0.value.id ≡ site.now.board.now.id)
+        × (h.promise.1.value ≡ site.now.plan.now)) handles.items }
+    requires seats { All (λ s. s.board ≡ site.now.board.now.id) left.seats.items }
+    ensures seats { All (λ s. s.board ≡ site.now.board.now.id) result.seats.items }
+    ensures spent { IsSpent result.refusal → IsSpent left.refusal ⊎ (0 < length site.now.plan.now) }
 {
     let mut left = left;
     let mut handles = handles;
     while let Some(handle) = handles.pop() {
-        left.take_seat(board, handle.join(rt));
+        left.take_seat(site.board, handle.join(site.job.rt));
     }
     left
 }
 
 // Takes what the clients hand back, the last one's handle first.
-fn join_clients<'b, L: RunLedger, R: Threads + Wait, G: Gate>(
-    rt: &R,
-    gate: &G,
-    plan: &Plan,
-    clients: usize,
-    handles: Vec<PromisedHandle<Done<L>, ByGate<'b, G>>>,
+fn join_clients<L: RunLedger, R: Threads + Wait, G: Gate>(
+    site: &Site<L, R, G>,
+    handles: Vec<PromisedHandle<Done<L>, ByGate<G>>>,
     left: Left<L>,
 ) -> Left<L>
-    requires handles { All
-        (λ h. (h.promise.0.now ≡ gate.now) × (64 ≤ h.promise.1) × (h.promise.1 < 64 + clients)) handles.items }
-    requires spent { IsSpent left.refusal → MayStop (G.may_refuse gate.now) plan.now clients }
+    requires handles { All (λ h. (h.promise.0.value ≡ site.now.job.now.gate.now) × (64 ≤ h.promise.1)
+        × (h.promise.1 < 64 + length site.now.job.now.scripts.now)) handles.items }
+    requires spent { IsSpent left.refusal
+        → MayStop (G.may_refuse site.now.job.now.gate.now) site.now.plan.now (length site.now.job.now.scripts.now) }
     ensures seats { result.seats ≡ left.seats }
-    ensures spent { IsSpent result.refusal → MayStop (G.may_refuse gate.now) plan.now clients }
+    ensures spent { IsSpent result.refusal
+        → MayStop (G.may_refuse site.now.job.now.gate.now) site.now.plan.now (length site.now.job.now.scripts.now) }
 {
     let mut left = left;
     let mut handles = handles;
     while let Some(handle) = handles.pop() {
-        left.take(handle.join(rt));
+        left.take(handle.join(site.job.rt));
     }
     left
 }
@@ -144,130 +266,98 @@ fn join_handoffs<L: RunLedger, R: Threads + Wait>(
     left
 }
 
+// Starts the threads and joins them. The board's first seat, and what the threads left behind.
+fn run_in<'s, 'x, 'e, 'a, L: RunLedger + Send + Sync, R: Threads + Wait + Sync, G: Gate + Sync>(
+    scope: &Scope<'s, &'x ()>,
+    site: &'s Site<'e, 'a, L, R, G>,
+    room: Room<L, G>,
+    first: Seat,
+    share: Share<L>,
+) -> (Seat, Left<L>)
+    requires first { first.board ≡ site.now.board.now.id }
+    requires steps { site.now.board.now.steps ≡ length site.now.plan.now }
+    requires workers { (site.now.job.now.workers ≤ 64) × (length site.now.job.now.scripts.now ≤ 8)
+        × (site.now.job.now.workers ≤ site.now.board.now.workers) }
+    requires parts { site.now.job.now.workers + length site.now.job.now.scripts.now + 2 ≤ share.token.parts }
+    requires none { (vec_len room.sitting ≡ 0) × (vec_len room.serving ≡ 0)
+        × (vec_len room.left.seats ≡ 0) × (room.left.refusal ≡ None) }
+    ensures first { result.0.board ≡ site.now.board.now.id }
+    ensures seats { All (λ s. s.board ≡ site.now.board.now.id) result.1.seats.items }
+    ensures spent { IsSpent result.1.refusal
+        → MayStop (G.may_refuse site.now.job.now.gate.now) site.now.plan.now (length site.now.job.now.scripts.now) }
+{
+    let mut first = first;
+    let mut root = share;
+    let Room {
+        mut sitting,
+        mut serving,
+        mut left,
+    } = room;
+    let handing = start_handoffs(scope, site, Done::new(site.job.alloc, root.split()));
+    let unseated = start_workers(scope, site, &mut sitting, &mut first, &mut root);
+    let unserved = start_clients(scope, site, &mut serving, &mut root);
+    let refused = handing.is_none() || unseated || unserved;
+    if refused {
+        set(&site.flags.stop);
+    }
+    left.note_start(refused);
+    let left = join_workers(site, sitting, left);
+    let left = join_clients(site, serving, left);
+    set(&site.flags.joined);
+    ring(&site.flags.bell);
+    let mut left = join_handoffs(site.job.rt, handing, left);
+    left.share(root);
+    (first, left)
+}
+
 /// Starts a thread for the handoffs, one for each worker with a seat of its own, and one for each script, and joins them all. A start that is
 /// refused is a refused growth, and ends the others as soon as they see it. The board's first seat, and what the threads left behind.
-pub(crate) fn run_all<'a, L: RunLedger + Send + Sync, R: Threads + Wait + Sync, G: Gate + Sync>(
-    rt: &R,
-    alloc: Global,
-    executor: &Executor<'a, L>,
-    board: &Board,
-    gate: &G,
-    plan: &Plan,
-    scripts: &[Script],
-    workers: u32,
+pub(crate) fn run_all<'e, 'a, L: RunLedger + Send + Sync, R: Threads + Wait + Sync, G: Gate + Sync>(
+    job: &'e Job<'a, R, G>,
+    executor: &'e Executor<'a, L>,
+    board: &'e Board,
     first: Seat,
     share: Share<L>,
 ) -> Result<(Seat, Left<L>), Refusal>
     requires first { first.board ≡ board.now.id }
-    requires steps { board.now.steps ≡ length plan.now }
-    requires workers { (workers ≤ 64) × (workers ≤ board.now.workers) }
-    requires scripts { length scripts.now ≤ 8 }
-    requires parts { workers + length scripts.now + 2 ≤ share.token.parts }
+    requires steps { board.now.steps ≡ length job.now.approved.now.plan }
+    requires workers { (job.now.workers ≤ 64) × (job.now.workers ≤ board.now.workers) }
+    requires scripts { length job.now.scripts.now ≤ 8 }
+    requires parts { job.now.workers + length job.now.scripts.now + 2 ≤ share.token.parts }
     ensures first { IfOk result (λ a. a.0.board ≡ board.now.id) }
     ensures seats { IfOk result (λ a. All (λ s. s.board ≡ board.now.id) a.1.seats.items) }
-    ensures spent { IfOk result
-        (λ a. IsSpent a.1.refusal → MayStop (G.may_refuse gate.now) plan.now (length scripts.now)) }
+    ensures spent { IfOk result (λ a. IsSpent a.1.refusal
+        → MayStop (G.may_refuse job.now.gate.now) job.now.approved.now.plan (length job.now.scripts.now)) }
     ensures memory { IfErr result (λ e. e ≡ OutOfMemory) }
 {
-    let stop = AtomicBool::new(false);
-    let joined = AtomicBool::new(false);
-    let bell = AtomicU64::new(0);
+    let rt = job.rt;
+    let flags = Flags::new();
+    let store = LockedStore { rt, executor };
     let site = Site {
-        executor,
+        job,
+        plan: job.approved.plan(),
+        store: &store,
         board,
-        gate,
-        stop: &stop,
-        joined: &joined,
-        bell: &bell,
+        flags: &flags,
     };
     let site = &site;
-    let mut sitting = Vec::with_capacity(alloc, workers as usize)?;
-    let mut serving = Vec::with_capacity(alloc, scripts.len())?;
-    let left = Left::with_room(alloc, workers as usize, scripts.len())?;
+    let room = Room::new(job.alloc, job.workers as usize, job.scripts.len())?;
     let back = thread::scope(
         thread::scope_env(),
         rt,
         |scope| -> (Seat, Left<L>)
-            requires first { first.board ≡ board.now.id }
-            requires site { (site.now.board.now.id ≡ board.now.id) × (site.now.gate.now ≡ gate.now) }
-            requires steps { (board.now.steps ≡ length plan.now) × (site.now.board.now.steps ≡ length plan.now) }
-            requires workers { (workers ≤ 64) × (workers ≤ board.now.workers) }
-            requires scripts { length scripts.now ≤ 8 }
-            requires parts { workers + length scripts.now + 2 ≤ share.token.parts }
-            requires empty { (vec_len sitting ≡ 0) × (vec_len serving ≡ 0) × (vec_len left.seats ≡ 0)
-                × (left.refusal ≡ None) }
-            ensures first { result.0.board ≡ board.entry.now.id }
-            ensures seats { All (λ s. s.board ≡ board.entry.now.id) result.1.seats.items }
-            ensures spent { IsSpent result.1.refusal
-                → MayStop (G.may_refuse gate.entry.now) plan.entry.now (length scripts.entry.now) }
-        {
-            let mut first = first;
-            let mut root = share;
-            let mut left = left;
-            let mut refused = false;
-            let share = root.split();
-            let spawned = scope.spawn_with(
-                Never,
-                move || -> Done<L>
-                    ensures { IsSpent result.stopped → ⊥ }
-                { hand_off(rt, alloc, site, share) },
-            );
-            let handing = match spawned {
-                Ok(handle) => Some(handle),
-                Err(_refusal) => None,
-            };
-            // From the last one on, so that the handles come from the first one on.
-            for started in 0..workers {
-                let worker = workers - 1 - started;
-                let Ok(seat) = board.seat(&mut first, worker) else {
-                    unreachable!()
-                };
-                let share = root.split();
-                let spawned = scope.spawn_with(
-                    AtBoard(board, plan),
-                    move || -> Sat<L>
-                        requires { (seat.board ≡ site.now.board.now.id) × (is_some seat.worker ≡ true)
-                            × (site.now.board.now.steps ≡ length plan.now) }
-                        ensures { (result.seat.board ≡ site.entry.now.board.now.id)
-                            × (IsSpent result.done.stopped → 0 < length plan.entry.now) }
-                    { work(rt, alloc, site, worker, plan, seat, share) },
-                );
-                match spawned {
-                    Ok(handle) => refused = keep(board, plan, &mut sitting, handle) || refused,
-                    Err(_refusal) => refused = true,
-                }
-            }
-            for started in 0..scripts.len() {
-                let number = scripts.len() - 1 - started;
-                let client = 64 + number as u32;
-                let script = &scripts[number];
-                let share = root.split();
-                let spawned = scope.spawn_with(
-                    ByGate(gate, client),
-                    move || -> Done<L>
-                        ensures { IsSpent result.stopped
-                            → (line : ℕ) × G.may_refuse site.entry.now.gate.now client line }
-                    { serve(rt, alloc, site, client, script, share) },
-                );
-                match spawned {
-                    Ok(handle) => refused = keep_client(gate, scripts.len(), &mut serving, handle)
-                        || refused,
-                    Err(_refusal) => refused = true,
-                }
-            }
-            refused = refused || handing.is_none();
-            if refused {
-                set(site.stop);
-            }
-            left.note_start(refused);
-            let left = join_workers(rt, board, plan, sitting, left);
-            let left = join_clients(rt, gate, plan, scripts.len(), serving, left);
-            set(site.joined);
-            ring(site.bell);
-            let mut left = join_handoffs(rt, handing, left);
-            left.share(root);
-            (first, left)
-        },
+            requires first { first.board ≡ site.now.board.now.id }
+            requires steps { site.now.board.now.steps ≡ length site.now.plan.now }
+            requires workers { (site.now.job.now.workers ≤ 64) × (length site.now.job.now.scripts.now ≤ 8)
+                × (site.now.job.now.workers ≤ site.now.board.now.workers) }
+            requires parts { site.now.job.now.workers + length site.now.job.now.scripts.now + 2 ≤ share.token.parts }
+            requires none { (vec_len room.sitting ≡ 0) × (vec_len room.serving ≡ 0)
+                × (vec_len room.left.seats ≡ 0) × (room.left.refusal ≡ None) }
+            ensures first { result.0.board ≡ site.entry.now.board.now.id }
+            ensures seats { All (λ s. s.board ≡ site.entry.now.board.now.id) result.1.seats.items }
+            ensures spent { IsSpent result.1.refusal → MayStop (G.may_refuse site.entry.now.job.now.gate.now)
+                site.entry.now.plan.now (length site.entry.now.job.now.scripts.now) }
+        { run_in(scope, site, room, first, share) },
     );
     Ok(back)
 }

@@ -10,9 +10,9 @@ use crate::noting::go_on;
 use crate::site::{Site, is_set, set};
 use plan_check::Gate;
 use plan_runs::Event;
-use plan_text::{Plan, Step};
+use plan_text::Step;
 use ring_board::{Board, Claim, Seat};
-use ring_exec::{RunLedger, Share};
+use ring_exec::RunLedger;
 use ring_names::Refusal;
 use std::alloc::Global;
 use std::sync::Wait;
@@ -191,13 +191,12 @@ fn is_next(board: &Board, seat: &mut Seat, walk: &mut Walk, step: u32, others: &
 }
 
 // The events of a step that is no copy. Whether it is done.
-fn do_step<'e, 'a, L: RunLedger, R: Wait, G: Gate>(
-    rt: &R,
-    site: &Site<'e, 'a, L, G>,
+fn do_step<L: RunLedger, R: Wait, G: Gate>(
+    site: &Site<L, R, G>,
     done: &mut Done<L>,
     step: u32,
 ) -> Result<bool, Refusal> {
-    match done.note(rt, site.executor, &Event::Do(step)) {
+    match done.note(site.store, &Event::Do(step)) {
         Ok(()) => Ok(true),
         Err(refusal) => {
             go_on(refusal)?;
@@ -207,14 +206,13 @@ fn do_step<'e, 'a, L: RunLedger, R: Wait, G: Gate>(
 }
 
 // The chunks of an open copy. Whether all are marked, and not a node is down, so that the copy is broken off.
-fn copy_chunks<'e, 'a, L: RunLedger, R: Wait, G: Gate>(
-    rt: &R,
-    site: &Site<'e, 'a, L, G>,
+fn copy_chunks<L: RunLedger, R: Wait, G: Gate>(
+    site: &Site<L, R, G>,
     done: &mut Done<L>,
     step: u32,
 ) -> Result<bool, Refusal> {
     for chunk in 0..CHUNKS {
-        match done.note(rt, site.executor, &Event::ChunkCopy(step, chunk)) {
+        match done.note(site.store, &Event::ChunkCopy(step, chunk)) {
             Ok(()) | Err(Refusal::AlreadyDone) => {}
             Err(Refusal::NodeDown(_)) => return Ok(false),
             Err(refusal) => return Err(refusal),
@@ -224,34 +222,32 @@ fn copy_chunks<'e, 'a, L: RunLedger, R: Wait, G: Gate>(
 }
 
 // A copy that is open, up to its end. Whether it is done.
-fn copy_on<'e, 'a, L: RunLedger, R: Wait, G: Gate>(
-    rt: &R,
-    site: &Site<'e, 'a, L, G>,
+fn copy_on<L: RunLedger, R: Wait, G: Gate>(
+    site: &Site<L, R, G>,
     done: &mut Done<L>,
     worker: u32,
     step: u32,
 ) -> Result<bool, Refusal> {
-    if !site.gate.pass(rt, worker, u64::from(step)) {
+    if !site.job.gate.pass(site.job.rt, worker, u64::from(step)) {
         return Err(Refusal::TurnsSpent);
     }
-    if copy_chunks(rt, site, done, step)? {
-        done.note(rt, site.executor, &Event::CloseCopy(step))?;
+    if copy_chunks(site, done, step)? {
+        done.note(site.store, &Event::CloseCopy(step))?;
         return Ok(true);
     }
-    done.note(rt, site.executor, &Event::AbortCopy(step))?;
+    done.note(site.store, &Event::AbortCopy(step))?;
     Ok(false)
 }
 
 // A copy. Whether it is done.
-fn copy<'e, 'a, L: RunLedger, R: Wait, G: Gate>(
-    rt: &R,
-    site: &Site<'e, 'a, L, G>,
+fn copy<L: RunLedger, R: Wait, G: Gate>(
+    site: &Site<L, R, G>,
     done: &mut Done<L>,
     worker: u32,
     step: u32,
 ) -> Result<bool, Refusal> {
-    match done.note(rt, site.executor, &Event::OpenCopy(step)) {
-        Ok(()) => copy_on(rt, site, done, worker, step),
+    match done.note(site.store, &Event::OpenCopy(step)) {
+        Ok(()) => copy_on(site, done, worker, step),
         Err(refusal) => {
             go_on(refusal)?;
             Ok(false)
@@ -260,24 +256,21 @@ fn copy<'e, 'a, L: RunLedger, R: Wait, G: Gate>(
 }
 
 // The events of a step that the seat holds; then it is finished, or given back. Whether it is finished.
-fn carry_out<'e, 'a, L: RunLedger, R: Wait, G: Gate>(
-    rt: &R,
-    site: &Site<'e, 'a, L, G>,
+fn carry_out<L: RunLedger, R: Wait, G: Gate>(
+    site: &Site<L, R, G>,
     sat: &mut Sat<L>,
-    worker: u32,
-    plan: &Plan,
     step: u32,
 ) -> Result<bool, Refusal>
     requires board { sat.old.seat.board ≡ site.now.board.now.id }
-    requires steps { site.now.board.now.steps ≡ length plan.now }
-    requires step { step < length plan.now }
+    requires steps { site.now.board.now.steps ≡ length site.now.plan.now }
+    requires step { step < length site.now.plan.now }
     requires held { has step sat.old.seat.held ≡ true }
     ensures board { sat.new.seat.board ≡ site.now.board.now.id }
     ensures worker { sat.new.seat.worker ≡ sat.old.seat.worker }
 {
-    let came = match plan.step(step) {
-        Step::Copy(_, _) => copy(rt, site, &mut sat.done, worker, step),
-        _ => do_step(rt, site, &mut sat.done, step),
+    let came = match site.plan.step(step) {
+        Step::Copy(_, _) => copy(site, &mut sat.done, sat.worker, step),
+        _ => do_step(site, &mut sat.done, step),
     };
     match &came {
         Ok(true) => site.board.mark_done(&mut sat.seat, step),
@@ -287,28 +280,27 @@ fn carry_out<'e, 'a, L: RunLedger, R: Wait, G: Gate>(
 }
 
 // Claims the first step, of those from that one on and below the end, that is not found finished and behind steps that are.
-fn claim_from(
-    board: &Board,
+fn claim_from<L: RunLedger, R: Wait, G: Gate>(
+    site: &Site<L, R, G>,
     seat: &mut Seat,
     walk: &mut Walk,
-    plan: &Plan,
     from: u32,
     end: u32,
 ) -> Option<u32>
-    requires board { seat.old.board ≡ board.now.id }
+    requires board { seat.old.board ≡ site.now.board.now.id }
     requires worker { is_some seat.old.worker ≡ true }
-    requires steps { (board.now.steps ≡ length plan.now) × (end ≤ length plan.now) }
-    ensures board { seat.new.board ≡ board.now.id }
+    requires steps { (site.now.board.now.steps ≡ length site.now.plan.now) × (end ≤ length site.now.plan.now) }
+    ensures board { seat.new.board ≡ site.now.board.now.id }
     ensures worker { seat.new.worker ≡ seat.old.worker }
-    ensures held { IfSome result (λ s. (s < length plan.now) × (has s seat.new.held ≡ true)) }
+    ensures held { IfSome result (λ s. (s < length site.now.plan.now) × (has s seat.new.held ≡ true)) }
 {
     let mut place = from;
     'places: for _ in from..end {
         let Some(step) = walk.first_open(place, end) else {
             break;
         };
-        if is_next(board, seat, walk, step, plan.deps(step)) {
-            if let Claim::Won = board.claim(seat, step) {
+        if is_next(site.board, seat, walk, step, site.plan.deps(step)) {
+            if let Claim::Won = site.board.claim(seat, step) {
                 return Some(step);
             }
         }
@@ -318,19 +310,23 @@ fn claim_from(
 }
 
 // The same of all steps, once round from the one behind the last that was claimed.
-fn claim_next(board: &Board, seat: &mut Seat, walk: &mut Walk, plan: &Plan) -> Option<u32>
-    requires board { seat.old.board ≡ board.now.id }
+fn claim_next<L: RunLedger, R: Wait, G: Gate>(
+    site: &Site<L, R, G>,
+    seat: &mut Seat,
+    walk: &mut Walk,
+) -> Option<u32>
+    requires board { seat.old.board ≡ site.now.board.now.id }
     requires worker { is_some seat.old.worker ≡ true }
-    requires steps { board.now.steps ≡ length plan.now }
-    ensures board { seat.new.board ≡ board.now.id }
+    requires steps { site.now.board.now.steps ≡ length site.now.plan.now }
+    ensures board { seat.new.board ≡ site.now.board.now.id }
     ensures worker { seat.new.worker ≡ seat.old.worker }
-    ensures held { IfSome result (λ s. (s < length plan.now) × (has s seat.new.held ≡ true)) }
+    ensures held { IfSome result (λ s. (s < length site.now.plan.now) × (has s seat.new.held ≡ true)) }
 {
-    let steps = plan.len();
+    let steps = site.plan.len();
     let from = walk.from.min(steps);
-    let found = match claim_from(board, seat, walk, plan, from, steps) {
+    let found = match claim_from(site, seat, walk, from, steps) {
         Some(step) => Some(step),
-        None => claim_from(board, seat, walk, plan, 0, from),
+        None => claim_from(site, seat, walk, 0, from),
     };
     if let Some(step) = found {
         walk.from = step.saturating_add(1);
@@ -339,24 +335,21 @@ fn claim_next(board: &Board, seat: &mut Seat, walk: &mut Walk, plan: &Plan) -> O
 }
 
 // A walk over the steps. Whether the seat finished one.
-fn turn<'e, 'a, L: RunLedger, R: Wait, G: Gate>(
-    rt: &R,
-    site: &Site<'e, 'a, L, G>,
+fn turn<L: RunLedger, R: Wait, G: Gate>(
+    site: &Site<L, R, G>,
     sat: &mut Sat<L>,
     walk: &mut Walk,
-    worker: u32,
-    plan: &Plan,
 ) -> Result<bool, Refusal>
     requires board { sat.old.seat.board ≡ site.now.board.now.id }
     requires worker { is_some sat.old.seat.worker ≡ true }
-    requires steps { site.now.board.now.steps ≡ length plan.now }
+    requires steps { site.now.board.now.steps ≡ length site.now.plan.now }
     ensures board { sat.new.seat.board ≡ site.now.board.now.id }
     ensures worker { sat.new.seat.worker ≡ sat.old.seat.worker }
 {
-    let Some(step) = claim_next(site.board, &mut sat.seat, walk, plan) else {
+    let Some(step) = claim_next(site, &mut sat.seat, walk) else {
         return Ok(false);
     };
-    let finished = carry_out(rt, site, sat, worker, plan, step)?;
+    let finished = carry_out(site, sat, step)?;
     if finished {
         walk.note(step);
     }
@@ -364,28 +357,25 @@ fn turn<'e, 'a, L: RunLedger, R: Wait, G: Gate>(
 }
 
 // Turns, until the seat finds every step finished or all are to stop. The refusal that ends them, if one does.
-fn turns<'e, 'a, L: RunLedger, R: Wait, G: Gate>(
-    rt: &R,
-    site: &Site<'e, 'a, L, G>,
+fn turns<L: RunLedger, R: Wait, G: Gate>(
+    site: &Site<L, R, G>,
     sat: &mut Sat<L>,
     walk: &mut Walk,
-    worker: u32,
-    plan: &Plan,
 ) -> Result<(), Refusal>
     requires board { sat.old.seat.board ≡ site.now.board.now.id }
     requires worker { is_some sat.old.seat.worker ≡ true }
-    requires steps { site.now.board.now.steps ≡ length plan.now }
+    requires steps { site.now.board.now.steps ≡ length site.now.plan.now }
     ensures board { sat.new.seat.board ≡ site.now.board.now.id }
 {
     let mut idle = 0u32;
-    'turns: for _ in rt.forever() {
-        if walk.left == 0 || is_set(site.stop) {
+    'turns: for _ in site.job.rt.forever() {
+        if walk.left == 0 || is_set(&site.flags.stop) {
             break;
         }
         if idle >= MAX_TURNS {
             return Err(Refusal::TurnsSpent);
         }
-        if turn(rt, site, sat, walk, worker, plan)? {
+        if turn(site, sat, walk)? {
             idle = 0;
         } else {
             idle += 1;
@@ -396,53 +386,39 @@ fn turns<'e, 'a, L: RunLedger, R: Wait, G: Gate>(
 }
 
 // The same, from no knowledge of steps on.
-fn work_on<'e, 'a, L: RunLedger, R: Wait, G: Gate>(
-    rt: &R,
-    alloc: Global,
-    site: &Site<'e, 'a, L, G>,
+fn work_on<L: RunLedger, R: Wait, G: Gate>(
+    site: &Site<L, R, G>,
     sat: &mut Sat<L>,
-    worker: u32,
-    plan: &Plan,
 ) -> Result<(), Refusal>
     requires board { sat.old.seat.board ≡ site.now.board.now.id }
     requires worker { is_some sat.old.seat.worker ≡ true }
-    requires steps { site.now.board.now.steps ≡ length plan.now }
+    requires steps { site.now.board.now.steps ≡ length site.now.plan.now }
     ensures board { sat.new.seat.board ≡ site.now.board.now.id }
-    ensures spent { IfErr result (λ e. 0 < length plan.now) }
+    ensures spent { IfErr result (λ e. 0 < length site.now.plan.now) }
 {
-    if plan.len() == 0 {
+    let steps = site.plan.len();
+    if steps == 0 {
         return Ok(());
     }
-    let mut walk = Walk::new(alloc, plan.len())?;
-    turns(rt, site, sat, &mut walk, worker, plan)
+    let mut walk = Walk::new(site.job.alloc, steps)?;
+    turns(site, sat, &mut walk)
 }
 
 /// A worker: turns, until its seat finds every step finished. It stops all where it meets a full history or want of memory, where its gate
 /// answers false, and where it took 1,000,000 turns without finishing a step.
-pub(crate) fn work<'e, 'a, L: RunLedger, R: Wait, G: Gate>(
-    rt: &R,
-    alloc: Global,
-    site: &Site<'e, 'a, L, G>,
-    worker: u32,
-    plan: &Plan,
-    seat: Seat,
-    share: Share<L>,
-) -> Sat<L>
-    requires board { seat.board ≡ site.now.board.now.id }
-    requires worker { is_some seat.worker ≡ true }
-    requires steps { site.now.board.now.steps ≡ length plan.now }
+pub(crate) fn work<L: RunLedger, R: Wait, G: Gate>(site: &Site<L, R, G>, sat: Sat<L>) -> Sat<L>
+    requires board { sat.seat.board ≡ site.now.board.now.id }
+    requires worker { is_some sat.seat.worker ≡ true }
+    requires steps { site.now.board.now.steps ≡ length site.now.plan.now }
     ensures board { result.seat.board ≡ site.now.board.now.id }
-    ensures spent { IsSpent result.done.stopped → 0 < length plan.now }
+    ensures spent { IsSpent result.done.stopped → 0 < length site.now.plan.now }
 {
-    let mut sat = Sat {
-        done: Done::new(alloc, share),
-        seat,
-    };
-    let ended = work_on(rt, alloc, site, &mut sat, worker, plan);
+    let mut sat = sat;
+    let ended = work_on(site, &mut sat);
     sat.done.stopped = match ended {
         Ok(()) => None,
         Err(refusal) => {
-            set(site.stop);
+            set(&site.flags.stop);
             Some(refusal)
         }
     };

@@ -64,19 +64,18 @@ pub fn check_bundle(alloc: Global, bytes: &[u8]) -> Result<(), Refusal>
     }
 }
 
-// The same answer, by workers.
+// The same answer for a bundle, by workers.
 fn check_plan_by<RT: Threads + Wait + Sync>(
     rt: &RT,
     alloc: Global,
     workers: u32,
-    ring: Ring,
-    plan: Plan,
-    cert: &Cert,
+    bundle: Bundle,
 ) -> Result<(), Refusal>
-    requires { Suits ring plan }
-    ensures answer { Gives result (judged (first_refusal ring plan cert.now)) }
-    ensures keeps { OnOk result (KeepsPromises ring plan) }
+    requires { Suits bundle.ring bundle.plan }
+    ensures answer { Gives result (judged (first_refusal bundle.ring bundle.plan bundle.cert)) }
+    ensures keeps { OnOk result (KeepsPromises bundle.ring bundle.plan) }
 {
+    let (ring, plan, cert) = (bundle.ring, bundle.plan, &bundle.cert);
     match check_parallel(rt, alloc, workers, &OpenGate, ring, plan, cert) {
         Ok(_) => Ok(()),
         Err(turned) => {
@@ -100,7 +99,7 @@ pub fn check_bundle_by<RT: Threads + Wait + Sync>(
     ensures late { IfErr result (λ e. e ≡ OutOfMemory → NoFaultBefore 5 (whole_text (bundle_at Check) bytes.now)) }
 {
     match read_bundle(alloc, Kind::Check, bytes) {
-        Ok(bundle) => check_plan_by(rt, alloc, workers, bundle.ring, bundle.plan, &bundle.cert),
+        Ok(bundle) => check_plan_by(rt, alloc, workers, bundle),
         Err(e) => Err(e),
     }
 }

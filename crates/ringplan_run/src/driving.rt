@@ -22,16 +22,20 @@ use std::alloc::Global;
 use std::sync::Wait;
 use std::thread::Threads;
 
-// The history behind `yes`. Each name in it is known, since the scripts' are; this is looked at once more, as the text asks for it.
-fn write_run(
+// An approved plan, and the names of those who write while it runs.
+#[derive(Drop)]
+struct Named<'a> {
     alloc: Global,
-    approved: &Approved,
-    writers: &Names,
-    outcome: &Outcome,
-) -> Result<Vec<u8>, Refusal>
-    ensures text { IfOk result (λ v. v.items ≡ outcome_text approved.now.ring writers.now outcome.now.history.items outcome.now.finishers.items 0 Form.History) }
+    approved: &'a Approved,
+    writers: &'a Names,
+}
+
+// The history behind `yes`. Each name in it is known, since the scripts' are; this is looked at once more, as the text asks for it.
+fn write_run(named: &Named, outcome: &Outcome) -> Result<Vec<u8>, Refusal>
+    ensures text { IfOk result (λ v. v.items ≡ outcome_text named.now.approved.now.ring named.now.writers.now outcome.now.history.items outcome.now.finishers.items 0 Form.History) }
     ensures err { IfErr result IsFault }
 {
+    let (alloc, approved, writers) = (named.alloc, named.approved, named.writers);
     let history = outcome.history.as_slice();
     if history.len() > MAX_ENTRIES || !are_known(approved.ring(), writers, history) {
         return Err(Refusal::Disagree);
@@ -44,38 +48,36 @@ fn write_run(
 
 // The text of an outcome in that form.
 fn write_outcome(
-    alloc: Global,
-    approved: &Approved,
-    writers: &Names,
+    named: &Named,
     outcome: &Outcome,
     workers: u32,
     form: Form,
 ) -> Result<Vec<u8>, Refusal>
-    ensures text { IfOk result (λ v. v.items ≡ outcome_text approved.now.ring writers.now outcome.now.history.items outcome.now.finishers.items workers form) }
+    ensures text { IfOk result (λ v. v.items ≡ outcome_text named.now.approved.now.ring named.now.writers.now outcome.now.history.items outcome.now.finishers.items workers form) }
     ensures err { IfErr result IsFault }
 {
     match form {
-        Form::History => write_run(alloc, approved, writers, outcome),
-        Form::Report => write_report(alloc, approved, writers, outcome, workers),
+        Form::History => write_run(named, outcome),
+        Form::Report => {
+            write_report(named.alloc, named.approved, named.writers, outcome, workers)
+        }
     }
 }
 
 // The text of a drive of the plan, with a client for each script, or why it broke off.
 fn drive_approved<RT: Threads + Wait + Sync>(
     rt: &RT,
-    alloc: Global,
-    approved: &Approved,
-    writers: &Names,
+    named: &Named,
     scripts: &[Script],
     workers: u32,
     form: Form,
 ) -> Result<Vec<u8>, Refusal>
     requires workers { (0 < workers) × (workers ≤ 64) }
     requires scripts { AreOfClients scripts.now }
-    ensures { IsOutcome approved.now.ring approved.now.plan writers.now scripts.now workers form (texts_of result) }
+    ensures { IsOutcome named.now.approved.now.ring named.now.approved.now.plan named.now.writers.now scripts.now workers form (texts_of result) }
 {
-    match drive(rt, alloc, approved, scripts, workers, &OpenGate) {
-        Ok(outcome) => write_outcome(alloc, approved, writers, &outcome, workers, form),
+    match drive(rt, named.alloc, named.approved, scripts, workers, &OpenGate) {
+        Ok(outcome) => write_outcome(named, &outcome, workers, form),
         Err(fault) => {
             let refusal = fault.refusal;
             Err(refusal)
@@ -96,15 +98,14 @@ fn drive_checked<RT: Threads + Wait + Sync>(
     ensures { DrivesOfIf workers form bundle (texts_of result) }
 {
     match check(alloc, bundle.ring, bundle.plan, &bundle.cert) {
-        Ok(approved) => drive_approved(
-            rt,
-            alloc,
-            &approved,
-            &bundle.writers,
-            bundle.scripts.as_slice(),
-            workers,
-            form,
-        ),
+        Ok(approved) => {
+            let named = Named {
+                alloc,
+                approved: &approved,
+                writers: &bundle.writers,
+            };
+            drive_approved(rt, &named, bundle.scripts.as_slice(), workers, form)
+        }
         Err(turned) => {
             let refusal = turned.refusal;
             Err(refusal)

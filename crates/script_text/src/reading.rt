@@ -58,28 +58,30 @@ fn event_line<'a>(
     judge_line(ring, names, script, fields)
 }
 
-// Reads events behind those of the script, up to a line that begins with `end`.
-fn read_into(
-    alloc: Global,
-    by: Speaker,
-    ring: &Ring,
-    writers: &mut Names,
-    seen: &mut Script,
-    lines: &mut Lines,
-) -> Result<(), Refusal>
-    requires none { seen.old ≡ [] }
-    ensures read { Reads (map_ok (λ _. (seen.new, writers.new)) result) lines.new
-        (events_from by ring.now seen.old writers.old lines.old.line lines.old.lines) }
-    ensures late { Late 1 result lines.old lines.new
-        (events_from by ring.now seen.old writers.old lines.old.line lines.old.lines) }
-{
-    'events: while !lines.begins(b"end") {
-        let may = by.may_say(lines);
-        let fields = lines.next()?;
-        let said = event_line(may, ring, writers, seen, fields)?;
-        add(alloc, writers, seen, said)?;
+impl Speaker {
+    // Reads events behind those of the script, up to a line that begins with `end`.
+    fn read_into(
+        self,
+        alloc: Global,
+        ring: &Ring,
+        writers: &mut Names,
+        seen: &mut Script,
+        lines: &mut Lines,
+    ) -> Result<(), Refusal>
+        requires none { seen.old ≡ [] }
+        ensures read { Reads (map_ok (λ _. (seen.new, writers.new)) result) lines.new
+            (events_from self ring.now seen.old writers.old lines.old.line lines.old.lines) }
+        ensures late { Late 1 result lines.old lines.new
+            (events_from self ring.now seen.old writers.old lines.old.line lines.old.lines) }
+    {
+        'events: while !lines.begins(b"end") {
+            let may = self.may_say(lines);
+            let fields = lines.next()?;
+            let said = event_line(may, ring, writers, seen, fields)?;
+            add(alloc, writers, seen, said)?;
+        }
+        Ok(())
     }
-    Ok(())
 }
 
 // Reads the events of a script.
@@ -96,7 +98,7 @@ fn read_events(
     ensures late { Late 1 result lines.old lines.new (events_at by ring.now writers.old lines.old) }
 {
     let mut script = Script::new(alloc);
-    read_into(alloc, by, ring, writers, &mut script, lines)?;
+    by.read_into(alloc, ring, writers, &mut script, lines)?;
     Ok(script)
 }
 

@@ -54,39 +54,43 @@ fn raise_to_put(clock: &mut Clock, puts: &Puts, put: u32) -> Result<(), Refusal>
     }
 }
 
+/// What the writer of a put knows: its last put on the key, if there is one, and the gets that the put names.
+#[derive(Clone, Copy)]
+pub struct Knowing<'s> {
+    pub last: Option<u32>,
+    pub seen: &'s [u32],
+}
+
 // The join of the clocks of all versions that these gets found, and of that of the writer's last put.
-fn input_clock(
-    alloc: Global,
-    puts: &Puts,
-    gets: &Gets,
-    last: Option<u32>,
-    seen: &[u32],
-) -> Result<Clock, Refusal>
-    ensures ok { IfOk result (IsJoinOfFound (clock_at puts.now) (found_at gets.now) seen.now last) }
+fn input_clock(alloc: Global, puts: &Puts, gets: &Gets, knowing: &Knowing) -> Result<Clock, Refusal>
+    ensures ok { IfOk result
+        (IsJoinOfFound (clock_at puts.now) (found_at gets.now) knowing.now.seen.now knowing.now.last) }
     ensures memory { IfErr result (λ e. e ≡ OutOfMemory) }
 {
     let mut clock = Clock::new(alloc);
-    raise_to_gets(&mut clock, gets, seen)?;
+    raise_to_gets(&mut clock, gets, knowing.seen)?;
+    let last = knowing.last;
     if let Some(put) = last {
         raise_to_put(&mut clock, puts, put)?;
     }
     Ok(clock)
 }
 
-/// The clock of a put of the writer that names these gets, where `last` is the writer's last put on the key.
+/// The clock of a put of the writer that knows these.
 pub fn next_clock(
     alloc: Global,
     puts: &Puts,
     gets: &Gets,
-    last: Option<u32>,
-    seen: &[u32],
+    knowing: &Knowing,
     writer: WriterId,
 ) -> Result<Clock, Refusal>
-    requires { (d : List TheEntry) → IsJoinOfFound (clock_at puts.now) (found_at gets.now) seen.now last d
+    requires { (d : List TheEntry)
+        → IsJoinOfFound (clock_at puts.now) (found_at gets.now) knowing.now.seen.now knowing.now.last d
         → counter d writer.0 < 18446744073709551615 }
-    ensures ok { IfOk result (IsNextOfFound (clock_at puts.now) (found_at gets.now) seen.now last writer.0) }
+    ensures ok { IfOk result
+        (IsNextOfFound (clock_at puts.now) (found_at gets.now) knowing.now.seen.now knowing.now.last writer.0) }
     ensures memory { IfErr result (λ e. e ≡ OutOfMemory) }
 {
-    let clock = input_clock(alloc, puts, gets, last, seen)?;
+    let clock = input_clock(alloc, puts, gets, knowing)?;
     clock.bump(writer)
 }

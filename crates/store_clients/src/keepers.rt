@@ -15,25 +15,36 @@ use ring_versions::Versions;
 use std::collections::BTreeSet;
 use store_tables::Nodes;
 
+/// A key of a slot, with its chunk.
+#[derive(Clone, Copy)]
+pub struct SlotKey<'k> {
+    pub slot: Slot,
+    pub chunk: u32,
+    pub key: &'k [u8],
+}
+
 // The refusal of the first of these nodes that keeps versions of the key for the slot and is down.
 fn first_down(
     nodes: &Nodes,
     hints: &Hints,
     keepers: &BTreeSet<NodeId>,
-    slot: Slot,
-    chunk: u32,
-    key: &[u8],
+    place: &SlotKey,
 ) -> Option<Refusal>
-    requires chunk { chunk_of (partitions hints.now) key.now ≡ chunk }
-    requires others { (x : ℕ) → in_keepers x keepers.now.keys ≡ false → hinted_at hints.now x slot key.now ≡ [] }
-    ensures { IsFirstDown (is_up_at nodes.now) (λ x. hinted_at hints.now x slot key.now) result }
+    requires chunk { chunk_of (partitions hints.now) place.now.key.now ≡ place.now.chunk }
+    requires others { (x : ℕ) → in_keepers x keepers.now.keys ≡ false
+        → hinted_at hints.now x place.now.slot place.now.key.now ≡ [] }
+    ensures { IsFirstDown (is_up_at nodes.now) (λ x. hinted_at hints.now x place.now.slot place.now.key.now) result }
 {
     'keepers: for keeper in keepers {
         let pair = KeptFor {
             keeper: *keeper,
-            slot,
+            slot: place.slot,
         };
-        if hints.key_versions_in(pair, chunk, key).is_some() && !nodes.is_up(*keeper) {
+        if hints
+            .key_versions_in(pair, place.chunk, place.key)
+            .is_some()
+            && !nodes.is_up(*keeper)
+        {
             return Some(Refusal::NodeDown(keeper.0));
         }
     }
@@ -41,18 +52,12 @@ fn first_down(
 }
 
 /// The refusal of the first of the nodes that keep versions of the key for the slot that is down. Walks the key's keepers alone.
-pub fn keeper_refusal(
-    nodes: &Nodes,
-    hints: &Hints,
-    slot: Slot,
-    chunk: u32,
-    key: &[u8],
-) -> Option<Refusal>
-    requires { chunk_of (partitions hints.now) key.now ≡ chunk }
-    ensures { IsFirstDown (is_up_at nodes.now) (λ x. hinted_at hints.now x slot key.now) result }
+pub fn keeper_refusal(nodes: &Nodes, hints: &Hints, place: &SlotKey) -> Option<Refusal>
+    requires { chunk_of (partitions hints.now) place.now.key.now ≡ place.now.chunk }
+    ensures { IsFirstDown (is_up_at nodes.now) (λ x. hinted_at hints.now x place.now.slot place.now.key.now) result }
 {
-    match hints.key_keepers(slot, key) {
-        Some(keepers) => first_down(nodes, hints, keepers, slot, chunk, key),
+    match hints.key_keepers(place.slot, place.key) {
+        Some(keepers) => first_down(nodes, hints, keepers, place),
         None => None,
     }
 }
@@ -62,22 +67,20 @@ pub fn merge_hints(
     all: &mut Versions,
     hints: &Hints,
     keepers: &BTreeSet<NodeId>,
-    slot: Slot,
-    chunk: u32,
-    key: &[u8],
+    place: &SlotKey,
 ) -> Result<(), Refusal>
-    requires chunk { chunk_of (partitions hints.now) key.now ≡ chunk }
+    requires chunk { chunk_of (partitions hints.now) place.now.key.now ≡ place.now.chunk }
     requires apart { IsApart all.old }
-    ensures ok { OnOk result
-        (MergesOthers all.old (λ x. in_keepers x keepers.now.keys) (λ x. hinted_at hints.now x slot key.now) all.new) }
+    ensures ok { OnOk result (MergesOthers all.old (λ x. in_keepers x keepers.now.keys)
+        (λ x. hinted_at hints.now x place.now.slot place.now.key.now) all.new) }
     ensures memory { IfErr result (λ e. e ≡ OutOfMemory) }
 {
     'keepers: for keeper in keepers {
         let pair = KeptFor {
             keeper: *keeper,
-            slot,
+            slot: place.slot,
         };
-        if let Some(held) = hints.key_versions_in(pair, chunk, key) {
+        if let Some(held) = hints.key_versions_in(pair, place.chunk, place.key) {
             all.merge(held)?;
         }
     }

@@ -12,7 +12,7 @@ ghost use Rattle.store_tells.specs.Parts.{IsSound, Meets, Passes, kept_of, plan_
 ghost use Rattle.store_clients.specs.Keepers.{MergesOthers};
 ghost use Rattle.store_clients.specs.Looks.{FindsAt, owned_at};
 
-use crate::keepers::merge_hints;
+use crate::keepers::{SlotKey, merge_hints};
 use ring_names::{Listed, Refusal, Slot};
 use ring_versions::{Found, Versions};
 use store_tells::Parts;
@@ -43,7 +43,8 @@ fn slot_versions(parts: &Parts, slot: Slot, chunk: u32, key: &[u8]) -> Result<Ve
 {
     let mut all = owner_versions(parts, slot, chunk, key)?;
     if let Some(keepers) = parts.hints.key_keepers(slot, key) {
-        merge_hints(&mut all, &parts.hints, keepers, slot, chunk, key)?;
+        let place = SlotKey { slot, chunk, key };
+        merge_hints(&mut all, &parts.hints, keepers, &place)?;
     }
     Ok(all)
 }

@@ -16,7 +16,7 @@ ghost use Rattle.store_tells.specs.GetsTests.{is_of_number, has_ended_at};
 ghost use Rattle.store_tells.specs.Parts.{IsSound, Follows, Tests, Answers, Passes, Stays};
 ghost use Rattle.store_clients.specs.Puts.{IsNewPut, seen_guards_kept};
 
-use crate::clocks::next_clock;
+use crate::clocks::{Knowing, next_clock};
 use crate::keys::number_of;
 use plan_runs::{Key, Reply, Seen};
 use ring_names::{Refusal, Value, WriterId};
@@ -110,7 +110,8 @@ fn new_put(
     let alloc = parts.alloc;
     let put = parts.puts.len() as u32;
     let last = parts.lasts.get(key, writer);
-    let clock = next_clock(alloc, &parts.puts, &parts.gets, last, seen, writer)?;
+    let knowing = Knowing { last, seen };
+    let clock = next_clock(alloc, &parts.puts, &parts.gets, &knowing, writer)?;
     let value = value.try_copy()?;
     let version = Versions::of(alloc, Version { put, clock, value })?;
     Ok(PutNow {

@@ -9,7 +9,7 @@ ghost use Rattle.store_tables.specs.Nodes.{is_up_at};
 ghost use Rattle.store_tells.specs.Parts.{IsSound, Follows, Tests, Passes, Answers, Stays};
 ghost use Rattle.store_clients.specs.Reads.{StopsRead};
 
-use crate::keepers::keeper_refusal;
+use crate::keepers::{SlotKey, keeper_refusal};
 use crate::looks::look;
 use plan_runs::Reply;
 use ring_names::{Listed, Refusal, Slot};
@@ -26,7 +26,7 @@ fn down_refusal(parts: &Parts, slot: Slot, chunk: u32, key: &[u8]) -> Option<Ref
             return Some(Refusal::NodeDown(owner.0));
         }
     }
-    keeper_refusal(&parts.nodes, &parts.hints, slot, chunk, key)
+    keeper_refusal(&parts.nodes, &parts.hints, &SlotKey { slot, chunk, key })
 }
 
 /// Why a slot is not read for a get now, if it is not: there is no get of that number or no slot of that index, the get has ended or has

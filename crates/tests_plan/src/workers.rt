@@ -66,12 +66,12 @@ fn approved<RT: AllocGlobal + Threads + Wait + Sync>(
     rt: &RT,
     workers: u32,
     gate: &Turnstile,
-    ring: Ring,
-    plan: Plan,
+    planned: (Ring, Plan),
     cert: &Cert,
 ) -> Result<u32, Refusal>
-    requires { Suits ring plan }
+    requires { Suits planned.0 planned.1 }
 {
+    let (ring, plan) = planned;
     match check_parallel(rt, rt.alloc(), workers, gate, ring, plan, cert) {
         Ok(approved) => Ok(approved.plan().len()),
         Err(turned) => Err(turned.refusal),
@@ -87,7 +87,7 @@ fn moves_by<RT: AllocGlobal + Threads + Wait + Sync>(
     cert: &Cert,
 ) -> Result<u32, Refusal> {
     let plan = two_moves(rt.alloc(), &ring)?;
-    approved(rt, workers, gate, ring, plan, cert)
+    approved(rt, workers, gate, (ring, plan), cert)
 }
 
 // The same by the certificate's text.

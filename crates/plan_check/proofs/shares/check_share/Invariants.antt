@@ -5,4 +5,4 @@ use Rattle.plan_check.specs.Shares.{share_clauses}
 use Rattle.plan_check.proofs.shares.check_share.Given as goal
 
 abbrev pub invariant-loop-partition : goal.invariant-loop-partition
-invariant-loop-partition l = (first_failing (share_clauses l.ring l.plan (is_ordered l.plan l.facts) l.from l.partition) ≡ None) × (l.partition ≤ max l.from l.to)
+invariant-loop-partition l = (first_failing (share_clauses l.context.ring.now l.context.plan.now (is_ordered l.context.plan.now l.context.facts.now) l.from l.partition) ≡ None) × (l.partition ≤ max l.from l.to)

@@ -6,5 +6,5 @@ pub returns-in-Some-put_started-clause-some : goal.returns-in-Some-put_started-c
 returns-in-Some-put_started-clause-some c =
     let a = c.args in
     let start = c.in-Some-put_started.ensures.some in
-    put_there a.asked.now a.writer a.key.now a.value.now a.seen.now a.list.now c.in-Some.later.now c.behind_put.result.now c.in-Some.start.now c.in-Some-put_started.put (search rules) (search rules)
+    put_there a.asked.now a.line.now.writer a.line.now.key.now a.line.now.value.now a.line.now.seen.now a.list.now c.in-Some.later.now c.behind_put.result.now c.in-Some.start.now c.in-Some-put_started.put (search rules) (search rules)
     start.0 start.1 c.behind_put.ensures

@@ -13,7 +13,7 @@ returns-in-Ok-clause-full g c =
 
 pub returns-in-Ok-clause-fault : goal.returns-in-Ok-clause-fault
 returns-in-Ok-clause-fault g c =
-    let a = c.args.approved.now in
+    let a = c.args.job.now.approved.now in
     let entries = c.args.entries.now in
     let of_ring = subst (λ (ring : RingValue). IsHistory ring g.L.RunLedger.plan entries) (sym c.requires.ring) c.in-Ok.ensures.run in
     let run = subst (λ (plan : List Planned). IsHistory a.ring plan entries) (sym c.requires.plan) of_ring in

@@ -1,4 +1,4 @@
-use Rattle.std.proofs.Common.{◌≡◌, ◌∙◌, ◌<◌, ◌≤◌, ◌+◌, Some, subst, inl, inr}
+use Rattle.std.proofs.Common.{◌≡◌, ◌∙◌, ◌<◌, ◌≤◌, ◌+◌, Some, length, subst, inl, inr}
 use Rattle.std.proofs.lemmas.List.Elements.{All-pop}
 use Rattle.std.specs.declared.thread.PromisedHandle.{PromisedHandle}
 use Rattle.ring_work.specs.declared.done.Done.{Done}
@@ -7,7 +7,7 @@ use Rattle.ring_work.proofs.threads.join_clients.Goals as goal
 
 pub loop-handle-preserved : goal.loop-handle-preserved
 loop-handle-preserved g c =
-    let is_ours = λ (h : PromisedHandle (Done g.row.L.Denot) (ByGate g.row.G.Denot)). (h.promise.0.now ≡ c.args.gate.now) × (64 ≤ h.promise.1) × (h.promise.1 < 64 + c.args.clients) in
+    let is_ours = λ (h : PromisedHandle (Done g.row.L.Denot) (ByGate g.row.G.Denot)). (h.promise.0.value ≡ c.args.site.now.job.now.gate.now) × (64 ≤ h.promise.1) × (h.promise.1 < 64 + length c.args.site.now.job.now.scripts.now) in
     let popped = All-pop is_ours c.loop-handle.handles.items c.pop.new.self.items (Some c.in-Some.handle) c.in-Some.ensures.items c.loop-handle.invariant.handles in
     record {
       handles = popped.0;

@@ -1,12 +1,12 @@
-use Rattle.std.proofs.Common.{◌≡◌, ◌<◌, ◌≤◌, ◌+◌, All, vec_len}
+use Rattle.std.proofs.Common.{◌≡◌, ◌<◌, ◌≤◌, ◌+◌, All, length, vec_len}
 use Rattle.ring_work.specs.Driven.{IsSpent, MayStop}
 use Rattle.ring_work.proofs.threads.join_clients.Given as goal
 
 abbrev pub invariant-loop-handle : goal.invariant-loop-handle
 invariant-loop-handle g l = record {
-  handles : All (λ h. (h.promise.0.now ≡ l.fn.gate) × (64 ≤ h.promise.1) × (h.promise.1 < 64 + l.fn.clients)) l.handles.items;
+  handles : All (λ h. (h.promise.0.value ≡ l.fn.site.job.now.gate.now) × (64 ≤ h.promise.1) × (h.promise.1 < 64 + length l.fn.site.job.now.scripts.now)) l.handles.items;
   seats : l.left.seats ≡ l.fn.left.seats;
-  spent : IsSpent l.left.refusal → MayStop (g.G.Gate.may_refuse l.fn.gate) l.fn.plan l.fn.clients;
+  spent : IsSpent l.left.refusal → MayStop (g.G.Gate.may_refuse l.fn.site.job.now.gate.now) l.fn.site.plan.now (length l.fn.site.job.now.scripts.now);
 }
 
 abbrev pub decreases-loop-handle : goal.decreases-loop-handle

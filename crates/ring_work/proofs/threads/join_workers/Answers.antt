@@ -8,7 +8,7 @@ use Rattle.ring_work.proofs.threads.join_workers.Goals as goal
 
 pub loop-handle-preserved : goal.loop-handle-preserved
 loop-handle-preserved g c =
-    let is_ours = λ (h : PromisedHandle (Sat g.row.L.Denot) AtBoard). (h.promise.0.now.id ≡ c.args.board.now.id) × (h.promise.1.now ≡ c.args.plan.now) in
+    let is_ours = λ (h : PromisedHandle (Sat g.row.L.Denot) AtBoard). (h.promise.0.value.id ≡ c.args.site.now.board.now.id) × (h.promise.1.value ≡ c.args.site.now.plan.now) in
     let popped = All-pop is_ours c.loop-handle.handles.items c.pop.new.self.items (Some c.in-Some.handle) c.in-Some.ensures.items c.loop-handle.invariant.handles in
     record {
       handles = popped.0;

@@ -2,4 +2,4 @@ use Rattle.std.proofs.Common.{◌≡◌}
 use Rattle.ring_work.proofs.worker.claim_from.Given as goal
 
 abbrev pub invariant-places : goal.invariant-places
-invariant-places l = (l.seat.board ≡ l.fn.seat.board) × (l.seat.worker ≡ l.fn.seat.worker)
+invariant-places g l = (l.seat.board ≡ l.fn.seat.board) × (l.seat.worker ≡ l.fn.seat.worker)

@@ -1,10 +1,10 @@
 use Rattle.std.proofs.Common.{◌≡◌, ◌-◌, ◌≤◌, length}
 use Rattle.script_text.specs.Reading.{events_from}
-use Rattle.script_text.proofs.reading.read_into.Given as goal
+use Rattle.script_text.proofs.speaker.Speaker.read_into.Given as goal
 
 abbrev pub invariant-events : goal.invariant-events
 invariant-events l = record {
-  rest : events_from l.by l.ring l.seen l.writers l.lines.line l.lines.lines ≡ events_from l.fn.by l.fn.ring l.fn.seen l.fn.writers l.fn.lines.line l.fn.lines.lines;
+  rest : events_from l.self l.ring l.seen l.writers l.lines.line l.lines.lines ≡ events_from l.fn.self l.fn.ring l.fn.seen l.fn.writers l.fn.lines.line l.fn.lines.lines;
   forward : l.fn.lines.line ≤ l.lines.line;
   few : length l.seen ≤ 1000000;
 }

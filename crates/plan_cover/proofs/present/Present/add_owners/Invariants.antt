@@ -5,12 +5,12 @@ use Rattle.ring_table.specs.declared.allowance.NodeSide.{NodeSide}
 use Rattle.ring_table.specs.declared.allowance.Side.TheVariants.{Give}
 use Rattle.plan_cover.specs.Looking.Numbers.{copies_kept, with_last_if}
 use Rattle.plan_cover.specs.Looking.Serving.{serving_at, owns_some, counts_at}
-use Rattle.plan_cover.proofs.cover.add_owners.Given as goal
+use Rattle.plan_cover.proofs.present.Present.add_owners.Given as goal
 
 abbrev pub invariant-slots : goal.invariant-slots
 invariant-slots l = record {
   within : list_all (λ i. nat_lt i l.ring.n) l.rest ≡ true;
-  added : (y : NodeSide) → with_last_if (counts_at l.ring Give y && owns_some (serving_at l.ring l.present) (map (λ i. record { partition = l.partition; index = i }) l.rest) y.node) l.number (copies_kept l.copies y) ≡ with_last_if (counts_at l.ring Give y && owns_some (serving_at l.ring l.present) (map (λ i. record { partition = l.partition; index = i }) l.from) y.node) l.number (copies_kept l.fn.copies y);
+  added : (y : NodeSide) → with_last_if (counts_at l.ring Give y && owns_some (serving_at l.ring l.self) (map (λ i. record { partition = l.partition; index = i }) l.rest) y.node) l.number (copies_kept l.copies y) ≡ with_last_if (counts_at l.ring Give y && owns_some (serving_at l.ring l.self) (map (λ i. record { partition = l.partition; index = i }) l.from) y.node) l.number (copies_kept l.fn.copies y);
 }
 
 abbrev pub decreases-slots : goal.decreases-slots
