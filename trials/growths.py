@@ -44,7 +44,7 @@ REFUSED = ["broken_fact", "more_chains_than_allowance", "retired_in_use", "copy_
 def people():
     """The same of the program for people."""
     for name in MADE + REFUSED:
-        for words in ("why", "show --all --racks-behind .", "draw", "bundle", "after") if name in MADE else ("why",):
+        for words in ("why", "show --all --racks-behind .", "draw", "steps", "bundle", "after") if name in MADE else ("why",):
             given = os.path.join(CRATES, "ringside_cases", "data", name + ".bundle")
             yield "%s %s, ringside" % (name, words), [SIDE, *words.split()], given, (3, b"no 60\n"), False
 

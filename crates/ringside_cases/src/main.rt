@@ -1,5 +1,5 @@
 //! Runs the program for people on the bundles that its arguments name, and prints the command, the name, the answer and the exit status of each. The words `why`, `show`,
-//! `all`, `draw`, `bundle` and `after` among them say which command is meant from there on; `all` is `show --all --racks-behind .`.
+//! `all`, `draw`, `steps`, `bundle` and `after` among them say which command is meant from there on; `all` is `show --all --racks-behind .`.
 #![tactic(auto)]
 
 use ringside_run::{Unwatched, run};
@@ -14,6 +14,7 @@ enum Asked {
     Show,
     All,
     Draw,
+    Steps,
     Bundle,
     After,
 }
@@ -26,6 +27,7 @@ fn main(rt: HostRuntime) -> io::Result<()> {
             "show" => asked = Asked::Show,
             "all" => asked = Asked::All,
             "draw" => asked = Asked::Draw,
+            "steps" => asked = Asked::Steps,
             "bundle" => asked = Asked::Bundle,
             "after" => asked = Asked::After,
             name => tell(&rt, asked, name)?,
@@ -40,6 +42,7 @@ fn word(asked: Asked) -> &'static str {
         Asked::Why => "why",
         Asked::Show | Asked::All => "show",
         Asked::Draw => "draw",
+        Asked::Steps => "steps",
         Asked::Bundle => "bundle",
         Asked::After => "after",
     }

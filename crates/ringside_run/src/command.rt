@@ -21,6 +21,9 @@ const SHOW: &str = "Prints a summary of the plan, and with a history how far it 
 
 const DRAW: &str = "Prints a picture of the plan as SVG, and with a history of how far it has come";
 
+const STEPS: &str =
+    "Prints the plan's steps as lines of JSON, for whoever carries them out on a store of his own";
+
 const ALL: &str =
     "Shows every node, round and copy; without it at most 24 nodes, 12 rounds and 6 entries of a round";
 
@@ -88,6 +91,16 @@ where a pointer rests on it; with a history what is copied, open and still to do
 
 Exit status: 0 printed, 1 no plan, one that is refused, or a history that is no run, 2 a text or the command line is refused, 3 memory, input or output";
 
+const STEPS_STREAMS: &str = "\
+Example: ringside steps < examples/plan_replace.bundle
+
+Standard input: a bundle: a ring with a change, or with a plan and its certificate.
+Standard output: an object a line, for each step in the plan's order: `step` its number, `do` its kind (`join`, `mirror`, `copy`, `switch`, `drop` or
+`retire`), `after` the numbers of the steps that must be done before it, and as far as it has them `partition` and `slot`, `node` the node that joins,
+retires or drops what it has, `from` the owners that a copy reads, and `to` the node that mirrors the slot. Members stand in the order of their names.
+
+Exit status: 0 printed, 1 no plan or one that is refused, 2 a text or the command line is refused, 3 memory, input or output";
+
 const STANDARD_INPUT: &[u8] =
     b"\nA bundle is read from standard input and from no file that is named: ringside show < FILE\n";
 
@@ -148,6 +161,9 @@ fn line_of(alloc: Global, matches: &ArgMatches) -> Result<CommandLine, AllocErro
     }
     if matches.subcommand_matches("draw").is_some() {
         return Ok(CommandLine::Do(Job::Make(Making::Draw)));
+    }
+    if matches.subcommand_matches("steps").is_some() {
+        return Ok(CommandLine::Do(Job::Make(Making::Steps)));
     }
     let Some((_, options)) = matches.subcommand() else {
         return Ok(CommandLine::Do(Job::Make(Making::Bundle)));
@@ -233,6 +249,7 @@ fn command<'a>(alloc: Global) -> Result<Command<'a>, AllocError> {
     let whys = with_job(alloc, alone, "why", WHY, WHY_STREAMS)?;
     let shows = with_show(alloc, whys)?;
     let draws = with_job(alloc, shows, "draw", DRAW, DRAW_STREAMS)?;
-    let bundles = with_job(alloc, draws, "bundle", BUNDLE, BUNDLE_STREAMS)?;
+    let steps = with_job(alloc, draws, "steps", STEPS, STEPS_STREAMS)?;
+    let bundles = with_job(alloc, steps, "bundle", BUNDLE, BUNDLE_STREAMS)?;
     with_job(alloc, bundles, "after", AFTER, AFTER_STREAMS)
 }

@@ -21,6 +21,8 @@ pub enum Making {
     Show(Wish),
     /// A picture.
     Draw,
+    /// The plan's steps as lines of JSON.
+    Steps,
 }
 
 /// What there is to be done with a bundle.

@@ -8,6 +8,7 @@ mod job;
 mod program;
 mod sections;
 mod show;
+mod steps;
 mod study;
 mod why;
 
@@ -17,5 +18,6 @@ pub use job::{Job, Making, Wish};
 pub use program::{end_without_memory, end_without_words, run};
 pub use ringplan_jobs::{Unwatched, Watch};
 pub use show::{draw_bundle, show_bundle};
+pub use steps::steps_bundle;
 pub use study::Work;
 pub use why::why_bundle;

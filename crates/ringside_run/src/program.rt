@@ -5,6 +5,7 @@ use crate::bundle::whole_bundle;
 use crate::command::{CommandLine, parse};
 use crate::job::{Job, Making};
 use crate::show::{draw_bundle, show_bundle};
+use crate::steps::steps_bundle;
 use crate::study::Work;
 use crate::why::{push_words_of, why_bundle};
 use ring_names::Refusal;
@@ -66,6 +67,7 @@ fn make_of<W: Watch>(work: &Work<W>, making: Making, bytes: &[u8]) -> Result<Vec
         Making::After => after_bundle(work, bytes),
         Making::Show(wish) => show_bundle(work, bytes, wish),
         Making::Draw => draw_bundle(work, bytes),
+        Making::Steps => steps_bundle(work, bytes),
     }
 }
 

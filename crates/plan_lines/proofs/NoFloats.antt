@@ -1,0 +1,31 @@
+-- A line has no float.
+use Rattle.std.proofs.Common.{◌≡◌, ℕ, false, List, [], ◌∷◌, map, Option, Some, None, refl}
+use Rattle.serde_json.specs.View.{items_of}
+use Rattle.serde_json.specs.Written.{has_float, items_have_float}
+use Rattle.ring_names.specs.declared.ids.NodeId.{NodeId}
+use Rattle.ring_names.specs.declared.ids.Slot.{Slot}
+use Rattle.plan_text.specs.declared.step.Step.{Step}
+use Rattle.plan_text.specs.declared.step.Step.TheVariants.{Join, Mirror, Copy, Switch, Drop, Retire}
+use Rattle.plan_stage.specs.Parties.{source_slots}
+use Rattle.plan_cover.specs.declared.present.Serving.{Serving}
+use Rattle.plan_lines.specs.Lines.{number_data, node_data, mirror_data, step_data}
+
+numbers-plain : (ns : List ℕ) → items_have_float (items_of (map number_data ns)) ≡ false
+numbers-plain [] = refl
+numbers-plain (n ∷ ns) = numbers-plain ns
+
+owners-plain : (names : List (List ℕ)) (serve : Slot → Serving) (slots : List Slot) → items_have_float (items_of (map (λ (s : Slot). node_data names (serve s).owner) slots)) ≡ false
+owners-plain names serve [] = refl
+owners-plain names serve (s ∷ ss) = owners-plain names serve ss
+
+mirror-plain : (names : List (List ℕ)) (o : Option NodeId) → has_float (mirror_data names o) ≡ false
+mirror-plain names None = refl
+mirror-plain names (Some x) = refl
+
+pub step-plain : (names : List (List ℕ)) (serve : Slot → Serving) (n : ℕ) (t : Step) (after : List ℕ) → has_float (step_data names serve n t after) ≡ false
+step-plain names serve n (Join x) after = rw (numbers-plain after) refl
+step-plain names serve n (Mirror s x) after = rw (numbers-plain after) refl
+step-plain names serve n (Copy s source) after = rw (numbers-plain after, owners-plain names serve (source_slots s source), mirror-plain names (serve s).mirror) refl
+step-plain names serve n (Switch s) after = rw (numbers-plain after) refl
+step-plain names serve n (Drop s x) after = rw (numbers-plain after) refl
+step-plain names serve n (Retire x) after = rw (numbers-plain after) refl
