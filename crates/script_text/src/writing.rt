@@ -91,6 +91,14 @@ fn push_numbered(out: &mut Vec<u8>, word: &[u8], numbers: &[u32]) -> Result<(), 
     push_numbers(out, numbers)
 }
 
+// A word, and another one behind it.
+fn push_worded(out: &mut Vec<u8>, word: &[u8], text: &[u8]) -> Result<(), AllocError>
+    ensures { OnOk result (out.new.items ≡ out.old.items ++ word.now ++ 32 ∷ text.now) }
+{
+    out.extend_from_slice(word)?;
+    push_word(out, text)
+}
+
 // A word, and a node behind it.
 fn push_node(out: &mut Vec<u8>, ring: &Ring, word: &[u8], node: NodeId) -> Result<(), AllocError>
     ensures { OnOk result (out.new.items ≡ out.old.items ++ word.now ++ 32 ∷ name_at (names_of ring.now) node) }
@@ -128,10 +136,7 @@ pub fn push_event(
             push_name(out, ring.nodes(), *node)
         }
         Event::Ack(put) => push_numbered(out, b"ack", &[*put]),
-        Event::StartGet(key) => {
-            out.extend_from_slice(b"get")?;
-            push_word(out, key.as_slice())
-        }
+        Event::StartGet(key) => push_worded(out, b"get", key.as_slice()),
         Event::Read(get, index) => push_numbered(out, b"read", &[*get, *index]),
         Event::EndGet(get) => push_numbered(out, b"endget", &[*get]),
         Event::Down(node) => push_node(out, ring, b"down", *node),
