@@ -99,6 +99,25 @@ fn are_same<RT: Abort>(rt: &RT, one: &[Listed<NodeId>], other: &[Listed<NodeId>]
     }
 }
 
+// The store has these owners.
+fn owns<RT: Abort>(rt: &RT, world: &World, owners: &[Listed<NodeId>]) -> Result<(), Fail> {
+    let again = world.table()?;
+    are_same(rt, owners, again.as_slice());
+    Ok(())
+}
+
+// The store behind the history has these owners.
+fn owned_again<RT: AllocGlobal + Abort>(
+    rt: &RT,
+    approved: &Approved,
+    history: &[Entry],
+    owners: &[Listed<NodeId>],
+) -> Result<(), Fail> {
+    assert!(rt; history.len() < 1000);
+    let again = replay(rt.alloc(), approved, history)?;
+    owns(rt, &again, owners)
+}
+
 // The store behind the history has the same owners.
 fn replayed<RT: AllocGlobal + Abort>(
     rt: &RT,
@@ -106,12 +125,8 @@ fn replayed<RT: AllocGlobal + Abort>(
     world: &World,
     history: &[Entry],
 ) -> Result<(), Fail> {
-    assert!(rt; history.len() < 1000);
-    let again = replay(rt.alloc(), approved, history)?;
     let owners = world.table()?;
-    let owners_again = again.table()?;
-    are_same(rt, owners.as_slice(), owners_again.as_slice());
-    Ok(())
+    owned_again(rt, approved, history, owners.as_slice())
 }
 
 // The events happen to a store, and what was answered is replayed.

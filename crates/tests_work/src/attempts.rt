@@ -55,7 +55,20 @@ fn put_and_get<'a, L: RunLedger, R: AllocGlobal + Wait>(
     Ok((came(alloc, put, b"ok")?, came(alloc, get, b"reply 0")?))
 }
 
-// The same where these nodes are down.
+// The same where these nodes go down in front of it.
+fn put_and_get_without<'a, L: RunLedger, R: AllocGlobal + Wait>(
+    rt: &R,
+    executor: &Executor<'a, L>,
+    share: &mut Share<L>,
+    down: &[NodeId],
+) -> Result<(Came, Came), Refusal> {
+    for node in down {
+        executor.submit(rt, &Event::Down(*node), share)?;
+    }
+    put_and_get(rt, executor, share)
+}
+
+// The same at a store of its own.
 fn without<L: RunLedger, R: AllocGlobal + Wait>(
     rt: &R,
     blank: Blank,
@@ -69,10 +82,7 @@ fn without<L: RunLedger, R: AllocGlobal + Wait>(
     requires plan { approved.now.plan ≡ L.plan }
 {
     let (executor, mut share) = Executor::<L>::new(rt.alloc(), blank, approved)?;
-    for node in down {
-        executor.submit(rt, &Event::Down(*node), &mut share)?;
-    }
-    put_and_get(rt, &executor, &mut share)
+    put_and_get_without(rt, &executor, &mut share, down)
 }
 
 fn with_down<R: AllocGlobal + Wait>(rt: &R, down: &[NodeId]) -> Result<(Came, Came), Refusal> {
