@@ -1,8 +1,7 @@
 //! Which slots move, and which nodes enter their partitions.
 
-use crate::groups::Groups;
 use crate::members::{Members, Role};
-use crate::numbers::{at, lower, raise, set, small};
+use plan_rounds::{Groups, Layout, at, lower, raise, set, small};
 use ring_names::{Lists, Refusal};
 use ring_table::Ring;
 use std::alloc::Global;
@@ -10,15 +9,10 @@ use std::alloc::Global;
 /// Which slots move, and which nodes enter each partition in their place.
 #[derive(Drop)]
 pub struct Choice {
-    /// How many partitions there are, and how many slots each of them has.
-    pub partitions: usize,
-    pub slots: usize,
-    // the owners of all slots, partition by partition
-    owners: Vec<u32>,
+    /// The owners of all slots, and which of these move.
+    pub layout: Layout,
     // the places of the slots of each owner
     owned: Lists<u32, u32>,
-    // of each slot 1 where it moves, and else 0
-    moving: Vec<u32>,
     // how many slots of each partition move
     counts: Vec<u32>,
     // the nodes that enter, in as many places for each partition as it has slots
@@ -35,11 +29,8 @@ impl Choice {
     /// No slot is known yet.
     pub fn new(alloc: Global, ring: &Ring) -> Choice {
         Choice {
-            partitions: ring.rows().len(),
-            slots: ring.n() as usize,
-            owners: Vec::new(alloc),
+            layout: Layout::new(alloc, ring),
             owned: Lists::new(alloc),
-            moving: Vec::new(alloc),
             counts: Vec::new(alloc),
             entering: Vec::new(alloc),
             entered: Vec::new(alloc),
@@ -50,15 +41,15 @@ impl Choice {
 
     /// The slots of the nodes that leave move, and nobody enters yet.
     pub fn begin(&mut self, alloc: Global, ring: &Ring, members: &Members) -> Result<(), Refusal> {
-        self.own(ring)?;
-        self.moving = vec![in alloc; 0u32; self.total()]?;
-        self.counts = vec![in alloc; 0u32; self.partitions]?;
-        self.entering = vec![in alloc; 0u32; self.total()]?;
-        self.entered = vec![in alloc; 0u32; self.partitions]?;
+        self.layout.fill(ring)?;
+        self.own()?;
+        self.counts = vec![in alloc; 0u32; self.layout.partitions]?;
+        self.entering = vec![in alloc; 0u32; self.layout.total()]?;
+        self.entered = vec![in alloc; 0u32; self.layout.partitions]?;
         self.load = vec![in alloc; 0u32; members.count() as usize]?;
         self.copies = vec![in alloc; 0u32; members.groups.len()]?;
-        for place in 0..self.total() {
-            let owner = at(&self.owners, place);
+        for place in 0..self.layout.total() {
+            let owner = self.layout.owner(place);
             raise(&mut self.load, owner as usize);
             if members.role(owner) == Role::Leaves {
                 self.give(&members.groups, place);
@@ -67,38 +58,12 @@ impl Choice {
         Ok(())
     }
 
-    // The owners of all slots, and what each of them owns.
-    fn own(&mut self, ring: &Ring) -> Result<(), Refusal> {
-        for row in ring.rows() {
-            for owner in row.as_slice() {
-                self.owned.add(owner.0, small(self.owners.len()))?;
-                self.owners.push(owner.0)?;
-            }
+    // What each owner owns.
+    fn own(&mut self) -> Result<(), Refusal> {
+        for place in 0..self.layout.total() {
+            self.owned.add(self.layout.owner(place), small(place))?;
         }
         Ok(())
-    }
-
-    /// The place of a slot among all.
-    pub fn place(&self, partition: usize, index: usize) -> usize {
-        partition.saturating_mul(self.slots).saturating_add(index)
-    }
-
-    /// The partition of the slot at the place.
-    pub fn partition(&self, place: usize) -> usize {
-        match place.checked_div(self.slots) {
-            Some(partition) => partition,
-            None => 0,
-        }
-    }
-
-    /// How many slots there are.
-    pub fn total(&self) -> usize {
-        self.owners.len()
-    }
-
-    /// The owner of the slot at the place.
-    pub fn owner(&self, place: usize) -> u32 {
-        at(&self.owners, place)
     }
 
     /// The places of the slots that the node owns.
@@ -106,16 +71,11 @@ impl Choice {
         self.owned.items(&node)
     }
 
-    /// Whether the slot at the place moves.
-    pub fn moves(&self, place: usize) -> bool {
-        at(&self.moving, place) != 0
-    }
-
     /// Lets the slot at the place move away from its owner.
     pub fn give(&mut self, groups: &Groups, place: usize) {
-        let owner = at(&self.owners, place);
-        let partition = self.partition(place);
-        set(&mut self.moving, place, 1);
+        let owner = self.layout.owner(place);
+        let partition = self.layout.partition(place);
+        self.layout.let_move(place, true);
         raise(&mut self.counts, partition);
         lower(&mut self.load, owner as usize);
         raise(&mut self.copies, groups.giver(owner));
@@ -123,9 +83,9 @@ impl Choice {
 
     /// Lets the slot at the place stay with its owner after all.
     pub fn keep(&mut self, groups: &Groups, place: usize) {
-        let owner = at(&self.owners, place);
-        let partition = self.partition(place);
-        set(&mut self.moving, place, 0);
+        let owner = self.layout.owner(place);
+        let partition = self.layout.partition(place);
+        self.layout.let_move(place, false);
         lower(&mut self.counts, partition);
         raise(&mut self.load, owner as usize);
         lower(&mut self.copies, groups.giver(owner));
@@ -134,7 +94,7 @@ impl Choice {
     /// Lets the node enter the partition.
     pub fn enter(&mut self, groups: &Groups, partition: usize, node: u32) {
         let count = at(&self.entered, partition);
-        let place = self.place(partition, count as usize);
+        let place = self.layout.place(partition, count as usize);
         set(&mut self.entering, place, node);
         raise(&mut self.entered, partition);
         raise(&mut self.load, node as usize);
@@ -143,8 +103,8 @@ impl Choice {
 
     /// Whether the node owns a slot of the partition, one that moves too.
     pub fn owns(&self, partition: usize, node: u32) -> bool {
-        for index in 0..self.slots {
-            if at(&self.owners, self.place(partition, index)) == node {
+        for index in 0..self.layout.slots {
+            if self.layout.owner(self.layout.place(partition, index)) == node {
                 return true;
             }
         }
@@ -164,7 +124,7 @@ impl Choice {
     /// Lets one node enter the partition in the place of another.
     pub fn replace(&mut self, groups: &Groups, partition: usize, old: u32, new: u32) {
         for turn in 0..at(&self.entered, partition) as usize {
-            let place = self.place(partition, turn);
+            let place = self.layout.place(partition, turn);
             if at(&self.entering, place) == old {
                 set(&mut self.entering, place, new);
                 lower(&mut self.load, old as usize);
@@ -183,7 +143,7 @@ impl Choice {
 
     /// The node that enters the partition at that place among those that do.
     pub fn entering(&self, partition: usize, place: usize) -> u32 {
-        at(&self.entering, self.place(partition, place))
+        at(&self.entering, self.layout.place(partition, place))
     }
 
     /// How many slots of the partition move.
@@ -193,7 +153,7 @@ impl Choice {
 
     /// How many more slots of the partition could move to members that join: each of them owns at most one.
     pub fn room(&self, members: &Members, partition: usize) -> u32 {
-        small(members.joiners.len().min(self.slots)).saturating_sub(self.moving(partition))
+        small(members.joiners.len().min(self.layout.slots)).saturating_sub(self.moving(partition))
     }
 
     /// How many slots the member owns in the end.

@@ -1,10 +1,9 @@
 //! The members that give slots to those that join, the one with most in front.
 
 use crate::choice::Choice;
-use crate::groups::Groups;
 use crate::members::{Members, Role};
-use crate::numbers::{at, raise, small};
 use crate::ranked::Ranked;
+use plan_rounds::{Groups, at, raise, small};
 use ring_names::Refusal;
 use std::alloc::Global;
 use std::cmp::Reverse;
@@ -46,7 +45,9 @@ impl Givers {
         for turn in from..small(places.len()) {
             raise(&mut self.looked, node as usize);
             let place = at(places, turn as usize) as usize;
-            if !choice.moves(place) && choice.room(members, choice.partition(place)) > 0 {
+            if !choice.layout.moves(place)
+                && choice.room(members, choice.layout.partition(place)) > 0
+            {
                 return Some(place);
             }
         }

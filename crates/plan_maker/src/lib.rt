@@ -3,22 +3,12 @@
 #![tactic(auto)]
 
 mod choice;
-mod colours;
 mod givers;
-mod groups;
-mod listed;
 mod maker;
 mod members;
 mod mending;
 mod moves;
-mod numbers;
 mod ranked;
-mod round_sets;
-mod rounds;
-mod steps;
 mod takers;
-mod task;
-mod urgency;
-mod writing;
 
 pub use maker::make;

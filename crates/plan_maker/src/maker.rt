@@ -2,40 +2,37 @@
 
 use crate::choice::Choice;
 use crate::members::Members;
-use crate::moves::{Move, moves};
-use crate::rounds::Schedule;
-use crate::task::Task;
-use crate::writing::write;
+use crate::moves::moves;
 use plan_cert::Cert;
+use plan_rounds::{Move, Schedule, Task, Turnover, write};
 use plan_text::Plan;
 use ring_names::{NodeId, Refusal};
 use ring_table::Ring;
 use std::alloc::Global;
 
 // The plan of these moves.
-fn make_of_moves(
-    alloc: Global,
-    choice: &Choice,
-    members: &Members,
-    moves: &[Move],
-    reads: u32,
-) -> Result<(Plan, Cert), Refusal> {
-    let mut schedule = Schedule::new(alloc);
-    schedule.fill(&Task {
-        alloc,
-        choice,
-        groups: &members.groups,
-        moves,
-        reads,
-    })?;
-    write(alloc, members, moves, &schedule)
+fn make_of_moves(task: &Task, members: &Members) -> Result<(Plan, Cert), Refusal> {
+    let mut schedule = Schedule::new(task.alloc);
+    schedule.fill(task)?;
+    let turnover = Turnover {
+        joins: members.joiners.as_slice(),
+        retires: members.leavers.as_slice(),
+    };
+    write(task, &schedule, &turnover)
 }
 
 // The plan of the members' change.
 fn make_of_members(alloc: Global, ring: &Ring, members: &Members) -> Result<(Plan, Cert), Refusal> {
     let mut choice = Choice::new(alloc, ring);
     let moves = moves(alloc, ring, &mut choice, members)?;
-    make_of_moves(alloc, &choice, members, &moves, ring.r())
+    let task = Task {
+        alloc,
+        layout: &choice.layout,
+        groups: &members.groups,
+        moves: moves.as_slice(),
+        reads: ring.r(),
+    };
+    make_of_moves(&task, members)
 }
 
 /// A plan after which the nodes of `joins` are members and those of `leaves` are none, with its certificate.

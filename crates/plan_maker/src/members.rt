@@ -1,7 +1,6 @@
 //! What a change does to each node.
 
-use crate::groups::Groups;
-use crate::numbers::{at, small};
+use plan_rounds::{Groups, at, small};
 use ring_names::{NodeId, Refusal};
 use ring_table::Ring;
 use std::alloc::Global;
@@ -24,8 +23,9 @@ pub enum Role {
 pub struct Members {
     // by number
     roles: Vec<Role>,
-    /// Those that join, by number.
+    /// Those that join, and those that leave, by number.
     pub joiners: Vec<u32>,
+    pub leavers: Vec<u32>,
     /// How many members there are in the end.
     pub after: u32,
     /// The groups of all nodes.
@@ -38,6 +38,7 @@ impl Members {
         Members {
             roles: Vec::new(alloc),
             joiners: Vec::new(alloc),
+            leavers: Vec::new(alloc),
             after: 0,
             groups: Groups::new(alloc),
         }
@@ -67,7 +68,7 @@ impl Members {
         self.groups.fill(ring)
     }
 
-    // The members that join, and how many there are in the end.
+    // The members that join and those that leave, and how many there are in the end.
     fn count_after(&mut self) -> Result<(), Refusal> {
         let mut node = 0u32;
         for role in self.roles.iter() {
@@ -76,8 +77,9 @@ impl Members {
                     self.joiners.push(node)?;
                     self.after = self.after.saturating_add(1);
                 }
+                Role::Leaves => self.leavers.push(node)?,
                 Role::Stays => self.after = self.after.saturating_add(1),
-                Role::Absent | Role::Leaves => {}
+                Role::Absent => {}
             }
             node = node.saturating_add(1);
         }

@@ -5,7 +5,7 @@
 
 use crate::choice::Choice;
 use crate::members::{Members, Role};
-use crate::numbers::{at, set, small};
+use plan_rounds::{at, set, small};
 use ring_names::Refusal;
 use std::alloc::Global;
 
@@ -85,7 +85,7 @@ impl<'a> Mending<'a> {
         self.met.clear();
         self.met.push(node)?;
         self.unused.clear();
-        for partition in 0..small(choice.partitions) {
+        for partition in 0..small(choice.layout.partitions) {
             if choice.entered(partition as usize) > 0 {
                 self.unused.push(partition)?;
             }
@@ -149,11 +149,11 @@ impl<'a> Mending<'a> {
         partition: usize,
         given: usize,
     ) -> Result<(), Refusal> {
-        for index in 0..choice.slots {
-            let place = choice.place(partition, index);
-            if !choice.moves(place) {
+        for index in 0..choice.layout.slots {
+            let place = choice.layout.place(partition, index);
+            if !choice.layout.moves(place) {
                 let by = Exchange::Gives(place, given);
-                self.meet(first, choice.owner(place), Link { to: node, by })?;
+                self.meet(first, choice.layout.owner(place), Link { to: node, by })?;
             }
         }
         Ok(())
@@ -167,8 +167,8 @@ impl<'a> Mending<'a> {
         let mut given = None;
         for place in choice.places(node) {
             let place = *place as usize;
-            if choice.moves(place) {
-                self.meet_givers(choice, first, node, choice.partition(place), place)?;
+            if choice.layout.moves(place) {
+                self.meet_givers(choice, first, node, choice.layout.partition(place), place)?;
                 given = given.or(Some(place));
             }
         }
@@ -187,7 +187,7 @@ impl<'a> Mending<'a> {
         given: usize,
     ) -> Result<(), Refusal> {
         self.has_room = false;
-        for partition in 0..choice.partitions {
+        for partition in 0..choice.layout.partitions {
             if choice.room(self.members, partition) > 0 {
                 self.meet_givers(choice, first, node, partition, given)?;
             }
@@ -245,7 +245,10 @@ impl<'a> Mending<'a> {
     // Shifts slots as long as some path leads from a member to one with at least two fewer.
     fn mend(&mut self, alloc: Global, choice: &mut Choice) -> Result<(), Refusal> {
         self.frozen = vec![in alloc; 0u32; self.members.count() as usize]?;
-        let turns = choice.total().saturating_add(self.members.count() as usize);
+        let turns = choice
+            .layout
+            .total()
+            .saturating_add(self.members.count() as usize);
         for _ in 0..turns {
             let Some(first) = self.poorest(choice) else {
                 break;

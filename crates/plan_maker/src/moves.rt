@@ -4,23 +4,15 @@ use crate::choice::Choice;
 use crate::givers::give;
 use crate::members::Members;
 use crate::mending::mend;
-use crate::numbers::small;
 use crate::takers::enter;
+use plan_rounds::{Move, small};
 use ring_names::{Refusal, Slot};
 use ring_table::Ring;
 use std::alloc::Global;
 
-/// A slot that goes from its owner to another node.
-#[derive(Clone, Copy, Drop)]
-pub struct Move {
-    pub slot: Slot,
-    pub from: u32,
-    pub to: u32,
-}
-
 // How many slots a member that joins shall own at least: its part of all, rounded down.
 fn fair_share(choice: &Choice, members: &Members) -> u32 {
-    let total = small(choice.total());
+    let total = small(choice.layout.total());
     match total.checked_div(members.after) {
         Some(share) => share,
         None => 0,
@@ -31,7 +23,7 @@ fn fair_share(choice: &Choice, members: &Members) -> u32 {
 fn handed_over(choice: &Choice, members: &Members) -> u32 {
     let joiners = small(members.joiners.len());
     let mut count = 0u32;
-    for partition in 0..choice.partitions {
+    for partition in 0..choice.layout.partitions {
         count = count.saturating_add(choice.moving(partition).min(joiners));
     }
     count
@@ -40,7 +32,7 @@ fn handed_over(choice: &Choice, members: &Members) -> u32 {
 // Those that join enter in turn, as many as there are slots that move and have nobody yet.
 fn join_in_turn(choice: &mut Choice, members: &Members) {
     let mut turn = 0usize;
-    for partition in 0..choice.partitions {
+    for partition in 0..choice.layout.partitions {
         let count = choice
             .moving(partition)
             .saturating_sub(choice.entered(partition));
@@ -68,17 +60,17 @@ fn choose(alloc: Global, choice: &mut Choice, members: &Members) -> Result<(), R
 // The slots that move, each with a node that enters its partition, by partition and index.
 fn paired(alloc: Global, choice: &Choice) -> Result<Vec<Move>, Refusal> {
     let mut moves = Vec::new(alloc);
-    for partition in 0..choice.partitions {
+    for partition in 0..choice.layout.partitions {
         let mut turn = 0usize;
-        for index in 0..choice.slots {
-            let place = choice.place(partition, index);
-            if choice.moves(place) {
+        for index in 0..choice.layout.slots {
+            let place = choice.layout.place(partition, index);
+            if choice.layout.moves(place) {
                 moves.push(Move {
                     slot: Slot {
                         partition: small(partition),
                         index: small(index),
                     },
-                    from: choice.owner(place),
+                    from: choice.layout.owner(place),
                     to: choice.entering(partition, turn),
                 })?;
                 turn = turn.saturating_add(1);

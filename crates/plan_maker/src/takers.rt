@@ -2,8 +2,8 @@
 
 use crate::choice::Choice;
 use crate::members::{Members, Role};
-use crate::numbers::small;
 use crate::ranked::Ranked;
+use plan_rounds::small;
 use ring_names::Refusal;
 use std::alloc::Global;
 use std::cmp::Reverse;
@@ -101,7 +101,7 @@ pub fn enter(
     takers.gather(choice, members, with_joiners)?;
     let joiners = small(members.joiners.len());
     let spared = if with_joiners { 0 } else { joiners };
-    for partition in 0..choice.partitions {
+    for partition in 0..choice.layout.partitions {
         let count = choice.moving(partition).saturating_sub(spared);
         takers.enter(choice, members, partition, count)?;
     }

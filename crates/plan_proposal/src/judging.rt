@@ -1,18 +1,15 @@
 //! Whether a plan may be proposed for a change.
 
-ghost use Rattle.std.specs.Prelude.{◌≡◌, ◌++◌, ◌↔◌, IsTrue, IfOk, IfErr};
+ghost use Rattle.std.specs.Prelude.{◌≡◌, ◌↔◌, IsTrue, IfOk, IfErr};
 ghost use Rattle.ring_names.specs.declared.refusal.Refusal.TheVariants.{OutOfMemory};
-ghost use Rattle.plan_text.specs.Spelling.{plan_text};
-ghost use Rattle.plan_text.specs.Valid.{Suits as PlanSuits};
-ghost use Rattle.plan_cert.specs.Spelling.{cert_text};
-ghost use Rattle.plan_cert.specs.Valid.{Suits as CertSuits};
 ghost use Rattle.plan_check.specs.Certified.{IsCertified};
 ghost use Rattle.plan_proposal.specs.Proposals.{Makes, IsProposed, IsTurnedAway};
 
 use change_text::Change;
-use plan_cert::{Cert, write_cert};
+use plan_cert::Cert;
 use plan_check::{Turned, check};
-use plan_text::{Plan, write_plan};
+use plan_rounds::write_texts;
+use plan_text::Plan;
 use ring_names::Refusal;
 use ring_table::Ring;
 use std::alloc::Global;
@@ -31,19 +28,6 @@ fn makes(ring: &Ring, change: &Change, plan: &Plan, cert: &Cert) -> bool
     plan.suits(ring)
         && cert.suits(ring)
         && plan.fulfils(change.joins.as_slice(), change.leaves.as_slice())
-}
-
-// The plan's text, and behind it the certificate's.
-fn write(alloc: Global, ring: &Ring, plan: &Plan, cert: &Cert) -> Result<Vec<u8>, Refusal>
-    requires plan_suits { PlanSuits ring.now plan.now }
-    requires cert_suits { CertSuits ring.now cert.now }
-    ensures text { IfOk result (λ v. v.items ≡ plan_text ring.now plan.now ++ cert_text ring.now cert.now) }
-    ensures memory { IfErr result (λ e. e ≡ OutOfMemory) }
-{
-    let mut out = write_plan(alloc, ring, plan)?;
-    let claims = write_cert(alloc, ring, cert)?;
-    out.extend_from_slice(claims.as_slice())?;
-    Ok(out)
 }
 
 /// The text to propose, where the plan makes the change and the checker accepts it by the certificate. Refused otherwise, the ring
@@ -68,7 +52,7 @@ pub fn judge(
         let refusal = Refusal::NoPlan;
         return Err(Rejected { ring, refusal });
     }
-    let text = match write(alloc, &ring, &plan, &cert) {
+    let text = match write_texts(alloc, &ring, &plan, &cert) {
         Ok(text) => text,
         Err(refusal) => return Err(Rejected { ring, refusal }),
     };

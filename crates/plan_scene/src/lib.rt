@@ -4,7 +4,6 @@
 
 mod change;
 mod copies;
-mod least;
 mod loads;
 mod names;
 mod numbers;

@@ -1,10 +1,10 @@
 //! What each node owns, gives, takes and may bear.
 
 use crate::copies::Copies;
-use crate::least::Order;
 use crate::numbers::{at, raise};
 use crate::shown::AllShown;
 use plan_cert::Cert;
+use plan_chains::Order;
 use plan_moves::owned;
 use plan_text::Plan;
 use ring_names::{Listed, NodeId, Refusal};

@@ -1,27 +1,12 @@
 //! Lists of numbers, read and written by place.
 
+pub use plan_chains::{at, small};
 use ring_names::Rows;
-
-/// The number at the place, and 0 where there is none.
-pub fn at(numbers: &[u32], place: usize) -> u32 {
-    match numbers.get(place) {
-        Some(number) => *number,
-        None => 0,
-    }
-}
 
 /// One more at the place, if there is one.
 pub fn raise(numbers: &mut [u32], place: usize) {
     if let Some(number) = numbers.get_mut(place) {
         *number = number.saturating_add(1);
-    }
-}
-
-/// The number where it is a `u32`, and the greatest `u32` where it is not.
-pub fn small(number: usize) -> u32 {
-    match u32::try_from(number) {
-        Ok(number) => number,
-        Err(_) => u32::MAX,
     }
 }
 

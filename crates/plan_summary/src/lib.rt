@@ -10,4 +10,5 @@ mod running;
 mod table;
 mod writing;
 
+pub use domains::rack;
 pub use overview::{Shape, View, summary};

@@ -1,5 +1,5 @@
 //! Runs the program for people on the bundles that its arguments name, and prints the command, the name, the answer and the exit status of each. The words `why`, `show`,
-//! `all`, `draw`, `steps`, `bundle` and `after` among them say which command is meant from there on; `all` is `show --all --racks-behind .`.
+//! `all`, `draw`, `steps`, `bundle`, `cert` and `after` among them say which command is meant from there on; `all` is `show --all --racks-behind .`.
 #![tactic(auto)]
 
 use ringside_run::{Unwatched, run};
@@ -16,7 +16,12 @@ enum Asked {
     Draw,
     Steps,
     Bundle,
+    Cert,
     After,
+    Goal,
+    Even,
+    Dead,
+    Windows,
 }
 
 fn main(rt: HostRuntime) -> io::Result<()> {
@@ -29,7 +34,12 @@ fn main(rt: HostRuntime) -> io::Result<()> {
             "draw" => asked = Asked::Draw,
             "steps" => asked = Asked::Steps,
             "bundle" => asked = Asked::Bundle,
+            "cert" => asked = Asked::Cert,
             "after" => asked = Asked::After,
+            "goal" => asked = Asked::Goal,
+            "even" => asked = Asked::Even,
+            "dead" => asked = Asked::Dead,
+            "windows" => asked = Asked::Windows,
             name => tell(&rt, asked, name)?,
         }
     }
@@ -44,7 +54,28 @@ fn word(asked: Asked) -> &'static str {
         Asked::Draw => "draw",
         Asked::Steps => "steps",
         Asked::Bundle => "bundle",
+        Asked::Cert => "cert",
         Asked::After => "after",
+        Asked::Goal | Asked::Even | Asked::Dead => "goal",
+        Asked::Windows => "windows",
+    }
+}
+
+// The words of the command line.
+fn words(asked: Asked) -> &'static [&'static str] {
+    match asked {
+        Asked::Why => &["ringside", "why"],
+        Asked::Show => &["ringside", "show"],
+        Asked::All => &["ringside", "show", "--all", "--racks-behind", "."],
+        Asked::Draw => &["ringside", "draw"],
+        Asked::Steps => &["ringside", "steps"],
+        Asked::Bundle => &["ringside", "bundle"],
+        Asked::Cert => &["ringside", "cert"],
+        Asked::After => &["ringside", "after"],
+        Asked::Goal => &["ringside", "goal", "--racks-behind", "."],
+        Asked::Even => &["ringside", "goal", "--even", "--racks-behind", "."],
+        Asked::Dead => &["ringside", "goal", "--dead", "b"],
+        Asked::Windows => &["ringside", "windows", "--rounds", "2"],
     }
 }
 
@@ -56,23 +87,7 @@ fn said<RT: Runtime + AllocGlobal>(
     kept: &mut Vec<u8>,
 ) -> io::Result<u8> {
     let mut bundle = File::open(rt, path)?;
-    let status = match asked {
-        Asked::All => run(
-            rt.alloc(),
-            &["ringside", "show", "--all", "--racks-behind", "."],
-            &mut bundle,
-            kept,
-            &Unwatched,
-        ),
-        _ => run(
-            rt.alloc(),
-            &["ringside", word(asked)],
-            &mut bundle,
-            kept,
-            &Unwatched,
-        ),
-    };
-    Ok(status)
+    Ok(run(rt.alloc(), words(asked), &mut bundle, kept, &Unwatched))
 }
 
 // Prints the command, the name of a bundle, the program's answer to it and the exit status.

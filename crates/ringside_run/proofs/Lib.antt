@@ -1,2 +1,4 @@
--- What is proved of the ring behind a plan.
+-- What is proved of rings behind plans, and of certificates.
 pub mod Members
+pub mod Fronts
+pub mod Named

@@ -16,7 +16,11 @@ IsRingOf text rows members = (ring : RingValue) × IsRing ring × (text ≡ ring
 abbrev pub member_after : RingValue → List Planned → NodeId → Bool
 member_after ring plan x = (is_member ring.nodes x || has x.0 (joined plan)) && not (has x.0 (retired plan))
 
+-- what a test answers of the first numbers
+unfoldable pub flags : (ℕ → Bool) → ℕ → List Bool
+flags test zero = []
+flags test (suc x) = flags test x ++ test x ∷ []
+
 -- the same of the first nodes
-unfoldable pub members_after : RingValue → List Planned → ℕ → List Bool
-members_after ring plan zero = []
-members_after ring plan (suc x) = members_after ring plan x ++ member_after ring plan (record { 0 = x }) ∷ []
+abbrev pub members_after : RingValue → List Planned → ℕ → List Bool
+members_after ring plan = flags (λ x. member_after ring plan (record { 0 = x }))

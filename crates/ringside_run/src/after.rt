@@ -270,8 +270,8 @@ fn is_row(found: &[NodeId], wanted: &[NodeId]) -> bool
     true
 }
 
-// Whether each partition has these owners.
-fn are_rows(found: &[Listed<NodeId>], wanted: &[Listed<NodeId>]) -> bool
+/// Whether each partition has these owners.
+pub fn are_rows(found: &[Listed<NodeId>], wanted: &[Listed<NodeId>]) -> bool
     ensures { IsTrue result → found.now ≡ wanted.now }
 {
     if found.len() != wanted.len() {
@@ -316,8 +316,8 @@ fn held(
     Err(Refusal::BadLine(0))
 }
 
-// A ring's text with these owners and members in the place of its own.
-fn rewritten(
+/// A ring's text with these owners and members in the place of its own.
+pub fn rewritten(
     alloc: Global,
     nodes: &[Node],
     text: &[u8],

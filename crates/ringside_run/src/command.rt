@@ -1,6 +1,7 @@
 //! The command line.
 
-use crate::job::{Job, Making, Wish};
+use crate::job::{Cut, Job, Making, Wish};
+use crate::options::{Options, number_to};
 use clap::error::ErrorKind;
 use clap::{Arg, ArgAction, ArgMatches, Command, Error};
 use plan_summary::Shape;
@@ -14,6 +15,9 @@ const WHY: &str = "Says why a bundle is refused: the lines concerned, and lines 
 
 const BUNDLE: &str =
     "Prints ring, plan and certificate in one text; a plan is made first where there is a change";
+
+const CERT: &str =
+    "Prints ring and plan with a certificate that is found, whether or not one stands behind them";
 
 const AFTER: &str = "Prints the ring that the plan leaves, or what a history has done of it";
 
@@ -29,6 +33,34 @@ const ALL: &str =
 
 const RACKS: &str =
     "Says how many partitions have two slots in one rack, which is what stands behind the last C of a node's name";
+
+const GOAL: &str =
+    "Prints a plan that leads to the ring that is wished for, with its certificate, around nodes that are dead for good";
+
+const DEAD: &str =
+    "A node that is dead for good: its slots are read from others, and it is not dropped from and does not retire";
+
+const WEIGHT: &str =
+    "A node's name, `=` and how many parts of the slots it shall have, 1 to 1000; the others have 1";
+
+const RACKS_APART: &str =
+    "Keeps the slots of a partition in different racks, as far as can be; a rack is what stands behind the last C of a node's name";
+
+const EVEN: &str =
+    "Says in words how far from even the ring is that is wished for, in place of a plan";
+
+const WINDOWS: &str =
+    "Prints the plan cut into bundles that are done one behind the other, each over the ring that the one before leaves";
+
+const ROUNDS: &str = "How many rounds of copies a window has, 1 to 1000000";
+
+const ONLY: &str = "Prints the window of that number alone, counted from 1";
+
+const NO_NUMBER: &[u8; 90] =
+    b"error: invalid value: not a number from 1 to 1000000\n\nFor more information, try '--help'.\n";
+
+const NO_WEIGHT: &[u8; 127] =
+    b"error: invalid value for '--weight <NODE=K>': not a name, '=' and a number from 1 to 1000\n\nFor more information, try '--help'.\n";
 
 const NO_BYTE: &[u8; 102] =
     b"error: invalid value for '--racks-behind <C>': not one character\n\nFor more information, try '--help'.\n";
@@ -61,6 +93,15 @@ Example: ringside bundle < examples/plan_replace.bundle > planned.bundle
 
 Standard input: a bundle: a ring with a change, or with a plan and its certificate.
 Standard output: the texts of the ring, a plan and its certificate, which `ringplan check` accepts; else what `why` prints.
+
+Exit status: 0 printed, 1 no plan or one that is refused, 2 a text or the command line is refused, 3 memory, input or output";
+
+const CERT_STREAMS: &str = "\
+Example: ringside cert < examples/no_certificate.bundle > certified.bundle
+
+Standard input: a bundle: a ring with a change, or with a plan. What stands behind the plan, as a certificate, is not read.
+Standard output: the texts of the ring, the plan and a certificate that is found for it, which `ringplan check` accepts; else what `why` prints of the
+bundle with the best certificate that was found. Chains are as few as the plan's order allows, so where a node has too many there, none can do.
 
 Exit status: 0 printed, 1 no plan or one that is refused, 2 a text or the command line is refused, 3 memory, input or output";
 
@@ -100,6 +141,25 @@ Standard output: an object a line, for each step in the plan's order: `step` its
 retires or drops what it has, `from` the owners that a copy reads, and `to` the node that mirrors the slot. Members stand in the order of their names.
 
 Exit status: 0 printed, 1 no plan or one that is refused, 2 a text or the command line is refused, 3 memory, input or output";
+
+const GOAL_STREAMS: &str = "\
+Example: ringside goal --dead b < examples/goal_around_a_dead_node.bundle > plan.bundle
+
+Standard input: a bundle: the text of a ring, and behind it that of the ring that it shall become, with the same nodes, partitions and quorums; or that of a
+change, and then the ring that it shall become is made: no slot moves that need not, and what moves goes where it keeps racks apart and slots even by weight.
+Standard output: the texts of the first ring, a plan that leads to the other, and its certificate, which `ringplan check` accepts; else what `why` prints.
+The slots of a partition are compared as sets. A dead node that shall be no member keeps its line `in`: it cannot take part in its own retirement.
+
+Exit status: 0 printed, 1 no plan, 2 a text or the command line is refused, 3 memory, input or output";
+
+const WINDOWS_STREAMS: &str = "\
+Example: ringside windows --rounds 1 < examples/plan_replace.bundle
+
+Standard input: a bundle: a ring with a change, or with a plan and its certificate.
+Standard output: for each window the texts of a ring, a plan and its certificate, which `ringplan check` accepts, one behind the other: three sections that end
+with `end`. Play or run the first, then the second; between them the ring is at rest. What moves a slot stays in one window.
+
+Exit status: 0 printed, 1 no plan, one that is refused, or no window of that number, 2 a text or the command line is refused, 3 memory, input or output";
 
 const STANDARD_INPUT: &[u8] =
     b"\nA bundle is read from standard input and from no file that is named: ringside show < FILE\n";
@@ -156,6 +216,9 @@ fn line_of(alloc: Global, matches: &ArgMatches) -> Result<CommandLine, AllocErro
     if matches.subcommand_matches("bundle").is_some() {
         return Ok(CommandLine::Do(Job::Make(Making::Bundle)));
     }
+    if matches.subcommand_matches("cert").is_some() {
+        return Ok(CommandLine::Do(Job::Make(Making::Cert)));
+    }
     if matches.subcommand_matches("after").is_some() {
         return Ok(CommandLine::Do(Job::Make(Making::After)));
     }
@@ -164,6 +227,12 @@ fn line_of(alloc: Global, matches: &ArgMatches) -> Result<CommandLine, AllocErro
     }
     if matches.subcommand_matches("steps").is_some() {
         return Ok(CommandLine::Do(Job::Make(Making::Steps)));
+    }
+    if let Some(options) = matches.subcommand_matches("windows") {
+        return windows_line(alloc, options);
+    }
+    if let Some(options) = matches.subcommand_matches("goal") {
+        return goal_line(alloc, options);
     }
     let Some((_, options)) = matches.subcommand() else {
         return Ok(CommandLine::Do(Job::Make(Making::Bundle)));
@@ -187,6 +256,55 @@ fn show_line(shape: Shape, racks_behind: Option<u8>) -> CommandLine {
         shape,
         racks_behind,
     })))
+}
+
+// The greatest number of rounds and of windows.
+const MOST: u32 = 1_000_000;
+
+// What a line with the word `windows` asks for.
+fn windows_line(alloc: Global, matches: &ArgMatches) -> Result<CommandLine, AllocError> {
+    let rounds = match matches.get_str("rounds") {
+        Some(text) => number_to(text.as_bytes(), MOST),
+        None => None,
+    };
+    let only = match matches.get_str("only") {
+        Some(text) => number_to(text.as_bytes(), MOST),
+        None => Some(0),
+    };
+    match (rounds, only) {
+        (Some(rounds), Some(only)) => Ok(CommandLine::Do(Job::Windows(Cut {
+            rounds,
+            only: if only == 0 { None } else { Some(only) },
+        }))),
+        _ => {
+            let text = Vec::from_slice(alloc, NO_NUMBER)?;
+            Ok(CommandLine::Refused(text))
+        }
+    }
+}
+
+// What a line with the word `goal` asks for.
+fn goal_line(alloc: Global, matches: &ArgMatches) -> Result<CommandLine, AllocError> {
+    let mut options = Options::new(alloc);
+    options.add_dead(alloc, matches)?;
+    if !options.add_weights(alloc, matches)? {
+        let text = Vec::from_slice(alloc, NO_WEIGHT)?;
+        return Ok(CommandLine::Refused(text));
+    }
+    match rack_byte(matches) {
+        Racks::Unasked => {}
+        Racks::Behind(byte) => options.racks_behind = Some(byte),
+        Racks::NoByte => {
+            let text = Vec::from_slice(alloc, NO_BYTE)?;
+            return Ok(CommandLine::Refused(text));
+        }
+    }
+    let job = if matches.get_flag("even") {
+        Job::Even(options)
+    } else {
+        Job::Goal(options)
+    };
+    Ok(CommandLine::Do(job))
 }
 
 // What is said of racks: nothing, the byte in front of them, or what is no one byte.
@@ -240,6 +358,55 @@ fn with_show<'a>(alloc: Global, command: Command<'a>) -> Result<Command<'a>, All
     command.subcommand(show)
 }
 
+// A command with the subcommand `windows` more.
+fn with_windows<'a>(alloc: Global, command: Command<'a>) -> Result<Command<'a>, AllocError> {
+    let rounds = Arg::new(alloc, "rounds")
+        .long("rounds")
+        .value_name("K")
+        .help(ROUNDS)
+        .required(true);
+    let only = Arg::new(alloc, "only")
+        .long("only")
+        .value_name("W")
+        .help(ONLY);
+    let windows = Command::new(alloc, "windows")
+        .about(WINDOWS)
+        .after_help(WINDOWS_STREAMS)
+        .arg(rounds)?
+        .arg(only)?;
+    command.subcommand(windows)
+}
+
+// A command with the subcommand `goal` more.
+fn with_goal<'a>(alloc: Global, command: Command<'a>) -> Result<Command<'a>, AllocError> {
+    let dead = Arg::new(alloc, "dead")
+        .long("dead")
+        .value_name("NODE")
+        .help(DEAD)
+        .action(ArgAction::Append);
+    let weight = Arg::new(alloc, "weight")
+        .long("weight")
+        .value_name("NODE=K")
+        .help(WEIGHT)
+        .action(ArgAction::Append);
+    let racks = Arg::new(alloc, "racks-behind")
+        .long("racks-behind")
+        .value_name("C")
+        .help(RACKS_APART);
+    let even = Arg::new(alloc, "even")
+        .long("even")
+        .help(EVEN)
+        .action(ArgAction::SetTrue);
+    let goal = Command::new(alloc, "goal")
+        .about(GOAL)
+        .after_help(GOAL_STREAMS)
+        .arg(dead)?
+        .arg(weight)?
+        .arg(racks)?
+        .arg(even)?;
+    command.subcommand(goal)
+}
+
 // The command lines that there are.
 fn command<'a>(alloc: Global) -> Result<Command<'a>, AllocError> {
     let alone = Command::new(alloc, "ringside")
@@ -250,6 +417,9 @@ fn command<'a>(alloc: Global) -> Result<Command<'a>, AllocError> {
     let shows = with_show(alloc, whys)?;
     let draws = with_job(alloc, shows, "draw", DRAW, DRAW_STREAMS)?;
     let steps = with_job(alloc, draws, "steps", STEPS, STEPS_STREAMS)?;
-    let bundles = with_job(alloc, steps, "bundle", BUNDLE, BUNDLE_STREAMS)?;
-    with_job(alloc, bundles, "after", AFTER, AFTER_STREAMS)
+    let goals = with_goal(alloc, steps)?;
+    let windows = with_windows(alloc, goals)?;
+    let bundles = with_job(alloc, windows, "bundle", BUNDLE, BUNDLE_STREAMS)?;
+    let certs = with_job(alloc, bundles, "cert", CERT, CERT_STREAMS)?;
+    with_job(alloc, certs, "after", AFTER, AFTER_STREAMS)
 }

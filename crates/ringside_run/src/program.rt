@@ -2,12 +2,17 @@
 
 use crate::after::{after_bundle, push_open};
 use crate::bundle::whole_bundle;
+use crate::cert::{cert_of, push_why_none};
 use crate::command::{CommandLine, parse};
+use crate::goal::{led_bundle, wish_words};
+use crate::goal_words::push_goal_words;
 use crate::job::{Job, Making};
+use crate::options::Options;
 use crate::show::{draw_bundle, show_bundle};
 use crate::steps::steps_bundle;
 use crate::study::Work;
 use crate::why::{push_words_of, why_bundle};
+use crate::windows::cut_bundle;
 use ring_names::Refusal;
 use ringplan_jobs::{Answer, Watch, answer_of, read_all, write_all};
 use std::alloc::Global;
@@ -64,6 +69,7 @@ pub fn end_without_words<W: Write>(output: &mut W) -> u8 {
 fn make_of<W: Watch>(work: &Work<W>, making: Making, bytes: &[u8]) -> Result<Vec<u8>, Refusal> {
     match making {
         Making::Bundle => whole_bundle(work.alloc, bytes),
+        Making::Cert => cert_of(work.alloc, bytes),
         Making::After => after_bundle(work, bytes),
         Making::Show(wish) => show_bundle(work, bytes, wish),
         Making::Draw => draw_bundle(work, bytes),
@@ -98,6 +104,9 @@ fn push_said<W: Watch>(
             return Ok(());
         }
     }
+    if matches!(making, Making::Cert) {
+        return push_why_none(work, out, bytes, refusal);
+    }
     push_words_of(work, out, bytes, refusal)
 }
 
@@ -124,7 +133,54 @@ fn answer_of_input<R: Read + Drop, P: Watch>(
     match job {
         Job::Why => why_bundle(work, bytes.as_slice()),
         Job::Make(making) => made(work, making, bytes.as_slice()),
+        Job::Goal(options) => {
+            let found = led_bundle(work.alloc, bytes.as_slice(), &options);
+            led(work, found, bytes.as_slice(), &options)
+        }
+        Job::Windows(cut) => {
+            let found = cut_bundle(work, bytes.as_slice(), cut);
+            told(work, found, bytes.as_slice())
+        }
+        Job::Even(options) => {
+            let found = wish_words(work.alloc, bytes.as_slice(), &options);
+            led(work, found, bytes.as_slice(), &options)
+        }
     }
+}
+
+// The windows, or the refusal's line and why.
+fn told<W: Watch>(
+    work: &Work<W>,
+    found: Result<Vec<u8>, Refusal>,
+    bytes: &[u8],
+) -> Result<Answer, Refusal> {
+    let mut words = Words::new(work.alloc);
+    match &found {
+        Ok(_) | Err(Refusal::OutOfMemory) => {}
+        Err(refusal) => push_words_of(work, &mut words, bytes, refusal)?,
+    }
+    let words = words.end()?;
+    let mut answer = answer_of(work.alloc, found)?;
+    answer.output.extend_from_slice(words.as_slice())?;
+    Ok(answer)
+}
+
+// What was found on the way to the ring that is wished for, or the refusal's line and why.
+fn led<W: Watch>(
+    work: &Work<W>,
+    found: Result<Vec<u8>, Refusal>,
+    bytes: &[u8],
+    options: &Options,
+) -> Result<Answer, Refusal> {
+    let mut words = Words::new(work.alloc);
+    match &found {
+        Ok(_) | Err(Refusal::OutOfMemory) => {}
+        Err(refusal) => push_goal_words(work, &mut words, bytes, options, refusal)?,
+    }
+    let words = words.end()?;
+    let mut answer = answer_of(work.alloc, found)?;
+    answer.output.extend_from_slice(words.as_slice())?;
+    Ok(answer)
 }
 
 // Prints the answer, and returns its exit status.

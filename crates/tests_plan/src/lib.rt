@@ -7,6 +7,8 @@ mod checks;
 #[cfg(test)]
 mod drains;
 #[cfg(test)]
+mod event_words;
+#[cfg(test)]
 mod figures;
 #[cfg(test)]
 mod planning;
@@ -19,6 +21,6 @@ mod same;
 #[cfg(test)]
 mod states;
 #[cfg(test)]
-mod words;
+mod wishes;
 #[cfg(test)]
 mod workers;

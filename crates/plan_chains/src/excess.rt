@@ -1,0 +1,39 @@
+//! Nodes that have more transfers open than they bear.
+
+use crate::order::Order;
+use crate::sides::{Sides, sides_of};
+use plan_text::Plan;
+use ring_names::{NodeId, Refusal};
+use ring_table::{Ring, Side};
+use std::alloc::Global;
+
+/// A side of a node of which more copies may run at once, in some order of the plan's, than it may have open.
+#[derive(Clone, Copy, Debug)]
+pub struct Excess {
+    pub side: Side,
+    /// How many of its copies may run at once.
+    pub fewest: u32,
+    /// The most that it may have open.
+    pub most: u32,
+}
+
+/// The first side of the node that the plan's order does not keep within its number, whatever the certificate, where 100,000,000 looks suffice to tell.
+pub fn overload(
+    alloc: Global,
+    ring: &Ring,
+    plan: &Plan,
+    node: NodeId,
+) -> Result<Option<Excess>, Refusal> {
+    let sides = Sides::of(alloc, ring, plan)?;
+    let mut order = Order::of(alloc, plan)?;
+    for side in sides_of(ring, node.0 as usize) {
+        if let Some((of, most)) = side {
+            let fewest = order.fewest(alloc, sides.copies(of))?.unwrap_or(0);
+            if fewest > most {
+                let side = of.side;
+                return Ok(Some(Excess { side, fewest, most }));
+            }
+        }
+    }
+    Ok(None)
+}

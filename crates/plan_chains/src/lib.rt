@@ -1,0 +1,20 @@
+//! Certificates for plans that have none: the fewest chains that a plan's order allows each node, and the paths that the checker asks for. Whether the plan is
+//! accepted by such a certificate is for the checker to say.
+#![tactic(auto)]
+
+mod excess;
+mod finding;
+mod links;
+mod looks;
+mod matching;
+mod needs;
+mod numbers;
+mod order;
+mod paths;
+mod sides;
+mod stays;
+
+pub use excess::{Excess, overload};
+pub use finding::certificate;
+pub use numbers::{at, small};
+pub use order::Order;

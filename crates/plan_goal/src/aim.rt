@@ -1,0 +1,220 @@
+//! Where a plan shall lead.
+
+use plan_rounds::{Layout, Move, small};
+use ring_names::{NodeId, Refusal, Slot};
+use ring_table::{Allowance, Node, Ring};
+use std::alloc::Global;
+
+/// A ring, the ring that it shall become, and the nodes that are dead for good.
+#[derive(Clone, Copy)]
+pub struct Aim<'a> {
+    pub alloc: Global,
+    pub ring: &'a Ring,
+    pub wanted: &'a Ring,
+    pub dead: &'a [NodeId],
+}
+
+/// Why no plan leads there, whatever its steps.
+#[derive(Clone, Copy, Debug, PartialEq, Eq)]
+pub enum Unfit {
+    /// The rings have other numbers of partitions or slots, other quorums, or other losses.
+    Space,
+    /// The node of that number has another name, another allowance, or stands in one of the rings alone.
+    Node(u32),
+    /// That slot shall go to a node that is dead.
+    DeadOwner(Slot),
+    /// Of that partition a slot of a dead node shall go to another one, and fewer slots than a read asks for have other owners.
+    Unread(u32),
+}
+
+fn is_allowance(one: Allowance, other: Allowance) -> bool {
+    match (one, other) {
+        (Allowance::Joint(one), Allowance::Joint(other)) => one == other,
+        (
+            Allowance::Split { take, give },
+            Allowance::Split {
+                take: other_take,
+                give: other_give,
+            },
+        ) => take == other_take && give == other_give,
+        (Allowance::Joint(_), Allowance::Split { .. })
+        | (Allowance::Split { .. }, Allowance::Joint(_)) => false,
+    }
+}
+
+fn is_node(one: Option<&Node>, other: Option<&Node>) -> bool {
+    match (one, other) {
+        (Some(one), Some(other)) => {
+            one.name.as_slice() == other.name.as_slice()
+                && is_allowance(one.allowance, other.allowance)
+        }
+        _ => false,
+    }
+}
+
+// The first node that the rings do not declare alike.
+fn other_node(ring: &Ring, wanted: &Ring) -> Option<u32> {
+    let (ours, theirs) = (ring.nodes(), wanted.nodes());
+    for number in 0..ours.len().max(theirs.len()) {
+        if !is_node(ours.get(number), theirs.get(number)) {
+            return Some(small(number));
+        }
+    }
+    None
+}
+
+fn has_space(ring: &Ring, wanted: &Ring) -> bool {
+    ring.q() == wanted.q()
+        && ring.n() == wanted.n()
+        && ring.r() == wanted.r()
+        && ring.w() == wanted.w()
+        && ring.loss() == wanted.loss()
+}
+
+// Whether the row has the node.
+fn has(row: &[NodeId], node: NodeId) -> bool {
+    row.iter().any(|other| other.0 == node.0)
+}
+
+// The owners of a partition's slots now and in the end.
+fn rows<'a>(aim: &Aim<'a>, partition: usize) -> (&'a [NodeId], &'a [NodeId]) {
+    let ours = match aim.ring.rows().get(partition) {
+        Some(row) => row.as_slice(),
+        None => &[],
+    };
+    let theirs = match aim.wanted.rows().get(partition) {
+        Some(row) => row.as_slice(),
+        None => &[],
+    };
+    (ours, theirs)
+}
+
+// The first slot of a partition that goes to a dead node.
+fn dead_owner(aim: &Aim, partition: usize) -> Option<Slot> {
+    let (ours, theirs) = rows(aim, partition);
+    for index in 0..theirs.len() {
+        if let Some(node) = theirs.get(index) {
+            if !has(ours, *node) && has(aim.dead, *node) {
+                return Some(Slot {
+                    partition: small(partition),
+                    index: small(index),
+                });
+            }
+        }
+    }
+    None
+}
+
+// Whether a slot of a dead node moves, and too few slots of the partition have other owners.
+fn is_unread(aim: &Aim, partition: usize) -> bool {
+    let (ours, theirs) = rows(aim, partition);
+    let mut alive = 0u32;
+    let mut is_left = false;
+    for node in ours {
+        if !has(aim.dead, *node) {
+            alive = alive.saturating_add(1);
+        } else if !has(theirs, *node) {
+            is_left = true;
+        }
+    }
+    is_left && alive < aim.ring.r()
+}
+
+/// Why no plan leads there, if it is for one of these causes.
+pub fn why_unfit(aim: &Aim) -> Option<Unfit> {
+    if !has_space(aim.ring, aim.wanted) {
+        return Some(Unfit::Space);
+    }
+    if let Some(node) = other_node(aim.ring, aim.wanted) {
+        return Some(Unfit::Node(node));
+    }
+    for partition in 0..aim.ring.rows().len() {
+        if let Some(slot) = dead_owner(aim, partition) {
+            return Some(Unfit::DeadOwner(slot));
+        }
+        if is_unread(aim, partition) {
+            return Some(Unfit::Unread(small(partition)));
+        }
+    }
+    None
+}
+
+// The next node of the list, from the place on, that the row has not; the place behind it comes too.
+fn next_new(nodes: &[NodeId], row: &[NodeId], from: usize) -> Option<(NodeId, usize)> {
+    for place in from..nodes.len() {
+        if let Some(node) = nodes.get(place) {
+            if !has(row, *node) {
+                return Some((*node, place.saturating_add(1)));
+            }
+        }
+    }
+    None
+}
+
+// Adds the moves of a partition: the slots whose owners it loses go in order to the nodes that it gains.
+fn push_moves(
+    aim: &Aim,
+    layout: &mut Layout,
+    out: &mut Vec<Move>,
+    partition: usize,
+) -> Result<(), Refusal> {
+    let (ours, theirs) = rows(aim, partition);
+    let mut from = 0usize;
+    for index in 0..ours.len() {
+        let Some(owner) = ours.get(index) else {
+            break;
+        };
+        if has(theirs, *owner) {
+            continue;
+        }
+        let Some((node, next)) = next_new(theirs, ours, from) else {
+            break;
+        };
+        from = next;
+        let slot = Slot {
+            partition: small(partition),
+            index: small(index),
+        };
+        layout.let_move(layout.place_of(slot), true);
+        out.push(Move {
+            slot,
+            from: owner.0,
+            to: node.0,
+        })?;
+    }
+    Ok(())
+}
+
+/// The moves that lead there, by partition and index, as few as can be; the layout is told which slots these are.
+pub fn moves(aim: &Aim, layout: &mut Layout) -> Result<Vec<Move>, Refusal> {
+    let mut out = Vec::new(aim.alloc);
+    for partition in 0..layout.partitions {
+        push_moves(aim, layout, &mut out, partition)?;
+    }
+    Ok(out)
+}
+
+/// The nodes that become members, by number.
+pub fn joins(aim: &Aim) -> Result<Vec<u32>, Refusal> {
+    let mut nodes = Vec::new(aim.alloc);
+    for number in 0..small(aim.ring.nodes().len()) {
+        let node = NodeId(number);
+        if !aim.ring.is_member(node) && aim.wanted.is_member(node) {
+            nodes.push(number)?;
+        }
+    }
+    Ok(nodes)
+}
+
+/// The members that retire, by number: those that shall be none and are not dead.
+pub fn retires(aim: &Aim) -> Result<Vec<u32>, Refusal> {
+    let mut nodes = Vec::new(aim.alloc);
+    for number in 0..small(aim.ring.nodes().len()) {
+        let node = NodeId(number);
+        let shall = aim.ring.is_member(node) && !aim.wanted.is_member(node);
+        if shall && !has(aim.dead, node) {
+            nodes.push(number)?;
+        }
+    }
+    Ok(nodes)
+}

@@ -1,0 +1,28 @@
+//! Moves of slots put into rounds, and the plan and the certificate of such moves: copies that may run at once, as many as allowances permit, each behind the
+//! one whose place it takes. Nothing is promised of what is made but that the checker can be asked.
+#![tactic(auto)]
+
+mod both_texts;
+mod colours;
+mod groups;
+mod later;
+mod layout;
+mod listed;
+mod moving;
+mod numbers;
+mod round_sets;
+mod rounds;
+mod steps;
+mod task;
+mod urgency;
+mod writing;
+
+pub use both_texts::write_texts;
+pub use groups::Groups;
+pub use layout::Layout;
+pub use moving::Move;
+pub use numbers::{at, lower, raise, set, small};
+pub use rounds::Schedule;
+pub use steps::add;
+pub use task::Task;
+pub use writing::{Turnover, write};

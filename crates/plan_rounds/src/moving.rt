@@ -1,0 +1,11 @@
+//! Slots that move.
+
+use ring_names::Slot;
+
+/// A slot that goes from its owner to another node.
+#[derive(Clone, Copy, Drop)]
+pub struct Move {
+    pub slot: Slot,
+    pub from: u32,
+    pub to: u32,
+}

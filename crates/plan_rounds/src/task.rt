@@ -1,0 +1,16 @@
+//! What is put into rounds.
+
+use crate::groups::Groups;
+use crate::layout::Layout;
+use crate::moving::Move;
+use std::alloc::Global;
+
+/// Moves of slots, the groups of which each takes part in some, and how many slots a copy must list if it does not read its owner.
+#[derive(Clone, Copy)]
+pub struct Task<'a> {
+    pub alloc: Global,
+    pub layout: &'a Layout,
+    pub groups: &'a Groups,
+    pub moves: &'a [Move],
+    pub reads: u32,
+}

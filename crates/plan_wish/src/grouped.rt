@@ -1,0 +1,81 @@
+//! Numbers in groups, one group behind the other.
+
+use crate::numbers::{at, raise, set};
+use ring_names::Refusal;
+use std::alloc::Global;
+
+/// Numbers in groups. All are counted first, then there is room for them, then each is put into its group.
+#[derive(Drop)]
+pub struct Grouped {
+    // where each group begins, and one more behind the last
+    starts: Vec<u32>,
+    // where what was put into each group ends
+    ends: Vec<u32>,
+    items: Vec<u32>,
+}
+
+impl Grouped {
+    /// There is no group.
+    pub fn new(alloc: Global) -> Grouped {
+        Grouped {
+            starts: Vec::new(alloc),
+            ends: Vec::new(alloc),
+            items: Vec::new(alloc),
+        }
+    }
+
+    /// So many empty groups.
+    pub fn begin(&mut self, alloc: Global, groups: usize) -> Result<(), Refusal> {
+        self.starts = vec![in alloc; 0u32; groups.saturating_add(1)]?;
+        Ok(())
+    }
+
+    /// The group will have one number more.
+    pub fn count(&mut self, group: usize) {
+        raise(&mut self.starts, group.saturating_add(1));
+    }
+
+    /// Makes room for all that were counted.
+    pub fn make_room(&mut self, alloc: Global) -> Result<(), Refusal> {
+        let mut total = 0u32;
+        for group in 0..self.starts.len() {
+            total = total.saturating_add(at(&self.starts, group));
+            set(&mut self.starts, group, total);
+        }
+        self.ends = Vec::from_slice(alloc, self.starts.as_slice())?;
+        self.items = vec![in alloc; 0u32; total as usize]?;
+        Ok(())
+    }
+
+    /// Puts a number into the group.
+    pub fn put(&mut self, group: usize, number: u32) {
+        let place = at(&self.ends, group);
+        set(&mut self.items, place as usize, number);
+        raise(&mut self.ends, group);
+    }
+
+    /// Where the group begins.
+    pub fn start(&self, group: usize) -> usize {
+        at(&self.starts, group) as usize
+    }
+
+    /// Where the group ends.
+    pub fn end(&self, group: usize) -> usize {
+        at(&self.ends, group) as usize
+    }
+
+    /// The number at the place.
+    pub fn item(&self, place: usize) -> u32 {
+        at(&self.items, place)
+    }
+
+    /// Writes a number at the place.
+    pub fn write(&mut self, place: usize, number: u32) {
+        set(&mut self.items, place, number);
+    }
+
+    /// The group ends before that place.
+    pub fn cut(&mut self, group: usize, end: usize) {
+        set(&mut self.ends, group, crate::numbers::small(end));
+    }
+}

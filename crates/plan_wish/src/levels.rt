@@ -1,0 +1,66 @@
+//! The levels of the members that join: 0 where one slot more of them needs no move more, 1 where it needs one, and 2 where they can have none.
+
+use crate::meeting::Aim;
+use crate::members::Role;
+use crate::numbers::{NONE, at, set};
+use crate::search::Search;
+use crate::seats::Seats;
+use ring_names::Refusal;
+use std::alloc::Global;
+
+// All on the path from a node to the first of the search are on that level, if they are on none yet.
+fn mark_path(search: &Search, levels: &mut [u32], from: u32, level: u32) {
+    let mut node = from;
+    for _ in 0..levels.len() {
+        if at(levels, node as usize) == NONE {
+            set(levels, node as usize, level);
+        }
+        if node == search.meeting.first {
+            break;
+        }
+        node = search.meeting.link(node).to;
+    }
+}
+
+// Finds which of those that join are on the level, of those that are on none yet.
+fn find_level(
+    alloc: Global,
+    seats: &Seats,
+    search: &mut Search,
+    levels: &mut [u32],
+    level: u32,
+) -> Result<(), Refusal> {
+    search.meeting.set_levels(alloc, seats, level)?;
+    for node in 0..seats.members.count() {
+        if at(levels, node as usize) == NONE && !search.meeting.is_frozen(node) {
+            if !seats.is_costly(node) {
+                set(levels, node as usize, 0);
+                continue;
+            }
+            match search.find(alloc, seats, node, Aim::Part)? {
+                Some(from) => mark_path(search, levels, from, level),
+                None => search.meeting.freeze(),
+            }
+        }
+    }
+    Ok(())
+}
+
+/// Finds the levels of all that join.
+pub fn find_levels(alloc: Global, seats: &Seats, search: &mut Search) -> Result<(), Refusal> {
+    let mut levels = vec![in alloc; 0u32; seats.members.count() as usize]?;
+    for node in 0..seats.members.count() {
+        if seats.members.role(node) == Role::Joins {
+            set(&mut levels, node as usize, NONE);
+        }
+    }
+    find_level(alloc, seats, search, &mut levels, 0)?;
+    find_level(alloc, seats, search, &mut levels, 1)?;
+    search.meeting.thaw(alloc, levels.len())?;
+    for node in 0..seats.members.count() {
+        search
+            .meeting
+            .put_level(node, at(&levels, node as usize).min(2));
+    }
+    Ok(())
+}

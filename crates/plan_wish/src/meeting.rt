@@ -1,0 +1,198 @@
+//! The members that a search meets.
+//!
+//! A search goes back from a member that shall have one slot more: it meets those that could hand it a slot, those that could hand them one, and so on.
+//! Handing a slot on is free where both would own a slot of the partition by a move, or where both owned one before. Members that join stand on levels
+//! such that a slot is handed on from level to level alone: a slot that did not move is on level 1, and one that moved on that of its owner.
+
+use crate::members::Role;
+use crate::numbers::{NONE, at, set};
+use crate::seats::Seats;
+use ring_names::Refusal;
+use std::alloc::Global;
+
+// How many slots and partitions all searches together may look at.
+const LOOKS: u32 = 80_000_000;
+
+/// What a search is for.
+#[derive(Clone, Copy, PartialEq, Eq)]
+pub enum Aim {
+    /// That one that joins has its part.
+    Part,
+    /// That the balance gets better, while no slot more moves and no part gets smaller.
+    Balance,
+}
+
+/// To whom a member hands a slot, and in which partition.
+#[derive(Clone, Copy)]
+pub struct Link {
+    pub to: u32,
+    pub partition: usize,
+}
+
+/// The members that a search met, and what stays between searches.
+#[derive(Drop)]
+pub struct Meeting {
+    aim: Aim,
+    /// The member that shall have one slot more.
+    pub first: u32,
+    /// The first that was met and can give one.
+    pub found: Option<u32>,
+    /// All that were met, in order.
+    pub met: Vec<u32>,
+    // of each that was met to whom it hands a slot, and in which partition
+    to: Vec<u32>,
+    partitions: Vec<u32>,
+    // of each node its level
+    levels: Vec<u32>,
+    // of each node 1 where no search goes on
+    frozen: Vec<u32>,
+    // how many looks are left
+    looks: u32,
+}
+
+impl Meeting {
+    /// Nobody is met yet.
+    pub fn new(alloc: Global) -> Meeting {
+        Meeting {
+            aim: Aim::Part,
+            first: NONE,
+            found: None,
+            met: Vec::new(alloc),
+            to: Vec::new(alloc),
+            partitions: Vec::new(alloc),
+            levels: Vec::new(alloc),
+            frozen: Vec::new(alloc),
+            looks: LOOKS,
+        }
+    }
+
+    /// All nodes that join are on that level, and all others on level 0; nobody is frozen.
+    pub fn set_levels(&mut self, alloc: Global, seats: &Seats, level: u32) -> Result<(), Refusal> {
+        let count = seats.members.count() as usize;
+        self.levels = vec![in alloc; 0u32; count]?;
+        self.to = vec![in alloc; NONE; count]?;
+        self.partitions = vec![in alloc; 0u32; count]?;
+        for node in 0..seats.members.count() {
+            if seats.members.role(node) == Role::Joins {
+                set(&mut self.levels, node as usize, level);
+            }
+        }
+        self.thaw(alloc, count)
+    }
+
+    /// Nobody is frozen.
+    pub fn thaw(&mut self, alloc: Global, count: usize) -> Result<(), Refusal> {
+        self.frozen = vec![in alloc; 0u32; count]?;
+        Ok(())
+    }
+
+    /// The node's level.
+    pub fn level(&self, node: u32) -> u32 {
+        at(&self.levels, node as usize)
+    }
+
+    /// The node is on another level.
+    pub fn put_level(&mut self, node: u32, level: u32) {
+        set(&mut self.levels, node as usize, level);
+    }
+
+    /// The level of a slot.
+    pub fn level_at(&self, seats: &Seats, place: usize) -> u32 {
+        let node = seats.now(place);
+        if node == seats.first(place) {
+            return 1;
+        }
+        self.level(node)
+    }
+
+    /// Whether no search goes on at the node.
+    pub fn is_frozen(&self, node: u32) -> bool {
+        at(&self.frozen, node as usize) != 0
+    }
+
+    /// No search goes on at those that were met.
+    pub fn freeze(&mut self) {
+        for node in self.met.iter() {
+            set(&mut self.frozen, *node as usize, 1);
+        }
+    }
+
+    /// A search begins at a member.
+    pub fn begin(&mut self, first: u32, aim: Aim) -> Result<(), Refusal> {
+        for node in self.met.iter() {
+            set(&mut self.to, *node as usize, NONE);
+        }
+        self.met.clear();
+        self.met.push(first)?;
+        self.first = first;
+        self.aim = aim;
+        self.found = None;
+        Ok(())
+    }
+
+    /// Spends so many looks.
+    pub fn spend(&mut self, looks: u32) {
+        self.looks = self.looks.saturating_sub(looks);
+    }
+
+    /// Whether the search is at its end: one is found that can give a slot, or no look is left.
+    pub fn is_over(&self) -> bool {
+        self.found.is_some() || self.is_spent()
+    }
+
+    /// Whether no look is left.
+    pub fn is_spent(&self) -> bool {
+        self.looks == 0
+    }
+
+    // Whether a path may begin at the node, by what the search is for.
+    fn can_give(&self, seats: &Seats, node: u32) -> bool {
+        if self.aim == Aim::Part {
+            return !seats.is_costly(node);
+        }
+        self.level(node) == self.level(self.first)
+            && seats.is_costly(node) == seats.wants(self.first)
+            && seats.give_price(node) > seats.take_price(self.first)
+    }
+
+    /// Meets a member that can hand a slot to another, if it is new.
+    pub fn meet(&mut self, seats: &Seats, node: u32, link: Link) -> Result<(), Refusal> {
+        let place = node as usize;
+        let is_known = node == self.first || at(&self.to, place) != NONE;
+        if is_known || node >= seats.members.count() || self.is_frozen(node) {
+            return Ok(());
+        }
+        self.met.push(node)?;
+        set(&mut self.to, place, link.to);
+        set(
+            &mut self.partitions,
+            place,
+            crate::numbers::small(link.partition),
+        );
+        if self.found.is_none() && self.can_give(seats, node) {
+            self.found = Some(node);
+        }
+        Ok(())
+    }
+
+    /// Meets those that own a slot of the partition on that level and could hand it to the node of the link.
+    pub fn meet_all(&mut self, seats: &Seats, link: Link, level: u32) -> Result<(), Refusal> {
+        let rack = seats.members.racks.of(link.to);
+        for index in 0..seats.slots {
+            let place = seats.place(link.partition, index);
+            if self.level_at(seats, place) == level && seats.suits(place, rack) {
+                self.meet(seats, seats.now(place), link)?;
+            }
+        }
+        self.spend(crate::numbers::small(seats.slots));
+        Ok(())
+    }
+
+    /// To whom the node hands a slot.
+    pub fn link(&self, node: u32) -> Link {
+        Link {
+            to: at(&self.to, node as usize),
+            partition: at(&self.partitions, node as usize) as usize,
+        }
+    }
+}

@@ -1,0 +1,89 @@
+//! What is mended along paths: that those that join have their parts with as few moves as can be, and that the balance is the best that this allows.
+//!
+//! Slots, partitions, racks and members make a network in which a choice of owners is a flow, the fewest moves are a least cost, and the balance a convex
+//! cost of each member. So each mending along a cheapest path keeps the cost least, and where no path is left the balance is the best of all.
+
+use crate::levels::find_levels;
+use crate::meeting::Aim;
+use crate::search::Search;
+use crate::seats::Seats;
+use ring_names::Refusal;
+use std::alloc::Global;
+
+// Lets the node have slots more, as long as it has not its part and some path leads to it.
+fn raise(alloc: Global, seats: &mut Seats, search: &mut Search, node: u32) -> Result<(), Refusal> {
+    for _ in 0..seats.partitions {
+        if !seats.wants(node) || search.meeting.is_frozen(node) || search.meeting.is_spent() {
+            break;
+        }
+        match search.find(alloc, seats, node, Aim::Part)? {
+            Some(from) => search.shift(seats, from),
+            None => search.meeting.freeze(),
+        }
+    }
+    Ok(())
+}
+
+/// Lets those that join and have not their parts have slots more, by paths that need no move more on level 0, and one move on level 1.
+pub fn raise_all(
+    alloc: Global,
+    seats: &mut Seats,
+    search: &mut Search,
+    level: u32,
+) -> Result<(), Refusal> {
+    search.meeting.set_levels(alloc, seats, level)?;
+    for node in 0..seats.members.count() {
+        raise(alloc, seats, search, node)?;
+    }
+    Ok(())
+}
+
+// Whether the balance may be mended by a slot more of the node.
+fn takes_part(seats: &Seats, search: &Search, node: u32) -> bool {
+    if !seats.members.is_after(node) || search.meeting.is_frozen(node) {
+        return false;
+    }
+    let level = search.meeting.level(node);
+    level == 0 || (level == 2 && seats.wants(node))
+}
+
+// The member with the fewest slots for its weight of those that take part.
+fn poorest(seats: &Seats, search: &Search) -> Option<u32> {
+    let mut found: Option<u32> = None;
+    for node in 0..seats.members.count() {
+        if takes_part(seats, search, node) {
+            found = match found {
+                Some(other) if seats.take_price(other) <= seats.take_price(node) => Some(other),
+                _ => Some(node),
+            };
+        }
+    }
+    found
+}
+
+// Hands slots on as long as that makes the balance better.
+fn balance(alloc: Global, seats: &mut Seats, search: &mut Search) -> Result<(), Refusal> {
+    let turns = seats.total().saturating_add(seats.members.count() as usize);
+    for _ in 0..turns {
+        if search.meeting.is_spent() {
+            break;
+        }
+        let Some(first) = poorest(seats, search) else {
+            break;
+        };
+        match search.find(alloc, seats, first, Aim::Balance)? {
+            Some(from) => search.shift(seats, from),
+            None => search.meeting.freeze(),
+        }
+    }
+    Ok(())
+}
+
+/// Mends the balance, where enough looks are left.
+pub fn balance_all(alloc: Global, seats: &mut Seats, search: &mut Search) -> Result<(), Refusal> {
+    if search.meeting.is_spent() {
+        return Ok(());
+    }
+    find_levels(alloc, seats, search)?;
+    balance(alloc, seats, search)
+}

@@ -1,0 +1,132 @@
+//! Racks, and how many slots of a partition may be in each.
+//!
+//! A partition has the fewest pairs of slots in one rack where its slots are spread as evenly as the racks' members allow: each rack has as many
+//! as the level says, or all its members if these are fewer, and some racks have one more.
+
+use crate::numbers::{at, raise, set, small};
+use ring_names::Refusal;
+use std::alloc::Global;
+
+/// The racks of all nodes, numbered from 0.
+#[derive(Drop)]
+pub struct Racks {
+    // by node
+    of: Vec<u32>,
+    /// The nodes, rack by rack.
+    pub order: Vec<u32>,
+    // of each node the place in that order
+    turns: Vec<u32>,
+    // the place of each rack's first node, and one more behind the last
+    firsts: Vec<u32>,
+    // how many members each rack has in the end
+    counts: Vec<u32>,
+    /// How many slots of a partition each rack has at least, if it has as many members.
+    pub level: u32,
+    /// How many racks have one slot more than that in each partition.
+    pub above: u32,
+}
+
+// The nodes behind what their racks are known by, ascending.
+fn keyed(alloc: Global, racks: &[u32], nodes: u32) -> Result<Vec<(u64, u32)>, Refusal> {
+    let mut keyed = Vec::new(alloc);
+    for node in 0..nodes {
+        let key = match racks.get(node as usize) {
+            Some(rack) => u64::from(*rack),
+            None => u64::from(node).saturating_add(4_294_967_296),
+        };
+        keyed.push((key, node))?;
+    }
+    keyed.sort_unstable();
+    Ok(keyed)
+}
+
+impl Racks {
+    /// No node is known yet.
+    pub fn new(alloc: Global) -> Racks {
+        Racks {
+            of: Vec::new(alloc),
+            order: Vec::new(alloc),
+            turns: Vec::new(alloc),
+            firsts: Vec::new(alloc),
+            counts: Vec::new(alloc),
+            level: 0,
+            above: 0,
+        }
+    }
+
+    /// The racks of so many nodes, none of which is a member yet.
+    pub fn fill(&mut self, alloc: Global, racks: &[u32], nodes: u32) -> Result<(), Refusal> {
+        self.of = vec![in alloc; 0u32; nodes as usize]?;
+        self.turns = vec![in alloc; 0u32; nodes as usize]?;
+        let mut last = None;
+        for (key, node) in keyed(alloc, racks, nodes)?.iter() {
+            if last != Some(*key) {
+                last = Some(*key);
+                self.firsts.push(small(self.order.len()))?;
+            }
+            let rack = small(self.firsts.len()).saturating_sub(1);
+            set(&mut self.of, *node as usize, rack);
+            set(&mut self.turns, *node as usize, small(self.order.len()));
+            self.order.push(*node)?;
+        }
+        self.counts = vec![in alloc; 0u32; self.firsts.len()]?;
+        self.firsts.push(small(self.order.len()))?;
+        Ok(())
+    }
+
+    /// The node is a member in the end.
+    pub fn add(&mut self, node: u32) {
+        let rack = self.of(node);
+        raise(&mut self.counts, rack);
+    }
+
+    // How many slots of a partition the racks have together, each as many as that or as it has members.
+    fn sum(&self, level: u32) -> u32 {
+        let mut sum = 0u32;
+        for count in self.counts.iter() {
+            sum = sum.saturating_add((*count).min(level));
+        }
+        sum
+    }
+
+    /// Finds the level for partitions of so many slots, once all members are known.
+    pub fn set_level(&mut self, slots: u32) {
+        for level in 0..slots.saturating_add(1) {
+            if self.sum(level) <= slots {
+                self.level = level;
+            }
+        }
+        self.above = slots.saturating_sub(self.sum(self.level));
+    }
+
+    /// How many racks there are.
+    pub fn len(&self) -> usize {
+        self.counts.len()
+    }
+
+    /// The rack of the node.
+    pub fn of(&self, node: u32) -> usize {
+        at(&self.of, node as usize) as usize
+    }
+
+    /// The place of the node in the order by racks.
+    pub fn turn(&self, node: u32) -> u32 {
+        at(&self.turns, node as usize)
+    }
+
+    /// The place of the rack's first node in that order, and the place behind its last.
+    pub fn span(&self, rack: usize) -> (u32, u32) {
+        let first = at(&self.firsts, rack);
+        (first, at(&self.firsts, rack.saturating_add(1)))
+    }
+
+    /// The fewest slots of a partition that the rack has in the end.
+    pub fn least(&self, rack: usize) -> u32 {
+        at(&self.counts, rack).min(self.level)
+    }
+
+    /// The most slots of a partition that the rack has in the end.
+    pub fn most(&self, rack: usize) -> u32 {
+        at(&self.counts, rack).min(self.level.saturating_add(1))
+    }
+}

@@ -1,0 +1,354 @@
+//! Who owns each slot: before, and as it is wished for.
+
+use crate::copies::Copies;
+use crate::grouped::Grouped;
+use crate::members::{Members, Role};
+use crate::numbers::{NONE, at, lower, raise, set, small};
+use ring_names::Refusal;
+use ring_table::Ring;
+use std::alloc::Global;
+
+/// Who owns each slot. A slot stands at a place: partition by partition, and in each by index.
+#[derive(Drop)]
+pub struct Seats<'a> {
+    pub members: &'a Members,
+    /// How many partitions there are, and how many slots each of them has.
+    pub partitions: usize,
+    pub slots: usize,
+    // by place, the owner before
+    first: Vec<u32>,
+    // by place, the owner that is wished for, or nobody
+    now: Vec<u32>,
+    // the places that each node owned before
+    owned: Grouped,
+    // how many slots each node owns now
+    load: Vec<u32>,
+    copies: Copies,
+}
+
+impl<'a> Seats<'a> {
+    /// No slot is known yet.
+    pub fn new(alloc: Global, ring: &Ring, members: &'a Members) -> Seats<'a> {
+        Seats {
+            members,
+            partitions: ring.rows().len(),
+            slots: ring.n() as usize,
+            first: Vec::new(alloc),
+            now: Vec::new(alloc),
+            owned: Grouped::new(alloc),
+            load: Vec::new(alloc),
+            copies: Copies::new(alloc),
+        }
+    }
+
+    /// Each slot has its owner, but for those of nodes that leave: they have nobody.
+    pub fn begin(&mut self, alloc: Global, ring: &Ring) -> Result<(), Refusal> {
+        for row in ring.rows() {
+            for owner in row.as_slice() {
+                self.first.push(owner.0)?;
+            }
+        }
+        self.now = Vec::from_slice(alloc, self.first.as_slice())?;
+        self.load = vec![in alloc; 0u32; self.members.count() as usize]?;
+        self.copies.fill(ring)?;
+        self.own(alloc)?;
+        for place in 0..self.total() {
+            if self.members.role(self.first(place)) == Role::Leaves {
+                self.vacate(place);
+            }
+        }
+        Ok(())
+    }
+
+    // What each node owns.
+    fn own(&mut self, alloc: Global) -> Result<(), Refusal> {
+        self.owned.begin(alloc, self.load.len())?;
+        for owner in self.first.iter() {
+            self.owned.count(*owner as usize);
+            raise(&mut self.load, *owner as usize);
+        }
+        self.owned.make_room(alloc)?;
+        for place in 0..self.first.len() {
+            let owner = at(&self.first, place) as usize;
+            self.owned.put(owner, small(place));
+        }
+        Ok(())
+    }
+
+    /// How many slots there are.
+    pub fn total(&self) -> usize {
+        self.first.len()
+    }
+
+    /// The place of a slot among all.
+    pub fn place(&self, partition: usize, index: usize) -> usize {
+        partition.saturating_mul(self.slots).saturating_add(index)
+    }
+
+    /// The partition of the slot at the place.
+    pub fn partition(&self, place: usize) -> usize {
+        match place.checked_div(self.slots) {
+            Some(partition) => partition,
+            None => 0,
+        }
+    }
+
+    /// The owner of the slot before.
+    pub fn first(&self, place: usize) -> u32 {
+        at(&self.first, place)
+    }
+
+    /// The owner of the slot that is wished for.
+    pub fn now(&self, place: usize) -> u32 {
+        at(&self.now, place)
+    }
+
+    /// How many slots the node owned before.
+    pub fn owned_count(&self, node: u32) -> usize {
+        let node = node as usize;
+        self.owned.end(node).saturating_sub(self.owned.start(node))
+    }
+
+    /// The place of that one of the slots that the node owned before.
+    pub fn owned(&self, node: u32, turn: usize) -> usize {
+        let start = self.owned.start(node as usize);
+        self.owned.item(start.saturating_add(turn)) as usize
+    }
+
+    /// Nobody owns the slot any longer.
+    pub fn vacate(&mut self, place: usize) {
+        let node = self.now(place);
+        set(&mut self.now, place, NONE);
+        lower(&mut self.load, node as usize);
+        if node == self.first(place) {
+            self.copies.give(node);
+        } else {
+            self.copies.leave(node);
+        }
+    }
+
+    /// The node owns the slot, which nobody owned.
+    pub fn fill(&mut self, place: usize, node: u32) {
+        set(&mut self.now, place, node);
+        raise(&mut self.load, node as usize);
+        if node == self.first(place) {
+            self.copies.keep(node);
+        } else {
+            self.copies.take(node);
+        }
+    }
+
+    /// Whether the node owns a slot of the partition now or did before.
+    pub fn knows(&self, partition: usize, node: u32) -> bool {
+        for index in 0..self.slots {
+            let place = self.place(partition, index);
+            if self.now(place) == node || self.first(place) == node {
+                return true;
+            }
+        }
+        false
+    }
+
+    /// The rack of the one that owns the slot now, if somebody does.
+    pub fn rack_at(&self, place: usize) -> Option<usize> {
+        match self.now(place) {
+            NONE => None,
+            node => Some(self.members.racks.of(node)),
+        }
+    }
+
+    /// How many slots of the partition are in the rack now.
+    pub fn count(&self, partition: usize, rack: usize) -> u32 {
+        let mut count = 0u32;
+        for index in 0..self.slots {
+            if self.rack_at(self.place(partition, index)) == Some(rack) {
+                count = count.saturating_add(1);
+            }
+        }
+        count
+    }
+
+    /// Whether some slot of the partition that nobody owns may go to any rack with room, and not only to racks that must have more.
+    pub fn is_open(&self, partition: usize) -> bool {
+        let racks = &self.members.racks;
+        let mut holes = 0u32;
+        for index in 0..self.slots {
+            if self.now(self.place(partition, index)) == NONE {
+                holes = holes.saturating_add(1);
+            }
+        }
+        if racks.level == 0 {
+            return holes > 0;
+        }
+        let mut missing = 0u32;
+        for rack in 0..racks.len() {
+            let lack = racks
+                .least(rack)
+                .saturating_sub(self.count(partition, rack));
+            missing = missing.saturating_add(lack);
+        }
+        missing < holes
+    }
+
+    /// Whether somebody of the rack could own the slot in place of the one that owns it now.
+    pub fn suits(&self, place: usize, rack: usize) -> bool {
+        let partition = self.partition(place);
+        let racks = &self.members.racks;
+        match self.rack_at(place) {
+            None => false,
+            Some(old) => {
+                old == rack
+                    || (self.count(partition, rack) < racks.most(rack)
+                        && self.count(partition, old) > racks.least(old))
+            }
+        }
+    }
+
+    // The place at which the node owns a slot of the partition now.
+    fn place_now(&self, partition: usize, node: u32) -> Option<usize> {
+        let (start, slots) = (self.place(partition, 0), self.slots);
+        found(&self.now, start, slots, node)
+    }
+
+    // The place at which it owned one before.
+    fn place_before(&self, partition: usize, node: u32) -> Option<usize> {
+        let (start, slots) = (self.place(partition, 0), self.slots);
+        found(&self.first, start, slots, node)
+    }
+
+    // Whether the node could own the slot in the place of another.
+    fn may_have(&self, place: usize, node: u32) -> bool {
+        let rack = self.members.racks.of(node);
+        self.place_now(self.partition(place), node).is_none() && self.suits(place, rack)
+    }
+
+    // The node owns the slot in the place of another. Where it owned a slot of the partition before, it has that one again.
+    fn replace(&mut self, place: usize, node: u32) {
+        let own = self.place_before(self.partition(place), node);
+        self.vacate(place);
+        match own {
+            Some(own) if own != place => {
+                let other = self.now(own);
+                self.vacate(own);
+                self.fill(own, node);
+                self.fill(place, other);
+            }
+            _ => self.fill(place, node),
+        }
+    }
+
+    /// Lets the one node hand its slot of the partition to the other, where it has one and the other may have it.
+    pub fn hand(&mut self, partition: usize, from: u32, to: u32) -> bool {
+        let Some(place) = self.place_now(partition, from) else {
+            return false;
+        };
+        if !self.may_have(place, to) {
+            return false;
+        }
+        self.replace(place, to);
+        true
+    }
+
+    /// How many slots the node owns now.
+    pub fn load(&self, node: u32) -> u32 {
+        at(&self.load, node as usize)
+    }
+
+    /// What one slot more of the node costs the balance, in parts of 2^32: two of these are equal only where the exact quotients are.
+    pub fn take_price(&self, node: u32) -> u64 {
+        let twice = u64::from(self.load(node)).saturating_mul(2);
+        price(twice.saturating_add(1), self.members.weight(node))
+    }
+
+    /// What one slot fewer of the node gains.
+    pub fn give_price(&self, node: u32) -> u64 {
+        let twice = u64::from(self.load(node)).saturating_mul(2);
+        price(twice.saturating_sub(1), self.members.weight(node))
+    }
+
+    /// How much of its allowance the node uses once it takes one slot more.
+    pub fn taking(&self, node: u32) -> u32 {
+        self.copies.taking(node)
+    }
+
+    /// How much of its allowance the node uses once it gives one slot more.
+    pub fn giving(&self, node: u32) -> u32 {
+        self.copies.giving(node)
+    }
+
+    /// Whether the node joins and has not its part yet.
+    pub fn wants(&self, node: u32) -> bool {
+        self.load(node) < self.members.part(node)
+    }
+
+    /// Whether the node joins and would lack a slot of its part if it gave one.
+    pub fn is_costly(&self, node: u32) -> bool {
+        self.members.role(node) == Role::Joins && self.load(node) <= self.members.part(node)
+    }
+
+    // Whether two of the owners have slots of the partition in one rack.
+    fn share(&self, owners: &[u32], partition: usize) -> bool {
+        let racks = &self.members.racks;
+        let end = self.place(partition, self.slots);
+        for one in self.place(partition, 0)..end {
+            for other in one.saturating_add(1)..end {
+                if racks.of(at(owners, one)) == racks.of(at(owners, other)) {
+                    return true;
+                }
+            }
+        }
+        false
+    }
+
+    // In how many partitions two of the owners have slots in one rack.
+    fn count_shared(&self, owners: &[u32]) -> u32 {
+        let mut shared = 0u32;
+        for partition in 0..self.partitions {
+            if self.share(owners, partition) {
+                shared = shared.saturating_add(1);
+            }
+        }
+        shared
+    }
+
+    /// How many partitions had two slots in one rack before.
+    pub fn shared_before(&self) -> u32 {
+        self.count_shared(&self.first)
+    }
+
+    /// How many partitions have two slots in one rack.
+    pub fn shared(&self) -> u32 {
+        self.count_shared(&self.now)
+    }
+
+    /// How many slots have another owner than before.
+    pub fn moved(&self) -> u32 {
+        let mut moved = 0u32;
+        for place in 0..self.total() {
+            if self.now(place) != self.first(place) {
+                moved = moved.saturating_add(1);
+            }
+        }
+        moved
+    }
+}
+
+fn price(steps: u64, weight: u32) -> u64 {
+    match steps
+        .saturating_mul(4_294_967_296)
+        .checked_div(u64::from(weight))
+    {
+        Some(price) => price,
+        None => 0,
+    }
+}
+
+// The place of the node among so many of the owners from a place on, if it is there.
+fn found(owners: &[u32], start: usize, count: usize, node: u32) -> Option<usize> {
+    for place in start..start.saturating_add(count) {
+        if at(owners, place) == node {
+            return Some(place);
+        }
+    }
+    None
+}

@@ -1,0 +1,97 @@
+//! The member that takes a slot which nobody owns.
+
+use crate::numbers::NONE;
+use crate::ranks::{NOBODY, Ranks, Who, sooner};
+use crate::seats::Seats;
+use ring_names::Refusal;
+use std::alloc::Global;
+
+/// Members by how soon they take slots.
+#[derive(Drop)]
+pub struct Takers {
+    ranks: Ranks,
+    // from where to where members may not take a slot, in the order of the racks
+    blocked: Vec<(u32, u32)>,
+}
+
+impl Takers {
+    /// No member is known yet.
+    pub fn new(alloc: Global, who: Who) -> Takers {
+        Takers {
+            ranks: Ranks::new(alloc, who),
+            blocked: Vec::new(alloc),
+        }
+    }
+
+    /// All members have their ranks.
+    pub fn fill(&mut self, alloc: Global, seats: &Seats) -> Result<(), Refusal> {
+        self.ranks.fill(alloc, seats)
+    }
+
+    /// Whether no member is left.
+    pub fn is_empty(&self) -> bool {
+        self.ranks.is_empty()
+    }
+
+    /// The member's rank is another.
+    pub fn renew(&mut self, seats: &Seats, node: u32) {
+        self.ranks.renew(seats, node);
+    }
+
+    // Those that own a slot of the partition, or did before.
+    fn block_owners(&mut self, seats: &Seats, partition: usize) -> Result<(), Refusal> {
+        for index in 0..seats.slots {
+            let place = seats.place(partition, index);
+            for node in [seats.first(place), seats.now(place)] {
+                if node != NONE {
+                    let turn = seats.members.racks.turn(node);
+                    self.blocked.push((turn, turn.saturating_add(1)))?;
+                }
+            }
+        }
+        Ok(())
+    }
+
+    // The rack, where the partition has no room for it.
+    fn block_rack(&mut self, seats: &Seats, partition: usize, rack: usize) -> Result<(), Refusal> {
+        let racks = &seats.members.racks;
+        let count = seats.count(partition, rack);
+        let is_open = count < racks.most(rack) && seats.is_open(partition);
+        if !is_open && count >= racks.least(rack) {
+            self.blocked.push(racks.span(rack))?;
+        }
+        Ok(())
+    }
+
+    // All racks without room. Where no rack must have a slot these are among those that have one.
+    fn block_racks(&mut self, seats: &Seats, partition: usize) -> Result<(), Refusal> {
+        if seats.members.racks.level > 0 {
+            for rack in 0..seats.members.racks.len() {
+                self.block_rack(seats, partition, rack)?;
+            }
+            return Ok(());
+        }
+        for index in 0..seats.slots {
+            if let Some(rack) = seats.rack_at(seats.place(partition, index)) {
+                self.block_rack(seats, partition, rack)?;
+            }
+        }
+        Ok(())
+    }
+
+    /// The member that comes first of those that may take a slot of the partition which nobody owns, if there is one.
+    pub fn taker(&mut self, seats: &Seats, partition: usize) -> Result<Option<u32>, Refusal> {
+        self.blocked.clear();
+        self.block_owners(seats, partition)?;
+        self.block_racks(seats, partition)?;
+        self.blocked.sort_unstable();
+        let mut first = NOBODY;
+        let mut from = 0u32;
+        for (start, end) in self.blocked.iter() {
+            first = sooner(first, self.ranks.first(from, *start));
+            from = from.max(*end);
+        }
+        first = sooner(first, self.ranks.first(from, self.ranks.len()));
+        Ok(first.node())
+    }
+}

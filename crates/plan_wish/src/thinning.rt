@@ -1,0 +1,84 @@
+//! The slots that move because too many of their partition are in one rack.
+
+use crate::numbers::NONE;
+use crate::seats::Seats;
+use std::cmp::Reverse;
+
+// How much it is that a slot moves: the greatest first. Those of a rack above its most come first, then those whose owner has many slots for its
+// weight.
+#[derive(Clone, Copy, PartialEq, Eq, PartialOrd, Ord, Drop)]
+struct Excess {
+    is_above: bool,
+    price: u64,
+    crowd: Reverse<u32>,
+    place: Reverse<usize>,
+}
+
+// Why the slot may move, if it may.
+fn excess_of(seats: &Seats, partition: usize, place: usize) -> Option<Excess> {
+    let rack = seats.rack_at(place)?;
+    let racks = &seats.members.racks;
+    let count = seats.count(partition, rack);
+    if count <= racks.least(rack) {
+        return None;
+    }
+    let node = seats.now(place);
+    Some(Excess {
+        is_above: count > racks.most(rack),
+        price: seats.give_price(node),
+        crowd: Reverse(seats.giving(node)),
+        place: Reverse(place),
+    })
+}
+
+// Whether the slot is the last of its rack in the partition.
+fn is_last(seats: &Seats, partition: usize, place: usize) -> bool {
+    let rack = seats.rack_at(place);
+    let end = seats.place(partition, seats.slots);
+    for later in place.saturating_add(1)..end {
+        if seats.rack_at(later) == rack {
+            return false;
+        }
+    }
+    seats.now(place) != NONE
+}
+
+// How many racks have more slots of the partition than they must have.
+fn above(seats: &Seats, partition: usize) -> u32 {
+    let mut above = 0u32;
+    for index in 0..seats.slots {
+        let place = seats.place(partition, index);
+        if is_last(seats, partition, place) && excess_of(seats, partition, place).is_some() {
+            above = above.saturating_add(1);
+        }
+    }
+    above
+}
+
+// The slot of the partition that must move first, if one must.
+fn next(seats: &Seats, partition: usize) -> Option<usize> {
+    let mut first = None;
+    for index in 0..seats.slots {
+        let one = excess_of(seats, partition, seats.place(partition, index));
+        if first < one {
+            first = one;
+        }
+    }
+    let found = first?;
+    if found.is_above || above(seats, partition) > seats.members.racks.above {
+        return Some(found.place.0);
+    }
+    None
+}
+
+/// Takes from their owners as few slots as it needs that each partition can be spread over the racks as it shall be, once these slots go to others.
+pub fn thin(seats: &mut Seats) {
+    for partition in 0..seats.partitions {
+        for _ in 0..seats.slots {
+            match next(seats, partition) {
+                Some(place) => seats.vacate(place),
+                None => break,
+            }
+        }
+    }
+}

@@ -1,0 +1,262 @@
+//! Wishes, and how good the owners are that are found for them: how many slots move, in how many partitions two are in one rack, and how even it gets.
+
+use crate::ring_texts::{push_nodes, push_numbered, push_owners};
+use crate::rings::ring_from;
+use crate::same::{holds, same};
+use plan_wish::{Wish, Wished, wished};
+use ring_names::{NodeId, Refusal};
+use ring_table::Ring;
+use std::alloc::{AllocError, Global};
+use std::process::Abort;
+use std::test::Fail;
+
+// The nodes in three racks by turns.
+const RACKS: [u32; 14] = [0, 1, 2, 0, 1, 2, 0, 1, 2, 0, 1, 2, 0, 1];
+
+// What a wish shall come to: the slots that move, the partitions with two slots in one rack, and the fewest and the most slots of a member.
+#[derive(Clone, Copy)]
+struct Wanted {
+    moves: u32,
+    shared: u32,
+    least: u32,
+    most: u32,
+}
+
+// ---- the ring
+
+// The owners take turns: each partition has three that stand side by side, so one in each rack.
+fn push_rows(text: &mut Vec<u8>) -> Result<(), AllocError> {
+    for partition in 0..64u32 {
+        push_numbered(text, b"slots ", partition)?;
+        push_owners(text, b" n", partition.saturating_mul(3), 3, 12)?;
+        text.extend_from_slice(b"\n")?;
+    }
+    text.extend_from_slice(b"end\n")
+}
+
+// A ring of 64 partitions with three slots each: twelve members with 16 slots each, and two nodes that are none.
+fn twelve(alloc: Global) -> Result<Ring, Refusal> {
+    let mut text = Vec::from_slice(alloc, b"ring 1\nspace 64\nquorum 3 2 2\n")?;
+    push_nodes(&mut text, b"node n", 0, 12, &[b" 4 in\n"])?;
+    push_nodes(&mut text, b"node n", 12, 14, &[b" 4 out\n"])?;
+    push_rows(&mut text)?;
+    ring_from(alloc, text.as_slice())
+}
+
+// ---- what wishes come to
+
+// How many slots the node owns in the end.
+fn load(wished: &Wished, node: usize) -> u32 {
+    match wished.loads.get(node) {
+        Some(load) => *load,
+        None => 0,
+    }
+}
+
+// The fewest and the most slots of those that are members in the end.
+fn least_and_most(wished: &Wished) -> (u32, u32) {
+    let (mut least, mut most) = (u32::MAX, 0u32);
+    for node in 0..wished.weights.len() {
+        if wished.weights.get(node) != Some(&0) {
+            least = least.min(load(wished, node));
+            most = most.max(load(wished, node));
+        }
+    }
+    (least, most)
+}
+
+// The wish comes to what is wanted.
+fn comes_to<RT: AllocGlobal + Abort>(
+    rt: &RT,
+    ring: &Ring,
+    wish: &Wish,
+    wanted: Wanted,
+) -> Result<(), Fail> {
+    let found = wished(rt.alloc(), ring, wish)?;
+    same!(rt; found.moves, wanted.moves);
+    same!(rt; found.shared, wanted.shared);
+    same!(rt; least_and_most(&found), (wanted.least, wanted.most));
+    Ok(())
+}
+
+// No ring fulfils the wish.
+fn is_refused<RT: AllocGlobal + Abort>(rt: &RT, ring: &Ring, wish: &Wish) {
+    holds!(rt; matches!(wished(rt.alloc(), ring, wish), Err(Refusal::NoPlan)));
+}
+
+// Each of two that join takes its part, 13 slots, and no partition gets two in one rack.
+#[test]
+fn two_join_apart(rt: HostRuntime) -> Result<(), Fail> {
+    let ring = twelve(rt.alloc())?;
+    let wish = Wish {
+        joins: &[NodeId(12), NodeId(13)],
+        leaves: &[],
+        weights: &[],
+        racks: &RACKS,
+    };
+    comes_to(
+        &rt,
+        &ring,
+        &wish,
+        Wanted {
+            moves: 26,
+            shared: 0,
+            least: 12,
+            most: 16,
+        },
+    )
+}
+
+// The slots of one that leaves stay in its rack, as each partition has one in each of three.
+#[test]
+fn one_leaves_its_rack(rt: HostRuntime) -> Result<(), Fail> {
+    let ring = twelve(rt.alloc())?;
+    let wish = Wish {
+        joins: &[],
+        leaves: &[NodeId(0)],
+        weights: &[],
+        racks: &RACKS,
+    };
+    comes_to(
+        &rt,
+        &ring,
+        &wish,
+        Wanted {
+            moves: 16,
+            shared: 0,
+            least: 16,
+            most: 22,
+        },
+    )
+}
+
+// Two that join take all that two leave, each in its rack.
+#[test]
+fn two_for_two(rt: HostRuntime) -> Result<(), Fail> {
+    let ring = twelve(rt.alloc())?;
+    let wish = Wish {
+        joins: &[NodeId(12), NodeId(13)],
+        leaves: &[NodeId(0), NodeId(1)],
+        weights: &[],
+        racks: &RACKS,
+    };
+    comes_to(
+        &rt,
+        &ring,
+        &wish,
+        Wanted {
+            moves: 32,
+            shared: 0,
+            least: 16,
+            most: 16,
+        },
+    )
+}
+
+// In two racks each partition has two slots in one of them; where it has three, one moves.
+#[test]
+fn two_racks_shared(rt: HostRuntime) -> Result<(), Fail> {
+    let ring = twelve(rt.alloc())?;
+    let wish = Wish {
+        joins: &[],
+        leaves: &[],
+        weights: &[],
+        racks: &[0, 0, 0, 0, 0, 0, 1, 1, 1, 1, 1, 1],
+    };
+    comes_to(
+        &rt,
+        &ring,
+        &wish,
+        Wanted {
+            moves: 64,
+            shared: 64,
+            least: 16,
+            most: 16,
+        },
+    )
+}
+
+// Each partition shares racks before: two slots of half of them move, and one of the others.
+#[test]
+fn racks_mended(rt: HostRuntime) -> Result<(), Fail> {
+    let ring = twelve(rt.alloc())?;
+    let wish = Wish {
+        joins: &[],
+        leaves: &[],
+        weights: &[],
+        racks: &[0, 0, 0, 0, 1, 1, 1, 1, 2, 2, 2, 2],
+    };
+    comes_to(
+        &rt,
+        &ring,
+        &wish,
+        Wanted {
+            moves: 96,
+            shared: 0,
+            least: 16,
+            most: 16,
+        },
+    )
+}
+
+// One of weight 3 takes three times what one of weight 1 takes.
+#[test]
+fn weight_taken(rt: HostRuntime) -> Result<(), Fail> {
+    let ring = twelve(rt.alloc())?;
+    let wish = Wish {
+        joins: &[NodeId(12), NodeId(13)],
+        leaves: &[],
+        weights: &[1, 1, 1, 1, 1, 1, 1, 1, 1, 1, 1, 1, 3],
+        racks: &[],
+    };
+    comes_to(
+        &rt,
+        &ring,
+        &wish,
+        Wanted {
+            moves: 48,
+            shared: 0,
+            least: 12,
+            most: 36,
+        },
+    )
+}
+
+// With two members no partition has three owners.
+#[test]
+fn too_few_left(rt: HostRuntime) -> Result<(), Fail> {
+    let ring = twelve(rt.alloc())?;
+    let mut leaves = Vec::new(rt.alloc());
+    for node in 0..10u32 {
+        leaves.push(NodeId(node))?;
+    }
+    let wish = Wish {
+        joins: &[],
+        leaves: leaves.as_slice(),
+        weights: &[],
+        racks: &RACKS,
+    };
+    is_refused(&rt, &ring, &wish);
+    Ok(())
+}
+
+// A member cannot join, and who is none cannot leave.
+#[test]
+fn wrong_nodes_refused(rt: HostRuntime) -> Result<(), Fail> {
+    let ring = twelve(rt.alloc())?;
+    let joins = Wish {
+        joins: &[NodeId(0)],
+        leaves: &[],
+        weights: &[],
+        racks: &[],
+    };
+    is_refused(&rt, &ring, &joins);
+    let leaves = Wish {
+        joins: &[],
+        leaves: &[NodeId(12)],
+        weights: &[],
+        racks: &[],
+    };
+    is_refused(&rt, &ring, &leaves);
+    Ok(())
+}
