@@ -192,7 +192,7 @@ def large():
         with open(sums) as it:
             wanted = dict(reversed(line.split("  ")) for line in it.read().splitlines())
     for name, text in (("steps", steps(131072)), ("rounds", rounds(32768))):
-        for words in ("why", "show --racks-behind n", "show --all", "draw", "steps", "bundle", "after"):
+        for words in ("why", "show --racks-behind n", "show --all", "draw", "steps", "bundle", "cert", "after"):
             out, status, seconds, megabytes = run(words, text.encode())
             label = f"{name} {words}"
             found.append(f"{hashlib.md5(out).hexdigest()}  {label}")

@@ -1,0 +1,254 @@
+#!/usr/bin/env python3
+"""Tries `ringside goal` from outside, beside `ringplan`; it wants both programs as they are built. `trials/goals.py COUNT` tries so many random goals, else 200.
+
+Goals: rings of 1 to 16 partitions, joint and split allowances, nodes that join, leave and are dead for good, drawn from a fixed seed; any placement of the slots. Of each plan: the checker says
+yes; it moves each slot that must move once, and no other; its rounds of copies are at most 1.2 times the fewest that allowances permit, and one more where it has to wait for slots that are read in place of a dead
+node's; no step names a dead node, and no copy reads from one. Each plan is played with the dead nodes down from its first step on: puts that were acknowledged before are read behind it, and
+the owners in the end are those of the goal. Where a partition has too few slots that can be read, or a dead node shall be given a slot, the answer is `no 28`.
+
+Windows: each of those plans that has no dead node is cut into windows of one round. The checker says yes to each; each begins with the ring that the one before leaves; the last leaves the goal's owners.
+
+Large rings: 4,096 partitions of 7 slots over 1,024 nodes, by a change with racks and weights, around a dead node, and as a goal, and the windows of these: seconds and MB are printed; 10 seconds and 300 MB
+are a fault."""
+import os, random, subprocess, sys
+
+top = os.path.dirname(os.path.dirname(os.path.abspath(__file__)))
+PLAN, SIDE = f"{top}/crates/ringplan/out/ringplan", f"{top}/crates/ringside/out/ringside"
+COUNT = int(sys.argv[1]) if len(sys.argv) > 1 else 200
+
+
+def ask(program, words, text):
+    ran = subprocess.run([program, *words], input=text.encode(), stdout=subprocess.PIPE, timeout=60)
+    return ran.stdout.decode(), ran.returncode
+
+
+def ring_text(ring, members, rows):
+    form = 2 if any(len(it) == 2 for it in ring["allow"]) else 1
+    lines = [f"ring {form}", f"space {len(rows)}", "quorum %d %d %d" % ring["quorum"]]
+    lines += ["node %s %s %s" % (name, " ".join(map(str, allow)), "in" if name in members else "out") for name, allow in zip(ring["names"], ring["allow"])]
+    return "\n".join(lines + ["slots %d %s" % (p, " ".join(row)) for p, row in enumerate(rows)] + ["end"]) + "\n"
+
+
+def drawn(draw):
+    """A ring, its members and rows, those that are wished for, and the dead."""
+    n, r, w = draw.choice([(1, 1, 1), (2, 1, 2), (2, 2, 1), (3, 2, 2), (3, 1, 3), (4, 2, 3), (5, 2, 4), (5, 3, 3), (7, 3, 5)])
+    q, count = draw.choice([1, 2, 4, 8, 16]), draw.randrange(n + 1, n + 6)
+    names = [f"n{k}" for k in range(count)]
+    split = draw.random() < 0.3
+    allow = [(draw.randrange(1, 4), draw.randrange(1, 4)) if split and draw.random() < 0.6 else (draw.randrange(1, 5),) for _ in names]
+    before = draw.sample(names, draw.randrange(n, count + 1))
+    after = draw.sample(names, draw.randrange(n, count + 1))
+    dead = [x for x in before if draw.random() < 0.3][: draw.randrange(3)] if draw.random() < 0.5 else []
+    rows = [draw.sample(before, n) for _ in range(q)]
+    wished = []
+    for row in rows:
+        keeps = [x for x in row if x in after and draw.random() < 0.6]
+        others = [x for x in after if x not in keeps and not (x in dead and x not in row and draw.random() < 0.95)]
+        if len(others) < n - len(keeps):
+            others = [x for x in after if x not in keeps]
+        new = keeps + draw.sample(others, n - len(keeps))
+        draw.shuffle(new)
+        wished.append(new)
+    return {"names": names, "allow": allow, "quorum": (n, r, w)}, before, rows, after, wished, dead
+
+
+def script_of(plan):
+    """The events of a plan's steps, in their order."""
+    events = []
+    for number, (fields, _) in enumerate(parsed(plan.splitlines()[1:])):
+        events += [f"open {number}", *[f"chunk {number} {c}" for c in range(16)], f"close {number}"] if fields[0] == "copy" else [f"do {number}"]
+    return events
+
+
+def is_hopeless(ring, rows, wished, dead):
+    for row, new in zip(rows, wished):
+        if any(x in dead and x not in row for x in new):
+            return True
+        if any(x in dead and x not in new for x in row) and sum(x not in dead for x in row) < ring["quorum"][1]:
+            return True
+    return False
+
+
+def parsed(plan):
+    steps = []
+    for line in plan:
+        fields = line.split()
+        after = [int(x) for x in fields[fields.index("after") + 1 :]] if "after" in fields else []
+        steps.append((fields[: fields.index("after")] if "after" in fields else fields, after))
+    return steps
+
+
+# Of each plan its rounds by the fewest that allowances permit.
+wide = []
+
+
+def judge(ring, before, rows, after, wished, dead, out):
+    """What is wrong with a plan; '' where nothing is."""
+    parts = out.split("end\n")
+    if parts[0] + "end\n" != ring_text(ring, before, rows):
+        return "another ring"
+    steps = parsed(parts[1].splitlines()[1:])
+    owners, depth, used, moves, late = [list(row) for row in rows], [], {}, 0, False
+    mirrors = {}
+    allow = dict(zip(ring["names"], ring["allow"]))
+    group = lambda x, side: (x, "both") if len(allow[x]) == 1 else (x, side)
+    most = lambda g: allow[g[0]][0] if g[1] in ("both", "take") else allow[g[0]][1]
+    for fields, waits in steps:
+        depth.append(max([depth[d] for d in waits], default=0) + (fields[0] == "copy"))
+        if fields[0] in ("mirror", "drop", "retire") and fields[-1] in dead:
+            return "a step of a dead node"
+        if fields[0] in ("join", "retire"):
+            continue
+        p, i = int(fields[1]), int(fields[2])
+        if fields[0] == "mirror":
+            mirrors[p, i] = fields[3]
+            moves += 1
+        elif fields[0] == "copy":
+            listed = fields[3] == "slots"
+            reads = [owners[p][int(x)] for x in fields[4:]] if listed else [owners[p][i]]
+            late = late or listed
+            if any(x in dead for x in reads):
+                return "a copy reads from a dead node"
+            for g in [group(x, "give") for x in reads] + [group(mirrors[p, i], "take")]:
+                used[g] = used.get(g, 0) + 1
+        elif fields[0] == "switch":
+            owners[p][i] = mirrors.pop((p, i))
+    if [set(x) for x in owners] != [set(x) for x in wished]:
+        return "other owners in the end"
+    least = sum(len(set(row) - set(new)) for row, new in zip(rows, wished))
+    if moves != least:
+        return f"{moves} moves for {least}"
+    bound = max([-(-used[g] // most(g)) for g in used], default=0)
+    if max(depth, default=0) > max(1.2 * bound, bound + 1 + late):
+        return f"{max(depth)} rounds for {bound}"
+    wide.append(max(depth, default=0) / max(bound, 1))
+    return ""
+
+
+def play(draw, ring, rows, wished, dead, out):
+    """Plays the plan with the dead nodes down, and compares what is read and who owns what."""
+    n, r, w = ring["quorum"]
+    steps = parsed(out.split("end\n")[1].splitlines()[1:])
+    keys = [f"k{k}" for k in range(4)]
+    script = []
+    for number, key in enumerate(keys):
+        script += [f"put w {key} x0{number}"] + [f"write {number} {i}" for i in range(n)] + [f"ack {number}"]
+    script += [f"down {x}" for x in dead]
+    done, left = set(), list(range(len(steps)))
+    while left:
+        step = draw.choice([s for s in left if all(d in done for d in steps[s][1])][:5])
+        left.remove(step)
+        done.add(step)
+        script += [f"open {step}", *[f"chunk {step} {c}" for c in range(16)], f"close {step}"] if steps[step][0][0] == "copy" else [f"do {step}"]
+    at = len(script)
+    for number, key in enumerate(keys):
+        script += [f"get {key}"] + [f"read {number} {i}" for i in range(n)] + [f"endget {number}"]
+    played, status = ask(PLAN, ["play"], out + "\n".join(["script 1", *script, "end"]) + "\n")
+    lines = played.splitlines()
+    if status or lines[0] != "yes":
+        return "the play was refused: " + lines[0]
+    events, last = lines[1 : 1 + len(script)], lines[1 + len(script) : -1]
+    bad = [it for it in events[:at] if " no " in it and not it.endswith(" no 41")]
+    if bad:
+        return f"refused in the play: {bad[0]} ({script[int(bad[0].split()[0])]})"
+    for number, _ in enumerate(keys):
+        ends = [it for it, ev in zip(events, script) if ev == f"endget {number}"]
+        alive = [it for it, ev in zip(events, script) if ev.startswith(f"read {number} ") and " no " not in it]
+        if len(alive) >= r and not ends[0].split()[1:] == ["reply", str(number)]:
+            return f"a get was answered {ends[0]}"
+    if [set(it.split()[2:]) for it in last] != [set(x) for x in wished]:
+        return "other owners behind the play"
+    return ""
+
+
+def cut(text, wished):
+    """What is wrong with the windows of a plan."""
+    out, status = ask(SIDE, ["windows", "--rounds", "1"], text)
+    if status:
+        return "no windows: " + " / ".join(out.splitlines()[:2])
+    parts = out.split("end\n")[:-1]
+    if len(parts) % 3:
+        return "windows with a part too few"
+    before = text[: text.index("end\n") + 4]
+    for k in range(0, len(parts), 3):
+        window = "end\n".join(parts[k : k + 3]) + "end\n"
+        if parts[k] + "end\n" != before:
+            return f"window {k // 3} begins with another ring"
+        if ask(PLAN, ["check"], window) != ("yes\n", 0):
+            return f"the checker refuses window {k // 3}"
+        if ask(SIDE, ["windows", "--rounds", "1", "--only", str(k // 3 + 1)], text) != (window, 0):
+            return f"window {k // 3} alone is another"
+        before = ask(SIDE, ["after"], window)[0]
+        played = ask(PLAN, ["play"], window + "\n".join(["script 1", *script_of(parts[k + 1]), "end"]) + "\n")[0].splitlines()
+        if [it for it in played if it.startswith("slots")] != [it for it in before.splitlines() if it.startswith("slots")]:
+            return f"window {k // 3} is played to other owners"
+    last = [it.split()[2:] for it in before.splitlines() if it.startswith("slots")]
+    return "" if [set(x) for x in last] == [set(x) for x in wished] else "other owners behind the windows"
+
+
+def timed(what, words, text):
+    """One command on a large ring: its output, with its seconds and its memory printed."""
+    path = "/tmp/ringside_goals_%d" % os.getpid()
+    with open(path, "w") as it:
+        it.write(text)
+    with open(path) as it:
+        child = subprocess.Popen([SIDE, *words], stdin=it, stdout=subprocess.PIPE)
+        out = child.stdout.read().decode()
+        _, status, used = os.wait4(child.pid, 0)
+    os.remove(path)
+    seconds, memory = used.ru_utime + used.ru_stime, used.ru_maxrss / 1024
+    print(f"{what}: {seconds:.2f} s, {memory:.0f} MB, {len(out) / 1e6:.1f} MB of output")
+    if status or seconds > 10 or memory > 300:
+        print(f"{what}: a fault: {out.splitlines()[:2]}")
+        return out, 1
+    return out, 0
+
+
+def large():
+    """The largest ring, by each command."""
+    draw = random.Random(7)
+    names = [f"n{k:04}.r{k % 16}" for k in range(1024)]
+    ring = {"names": names, "allow": [(4,)] * 1024, "quorum": (7, 4, 4)}
+    members = names[:924]
+    rows = [[members[(p * 7 + i * 131 + p // 132) % 924] for i in range(7)] for p in range(4096)]
+    first = ring_text(ring, members, rows)
+    change = "change 1\n" + "".join(f"join {x}\n" for x in names[924:]) + "".join(f"leave {x}\n" for x in members[:100]) + "end\n"
+    faults = 0
+    out, bad = timed("100 of 924 nodes leave and 100 join, racks and weights", ["goal", "--racks-behind", ".", "--weight", names[200] + "=3"], first + change)
+    faults += bad
+    for what, words in (("its windows of 4 rounds", ["windows", "--rounds", "4"]), ("its steps", ["steps"])):
+        faults += timed(what, words, out)[1]
+    dead = [it for x in members[:8] for it in ("--dead", x)]
+    leave = "change 1\n" + "".join(f"leave {x}\n" for x in members[:8]) + "end\n"
+    faults += timed("8 dead nodes of 924 leave", ["goal", *dead], first + leave)[1]
+    new = [draw.sample(members, 7) for _ in range(4096)]
+    faults += timed("a goal that moves nearly all slots", ["goal"], first + ring_text(ring, members, new))[1]
+    return faults
+
+
+draw, lost, found, none, around = random.Random(5), large(), 0, 0, 0
+for trial in range(COUNT):
+    ring, before, rows, after, wished, dead = drawn(draw)
+    text = ring_text(ring, before, rows) + ring_text(ring, after, wished)
+    out, status = ask(SIDE, ["goal", *[it for x in dead for it in ("--dead", x)]], text)
+    if is_hopeless(ring, rows, wished, dead):
+        why = "" if (out.splitlines()[0], status) == ("no 28", 1) else "a plan that cannot be"
+        none += 1
+    elif status:
+        why = "no plan: " + " / ".join(out.splitlines()[:2])
+    else:
+        why = judge(ring, before, rows, after, wished, dead, out)
+        if not why and ask(PLAN, ["check"], out) != ("yes\n", 0):
+            why = "the checker refuses it"
+        why = why or play(draw, ring, rows, wished, dead, out)
+        why = why or (not dead and cut(out, wished)) or ""
+        found += 1
+        around += bool(dead)
+    if why:
+        lost += 1
+        print(f"goal {trial}: {why}; --dead {' '.join(dead) or 'nobody'}")
+        if lost == 1:
+            print(text, end="")
+print(f"rounds by the fewest: {sum(wide) / max(len(wide), 1):.3f} times on average, {max(wide, default=1):.2f} at most, above 1.2 times of {sum(it > 1.2 for it in wide)}")
+print(f"{COUNT} goals: {found} reached, {around} of them around dead nodes, {none} that no plan reaches; {lost} lost")
+sys.exit(1 if lost else 0)

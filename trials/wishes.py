@@ -1,0 +1,166 @@
+#!/usr/bin/env python3
+"""How good the rings are that `ringside goal` makes of a change, with weights and racks: the owners behind its plan, against the exact best of small rings, which a
+minimum cost flow finds. It wants the program as it is built. `trials/wishes.py COUNT` tries so many random changes, else 300.
+
+It says how many share racks, or lack slots of joiners' parts, or move more than the best, and ends with 0 only where none does; and how many are as even as the best, and the worst ratio."""
+import os
+import random
+import subprocess
+import sys
+from math import lcm
+
+TOP = os.path.dirname(os.path.dirname(os.path.abspath(__file__)))
+SIDE = os.path.join(TOP, "crates", "ringside", "out", "ringside")
+
+
+def case(number):
+    """A ring of 2 to 8 partitions, 2 to 4 slots and 4 to 11 nodes, and a wish."""
+    pick = random.Random(number)
+    q, n = pick.choice([2, 4, 4, 8]), pick.choice([2, 2, 2, 2, 3, 3, 3, 3, 4])
+    count = pick.randint(max(4, n + 1), 7) + pick.randint(0, 4) * (number % 2)
+    out = min(pick.randint(0, 2), count - n)
+    member = [True] * (count - out) + [False] * out
+    pick.shuffle(member)
+    members = [v for v in range(count) if member[v]]
+    joins = [v for v in range(count) if not member[v] and pick.random() < 0.9]
+    leaves = pick.sample(members, min(len(members), pick.randint(0, 2)))
+    racks = [pick.randrange(pick.randint(2, 4)) for _ in range(count)]
+    if pick.random() < 0.1:
+        racks = racks[: pick.randint(0, count)]
+    weights = [pick.randint(1, 3) for _ in range(count)] if pick.random() < 0.6 else []
+    if pick.random() < 0.5:
+        rows = [[members[(p * n + i) % len(members)] for i in range(n)] for p in range(q)]
+    else:
+        rows = [pick.sample(members, n) for _ in range(q)]
+    bears = ["%d" % pick.randint(1, 4) if pick.random() < 0.5 else "%d %d" % (pick.randint(1, 4), pick.randint(1, 4)) for _ in range(count)]
+    return n, member, bears, rows, joins, leaves, weights, racks
+
+
+def asked(number):
+    """The names of the nodes, the options and the bundle."""
+    n, member, bears, rows, joins, leaves, weights, racks = case(number)
+    names = ["n%d.%s" % (v, "k%d" % racks[v] if v < len(racks) else "own%d" % v) for v in range(len(member))]
+    lines = ["ring 2", "space %d" % len(rows), "quorum %d 1 %d" % (n, n)]
+    lines += ["node %s %s %s" % (names[v], bears[v], "in" if member[v] else "out") for v in range(len(member))]
+    lines += ["slots %d %s" % (p, " ".join(names[v] for v in row)) for p, row in enumerate(rows)]
+    lines += ["end", "change 1"] + ["join " + names[v] for v in joins] + ["leave " + names[v] for v in leaves] + ["end"]
+    options = [word for v, weight in enumerate(weights) for word in ("--weight", "%s=%d" % (names[v], weight))]
+    return names, ["--racks-behind", ".", *options], "\n".join(lines) + "\n"
+
+
+def answered(number):
+    """The owners by number behind the plan, and None where there is none."""
+    names, options, text = asked(number)
+    ran = subprocess.run([SIDE, "goal", *options], input=text.encode(), stdout=subprocess.PIPE, timeout=60)
+    out = ran.stdout.decode()
+    if out.startswith("no 28\n") and ran.returncode == 1:
+        return None
+    if ran.returncode:
+        raise SystemExit("case %d: %s" % (number, out.splitlines()[:2]))
+    rows, mirrors = [[names.index(word) for word in line.split()[2:]] for line in text.splitlines() if line.startswith("slots")], {}
+    for line in out.split("end\n")[1].splitlines():
+        fields = line.split()
+        if fields[0] == "mirror":
+            mirrors[fields[1], fields[2]] = names.index(fields[3])
+        if fields[0] == "switch":
+            rows[int(fields[1])][int(fields[2])] = mirrors[fields[1], fields[2]]
+    return rows
+
+
+class Known:
+    """What the rules say of a case: who is a member in the end, with which weight, rack and part."""
+
+    def __init__(self, number):
+        self.n, member, _, self.rows, joins, leaves, weights, racks = case(number)
+        count = len(member)
+        self.after = [v for v in range(count) if (member[v] or v in joins) and v not in leaves]
+        self.has_plan = not leaves or len(self.after) >= self.n
+        self.weight = [weights[v] if v < len(weights) else 1 for v in range(count)]
+        self.rack = [racks[v] if v < len(racks) else -1 - v for v in range(count)]
+        total = sum(self.weight[v] for v in self.after)
+        q = len(self.rows)
+        self.part = [min(q, q * self.n * self.weight[v] // total) if v in joins else 0 for v in range(count)]
+        self.unit = lcm(*(self.weight[v] for v in self.after))
+        self.move = self.unit * (q * self.n + 1) ** 2 * 4
+        self.lack = self.move * (q * self.n + 1)
+        self.pair = self.lack * (q * self.n + 1) * 2
+
+    def cost(self, rows):
+        """The cost of owners, and the sum of their squares by weight alone."""
+        load = [sum(v in row for row in rows) for v in range(len(self.rack))]
+        pairs = sum(self.rack[a] == self.rack[b] for row in rows for k, a in enumerate(row) for b in row[:k])
+        moves = sum(v not in old for row, old in zip(rows, self.rows) for v in row)
+        met = sum(min(load[v], self.part[v]) for v in self.after)
+        squares = sum(load[v] ** 2 * self.unit // self.weight[v] for v in self.after)
+        return pairs * self.pair - met * self.lack + moves * self.move + squares, squares
+
+    def edges(self):
+        """A network whose flows are the choices of owners: partitions, their racks, members; each unit of a rack and of a member has its own cost."""
+        for p, row in enumerate(self.rows):
+            yield "from", ("p", p), self.n, 0
+            for rack in set(self.rack[v] for v in self.after):
+                for k in range(self.n):
+                    yield ("p", p), ("r", p, rack), 1, k * self.pair
+            for v in self.after:
+                yield ("r", p, self.rack[v]), ("v", v), 1, 0 if v in row else self.move
+        for v in self.after:
+            for k in range(1, len(self.rows) + 1):
+                yield ("v", v), "to", 1, (2 * k - 1) * self.unit // self.weight[v] - (self.lack if k <= self.part[v] else 0)
+
+
+def least(known):
+    """The least cost of all choices, by shortest augmenting paths (Bellman 1958, Ford 1956)."""
+    edges, at = [], {}
+    for a, b, room, cost in known.edges():
+        for one, other, r, c in ((a, b, room, cost), (b, a, 0, -cost)):
+            at.setdefault(one, []).append(len(edges))
+            edges.append([other, r, c])
+    total = 0
+    for _ in range(len(known.rows) * known.n):
+        far, way, queue = {"from": 0}, {}, ["from"]
+        while queue:
+            one = queue.pop(0)
+            for k in at[one]:
+                other, room, cost = edges[k]
+                if room and far[one] + cost < far.get(other, far[one] + cost + 1):
+                    far[other], way[other] = far[one] + cost, k
+                    if other not in queue:
+                        queue.append(other)
+        total += far["to"]
+        one = "to"
+        while one != "from":
+            edges[way[one]][1] -= 1
+            edges[way[one] ^ 1][1] += 1
+            one = edges[way[one] ^ 1][0]
+    return total
+
+
+def judge(number, answer):
+    """What is wrong with an answer, if something is, and how far from even it is."""
+    known = Known(number)
+    if not known.has_plan or answer is None:
+        return None if not known.has_plan and answer is None else "refused wrongly or not at all", 1
+    rows = answer
+    if len(rows) != len(known.rows) or any(len(set(row) & set(known.after)) != known.n or len(row) != known.n for row in rows):
+        return "no owners of the members", 1
+    if any(v in row and row[k] != v for row, old in zip(rows, known.rows) for k, v in enumerate(old)):
+        return "an owner that stays has another index", 1
+    cost, squares = known.cost(rows)
+    over = cost - least(known)
+    return (None if over < known.move else "not the best"), squares / (squares - over) if over < known.move else 1
+
+
+def main(count):
+    faults, ratios = 0, []
+    for number in range(count):
+        fault, ratio = judge(number, answered(number))
+        ratios.append(ratio)
+        if fault:
+            faults += 1
+            print("case %d: %s" % (number, fault))
+    print("%d wishes: %d faults; %d as even as the best, the worst %.3f times it" % (count, faults, ratios.count(1), max(ratios, default=1)))
+    return 1 if faults else 0
+
+
+if __name__ == "__main__":
+    sys.exit(main(int(sys.argv[1]) if len(sys.argv) > 1 else 300))
