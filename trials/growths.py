@@ -40,6 +40,10 @@ MADE = ["plan_replace", "replay_a_move", "node_enters_before_it_left"]
 REFUSED = ["broken_fact", "more_chains_than_allowance", "retired_in_use", "copy_in_no_chain", "chain_out_of_order", "moving_source", "switch_without_copy", "no_certificate",
     "node_that_has_not_joined", "quorums_need_not_meet", "owner_twice_apart", "plan_the_last_member", "replay_an_early_ack", "replay_another_reply"]
 
+# Rings that are wished for, and windows.
+WISHED = [("goal_around_a_dead_node", "goal --dead b"), ("goal_around_a_dead_node", "goal --dead a --dead b"), ("plan_replace", "goal --dead b --weight a=2 --racks-behind ."), ("plan_replace", "goal --even"),
+    ("plan_replace", "windows --rounds 2"), ("copy_out_of_order", "windows --rounds 1 --only 1")]
+
 # Of these also a certificate, which is found for the one and not for the other.
 SOUGHT = ["no_certificate", "more_chains_than_allowance"]
 
@@ -50,6 +54,9 @@ def people():
         for words in ("why", "show --all --racks-behind .", "draw", "steps", "bundle", "cert", "after") if name in MADE else ("why", "cert") if name in SOUGHT else ("why",):
             given = os.path.join(CRATES, "ringside_cases", "data", name + ".bundle")
             yield "%s %s, ringside" % (name, words), [SIDE, *words.split()], given, (3, b"no 60\n"), False
+    for name, words in WISHED:
+        given = os.path.join(CRATES, "ringside_cases", "data", name + ".bundle")
+        yield "%s %s, ringside" % (name, words), [SIDE, *words.split()], given, (3, b"no 60\n"), False
 
 
 def cases():
