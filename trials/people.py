@@ -263,7 +263,7 @@ print(f"mends: {bundles} bundles, {shown} mends shown, {accepted} of them accept
 begun, ended = walks()
 print(f"walks: {begun} refused examples have a mend, and {ended} of them become accepted by mends alone")
 most, memory = large()
-print(f"large plans: 12 runs of at most {most:.2f} s and {memory} MB")
+print(f"large plans: 16 runs of at most {most:.2f} s and {memory} MB")
 print(f"terminals: {terminals(240000)} lines of a replay of 960,000 entries, wiped out; none where there is no terminal")
 bars, pictures = 0, 0
 for path in sorted(glob.glob(f"{top}/examples/*.bundle") + glob.glob(f"{top}/crates/ringside_cases/data/*64*.bundle")):
