@@ -13,13 +13,14 @@ use std::test::Fail;
 // The nodes in three racks by turns.
 const RACKS: [u32; 14] = [0, 1, 2, 0, 1, 2, 0, 1, 2, 0, 1, 2, 0, 1];
 
-// What a wish shall come to: the slots that move, the partitions with two slots in one rack, and the fewest and the most slots of a member.
-#[derive(Clone, Copy)]
-struct Wanted {
-    moves: u32,
-    shared: u32,
-    least: u32,
-    most: u32,
+// A wish in these racks: nobody joins or leaves, and all weigh the same.
+fn racked(racks: &[u32]) -> Wish<'_> {
+    Wish {
+        joins: &[],
+        leaves: &[],
+        weights: &[],
+        racks,
+    }
 }
 
 // ---- the ring
@@ -65,198 +66,109 @@ fn least_and_most(wished: &Wished) -> (u32, u32) {
     (least, most)
 }
 
-// The wish comes to what is wanted.
+// What the ring above comes to by the wish: the slots that move and the partitions with two slots in one rack, and the fewest and the most slots of a
+// member.
 fn comes_to<RT: AllocGlobal + Abort>(
     rt: &RT,
-    ring: &Ring,
     wish: &Wish,
-    wanted: Wanted,
+    moved_and_shared: (u32, u32),
+    spread: (u32, u32),
 ) -> Result<(), Fail> {
-    let found = wished(rt.alloc(), ring, wish)?;
-    same!(rt; found.moves, wanted.moves);
-    same!(rt; found.shared, wanted.shared);
-    same!(rt; least_and_most(&found), (wanted.least, wanted.most));
+    let ring = twelve(rt.alloc())?;
+    let found = wished(rt.alloc(), &ring, wish)?;
+    same!(rt; (found.moves, found.shared), moved_and_shared);
+    same!(rt; least_and_most(&found), spread);
     Ok(())
 }
 
 // No ring fulfils the wish.
-fn is_refused<RT: AllocGlobal + Abort>(rt: &RT, ring: &Ring, wish: &Wish) {
-    holds!(rt; matches!(wished(rt.alloc(), ring, wish), Err(Refusal::NoPlan)));
+fn is_refused<RT: AllocGlobal + Abort>(rt: &RT, wish: &Wish) -> Result<(), Fail> {
+    let ring = twelve(rt.alloc())?;
+    holds!(rt; matches!(wished(rt.alloc(), &ring, wish), Err(Refusal::NoPlan)));
+    Ok(())
 }
 
 // Each of two that join takes its part, 13 slots, and no partition gets two in one rack.
 #[test]
 fn two_join_apart(rt: HostRuntime) -> Result<(), Fail> {
-    let ring = twelve(rt.alloc())?;
     let wish = Wish {
         joins: &[NodeId(12), NodeId(13)],
-        leaves: &[],
-        weights: &[],
-        racks: &RACKS,
+        ..racked(&RACKS)
     };
-    comes_to(
-        &rt,
-        &ring,
-        &wish,
-        Wanted {
-            moves: 26,
-            shared: 0,
-            least: 12,
-            most: 16,
-        },
-    )
+    comes_to(&rt, &wish, (26, 0), (12, 16))
 }
 
 // The slots of one that leaves stay in its rack, as each partition has one in each of three.
 #[test]
 fn one_leaves_its_rack(rt: HostRuntime) -> Result<(), Fail> {
-    let ring = twelve(rt.alloc())?;
     let wish = Wish {
-        joins: &[],
         leaves: &[NodeId(0)],
-        weights: &[],
-        racks: &RACKS,
+        ..racked(&RACKS)
     };
-    comes_to(
-        &rt,
-        &ring,
-        &wish,
-        Wanted {
-            moves: 16,
-            shared: 0,
-            least: 16,
-            most: 22,
-        },
-    )
+    comes_to(&rt, &wish, (16, 0), (16, 22))
 }
 
 // Two that join take all that two leave, each in its rack.
 #[test]
 fn two_for_two(rt: HostRuntime) -> Result<(), Fail> {
-    let ring = twelve(rt.alloc())?;
     let wish = Wish {
         joins: &[NodeId(12), NodeId(13)],
         leaves: &[NodeId(0), NodeId(1)],
-        weights: &[],
-        racks: &RACKS,
+        ..racked(&RACKS)
     };
-    comes_to(
-        &rt,
-        &ring,
-        &wish,
-        Wanted {
-            moves: 32,
-            shared: 0,
-            least: 16,
-            most: 16,
-        },
-    )
+    comes_to(&rt, &wish, (32, 0), (16, 16))
 }
 
 // In two racks each partition has two slots in one of them; where it has three, one moves.
 #[test]
 fn two_racks_shared(rt: HostRuntime) -> Result<(), Fail> {
-    let ring = twelve(rt.alloc())?;
-    let wish = Wish {
-        joins: &[],
-        leaves: &[],
-        weights: &[],
-        racks: &[0, 0, 0, 0, 0, 0, 1, 1, 1, 1, 1, 1],
-    };
-    comes_to(
-        &rt,
-        &ring,
-        &wish,
-        Wanted {
-            moves: 64,
-            shared: 64,
-            least: 16,
-            most: 16,
-        },
-    )
+    let wish = racked(&[0, 0, 0, 0, 0, 0, 1, 1, 1, 1, 1, 1]);
+    comes_to(&rt, &wish, (64, 64), (16, 16))
 }
 
 // Each partition shares racks before: two slots of half of them move, and one of the others.
 #[test]
 fn racks_mended(rt: HostRuntime) -> Result<(), Fail> {
-    let ring = twelve(rt.alloc())?;
-    let wish = Wish {
-        joins: &[],
-        leaves: &[],
-        weights: &[],
-        racks: &[0, 0, 0, 0, 1, 1, 1, 1, 2, 2, 2, 2],
-    };
-    comes_to(
-        &rt,
-        &ring,
-        &wish,
-        Wanted {
-            moves: 96,
-            shared: 0,
-            least: 16,
-            most: 16,
-        },
-    )
+    let wish = racked(&[0, 0, 0, 0, 1, 1, 1, 1, 2, 2, 2, 2]);
+    comes_to(&rt, &wish, (96, 0), (16, 16))
 }
 
 // One of weight 3 takes three times what one of weight 1 takes.
 #[test]
 fn weight_taken(rt: HostRuntime) -> Result<(), Fail> {
-    let ring = twelve(rt.alloc())?;
     let wish = Wish {
         joins: &[NodeId(12), NodeId(13)],
-        leaves: &[],
         weights: &[1, 1, 1, 1, 1, 1, 1, 1, 1, 1, 1, 1, 3],
-        racks: &[],
+        ..racked(&[])
     };
-    comes_to(
-        &rt,
-        &ring,
-        &wish,
-        Wanted {
-            moves: 48,
-            shared: 0,
-            least: 12,
-            most: 36,
-        },
-    )
+    comes_to(&rt, &wish, (48, 0), (12, 36))
 }
 
 // With two members no partition has three owners.
 #[test]
 fn too_few_left(rt: HostRuntime) -> Result<(), Fail> {
-    let ring = twelve(rt.alloc())?;
     let mut leaves = Vec::new(rt.alloc());
     for node in 0..10u32 {
         leaves.push(NodeId(node))?;
     }
     let wish = Wish {
-        joins: &[],
         leaves: leaves.as_slice(),
-        weights: &[],
-        racks: &RACKS,
+        ..racked(&RACKS)
     };
-    is_refused(&rt, &ring, &wish);
-    Ok(())
+    is_refused(&rt, &wish)
 }
 
 // A member cannot join, and who is none cannot leave.
 #[test]
 fn wrong_nodes_refused(rt: HostRuntime) -> Result<(), Fail> {
-    let ring = twelve(rt.alloc())?;
     let joins = Wish {
         joins: &[NodeId(0)],
-        leaves: &[],
-        weights: &[],
-        racks: &[],
+        ..racked(&[])
     };
-    is_refused(&rt, &ring, &joins);
+    is_refused(&rt, &joins)?;
     let leaves = Wish {
-        joins: &[],
         leaves: &[NodeId(12)],
-        weights: &[],
-        racks: &[],
+        ..racked(&[])
     };
-    is_refused(&rt, &ring, &leaves);
-    Ok(())
+    is_refused(&rt, &leaves)
 }
