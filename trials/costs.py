@@ -1,6 +1,6 @@
 #!/usr/bin/env python3
 """What bundles that were made to cost much cost, at each doubling: trials/costs.py [WORD..], once `rt ci` or `rt run` has built crates/ringplan. With
-words, the families alone whose command or name is one of them.
+words, the families alone whose command or name is one of them. Of `ringside`, which must be built too, the same plans by each command, and goals.
 
 For each family of `hostile_plans.py` and `hostile_scripts.py`, and for rings whose members change, a line for each size: the bundle's and the output's
 megabytes, the seconds of processor time, how many times those of half the size, and the most memory. It says of which line a bound is passed,
@@ -15,7 +15,7 @@ sys.path.insert(0, os.path.dirname(os.path.abspath(__file__)))
 sys.dont_write_bytecode = True
 import hostile_plans
 import hostile_scripts
-from measured import RUN, Measured
+from measured import RUN, SIDE, Measured
 
 
 def members(leave, partitions):
@@ -28,6 +28,24 @@ def members(leave, partitions):
     return "\n".join(lines) + "\n"
 
 
+def shifted(partitions):
+    """The ring of 1,024 nodes, and behind it the same ring with each slot at the next node."""
+    first, rows = members(0, partitions).split("change 1\n")[0], []
+    for line in first.splitlines():
+        fields = line.split()
+        if fields[0] == "slots":
+            line = " ".join(fields[:2] + ["n%04d" % ((int(x[1:]) + 7) % 1024) for x in fields[2:]])
+        rows.append(line)
+    return first + "\n".join(rows) + "\n"
+
+
+def around(dead, partitions):
+    """The ring of 1,024 nodes, of which so many leave that are dead: the command's words, and the bundle."""
+    bundle = members(dead, partitions)
+    names = [line.split()[1] for line in bundle.splitlines() if line.startswith("leave ")]
+    return ["goal", *[it for x in names for it in ("--dead", x)]], bundle
+
+
 def history(bundle):
     """The bundle of a replay of what a play of this one answers."""
     front, _, script = bundle.rpartition("script 1\n")
@@ -36,6 +54,11 @@ def history(bundle):
     replies = [line.partition(" ")[2] for line in played[: len(events)]]
     entries = ["%s = %s" % (event, reply) for event, reply in zip(events, replies) if not reply.startswith("no ")]
     return front + "\n".join(["history 1", *entries, "end"]) + "\n"
+
+
+def plan_of(bundle):
+    """The same ring with a plan for its change."""
+    return bundle.split("change 1\n")[0] + subprocess.run([RUN, "plan"], input=bundle.encode(), stdout=subprocess.PIPE).stdout.decode()
 
 
 def clients(writers, lines):
@@ -79,6 +102,14 @@ def families():
             yield words, name, made
     yield ["plan"], "a tenth of the nodes", [lambda q=q: members(102, q) for q in doubled(512, 4096)]
     yield ["plan"], "half of the nodes", [lambda q=q: members(512, q) for q in doubled(512, 4096)]
+    for words in (["why"], ["show"], ["draw"], ["steps"], ["steps", "--moves"], ["cert"], ["bundle"], ["after"], ["windows", "--rounds", "1"], ["windows", "--rounds", "64"]):
+        for name, made in checks.items():
+            yield ["ringside", *words], name, made
+    windows = [lambda q=q: plan_of(members(102, q)) for q in doubled(512, 4096)]
+    yield ["ringside", "windows", "--rounds", "1"], "a tenth of the nodes", windows
+    yield ["ringside", "goal"], "a tenth of the nodes", [lambda q=q: members(102, q) for q in doubled(512, 4096)]
+    yield ["ringside", "goal"], "each slot to another node", [lambda q=q: shifted(q) for q in doubled(512, 4096)]
+    yield ["ringside", *around(100, 512)[0]], "100 dead nodes", [lambda q=q: around(100, q)[1] for q in doubled(512, 4096)]
     plays = {
         "reads, versions": [lambda m=m: hostile_scripts.bundle("reads", m, 500) for m in doubled(128, 1024)],
         "reads, gets": scripts("reads", 500, 32000, 1024),
@@ -108,15 +139,15 @@ def families():
 def main():
     wanted, passed = sys.argv[1:], 0
     for words, name, made in families():
-        if wanted and not {words[0], name.split(",")[0]} & {*wanted}:
+        if wanted and not {words[0], words[-1], name.split(",")[0]} & {*wanted}:
             continue
-        print("%s, %s" % (" ".join(words), name), flush=True)
+        print("%s, %s" % (" ".join(words[:5]), name), flush=True)
         before = None
         for make in made:
             bundle = make().encode()
             if len(bundle) > 67108864:
                 break
-            made = Measured(words, bundle)
+            made = Measured(words[1:], bundle, program=SIDE) if words[0] == "ringside" else Measured(words, bundle)
             out, status, seconds, memory = made.size, made.status, made.seconds, made.memory
             size, both = len(bundle) / 1e6, (len(bundle) + out) / 1e6
             over = []

@@ -3,14 +3,14 @@
 
 Goals: rings of 1 to 16 partitions, joint and split allowances, nodes that join, leave and are dead for good, drawn from a fixed seed; any placement of the slots. Of each plan: the checker says
 yes; it moves each slot that must move once, and no other; its rounds of copies are at most 1.2 times the fewest that allowances permit, and one more where it has to wait for slots that are read in place of a dead
-node's; no step names a dead node, and no copy reads from one. Each plan is played with the dead nodes down from its first step on: puts that were acknowledged before are read behind it, and
+node's; no step names a dead node, and no copy reads from one; the lines of its moves are those that its text tells. Each plan is played with the dead nodes down from its first step on: puts that were acknowledged before are read behind it, and
 the owners in the end are those of the goal. Where a partition has too few slots that can be read, or a dead node shall be given a slot, the answer is `no 28`.
 
 Windows: each of those plans that has no dead node is cut into windows of one round. The checker says yes to each; each begins with the ring that the one before leaves; the last leaves the goal's owners.
 
 Large rings: 4,096 partitions of 7 slots over 1,024 nodes, by a change with racks and weights, around a dead node, and as a goal, and the windows of these: seconds and MB are printed; 10 seconds and 300 MB
 are a fault."""
-import os, random, subprocess, sys
+import json, os, random, subprocess, sys, time
 
 top = os.path.dirname(os.path.dirname(os.path.abspath(__file__)))
 PLAN, SIDE = f"{top}/crates/ringplan/out/ringplan", f"{top}/crates/ringside/out/ringside"
@@ -125,6 +125,26 @@ def judge(ring, before, rows, after, wished, dead, out):
     return ""
 
 
+def told_moves(rows, steps):
+    """The lines of the moves, as the plan's text tells them."""
+    owners, mirrors, moves, own = [list(row) for row in rows], {}, [], {}
+    for number, (fields, _) in enumerate(steps):
+        if fields[0] in ("join", "retire"):
+            continue
+        p, i = int(fields[1]), int(fields[2])
+        if fields[0] == "mirror":
+            mirrors[p, i] = fields[3]
+            own[p, i] = len(moves)
+            moves.append({"move": len(moves), "partition": p, "slot": i, "from": owners[p][i], "to": fields[3], "steps": []})
+        elif fields[0] == "switch":
+            owners[p][i] = mirrors.pop((p, i))
+        moves[own[p, i]]["steps"].append(number)
+    for move in moves:
+        waits = {d for number in move["steps"] for d in steps[number][1]}
+        move["after"] = sorted(waits - set(move["steps"]))
+    return "".join(json.dumps(move, sort_keys=True, separators=(",", ":")) + "\n" for move in moves)
+
+
 def play(draw, ring, rows, wished, dead, out):
     """Plays the plan with the dead nodes down, and compares what is read and who owns what."""
     n, r, w = ring["quorum"]
@@ -216,14 +236,29 @@ def large():
     faults = 0
     out, bad = timed("100 of 924 nodes leave and 100 join, racks and weights", ["goal", "--racks-behind", ".", "--weight", names[200] + "=3"], first + change)
     faults += bad
-    for what, words in (("its windows of 4 rounds", ["windows", "--rounds", "4"]), ("its steps", ["steps"])):
+    for what, words in (("its windows of 4 rounds", ["windows", "--rounds", "4"]), ("its steps", ["steps"]), ("its moves", ["steps", "--moves"])):
         faults += timed(what, words, out)[1]
     dead = [it for x in members[:8] for it in ("--dead", x)]
     leave = "change 1\n" + "".join(f"leave {x}\n" for x in members[:8]) + "end\n"
     faults += timed("8 dead nodes of 924 leave", ["goal", *dead], first + leave)[1]
     new = [draw.sample(members, 7) for _ in range(4096)]
     faults += timed("a goal that moves nearly all slots", ["goal"], first + ring_text(ring, members, new))[1]
-    return faults
+    return faults + many_windows(first, rows[0][0], next(x for x in members if x not in rows[0]))
+
+
+def many_windows(ring, old, new):
+    """A slot of the largest ring that goes to and fro between two nodes, 500 times: windows of one round have more bytes than a bundle may, those of 50 have not."""
+    steps = []
+    for move in range(500):
+        here, there = (old, new) if move % 2 == 0 else (new, old)
+        at, waits = 4 * move, f" after {4 * move - 1}" if move else ""
+        steps += [f"mirror 0 0 {there}{waits}", f"copy 0 0 owner after {at}", f"switch 0 0 after {at + 1}", f"drop 0 0 {here} after {at + 2}"]
+    plan, faults = timed("a certificate for 500 moves of one slot", ["cert"], ring + "\n".join(["plan 1", *steps, "end", ""]))
+    faults += timed("their windows of 50 rounds", ["windows", "--rounds", "50"], plan)[1]
+    began = time.monotonic()
+    said = [ask(SIDE, ["windows", "--rounds", "1", *only], plan) for only in ((), ("--only", "7"))]
+    print(f"their windows of one round, all and the seventh: {time.monotonic() - began:.2f} s, {said[0][0].splitlines()[0]}")
+    return faults + sum(status != 2 or not out.startswith("no 2 0\nrefused: the windows") for out, status in said)
 
 
 draw, lost, found, none, around = random.Random(5), large(), 0, 0, 0
@@ -240,6 +275,8 @@ for trial in range(COUNT):
         why = judge(ring, before, rows, after, wished, dead, out)
         if not why and ask(PLAN, ["check"], out) != ("yes\n", 0):
             why = "the checker refuses it"
+        if not why and ask(SIDE, ["steps", "--moves"], out) != (told_moves(rows, parsed(out.split("end\n")[1].splitlines()[1:])), 0):
+            why = "other lines of its moves"
         why = why or play(draw, ring, rows, wished, dead, out)
         why = why or (not dead and cut(out, wished)) or ""
         found += 1

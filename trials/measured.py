@@ -6,17 +6,18 @@ import tempfile
 
 TOP = os.path.dirname(os.path.dirname(os.path.abspath(__file__)))
 RUN = os.path.join(TOP, "crates", "ringplan", "out", "ringplan")
+SIDE = os.path.join(TOP, "crates", "ringside", "out", "ringside")
 
 
 class Measured:
     """The output's first bytes and its size, the exit status, the seconds by the clock and of processor time, and the most memory in bytes (that of the
     process that starts it, some nine megabytes, at least)."""
 
-    def __init__(self, words, bundle, limit=120):
+    def __init__(self, words, bundle, limit=120, program=RUN):
         with tempfile.NamedTemporaryFile() as given, tempfile.NamedTemporaryFile() as out:
             given.write(bundle)
             given.flush()
-            starter = [sys.executable, "-S", os.path.abspath(__file__), given.name, out.name, str(limit), RUN, *words]
+            starter = [sys.executable, "-S", os.path.abspath(__file__), given.name, out.name, str(limit), program, *words]
             made = subprocess.run(starter, stdout=subprocess.PIPE, check=True).stdout.split()
             self.status, self.memory = int(made[0]), int(made[3])
             self.wall, self.seconds = float(made[1]), float(made[2])

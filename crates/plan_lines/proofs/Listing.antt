@@ -1,5 +1,5 @@
--- The lines of one step more.
-use Rattle.std.proofs.Common.{◌≡◌, ◌∙◌, ℕ, ◌+◌, ◌≤◌, List, [], ◌∷◌, ◌++◌, map, length, drop, Option, Some, None, refl, sym, ap}
+-- The lines of one step more, and of one move more.
+use Rattle.std.proofs.Common.{◌≡◌, ◌∙◌, ℕ, ◌+◌, ◌<◌, ◌≤◌, List, [], ◌∷◌, ◌++◌, map, length, get_or, drop, Option, Some, None, refl, sym, ap}
 use Rattle.std.specs.Prelude.{option_map, slice_get}
 use Rattle.std.proofs.lemmas.List.{append_assoc, append-nil, at_drop_more, at_drop_all}
 use Rattle.std.proofs.lemmas.Option.{get_or_from_slice_get, slice_get_within}
@@ -15,8 +15,10 @@ use Rattle.plan_stage.specs.Parties.{stage_before, source_slots}
 use Rattle.plan_cover.specs.declared.present.Serving.{Serving}
 use Rattle.plan_cover.specs.Looking.Serving.{serving_of}
 use Rattle.plan_cover.proofs.Served.{whole}
+use Rattle.plan_moves.specs.declared.movement.Move.{Move}
 use Rattle.plan_moves.specs.Moves.{served_before}
 use Rattle.plan_lines.specs.Lines.{node_data, owners_data, mirror_data, copy_object, step_data, line_at, lines_from, steps_text}
+use Rattle.plan_lines.specs.MoveLines.{move_data, move_lines}
 
 -- what a line says hangs on who serves the slots alone
 owners-alike : (names : List (List ℕ)) (f g : Slot → Serving) (slots : List Slot) → ((slot : Slot) → f slot ≡ g slot)
@@ -60,3 +62,14 @@ lines-next ring plan n t after out new serve at deps same told is =
 
 pub lines-end : (ring : RingValue) (plan : List Planned) (n : ℕ) (out : List ℕ) → length plan ≤ n → out ++ lines_from ring plan n (drop n plan) ≡ steps_text ring plan → out ≡ steps_text ring plan
 lines-end ring plan n out l told = sym (append-nil out) ∙ ap (λ (xs : List ℕ). out ++ xs) (sym (at_drop_all (lines_from ring plan n) plan n l)) ∙ told
+
+pub moves-next : (names : List (List ℕ)) (plan : List Planned) (ms : List Move) (k : ℕ) (d : Move) (out new text : List ℕ) → k < length ms → out ++ move_lines names plan k (drop k ms) ≡ text
+    → new ≡ out ++ (compact_text (move_data names plan k (get_or ms k d)) ++ 10 ∷ []) → new ++ move_lines names plan (k + 1) (drop (k + 1) ms) ≡ text
+moves-next names plan ms k d out new text l told is =
+    let line : List ℕ = compact_text (move_data names plan k (get_or ms k d)) ++ 10 ∷ [] in
+    let rest : List ℕ = move_lines names plan (k + 1) (drop (k + 1) ms) in
+    let step : move_lines names plan k (drop k ms) ≡ line ++ rest = at_drop_more (move_lines names plan k) ms k d l in
+    ap (λ (xs : List ℕ). xs ++ rest) is ∙ append_assoc out line rest ∙ ap (λ (xs : List ℕ). out ++ xs) (sym step) ∙ told
+
+pub moves-end : (names : List (List ℕ)) (plan : List Planned) (ms : List Move) (k : ℕ) (out text : List ℕ) → length ms ≤ k → out ++ move_lines names plan k (drop k ms) ≡ text → out ≡ text
+moves-end names plan ms k out text l told = sym (append-nil out) ∙ ap (λ (xs : List ℕ). out ++ xs) (sym (at_drop_all (move_lines names plan k) ms k l)) ∙ told

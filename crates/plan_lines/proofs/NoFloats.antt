@@ -1,14 +1,18 @@
 -- A line has no float.
 use Rattle.std.proofs.Common.{◌≡◌, ℕ, false, List, [], ◌∷◌, map, Option, Some, None, refl}
+use Rattle.serde_json.specs.Data.{Data}
 use Rattle.serde_json.specs.View.{items_of}
 use Rattle.serde_json.specs.Written.{has_float, items_have_float}
 use Rattle.ring_names.specs.declared.ids.NodeId.{NodeId}
 use Rattle.ring_names.specs.declared.ids.Slot.{Slot}
 use Rattle.plan_text.specs.declared.step.Step.{Step}
 use Rattle.plan_text.specs.declared.step.Step.TheVariants.{Join, Mirror, Copy, Switch, Drop, Retire}
+use Rattle.plan_text.specs.declared.step.Planned.{Planned}
 use Rattle.plan_stage.specs.Parties.{source_slots}
 use Rattle.plan_cover.specs.declared.present.Serving.{Serving}
+use Rattle.plan_moves.specs.declared.movement.Move.{Move}
 use Rattle.plan_lines.specs.Lines.{number_data, node_data, mirror_data, step_data}
+use Rattle.plan_lines.specs.MoveLines.{move_steps, move_after, move_data}
 
 numbers-plain : (ns : List ℕ) → items_have_float (items_of (map number_data ns)) ≡ false
 numbers-plain [] = refl
@@ -29,3 +33,6 @@ step-plain names serve n (Copy s source) after = rw (numbers-plain after, owners
 step-plain names serve n (Switch s) after = rw (numbers-plain after) refl
 step-plain names serve n (Drop s x) after = rw (numbers-plain after) refl
 step-plain names serve n (Retire x) after = rw (numbers-plain after) refl
+
+pub move-plain : (names : List (List ℕ)) (plan : List Planned) (k : ℕ) (m : Move) (d : Data) → d ≡ move_data names plan k m → has_float d ≡ false
+move-plain names plan k m d is = rw is (rw (numbers-plain (move_after plan (move_steps plan m)), numbers-plain (move_steps plan m)) refl)

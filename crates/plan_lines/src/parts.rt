@@ -1,7 +1,8 @@
-//! Names and numbers as values of JSON.
+//! Names and numbers as values of JSON, and a value as a line.
 
-ghost use Rattle.std.specs.Prelude.{◌≡◌, map, IfOk, IfErr};
+ghost use Rattle.std.specs.Prelude.{◌≡◌, ◌++◌, ◌∷◌, [], false, map, IfOk, IfErr, OnOk};
 ghost use Rattle.serde_json.specs.View.{view};
+ghost use Rattle.serde_json.specs.Written.{compact_text, has_float};
 ghost use Rattle.ring_names.specs.declared.refusal.Refusal.TheVariants.{OutOfMemory};
 ghost use Rattle.ring_table.specs.Value.{names_of};
 ghost use Rattle.ring_table.specs.Spelling.{name_at};
@@ -59,4 +60,15 @@ pub(crate) fn mirror_value(
         Some(node) => name_value(alloc, ring, node),
         None => Ok(Value::Null),
     }
+}
+
+/// Adds the text of a value as a line.
+pub(crate) fn push_line(alloc: Global, out: &mut Vec<u8>, value: &Value) -> Result<(), AllocError>
+    requires { has_float (view value.now) ≡ false }
+    ensures { OnOk result (out.new.items ≡ out.old.items ++ (compact_text (view value.now) ++ 10 ∷ [])) }
+{
+    let line = value.to_vec(alloc)?;
+    out.extend_from_slice(line.as_slice())?;
+    out.push(b'\n')?;
+    Ok(())
 }

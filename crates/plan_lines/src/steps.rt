@@ -1,9 +1,9 @@
 //! The lines of a plan's steps.
 
-ghost use Rattle.std.specs.Prelude.{◌≡◌, ◌<◌, ◌++◌, ◌∷◌, [], true, false, map, nat_lt, IfOk, IfErr, OnOk};
+ghost use Rattle.std.specs.Prelude.{◌≡◌, ◌<◌, ◌++◌, ◌∷◌, [], true, map, nat_lt, IfOk, IfErr, OnOk};
 ghost use Rattle.std.specs.List.{list_all};
 ghost use Rattle.serde_json.specs.View.{view};
-ghost use Rattle.serde_json.specs.Written.{compact_text, has_float};
+ghost use Rattle.serde_json.specs.Written.{compact_text};
 ghost use Rattle.ring_names.specs.declared.refusal.Refusal.TheVariants.{OutOfMemory};
 ghost use Rattle.ring_table.specs.Value.{names_of};
 ghost use Rattle.plan_text.specs.Valid.{Suits, source_suits, step_suits};
@@ -15,13 +15,13 @@ ghost use Rattle.plan_lines.specs.Lines.{node_data, owners_data, step_data, step
 use crate::objects::{
     Head, copy_object, drop_object, join_object, mirror_object, retire_object, switch_object,
 };
-use crate::parts::{mirror_value, name_value};
+use crate::parts::{mirror_value, name_value, push_line};
 use plan_cover::Present;
 use plan_text::{Plan, Source, Step};
 use ring_names::{Refusal, Slot};
 use ring_table::Ring;
 use serde_json::Value;
-use std::alloc::{AllocError, Global};
+use std::alloc::Global;
 
 // The names of the owners of the listed slots of a partition.
 fn listed_owners(
@@ -114,17 +114,6 @@ fn step_value(head: &Head, ring: &Ring, present: &Present, step: &Step) -> Resul
         }
         Step::Retire(node) => Ok(retire_object(head, name_value(head.alloc, ring, *node)?)?),
     }
-}
-
-// Adds the text of a value as a line.
-fn push_line(alloc: Global, out: &mut Vec<u8>, value: &Value) -> Result<(), AllocError>
-    requires { has_float (view value.now) ≡ false }
-    ensures { OnOk result (out.new.items ≡ out.old.items ++ (compact_text (view value.now) ++ 10 ∷ [])) }
-{
-    let line = value.to_vec(alloc)?;
-    out.extend_from_slice(line.as_slice())?;
-    out.push(b'\n')?;
-    Ok(())
 }
 
 // Adds the line of a step.

@@ -1,5 +1,5 @@
 //! Runs the program for people on the bundles that its arguments name, and prints the command, the name, the answer and the exit status of each. The words `why`, `show`,
-//! `all`, `draw`, `steps`, `bundle`, `cert` and `after` among them say which command is meant from there on; `all` is `show --all --racks-behind .`.
+//! `all`, `draw`, `steps`, `moves`, `bundle`, `cert`, `after`, `goal`, `even`, `dead`, `windows` and `only` among them say which command is meant from there on, as `words` tells.
 #![tactic(auto)]
 
 use ringside_run::{Unwatched, run};
@@ -22,6 +22,8 @@ enum Asked {
     Even,
     Dead,
     Windows,
+    Moves,
+    Only,
 }
 
 fn main(rt: HostRuntime) -> io::Result<()> {
@@ -40,6 +42,8 @@ fn main(rt: HostRuntime) -> io::Result<()> {
             "even" => asked = Asked::Even,
             "dead" => asked = Asked::Dead,
             "windows" => asked = Asked::Windows,
+            "moves" => asked = Asked::Moves,
+            "only" => asked = Asked::Only,
             name => tell(&rt, asked, name)?,
         }
     }
@@ -52,12 +56,12 @@ fn word(asked: Asked) -> &'static str {
         Asked::Why => "why",
         Asked::Show | Asked::All => "show",
         Asked::Draw => "draw",
-        Asked::Steps => "steps",
+        Asked::Steps | Asked::Moves => "steps",
         Asked::Bundle => "bundle",
         Asked::Cert => "cert",
         Asked::After => "after",
         Asked::Goal | Asked::Even | Asked::Dead => "goal",
-        Asked::Windows => "windows",
+        Asked::Windows | Asked::Only => "windows",
     }
 }
 
@@ -76,6 +80,8 @@ fn words(asked: Asked) -> &'static [&'static str] {
         Asked::Even => &["ringside", "goal", "--even", "--racks-behind", "."],
         Asked::Dead => &["ringside", "goal", "--dead", "b"],
         Asked::Windows => &["ringside", "windows", "--rounds", "2"],
+        Asked::Moves => &["ringside", "steps", "--moves"],
+        Asked::Only => &["ringside", "windows", "--rounds", "1", "--only", "2"],
     }
 }
 

@@ -3,9 +3,9 @@
 ghost use Rattle.std.specs.Prelude.{IfOk};
 ghost use Rattle.ringplan_jobs.specs.Verdict.{TextsKeepPromises};
 
-use crate::sections::{Kind, front, kind_of};
 use ring_names::Refusal;
 use ringplan_jobs::{check_bundle, plan_bundle};
+use ringside_plans::{Kind, front, kind_of};
 use std::alloc::Global;
 
 // The ring's text, and behind it a plan that makes the change, with its certificate.

@@ -1,14 +1,13 @@
 //! Why no plan leads to the ring that is wished for, in words.
 
-use crate::goal::{nodes_of, wished_goal};
-use crate::options::Options;
-use crate::sections::{Kind, front, kind_of};
 use crate::study::Work;
 use crate::why::push_words_of;
 use plan_goal::{Aim, Goal, Unfit, read_goal, why_unfit};
 use ring_names::{NodeId, Refusal};
-use ring_table::Ring;
+use ring_table::{Ring, read_ring};
 use ringplan_jobs::Watch;
+use ringside_job::Options;
+use ringside_plans::{Kind, front, kind_of, nodes_of, wished_goal};
 use std::alloc::Global;
 use text_words::{Page, Said, tell_text};
 use words::Words;
@@ -186,7 +185,7 @@ fn push_names<W: Watch>(
     bytes: &[u8],
     options: &Options,
 ) -> Result<(), Refusal> {
-    match ring_table::read_ring(work.alloc, &bytes[..front(bytes, 1)]) {
+    match read_ring(work.alloc, &bytes[..front(bytes, 1)]) {
         Ok(ring) => {
             push_unknown(out, &ring, options);
             Ok(())

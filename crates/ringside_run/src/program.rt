@@ -3,18 +3,17 @@
 use crate::after::{after_bundle, push_open};
 use crate::bundle::whole_bundle;
 use crate::cert::{cert_of, push_why_none};
-use crate::command::{CommandLine, parse};
-use crate::goal::{led_bundle, wish_words};
 use crate::goal_words::push_goal_words;
-use crate::job::{Job, Making};
-use crate::options::Options;
 use crate::show::{draw_bundle, show_bundle};
-use crate::steps::steps_bundle;
+use crate::steps::{moves_bundle, steps_bundle};
 use crate::study::Work;
 use crate::why::{push_words_of, why_bundle};
-use crate::windows::cut_bundle;
+use crate::windows::{push_too_many, windows_bundle};
 use ring_names::Refusal;
 use ringplan_jobs::{Answer, Watch, answer_of, read_all, write_all};
+use ringside_command::{CommandLine, parse};
+use ringside_job::{Job, Making};
+use ringside_plans::{led_bundle, wish_words};
 use std::alloc::Global;
 use std::convert::AsStr;
 use std::io::{Read, Write};
@@ -46,7 +45,7 @@ pub fn run<S: AsStr, R: Read + Drop, W: Write, P: Watch>(
 ) -> u8 {
     match parse(alloc, words) {
         CommandLine::Do(job) => {
-            let found = answer_of_input(&Work { alloc, watch }, job, input);
+            let found = answer_of_input(&Work { alloc, watch }, &job, input);
             tell(alloc, found, output)
         }
         CommandLine::Help(text) => finish(output, text.as_slice(), 0),
@@ -66,27 +65,40 @@ pub fn end_without_words<W: Write>(output: &mut W) -> u8 {
 }
 
 // What is made of the bundle.
-fn make_of<W: Watch>(work: &Work<W>, making: Making, bytes: &[u8]) -> Result<Vec<u8>, Refusal> {
+fn make_of<W: Watch>(work: &Work<W>, making: &Making, bytes: &[u8]) -> Result<Vec<u8>, Refusal> {
     match making {
         Making::Bundle => whole_bundle(work.alloc, bytes),
         Making::Cert => cert_of(work.alloc, bytes),
         Making::After => after_bundle(work, bytes),
-        Making::Show(wish) => show_bundle(work, bytes, wish),
+        Making::Show(wish) => show_bundle(work, bytes, *wish),
         Making::Draw => draw_bundle(work, bytes),
         Making::Steps => steps_bundle(work, bytes),
+        Making::Moves => moves_bundle(work, bytes),
+        Making::Windows(cut) => windows_bundle(work, bytes, *cut),
+        Making::Goal(options) => led_bundle(work.alloc, bytes, options),
+        Making::Even(options) => wish_words(work.alloc, bytes, options),
     }
 }
 
 // What is made of the bundle, or the refusal's line and why.
-fn made<W: Watch>(work: &Work<W>, making: Making, bytes: &[u8]) -> Result<Answer, Refusal> {
+fn made<W: Watch>(work: &Work<W>, making: &Making, bytes: &[u8]) -> Result<Answer, Refusal> {
     let found = make_of(work, making, bytes);
     let mut words = Words::new(work.alloc);
     match &found {
         Ok(_) | Err(Refusal::OutOfMemory) => {}
         Err(refusal) => push_said(work, &mut words, making, bytes, refusal)?,
     }
+    answer_with(work.alloc, found, words)
+}
+
+// The answer, and behind a refusal's line those words.
+fn answer_with(
+    alloc: Global,
+    found: Result<Vec<u8>, Refusal>,
+    words: Words,
+) -> Result<Answer, Refusal> {
     let words = words.end()?;
-    let mut answer = answer_of(work.alloc, found)?;
+    let mut answer = answer_of(alloc, found)?;
     answer.output.extend_from_slice(words.as_slice())?;
     Ok(answer)
 }
@@ -95,35 +107,35 @@ fn made<W: Watch>(work: &Work<W>, making: Making, bytes: &[u8]) -> Result<Answer
 fn push_said<W: Watch>(
     work: &Work<W>,
     out: &mut Words,
-    making: Making,
+    making: &Making,
     bytes: &[u8],
     refusal: &Refusal,
 ) -> Result<(), Refusal> {
-    if let (Making::After, Refusal::WrongStage(step)) = (making, refusal) {
-        if push_open(work, out, bytes, *step)? {
-            return Ok(());
+    match (making, refusal) {
+        (Making::Cert, _) => push_why_none(work, out, bytes, refusal),
+        (Making::After, Refusal::WrongStage(step)) => push_open(work, out, bytes, *step),
+        (Making::Windows(_), Refusal::TooLarge(0)) => {
+            push_too_many(out);
+            Ok(())
         }
+        (Making::Goal(options) | Making::Even(options), _) => {
+            push_goal_words(work, out, bytes, options, refusal)
+        }
+        _ => push_words_of(work, out, bytes, refusal),
     }
-    if matches!(making, Making::Cert) {
-        return push_why_none(work, out, bytes, refusal);
-    }
-    push_words_of(work, out, bytes, refusal)
 }
 
 // The answer where the input was not read.
 fn refused<W: Watch>(work: &Work<W>, refusal: Refusal) -> Result<Answer, Refusal> {
     let mut words = Words::new(work.alloc);
     push_words_of(work, &mut words, b"", &refusal)?;
-    let words = words.end()?;
-    let mut answer = answer_of(work.alloc, Err(refusal))?;
-    answer.output.extend_from_slice(words.as_slice())?;
-    Ok(answer)
+    answer_with(work.alloc, Err(refusal), words)
 }
 
 // The answer to a job with the whole input.
 fn answer_of_input<R: Read + Drop, P: Watch>(
     work: &Work<P>,
-    job: Job,
+    job: &Job,
     input: &mut R,
 ) -> Result<Answer, Refusal> {
     let bytes = match read_all(work.alloc, input) {
@@ -133,54 +145,7 @@ fn answer_of_input<R: Read + Drop, P: Watch>(
     match job {
         Job::Why => why_bundle(work, bytes.as_slice()),
         Job::Make(making) => made(work, making, bytes.as_slice()),
-        Job::Goal(options) => {
-            let found = led_bundle(work.alloc, bytes.as_slice(), &options);
-            led(work, found, bytes.as_slice(), &options)
-        }
-        Job::Windows(cut) => {
-            let found = cut_bundle(work, bytes.as_slice(), cut);
-            told(work, found, bytes.as_slice())
-        }
-        Job::Even(options) => {
-            let found = wish_words(work.alloc, bytes.as_slice(), &options);
-            led(work, found, bytes.as_slice(), &options)
-        }
     }
-}
-
-// The windows, or the refusal's line and why.
-fn told<W: Watch>(
-    work: &Work<W>,
-    found: Result<Vec<u8>, Refusal>,
-    bytes: &[u8],
-) -> Result<Answer, Refusal> {
-    let mut words = Words::new(work.alloc);
-    match &found {
-        Ok(_) | Err(Refusal::OutOfMemory) => {}
-        Err(refusal) => push_words_of(work, &mut words, bytes, refusal)?,
-    }
-    let words = words.end()?;
-    let mut answer = answer_of(work.alloc, found)?;
-    answer.output.extend_from_slice(words.as_slice())?;
-    Ok(answer)
-}
-
-// What was found on the way to the ring that is wished for, or the refusal's line and why.
-fn led<W: Watch>(
-    work: &Work<W>,
-    found: Result<Vec<u8>, Refusal>,
-    bytes: &[u8],
-    options: &Options,
-) -> Result<Answer, Refusal> {
-    let mut words = Words::new(work.alloc);
-    match &found {
-        Ok(_) | Err(Refusal::OutOfMemory) => {}
-        Err(refusal) => push_goal_words(work, &mut words, bytes, options, refusal)?,
-    }
-    let words = words.end()?;
-    let mut answer = answer_of(work.alloc, found)?;
-    answer.output.extend_from_slice(words.as_slice())?;
-    Ok(answer)
 }
 
 // Prints the answer, and returns its exit status.

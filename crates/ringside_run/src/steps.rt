@@ -5,10 +5,11 @@ ghost use Rattle.ring_table.specs.Value.{RingValue};
 ghost use Rattle.plan_text.specs.declared.step.Planned.{Planned};
 ghost use Rattle.plan_check.specs.Approval.{IsApproved};
 ghost use Rattle.plan_lines.specs.Lines.{steps_text};
+ghost use Rattle.plan_lines.specs.MoveLines.{moves_text};
 
 use crate::study::{Work, studied};
 use plan_check::Approved;
-use plan_lines::write_steps;
+use plan_lines::{write_moves, write_steps};
 use ring_names::Refusal;
 use ringplan_jobs::Watch;
 use std::alloc::Global;
@@ -30,4 +31,22 @@ pub fn steps_bundle<W: Watch>(work: &Work<W>, bytes: &[u8]) -> Result<Vec<u8>, R
 {
     let found = studied(work, bytes)?;
     steps_of(work.alloc, &found.approved)
+}
+
+// The slots that an approved plan moves.
+fn moves_of(alloc: Global, approved: &Approved) -> Result<Vec<u8>, Refusal>
+    ensures text { IfOk result (λ v. v.items ≡ moves_text approved.now.ring approved.now.plan) }
+    ensures approved { IsApproved approved.now.ring approved.now.plan }
+{
+    write_moves(alloc, approved.ring(), approved.plan())
+}
+
+/// The slots that a bundle's plan moves as lines of JSON, where the checker accepts it; else as `steps_bundle`.
+pub fn moves_bundle<W: Watch>(work: &Work<W>, bytes: &[u8]) -> Result<Vec<u8>, Refusal>
+    // They are the moves of a plan that the checker accepted, in order, and none is left out.
+    ensures moves { IfOk result (λ text. (ring : RingValue) × (plan : List Planned)
+        × IsApproved ring plan × (text.items ≡ moves_text ring plan)) }
+{
+    let found = studied(work, bytes)?;
+    moves_of(work.alloc, &found.approved)
 }

@@ -1,13 +1,13 @@
 //! A bundle whose plan the checker accepts.
 
 use crate::bundle::texts_of;
-use crate::sections::{Kind, kind_of};
 use history_text::read_replay;
 use plan_cert::Cert;
 use plan_check::{Approved, check};
 use plan_runs::Entry;
 use ring_names::Refusal;
 use ringplan_jobs::{Kind as Sections, Watch, read_bundle, replay_watched};
+use ringside_plans::{Kind, kind_of};
 use std::alloc::Global;
 
 /// What a job works with: memory, and who is told how far a replay has come.

@@ -4,7 +4,6 @@ ghost use Rattle.std.specs.Prelude.{◌≡◌, ◌≢◌, IfOk};
 ghost use Rattle.ringplan_jobs.specs.Verdict.{TextsKeepPromises};
 ghost use Rattle.ringside_run.specs.Why.{AnswersCheck};
 
-use crate::sections::{Kind, front, kind_of};
 use crate::study::{Study, Work, studied};
 use change_text::{Wanted, read_wanted};
 use history_text::read_replay;
@@ -16,6 +15,7 @@ use ringplan_jobs::{
     Answer, Job, Kind as Sections, Watch, World, answer_of, check_bundle, make, plan_bundle,
     read_bundle, replay_watched,
 };
+use ringside_plans::{Kind, front, kind_of};
 use std::alloc::Global;
 use text_words::{Page, Said, tell_text};
 use words::Words;

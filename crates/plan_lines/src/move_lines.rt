@@ -1,0 +1,81 @@
+//! The lines of a plan's moves.
+
+ghost use Rattle.std.specs.Prelude.{◌≡◌, ◌<◌, length, IfOk, IfErr};
+ghost use Rattle.serde_json.specs.View.{view};
+ghost use Rattle.ring_names.specs.declared.refusal.Refusal.TheVariants.{OutOfMemory};
+ghost use Rattle.ring_table.specs.Value.{names_of};
+ghost use Rattle.plan_text.specs.Valid.{Suits};
+ghost use Rattle.plan_lines.specs.MoveLines.{move_object, move_data, moves_text};
+
+use crate::own_steps::move_steps;
+use crate::parts::{name_value, numbers, push_line};
+use crate::waits::move_after;
+use plan_moves::{Move, moves};
+use plan_text::Plan;
+use ring_names::{Refusal, Slot};
+use ring_table::Ring;
+use serde_json::{Value, json};
+use std::alloc::{AllocError, Global};
+
+// A move's number, the numbers of the steps that must be done before it, and those of its own steps.
+#[derive(Clone, Copy)]
+struct Head<'a> {
+    alloc: Global,
+    number: usize,
+    after: &'a [u32],
+    steps: &'a [u32],
+}
+
+// The object of a move.
+fn move_object(head: &Head, slot: Slot, from: Value, to: Value) -> Result<Value, AllocError>
+    ensures { IfOk result (λ v. view v
+        ≡ move_object head.now.after.now head.now.number head.now.steps.now slot (view from) (view to)) }
+{
+    let after = numbers(head.alloc, head.after)?;
+    let steps = numbers(head.alloc, head.steps)?;
+    json!(in head.alloc; {"after": after, "from": from, "move": head.number, "partition": slot.partition, "slot": slot.index, "steps": steps, "to": to})
+}
+
+// The object of the plan's move of that number.
+fn move_value(
+    alloc: Global,
+    ring: &Ring,
+    plan: &Plan,
+    number: usize,
+    movement: &Move,
+) -> Result<Value, Refusal>
+    requires { movement.now.mirror < length plan.now }
+    ensures value { IfOk result (λ v. view v ≡ move_data (names_of ring.now) plan.now number movement.now) }
+    ensures memory { IfErr result (λ e. e ≡ OutOfMemory) }
+{
+    let steps = move_steps(alloc, plan, movement)?;
+    let after = move_after(alloc, plan, steps.as_slice())?;
+    let from = name_value(alloc, ring, movement.from)?;
+    let to = name_value(alloc, ring, movement.to)?;
+    let head = Head {
+        alloc,
+        number,
+        after: after.as_slice(),
+        steps: steps.as_slice(),
+    };
+    Ok(move_object(&head, movement.slot, from, to)?)
+}
+
+/// The plan's moves as lines of JSON, one for each in the order of their mirrors, for whoever carries out one move behind the other: its number, its slot,
+/// who owns the slot until it is switched and the mirror to which it goes, the numbers of the slot's steps from the one that sets the mirror up to the next
+/// that sets one, and the numbers of the steps that must be done before: once these are, the move's steps can be done in a row without waiting for any
+/// other. Joins, retirements and the steps of a slot before its first mirror are in no move. Refused only for want of memory. Costs one pass over the plan
+/// and, for a move, a binary search in the slot's steps, a look at each dependency of the move's steps, and a sort of those.
+pub fn write_moves(alloc: Global, ring: &Ring, plan: &Plan) -> Result<Vec<u8>, Refusal>
+    requires { Suits ring.now plan.now }
+    ensures text { IfOk result (λ v. v.items ≡ moves_text ring.now plan.now) }
+    ensures memory { IfErr result (λ e. e ≡ OutOfMemory) }
+{
+    let found = moves(alloc, ring, plan)?;
+    let mut out = Vec::new(alloc);
+    for (number, movement) in found.iter().enumerate() {
+        let value = move_value(alloc, ring, plan, number, movement)?;
+        push_line(alloc, &mut out, &value)?;
+    }
+    Ok(out)
+}

@@ -1,0 +1,63 @@
+//! What there is to be done with a bundle.
+
+use crate::options::Options;
+
+/// How much a summary shows.
+#[derive(Clone, Copy, Debug)]
+pub enum Shape {
+    /// What fits on a screen; the rest is summed.
+    Short,
+    /// All.
+    Whole,
+}
+
+/// What a summary is to show.
+#[derive(Clone, Copy, Debug)]
+pub struct Wish {
+    pub shape: Shape,
+    /// The byte behind which a node's name names its rack, where racks are asked for.
+    pub racks_behind: Option<u8>,
+}
+
+/// How a plan is to be cut.
+#[derive(Clone, Copy, Debug)]
+pub struct Cut {
+    /// How many rounds of copies a window has.
+    pub rounds: u32,
+    /// The window that is wanted, from 1 on; all where there is none.
+    pub only: Option<u32>,
+}
+
+/// What can be made of a bundle.
+#[derive(Debug, Drop)]
+pub enum Making {
+    /// Ring, plan and certificate in one text.
+    Bundle,
+    /// The same with a certificate that is found, whether or not there is one.
+    Cert,
+    /// The ring that the plan, or what a history has done of it, leaves.
+    After,
+    /// A summary.
+    Show(Wish),
+    /// A picture.
+    Draw,
+    /// The plan's steps as lines of JSON.
+    Steps,
+    /// The slots that move, as such lines.
+    Moves,
+    /// The plan in parts, or one of these.
+    Windows(Cut),
+    /// A plan that leads to the ring that is wished for.
+    Goal(Options),
+    /// In words how far from even that ring is.
+    Even(Options),
+}
+
+/// What there is to be done with a bundle.
+#[derive(Debug, Drop)]
+pub enum Job {
+    /// To say why it is refused, or what a yes says.
+    Why,
+    /// To make something of it.
+    Make(Making),
+}

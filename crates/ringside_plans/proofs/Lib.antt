@@ -1,0 +1,4 @@
+-- What is proved of rings behind plans, and of certificates.
+pub mod Members
+pub mod Fronts
+pub mod InWindows

@@ -1,0 +1,5 @@
+-- What is made of rings and plans.
+pub mod Rings
+pub mod Goals
+pub mod Certs
+pub mod Windows

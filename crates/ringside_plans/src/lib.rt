@@ -1,0 +1,14 @@
+//! What is made for people of rings and plans, without a run: plans that lead to a ring that is wished for, certificates, windows, and the ring that a plan leaves.
+#![tactic(auto)]
+
+mod cert;
+mod goal;
+mod rings;
+mod sections;
+mod windows;
+
+pub use cert::{cert_bundle, found_bundle, push_excess};
+pub use goal::{goal_bundle, led_bundle, nodes_of, wish_bundle, wish_words, wished_goal};
+pub use rings::{rewritten, ring_after};
+pub use sections::{Kind, front, kind_of};
+pub use windows::{MAX_WINDOWS, cut_plan};
