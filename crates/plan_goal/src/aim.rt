@@ -1,5 +1,6 @@
 //! Where a plan shall lead.
 
+use crate::dead::Dead;
 use plan_rounds::{Layout, Move, small};
 use ring_names::{NodeId, Refusal, Slot};
 use ring_table::{Allowance, Node, Ring};
@@ -90,11 +91,11 @@ fn rows<'a>(aim: &Aim<'a>, partition: usize) -> (&'a [NodeId], &'a [NodeId]) {
 }
 
 // The first slot of a partition that goes to a dead node.
-fn dead_owner(aim: &Aim, partition: usize) -> Option<Slot> {
+fn dead_owner(aim: &Aim, dead: &Dead, partition: usize) -> Option<Slot> {
     let (ours, theirs) = rows(aim, partition);
     for index in 0..theirs.len() {
         if let Some(node) = theirs.get(index) {
-            if !has(ours, *node) && has(aim.dead, *node) {
+            if !has(ours, *node) && dead.has(*node) {
                 return Some(Slot {
                     partition: small(partition),
                     index: small(index),
@@ -106,12 +107,12 @@ fn dead_owner(aim: &Aim, partition: usize) -> Option<Slot> {
 }
 
 // Whether a slot of a dead node moves, and too few slots of the partition have other owners.
-fn is_unread(aim: &Aim, partition: usize) -> bool {
+fn is_unread(aim: &Aim, dead: &Dead, partition: usize) -> bool {
     let (ours, theirs) = rows(aim, partition);
     let mut alive = 0u32;
     let mut is_left = false;
     for node in ours {
-        if !has(aim.dead, *node) {
+        if !dead.has(*node) {
             alive = alive.saturating_add(1);
         } else if !has(theirs, *node) {
             is_left = true;
@@ -128,11 +129,12 @@ pub fn why_unfit(aim: &Aim) -> Option<Unfit> {
     if let Some(node) = other_node(aim.ring, aim.wanted) {
         return Some(Unfit::Node(node));
     }
+    let dead = Dead::of(aim.dead);
     for partition in 0..aim.ring.rows().len() {
-        if let Some(slot) = dead_owner(aim, partition) {
+        if let Some(slot) = dead_owner(aim, &dead, partition) {
             return Some(Unfit::DeadOwner(slot));
         }
-        if is_unread(aim, partition) {
+        if is_unread(aim, &dead, partition) {
             return Some(Unfit::Unread(small(partition)));
         }
     }

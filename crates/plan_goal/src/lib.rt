@@ -2,6 +2,7 @@
 #![tactic(auto)]
 
 mod aim;
+mod dead;
 mod finding;
 mod leading;
 mod reaching;

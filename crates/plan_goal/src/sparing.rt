@@ -10,6 +10,7 @@ ghost use Rattle.plan_stage.specs.Parties.{source_slots};
 ghost use Rattle.plan_cover.specs.Looking.Serving.{serving_at};
 ghost use Rattle.plan_goal.specs.Reached.{is_spared, are_spared, touched, spares};
 
+use crate::dead::Dead;
 use plan_cover::Present;
 use plan_text::{Plan, Source, Step};
 use ring_names::{NodeId, Refusal, Slot};
@@ -31,15 +32,15 @@ pub fn is_among(nodes: &[NodeId], node: NodeId) -> bool
 }
 
 // Whether the node is not dead.
-fn is_spared(dead: &[NodeId], node: NodeId) -> bool
-    ensures { result ≡ is_spared dead.now node }
+fn is_spared(dead: &Dead, node: NodeId) -> bool
+    ensures { result ≡ is_spared dead.now.nodes.now node }
 {
-    !is_among(dead, node)
+    !dead.has(node)
 }
 
 // Whether no owner of the listed slots of a partition is dead.
 fn are_owners_spared(
-    dead: &[NodeId],
+    dead: &Dead,
     ring: &Ring,
     present: &Present,
     partition: u32,
@@ -47,7 +48,7 @@ fn are_owners_spared(
 ) -> bool
     requires partition { partition < ring.now.q }
     requires indexes { list_all (λ i. nat_lt i ring.now.n) from.now ≡ true }
-    ensures { result ≡ are_spared dead.now (map (λ s. (serving_at ring.now present.now s).owner)
+    ensures { result ≡ are_spared dead.now.nodes.now (map (λ s. (serving_at ring.now present.now s).owner)
         (map (λ i. record { partition = partition; index = i }) from.now)) }
 {
     let Some((index, others)) = from.split_first() else {
@@ -62,17 +63,11 @@ fn are_owners_spared(
 }
 
 // Whether a copy reads from no dead node.
-fn is_copy_spared(
-    dead: &[NodeId],
-    ring: &Ring,
-    present: &Present,
-    slot: Slot,
-    source: &Source,
-) -> bool
+fn is_copy_spared(dead: &Dead, ring: &Ring, present: &Present, slot: Slot, source: &Source) -> bool
     requires partition { slot.partition < ring.now.q }
     requires index { slot.index < ring.now.n }
     requires suits { source_suits ring.now source.now ≡ true }
-    ensures { result ≡ are_spared dead.now (map (λ s. (serving_at ring.now present.now s).owner) (source_slots slot source.now)) }
+    ensures { result ≡ are_spared dead.now.nodes.now (map (λ s. (serving_at ring.now present.now s).owner) (source_slots slot source.now)) }
 {
     match source {
         Source::Owner => is_spared(dead, present.at(ring, slot).owner),
@@ -83,9 +78,9 @@ fn is_copy_spared(
 }
 
 // Whether the step touches no dead node.
-fn is_step_spared(dead: &[NodeId], ring: &Ring, present: &Present, step: &Step) -> bool
+fn is_step_spared(dead: &Dead, ring: &Ring, present: &Present, step: &Step) -> bool
     requires { step_suits ring.now step.now ≡ true }
-    ensures { result ≡ are_spared dead.now (touched (serving_at ring.now present.now) step.now) }
+    ensures { result ≡ are_spared dead.now.nodes.now (touched (serving_at ring.now present.now) step.now) }
 {
     match step {
         Step::Join(_) | Step::Switch(_) => true,
@@ -94,17 +89,17 @@ fn is_step_spared(dead: &[NodeId], ring: &Ring, present: &Present, step: &Step) 
     }
 }
 
-/// Whether no step of the plan reads from one of these nodes, gives it a slot, drops what it has or retires it. Costs one pass over the plan, and a look at each of
-/// the nodes for each that a step touches.
+/// Whether no step of the plan reads from one of these nodes, gives it a slot, drops what it has or retires it. Costs one pass over the plan.
 pub fn spares(alloc: Global, ring: &Ring, plan: &Plan, dead: &[NodeId]) -> Result<bool, Refusal>
     requires { Suits ring.now plan.now }
     ensures ok { IfOk result (λ b. IsTrue b → spares ring.now plan.now dead.now ≡ true) }
     ensures memory { IfErr result (λ e. e ≡ OutOfMemory) }
 {
+    let flagged = Dead::of(dead);
     let mut present = Present::new(alloc, ring)?;
     for number in 0..plan.len() {
         let step = plan.step(number);
-        if !is_step_spared(dead, ring, &present, step) {
+        if !is_step_spared(&flagged, ring, &present, step) {
             return Ok(false);
         }
         present.act(ring, step);

@@ -10,6 +10,7 @@ mod layout;
 mod listed;
 mod moving;
 mod numbers;
+mod phases;
 mod round_sets;
 mod rounds;
 mod steps;

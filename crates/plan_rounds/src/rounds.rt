@@ -5,7 +5,8 @@ use crate::groups::Groups;
 use crate::later::Later;
 use crate::listed::{around, fewest, is_worth, sources};
 use crate::moving::Move;
-use crate::numbers::{raise, row, set, small};
+use crate::numbers::{raise, row, small};
+use crate::phases::{behind, in_phases};
 use crate::task::Task;
 use crate::urgency::by_urgency;
 use ring_names::{Refusal, Rows};
@@ -60,86 +61,6 @@ fn seated(task: &Task, colours: &Colours, parties: &Rows) -> Result<Vec<u32>, Re
     Ok(rounds)
 }
 
-// By move, whether its slot is among those that copies list.
-fn are_read(task: &Task, listed: &Rows) -> Result<Vec<bool>, Refusal> {
-    let layout = task.layout;
-    let mut read = vec![in task.alloc; 0u32; layout.total()]?;
-    let mut number = 0usize;
-    for step in task.moves {
-        for index in row(listed, number) {
-            let place = layout.place(step.slot.partition as usize, *index as usize);
-            set(&mut read, place, 1);
-        }
-        number = number.saturating_add(1);
-    }
-    let mut moves = Vec::new(task.alloc);
-    for step in task.moves {
-        moves.push(read.get(layout.place_of(step.slot)) == Some(&1))?;
-    }
-    Ok(moves)
-}
-
-// The numbers of the copies of which that is so.
-fn numbers_of(alloc: Global, marks: &[bool], mark: bool) -> Result<Vec<u32>, Refusal> {
-    let mut numbers = Vec::new(alloc);
-    for number in 0..marks.len() {
-        if marks.get(number) == Some(&mark) {
-            numbers.push(small(number))?;
-        }
-    }
-    Ok(numbers)
-}
-
-// Rounds of copies that come behind others: the first that is free, and the round of each copy.
-#[derive(Drop)]
-struct Phases {
-    next: u32,
-    rounds: Vec<u32>,
-}
-
-impl Phases {
-    // Gives these copies the next rounds, by urgency, or in turn where that would take too long.
-    fn add(&mut self, task: &Task, parties: &Rows, numbers: &[u32]) -> Result<(), Refusal> {
-        let mut rows = Rows::new(task.alloc);
-        for number in numbers {
-            rows.push(row(parties, *number as usize))?;
-        }
-        let first = self.next;
-        match by_urgency(task.alloc, task.groups, &rows)? {
-            Some(found) => self.set(numbers, found.of_copies.as_slice(), first),
-            None => {
-                let found = in_turn(task, &rows)?;
-                self.set(numbers, found.as_slice(), first);
-            }
-        }
-        Ok(())
-    }
-
-    // Those copies have these rounds, counted from the first on.
-    fn set(&mut self, numbers: &[u32], found: &[u32], first: u32) {
-        let mut place = 0usize;
-        for number in numbers {
-            if let Some(round) = found.get(place) {
-                let round = first.saturating_add(*round);
-                set(&mut self.rounds, *number as usize, round);
-                self.next = self.next.max(round.saturating_add(1));
-            }
-            place = place.saturating_add(1);
-        }
-    }
-}
-
-// Rounds in turn.
-fn in_turn(task: &Task, parties: &Rows) -> Result<Vec<u32>, Refusal> {
-    let mut later = Later::new(task.alloc);
-    later.begin(task.alloc, task.groups.len(), 0)?;
-    let mut rounds = Vec::new(task.alloc);
-    for copy in 0..parties.len() {
-        rounds.push(later.round(task.groups, row(parties, copy)))?;
-    }
-    Ok(rounds)
-}
-
 impl Schedule {
     /// No move has a round yet.
     pub fn new(alloc: Global) -> Schedule {
@@ -173,11 +94,11 @@ impl Schedule {
 
     // Copies of which some list slots. Answers whether that saves enough rounds.
     fn read_listed(&mut self, task: &Task) -> Result<bool, Refusal> {
-        let groups = task.groups;
-        let Some(rounds) = by_urgency(task.alloc, groups, &self.parties)? else {
+        let (alloc, groups) = (task.alloc, task.groups);
+        let Some(rounds) = by_urgency(alloc, groups, &self.parties, &Rows::new(alloc))? else {
             return Ok(false);
         };
-        let counts = counts(task.alloc, groups, task.moves)?;
+        let counts = counts(alloc, groups, task.moves)?;
         if !is_worth(rounds.count, fewest(groups, &counts)) {
             return Ok(false);
         }
@@ -209,9 +130,9 @@ impl Schedule {
         count
     }
 
-    // Takes rounds by urgency where these are fewer, as they may be where nodes both give and take.
-    fn try_urgency(&mut self, task: &Task) -> Result<(), Refusal> {
-        if let Some(rounds) = by_urgency(task.alloc, task.groups, &self.parties)? {
+    // Takes rounds by urgency where these are fewer; behind each copy come those of its row.
+    fn try_urgency(&mut self, task: &Task, behind: &Rows) -> Result<(), Refusal> {
+        if let Some(rounds) = by_urgency(task.alloc, task.groups, &self.parties, behind)? {
             if rounds.count < self.count() {
                 self.rounds = rounds.of_copies;
             }
@@ -219,23 +140,19 @@ impl Schedule {
         Ok(())
     }
 
-    // Copies that read around the groups that are barred. A slot that such a copy lists moves in a later round.
+    // Copies that read around the groups that are barred. A slot that such a copy lists moves in a later round: behind all others, or, where that takes fewer
+    // rounds, behind the copies that list it.
     fn read_around(&mut self, task: &Task) -> Result<(), Refusal> {
         let Some(listed) = around(task)? else {
             return Err(Refusal::NoPlan);
         };
         self.listed = listed;
         self.add_parties(task)?;
-        let late = are_read(task, &self.listed)?;
-        let mut phases = Phases {
-            next: 0,
-            rounds: vec![in task.alloc; 0u32; task.moves.len()]?,
-        };
-        for mark in [false, true] {
-            let numbers = numbers_of(task.alloc, &late, mark)?;
-            phases.add(task, &self.parties, &numbers)?;
+        let behind = behind(task, &self.listed)?;
+        self.rounds = in_phases(task, &self.parties, &behind)?;
+        if behind.total() > 0 {
+            self.try_urgency(task, &behind)?;
         }
-        self.rounds = phases.rounds;
         Ok(())
     }
 
@@ -246,7 +163,8 @@ impl Schedule {
             return self.read_around(task);
         }
         self.fill(task)?;
-        self.try_urgency(task)
+        // Where nodes both give and take, colours may need more.
+        self.try_urgency(task, &Rows::new(task.alloc))
     }
 
     /// The moves by round, and in a round by partition and index: the round of each, and its place among the moves.

@@ -3,6 +3,8 @@
 //! A copy waits in the queue of the group that needed most rounds when the copy came there. In a round the groups with a queue are served by their
 //! needs, each until it has as many copies as its allowance, or until some copies in turn found another group full. So a round looks at few copies that do not
 //! get a place in it, and all of them together at few more than there are.
+//!
+//! A copy that must come behind others waits in no queue until each of these has a round; so those that others wait for are queued first.
 
 use crate::groups::Groups;
 use crate::numbers::{at, lower, raise, row, set, small};
@@ -23,12 +25,18 @@ struct Waiting<'a> {
     groups: &'a Groups,
     // the groups that take part in each copy
     parties: &'a Rows,
+    // the copies that each copy must come before
+    behind: &'a Rows,
+    // how many copies that wait each copy must come behind
+    before: Vec<u32>,
     // how many copies of each group wait
     left: Vec<u32>,
     // how many copies of each group are in the round
     used: Vec<u32>,
     // the copies that wait, by group
     queues: Vec<VecDeque<u32>>,
+    // the copies that wait for the end of the round, behind one that is in it
+    next: Vec<u32>,
     // the round of each copy that has one
     rounds: Vec<u32>,
     // how many copies wait
@@ -40,6 +48,7 @@ impl<'a> Waiting<'a> {
     // All copies wait.
     fn begin(&mut self, alloc: Global) -> Result<(), Refusal> {
         self.left = vec![in alloc; 0u32; self.groups.len()]?;
+        self.before = vec![in alloc; 0u32; self.count]?;
         self.rounds = vec![in alloc; 0u32; self.count]?;
         for _ in 0..self.groups.len() {
             self.queues.push(VecDeque::new(alloc))?;
@@ -48,9 +57,21 @@ impl<'a> Waiting<'a> {
             for group in row(self.parties, copy) {
                 raise(&mut self.left, *group as usize);
             }
+            for later in row(self.behind, copy) {
+                raise(&mut self.before, *later as usize);
+            }
         }
+        self.queue_all(true)?;
+        self.queue_all(false)
+    }
+
+    // The copies that come behind none wait in queues: those that others come behind, or those that none does.
+    fn queue_all(&mut self, is_before: bool) -> Result<(), Refusal> {
         for copy in 0..self.count {
-            self.queue(small(copy))?;
+            let is_meant = row(self.behind, copy).is_empty() != is_before;
+            if is_meant && at(&self.before, copy) == 0 {
+                self.queue(small(copy))?;
+            }
         }
         Ok(())
     }
@@ -96,7 +117,7 @@ impl<'a> Waiting<'a> {
     }
 
     // The first copy of the group's queue, which waits there no longer.
-    fn next(&mut self, group: usize) -> Option<u32> {
+    fn take(&mut self, group: usize) -> Option<u32> {
         match self.queues.get_mut(group) {
             Some(queue) => queue.pop_front(),
             None => None,
@@ -118,14 +139,26 @@ impl<'a> Waiting<'a> {
         true
     }
 
+    // Of the copies that come behind this one, those that come behind no other wait for the end of the round.
+    fn free(&mut self, copy: u32) -> Result<(), Refusal> {
+        for later in row(self.behind, copy as usize) {
+            lower(&mut self.before, *later as usize);
+            if at(&self.before, *later as usize) == 0 {
+                self.next.push(*later)?;
+            }
+        }
+        Ok(())
+    }
+
     // Gives the copy a place in the round.
-    fn place(&mut self, copy: u32, round: u32) {
+    fn place(&mut self, copy: u32, round: u32) -> Result<(), Refusal> {
         set(&mut self.rounds, copy as usize, round);
         for group in row(self.parties, copy as usize) {
             raise(&mut self.used, *group as usize);
             lower(&mut self.left, *group as usize);
         }
         self.count = self.count.saturating_sub(1);
+        self.free(copy)
     }
 
     // Gives copies of the group's queue a place in the round, while the group is free.
@@ -135,12 +168,12 @@ impl<'a> Waiting<'a> {
             if misses > MISSES || !self.is_free(group) {
                 break;
             }
-            let Some(copy) = self.next(group) else {
+            let Some(copy) = self.take(group) else {
                 break;
             };
             self.looks = self.looks.saturating_add(1);
             if self.has_place(copy) {
-                self.place(copy, round);
+                self.place(copy, round)?;
             } else {
                 misses = misses.saturating_add(1);
                 self.queue(copy)?;
@@ -161,6 +194,16 @@ impl<'a> Waiting<'a> {
         Ok(order)
     }
 
+    // The round has ended.
+    fn end(&mut self) -> Result<(), Refusal> {
+        for place in 0..self.next.len() {
+            let copy = at(&self.next, place);
+            self.queue(copy)?;
+        }
+        self.next.clear();
+        Ok(())
+    }
+
     // Fills the round.
     fn fill(&mut self, alloc: Global, round: u32) -> Result<(), Refusal> {
         self.used = vec![in alloc; 0u32; self.groups.len()]?;
@@ -169,7 +212,7 @@ impl<'a> Waiting<'a> {
         for (_, group) in order.iter() {
             self.serve(*group as usize, round)?;
         }
-        Ok(())
+        self.end()
     }
 
     // Gives rounds to all copies, and answers how many rounds these are; none where it would take too long.
@@ -198,22 +241,36 @@ pub struct Rounds {
     pub of_copies: Vec<u32>,
 }
 
-/// Rounds for copies in which these groups take part; none where it would take too long.
+// All copies, before they are in queues.
+fn all_wait<'a>(
+    alloc: Global,
+    groups: &'a Groups,
+    parties: &'a Rows,
+    behind: &'a Rows,
+) -> Waiting<'a> {
+    Waiting {
+        groups,
+        parties,
+        behind,
+        before: Vec::new(alloc),
+        left: Vec::new(alloc),
+        used: Vec::new(alloc),
+        queues: Vec::new(alloc),
+        next: Vec::new(alloc),
+        rounds: Vec::new(alloc),
+        count: parties.len(),
+        looks: 0,
+    }
+}
+
+/// Rounds for copies in which these groups take part, and behind each of which the copies of that row come; none where it would take too long.
 pub fn by_urgency<'a>(
     alloc: Global,
     groups: &'a Groups,
     parties: &'a Rows,
+    behind: &'a Rows,
 ) -> Result<Option<Rounds>, Refusal> {
-    let mut waiting = Waiting {
-        groups,
-        parties,
-        left: Vec::new(alloc),
-        used: Vec::new(alloc),
-        queues: Vec::new(alloc),
-        rounds: Vec::new(alloc),
-        count: parties.len(),
-        looks: 0,
-    };
+    let mut waiting = all_wait(alloc, groups, parties, behind);
     match waiting.all(alloc)? {
         Some(count) => Ok(Some(Rounds {
             count,

@@ -176,7 +176,7 @@ pub fn cut(
     width: u32,
 ) -> Result<Vec<Plan>, Refusal> {
     let mut groups = Groups::new(alloc, ring);
-    groups.fill(alloc, ring, plan)?;
+    groups.fill(ring, plan)?;
     let mut windows = Windows {
         plan,
         of_steps: groups.of_steps.as_slice(),

@@ -4,6 +4,7 @@ use plan_text::{Plan, Step};
 use ring_names::{NodeId, Refusal, Slot};
 use ring_table::Ring;
 use std::alloc::Global;
+use std::collections::BTreeMap;
 
 // Who owns a slot, who mirrors it, and the group of the mirror.
 #[derive(Clone, Copy)]
@@ -13,11 +14,11 @@ struct Serving {
     group: u32,
 }
 
-// A node that has left a slot, and the group that took it from it.
-#[derive(Clone, Copy)]
+// A slot, by its place, and a node that has left it.
+#[derive(Clone, Copy, Debug, PartialEq, Eq, PartialOrd, Ord)]
 struct Left {
+    place: usize,
     node: u32,
-    group: u32,
 }
 
 /// By step the number of its group, and how many groups there are.
@@ -27,8 +28,8 @@ pub struct Groups {
     pub count: u32,
     slots: usize,
     serving: Vec<Serving>,
-    // by slot, and then in the order of the steps
-    left: Vec<Vec<Left>>,
+    // the group that took the slot from the node last; ordered, since plans choose how often a slot moves
+    left: BTreeMap<Left, u32>,
 }
 
 impl Groups {
@@ -39,12 +40,12 @@ impl Groups {
             count: 0,
             slots: ring.n() as usize,
             serving: Vec::new(alloc),
-            left: Vec::new(alloc),
+            left: BTreeMap::new(alloc),
         }
     }
 
     /// The groups of a plan's steps.
-    pub fn fill(&mut self, alloc: Global, ring: &Ring, plan: &Plan) -> Result<(), Refusal> {
+    pub fn fill(&mut self, ring: &Ring, plan: &Plan) -> Result<(), Refusal> {
         for row in ring.rows() {
             for owner in row.as_slice() {
                 self.serving.push(Serving {
@@ -52,7 +53,6 @@ impl Groups {
                     mirror: 0,
                     group: 0,
                 })?;
-                self.left.push(Vec::new(alloc))?;
             }
         }
         for number in 0..plan.len() {
@@ -125,9 +125,7 @@ impl Groups {
             group,
         } = self.serving(slot);
         let place = self.place(slot);
-        if let Some(left) = self.left.get_mut(place) {
-            left.push(Left { node: owner, group })?;
-        }
+        self.left.insert(Left { place, node: owner }, group)?;
         self.serve(
             slot,
             Serving {
@@ -141,16 +139,12 @@ impl Groups {
 
     // The group that took the slot from the node last; a group of its own where none did.
     fn group_left(&mut self, slot: Slot, node: NodeId) -> u32 {
-        let mut found = None;
-        if let Some(left) = self.left.get(self.place(slot)) {
-            for one in left.iter() {
-                if one.node == node.0 {
-                    found = Some(one.group);
-                }
-            }
-        }
-        match found {
-            Some(group) => group,
+        let place = self.place(slot);
+        match self.left.get(&Left {
+            place,
+            node: node.0,
+        }) {
+            Some(group) => *group,
             None => self.next(),
         }
     }

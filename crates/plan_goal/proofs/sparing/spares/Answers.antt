@@ -1,8 +1,10 @@
-use Rattle.std.proofs.Common.{◌≤◌, ◌∙◌, length, refl, sym, arith}
+use Rattle.std.proofs.Common.{◌∙◌, List, refl, sym, ap}
+use Rattle.ring_names.specs.declared.ids.NodeId.{NodeId}
 use Rattle.plan_text.specs.Valid.{step_suits}
 use Rattle.plan_cover.specs.Looking.Serving.{serving_at}
 use Rattle.plan_cover.proofs.Served.{serving-first, step-passes, present-next}
-use Rattle.plan_goal.proofs.Touching.{spares-next, spares-end}
+use Rattle.plan_goal.specs.Reached.{touched, are_spared}
+use Rattle.plan_goal.proofs.Touching.{spares-next}
 use Rattle.plan_goal.proofs.sparing.spares.Goals as goal
 
 pub loop-number-init : goal.loop-number-init
@@ -26,7 +28,7 @@ loop-number-preserved c =
     let t = c.step-step.result.now in
     let serve = serving_at ring c.loop-number.present in
     record {
-      told = spares-next ring plan c.args.dead.now n t serve c.step-step.ensures.value c.loop-number.invariant.present (sym c.is_step_spared.ensures ∙ c.if-not-is_step_spared.false) c.loop-number.invariant.told;
+      told = spares-next ring plan c.args.dead.now n t serve c.step-step.ensures.value c.loop-number.invariant.present (ap (λ (xs : List NodeId). are_spared xs (touched serve t)) (sym c.of-flagged.ensures) ∙ sym c.is_step_spared.ensures ∙ c.if-not-is_step_spared.false) c.loop-number.invariant.told;
       present = λ s. present-next ring plan s n t (serve s) (serving_at ring c.act.new.self s) c.step-step.ensures.value (c.loop-number.invariant.present s) (c.act.ensures.serving s);
       room = c.act.ensures.room;
     }

@@ -1,0 +1,42 @@
+//! Dead nodes with a flag for each number, so that a node is not looked for among their names.
+
+ghost use Rattle.std.specs.Prelude.{◌≡◌, ◌<◌, ℕ, Some, slice_get};
+ghost use Rattle.ring_names.specs.Lists.{has};
+ghost use Rattle.plan_text.specs.Changes.{numbers};
+
+use crate::sparing::is_among;
+use ring_names::NodeId;
+
+// How many nodes have flags: as many as a ring may have, so that the flags need no memory.
+const FLAGS: usize = 1_024;
+
+/// Dead nodes, and for each of the first numbers whether it is that of one of them.
+#[derive(Drop)]
+pub struct Dead<'a> {
+    pub nodes: &'a [NodeId],
+    flags: [bool; 1_024],
+    ghost told: { (x : ℕ) → x < 1024 → slice_get flags x ≡ Some (has x (numbers nodes.now)) },
+}
+
+impl<'a> Dead<'a> {
+    /// These nodes. Costs a look at each of them for each flag.
+    pub fn of(nodes: &'a [NodeId]) -> Dead<'a>
+        ensures { result.nodes.now ≡ nodes.now }
+    {
+        let mut flags = [false; 1_024];
+        for number in 0..FLAGS {
+            flags[number] = is_among(nodes, NodeId(number as u32));
+        }
+        Dead { nodes, flags }
+    }
+
+    /// Whether the node is dead.
+    pub fn has(&self, node: NodeId) -> bool
+        ensures { result ≡ has node.0 (numbers self.now.nodes.now) }
+    {
+        match self.flags.get(node.0 as usize) {
+            Some(flag) => *flag,
+            None => is_among(self.nodes, node),
+        }
+    }
+}
