@@ -39,6 +39,13 @@ impl Cover {
     }
 }
 
+// A ring, and who serves its slots in front of a step.
+#[derive(Clone, Copy)]
+struct Served<'a> {
+    ring: &'a Ring,
+    present: &'a Present,
+}
+
 // The copies of each side of a node.
 fn all_copies(alloc: Global, ring: &Ring, plan: &Plan) -> Result<Lists<NodeSide, u32>, Refusal>
     requires { Suits ring.now plan.now }
@@ -49,7 +56,11 @@ fn all_copies(alloc: Global, ring: &Ring, plan: &Plan) -> Result<Lists<NodeSide,
     let mut present = Present::new(alloc, ring)?;
     for n in 0..plan.len() {
         let step = plan.step(n);
-        add_parties(&mut copies, &present, ring, step, n)?;
+        let served = Served {
+            ring,
+            present: &present,
+        };
+        add_parties(&mut copies, &served, step, n)?;
         present.act(ring, step);
     }
     Ok(copies)
@@ -58,20 +69,21 @@ fn all_copies(alloc: Global, ring: &Ring, plan: &Plan) -> Result<Lists<NodeSide,
 // Gives the step to each node that takes part in it.
 fn add_parties(
     copies: &mut Lists<NodeSide, u32>,
-    present: &Present,
-    ring: &Ring,
+    served: &Served,
     step: &Step,
     number: u32,
 ) -> Result<(), Refusal>
-    requires { step_suits ring.now step.now ≡ true }
+    requires { step_suits served.now.ring.now step.now ≡ true }
     ensures ok { OnOk result ((y : TheSide) → copies_kept copies.new y ≡ with_last_if
-        (is_party ring.now (serving_at ring.now present.now) step.now y) number (copies_kept copies.old y)) }
+        (is_party served.now.ring.now (serving_at served.now.ring.now served.now.present.now) step.now y)
+        number (copies_kept copies.old y)) }
     ensures memory { IfErr result (λ e. e ≡ OutOfMemory) }
 {
     match step {
         Step::Copy(slot, source) => {
-            add_mirror(copies, ring, present.at(ring, *slot).mirror, number)?;
-            present.add_sources(copies, ring, *slot, source, number)
+            let mirror = served.present.at(served.ring, *slot).mirror;
+            add_mirror(copies, served.ring, mirror, number)?;
+            add_sources(copies, served, *slot, source, number)
         }
         Step::Join(_) | Step::Mirror(_, _) | Step::Switch(_) | Step::Drop(_, _) | Step::Retire(_) =>
             Ok(()),
@@ -94,61 +106,56 @@ fn add_mirror(
     }
 }
 
-impl Present {
-    // Gives the copy to the owners of the slots from which it reads.
-    fn add_sources(
-        &self,
-        copies: &mut Lists<NodeSide, u32>,
-        ring: &Ring,
-        slot: Slot,
-        source: &Source,
-        number: u32,
-    ) -> Result<(), Refusal>
-        requires slot { is_ring_slot ring.now slot ≡ true }
-        requires source { source_suits ring.now source.now ≡ true }
-        ensures ok { OnOk result
-            ((y : TheSide) → copies_kept copies.new y ≡ with_last_if (counts_at ring.now Give y && owns_some
-            (serving_at ring.now self.now) (source_slots slot source.now) y.node) number (copies_kept copies.old y)) }
-        ensures memory { IfErr result (λ e. e ≡ OutOfMemory) }
-    {
-        match source {
-            Source::Owner => {
-                let owner = self.at(ring, slot).owner;
-                add_copy(copies, ring, owner, Side::Give, number)
-            }
-            Source::Slots(from) => {
-                self.add_owners(copies, ring, slot.partition, from.as_slice(), number)
-            }
+// Gives the copy to the owners of the slots from which it reads.
+fn add_sources(
+    copies: &mut Lists<NodeSide, u32>,
+    served: &Served,
+    slot: Slot,
+    source: &Source,
+    number: u32,
+) -> Result<(), Refusal>
+    requires slot { is_ring_slot served.now.ring.now slot ≡ true }
+    requires source { source_suits served.now.ring.now source.now ≡ true }
+    ensures ok { OnOk result ((y : TheSide) → copies_kept copies.new y ≡ with_last_if
+        (counts_at served.now.ring.now Give y && owns_some (serving_at served.now.ring.now served.now.present.now)
+        (source_slots slot source.now) y.node) number (copies_kept copies.old y)) }
+    ensures memory { IfErr result (λ e. e ≡ OutOfMemory) }
+{
+    match source {
+        Source::Owner => {
+            let owner = served.present.at(served.ring, slot).owner;
+            add_copy(copies, served.ring, owner, Side::Give, number)
+        }
+        Source::Slots(from) => {
+            add_owners(copies, served, slot.partition, from.as_slice(), number)
         }
     }
+}
 
-    // Gives the copy to the owners of the listed slots.
-    fn add_owners(
-        &self,
-        copies: &mut Lists<NodeSide, u32>,
-        ring: &Ring,
-        partition: u32,
-        from: &[u32],
-        number: u32,
-    ) -> Result<(), Refusal>
-        requires partition { partition < ring.now.q }
-        requires from { list_all (λ i. nat_lt i ring.now.n) from.now ≡ true }
-        ensures ok { OnOk result
-            ((y : TheSide) → copies_kept copies.new y ≡ with_last_if
-            (counts_at ring.now Give y && owns_some (serving_at ring.now self.now)
-            (map (λ i. record { partition = partition; index = i }) from.now) y.node) number (copies_kept copies.old y)) }
-        ensures memory { IfErr result (λ e. e ≡ OutOfMemory) }
-    {
-        let mut rest = from;
-        'slots: while let Some((first, later)) = rest.split_first() {
-            let slot = Slot {
-                partition,
-                index: *first,
-            };
-            let owner = self.at(ring, slot).owner;
-            add_copy(copies, ring, owner, Side::Give, number)?;
-            rest = later;
-        }
-        Ok(())
+// Gives the copy to the owners of the listed slots.
+fn add_owners(
+    copies: &mut Lists<NodeSide, u32>,
+    served: &Served,
+    partition: u32,
+    from: &[u32],
+    number: u32,
+) -> Result<(), Refusal>
+    requires partition { partition < served.now.ring.now.q }
+    requires from { list_all (λ i. nat_lt i served.now.ring.now.n) from.now ≡ true }
+    ensures ok { OnOk result ((y : TheSide) → copies_kept copies.new y ≡ with_last_if
+        (counts_at served.now.ring.now Give y && owns_some (serving_at served.now.ring.now served.now.present.now)
+        (map (λ i. record { partition = partition; index = i }) from.now) y.node) number (copies_kept copies.old y)) }
+    ensures memory { IfErr result (λ e. e ≡ OutOfMemory) }
+{
+    let mut rest = from;
+    'slots: while let Some((first, later)) = rest.split_first() {
+        let slot = Slot {
+            partition,
+            index: *first,
+        };
+        let owner = served.present.at(served.ring, slot).owner;
+        add_copy(copies, served.ring, owner, Side::Give, number)?;
+        rest = later;
     }
+    Ok(())
 }

@@ -33,6 +33,8 @@ struct Mending<'a> {
     fair: u32,
     // whether those that join take part
     with_joiners: bool,
+    // the member to which the paths of a search lead
+    first: u32,
     // of each node 1 where no path ends or goes on
     frozen: Vec<u32>,
     // of each node that a search met the next one on the path
@@ -77,13 +79,14 @@ impl<'a> Mending<'a> {
     }
 
     // Begins a search at a member.
-    fn begin(&mut self, choice: &Choice, node: u32) -> Result<(), Refusal> {
+    fn begin(&mut self, choice: &Choice, first: u32) -> Result<(), Refusal> {
+        self.first = first;
         self.links.clear();
         for _ in 0..self.members.count() {
             self.links.push(None)?;
         }
         self.met.clear();
-        self.met.push(node)?;
+        self.met.push(first)?;
         self.unused.clear();
         for partition in 0..small(choice.layout.partitions) {
             if choice.entered(partition as usize) > 0 {
@@ -95,8 +98,8 @@ impl<'a> Mending<'a> {
     }
 
     // Meets a member that can hand a slot to another, if it is new.
-    fn meet(&mut self, first: u32, node: u32, link: Link) -> Result<(), Refusal> {
-        if node == first || !self.takes_part(node) || at(&self.frozen, node as usize) != 0 {
+    fn meet(&mut self, node: u32, link: Link) -> Result<(), Refusal> {
+        if node == self.first || !self.takes_part(node) || at(&self.frozen, node as usize) != 0 {
             return Ok(());
         }
         if let Some(old) = self.links.get_mut(node as usize) {
@@ -112,20 +115,19 @@ impl<'a> Mending<'a> {
     fn meet_entering(
         &mut self,
         choice: &Choice,
-        first: u32,
         node: u32,
         partition: usize,
     ) -> Result<(), Refusal> {
         for place in 0..choice.entered(partition) as usize {
             let other = choice.entering(partition, place);
             let by = Exchange::Enters(partition);
-            self.meet(first, other, Link { to: node, by })?;
+            self.meet(other, Link { to: node, by })?;
         }
         Ok(())
     }
 
     // The same of each unused partition that the node could enter, which is used then.
-    fn use_partitions(&mut self, choice: &Choice, first: u32, node: u32) -> Result<(), Refusal> {
+    fn use_partitions(&mut self, choice: &Choice, node: u32) -> Result<(), Refusal> {
         let mut kept = 0usize;
         for turn in 0..self.unused.len() {
             let partition = at(&self.unused, turn);
@@ -133,7 +135,7 @@ impl<'a> Mending<'a> {
                 set(&mut self.unused, kept, partition);
                 kept = kept.saturating_add(1);
             } else {
-                self.meet_entering(choice, first, node, partition as usize)?;
+                self.meet_entering(choice, node, partition as usize)?;
             }
         }
         self.unused.truncate(kept);
@@ -144,7 +146,6 @@ impl<'a> Mending<'a> {
     fn meet_givers(
         &mut self,
         choice: &Choice,
-        first: u32,
         node: u32,
         partition: usize,
         given: usize,
@@ -153,14 +154,14 @@ impl<'a> Mending<'a> {
             let place = choice.layout.place(partition, index);
             if !choice.layout.moves(place) {
                 let by = Exchange::Gives(place, given);
-                self.meet(first, choice.layout.owner(place), Link { to: node, by })?;
+                self.meet(choice.layout.owner(place), Link { to: node, by })?;
             }
         }
         Ok(())
     }
 
     // Meets those that could give in place of the node, where it gives: in the same partition, and once in each that has room.
-    fn meet_giving(&mut self, choice: &Choice, first: u32, node: u32) -> Result<(), Refusal> {
+    fn meet_giving(&mut self, choice: &Choice, node: u32) -> Result<(), Refusal> {
         if self.with_joiners || self.members.role(node) != Role::Stays {
             return Ok(());
         }
@@ -168,28 +169,22 @@ impl<'a> Mending<'a> {
         for place in choice.places(node) {
             let place = *place as usize;
             if choice.layout.moves(place) {
-                self.meet_givers(choice, first, node, choice.layout.partition(place), place)?;
+                self.meet_givers(choice, node, choice.layout.partition(place), place)?;
                 given = given.or(Some(place));
             }
         }
         match given {
-            Some(place) if self.has_room => self.meet_by_room(choice, first, node, place),
+            Some(place) if self.has_room => self.meet_by_room(choice, node, place),
             _ => Ok(()),
         }
     }
 
     // The same in each partition with room, in place of the slot that the node gives.
-    fn meet_by_room(
-        &mut self,
-        choice: &Choice,
-        first: u32,
-        node: u32,
-        given: usize,
-    ) -> Result<(), Refusal> {
+    fn meet_by_room(&mut self, choice: &Choice, node: u32, given: usize) -> Result<(), Refusal> {
         self.has_room = false;
         for partition in 0..choice.layout.partitions {
             if choice.room(self.members, partition) > 0 {
-                self.meet_givers(choice, first, node, partition, given)?;
+                self.meet_givers(choice, node, partition, given)?;
             }
         }
         Ok(())
@@ -207,8 +202,8 @@ impl<'a> Mending<'a> {
             if self.can_spare(choice, node, load) {
                 return Ok(Some(node));
             }
-            self.use_partitions(choice, first, node)?;
-            self.meet_giving(choice, first, node)?;
+            self.use_partitions(choice, node)?;
+            self.meet_giving(choice, node)?;
         }
         Ok(None)
     }
@@ -279,6 +274,7 @@ pub fn mend(
         members,
         fair,
         with_joiners,
+        first: 0,
         frozen: Vec::new(alloc),
         links: Vec::new(alloc),
         met: Vec::new(alloc),

@@ -139,20 +139,10 @@ fn has_left_held(context: &Context, number: u32, node: NodeId, held: &Held) -> b
 }
 
 impl Holdings {
-    // Whether the slot of that index is the step's own, or the node has left it by the step.
-    fn is_left_at(
-        &self,
-        context: &Context,
-        number: u32,
-        slot: Slot,
-        node: NodeId,
-        index: u32,
-    ) -> bool
-        ensures { result ≡ ((index == slot.index) || has_left_at (order context.now) number self.now index node) }
+    // Whether the node has left the slot of that index, where it served it from the start or from an earlier step on.
+    fn has_left_at(&self, context: &Context, number: u32, node: NodeId, index: u32) -> bool
+        ensures { result ≡ has_left_at (order context.now) number self.now index node }
     {
-        if index == slot.index {
-            return true;
-        }
         match self.slot(index) {
             Some(held) => has_left_held(context, number, node, held),
             None => true,
@@ -204,7 +194,7 @@ fn has_left(context: &Context, holdings: &Holdings, number: u32, slot: Slot, nod
     ensures { result ≡ has_left context.now.ring.now context.now.plan.now (order context.now) number slot node }
 {
     for index in 0..context.ring.n() {
-        if !holdings.is_left_at(context, number, slot, node, index) {
+        if index != slot.index && !holdings.has_left_at(context, number, node, index) {
             return false;
         }
     }

@@ -190,11 +190,20 @@ pub fn not_joined(case: Case, said: &mut Said, number: u32) {
     case.wait(said, number, join)
 }
 
-// The first drop of the node's that stands behind the place among the slot's steps at which it enters.
-fn drop_of(case: Case, node: NodeId, slot: Slot, from: Option<u32>) -> Option<u32> {
-    for other in case.plan.slot_steps(slot) {
+// A node that comes to hold a slot: the step with which it enters, none at the start.
+#[derive(Clone, Copy)]
+struct Entry {
+    node: NodeId,
+    slot: Slot,
+    from: Option<u32>,
+}
+
+// The first drop of the node's that stands behind its entry among the slot's steps.
+fn drop_of(case: Case, entry: Entry) -> Option<u32> {
+    for other in case.plan.slot_steps(entry.slot) {
         if let Some(Step::Drop(_, dropped)) = case.step(*other) {
-            if *dropped == node && (from.is_none() || from < Some(*other)) {
+            let is_behind = entry.from.is_none() || entry.from < Some(*other);
+            if *dropped == entry.node && is_behind {
                 return Some(*other);
             }
         }
@@ -210,18 +219,11 @@ struct Left {
 }
 
 impl Left {
-    fn add(
-        &mut self,
-        case: Case,
-        node: NodeId,
-        slot: Slot,
-        from: Option<u32>,
-        number: u32,
-    ) -> Result<(), Refusal> {
-        match drop_of(case, node, slot, from) {
+    fn add(&mut self, case: Case, entry: Entry, number: u32) -> Result<(), Refusal> {
+        match drop_of(case, entry) {
             Some(drop) if case.is_ordered(drop, number) => {}
             Some(drop) => self.drops.push(drop)?,
-            None => self.slots.push(slot)?,
+            None => self.slots.push(entry.slot)?,
         }
         Ok(())
     }
@@ -233,9 +235,9 @@ fn find_left(case: Case, left: &mut Left, node: NodeId, number: u32) -> Result<(
     for row in case.ring.rows() {
         let mut index = 0u32;
         for owner in row.as_slice() {
-            let slot = Slot { partition, index };
+            let (slot, from) = (Slot { partition, index }, None);
             if *owner == node {
-                left.add(case, node, slot, None, number)?;
+                left.add(case, Entry { node, slot, from }, number)?;
             }
             index = index.saturating_add(1);
         }
@@ -243,8 +245,9 @@ fn find_left(case: Case, left: &mut Left, node: NodeId, number: u32) -> Result<(
     }
     for other in 0..case.plan.len() {
         if let Step::Mirror(slot, mirror) = case.plan.step(other) {
+            let (slot, from) = (*slot, Some(other));
             if *mirror == node {
-                left.add(case, node, *slot, Some(other), number)?;
+                left.add(case, Entry { node, slot, from }, number)?;
             }
         }
     }

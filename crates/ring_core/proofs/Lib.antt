@@ -8,6 +8,7 @@ pub mod Masks
 pub mod NextStep
 pub mod SoundAfterEvent
 pub mod OpenCopies
+pub mod TransfersTold
 pub mod RunPromises
 pub mod ReplyCopies
 pub use Rattle.store_tables.proofs.Counting

@@ -2,8 +2,10 @@
 #![tactic(auto)]
 
 mod served;
+mod slot_key;
 mod store;
 mod stores;
 
+pub use slot_key::SlotKey;
 pub use store::NodeStore;
 pub use stores::Stores;

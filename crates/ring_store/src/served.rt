@@ -1,5 +1,6 @@
 //! Merges into what a slot's owner and its mirror have.
 
+use crate::slot_key::SlotKey;
 use crate::store::NodeStore;
 use crate::stores::Stores;
 use ring_names::{NodeId, Refusal, Slot};
@@ -18,85 +19,98 @@ impl Stores {
     ghost use Rattle.ring_store.specs.Store.{partitions, chunk_versions};
     ghost use Rattle.ring_store.specs.Stores.{node_count, shared_space, held_at, chunk_held_at};
 
-    // Merges versions of a key of the chunk into what one node has in the slot.
-    fn give_to(
+    /// Merges versions of a key into what the slot's owner has, and its mirror, if there is one. Refused, it has changed no reading.
+    pub fn give(
         &mut self,
-        node: NodeId,
-        slot: Slot,
-        chunk: u32,
-        key: &[u8],
+        at: &SlotKey,
+        owner: NodeId,
+        mirror: Option<NodeId>,
         more: &Versions,
     ) -> Result<(), Refusal>
-        requires node { node.0 < node_count self.old }
-        requires chunk { chunk_of (shared_space self.old) key.now ≡ chunk }
+        requires owner { owner.0 < node_count self.old }
+        requires mirror { IfSome mirror (λ x. (x.0 < node_count self.old) × (x.0 ≢ owner.0)) }
+        requires chunk { chunk_of (shared_space self.old) at.now.key.now ≡ at.now.chunk }
         ensures space { shared_space self.new ≡ shared_space self.old }
         ensures count { node_count self.new ≡ node_count self.old }
         ensures ok { OnOk result (MergesAtAll (held_at self.old)
-            (at_node node.0 (at_slot slot (at_key key.now more.now))) (held_at self.new)) }
+            (at_nodes owner mirror (at_slot at.now.slot (at_key at.now.key.now more.now))) (held_at self.new)) }
         ensures err { OnErr result ((x : ℕ) (s : Slot) (k : List ℕ) → held_at self.new x s k ≡ held_at self.old x s k) }
         ensures memory { IfErr result (λ e. e ≡ OutOfMemory) }
     {
-        let fresh = self.prepare(node, slot, chunk, key, more)?;
-        self.settle(node, slot, chunk, key, fresh);
+        match mirror {
+            Some(node) => self.give_to_both(at, owner, node, more),
+            None => self.give_to(owner, at, more),
+        }
+    }
+
+    // Merges them into what one node has in the slot.
+    fn give_to(&mut self, node: NodeId, at: &SlotKey, more: &Versions) -> Result<(), Refusal>
+        requires node { node.0 < node_count self.old }
+        requires chunk { chunk_of (shared_space self.old) at.now.key.now ≡ at.now.chunk }
+        ensures space { shared_space self.new ≡ shared_space self.old }
+        ensures count { node_count self.new ≡ node_count self.old }
+        ensures ok { OnOk result (MergesAtAll (held_at self.old)
+            (at_node node.0 (at_slot at.now.slot (at_key at.now.key.now more.now))) (held_at self.new)) }
+        ensures err { OnErr result ((x : ℕ) (s : Slot) (k : List ℕ) → held_at self.new x s k ≡ held_at self.old x s k) }
+        ensures memory { IfErr result (λ e. e ≡ OutOfMemory) }
+    {
+        let fresh = self.prepare(node, at, more)?;
+        self.settle(node, at, fresh);
         Ok(())
     }
 
     // Merges them into what the owner and the mirror have in the slot.
     fn give_to_both(
         &mut self,
-        slot: Slot,
+        at: &SlotKey,
         owner: NodeId,
         mirror: NodeId,
-        chunk: u32,
-        key: &[u8],
         more: &Versions,
     ) -> Result<(), Refusal>
         requires owner { owner.0 < node_count self.old }
         requires mirror { mirror.0 < node_count self.old }
         requires apart { mirror.0 ≢ owner.0 }
-        requires chunk { chunk_of (shared_space self.old) key.now ≡ chunk }
+        requires chunk { chunk_of (shared_space self.old) at.now.key.now ≡ at.now.chunk }
         ensures space { shared_space self.new ≡ shared_space self.old }
         ensures count { node_count self.new ≡ node_count self.old }
         ensures ok { OnOk result (MergesAtAll (held_at self.old)
-            (at_nodes owner (Some mirror) (at_slot slot (at_key key.now more.now))) (held_at self.new)) }
+            (at_nodes owner (Some mirror) (at_slot at.now.slot (at_key at.now.key.now more.now))) (held_at self.new)) }
         ensures err { OnErr result ((x : ℕ) (s : Slot) (k : List ℕ) → held_at self.new x s k ≡ held_at self.old x s k) }
         ensures memory { IfErr result (λ e. e ≡ OutOfMemory) }
     {
-        let fresh = self.prepare(owner, slot, chunk, key, more)?;
-        let fresh_too = self.prepare(mirror, slot, chunk, key, more)?;
-        self.settle(owner, slot, chunk, key, fresh);
-        self.settle(mirror, slot, chunk, key, fresh_too);
+        let fresh = self.prepare(owner, at, more)?;
+        let fresh_too = self.prepare(mirror, at, more)?;
+        self.settle(owner, at, fresh);
+        self.settle(mirror, at, fresh_too);
         Ok(())
     }
 
-    /// Merges versions of a key of the chunk into what the slot's owner has, and its mirror, if there is one. Refused, it has changed no
-    /// reading.
-    pub fn give(
+    /// Merges all maps of a slot, in a hash space of as many partitions, into what the slot's owner has, and its mirror, if there is one.
+    /// Refused, it has changed no reading.
+    pub fn give_slot(
         &mut self,
         slot: Slot,
         owner: NodeId,
         mirror: Option<NodeId>,
-        chunk: u32,
-        key: &[u8],
-        more: &Versions,
+        other: &SlotMap,
     ) -> Result<(), Refusal>
         requires owner { owner.0 < node_count self.old }
         requires mirror { IfSome mirror (λ x. (x.0 < node_count self.old) × (x.0 ≢ owner.0)) }
-        requires chunk { chunk_of (shared_space self.old) key.now ≡ chunk }
+        requires space { space_of other.now ≡ shared_space self.old }
         ensures space { shared_space self.new ≡ shared_space self.old }
         ensures count { node_count self.new ≡ node_count self.old }
         ensures ok { OnOk result (MergesAtAll (held_at self.old)
-            (at_nodes owner mirror (at_slot slot (at_key key.now more.now))) (held_at self.new)) }
+            (at_nodes owner mirror (at_slot slot (held_for other.now))) (held_at self.new)) }
         ensures err { OnErr result ((x : ℕ) (s : Slot) (k : List ℕ) → held_at self.new x s k ≡ held_at self.old x s k) }
         ensures memory { IfErr result (λ e. e ≡ OutOfMemory) }
     {
         match mirror {
-            Some(node) => self.give_to_both(slot, owner, node, chunk, key, more),
-            None => self.give_to(owner, slot, chunk, key, more),
+            Some(node) => self.give_slot_to_both(slot, owner, node, other),
+            None => self.give_slot_to(owner, slot, other),
         }
     }
 
-    // Merges all maps of a slot into what one node has in the slot.
+    // Merges them into what one node has in the slot.
     fn give_slot_to(&mut self, node: NodeId, slot: Slot, other: &SlotMap) -> Result<(), Refusal>
         requires node { node.0 < node_count self.old }
         requires space { space_of other.now ≡ shared_space self.old }
@@ -136,31 +150,6 @@ impl Stores {
         self.settle_slot(owner, slot, fresh);
         self.settle_slot(mirror, slot, fresh_too);
         Ok(())
-    }
-
-    /// Merges all maps of a slot, in a hash space of as many partitions, into what the slot's owner has, and its mirror, if there is one.
-    /// Refused, it has changed no reading.
-    pub fn give_slot(
-        &mut self,
-        slot: Slot,
-        owner: NodeId,
-        mirror: Option<NodeId>,
-        other: &SlotMap,
-    ) -> Result<(), Refusal>
-        requires owner { owner.0 < node_count self.old }
-        requires mirror { IfSome mirror (λ x. (x.0 < node_count self.old) × (x.0 ≢ owner.0)) }
-        requires space { space_of other.now ≡ shared_space self.old }
-        ensures space { shared_space self.new ≡ shared_space self.old }
-        ensures count { node_count self.new ≡ node_count self.old }
-        ensures ok { OnOk result (MergesAtAll (held_at self.old)
-            (at_nodes owner mirror (at_slot slot (held_for other.now))) (held_at self.new)) }
-        ensures err { OnErr result ((x : ℕ) (s : Slot) (k : List ℕ) → held_at self.new x s k ≡ held_at self.old x s k) }
-        ensures memory { IfErr result (λ e. e ≡ OutOfMemory) }
-    {
-        match mirror {
-            Some(node) => self.give_slot_to_both(slot, owner, node, other),
-            None => self.give_slot_to(owner, slot, other),
-        }
     }
 
     // Merges what a store has of a chunk of the slot into what one node has of it.

@@ -4,6 +4,7 @@ ghost use Rattle.std.specs.Prelude.{◌≡◌, true};
 ghost use Rattle.ring_names.specs.Space.{is_space};
 ghost use Rattle.ring_store.specs.Nodes.{AreOfSpace};
 
+use crate::slot_key::SlotKey;
 use crate::store::NodeStore;
 use ring_names::{NodeId, Refusal, Slot};
 use ring_versions::{Fresh, Versions};
@@ -85,45 +86,40 @@ impl Stores {
         }
     }
 
-    /// The first half of a merge at one key of the chunk in a slot at a node: makes its place, where it has none, and what the other versions
-    /// bring. No reading changes, whatever the answer, and all that was made ready before stays so.
-    pub fn prepare(
-        &mut self,
-        node: NodeId,
-        slot: Slot,
-        chunk: u32,
-        key: &[u8],
-        more: &Versions,
-    ) -> Result<Fresh, Refusal>
+    /// The first half of a merge at one key in a slot at a node: makes its place, where it has none, and what the other versions bring. No
+    /// reading changes, whatever the answer, and all that was made ready before stays so.
+    pub fn prepare(&mut self, node: NodeId, at: &SlotKey, more: &Versions) -> Result<Fresh, Refusal>
         requires node { node.0 < node_count self.old }
-        requires chunk { chunk_of (shared_space self.old) key.now ≡ chunk }
+        requires chunk { chunk_of (shared_space self.old) at.now.key.now ≡ at.now.chunk }
         ensures space { shared_space self.new ≡ shared_space self.old }
         ensures count { node_count self.new ≡ node_count self.old }
         ensures same { (x : ℕ) (s : Slot) (k : List ℕ) → held_at self.new x s k ≡ held_at self.old x s k }
         ensures keeps { (y : ℕ) → KeepsReady y self.old self.new }
-        ensures ok { IfOk result (λ f. IsFreshFor (held_at self.old node.0 slot key.now) more.now f) }
-        ensures ready { IfOk result (λ f. IsReadyOn self.new node.0 slot key.now f) }
+        ensures ok { IfOk result (λ f. IsFreshFor (held_at self.old node.0 at.now.slot at.now.key.now) more.now f) }
+        ensures ready { IfOk result (λ f. IsReadyOn self.new node.0 at.now.slot at.now.key.now f) }
         ensures memory { IfErr result (λ e. e ≡ OutOfMemory) }
     {
         let store = &mut self.list[node.0 as usize];
-        store.prepare(slot, chunk, key, more)
+        store.prepare(at.slot, at.chunk, at.key, more)
     }
 
-    /// The second half of a merge at one key of the chunk in a slot at a node, which cannot fail. What was made ready at other nodes stays so.
-    pub fn settle(&mut self, node: NodeId, slot: Slot, chunk: u32, key: &[u8], fresh: Fresh)
+    /// The second half of a merge at one key in a slot at a node, which cannot fail. What was made ready at other nodes stays so.
+    pub fn settle(&mut self, node: NodeId, at: &SlotKey, fresh: Fresh)
         requires node { node.0 < node_count self.old }
-        requires chunk { chunk_of (shared_space self.old) key.now ≡ chunk }
-        requires ready { IsReadyOn self.old node.0 slot key.now fresh }
+        requires chunk { chunk_of (shared_space self.old) at.now.key.now ≡ at.now.chunk }
+        requires ready { IsReadyOn self.old node.0 at.now.slot at.now.key.now fresh }
         ensures space { shared_space self.new ≡ shared_space self.old }
         ensures count { node_count self.new ≡ node_count self.old }
-        ensures merged { (more : List Version) → IsFreshFor (held_at self.old node.0 slot key.now) more fresh
-            → MergesAtAll (held_at self.old) (at_node node.0 (at_slot slot (at_key key.now more))) (held_at self.new) }
+        ensures merged { (more : List Version)
+            → IsFreshFor (held_at self.old node.0 at.now.slot at.now.key.now) more fresh
+            → MergesAtAll (held_at self.old) (at_node node.0 (at_slot at.now.slot (at_key at.now.key.now more)))
+            (held_at self.new) }
         ensures others { (y : ℕ) → y ≢ node.0 → (t : Slot) (j : List ℕ)
             → held_at self.new y t j ≡ held_at self.old y t j }
         ensures keeps { (y : ℕ) → y ≢ node.0 → KeepsReady y self.old self.new }
     {
         let store = &mut self.list[node.0 as usize];
-        store.settle(slot, chunk, key, fresh);
+        store.settle(at.slot, at.chunk, at.key, fresh);
     }
 
     /// Merges a map of the chunk's keys into what one node has in the slot. Refused, it has changed no reading.

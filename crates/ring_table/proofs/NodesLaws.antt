@@ -27,7 +27,6 @@ use Rattle.ring_table.specs.Reading.{node_at, nodes_at}
 use Rattle.ring_table.proofs.LineLaws.{node-line-law}
 use Rattle.ring_table.proofs.RowLaws.{AreNames, each_at}
 use Rattle.std.proofs.lemmas.List.{length-map}
-use Rattle.ring_names.specs.declared.ids.NodeId.{NodeId}
 use Rattle.texts.specs.Laws.{IsItem}
 use Rattle.ring_table.specs.Value.{names_of}
 use Rattle.ring_table.specs.Spelling.{name_at}

@@ -154,30 +154,6 @@ fn row_line(declared: &Declared, slots: u32, partition: u32, fields: Fields) -> 
     judge(declared, slots, partition, fields)
 }
 
-/// Reads one row for each partition.
-fn read_into(
-    alloc: Global,
-    declared: &Declared,
-    slots: u32,
-    partitions: u32,
-    rows: &mut Vec<Listed<NodeId>>,
-    lines: &mut Lines,
-) -> Result<(), Refusal>
-    requires slots { slots ≤ 7 }
-    requires none { rows.old.items ≡ [] }
-    ensures read { Reads (map_ok (λ _. rows.new.items) result) lines.new
-        (rows_at declared.now slots 0 partitions lines.old) }
-    ensures late { Late 1 result lines.old lines.new (rows_at declared.now slots 0 partitions lines.old) }
-{
-    for partition in 0..partitions {
-        let fields = lines.next()?;
-        let row = row_line(declared, slots, partition, fields)?;
-        let row = Vec::from_slice(alloc, row.as_slice())?;
-        rows.push(Listed::from_vec(row))?;
-    }
-    Ok(())
-}
-
 /// Reads one row for each partition: `slots <p>` and the owners of its slots.
 pub fn read_rows(
     alloc: Global,
@@ -192,6 +168,11 @@ pub fn read_rows(
     ensures late { Late 1 result lines.old lines.new (rows_at declared.now slots 0 partitions lines.old) }
 {
     let mut rows = Vec::new(alloc);
-    read_into(alloc, declared, slots, partitions, &mut rows, lines)?;
+    for partition in 0..partitions {
+        let fields = lines.next()?;
+        let row = row_line(declared, slots, partition, fields)?;
+        let row = Vec::from_slice(alloc, row.as_slice())?;
+        rows.push(Listed::from_vec(row))?;
+    }
     Ok(rows)
 }

@@ -14,7 +14,7 @@ use Rattle.ring_names.specs.declared.refusal.Refusal.{Refusal}
 use Rattle.ring_names.specs.declared.refusal.Refusal.TheVariants.{BadLine, TooLarge}
 use Rattle.ring_names.proofs.Places.{get-place, place-below}
 use Rattle.ring_names.proofs.Logic.{pair_is}
-use Rattle.ring_names.proofs.InLists.{get_front, get_last, get_there}
+use Rattle.ring_names.proofs.InLists.{get_last, get_there}
 use Rattle.texts.specs.Name.{is_name}
 use Rattle.texts.specs.Numbers.{numbers_of, beyond, ascending, are_small}
 use Rattle.texts.specs.Judging.{field_at}

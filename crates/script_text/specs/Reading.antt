@@ -81,7 +81,28 @@ hint_at ring k = pair_at k ⊗ declared_at ring k
 unfoldable pub handoff_at : RingValue → ℕ → Item (NodeId × (ℕ × ℕ))
 handoff_at ring k = declared_at ring k ⊗ pair_at k
 
--- what the event is, behind the writers seen
+-- what a line of that first word says of a node
+abbrev pub node_kind_at : RingValue → List ℕ → ℕ → Item SaidEvent
+node_kind_at ring word k fields =
+    if bytes_eq word (codes "down") then map_item said.Down (declared_at ring k) fields
+    else if bytes_eq word (codes "up") then map_item said.Up (declared_at ring k) fields
+    else if bytes_eq word (codes "handoff") then map_item (λ x. said.Handoff x.0 (record { partition = x.1.0; index = x.1.1 })) (handoff_at ring k) fields
+    else if bytes_eq word (codes "lose") then map_item said.Lose (declared_at ring k) fields
+    else (Err (BadLine k), fields)
+
+-- what it says of a put or a get, or else of a node
+abbrev pub request_kind_at : RingValue → List (List ℕ) → List ℕ → ℕ → Item SaidEvent
+request_kind_at ring names word k fields =
+    if bytes_eq word (codes "put") then map_item said.StartPut (put_at names k) fields
+    else if bytes_eq word (codes "write") then map_item (λ x. said.Write x.0 x.1) (pair_at k) fields
+    else if bytes_eq word (codes "hint") then map_item (λ x. said.Hint x.0.0 x.0.1 x.1) (hint_at ring k) fields
+    else if bytes_eq word (codes "ack") then map_item said.Ack (count_at k) fields
+    else if bytes_eq word (codes "get") then map_item said.StartGet (field_at k (judge_key k)) fields
+    else if bytes_eq word (codes "read") then map_item (λ x. said.Read x.0 x.1) (pair_at k) fields
+    else if bytes_eq word (codes "endget") then map_item said.EndGet (count_at k) fields
+    else node_kind_at ring word k fields
+
+-- what the event is, behind the writers seen: of a step, or else of a put, a get or a node
 unfoldable pub kind_at : RingValue → List (List ℕ) → ℕ → Item SaidEvent
 kind_at ring names k [] = (Err (BadLine k), [])
 kind_at ring names k (word ∷ fields) =
@@ -90,18 +111,7 @@ kind_at ring names k (word ∷ fields) =
     else if bytes_eq word (codes "chunk") then map_item (λ x. said.ChunkCopy x.0 x.1) (pair_at k) fields
     else if bytes_eq word (codes "close") then map_item said.CloseCopy (count_at k) fields
     else if bytes_eq word (codes "abort") then map_item said.AbortCopy (count_at k) fields
-    else if bytes_eq word (codes "put") then map_item said.StartPut (put_at names k) fields
-    else if bytes_eq word (codes "write") then map_item (λ x. said.Write x.0 x.1) (pair_at k) fields
-    else if bytes_eq word (codes "hint") then map_item (λ x. said.Hint x.0.0 x.0.1 x.1) (hint_at ring k) fields
-    else if bytes_eq word (codes "ack") then map_item said.Ack (count_at k) fields
-    else if bytes_eq word (codes "get") then map_item said.StartGet (field_at k (judge_key k)) fields
-    else if bytes_eq word (codes "read") then map_item (λ x. said.Read x.0 x.1) (pair_at k) fields
-    else if bytes_eq word (codes "endget") then map_item said.EndGet (count_at k) fields
-    else if bytes_eq word (codes "down") then map_item said.Down (declared_at ring k) fields
-    else if bytes_eq word (codes "up") then map_item said.Up (declared_at ring k) fields
-    else if bytes_eq word (codes "handoff") then map_item (λ x. said.Handoff x.0 (record { partition = x.1.0; index = x.1.1 })) (handoff_at ring k) fields
-    else if bytes_eq word (codes "lose") then map_item said.Lose (declared_at ring k) fields
-    else (Err (BadLine k), fields)
+    else request_kind_at ring names word k fields
 
 -- the next event of a script
 unfoldable pub said_at : RingValue → List Event → List (List ℕ) → ℕ → List (List ℕ) → Result SaidEvent Refusal

@@ -2,8 +2,8 @@
 
 ghost use Rattle.std.specs.Prelude.{◌≡◌, [], List, ℕ};
 ghost use Rattle.texts.specs.Judging.{field_at, Does};
-ghost use Rattle.script_text.specs.Reading.{pair_at, judge_writer, judge_key, judge_value, judge_seen, seen_at, put_at};
-ghost use Rattle.script_text.specs.Reading.{hint_at, handoff_at};
+ghost use Rattle.script_text.specs.Reading.{count_at, pair_at, judge_writer, judge_key, judge_value, judge_seen, seen_at};
+ghost use Rattle.script_text.specs.Reading.{put_at, hint_at, handoff_at};
 
 use crate::said::{SaidPut, SaidWriter};
 use crate::words::{KeyWord, SeenRow, ValueWord, Word};
@@ -11,13 +11,20 @@ use ring_names::{Names, NodeId, Refusal, WriterId};
 use ring_table::{Ring, node_field};
 use texts::{CAP, Fields, NumberRow, both, is_name};
 
+/// A number. Else that is `BadLine` or `TooLarge`.
+pub fn count(fields: &mut Fields) -> Result<u32, Refusal>
+    ensures { Does count_at fields.old result fields.new }
+{
+    fields.number(u32::MAX)
+}
+
 /// Two numbers. Else that is `BadLine` or `TooLarge`.
 #[tactic(auto, unfolding(crate::specs::Reading::pair_at))]
 pub fn pair(fields: &mut Fields) -> Result<(u32, u32), Refusal>
     ensures { Does pair_at fields.old result fields.new }
 {
-    let first = fields.number(u32::MAX);
-    let second = fields.number(u32::MAX);
+    let first = count(fields);
+    let second = count(fields);
     both(first, second)
 }
 

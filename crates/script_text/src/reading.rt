@@ -1,6 +1,6 @@
 //! Reading a script.
 
-ghost use Rattle.std.specs.Prelude.{◌≡◌, ◌<◌, ℕ, true, List, [], length, Ok, IfOk, IfErr, OnOk};
+ghost use Rattle.std.specs.Prelude.{◌≡◌, ℕ, true, List, Ok, IfOk, IfErr};
 ghost use Rattle.std.specs.List.{list_all};
 ghost use Rattle.ring_names.specs.declared.refusal.Refusal.TheVariants.{OutOfMemory};
 ghost use Rattle.texts.specs.Left.{Reads};
@@ -9,7 +9,7 @@ ghost use Rattle.texts.specs.Judging.{Gives, map_ok};
 ghost use Rattle.script_text.specs.Said.{IsNext};
 ghost use Rattle.plan_runs.specs.declared.event.Event.{Event};
 ghost use Rattle.script_text.specs.Client.{is_client_event};
-ghost use Rattle.script_text.specs.Reading.{said_at, heard_at, events_from, events_at, section_at, script_at};
+ghost use Rattle.script_text.specs.Reading.{said_at, heard_at, events_at, section_at, script_at};
 ghost use Rattle.script_text.specs.Reading.{client_at, script_reading};
 ghost use Rattle.script_text.specs.Spelling.{script_text};
 ghost use Rattle.script_text.specs.Valid.{AreWriters, IsScriptOf};
@@ -59,47 +59,28 @@ fn event_line<'a>(
 }
 
 impl Speaker {
-    // Reads events behind those of the script, up to a line that begins with `end`.
-    fn read_into(
+    // Reads the events of a script, up to a line that begins with `end`.
+    #[tactic(auto, unfolding(crate::specs::Reading::events_at))]
+    fn read_events(
         self,
         alloc: Global,
         ring: &Ring,
         writers: &mut Names,
-        seen: &mut Script,
         lines: &mut Lines,
-    ) -> Result<(), Refusal>
-        requires none { seen.old ≡ [] }
-        ensures read { Reads (map_ok (λ _. (seen.new, writers.new)) result) lines.new
-            (events_from self ring.now seen.old writers.old lines.old.line lines.old.lines) }
-        ensures late { Late 1 result lines.old lines.new
-            (events_from self ring.now seen.old writers.old lines.old.line lines.old.lines) }
+    ) -> Result<Script, Refusal>
+        ensures read { Reads (map_ok (λ s. (s, writers.new)) result) lines.new
+            (events_at self ring.now writers.old lines.old) }
+        ensures late { Late 1 result lines.old lines.new (events_at self ring.now writers.old lines.old) }
     {
+        let mut script = Script::new(alloc);
         'events: while !lines.begins(b"end") {
             let may = self.may_say(lines);
             let fields = lines.next()?;
-            let said = event_line(may, ring, writers, seen, fields)?;
-            add(alloc, writers, seen, said)?;
+            let said = event_line(may, ring, writers, &script, fields)?;
+            add(alloc, writers, &mut script, said)?;
         }
-        Ok(())
+        Ok(script)
     }
-}
-
-// Reads the events of a script.
-#[tactic(auto, unfolding(crate::specs::Reading::events_at))]
-fn read_events(
-    alloc: Global,
-    by: Speaker,
-    ring: &Ring,
-    writers: &mut Names,
-    lines: &mut Lines,
-) -> Result<Script, Refusal>
-    ensures read { Reads (map_ok (λ s. (s, writers.new)) result) lines.new
-        (events_at by ring.now writers.old lines.old) }
-    ensures late { Late 1 result lines.old lines.new (events_at by ring.now writers.old lines.old) }
-{
-    let mut script = Script::new(alloc);
-    by.read_into(alloc, ring, writers, &mut script, lines)?;
-    Ok(script)
 }
 
 // Reads the lines of a speaker's script.
@@ -116,7 +97,7 @@ fn read_parts(
     ensures late { Late 2 result lines.old lines.new (section_at by ring.now writers.old lines.old) }
 {
     header(lines, b"script", b"1")?;
-    let script = read_events(alloc, by, ring, writers, lines)?;
+    let script = by.read_events(alloc, ring, writers, lines)?;
     end(lines)?;
     Ok(script)
 }

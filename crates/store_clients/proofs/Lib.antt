@@ -7,6 +7,7 @@ pub mod FirstDown
 pub mod SlotKeepers
 pub mod SlotHasOfKey
 pub mod SlotReads
+pub mod GetsKept
 pub mod ClocksRaised
 pub mod CountersFew
 pub mod PutStarts

@@ -43,6 +43,18 @@ lose_tested a x o e w m = e ∙ ap first_failing (lose_kept (ring_of a) (plan_of
 pub close_tested : (a : Parts) (n : ℕ) (o : Option Refusal) → o ≡ first_failing (close_copy_guards_kept (plan_of a) a.steps n) → Tests a (CloseCopy n) o
 close_tested a n o e w m = e ∙ ap first_failing (close_kept (ring_of a) (plan_of a) a.steps w n m.steps)
 
+-- where one of two guards fails, a third one changes nothing
+pub third_later : (x y : Bool) (p q r : Refusal) (c : Guard) → first_failing ((x, p) ∷ (y, q) ∷ []) ≡ Some r → first_failing ((x, p) ∷ (y, q) ∷ c ∷ []) ≡ Some r
+third_later false y p q r c e = e
+third_later true false p q r c e = e
+third_later true true p q r c e = absurd cc
+
+-- where none does, it decides
+pub third_decides : (x y : Bool) (p q : Refusal) (c : Guard) → first_failing ((x, p) ∷ (y, q) ∷ []) ≡ None → first_failing ((x, p) ∷ (y, q) ∷ c ∷ []) ≡ first_failing (c ∷ [])
+third_decides false y p q c e = absurd cc
+third_decides true false p q c e = absurd cc
+third_decides true true p q c e = refl
+
 -- how many of the chunks are marked
 pub marked_most : (steps : List StepNow) (n marked : ℕ) → marked ≡ length (passing_below 16 (is_marked_at steps n)) → marked ≤ 16
 marked_most steps n marked e = (let l = count_most 16 (is_marked_at steps n) in omega arith)

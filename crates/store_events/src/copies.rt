@@ -1,7 +1,10 @@
 //! Copies that are opened, closed and broken off.
 
+ghost use Rattle.std.specs.Prelude.{◌≡◌};
+ghost use Rattle.plan_stage.specs.Clauses.{first_failing};
 ghost use Rattle.plan_runs.specs.declared.event.Event.TheVariants.{OpenCopy, CloseCopy, AbortCopy};
-ghost use Rattle.store_tells.specs.Parts.{IsSound, Tests, Passes, Answers, Follows};
+ghost use Rattle.store_tells.specs.GuardsKept.{abort_copy_guards_kept};
+ghost use Rattle.store_tells.specs.Parts.{plan_of, IsSound, Tests, Passes, Answers, Follows};
 
 use crate::kinds::{has_copy, is_ready};
 use crate::parties::party_refusal;
@@ -38,17 +41,27 @@ pub fn open_copy(parts: &mut Parts, step: u32) -> Reply
     Reply::Plain
 }
 
-/// Why the copy cannot be closed now, if it cannot: `UnknownNumber` where there is no such copy, `NotOpen` where it is not open,
-/// `ChunksLeft` with the number of its chunks that are not marked. Takes no memory.
-pub fn close_refusal(parts: &Parts, step: u32) -> Option<Refusal>
-    requires { IsSound parts.now }
-    ensures { Tests parts.now (CloseCopy step) result }
+// That there is no such copy, or else that it is not open.
+fn not_open(parts: &Parts, step: u32) -> Option<Refusal>
+    ensures { result ≡ first_failing (abort_copy_guards_kept (plan_of parts.now) parts.now.steps step) }
 {
     if !has_copy(parts, step) {
         return Some(Refusal::UnknownNumber);
     }
     if !parts.steps.is_open(step) {
         return Some(Refusal::NotOpen);
+    }
+    None
+}
+
+/// Why the copy cannot be closed now, if it cannot: `UnknownNumber` where there is no such copy, `NotOpen` where it is not open,
+/// `ChunksLeft` with the number of its chunks that are not marked. Takes no memory.
+pub fn close_refusal(parts: &Parts, step: u32) -> Option<Refusal>
+    requires { IsSound parts.now }
+    ensures { Tests parts.now (CloseCopy step) result }
+{
+    if let Some(refusal) = not_open(parts, step) {
+        return Some(refusal);
     }
     let left = 16 - parts.steps.marked(step);
     if left != 0 {
@@ -74,13 +87,7 @@ pub fn abort_refusal(parts: &Parts, step: u32) -> Option<Refusal>
     requires { IsSound parts.now }
     ensures { Tests parts.now (AbortCopy step) result }
 {
-    if !has_copy(parts, step) {
-        return Some(Refusal::UnknownNumber);
-    }
-    if !parts.steps.is_open(step) {
-        return Some(Refusal::NotOpen);
-    }
-    None
+    not_open(parts, step)
 }
 
 /// The copy is no longer open; its marked chunks stay marked.

@@ -9,6 +9,7 @@ use crate::served::served_refusal;
 use crate::targets::put_slot;
 use plan_runs::Reply;
 use ring_names::{Refusal, Slot};
+use ring_store::SlotKey;
 use store_tells::Parts;
 
 /// Why a write is refused now, if it is: there is no such put or no slot of that index, or else the slot's owner is down, or its mirror.
@@ -45,14 +46,14 @@ pub fn write(parts: &mut Parts, put: u32, index: u32) -> Result<Reply, Refusal>
         unreachable!()
     };
     let key = parts.keys.key(now.key);
-    parts.stores.give(
+    let at = SlotKey {
         slot,
-        served.owner,
-        served.mirror,
-        place.chunk,
+        chunk: place.chunk,
         key,
-        &now.version,
-    )?;
+    };
+    parts
+        .stores
+        .give(&at, served.owner, served.mirror, &now.version)?;
     parts.puts.set_ticket(put, index, served.generation);
     Ok(Reply::Ticket(slot, served.generation))
 }

@@ -14,9 +14,9 @@ on_ok (Err e) f h = h
 
 pub returns-in_ok-add_mirror-in-Copy-clause-ok : goal.returns-in_ok-add_mirror-in-Copy-clause-ok
 returns-in_ok-add_mirror-in-Copy-clause-ok c = on_ok c.add_sources.result (λ h y.
-    let ring = c.args.ring.now in
-    let serve = serving_at ring c.args.present.now in
-    let mirror : Bool = counts_at ring Take y && is_the_mirror c.at.result.mirror y.node in
+    let ring = c.args.served.now.ring.now in
+    let serve = serving_at ring c.args.served.now.present.now in
+    let mirror : Bool = counts_at ring Take y && is_the_mirror c.at-mirror.result.mirror y.node in
     let owns : Bool = counts_at ring Give y && owns_some serve (source_slots c.in-Copy.slot c.in-Copy.source) y.node in
     let old : List ℕ = copies_kept c.args.copies.now y in
     let party : (mirror || owns) ≡ is_party ring serve c.args.step.now y = search rules in

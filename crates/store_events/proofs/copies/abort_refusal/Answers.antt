@@ -1,12 +1,5 @@
-use Rattle.std.proofs.Common.{◌∙◌, sym, refl}
 use Rattle.store_events.proofs.EventTests.{abort_tested}
 use Rattle.store_events.proofs.copies.abort_refusal.Goals as goal
 
-pub returns-then-not-has_copy : goal.returns-then-not-has_copy
-returns-then-not-has_copy c = abort_tested c.args.parts.now c.args.step _ (let e = sym c.has_copy.ensures ∙ c.if-not-has_copy.true in rw e refl)
-
-pub returns-then-not-is_open : goal.returns-then-not-is_open
-returns-then-not-is_open c = abort_tested c.args.parts.now c.args.step _ (let e = sym c.has_copy.ensures ∙ c.if-not-has_copy.false in let f = sym c.is_open.ensures ∙ c.if-not-is_open.true in rw (e, f) refl)
-
 pub returns : goal.returns
-returns c = abort_tested c.args.parts.now c.args.step _ (let e = sym c.has_copy.ensures ∙ c.if-not-has_copy.false in let f = sym c.is_open.ensures ∙ c.if-not-is_open.false in rw (e, f) refl)
+returns c = abort_tested c.args.parts.now c.args.step c.not_open.result c.not_open.ensures

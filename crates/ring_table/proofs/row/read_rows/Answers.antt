@@ -4,7 +4,7 @@ use Rattle.texts.proofs.Lates.{late-here}
 use Rattle.ring_table.specs.Reading.{rows_at}
 use Rattle.ring_table.proofs.RowLaws.{rows-goes_on, rows-missing, rows-bad, rows-done}
 use Rattle.ring_table.proofs.RingLates.{rows-late}
-use Rattle.ring_table.proofs.row.read_into.Goals as goal
+use Rattle.ring_table.proofs.row.read_rows.Goals as goal
 
 pub returns-in_err-fields-clause-read : goal.returns-in_err-fields-clause-read
 returns-in_err-fields-clause-read c =

@@ -1,7 +1,7 @@
 use Rattle.std.proofs.Common.{◌≡◌, ◌-◌, ◌≤◌}
 use Rattle.ring_table.specs.Reading.{rows_at}
 use Rattle.ring_table.proofs.RowLaws.{behind}
-use Rattle.ring_table.proofs.row.read_into.Given as goal
+use Rattle.ring_table.proofs.row.read_rows.Given as goal
 
 abbrev pub invariant-loop-partition : goal.invariant-loop-partition
 invariant-loop-partition l = record {

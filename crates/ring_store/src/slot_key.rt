@@ -1,0 +1,11 @@
+//! A key in a slot.
+
+use ring_names::Slot;
+
+/// A key in a slot, and the chunk of the hash space in which the key lies.
+#[derive(Clone, Copy)]
+pub struct SlotKey<'a> {
+    pub slot: Slot,
+    pub chunk: u32,
+    pub key: &'a [u8],
+}
