@@ -5,8 +5,7 @@ ghost use Rattle.plan_text.specs.Valid.{Suits};
 ghost use Rattle.plan_order.specs.Facts.{is_ordered};
 
 use crate::facts::Facts;
-use plan_text::Plan;
-use ring_table::Ring;
+use plan_text::{Plan, Ring};
 
 /// A ring, a plan that suits it, and facts of order in the plan.
 #[derive(Clone, Copy)]

@@ -13,7 +13,7 @@ mod shown;
 
 pub use change::{count_members, fewest_moves, push_change};
 pub use loads::Loads;
-pub use names::{name, push_many, push_names, push_quorum};
+pub use names::{name, push_many, push_names, push_quorum, rack};
 pub use numbers::{at, parts_of, raise, row, small};
 pub use progress::Progress;
 pub use scene::Scene;

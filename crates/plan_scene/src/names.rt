@@ -63,3 +63,20 @@ pub fn push_quorum(out: &mut Words, ring: &Ring, first: &[u8], second: &[u8]) {
         );
     }
 }
+
+/// The part of a name that names its rack: what stands behind its last byte of that kind, or all of it where there is none.
+pub fn rack(name: &[u8], behind: u8) -> &[u8] {
+    let mut start = 0usize;
+    let mut place = 0usize;
+    for byte in name {
+        place = place.saturating_add(1);
+        if *byte == behind {
+            start = place;
+        }
+    }
+    if start < name.len() {
+        &name[start..]
+    } else {
+        name
+    }
+}

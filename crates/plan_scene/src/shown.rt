@@ -33,6 +33,17 @@ pub struct AllShown {
     pub reads: Rows,
 }
 
+// A copy, as its move shows it.
+#[derive(Clone, Copy)]
+struct Copied<'a> {
+    number: u32,
+    round: u32,
+    // the nodes that it reads
+    reads: &'a [u32],
+    // whether it reads listed slots in place of the owner
+    is_listed: bool,
+}
+
 // Who owns each slot on the way through a plan, and which move is open for it.
 #[derive(Drop)]
 struct Way {
@@ -121,9 +132,13 @@ impl AllShown {
                 Step::Mirror(slot, _) => all.begin(&mut way, moves, rounds, *slot)?,
                 Step::Copy(slot, source) => {
                     let reads = read_nodes(alloc, &way, *slot, source)?;
-                    let round = at(rounds, number as usize);
-                    all.copy(&way, *slot, number, round, reads.as_slice())?;
-                    all.list(&way, *slot, source);
+                    let copied = Copied {
+                        number,
+                        round: at(rounds, number as usize),
+                        reads: reads.as_slice(),
+                        is_listed: matches!(source, Source::Slots(_)),
+                    };
+                    all.copy(&way, *slot, copied)?;
                 }
                 Step::Switch(slot) => all.switch(&mut way, *slot, number),
                 Step::Drop(_, _) | Step::Join(_) | Step::Retire(_) => {}
@@ -160,35 +175,19 @@ impl AllShown {
     }
 
     // The slot's open move has this copy.
-    fn copy(
-        &mut self,
-        way: &Way,
-        slot: Slot,
-        number: u32,
-        round: u32,
-        reads: &[u32],
-    ) -> Result<(), Refusal> {
+    fn copy(&mut self, way: &Way, slot: Slot, copied: Copied) -> Result<(), Refusal> {
         let Some(place) = way.open_move(slot) else {
             return Ok(());
         };
         let row = self.reads.len();
-        self.reads.push(reads)?;
+        self.reads.push(copied.reads)?;
         if let Some(shown) = self.moves.get_mut(place) {
-            shown.copy = Some(number);
-            shown.round = round;
+            shown.copy = Some(copied.number);
+            shown.round = copied.round;
             shown.reads = Some(row);
+            shown.is_listed = copied.is_listed;
         }
         Ok(())
-    }
-
-    // The slot's open move reads from these.
-    fn list(&mut self, way: &Way, slot: Slot, source: &Source) {
-        let Some(place) = way.open_move(slot) else {
-            return;
-        };
-        if let Some(shown) = self.moves.get_mut(place) {
-            shown.is_listed = matches!(source, Source::Slots(_));
-        }
     }
 
     // The slot's open move ends by this switch.

@@ -1,25 +1,8 @@
 //! Racks, as the names of nodes tell them.
 
-use plan_scene::name;
+use plan_scene::{name, rack};
 use ring_names::{Listed, NodeId};
 use ring_table::Ring;
-
-/// The part of a name that names its rack: what stands behind its last byte of that kind, or all of it where there is none.
-pub fn rack(name: &[u8], behind: u8) -> &[u8] {
-    let mut start = 0usize;
-    let mut place = 0usize;
-    for byte in name {
-        place = place.saturating_add(1);
-        if *byte == behind {
-            start = place;
-        }
-    }
-    if start < name.len() {
-        &name[start..]
-    } else {
-        name
-    }
-}
 
 // Whether two of the owners stand in one rack.
 fn shares_rack(ring: &Ring, row: &[NodeId], behind: u8) -> bool {

@@ -10,5 +10,4 @@ mod running;
 mod table;
 mod writing;
 
-pub use domains::rack;
 pub use overview::{Shape, View, summary};

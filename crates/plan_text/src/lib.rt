@@ -16,5 +16,6 @@ mod writing;
 
 pub use plan::Plan;
 pub use reading::{read_plan, read_plan_section};
+pub use ring_table::Ring;
 pub use step::{Planned, Source, Step};
 pub use writing::write_plan;

@@ -8,7 +8,7 @@ use crate::rings::rewritten;
 use crate::sections::{Kind, kind_of};
 use change_text::{Change, Wanted, read_wanted};
 use plan_goal::{Goal, is_among, reach, read_goal};
-use plan_summary::rack;
+use plan_scene::rack;
 use plan_wish::{Wish, Wished, push_words, wished};
 use ring_names::{Listed, Names, NodeId, Refusal};
 use ring_table::{Ring, read_ring, write_ring};

@@ -1,0 +1,2 @@
+-- The store behind a history.
+pub use Rattle.ring_core.specs.declared.world.World.{World}
