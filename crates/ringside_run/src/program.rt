@@ -8,7 +8,7 @@ use crate::show::{draw_bundle, show_bundle};
 use crate::steps::{moves_bundle, steps_bundle};
 use crate::study::Work;
 use crate::why::{push_words_of, why_bundle};
-use crate::windows::{push_too_many, windows_bundle};
+use crate::windows::{push_windows_words, windows_bundle};
 use ring_names::Refusal;
 use ringplan_jobs::{Answer, Watch, answer_of, read_all, write_all};
 use ringside_command::{CommandLine, parse};
@@ -114,10 +114,7 @@ fn push_said<W: Watch>(
     match (making, refusal) {
         (Making::Cert, _) => push_why_none(work, out, bytes, refusal),
         (Making::After, Refusal::WrongStage(step)) => push_open(work, out, bytes, *step),
-        (Making::Windows(_), Refusal::TooLarge(0)) => {
-            push_too_many(out);
-            Ok(())
-        }
+        (Making::Windows(_), _) => push_windows_words(work, out, bytes, refusal),
         (Making::Goal(options) | Making::Even(options), _) => {
             push_goal_words(work, out, bytes, options, refusal)
         }

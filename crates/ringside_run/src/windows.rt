@@ -7,11 +7,16 @@ ghost use Rattle.plan_check.specs.Approval.{IsApproved};
 ghost use Rattle.ringside_plans.specs.Windows.{AreAskedOf};
 
 use crate::study::{Work, studied};
+use crate::why::push_words_of;
 use ring_names::Refusal;
 use ringplan_jobs::Watch;
 use ringside_job::Cut;
 use ringside_plans::cut_plan;
 use words::Words;
+
+// What is said of too many bytes.
+const TOO_MANY: &[u8; 123] =
+    b"refused: the windows have more than 67,108,864 bytes together, as each has the whole ring\n  Let a window have more rounds.\n";
 
 /// The plan of a bundle in windows, or one of these, as `cut_plan` says; a history changes nothing. Refused is what `studied` refuses, and what `cut_plan` does.
 pub fn windows_bundle<W: Watch>(work: &Work<W>, bytes: &[u8], cut: Cut) -> Result<Vec<u8>, Refusal>
@@ -23,9 +28,33 @@ pub fn windows_bundle<W: Watch>(work: &Work<W>, bytes: &[u8], cut: Cut) -> Resul
     cut_plan(work.alloc, &found.approved, cut.rounds, cut.only)
 }
 
-/// Says that the windows have too many bytes.
-pub fn push_too_many(out: &mut Words) {
-    out.text(
-        b"refused: the windows have more than 67,108,864 bytes together, as each has the whole ring\n  Let a window have more rounds.\n",
-    );
+/// Adds why `windows_bundle` refuses a bundle.
+pub fn push_windows_words<W: Watch>(
+    work: &Work<W>,
+    out: &mut Words,
+    bytes: &[u8],
+    refusal: &Refusal,
+) -> Result<(), Refusal> {
+    match refusal {
+        Refusal::TooLarge(0) => {
+            out.text(TOO_MANY);
+            Ok(())
+        }
+        Refusal::NoPlan => push_no_window(work, out, bytes),
+        _ => push_words_of(work, out, bytes, refusal),
+    }
+}
+
+// Says that there is no such window, where the plan itself is accepted.
+fn push_no_window<W: Watch>(work: &Work<W>, out: &mut Words, bytes: &[u8]) -> Result<(), Refusal> {
+    match studied(work, bytes) {
+        Ok(_) => {
+            out.text(
+                b"refused: the plan has no window of that number, or no ring can say what one of its windows leaves\n",
+            );
+            Ok(())
+        }
+        Err(Refusal::OutOfMemory) => Err(Refusal::OutOfMemory),
+        Err(_) => push_words_of(work, out, bytes, &Refusal::NoPlan),
+    }
 }
