@@ -1,2 +1,3 @@
 -- What the program for people prints.
 pub mod Why
+pub mod Studies

@@ -1,5 +1,11 @@
 //! The ring that a plan leaves, or what a history has done of it.
 
+ghost use Rattle.std.specs.Prelude.{◌⊎◌, length, IfOk};
+ghost use Rattle.plan_check.specs.Approval.{IsApproved};
+ghost use Rattle.plan_moves.specs.Owners.{last_owners};
+ghost use Rattle.ringside_plans.specs.Rings.{IsRingOf, members_after};
+ghost use Rattle.ringside_run.specs.Studies.{HasHistory, IsLeftBy};
+
 use crate::study::{Study, Work, studied};
 use crate::why::push_words_of;
 use plan_check::Approved;
@@ -172,15 +178,29 @@ fn ring_behind(
     )
 }
 
+// The text of the ring that an approved plan leaves.
+fn ring_left(alloc: Global, approved: &Approved, text: &[u8]) -> Result<Vec<u8>, Refusal>
+    ensures ring { IfOk result (λ text. IsRingOf text.items (last_owners approved.now.ring approved.now.plan)
+        (members_after approved.now.ring approved.now.plan (length approved.now.ring.nodes))) }
+    ensures approved { IsApproved approved.now.ring approved.now.plan }
+{
+    // The plan is approved, which the prover knows once it is read.
+    let _ = approved.plan();
+    ring_after(alloc, approved, text)
+}
+
 /// The text of the ring that the plan of a bundle leaves, or what a history has done of it: the same nodes, with the owners and the members behind
 /// the steps that are done. A move that a history has begun and not switched is `WrongStage` at the step that set the mirror, since no ring can say it. Else refused
 /// is what `studied` refuses.
-pub fn after_bundle<W: Watch>(work: &Work<W>, bytes: &[u8]) -> Result<Vec<u8>, Refusal> {
+pub fn after_bundle<W: Watch>(work: &Work<W>, bytes: &[u8]) -> Result<Vec<u8>, Refusal>
+    // Where the bundle has no history, it is that of the ring that its plan leaves, and the checker accepted the plan.
+    ensures after { IfOk result (λ text. HasHistory bytes.now ⊎ IsLeftBy bytes.now text.items) }
+{
     let found = studied(work, bytes)?;
     let text = &bytes[..front(bytes, 1)];
     match &found.history {
         Some(history) => ring_behind(work.alloc, &found.approved, history.as_slice(), text),
-        None => ring_after(work.alloc, &found.approved, text),
+        None => ring_left(work.alloc, &found.approved, text),
     }
 }
 

@@ -4,6 +4,7 @@
 mod after;
 mod bundle;
 mod cert;
+mod changing;
 mod goal_words;
 mod program;
 mod show;

@@ -6,6 +6,7 @@ ghost use Rattle.plan_text.specs.declared.step.Planned.{Planned};
 ghost use Rattle.plan_check.specs.Approval.{IsApproved};
 ghost use Rattle.plan_lines.specs.Lines.{steps_text};
 ghost use Rattle.plan_lines.specs.MoveLines.{moves_text};
+ghost use Rattle.ringside_run.specs.Studies.{IsStudyOf};
 
 use crate::study::{Work, studied};
 use plan_check::Approved;
@@ -25,9 +26,9 @@ fn steps_of(alloc: Global, approved: &Approved) -> Result<Vec<u8>, Refusal>
 /// The steps of a bundle's plan as lines of JSON, where the checker accepts it; where the bundle has a change, a plan is made first, and a history changes
 /// nothing. Refused is what `studied` refuses.
 pub fn steps_bundle<W: Watch>(work: &Work<W>, bytes: &[u8]) -> Result<Vec<u8>, Refusal>
-    // They are those of a plan that the checker accepted, in order, and none is left out.
+    // They are those of the bundle's plan, which the checker accepted, in order, and none is left out.
     ensures steps { IfOk result (λ text. (ring : RingValue) × (plan : List Planned)
-        × IsApproved ring plan × (text.items ≡ steps_text ring plan)) }
+        × IsStudyOf bytes.now ring plan × IsApproved ring plan × (text.items ≡ steps_text ring plan)) }
 {
     let found = studied(work, bytes)?;
     steps_of(work.alloc, &found.approved)
@@ -43,9 +44,9 @@ fn moves_of(alloc: Global, approved: &Approved) -> Result<Vec<u8>, Refusal>
 
 /// The slots that a bundle's plan moves as lines of JSON, where the checker accepts it; else as `steps_bundle`.
 pub fn moves_bundle<W: Watch>(work: &Work<W>, bytes: &[u8]) -> Result<Vec<u8>, Refusal>
-    // They are the moves of a plan that the checker accepted, in order, and none is left out.
+    // They are the moves of the bundle's plan, which the checker accepted, in order, and none is left out.
     ensures moves { IfOk result (λ text. (ring : RingValue) × (plan : List Planned)
-        × IsApproved ring plan × (text.items ≡ moves_text ring plan)) }
+        × IsStudyOf bytes.now ring plan × IsApproved ring plan × (text.items ≡ moves_text ring plan)) }
 {
     let found = studied(work, bytes)?;
     moves_of(work.alloc, &found.approved)

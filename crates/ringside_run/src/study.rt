@@ -1,11 +1,17 @@
 //! A bundle whose plan the checker accepts.
 
-use crate::bundle::texts_of;
+ghost use Rattle.std.specs.Prelude.{◌≡◌, None, IfOk, IfSome};
+ghost use Rattle.plan_text.specs.Valid.{Suits};
+ghost use Rattle.ringside_run.specs.Studies.{IsStudyOf, HasHistory};
+
+use crate::changing::study_change;
 use history_text::read_replay;
 use plan_cert::Cert;
 use plan_check::{Approved, check};
 use plan_runs::Entry;
+use plan_text::Plan;
 use ring_names::Refusal;
+use ring_table::Ring;
 use ringplan_jobs::{Kind as Sections, Watch, read_bundle, replay_watched};
 use ringside_plans::{Kind, kind_of};
 use std::alloc::Global;
@@ -26,14 +32,16 @@ pub struct Study {
     pub history: Option<Vec<Entry>>,
 }
 
-// A bundle without a history.
-fn study_plan(alloc: Global, bytes: &[u8]) -> Result<Study, Refusal> {
-    let text = texts_of(alloc, bytes)?;
-    let bundle = read_bundle(alloc, Sections::Check, text.as_slice())?;
-    match check(alloc, bundle.ring, bundle.plan, &bundle.cert) {
+/// A plan with no history, where the checker accepts it.
+pub(crate) fn accepted(alloc: Global, ring: Ring, plan: Plan, cert: Cert) -> Result<Study, Refusal>
+    requires { Suits ring plan }
+    ensures same { IfOk result (λ s. (s.approved.ring ≡ ring) × (s.approved.plan ≡ plan)) }
+    ensures history { IfOk result (λ s. s.history ≡ None) }
+{
+    match check(alloc, ring, plan, &cert) {
         Ok(approved) => Ok(Study {
             approved,
-            cert: bundle.cert,
+            cert,
             history: None,
         }),
         Err(turned) => {
@@ -43,30 +51,43 @@ fn study_plan(alloc: Global, bytes: &[u8]) -> Result<Study, Refusal> {
     }
 }
 
+// A bundle without a history.
+fn study_plan(alloc: Global, bytes: &[u8]) -> Result<Study, Refusal>
+    ensures of { IfOk result (λ s. IsStudyOf bytes.now s.approved.ring s.approved.plan) }
+    ensures history { IfOk result (λ s. s.history ≡ None) }
+{
+    let bundle = read_bundle(alloc, Sections::Check, bytes)?;
+    accepted(alloc, bundle.ring, bundle.plan, bundle.cert)
+}
+
 // A bundle with a history.
-fn study_history<W: Watch>(work: &Work<W>, bytes: &[u8]) -> Result<Study, Refusal> {
+fn study_history<W: Watch>(work: &Work<W>, bytes: &[u8]) -> Result<Study, Refusal>
+    ensures of { IfOk result (λ s. IsStudyOf bytes.now s.approved.ring s.approved.plan) }
+    ensures history { IfOk result (λ _. HasHistory bytes.now) }
+{
     let bundle = read_replay(work.alloc, bytes)?;
-    match check(work.alloc, bundle.ring, bundle.plan, &bundle.cert) {
-        Ok(approved) => {
-            let _ = replay_watched(work.alloc, &approved, bundle.history.as_slice(), work.watch)?;
-            Ok(Study {
-                approved,
-                cert: bundle.cert,
-                history: Some(bundle.history),
-            })
-        }
-        Err(turned) => {
-            let refusal = turned.refusal;
-            Err(refusal)
-        }
-    }
+    let mut found = accepted(work.alloc, bundle.ring, bundle.plan, bundle.cert)?;
+    let _ = replay_watched(
+        work.alloc,
+        &found.approved,
+        bundle.history.as_slice(),
+        work.watch,
+    )?;
+    found.history = Some(bundle.history);
+    Ok(found)
 }
 
 /// The plan of a bundle, where the checker accepts it; where the bundle has a change, a plan is made first. Refused is the first fault of the texts, what the
 /// planner or the checker refuses, and a history that is no run of the plan.
-pub fn studied<W: Watch>(work: &Work<W>, bytes: &[u8]) -> Result<Study, Refusal> {
+pub fn studied<W: Watch>(work: &Work<W>, bytes: &[u8]) -> Result<Study, Refusal>
+    // The ring and the plan are those of the bundle, or the plan makes its change.
+    ensures of { IfOk result (λ s. IsStudyOf bytes.now s.approved.ring s.approved.plan) }
+    // What has happened comes of a history in the bundle.
+    ensures history { IfOk result (λ s. IfSome s.history (λ _. HasHistory bytes.now)) }
+{
     match kind_of(bytes) {
-        Kind::Change | Kind::Plan => study_plan(work.alloc, bytes),
+        Kind::Change => study_change(work.alloc, bytes),
+        Kind::Plan => study_plan(work.alloc, bytes),
         Kind::History => study_history(work, bytes),
     }
 }

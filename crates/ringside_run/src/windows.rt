@@ -5,6 +5,7 @@ ghost use Rattle.ring_table.specs.Value.{RingValue};
 ghost use Rattle.plan_text.specs.declared.step.Planned.{Planned};
 ghost use Rattle.plan_check.specs.Approval.{IsApproved};
 ghost use Rattle.ringside_plans.specs.Windows.{AreAskedOf};
+ghost use Rattle.ringside_run.specs.Studies.{IsStudyOf};
 
 use crate::study::{Work, studied};
 use crate::why::push_words_of;
@@ -20,9 +21,9 @@ const TOO_MANY: &[u8; 123] =
 
 /// The plan of a bundle in windows, or one of these, as `cut_plan` says; a history changes nothing. Refused is what `studied` refuses, and what `cut_plan` does.
 pub fn windows_bundle<W: Watch>(work: &Work<W>, bytes: &[u8], cut: Cut) -> Result<Vec<u8>, Refusal>
-    // They are windows of a plan that the checker accepted, from the ring's text on to its end, or the one of the number that is asked for.
+    // They are windows of the bundle's plan, which the checker accepted, from the ring's text on to its end, or the one of the number that is asked for.
     ensures windows { IfOk result (λ text. (ring : RingValue) × (plan : List Planned)
-        × IsApproved ring plan × AreAskedOf ring plan cut.only text.items) }
+        × IsStudyOf bytes.now ring plan × IsApproved ring plan × AreAskedOf ring plan cut.only text.items) }
 {
     let found = studied(work, bytes)?;
     cut_plan(work.alloc, &found.approved, cut.rounds, cut.only)
