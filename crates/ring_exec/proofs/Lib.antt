@@ -3,4 +3,3 @@ pub mod Sums
 pub mod Looks
 pub mod Replied
 pub use Rattle.ring_replay.proofs.FirstFault
-pub use Rattle.ring_replay.proofs.SoundAfterEvent

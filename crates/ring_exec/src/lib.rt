@@ -11,6 +11,5 @@ mod share;
 
 pub use executor::Executor;
 pub use ledgered::{Ledgered, MAX_ENTRIES};
-pub use ring_replay::World;
 pub use run_ledger::RunLedger;
 pub use share::Share;

@@ -126,7 +126,7 @@ fn refusal_added<RT: Abort>(
 }
 
 // Adds the line that the event is answered, which is what was allowed.
-#[tactic(auto, using(ring_replay::proofs::SoundAfterEvent::has_number))]
+#[tactic(auto, using(ring_core::proofs::SoundAfterEvent::has_number))]
 fn answer<RT: Abort>(
     rt: &RT,
     world: &mut World,

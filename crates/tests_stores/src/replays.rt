@@ -53,7 +53,7 @@ end
 const OWNERS: &[u8] = b"slots 0 a d c\nslots 1 a b c\nslots 2 a b c\nslots 3 a b c\nend\n";
 
 // Notes the event with its reply, where it is answered.
-#[tactic(auto, using(ring_replay::proofs::SoundAfterEvent::has_number))]
+#[tactic(auto, using(ring_core::proofs::SoundAfterEvent::has_number))]
 fn note<RT: AllocGlobal + Abort>(
     rt: &RT,
     world: &mut World,

@@ -7,7 +7,7 @@ ghost use Rattle.drive_text.specs.Drives.{AreOfClients};
 
 use plan_check::{Approved, Gate};
 use plan_runs::Entry;
-use ring_exec::World;
+use ring_core::World;
 use ring_names::Refusal;
 use ring_receipts::{Outcome, agrees};
 use ring_work::drive;
@@ -41,7 +41,7 @@ pub const fn well(entries: usize, lists: usize) -> Came {
 }
 
 // Whether the store answers the entry's event with its reply.
-#[tactic(auto, using(ring_exec::proofs::SoundAfterEvent::has_number))]
+#[tactic(auto, using(ring_core::proofs::SoundAfterEvent::has_number))]
 fn is_answered(alloc: Global, world: &mut World, entry: &Entry) -> Result<bool, Refusal> {
     if world.puts() >= MOST || world.gets() >= MOST {
         return Err(Refusal::HistoryFull);
