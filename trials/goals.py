@@ -2,8 +2,8 @@
 """Tries `ringside goal` from outside, beside `ringplan`; it wants both programs as they are built. `trials/goals.py COUNT` tries so many random goals, else 200.
 
 Goals: rings of 1 to 16 partitions, joint and split allowances, nodes that join, leave and are dead for good, drawn from a fixed seed; any placement of the slots. Of each plan: the checker says
-yes; it moves each slot that must move once, and no other; its rounds of copies are at most 1.2 times the fewest that allowances permit, and one more where it has to wait for slots that are read in place of a dead
-node's; no step names a dead node, and no copy reads from one; the lines of its moves are those that its text tells. Each plan is played with the dead nodes down from its first step on: puts that were acknowledged before are read behind it, and
+yes; it moves each slot that must move once, and no other; its rounds of copies are at most 1.2 times the fewest that allowances permit, rounded up to a whole round; no step names a dead node, and no copy reads
+from one; the lines of its moves are those that its text tells. Each plan is played with the dead nodes down from its first step on: puts that were acknowledged before are read behind it, and
 the owners in the end are those of the goal. Where a partition has too few slots that can be read, or a dead node shall be given a slot, the answer is `no 28`.
 
 Windows: each of those plans that has no dead node is cut into windows of one round. The checker says yes to each; each begins with the ring that the one before leaves; the last leaves the goal's owners.
@@ -88,7 +88,7 @@ def judge(ring, before, rows, after, wished, dead, out):
     if parts[0] + "end\n" != ring_text(ring, before, rows):
         return "another ring"
     steps = parsed(parts[1].splitlines()[1:])
-    owners, depth, used, moves, late = [list(row) for row in rows], [], {}, 0, False
+    owners, depth, used, moves = [list(row) for row in rows], [], {}, 0
     mirrors = {}
     allow = dict(zip(ring["names"], ring["allow"]))
     group = lambda x, side: (x, "both") if len(allow[x]) == 1 else (x, side)
@@ -106,7 +106,6 @@ def judge(ring, before, rows, after, wished, dead, out):
         elif fields[0] == "copy":
             listed = fields[3] == "slots"
             reads = [owners[p][int(x)] for x in fields[4:]] if listed else [owners[p][i]]
-            late = late or listed
             if any(x in dead for x in reads):
                 return "a copy reads from a dead node"
             for g in [group(x, "give") for x in reads] + [group(mirrors[p, i], "take")]:
@@ -119,7 +118,7 @@ def judge(ring, before, rows, after, wished, dead, out):
     if moves != least:
         return f"{moves} moves for {least}"
     bound = max([-(-used[g] // most(g)) for g in used], default=0)
-    if max(depth, default=0) > max(1.2 * bound, bound + 1 + late):
+    if max(depth, default=0) > -(-6 * bound // 5):
         return f"{max(depth)} rounds for {bound}"
     wide.append(max(depth, default=0) / max(bound, 1))
     return ""
