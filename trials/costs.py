@@ -40,10 +40,11 @@ def shifted(partitions):
 
 
 def around(dead, partitions):
-    """The ring of 1,024 nodes, of which so many leave that are dead: the command's words, and the bundle."""
-    bundle = members(dead, partitions)
-    names = [line.split()[1] for line in bundle.splitlines() if line.startswith("leave ")]
-    return ["goal", *[it for x in names for it in ("--dead", x)]], bundle
+    """The ring of 1,024 nodes, of which every ninth leaves and is dead, so many in all, and as many join: the command's words, and the bundle."""
+    front = members(dead, partitions).split("change 1\n")[0]
+    names = ["n%04d" % (9 * k) for k in range(dead)]
+    change = ["change 1"] + ["join n%04d" % k for k in range(1024 - dead, 1024)] + ["leave " + x for x in names] + ["end"]
+    return ["goal", *[it for x in names for it in ("--dead", x)]], front + "\n".join(change) + "\n"
 
 
 def history(bundle):
