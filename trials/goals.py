@@ -18,7 +18,7 @@ COUNT = int(sys.argv[1]) if len(sys.argv) > 1 else 200
 
 
 def ask(program, words, text):
-    ran = subprocess.run([program, *words], input=text.encode(), stdout=subprocess.PIPE, timeout=60)
+    ran = subprocess.run([program, *words], input=text.encode(), stdout=subprocess.PIPE, timeout=300)
     return ran.stdout.decode(), ran.returncode
 
 
