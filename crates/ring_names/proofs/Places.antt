@@ -4,7 +4,7 @@ use Rattle.std.specs.Prelude.{option_map, slice_get}
 use Rattle.std.specs.Str.{bytes_eq}
 use Rattle.std.specs.Global.{Vec}
 use Rattle.std.proofs.lemmas.Slice.Eq.{bytes_eq-Decides}
-use Rattle.std.proofs.lemmas.List.{map_push}
+use Rattle.std.proofs.lemmas.List.{append-nil, map_push}
 use Rattle.ring_names.specs.Lists.{AllNew}
 use Rattle.ring_names.specs.Names.{place}
 use Rattle.ring_names.specs.AtBytes.{value_at, Puts}
@@ -54,6 +54,11 @@ place-from seen (y ∷ ys) (suc i) x new e =
     let later = place-from (seen ++ y ∷ []) ys i x new.1 e in
     let joined : (seen ++ y ∷ []) ++ ys ≡ seen ++ y ∷ ys = append_assoc seen (y ∷ []) ys in
     ap (λ ns. place ns x) (sym joined) ∙ later ∙ ap (λ (n : ℕ). Some n) (omega (arith, length-append seen (y ∷ [])))
+
+-- one more that is new behind them
+pub all-new-push : (seen xs : List (List ℕ)) (x : List ℕ) → AllNew seen xs → place (seen ++ xs) x ≡ None → AllNew seen (xs ++ x ∷ [])
+all-new-push seen [] x new e = (rw append-nil at e, tt)
+all-new-push seen (y ∷ ys) x new e = (new.0, all-new-push (seen ++ y ∷ []) ys x new.1 (ap (λ ns. place ns x) (append_assoc seen (y ∷ []) ys) ∙ e))
 
 -- the number of a name that each is new before is its place
 pub place-get : (xs : List (List ℕ)) (i : ℕ) (x : List ℕ) → AllNew [] xs → slice_get xs i ≡ Some x → place xs x ≡ Some i

@@ -3,10 +3,12 @@
 #![tactic(auto)]
 
 mod decimal;
+mod guesses;
 mod ids;
 mod listed;
 mod lists;
 mod names;
+mod numbered;
 mod refusal;
 mod rows;
 mod value;
@@ -16,6 +18,7 @@ pub use ids::{NodeId, Slot, WriterId};
 pub use listed::Listed;
 pub use lists::Lists;
 pub use names::Names;
+pub use numbered::Numbered;
 pub use refusal::Refusal;
 pub use rows::Rows;
 pub use value::Value;

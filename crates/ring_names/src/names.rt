@@ -4,29 +4,25 @@ ghost use Rattle.std.specs.Prelude.{◌≡◌, ◌<◌, [], length, slice_get, I
 ghost use Rattle.ring_names.specs.Names.{place, with_name};
 ghost use Rattle.ring_names.specs.declared.refusal.Refusal.TheVariants.{OutOfMemory};
 
+use crate::numbered::Numbered;
 use crate::refusal::Refusal;
 use std::alloc::Global;
-use std::collections::BTreeMap;
 use std::marker::Model;
 
-/// Names, each numbered by its place in order of first sight, from 0. Texts choose the names, so these are ordered and not hashed: looking one up
-/// costs its length times the logarithm of how many there are, whatever they are.
+/// Names, each numbered by its place in order of first sight, from 0; fewer than 2^32.
 #[derive(Drop)]
 pub struct Names {
-    alloc: Global,
-    names: Vec<Vec<u8>>,
-    numbers: BTreeMap<Vec<u8>, u32>,
+    names: Numbered,
 }
 
 impl Model for Names {
-    ghost use Rattle.std.specs.Prelude.{List, ℕ};
-    ghost use Rattle.ring_names.specs.Numbered.{names_of, IsNumbered};
+    ghost use Rattle.std.specs.Prelude.{◌<◌, ◌^◌, List, ℕ, length};
 
     ghost Value = { List (List ℕ) };
 
-    ghost view = { names_of };
+    ghost view = { λ a. a.names };
 
-    ghost invariant = { IsNumbered };
+    ghost invariant = { λ a. length a.names < 2 ^ 32 };
 }
 
 impl Names {
@@ -35,9 +31,7 @@ impl Names {
         ensures { result ≡ [] }
     {
         Names {
-            alloc,
-            names: Vec::new(alloc),
-            numbers: BTreeMap::new(alloc),
+            names: Numbered::new(alloc),
         }
     }
 
@@ -56,24 +50,16 @@ impl Names {
         ensures memory { IfErr result (λ e. (e ≡ OutOfMemory) × (place self.old name.now ≡ None)) }
         ensures err { OnErr result (self.new ≡ self.old) }
     {
-        if let Some(number) = self.number_of(name) {
-            return Ok(number);
-        }
-        let number = self.len();
-        let kept = Vec::from_slice(self.alloc, name)?;
-        let key = Vec::from_slice(self.alloc, name)?;
-        self.names.reserve(1)?;
-        self.numbers.insert(key, number)?;
-        self.names.push_reserved(kept);
-        Ok(number)
+        let number = self.names.add(name)?;
+        Ok(number as u32)
     }
 
     /// The number of `name`, if it was seen. Takes no memory.
     pub fn number_of(&self, name: &[u8]) -> Option<u32>
         ensures { result ≡ place self.now name.now }
     {
-        match self.numbers.get(name) {
-            Some(number) => Some(*number),
+        match self.names.number_of(name) {
+            Some(number) => Some(number as u32),
             None => None,
         }
     }
@@ -82,9 +68,6 @@ impl Names {
     pub fn name_of(&self, number: u32) -> Option<&[u8]>
         ensures { option_map (λ name. name.now) result ≡ slice_get self.now number }
     {
-        match self.names.get(number as usize) {
-            Some(name) => Some(name.as_slice()),
-            None => None,
-        }
+        self.names.get(number as usize)
     }
 }

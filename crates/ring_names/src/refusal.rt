@@ -1,6 +1,6 @@
 //! The one refusal type.
 
-ghost use Rattle.std.specs.Prelude.{◌≡◌, ◌++◌, ◌∷◌, OnOk, option_to_list};
+ghost use Rattle.std.specs.Prelude.{◌≡◌, ◌<◌, ◌++◌, ◌∷◌, OnOk, option_to_list};
 ghost use Rattle.std.specs.Fmt.{decimal};
 ghost use Rattle.ring_names.specs.Refusals.{number_of, values_of, line_of};
 
@@ -107,6 +107,16 @@ impl Refusal {
             Refusal::SharedNode(_) => 11,
             Refusal::NotMember(_) => 12,
             Refusal::LaterDependency(_) => 20,
+            _ => self.number_past_texts(),
+        }
+    }
+
+    // The number of a refusal that no text alone gets: of plans, or of what happens.
+    fn number_past_texts(&self) -> u8
+        requires { 20 < number_of self.now }
+        ensures { result ≡ number_of self.now }
+    {
+        match self {
             Refusal::WrongStage(_) => 21,
             Refusal::UnorderedSlot(_) => 22,
             Refusal::BadSource(_) => 23,
@@ -119,6 +129,16 @@ impl Refusal {
             Refusal::CoverMissing(_, _) => 32,
             Refusal::ChainBroken(_) => 33,
             Refusal::TooManyChains(_) => 34,
+            _ => self.number_past_plans(),
+        }
+    }
+
+    // The number of a refusal of an event or of a run.
+    fn number_past_plans(&self) -> u8
+        requires { 34 < number_of self.now }
+        ensures { result ≡ number_of self.now }
+    {
+        match self {
             Refusal::NotReady => 40,
             Refusal::AlreadyDone => 41,
             Refusal::NodeDown(_) => 42,
@@ -135,9 +155,9 @@ impl Refusal {
             Refusal::OutOfMemory => 60,
             Refusal::ReadFailed => 61,
             Refusal::WriteFailed => 62,
-            Refusal::Mismatch(_, _) => 70,
-            Refusal::Disagree => 70,
+            Refusal::Mismatch(_, _) | Refusal::Disagree => 70,
             Refusal::TurnsSpent => 71,
+            _ => unreachable!(),
         }
     }
 

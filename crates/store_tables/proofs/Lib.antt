@@ -4,6 +4,4 @@ pub mod Bits
 pub mod Reading
 pub mod Marked
 pub mod Ticketing
-pub mod Bytes
 pub mod Tied
-pub mod Placed

@@ -7,27 +7,18 @@ ghost use Rattle.ring_names.specs.Names.{place as number_in, with_name};
 ghost use Rattle.ring_names.specs.Space.{is_space};
 ghost use Rattle.ring_space.specs.Place.{place_of};
 
-use ring_names::Refusal;
+use ring_names::{Numbered, Refusal};
 use ring_space::{Place, place};
 use std::alloc::Global;
-use std::collections::BTreeMap;
 use std::marker::Model;
 
-// A key, and where it lies.
-#[derive(Drop)]
-struct PlacedKey {
-    bytes: Vec<u8>,
-    place: Place,
-}
-
 /// The keys of puts and gets among q partitions, each numbered by its place in order of first sight, from 0, with the place where it
-/// lies. A look-up is by an ordered map, since clients choose the keys; a key's digest is made once, and its bytes are kept twice.
+/// lies: a key's digest is made once. A look-up costs what one of `Numbered` does.
 #[derive(Drop)]
 pub struct Keys {
-    alloc: Global,
     q: u32,
-    keys: Vec<PlacedKey>,
-    numbers: BTreeMap<Vec<u8>, usize>,
+    keys: Numbered,
+    places: Vec<Place>,
 }
 
 impl Model for Keys {
@@ -49,10 +40,9 @@ impl Keys {
         ensures { result ≡ record { q = q; keys = [] } }
     {
         Keys {
-            alloc,
             q,
-            keys: Vec::new(alloc),
-            numbers: BTreeMap::new(alloc),
+            keys: Numbered::new(alloc),
+            places: Vec::new(alloc),
         }
     }
 
@@ -67,7 +57,7 @@ impl Keys {
     pub fn number_of(&self, key: &[u8]) -> Option<usize>
         ensures { result ≡ number_in self.now.keys key.now }
     {
-        self.numbers.get(key).copied()
+        self.keys.number_of(key)
     }
 
     /// The number of the key: the one that it has, or the next. Out of memory is answered for a new key alone.
@@ -80,13 +70,9 @@ impl Keys {
         if let Some(number) = self.number_of(key) {
             return Ok(number);
         }
-        let number = self.keys.len();
-        let bytes = Vec::from_slice(self.alloc, key)?;
-        let numbered = Vec::from_slice(self.alloc, key)?;
-        let place = place(self.q, key);
-        self.keys.reserve(1)?;
-        self.numbers.insert(numbered, number)?;
-        self.keys.push_reserved(PlacedKey { bytes, place });
+        self.places.reserve(1)?;
+        let number = self.keys.add(key)?;
+        self.places.push_reserved(place(self.q, key));
         Ok(number)
     }
 
@@ -95,7 +81,10 @@ impl Keys {
         requires { number < length self.now.keys }
         ensures { slice_get self.now.keys number ≡ Some result.now }
     {
-        self.keys[number].bytes.as_slice()
+        match self.keys.get(number) {
+            Some(key) => key,
+            None => unreachable!(),
+        }
     }
 
     /// Where the key of that number lies. Takes no memory.
@@ -105,6 +94,6 @@ impl Keys {
         ensures partition { result.partition < self.now.q }
         ensures chunk { result.chunk < 16 }
     {
-        self.keys[number].place
+        self.places[number]
     }
 }
