@@ -1,5 +1,5 @@
 -- One of the maps of a slot's chunks changed.
-use Rattle.std.proofs.Common.{◌≡◌, ◌≢◌, ◌⊎◌, inl, inr, ◌∙◌, ℕ, zero, suc, ◌<◌, true, false, cond, nat_eq, List, [], ◌∷◌, ◌++◌, length, refl, sym, ap, subst, Option, Some, None, arith, set}
+use Rattle.std.proofs.Common.{◌≡◌, ◌≢◌, ◌⊎◌, inl, inr, ◌∙◌, ℕ, Bool, zero, suc, ◌<◌, true, false, cond, nat_eq, List, [], ◌∷◌, ◌++◌, length, refl, sym, ap, subst, Option, Some, None, arith, set}
 use Rattle.std.specs.Prelude.{slice_get, is_some, IfSome, MatchOption, unwrap_or}
 use Rattle.std.specs.Str.{bytes_eq}
 use Rattle.std.proofs.Math.ListN.{get_or}
@@ -13,8 +13,8 @@ use Rattle.store_maps.specs.declared.fresh_keys.FreshKeys.{FreshKeys}
 use Rattle.store_maps.specs.declared.key_map.KeyMap.{KeyMap}
 use Rattle.store_maps.specs.declared.slot_map.SlotMap.{SlotMap}
 use Rattle.store_maps.specs.Slots.{held_for}
-use Rattle.store_maps.specs.Chunks.{chunk_of, held_of, place_in, ArePlaced}
-use Rattle.store_maps.specs.Held.{held, has_place, IsReady}
+use Rattle.store_maps.specs.Chunks.{chunk_of, held_of, place_in, room_in, ArePlaced}
+use Rattle.store_maps.specs.Held.{tree_of, held, has_place, IsReady}
 use Rattle.store_maps.specs.Merges.{MergesAll, at_key, has_fresh, AreFreshFor, AreReady}
 use Rattle.ring_names.specs.AtBytes.{value_at}
 use Rattle.store_maps.proofs.OneAnswer.{none_from_empty, at_none, none_to}
@@ -62,7 +62,7 @@ within xs i whole l = omega arith
 
 pub apart_of : (o : Option KeyMap) (k : List ℕ) → IsApart (held_of o k)
 apart_of None k = tt
-apart_of (Some m) k = m.apart k
+apart_of (Some m) k = (tree_of m).apart k
 
 -- what a slot holds of a key is apart
 pub slot_apart : (a : SlotMap) (k : List ℕ) → IsApart (held_for a k)
@@ -79,7 +79,7 @@ pub chosen_other : (i j : ℕ) (v : List Version) → i ≢ j → cond (nat_eq i
 chosen_other i j v ne = rw (false_from_ne_true (nat_eq i j) (λ h. ne (eqb-true i j h))) refl
 
 pub no_place : (m : KeyMap) (k : List ℕ) → has_place m k ≡ false → held m k ≡ []
-no_place m k e = ap (λ (o : Option (List Version)). unwrap_or o []) (none_from_empty (value_at m.map k) e)
+no_place m k e = ap (λ (o : Option (List Version)). unwrap_or o []) (none_from_empty (value_at (tree_of m).map k) e)
 
 -- ---- the map m of chunk c becomes n
 
@@ -134,12 +134,13 @@ module _ (a : SlotMap) (c : ℕ) (m n : KeyMap) (below : c < 16) (lends : m ≡ 
   pub same_set : ((k : List ℕ) → held n k ≡ held m k) → (k : List ℕ) → held_of (slice_get (set a.chunks.items c n) (chunk_of a.q k)) k ≡ held_of (slice_get a.chunks.items (chunk_of a.q k)) k
   same_set same = by_chunk (λ (k : List ℕ). held_of (slice_get (set a.chunks.items c n) (chunk_of a.q k)) k ≡ held_of (slice_get a.chunks.items (chunk_of a.q k)) k) (λ k e. sym (new_held k e) ∙ same k ∙ old_held k e) other_held
 
-  pub stays_set : ((k : List ℕ) → has_place m k ≡ true → has_place n k ≡ true) → (k : List ℕ) → place_in (slice_get a.chunks.items (chunk_of a.q k)) k ≡ true → place_in (slice_get (set a.chunks.items c n) (chunk_of a.q k)) k ≡ true
-  stays_set stays = by_chunk (λ (k : List ℕ). place_in (slice_get a.chunks.items (chunk_of a.q k)) k ≡ true → place_in (slice_get (set a.chunks.items c n) (chunk_of a.q k)) k ≡ true)
-      (λ k e h. sym (new_place k e) ∙ stays k (old_place k e ∙ h)) (λ k ne h. other_place k ne ∙ h)
+  -- whether keys have places, or places in maps that share nothing
+  pub stays_set : (read : Option KeyMap → List ℕ → Bool) → ((k : List ℕ) → read (Some m) k ≡ true → read (Some n) k ≡ true) → (k : List ℕ) → read (slice_get a.chunks.items (chunk_of a.q k)) k ≡ true → read (slice_get (set a.chunks.items c n) (chunk_of a.q k)) k ≡ true
+  stays_set read stays = by_chunk (λ (k : List ℕ). read (slice_get a.chunks.items (chunk_of a.q k)) k ≡ true → read (slice_get (set a.chunks.items c n) (chunk_of a.q k)) k ≡ true)
+      (λ k e h. ap (λ o. read o k) (new_at k e) ∙ stays k (sym (ap (λ o. read o k) (old_at k e)) ∙ h)) (λ k ne h. ap (λ o. read o k) (other_at k ne) ∙ h)
 
-  pub places_set : ((k : List ℕ) → has_place n k ≡ has_place m k) → (k : List ℕ) → place_in (slice_get (set a.chunks.items c n) (chunk_of a.q k)) k ≡ place_in (slice_get a.chunks.items (chunk_of a.q k)) k
-  places_set same = by_chunk (λ (k : List ℕ). place_in (slice_get (set a.chunks.items c n) (chunk_of a.q k)) k ≡ place_in (slice_get a.chunks.items (chunk_of a.q k)) k) (λ k e. sym (new_place k e) ∙ same k ∙ old_place k e) other_place
+  pub places_set : (read : Option KeyMap → List ℕ → Bool) → ((k : List ℕ) → read (Some n) k ≡ read (Some m) k) → (k : List ℕ) → read (slice_get (set a.chunks.items c n) (chunk_of a.q k)) k ≡ read (slice_get a.chunks.items (chunk_of a.q k)) k
+  places_set read same = by_chunk (λ (k : List ℕ). read (slice_get (set a.chunks.items c n) (chunk_of a.q k)) k ≡ read (slice_get a.chunks.items (chunk_of a.q k)) k) (λ k e. ap (λ o. read o k) (new_at k e) ∙ same k ∙ sym (ap (λ o. read o k) (old_at k e))) (λ k ne. ap (λ o. read o k) (other_at k ne))
 
   pub filled_set : ((k : List ℕ) → has_place n k ≡ true → (has_place m k ≡ true) ⊎ (held n k ≢ []))
       → (k : List ℕ) → place_in (slice_get (set a.chunks.items c n) (chunk_of a.q k)) k ≡ true → (place_in (slice_get a.chunks.items (chunk_of a.q k)) k ≡ true) ⊎ (held_of (slice_get (set a.chunks.items c n) (chunk_of a.q k)) k ≢ [])
@@ -175,11 +176,11 @@ module _ (a : SlotMap) (c : ℕ) (m n : KeyMap) (below : c < 16) (lends : m ≡ 
   pub old_fresh : (key : List ℕ) (more : List Version) (f : Fresh) → chunk_of a.q key ≡ c → IsFreshFor (held_of (slice_get a.chunks.items (chunk_of a.q key)) key) more f → IsFreshFor (held m key) more f
   old_fresh key more f lies h = subst (λ (held : List Version). IsFreshFor held more f) (sym (old_held key lies)) h
 
-  pub ready_new : (key : List ℕ) (f : Fresh) → chunk_of a.q key ≡ c → IsReady n key f → (place_in (slice_get (set a.chunks.items c n) (chunk_of a.q key)) key ≡ true) × FitsIn (held_of (slice_get (set a.chunks.items c n) (chunk_of a.q key)) key) f
-  ready_new key f lies h = (sym (new_place key lies) ∙ h.0, subst (λ (held : List Version). FitsIn held f) (new_held key lies) h.1)
+  pub ready_new : (key : List ℕ) (f : Fresh) → chunk_of a.q key ≡ c → IsReady n key f → (room_in (slice_get (set a.chunks.items c n) (chunk_of a.q key)) key ≡ true) × FitsIn (held_of (slice_get (set a.chunks.items c n) (chunk_of a.q key)) key) f
+  ready_new key f lies h = (ap (λ o. room_in o key) (new_at key lies) ∙ h.0, subst (λ (held : List Version). FitsIn held f) (new_held key lies) h.1)
 
-  pub ready_old : (key : List ℕ) (f : Fresh) → chunk_of a.q key ≡ c → (place_in (slice_get a.chunks.items (chunk_of a.q key)) key ≡ true) × FitsIn (held_of (slice_get a.chunks.items (chunk_of a.q key)) key) f → IsReady m key f
-  ready_old key f lies h = (old_place key lies ∙ h.0, subst (λ (held : List Version). FitsIn held f) (sym (old_held key lies)) h.1)
+  pub ready_old : (key : List ℕ) (f : Fresh) → chunk_of a.q key ≡ c → (room_in (slice_get a.chunks.items (chunk_of a.q key)) key ≡ true) × FitsIn (held_of (slice_get a.chunks.items (chunk_of a.q key)) key) f → IsReady m key f
+  ready_old key f lies h = (sym (ap (λ o. room_in o key) (old_at key lies)) ∙ h.0, subst (λ (held : List Version). FitsIn held f) (sym (old_held key lies)) h.1)
 
   -- what comes from a map whose keys lie in the chunk
   pub fresh_chunk : (other : KeyMap) (f : FreshKeys) → ((k : List ℕ) → has_place other k ≡ true → chunk_of a.q k ≡ c) → ((k : List ℕ) → has_fresh f k ≡ true → has_place other k ≡ true)
@@ -192,21 +193,21 @@ module _ (a : SlotMap) (c : ℕ) (m n : KeyMap) (below : c < 16) (lends : m ≡ 
       (merge_none (held_of (slice_get a.chunks.items (chunk_of a.q k)) k) (apart_of (slice_get a.chunks.items (chunk_of a.q k)) k))))
 
   pub ready_chunk : (other : KeyMap) (f : FreshKeys) → ((k : List ℕ) → has_place other k ≡ true → chunk_of a.q k ≡ c) → ((k : List ℕ) → has_fresh f k ≡ true → has_place other k ≡ true)
-      → AreReady n f → (k : List ℕ) → IfSome (value_at f.map k) (λ x. (chunk_of a.q k ≡ c) × ((place_in (slice_get (set a.chunks.items c n) (chunk_of a.q k)) k ≡ true) × FitsIn (held_of (slice_get (set a.chunks.items c n) (chunk_of a.q k)) k) x))
+      → AreReady n f → (k : List ℕ) → IfSome (value_at f.map k) (λ x. (chunk_of a.q k ≡ c) × ((room_in (slice_get (set a.chunks.items c n) (chunk_of a.q k)) k ≡ true) × FitsIn (held_of (slice_get (set a.chunks.items c n) (chunk_of a.q k)) k) x))
   ready_chunk other f lies drawn are k = with_value (value_at f.map k) refl (are k)
     where
-      with_value : (o : Option Fresh) → o ≡ value_at f.map k → IfSome o (IsReady n k) → IfSome o (λ x. (chunk_of a.q k ≡ c) × ((place_in (slice_get (set a.chunks.items c n) (chunk_of a.q k)) k ≡ true) × FitsIn (held_of (slice_get (set a.chunks.items c n) (chunk_of a.q k)) k) x))
+      with_value : (o : Option Fresh) → o ≡ value_at f.map k → IfSome o (IsReady n k) → IfSome o (λ x. (chunk_of a.q k ≡ c) × ((room_in (slice_get (set a.chunks.items c n) (chunk_of a.q k)) k ≡ true) × FitsIn (held_of (slice_get (set a.chunks.items c n) (chunk_of a.q k)) k) x))
       with_value None e h = tt
       with_value (Some x) e h = let l : chunk_of a.q k ≡ c = lies k (drawn k (sym (ap is_some e))) in (l, ready_new k x l h)
 
-  pub chunk_ready : (f : FreshKeys) → ((k : List ℕ) → IfSome (value_at f.map k) (λ x. (chunk_of a.q k ≡ c) × ((place_in (slice_get a.chunks.items (chunk_of a.q k)) k ≡ true) × FitsIn (held_of (slice_get a.chunks.items (chunk_of a.q k)) k) x))) → AreReady m f
+  pub chunk_ready : (f : FreshKeys) → ((k : List ℕ) → IfSome (value_at f.map k) (λ x. (chunk_of a.q k ≡ c) × ((room_in (slice_get a.chunks.items (chunk_of a.q k)) k ≡ true) × FitsIn (held_of (slice_get a.chunks.items (chunk_of a.q k)) k) x))) → AreReady m f
   chunk_ready f are k = with_value (value_at f.map k) (are k)
     where
-      with_value : (o : Option Fresh) → IfSome o (λ x. (chunk_of a.q k ≡ c) × ((place_in (slice_get a.chunks.items (chunk_of a.q k)) k ≡ true) × FitsIn (held_of (slice_get a.chunks.items (chunk_of a.q k)) k) x)) → IfSome o (IsReady m k)
+      with_value : (o : Option Fresh) → IfSome o (λ x. (chunk_of a.q k ≡ c) × ((room_in (slice_get a.chunks.items (chunk_of a.q k)) k ≡ true) × FitsIn (held_of (slice_get a.chunks.items (chunk_of a.q k)) k) x)) → IfSome o (IsReady m k)
       with_value None h = tt
       with_value (Some x) h = ready_old k x h.0 h.1
 
-  pub merged_chunk : (f : FreshKeys) → ((k : List ℕ) → IfSome (value_at f.map k) (λ x. (chunk_of a.q k ≡ c) × ((place_in (slice_get a.chunks.items (chunk_of a.q k)) k ≡ true) × FitsIn (held_of (slice_get a.chunks.items (chunk_of a.q k)) k) x)))
+  pub merged_chunk : (f : FreshKeys) → ((k : List ℕ) → IfSome (value_at f.map k) (λ x. (chunk_of a.q k ≡ c) × ((room_in (slice_get a.chunks.items (chunk_of a.q k)) k ≡ true) × FitsIn (held_of (slice_get a.chunks.items (chunk_of a.q k)) k) x)))
       → ((more : List ℕ → List Version) → AreFreshFor (held m) more f → MergesAll (held m) more (held n))
       → (more : List ℕ → List Version) → AreFreshFor (λ k. held_of (slice_get a.chunks.items (chunk_of a.q k)) k) more f → MergesAll (λ k. held_of (slice_get a.chunks.items (chunk_of a.q k)) k) more (λ k. held_of (slice_get (set a.chunks.items c n) (chunk_of a.q k)) k)
   merged_chunk f ready merged more are = merged_set more
@@ -216,7 +217,7 @@ module _ (a : SlotMap) (c : ℕ) (m n : KeyMap) (below : c < 16) (lends : m ≡ 
       outside : (k : List ℕ) → chunk_of a.q k ≢ c → value_at f.map k ≡ None
       outside k ne = with_value (value_at f.map k) refl (ready k)
         where
-          with_value : (o : Option Fresh) → o ≡ value_at f.map k → IfSome o (λ x. (chunk_of a.q k ≡ c) × ((place_in (slice_get a.chunks.items (chunk_of a.q k)) k ≡ true) × FitsIn (held_of (slice_get a.chunks.items (chunk_of a.q k)) k) x)) → value_at f.map k ≡ None
+          with_value : (o : Option Fresh) → o ≡ value_at f.map k → IfSome o (λ x. (chunk_of a.q k ≡ c) × ((room_in (slice_get a.chunks.items (chunk_of a.q k)) k ≡ true) × FitsIn (held_of (slice_get a.chunks.items (chunk_of a.q k)) k) x)) → value_at f.map k ≡ None
           with_value None e h = sym e
           with_value (Some x) e h = absurd (ne h.0)
 
@@ -224,4 +225,4 @@ module _ (a : SlotMap) (c : ℕ) (m n : KeyMap) (below : c < 16) (lends : m ≡ 
       fresh = by_chunk (λ (k : List ℕ). MatchOption (value_at f.map k) (IsMerge (held m k) (chosen a.q c more k) (held m k)) (IsFreshFor (held m k) (chosen a.q c more k)))
           (λ k e. subst (λ (comes : List Version). MatchOption (value_at f.map k) (IsMerge (held m k) comes (held m k)) (IsFreshFor (held m k) comes)) (sym (chosen_here (chunk_of a.q k) c (more k) e))
           (subst (λ (old : List Version). MatchOption (value_at f.map k) (IsMerge old (more k) old) (IsFreshFor old (more k))) (sym (old_held k e)) (are k)))
-          (λ k ne. none_to (value_at f.map k) _ _ (outside k ne) (subst (λ (comes : List Version). IsMerge (held m k) comes (held m k)) (sym (chosen_other (chunk_of a.q k) c (more k) ne)) (merge_none (held m k) (m.apart k))))
+          (λ k ne. none_to (value_at f.map k) _ _ (outside k ne) (subst (λ (comes : List Version). IsMerge (held m k) comes (held m k)) (sym (chosen_other (chunk_of a.q k) c (more k) ne)) (merge_none (held m k) ((tree_of m).apart k))))

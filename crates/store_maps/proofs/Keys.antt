@@ -12,8 +12,9 @@ use Rattle.std.specs.declared.vec.Vec.{Vec}
 use Rattle.std.proofs.lemmas.List.{append_assoc, append-nil}
 use Rattle.std.proofs.lemmas.Map.Views.{Contains-from_any, list_any-from_Contains}
 use Rattle.ring_versions.specs.declared.version.Version.{Version}
-use Rattle.store_maps.specs.declared.key_map.KeyMap.{KeyMap}
-use Rattle.store_maps.specs.Held.{held, AreKeys}
+use Rattle.store_maps.specs.declared.key_tree.KeyTree.{KeyTree}
+use Rattle.store_maps.specs.Trees.{kept}
+use Rattle.store_maps.specs.Held.{AreKeys}
 use Rattle.ring_names.specs.AtBytes.{value_in, value_at, Puts}
 use Rattle.ring_names.proofs.AtBytes.{same_bytes, bytes_same, by_bytes}
 use Rattle.store_maps.proofs.EntriesLeft.{by_items, later_in}
@@ -23,10 +24,10 @@ use Rattle.std.proofs.lemmas.Bool.{or_right}
 -- ---- a copy
 
 -- what is copied so far, with some entries left
-abbrev pub Copying : {A : Type 0} → KeyMap → KeyMap → List (Vec ℕ A × List Version) → Type 0
+abbrev pub Copying : {A : Type 0} → KeyTree → KeyTree → List (Vec ℕ A × List Version) → Type 0
 Copying from copy rest = (k : List ℕ) → value_in rest k ≡ None → value_at copy.map k ≡ value_at from.map k
 
-pub copying_more : {A : Type 0} (from copy more : KeyMap) (rest later : List (Vec ℕ A × List Version)) (key : Vec ℕ A) (v : List Version)
+pub copying_more : {A : Type 0} (from copy more : KeyTree) (rest later : List (Vec ℕ A × List Version)) (key : Vec ℕ A) (v : List Version)
     → rest ≡ (key, v) ∷ later → value_at from.map key.items ≡ Some v → Puts copy.map more.map key.items v → Copying from copy rest → Copying from more later
 copying_more from copy more rest later key v is at put s = by_bytes key.items (λ (k : List ℕ). value_in later k ≡ None → value_at more.map k ≡ value_at from.map k)
     (λ none. put.here ∙ sym at)
@@ -39,10 +40,10 @@ abbrev pub bytes_left : {A X : Type 0} → List (Vec ℕ A × X) → List (List 
 bytes_left rest = map (λ e. e.0.items) rest
 
 -- the keys so far, with some entries left
-pub record Listing {A : Type 0} (a : KeyMap) (rest : List (Vec ℕ A × List Version)) (keys : List (List ℕ)) : Type 0 where
+pub record Listing {A : Type 0} (a : KeyTree) (rest : List (Vec ℕ A × List Version)) (keys : List (List ℕ)) : Type 0 where
   pub rises : IsStrictlySortedBy (slice_cmp nat_cmp) (keys ++ bytes_left rest)
-  pub each : (k : List ℕ) → held a k ≢ [] → value_in rest k ≡ None → list_any (bytes_eq k) keys ≡ true
-  pub only : (k : List ℕ) → list_any (bytes_eq k) keys ≡ true → held a k ≢ []
+  pub each : (k : List ℕ) → kept a k ≢ [] → value_in rest k ≡ None → list_any (bytes_eq k) keys ≡ true
+  pub only : (k : List ℕ) → list_any (bytes_eq k) keys ≡ true → kept a k ≢ []
 
 below_items : {A X : Type 0} (key : Vec ℕ A) (es : List (Vec ℕ A × X)) → AllByRecursion (λ y. by_items key y ≡ Less) (keys_of es) → AllByRecursion (λ y. slice_cmp nat_cmp key.items y ≡ Less) (bytes_left es)
 below_items key [] h = tt
@@ -70,7 +71,7 @@ any_push : (k key : List ℕ) (keys : List (List ℕ)) → list_any (bytes_eq k)
 any_push k key [] = refl
 any_push k key (x ∷ xs) = rw (any_push k key xs) (or_swapped (bytes_eq k x) (bytes_eq k key) (list_any (bytes_eq k) xs))
 
-pub listing_none : (a : KeyMap) (keys : List (List ℕ)) → keys ≡ [] → IsStrictlySortedBy by_items (keys_of a.map.entries) → Listing a a.map.entries keys
+pub listing_none : (a : KeyTree) (keys : List (List ℕ)) → keys ≡ [] → IsStrictlySortedBy by_items (keys_of a.map.entries) → Listing a a.map.entries keys
 listing_none a (x ∷ xs) e order = absurd cc
 listing_none a [] e order = record {
   rises = rising_items a.map.entries order;
@@ -78,18 +79,18 @@ listing_none a [] e order = record {
   only = λ k h. absurd cc;
 }
 
-module _ {A : Type 0} (a : KeyMap) (rest later : List (Vec ℕ A × List Version)) (keys : List (List ℕ)) (key : Vec ℕ A) (v : List Version)
+module _ {A : Type 0} (a : KeyTree) (rest later : List (Vec ℕ A × List Version)) (keys : List (List ℕ)) (key : Vec ℕ A) (v : List Version)
     (is : rest ≡ (key, v) ∷ later) (at : value_at a.map key.items ≡ Some v) (s : Listing a rest keys) where
   rises : IsStrictlySortedBy (slice_cmp nat_cmp) (keys ++ key.items ∷ bytes_left later)
   rises = subst (λ (es : List (Vec ℕ A × List Version)). IsStrictlySortedBy (slice_cmp nat_cmp) (keys ++ bytes_left es)) is s.rises
 
-  mine : held a key.items ≡ v
+  mine : kept a key.items ≡ v
   mine = ap (λ (o : Option (List Version)). unwrap_or o []) at
 
   pub listing_empty : v ≡ [] → Listing a later keys
   listing_empty e = record {
     rises = rising_without key.items keys (bytes_left later) rises;
-    each = by_bytes key.items (λ (k : List ℕ). held a k ≢ [] → value_in later k ≡ None → list_any (bytes_eq k) keys ≡ true)
+    each = by_bytes key.items (λ (k : List ℕ). kept a k ≢ [] → value_in later k ≡ None → list_any (bytes_eq k) keys ≡ true)
         (λ ne none. absurd (ne (mine ∙ e)))
         (λ k apart ne none. s.each k ne (later_in key v rest later is k apart ∙ none));
     only = s.only;
@@ -98,7 +99,7 @@ module _ {A : Type 0} (a : KeyMap) (rest later : List (Vec ℕ A × List Version
   pub listing_more : v ≢ [] → (more : List (List ℕ)) → more ≡ keys ++ key.items ∷ [] → Listing a later more
   listing_more ne more e = subst (Listing a later) (sym e) (record {
     rises = subst (IsStrictlySortedBy (slice_cmp nat_cmp)) (sym (append_assoc keys (key.items ∷ []) (bytes_left later))) rises;
-    each = by_bytes key.items (λ (k : List ℕ). held a k ≢ [] → value_in later k ≡ None → list_any (bytes_eq k) (keys ++ key.items ∷ []) ≡ true)
+    each = by_bytes key.items (λ (k : List ℕ). kept a k ≢ [] → value_in later k ≡ None → list_any (bytes_eq k) (keys ++ key.items ∷ []) ≡ true)
         (λ _ none. any_push key.items key.items keys ∙ first (bytes_eq key.items key.items) (list_any (bytes_eq key.items) keys) (same_bytes key.items))
         (λ k apart holds none. any_push k key.items keys ∙ or_right (bytes_eq k key.items) (list_any (bytes_eq k) keys) (s.each k holds (later_in key v rest later is k apart ∙ none)));
     only = λ k h. only_these k (bytes_eq k key.items) refl (sym (any_push k key.items keys) ∙ h);
@@ -108,11 +109,11 @@ module _ {A : Type 0} (a : KeyMap) (rest later : List (Vec ℕ A × List Version
       first true c h = refl
       first false c h = absurd cc
 
-      only_these : (k : List ℕ) (b : Bool) → b ≡ bytes_eq k key.items → (b || list_any (bytes_eq k) keys) ≡ true → held a k ≢ []
-      only_these k true e h = λ none. ne (sym mine ∙ ap (held a) (sym (bytes_same k key.items (sym e))) ∙ none)
+      only_these : (k : List ℕ) (b : Bool) → b ≡ bytes_eq k key.items → (b || list_any (bytes_eq k) keys) ≡ true → kept a k ≢ []
+      only_these k true e h = λ none. ne (sym mine ∙ ap (kept a) (sym (bytes_same k key.items (sym e))) ∙ none)
       only_these k false e h = s.only k h
 
-pub listed : {A : Type 0} (a : KeyMap) (rest : List (Vec ℕ A × List Version)) (keys : List (List ℕ)) → rest ≡ [] → Listing a rest keys → AreKeys (held a) keys
+pub listed : {A : Type 0} (a : KeyTree) (rest : List (Vec ℕ A × List Version)) (keys : List (List ℕ)) → rest ≡ [] → Listing a rest keys → AreKeys (kept a) keys
 listed a rest keys none s = record {
   rises = rising_front keys (bytes_left rest) (ap bytes_left none) s.rises;
   each = λ k holds. Contains-from_any bytes_same k keys (s.each k holds (ap (λ (es : List (Vec ℕ _ × List Version)). value_in es k) none));

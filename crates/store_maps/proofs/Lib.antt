@@ -7,6 +7,7 @@ pub mod Puts
 pub mod EntriesLeft
 pub mod WholeMaps
 pub mod Slots
+pub mod Sharing
 pub mod Members
 pub mod HoldersChanged
 pub mod KeyPlaces

@@ -14,7 +14,7 @@ use Rattle.store_maps.specs.declared.slot_map.SlotMap.{SlotMap}
 use Rattle.store_maps.specs.Chunks.{chunk_of}
 use Rattle.store_maps.specs.Held.{held}
 use Rattle.store_maps.specs.Merges.{MergesAll, AreFreshFor, AreFreshMaps, fresh_at, fresh_of, fresh_in}
-use Rattle.store_maps.specs.Slots.{space_of, held_for, has_place_for, IsReadyFor, AreReadyFor, AllReadyFor}
+use Rattle.store_maps.specs.Slots.{space_of, held_for, has_place_for, has_room_for, IsReadyFor, AreReadyFor, AllReadyFor}
 use Rattle.store_maps.proofs.OneAnswer.{at_none, none_to, on_some, some_of, none_where}
 use Rattle.store_maps.proofs.Chunks.{chunk_below, get_back, get_last, pushed, slot_apart, chosen, chosen_here, chosen_other}
 use Rattle.store_maps.proofs.MergesInTurn.{merge_none}
@@ -26,6 +26,7 @@ pub record PreparingMaps (old now other : SlotMap) (fs : List FreshKeys) : Type 
   pub space : space_of now ≡ space_of old
   pub same : (k : List ℕ) → held_for now k ≡ held_for old k
   pub stays : (k : List ℕ) → has_place_for old k ≡ true → has_place_for now k ≡ true
+  pub rooms : (k : List ℕ) → has_room_for old k ≡ true → has_room_for now k ≡ true
   pub ready : (c : ℕ) (k : List ℕ) → IfSome (fresh_of (slice_get fs c) k) (λ x. (chunk_of (space_of old) k ≡ c) × IsReadyFor now k x)
   pub fresh : (c : ℕ) (k : List ℕ) → IfSome (fresh_of (slice_get fs c) k) (IsFreshFor (held_for old k) (held_for other k))
   pub none : (k : List ℕ) → chunk_of (space_of old) k < length fs → fresh_of (slice_get fs (chunk_of (space_of old) k)) k ≡ None → IsMerge (held_for old k) (held_for other k) (held_for old k)
@@ -36,6 +37,7 @@ preparing_maps old other [] e = record {
   space = refl;
   same = λ k. refl;
   stays = λ k h. h;
+  rooms = λ k h. h;
   ready = λ c k. tt;
   fresh = λ c k. tt;
   none = λ k l. absurd (omega arith);
@@ -44,6 +46,7 @@ preparing_maps old other [] e = record {
 module _ (old now new other : SlotMap) (fs more : List FreshKeys) (c : ℕ) (m : KeyMap) (f : FreshKeys) (count : length fs ≡ c) (push : more ≡ fs ++ f ∷ [])
     (alike : space_of other ≡ space_of old) (reads : (k : List ℕ) → chunk_of (space_of other) k ≡ c → held m k ≡ held_for other k)
     (space : space_of new ≡ space_of now) (same : (k : List ℕ) → held_for new k ≡ held_for now k) (stays : (k : List ℕ) → has_place_for now k ≡ true → has_place_for new k ≡ true)
+    (rooms : (k : List ℕ) → has_room_for now k ≡ true → has_room_for new k ≡ true)
     (fresh : AreFreshFor (held_for now) (held m) f) (ready : AreReadyFor new c f) (s : PreparingMaps old now other fs) where
   lies : (k : List ℕ) → chunk_of (space_of new) k ≡ c → chunk_of (space_of old) k ≡ c
   lies k e = ap (λ (q : ℕ). chunk_of q k) (sym (space ∙ s.space)) ∙ e
@@ -56,7 +59,7 @@ module _ (old now new other : SlotMap) (fs more : List FreshKeys) (c : ℕ) (m :
     | inl h ↦ subst (λ (o : Option FreshKeys). IfSome (fresh_of o k) (λ x. (chunk_of (space_of old) k ≡ d) × IsReadyFor new k x)) (sym h.1)
         (on_some (fresh_at f k) _ _ (λ x r. (lies k r.0 ∙ sym count ∙ sym h.0, r.1)) (ready k))
     | inr e ↦ subst (λ (o : Option FreshKeys). IfSome (fresh_of o k) (λ x. (chunk_of (space_of old) k ≡ d) × IsReadyFor new k x)) (sym e)
-        (on_some (fresh_of (slice_get fs d) k) _ _ (λ x r. (r.0, (stays k r.1.0, subst (λ (was : List Version). FitsIn was x) (sym (same k)) r.1.1))) (s.ready d k))
+        (on_some (fresh_of (slice_get fs d) k) _ _ (λ x r. (r.0, (rooms k r.1.0, subst (λ (was : List Version). FitsIn was x) (sym (same k)) r.1.1))) (s.ready d k))
   ]
 
   fresh_more : (d : ℕ) (k : List ℕ) → IfSome (fresh_of (slice_get (fs ++ f ∷ []) d) k) (IsFreshFor (held_for old k) (held_for other k))
@@ -79,6 +82,7 @@ module _ (old now new other : SlotMap) (fs more : List FreshKeys) (c : ℕ) (m :
     space = space ∙ s.space;
     same = λ k. same k ∙ s.same k;
     stays = λ k h. stays k (s.stays k h);
+    rooms = λ k h. rooms k (s.rooms k h);
     ready = ready_more;
     fresh = fresh_more;
     none = none_more;
@@ -106,6 +110,7 @@ pub record SettlingMaps (old now : SlotMap) (fresh : FreshMaps) (left : List Fre
   pub front : (c : ℕ) → c < length left → slice_get left c ≡ slice_get fresh.list.items c
   pub space : space_of now ≡ space_of old
   pub places : (k : List ℕ) → has_place_for now k ≡ has_place_for old k
+  pub rooms : (k : List ℕ) → has_room_for now k ≡ has_room_for old k
   pub done : (k : List ℕ) → length left ≤ chunk_of (space_of old) k → HasComeTo old now fresh k
   pub rest : (k : List ℕ) → chunk_of (space_of old) k < length left → held_for now k ≡ held_for old k
 
@@ -115,6 +120,7 @@ settling_maps old fresh = record {
   front = λ c l. refl;
   space = refl;
   places = λ k. refl;
+  rooms = λ k. refl;
   done = λ k l. absurd (let below = chunk_below (space_of old) k (chunk_of (space_of old) k) refl in let all = fresh.whole in omega arith);
   rest = λ k l. refl;
 }
@@ -136,7 +142,7 @@ module _ (old now : SlotMap) (fresh : FreshMaps) (left later : List FreshKeys) (
   as_before k e = s.rest k (let all = lengths in omega arith)
 
   pub ready_now : AreReadyFor now c f
-  ready_now k = on_some (fresh_at f k) _ _ (λ x r. (ap (λ (q : ℕ). chunk_of q k) s.space ∙ r.0, (s.places k ∙ r.1.0, subst (λ (was : List Version). FitsIn was x) (sym (as_before k r.0)) r.1.1))) (its_ready k)
+  ready_now k = on_some (fresh_at f k) _ _ (λ x r. (ap (λ (q : ℕ). chunk_of q k) s.space ∙ r.0, (s.rooms k ∙ r.1.0, subst (λ (was : List Version). FitsIn was x) (sym (as_before k r.0)) r.1.1))) (its_ready k)
 
   -- what comes to the chunk is new to what is held now
   fresh_now : (more : List ℕ → List Version) → AreFreshMaps (held_for old) more fresh → AreFreshFor (held_for now) (chosen (space_of old) c more) f
@@ -160,12 +166,13 @@ module _ (old now : SlotMap) (fresh : FreshMaps) (left later : List FreshKeys) (
           subst (λ (o : Option Fresh). IfSome o (IsFreshFor (held_for old k) (more k))) (sym at) each
 
   pub settling_more_maps : (new : SlotMap) → space_of new ≡ space_of now → ((more : List ℕ → List Version) → AreFreshFor (held_for now) more f → MergesAll (held_for now) more (held_for new))
-      → ((k : List ℕ) → chunk_of (space_of now) k ≢ c → held_for new k ≡ held_for now k) → ((k : List ℕ) → has_place_for new k ≡ has_place_for now k) → SettlingMaps old new fresh later
-  settling_more_maps new space merged others places = record {
+      → ((k : List ℕ) → chunk_of (space_of now) k ≢ c → held_for new k ≡ held_for now k) → ((k : List ℕ) → has_place_for new k ≡ has_place_for now k) → ((k : List ℕ) → has_room_for new k ≡ has_room_for now k) → SettlingMaps old new fresh later
+  settling_more_maps new space merged others places rooms = record {
     room = (let all = lengths in let few = s.room in omega arith);
     front = λ d l. sym (get_back later f d l) ∙ sym (ap (λ (fs : List FreshKeys). slice_get fs d) is) ∙ s.front d (let all = lengths in omega arith);
     space = space ∙ s.space;
     places = λ k. places k ∙ s.places k;
+    rooms = λ k. rooms k ∙ s.rooms k;
     done = λ k l. elim (cases_eq (chunk_of (space_of old) k) c) [
       | inl e ↦ λ more are. subst (λ (was : List Version). IsMerge was (more k) (held_for new k)) (as_before k e)
           (subst (λ (come : List Version). IsMerge (held_for now k) come (held_for new k)) (chosen_here (chunk_of (space_of old) k) c (more k) e) (merged (chosen (space_of old) c more) (fresh_now more are) k))

@@ -12,11 +12,11 @@ use Rattle.ring_versions.specs.declared.fresh.Fresh.{Fresh}
 use Rattle.ring_versions.specs.declared.version.Version.{Version}
 use Rattle.ring_versions.specs.Versions.{IsMerge}
 use Rattle.store_maps.specs.declared.fresh_keys.FreshKeys.{FreshKeys}
-use Rattle.store_maps.specs.declared.key_map.KeyMap.{KeyMap}
-use Rattle.store_maps.specs.Held.{held, has_place, IsReady}
+use Rattle.store_maps.specs.declared.key_tree.KeyTree.{KeyTree}
+use Rattle.store_maps.specs.Trees.{kept, has_entry, IsReadyIn}
 use Rattle.ring_names.specs.AtBytes.{value_in, value_at, Puts}
 use Rattle.store_maps.specs.Places.{held_in}
-use Rattle.store_maps.specs.Merges.{MergesAll, at_key, has_fresh, AreFreshFor, AreReady}
+use Rattle.store_maps.specs.Merges.{MergesAll, at_key, has_fresh, AreFreshFor, AreReadyIn}
 use Rattle.store_maps.proofs.OneAnswer.{on_option, at_some, at_none, none_to, some_to}
 use Rattle.ring_names.proofs.AtBytes.{same_bytes, by_bytes}
 use Rattle.store_maps.proofs.MergesInTurn.{merge_none, merge_twice, merge_then_none, merge_after_none}
@@ -37,68 +37,68 @@ pub record Merging {A : Type 0} (old more now : List ℕ → List Version) (rest
   pub some : (k : List ℕ) → IsMerge (old k) [] (now k) ⊎ IsMerge (old k) (more k) (now k)
   pub done : (k : List ℕ) → value_in rest k ≡ None → IsMerge (old k) (more k) (now k)
 
-pub merging_none : (old other : KeyMap) → Merging (held old) (held other) (held old) other.map.entries
+pub merging_none : (old other : KeyTree) → Merging (kept old) (kept other) (kept old) other.map.entries
 merging_none old other = record {
-  some = λ k. inl (merge_none (held old k) (old.apart k));
-  done = λ k e. subst (λ (more : List Version). IsMerge (held old k) more (held old k)) (sym (none_at other.map k e)) (merge_none (held old k) (old.apart k));
+  some = λ k. inl (merge_none (kept old k) (old.apart k));
+  done = λ k e. subst (λ (more : List Version). IsMerge (kept old k) more (kept old k)) (sym (none_at other.map k e)) (merge_none (kept old k) (old.apart k));
 }
 
-pub merging_more : {A : Type 0} (old now new : List ℕ → List Version) (other : KeyMap) (rest later : List (Vec ℕ A × List Version)) (key : Vec ℕ A) (v : List Version)
-    → rest ≡ (key, v) ∷ later → value_at other.map key.items ≡ Some v → MergesAll now (at_key key.items v) new → Merging old (held other) now rest → Merging old (held other) new later
+pub merging_more : {A : Type 0} (old now new : List ℕ → List Version) (other : KeyTree) (rest later : List (Vec ℕ A × List Version)) (key : Vec ℕ A) (v : List Version)
+    → rest ≡ (key, v) ∷ later → value_at other.map key.items ≡ Some v → MergesAll now (at_key key.items v) new → Merging old (kept other) now rest → Merging old (kept other) new later
 merging_more old now new other rest later key v is at merged s =
     let mine : IsMerge (now key.items) v (new key.items) = subst (λ (more : List Version). IsMerge (now key.items) more (new key.items)) (at_here key.items v) (merged key.items) in
     let all = subst (λ (more : List Version). IsMerge (now key.items) more (new key.items)) (sym (more_at other.map key.items v at)) mine in
-    let here : IsMerge (old key.items) (held other key.items) (new key.items) = elim (s.some key.items) [
-      | inl none ↦ merge_after_none (old key.items) (now key.items) (held other key.items) (new key.items) none all
-      | inr twice ↦ merge_twice (old key.items) (held other key.items) (now key.items) (new key.items) twice all
+    let here : IsMerge (old key.items) (kept other key.items) (new key.items) = elim (s.some key.items) [
+      | inl none ↦ merge_after_none (old key.items) (now key.items) (kept other key.items) (new key.items) none all
+      | inr twice ↦ merge_twice (old key.items) (kept other key.items) (now key.items) (new key.items) twice all
     ] in
     let apart : (k : List ℕ) → bytes_eq key.items k ≡ false → IsMerge (now k) [] (new k)
     = λ k e. subst (λ (more : List Version). IsMerge (now k) more (new k)) (at_other key.items k v e) (merged k) in
     record {
-      some = by_bytes key.items (λ (k : List ℕ). IsMerge (old k) [] (new k) ⊎ IsMerge (old k) (held other k) (new k)) (inr here) (λ k e. elim (s.some k) [
+      some = by_bytes key.items (λ (k : List ℕ). IsMerge (old k) [] (new k) ⊎ IsMerge (old k) (kept other k) (new k)) (inr here) (λ k e. elim (s.some k) [
         | inl none ↦ inl (merge_then_none (old k) [] (now k) (new k) none (apart k e))
-        | inr some ↦ inr (merge_then_none (old k) (held other k) (now k) (new k) some (apart k e))
+        | inr some ↦ inr (merge_then_none (old k) (kept other k) (now k) (new k) some (apart k e))
       ]);
-      done = by_bytes key.items (λ (k : List ℕ). value_in later k ≡ None → IsMerge (old k) (held other k) (new k)) (λ _. here) (λ k e none.
-          merge_then_none (old k) (held other k) (now k) (new k) (s.done k (later_in key v rest later is k e ∙ none)) (apart k e));
+      done = by_bytes key.items (λ (k : List ℕ). value_in later k ≡ None → IsMerge (old k) (kept other k) (new k)) (λ _. here) (λ k e none.
+          merge_then_none (old k) (kept other k) (now k) (new k) (s.done k (later_in key v rest later is k e ∙ none)) (apart k e));
     }
 
 -- ---- the first half
 
 -- what was made ready so far, with some entries left
-pub record Preparing {A : Type 0} (old now other : KeyMap) (keys : FreshKeys) (rest : List (Vec ℕ A × List Version)) : Type 0 where
-  pub same : (k : List ℕ) → held now k ≡ held old k
-  pub stays : (k : List ℕ) → has_place old k ≡ true → has_place now k ≡ true
-  pub only : (k : List ℕ) → has_place now k ≡ true → (has_place old k ≡ true) ⊎ (has_place other k ≡ true)
-  pub drawn : (k : List ℕ) → has_fresh keys k ≡ true → has_place other k ≡ true
-  pub ready : (k : List ℕ) → MatchOption (value_at keys.map k) (value_in rest k ≡ None → IsMerge (held old k) (held other k) (held old k))
-      (λ x. (has_place now k ≡ true) × IsFreshFor (held old k) (held other k) x)
+pub record Preparing {A : Type 0} (old now other : KeyTree) (keys : FreshKeys) (rest : List (Vec ℕ A × List Version)) : Type 0 where
+  pub same : (k : List ℕ) → kept now k ≡ kept old k
+  pub stays : (k : List ℕ) → has_entry old k ≡ true → has_entry now k ≡ true
+  pub only : (k : List ℕ) → has_entry now k ≡ true → (has_entry old k ≡ true) ⊎ (has_entry other k ≡ true)
+  pub drawn : (k : List ℕ) → has_fresh keys k ≡ true → has_entry other k ≡ true
+  pub ready : (k : List ℕ) → MatchOption (value_at keys.map k) (value_in rest k ≡ None → IsMerge (kept old k) (kept other k) (kept old k))
+      (λ x. (has_entry now k ≡ true) × IsFreshFor (kept old k) (kept other k) x)
 
-pub preparing_none : (old other : KeyMap) (keys : FreshKeys) → ((k : List ℕ) → value_at keys.map k ≡ None) → Preparing old old other keys other.map.entries
+pub preparing_none : (old other : KeyTree) (keys : FreshKeys) → ((k : List ℕ) → value_at keys.map k ≡ None) → Preparing old old other keys other.map.entries
 preparing_none old other keys none = record {
   same = λ k. refl;
   stays = λ k h. h;
   only = λ k h. inl h;
   drawn = λ k h. absurd (let e = none k in cc);
   ready = λ k. none_to (value_at keys.map k) _ _ (none k) (λ e.
-      subst (λ (more : List Version). IsMerge (held old k) more (held old k)) (sym (none_at other.map k e)) (merge_none (held old k) (old.apart k)));
+      subst (λ (more : List Version). IsMerge (kept old k) more (kept old k)) (sym (none_at other.map k e)) (merge_none (kept old k) (old.apart k)));
 }
 
-module _ {A : Type 0} (old now new other : KeyMap) (keys : FreshKeys) (rest later : List (Vec ℕ A × List Version)) (key : Vec ℕ A) (v : List Version) (x : Fresh)
-    (is : rest ≡ (key, v) ∷ later) (at : value_at other.map key.items ≡ Some v) (same : (k : List ℕ) → held new k ≡ held now k)
-    (stays : (k : List ℕ) → has_place now k ≡ true → has_place new k ≡ true) (only : (k : List ℕ) → has_place new k ≡ true → (has_place now k ≡ true) ⊎ (k ≡ key.items))
-    (fresh : IsFreshFor (held now key.items) v x) (s : Preparing old now other keys rest) where
-  its_fresh : IsFreshFor (held old key.items) (held other key.items) x
-  its_fresh = subst (λ (was : List Version). IsFreshFor was (held other key.items) x) (s.same key.items) (subst (λ (comes : List Version). IsFreshFor (held now key.items) comes x) (sym (more_at other.map key.items v at)) fresh)
+module _ {A : Type 0} (old now new other : KeyTree) (keys : FreshKeys) (rest later : List (Vec ℕ A × List Version)) (key : Vec ℕ A) (v : List Version) (x : Fresh)
+    (is : rest ≡ (key, v) ∷ later) (at : value_at other.map key.items ≡ Some v) (same : (k : List ℕ) → kept new k ≡ kept now k)
+    (stays : (k : List ℕ) → has_entry now k ≡ true → has_entry new k ≡ true) (only : (k : List ℕ) → has_entry new k ≡ true → (has_entry now k ≡ true) ⊎ (k ≡ key.items))
+    (fresh : IsFreshFor (kept now key.items) v x) (s : Preparing old now other keys rest) where
+  its_fresh : IsFreshFor (kept old key.items) (kept other key.items) x
+  its_fresh = subst (λ (was : List Version). IsFreshFor was (kept other key.items) x) (s.same key.items) (subst (λ (comes : List Version). IsFreshFor (kept now key.items) comes x) (sym (more_at other.map key.items v at)) fresh)
 
-  comes : has_place other key.items ≡ true
+  comes : has_entry other key.items ≡ true
   comes = ap is_some at
 
-  places : (k : List ℕ) → has_place new k ≡ true → (has_place old k ≡ true) ⊎ (has_place other k ≡ true)
-  places k h = elim (only k h) [ inl was ↦ s.only k was | inr is ↦ inr (subst (λ (j : List ℕ). has_place other j ≡ true) (sym is) comes) ]
+  places : (k : List ℕ) → has_entry new k ≡ true → (has_entry old k ≡ true) ⊎ (has_entry other k ≡ true)
+  places k h = elim (only k h) [ inl was ↦ s.only k was | inr is ↦ inr (subst (λ (j : List ℕ). has_entry other j ≡ true) (sym is) comes) ]
 
-  on_later : (k : List ℕ) → bytes_eq key.items k ≡ false → MatchOption (value_at keys.map k) (value_in later k ≡ None → IsMerge (held old k) (held other k) (held old k))
-      (λ x. (has_place new k ≡ true) × IsFreshFor (held old k) (held other k) x)
+  on_later : (k : List ℕ) → bytes_eq key.items k ≡ false → MatchOption (value_at keys.map k) (value_in later k ≡ None → IsMerge (kept old k) (kept other k) (kept old k))
+      (λ x. (has_entry new k ≡ true) × IsFreshFor (kept old k) (kept other k) x)
   on_later k e = on_option (value_at keys.map k) _ _ _ _ (λ f none. f (later_in key v rest later is k e ∙ none)) (λ x h. (stays k h.0, h.1)) (s.ready k)
 
   -- nothing new comes to the key
@@ -108,87 +108,87 @@ module _ {A : Type 0} (old now new other : KeyMap) (keys : FreshKeys) (rest late
     stays = λ k h. stays k (s.stays k h);
     only = places;
     drawn = s.drawn;
-    ready = by_bytes key.items (λ (k : List ℕ). MatchOption (value_at keys.map k) (value_in later k ≡ None → IsMerge (held old k) (held other k) (held old k))
-        (λ x. (has_place new k ≡ true) × IsFreshFor (held old k) (held other k) x))
-        (on_option (value_at keys.map key.items) _ _ _ _ (λ f none_left. merge_with_none (held old key.items) (held other key.items) x (old.apart key.items) none its_fresh) (λ x h. (stays key.items h.0, h.1)) (s.ready key.items))
+    ready = by_bytes key.items (λ (k : List ℕ). MatchOption (value_at keys.map k) (value_in later k ≡ None → IsMerge (kept old k) (kept other k) (kept old k))
+        (λ x. (has_entry new k ≡ true) × IsFreshFor (kept old k) (kept other k) x))
+        (on_option (value_at keys.map key.items) _ _ _ _ (λ f none_left. merge_with_none (kept old key.items) (kept other key.items) x (old.apart key.items) none its_fresh) (λ x h. (stays key.items h.0, h.1)) (s.ready key.items))
         on_later;
   }
 
   -- this comes to the key
-  pub preparing_more : (more : FreshKeys) → IsReady new key.items x → Puts keys.map more.map key.items x → Preparing old new other more later
+  pub preparing_more : (more : FreshKeys) → IsReadyIn new key.items x → Puts keys.map more.map key.items x → Preparing old new other more later
   preparing_more more ready put = record {
     same = λ k. same k ∙ s.same k;
     stays = λ k h. stays k (s.stays k h);
     only = places;
-    drawn = by_bytes key.items (λ (k : List ℕ). has_fresh more k ≡ true → has_place other k ≡ true) (λ h. comes) (λ k e h. s.drawn k (sym (ap is_some (put.others k e)) ∙ h));
-    ready = by_bytes key.items (λ (k : List ℕ). MatchOption (value_at more.map k) (value_in later k ≡ None → IsMerge (held old k) (held other k) (held old k))
-        (λ x. (has_place new k ≡ true) × IsFreshFor (held old k) (held other k) x))
+    drawn = by_bytes key.items (λ (k : List ℕ). has_fresh more k ≡ true → has_entry other k ≡ true) (λ h. comes) (λ k e h. s.drawn k (sym (ap is_some (put.others k e)) ∙ h));
+    ready = by_bytes key.items (λ (k : List ℕ). MatchOption (value_at more.map k) (value_in later k ≡ None → IsMerge (kept old k) (kept other k) (kept old k))
+        (λ x. (has_entry new k ≡ true) × IsFreshFor (kept old k) (kept other k) x))
         (some_to (value_at more.map key.items) _ _ x put.here (ready.0, its_fresh))
-        (λ k e. subst (λ (o : Option Fresh). MatchOption o (value_in later k ≡ None → IsMerge (held old k) (held other k) (held old k)) (λ x. (has_place new k ≡ true) × IsFreshFor (held old k) (held other k) x)) (sym (put.others k e)) (on_later k e));
+        (λ k e. subst (λ (o : Option Fresh). MatchOption o (value_in later k ≡ None → IsMerge (kept old k) (kept other k) (kept old k)) (λ x. (has_entry new k ≡ true) × IsFreshFor (kept old k) (kept other k) x)) (sym (put.others k e)) (on_later k e));
   }
 
 -- a place that a turn made is of a key that comes
-pub more_places : (old now new other : KeyMap) (key bs : List ℕ) (v : List Version) → bs ≡ key → value_at other.map key ≡ Some v → ((k : List ℕ) → has_place new k ≡ true → (has_place now k ≡ true) ⊎ (k ≡ bs))
-    → ((k : List ℕ) → has_place now k ≡ true → (has_place old k ≡ true) ⊎ (has_place other k ≡ true)) → (k : List ℕ) → has_place new k ≡ true → (has_place old k ≡ true) ⊎ (has_place other k ≡ true)
+pub more_places : (old now new other : KeyTree) (key bs : List ℕ) (v : List Version) → bs ≡ key → value_at other.map key ≡ Some v → ((k : List ℕ) → has_entry new k ≡ true → (has_entry now k ≡ true) ⊎ (k ≡ bs))
+    → ((k : List ℕ) → has_entry now k ≡ true → (has_entry old k ≡ true) ⊎ (has_entry other k ≡ true)) → (k : List ℕ) → has_entry new k ≡ true → (has_entry old k ≡ true) ⊎ (has_entry other k ≡ true)
 more_places old now new other key bs v same at only before k h = elim (only k h) [
   | inl was ↦ before k was
-  | inr is ↦ inr (subst (λ (j : List ℕ). has_place other j ≡ true) (sym (is ∙ same)) (ap is_some at))
+  | inr is ↦ inr (subst (λ (j : List ℕ). has_entry other j ≡ true) (sym (is ∙ same)) (ap is_some at))
 ]
 
-pub prepared_fresh : {A : Type 0} (old now other : KeyMap) (keys : FreshKeys) (rest : List (Vec ℕ A × List Version)) → rest ≡ [] → Preparing old now other keys rest → AreFreshFor (held old) (held other) keys
+pub prepared_fresh : {A : Type 0} (old now other : KeyTree) (keys : FreshKeys) (rest : List (Vec ℕ A × List Version)) → rest ≡ [] → Preparing old now other keys rest → AreFreshFor (kept old) (kept other) keys
 prepared_fresh old now other keys rest none s k =
     on_option (value_at keys.map k) _ _ _ _ (λ f. f (ap (λ (es : List (Vec ℕ _ × List Version)). value_in es k) none)) (λ x h. h.1) (s.ready k)
 
-pub prepared_ready : {A : Type 0} (old now other : KeyMap) (keys : FreshKeys) (rest : List (Vec ℕ A × List Version)) → Preparing old now other keys rest → AreReady now keys
+pub prepared_ready : {A : Type 0} (old now other : KeyTree) (keys : FreshKeys) (rest : List (Vec ℕ A × List Version)) → Preparing old now other keys rest → AreReadyIn now keys
 prepared_ready old now other keys rest s k = elim_ready (value_at keys.map k) (s.ready k)
   where
-    elim_ready : (o : Option Fresh) → MatchOption o (value_in rest k ≡ None → IsMerge (held old k) (held other k) (held old k)) (λ x. (has_place now k ≡ true) × IsFreshFor (held old k) (held other k) x) → IfSome o (IsReady now k)
+    elim_ready : (o : Option Fresh) → MatchOption o (value_in rest k ≡ None → IsMerge (kept old k) (kept other k) (kept old k)) (λ x. (has_entry now k ≡ true) × IsFreshFor (kept old k) (kept other k) x) → IfSome o (IsReadyIn now k)
     elim_ready None h = tt
-    elim_ready (Some x) h = (h.0, (held other k, subst (λ (was : List Version). IsFreshFor was (held other k) x) (sym (s.same k)) h.1))
+    elim_ready (Some x) h = (h.0, (kept other k, subst (λ (was : List Version). IsFreshFor was (kept other k) x) (sym (s.same k)) h.1))
 
 -- ---- the second half
 
 -- whatever came has come
-abbrev pub HasCome : KeyMap → KeyMap → FreshKeys → List ℕ → Type 0
-HasCome old now fresh k = (more : List ℕ → List Version) → AreFreshFor (held old) more fresh → IsMerge (held old k) (more k) (held now k)
+abbrev pub HasCome : KeyTree → KeyTree → FreshKeys → List ℕ → Type 0
+HasCome old now fresh k = (more : List ℕ → List Version) → AreFreshFor (kept old) more fresh → IsMerge (kept old k) (more k) (kept now k)
 
 -- what has come so far, with some keys left
-pub record Settling {A : Type 0} (old now : KeyMap) (fresh : FreshKeys) (rest : List (Vec ℕ A × Fresh)) : Type 0 where
+pub record Settling {A : Type 0} (old now : KeyTree) (fresh : FreshKeys) (rest : List (Vec ℕ A × Fresh)) : Type 0 where
   pub order : IsStrictlySortedBy by_items (keys_of rest)
-  pub places : (k : List ℕ) → has_place now k ≡ has_place old k
-  pub each : (k : List ℕ) → MatchOption (value_in rest k) (HasCome old now fresh k) (λ x. (held now k ≡ held old k) × (value_at fresh.map k ≡ Some x))
+  pub places : (k : List ℕ) → has_entry now k ≡ has_entry old k
+  pub each : (k : List ℕ) → MatchOption (value_in rest k) (HasCome old now fresh k) (λ x. (kept now k ≡ kept old k) × (value_at fresh.map k ≡ Some x))
 
-pub settling_none : (old : KeyMap) (fresh : FreshKeys) → IsStrictlySortedBy by_items (keys_of fresh.map.entries) → Settling old old fresh fresh.map.entries
+pub settling_none : (old : KeyTree) (fresh : FreshKeys) → IsStrictlySortedBy by_items (keys_of fresh.map.entries) → Settling old old fresh fresh.map.entries
 settling_none old fresh order = record {
   order = order;
   places = λ k. refl;
   each = λ k. start k (value_at fresh.map k) refl;
 }
   where
-    start : (k : List ℕ) (o : Option Fresh) → o ≡ value_at fresh.map k → MatchOption o (HasCome old old fresh k) (λ x. (held old k ≡ held old k) × (value_at fresh.map k ≡ Some x))
+    start : (k : List ℕ) (o : Option Fresh) → o ≡ value_at fresh.map k → MatchOption o (HasCome old old fresh k) (λ x. (kept old k ≡ kept old k) × (value_at fresh.map k ≡ Some x))
     start k None e = λ more are. at_none (value_at fresh.map k) _ _ (sym e) (are k)
     start k (Some x) e = (refl, sym e)
 
-module _ {A : Type 0} (old now : KeyMap) (fresh : FreshKeys) (rest later : List (Vec ℕ A × Fresh)) (key : Vec ℕ A) (x : Fresh) (is : rest ≡ (key, x) ∷ later) (s : Settling old now fresh rest) where
-  its : (held now key.items ≡ held old key.items) × (value_at fresh.map key.items ≡ Some x)
+module _ {A : Type 0} (old now : KeyTree) (fresh : FreshKeys) (rest later : List (Vec ℕ A × Fresh)) (key : Vec ℕ A) (x : Fresh) (is : rest ≡ (key, x) ∷ later) (s : Settling old now fresh rest) where
+  its : (kept now key.items ≡ kept old key.items) × (value_at fresh.map key.items ≡ Some x)
   its = at_some (value_in rest key.items) _ _ x (first_in key x rest later is) (s.each key.items)
 
-  pub settling_ready : AreReady old fresh → IsReady now key.items x
+  pub settling_ready : AreReadyIn old fresh → IsReadyIn now key.items x
   settling_ready ready =
-      let r : IsReady old key.items x = at_some (value_at fresh.map key.items) (Unit {0}) (IsReady old key.items) x its.1 (ready key.items) in
+      let r : IsReadyIn old key.items x = at_some (value_at fresh.map key.items) (Unit {0}) (IsReadyIn old key.items) x its.1 (ready key.items) in
       (s.places key.items ∙ r.0, (r.1.0, subst (λ (was : List Version). IsFreshFor was r.1.0 x) (sym its.0) r.1.1))
 
-  pub settling_more : (new : KeyMap) → ((more : List Version) → IsFreshFor (held now key.items) more x → MergesAll (held now) (at_key key.items more) (held new))
-      → ((k : List ℕ) → k ≢ key.items → held new k ≡ held now k) → ((k : List ℕ) → has_place new k ≡ has_place now k) → Settling old new fresh later
+  pub settling_more : (new : KeyTree) → ((more : List Version) → IsFreshFor (kept now key.items) more x → MergesAll (kept now) (at_key key.items more) (kept new))
+      → ((k : List ℕ) → k ≢ key.items → kept new k ≡ kept now k) → ((k : List ℕ) → has_entry new k ≡ has_entry now k) → Settling old new fresh later
   unfolding IsStrictlySortedBy
   settling_more new merged others places = record {
     order = sorted.1;
     places = λ k. places k ∙ s.places k;
-    each = by_bytes key.items (λ (k : List ℕ). MatchOption (value_in later k) (HasCome old new fresh k) (λ x. (held new k ≡ held old k) × (value_at fresh.map k ≡ Some x)))
+    each = by_bytes key.items (λ (k : List ℕ). MatchOption (value_in later k) (HasCome old new fresh k) (λ x. (kept new k ≡ kept old k) × (value_at fresh.map k ≡ Some x)))
         (none_to (value_in later key.items) _ _ (none_later key later sorted.0) here)
-        (λ k e. subst (λ (o : Option Fresh). MatchOption o (HasCome old new fresh k) (λ x. (held new k ≡ held old k) × (value_at fresh.map k ≡ Some x))) (later_in key x rest later is k e)
+        (λ k e. subst (λ (o : Option Fresh). MatchOption o (HasCome old new fresh k) (λ x. (kept new k ≡ kept old k) × (value_at fresh.map k ≡ Some x))) (later_in key x rest later is k e)
         (on_option (value_in rest k) _ _ _ _
-        (λ come more are. subst (IsMerge (held old k) (more k)) (sym (others k (differs k e))) (come more are))
+        (λ come more are. subst (IsMerge (kept old k) (more k)) (sym (others k (differs k e))) (come more are))
         (λ y h. (others k (differs k e) ∙ h.0, h.1))
         (s.each k)));
   }
@@ -201,11 +201,11 @@ module _ {A : Type 0} (old now : KeyMap) (fresh : FreshKeys) (rest later : List 
 
       here : HasCome old new fresh key.items
       here more are =
-          let f : IsFreshFor (held old key.items) (more key.items) x = at_some (value_at fresh.map key.items) _ _ x its.1 (are key.items) in
-          let m : IsMerge (held now key.items) (more key.items) (held new key.items) = subst (λ (come : List Version). IsMerge (held now key.items) come (held new key.items)) (at_here key.items (more key.items))
+          let f : IsFreshFor (kept old key.items) (more key.items) x = at_some (value_at fresh.map key.items) _ _ x its.1 (are key.items) in
+          let m : IsMerge (kept now key.items) (more key.items) (kept new key.items) = subst (λ (come : List Version). IsMerge (kept now key.items) come (kept new key.items)) (at_here key.items (more key.items))
           (merged (more key.items) (subst (λ (was : List Version). IsFreshFor was (more key.items) x) (sym its.0) f) key.items) in
-          subst (λ (was : List Version). IsMerge was (more key.items) (held new key.items)) its.0 m
+          subst (λ (was : List Version). IsMerge was (more key.items) (kept new key.items)) its.0 m
 
-pub settled : {A : Type 0} (old now : KeyMap) (fresh : FreshKeys) (rest : List (Vec ℕ A × Fresh)) → rest ≡ [] → Settling old now fresh rest
-    → (more : List ℕ → List Version) → AreFreshFor (held old) more fresh → MergesAll (held old) more (held now)
+pub settled : {A : Type 0} (old now : KeyTree) (fresh : FreshKeys) (rest : List (Vec ℕ A × Fresh)) → rest ≡ [] → Settling old now fresh rest
+    → (more : List ℕ → List Version) → AreFreshFor (kept old) more fresh → MergesAll (kept old) more (kept now)
 settled old now fresh rest none s more are k = at_none (value_in rest k) _ _ (ap (λ (es : List (Vec ℕ _ × Fresh)). value_in es k) none) (s.each k) more are

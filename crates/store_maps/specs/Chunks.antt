@@ -3,7 +3,7 @@ use Rattle.std.specs.Prelude.{◌≡◌, ℕ, Bool, true, false, List, [], Optio
 use Rattle.ring_space.specs.Place.{place_of}
 use Rattle.ring_versions.specs.declared.version.Version.{Version}
 use Rattle.store_maps.specs.declared.key_map.KeyMap.{KeyMap}
-use Rattle.store_maps.specs.Held.{held, has_place}
+use Rattle.store_maps.specs.Held.{held, has_place, has_room}
 
 -- the chunk of a key among q partitions
 unfoldable pub chunk_of : ℕ → List ℕ → ℕ
@@ -18,6 +18,11 @@ held_of (Some m) k = held m k
 abbrev pub place_in : Option KeyMap → List ℕ → Bool
 place_in None k = false
 place_in (Some m) k = has_place m k
+
+-- whether the key has a place in the map, if there is a map and it shares nothing
+abbrev pub room_in : Option KeyMap → List ℕ → Bool
+room_in None k = false
+room_in (Some m) k = has_room m k
 
 -- each key has a place in the map of its chunk alone
 abbrev pub ArePlaced : ℕ → List KeyMap → Type 0

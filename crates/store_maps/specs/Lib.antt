@@ -1,4 +1,5 @@
 pub mod Places
+pub mod Trees
 pub mod Held
 pub mod Merges
 pub mod Chunks

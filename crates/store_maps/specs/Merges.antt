@@ -8,7 +8,9 @@ use Rattle.ring_versions.specs.declared.version.Version.{Version}
 use Rattle.store_maps.specs.declared.fresh_keys.FreshKeys.{FreshKeys}
 use Rattle.store_maps.specs.declared.fresh_maps.FreshMaps.{FreshMaps}
 use Rattle.store_maps.specs.declared.key_map.KeyMap.{KeyMap}
+use Rattle.store_maps.specs.declared.key_tree.KeyTree.{KeyTree}
 use Rattle.store_maps.specs.Held.{IsReady}
+use Rattle.store_maps.specs.Trees.{IsReadyIn}
 use Rattle.ring_names.specs.AtBytes.{value_at}
 
 -- in every key what comes is merged in
@@ -31,7 +33,11 @@ has_fresh f k = is_some (fresh_at f k)
 abbrev pub AreFreshFor : (List ℕ → List Version) → (List ℕ → List Version) → FreshKeys → Type 0
 AreFreshFor held more f = (k : List ℕ) → MatchOption (fresh_at f k) (IsMerge (held k) (more k) (held k)) (IsFreshFor (held k) (more k))
 
--- each key of f has a place, and what f has for it was made for its versions
+-- each key of f has a place in the tree, and what f has for it was made for its versions
+abbrev pub AreReadyIn : KeyTree → FreshKeys → Type 0
+AreReadyIn a f = (k : List ℕ) → IfSome (fresh_at f k) (IsReadyIn a k)
+
+-- each key of f has a place in a map that shares nothing, and what f has for it was made for its versions
 abbrev pub AreReady : KeyMap → FreshKeys → Type 0
 AreReady a f = (k : List ℕ) → IfSome (fresh_at f k) (IsReady a k)
 

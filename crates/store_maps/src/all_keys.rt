@@ -1,20 +1,19 @@
-//! Merges with whole maps.
+//! Merges with whole trees.
 
 use crate::fresh_keys::FreshKeys;
-use crate::key_map::KeyMap;
+use crate::key_tree::KeyTree;
 use ring_names::Refusal;
 
-impl KeyMap {
-    ghost use Rattle.std.specs.Prelude.{◌≡◌, ◌⊎◌, ℕ, true, List, IfOk, IfErr, OnOk, OnErr};
+impl KeyTree {
+    ghost use Rattle.std.specs.Prelude.{◌≡◌, ◌⊎◌, ℕ, true, List, IfOk, IfErr, OnOk};
     ghost use Rattle.ring_names.specs.declared.refusal.Refusal.TheVariants.{OutOfMemory};
     ghost use Rattle.ring_versions.specs.declared.version.Version.{Version};
-    ghost use Rattle.store_maps.specs.Held.{held, has_place};
-    ghost use Rattle.store_maps.specs.Merges.{MergesAll, AreFreshFor, AreReady, has_fresh};
+    ghost use Rattle.store_maps.specs.Trees.{kept, has_entry};
+    ghost use Rattle.store_maps.specs.Merges.{MergesAll, AreFreshFor, AreReadyIn, has_fresh};
 
-    /// Merges a whole map into one that was made aside: where it is refused, some of the keys may be merged already. Costs a look-up
-    /// and a merge for each key of the other map.
-    pub fn merge_all(&mut self, other: &KeyMap) -> Result<(), Refusal>
-        ensures ok { OnOk result (MergesAll (held self.old) (held other.now) (held self.new)) }
+    /// Merges a whole tree: where it is refused, some of the keys may be merged already.
+    pub fn merge_all(&mut self, other: &KeyTree) -> Result<(), Refusal>
+        ensures ok { OnOk result (MergesAll (kept self.old) (kept other.now) (kept self.new)) }
         ensures memory { IfErr result (λ e. e ≡ OutOfMemory) }
     {
         'keys: for (key, versions) in &other.map {
@@ -23,16 +22,15 @@ impl KeyMap {
         Ok(())
     }
 
-    /// The first half of a merge with a whole map: makes the places that are missing, and what the other map brings. No reading changes,
-    /// whatever the answer. Costs a look-up and a merge for each key of the other map.
-    pub fn prepare_all(&mut self, other: &KeyMap) -> Result<FreshKeys, Refusal>
-        ensures same { (k : List ℕ) → held self.new k ≡ held self.old k }
-        ensures stays { (k : List ℕ) → has_place self.old k ≡ true → has_place self.new k ≡ true }
-        ensures only { (k : List ℕ) → has_place self.new k ≡ true
-            → (has_place self.old k ≡ true) ⊎ (has_place other.now k ≡ true) }
-        ensures keys { IfOk result (λ f. (k : List ℕ) → has_fresh f k ≡ true → has_place other.now k ≡ true) }
-        ensures ok { IfOk result (λ f. AreFreshFor (held self.old) (held other.now) f) }
-        ensures ready { IfOk result (λ f. AreReady self.new f) }
+    /// The first half of a merge with a whole tree: makes the places that are missing, and what the other brings.
+    pub fn prepare_all(&mut self, other: &KeyTree) -> Result<FreshKeys, Refusal>
+        ensures same { (k : List ℕ) → kept self.new k ≡ kept self.old k }
+        ensures stays { (k : List ℕ) → has_entry self.old k ≡ true → has_entry self.new k ≡ true }
+        ensures only { (k : List ℕ) → has_entry self.new k ≡ true
+            → (has_entry self.old k ≡ true) ⊎ (has_entry other.now k ≡ true) }
+        ensures keys { IfOk result (λ f. (k : List ℕ) → has_fresh f k ≡ true → has_entry other.now k ≡ true) }
+        ensures ok { IfOk result (λ f. AreFreshFor (kept self.old) (kept other.now) f) }
+        ensures ready { IfOk result (λ f. AreReadyIn self.new f) }
         ensures memory { IfErr result (λ e. e ≡ OutOfMemory) }
     {
         let mut keys = FreshKeys::new(self.alloc);
@@ -45,35 +43,16 @@ impl KeyMap {
         Ok(keys)
     }
 
-    /// The second half of a merge with a whole map, which cannot fail. Costs a look-up for each key to which something comes.
+    /// The second half of a merge with a whole tree, which cannot fail.
     pub fn settle_all(&mut self, fresh: FreshKeys)
-        requires { AreReady self.old fresh }
-        ensures merged { (more : List ℕ → List Version) → AreFreshFor (held self.old) more fresh
-            → MergesAll (held self.old) more (held self.new) }
-        ensures places { (k : List ℕ) → has_place self.new k ≡ has_place self.old k }
+        requires { AreReadyIn self.old fresh }
+        ensures merged { (more : List ℕ → List Version) → AreFreshFor (kept self.old) more fresh
+            → MergesAll (kept self.old) more (kept self.new) }
+        ensures places { (k : List ℕ) → has_entry self.new k ≡ has_entry self.old k }
     {
         let FreshKeys { alloc: _, map } = fresh;
         'keys: for (key, fresh) in map {
             self.settle(key.as_slice(), fresh);
         }
-    }
-
-    /// Merges a whole map. Refused, it has changed no reading. Costs a copy of the other map where this one has no place, and else two
-    /// look-ups and a merge for each key of the other map.
-    pub fn take_in(&mut self, other: &KeyMap) -> Result<(), Refusal>
-        ensures ok { OnOk result (MergesAll (held self.old) (held other.now) (held self.new)) }
-        ensures err { OnErr result ((k : List ℕ) → held self.new k ≡ held self.old k) }
-        ensures stays { (k : List ℕ) → has_place self.old k ≡ true → has_place self.new k ≡ true }
-        ensures only { (k : List ℕ) → has_place self.new k ≡ true
-            → (has_place self.old k ≡ true) ⊎ (has_place other.now k ≡ true) }
-        ensures memory { IfErr result (λ e. e ≡ OutOfMemory) }
-    {
-        if self.map.is_empty() {
-            *self = other.try_copy()?;
-            return Ok(());
-        }
-        let fresh = self.prepare_all(other)?;
-        self.settle_all(fresh);
-        Ok(())
     }
 }

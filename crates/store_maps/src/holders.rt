@@ -1,6 +1,6 @@
 //! Which nodes have something of which keys.
 
-use crate::key_map::KeyMap;
+use crate::key_tree::KeyTree;
 use crate::slot_map::SlotMap;
 use ring_names::{NodeId, Refusal};
 use std::alloc::Global;
@@ -20,9 +20,9 @@ impl Holders {
     ghost use Rattle.std.specs.Str.{bytes_eq};
     ghost use Rattle.ring_names.specs.declared.refusal.Refusal.TheVariants.{OutOfMemory};
     ghost use Rattle.ring_names.specs.AtBytes.{value_at, Puts};
-    ghost use Rattle.store_maps.specs.Held.{has_place};
     ghost use Rattle.store_maps.specs.Holders.{holders_at, holds};
     ghost use Rattle.store_maps.specs.Slots.{has_place_for};
+    ghost use Rattle.store_maps.specs.Trees.{has_entry};
 
     /// No node of any key.
     pub fn new(alloc: Global) -> Holders
@@ -94,11 +94,11 @@ impl Holders {
         }
     }
 
-    // The node is none of those of the map's keys from here on.
-    fn forget_keys(&mut self, node: NodeId, map: &KeyMap)
+    // The node is none of those of the tree's keys from here on.
+    fn forget_keys(&mut self, node: NodeId, map: &KeyTree)
         ensures others { (k : List ℕ) (x : ℕ) → x ≢ node.0 → holds self.new k x ≡ holds self.old k x }
-        ensures gone { (k : List ℕ) → has_place map.now k ≡ true → holds self.new k node.0 ≡ false }
-        ensures stays { (k : List ℕ) → has_place map.now k ≡ false → holds self.new k node.0 ≡ holds self.old k node.0 }
+        ensures gone { (k : List ℕ) → has_entry map.now k ≡ true → holds self.new k node.0 ≡ false }
+        ensures stays { (k : List ℕ) → has_entry map.now k ≡ false → holds self.new k node.0 ≡ holds self.old k node.0 }
     {
         'keys: for (key, _) in &map.map {
             self.remove(key.as_slice(), node);
@@ -113,7 +113,7 @@ impl Holders {
             → holds self.new k node.0 ≡ holds self.old k node.0 }
     {
         'chunks: for chunk in 0..16u32 {
-            self.forget_keys(node, map.chunk(chunk));
+            self.forget_keys(node, map.chunk(chunk).tree());
         }
     }
 }

@@ -6,6 +6,7 @@ mod fresh_keys;
 mod fresh_maps;
 mod holders;
 mod key_map;
+mod key_tree;
 mod one_key;
 mod slot_map;
 mod whole_slot;

@@ -1,25 +1,24 @@
-//! Merges at one key.
+//! Merges at one key of a tree.
 
-use crate::key_map::KeyMap;
+use crate::key_tree::KeyTree;
 use ring_names::Refusal;
 use ring_versions::{Fresh, Versions};
 
-impl KeyMap {
+impl KeyTree {
     ghost use Rattle.std.specs.Prelude.{◌≡◌, ◌≢◌, ◌⊎◌, ℕ, true, [], List, IfOk, IfErr, OnOk, OnErr};
     ghost use Rattle.ring_names.specs.declared.refusal.Refusal.TheVariants.{OutOfMemory};
     ghost use Rattle.ring_versions.specs.Fresh.{IsFreshFor};
     ghost use Rattle.ring_versions.specs.declared.version.Version.{Version};
-    ghost use Rattle.store_maps.specs.Held.{held, has_place, IsReady};
+    ghost use Rattle.store_maps.specs.Trees.{kept, has_entry, IsReadyIn};
     ghost use Rattle.store_maps.specs.Merges.{MergesAll, at_key};
 
-    /// The first half of a merge at one key: makes its place, where it has none, and what the other versions bring. No reading changes,
-    /// whatever the answer. Costs what `Versions::fresh_of` does.
+    /// The first half of a merge at one key: makes its place, where it has none, and what the other versions bring.
     pub fn prepare(&mut self, key: &[u8], more: &Versions) -> Result<Fresh, Refusal>
-        ensures same { (k : List ℕ) → held self.new k ≡ held self.old k }
-        ensures stays { (k : List ℕ) → has_place self.old k ≡ true → has_place self.new k ≡ true }
-        ensures only { (k : List ℕ) → has_place self.new k ≡ true → (has_place self.old k ≡ true) ⊎ (k ≡ key.now) }
-        ensures ok { IfOk result (λ f. IsFreshFor (held self.old key.now) more.now f) }
-        ensures ready { IfOk result (λ f. IsReady self.new key.now f) }
+        ensures same { (k : List ℕ) → kept self.new k ≡ kept self.old k }
+        ensures stays { (k : List ℕ) → has_entry self.old k ≡ true → has_entry self.new k ≡ true }
+        ensures only { (k : List ℕ) → has_entry self.new k ≡ true → (has_entry self.old k ≡ true) ⊎ (k ≡ key.now) }
+        ensures ok { IfOk result (λ f. IsFreshFor (kept self.old key.now) more.now f) }
+        ensures ready { IfOk result (λ f. IsReadyIn self.new key.now f) }
         ensures memory { IfErr result (λ e. e ≡ OutOfMemory) }
     {
         if let Some(versions) = self.map.get(key) {
@@ -31,11 +30,11 @@ impl KeyMap {
 
     /// The second half of a merge at one key, which cannot fail.
     pub fn settle(&mut self, key: &[u8], fresh: Fresh)
-        requires { IsReady self.old key.now fresh }
-        ensures merged { (more : List Version) → IsFreshFor (held self.old key.now) more fresh
-            → MergesAll (held self.old) (at_key key.now more) (held self.new) }
-        ensures others { (k : List ℕ) → k ≢ key.now → held self.new k ≡ held self.old k }
-        ensures places { (k : List ℕ) → has_place self.new k ≡ has_place self.old k }
+        requires { IsReadyIn self.old key.now fresh }
+        ensures merged { (more : List Version) → IsFreshFor (kept self.old key.now) more fresh
+            → MergesAll (kept self.old) (at_key key.now more) (kept self.new) }
+        ensures others { (k : List ℕ) → k ≢ key.now → kept self.new k ≡ kept self.old k }
+        ensures places { (k : List ℕ) → has_entry self.new k ≡ has_entry self.old k }
     {
         if let Some(versions) = self.map.get_mut(key) {
             versions.absorb(fresh);
@@ -44,13 +43,13 @@ impl KeyMap {
 
     /// A merge at one key in one call. Refused, it has changed nothing and made no place; it never makes an empty one.
     pub fn merge(&mut self, key: &[u8], more: &Versions) -> Result<(), Refusal>
-        ensures ok { OnOk result (MergesAll (held self.old) (at_key key.now more.now) (held self.new)) }
-        ensures err { OnErr result ((k : List ℕ) → held self.new k ≡ held self.old k) }
-        ensures stays { (k : List ℕ) → has_place self.old k ≡ true → has_place self.new k ≡ true }
-        ensures only { (k : List ℕ) → has_place self.new k ≡ true → (has_place self.old k ≡ true) ⊎ (k ≡ key.now) }
-        ensures filled { (k : List ℕ) → has_place self.new k ≡ true
-            → (has_place self.old k ≡ true) ⊎ (held self.new k ≢ []) }
-        ensures places { OnErr result ((k : List ℕ) → has_place self.new k ≡ has_place self.old k) }
+        ensures ok { OnOk result (MergesAll (kept self.old) (at_key key.now more.now) (kept self.new)) }
+        ensures err { OnErr result ((k : List ℕ) → kept self.new k ≡ kept self.old k) }
+        ensures stays { (k : List ℕ) → has_entry self.old k ≡ true → has_entry self.new k ≡ true }
+        ensures only { (k : List ℕ) → has_entry self.new k ≡ true → (has_entry self.old k ≡ true) ⊎ (k ≡ key.now) }
+        ensures filled { (k : List ℕ) → has_entry self.new k ≡ true
+            → (has_entry self.old k ≡ true) ⊎ (kept self.new k ≢ []) }
+        ensures places { OnErr result ((k : List ℕ) → has_entry self.new k ≡ has_entry self.old k) }
         ensures memory { IfErr result (λ e. e ≡ OutOfMemory) }
     {
         if let Some(versions) = self.map.get_mut(key) {

@@ -28,7 +28,8 @@ impl SlotMap {
     ghost use Rattle.store_maps.specs.Chunks.{chunk_of};
     ghost use Rattle.store_maps.specs.Held.{held, has_place};
     ghost use Rattle.store_maps.specs.Merges.{MergesAll, at_key, AreFreshFor};
-    ghost use Rattle.store_maps.specs.Slots.{space_of, held_for, has_place_for, IsReadyFor, AreReadyFor};
+    ghost use Rattle.store_maps.specs.Slots.{space_of, held_for, has_place_for, has_room_for};
+    ghost use Rattle.store_maps.specs.Slots.{IsReadyFor, AreReadyFor};
 
     /// No versions, in a hash space of q partitions.
     pub fn new(alloc: Global, q: u32) -> Result<SlotMap, Refusal>
@@ -55,6 +56,18 @@ impl SlotMap {
         &self.chunks[chunk as usize]
     }
 
+    /// Lets copies share the map of a chunk from here on, as `KeyMap::share` does. No reading changes, whatever the answer.
+    pub fn share_chunk(&mut self, chunk: u32) -> Result<(), Refusal>
+        requires { chunk < 16 }
+        ensures space { space_of self.new ≡ space_of self.old }
+        ensures same { (k : List ℕ) → held_for self.new k ≡ held_for self.old k }
+        ensures places { (k : List ℕ) → has_place_for self.new k ≡ has_place_for self.old k }
+        ensures memory { IfErr result (λ e. e ≡ OutOfMemory) }
+    {
+        let map = &mut self.chunks[chunk as usize];
+        map.share()
+    }
+
     /// The versions of a key of the chunk, if it has any. Takes no memory.
     pub fn key_versions(&self, chunk: u32, key: &[u8]) -> Option<&Versions>
         requires { chunk_of (space_of self.now) key.now ≡ chunk }
@@ -71,6 +84,7 @@ impl SlotMap {
         ensures space { space_of self.new ≡ space_of self.old }
         ensures same { (k : List ℕ) → held_for self.new k ≡ held_for self.old k }
         ensures stays { (k : List ℕ) → has_place_for self.old k ≡ true → has_place_for self.new k ≡ true }
+        ensures rooms { (k : List ℕ) → has_room_for self.old k ≡ true → has_room_for self.new k ≡ true }
         ensures ok { IfOk result (λ f. IsFreshFor (held_for self.old key.now) more.now f) }
         ensures ready { IfOk result (λ f. IsReadyFor self.new key.now f) }
         ensures memory { IfErr result (λ e. e ≡ OutOfMemory) }
@@ -87,6 +101,7 @@ impl SlotMap {
         ensures merged { (more : List Version) → IsFreshFor (held_for self.old key.now) more fresh
             → MergesAll (held_for self.old) (at_key key.now more) (held_for self.new) }
         ensures places { (k : List ℕ) → has_place_for self.new k ≡ has_place_for self.old k }
+        ensures rooms { (k : List ℕ) → has_room_for self.new k ≡ has_room_for self.old k }
     {
         let map = &mut self.chunks[chunk as usize];
         map.settle(key, fresh);
@@ -130,6 +145,7 @@ impl SlotMap {
         ensures space { space_of self.new ≡ space_of self.old }
         ensures same { (k : List ℕ) → held_for self.new k ≡ held_for self.old k }
         ensures stays { (k : List ℕ) → has_place_for self.old k ≡ true → has_place_for self.new k ≡ true }
+        ensures rooms { (k : List ℕ) → has_room_for self.old k ≡ true → has_room_for self.new k ≡ true }
         ensures ok { IfOk result (λ f. AreFreshFor (held_for self.old) (held other.now) f) }
         ensures ready { IfOk result (λ f. AreReadyFor self.new chunk f) }
         ensures memory { IfErr result (λ e. e ≡ OutOfMemory) }
@@ -148,6 +164,7 @@ impl SlotMap {
         ensures others { (k : List ℕ) → chunk_of (space_of self.old) k ≢ chunk
             → held_for self.new k ≡ held_for self.old k }
         ensures places { (k : List ℕ) → has_place_for self.new k ≡ has_place_for self.old k }
+        ensures rooms { (k : List ℕ) → has_room_for self.new k ≡ has_room_for self.old k }
     {
         let map = &mut self.chunks[chunk as usize];
         map.settle_all(fresh);

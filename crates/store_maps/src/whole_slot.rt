@@ -10,7 +10,7 @@ impl SlotMap {
     ghost use Rattle.ring_names.specs.declared.refusal.Refusal.TheVariants.{OutOfMemory};
     ghost use Rattle.ring_versions.specs.declared.version.Version.{Version};
     ghost use Rattle.store_maps.specs.Merges.{MergesAll, AreFreshMaps};
-    ghost use Rattle.store_maps.specs.Slots.{space_of, held_for, has_place_for, AllReadyFor};
+    ghost use Rattle.store_maps.specs.Slots.{space_of, held_for, has_place_for, has_room_for, AllReadyFor};
 
     /// The first half of a merge with all maps of a slot, in a hash space of as many partitions: makes the places that are missing, and what
     /// the other maps bring. No reading changes, whatever the answer. Costs a look-up and a merge for each key of the other maps.
@@ -19,6 +19,7 @@ impl SlotMap {
         ensures space { space_of self.new ≡ space_of self.old }
         ensures same { (k : List ℕ) → held_for self.new k ≡ held_for self.old k }
         ensures stays { (k : List ℕ) → has_place_for self.old k ≡ true → has_place_for self.new k ≡ true }
+        ensures rooms { (k : List ℕ) → has_room_for self.old k ≡ true → has_room_for self.new k ≡ true }
         ensures ok { IfOk result (λ f. AreFreshMaps (held_for self.old) (held_for other.now) f) }
         ensures ready { IfOk result (λ f. AllReadyFor self.new f) }
         ensures memory { IfErr result (λ e. e ≡ OutOfMemory) }
@@ -38,6 +39,7 @@ impl SlotMap {
         ensures merged { (more : List ℕ → List Version) → AreFreshMaps (held_for self.old) more fresh
             → MergesAll (held_for self.old) more (held_for self.new) }
         ensures places { (k : List ℕ) → has_place_for self.new k ≡ has_place_for self.old k }
+        ensures rooms { (k : List ℕ) → has_room_for self.new k ≡ has_room_for self.old k }
     {
         let FreshMaps { mut list } = fresh;
         'chunks: while let Some(keys) = list.pop() {

@@ -1,20 +1,19 @@
-use Rattle.std.proofs.Common.{ℕ, List, sym, ap, subst}
-use Rattle.store_maps.specs.Held.{held}
-use Rattle.store_maps.specs.Merges.{MergesAll, at_key}
-use Rattle.ring_names.specs.AtBytes.{value_in}
-use Rattle.store_maps.proofs.EntriesLeft.{found}
-use Rattle.store_maps.proofs.WholeMaps.{Merging, merging_none, merging_more}
+use Rattle.std.proofs.Common.{List, sym, subst}
+use Rattle.ring_versions.specs.declared.version.Version.{Version}
+use Rattle.ring_versions.specs.Versions.{IsMerge}
+use Rattle.store_maps.specs.Held.{read_of, held}
+use Rattle.store_maps.specs.Trees.{kept}
+use Rattle.store_maps.proofs.OneAnswer.{on_ok}
+use Rattle.store_maps.proofs.Sharing.{own_held}
 use Rattle.store_maps.proofs.key_map.KeyMap.merge_all.Goals as goal
 
-pub keys-init : goal.keys-init
-keys-init c = subst (Merging (held c.args.self.now) (held c.args.other.now) (held c.args.self.now)) (sym c.into_iter-key-iterator.ensures.into_iter_gives.0) (merging_none c.args.self.now c.args.other.now)
-
-pub keys-preserved : goal.keys-preserved
-keys-preserved c =
-    let gives = c.into_iter-key-iterator.ensures.into_iter_gives in
-    let at = found c.args.other.now.map c.keys.yielded c.into_iter-key-iterator.result c.keys.key-iterator c.next.new.self c.next.result (c.in-Some.key, c.in-Some.versions) c.keys.yielded_by c.in-Some.is c.next.ensures.steps gives.0 gives.5 in
-    let merged = subst (λ (bs : List ℕ). MergesAll (held c.keys.self) (at_key bs c.in-Some.versions.now) (held c.merge.new.self)) c.as_slice.ensures.value (c.in_ok-merge.ensures).ok in
-    merging_more (held c.args.self.now) (held c.keys.self) (held c.merge.new.self) c.args.other.now c.keys.key-iterator c.next.new.self c.in-Some.key.now c.in-Some.versions.now (c.in-Some.ensures).steps at merged c.keys.invariant
-
 pub returns-clause-ok : goal.returns-clause-ok
-returns-clause-ok c k = c.keys.invariant.done k (ap (λ es. value_in es k) (c.in-None.ensures).steps.0)
+returns-clause-ok c =
+    let a = c.args.self.now in
+    let b = c.unshare.new.self in
+    let new = c.merge_all.new.self in
+    let none = (c.in_ok-unshare.ensures).ok in
+    on_ok c.merge_all.result _ _ (λ merged k.
+    (let own = subst (λ tree. IsMerge (kept b.own k) (kept tree k) (kept new k)) c.tree.ensures (merged k) in
+    let now = subst (λ o. IsMerge (kept b.own k) (held c.args.other.now k) (kept (read_of o new) k)) (sym none) own in
+    subst (λ (was : List Version). IsMerge was (held c.args.other.now k) (kept (read_of b.shared new) k)) (own_held a b none c.unshare.ensures.same k) now)) c.merge_all.ensures.ok

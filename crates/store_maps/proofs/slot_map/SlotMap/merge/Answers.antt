@@ -1,6 +1,7 @@
 use Rattle.std.proofs.Common.{refl, ◌∙◌, inl, inr, ap, arith}
 use Rattle.std.proofs.Math.ListN.{length-set}
 use Rattle.store_maps.proofs.OneAnswer.{on_ok, on_err}
+use Rattle.store_maps.specs.Chunks.{place_in}
 use Rattle.store_maps.proofs.Chunks.{chunk_below, within, placed_set, lies_old, same_set, stays_set, filled_set, places_set, merged_key}
 use Rattle.store_maps.specs.Chunks.{chunk_of}
 use Rattle.store_maps.proofs.slot_map.SlotMap.merge.Goals as goal
@@ -24,13 +25,13 @@ pub returns-clause-err : goal.returns-clause-err
 returns-clause-err c = on_err c.merge.result _ _ (λ h. same_set c.args.self.now c.args.chunk c.index_mut-map.result.now c.merge.new.self (chunk_below c.args.self.now.q c.args.key.now c.args.chunk c.requires) c.index_mut-map.ensures.value h) c.merge.ensures.err
 
 pub returns-clause-stays : goal.returns-clause-stays
-returns-clause-stays c = stays_set c.args.self.now c.args.chunk c.index_mut-map.result.now c.merge.new.self (chunk_below c.args.self.now.q c.args.key.now c.args.chunk c.requires) c.index_mut-map.ensures.value c.merge.ensures.stays
+returns-clause-stays c = stays_set c.args.self.now c.args.chunk c.index_mut-map.result.now c.merge.new.self (chunk_below c.args.self.now.q c.args.key.now c.args.chunk c.requires) c.index_mut-map.ensures.value place_in c.merge.ensures.stays
 
 pub returns-clause-filled : goal.returns-clause-filled
 returns-clause-filled c = filled_set c.args.self.now c.args.chunk c.index_mut-map.result.now c.merge.new.self (chunk_below c.args.self.now.q c.args.key.now c.args.chunk c.requires) c.index_mut-map.ensures.value c.merge.ensures.filled
 
 pub returns-clause-places : goal.returns-clause-places
-returns-clause-places c = on_err c.merge.result _ _ (λ h. places_set c.args.self.now c.args.chunk c.index_mut-map.result.now c.merge.new.self (chunk_below c.args.self.now.q c.args.key.now c.args.chunk c.requires) c.index_mut-map.ensures.value h) c.merge.ensures.places
+returns-clause-places c = on_err c.merge.result _ _ (λ h. places_set c.args.self.now c.args.chunk c.index_mut-map.result.now c.merge.new.self (chunk_below c.args.self.now.q c.args.key.now c.args.chunk c.requires) c.index_mut-map.ensures.value place_in h) c.merge.ensures.places
 
 pub returns-clause-memory : goal.returns-clause-memory
 returns-clause-memory c = c.merge.ensures.memory

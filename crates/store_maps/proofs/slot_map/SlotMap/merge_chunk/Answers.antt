@@ -1,6 +1,7 @@
 use Rattle.std.proofs.Common.{refl, ◌∙◌, inl, inr, arith}
 use Rattle.std.proofs.Math.ListN.{length-set}
 use Rattle.store_maps.proofs.OneAnswer.{on_ok, on_err}
+use Rattle.store_maps.specs.Chunks.{place_in}
 use Rattle.store_maps.proofs.Chunks.{within, placed_set, lies_old, same_set, stays_set, merged_map}
 use Rattle.store_maps.proofs.slot_map.SlotMap.merge_chunk.Goals as goal
 
@@ -23,7 +24,7 @@ pub returns-clause-err : goal.returns-clause-err
 returns-clause-err c = on_err c.take_in.result _ _ (same_set c.args.self.now c.args.chunk c.index_mut-map.result.now c.take_in.new.self c.requires.chunk c.index_mut-map.ensures.value) c.take_in.ensures.err
 
 pub returns-clause-stays : goal.returns-clause-stays
-returns-clause-stays c = stays_set c.args.self.now c.args.chunk c.index_mut-map.result.now c.take_in.new.self c.requires.chunk c.index_mut-map.ensures.value c.take_in.ensures.stays
+returns-clause-stays c = stays_set c.args.self.now c.args.chunk c.index_mut-map.result.now c.take_in.new.self c.requires.chunk c.index_mut-map.ensures.value place_in c.take_in.ensures.stays
 
 pub returns-clause-memory : goal.returns-clause-memory
 returns-clause-memory c = c.take_in.ensures.memory

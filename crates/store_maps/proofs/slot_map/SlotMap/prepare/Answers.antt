@@ -1,6 +1,7 @@
 use Rattle.std.proofs.Common.{refl, ◌∙◌, inl, inr, ap, arith}
 use Rattle.std.proofs.Math.ListN.{length-set}
 use Rattle.std.proofs.lemmas.Result.{IfOk-weaker}
+use Rattle.store_maps.specs.Chunks.{place_in, room_in}
 use Rattle.store_maps.proofs.Chunks.{chunk_below, within, placed_set, lies_old, same_set, stays_set, fresh_old, ready_new}
 use Rattle.store_maps.specs.Chunks.{chunk_of}
 use Rattle.store_maps.proofs.slot_map.SlotMap.prepare.Goals as goal
@@ -21,7 +22,10 @@ pub returns-clause-same : goal.returns-clause-same
 returns-clause-same c = same_set c.args.self.now c.args.chunk c.index_mut-map.result.now c.prepare.new.self (chunk_below c.args.self.now.q c.args.key.now c.args.chunk c.requires) c.index_mut-map.ensures.value c.prepare.ensures.same
 
 pub returns-clause-stays : goal.returns-clause-stays
-returns-clause-stays c = stays_set c.args.self.now c.args.chunk c.index_mut-map.result.now c.prepare.new.self (chunk_below c.args.self.now.q c.args.key.now c.args.chunk c.requires) c.index_mut-map.ensures.value c.prepare.ensures.stays
+returns-clause-stays c = stays_set c.args.self.now c.args.chunk c.index_mut-map.result.now c.prepare.new.self (chunk_below c.args.self.now.q c.args.key.now c.args.chunk c.requires) c.index_mut-map.ensures.value place_in c.prepare.ensures.stays
+
+pub returns-clause-rooms : goal.returns-clause-rooms
+returns-clause-rooms c = stays_set c.args.self.now c.args.chunk c.index_mut-map.result.now c.prepare.new.self (chunk_below c.args.self.now.q c.args.key.now c.args.chunk c.requires) c.index_mut-map.ensures.value room_in c.prepare.ensures.rooms
 
 pub returns-clause-ok : goal.returns-clause-ok
 returns-clause-ok c = IfOk-weaker c.prepare.result _ _ (λ f h. fresh_old c.args.self.now c.args.chunk c.index_mut-map.result.now c.prepare.new.self (chunk_below c.args.self.now.q c.args.key.now c.args.chunk c.requires) c.index_mut-map.ensures.value c.args.key.now c.args.more.now f c.requires h) c.prepare.ensures.ok

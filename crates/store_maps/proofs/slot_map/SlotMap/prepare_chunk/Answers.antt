@@ -2,6 +2,7 @@ use Rattle.std.proofs.Common.{refl, ◌∙◌, inl, inr, arith}
 use Rattle.std.proofs.Math.ListN.{length-set}
 use Rattle.std.proofs.lemmas.Result.{IfOk-weaker}
 use Rattle.store_maps.proofs.OneAnswer.{both_ok}
+use Rattle.store_maps.specs.Chunks.{place_in, room_in}
 use Rattle.store_maps.proofs.Chunks.{within, placed_set, lies_old, same_set, stays_set, fresh_chunk, ready_chunk}
 use Rattle.store_maps.proofs.slot_map.SlotMap.prepare_chunk.Goals as goal
 
@@ -21,7 +22,10 @@ pub returns-clause-same : goal.returns-clause-same
 returns-clause-same c = same_set c.args.self.now c.args.chunk c.index_mut-map.result.now c.prepare_all.new.self c.requires.chunk c.index_mut-map.ensures.value c.prepare_all.ensures.same
 
 pub returns-clause-stays : goal.returns-clause-stays
-returns-clause-stays c = stays_set c.args.self.now c.args.chunk c.index_mut-map.result.now c.prepare_all.new.self c.requires.chunk c.index_mut-map.ensures.value c.prepare_all.ensures.stays
+returns-clause-stays c = stays_set c.args.self.now c.args.chunk c.index_mut-map.result.now c.prepare_all.new.self c.requires.chunk c.index_mut-map.ensures.value place_in c.prepare_all.ensures.stays
+
+pub returns-clause-rooms : goal.returns-clause-rooms
+returns-clause-rooms c = stays_set c.args.self.now c.args.chunk c.index_mut-map.result.now c.prepare_all.new.self c.requires.chunk c.index_mut-map.ensures.value room_in c.prepare_all.ensures.rooms
 
 pub returns-clause-ok : goal.returns-clause-ok
 returns-clause-ok c = IfOk-weaker c.prepare_all.result _ _ (λ f h. fresh_chunk c.args.self.now c.args.chunk c.index_mut-map.result.now c.prepare_all.new.self c.requires.chunk c.index_mut-map.ensures.value c.args.other.now f c.requires.lies h.0 h.1) (both_ok c.prepare_all.result _ _ c.prepare_all.ensures.keys c.prepare_all.ensures.ok)

@@ -19,7 +19,7 @@ chunks-preserved c =
     let put = (c.in_ok-push.ensures).items in (
       ap length put ∙ length_push c.chunks.list.items c.in_ok-fresh.fresh ∙ ap (λ (n : ℕ). n + 1) c.chunks.invariant.0,
       preparing_more_maps c.args.self.now c.chunks.self c.prepare_chunk.new.self c.args.other.now c.chunks.list.items c.push.new.self.items c.chunks.chunk c.chunk.result.now c.in_ok-fresh.fresh
-          c.chunks.invariant.0 put c.requires c.chunk.ensures.same (c.in_ok-fresh.ensures).space (c.in_ok-fresh.ensures).same (c.in_ok-fresh.ensures).stays (c.in_ok-fresh.ensures).ok (c.in_ok-fresh.ensures).ready c.chunks.invariant.1,
+          c.chunks.invariant.0 put c.requires c.chunk.ensures.same (c.in_ok-fresh.ensures).space (c.in_ok-fresh.ensures).same (c.in_ok-fresh.ensures).stays (c.in_ok-fresh.ensures).rooms (c.in_ok-fresh.ensures).ok (c.in_ok-fresh.ensures).ready c.chunks.invariant.1,
     )
 
 pub returns-clause-ok : goal.returns-clause-ok

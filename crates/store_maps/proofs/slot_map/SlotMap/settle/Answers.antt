@@ -1,5 +1,6 @@
 use Rattle.std.proofs.Common.{refl, ◌∙◌, sym, arith}
 use Rattle.std.proofs.Math.ListN.{length-set}
+use Rattle.store_maps.specs.Chunks.{place_in, room_in}
 use Rattle.store_maps.proofs.Chunks.{chunk_below, within, placed_set, lies_old, places_set, merged_key, old_fresh, ready_old}
 use Rattle.store_maps.proofs.slot_map.SlotMap.settle.Goals as goal
 
@@ -22,4 +23,7 @@ pub returns-clause-merged : goal.returns-clause-merged
 returns-clause-merged c = λ more f. merged_key c.args.self.now c.args.chunk c.index_mut-map.result.now c.settle.new.self (chunk_below c.args.self.now.q c.args.key.now c.args.chunk c.requires.chunk) c.index_mut-map.ensures.value c.args.key.now more c.requires.chunk (c.settle.ensures.merged more (old_fresh c.args.self.now c.args.chunk c.index_mut-map.result.now c.settle.new.self (chunk_below c.args.self.now.q c.args.key.now c.args.chunk c.requires.chunk) c.index_mut-map.ensures.value c.args.key.now more c.args.fresh c.requires.chunk f))
 
 pub returns-clause-places : goal.returns-clause-places
-returns-clause-places c = places_set c.args.self.now c.args.chunk c.index_mut-map.result.now c.settle.new.self (chunk_below c.args.self.now.q c.args.key.now c.args.chunk c.requires.chunk) c.index_mut-map.ensures.value c.settle.ensures.places
+returns-clause-places c = places_set c.args.self.now c.args.chunk c.index_mut-map.result.now c.settle.new.self (chunk_below c.args.self.now.q c.args.key.now c.args.chunk c.requires.chunk) c.index_mut-map.ensures.value place_in c.settle.ensures.places
+
+pub returns-clause-rooms : goal.returns-clause-rooms
+returns-clause-rooms c = places_set c.args.self.now c.args.chunk c.index_mut-map.result.now c.settle.new.self (chunk_below c.args.self.now.q c.args.key.now c.args.chunk c.requires.chunk) c.index_mut-map.ensures.value room_in c.settle.ensures.rooms

@@ -1,5 +1,6 @@
 use Rattle.std.proofs.Common.{refl, ◌∙◌, sym, arith}
 use Rattle.std.proofs.Math.ListN.{length-set}
+use Rattle.store_maps.specs.Chunks.{place_in, room_in}
 use Rattle.store_maps.proofs.Chunks.{within, placed_set, lies_old, places_set, other_held, chunk_ready, merged_chunk}
 use Rattle.store_maps.proofs.slot_map.SlotMap.settle_chunk.Goals as goal
 
@@ -22,7 +23,10 @@ pub returns-clause-merged : goal.returns-clause-merged
 returns-clause-merged c = merged_chunk c.args.self.now c.args.chunk c.index_mut-map.result.now c.settle_all.new.self c.requires.chunk c.index_mut-map.ensures.value c.args.fresh c.requires.ready c.settle_all.ensures.merged
 
 pub returns-clause-places : goal.returns-clause-places
-returns-clause-places c = places_set c.args.self.now c.args.chunk c.index_mut-map.result.now c.settle_all.new.self c.requires.chunk c.index_mut-map.ensures.value c.settle_all.ensures.places
+returns-clause-places c = places_set c.args.self.now c.args.chunk c.index_mut-map.result.now c.settle_all.new.self c.requires.chunk c.index_mut-map.ensures.value place_in c.settle_all.ensures.places
+
+pub returns-clause-rooms : goal.returns-clause-rooms
+returns-clause-rooms c = places_set c.args.self.now c.args.chunk c.index_mut-map.result.now c.settle_all.new.self c.requires.chunk c.index_mut-map.ensures.value room_in c.settle_all.ensures.rooms
 
 pub returns-clause-others : goal.returns-clause-others
 returns-clause-others c = other_held c.args.self.now c.args.chunk c.index_mut-map.result.now c.settle_all.new.self c.requires.chunk c.index_mut-map.ensures.value

@@ -8,7 +8,7 @@ use Rattle.store_maps.proofs.OneAnswer.{on_ok, on_err, on_either}
 use Rattle.ring_names.proofs.AtBytes.{puts}
 use Rattle.store_maps.proofs.MergesInTurn.{merge_first}
 use Rattle.store_maps.proofs.Puts.{apart_put, apart_same, merged_put, unchanged_put, stays_put, places_put}
-use Rattle.store_maps.proofs.key_map.KeyMap.merge.Goals as goal
+use Rattle.store_maps.proofs.key_tree.KeyTree.merge.Goals as goal
 
 pub invariant_of-self : goal.invariant_of-self
 invariant_of-self c =
@@ -31,7 +31,7 @@ returns-in-Some-clause-ok c =
     let is = (c.in-Some.ensures).value in
     let put = puts c.args.key.now m n w ((c.get_mut.follows.holds w).3 (subst IsSome is refl)) in
     let was = ap (λ (o : Option (List Version)). unwrap_or o []) is in
-    on_ok c.merge.result _ _ (λ merged. merged_put m n c.args.key.now w put c.args.more.now c.args.self.now.apart (subst (λ (held : List Version). IsMerge held c.args.more.now w) was merged)) c.merge.ensures.ok
+    on_ok c.merge.result _ _ (λ merged. merged_put m n c.args.key.now w put c.args.more.now c.args.self.now.apart (subst (λ (kept : List Version). IsMerge kept c.args.more.now w) was merged)) c.merge.ensures.ok
 
 pub returns-in-Some-clause-err : goal.returns-in-Some-clause-err
 returns-in-Some-clause-err c =
@@ -80,4 +80,4 @@ returns-clause-ok c =
     let more = c.args.more.now in
     let none : held_in m c.args.key.now ≡ [] = ap (λ (o : Option (List Version)). unwrap_or o []) (sym (c.in_default.ensures).value) in
     let first = subst (λ (new : List Version). IsMerge [] more new) (sym (c.in_ok-try_copy.ensures).same) (merge_first more c.list.ensures.apart) in
-    on_ok c.put.result _ _ (λ put. merged_put m c.put.new.self.map c.args.key.now w (subst (λ old. Puts old c.put.new.self.map c.args.key.now w) c.get_mut.follows.holds-at-none put) more c.args.self.now.apart (subst (λ (held : List Version). IsMerge held more w) (sym none) first)) c.put.ensures.ok
+    on_ok c.put.result _ _ (λ put. merged_put m c.put.new.self.map c.args.key.now w (subst (λ old. Puts old c.put.new.self.map c.args.key.now w) c.get_mut.follows.holds-at-none put) more c.args.self.now.apart (subst (λ (kept : List Version). IsMerge kept more w) (sym none) first)) c.put.ensures.ok

@@ -4,7 +4,7 @@ use Rattle.store_maps.specs.Places.{AreApart}
 use Rattle.store_maps.proofs.OneAnswer.{on_either}
 use Rattle.ring_names.proofs.AtBytes.{puts}
 use Rattle.store_maps.proofs.Puts.{apart_put, apart_same, only_put}
-use Rattle.store_maps.proofs.key_map.KeyMap.put.Goals as goal
+use Rattle.store_maps.proofs.key_tree.KeyTree.put.Goals as goal
 
 pub invariant_of-self : goal.invariant_of-self
 invariant_of-self c = record {

@@ -1,5 +1,5 @@
 use Rattle.store_maps.proofs.WholeMaps.{Preparing}
-use Rattle.store_maps.proofs.key_map.KeyMap.prepare_all.Given as goal
+use Rattle.store_maps.proofs.key_tree.KeyTree.prepare_all.Given as goal
 
 abbrev pub invariant-keys : goal.invariant-keys
 invariant-keys l = Preparing l.initial.self l.self l.other l.keys l.key-iterator

@@ -5,7 +5,7 @@ use Rattle.std.specs.Prelude.{◌==◌, length}
 use Rattle.ring_versions.specs.declared.version.Version.{Version}
 use Rattle.store_maps.proofs.Keys.{Listing, listing_none, listing_empty, listing_more, listed}
 use Rattle.store_maps.proofs.EntriesLeft.{found}
-use Rattle.store_maps.proofs.key_map.KeyMap.keys.Goals as goal
+use Rattle.store_maps.proofs.key_tree.KeyTree.keys.Goals as goal
 
 pub keys-init : goal.keys-init
 keys-init c =

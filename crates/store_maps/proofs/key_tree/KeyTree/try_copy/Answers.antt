@@ -6,7 +6,7 @@ use Rattle.ring_names.specs.AtBytes.{Puts, value_in, value_at}
 use Rattle.store_maps.proofs.OneAnswer.{none_from_empty}
 use Rattle.store_maps.proofs.Keys.{copying_more}
 use Rattle.store_maps.proofs.EntriesLeft.{found}
-use Rattle.store_maps.proofs.key_map.KeyMap.try_copy.Goals as goal
+use Rattle.store_maps.proofs.key_tree.KeyTree.try_copy.Goals as goal
 
 pub keys-init : goal.keys-init
 keys-init c k none =

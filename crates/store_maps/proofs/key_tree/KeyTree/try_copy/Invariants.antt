@@ -1,5 +1,5 @@
 use Rattle.store_maps.proofs.Keys.{Copying}
-use Rattle.store_maps.proofs.key_map.KeyMap.try_copy.Given as goal
+use Rattle.store_maps.proofs.key_tree.KeyTree.try_copy.Given as goal
 
 abbrev pub invariant-keys : goal.invariant-keys
 invariant-keys l = Copying l.self l.copy l.key-iterator

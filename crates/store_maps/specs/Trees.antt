@@ -1,0 +1,20 @@
+-- What one tree from keys to versions holds.
+use Rattle.std.specs.Prelude.{◌≡◌, ℕ, Bool, true, List, is_some}
+use Rattle.ring_versions.specs.Fresh.{FitsIn}
+use Rattle.ring_versions.specs.declared.fresh.Fresh.{Fresh}
+use Rattle.ring_versions.specs.declared.version.Version.{Version}
+use Rattle.store_maps.specs.declared.key_tree.KeyTree.{KeyTree}
+use Rattle.ring_names.specs.AtBytes.{value_at}
+use Rattle.store_maps.specs.Places.{held_in}
+
+-- the versions of the key, none where it has no place
+abbrev pub kept : KeyTree → List ℕ → List Version
+kept a k = held_in a.map k
+
+-- whether the key has a place, be it empty
+abbrev pub has_entry : KeyTree → List ℕ → Bool
+has_entry a k = is_some (value_at a.map k)
+
+-- the key has a place, and f was made for its versions
+abbrev pub IsReadyIn : KeyTree → List ℕ → Fresh → Type 0
+IsReadyIn a k f = (has_entry a k ≡ true) × FitsIn (kept a k) f

@@ -1,0 +1,96 @@
+//! Trees from key to versions.
+
+ghost use Rattle.store_maps.specs.Places.{AreApart, AreApart-prop};
+
+use ring_names::{Listed, Refusal};
+use ring_versions::Versions;
+use std::alloc::Global;
+use std::collections::BTreeMap;
+
+/// Versions by key, in ascending byte order of the keys: what a map has for itself, or shares with others.
+#[derive(Drop)]
+pub struct KeyTree {
+    pub(crate) alloc: Global,
+    pub(crate) map: BTreeMap<Vec<u8>, Versions>,
+    ghost apart: { AreApart map } by { AreApart-prop map },
+}
+
+impl KeyTree {
+    ghost use Rattle.std.specs.Prelude.{◌≡◌, ◌≢◌, ◌↔◌, ◌⊎◌, ℕ, true, false, [], List, IsTrue, IfSome, IfNone, IfOk};
+    ghost use Rattle.std.specs.Prelude.{IfErr, OnOk, OnErr};
+    ghost use Rattle.ring_names.specs.declared.refusal.Refusal.TheVariants.{OutOfMemory};
+    ghost use Rattle.ring_versions.specs.Versions.{IsApart};
+    ghost use Rattle.store_maps.specs.Held.{AreKeys};
+    ghost use Rattle.store_maps.specs.Trees.{kept, has_entry};
+    ghost use Rattle.ring_names.specs.AtBytes.{value_at, Puts};
+
+    /// No versions.
+    pub fn new(alloc: Global) -> KeyTree
+        ensures versions { (k : List ℕ) → kept result k ≡ [] }
+        ensures places { (k : List ℕ) → has_entry result k ≡ false }
+    {
+        KeyTree {
+            alloc,
+            map: BTreeMap::new(alloc),
+        }
+    }
+
+    /// The versions of the key, if it has any. Takes no memory.
+    pub fn key_versions(&self, key: &[u8]) -> Option<&Versions>
+        ensures some { IfSome result (λ v. (v.now ≡ kept self.now key.now) × (v.now ≢ [])) }
+        ensures none { IfNone result (kept self.now key.now ≡ []) }
+    {
+        match self.map.get(key) {
+            Some(versions) if !versions.list().is_empty() => Some(versions),
+            _ => None,
+        }
+    }
+
+    /// Whether no key has a place.
+    pub fn is_empty(&self) -> bool
+        ensures { IsTrue result ↔ ((k : List ℕ) → has_entry self.now k ≡ false) }
+    {
+        self.map.is_empty()
+    }
+
+    /// The keys that have versions, in ascending byte order.
+    pub fn keys(&self) -> Result<Vec<Listed<u8>>, Refusal>
+        ensures ok { IfOk result (λ keys. AreKeys (kept self.now) keys.items) }
+        ensures memory { IfErr result (λ e. e ≡ OutOfMemory) }
+    {
+        let mut keys = Vec::new(self.alloc);
+        'keys: for (key, versions) in &self.map {
+            if !versions.list().is_empty() {
+                let bytes = Vec::from_slice(self.alloc, key.as_slice())?;
+                keys.push(Listed::from_vec(bytes))?;
+            }
+        }
+        Ok(keys)
+    }
+
+    /// The same tree once more: every key reads the same, and has a place where it has one here.
+    pub fn try_copy(&self) -> Result<KeyTree, Refusal>
+        ensures same { IfOk result (λ m. (k : List ℕ) → kept m k ≡ kept self.now k) }
+        ensures places { IfOk result (λ m. (k : List ℕ) → has_entry m k ≡ has_entry self.now k) }
+        ensures memory { IfErr result (λ e. e ≡ OutOfMemory) }
+    {
+        let mut copy = KeyTree::new(self.alloc);
+        'keys: for (key, versions) in &self.map {
+            copy.put(key.as_slice(), versions.try_copy()?)?;
+        }
+        Ok(copy)
+    }
+
+    // The versions at the key, in place of what it had.
+    pub(crate) fn put(&mut self, key: &[u8], versions: Versions) -> Result<(), Refusal>
+        requires { IsApart versions }
+        ensures ok { OnOk result (Puts self.old.map self.new.map key.now versions) }
+        ensures err { OnErr result ((k : List ℕ) → value_at self.new.map k ≡ value_at self.old.map k) }
+        ensures only { (k : List ℕ) → has_entry self.new k ≡ true → (has_entry self.old k ≡ true) ⊎ (k ≡ key.now) }
+        ensures memory { IfErr result (λ e. e ≡ OutOfMemory) }
+    {
+        let kept = Vec::from_slice(self.alloc, key)?;
+        self.map.insert(kept, versions)?;
+        Ok(())
+    }
+}
