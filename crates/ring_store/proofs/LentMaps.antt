@@ -12,7 +12,7 @@ use Rattle.ring_versions.specs.declared.fresh.Fresh.{Fresh}
 use Rattle.store_maps.specs.Chunks.{chunk_of}
 use Rattle.store_maps.specs.Merges.{MergesAll, fresh_in}
 use Rattle.store_maps.specs.declared.fresh_maps.FreshMaps.{FreshMaps}
-use Rattle.store_maps.specs.Slots.{space_of, held_for, has_place_for}
+use Rattle.store_maps.specs.Slots.{space_of, held_for, has_room_for}
 use Rattle.store_maps.specs.declared.slot_map.SlotMap.{SlotMap}
 use Rattle.store_maps.proofs.OneAnswer.{none_where}
 use Rattle.ring_store.specs.Slots.{maps_of, placed_by, AreOf, PutsSlot, MergesInAll, at_slot}
@@ -73,7 +73,7 @@ module _ (a : NodeStore) (new : HashMap Slot SlotMap _) (slot : Slot) {m w : Slo
   pub same_set : ((k : List ℕ) → held_for w k ≡ held_for m k) → (s : Slot) (k : List ℕ) → held_by (maps_of new s) k ≡ reads s k
   same_set reads_same s k = same_by a.slots new slot (Some w) puts (λ k. reads_same k ∙ ap (λ o. held_by o k) value) s k ∙ same s k
 
-  pub stays_set : ((k : List ℕ) → has_place_for m k ≡ true → has_place_for w k ≡ true) → (s : Slot) (k : List ℕ) → placed_by (maps_of a.slots s) k ≡ true → placed_by (maps_of new s) k ≡ true
+  pub stays_set : ((k : List ℕ) → has_room_for m k ≡ true → has_room_for w k ≡ true) → (s : Slot) (k : List ℕ) → placed_by (maps_of a.slots s) k ≡ true → placed_by (maps_of new s) k ≡ true
   stays_set stays = by_slot a.slots new slot (Some w) puts (λ (s : Slot). (k : List ℕ) → placed_by (maps_of a.slots s) k ≡ true → placed_by (maps_of new s) k ≡ true)
       (λ k h. ap (λ o. placed_by o k) puts.here ∙ stays k (ap (λ o. placed_by o k) value ∙ h)) (λ s e k h. ap (λ o. placed_by o k) (puts.others s e) ∙ h)
 

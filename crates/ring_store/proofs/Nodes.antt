@@ -15,12 +15,12 @@ use Rattle.store_maps.specs.Chunks.{chunk_of}
 use Rattle.store_maps.specs.Merges.{fresh_in}
 use Rattle.store_maps.specs.declared.fresh_maps.FreshMaps.{FreshMaps}
 use Rattle.store_maps.proofs.OneAnswer.{on_some}
-use Rattle.store_maps.proofs.Chunks.{get_here, get_other, pushed, chosen_here, chosen_other}
+use Rattle.store_maps.proofs.Chunks.{get_here, get_other, pushed, chosen, chosen_here, chosen_other}
 use Rattle.store_maps.proofs.MergesInTurn.{merge_none}
 use Rattle.ring_store.specs.Nodes.{stored_in, has_place_in, AreOfSpace, MergesAtAll, at_node}
 use Rattle.ring_store.specs.Slots.{maps_of, MergesInAll}
-use Rattle.ring_store.specs.Store.{partitions, versions_at, chunk_versions, has_place_at}
-use Rattle.ring_store.specs.Stores.{node_count, shared_space, held_at, chunk_held_at, has_place_on, KeepsReady}
+use Rattle.ring_store.specs.Store.{partitions, versions_at, has_place_at}
+use Rattle.ring_store.specs.Stores.{node_count, shared_space, held_at, has_place_on, KeepsReady}
 use Rattle.ring_store.specs.declared.store.NodeStore.{NodeStore}
 use Rattle.ring_store.specs.declared.stores.Stores.{Stores}
 use Rattle.store_maps.proofs.KeyPlaces.{apart_by}
@@ -129,9 +129,9 @@ back_again old mid new store n after before takes back s k = elim (slice_get_cas
   | inr h ↦ held_past new n (λ less. omega (arith, h.0, after)) s k ∙ sym (held_past old n (λ less. omega (arith, h.0, before)) s k)
 ]
 
--- a store that reads as a node did has of a chunk what the node had
-pub one_chunk : (a : Stores) (store : NodeStore) (n : ℕ) (s : Slot) (c : ℕ) → partitions store ≡ shared_space a → ((s : Slot) (k : List ℕ) → versions_at store s k ≡ held_at a n s k) → chunk_versions store s c ≡ chunk_held_at a n s c
-one_chunk a store n s c space reads = fun_ext (λ k. ap (λ (q : ℕ). cond (nat_eq (chunk_of q k) c) (versions_at store s k) []) space ∙ ap (λ (v : List Version). cond (nat_eq (chunk_of a.q k) c) v []) (reads s k))
+-- what reads the same has the same of a chunk
+pub one_chunk : (p q c : ℕ) (f g : List ℕ → List Version) → p ≡ q → ((k : List ℕ) → f k ≡ g k) → chosen p c f ≡ chosen q c g
+one_chunk p q c f g space reads = fun_ext (λ k. ap (λ (q : ℕ). cond (nat_eq (chunk_of q k) c) (f k) []) space ∙ ap (λ (v : List Version). cond (nat_eq (chunk_of q k) c) v []) (reads k))
 
 -- ---- the start
 

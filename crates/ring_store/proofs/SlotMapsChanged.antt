@@ -1,25 +1,18 @@
 -- One slot's maps changed.
-use Rattle.std.proofs.Common.{◌≡◌, ◌≢◌, inl, inr, ◌∙◌, ℕ, Bool, true, false, cond, nat_eq, List, [], ◌∷◌, arith, refl, sym, ap, subst, Option, Some, None}
-use Rattle.std.specs.Prelude.{◌&&◌, unwrap_or}
+use Rattle.std.proofs.Common.{◌≡◌, ◌≢◌, inl, inr, ◌∙◌, ℕ, Bool, true, false, cond, List, [], ◌∷◌, arith, refl, sym, ap, subst, Option, Some}
+use Rattle.std.specs.Prelude.{◌&&◌}
 use Rattle.std.specs.List.Sorted.{IsStrictlySortedBy}
 use Rattle.std.specs.HashMap.{HashMap, UpdatesBy}
-use Rattle.std.proofs.lemmas.Bool.{cases_Bool, eqb-true, eq-eqb, false_from_ne_true}
+use Rattle.std.proofs.lemmas.Bool.{cases_Bool, eqb-true, eq-eqb}
 use Rattle.ring_names.specs.contracts.ids.SlotPartialEq.TheImpl as slot_eq
 use Rattle.ring_names.specs.declared.ids.Slot.{Slot}
 use Rattle.ring_versions.specs.declared.version.Version.{Version}
-use Rattle.ring_versions.specs.Versions.{IsApart, IsMerge}
-use Rattle.store_maps.specs.Chunks.{chunk_of}
-use Rattle.store_maps.specs.Held.{held, has_place, AreKeys}
-use Rattle.ring_names.specs.AtBytes.{value_at}
-use Rattle.store_maps.specs.declared.key_map.KeyMap.{KeyMap}
-use Rattle.store_maps.proofs.OneAnswer.{none_from_empty}
+use Rattle.ring_versions.specs.Versions.{IsMerge}
+use Rattle.store_maps.specs.Held.{AreKeys}
 use Rattle.store_maps.specs.Merges.{MergesAll}
 use Rattle.store_maps.specs.Slots.{space_of}
 use Rattle.store_maps.specs.declared.slot_map.SlotMap.{SlotMap}
-use Rattle.store_maps.proofs.Chunks.{slot_apart}
 use Rattle.store_maps.proofs.MergesInTurn.{merge_none}
-use Rattle.ring_space.specs.Place.{place_of}
-use Rattle.ring_space.specs.declared.found.Place.{Place}
 use Rattle.ring_store.specs.Slots.{same_slot, maps_of, AreOf, PutsSlot, MergesInAll, at_slot}
 use Rattle.store_maps.specs.Slots.{held_by}
 use Rattle.store_maps.proofs.KeyPlaces.{apart_by}

@@ -12,7 +12,7 @@ abbrev pub stored_in : Option NodeStore → Slot → List ℕ → List Version
 stored_in None s k = []
 stored_in (Some a) s k = versions_at a s k
 
--- whether the key has a place in the slot, if there is a store
+-- whether the key has such a place in the slot, if there is a store
 abbrev pub has_place_in : Option NodeStore → Slot → List ℕ → Bool
 has_place_in None s k = false
 has_place_in (Some a) s k = has_place_at a s k

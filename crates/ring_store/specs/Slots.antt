@@ -7,7 +7,7 @@ use Rattle.ring_names.specs.declared.ids.Slot.{Slot}
 use Rattle.ring_versions.specs.declared.version.Version.{Version}
 use Rattle.ring_versions.specs.Versions.{IsMerge}
 use Rattle.store_maps.specs.declared.slot_map.SlotMap.{SlotMap}
-use Rattle.store_maps.specs.Slots.{space_of, held_for, has_place_for}
+use Rattle.store_maps.specs.Slots.{space_of, has_room_for}
 
 -- whether two slots are one
 abbrev pub same_slot : Slot → Slot → Bool
@@ -17,10 +17,10 @@ same_slot a b = ((slot_eq.ghosts).eq) a b
 abbrev pub maps_of : {S : Type 0} → HashMap Slot SlotMap S → Slot → Option SlotMap
 maps_of slots s = map.get ((slot_eq.ghosts).eq) slots s
 
--- whether the key has a place, if there are maps
+-- whether the key has a place in a map that shares nothing, if there are maps
 abbrev pub placed_by : Option SlotMap → List ℕ → Bool
 placed_by None k = false
-placed_by (Some m) k = has_place_for m k
+placed_by (Some m) k = has_room_for m k
 
 -- each slot's maps are of a hash space of q partitions
 abbrev pub AreOf : {S : Type 0} → ℕ → HashMap Slot SlotMap S → Type 0

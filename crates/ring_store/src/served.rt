@@ -16,7 +16,7 @@ impl Stores {
     ghost use Rattle.store_maps.specs.Slots.{space_of, held_for};
     ghost use Rattle.ring_store.specs.Nodes.{MergesAtAll, at_node, at_nodes};
     ghost use Rattle.ring_store.specs.Slots.{at_slot};
-    ghost use Rattle.ring_store.specs.Store.{partitions, chunk_versions};
+    ghost use Rattle.ring_store.specs.Store.{partitions, versions_at, chunk_versions};
     ghost use Rattle.ring_store.specs.Stores.{node_count, shared_space, held_at, chunk_held_at};
 
     /// Merges versions of a key into what the slot's owner has, and its mirror, if there is one. Refused, it has changed no reading.
@@ -152,24 +152,27 @@ impl Stores {
         Ok(())
     }
 
-    // Merges what a store has of a chunk of the slot into what one node has of it.
+    // Merges what a store has of a chunk of the slot into what one node has of it. The store reads as before.
     fn give_chunk_of(
         &mut self,
-        store: &NodeStore,
+        store: &mut NodeStore,
         node: NodeId,
         slot: Slot,
         chunk: u32,
     ) -> Result<(), Refusal>
         requires node { node.0 < node_count self.old }
         requires chunk { chunk < 16 }
-        requires space { partitions store.now ≡ shared_space self.old }
+        requires space { partitions store.old ≡ shared_space self.old }
         ensures space { shared_space self.new ≡ shared_space self.old }
         ensures count { node_count self.new ≡ node_count self.old }
         ensures ok { OnOk result (MergesAtAll (held_at self.old)
-            (at_node node.0 (at_slot slot (chunk_versions store.now slot chunk))) (held_at self.new)) }
+            (at_node node.0 (at_slot slot (chunk_versions store.old slot chunk))) (held_at self.new)) }
         ensures err { OnErr result ((x : ℕ) (s : Slot) (k : List ℕ) → held_at self.new x s k ≡ held_at self.old x s k) }
         ensures memory { IfErr result (λ e. e ≡ OutOfMemory) }
+        ensures of_space { partitions store.new ≡ partitions store.old }
+        ensures same { (s : Slot) (k : List ℕ) → versions_at store.new s k ≡ versions_at store.old s k }
     {
+        store.share_chunk(slot, chunk)?;
         match store.chunk_map(slot, chunk) {
             Some(map) => self.give_chunk(node, slot, chunk, map),
             None => Ok(()),
@@ -177,6 +180,8 @@ impl Stores {
     }
 
     /// Merges what one node has of a chunk of the slot into what another has of it, as it stands. Refused, it has changed no reading.
+    /// Costs one block where the other has no key of the chunk, whatever there is of it: both share the map then, and it is copied by the
+    /// first write of either; else what `KeyMap::take_in` does.
     pub fn copy_chunk(
         &mut self,
         from: NodeId,
@@ -194,8 +199,8 @@ impl Stores {
         ensures err { OnErr result ((x : ℕ) (s : Slot) (k : List ℕ) → held_at self.new x s k ≡ held_at self.old x s k) }
         ensures memory { IfErr result (λ e. e ≡ OutOfMemory) }
     {
-        let source = self.take(from);
-        let answer = self.give_chunk_of(&source, to, slot, chunk);
+        let mut source = self.take(from);
+        let answer = self.give_chunk_of(&mut source, to, slot, chunk);
         self.put_back(from, source);
         answer
     }

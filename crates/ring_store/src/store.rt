@@ -196,6 +196,19 @@ impl NodeStore {
         maps.merge_chunk(chunk, other)
     }
 
+    // Lets copies share the map of a chunk of a slot from here on, as `KeyMap::share` does. No reading changes, whatever the answer.
+    pub(crate) fn share_chunk(&mut self, slot: Slot, chunk: u32) -> Result<(), Refusal>
+        requires { chunk < 16 }
+        ensures same { (s : Slot) (k : List ℕ) → versions_at self.new s k ≡ versions_at self.old s k }
+        ensures memory { IfErr result (λ e. e ≡ OutOfMemory) }
+        ensures space { partitions self.new ≡ partitions self.old }
+    {
+        match self.slots.get_mut(&slot) {
+            Some(maps) => maps.share_chunk(chunk),
+            None => Ok(()),
+        }
+    }
+
     /// The first half of a merge of a slot with all maps of another, in a hash space of as many partitions: makes the places that are missing,
     /// and what the other maps bring. No reading changes, whatever the answer.
     pub fn prepare_slot(&mut self, slot: Slot, other: &SlotMap) -> Result<FreshMaps, Refusal>

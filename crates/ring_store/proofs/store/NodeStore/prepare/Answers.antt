@@ -10,7 +10,7 @@ pub returns-clause-same : goal.returns-clause-same
 returns-clause-same c = same_set c.room.new.self (c.get_mut.follows.lender c.prepare.new.self) c.args.slot (found c.unwrap-maps.ensures c.get_mut.ensures.value) (c.get_mut.follows.holds c.prepare.new.self).3 c.room.ensures.same c.prepare.ensures.same
 
 pub returns-clause-stays : goal.returns-clause-stays
-returns-clause-stays c = λ s k h. stays_set c.room.new.self (c.get_mut.follows.lender c.prepare.new.self) c.args.slot (found c.unwrap-maps.ensures c.get_mut.ensures.value) (c.get_mut.follows.holds c.prepare.new.self).3 c.room.ensures.same c.prepare.ensures.stays s k (c.room.ensures.stays s k h)
+returns-clause-stays c = λ s k h. stays_set c.room.new.self (c.get_mut.follows.lender c.prepare.new.self) c.args.slot (found c.unwrap-maps.ensures c.get_mut.ensures.value) (c.get_mut.follows.holds c.prepare.new.self).3 c.room.ensures.same c.prepare.ensures.rooms s k (c.room.ensures.stays s k h)
 
 pub returns-clause-ok : goal.returns-clause-ok
 returns-clause-ok c = at_old c.room.new.self (c.get_mut.follows.lender c.prepare.new.self) c.args.slot (found c.unwrap-maps.ensures c.get_mut.ensures.value) (c.get_mut.follows.holds c.prepare.new.self).3 c.room.ensures.same (λ reads. IfOk c.prepare.result (λ f. IsFreshFor (reads c.args.key.now) c.args.more.now f)) c.prepare.ensures.ok

@@ -11,7 +11,7 @@ pub returns-clause-same : goal.returns-clause-same
 returns-clause-same c = same_set c.room.new.self (c.get_mut.follows.lender c.prepare_map.new.self) c.args.slot (found c.unwrap-maps.ensures c.get_mut.ensures.value) (c.get_mut.follows.holds c.prepare_map.new.self).3 c.room.ensures.same c.prepare_map.ensures.same
 
 pub returns-clause-stays : goal.returns-clause-stays
-returns-clause-stays c = λ s k h. stays_set c.room.new.self (c.get_mut.follows.lender c.prepare_map.new.self) c.args.slot (found c.unwrap-maps.ensures c.get_mut.ensures.value) (c.get_mut.follows.holds c.prepare_map.new.self).3 c.room.ensures.same c.prepare_map.ensures.stays s k (c.room.ensures.stays s k h)
+returns-clause-stays c = λ s k h. stays_set c.room.new.self (c.get_mut.follows.lender c.prepare_map.new.self) c.args.slot (found c.unwrap-maps.ensures c.get_mut.ensures.value) (c.get_mut.follows.holds c.prepare_map.new.self).3 c.room.ensures.same c.prepare_map.ensures.rooms s k (c.room.ensures.stays s k h)
 
 pub returns-clause-ok : goal.returns-clause-ok
 returns-clause-ok c = at_old c.room.new.self (c.get_mut.follows.lender c.prepare_map.new.self) c.args.slot (found c.unwrap-maps.ensures c.get_mut.ensures.value) (c.get_mut.follows.holds c.prepare_map.new.self).3 c.room.ensures.same (λ reads. IfOk c.prepare_map.result (λ f. AreFreshMaps reads (held_for c.args.other.now) f)) c.prepare_map.ensures.ok
