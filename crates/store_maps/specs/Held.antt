@@ -20,7 +20,7 @@ read_of None own = own
 read_of (Some shared) own = arc_value shared
 
 -- the tree that the map reads
-abbrev pub tree_of : KeyMap → KeyTree
+unfoldable pub tree_of : KeyMap → KeyTree
 tree_of a = read_of a.shared a.own
 
 -- the versions of the key, none where it has no place

@@ -29,6 +29,7 @@ impl Drop for KeyMap {
     }
 }
 
+#[tactic(auto, unfolding(crate::specs::Held::tree_of))]
 impl KeyMap {
     ghost use Rattle.std.specs.Prelude.{◌≡◌, ◌≢◌, ◌↔◌, ◌⊎◌, ℕ, true, false, [], List, None, IsTrue, IfSome, IfNone, IfOk};
     ghost use Rattle.std.specs.Prelude.{IfErr, OnOk, OnErr};

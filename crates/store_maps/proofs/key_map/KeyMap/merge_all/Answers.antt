@@ -1,13 +1,14 @@
 use Rattle.std.proofs.Common.{List, sym, subst}
 use Rattle.ring_versions.specs.declared.version.Version.{Version}
 use Rattle.ring_versions.specs.Versions.{IsMerge}
-use Rattle.store_maps.specs.Held.{read_of, held}
+use Rattle.store_maps.specs.Held.{tree_of, read_of, held}
 use Rattle.store_maps.specs.Trees.{kept}
 use Rattle.store_maps.proofs.OneAnswer.{on_ok}
 use Rattle.store_maps.proofs.Sharing.{own_held}
 use Rattle.store_maps.proofs.key_map.KeyMap.merge_all.Goals as goal
 
 pub returns-clause-ok : goal.returns-clause-ok
+unfolding tree_of
 returns-clause-ok c =
     let a = c.args.self.now in
     let b = c.unshare.new.self in
