@@ -1,5 +1,5 @@
 -- Who keeps versions of which keys, once what is kept has changed.
-use Rattle.std.proofs.Common.{◌≡◌, ◌≢◌, ◌⊎◌, inl, inr, ◌∙◌, ℕ, Bool, true, false, cond, List, [], ◌∷◌, refl, sym, ap, Result, Ok, Err}
+use Rattle.std.proofs.Common.{◌≡◌, ◌≢◌, inl, inr, ◌∙◌, ℕ, Bool, true, false, cond, List, [], ◌∷◌, refl, sym, ap, Result, Ok, Err}
 use Rattle.std.specs.Prelude.{◌&&◌, ◌||◌, is_err, OnOk, slice_get}
 use Rattle.std.specs.Str.{bytes_eq}
 use Rattle.ring_names.specs.declared.ids.Slot.{Slot}

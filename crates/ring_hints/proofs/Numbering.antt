@@ -1,8 +1,8 @@
 -- The places of pairs, once a pair is put last or taken out.
 use Rattle.std.proofs.Common.{◌≡◌, ◌≢◌, ◌⊎◌, inl, inr, ◌∙◌, ℕ, zero, suc, ◌+◌, ◌<◌, Bool, true, false, cond, List, [], ◌∷◌, ◌++◌, length}
 use Rattle.std.proofs.Common.{refl, sym, ap, subst, Option, Some, None, arith}
-use Rattle.std.specs.Prelude.{◌==◌, ◌||◌, ◌&&◌, not, is_some, slice_get, IfSome}
-use Rattle.std.proofs.lemmas.Bool.{cases_Bool, eq-eqb, cases_eq, false_from_ne_true}
+use Rattle.std.specs.Prelude.{◌||◌, ◌&&◌, not, is_some, slice_get, IfSome}
+use Rattle.std.proofs.lemmas.Bool.{cases_Bool, cases_eq, false_from_ne_true}
 use Rattle.std.proofs.lemmas.Option.{slice_get_within}
 use Rattle.ring_names.specs.declared.ids.Slot.{Slot}
 use Rattle.ring_hints.specs.declared.kept_for.KeptFor.{KeptFor}

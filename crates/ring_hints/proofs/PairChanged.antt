@@ -1,24 +1,17 @@
 -- The map of one pair changed.
-use Rattle.std.proofs.Common.{◌≡◌, ◌≢◌, ◌⊎◌, inl, inr, ◌∙◌, ◌+◌, ℕ, ◌<◌, Bool, true, false, cond, nat_eq, List, [], ◌∷◌, refl, sym, ap, subst, Option, Some, None, Result, Ok, Err, arith}
-use Rattle.std.specs.Prelude.{◌&&◌, ◌||◌, ◌==◌, ◌↔◌, not, is_some, IfNone, OnErr, slice_get, unwrap_or}
+use Rattle.std.proofs.Common.{◌≡◌, ◌≢◌, ◌⊎◌, inl, inr, ◌∙◌, ◌+◌, ℕ, ◌<◌, Bool, true, false, cond, List, [], ◌∷◌, refl, sym, ap, subst, Option, Some, None, arith}
+use Rattle.std.specs.Prelude.{◌&&◌, ◌||◌, ◌==◌, ◌↔◌, not, is_some, IfNone, slice_get}
 use Rattle.std.specs.BTreeMap.{BTreeMap, UpdatesBy}
-use Rattle.std.proofs.lemmas.Bool.{cases_Bool, eqb-true, eq-eqb, ne_eqb, false_from_ne_true}
+use Rattle.std.proofs.lemmas.Bool.{cases_Bool, ne_eqb, false_from_ne_true}
 use Rattle.ring_names.specs.declared.ids.Slot.{Slot}
 use Rattle.ring_versions.specs.declared.version.Version.{Version}
-use Rattle.ring_versions.specs.Versions.{Covers, IsApart, IsMerge}
+use Rattle.ring_versions.specs.Versions.{Covers, IsMerge}
 use Rattle.store_maps.specs.Chunks.{chunk_of}
-use Rattle.store_maps.specs.Held.{held, has_place}
-use Rattle.ring_names.specs.AtBytes.{value_at}
-use Rattle.store_maps.specs.declared.key_map.KeyMap.{KeyMap}
 use Rattle.store_maps.specs.Merges.{MergesAll, at_key}
 use Rattle.store_maps.specs.Slots.{space_of, held_for, has_place_for}
 use Rattle.store_maps.specs.declared.slot_map.SlotMap.{SlotMap}
-use Rattle.store_maps.proofs.OneAnswer.{none_from_empty}
-use Rattle.store_maps.proofs.Chunks.{slot_apart}
 use Rattle.store_maps.proofs.MergesInTurn.{merge_none}
 use Rattle.store_maps.proofs.Slots.{bare_held}
-use Rattle.ring_space.specs.Place.{place_of}
-use Rattle.ring_space.specs.declared.found.Place.{Place}
 use Rattle.ring_hints.specs.declared.kept_for.KeptFor.{KeptFor}
 use Rattle.ring_hints.specs.declared.pairs.Pairs.{Pairs}
 use Rattle.ring_hints.specs.Kept.{map_of, IsKept, AreKept, ArePaired, PutsMap}

@@ -1,9 +1,8 @@
 -- The maps of what nodes keep, by keeper and slot.
-use Rattle.std.specs.Prelude.{◌≡◌, ◌≢◌, ◌<◌, ℕ, true, false, List, [], Option, Some, None, is_some}
+use Rattle.std.specs.Prelude.{◌≡◌, ◌≢◌, ◌<◌, ℕ, true, false, List, [], Option, Some, is_some}
 use Rattle.std.specs.BTreeMap.{BTreeMap, get}
 use Rattle.std.proofs.Props.{props}
 use Rattle.ring_names.specs.declared.ids.Slot.{Slot}
-use Rattle.ring_versions.specs.declared.version.Version.{Version}
 use Rattle.store_maps.specs.declared.slot_map.SlotMap.{SlotMap}
 use Rattle.store_maps.specs.Slots.{space_of, held_for, has_place_for}
 use Rattle.ring_hints.specs.declared.kept_for.KeptFor.{KeptFor}

@@ -1,9 +1,8 @@
-use Rattle.std.proofs.Common.{◌≡◌, ◌∙◌, ℕ, List, refl, ap, subst}
+use Rattle.std.proofs.Common.{◌∙◌, refl, ap, subst}
 use Rattle.std.specs.Prelude.{IsSome, ◌&&◌, ◌||◌, ◌==◌}
 use Rattle.std.specs.HashMap as map
 use Rattle.std.specs.Str.{bytes_eq}
 use Rattle.ring_names.specs.contracts.ids.SlotPartialEq.TheImpl as slot_eq
-use Rattle.store_maps.specs.Holders.{holds}
 use Rattle.store_maps.proofs.OneAnswer.{on_ok}
 use Rattle.ring_hints.specs.SlotHolders.{has_key}
 use Rattle.ring_hints.proofs.SlotHoldersChanged.{slot_added}

@@ -1,5 +1,5 @@
-use Rattle.std.proofs.Common.{◌∙◌, List, ap, sym}
-use Rattle.ring_hints.specs.SlotHolders.{has_key, holders_for}
+use Rattle.std.proofs.Common.{ap}
+use Rattle.ring_hints.specs.SlotHolders.{holders_for}
 use Rattle.ring_hints.proofs.SlotHoldersChanged.{left_at, found_slot, slots_more}
 use Rattle.ring_hints.proofs.slot_holders.SlotHolders.try_copy.Goals as goal
 
