@@ -1,20 +1,15 @@
--- What an event leaves of a get that is there, and of acknowledged puts.
-use Rattle.std.proofs.Common.{◌≡◌, ◌⊎◌, inl, inr, ◌∙◌, ℕ, zero, suc, ◌<◌, Bool, true, false, cond, List, [], ◌∷◌, ◌++◌, length, length-append, Option, Some}
+-- What an event leaves of a get that is there.
+use Rattle.std.proofs.Common.{◌≡◌, ◌⊎◌, inl, inr, ◌∙◌, ℕ, zero, suc, ◌<◌, Bool, true, false, cond, List, [], ◌∷◌, ◌++◌, length, length-append, Some}
 use Rattle.std.proofs.Common.{None, refl, sym, ap, subst, arith, eqb-true}
 use Rattle.std.specs.Prelude.{◌==◌}
 use Rattle.ring_table.specs.Value.{RingValue}
-use Rattle.plan_text.specs.declared.step.Step.{Step}
-use Rattle.plan_text.specs.declared.step.Step.TheVariants.{Join, Mirror, Copy, Switch, Drop, Retire}
 use Rattle.plan_text.specs.declared.step.Planned.{Planned}
-use Rattle.plan_stage.specs.Each.{step_at}
 use Rattle.plan_runs.specs.declared.event.Event.{Event}
-use Rattle.plan_runs.specs.declared.event.Event.TheVariants.{Do, OpenCopy, ChunkCopy, CloseCopy, AbortCopy, StartPut, Write, Hint, Ack, StartGet, Read}
-use Rattle.plan_runs.specs.declared.event.Event.TheVariants.{EndGet, Down, Up, Handoff, Lose}
-use Rattle.plan_runs.specs.World.{PutRecord, GetRecord, World, is_acked, key_of_get, found_at, generation}
-use Rattle.plan_runs.specs.Versions.{put_slot}
-use Rattle.plan_runs.specs.Effects.{with_number, with_value, changed, step_effect, finds, answers, effect}
+use Rattle.plan_runs.specs.declared.event.Event.TheVariants.{StartGet, Read, EndGet}
+use Rattle.plan_runs.specs.World.{GetRecord, World, key_of_get, found_at}
+use Rattle.plan_runs.specs.Effects.{with_value, changed, finds, answers, effect}
 use Rattle.plan_runs.proofs.Changed.{read_at, length_changed, part_changed, part_before}
-use Rattle.plan_runs.proofs.Serial.{acked_exists}
+use Rattle.plan_runs.proofs.Frames.{same_gets}
 
 -- ---- a get
 
@@ -25,23 +20,12 @@ pub record StaysAsked (ring : RingValue) (plan : List Planned) (w u : World) (g 
   pub found : (i : ℕ) (vs : List ℕ) → found_at u g i ≡ Some vs → (found_at w g i ≡ Some vs) ⊎ (vs ≡ finds ring plan w g i)
 
 -- where gets stay the same
-same_gets : (ring : RingValue) (plan : List Planned) (w u : World) (g : ℕ) → u.gets ≡ w.gets → g < length w.gets → StaysAsked ring plan w u g
-same_gets ring plan w u g same l = record {
+unasked : (ring : RingValue) (plan : List Planned) (w u : World) (g : ℕ) → u.gets ≡ w.gets → g < length w.gets → StaysAsked ring plan w u g
+unasked ring plan w u g same l = record {
   exists = subst (λ (gs : List GetRecord). g < length gs) (sym same) l;
   key = ap (λ (gs : List GetRecord). read_at (λ (x : GetRecord). x.key) [] gs g) same;
   found = λ i vs e. inl (sym (ap (λ (gs : List GetRecord). read_at (λ (x : GetRecord). x.found i) None gs g) same) ∙ e);
 }
-
--- a step that is done leaves the gets
-pub do_gets : (w : World) (n : ℕ) (t : Option Step)
-    → (elim t as (λ _. World) [ Some s ↦ step_effect (record w { done = with_number w.done n }) s | None ↦ w ]).gets ≡ w.gets
-do_gets w n None = refl
-do_gets w n (Some (Join x)) = refl
-do_gets w n (Some (Mirror s x)) = refl
-do_gets w n (Some (Copy s from)) = refl
-do_gets w n (Some (Switch s)) = refl
-do_gets w n (Some (Drop s x)) = refl
-do_gets w n (Some (Retire x)) = refl
 
 -- where one more comes
 more_gets : (ring : RingValue) (plan : List Planned) (w : World) (a : GetRecord) (g : ℕ) → g < length w.gets
@@ -98,69 +82,7 @@ read_get ring plan w h j g l = record {
 pub event_asked : (ring : RingValue) (plan : List Planned) (w : World) (e : Event) (g : ℕ) → g < length w.gets
     → StaysAsked ring plan w (effect ring plan w e) g
 unfolding effect
-event_asked ring plan w (Do n) g l = same_gets ring plan w _ g (do_gets w n (step_at plan n)) l
-event_asked ring plan w (OpenCopy n) g l = same_gets ring plan w _ g refl l
-event_asked ring plan w (ChunkCopy n c) g l = same_gets ring plan w _ g refl l
-event_asked ring plan w (CloseCopy n) g l = same_gets ring plan w _ g refl l
-event_asked ring plan w (AbortCopy n) g l = same_gets ring plan w _ g refl l
-event_asked ring plan w (StartPut writer key value seen) g l = same_gets ring plan w _ g refl l
-event_asked ring plan w (Write v j) g l = same_gets ring plan w _ g refl l
-event_asked ring plan w (Hint v j x) g l = same_gets ring plan w _ g refl l
-event_asked ring plan w (Ack v) g l = same_gets ring plan w _ g refl l
 event_asked ring plan w (StartGet key) g l = more_gets ring plan w _ g l
 event_asked ring plan w (Read h j) g l = read_get ring plan w h j g l
 event_asked ring plan w (EndGet h) g l = ended_get ring plan w h (answers ring w h) g l
-event_asked ring plan w (Down x) g l = same_gets ring plan w _ g refl l
-event_asked ring plan w (Up x) g l = same_gets ring plan w _ g refl l
-event_asked ring plan w (Handoff x s) g l = same_gets ring plan w _ g refl l
-event_asked ring plan w (Lose x) g l = same_gets ring plan w _ g refl l
-
--- ---- an acknowledged put
-
--- a step that is done leaves acknowledged puts so
-do_acked : (w : World) (n v : ℕ) (t : Option Step) → is_acked w v ≡ true
-    → is_acked (elim t [ Some s ↦ step_effect (record w { done = with_number w.done n }) s | None ↦ w ]) v ≡ true
-do_acked w n v None a = a
-do_acked w n v (Some (Join x)) a = a
-do_acked w n v (Some (Mirror s x)) a = a
-do_acked w n v (Some (Copy s from)) a = a
-do_acked w n v (Some (Switch s)) a = a
-do_acked w n v (Some (Drop s x)) a = a
-do_acked w n v (Some (Retire x)) a = a
-
--- one more is acknowledged
-still_acked : (ps : List PutRecord) (n v : ℕ) → read_at (λ (x : PutRecord). x.acked) false ps v ≡ true
-    → read_at (λ (x : PutRecord). x.acked) false (changed ps n (λ x. record x { acked = true })) v ≡ true
-still_acked [] n v e = e
-still_acked (x ∷ ps) zero zero e = refl
-still_acked (x ∷ ps) zero (suc v) e = e
-still_acked (x ∷ ps) (suc n) zero e = e
-still_acked (x ∷ ps) (suc n) (suc v) e = still_acked ps n v e
-
--- a ticket is given
-ticket_acked : (ring : RingValue) (plan : List Planned) (w : World) (n j v : ℕ) → is_acked w v ≡ true
-    → read_at (λ (x : PutRecord). x.acked) false (changed w.puts n
-    (λ x. record x { ticket = with_value x.ticket j (generation plan w (put_slot ring w n j)) })) v ≡ true
-ticket_acked ring plan w n j v e =
-    part_changed (λ (x : PutRecord). x.acked) false w.puts n (λ x. record x { ticket = with_value x.ticket j (generation plan w (put_slot ring w n j)) })
-    (λ x. refl) v ∙ e
-
--- so an acknowledged put stays so after each event
-pub event_acked : (ring : RingValue) (plan : List Planned) (w : World) (e : Event) (v : ℕ) → is_acked w v ≡ true → is_acked (effect ring plan w e) v ≡ true
-unfolding effect
-event_acked ring plan w (Do n) v a = do_acked w n v (step_at plan n) a
-event_acked ring plan w (OpenCopy n) v a = a
-event_acked ring plan w (ChunkCopy n c) v a = a
-event_acked ring plan w (CloseCopy n) v a = a
-event_acked ring plan w (AbortCopy n) v a = a
-event_acked ring plan w (StartPut writer key value seen) v a = part_before (λ (x : PutRecord). x.acked) false w.puts _ v (acked_exists w.puts v a) ∙ a
-event_acked ring plan w (Write n j) v a = ticket_acked ring plan w n j v a
-event_acked ring plan w (Hint n j x) v a = ticket_acked ring plan w n j v a
-event_acked ring plan w (Ack n) v a = still_acked w.puts n v a
-event_acked ring plan w (StartGet key) v a = a
-event_acked ring plan w (Read h j) v a = a
-event_acked ring plan w (EndGet h) v a = a
-event_acked ring plan w (Down x) v a = a
-event_acked ring plan w (Up x) v a = a
-event_acked ring plan w (Handoff x s) v a = a
-event_acked ring plan w (Lose x) v a = a
+event_asked ring plan w e g l = unasked ring plan w _ g (same_gets ring plan w e refl) l

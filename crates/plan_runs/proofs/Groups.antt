@@ -20,7 +20,6 @@ use Rattle.plan_stage.specs.Each.{step_at}
 use Rattle.plan_runs.proofs.Passing.{some_found}
 use Rattle.plan_runs.proofs.Prefix.{found, Rises, Down, one_more, count_same}
 use Rattle.plan_stage.proofs.Truth.{slot-is}
-use Rattle.plan_stage.proofs.Holders.{has-from}
 
 -- ---- the group of a slot
 

@@ -1,28 +1,27 @@
 -- What a run leaves of the puts and gets that are there, and of succession among them.
 use Rattle.std.proofs.Common.{◌≡◌, ◌∙◌, ℕ, zero, suc, ◌<◌, ◌≤◌, Bool, true, false, List, [], ◌∷◌, ◌++◌, length, length-append, refl, sym, ap, subst, arith, ltb-true, lt-ltb, eq-eqb}
-use Rattle.std.specs.Prelude.{◌||◌, ◌==◌, nat_lt, Option, Some, None, slice_get, is_some}
+use Rattle.std.specs.Prelude.{◌==◌, nat_lt, Option, Some, None, slice_get, is_some}
 use Rattle.std.proofs.lemmas.Slice.Eq.{bytes_eq-Decides}
 use Rattle.std.proofs.lemmas.Bool.{not-true}
 use Rattle.ring_names.specs.Lists.{has}
 use Rattle.ring_names.specs.declared.ids.Slot.{Slot}
 use Rattle.ring_table.specs.Value.{RingValue}
-use Rattle.plan_text.specs.declared.step.Step.{Step}
-use Rattle.plan_text.specs.declared.step.Step.TheVariants.{Join, Mirror, Copy, Switch, Drop, Retire}
 use Rattle.plan_text.specs.declared.step.Planned.{Planned}
-use Rattle.plan_stage.specs.Each.{step_at}
 use Rattle.plan_runs.specs.declared.event.Event.{Event}
-use Rattle.plan_runs.specs.declared.event.Event.TheVariants.{Do, OpenCopy, ChunkCopy, CloseCopy, AbortCopy, StartPut, Write, Hint, Ack, StartGet, Read, EndGet, Down, Up, Handoff, Lose}
+use Rattle.plan_runs.specs.declared.event.Event.TheVariants.{StartPut, Write, Hint, Ack, StartGet, Read, EndGet}
 use Rattle.plan_runs.specs.declared.event.Entry.{Entry}
-use Rattle.plan_runs.specs.World.{PutRecord, GetRecord, World, generation, key_of_put, writer_of, seen_of}
+use Rattle.plan_runs.specs.World.{PutRecord, GetRecord, World, generation, key_of_put, writer_of, seen_of, is_acked}
 use Rattle.plan_runs.specs.Succession.{replied, some_replied, is_direct, Succeeds, itself, by}
 use Rattle.plan_runs.specs.Versions.{put_slot}
 use Rattle.plan_runs.specs.Guards.{has_ended, guards}
-use Rattle.plan_runs.specs.Effects.{with_number, with_value, changed, step_effect, finds, answers, effect}
+use Rattle.plan_runs.specs.Effects.{with_value, changed, finds, answers, effect}
 use Rattle.plan_runs.specs.Reached.{Reached}
 use Rattle.plan_runs.specs.Runs.{Leads}
 use Rattle.plan_runs.proofs.Answered.{answered}
 use Rattle.plan_runs.proofs.Changed.{read_at, length_changed, get_other, part_changed, part_before}
+use Rattle.plan_runs.proofs.Frames.{same_puts, same_gets}
 use Rattle.plan_runs.proofs.Passed.{AllMet, all_met}
+use Rattle.plan_runs.proofs.Serial.{acked_exists}
 use Rattle.plan_runs.proofs.Succeeding.{direct_parts}
 use Rattle.std.proofs.lemmas.Bool.{or_right}
 
@@ -31,7 +30,9 @@ pub record Extends (w u : World) : Type 0 where
   pub puts : length w.puts ≤ length u.puts
   pub key : (v : ℕ) → v < length w.puts → key_of_put u v ≡ key_of_put w v
   pub writer : (v : ℕ) → v < length w.puts → writer_of u v ≡ writer_of w v
+  pub value : (v : ℕ) → v < length w.puts → read_at (λ (x : PutRecord). x.value) [] u.puts v ≡ read_at (λ (x : PutRecord). x.value) [] w.puts v
   pub seen : (v : ℕ) → v < length w.puts → seen_of u v ≡ seen_of w v
+  pub acked : (v : ℕ) → is_acked w v ≡ true → is_acked u v ≡ true
   pub ended : (g : ℕ) → has_ended w g ≡ true → has_ended u g ≡ true
   pub replied : (g v : ℕ) → has_ended w g ≡ true → replied u.gets g v ≡ replied w.gets g v
 
@@ -40,7 +41,9 @@ extends_through w u x a b = record {
   puts = (let l = a.puts in let m = b.puts in omega arith);
   key = λ v l. b.key v (later v l) ∙ a.key v l;
   writer = λ v l. b.writer v (later v l) ∙ a.writer v l;
+  value = λ v l. b.value v (later v l) ∙ a.value v l;
   seen = λ v l. b.seen v (later v l) ∙ a.seen v l;
+  acked = λ v e. b.acked v (a.acked v e);
   ended = λ g e. b.ended g (a.ended g e);
   replied = λ g v e. b.replied g v (a.ended g e) ∙ a.replied g v e;
 }
@@ -50,99 +53,84 @@ extends_through w u x a b = record {
 
 -- ---- each event
 
-same_puts : (w : World) (d o : ℕ → Bool) (m : ℕ → ℕ → Bool) (a : ℕ → Bool) (b h : ℕ → Slot → ℕ → Bool) (l : ℕ) (s : Slot → ℕ) → Extends w (record w { done = d; is_open = o; marked = m; up = a; stored = b; hinted = h; losses = l; lost = s })
-same_puts w d o m a b h l s = record {
-  puts = omega arith;
-  key = λ v l. refl;
-  writer = λ v l. refl;
-  seen = λ v l. refl;
-  ended = λ g e. e;
-  replied = λ g v e. refl;
-}
-
-do_extends : (w : World) (n : ℕ) (t : Option Step) → Extends w (elim t [ Some s ↦ step_effect (record w { done = with_number w.done n }) s | None ↦ w ])
-do_extends w n None = same_puts w w.done w.is_open w.marked w.up w.stored w.hinted w.losses w.lost
-do_extends w n (Some (Join x)) = same_puts w (with_number w.done n) w.is_open w.marked (with_number w.up x.0) w.stored w.hinted w.losses w.lost
-do_extends w n (Some (Mirror s x)) = same_puts w (with_number w.done n) w.is_open w.marked w.up w.stored w.hinted w.losses w.lost
-do_extends w n (Some (Copy s from)) = same_puts w (with_number w.done n) w.is_open w.marked w.up w.stored w.hinted w.losses w.lost
-do_extends w n (Some (Switch s)) = same_puts w (with_number w.done n) w.is_open w.marked w.up w.stored w.hinted w.losses w.lost
-do_extends w n (Some (Drop s x)) = same_puts w (with_number w.done n) w.is_open w.marked w.up _ w.hinted w.losses w.lost
-do_extends w n (Some (Retire x)) = same_puts w (with_number w.done n) w.is_open w.marked w.up w.stored w.hinted w.losses w.lost
-
+-- one more put
 put_extends : (w : World) (p : PutRecord) → Extends w (record w { puts = w.puts ++ p ∷ [] })
 put_extends w p = record {
   puts = (let l = length-append w.puts (p ∷ []) in omega arith);
   key = λ v l. part_before (λ (x : PutRecord). x.key) [] w.puts (p ∷ []) v l;
   writer = λ v l. part_before (λ (x : PutRecord). x.writer) 0 w.puts (p ∷ []) v l;
+  value = λ v l. part_before (λ (x : PutRecord). x.value) [] w.puts (p ∷ []) v l;
   seen = λ v l. part_before (λ (x : PutRecord). x.seen) [] w.puts (p ∷ []) v l;
+  acked = λ v e. part_before (λ (x : PutRecord). x.acked) false w.puts (p ∷ []) v (acked_exists w.puts v e) ∙ e;
   ended = λ g e. e;
   replied = λ g v e. refl;
 }
 
-changed_extends : (w : World) (n : ℕ) (f : PutRecord → PutRecord) (b h : ℕ → Slot → ℕ → Bool) → ((x : PutRecord) → (f x).key ≡ x.key) → ((x : PutRecord) → (f x).writer ≡ x.writer) → ((x : PutRecord) → (f x).seen ≡ x.seen)
-    → Extends w (record w { puts = changed w.puts n f; stored = b; hinted = h })
-changed_extends w n f b h key writer seen = record {
+still_acked : (ps : List PutRecord) (n : ℕ) (f : PutRecord → PutRecord) → ((x : PutRecord) → x.acked ≡ true → (f x).acked ≡ true) → (v : ℕ)
+    → read_at (λ (x : PutRecord). x.acked) false ps v ≡ true → read_at (λ (x : PutRecord). x.acked) false (changed ps n f) v ≡ true
+still_acked [] n f keep v e = e
+still_acked (x ∷ ps) zero f keep zero e = keep x e
+still_acked (x ∷ ps) zero f keep (suc v) e = e
+still_acked (x ∷ ps) (suc n) f keep zero e = e
+still_acked (x ∷ ps) (suc n) f keep (suc v) e = still_acked ps n f keep v e
+
+-- one put changed in its tickets, or acknowledged
+changed_extends : (w : World) (n : ℕ) (f : PutRecord → PutRecord) (b h : ℕ → Slot → ℕ → Bool) → ((x : PutRecord) → (f x).key ≡ x.key) → ((x : PutRecord) → (f x).writer ≡ x.writer) → ((x : PutRecord) → (f x).value ≡ x.value)
+    → ((x : PutRecord) → (f x).seen ≡ x.seen) → ((x : PutRecord) → x.acked ≡ true → (f x).acked ≡ true) → Extends w (record w { puts = changed w.puts n f; stored = b; hinted = h })
+changed_extends w n f b h key writer value seen acked = record {
   puts = (let l = length_changed w.puts n f in omega arith);
   key = λ v l. part_changed (λ (x : PutRecord). x.key) [] w.puts n f key v;
   writer = λ v l. part_changed (λ (x : PutRecord). x.writer) 0 w.puts n f writer v;
+  value = λ v l. part_changed (λ (x : PutRecord). x.value) [] w.puts n f value v;
   seen = λ v l. part_changed (λ (x : PutRecord). x.seen) [] w.puts n f seen v;
+  acked = λ v e. still_acked w.puts n f acked v e;
   ended = λ g e. e;
   replied = λ g v e. refl;
 }
 
--- what stays of gets, by what each record had of a reply
+-- what a record had of a reply
 abbrev reply_at : List GetRecord → ℕ → Option (List ℕ)
 reply_at gs g = read_at (λ (x : GetRecord). x.reply) None gs g
 
-gets_extend : (w : World) (gs : List GetRecord) → ((g : ℕ) → has_ended w g ≡ true → slice_get gs g ≡ slice_get w.gets g) → Extends w (record w { gets = gs })
-gets_extend w gs same = record {
-  puts = omega arith;
-  key = λ v l. refl;
-  writer = λ v l. refl;
-  seen = λ v l. refl;
-  ended = λ g e. ap (λ (o : Option GetRecord). is_some (elim o as (λ _. Option (List ℕ)) [ Some x ↦ x.reply | None ↦ None ])) (same g e) ∙ e;
-  replied = λ g v e. ap (λ (o : Option GetRecord). elim o [ Some x ↦ elim x.reply [ Some puts ↦ has v puts | None ↦ false ] | None ↦ false ]) (same g e);
+replied_is : (o : Option GetRecord) (v : ℕ)
+    → ◌≡◌ {A = Bool} (elim o [ Some x ↦ elim x.reply [ Some puts ↦ has v puts | None ↦ false ] | None ↦ false ]) (elim (elim o as (λ _. Option (List ℕ)) [ Some x ↦ x.reply | None ↦ None ]) [ Some puts ↦ has v puts | None ↦ false ])
+replied_is None v = refl
+replied_is (Some x) v = refl
+
+-- the same puts, and the same replies
+same_extends : (w u : World) → u.puts ≡ w.puts → ((g : ℕ) → has_ended w g ≡ true → reply_at u.gets g ≡ reply_at w.gets g) → Extends w u
+same_extends w u same replies = record {
+  puts = (let l = ap (λ (ps : List PutRecord). length ps) same in omega arith);
+  key = λ v l. ap (λ (ps : List PutRecord). read_at (λ (x : PutRecord). x.key) [] ps v) same;
+  writer = λ v l. ap (λ (ps : List PutRecord). read_at (λ (x : PutRecord). x.writer) 0 ps v) same;
+  value = λ v l. ap (λ (ps : List PutRecord). read_at (λ (x : PutRecord). x.value) [] ps v) same;
+  seen = λ v l. ap (λ (ps : List PutRecord). read_at (λ (x : PutRecord). x.seen) [] ps v) same;
+  acked = λ v e. ap (λ (ps : List PutRecord). read_at (λ (x : PutRecord). x.acked) false ps v) same ∙ e;
+  ended = λ g e. ap (λ (o : Option (List ℕ)). is_some o) (replies g e) ∙ e;
+  replied = λ g v e. replied_is (slice_get u.gets g) v ∙ ap (λ (o : Option (List ℕ)). elim o as (λ _. Bool) [ Some puts ↦ has v puts | None ↦ false ]) (replies g e) ∙ sym (replied_is (slice_get w.gets g) v);
 }
 
-before_more : (gs hs : List GetRecord) (g : ℕ) → is_some (reply_at gs g) ≡ true → slice_get (gs ++ hs) g ≡ slice_get gs g
+before_more : (gs hs : List GetRecord) (g : ℕ) → is_some (reply_at gs g) ≡ true → reply_at (gs ++ hs) g ≡ reply_at gs g
 before_more [] hs g e = absurd cc
 before_more (x ∷ gs) hs zero e = refl
 before_more (x ∷ gs) hs (suc g) e = before_more gs hs g e
 
-read_extends : (w : World) (n : ℕ) (f : GetRecord → GetRecord) → ((x : GetRecord) → (f x).reply ≡ x.reply) → Extends w (record w { gets = changed w.gets n f })
-read_extends w n f same = record {
-  puts = omega arith;
-  key = λ v l. refl;
-  writer = λ v l. refl;
-  seen = λ v l. refl;
-  ended = λ g e. ap (λ (o : Option (List ℕ)). is_some o) (part_changed (λ (x : GetRecord). x.reply) None w.gets n f same g) ∙ e;
-  replied = λ g v e. part_changed (λ (x : GetRecord). elim x.reply [ Some puts ↦ has v puts | None ↦ false ]) false w.gets n f (λ x. ap (λ (o : Option (List ℕ)). elim o [ Some puts ↦ has v puts | None ↦ false ]) (same x)) g;
-}
-
 pub event_extends : (ring : RingValue) (plan : List Planned) (w : World) (e : Event) → AllMet (guards ring plan w e) → Extends w (effect ring plan w e)
 unfolding guards effect
-event_extends ring plan w (Do n) g = do_extends w n (step_at plan n)
-event_extends ring plan w (OpenCopy n) g = same_puts w w.done _ w.marked w.up w.stored w.hinted w.losses w.lost
-event_extends ring plan w (ChunkCopy n c) g = same_puts w w.done w.is_open _ w.up _ w.hinted w.losses w.lost
-event_extends ring plan w (CloseCopy n) g = same_puts w _ _ w.marked w.up w.stored w.hinted w.losses w.lost
-event_extends ring plan w (AbortCopy n) g = same_puts w w.done _ w.marked w.up w.stored w.hinted w.losses w.lost
 event_extends ring plan w (StartPut writer key value seen) g = put_extends w _
-event_extends ring plan w (Write v j) g = changed_extends w v (λ x. record x { ticket = with_value x.ticket j (generation plan w (put_slot ring w v j)) }) _ w.hinted (λ x. refl) (λ x. refl) (λ x. refl)
-event_extends ring plan w (Hint v j x) g = changed_extends w v (λ x. record x { ticket = with_value x.ticket j (generation plan w (put_slot ring w v j)) }) w.stored _ (λ x. refl) (λ x. refl) (λ x. refl)
-event_extends ring plan w (Ack v) g = changed_extends w v (λ x. record x { acked = true }) w.stored w.hinted (λ x. refl) (λ x. refl) (λ x. refl)
-event_extends ring plan w (StartGet key) g = gets_extend w _ (λ h e. before_more w.gets _ h e)
-event_extends ring plan w (Read h j) g = read_extends w h (λ x. record x { found = with_value x.found j (finds ring plan w h j) }) (λ x. refl)
-event_extends ring plan w (EndGet h) g = gets_extend w _ (λ k e. get_other w.gets h k (λ x. record x { reply = Some (answers ring w h) }) (λ s. (
+event_extends ring plan w (Write v j) g = changed_extends w v (λ x. record x { ticket = with_value x.ticket j (generation plan w (put_slot ring w v j)) }) _ w.hinted (λ x. refl) (λ x. refl) (λ x. refl) (λ x. refl) (λ x e. e)
+event_extends ring plan w (Hint v j x) g = changed_extends w v (λ x. record x { ticket = with_value x.ticket j (generation plan w (put_slot ring w v j)) }) w.stored _ (λ x. refl) (λ x. refl) (λ x. refl) (λ x. refl) (λ x e. e)
+event_extends ring plan w (Ack v) g = changed_extends w v (λ x. record x { acked = true }) w.stored w.hinted (λ x. refl) (λ x. refl) (λ x. refl) (λ x. refl) (λ x e. refl)
+event_extends ring plan w (StartGet key) g = same_extends w _ refl (λ h e. before_more w.gets _ h e)
+event_extends ring plan w (Read h j) g = same_extends w _ refl (λ k e. part_changed (λ (x : GetRecord). x.reply) None w.gets h (λ x. record x { found = with_value x.found j (finds ring plan w h j) }) (λ x. refl) k)
+event_extends ring plan w (EndGet h) g = same_extends w _ refl (λ k e. ap (λ (o : Option GetRecord). elim o as (λ _. Option (List ℕ)) [ Some x ↦ x.reply | None ↦ None ]) (get_other w.gets h k (λ x. record x { reply = Some (answers ring w h) }) (λ s. (
     let f : has_ended w h ≡ true = subst (λ (z : ℕ). has_ended w z ≡ true) s e in
     let n = not-true (has_ended w h) g.1.0 in
-    cc)))
-event_extends ring plan w (Down x) g = same_puts w w.done w.is_open w.marked _ w.stored w.hinted w.losses w.lost
-event_extends ring plan w (Up x) g = same_puts w w.done w.is_open w.marked _ w.stored w.hinted w.losses w.lost
-event_extends ring plan w (Handoff x s) g = same_puts w w.done w.is_open w.marked w.up _ _ w.losses w.lost
-event_extends ring plan w (Lose x) g = same_puts w w.done w.is_open w.marked w.up _ _ _ _
+    cc))))
+event_extends ring plan w e g = same_extends w _ (same_puts ring plan w e refl) (λ k h. ap (λ (gs : List GetRecord). reply_at gs k) (same_gets ring plan w e refl))
 
 pub run_extends : (ring : RingValue) (plan : List Planned) (run : List Entry) (w v : World) → Leads ring plan w run v → Extends w v
-run_extends ring plan [] w v l = subst (λ (u : World). Extends w u) (sym l) (same_puts w w.done w.is_open w.marked w.up w.stored w.hinted w.losses w.lost)
+run_extends ring plan [] w v l = subst (λ (u : World). Extends w u) (sym l) (same_extends w w refl (λ g e. refl))
 run_extends ring plan (x ∷ xs) w v l =
     let a = answered ring plan w l.0 x.event x.reply l.1 in
     let b : Extends w l.0 = subst (λ (u : World). Extends w u) a.1 (event_extends ring plan w x.event (all_met (guards ring plan w x.event) a.0)) in

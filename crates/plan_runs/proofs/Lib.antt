@@ -11,6 +11,7 @@ pub mod Latest
 pub mod Changed
 pub mod Copying
 pub mod Storing
+pub mod Frames
 pub mod Growing
 pub mod Passed
 pub mod Reached

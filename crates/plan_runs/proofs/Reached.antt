@@ -11,11 +11,11 @@ use Rattle.ring_table.specs.Value.{RingValue}
 use Rattle.std.proofs.lemmas.Bool.{and_parts, not-true}
 use Rattle.plan_text.specs.declared.step.Source.{Source}
 use Rattle.plan_text.specs.declared.step.Step.{Step}
-use Rattle.plan_text.specs.declared.step.Step.TheVariants.{Join, Mirror, Copy, Switch, Drop, Retire}
+use Rattle.plan_text.specs.declared.step.Step.TheVariants.{Drop}
 use Rattle.plan_text.specs.declared.step.Planned.{Planned}
 use Rattle.plan_stage.specs.Each.{step_at}
 use Rattle.plan_runs.specs.declared.event.Event.{Event}
-use Rattle.plan_runs.specs.declared.event.Event.TheVariants.{Do, OpenCopy, ChunkCopy, CloseCopy, AbortCopy, StartPut, Write, Hint, Ack, StartGet, Read, EndGet, Down, Up, Handoff, Lose}
+use Rattle.plan_runs.specs.declared.event.Event.TheVariants.{Do, OpenCopy, ChunkCopy, CloseCopy, AbortCopy, StartPut, Write, Hint, Ack, StartGet, Read, EndGet, Handoff, Lose}
 use Rattle.plan_runs.specs.declared.event.Entry.{Entry}
 use Rattle.plan_runs.specs.World.{PutRecord, GetRecord, World, some_below, passing_below, opening_world, copy_at, stage_now, generation, ticket_of, key_of_put, key_of_get, seen_of, is_get_of, is_of_key}
 use Rattle.plan_runs.specs.Succession.{replied}
@@ -67,12 +67,8 @@ around ring plan w d o m a b i more closed copies less = record {
 do_parts : (ring : RingValue) (plan : List Planned) (w : World) (n : ℕ) (t : Option Step) → Parts ring plan w → Closed plan (with_number w.done n) → CopiesFit plan (with_number w.done n) w.is_open w.marked
     → Parts ring plan (elim t [ Some s ↦ step_effect (record w { done = with_number w.done n }) s | None ↦ w ])
 do_parts ring plan w n None i c k = i
-do_parts ring plan w n (Some (Join x)) i c k = around ring plan w (with_number w.done n) w.is_open w.marked (with_number w.up x.0) w.stored i (still_passes w.done n) c k (λ y s v e. e)
-do_parts ring plan w n (Some (Mirror s x)) i c k = around ring plan w (with_number w.done n) w.is_open w.marked w.up w.stored i (still_passes w.done n) c k (λ y s v e. e)
-do_parts ring plan w n (Some (Copy s from)) i c k = around ring plan w (with_number w.done n) w.is_open w.marked w.up w.stored i (still_passes w.done n) c k (λ y s v e. e)
-do_parts ring plan w n (Some (Switch s)) i c k = around ring plan w (with_number w.done n) w.is_open w.marked w.up w.stored i (still_passes w.done n) c k (λ y s v e. e)
 do_parts ring plan w n (Some (Drop s x)) i c k = around ring plan w (with_number w.done n) w.is_open w.marked w.up (without_puts w.stored x s) i (still_passes w.done n) c k (λ y t v e. without_puts_was w.stored x s y t v e)
-do_parts ring plan w n (Some (Retire x)) i c k = around ring plan w (with_number w.done n) w.is_open w.marked w.up w.stored i (still_passes w.done n) c k (λ y s v e. e)
+do_parts ring plan w n (Some s) i c k = around ring plan w (with_number w.done n) w.is_open w.marked (step_effect w s).up w.stored i (still_passes w.done n) c k (λ y t v e. e)
 
 -- ---- a chunk
 
@@ -292,8 +288,6 @@ event_parts ring plan w i (Ack v) g = changed_parts ring plan w v (λ x. record 
 event_parts ring plan w i (StartGet key) g = start_get_parts ring plan w (record { key = key; found = λ j. None; reply = None }) (λ j. refl) refl i
 event_parts ring plan w i (Read h j) g = read_parts ring plan w h j (ltb-true h (length w.gets) (and_parts (nat_lt h (length w.gets)) (nat_lt j ring.n) g.0).0) i
 event_parts ring plan w i (EndGet h) g = end_get_parts ring plan w h (ltb-true h (length w.gets) g.0) i
-event_parts ring plan w i (Down x) g = around ring plan w w.done w.is_open w.marked (without_number w.up x.0) w.stored i (λ k e. e) i.closed i.copies (λ y s v e. e)
-event_parts ring plan w i (Up x) g = around ring plan w w.done w.is_open w.marked (with_number w.up x.0) w.stored i (λ k e. e) i.closed i.copies (λ y s v e. e)
 event_parts ring plan w i (Handoff x s) g = record {
   closed = i.closed;
   copies = i.copies;
@@ -316,6 +310,7 @@ event_parts ring plan w i (Lose x) g = record {
   gets = record { found = i.gets.found; replied = i.gets.replied; seen = i.gets.seen };
   spent = (let l = ltb-true w.losses ring.loss g.1.0 in omega (arith, l));
 }
+event_parts ring plan w i e g = around ring plan w w.done w.is_open w.marked (effect ring plan w e).up w.stored i (λ k d. d) i.closed i.copies (λ y s v h. h)
 
 pub event_reached : (ring : RingValue) (plan : List Planned) (w : World) → Reached ring plan w → (e : Event) → AllMet (guards ring plan w e) → Reached ring plan (effect ring plan w e)
 event_reached ring plan w r e g =

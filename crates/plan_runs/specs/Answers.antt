@@ -5,8 +5,7 @@ use Rattle.ring_table.specs.Value.{RingValue}
 use Rattle.plan_text.specs.declared.step.Planned.{Planned}
 use Rattle.plan_stage.specs.Clauses.{first_failing}
 use Rattle.plan_runs.specs.declared.event.Event.{Event}
-use Rattle.plan_runs.specs.declared.event.Event.TheVariants.{Do, OpenCopy, ChunkCopy, CloseCopy, AbortCopy, StartPut, Write, Hint}
-use Rattle.plan_runs.specs.declared.event.Event.TheVariants.{Ack, StartGet, Read, EndGet, Down, Up, Handoff, Lose}
+use Rattle.plan_runs.specs.declared.event.Event.TheVariants.{StartPut, Write, Hint, StartGet, Read, EndGet}
 use Rattle.plan_runs.specs.declared.event.Reply.{Reply}
 use Rattle.plan_runs.specs.declared.event.Reply.TheVariants as reply
 use Rattle.plan_runs.specs.World.{World, generation}
@@ -16,22 +15,13 @@ use Rattle.plan_runs.specs.Effects.{effect, finds, answers}
 
 -- the reply to an event that is not refused
 abbrev pub reply_to : RingValue → List Planned → World → Event → Reply
-reply_to ring plan w (Do n) = reply.Plain
-reply_to ring plan w (OpenCopy n) = reply.Plain
-reply_to ring plan w (ChunkCopy n c) = reply.Plain
-reply_to ring plan w (CloseCopy n) = reply.Plain
-reply_to ring plan w (AbortCopy n) = reply.Plain
 reply_to ring plan w (StartPut writer key value seen) = reply.Put (length w.puts)
 reply_to ring plan w (Write v i) = reply.Ticket (put_slot ring w v i) (generation plan w (put_slot ring w v i))
 reply_to ring plan w (Hint v i x) = reply.Ticket (put_slot ring w v i) (generation plan w (put_slot ring w v i))
-reply_to ring plan w (Ack v) = reply.Plain
 reply_to ring plan w (StartGet key) = reply.Get (length w.gets)
 reply_to ring plan w (Read g i) = reply.Found (finds ring plan w g i)
 reply_to ring plan w (EndGet g) = reply.Answer (answers ring w g)
-reply_to ring plan w (Down x) = reply.Plain
-reply_to ring plan w (Up x) = reply.Plain
-reply_to ring plan w (Handoff x s) = reply.Plain
-reply_to ring plan w (Lose x) = reply.Plain
+reply_to ring plan w e = reply.Plain
 
 -- the next world and the reply, or the refusal of the first guard that fails
 abbrev pub answer : RingValue → List Planned → World → Event → Result (World × Reply) Refusal

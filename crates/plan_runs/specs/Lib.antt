@@ -5,6 +5,7 @@ pub mod Succession
 pub mod Versions
 pub mod Guards
 pub mod Effects
+pub mod Leaves
 pub mod Answers
 pub mod Reached
 pub mod Runs
