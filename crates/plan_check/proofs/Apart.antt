@@ -10,12 +10,12 @@ use Rattle.ring_table.specs.Value.{RingValue, owner_of}
 use Rattle.ring_table.specs.Valid.{IsRing, IsRow}
 use Rattle.std.proofs.lemmas.Bool.{and_parts, not-true, or_right, cases_lt}
 use Rattle.plan_text.specs.declared.step.Step.{Step}
-use Rattle.plan_text.specs.declared.step.Step.TheVariants.{Join, Mirror, Copy, Switch, Drop, Retire}
+use Rattle.plan_text.specs.declared.step.Step.TheVariants.{Join, Mirror}
 use Rattle.plan_text.specs.declared.step.Planned.{Planned}
 use Rattle.plan_text.specs.Steps.{steps_of, copy_of}
 use Rattle.plan_stage.specs.Stage.{opening, stage}
 use Rattle.plan_runs.specs.declared.event.Event.{Event}
-use Rattle.plan_runs.specs.declared.event.Event.TheVariants.{Do, OpenCopy, ChunkCopy, CloseCopy, AbortCopy, StartPut, Write, Hint, Ack, StartGet, Read, EndGet, Down, Up, Handoff, Lose}
+use Rattle.plan_runs.specs.declared.event.Event.TheVariants.{Do, CloseCopy, StartPut, Write, Hint, Ack, Handoff, Lose}
 use Rattle.plan_runs.specs.World.{World, opening_world, count, keeps_other}
 use Rattle.plan_runs.specs.Versions.{put_slot}
 use Rattle.plan_runs.specs.Guards.{serves_in, step_guards, guards}
@@ -47,11 +47,7 @@ do_apart : (ring : RingValue) (plan : List Planned) → Known ring plan → (w :
     → Apart ring plan (elim m [ Some s ↦ step_effect (record w { done = with_number w.done n }) s | None ↦ w ])
 do_apart ring plan k w n None i y may = i.apart
 do_apart ring plan k w n (Some (Join x)) i y may = done_apart ring plan k w n w.is_open (with_number w.up x.0) w.stored i y may
-do_apart ring plan k w n (Some (Mirror s x)) i y may = done_apart ring plan k w n w.is_open w.up w.stored i y may
-do_apart ring plan k w n (Some (Copy s from)) i y may = done_apart ring plan k w n w.is_open w.up w.stored i y may
-do_apart ring plan k w n (Some (Switch s)) i y may = done_apart ring plan k w n w.is_open w.up w.stored i y may
-do_apart ring plan k w n (Some (Drop s x)) i y may = done_apart ring plan k w n w.is_open w.up (without_puts w.stored x s) i y may
-do_apart ring plan k w n (Some (Retire x)) i y may = done_apart ring plan k w n w.is_open w.up w.stored i y may
+do_apart ring plan k w n (Some s) i y may = done_apart ring plan k w n w.is_open w.up (step_effect w s).stored i y may
 
 no_mirror : (m : Option Step) (s : Slot) (x : NodeId) → is_some (option_and_then copy_of m) ≡ true → m ≡ Some (Mirror s x) → ⊥
 no_mirror m s x c e =
@@ -64,26 +60,19 @@ event_apart : (ring : RingValue) (plan : List Planned) → Known ring plan → (
 unfolding guards effect
 event_apart ring plan k w i (Do n) g =
     do_apart ring plan k w n (step_at plan n) i (ready plan w n g.1.1.0) (λ s x at. (not-true (w.done n) g.1.0, may_do ring w (step_at plan n) s x at g.1.1.1))
-event_apart ring plan k w i (OpenCopy n) g = i.apart
-event_apart ring plan k w i (ChunkCopy n c) g = i.apart
 event_apart ring plan k w i (CloseCopy n) g =
     done_apart ring plan k w n (without_number w.is_open n) w.up w.stored i (i.reached.copies.ready n g.1.0) (λ s x at. absurd (no_mirror (step_at plan n) s x g.0 at))
-event_apart ring plan k w i (AbortCopy n) g = i.apart
 event_apart ring plan k w i (StartPut writer key value seen) g = less_apart ring plan w _ w.stored w.hinted w.losses w.lost i (λ x s v e. e)
 event_apart ring plan k w i (Write v j) g = less_apart ring plan w (with_ticket ring plan w v j) (served_puts ring plan w (put_slot ring w v j) (λ u. u == v)) w.hinted w.losses w.lost i (λ x s u e. e)
 event_apart ring plan k w i (Hint v j x) g =
     hint_apart ring plan w v (put_slot ring w v j) x (with_ticket ring plan w v j) i (not-true (serves_in ring plan w (put_slot ring w v j).partition x.0) g.1.1.1.0) (not-true (keeps_other ring w x.0 (put_slot ring w v j)) g.1.1.1.1.0)
 event_apart ring plan k w i (Ack v) g = less_apart ring plan w (changed w.puts v (λ x. record x { acked = true })) w.stored w.hinted w.losses w.lost i (λ x s u e. e)
-event_apart ring plan k w i (StartGet key) g = i.apart
-event_apart ring plan k w i (Read h j) g = i.apart
-event_apart ring plan k w i (EndGet h) g = i.apart
-event_apart ring plan k w i (Down x) g = i.apart
-event_apart ring plan k w i (Up x) g = i.apart
 event_apart ring plan k w i (Handoff x s) g =
     less_apart ring plan w w.puts (served_puts ring plan w s (w.hinted x.0 s)) (without_puts w.hinted x s) w.losses w.lost i (λ y t u e. without_puts_was w.hinted x s y t u e)
 event_apart ring plan k w i (Lose x) g =
     let u = lose_effect ring plan w x in
     less_apart ring plan w w.puts u.stored u.hinted u.losses u.lost i (lose_hinted ring plan w x)
+event_apart ring plan k w i e g = i.apart
 
 -- ---- a run
 

@@ -7,17 +7,17 @@ use Rattle.ring_names.specs.declared.ids.Slot.{Slot}
 use Rattle.ring_table.specs.Value.{RingValue}
 use Rattle.plan_text.specs.declared.step.Source.{Source}
 use Rattle.plan_text.specs.declared.step.Step.{Step}
-use Rattle.plan_text.specs.declared.step.Step.TheVariants.{Join, Mirror, Copy, Switch, Drop, Retire}
+use Rattle.plan_text.specs.declared.step.Step.TheVariants.{Copy, Drop}
 use Rattle.plan_text.specs.declared.step.Planned.{Planned}
 use Rattle.plan_text.specs.Steps.{is_slot}
 use Rattle.plan_stage.specs.Each.{step_at}
 use Rattle.plan_runs.specs.declared.event.Event.{Event}
-use Rattle.plan_runs.specs.declared.event.Event.TheVariants.{Do, OpenCopy, ChunkCopy, CloseCopy, AbortCopy, StartPut, Write, Hint, Ack, StartGet, Read}
-use Rattle.plan_runs.specs.declared.event.Event.TheVariants.{EndGet, Down, Up, Handoff, Lose}
+use Rattle.plan_runs.specs.declared.event.Event.TheVariants.{Do, ChunkCopy, CloseCopy, StartPut, Write, Hint, Ack, Handoff, Lose}
 use Rattle.plan_runs.specs.World.{GetRecord, World, copy_at, stage_now}
 use Rattle.plan_runs.specs.Versions.{put_slot}
 use Rattle.plan_runs.specs.Guards.{has_copy, current_tickets, guards}
 use Rattle.plan_runs.specs.Effects.{with_number, without_number, without_puts, with_mark, with_mirror_puts, served_puts, step_effect, is_copied, effect}
+use Rattle.plan_runs.specs.Leaves.{loses}
 use Rattle.plan_check.specs.Firm.{Holding}
 use Rattle.plan_runs.specs.Reached.{Ready, Reached}
 use Rattle.plan_check.proofs.Chunks.{chunk_keeps}
@@ -70,12 +70,6 @@ do_keeps : (ring : RingValue) (plan : List Planned) → Known ring plan → (w :
     → Extends w (elim m [ Some s ↦ step_effect (record w { done = with_number w.done n }) s | None ↦ w ]) → Ready plan w.done n → w.done n ≡ false
     → KeepsFirm ring plan w (elim m [ Some s ↦ step_effect (record w { done = with_number w.done n }) s | None ↦ w ])
 do_keeps ring plan k w n None at r h x y off = idle_keeps ring plan w w.is_open w.up w.gets r h x
-do_keeps ring plan k w n (Some (Join z)) at r h x y off =
-    done_keeps ring plan k w n w.is_open (with_number w.up z.0) w.stored r h x y off (Join z) at (λ s q v f e. e)
-do_keeps ring plan k w n (Some (Mirror s z)) at r h x y off = done_keeps ring plan k w n w.is_open w.up w.stored r h x y off (Mirror s z) at (λ t q v f e. e)
-do_keeps ring plan k w n (Some (Copy s from)) at r h x y off =
-    done_keeps ring plan k w n w.is_open w.up w.stored r h x y off (Copy s from) at (λ t q v f e. e)
-do_keeps ring plan k w n (Some (Switch s)) at r h x y off = done_keeps ring plan k w n w.is_open w.up w.stored r h x y off (Switch s) at (λ t q v f e. e)
 do_keeps ring plan k w n (Some (Drop s z)) at r h x y off =
     done_keeps ring plan k w n w.is_open w.up (without_puts w.stored z s) r h x y off (Drop s z) at others
   where
@@ -85,7 +79,7 @@ do_keeps ring plan k w n (Some (Drop s z)) at r h x y off =
         by : (c : Bool) → ((q == z.0) && is_slot s t) ≡ c → without_puts w.stored z s q t v ≡ true
         by true g = absurd (let p = and_parts (q == z.0) (is_slot s t) g in never z (ap (λ (c : Slot). Drop c z) (slot-is s t p.1)) (eqb-true q z.0 p.0))
         by false g = and_from (not ((q == z.0) && is_slot s t)) (w.stored q t v) (rw g refl) e
-do_keeps ring plan k w n (Some (Retire z)) at r h x y off = done_keeps ring plan k w n w.is_open w.up w.stored r h x y off (Retire z) at (λ s q v f e. e)
+do_keeps ring plan k w n (Some t) at r h x y off = done_keeps ring plan k w n w.is_open (step_effect w t).up w.stored r h x y off t at (λ s q v f e. e)
 
 -- ---- copies
 
@@ -119,36 +113,30 @@ copied_keeps ring plan k w n c (Some d) at one r h x = chunk_keeps ring plan k w
 
 -- each event but a loss keeps what is held
 pub event_keeps : (ring : RingValue) (plan : List Planned) → Known ring plan → (w : World) → Reached ring plan w → Holding ring plan w → (e : Event)
-    → ((x : NodeId) → e ≡ Lose x → ⊥) → AllMet (guards ring plan w e) → KeepsFirm ring plan w (effect ring plan w e)
+    → loses e ≡ false → AllMet (guards ring plan w e) → KeepsFirm ring plan w (effect ring plan w e)
 unfolding guards effect
-event_keeps ring plan k w r h (Do n) never g =
+event_keeps ring plan k w r h (Do n) kept g =
     do_keeps ring plan k w n (step_at plan n) refl r h (event_extends ring plan w (Do n) g) (ready plan w n g.1.1.0) (not-true (w.done n) g.1.0)
-event_keeps ring plan k w r h (OpenCopy n) never g =
-    idle_keeps ring plan w (with_number w.is_open n) w.up w.gets r h (event_extends ring plan w (OpenCopy n) g)
-event_keeps ring plan k w r h (ChunkCopy n c) never g =
+event_keeps ring plan k w r h (ChunkCopy n c) kept g =
     copied_keeps ring plan k w n c (copy_at plan n) refl (and_parts (has_copy plan n) (nat_lt c 16) g.0).0 r h (event_extends ring plan w (ChunkCopy n c) g)
-event_keeps ring plan k w r h (CloseCopy n) never g =
+event_keeps ring plan k w r h (CloseCopy n) kept g =
     close_keeps ring plan k w n (copy_at plan n) refl g.0 r h g.1.0 (event_extends ring plan w (CloseCopy n) g)
-event_keeps ring plan k w r h (AbortCopy n) never g =
-    idle_keeps ring plan w (without_number w.is_open n) w.up w.gets r h (event_extends ring plan w (AbortCopy n) g)
-event_keeps ring plan k w r h (StartPut writer key value seen) never g =
+event_keeps ring plan k w r h (StartPut writer key value seen) kept g =
     start_put_keeps ring plan w (record { writer = writer.0; key = key; value = value; seen = seen; ticket = λ j. None; acked = false }) (λ i. refl) refl r h
     (event_extends ring plan w (StartPut writer key value seen) g)
-event_keeps ring plan k w r h (Write v j) never g =
+event_keeps ring plan k w r h (Write v j) kept g =
     write_keeps ring plan w v j (ltb-true v (length w.puts) (and_parts (nat_lt v (length w.puts)) (nat_lt j ring.n) g.0).0) r h
     (event_extends ring plan w (Write v j) g)
-event_keeps ring plan k w r h (Hint v j x) never g =
+event_keeps ring plan k w r h (Hint v j x) kept g =
     hint_keeps ring plan w v j x (ltb-true v (length w.puts) (and_parts (nat_lt v (length w.puts)) (nat_lt j ring.n) g.0).0)
     (member_within ring plan w x.0 k.meets.suits g.1.0) r h (event_extends ring plan w (Hint v j x) g)
-event_keeps ring plan k w r h (Ack v) never g =
+event_keeps ring plan k w r h (Ack v) kept g =
     ack_keeps ring plan w v (ltb-true v (length w.puts) g.0) (leb-true ring.w (current_tickets ring plan w v) g.1.1.0) r h
     (event_extends ring plan w (Ack v) g)
-event_keeps ring plan k w r h (StartGet key) never g = idle_keeps ring plan w w.is_open w.up _ r h (event_extends ring plan w (StartGet key) g)
-event_keeps ring plan k w r h (Read q j) never g = idle_keeps ring plan w w.is_open w.up _ r h (event_extends ring plan w (Read q j) g)
-event_keeps ring plan k w r h (EndGet q) never g = idle_keeps ring plan w w.is_open w.up _ r h (event_extends ring plan w (EndGet q) g)
-event_keeps ring plan k w r h (Down x) never g = idle_keeps ring plan w w.is_open (without_number w.up x.0) w.gets r h (event_extends ring plan w (Down x) g)
-event_keeps ring plan k w r h (Up x) never g = idle_keeps ring plan w w.is_open (with_number w.up x.0) w.gets r h (event_extends ring plan w (Up x) g)
-event_keeps ring plan k w r h (Handoff x s) never g =
+event_keeps ring plan k w r h (Handoff x s) kept g =
     quiet_keeps ring plan w w.is_open w.up w.puts w.gets (served_puts ring plan w s (w.hinted x.0 s)) (without_puts w.hinted x s) r h
     (event_extends ring plan w (Handoff x s) g) (handed_slots ring plan w x s) (λ v i c e. inl e) (λ v e. inl e)
-event_keeps ring plan k w r h (Lose x) never g = absurd (never x refl)
+event_keeps ring plan k w r h (Lose x) kept g = absurd cc
+event_keeps ring plan k w r h e kept g =
+    let u = effect ring plan w e in
+    idle_keeps ring plan w u.is_open u.up u.gets r h (event_extends ring plan w e g)

@@ -21,10 +21,10 @@ use Rattle.plan_check.specs.Firm.{FirmSlots, Holding}
 use Rattle.plan_runs.specs.Reached.{Reached}
 use Rattle.plan_runs.specs.Runs.{Leads}
 use Rattle.plan_runs.proofs.Answered.{answered}
-use Rattle.plan_runs.proofs.Asking.{StaysAsked, event_asked, event_acked}
+use Rattle.plan_runs.proofs.Asking.{StaysAsked, event_asked}
 use Rattle.plan_check.proofs.Entering.{Inv}
 use Rattle.plan_check.proofs.Doing.{event_keeps}
-use Rattle.plan_check.proofs.Holdings.{lose_or_not, next_inv, next_holding}
+use Rattle.plan_check.proofs.Holdings.{next_inv, next_holding}
 use Rattle.plan_runs.proofs.Lasting.{Extends, event_extends, names_ended, succeeds_stays, succeeds_same_key}
 use Rattle.plan_runs.proofs.Latest.{some_succeeds_found, latest_of_is, is_latest_of}
 use Rattle.plan_check.proofs.Losing.{lose_slots}
@@ -126,12 +126,8 @@ loss_rest ring plan k w i x g v slots a f =
 rest_after : (ring : RingValue) (plan : List Planned) → Known ring plan → (w : World) → Inv ring plan w → Holding ring plan w → (e : Event)
     → AllMet (guards ring plan w e) → (v : ℕ) (slots : List ℕ) → is_acked w v ≡ true → FirmSlots ring plan w v slots
     → Rest ring plan w (effect ring plan w e) v slots
-rest_after ring plan k w i h e g v slots a f = elim (lose_or_not e) [
-  | inl l ↦
-      subst (λ (q : Event). AllMet (guards ring plan w q) → Rest ring plan w (effect ring plan w q) v slots) (sym l.1)
-      (λ m. loss_rest ring plan k w i l.0 m v slots a f) g
-  | inr other ↦ kept_rest ring plan w (effect ring plan w e) v slots (event_keeps ring plan k w i.reached h e other g) a f
-]
+rest_after ring plan k w i h (Lose x) g v slots a f = loss_rest ring plan k w i x g v slots a f
+rest_after ring plan k w i h e g v slots a f = kept_rest ring plan w (effect ring plan w e) v slots (event_keeps ring plan k w i.reached h e refl g) a f
 
 -- so the put goes on to be watched
 pub watched_after : (ring : RingValue) (plan : List Planned) → Known ring plan → (w : World) → Inv ring plan w → Holding ring plan w → (e : Event)
@@ -139,7 +135,7 @@ pub watched_after : (ring : RingValue) (plan : List Planned) → Known ring plan
 watched_after ring plan k w i h e met v g c = record {
   exists = a.exists;
   key = a.key ∙ c.key ∙ sym (x.key v (acked_exists w.puts v c.acked));
-  acked = event_acked ring plan w e v c.acked;
+  acked = x.acked v c.acked;
   slots = s.rest;
   firm = s.firm;
   enough = (let old = c.enough in let new = s.enough in omega arith);

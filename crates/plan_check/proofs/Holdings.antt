@@ -1,12 +1,11 @@
 -- In every run of a sound plan acknowledged puts are firm enough, and so held where every read meets them.
-use Rattle.std.proofs.Common.{◌≡◌, ◌⊎◌, inl, inr, ℕ, ◌+◌, ◌≤◌, true, List, [], ◌∷◌, length, refl, sym, subst, arith}
+use Rattle.std.proofs.Common.{◌≡◌, ℕ, ◌+◌, ◌≤◌, true, List, [], ◌∷◌, length, refl, sym, subst, arith}
 use Rattle.std.specs.Prelude.{Ok}
 use Rattle.ring_names.specs.declared.ids.NodeId.{NodeId}
 use Rattle.ring_table.specs.Value.{RingValue}
 use Rattle.plan_text.specs.declared.step.Planned.{Planned}
 use Rattle.plan_runs.specs.declared.event.Event.{Event}
-use Rattle.plan_runs.specs.declared.event.Event.TheVariants.{Do, OpenCopy, ChunkCopy, CloseCopy, AbortCopy, StartPut, Write, Hint, Ack, StartGet, Read}
-use Rattle.plan_runs.specs.declared.event.Event.TheVariants.{EndGet, Down, Up, Handoff, Lose}
+use Rattle.plan_runs.specs.declared.event.Event.TheVariants.{Lose}
 use Rattle.plan_runs.specs.declared.event.Entry.{Entry}
 use Rattle.plan_runs.specs.World.{World, opening_world, is_acked}
 use Rattle.plan_runs.specs.Guards.{guards}
@@ -31,25 +30,6 @@ use Rattle.plan_check.proofs.Standing.{keeps_holding}
 
 -- ---- one event
 
--- an event is a loss, or another one
-pub lose_or_not : (e : Event) → ((x : NodeId) × (e ≡ Lose x)) ⊎ ((x : NodeId) → e ≡ Lose x → ⊥)
-lose_or_not (Lose x) = inl (x, refl)
-lose_or_not (Do n) = inr (λ x e. absurd cc)
-lose_or_not (OpenCopy n) = inr (λ x e. absurd cc)
-lose_or_not (ChunkCopy n c) = inr (λ x e. absurd cc)
-lose_or_not (CloseCopy n) = inr (λ x e. absurd cc)
-lose_or_not (AbortCopy n) = inr (λ x e. absurd cc)
-lose_or_not (StartPut a b c d) = inr (λ x e. absurd cc)
-lose_or_not (Write v i) = inr (λ x e. absurd cc)
-lose_or_not (Hint v i y) = inr (λ x e. absurd cc)
-lose_or_not (Ack v) = inr (λ x e. absurd cc)
-lose_or_not (StartGet k) = inr (λ x e. absurd cc)
-lose_or_not (Read g i) = inr (λ x e. absurd cc)
-lose_or_not (EndGet g) = inr (λ x e. absurd cc)
-lose_or_not (Down y) = inr (λ x e. absurd cc)
-lose_or_not (Up y) = inr (λ x e. absurd cc)
-lose_or_not (Handoff y s) = inr (λ x e. absurd cc)
-
 -- a loss keeps acknowledged puts firm enough
 after_loss : (ring : RingValue) (plan : List Planned) → Known ring plan → (w : World) → Inv ring plan w → Holding ring plan w → (x : NodeId)
     → AllMet (guards ring plan w (Lose x)) → Holding ring plan (effect ring plan w (Lose x))
@@ -59,10 +39,8 @@ after_loss ring plan k w i h x g = lose_holding ring plan w x i.reached (event_e
 -- every event keeps acknowledged puts firm enough
 pub event_holding : (ring : RingValue) (plan : List Planned) → Known ring plan → (w : World) → Inv ring plan w → Holding ring plan w → (e : Event)
     → AllMet (guards ring plan w e) → Holding ring plan (effect ring plan w e)
-event_holding ring plan k w i h e g = elim (lose_or_not e) [
-  | inl l ↦ subst (λ (q : Event). AllMet (guards ring plan w q) → Holding ring plan (effect ring plan w q)) (sym l.1) (after_loss ring plan k w i h l.0) g
-  | inr other ↦ keeps_holding ring plan w (effect ring plan w e) (event_keeps ring plan k w i.reached h e other g) h
-]
+event_holding ring plan k w i h (Lose x) g = after_loss ring plan k w i h x g
+event_holding ring plan k w i h e g = keeps_holding ring plan w (effect ring plan w e) (event_keeps ring plan k w i.reached h e refl g) h
 
 -- ---- a run
 

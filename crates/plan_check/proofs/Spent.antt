@@ -1,7 +1,7 @@
 -- No clause of the checker is refused by the refusal of a limit of turns.
-use Rattle.std.proofs.Common.{◌≡◌, ℕ, suc, zero, ◌+◌, Bool, true, false, cond, List, [], ◌∷◌, ◌++◌, length, min, refl, sym, ap, ◌∙◌, Option, Some, None, Err}
+use Rattle.std.proofs.Common.{◌≡◌, ℕ, suc, zero, ◌+◌, Bool, true, false, cond, List, [], ◌∷◌, ◌++◌, length, min, sym, ap, ◌∙◌, Option, Some, Err}
 use Rattle.ring_names.specs.declared.refusal.Refusal.{Refusal}
-use Rattle.ring_names.specs.declared.refusal.Refusal.TheVariants.{BadPath, WrongStage, UnorderedSlot, BadSource, MovingSource, SharedInPlan, NotJoined, RetiredInUse, CoverMissing, ChainBroken, TooManyChains, TurnsSpent, OutOfMemory}
+use Rattle.ring_names.specs.declared.refusal.Refusal.TheVariants.{BadPath, TurnsSpent, OutOfMemory}
 use Rattle.std.specs.Prelude.{◌==◌}
 use Rattle.ring_names.specs.declared.ids.NodeId.{NodeId}
 use Rattle.ring_names.specs.declared.ids.Slot.{Slot}

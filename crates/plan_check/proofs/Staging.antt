@@ -1,5 +1,5 @@
 -- What a step that is done makes of the stages of slots.
-use Rattle.std.proofs.Common.{◌≡◌, ◌∙◌, ℕ, suc, ◌+◌, inl, inr, Bool, true, false, List, get_or, Option, Some, None, refl, sym, ap, subst, arith, add-one}
+use Rattle.std.proofs.Common.{◌≡◌, ◌∙◌, ℕ, suc, inl, inr, Bool, true, false, List, get_or, Option, Some, None, refl, sym, ap, subst, arith, add-one}
 use Rattle.std.specs.Prelude.{slice_get, option_map}
 use Rattle.std.proofs.lemmas.Bool.Decides.{eqb_tells}
 use Rattle.ring_names.specs.Lists.{has}
@@ -18,7 +18,7 @@ use Rattle.plan_runs.proofs.Prefix.{found, one_more, count_same}
 use Rattle.plan_check.proofs.Mirrored.{Known, rises, down}
 use Rattle.plan_runs.proofs.Groups.{steps_on}
 use Rattle.plan_runs.proofs.Copying.{closed_with}
-use Rattle.plan_stage.proofs.Holders.{has-from, has-step}
+use Rattle.plan_stage.proofs.Holders.{has-step}
 
 -- and each of its steps is on it
 pub on_it : (plan : List Planned) (slot : Slot) (n : ℕ) (t : Step) → step_at plan n ≡ Some t → has n (steps_of plan slot) ≡ true → is_on slot t ≡ true

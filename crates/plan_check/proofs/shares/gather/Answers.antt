@@ -1,9 +1,8 @@
-use Rattle.std.proofs.Common.{◌≡◌, ◌+◌, ◌<◌, ◌≤◌, ℕ, List, length, subst, sym, ap, arith}
+use Rattle.std.proofs.Common.{◌≡◌, ◌+◌, ◌<◌, ◌≤◌, ℕ, List, length, subst, arith}
 use Rattle.plan_order.specs.Facts.{is_ordered}
 use Rattle.plan_stage.specs.Clauses.{Guard, Gives, below}
 use Rattle.plan_stage.specs.Partition.{partition_clauses}
-use Rattle.plan_check.specs.Shares.{IsOutcome, first_of}
-use Rattle.plan_check.specs.declared.shares.ShareOutcome.{ShareOutcome}
+use Rattle.plan_check.specs.Shares.{first_of}
 use Rattle.plan_check.specs.declared.shares.ShareOutcome.TheVariants.{Stopped}
 use Rattle.plan_check.proofs.Shared.{joined, below-next, first-grows, first-last, none-before, some-share}
 use Rattle.plan_check.proofs.shares.gather.Goals as goal

@@ -1,4 +1,4 @@
-use Rattle.std.proofs.Common.{◌≡◌, ◌<◌, ℕ, length}
+use Rattle.std.proofs.Common.{◌<◌, ℕ, length}
 use Rattle.plan_order.specs.Facts.{is_ordered}
 use Rattle.plan_stage.specs.Clauses.{Gives, below}
 use Rattle.plan_stage.specs.Partition.{partition_clauses}

@@ -1,4 +1,4 @@
-use Rattle.std.proofs.Common.{◌≡◌, ◌≤◌, ◌+◌, arith}
+use Rattle.std.proofs.Common.{◌+◌, arith}
 use Rattle.plan_check.proofs.Shared.{first-within}
 use Rattle.plan_check.proofs.shares.work_share.Goals as goal
 
