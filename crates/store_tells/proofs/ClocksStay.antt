@@ -1,33 +1,30 @@
 -- What each event leaves of the clocks of a world's puts.
-use Rattle.std.proofs.Common.{◌≡◌, inl, inr, ◌∙◌, ℕ, ◌<◌, Bool, true, false, List, [], ◌∷◌, length, refl, subst, arith, eq-eqb}
-use Rattle.std.specs.Prelude.{◌||◌, ◌==◌, Option, Some, None, Ok, slice_get}
+use Rattle.std.proofs.Common.{◌≡◌, inl, inr, ◌∙◌, ℕ, ◌+◌, ◌<◌, Bool, true, false, cond, List, [], ◌∷◌, length, refl, ap, subst, arith, eq-eqb}
+use Rattle.std.specs.Prelude.{◌==◌, Option, Some, None, Ok, slice_get}
 use Rattle.std.specs.Str.{bytes_eq}
 use Rattle.std.proofs.lemmas.Slice.Eq.{bytes_eq-Decides}
 use Rattle.std.proofs.lemmas.Bool.{or_cases}
 use Rattle.ring_names.specs.Lists.{has}
 use Rattle.ring_names.specs.declared.ids.WriterId.{WriterId}
 use Rattle.ring_table.specs.Value.{RingValue}
-use Rattle.plan_text.specs.declared.step.Step.{Step}
-use Rattle.plan_text.specs.declared.step.Step.TheVariants.{Join, Mirror, Copy, Switch, Drop, Retire}
 use Rattle.plan_text.specs.declared.step.Planned.{Planned}
-use Rattle.plan_stage.specs.Each.{step_at}
 use Rattle.ring_clock.specs.declared.entry.Entry.{Entry}
 use Rattle.ring_clock.specs.Built.{IsNext, with_clock}
 use Rattle.plan_runs.specs.declared.event.Event.{Event}
-use Rattle.plan_runs.specs.declared.event.Event.TheVariants.{Do, OpenCopy, ChunkCopy, CloseCopy, AbortCopy, StartPut, Write, Hint, Ack, StartGet, Read, EndGet, Down, Up, Handoff, Lose}
+use Rattle.plan_runs.specs.declared.event.Event.TheVariants.{StartPut}
 use Rattle.plan_runs.specs.declared.event.Reply.{Reply}
-use Rattle.plan_runs.specs.World.{GetRecord, World, opening_world, generation, key_of_put, key_of_get, is_get_of}
+use Rattle.plan_runs.specs.World.{GetRecord, World, opening_world, key_of_put, key_of_get, is_get_of}
 use Rattle.plan_runs.specs.Succession.{replied, some_replied}
-use Rattle.plan_runs.specs.Versions.{put_slot}
 use Rattle.plan_runs.specs.Guards.{guards}
-use Rattle.plan_runs.specs.Effects.{with_number, with_value, step_effect, effect}
+use Rattle.plan_runs.specs.Effects.{effect}
 use Rattle.plan_runs.specs.Answers.{answer}
 use Rattle.plan_runs.specs.Reached.{Reached}
 use Rattle.plan_runs.proofs.Answered.{answered}
-use Rattle.plan_runs.proofs.Changed.{length_changed}
+use Rattle.plan_runs.specs.Leaves.{starts_put}
+use Rattle.plan_runs.proofs.Frames.{puts_many}
 use Rattle.plan_runs.proofs.Lasting.{event_extends, names_ended}
 use Rattle.plan_runs.proofs.Passed.{AllMet, all_met, among}
-use Rattle.store_tells.specs.Clocks.{AreClocksOf, IsLastOf, IsInputOf, starts_put}
+use Rattle.store_tells.specs.Clocks.{AreClocksOf, IsLastOf, IsInputOf}
 use Rattle.store_tells.proofs.ClocksGrow.{stays, put_clocks}
 use Rattle.std.proofs.lemmas.Bool.{or_right}
 
@@ -36,39 +33,11 @@ opening_clocks ring clock k l = absurd (omega arith)
 
 -- ---- events that start no put
 
-do_length : (w : World) (n : ℕ) (t : Option Step) → length (elim t as (λ _. World) [ Some s ↦ step_effect (record w { done = with_number w.done n }) s | None ↦ w ]).puts ≡ length w.puts
-do_length w n None = refl
-do_length w n (Some (Join x)) = refl
-do_length w n (Some (Mirror s x)) = refl
-do_length w n (Some (Copy s from)) = refl
-do_length w n (Some (Switch s)) = refl
-do_length w n (Some (Drop s x)) = refl
-do_length w n (Some (Retire x)) = refl
-
-same_length : (ring : RingValue) (plan : List Planned) (w : World) (e : Event) → starts_put e ≡ false → length (effect ring plan w e).puts ≡ length w.puts
-unfolding effect
-same_length ring plan w (Do n) g = do_length w n (step_at plan n)
-same_length ring plan w (OpenCopy n) g = refl
-same_length ring plan w (ChunkCopy n c) g = refl
-same_length ring plan w (CloseCopy n) g = refl
-same_length ring plan w (AbortCopy n) g = refl
-same_length ring plan w (StartPut writer key value seen) g = absurd cc
-same_length ring plan w (Write v j) g = length_changed w.puts v (λ x. record x { ticket = with_value x.ticket j (generation plan w (put_slot ring w v j)) })
-same_length ring plan w (Hint v j x) g = length_changed w.puts v (λ x. record x { ticket = with_value x.ticket j (generation plan w (put_slot ring w v j)) })
-same_length ring plan w (Ack v) g = length_changed w.puts v (λ x. record x { acked = true })
-same_length ring plan w (StartGet key) g = refl
-same_length ring plan w (Read h j) g = refl
-same_length ring plan w (EndGet h) g = refl
-same_length ring plan w (Down x) g = refl
-same_length ring plan w (Up x) g = refl
-same_length ring plan w (Handoff x s) g = refl
-same_length ring plan w (Lose x) g = refl
-
 pub clocks_stay : (ring : RingValue) (plan : List Planned) (w u : World) (e : Event) (r : Reply) (clock : ℕ → List Entry) → Reached ring plan w → AreClocksOf w clock → answer ring plan w e ≡ Ok (u, r) → starts_put e ≡ false → AreClocksOf u clock
 clocks_stay ring plan w u e r clock reached made h none =
     let a = answered ring plan w u e r h in
     let x = event_extends ring plan w e (all_met (guards ring plan w e) a.0) in
-    subst (λ (z : World). AreClocksOf z clock) a.1 (λ k l. stays w (effect ring plan w e) clock clock x (names_ended ring plan w reached) (λ v m. refl) made k (let same = same_length ring plan w e none in omega arith))
+    subst (λ (z : World). AreClocksOf z clock) a.1 (λ k l. stays w (effect ring plan w e) clock clock x (names_ended ring plan w reached) (λ v m. refl) made k (let many = puts_many ring plan w e ∙ ap (λ (b : Bool). length w.puts + cond b 1 0) none in omega arith))
 
 -- ---- an event that starts one
 

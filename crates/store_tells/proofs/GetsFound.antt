@@ -11,23 +11,21 @@ use Rattle.ring_clock.specs.declared.entry.Entry.{Entry}
 use Rattle.ring_versions.specs.declared.version.Version.{Version}
 use Rattle.ring_versions.specs.Versions.{IsMerge}
 use Rattle.ring_versions.specs.Puts.{ArePuts}
-use Rattle.plan_text.specs.declared.step.Step.{Step}
-use Rattle.plan_text.specs.declared.step.Step.TheVariants.{Join, Mirror, Copy, Switch, Drop, Retire}
 use Rattle.plan_text.specs.declared.step.Planned.{Planned}
-use Rattle.plan_stage.specs.Each.{step_at}
 use Rattle.plan_runs.specs.declared.event.Event.{Event}
-use Rattle.plan_runs.specs.declared.event.Event.TheVariants.{Do, OpenCopy, ChunkCopy, CloseCopy, AbortCopy, StartPut, Write, Hint, Ack, StartGet, Read, EndGet, Down, Up, Handoff, Lose}
+use Rattle.plan_runs.specs.declared.event.Event.TheVariants.{StartGet, Read, EndGet}
 use Rattle.plan_runs.specs.declared.event.Reply.{Reply}
 use Rattle.plan_runs.specs.declared.event.Reply.TheVariants as reply
 use Rattle.plan_runs.specs.World.{GetRecord, World, some_below, stage_now, key_of_put, key_of_get, found_at, is_of_key}
 use Rattle.plan_runs.specs.Succession.{replied}
 use Rattle.plan_runs.specs.Versions.{get_slot, some_hinted, slot_has}
 use Rattle.plan_runs.specs.Guards.{guards}
-use Rattle.plan_runs.specs.Effects.{with_number, with_value, changed, step_effect, finds, answers, has_found, effect}
+use Rattle.plan_runs.specs.Effects.{with_value, changed, finds, answers, has_found, effect}
 use Rattle.plan_runs.specs.Answers.{answer}
 use Rattle.plan_runs.specs.Reached.{Reached, IsPutForGet}
 use Rattle.plan_runs.proofs.Answered.{answered}
 use Rattle.plan_runs.proofs.Changed.{get_other}
+use Rattle.plan_runs.proofs.Frames.{same_gets}
 use Rattle.plan_runs.proofs.Passed.{AllMet, all_met}
 use Rattle.plan_runs.proofs.Passing.{some_found, some_is}
 use Rattle.store_tells.specs.Shows.{Shows, OfOneKey}
@@ -174,36 +172,15 @@ new_get ring w [] key (suc h) v = (refl, refl)
 new_get ring w (x ∷ gs) key zero v = (refl, refl)
 new_get ring w (x ∷ gs) key (suc h) v = new_get ring w gs key h v
 
-do_gets : (ring : RingValue) (w : World) (n h v : ℕ) (t : Option Step) → GetStays ring w (elim t as (λ _. World) [ Some s ↦ step_effect (record w { done = with_number w.done n }) s | None ↦ w ]) h v
-do_gets ring w n h v None = (refl, refl)
-do_gets ring w n h v (Some (Join x)) = (refl, refl)
-do_gets ring w n h v (Some (Mirror s x)) = (refl, refl)
-do_gets ring w n h v (Some (Copy s from)) = (refl, refl)
-do_gets ring w n h v (Some (Switch s)) = (refl, refl)
-do_gets ring w n h v (Some (Drop s x)) = (refl, refl)
-do_gets ring w n h v (Some (Retire x)) = (refl, refl)
-
 apart : (h g : ℕ) → (h == g) ≡ false → h ≡ g → ⊥
 apart h g e f = (let k = eq-eqb h g f in cc)
 
 get_effect : (ring : RingValue) (plan : List Planned) (w : World) (e : Event) (h v : ℕ) → is_of_get h e ≡ false → GetStays ring w (effect ring plan w e) h v
 unfolding effect
-get_effect ring plan w (Do n) h v f = do_gets ring w n h v (step_at plan n)
-get_effect ring plan w (OpenCopy n) h v f = (refl, refl)
-get_effect ring plan w (ChunkCopy n c) h v f = (refl, refl)
-get_effect ring plan w (CloseCopy n) h v f = (refl, refl)
-get_effect ring plan w (AbortCopy n) h v f = (refl, refl)
-get_effect ring plan w (StartPut writer key value seen) h v f = (refl, refl)
-get_effect ring plan w (Write z j) h v f = (refl, refl)
-get_effect ring plan w (Hint z j x) h v f = (refl, refl)
-get_effect ring plan w (Ack z) h v f = (refl, refl)
 get_effect ring plan w (StartGet key) h v f = new_get ring w w.gets key h v
 get_effect ring plan w (Read g j) h v f = same_get ring w _ h v (get_other w.gets g h (λ x. record x { found = with_value x.found j (finds ring plan w g j) }) (apart h g f))
 get_effect ring plan w (EndGet g) h v f = same_get ring w _ h v (get_other w.gets g h (λ x. record x { reply = Some (answers ring w g) }) (apart h g f))
-get_effect ring plan w (Down x) h v f = (refl, refl)
-get_effect ring plan w (Up x) h v f = (refl, refl)
-get_effect ring plan w (Handoff x s) h v f = (refl, refl)
-get_effect ring plan w (Lose x) h v f = (refl, refl)
+get_effect ring plan w e h v f = same_get ring w (effect ring plan w e).gets h v (ap (λ (gs : List GetRecord). slice_get gs h) (same_gets ring plan w e refl))
 
 pub get_stays : (ring : RingValue) (plan : List Planned) (w u : World) (e : Event) (r : Reply) (h : ℕ) → answer ring plan w e ≡ Ok (u, r) → is_of_get h e ≡ false → (v : ℕ) → GetStays ring w u h v
 get_stays ring plan w u e r h k f v = subst (λ (z : World). GetStays ring w z h v) (answered ring plan w u e r k).1 (get_effect ring plan w e h v f)

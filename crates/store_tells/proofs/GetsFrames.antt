@@ -4,26 +4,26 @@ use Rattle.std.specs.Prelude.{Ok, slice_get}
 use Rattle.ring_table.specs.Value.{RingValue}
 use Rattle.ring_clock.specs.declared.entry.Entry.{Entry}
 use Rattle.plan_text.specs.declared.step.Planned.{Planned}
-use Rattle.plan_stage.specs.Each.{step_at}
 use Rattle.plan_runs.specs.declared.event.Event.{Event}
-use Rattle.plan_runs.specs.declared.event.Event.TheVariants.{Do, OpenCopy, ChunkCopy, CloseCopy, AbortCopy, StartPut, Write, Hint, Ack, StartGet, Read, EndGet, Down, Up, Handoff, Lose}
 use Rattle.plan_runs.specs.declared.event.Reply.{Reply}
 use Rattle.plan_runs.specs.World.{GetRecord, World, opening_world}
 use Rattle.plan_runs.specs.Succession.{replied}
-use Rattle.plan_runs.specs.Effects.{has_found, effect}
+use Rattle.plan_runs.specs.Effects.{has_found}
 use Rattle.plan_runs.specs.Answers.{answer}
 use Rattle.plan_runs.specs.Reached.{Reached}
 use Rattle.plan_runs.proofs.Answered.{answered}
+use Rattle.plan_runs.specs.Guards.{guards}
+use Rattle.plan_runs.proofs.Frames.{same_gets}
+use Rattle.plan_runs.proofs.Lasting.{event_extends}
+use Rattle.plan_runs.proofs.Passed.{all_met}
 use Rattle.plan_runs.proofs.Passing.{some_found}
 use Rattle.store_tells.specs.Shows.{Shows, value_of}
 use Rattle.store_tells.specs.GetsFind.{found_by}
 use Rattle.store_tells.proofs.ShownSets.{other_clock, other_value}
-use Rattle.store_tells.proofs.ValuesStay.{values_stay}
 use Rattle.store_tables.specs.declared.gets.GetNow.{GetNow}
 use Rattle.store_tells.specs.Gets.{GetsMeet}
-use Rattle.store_tells.specs.GetsChange.{changes_gets}
+use Rattle.plan_runs.specs.Leaves.{changes_gets}
 use Rattle.store_tells.proofs.PutsLists.{stays_there}
-use Rattle.plan_runs.proofs.Asking.{do_gets}
 
 -- no gets are those of the world at the start
 pub gets_open : (ring : RingValue) (clock : ℕ → List Entry) (keys : List (List ℕ)) → GetsMeet ring clock keys [] (opening_world ring)
@@ -56,25 +56,11 @@ gets_as_before ring plan clock keys gets w u reached same values m = record {
       });
 }
 
--- an event that changes no get leaves all gets as they are
-pub same_gets : (ring : RingValue) (plan : List Planned) (w : World) (e : Event) → changes_gets e ≡ false → (effect ring plan w e).gets ≡ w.gets
-unfolding effect
-same_gets ring plan w (Do n) c = do_gets w n (step_at plan n)
-same_gets ring plan w (OpenCopy n) c = refl
-same_gets ring plan w (ChunkCopy n k) c = refl
-same_gets ring plan w (CloseCopy n) c = refl
-same_gets ring plan w (AbortCopy n) c = refl
-same_gets ring plan w (StartPut writer key value seen) c = refl
-same_gets ring plan w (Write v i) c = refl
-same_gets ring plan w (Hint v i x) c = refl
-same_gets ring plan w (Ack v) c = refl
-same_gets ring plan w (StartGet key) c = absurd cc
-same_gets ring plan w (Read g i) c = absurd cc
-same_gets ring plan w (EndGet g) c = absurd cc
-same_gets ring plan w (Down x) c = refl
-same_gets ring plan w (Up x) c = refl
-same_gets ring plan w (Handoff x s) c = refl
-same_gets ring plan w (Lose x) c = refl
+-- each put that is there keeps its value
+values_stay : (ring : RingValue) (plan : List Planned) (w u : World) (e : Event) (r : Reply) → answer ring plan w e ≡ Ok (u, r) → (v : ℕ) → v < length w.puts → value_of u v ≡ value_of w v
+values_stay ring plan w u e r h v l =
+    let a = answered ring plan w u e r h in
+    subst (λ (z : World). value_of z v ≡ value_of w v) a.1 ((event_extends ring plan w e (all_met (guards ring plan w e) a.0)).value v l)
 
 -- the gets that are kept stay those of the world through each event that changes no get
 pub gets_stay : (ring : RingValue) (plan : List Planned) (w u : World) (e : Event) (r : Reply) (clock : ℕ → List Entry) (keys : List (List ℕ)) (gets : List GetNow)

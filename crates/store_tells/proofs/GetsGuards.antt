@@ -14,9 +14,8 @@ use Rattle.plan_runs.specs.Guards.{up_guard, nodes_up, has_ended, keeps_of_key, 
 use Rattle.store_tables.specs.declared.puts.PutNow.{PutNow}
 use Rattle.store_tables.specs.declared.gets.GetNow.{GetNow}
 use Rattle.store_tables.specs.Gets.{is_read_at}
-use Rattle.store_tells.specs.Puts.{PutsMeet}
+use Rattle.store_tells.specs.Puts.{PutsMeet, AreNumbered}
 use Rattle.store_tells.specs.Gets.{GetsMeet}
-use Rattle.store_tells.specs.PutsChange.{AreNumbered}
 use Rattle.store_tells.specs.PutsTests.{is_acked_at, current_count}
 use Rattle.store_tells.specs.GetsTests.{has_get, is_of_number, has_ended_at, read_count, ReadsFit}
 use Rattle.store_tells.proofs.PutsTests.{same_put_number, same_acked, same_current_count}

@@ -27,12 +27,12 @@ use Rattle.plan_runs.proofs.Passed.{AllMet, all_met}
 use Rattle.store_tables.specs.declared.gets.GetNow.{GetNow}
 use Rattle.store_tables.specs.Gets.{is_read, is_read_at}
 use Rattle.store_tells.specs.Gets.{GetMeets, GetsMeet}
-use Rattle.store_tells.specs.GetsChange.{changes_gets}
+use Rattle.plan_runs.specs.Leaves.{changes_gets}
 use Rattle.store_tells.specs.GetsTests.{has_get, is_of_number, has_ended_at, read_count, ReadsFit}
-use Rattle.store_tells.specs.PutsChange.{AreNumbered}
+use Rattle.store_tells.specs.Puts.{AreNumbered}
 use Rattle.store_tells.proofs.PutsLists.{absent, one_number}
 use Rattle.store_tells.proofs.PutsTests.{same_passing, more_passing}
-use Rattle.store_tells.proofs.GetsFrames.{same_gets}
+use Rattle.plan_runs.proofs.Frames.{same_gets}
 
 -- there is no get of the number here and there, or one, and it is that of the world
 pub both_gets : (ring : RingValue) (clock : ℕ → List Entry) (keys : List (List ℕ)) (gets : List GetNow) (w : World) (g : ℕ) → GetsMeet ring clock keys gets w

@@ -7,7 +7,6 @@ pub mod ClocksJoin
 pub mod GetsFound
 pub mod SlotHolds
 pub mod StoredGrows
-pub mod ValuesStay
 pub mod StoredLasts
 pub mod NodesRead
 pub mod NodesDone

@@ -14,11 +14,12 @@ use Rattle.plan_text.specs.Valid.{Suits}
 use Rattle.plan_stage.specs.Each.{some_step, step_at, passes}
 use Rattle.plan_stage.specs.Clauses.{first_failing}
 use Rattle.plan_runs.specs.declared.event.Event.{Event}
-use Rattle.plan_runs.specs.declared.event.Event.TheVariants.{Do, OpenCopy, ChunkCopy, CloseCopy, AbortCopy, StartPut, Write, Hint, Ack, StartGet, Read, EndGet, Down, Up, Handoff, Lose}
+use Rattle.plan_runs.specs.declared.event.Event.TheVariants.{Do, CloseCopy, Down, Up}
 use Rattle.plan_runs.specs.World.{World, opening_world, is_member_now}
 use Rattle.plan_runs.specs.Guards.{guards}
 use Rattle.plan_runs.specs.Effects.{changed, with_number, without_number, step_effect, effect}
 use Rattle.plan_runs.proofs.Changed.{length_changed, part_changed}
+use Rattle.plan_runs.proofs.Frames.{done_is}
 use Rattle.plan_runs.proofs.Passed.{all_met}
 use Rattle.plan_runs.proofs.Suited.{retires-within}
 use Rattle.store_tables.specs.declared.nodes.NodeNow.{NodeNow}
@@ -96,11 +97,6 @@ nodes_up ring plan w x old new t g is = rw is (record {
 
 -- ---- steps
 
--- the world once a step of that number is done
-pub done_is : (ring : RingValue) (plan : List Planned) (w : World) (n : ℕ) (s : Step) → step_at plan n ≡ Some s → effect ring plan w (Do n) ≡ step_effect (record w { done = with_number w.done n }) s
-unfolding effect
-done_is ring plan w n s at = ap (λ (o : Option Step). elim o as (λ _. World) [ Some t ↦ step_effect (record w { done = with_number w.done n }) t | None ↦ w ]) at
-
 -- a step that joins the node
 pub nodes_join : (ring : RingValue) (plan : List Planned) (w : World) (n : ℕ) (x : NodeId) (old new : List NodeNow) → Suits ring plan → step_at plan n ≡ Some (step.Join x) → NodesTell ring plan old w
     → new ≡ changed old x.0 (λ a. record a { up = true; joined = true }) → NodesTell ring plan new (effect ring plan w (Do n))
@@ -159,11 +155,8 @@ do_stays : (ring : RingValue) (plan : List Planned) (nodes : List NodeNow) (w : 
     → NodesTell ring plan nodes (elim o [ Some s ↦ step_effect (record w { done = with_number w.done n }) s | None ↦ w ])
 do_stays ring plan nodes w n None at h t = t
 do_stays ring plan nodes w n (Some (step.Join x)) at h t = absurd cc
-do_stays ring plan nodes w n (Some (step.Mirror s x)) at h t = other_done ring plan nodes w _ n (step.Mirror s x) at (λ y. refl) (λ y. refl) refl refl t
-do_stays ring plan nodes w n (Some (step.Copy s from)) at h t = other_done ring plan nodes w _ n (step.Copy s from) at (λ y. refl) (λ y. refl) refl refl t
-do_stays ring plan nodes w n (Some (step.Switch s)) at h t = other_done ring plan nodes w _ n (step.Switch s) at (λ y. refl) (λ y. refl) refl refl t
-do_stays ring plan nodes w n (Some (step.Drop s x)) at h t = other_done ring plan nodes w _ n (step.Drop s x) at (λ y. refl) (λ y. refl) refl refl t
 do_stays ring plan nodes w n (Some (step.Retire x)) at h t = absurd cc
+do_stays ring plan nodes w n (Some s) at h t = other_done ring plan nodes w _ n s at (λ y. refl) (λ y. refl) refl refl t
 
 -- a copy is finished
 closed : (ring : RingValue) (plan : List Planned) (nodes : List NodeNow) (w : World) (n : ℕ) (o : Option Step) → step_at plan n ≡ o → is_some (option_and_then copy_of o) ≡ true → NodesTell ring plan nodes w
@@ -176,21 +169,10 @@ pub nodes_stay : (ring : RingValue) (plan : List Planned) (nodes : List NodeNow)
     → NodesTell ring plan nodes (effect ring plan w e)
 unfolding guards effect
 nodes_stay ring plan nodes w (Do n) h g t = do_stays ring plan nodes w n (step_at plan n) refl h t
-nodes_stay ring plan nodes w (OpenCopy n) h g t = same_nodes ring plan nodes w _ refl refl t
-nodes_stay ring plan nodes w (ChunkCopy n c) h g t = same_nodes ring plan nodes w _ refl refl t
 nodes_stay ring plan nodes w (CloseCopy n) h g t = closed ring plan nodes w n (step_at plan n) refl (all_met (guards ring plan w (CloseCopy n)) g).0 t
-nodes_stay ring plan nodes w (AbortCopy n) h g t = same_nodes ring plan nodes w _ refl refl t
-nodes_stay ring plan nodes w (StartPut writer key value seen) h g t = same_nodes ring plan nodes w _ refl refl t
-nodes_stay ring plan nodes w (Write v i) h g t = same_nodes ring plan nodes w _ refl refl t
-nodes_stay ring plan nodes w (Hint v i x) h g t = same_nodes ring plan nodes w _ refl refl t
-nodes_stay ring plan nodes w (Ack v) h g t = same_nodes ring plan nodes w _ refl refl t
-nodes_stay ring plan nodes w (StartGet key) h g t = same_nodes ring plan nodes w _ refl refl t
-nodes_stay ring plan nodes w (Read k i) h g t = same_nodes ring plan nodes w _ refl refl t
-nodes_stay ring plan nodes w (EndGet k) h g t = same_nodes ring plan nodes w _ refl refl t
 nodes_stay ring plan nodes w (Down x) h g t = absurd cc
 nodes_stay ring plan nodes w (Up x) h g t = absurd cc
-nodes_stay ring plan nodes w (Handoff x s) h g t = same_nodes ring plan nodes w _ refl refl t
-nodes_stay ring plan nodes w (Lose x) h g t = same_nodes ring plan nodes w _ refl refl t
+nodes_stay ring plan nodes w e h g t = same_nodes ring plan nodes w _ refl refl t
 
 -- a step that leaves the nodes as they are
 pub nodes_stay_do : (ring : RingValue) (plan : List Planned) (nodes : List NodeNow) (w : World) (n : ℕ) (s : Step) → step_at plan n ≡ Some s → step_leaves_nodes s ≡ true

@@ -4,23 +4,20 @@ use Rattle.std.specs.Prelude.{Option, Some, None, Ok, slice_get}
 use Rattle.ring_names.specs.Names.{place}
 use Rattle.ring_names.proofs.InLists.{get_there}
 use Rattle.ring_table.specs.Value.{RingValue}
-use Rattle.plan_text.specs.declared.step.Step.{Step}
-use Rattle.plan_text.specs.declared.step.Step.TheVariants.{Join, Mirror, Copy, Switch, Drop, Retire}
 use Rattle.plan_text.specs.declared.step.Planned.{Planned}
-use Rattle.plan_stage.specs.Each.{step_at}
 use Rattle.plan_runs.specs.declared.event.Event.{Event}
-use Rattle.plan_runs.specs.declared.event.Event.TheVariants.{Do, OpenCopy, ChunkCopy, CloseCopy, AbortCopy, StartPut, Write, Hint, Ack, StartGet, Read, EndGet, Down, Up, Handoff, Lose}
+use Rattle.plan_runs.specs.declared.event.Event.TheVariants.{StartPut}
 use Rattle.plan_runs.specs.declared.event.Reply.{Reply}
 use Rattle.plan_runs.specs.World.{PutRecord, World, opening_world, key_of_put, writer_of}
-use Rattle.plan_runs.specs.Effects.{with_number, step_effect, effect}
 use Rattle.plan_runs.specs.Answers.{answer}
 use Rattle.plan_runs.specs.Reached.{Reached}
 use Rattle.plan_runs.proofs.Answered.{answered}
-use Rattle.store_tells.specs.Clocks.{AreClocksOf, IsOwn, IsLastOf, starts_put}
+use Rattle.store_tells.specs.Clocks.{AreClocksOf, IsOwn, IsLastOf}
 use Rattle.store_tells.proofs.ClocksStay.{opening_clocks, clocks_stay}
 use Rattle.store_tables.specs.declared.puts.PutNow.{PutNow}
 use Rattle.store_tells.specs.Puts.{clock_at, PutsMeet}
-use Rattle.store_tells.specs.PutsChange.{changes_puts}
+use Rattle.plan_runs.specs.Leaves.{starts_put, changes_puts}
+use Rattle.plan_runs.proofs.Frames.{same_puts}
 use Rattle.store_tells.proofs.PutsLists.{appended_at, stays_there, absent}
 
 -- ---- the start
@@ -69,35 +66,6 @@ puts_as_before keys last puts w u same made m = record {
       })
       writer key (last k writer) (m.lasts k key writer e);
 }
-
-do_puts : (w : World) (n : ℕ) (t : Option Step) → (elim t as (λ _. World) [ Some s ↦ step_effect (record w { done = with_number w.done n }) s | None ↦ w ]).puts ≡ w.puts
-do_puts w n None = refl
-do_puts w n (Some (Join x)) = refl
-do_puts w n (Some (Mirror s x)) = refl
-do_puts w n (Some (Copy s from)) = refl
-do_puts w n (Some (Switch s)) = refl
-do_puts w n (Some (Drop s x)) = refl
-do_puts w n (Some (Retire x)) = refl
-
--- an event that changes no put leaves all puts as they are
-pub same_puts : (ring : RingValue) (plan : List Planned) (w : World) (e : Event) → changes_puts e ≡ false → (effect ring plan w e).puts ≡ w.puts
-unfolding effect
-same_puts ring plan w (Do n) c = do_puts w n (step_at plan n)
-same_puts ring plan w (OpenCopy n) c = refl
-same_puts ring plan w (ChunkCopy n k) c = refl
-same_puts ring plan w (CloseCopy n) c = refl
-same_puts ring plan w (AbortCopy n) c = refl
-same_puts ring plan w (StartPut writer key value seen) c = absurd cc
-same_puts ring plan w (Write v i) c = absurd cc
-same_puts ring plan w (Hint v i x) c = absurd cc
-same_puts ring plan w (Ack v) c = absurd cc
-same_puts ring plan w (StartGet key) c = refl
-same_puts ring plan w (Read g i) c = refl
-same_puts ring plan w (EndGet g) c = refl
-same_puts ring plan w (Down x) c = refl
-same_puts ring plan w (Up x) c = refl
-same_puts ring plan w (Handoff x s) c = refl
-same_puts ring plan w (Lose x) c = refl
 
 starts_none : (e : Event) → changes_puts e ≡ false → starts_put e ≡ false
 starts_none (StartPut writer key value seen) c = absurd cc

@@ -7,9 +7,8 @@ use Rattle.ring_clock.specs.declared.entry.Entry.{Entry}
 use Rattle.plan_runs.specs.World.{World}
 use Rattle.store_tables.specs.declared.puts.PutNow.{PutNow}
 use Rattle.store_tables.specs.declared.gets.GetNow.{GetNow}
-use Rattle.store_tells.specs.Puts.{PutsMeet}
+use Rattle.store_tells.specs.Puts.{PutsMeet, AreNumbered, NoneBehind}
 use Rattle.store_tells.specs.Gets.{GetsMeet}
-use Rattle.store_tells.specs.PutsChange.{AreNumbered, NoneBehind}
 use Rattle.store_tells.proofs.PutsLists.{numbered_with_key}
 use Rattle.store_tells.proofs.PutsFrames.{puts_stay_with_key}
 use Rattle.store_tells.proofs.PutsStarts.{none_behind_more}

@@ -7,10 +7,9 @@ use Rattle.std.proofs.lemmas.Slice.Eq.{bytes_eq-Decides}
 use Rattle.ring_names.specs.Names.{place}
 use Rattle.ring_names.proofs.Places.{place-push}
 use Rattle.ring_names.proofs.Logic.{cond_none}
-use Rattle.ring_names.proofs.InLists.{get_there}
 use Rattle.plan_runs.specs.Effects.{changed}
 use Rattle.plan_runs.proofs.Changed.{get_changed, get_other}
-use Rattle.store_tells.specs.PutsChange.{AreNumbered}
+use Rattle.store_tells.specs.Puts.{AreNumbered}
 
 mapped : {A : Type 0} (f : A → A) (o : Option A) (y : A) → option_map f o ≡ Some y → (x : A) × (o ≡ Some x) × (f x ≡ y)
 mapped f None y e = absurd cc

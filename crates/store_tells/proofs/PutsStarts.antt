@@ -37,10 +37,8 @@ use Rattle.store_tells.proofs.ShownSets.{other_clock}
 use Rattle.store_tables.specs.declared.puts.PutNow.{PutNow}
 use Rattle.store_tables.specs.declared.gets.GetNow.{GetNow}
 use Rattle.store_tables.specs.Puts.{ticket_at}
-use Rattle.store_tells.specs.Puts.{clock_in, clock_at, PutMeets, PutsMeet}
-use Rattle.store_tells.specs.PutsChange.{AreNumbered, NoneBehind}
-use Rattle.store_tells.specs.Gets.{GetsMeet}
-use Rattle.store_tells.specs.GetsChange.{found_at}
+use Rattle.store_tells.specs.Puts.{clock_in, clock_at, PutMeets, PutsMeet, AreNumbered, NoneBehind}
+use Rattle.store_tells.specs.Gets.{GetsMeet, found_at}
 use Rattle.store_tells.proofs.PutsLists.{appended_at, one_number}
 use Rattle.store_tells.proofs.PutsChanges.{same_clocks}
 use Rattle.store_tells.proofs.GetsFrames.{gets_stay, gets_stay_with_clocks}

@@ -1,22 +1,20 @@
 -- The owners and mirrors of slots that are kept are declared nodes, and their generations are small.
-use Rattle.std.proofs.Common.{◌≡◌, ◌∙◌, ℕ, ◌+◌, ◌<◌, ◌≤◌, Bool, true, false, cond, List, [], ◌∷◌, length, refl, sym, ap, subst, arith}
-use Rattle.std.specs.Prelude.{◌==◌, ◌&&◌, Option, Some, None, option_map, is_some, IfSome}
+use Rattle.std.proofs.Common.{◌≡◌, ◌∙◌, ℕ, ◌+◌, ◌<◌, ◌≤◌, Bool, true, false, cond, List, length, refl, sym, ap, subst, arith}
+use Rattle.std.specs.Prelude.{◌&&◌, Option, Some, None, option_map, is_some, IfSome}
 use Rattle.ring_names.specs.declared.ids.NodeId.{NodeId}
 use Rattle.ring_names.specs.declared.ids.Slot.{Slot}
 use Rattle.ring_table.specs.Value.{RingValue}
 use Rattle.ring_table.specs.Valid.{IsRing}
-use Rattle.plan_text.specs.declared.step.Step.{Step}
-use Rattle.plan_text.specs.declared.step.Step.TheVariants as step
 use Rattle.plan_text.specs.declared.step.Planned.{Planned}
 use Rattle.plan_text.specs.Steps.{steps_of}
 use Rattle.plan_text.specs.Valid.{IsPlan, Suits, is_ring_slot}
-use Rattle.plan_stage.specs.Each.{step_at}
 use Rattle.plan_stage.proofs.Truth.{slot-same}
 use Rattle.plan_runs.specs.declared.event.Event.{Event}
-use Rattle.plan_runs.specs.declared.event.Event.TheVariants.{Do, OpenCopy, ChunkCopy, CloseCopy, AbortCopy, StartPut, Write, Hint, Ack, StartGet, Read, EndGet, Down, Up, Handoff, Lose}
+use Rattle.plan_runs.specs.declared.event.Event.TheVariants.{Lose}
 use Rattle.plan_runs.specs.World.{World, opening_world, count, mirror_at, is_in_group}
-use Rattle.plan_runs.specs.Effects.{with_number, step_effect, effect}
+use Rattle.plan_runs.specs.Effects.{effect}
 use Rattle.plan_runs.specs.Reached.{Reached}
+use Rattle.plan_runs.proofs.Frames.{same_losses}
 use Rattle.store_tables.specs.declared.slots.SlotNow.{SlotNow}
 use Rattle.store_tables.specs.Slots.{slot_now, ChangesSlot}
 use Rattle.store_tells.specs.Slots.{IsNow, SlotsMeet}
@@ -32,38 +30,20 @@ use Rattle.plan_stage.proofs.Copies.{steps_from-few}
 pub losses_start : (ring : RingValue) → LossesFit (opening_world ring)
 losses_start ring slot = omega arith
 
-do_losses : (w : World) (o : Option Step) (n : ℕ) → LossesFit w → LossesFit (elim o [ Some s ↦ step_effect (record w { done = with_number w.done n }) s | None ↦ w ])
-do_losses w None n f = f
-do_losses w (Some (step.Join x)) n f = f
-do_losses w (Some (step.Mirror s x)) n f = f
-do_losses w (Some (step.Copy s from)) n f = f
-do_losses w (Some (step.Switch s)) n f = f
-do_losses w (Some (step.Drop s x)) n f = f
-do_losses w (Some (step.Retire x)) n f = f
-
 -- every event keeps it so that no slot has had more losses than there were
 pub losses_stay : (ring : RingValue) (plan : List Planned) (w : World) (e : Event) → LossesFit w → LossesFit (effect ring plan w e)
 unfolding effect
-losses_stay ring plan w (Do n) f = do_losses w (step_at plan n) n f
-losses_stay ring plan w (OpenCopy n) f = f
-losses_stay ring plan w (ChunkCopy n c) f = f
-losses_stay ring plan w (CloseCopy n) f = f
-losses_stay ring plan w (AbortCopy n) f = f
-losses_stay ring plan w (StartPut writer key value seen) f = f
-losses_stay ring plan w (Write v i) f = f
-losses_stay ring plan w (Hint v i x) f = f
-losses_stay ring plan w (Ack v) f = f
-losses_stay ring plan w (StartGet key) f = f
-losses_stay ring plan w (Read k i) f = f
-losses_stay ring plan w (EndGet k) f = f
-losses_stay ring plan w (Down x) f = f
-losses_stay ring plan w (Up x) f = f
-losses_stay ring plan w (Handoff x s) f = f
 losses_stay ring plan w (Lose x) f = λ slot. by (is_in_group ring plan w slot x.0) (w.lost slot) (f slot)
   where
     by : (b : Bool) (l : ℕ) → l ≤ w.losses → cond b (l + 1) l ≤ w.losses + 1
     by true l h = omega arith
     by false l h = omega arith
+losses_stay ring plan w e f = λ slot. (
+    let k = same_losses ring plan w e refl in
+    let l = ap (λ (lost : Slot → ℕ). lost slot) k.1 in
+    let m = k.0 in
+    let n = f slot in
+    omega arith)
 
 -- ---- generations
 

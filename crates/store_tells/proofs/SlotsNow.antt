@@ -1,5 +1,5 @@
 -- The slots that are kept go on to tell the slots of a world.
-use Rattle.std.proofs.Common.{◌≡◌, inl, inr, ◌∙◌, ℕ, ◌+◌, ◌<◌, Bool, true, false, cond, List, [], refl, sym, ap, subst, arith, lt-ltb}
+use Rattle.std.proofs.Common.{◌≡◌, inl, inr, ◌∙◌, ℕ, ◌+◌, Bool, true, false, cond, List, [], refl, sym, ap, subst, arith, lt-ltb}
 use Rattle.std.specs.Prelude.{nat_lt, Option, Some, None, option_map, is_some, option_and_then, if◌then◌else◌}
 use Rattle.std.proofs.lemmas.Bool.{not-true, and_from}
 use Rattle.ring_names.specs.declared.ids.NodeId.{NodeId}
@@ -15,13 +15,14 @@ use Rattle.plan_stage.specs.Stage.{opening, stage}
 use Rattle.plan_stage.specs.Each.{step_at}
 use Rattle.plan_stage.specs.Clauses.{first_failing}
 use Rattle.plan_runs.specs.declared.event.Event.{Event}
-use Rattle.plan_runs.specs.declared.event.Event.TheVariants.{Do, OpenCopy, ChunkCopy, CloseCopy, AbortCopy, StartPut, Write, Hint, Ack, StartGet, Read, EndGet, Down, Up, Handoff, Lose}
+use Rattle.plan_runs.specs.declared.event.Event.TheVariants.{Do, CloseCopy, Lose}
 use Rattle.plan_check.specs.Sound.{Sound}
 use Rattle.plan_runs.specs.World.{World, opening_world, count, mirror_at, mirrors_done, is_in_group}
 use Rattle.plan_runs.specs.Guards.{guards}
 use Rattle.plan_runs.specs.Effects.{with_number, without_number, step_effect, effect}
 use Rattle.plan_runs.specs.Reached.{Reached}
 use Rattle.plan_runs.proofs.Copying.{closed_with}
+use Rattle.plan_runs.proofs.Frames.{step_is, done_is}
 use Rattle.plan_check.proofs.Mirrored.{known}
 use Rattle.plan_check.proofs.Occupied.{occupied}
 use Rattle.plan_runs.proofs.Passed.{all_met, ready}
@@ -71,15 +72,6 @@ slots_start ring plan rows r is = record {
 
 -- ---- steps
 
--- what doing a step leaves of the finished ones and the losses
-step_leaves : (w : World) (s : Step) → ((step_effect w s).done ≡ w.done) × ((step_effect w s).lost ≡ w.lost)
-step_leaves w (step.Join x) = (refl, refl)
-step_leaves w (step.Mirror s x) = (refl, refl)
-step_leaves w (step.Copy s from) = (refl, refl)
-step_leaves w (step.Switch s) = (refl, refl)
-step_leaves w (step.Drop s x) = (refl, refl)
-step_leaves w (step.Retire x) = (refl, refl)
-
 -- a step is done, and its slot changes by it
 pub slots_do : (ring : RingValue) (plan : List Planned) (w : World) (n : ℕ) (s : Step) (old new : List (List SlotNow)) → IsRing ring → IsPlan plan → Sound ring plan → Reached ring plan w
     → first_failing (guards ring plan w (Do n)) ≡ None → step_at plan n ≡ Some s → SlotsMeet ring plan old w → StepsSlots old new s → SlotsMeet ring plan new (effect ring plan w (Do n))
@@ -87,10 +79,8 @@ unfolding guards effect
 slots_do ring plan w n s old new is_ring is_plan sound r g at t change =
     let a = all_met (guards ring plan w (Do n)) g in
     let m = slots_stepped ring plan (known ring plan is_ring is_plan sound) w n s old new r.closed (closed_with plan w.done n r.closed (ready plan w n a.1.1.0)) (not-true (w.done n) a.1.0) at t change in
-    let k = step_leaves (record w { done = with_number w.done n }) s in
-    let f : effect ring plan w (Do n) ≡ step_effect (record w { done = with_number w.done n }) s
-    = ap (λ (o : Option Step). elim o as (λ _. World) [ Some x ↦ step_effect (record w { done = with_number w.done n }) x | None ↦ w ]) at in
-    rw f (same_slots ring plan new (record w { done = with_number w.done n }) _ k.0 k.1 m)
+    let k = step_is (record w { done = with_number w.done n }) s in
+    rw (done_is ring plan w n s at) (same_slots ring plan new (record w { done = with_number w.done n }) _ (ap (λ (u : World). u.done) k) (ap (λ (u : World). u.lost) k) m)
 
 -- a mirror is set, and the slot's generation is one more
 pub slots_mirror : (ring : RingValue) (plan : List Planned) (w : World) (n : ℕ) (s : Slot) (x : NodeId) (old mid new : List (List SlotNow)) → IsRing ring → IsPlan plan → Sound ring plan → Reached ring plan w
@@ -152,12 +142,9 @@ leaving : (rows : List (List SlotNow)) (s : Step) → step_leaves_slots s ≡ tr
 leaving rows s h t = by (is_on t s) (slot_now rows t)
   where
     same : (a : SlotNow) (s : Step) → step_leaves_slots s ≡ true → stepped a s ≡ a
-    same a (step.Join x) h = refl
     same a (step.Mirror s x) h = absurd cc
-    same a (step.Copy s from) h = refl
     same a (step.Switch s) h = absurd cc
-    same a (step.Drop s x) h = refl
-    same a (step.Retire x) h = refl
+    same a s h = refl
 
     by : (b : Bool) (o : Option SlotNow) → o ≡ cond b (option_map (λ a. stepped a s) o) o
     by true None = refl
@@ -187,21 +174,9 @@ pub slots_stay : (ring : RingValue) (plan : List Planned) (rows : List (List Slo
     → leaves_slots plan e ≡ true → first_failing (guards ring plan w e) ≡ None → SlotsMeet ring plan rows w → SlotsMeet ring plan rows (effect ring plan w e)
 unfolding guards effect
 slots_stay ring plan rows w (Do n) a b c r h g t = do_leaves ring plan rows w n a b c r g (step_at plan n) refl h t
-slots_stay ring plan rows w (OpenCopy n) a b c r h g t = same_slots ring plan rows w _ refl refl t
-slots_stay ring plan rows w (ChunkCopy n d) a b c r h g t = same_slots ring plan rows w _ refl refl t
 slots_stay ring plan rows w (CloseCopy n) a b c r h g t = (let m = all_met (guards ring plan w (CloseCopy n)) g in closes ring plan rows w n a b c r m.1.0 (step_at plan n) refl m.0 t)
-slots_stay ring plan rows w (AbortCopy n) a b c r h g t = same_slots ring plan rows w _ refl refl t
-slots_stay ring plan rows w (StartPut writer key value seen) a b c r h g t = same_slots ring plan rows w _ refl refl t
-slots_stay ring plan rows w (Write v i) a b c r h g t = same_slots ring plan rows w _ refl refl t
-slots_stay ring plan rows w (Hint v i x) a b c r h g t = same_slots ring plan rows w _ refl refl t
-slots_stay ring plan rows w (Ack v) a b c r h g t = same_slots ring plan rows w _ refl refl t
-slots_stay ring plan rows w (StartGet key) a b c r h g t = same_slots ring plan rows w _ refl refl t
-slots_stay ring plan rows w (Read k i) a b c r h g t = same_slots ring plan rows w _ refl refl t
-slots_stay ring plan rows w (EndGet k) a b c r h g t = same_slots ring plan rows w _ refl refl t
-slots_stay ring plan rows w (Down x) a b c r h g t = same_slots ring plan rows w _ refl refl t
-slots_stay ring plan rows w (Up x) a b c r h g t = same_slots ring plan rows w _ refl refl t
-slots_stay ring plan rows w (Handoff x s) a b c r h g t = same_slots ring plan rows w _ refl refl t
 slots_stay ring plan rows w (Lose x) a b c r h g t = absurd cc
+slots_stay ring plan rows w e a b c r h g t = same_slots ring plan rows w _ refl refl t
 
 -- a step that leaves the slots as they are
 pub slots_stay_do : (ring : RingValue) (plan : List Planned) (rows : List (List SlotNow)) (w : World) (n : ℕ) (s : Step) → IsRing ring → IsPlan plan → Sound ring plan → Reached ring plan w

@@ -8,25 +8,25 @@ use Rattle.std.proofs.lemmas.Nat.Bits.{bit_at-zero}
 use Rattle.std.proofs.lemmas.Option.{slice_get_within}
 use Rattle.ring_table.specs.Value.{RingValue}
 use Rattle.plan_text.specs.declared.step.Step.{Step}
-use Rattle.plan_text.specs.declared.step.Step.TheVariants as step
 use Rattle.plan_text.specs.declared.step.Planned.{Planned}
 use Rattle.plan_text.specs.Steps.{copy_of}
 use Rattle.plan_stage.specs.Each.{step_at}
 use Rattle.plan_stage.specs.Clauses.{first_failing}
 use Rattle.plan_runs.specs.declared.event.Event.{Event}
-use Rattle.plan_runs.specs.declared.event.Event.TheVariants.{Do, OpenCopy, ChunkCopy, CloseCopy, AbortCopy, StartPut, Write, Hint, Ack, StartGet, Read, EndGet, Down, Up, Handoff, Lose}
+use Rattle.plan_runs.specs.declared.event.Event.TheVariants.{Do, OpenCopy, ChunkCopy, CloseCopy, AbortCopy}
 use Rattle.plan_runs.specs.World.{World, opening_world}
 use Rattle.plan_runs.specs.Guards.{has_copy, has_other, guards}
-use Rattle.plan_runs.specs.Effects.{changed, with_number, without_number, with_mark as with_chunk, step_effect, effect}
+use Rattle.plan_runs.specs.Effects.{changed, with_number, without_number, with_mark as with_chunk, effect}
 use Rattle.plan_runs.specs.Reached.{Reached}
 use Rattle.plan_runs.proofs.Changed.{read_at, length_changed, part_changed}
 use Rattle.plan_runs.proofs.Copying.{other_is_no_copy}
+use Rattle.plan_runs.proofs.Frames.{step_is, done_is, same_steps}
 use Rattle.plan_runs.proofs.Passed.{all_met}
 use Rattle.store_tables.specs.declared.steps.StepNow.{StepNow}
 use Rattle.store_tables.specs.Marks.{with_mark}
 use Rattle.store_tables.specs.Steps.{step_at_start, is_marked, is_marked_at}
 use Rattle.store_tells.specs.Steps.{StepsMeet}
-use Rattle.store_tells.specs.StepsLeft.{leaves_steps}
+use Rattle.plan_runs.specs.Leaves.{leaves_steps}
 use Rattle.store_tells.proofs.NodesRead.{read_within, read_with, read_without}
 
 -- ---- the start
@@ -54,8 +54,8 @@ steps_start ring plan steps is = rw is (record {
 
 -- ---- steps that change
 
-same_steps : (plan : List Planned) (steps : List StepNow) (w u : World) → u.done ≡ w.done → u.is_open ≡ w.is_open → u.marked ≡ w.marked → StepsMeet plan steps w → StepsMeet plan steps u
-same_steps plan steps w u done opened marked t = record {
+steps_as_before : (plan : List Planned) (steps : List StepNow) (w u : World) → u.done ≡ w.done → u.is_open ≡ w.is_open → u.marked ≡ w.marked → StepsMeet plan steps w → StepsMeet plan steps u
+steps_as_before plan steps w u done opened marked t = record {
   each = t.each;
   done = λ n. t.done n ∙ ap (λ (f : ℕ → Bool). f n) (sym done);
   is_open = λ n. t.is_open n ∙ ap (λ (f : ℕ → Bool). f n) (sym opened);
@@ -93,15 +93,6 @@ copy_within plan n h = by (step_at plan n) h
     by None h = absurd cc
     by (Some s) h = (s, refl)
 
--- what doing a step leaves of the finished ones, the open ones and the marks
-step_leaves : (w : World) (s : Step) → ((step_effect w s).done ≡ w.done) × ((step_effect w s).is_open ≡ w.is_open) × ((step_effect w s).marked ≡ w.marked)
-step_leaves w (step.Join x) = (refl, refl, refl)
-step_leaves w (step.Mirror s x) = (refl, refl, refl)
-step_leaves w (step.Copy s from) = (refl, refl, refl)
-step_leaves w (step.Switch s) = (refl, refl, refl)
-step_leaves w (step.Drop s x) = (refl, refl, refl)
-step_leaves w (step.Retire x) = (refl, refl, refl)
-
 abbrev finished : StepNow → StepNow
 finished a = record a { done = true; is_open = false }
 
@@ -129,10 +120,10 @@ steps_do ring plan w n old new r g t is = by (w.is_open n) refl
     by : (b : Bool) → w.is_open n ≡ b → StepsMeet plan new (effect ring plan w (Do n))
     by true e = absurd (let a = r.copies.copies n e in let b = other_is_no_copy plan n other in cc)
     by false e =
-        let k = step_leaves (record w { done = with_number w.done n }) s.0 in
-        let f : effect ring plan w (Do n) ≡ step_effect (record w { done = with_number w.done n }) s.0
-        = ap (λ (o : Option Step). elim o as (λ _. World) [ Some x ↦ step_effect (record w { done = with_number w.done n }) x | None ↦ w ]) s.1 in
-        rw (is, f) (same_steps plan (changed old n finished) (record w { done = with_number w.done n }) _ k.0 k.1 k.2 (finish plan w n old (step_within plan n s.0 s.1) e t))
+        let k = step_is (record w { done = with_number w.done n }) s.0 in
+        rw (is, done_is ring plan w n s.0 s.1) (
+        steps_as_before plan (changed old n finished) (record w { done = with_number w.done n }) _ (ap (λ (u : World). u.done) k) (ap (λ (u : World). u.is_open) k) (ap (λ (u : World). u.marked) k)
+        (finish plan w n old (step_within plan n s.0 s.1) e t))
 
 -- a copy is finished
 pub steps_close : (ring : RingValue) (plan : List Planned) (w : World) (n : ℕ) (old new : List StepNow) → first_failing (guards ring plan w (CloseCopy n)) ≡ None → StepsMeet plan old w
@@ -196,20 +187,4 @@ steps_mark ring plan w n c old new g t is marks = record {
 
 -- an event that leaves the steps as they are
 pub steps_stay : (ring : RingValue) (plan : List Planned) (steps : List StepNow) (w : World) (e : Event) → leaves_steps e ≡ true → StepsMeet plan steps w → StepsMeet plan steps (effect ring plan w e)
-unfolding effect
-steps_stay ring plan steps w (Do n) h t = absurd cc
-steps_stay ring plan steps w (OpenCopy n) h t = absurd cc
-steps_stay ring plan steps w (ChunkCopy n c) h t = absurd cc
-steps_stay ring plan steps w (CloseCopy n) h t = absurd cc
-steps_stay ring plan steps w (AbortCopy n) h t = absurd cc
-steps_stay ring plan steps w (StartPut writer key value seen) h t = same_steps plan steps w _ refl refl refl t
-steps_stay ring plan steps w (Write v i) h t = same_steps plan steps w _ refl refl refl t
-steps_stay ring plan steps w (Hint v i x) h t = same_steps plan steps w _ refl refl refl t
-steps_stay ring plan steps w (Ack v) h t = same_steps plan steps w _ refl refl refl t
-steps_stay ring plan steps w (StartGet key) h t = same_steps plan steps w _ refl refl refl t
-steps_stay ring plan steps w (Read k i) h t = same_steps plan steps w _ refl refl refl t
-steps_stay ring plan steps w (EndGet k) h t = same_steps plan steps w _ refl refl refl t
-steps_stay ring plan steps w (Down x) h t = same_steps plan steps w _ refl refl refl t
-steps_stay ring plan steps w (Up x) h t = same_steps plan steps w _ refl refl refl t
-steps_stay ring plan steps w (Handoff x s) h t = same_steps plan steps w _ refl refl refl t
-steps_stay ring plan steps w (Lose x) h t = same_steps plan steps w _ refl refl refl t
+steps_stay ring plan steps w e h t = (let k = same_steps ring plan w e h in steps_as_before plan steps w (effect ring plan w e) k.0 k.1 k.2 t)

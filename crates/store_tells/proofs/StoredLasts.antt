@@ -20,7 +20,6 @@ use Rattle.plan_runs.proofs.Passed.{all_met}
 use Rattle.store_tells.specs.Shows.{ArePutsOf, value_of}
 use Rattle.store_tells.specs.Stored.{ShowAll}
 use Rattle.store_tells.proofs.ShownSets.{other_test, other_value, new_clock}
-use Rattle.store_tells.proofs.ValuesStay.{values_stay}
 
 -- a put that is there is of the same key after the event
 same_key : (w u : World) (key : List ℕ) (test : ℕ → Bool) → Extends w u → ArePutsOf w test → (v : ℕ) → (test v && is_of_key w key v) ≡ (test v && is_of_key u key v)
@@ -37,7 +36,7 @@ all_stay ring plan w u e r clock held test h are shows x s key =
     let extends : Extends w u = subst (λ (z : World). Extends w z) a.1 (event_extends ring plan w e (all_met (guards ring plan w e) a.0)) in
     other_test clock (value_of u) (held x s key) (λ v. test x s v && is_of_key w key v) (λ v. test x s v && is_of_key u key v) (same_key w u key (test x s) extends (are x s))
     (other_value clock (value_of w) (value_of u) (held x s key) (λ v. test x s v && is_of_key w key v)
-    (λ v t. values_stay ring plan w u e r h v (are x s v (and_parts (test x s v) (is_of_key w key v) t).0)) (shows x s key))
+    (λ v t. extends.value v (are x s v (and_parts (test x s v) (is_of_key w key v) t).0)) (shows x s key))
 
 pub all_with_clock : (w : World) (clock : ℕ → List Entry) (c : List Entry) (held : ℕ → Slot → List ℕ → List Version) (test : ℕ → Slot → ℕ → Bool) → ((x : ℕ) (s : Slot) → ArePutsOf w (test x s)) → ShowAll w clock held test
     → ShowAll w (with_clock clock (length w.puts) c) held test

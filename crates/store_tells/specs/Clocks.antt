@@ -1,9 +1,7 @@
 -- The clocks of a world's puts, each made of those of puts before it.
-use Rattle.std.specs.Prelude.{◌≡◌, ◌⊎◌, ℕ, ◌<◌, ◌≤◌, Bool, true, false, List, length, Option, Some, None}
+use Rattle.std.specs.Prelude.{◌≡◌, ◌⊎◌, ℕ, ◌<◌, ◌≤◌, true, List, length, Option, Some, None}
 use Rattle.ring_clock.specs.declared.entry.Entry.{Entry}
 use Rattle.ring_clock.specs.Built.{IsNext}
-use Rattle.plan_runs.specs.declared.event.Event.{Event}
-use Rattle.plan_runs.specs.declared.event.Event.TheVariants.{StartPut}
 use Rattle.plan_runs.specs.World.{World, key_of_put, writer_of}
 use Rattle.plan_runs.specs.Succession.{some_replied, is_direct}
 
@@ -25,8 +23,3 @@ IsLastOf w writer key (Some u) = IsOwn w writer key u × ((v : ℕ) → IsOwn w 
 -- v is an input of a put that names these gets: a reply of one of them had it, or it is the writer's last put
 abbrev pub IsInputOf : World → List ℕ → Option ℕ → ℕ → Type 0
 IsInputOf w seen last v = (some_replied w.gets seen v ≡ true) ⊎ (last ≡ Some v)
-
--- the event starts a put
-abbrev pub starts_put : Event → Bool
-starts_put (StartPut writer key value seen) = true
-starts_put e = false

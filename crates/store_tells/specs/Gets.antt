@@ -1,6 +1,7 @@
 -- What the gets that are kept say of a world.
-use Rattle.std.specs.Prelude.{◌≡◌, ℕ, true, List, length, Some, slice_get, is_some}
+use Rattle.std.specs.Prelude.{◌≡◌, ℕ, true, List, [], length, Some, None, slice_get, is_some}
 use Rattle.ring_clock.specs.declared.entry.Entry.{Entry}
+use Rattle.ring_versions.specs.declared.version.Version.{Version}
 use Rattle.ring_table.specs.Value.{RingValue}
 use Rattle.plan_runs.specs.World.{GetRecord, World}
 use Rattle.plan_runs.specs.Succession.{replied}
@@ -8,6 +9,10 @@ use Rattle.store_tells.specs.Shows.{Shows, value_of}
 use Rattle.store_tells.specs.GetsFind.{found_by}
 use Rattle.store_tables.specs.declared.gets.GetNow.{GetNow}
 use Rattle.store_tables.specs.Gets.{is_read}
+
+-- the versions that the get of that number found, none where there is no such get
+abbrev pub found_at : List GetNow → ℕ → List Version
+found_at gets g = elim (slice_get gets g) [ Some get ↦ get.found | None ↦ [] ]
 
 -- it is get g of that record: its key by number, the slots that it has read, what it found there and its reply
 pub record GetMeets (ring : RingValue) (clock : ℕ → List Entry) (w : World) (keys : List (List ℕ)) (g : ℕ) (get : GetNow) (x : GetRecord) : Type 0 where

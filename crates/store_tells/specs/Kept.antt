@@ -20,8 +20,7 @@ use Rattle.store_tells.specs.NodesTold.{NodesTell}
 use Rattle.store_tells.specs.Steps.{StepsMeet}
 use Rattle.store_tells.specs.Slots.{SlotsMeet}
 use Rattle.store_tells.specs.SlotsLost.{LossesFit}
-use Rattle.store_tells.specs.Puts.{PutsMeet, clock_at}
-use Rattle.store_tells.specs.PutsChange.{AreNumbered, NoneBehind}
+use Rattle.store_tells.specs.Puts.{PutsMeet, clock_at, AreNumbered, NoneBehind}
 use Rattle.store_tells.specs.Gets.{GetsMeet}
 use Rattle.store_tells.specs.GetsTests.{ReadsFit}
 use Rattle.store_tells.specs.HintsFit.{HintsFit, KeysFit}

@@ -9,12 +9,9 @@ pub mod Slots
 pub mod Puts
 pub mod Gets
 pub mod NodesTold
-pub mod StepsLeft
 pub mod SlotsLost
 pub mod SlotsStepped
 pub mod GuardsKept
-pub mod PutsChange
-pub mod GetsChange
 pub mod PutsTests
 pub mod GetsTests
 pub mod HintsFit

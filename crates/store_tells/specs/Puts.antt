@@ -1,5 +1,6 @@
 -- What the puts that are kept say of a world.
-use Rattle.std.specs.Prelude.{◌≡◌, ℕ, List, [], ◌∷◌, length, Option, Some, None, slice_get}
+use Rattle.std.specs.Prelude.{◌≡◌, ℕ, ◌≤◌, List, [], ◌∷◌, length, Option, Some, None, slice_get}
+use Rattle.ring_names.specs.Names.{place}
 use Rattle.ring_clock.specs.declared.entry.Entry.{Entry}
 use Rattle.ring_versions.specs.declared.version.Version.{Version}
 use Rattle.plan_runs.specs.World.{PutRecord, World}
@@ -29,3 +30,13 @@ pub record PutsMeet (keys : List (List ℕ)) (last : ℕ → ℕ → Option ℕ)
   pub at : (v : ℕ) (put : PutNow) (x : PutRecord) → slice_get puts v ≡ Some put → slice_get w.puts v ≡ Some x → PutMeets keys v put x
   pub clocks : AreClocksOf w (clock_at puts)
   pub lasts : (k : ℕ) (key : List ℕ) (writer : ℕ) → slice_get keys k ≡ Some key → IsLastOf w writer key (last k writer)
+
+-- ---- keys by number
+
+-- the keys are all different: the number of each is its place
+abbrev pub AreNumbered : List (List ℕ) → Type 0
+AreNumbered keys = (k : ℕ) (key : List ℕ) → slice_get keys k ≡ Some key → place keys key ≡ Some k
+
+-- no writer has put a key that is not among the first n
+abbrev pub NoneBehind : (ℕ → ℕ → Option ℕ) → ℕ → Type 0
+NoneBehind last n = (k writer : ℕ) → n ≤ k → last k writer ≡ None

@@ -14,7 +14,8 @@ ghost use Rattle.plan_runs.specs.World.{World, opening_world, key_of_put};
 ghost use Rattle.plan_runs.specs.Succession.{Succeeds};
 ghost use Rattle.plan_runs.specs.Answers.{answer};
 ghost use Rattle.plan_runs.specs.Reached.{Reached};
-ghost use Rattle.store_tells.specs.Clocks.{AreClocksOf, IsLastOf, IsInputOf, starts_put};
+ghost use Rattle.plan_runs.specs.Leaves.{starts_put};
+ghost use Rattle.store_tells.specs.Clocks.{AreClocksOf, IsLastOf, IsInputOf};
 
 /// Of two puts of one key the first one's clock is at most the second's exactly where the second succeeds the first.
 pub fn clocks_tell_succession()
