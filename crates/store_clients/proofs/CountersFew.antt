@@ -19,7 +19,7 @@ use Rattle.store_tells.specs.Clocks.{AreClocksOf}
 use Rattle.store_tells.specs.Found.{IsJoinOfFound}
 use Rattle.store_tables.specs.declared.gets.GetNow.{GetNow}
 use Rattle.store_tables.specs.declared.puts.PutNow.{PutNow}
-use Rattle.store_tells.specs.GetsChange.{found_at}
+use Rattle.store_tells.specs.Gets.{found_at}
 use Rattle.store_tells.specs.Puts.{clock_in, clock_at}
 use Rattle.store_tells.proofs.GetsChanges.{kept_get}
 use Rattle.store_tells.specs.Kept.{Kept, Tells}

@@ -4,7 +4,6 @@ use Rattle.std.specs.Prelude.{nat_lt, ◌==◌, None, slice_get}
 use Rattle.std.proofs.lemmas.List.{nil_from_length}
 use Rattle.std.proofs.lemmas.Bool.Decides.{nat_tests}
 use Rattle.std.proofs.lemmas.Option.{slice_get_cases}
-use Rattle.std.proofs.lemmas.Bool.{le-ltb}
 
 pub is_less : (x y : ℕ) → x < y → nat_lt x y ≡ true
 is_less x y h = grind (arith, nat_tests)

@@ -5,7 +5,7 @@ use Rattle.ring_names.specs.declared.ids.Slot.{Slot}
 use Rattle.ring_table.specs.Value.{RingValue}
 use Rattle.plan_text.specs.declared.step.Planned.{Planned}
 use Rattle.plan_runs.specs.declared.event.Event.{Event}
-use Rattle.plan_runs.specs.declared.event.Event.TheVariants.{Do, OpenCopy, ChunkCopy, CloseCopy, AbortCopy, StartPut, Write, Hint, Ack, StartGet, Read, EndGet, Down, Up, Handoff, Lose}
+use Rattle.plan_runs.specs.declared.event.Event.TheVariants.{StartPut, Ack, StartGet, Read, EndGet}
 use Rattle.plan_runs.specs.declared.event.Reply.{Reply}
 use Rattle.plan_runs.specs.World.{World}
 use Rattle.plan_runs.specs.Effects.{effect}
@@ -19,13 +19,12 @@ use Rattle.store_tables.specs.declared.gets.GetNow.{GetNow}
 use Rattle.store_tables.specs.declared.puts.PutNow.{PutNow}
 use Rattle.store_tells.specs.Gets.{GetsMeet}
 use Rattle.store_tells.specs.NodesTold.{NodesTell, leaves_nodes}
-use Rattle.store_tells.specs.Puts.{PutsMeet, clock_at}
-use Rattle.store_tells.specs.PutsChange.{AreNumbered, NoneBehind}
+use Rattle.store_tells.specs.Puts.{PutsMeet, clock_at, AreNumbered, NoneBehind}
 use Rattle.store_tells.specs.Slots.{SlotsMeet}
 use Rattle.store_tells.specs.SlotsLost.{LossesFit}
 use Rattle.store_tells.specs.SlotsStepped.{leaves_slots}
 use Rattle.store_tells.specs.Steps.{StepsMeet}
-use Rattle.store_tells.specs.StepsLeft.{leaves_steps}
+use Rattle.plan_runs.specs.Leaves.{leaves_steps}
 use Rattle.store_tells.proofs.GetsTests.{reads_stay}
 use Rattle.store_tells.proofs.NodesNow.{nodes_stay}
 use Rattle.store_tells.proofs.SlotsFit.{losses_stay}
@@ -56,22 +55,12 @@ pub record LeavesRest (plan : List Planned) (w u : World) (e : Event) : Type 0 w
 
 leaves_rest : (ring : RingValue) (plan : List Planned) (w : World) (e : Event) → is_of_client e ≡ true → LeavesRest plan w (effect ring plan w e) e
 unfolding effect
-leaves_rest ring plan w (Do n) h = absurd cc
-leaves_rest ring plan w (OpenCopy n) h = absurd cc
-leaves_rest ring plan w (ChunkCopy n c) h = absurd cc
-leaves_rest ring plan w (CloseCopy n) h = absurd cc
-leaves_rest ring plan w (AbortCopy n) h = absurd cc
 leaves_rest ring plan w (StartPut writer key value seen) h = record { nodes = refl; steps = refl; slots = refl; losses = refl; stored = refl; hinted = refl }
-leaves_rest ring plan w (Write v i) h = absurd cc
-leaves_rest ring plan w (Hint v i x) h = absurd cc
 leaves_rest ring plan w (Ack v) h = record { nodes = refl; steps = refl; slots = refl; losses = refl; stored = refl; hinted = refl }
 leaves_rest ring plan w (StartGet key) h = record { nodes = refl; steps = refl; slots = refl; losses = refl; stored = refl; hinted = refl }
 leaves_rest ring plan w (Read g i) h = record { nodes = refl; steps = refl; slots = refl; losses = refl; stored = refl; hinted = refl }
 leaves_rest ring plan w (EndGet g) h = record { nodes = refl; steps = refl; slots = refl; losses = refl; stored = refl; hinted = refl }
-leaves_rest ring plan w (Down x) h = absurd cc
-leaves_rest ring plan w (Up x) h = absurd cc
-leaves_rest ring plan w (Handoff x s) h = absurd cc
-leaves_rest ring plan w (Lose x) h = absurd cc
+leaves_rest ring plan w e h = absurd cc
 
 module _ (ring : RingValue) (plan : List Planned) (k : Kept) (w u : World) (e : Event) (r : Reply) (m : Tells ring plan k w) (client : is_of_client e ≡ true) (h : answer ring plan w e ≡ Ok (u, r)) where
   rest : LeavesRest plan w u e

@@ -1,9 +1,8 @@
 -- How the clock of a put is made of those of what it follows.
-use Rattle.std.specs.Prelude.{◌≡◌, ◌⊎◌, ℕ, true, List, Option}
+use Rattle.std.specs.Prelude.{◌≡◌, ℕ, true, List, Option}
 use Rattle.ring_names.specs.Lists.{has}
 use Rattle.ring_clock.specs.declared.entry.Entry.{Entry}
 use Rattle.ring_clock.specs.Built.{Bumps}
-use Rattle.ring_clock.specs.Clock.{counter, IsAtMost}
 use Rattle.ring_versions.specs.declared.version.Version.{Version}
 use Rattle.ring_versions.specs.Versions.{IsIn}
 use Rattle.store_tells.specs.Found.{IsJoinOfFound}

@@ -8,7 +8,7 @@ use Rattle.store_tables.specs.declared.gets.GetNow.{GetNow}
 use Rattle.store_tables.specs.declared.puts.PutNow.{PutNow}
 use Rattle.store_tables.specs.Puts.{ticket_at}
 use Rattle.store_tells.specs.Puts.{clock_at}
-use Rattle.store_tells.specs.GetsChange.{found_at}
+use Rattle.store_tells.specs.Gets.{found_at}
 use Rattle.store_tells.specs.GetsTests.{is_of_number, has_ended_at}
 use Rattle.store_clients.specs.Clocks.{IsNextOfFound}
 

@@ -6,7 +6,7 @@ ghost use Rattle.ring_clock.specs.declared.entry.Entry.{Entry as TheEntry};
 ghost use Rattle.ring_clock.specs.Clock.{counter};
 ghost use Rattle.store_tells.specs.Found.{IsJoinOfFound};
 ghost use Rattle.store_tells.specs.Puts.{clock_at};
-ghost use Rattle.store_tells.specs.GetsChange.{found_at};
+ghost use Rattle.store_tells.specs.Gets.{found_at};
 ghost use Rattle.ring_versions.specs.Raised.{RaisesTo, IsClockIn};
 ghost use Rattle.store_clients.specs.Clocks.{IsFoundClock, IsNextOfFound};
 

@@ -11,7 +11,7 @@ ghost use Rattle.plan_runs.specs.declared.event.Event.TheVariants.{StartPut};
 ghost use Rattle.store_tables.specs.Lasts.{last_of};
 ghost use Rattle.store_tells.specs.Found.{IsJoinOfFound};
 ghost use Rattle.store_tells.specs.Puts.{clock_at};
-ghost use Rattle.store_tells.specs.GetsChange.{found_at};
+ghost use Rattle.store_tells.specs.Gets.{found_at};
 ghost use Rattle.store_tells.specs.GetsTests.{is_of_number, has_ended_at};
 ghost use Rattle.store_tells.specs.Parts.{IsSound, Follows, Tests, Answers, Passes, Stays};
 ghost use Rattle.store_clients.specs.Puts.{IsNewPut, seen_guards_kept};

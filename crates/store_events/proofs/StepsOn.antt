@@ -17,13 +17,14 @@ use Rattle.plan_runs.specs.declared.event.Reply.TheVariants.{Plain}
 use Rattle.plan_runs.specs.World.{World}
 use Rattle.plan_runs.specs.Guards.{has_other, guards}
 use Rattle.plan_runs.specs.Effects.{changed, with_number, step_effect, effect}
+use Rattle.plan_runs.proofs.Frames.{done_is}
 use Rattle.plan_runs.proofs.Passed.{all_met}
 use Rattle.store_tables.specs.declared.nodes.NodeNow.{NodeNow}
 use Rattle.store_tables.specs.declared.slots.SlotNow.{SlotNow}
 use Rattle.store_tells.specs.NodesTold.{NodesTell, step_leaves_nodes}
 use Rattle.store_tells.specs.Slots.{SlotsMeet}
 use Rattle.store_tells.specs.SlotsStepped.{StepsSlots, step_leaves_slots}
-use Rattle.store_tells.proofs.NodesNow.{nodes_join, nodes_retire, nodes_stay_do, done_is}
+use Rattle.store_tells.proofs.NodesNow.{nodes_join, nodes_retire, nodes_stay_do}
 use Rattle.store_tells.proofs.StepsNow.{steps_do}
 use Rattle.store_tells.proofs.SlotsNow.{slots_do, slots_stay_do}
 use Rattle.store_tells.specs.Kept.{Kept, Tells}

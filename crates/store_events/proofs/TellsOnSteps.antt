@@ -23,8 +23,7 @@ use Rattle.store_tells.specs.NodesTold.{NodesTell}
 use Rattle.store_tells.specs.Steps.{StepsMeet}
 use Rattle.store_tells.specs.Slots.{SlotsMeet}
 use Rattle.store_tells.specs.Puts.{clock_at}
-use Rattle.store_tells.specs.PutsChange.{changes_puts}
-use Rattle.store_tells.specs.GetsChange.{changes_gets}
+use Rattle.plan_runs.specs.Leaves.{changes_puts, changes_gets}
 use Rattle.store_tells.proofs.SlotsFit.{losses_stay}
 use Rattle.store_tells.proofs.PutsFrames.{puts_stay}
 use Rattle.store_tells.proofs.GetsFrames.{gets_stay}

@@ -22,7 +22,7 @@ use Rattle.store_tells.specs.Shows.{ArePutsOf}
 use Rattle.store_tells.specs.Stored.{ShowAll, MergeAll}
 use Rattle.store_tells.proofs.StoredGrows.{grown}
 use Rattle.store_tells.proofs.StoredLasts.{all_stay}
-use Rattle.store_tells.specs.GetsChange.{changes_gets}
+use Rattle.plan_runs.specs.Leaves.{changes_gets}
 use Rattle.store_tells.specs.Gets.{GetsMeet}
 use Rattle.store_tells.specs.NodesTold.{leaves_nodes}
 use Rattle.store_tells.specs.Puts.{clock_at, PutsMeet}

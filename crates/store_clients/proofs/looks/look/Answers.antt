@@ -1,9 +1,7 @@
-use Rattle.std.proofs.Common.{◌≡◌, ◌∙◌, ℕ, List, sym, subst}
+use Rattle.std.proofs.Common.{◌≡◌, ◌∙◌, ℕ, sym, subst}
 use Rattle.std.specs.Prelude.{Some, slice_get, option_map}
 use Rattle.std.proofs.Props.{props}
 use Rattle.ring_space.specs.Place.{place_of}
-use Rattle.ring_versions.specs.declared.version.Version.{Version}
-use Rattle.ring_versions.specs.Versions.{IsMerge}
 use Rattle.store_tells.specs.Parts.{ring_of, plan_of, kept_of}
 use Rattle.store_tells.proofs.StoreInWorld.{holds}
 use Rattle.store_clients.proofs.SlotHasOfKey.{get_key_there, reads_there, finds_shown, chunk_is}
