@@ -1,6 +1,6 @@
 //! Playing a script.
 
-ghost use Rattle.std.specs.Prelude.{◌≡◌, ◌≤◌, ◌++◌, length, map, IfOk, IfErr, OnOk};
+ghost use Rattle.std.specs.Prelude.{◌≡◌, ◌≤◌, ◌++◌, length, map, reverse, IfOk, IfErr, OnOk};
 ghost use Rattle.ring_names.specs.declared.refusal.Refusal.TheVariants.{OutOfMemory};
 ghost use Rattle.texts.specs.Parts.{text_of};
 ghost use Rattle.ring_table.specs.Spelling.{rows_lines};
@@ -58,6 +58,45 @@ fn play_events(world: &mut World, out: &mut Vec<u8>, events: &[Event]) -> Result
     Ok(())
 }
 
+// Gives memory back that events before that place had, now and then.
+fn give_back(events: &mut Vec<Event>, place: u32)
+    ensures { events.new.items ≡ events.old.items }
+{
+    if place % 65536 == 0 {
+        events.shrink_to_fit();
+    }
+}
+
+// The same of an event that is given up.
+fn play_given(world: &mut World, out: &mut Vec<u8>, place: u32, event: Event) -> Result<(), Refusal>
+    requires { HasNumber world.old event }
+    ensures ok { OnOk result (Happens world.old event world.new out.old.items place out.new.items) }
+    ensures memory { IfErr result (λ e. e ≡ OutOfMemory) }
+{
+    play_event(world, out, place, &event)
+}
+
+// The same of events of which the last comes first. Each is let go once it happened.
+fn play_from_end(
+    world: &mut World,
+    out: &mut Vec<u8>,
+    events: &mut Vec<Event>,
+) -> Result<(), Refusal>
+    requires few { length events.old.items ≤ 1000000 }
+    requires puts { put_count world.old ≡ 0 }
+    requires gets { get_count world.old ≡ 0 }
+    ensures ok { OnOk result (Plays world.old (reverse events.old.items) world.new out.old.items out.new.items) }
+    ensures memory { IfErr result (λ e. e ≡ OutOfMemory) }
+{
+    let mut place = 0;
+    'events: while let Some(event) = events.pop() {
+        play_given(world, out, place, event)?;
+        place += 1;
+        give_back(events, place);
+    }
+    Ok(())
+}
+
 // The lines of owners, from partition 0 on.
 fn push_owners(out: &mut Vec<u8>, nodes: &[Node], rows: &[Listed<NodeId>]) -> Result<(), AllocError>
     requires { length rows.now ≤ 4096 }
@@ -104,6 +143,27 @@ fn played(
     Ok(out)
 }
 
+// What is printed of the events and behind them, over a store that nothing has happened to, where the last event comes first.
+fn played_from_end(
+    alloc: Global,
+    ring: &Ring,
+    world: &mut World,
+    events: &mut Vec<Event>,
+) -> Result<Vec<u8>, Refusal>
+    requires ring { ring_of world.old ≡ ring.now }
+    requires opening { Meets world.old (opening_world ring.now) }
+    requires few { length events.old.items ≤ 1000000 }
+    requires puts { put_count world.old ≡ 0 }
+    requires gets { get_count world.old ≡ 0 }
+    ensures text { IfOk result (λ v. v.items ≡ play_text ring.now (plan_of world.old) (reverse events.old.items)) }
+    ensures memory { IfErr result (λ e. e ≡ OutOfMemory) }
+{
+    let mut out = Vec::from_slice(alloc, b"yes\n")?;
+    play_from_end(world, &mut out, events)?;
+    push_ending(world, ring, &mut out)?;
+    Ok(out)
+}
+
 /// What a play of the script prints: `yes`; for each event its place, counted from 0, and its reply or its refusal's line; the line of owners of
 /// each partition behind the last event; and `end`. A refused event changes nothing, and the next one follows. The only refusal is `OutOfMemory`,
 /// where memory ran out at whatever event.
@@ -113,4 +173,15 @@ pub fn play(alloc: Global, approved: &Approved, script: &Script) -> Result<Vec<u
 {
     let mut world = World::start(alloc, approved)?;
     played(alloc, approved.ring(), &mut world, script.events())
+}
+
+/// The same of a script that is given up: each event's memory is free once it happened, so that the store takes it.
+pub fn play_whole(alloc: Global, approved: &Approved, script: Script) -> Result<Vec<u8>, Refusal>
+    ensures text { IfOk result (λ v. v.items ≡ play_text approved.now.ring approved.now.plan script) }
+    ensures memory { IfErr result (λ e. e ≡ OutOfMemory) }
+{
+    let mut events = script.into_vec();
+    events.reverse();
+    let mut world = World::start(alloc, approved)?;
+    played_from_end(alloc, approved.ring(), &mut world, &mut events)
 }

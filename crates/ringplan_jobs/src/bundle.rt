@@ -14,7 +14,7 @@ ghost use Rattle.plan_check.specs.Headline.{KeepsPromises};
 ghost use Rattle.ring_script.specs.Bundles.{IsOfRing, bundle_at};
 ghost use Rattle.ring_script.specs.declared.bundle.Kind.TheVariants.{Check, Play};
 ghost use Rattle.change_text.specs.Wanted.{wanted_at};
-ghost use Rattle.ringplan_jobs.specs.declared.job.Job.TheVariants.{Check as Checking, Plan as Planning};
+ghost use Rattle.ringplan_jobs.specs.declared.job.Job.TheVariants.{Check as Checking, Plan as Planning, Play as Playing};
 ghost use Rattle.ringplan_jobs.specs.Answers.{texts_of};
 ghost use Rattle.ringplan_jobs.specs.Verdict.{TextsKeepPromises, MakesIf, judged, migrated_text, migration, plays};
 ghost use Rattle.ringplan_jobs.specs.Verdict.{shown, verdict};
@@ -27,7 +27,7 @@ use plan_check::{OpenGate, check, check_parallel};
 use plan_proposal::propose;
 use plan_text::{Plan, write_plan};
 use ring_names::Refusal;
-use ring_script::{Bundle, Kind, play, read_bundle};
+use ring_script::{Bundle, Kind, play_whole, read_bundle};
 use ring_table::{Ring, write_ring};
 use std::alloc::Global;
 use std::sync::Wait;
@@ -154,7 +154,7 @@ fn play_checked(alloc: Global, bundle: Bundle) -> Result<Vec<u8>, Refusal>
     ensures { Gives (texts_of result) (shown bundle) }
 {
     match check(alloc, bundle.ring, bundle.plan, &bundle.cert) {
-        Ok(approved) => play(alloc, &approved, &bundle.script),
+        Ok(approved) => play_whole(alloc, &approved, bundle.script),
         Err(turned) => {
             let refusal = turned.refusal;
             Err(refusal)
@@ -171,6 +171,18 @@ pub fn play_bundle(alloc: Global, bytes: &[u8]) -> Result<Vec<u8>, Refusal>
     ensures late { IfErr result (λ e. e ≡ OutOfMemory → NoFaultBefore 5 (whole_text (bundle_at Play) bytes.now)) }
 {
     match read_bundle(alloc, Kind::Play, bytes) {
+        Ok(bundle) => play_checked(alloc, bundle),
+        Err(e) => Err(e),
+    }
+}
+
+// The same of bytes that are given up once they are read, so that the store takes their memory.
+fn play_given(alloc: Global, bytes: Vec<u8>) -> Result<Vec<u8>, Refusal>
+    ensures { MakesIf Playing bytes.items (texts_of result) }
+{
+    let read = read_bundle(alloc, Kind::Play, bytes.as_slice());
+    drop(bytes);
+    match read {
         Ok(bundle) => play_checked(alloc, bundle),
         Err(e) => Err(e),
     }
@@ -221,7 +233,8 @@ pub fn make_whole(alloc: Global, job: Job, bytes: Vec<u8>) -> Result<Vec<u8>, Re
 {
     match job {
         Job::Replay => replay_whole(alloc, bytes),
-        Job::Check | Job::Migrate | Job::Play | Job::Plan => make(alloc, job, bytes.as_slice()),
+        Job::Play => play_given(alloc, bytes),
+        Job::Check | Job::Migrate | Job::Plan => make(alloc, job, bytes.as_slice()),
     }
 }
 

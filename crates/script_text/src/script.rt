@@ -53,6 +53,15 @@ impl Script {
         self.events.as_slice()
     }
 
+    /// The events as a vector, which takes no memory: for whoever gives up the script.
+    pub fn into_vec(self) -> Vec<Event>
+        ensures value { result.items ≡ self }
+        ensures few { length self ≤ 1000000 }
+    {
+        let Script { events } = self;
+        events
+    }
+
     /// Adds an event behind the others. Refused, the script is as before, and only for want of memory.
     pub fn push(&mut self, event: Event) -> Result<(), Refusal>
         requires { length self.old < 1000000 }
