@@ -17,7 +17,7 @@ use Rattle.plan_stage.specs.Clauses.{Guard, first_failing}
 use Rattle.plan_stage.specs.Each.{step_at}
 use Rattle.plan_stage.specs.Parties.{parties}
 use Rattle.plan_runs.specs.declared.event.Event.{Event}
-use Rattle.plan_runs.specs.declared.event.Event.TheVariants.{Do, OpenCopy, ChunkCopy, CloseCopy, AbortCopy, StartPut, Write, Hint, Ack, StartGet, Read, EndGet, Down, Up, Handoff, Lose}
+use Rattle.plan_runs.specs.declared.event.Event.TheVariants.{Do, OpenCopy, ChunkCopy, Write, Read, Handoff}
 use Rattle.plan_runs.specs.World.{World, copy_at, passing_below, stage_now, key_of_get}
 use Rattle.plan_runs.specs.Versions.{put_slot, get_slot}
 use Rattle.plan_runs.specs.Guards.{guards, step_guards, parties_up, keepers_up, mirror_up, nodes_up, keeps_source, keeps_of_key, up_guard}
@@ -59,12 +59,8 @@ numbers_spare up (x ∷ xs) = numbers_spare up xs
 step_spare : (ring : RingValue) (w : World) (o : Option Step) → spare (elim o [ Some s ↦ step_guards ring w s | None ↦ [] ]) ≡ true
 unfolding spare is_other
 step_spare ring w None = refl
-step_spare ring w (Some (step.Join x)) = refl
 step_spare ring w (Some (step.Mirror s x)) = refl
-step_spare ring w (Some (step.Copy s from)) = refl
-step_spare ring w (Some (step.Switch s)) = refl
-step_spare ring w (Some (step.Drop s x)) = refl
-step_spare ring w (Some (step.Retire x)) = refl
+step_spare ring w (Some s) = refl
 
 mirror_spare : (up : ℕ → Bool) (o : Option NodeId) → spare (mirror_up up o) ≡ true
 unfolding spare is_other
@@ -84,19 +80,10 @@ unfolding guards spare is_other
 all_spare ring plan w (Do n) = step_spare ring w (step_at plan n)
 all_spare ring plan w (OpenCopy n) = nodes_spare w.up (parties ring plan n)
 all_spare ring plan w (ChunkCopy n c) = both_spare (parties_up ring plan w n) (keepers_up ring plan w n c) (nodes_spare w.up (parties ring plan n)) (keepers_spare ring plan w n c)
-all_spare ring plan w (CloseCopy n) = refl
-all_spare ring plan w (AbortCopy n) = refl
-all_spare ring plan w (StartPut writer key value seen) = refl
 all_spare ring plan w (Write v i) = mirror_spare w.up (stage_now ring plan w (put_slot ring w v i)).mirror
-all_spare ring plan w (Hint v i x) = refl
-all_spare ring plan w (Ack v) = refl
-all_spare ring plan w (StartGet key) = refl
 all_spare ring plan w (Read g i) = numbers_spare w.up (passing_below (length ring.nodes) (keeps_of_key w (key_of_get w g) (get_slot ring w g i)))
-all_spare ring plan w (EndGet g) = refl
-all_spare ring plan w (Down x) = refl
-all_spare ring plan w (Up x) = refl
 all_spare ring plan w (Handoff x s) = mirror_spare w.up (stage_now ring plan w s).mirror
-all_spare ring plan w (Lose x) = refl
+all_spare ring plan w e = refl
 
 -- whoever is refused by a guard is not out of memory
 pub never_memory : (ring : RingValue) (plan : List Planned) (w : World) (e : Event) (refusal : Refusal) → first_failing (guards ring plan w e) ≡ Some refusal → refusal ≢ OutOfMemory

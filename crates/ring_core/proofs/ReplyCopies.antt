@@ -6,14 +6,14 @@ use Rattle.ring_names.specs.declared.refusal.Refusal.{Refusal}
 use Rattle.ring_table.specs.Value.{RingValue}
 use Rattle.plan_text.specs.declared.step.Planned.{Planned}
 use Rattle.plan_runs.specs.declared.event.Event.{Event}
-use Rattle.plan_runs.specs.declared.event.Event.TheVariants.{Do, OpenCopy, ChunkCopy, CloseCopy, AbortCopy, StartPut, Write, Hint, Ack, StartGet, Read, EndGet, Down, Up, Handoff, Lose}
+use Rattle.plan_runs.specs.declared.event.Event.TheVariants.{Read, EndGet}
 use Rattle.plan_runs.specs.declared.event.Reply.{Reply}
-use Rattle.plan_runs.specs.Answers.{reply_to, answer}
+use Rattle.plan_runs.specs.Answers.{reply_to}
 use Rattle.plan_runs.specs.World.{World}
 use Rattle.plan_runs.proofs.Answered.{answered}
 use Rattle.ring_core.specs.Numbers.{lists_puts}
 use Rattle.store_tells.specs.declared.parts.Parts.{Parts}
-use Rattle.store_tells.specs.Parts.{ring_of, plan_of, IsSound, Answers, Stays}
+use Rattle.store_tells.specs.Parts.{ring_of, plan_of, IsSound, Answers}
 use Rattle.store_tells.proofs.StoreInWorld.{holds}
 
 -- the event is answered by a list of puts
@@ -23,22 +23,9 @@ is_asked (EndGet g) = true
 is_asked e = false
 
 told_none : (ring : RingValue) (plan : List Planned) (w : World) (e : Event) → is_asked e ≡ false → lists_puts (reply_to ring plan w e) ≡ false
-told_none ring plan w (Do n) is = refl
-told_none ring plan w (OpenCopy n) is = refl
-told_none ring plan w (ChunkCopy n c) is = refl
-told_none ring plan w (CloseCopy n) is = refl
-told_none ring plan w (AbortCopy n) is = refl
-told_none ring plan w (StartPut writer key value seen) is = refl
-told_none ring plan w (Write v i) is = refl
-told_none ring plan w (Hint v i x) is = refl
-told_none ring plan w (Ack v) is = refl
-told_none ring plan w (StartGet key) is = refl
 told_none ring plan w (Read g i) is = absurd cc
 told_none ring plan w (EndGet g) is = absurd cc
-told_none ring plan w (Down x) is = refl
-told_none ring plan w (Up x) is = refl
-told_none ring plan w (Handoff x s) is = refl
-told_none ring plan w (Lose x) is = refl
+told_none ring plan w e is = refl
 
 -- such a reply lists none
 pub lists_none : (old new : Parts) (e : Event) (r : Reply) → IsSound old → Answers old e r new → is_asked e ≡ false → lists_puts r ≡ false

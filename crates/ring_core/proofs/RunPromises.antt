@@ -1,10 +1,8 @@
 -- What runs of an approved plan promise, of a running store.
-use Rattle.std.proofs.Common.{◌≡◌, ◌∙◌, ℕ, ◌+◌, ◌<◌, ◌≤◌, Bool, true, false, List, [], ◌∷◌, length, refl, sym, arith, eqb-true, ltb-true}
-use Rattle.std.specs.Prelude.{◌==◌, ◌&&◌, nat_lt, Result, Ok, Err, IfOk}
+use Rattle.std.proofs.Common.{◌≡◌, ◌∙◌, ℕ, ◌≤◌, true, List, refl, arith, eqb-true, ltb-true}
+use Rattle.std.specs.Prelude.{◌==◌, nat_lt, Result, Ok, Err, IfOk}
 use Rattle.std.specs.Int.{bit_at}
 use Rattle.ring_names.specs.declared.refusal.Refusal.{Refusal}
-use Rattle.ring_table.specs.Value.{RingValue}
-use Rattle.plan_text.specs.declared.step.Planned.{Planned}
 use Rattle.plan_runs.specs.declared.event.Event.{Event}
 use Rattle.plan_runs.specs.declared.event.Event.TheVariants.{EndGet}
 use Rattle.plan_runs.specs.declared.event.Reply.{Reply}

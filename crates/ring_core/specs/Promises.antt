@@ -5,8 +5,7 @@ use Rattle.std.specs.Int.{bit_at}
 use Rattle.ring_names.specs.Lists.{has, all_different}
 use Rattle.ring_table.specs.Value.{RingValue}
 use Rattle.plan_runs.specs.declared.event.Event.{Event}
-use Rattle.plan_runs.specs.declared.event.Event.TheVariants.{Do, OpenCopy, ChunkCopy, CloseCopy, AbortCopy, StartPut, Write, Hint}
-use Rattle.plan_runs.specs.declared.event.Event.TheVariants.{Ack, StartGet, Read, EndGet, Down, Up, Handoff, Lose}
+use Rattle.plan_runs.specs.declared.event.Event.TheVariants.{StartGet, EndGet}
 use Rattle.plan_runs.specs.declared.event.Entry.{Entry}
 use Rattle.plan_runs.specs.declared.event.Reply.{Reply}
 use Rattle.plan_runs.specs.declared.event.Reply.TheVariants as reply

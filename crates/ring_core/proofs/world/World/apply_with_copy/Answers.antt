@@ -1,4 +1,3 @@
-use Rattle.std.specs.Prelude.{length}
 use Rattle.store_tells.specs.Parts.{Answers, Stays}
 use Rattle.ring_core.proofs.SoundAfterEvent.{sound_still, puts_few, gets_few, counts_grow}
 use Rattle.ring_core.proofs.ReplyCopies.{alone, ok_alone, err_alone, ok_beside}
