@@ -4,7 +4,7 @@ use Rattle.std.proofs.Props.{props}
 use Rattle.ring_table.specs.Value.{RingValue}
 use Rattle.plan_text.specs.declared.step.Planned.{Planned}
 use Rattle.plan_runs.specs.declared.event.Event.{Event}
-use Rattle.plan_runs.specs.declared.event.Event.TheVariants.{Do, OpenCopy, ChunkCopy, CloseCopy, AbortCopy, StartPut, Write, Hint, Ack, StartGet, Read, EndGet, Down, Up, Handoff, Lose}
+use Rattle.plan_runs.specs.declared.event.Event.TheVariants.{StartPut}
 use Rattle.plan_runs.specs.declared.event.Reply.{Reply}
 use Rattle.plan_runs.specs.Answers.{reply_to}
 use Rattle.plan_runs.specs.World.{World as TheWorld}
@@ -15,22 +15,8 @@ use Rattle.ring_replay.specs.World.{ring_of, plan_of, Answers}
 use Rattle.ring_exec.specs.Replies.{fits_reply}
 
 fits : (ring : RingValue) (plan : List Planned) (w : TheWorld) (e : Event) → fits_reply e (reply_to ring plan w e) ≡ true
-fits ring plan w (Do n) = refl
-fits ring plan w (OpenCopy n) = refl
-fits ring plan w (ChunkCopy n c) = refl
-fits ring plan w (CloseCopy n) = refl
-fits ring plan w (AbortCopy n) = refl
 fits ring plan w (StartPut x k v s) = refl
-fits ring plan w (Write v i) = refl
-fits ring plan w (Hint v i x) = refl
-fits ring plan w (Ack v) = refl
-fits ring plan w (StartGet k) = refl
-fits ring plan w (Read g i) = refl
-fits ring plan w (EndGet g) = refl
-fits ring plan w (Down x) = refl
-fits ring plan w (Up x) = refl
-fits ring plan w (Handoff x s) = refl
-fits ring plan w (Lose x) = refl
+fits ring plan w e = refl
 
 -- a store answers each event the kind of reply that it has
 pub fits_there : (old new : World) (e : Event) (r : Reply) → Answers old e r new → fits_reply e r ≡ true
