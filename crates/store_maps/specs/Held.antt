@@ -19,7 +19,7 @@ abbrev pub read_of : Option (Arc KeyTree Global) → KeyTree → KeyTree
 read_of None own = own
 read_of (Some shared) own = arc_value shared
 
--- the tree that the map reads
+-- the tree that the map reads; opened by the map's own calls alone, so that no proof above goes through the two cases
 unfoldable pub tree_of : KeyMap → KeyTree
 tree_of a = read_of a.shared a.own
 

@@ -12,8 +12,8 @@ use std::sync::Arc;
 /// made before a merge that must not fail. Clients choose the keys, so these are ordered and not hashed: a look-up costs the key's
 /// length times the logarithm of the number of places.
 ///
-/// A map that was told to share is shared by its copies. Of maps that share, each is copied, its keys and not their versions, before its
-/// own first change, unless no other shares it any longer; so each refused change has changed nothing at any of them.
+/// A map that was told to share is shared by its copies, which take no memory. The first change of a map that is shared copies it, its
+/// keys and not their versions, unless no other has it any longer; where that is refused, nothing has changed.
 pub struct KeyMap {
     own: KeyTree,
     // Where there is one, it is read and the own tree is not.
@@ -65,14 +65,17 @@ impl KeyMap {
         ensures some { IfSome result (λ v. (v.now ≡ held self.now key.now) × (v.now ≢ [])) }
         ensures none { IfNone result (held self.now key.now ≡ []) }
     {
-        self.tree().key_versions(key)
+        match self.tree().map.get(key) {
+            Some(versions) if !versions.list().is_empty() => Some(versions),
+            _ => None,
+        }
     }
 
     /// Whether no key has a place: for whoever never makes empty ones.
     pub fn is_empty(&self) -> bool
         ensures { IsTrue result ↔ ((k : List ℕ) → has_place self.now k ≡ false) }
     {
-        self.tree().is_empty()
+        self.tree().map.is_empty()
     }
 
     /// The keys that have versions, in ascending byte order. Costs a walk over the map.
@@ -89,7 +92,7 @@ impl KeyMap {
         ensures places { (k : List ℕ) → has_place self.new k ≡ has_place self.old k }
         ensures memory { IfErr result (λ e. e ≡ OutOfMemory) }
     {
-        if self.shared.is_some() || self.own.is_empty() {
+        if self.shared.is_some() || self.own.map.is_empty() {
             return Ok(());
         }
         let alloc = self.own.alloc;
@@ -106,7 +109,8 @@ impl KeyMap {
         }
     }
 
-    // Lets the map share nothing, so that it can be changed. Refused, it is as it was.
+    // Lets the map share nothing, so that it can be changed. No reading changes, whatever the answer. Costs a copy of the map where another
+    // shares it.
     fn unshare(&mut self) -> Result<(), Refusal>
         ensures same { (k : List ℕ) → held self.new k ≡ held self.old k }
         ensures places { (k : List ℕ) → has_place self.new k ≡ has_place self.old k }
@@ -149,7 +153,7 @@ impl KeyMap {
     }
 
     /// The first half of a merge at one key: makes its place, where it has none, and what the other versions bring. No reading changes,
-    /// whatever the answer. Costs what `Versions::fresh_of` does.
+    /// whatever the answer. Costs what `Versions::fresh_of` does, and a copy of the map where another shares it.
     pub fn prepare(&mut self, key: &[u8], more: &Versions) -> Result<Fresh, Refusal>
         ensures same { (k : List ℕ) → held self.new k ≡ held self.old k }
         ensures stays { (k : List ℕ) → has_place self.old k ≡ true → has_place self.new k ≡ true }

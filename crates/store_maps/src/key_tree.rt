@@ -16,8 +16,7 @@ pub struct KeyTree {
 }
 
 impl KeyTree {
-    ghost use Rattle.std.specs.Prelude.{◌≡◌, ◌≢◌, ◌↔◌, ◌⊎◌, ℕ, true, false, [], List, IsTrue, IfSome, IfNone, IfOk};
-    ghost use Rattle.std.specs.Prelude.{IfErr, OnOk, OnErr};
+    ghost use Rattle.std.specs.Prelude.{◌≡◌, ◌⊎◌, ℕ, true, false, [], List, IfOk, IfErr, OnOk, OnErr};
     ghost use Rattle.ring_names.specs.declared.refusal.Refusal.TheVariants.{OutOfMemory};
     ghost use Rattle.ring_versions.specs.Versions.{IsApart};
     ghost use Rattle.store_maps.specs.Held.{AreKeys};
@@ -33,24 +32,6 @@ impl KeyTree {
             alloc,
             map: BTreeMap::new(alloc),
         }
-    }
-
-    /// The versions of the key, if it has any. Takes no memory.
-    pub fn key_versions(&self, key: &[u8]) -> Option<&Versions>
-        ensures some { IfSome result (λ v. (v.now ≡ kept self.now key.now) × (v.now ≢ [])) }
-        ensures none { IfNone result (kept self.now key.now ≡ []) }
-    {
-        match self.map.get(key) {
-            Some(versions) if !versions.list().is_empty() => Some(versions),
-            _ => None,
-        }
-    }
-
-    /// Whether no key has a place.
-    pub fn is_empty(&self) -> bool
-        ensures { IsTrue result ↔ ((k : List ℕ) → has_entry self.now k ≡ false) }
-    {
-        self.map.is_empty()
     }
 
     /// The keys that have versions, in ascending byte order.
