@@ -1,11 +1,16 @@
 //! What nodes store and keep: each call that may run out of memory succeeds where there is enough.
 
+ghost use Rattle.std.specs.Prelude.{◌≡◌, ◌<◌};
+ghost use Rattle.store_maps.specs.Chunks.{chunk_of};
+ghost use Rattle.ring_store.specs.Stores.{node_count, shared_space};
+
 use crate::clocks::set_of;
 use crate::same::{holds, same};
 use ring_clock::Clock;
 use ring_hints::{Hints, KeptFor, Pairs, Sets};
 use ring_names::{NodeId, Refusal, Slot, WriterId};
-use ring_store::{NodeStore, Stores};
+use ring_space::place;
+use ring_store::{NodeStore, SlotKey, Stores};
 use ring_versions::Versions;
 use std::alloc::Global;
 use std::process::Abort;
@@ -165,6 +170,56 @@ fn stores_of_nodes(rt: HostRuntime) -> Result<(), Fail> {
     let stores = Stores::start(rt.alloc(), 4, 2)?;
     holds!(rt; stores.chunk_map(NodeId(1), SLOT, 3).is_none());
     Ok(())
+}
+
+// So many versions of the key are at the node.
+fn versions_of<RT: Abort>(rt: &RT, stores: &Stores, at: &SlotKey, node: NodeId, count: usize)
+    requires { chunk_of (shared_space stores.now) at.now.key.now ≡ at.now.chunk }
+{
+    let found = match stores.key_versions_in(node, at.slot, at.chunk, at.key) {
+        Some(versions) => versions.list().len(),
+        None => 0,
+    };
+    same!(rt; found, count);
+}
+
+// A chunk of one key is copied from the first node to the second, and then one of them gets another version, which the other has not.
+fn copied_apart<RT: Abort>(
+    rt: &RT,
+    stores: &mut Stores,
+    at: &SlotKey,
+    set: &Versions,
+    more: &Versions,
+    writer: NodeId,
+    reader: NodeId,
+) -> Result<(), Fail>
+    requires chunk { chunk_of (shared_space stores.old) at.now.key.now ≡ at.now.chunk }
+    requires sixteen { at.now.chunk < 16 }
+    requires nodes { 1 < node_count stores.old }
+    requires writer { writer.0 < node_count stores.old }
+{
+    stores.give(at, NodeId(0), None, set)?;
+    stores.copy_chunk(NodeId(0), NodeId(1), at.slot, at.chunk)?;
+    stores.give(at, writer, None, more)?;
+    versions_of(rt, stores, at, writer, 2);
+    versions_of(rt, stores, at, reader, 1);
+    Ok(())
+}
+
+#[test]
+#[tactic(auto, unfolding(ring_names::specs::Space::is_space), using(store_maps::proofs::KeyPlaces::chunk_at))]
+fn copies_of_chunks(rt: HostRuntime) -> Result<(), Fail> {
+    let set = a_set(rt.alloc())?;
+    let more = set_of(rt.alloc(), 8, &Clock::new(rt.alloc()).bump(WriterId(1))?)?;
+    let mut first = Stores::start(rt.alloc(), 4, 2)?;
+    let mut second = Stores::start(rt.alloc(), 4, 2)?;
+    let at = SlotKey {
+        slot: SLOT,
+        chunk: place(4, b"a").chunk,
+        key: b"a",
+    };
+    copied_apart(&rt, &mut first, &at, &set, &more, NodeId(0), NodeId(1))?;
+    copied_apart(&rt, &mut second, &at, &set, &more, NodeId(1), NodeId(0))
 }
 
 #[test]
