@@ -15,10 +15,11 @@ use Rattle.texts.proofs.Items.{ok_is, bind_ok}
 use Rattle.ring_table.specs.Value.{RingValue}
 use Rattle.ring_table.specs.Reading.{declared_at}
 use Rattle.plan_runs.specs.declared.event.Event.{Event}
+use Rattle.plan_runs.specs.declared.event.Event.TheVariants.{Down, Up}
 use Rattle.script_text.specs.Client.{is_client_event}
 use Rattle.script_text.specs.Said.{event_of, names_after}
 use Rattle.script_text.specs.declared.said.SaidEvent.{SaidEvent}
-use Rattle.script_text.specs.declared.said.SaidEvent.TheVariants.{StartPut, StartGet, Down, Up}
+use Rattle.script_text.specs.declared.said.SaidEvent.TheVariants.{Put, Get, Plain}
 use Rattle.script_text.specs.declared.speaker.Speaker.TheVariants.{Client}
 use Rattle.script_text.specs.Reading.{put_at, judge_key, kind_at, said_at, may_say, heard_at, events_from, events_at, section_at, client_at}
 use Rattle.script_text.proofs.NextLaws.{if-map, if-any, if-both, if-first}
@@ -42,10 +43,10 @@ kind-client ring names k (word ∷ fields) more e =
     let F = IsClients names in
     let G : List ℕ → Type 0 = λ w. IfOk (kind_at ring names k (w ∷ fields)).0 F in
     let is : (w : List ℕ) → bytes_eq word w ≡ true → G w → G word = λ w h g. subst G (sym ((bytes_eq-Decides word w).0 h)) g in
-    let put : G (codes "put") = if-any StartPut (put_at names k fields).0 F (λ p. refl) in
-    let get : G (codes "get") = if-any StartGet (field_at k (judge_key k) fields).0 F (λ p. refl) in
-    let down : G (codes "down") = if-any Down (declared_at ring k fields).0 F (λ p. refl) in
-    let up : G (codes "up") = if-any Up (declared_at ring k fields).0 F (λ p. refl) in
+    let put : G (codes "put") = if-any Put (put_at names k fields).0 F (λ p. refl) in
+    let get : G (codes "get") = if-any Get (field_at k (judge_key k) fields).0 F (λ p. refl) in
+    let down : G (codes "down") = if-any (λ x. Plain (Down x)) (declared_at ring k fields).0 F (λ p. refl) in
+    let up : G (codes "up") = if-any (λ x. Plain (Up x)) (declared_at ring k fields).0 F (λ p. refl) in
     let two = bytes_eq word (codes "put") || bytes_eq word (codes "get") in
     let three = two || bytes_eq word (codes "down") in
     elim (or_cases three (bytes_eq word (codes "up")) e) [

@@ -1,22 +1,27 @@
 -- What a line says can be the next event.
-use Rattle.std.proofs.Common.{◌≡◌, ℕ, ◌<◌, Bool, true, false, cond, nat_lt, List, [], ◌∷◌, length, codes, Option, Some, None, Result, Ok, Err, IfOk, refl}
+use Rattle.std.proofs.Common.{◌≡◌, ℕ, ◌<◌, Bool, true, false, cond, nat_lt, List, [], ◌∷◌, length, Option, Some, None, Result, Ok, Err, IfOk, refl}
+use Rattle.std.specs.Map.{lookup}
 use Rattle.std.proofs.lemmas.Bool.{ltb-true}
 use Rattle.std.specs.Str.{bytes_eq}
 use Rattle.ring_names.specs.Names.{place}
-use Rattle.ring_names.specs.declared.ids.NodeId.{NodeId}
 use Rattle.ring_names.specs.declared.refusal.Refusal.{Refusal}
 use Rattle.ring_names.specs.declared.refusal.Refusal.TheVariants.{BadLine, TooLarge}
 use Rattle.texts.specs.Name.{is_name}
-use Rattle.texts.specs.Judging.{map_ok, map_item, field_at, need_at, end_at, both_of, whole, ◌⊗◌}
+use Rattle.texts.specs.Judging.{map_ok, field_at, need_at, end_at, both_of, whole, ◌⊗◌}
 use Rattle.ring_table.specs.Value.{RingValue}
 use Rattle.ring_table.specs.Reading.{declared_at}
 use Rattle.plan_runs.specs.declared.event.Event.{Event}
+use Rattle.plan_runs.specs.declared.event.Event.TheVariants as event
 use Rattle.script_text.specs.Said.{FitsWriter, Fits, IsNext}
 use Rattle.script_text.specs.declared.said.SaidWriter.{SaidWriter}
 use Rattle.script_text.specs.declared.said.SaidWriter.TheVariants.{Known, New}
 use Rattle.script_text.specs.declared.said.SaidEvent.{SaidEvent}
-use Rattle.script_text.specs.declared.said.SaidEvent.TheVariants.{Do, OpenCopy, ChunkCopy, CloseCopy, AbortCopy, StartPut, Write, Hint, Ack, StartGet, Read, EndGet, Down, Up, Handoff, Lose}
-use Rattle.script_text.specs.Reading.{count_at, pair_at, judge_writer, judge_key, judge_value, seen_at, put_at, hint_at, handoff_at, kind_at, said_at}
+use Rattle.script_text.specs.declared.said.SaidEvent.TheVariants as said
+use Rattle.script_text.specs.Reading.{count_at, pair_at, judge_writer, judge_key, judge_value, seen_at, put_at, hint_at, handoff_at}
+use Rattle.script_text.specs.declared.shape.Shape.{Shape}
+use Rattle.script_text.specs.declared.shape.Shape.TheVariants.{Number, Pair, Node, Put, Get, Hint, Handoff}
+use Rattle.script_text.specs.Shapes.{number_event, pair_event, node_event, shapes}
+use Rattle.script_text.specs.Reading.{shape_at, kind_at, said_at}
 
 -- a value that was read is so
 pub if-map : {A B : Type 0} (f : A → B) (r : Result A Refusal) (P : A → Type 0) (Q : B → Type 0) → ((a : A) → P a → Q (f a)) → IfOk r P → IfOk (map_ok f r) Q
@@ -40,10 +45,6 @@ if-first (Ok x) (Ok y) P p = p
 if-first (Ok x) (Err f) P p = tt
 if-first (Err e) (Ok y) P p = tt
 if-first (Err e) (Err f) P p = tt
-
-if-either : {A : Type 0} (P : A → Type 0) (t : Bool) (x y : Result A Refusal × List (List ℕ)) → IfOk x.0 P → IfOk y.0 P → IfOk (cond t x y).0 P
-if-either P true x y p q = p
-if-either P false x y p q = q
 
 -- ---- a writer
 
@@ -80,30 +81,21 @@ put-fits names k fields =
 
 -- ---- a line
 
+shape-fits : (ring : RingValue) (names : List (List ℕ)) (k : ℕ) (fields : List (List ℕ)) (s : Option Shape) → IfOk (shape_at ring names k s fields).0 (Fits names)
+shape-fits ring names k fields (Some (Number w)) = if-any (λ n. said.Plain (number_event w n)) (count_at k fields).0 (Fits names) (λ n. tt)
+shape-fits ring names k fields (Some (Pair w)) = if-any (λ x. said.Plain (pair_event w x.0 x.1)) (pair_at k fields).0 (Fits names) (λ x. tt)
+shape-fits ring names k fields (Some (Node w)) = if-any (λ x. said.Plain (node_event w x)) (declared_at ring k fields).0 (Fits names) (λ x. tt)
+shape-fits ring names k fields (Some Put) = if-map said.Put (put_at names k fields).0 (λ p. FitsWriter names p.writer) (Fits names) (λ p fits. fits) (put-fits names k fields)
+shape-fits ring names k fields (Some Get) = if-any said.Get (field_at k (judge_key k) fields).0 (Fits names) (λ key. tt)
+shape-fits ring names k fields (Some Hint) = if-any (λ x. said.Plain (event.Hint x.0.0 x.0.1 x.1)) (hint_at ring k fields).0 (Fits names) (λ x. tt)
+shape-fits ring names k fields (Some Handoff) =
+    if-any (λ x. said.Plain (event.Handoff x.0 (record { partition = x.1.0; index = x.1.1 }))) (handoff_at ring k fields).0 (Fits names) (λ x. tt)
+shape-fits ring names k fields None = tt
+
 pub kind-fits : (ring : RingValue) (names : List (List ℕ)) (k : ℕ) (fields : List (List ℕ)) → IfOk (kind_at ring names k fields).0 (Fits names)
 unfolding kind_at
 kind-fits ring names k [] = tt
-kind-fits ring names k (word ∷ fields) =
-    let F = Fits names in
-    let one : (f : ℕ → SaidEvent) → ((n : ℕ) → F (f n)) → IfOk (map_item f (count_at k) fields).0 F = λ f. if-any f (count_at k fields).0 F in
-    let two : (f : ℕ × ℕ → SaidEvent) → ((n : ℕ × ℕ) → F (f n)) → IfOk (map_item f (pair_at k) fields).0 F = λ f. if-any f (pair_at k fields).0 F in
-    let node : (f : NodeId → SaidEvent) → ((n : NodeId) → F (f n)) → IfOk (map_item f (declared_at ring k) fields).0 F = λ f. if-any f (declared_at ring k fields).0 F in
-    if-either F (bytes_eq word (codes "do")) _ _ (one Do (λ n. tt))
-    (if-either F (bytes_eq word (codes "open")) _ _ (one OpenCopy (λ n. tt))
-    (if-either F (bytes_eq word (codes "chunk")) _ _ (two (λ x. ChunkCopy x.0 x.1) (λ n. tt))
-    (if-either F (bytes_eq word (codes "close")) _ _ (one CloseCopy (λ n. tt))
-    (if-either F (bytes_eq word (codes "abort")) _ _ (one AbortCopy (λ n. tt))
-    (if-either F (bytes_eq word (codes "put")) _ _ (if-map StartPut (put_at names k fields).0 (λ p. FitsWriter names p.writer) F (λ a p. p) (put-fits names k fields))
-    (if-either F (bytes_eq word (codes "write")) _ _ (two (λ x. Write x.0 x.1) (λ n. tt))
-    (if-either F (bytes_eq word (codes "hint")) _ _ (if-any (λ x. Hint x.0.0 x.0.1 x.1) (hint_at ring k fields).0 F (λ n. tt))
-    (if-either F (bytes_eq word (codes "ack")) _ _ (one Ack (λ n. tt))
-    (if-either F (bytes_eq word (codes "get")) _ _ (if-any StartGet (field_at k (judge_key k) fields).0 F (λ n. tt))
-    (if-either F (bytes_eq word (codes "read")) _ _ (two (λ x. Read x.0 x.1) (λ n. tt))
-    (if-either F (bytes_eq word (codes "endget")) _ _ (one EndGet (λ n. tt))
-    (if-either F (bytes_eq word (codes "down")) _ _ (node Down (λ n. tt))
-    (if-either F (bytes_eq word (codes "up")) _ _ (node Up (λ n. tt))
-    (if-either F (bytes_eq word (codes "handoff")) _ _ (if-any (λ x. Handoff x.0 (record { partition = x.1.0; index = x.1.1 })) (handoff_at ring k fields).0 F (λ n. tt))
-    (if-either F (bytes_eq word (codes "lose")) _ (Err (BadLine k), fields) (node Lose (λ n. tt)) tt)))))))))))))))
+kind-fits ring names k (word ∷ fields) = shape-fits ring names k fields (lookup (bytes_eq word) shapes)
 
 need-so : (k : ℕ) (seen : List Event) (t : Bool) → nat_lt (length seen) 1000000 ≡ t → IfOk (cond {A = Result (Unit {0}) Refusal} t (Ok tt) (Err (TooLarge k))) (λ u. length seen < 1000000)
 need-so k seen true e = ltb-true (length seen) 1000000 e

@@ -1,14 +1,14 @@
 -- Reading a script does not go back, and each of its faults is at a line that was reached.
 use Rattle.std.proofs.Common.{◌≡◌, ℕ, ◌≤◌, Bool, true, false, cond, not, nat_lt, nat_le, eqb, List, [], ◌∷◌, ◌++◌, length, codes, Option, Some, None, Result, Ok, Err, refl, sym, arith}
 use Rattle.std.specs.List.{list_all}
+use Rattle.std.specs.Map.{lookup}
 use Rattle.std.specs.Str.{bytes_eq}
 use Rattle.ring_names.specs.Names.{place}
-use Rattle.ring_names.specs.declared.ids.NodeId.{NodeId}
 use Rattle.ring_names.specs.declared.refusal.Refusal.{Refusal}
 use Rattle.ring_names.specs.declared.refusal.Refusal.TheVariants.{BadLine, TooLarge}
 use Rattle.texts.specs.Name.{is_name}
 use Rattle.texts.specs.Numbers.{numbers_of, beyond, ascending}
-use Rattle.texts.specs.Judging.{Item, map_item, field_at}
+use Rattle.texts.specs.Judging.{field_at}
 use Rattle.texts.specs.Left.{Left, ◌>>=◌, next_number, begins_with, first_line, next_line, one_line, then_part}
 use Rattle.texts.specs.Frames.{header_at, end_line_at}
 use Rattle.texts.specs.Late.{ReadsTo}
@@ -19,14 +19,19 @@ use Rattle.ring_table.specs.Reading.{declared_at}
 use Rattle.ring_table.proofs.RingLates.{judges-declared}
 use Rattle.plan_runs.specs.Words.{is_key}
 use Rattle.plan_runs.specs.declared.event.Event.{Event}
+use Rattle.plan_runs.specs.declared.event.Event.TheVariants as event
 use Rattle.script_text.specs.Digits.{is_value_text, value_of}
 use Rattle.script_text.specs.Said.{event_of, names_after}
 use Rattle.script_text.specs.declared.said.SaidWriter.{SaidWriter}
 use Rattle.script_text.specs.declared.said.SaidWriter.TheVariants.{Known, New}
 use Rattle.script_text.specs.declared.said.SaidEvent.{SaidEvent}
-use Rattle.script_text.specs.declared.said.SaidEvent.TheVariants.{Do, OpenCopy, ChunkCopy, CloseCopy, AbortCopy, StartPut, Write, Hint, Ack, StartGet, Read, EndGet, Down, Up, Handoff, Lose}
+use Rattle.script_text.specs.declared.said.SaidEvent.TheVariants as said
 use Rattle.script_text.specs.declared.speaker.Speaker.{Speaker}
-use Rattle.script_text.specs.Reading.{count_at, pair_at, judge_writer, judge_key, judge_value, judge_seen, seen_at, put_at, hint_at, handoff_at, kind_at, said_at, may_say, heard_at, events_from, events_at, section_at}
+use Rattle.script_text.specs.Reading.{count_at, pair_at, judge_writer, judge_key, judge_value, judge_seen, seen_at, put_at, hint_at, handoff_at}
+use Rattle.script_text.specs.declared.shape.Shape.{Shape}
+use Rattle.script_text.specs.declared.shape.Shape.TheVariants.{Number, Pair, Node, Put, Get, Hint, Handoff}
+use Rattle.script_text.specs.Shapes.{number_event, pair_event, node_event, shapes}
+use Rattle.script_text.specs.Reading.{shape_at, kind_at, said_at, may_say, heard_at, events_from, events_at, section_at}
 use Rattle.texts.proofs.Lates.{either-at}
 
 -- ---- a line
@@ -83,9 +88,16 @@ judges-handoff : (ring : RingValue) (k : ℕ) → Judges k (handoff_at ring k)
 unfolding handoff_at
 judges-handoff ring k = judges-⊗ k (declared_at ring k) (pair_at k) (judges-declared ring k) (judges-pair k)
 
--- the value of an item, made into an event
-said : {A : Type 0} (k : ℕ) (f : A → SaidEvent) (item : Item A) → Judges k item → (fields : List (List ℕ)) → At k (map_item f item fields).0
-said k f item p fields = (judges-map k f item p).at fields
+judges-shape : (ring : RingValue) (names : List (List ℕ)) (k : ℕ) (s : Option Shape) → Judges k (shape_at ring names k s)
+judges-shape ring names k (Some (Number w)) = judges-map k (λ n. said.Plain (number_event w n)) (count_at k) (judges-number k largest)
+judges-shape ring names k (Some (Pair w)) = judges-map k (λ x. said.Plain (pair_event w x.0 x.1)) (pair_at k) (judges-pair k)
+judges-shape ring names k (Some (Node w)) = judges-map k (λ x. said.Plain (node_event w x)) (declared_at ring k) (judges-declared ring k)
+judges-shape ring names k (Some Put) = judges-map k said.Put (put_at names k) (judges-put names k)
+judges-shape ring names k (Some Get) = judges-map k said.Get (field_at k (judge_key k)) (judges-field k (judge_key k) (key-at k))
+judges-shape ring names k (Some Hint) = judges-map k (λ x. said.Plain (event.Hint x.0.0 x.0.1 x.1)) (hint_at ring k) (judges-hint ring k)
+judges-shape ring names k (Some Handoff) =
+    judges-map k (λ x. said.Plain (event.Handoff x.0 (record { partition = x.1.0; index = x.1.1 }))) (handoff_at ring k) (judges-handoff ring k)
+judges-shape ring names k None = record { at = λ fields. refl }
 
 pub judges-kind : (ring : RingValue) (names : List (List ℕ)) (k : ℕ) → Judges k (kind_at ring names k)
 unfolding kind_at
@@ -93,26 +105,7 @@ judges-kind ring names k = record { at = at }
   where
     at : (fields : List (List ℕ)) → At k (kind_at ring names k fields).0
     at [] = refl
-    at (word ∷ fields) =
-        let one : (f : ℕ → SaidEvent) → At k (map_item f (count_at k) fields).0 = λ f. said k f (count_at k) (judges-number k largest) fields in
-        let two : (f : ℕ × ℕ → SaidEvent) → At k (map_item f (pair_at k) fields).0 = λ f. said k f (pair_at k) (judges-pair k) fields in
-        let node : (f : NodeId → SaidEvent) → At k (map_item f (declared_at ring k) fields).0 = λ f. said k f (declared_at ring k) (judges-declared ring k) fields in
-        either-at k (bytes_eq word (codes "do")) _ _ (one Do)
-        (either-at k (bytes_eq word (codes "open")) _ _ (one OpenCopy)
-        (either-at k (bytes_eq word (codes "chunk")) _ _ (two (λ x. ChunkCopy x.0 x.1))
-        (either-at k (bytes_eq word (codes "close")) _ _ (one CloseCopy)
-        (either-at k (bytes_eq word (codes "abort")) _ _ (one AbortCopy)
-        (either-at k (bytes_eq word (codes "put")) _ _ (said k StartPut (put_at names k) (judges-put names k) fields)
-        (either-at k (bytes_eq word (codes "write")) _ _ (two (λ x. Write x.0 x.1))
-        (either-at k (bytes_eq word (codes "hint")) _ _ (said k (λ x. Hint x.0.0 x.0.1 x.1) (hint_at ring k) (judges-hint ring k) fields)
-        (either-at k (bytes_eq word (codes "ack")) _ _ (one Ack)
-        (either-at k (bytes_eq word (codes "get")) _ _ (said k StartGet (field_at k (judge_key k)) (judges-field k (judge_key k) (key-at k)) fields)
-        (either-at k (bytes_eq word (codes "read")) _ _ (two (λ x. Read x.0 x.1))
-        (either-at k (bytes_eq word (codes "endget")) _ _ (one EndGet)
-        (either-at k (bytes_eq word (codes "down")) _ _ (node Down)
-        (either-at k (bytes_eq word (codes "up")) _ _ (node Up)
-        (either-at k (bytes_eq word (codes "handoff")) _ _ (said k (λ x. Handoff x.0 (record { partition = x.1.0; index = x.1.1 })) (handoff_at ring k) (judges-handoff ring k) fields)
-        (either-at k (bytes_eq word (codes "lose")) _ (Err (BadLine k), fields) (node Lose) refl)))))))))))))))
+    at (word ∷ fields) = (judges-shape ring names k (lookup (bytes_eq word) shapes)).at fields
 
 pub said-at : (ring : RingValue) (seen : List Event) (names : List (List ℕ)) (k : ℕ) (fields : List (List ℕ)) → At k (said_at ring seen names k fields)
 unfolding said_at

@@ -21,7 +21,7 @@ use Rattle.script_text.specs.Known.{IsKnown, AreKnown}
 use Rattle.script_text.specs.Spelling.{event_fields}
 use Rattle.script_text.specs.Valid.{AreWriters, WritesAt, IsEvent}
 use Rattle.script_text.proofs.FieldLaws.{named-at, IsWriter}
-use Rattle.script_text.proofs.KindLaws.{NamesWriter, IsSaid}
+use Rattle.script_text.proofs.KindLaws.{IsSmall, NamesWriter, IsSaid}
 use Rattle.script_text.proofs.WriterLaws.{not-before, writer-more, after-writers}
 use Rattle.script_text.proofs.SaidLines.{events_of, names_behind, lines_of, EachSaid}
 
@@ -64,7 +64,7 @@ same-writer x key value gets w p =
 
 -- the writers behind a put
 grows-put : (names : List (List ℕ)) (p : SaidPut) (x : SaidWriter) → IsWriter names x
-    → Grows names (names_after names (said.StartPut (record p { writer = x }))) (event_of names (said.StartPut (record p { writer = x })))
+    → Grows names (names_after names (said.Put (record p { writer = x }))) (event_of names (said.Put (record p { writer = x })))
 grows-put names p (Known n) is = still names (event.StartPut n p.key p.value p.seen) (λ w h. let same = same-writer n p.key p.value p.seen w h in omega arith)
 grows-put names p (New name) is =
     let more = length-append names (name ∷ []) in
@@ -78,8 +78,13 @@ grows-put names p (New name) is =
 
 -- the writers behind what a line says
 grows-said : (names : List (List ℕ)) (x : SaidEvent) → NamesWriter names x → Grows names (names_after names x) (event_of names x)
-grows-said names (said.StartPut p) is = grows-put names p p.writer is
-grows-said names x is = still names (event_of names x) (λ w h. let e = h.3 in absurd cc)
+grows-said names (said.Put p) is = grows-put names p p.writer is
+grows-said names (said.Get key) is = still names (event.StartGet key) (λ w h. let e = h.3 in absurd cc)
+grows-said names (said.Plain e) is = still names e (puts-none e is)
+  where
+    puts-none : (e : Event) → IsSmall e → (w : ℕ) → Puts e w → w < length names
+    puts-none (event.StartPut x key value gets) small w h = absurd small
+    puts-none e small w h = let f = h.3 in absurd cc
 
 -- ---- some events behind these writers
 
@@ -250,7 +255,7 @@ new-put ring names last (name ∷ more) w key value gets good e same lt is =
     let few = good.few in
     let sum = length-append names (name ∷ []) in
     record {
-      item = said.StartPut (record { writer = New name; key = key; value = value; seen = gets });
+      item = said.Put (record { writer = New name; key = key; value = value; seen = gets });
       event = ap (λ (n : ℕ). event.StartPut (record { 0 = n }) key value gets) (sym same);
       said = record { event = is; known = omega arith; writer = (named, new, omega arith) };
       on = (more, joined);
@@ -262,7 +267,7 @@ next-put : (ring : RingValue) (names last : List (List ℕ)) (w : WriterId) (key
     → IsEvent (event.StartPut w key value gets) → Next ring names last (event.StartPut w key value gets)
 next-put ring names last w key value gets good grown low lt is = elim (cases_lt w.0 (length names)) [
   | inl known ↦ record {
-    item = said.StartPut (record { writer = Known w; key = key; value = value; seen = gets });
+    item = said.Put (record { writer = Known w; key = key; value = value; seen = gets });
     event = refl;
     said = record { event = is; known = known; writer = known };
     on = grown;
@@ -278,23 +283,10 @@ module _ (ring : RingValue) (names last : List (List ℕ)) (good : AreWriters la
   -- each event is what one line says
   next-of : (e : Event) → ((w : ℕ) → Puts e w → length names ≤ w → w ≡ length names) → IsEvent e → IsKnown (length (names_of ring)) (length last) e
       → Next ring names last e
-  next-of (event.Do s) low is known = other (said.Do s) (record { event = is; known = tt; writer = tt }) grown.1
-  next-of (event.OpenCopy s) low is known = other (said.OpenCopy s) (record { event = is; known = tt; writer = tt }) grown.1
-  next-of (event.ChunkCopy s c) low is known = other (said.ChunkCopy s c) (record { event = is; known = tt; writer = tt }) grown.1
-  next-of (event.CloseCopy s) low is known = other (said.CloseCopy s) (record { event = is; known = tt; writer = tt }) grown.1
-  next-of (event.AbortCopy s) low is known = other (said.AbortCopy s) (record { event = is; known = tt; writer = tt }) grown.1
   next-of (event.StartPut w key value gets) low is known =
       next-put ring names last w key value gets good grown (λ high. low w.0 (key, value, gets, refl) high) known is
-  next-of (event.Write u i) low is known = other (said.Write u i) (record { event = is; known = tt; writer = tt }) grown.1
-  next-of (event.Hint u i x) low is known = other (said.Hint u i x) (record { event = is; known = known; writer = tt }) grown.1
-  next-of (event.Ack u) low is known = other (said.Ack u) (record { event = is; known = tt; writer = tt }) grown.1
-  next-of (event.StartGet key) low is known = other (said.StartGet key) (record { event = is; known = tt; writer = tt }) grown.1
-  next-of (event.Read g i) low is known = other (said.Read g i) (record { event = is; known = tt; writer = tt }) grown.1
-  next-of (event.EndGet g) low is known = other (said.EndGet g) (record { event = is; known = tt; writer = tt }) grown.1
-  next-of (event.Down x) low is known = other (said.Down x) (record { event = is; known = known; writer = tt }) grown.1
-  next-of (event.Up x) low is known = other (said.Up x) (record { event = is; known = known; writer = tt }) grown.1
-  next-of (event.Handoff x s) low is known = other (said.Handoff x s) (record { event = is; known = known; writer = tt }) grown.1
-  next-of (event.Lose x) low is known = other (said.Lose x) (record { event = is; known = known; writer = tt }) grown.1
+  next-of (event.StartGet key) low is known = other (said.Get key) (record { event = is; known = tt; writer = tt }) grown.1
+  next-of e low is known = other (said.Plain e) (record { event = is; known = known; writer = tt }) grown.1
 
 -- what the lines say of some events
 pub record Lines (ring : RingValue) (seen : List Event) (names last : List (List ℕ)) (script : List Event) : Type 0 where

@@ -18,7 +18,7 @@ use Rattle.script_text.specs.Said.{with_writer, names_after}
 use Rattle.script_text.specs.declared.said.SaidWriter.{SaidWriter}
 use Rattle.script_text.specs.declared.said.SaidWriter.TheVariants.{Known, New}
 use Rattle.script_text.specs.declared.said.SaidEvent.{SaidEvent}
-use Rattle.script_text.specs.declared.said.SaidEvent.TheVariants.{StartPut}
+use Rattle.script_text.specs.declared.said.SaidEvent.TheVariants.{Put}
 use Rattle.script_text.specs.Spelling.{writer_at}
 use Rattle.script_text.specs.Valid.{AreWriters}
 use Rattle.script_text.proofs.FieldLaws.{named-at, writer_at-is, IsWriter}
@@ -97,7 +97,7 @@ with-writers names (New name) good p = with-new names name good p
 
 -- behind a line too they are writers
 pub after-writers : (names : List (List ℕ)) (x : SaidEvent) → AreWriters names → NamesWriter names x → AreWriters (names_after names x)
-after-writers names (StartPut p) good named = with-writers names p.writer good named
+after-writers names (Put p) good named = with-writers names p.writer good named
 after-writers names x good named = good
 
 -- the first of some writers are writers

@@ -7,22 +7,13 @@ use Rattle.plan_runs.specs.declared.event.Event.TheVariants as event
 
 -- the event's writer is one of so many writers, and its node one of so many nodes
 abbrev pub IsKnown : ℕ → ℕ → Event → Type 0
-IsKnown nodes writers (event.Do s) = Unit {0}
-IsKnown nodes writers (event.OpenCopy s) = Unit {0}
-IsKnown nodes writers (event.ChunkCopy s c) = Unit {0}
-IsKnown nodes writers (event.CloseCopy s) = Unit {0}
-IsKnown nodes writers (event.AbortCopy s) = Unit {0}
 IsKnown nodes writers (event.StartPut w k v g) = w.0 < writers
-IsKnown nodes writers (event.Write u i) = Unit {0}
 IsKnown nodes writers (event.Hint u i x) = x.0 < nodes
-IsKnown nodes writers (event.Ack u) = Unit {0}
-IsKnown nodes writers (event.StartGet k) = Unit {0}
-IsKnown nodes writers (event.Read g i) = Unit {0}
-IsKnown nodes writers (event.EndGet g) = Unit {0}
 IsKnown nodes writers (event.Down x) = x.0 < nodes
 IsKnown nodes writers (event.Up x) = x.0 < nodes
 IsKnown nodes writers (event.Handoff x s) = x.0 < nodes
 IsKnown nodes writers (event.Lose x) = x.0 < nodes
+IsKnown nodes writers e = Unit {0}
 
 -- all events' writers are among the names, and their nodes are the ring's
 abbrev pub AreKnown : RingValue → List (List ℕ) → List Event → Type 0

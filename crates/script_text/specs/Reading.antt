@@ -1,7 +1,8 @@
 -- Reading a script: the events of a text and the writers known behind it, or its first fault.
-use Rattle.std.specs.Prelude.{ℕ, Bool, true, ◌||◌, ◌==◌, not, nat_lt, nat_le, List, [], ◌∷◌, ◌++◌, length, codes, Some, None, Result, Ok, Err}
+use Rattle.std.specs.Prelude.{ℕ, Bool, true, ◌||◌, ◌==◌, not, nat_lt, nat_le, List, [], ◌∷◌, ◌++◌, length, codes, Option, Some, None, Result, Ok, Err}
 use Rattle.std.specs.Prelude.{if◌then◌else◌}
 use Rattle.std.specs.List.{list_all}
+use Rattle.std.specs.Map.{lookup}
 use Rattle.std.specs.Str.{bytes_eq}
 use Rattle.ring_names.specs.Names.{place}
 use Rattle.ring_names.specs.declared.ids.NodeId.{NodeId}
@@ -16,6 +17,7 @@ use Rattle.ring_table.specs.Value.{RingValue}
 use Rattle.ring_table.specs.Reading.{declared_at}
 use Rattle.plan_runs.specs.Words.{is_key}
 use Rattle.plan_runs.specs.declared.event.Event.{Event}
+use Rattle.plan_runs.specs.declared.event.Event.TheVariants as event
 use Rattle.script_text.specs.Digits.{is_value_text, value_of}
 use Rattle.script_text.specs.Said.{event_of, names_after}
 use Rattle.script_text.specs.declared.said.SaidWriter.{SaidWriter}
@@ -23,6 +25,9 @@ use Rattle.script_text.specs.declared.said.SaidWriter.TheVariants.{Known, New}
 use Rattle.script_text.specs.declared.said.SaidPut.{SaidPut}
 use Rattle.script_text.specs.declared.said.SaidEvent.{SaidEvent}
 use Rattle.script_text.specs.declared.said.SaidEvent.TheVariants as said
+use Rattle.script_text.specs.declared.shape.Shape.{Shape}
+use Rattle.script_text.specs.declared.shape.Shape.TheVariants.{Number, Pair, Node, Put, Get, Hint, Handoff}
+use Rattle.script_text.specs.Shapes.{number_event, pair_event, node_event, shapes}
 use Rattle.script_text.specs.declared.speaker.Speaker.{Speaker}
 use Rattle.script_text.specs.declared.speaker.Speaker.TheVariants.{Anyone, Client}
 
@@ -81,37 +86,21 @@ hint_at ring k = pair_at k ⊗ declared_at ring k
 unfoldable pub handoff_at : RingValue → ℕ → Item (NodeId × (ℕ × ℕ))
 handoff_at ring k = declared_at ring k ⊗ pair_at k
 
--- what a line of that first word says of a node
-abbrev pub node_kind_at : RingValue → List ℕ → ℕ → Item SaidEvent
-node_kind_at ring word k fields =
-    if bytes_eq word (codes "down") then map_item said.Down (declared_at ring k) fields
-    else if bytes_eq word (codes "up") then map_item said.Up (declared_at ring k) fields
-    else if bytes_eq word (codes "handoff") then map_item (λ x. said.Handoff x.0 (record { partition = x.1.0; index = x.1.1 })) (handoff_at ring k) fields
-    else if bytes_eq word (codes "lose") then map_item said.Lose (declared_at ring k) fields
-    else (Err (BadLine k), fields)
+-- what a line says behind its word, which has a shape or is none of an event
+abbrev pub shape_at : RingValue → List (List ℕ) → ℕ → Option Shape → Item SaidEvent
+shape_at ring names k (Some (Number w)) = map_item (λ n. said.Plain (number_event w n)) (count_at k)
+shape_at ring names k (Some (Pair w)) = map_item (λ x. said.Plain (pair_event w x.0 x.1)) (pair_at k)
+shape_at ring names k (Some (Node w)) = map_item (λ x. said.Plain (node_event w x)) (declared_at ring k)
+shape_at ring names k (Some Put) = map_item said.Put (put_at names k)
+shape_at ring names k (Some Get) = map_item said.Get (field_at k (judge_key k))
+shape_at ring names k (Some Hint) = map_item (λ x. said.Plain (event.Hint x.0.0 x.0.1 x.1)) (hint_at ring k)
+shape_at ring names k (Some Handoff) = map_item (λ x. said.Plain (event.Handoff x.0 (record { partition = x.1.0; index = x.1.1 }))) (handoff_at ring k)
+shape_at ring names k None = λ fields. (Err (BadLine k), fields)
 
--- what it says of a put or a get, or else of a node
-abbrev pub request_kind_at : RingValue → List (List ℕ) → List ℕ → ℕ → Item SaidEvent
-request_kind_at ring names word k fields =
-    if bytes_eq word (codes "put") then map_item said.StartPut (put_at names k) fields
-    else if bytes_eq word (codes "write") then map_item (λ x. said.Write x.0 x.1) (pair_at k) fields
-    else if bytes_eq word (codes "hint") then map_item (λ x. said.Hint x.0.0 x.0.1 x.1) (hint_at ring k) fields
-    else if bytes_eq word (codes "ack") then map_item said.Ack (count_at k) fields
-    else if bytes_eq word (codes "get") then map_item said.StartGet (field_at k (judge_key k)) fields
-    else if bytes_eq word (codes "read") then map_item (λ x. said.Read x.0 x.1) (pair_at k) fields
-    else if bytes_eq word (codes "endget") then map_item said.EndGet (count_at k) fields
-    else node_kind_at ring word k fields
-
--- what the event is, behind the writers seen: of a step, or else of a put, a get or a node
+-- what the event is, behind the writers seen
 unfoldable pub kind_at : RingValue → List (List ℕ) → ℕ → Item SaidEvent
 kind_at ring names k [] = (Err (BadLine k), [])
-kind_at ring names k (word ∷ fields) =
-    if bytes_eq word (codes "do") then map_item said.Do (count_at k) fields
-    else if bytes_eq word (codes "open") then map_item said.OpenCopy (count_at k) fields
-    else if bytes_eq word (codes "chunk") then map_item (λ x. said.ChunkCopy x.0 x.1) (pair_at k) fields
-    else if bytes_eq word (codes "close") then map_item said.CloseCopy (count_at k) fields
-    else if bytes_eq word (codes "abort") then map_item said.AbortCopy (count_at k) fields
-    else request_kind_at ring names word k fields
+kind_at ring names k (word ∷ fields) = shape_at ring names k (lookup (bytes_eq word) shapes) fields
 
 -- the next event of a script
 unfoldable pub said_at : RingValue → List Event → List (List ℕ) → ℕ → List (List ℕ) → Result SaidEvent Refusal

@@ -7,6 +7,7 @@ mod kind;
 mod reading;
 mod said;
 mod script;
+mod shape;
 mod speaker;
 mod taken;
 mod words;

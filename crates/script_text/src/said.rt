@@ -1,7 +1,8 @@
 //! What an event's line says, before anything is kept of it.
 
 use crate::words::{KeyWord, SeenRow, ValueWord, Word};
-use ring_names::{NodeId, Slot, WriterId};
+use plan_runs::Event;
+use ring_names::WriterId;
 
 /// Who starts a put: a writer that was seen, or a new name.
 #[derive(Drop)]
@@ -22,20 +23,10 @@ pub struct SaidPut<'a> {
 /// An event that takes no memory of its own.
 #[derive(Drop)]
 pub enum SaidEvent<'a> {
-    Do(u32),
-    OpenCopy(u32),
-    ChunkCopy(u32, u32),
-    CloseCopy(u32),
-    AbortCopy(u32),
-    StartPut(SaidPut<'a>),
-    Write(u32, u32),
-    Hint(u32, u32, NodeId),
-    Ack(u32),
-    StartGet(KeyWord<'a>),
-    Read(u32, u32),
-    EndGet(u32),
-    Down(NodeId),
-    Up(NodeId),
-    Handoff(NodeId, Slot),
-    Lose(NodeId),
+    /// A put starts.
+    Put(SaidPut<'a>),
+    /// A get starts.
+    Get(KeyWord<'a>),
+    /// Any other event, which is all that it says.
+    Plain(Event),
 }

@@ -2,7 +2,7 @@
 
 ghost use Rattle.std.specs.Prelude.{◌≡◌, ◌<◌, ◌+◌, ◌++◌, ◌∷◌, [], length, IfOk, IfErr, OnOk};
 ghost use Rattle.ring_names.specs.declared.refusal.Refusal.TheVariants.{OutOfMemory};
-ghost use Rattle.script_text.specs.declared.said.SaidEvent.TheVariants.{StartPut};
+ghost use Rattle.script_text.specs.declared.said.SaidEvent.TheVariants.{Put};
 ghost use Rattle.script_text.specs.Said.{writer_of, with_writer, FitsWriter, event_of, names_after, Fits, IsNext};
 
 use crate::said::{SaidEvent, SaidPut, SaidWriter};
@@ -31,7 +31,7 @@ fn to_writer(names: &mut Names, writer: SaidWriter) -> Result<WriterId, Refusal>
 // The put, in memory of its own.
 fn to_put(alloc: Global, names: &mut Names, put: SaidPut) -> Result<Event, Refusal>
     requires { FitsWriter names.old put.writer }
-    ensures ok { IfOk result (λ event. event ≡ event_of names.old (StartPut put.entry)) }
+    ensures ok { IfOk result (λ event. event ≡ event_of names.old (Put put.entry)) }
     ensures names { OnOk result (names.new ≡ with_writer names.old put.entry.writer) }
     ensures memory { IfErr result (λ e. e ≡ OutOfMemory) }
 {
@@ -51,25 +51,12 @@ pub fn keep_event(alloc: Global, names: &mut Names, said: SaidEvent) -> Result<E
     ensures memory { IfErr result (λ e. e ≡ OutOfMemory) }
 {
     match said {
-        SaidEvent::Do(step) => Ok(Event::Do(step)),
-        SaidEvent::OpenCopy(step) => Ok(Event::OpenCopy(step)),
-        SaidEvent::ChunkCopy(step, chunk) => Ok(Event::ChunkCopy(step, chunk)),
-        SaidEvent::CloseCopy(step) => Ok(Event::CloseCopy(step)),
-        SaidEvent::AbortCopy(step) => Ok(Event::AbortCopy(step)),
-        SaidEvent::StartPut(put) => to_put(alloc, names, put),
-        SaidEvent::Write(put, index) => Ok(Event::Write(put, index)),
-        SaidEvent::Hint(put, index, node) => Ok(Event::Hint(put, index, node)),
-        SaidEvent::Ack(put) => Ok(Event::Ack(put)),
-        SaidEvent::StartGet(key) => {
+        SaidEvent::Put(put) => to_put(alloc, names, put),
+        SaidEvent::Get(key) => {
             let key = key.to_key(alloc)?;
             Ok(Event::StartGet(key))
         }
-        SaidEvent::Read(get, index) => Ok(Event::Read(get, index)),
-        SaidEvent::EndGet(get) => Ok(Event::EndGet(get)),
-        SaidEvent::Down(node) => Ok(Event::Down(node)),
-        SaidEvent::Up(node) => Ok(Event::Up(node)),
-        SaidEvent::Handoff(node, slot) => Ok(Event::Handoff(node, slot)),
-        SaidEvent::Lose(node) => Ok(Event::Lose(node)),
+        SaidEvent::Plain(event) => Ok(event),
     }
 }
 
