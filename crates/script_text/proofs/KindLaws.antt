@@ -68,6 +68,10 @@ writer-known names (New name) p = let more = length-append names (name ∷ []) i
 abbrev Taken : Type 0
 Taken = Result SaidEvent Refusal × List (List ℕ)
 
+-- one fact, and another
+both : {A B : Type 0} → A → B → A × B
+both a b = (a, b)
+
 -- what holds of each entry of a table holds of the word that is found there
 found-at : {A : Type 0} (P : List ℕ → A → Type 0) (table : List (List ℕ × A)) (word : List ℕ) (x : A) → AllByRecursion (λ e. P e.0 e.1) table
     → lookup (bytes_eq word) table ≡ Some x → P word x
@@ -143,55 +147,24 @@ module _ (ring : RingValue) (names : List (List ℕ)) (k : ℕ) (nodes : AreName
 
   -- each word has its shape
   are-shapes : AllByRecursion (λ x. IsShape x.0 x.1) shapes
-  are-shapes = (
-    λ n. (refl, λ p. record { event = p; known = tt; writer = tt }),
-    (
-      λ n. (refl, λ p. record { event = p; known = tt; writer = tt }),
-      (
-        λ n. (refl, λ p. record { event = p; known = tt; writer = tt }),
-        (
-          λ n. (refl, λ p. record { event = p; known = tt; writer = tt }),
-          (
-            λ n. (refl, λ p. record { event = p; known = tt; writer = tt }),
-            (
-              λ x. (refl, λ p. record { event = (p.key, p.value, p.gets); known = writer-known names x.writer p.writer; writer = p.writer }),
-              (
-                λ n. (refl, λ p. record { event = p; known = tt; writer = tt }),
-                (
-                  λ x. (refl, λ p. record { event = p.0; known = p.1; writer = tt }),
-                  (
-                    λ n. (refl, λ p. record { event = p; known = tt; writer = tt }),
-                    (
-                      λ key. (refl, λ p. record { event = p; known = tt; writer = tt }),
-                      (
-                        λ n. (refl, λ p. record { event = p; known = tt; writer = tt }),
-                        (
-                          λ n. (refl, λ p. record { event = p; known = tt; writer = tt }),
-                          (
-                            λ x. (refl, λ p. record { event = tt; known = p; writer = tt }),
-                            (
-                              λ x. (refl, λ p. record { event = tt; known = p; writer = tt }),
-                              (
-                                λ x. (refl, λ p. record { event = p.1; known = p.0; writer = tt }),
-                                (
-                                  λ x. (refl, λ p. record { event = tt; known = p; writer = tt }),
-                                  tt,
-                                ),
-                              ),
-                            ),
-                          ),
-                        ),
-                      ),
-                    ),
-                  ),
-                ),
-              ),
-            ),
-          ),
-        ),
-      ),
-    ),
-  )
+  are-shapes =
+      both (λ n. (refl, λ p. record { event = p; known = tt; writer = tt }))
+      (both (λ n. (refl, λ p. record { event = p; known = tt; writer = tt }))
+      (both (λ n. (refl, λ p. record { event = p; known = tt; writer = tt }))
+      (both (λ n. (refl, λ p. record { event = p; known = tt; writer = tt }))
+      (both (λ n. (refl, λ p. record { event = p; known = tt; writer = tt }))
+      (both (λ x. (refl, λ p. record { event = (p.key, p.value, p.gets); known = writer-known names x.writer p.writer; writer = p.writer }))
+      (both (λ n. (refl, λ p. record { event = p; known = tt; writer = tt }))
+      (both (λ x. (refl, λ p. record { event = p.0; known = p.1; writer = tt }))
+      (both (λ n. (refl, λ p. record { event = p; known = tt; writer = tt }))
+      (both (λ key. (refl, λ p. record { event = p; known = tt; writer = tt }))
+      (both (λ n. (refl, λ p. record { event = p; known = tt; writer = tt }))
+      (both (λ n. (refl, λ p. record { event = p; known = tt; writer = tt }))
+      (both (λ x. (refl, λ p. record { event = tt; known = p; writer = tt }))
+      (both (λ x. (refl, λ p. record { event = tt; known = p; writer = tt }))
+      (both (λ x. (refl, λ p. record { event = p.1; known = p.0; writer = tt }))
+      (both (λ x. (refl, λ p. record { event = tt; known = p; writer = tt }))
+      tt)))))))))))))))
 
   -- a line of that shape is read only if it is spelled so
   take-shape : (s : Option Shape) (word : List ℕ) (fields rest : List (List ℕ)) (v : SaidEvent) → ((t : Shape) → s ≡ Some t → IsShape word t)
