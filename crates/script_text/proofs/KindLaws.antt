@@ -1,6 +1,7 @@
 -- An event's line is read only if it is spelled so.
 use Rattle.std.proofs.Common.{◌≡◌, ℕ, ◌<◌, Bool, true, false, cond, nat_lt, List, [], ◌∷◌, ◌++◌, length, Option, Some, None, Result, Ok, Err, refl, sym, ap, subst, ◌∙◌}
 use Rattle.std.proofs.Common.{arith, length-append}
+use Rattle.std.specs.Prelude.{IfSome, option_map}
 use Rattle.std.specs.Fmt.{decimal}
 use Rattle.std.specs.List.{AllByRecursion}
 use Rattle.std.specs.Map.{lookup}
@@ -29,9 +30,7 @@ use Rattle.script_text.specs.declared.said.SaidEvent.TheVariants as said
 use Rattle.script_text.specs.Known.{IsKnown}
 use Rattle.script_text.specs.Spelling.{event_fields}
 use Rattle.script_text.specs.Reading.{count_at, pair_at, judge_key, put_at, hint_at, handoff_at}
-use Rattle.script_text.specs.declared.shape.Shape.{Shape}
-use Rattle.script_text.specs.declared.shape.Shape.TheVariants.{Number, Pair, Node, Put, Get, Hint, Handoff}
-use Rattle.script_text.specs.Shapes.{number_event, pair_event, node_event, shapes}
+use Rattle.script_text.specs.Shapes.{Shape, Number, Pair, Node, Put, Get, Hint, Handoff, words, shape_of}
 use Rattle.script_text.specs.Reading.{shape_at, kind_at, said_at}
 use Rattle.script_text.specs.Valid.{AreWriters, IsCount, IsEvent}
 use Rattle.script_text.proofs.FieldLaws.{item-count, pair_fields, AreCounts, item-pair, node_fields, IsNode, item-node, item-hint, item-handoff, item-key}
@@ -72,18 +71,16 @@ Taken = Result SaidEvent Refusal × List (List ℕ)
 both : {A B : Type 0} → A → B → A × B
 both a b = (a, b)
 
--- what holds of each entry of a table holds of the word that is found there
-found-at : {A : Type 0} (P : List ℕ → A → Type 0) (table : List (List ℕ × A)) (word : List ℕ) (x : A) → AllByRecursion (λ e. P e.0 e.1) table
-    → lookup (bytes_eq word) table ≡ Some x → P word x
-found-at P [] word x all e = absurd cc
-found-at {A = A} P (t ∷ ts) word x all e = by (bytes_eq word t.0) refl (found-at P ts word x all.1) e
+-- what holds of what each entry of a table makes holds of what the word that is found there makes
+found-at : {A B : Type 0} (f : A → B) (P : List ℕ → B → Type 0) (table : List (List ℕ × A)) (word : List ℕ) → AllByRecursion (λ e. P e.0 (f e.1)) table
+    → IfSome (option_map f (lookup (bytes_eq word) table)) (P word)
+found-at f P [] word all = tt
+found-at f P (t ∷ ts) word all = by (bytes_eq word t.0) refl (found-at f P ts word all.1)
   where
-    by : (b : Bool) → bytes_eq word t.0 ≡ b → (lookup (bytes_eq word) ts ≡ Some x → P word x)
-        → ◌≡◌ {A = Option A} (cond b (Some t.1) (lookup (bytes_eq word) ts)) (Some x) → P word x
-    by true h later f =
-        let same : t.1 ≡ x = cc in
-        subst (λ w. P w x) (sym ((bytes_eq-Decides word t.0).0 h)) (subst (P t.0) same all.0)
-    by false h later f = later f
+    by : (b : Bool) → bytes_eq word t.0 ≡ b → IfSome (option_map f (lookup (bytes_eq word) ts)) (P word)
+        → IfSome (option_map f (cond b (Some t.1) (lookup (bytes_eq word) ts))) (P word)
+    by true h later = subst (λ w. P w (f t.1)) (sym ((bytes_eq-Decides word t.0).0 h)) all.0
+    by false h later = later
 
 module _ (ring : RingValue) (names : List (List ℕ)) (k : ℕ) (nodes : AreNames (names_of ring)) (writers : AreWriters names) where
   -- the fields are the line of what was read, and it is allowed
@@ -135,9 +132,9 @@ module _ (ring : RingValue) (names : List (List ℕ)) (k : ℕ) (nodes : AreName
 
   -- what a word of that shape begins is spelled so
   abbrev IsShape : List ℕ → Shape → Type 0
-  IsShape word (Number w) = Says word (λ n. decimal n ∷ []) IsCount (λ n. said.Plain (number_event w n))
-  IsShape word (Pair w) = Says word pair_fields AreCounts (λ (x : ℕ × ℕ). said.Plain (pair_event w x.0 x.1))
-  IsShape word (Node w) = Says word (node_fields ring) (IsNode ring) (λ x. said.Plain (node_event w x))
+  IsShape word (Number f) = Says word (λ n. decimal n ∷ []) IsCount (λ n. said.Plain (f n))
+  IsShape word (Pair f) = Says word pair_fields AreCounts (λ (x : ℕ × ℕ). said.Plain (f x.0 x.1))
+  IsShape word (Node f) = Says word (node_fields ring) (IsNode ring) (λ x. said.Plain (f x))
   IsShape word Put = Says word (put_fields names) (IsPut names) said.Put
   IsShape word Get = Says word (λ key. key ∷ []) (λ key. is_key key ≡ true) said.Get
   IsShape word Hint = Says word (λ x. pair_fields x.0 ++ node_fields ring x.1) (λ x. AreCounts x.0 × IsNode ring x.1)
@@ -146,7 +143,7 @@ module _ (ring : RingValue) (names : List (List ℕ)) (k : ℕ) (nodes : AreName
       (λ (x : NodeId × (ℕ × ℕ)). said.Plain (event.Handoff x.0 (record { partition = x.1.0; index = x.1.1 })))
 
   -- each word has its shape
-  are-shapes : AllByRecursion (λ x. IsShape x.0 x.1) shapes
+  are-shapes : AllByRecursion (λ x. IsShape x.0 (shape_of x.1)) words
   are-shapes =
       both (λ n. (refl, λ p. record { event = p; known = tt; writer = tt }))
       (both (λ n. (refl, λ p. record { event = p; known = tt; writer = tt }))
@@ -167,15 +164,15 @@ module _ (ring : RingValue) (names : List (List ℕ)) (k : ℕ) (nodes : AreName
       tt)))))))))))))))
 
   -- a line of that shape is read only if it is spelled so
-  take-shape : (s : Option Shape) (word : List ℕ) (fields rest : List (List ℕ)) (v : SaidEvent) → ((t : Shape) → s ≡ Some t → IsShape word t)
+  take-shape : (s : Option Shape) (word : List ℕ) (fields rest : List (List ℕ)) (v : SaidEvent) → IfSome s (IsShape word)
       → shape_at ring names k s fields ≡ (Ok v, rest) → Found (word ∷ fields) rest v
-  take-shape (Some (Number w)) word fields rest v is = found (count_at k) _ _ _ word fields rest v counts (is (Number w) refl)
-  take-shape (Some (Pair w)) word fields rest v is = found (pair_at k) _ _ _ word fields rest v pairs (is (Pair w) refl)
-  take-shape (Some (Node w)) word fields rest v is = found (declared_at ring k) _ _ _ word fields rest v declared (is (Node w) refl)
-  take-shape (Some Put) word fields rest v is = found (put_at names k) _ _ _ word fields rest v puts (is Put refl)
-  take-shape (Some Get) word fields rest v is = found (field_at k (judge_key k)) _ _ _ word fields rest v keys (is Get refl)
-  take-shape (Some Hint) word fields rest v is = found (hint_at ring k) _ _ _ word fields rest v hints (is Hint refl)
-  take-shape (Some Handoff) word fields rest v is = found (handoff_at ring k) _ _ _ word fields rest v handoffs (is Handoff refl)
+  take-shape (Some (Number f)) word fields rest v is = found (count_at k) _ _ _ word fields rest v counts is
+  take-shape (Some (Pair f)) word fields rest v is = found (pair_at k) _ _ _ word fields rest v pairs is
+  take-shape (Some (Node f)) word fields rest v is = found (declared_at ring k) _ _ _ word fields rest v declared is
+  take-shape (Some Put) word fields rest v is = found (put_at names k) _ _ _ word fields rest v puts is
+  take-shape (Some Get) word fields rest v is = found (field_at k (judge_key k)) _ _ _ word fields rest v keys is
+  take-shape (Some Hint) word fields rest v is = found (hint_at ring k) _ _ _ word fields rest v hints is
+  take-shape (Some Handoff) word fields rest v is = found (handoff_at ring k) _ _ _ word fields rest v handoffs is
   take-shape None word fields rest v is = λ e. (let h = pair_is {A = Result SaidEvent Refusal} (Err (BadLine k), fields) (Ok v) rest e in absurd cc)
 
   -- a value that was read, made into what the line says
@@ -191,7 +188,7 @@ module _ (ring : RingValue) (names : List (List ℕ)) (k : ℕ) (nodes : AreName
       take : (fields rest : List (List ℕ)) (v : SaidEvent) → kind_at ring names k fields ≡ (Ok v, rest)
           → (fields ≡ said_fields ring names v ++ rest) × IsSaid ring names v
       take [] rest v e = let h = pair_is {A = Result SaidEvent Refusal} (Err (BadLine k), []) (Ok v) rest e in absurd cc
-      take (word ∷ fields) rest v e = take-shape (lookup (bytes_eq word) shapes) word fields rest v (λ s. found-at IsShape shapes word s are-shapes) e
+      take (word ∷ fields) rest v e = take-shape (option_map shape_of (lookup (bytes_eq word) words)) word fields rest v (found-at shape_of IsShape words word are-shapes) e
 
       give : (v : SaidEvent) (rest : List (List ℕ)) → IsSaid ring names v → Last rest → kind_at ring names k (said_fields ring names v ++ rest) ≡ (Ok v, rest)
       give (said.Put q) rest p last = made said.Put q _ rest

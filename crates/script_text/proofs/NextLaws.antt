@@ -1,5 +1,6 @@
 -- What a line says can be the next event.
 use Rattle.std.proofs.Common.{◌≡◌, ℕ, ◌<◌, Bool, true, false, cond, nat_lt, List, [], ◌∷◌, length, Option, Some, None, Result, Ok, Err, IfOk, refl}
+use Rattle.std.specs.Prelude.{option_map}
 use Rattle.std.specs.Map.{lookup}
 use Rattle.std.proofs.lemmas.Bool.{ltb-true}
 use Rattle.std.specs.Str.{bytes_eq}
@@ -18,9 +19,7 @@ use Rattle.script_text.specs.declared.said.SaidWriter.TheVariants.{Known, New}
 use Rattle.script_text.specs.declared.said.SaidEvent.{SaidEvent}
 use Rattle.script_text.specs.declared.said.SaidEvent.TheVariants as said
 use Rattle.script_text.specs.Reading.{count_at, pair_at, judge_writer, judge_key, judge_value, seen_at, put_at, hint_at, handoff_at}
-use Rattle.script_text.specs.declared.shape.Shape.{Shape}
-use Rattle.script_text.specs.declared.shape.Shape.TheVariants.{Number, Pair, Node, Put, Get, Hint, Handoff}
-use Rattle.script_text.specs.Shapes.{number_event, pair_event, node_event, shapes}
+use Rattle.script_text.specs.Shapes.{Shape, Number, Pair, Node, Put, Get, Hint, Handoff, words, shape_of}
 use Rattle.script_text.specs.Reading.{shape_at, kind_at, said_at}
 
 -- a value that was read is so
@@ -82,9 +81,9 @@ put-fits names k fields =
 -- ---- a line
 
 shape-fits : (ring : RingValue) (names : List (List ℕ)) (k : ℕ) (fields : List (List ℕ)) (s : Option Shape) → IfOk (shape_at ring names k s fields).0 (Fits names)
-shape-fits ring names k fields (Some (Number w)) = if-any (λ n. said.Plain (number_event w n)) (count_at k fields).0 (Fits names) (λ n. tt)
-shape-fits ring names k fields (Some (Pair w)) = if-any (λ x. said.Plain (pair_event w x.0 x.1)) (pair_at k fields).0 (Fits names) (λ x. tt)
-shape-fits ring names k fields (Some (Node w)) = if-any (λ x. said.Plain (node_event w x)) (declared_at ring k fields).0 (Fits names) (λ x. tt)
+shape-fits ring names k fields (Some (Number f)) = if-any (λ n. said.Plain (f n)) (count_at k fields).0 (Fits names) (λ n. tt)
+shape-fits ring names k fields (Some (Pair f)) = if-any (λ x. said.Plain (f x.0 x.1)) (pair_at k fields).0 (Fits names) (λ x. tt)
+shape-fits ring names k fields (Some (Node f)) = if-any (λ x. said.Plain (f x)) (declared_at ring k fields).0 (Fits names) (λ x. tt)
 shape-fits ring names k fields (Some Put) = if-map said.Put (put_at names k fields).0 (λ p. FitsWriter names p.writer) (Fits names) (λ p fits. fits) (put-fits names k fields)
 shape-fits ring names k fields (Some Get) = if-any said.Get (field_at k (judge_key k) fields).0 (Fits names) (λ key. tt)
 shape-fits ring names k fields (Some Hint) = if-any (λ x. said.Plain (event.Hint x.0.0 x.0.1 x.1)) (hint_at ring k fields).0 (Fits names) (λ x. tt)
@@ -95,7 +94,7 @@ shape-fits ring names k fields None = tt
 pub kind-fits : (ring : RingValue) (names : List (List ℕ)) (k : ℕ) (fields : List (List ℕ)) → IfOk (kind_at ring names k fields).0 (Fits names)
 unfolding kind_at
 kind-fits ring names k [] = tt
-kind-fits ring names k (word ∷ fields) = shape-fits ring names k fields (lookup (bytes_eq word) shapes)
+kind-fits ring names k (word ∷ fields) = shape-fits ring names k fields (option_map shape_of (lookup (bytes_eq word) words))
 
 need-so : (k : ℕ) (seen : List Event) (t : Bool) → nat_lt (length seen) 1000000 ≡ t → IfOk (cond {A = Result (Unit {0}) Refusal} t (Ok tt) (Err (TooLarge k))) (λ u. length seen < 1000000)
 need-so k seen true e = ltb-true (length seen) 1000000 e

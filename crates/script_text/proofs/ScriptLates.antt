@@ -1,6 +1,7 @@
 -- Reading a script does not go back, and each of its faults is at a line that was reached.
 use Rattle.std.proofs.Common.{◌≡◌, ℕ, ◌≤◌, Bool, true, false, cond, not, nat_lt, nat_le, eqb, List, [], ◌∷◌, ◌++◌, length, codes, Option, Some, None, Result, Ok, Err, refl, sym, arith}
 use Rattle.std.specs.List.{list_all}
+use Rattle.std.specs.Prelude.{option_map}
 use Rattle.std.specs.Map.{lookup}
 use Rattle.std.specs.Str.{bytes_eq}
 use Rattle.ring_names.specs.Names.{place}
@@ -28,9 +29,7 @@ use Rattle.script_text.specs.declared.said.SaidEvent.{SaidEvent}
 use Rattle.script_text.specs.declared.said.SaidEvent.TheVariants as said
 use Rattle.script_text.specs.declared.speaker.Speaker.{Speaker}
 use Rattle.script_text.specs.Reading.{count_at, pair_at, judge_writer, judge_key, judge_value, judge_seen, seen_at, put_at, hint_at, handoff_at}
-use Rattle.script_text.specs.declared.shape.Shape.{Shape}
-use Rattle.script_text.specs.declared.shape.Shape.TheVariants.{Number, Pair, Node, Put, Get, Hint, Handoff}
-use Rattle.script_text.specs.Shapes.{number_event, pair_event, node_event, shapes}
+use Rattle.script_text.specs.Shapes.{Shape, Number, Pair, Node, Put, Get, Hint, Handoff, words, shape_of}
 use Rattle.script_text.specs.Reading.{shape_at, kind_at, said_at, may_say, heard_at, events_from, events_at, section_at}
 use Rattle.texts.proofs.Lates.{either-at}
 
@@ -89,9 +88,9 @@ unfolding handoff_at
 judges-handoff ring k = judges-⊗ k (declared_at ring k) (pair_at k) (judges-declared ring k) (judges-pair k)
 
 judges-shape : (ring : RingValue) (names : List (List ℕ)) (k : ℕ) (s : Option Shape) → Judges k (shape_at ring names k s)
-judges-shape ring names k (Some (Number w)) = judges-map k (λ n. said.Plain (number_event w n)) (count_at k) (judges-number k largest)
-judges-shape ring names k (Some (Pair w)) = judges-map k (λ x. said.Plain (pair_event w x.0 x.1)) (pair_at k) (judges-pair k)
-judges-shape ring names k (Some (Node w)) = judges-map k (λ x. said.Plain (node_event w x)) (declared_at ring k) (judges-declared ring k)
+judges-shape ring names k (Some (Number f)) = judges-map k (λ n. said.Plain (f n)) (count_at k) (judges-number k largest)
+judges-shape ring names k (Some (Pair f)) = judges-map k (λ x. said.Plain (f x.0 x.1)) (pair_at k) (judges-pair k)
+judges-shape ring names k (Some (Node f)) = judges-map k (λ x. said.Plain (f x)) (declared_at ring k) (judges-declared ring k)
 judges-shape ring names k (Some Put) = judges-map k said.Put (put_at names k) (judges-put names k)
 judges-shape ring names k (Some Get) = judges-map k said.Get (field_at k (judge_key k)) (judges-field k (judge_key k) (key-at k))
 judges-shape ring names k (Some Hint) = judges-map k (λ x. said.Plain (event.Hint x.0.0 x.0.1 x.1)) (hint_at ring k) (judges-hint ring k)
@@ -105,7 +104,7 @@ judges-kind ring names k = record { at = at }
   where
     at : (fields : List (List ℕ)) → At k (kind_at ring names k fields).0
     at [] = refl
-    at (word ∷ fields) = (judges-shape ring names k (lookup (bytes_eq word) shapes)).at fields
+    at (word ∷ fields) = (judges-shape ring names k (option_map shape_of (lookup (bytes_eq word) words))).at fields
 
 pub said-at : (ring : RingValue) (seen : List Event) (names : List (List ℕ)) (k : ℕ) (fields : List (List ℕ)) → At k (said_at ring seen names k fields)
 unfolding said_at

@@ -1,5 +1,5 @@
 -- Reading a script: the events of a text and the writers known behind it, or its first fault.
-use Rattle.std.specs.Prelude.{ℕ, Bool, true, ◌||◌, ◌==◌, not, nat_lt, nat_le, List, [], ◌∷◌, ◌++◌, length, codes, Option, Some, None, Result, Ok, Err}
+use Rattle.std.specs.Prelude.{ℕ, Bool, true, ◌||◌, ◌==◌, not, nat_lt, nat_le, List, [], ◌∷◌, ◌++◌, length, codes, Option, Some, None, option_map, Result, Ok, Err}
 use Rattle.std.specs.Prelude.{if◌then◌else◌}
 use Rattle.std.specs.List.{list_all}
 use Rattle.std.specs.Map.{lookup}
@@ -25,9 +25,7 @@ use Rattle.script_text.specs.declared.said.SaidWriter.TheVariants.{Known, New}
 use Rattle.script_text.specs.declared.said.SaidPut.{SaidPut}
 use Rattle.script_text.specs.declared.said.SaidEvent.{SaidEvent}
 use Rattle.script_text.specs.declared.said.SaidEvent.TheVariants as said
-use Rattle.script_text.specs.declared.shape.Shape.{Shape}
-use Rattle.script_text.specs.declared.shape.Shape.TheVariants.{Number, Pair, Node, Put, Get, Hint, Handoff}
-use Rattle.script_text.specs.Shapes.{number_event, pair_event, node_event, shapes}
+use Rattle.script_text.specs.Shapes.{Shape, Number, Pair, Node, Put, Get, Hint, Handoff, words, shape_of}
 use Rattle.script_text.specs.declared.speaker.Speaker.{Speaker}
 use Rattle.script_text.specs.declared.speaker.Speaker.TheVariants.{Anyone, Client}
 
@@ -88,9 +86,9 @@ handoff_at ring k = declared_at ring k ⊗ pair_at k
 
 -- what a line says behind its word, which has a shape or is none of an event
 abbrev pub shape_at : RingValue → List (List ℕ) → ℕ → Option Shape → Item SaidEvent
-shape_at ring names k (Some (Number w)) = map_item (λ n. said.Plain (number_event w n)) (count_at k)
-shape_at ring names k (Some (Pair w)) = map_item (λ x. said.Plain (pair_event w x.0 x.1)) (pair_at k)
-shape_at ring names k (Some (Node w)) = map_item (λ x. said.Plain (node_event w x)) (declared_at ring k)
+shape_at ring names k (Some (Number f)) = map_item (λ n. said.Plain (f n)) (count_at k)
+shape_at ring names k (Some (Pair f)) = map_item (λ x. said.Plain (f x.0 x.1)) (pair_at k)
+shape_at ring names k (Some (Node f)) = map_item (λ x. said.Plain (f x)) (declared_at ring k)
 shape_at ring names k (Some Put) = map_item said.Put (put_at names k)
 shape_at ring names k (Some Get) = map_item said.Get (field_at k (judge_key k))
 shape_at ring names k (Some Hint) = map_item (λ x. said.Plain (event.Hint x.0.0 x.0.1 x.1)) (hint_at ring k)
@@ -100,7 +98,7 @@ shape_at ring names k None = λ fields. (Err (BadLine k), fields)
 -- what the event is, behind the writers seen
 unfoldable pub kind_at : RingValue → List (List ℕ) → ℕ → Item SaidEvent
 kind_at ring names k [] = (Err (BadLine k), [])
-kind_at ring names k (word ∷ fields) = shape_at ring names k (lookup (bytes_eq word) shapes) fields
+kind_at ring names k (word ∷ fields) = shape_at ring names k (option_map shape_of (lookup (bytes_eq word) words)) fields
 
 -- the next event of a script
 unfoldable pub said_at : RingValue → List Event → List (List ℕ) → ℕ → List (List ℕ) → Result SaidEvent Refusal

@@ -1,54 +1,56 @@
--- The words that begin an event's line, and what stands behind each.
+-- The words that begin events' lines, and what stands behind each.
 use Rattle.std.specs.Prelude.{ℕ, List, [], ◌∷◌, codes}
 use Rattle.ring_names.specs.declared.ids.NodeId.{NodeId}
 use Rattle.plan_runs.specs.declared.event.Event.{Event}
 use Rattle.plan_runs.specs.declared.event.Event.TheVariants as event
-use Rattle.script_text.specs.declared.shape.NumberWord.{NumberWord}
-use Rattle.script_text.specs.declared.shape.NumberWord.TheVariants as one
-use Rattle.script_text.specs.declared.shape.PairWord.{PairWord}
-use Rattle.script_text.specs.declared.shape.PairWord.TheVariants as two
-use Rattle.script_text.specs.declared.shape.NodeWord.{NodeWord}
-use Rattle.script_text.specs.declared.shape.NodeWord.TheVariants as of
-use Rattle.script_text.specs.declared.shape.Shape.{Shape}
-use Rattle.script_text.specs.declared.shape.Shape.TheVariants.{Number, Pair, Node, Put, Get, Hint, Handoff}
+use Rattle.script_text.specs.declared.word.EventWord.{EventWord}
+use Rattle.script_text.specs.declared.word.EventWord.TheVariants as word
 
--- the event of a number
-abbrev pub number_event : NumberWord → ℕ → Event
-number_event one.Do n = event.Do n
-number_event one.Open n = event.OpenCopy n
-number_event one.Close n = event.CloseCopy n
-number_event one.Abort n = event.AbortCopy n
-number_event one.Ack n = event.Ack n
-number_event one.EndGet n = event.EndGet n
-
--- the event of two numbers
-abbrev pub pair_event : PairWord → ℕ → ℕ → Event
-pair_event two.Chunk n m = event.ChunkCopy n m
-pair_event two.Write n m = event.Write n m
-pair_event two.Read n m = event.Read n m
-
--- the event of a node
-abbrev pub node_event : NodeWord → NodeId → Event
-node_event of.Down x = event.Down x
-node_event of.Up x = event.Up x
-node_event of.Lose x = event.Lose x
-
--- the words, each with what stands behind it
-abbrev pub shapes : List (List ℕ × Shape)
-shapes = (codes "do", Number one.Do)
-    ∷ (codes "open", Number one.Open)
-    ∷ (codes "chunk", Pair two.Chunk)
-    ∷ (codes "close", Number one.Close)
-    ∷ (codes "abort", Number one.Abort)
-    ∷ (codes "put", Put)
-    ∷ (codes "write", Pair two.Write)
-    ∷ (codes "hint", Hint)
-    ∷ (codes "ack", Number one.Ack)
-    ∷ (codes "get", Get)
-    ∷ (codes "read", Pair two.Read)
-    ∷ (codes "endget", Number one.EndGet)
-    ∷ (codes "down", Node of.Down)
-    ∷ (codes "up", Node of.Up)
-    ∷ (codes "handoff", Handoff)
-    ∷ (codes "lose", Node of.Lose)
+-- the words
+abbrev pub words : List (List ℕ × EventWord)
+words = (codes "do", word.Do)
+    ∷ (codes "open", word.Open)
+    ∷ (codes "chunk", word.Chunk)
+    ∷ (codes "close", word.Close)
+    ∷ (codes "abort", word.Abort)
+    ∷ (codes "put", word.Put)
+    ∷ (codes "write", word.Write)
+    ∷ (codes "hint", word.Hint)
+    ∷ (codes "ack", word.Ack)
+    ∷ (codes "get", word.Get)
+    ∷ (codes "read", word.Read)
+    ∷ (codes "endget", word.EndGet)
+    ∷ (codes "down", word.Down)
+    ∷ (codes "up", word.Up)
+    ∷ (codes "handoff", word.Handoff)
+    ∷ (codes "lose", word.Lose)
     ∷ []
+
+-- what stands behind a word, and the event of a number, of two and of a node
+pub data Shape : Type 0 where
+  Number : (ℕ → Event) → Shape
+  Pair : (ℕ → ℕ → Event) → Shape
+  Node : (NodeId → Event) → Shape
+  Put : Shape
+  Get : Shape
+  Hint : Shape
+  Handoff : Shape
+
+-- the shape of a word's line
+abbrev pub shape_of : EventWord → Shape
+shape_of word.Do = Number event.Do
+shape_of word.Open = Number event.OpenCopy
+shape_of word.Chunk = Pair event.ChunkCopy
+shape_of word.Close = Number event.CloseCopy
+shape_of word.Abort = Number event.AbortCopy
+shape_of word.Put = Put
+shape_of word.Write = Pair event.Write
+shape_of word.Hint = Hint
+shape_of word.Ack = Number event.Ack
+shape_of word.Get = Get
+shape_of word.Read = Pair event.Read
+shape_of word.EndGet = Number event.EndGet
+shape_of word.Down = Node event.Down
+shape_of word.Up = Node event.Up
+shape_of word.Handoff = Handoff
+shape_of word.Lose = Node event.Lose

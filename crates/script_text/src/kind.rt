@@ -5,8 +5,8 @@ ghost use Rattle.texts.specs.Judging.{Does};
 ghost use Rattle.script_text.specs.Reading.{kind_at};
 
 use crate::items::{count, handoff, hint, key, pair, put};
-use crate::said::SaidEvent;
-use crate::shape::Shape;
+use crate::said::SaidEvent::{self, Plain};
+use crate::word::EventWord;
 use plan_runs::Event;
 use ring_names::{Names, Refusal, Slot};
 use ring_table::{Ring, node_field};
@@ -26,27 +26,32 @@ pub fn said_event<'a>(
     let Some(word) = fields.next() else {
         return Err(Refusal::BadLine(line));
     };
-    let Some(shape) = Shape::of(word) else {
+    let Some(word) = EventWord::of(word) else {
         return Err(Refusal::BadLine(line));
     };
-    match shape {
-        Shape::Number(word) => count(fields).map(|number| SaidEvent::Plain(word.event(number))),
-        Shape::Pair(word) => {
-            pair(fields).map(|(first, second)| SaidEvent::Plain(word.event(first, second)))
-        }
-        Shape::Node(word) => {
-            node_field(ring, None, fields).map(|node| SaidEvent::Plain(word.event(node)))
-        }
-        Shape::Put => {
+    match word {
+        EventWord::Do => count(fields).map(|step| Plain(Event::Do(step))),
+        EventWord::Open => count(fields).map(|step| Plain(Event::OpenCopy(step))),
+        EventWord::Chunk => pair(fields).map(|(step, chunk)| Plain(Event::ChunkCopy(step, chunk))),
+        EventWord::Close => count(fields).map(|step| Plain(Event::CloseCopy(step))),
+        EventWord::Abort => count(fields).map(|step| Plain(Event::AbortCopy(step))),
+        EventWord::Put => {
             let put = put(names, fields)?;
             Ok(SaidEvent::Put(put))
         }
-        Shape::Get => key(fields).map(|key| SaidEvent::Get(key)),
-        Shape::Hint => hint(ring, fields).map(|((put, index), node)| SaidEvent::Plain(Event::Hint(
-            put, index, node,
-        ))),
-        Shape::Handoff => handoff(ring, fields).map(|(node, (partition, index))| {
-            SaidEvent::Plain(Event::Handoff(node, Slot { partition, index }))
+        EventWord::Write => pair(fields).map(|(put, index)| Plain(Event::Write(put, index))),
+        EventWord::Hint => {
+            hint(ring, fields).map(|((put, index), node)| Plain(Event::Hint(put, index, node)))
+        }
+        EventWord::Ack => count(fields).map(|put| Plain(Event::Ack(put))),
+        EventWord::Get => key(fields).map(|key| SaidEvent::Get(key)),
+        EventWord::Read => pair(fields).map(|(get, index)| Plain(Event::Read(get, index))),
+        EventWord::EndGet => count(fields).map(|get| Plain(Event::EndGet(get))),
+        EventWord::Down => node_field(ring, None, fields).map(|node| Plain(Event::Down(node))),
+        EventWord::Up => node_field(ring, None, fields).map(|node| Plain(Event::Up(node))),
+        EventWord::Handoff => handoff(ring, fields).map(|(node, (partition, index))| {
+            Plain(Event::Handoff(node, Slot { partition, index }))
         }),
+        EventWord::Lose => node_field(ring, None, fields).map(|node| Plain(Event::Lose(node))),
     }
 }

@@ -7,9 +7,9 @@ mod kind;
 mod reading;
 mod said;
 mod script;
-mod shape;
 mod speaker;
 mod taken;
+mod word;
 mod words;
 mod writing;
 
