@@ -37,19 +37,9 @@ use Rattle.ring_table.proofs.NodesLaws.{names-of}
 
 -- ---- the lines of a script are plain
 
--- the words of the frame and of gets
-words-plain : IsPlain (codes "script") × IsPlain (codes "1") × IsPlain (codes "end") × IsPlain (codes "seen")
+-- the words of the frame, of gets, and of events that take memory
+words-plain : IsPlain (codes "script") × IsPlain (codes "1") × IsPlain (codes "end") × IsPlain (codes "seen") × IsPlain (codes "put") × IsPlain (codes "get")
 words-plain = (search rules)
-
--- the words of the first half of the kinds of events
-kinds-plain : IsPlain (codes "do") × IsPlain (codes "open") × IsPlain (codes "chunk") × IsPlain (codes "close") × IsPlain (codes "abort") × IsPlain
-    (codes "put") × IsPlain (codes "write") × IsPlain (codes "hint")
-kinds-plain = (search rules)
-
--- the words of the second half
-others-plain : IsPlain (codes "ack") × IsPlain (codes "get") × IsPlain (codes "read") × IsPlain (codes "endget") × IsPlain (codes "down") × IsPlain
-    (codes "up") × IsPlain (codes "handoff") × IsPlain (codes "lose")
-others-plain = (search rules)
 
 -- numbers are plain
 pub count-plain : (n : ℕ) → IsCount n → IsPlain (decimal n)
@@ -72,23 +62,10 @@ module _ (ring : RingValue) (nodes : AreNames (names_of ring)) where
   -- an event's line is plain
   pub event-plain : (names : List (List ℕ)) (e : Event) → AreWriters names → IsEvent e → IsKnown (length (names_of ring)) (length names) e
       → IsPlainLine (event_fields (names_of ring) names e)
-  event-plain names (event.Do s) good is known = (kinds-plain.0, (count-plain s is, tt))
-  event-plain names (event.OpenCopy s) good is known = (kinds-plain.1, (count-plain s is, tt))
-  event-plain names (event.ChunkCopy s c) good is known = (kinds-plain.2, (count-plain s is.0, (count-plain c is.1, tt)))
-  event-plain names (event.CloseCopy s) good is known = (kinds-plain.3, (count-plain s is, tt))
-  event-plain names (event.AbortCopy s) good is known = (kinds-plain.4, (count-plain s is, tt))
   event-plain names (event.StartPut w key value gets) good is known =
-      (kinds-plain.5, (writer-plain names w good.names known, (key-plain key is.0, (value-plain value is.1, seen-plain gets is.2))))
-  event-plain names (event.Write u i) good is known = (kinds-plain.6, (count-plain u is.0, (count-plain i is.1, tt)))
-  event-plain names (event.Hint u i x) good is known = (kinds-plain.7, (count-plain u is.0, (count-plain i is.1, (named x, tt))))
-  event-plain names (event.Ack u) good is known = (others-plain.0, (count-plain u is, tt))
-  event-plain names (event.StartGet key) good is known = (others-plain.1, (key-plain key is, tt))
-  event-plain names (event.Read g i) good is known = (others-plain.2, (count-plain g is.0, (count-plain i is.1, tt)))
-  event-plain names (event.EndGet g) good is known = (others-plain.3, (count-plain g is, tt))
-  event-plain names (event.Down x) good is known = (others-plain.4, (named x, tt))
-  event-plain names (event.Up x) good is known = (others-plain.5, (named x, tt))
-  event-plain names (event.Handoff x s) good is known = (others-plain.6, (named x, (count-plain s.partition is.0, (count-plain s.index is.1, tt))))
-  event-plain names (event.Lose x) good is known = (others-plain.7, (named x, tt))
+      (words-plain.4, (writer-plain names w good.names known, (key-plain key is.0, (value-plain value is.1, seen-plain gets is.2))))
+  event-plain names (event.StartGet key) good is known = (words-plain.5, (key-plain key is, tt))
+  event-plain names e good is known = (search (rules, count-plain, named))
 
   -- events' lines are plain
   pub events-plain : (names : List (List ℕ)) (es : List Event) → AreWriters names → AllByRecursion IsEvent es → AreKnown ring names es
