@@ -1,26 +1,21 @@
 -- Where a fault of a replay's bundle lies, by its parts.
-use Rattle.std.proofs.Common.{◌≡◌, ◌≢◌, ℕ, ◌≤◌, List, [], Result, Ok, Err, IsErrAnd, codes, refl, sym, arith}
+use Rattle.std.proofs.Common.{◌≡◌, ◌≢◌, ℕ, List, [], Result, Ok, Err, IsErrAnd, refl}
 use Rattle.ring_names.specs.declared.refusal.Refusal.{Refusal}
 use Rattle.ring_names.specs.declared.refusal.Refusal.TheVariants.{OutOfMemory}
 use Rattle.texts.specs.Judging.{map_ok}
-use Rattle.texts.specs.Left.{Left, Reads, is_word, lines_on, then_part}
-use Rattle.texts.specs.Frames.{end_line_at}
+use Rattle.texts.specs.Left.{Left, Reads}
 use Rattle.texts.specs.Late.{ReadsTo}
-use Rattle.texts.proofs.Lates.{Advances, advances-line, advances-then, advances-map, to-first, to-second, many-on, next-after}
-use Rattle.texts.proofs.FrameLaws.{header-at, end-at}
+use Rattle.texts.proofs.Lates.{Advances}
 use Rattle.ring_table.specs.Value.{RingValue}
 use Rattle.ring_table.specs.Reading.{ring_at}
 use Rattle.plan_text.specs.declared.step.Planned.{Planned}
-use Rattle.plan_text.specs.Reading.{steps_at, plan_at}
-use Rattle.plan_text.proofs.PlanLates.{steps-on, steps-at}
+use Rattle.plan_text.specs.Reading.{plan_at}
 use Rattle.plan_cert.specs.declared.cert.Cert.{Cert}
-use Rattle.plan_cert.specs.Reading.{fact_at, chain_at, begins_chain, facts_at, chains_at, cert_at}
-use Rattle.plan_cert.specs.Spelling.{cert_format}
-use Rattle.plan_cert.proofs.CertLates.{fact-at, chain-at}
+use Rattle.plan_cert.specs.Reading.{cert_at}
 use Rattle.plan_runs.specs.declared.event.Entry.{Entry}
 use Rattle.history_text.specs.declared.bundle.ReplayBundle.{ReplayBundle}
 use Rattle.history_text.specs.Reading.{history_at}
-use Rattle.history_text.specs.Replays.{Parts, parts_of, replay_at}
+use Rattle.history_text.specs.Replays.{parts_of, replay_at}
 use Rattle.history_text.proofs.HistoryLates.{history-on}
 use Rattle.texts.proofs.Parts.{in-first, in-second, in-third, in-last}
 use Rattle.plan_text.proofs.PlanLates.{plan-on}

@@ -1,8 +1,8 @@
 -- An entry's line is read only if it is spelled so.
-use Rattle.std.proofs.Common.{◌≡◌, ℕ, zero, suc, ◌<◌, Bool, true, false, cond, List, [], ◌∷◌, ◌++◌, length, map, codes, Option, Some, None, Result, Ok, Err, refl, sym, ap, subst, ◌∙◌, append_assoc, arith, rules}
+use Rattle.std.proofs.Common.{◌≡◌, ℕ, zero, suc, ◌<◌, Bool, true, false, cond, List, [], ◌∷◌, ◌++◌, length, map, codes, Option, Some, None, Result, Ok, refl, sym, ap, ◌∙◌, append_assoc, arith, rules}
 use Rattle.std.specs.Prelude.{slice_get}
 use Rattle.std.specs.Fmt.{decimal}
-use Rattle.std.specs.List.{AllByRecursion, list_all, join_with_byte, flat_map}
+use Rattle.std.specs.List.{AllByRecursion, list_all, join_with_byte}
 use Rattle.std.specs.Str.{bytes_eq, all_ascii_digits}
 use Rattle.std.proofs.lemmas.Bool.{false_from_ne_true}
 use Rattle.std.proofs.lemmas.Fmt.{digits_decimal}
@@ -11,14 +11,12 @@ use Rattle.std.proofs.lemmas.Slice.Eq.{bytes_eq-Decides}
 use Rattle.ring_names.specs.declared.ids.NodeId.{NodeId}
 use Rattle.ring_names.specs.declared.ids.WriterId.{WriterId}
 use Rattle.ring_names.specs.declared.refusal.Refusal.{Refusal}
-use Rattle.ring_names.specs.declared.refusal.Refusal.TheVariants.{BadLine}
 use Rattle.ring_names.proofs.InLists.{get_there}
 use Rattle.texts.specs.Cuts.{front_of, behind_of}
 use Rattle.texts.specs.Name.{is_name}
-use Rattle.texts.specs.Numbers.{are_small}
 use Rattle.texts.specs.Parts.{line_text, spaced}
 use Rattle.texts.specs.Judging.{both_of, whole}
-use Rattle.texts.specs.Laws.{IsLine, IsPlain, IsPlainLine}
+use Rattle.texts.specs.Laws.{IsLine, IsPlainLine}
 use Rattle.texts.proofs.Decimals.{own}
 use Rattle.texts.proofs.Halves.{AreOther, front-here, behind-here}
 use Rattle.texts.proofs.Items.{both_is}
@@ -35,12 +33,12 @@ use Rattle.plan_runs.specs.Replies.{reply_text}
 use Rattle.script_text.specs.Known.{IsKnown}
 use Rattle.script_text.specs.Said.{event_of, names_after}
 use Rattle.script_text.specs.Spelling.{seen_fields, writer_at, event_fields}
-use Rattle.script_text.specs.Valid.{AreWriters, IsCount, AreGets, IsEvent}
+use Rattle.script_text.specs.Valid.{AreWriters, IsCount, IsEvent}
 use Rattle.script_text.proofs.FieldLaws.{named-at, writer_at-is}
 use Rattle.script_text.specs.declared.said.SaidEvent.{SaidEvent}
 use Rattle.script_text.proofs.KindLaws.{IsSaid, said_fields}
 use Rattle.script_text.proofs.WriterLaws.{after-writers}
-use Rattle.history_text.specs.Said.{SaidEntry, entry_of}
+use Rattle.history_text.specs.Said.{SaidEntry}
 use Rattle.history_text.specs.Reading.{reply_at, event_said, reply_said, said_at}
 use Rattle.history_text.specs.Spelling.{entry_line}
 use Rattle.history_text.specs.Valid.{IsReply}
@@ -115,23 +113,10 @@ module _ (nodes : List (List ℕ)) (each : AllByRecursion (λ n. is_name n ≡ t
       at (m ∷ ms) (suc i) a = at ms i a.1
 
   pub event-other : (names : List (List ℕ)) (e : Event) → AreWriters names → IsEvent e → IsKnown (length nodes) (length names) e → AreOther sign (event_fields nodes names e)
-  event-other names (event.Do s) good is known = (refl, (count-other s is, tt))
-  event-other names (event.OpenCopy s) good is known = (refl, (count-other s is, tt))
-  event-other names (event.ChunkCopy s c) good is known = (refl, (count-other s is.0, (count-other c is.1, tt)))
-  event-other names (event.CloseCopy s) good is known = (refl, (count-other s is, tt))
-  event-other names (event.AbortCopy s) good is known = (refl, (count-other s is, tt))
   event-other names (event.StartPut w key value gets) good is known =
       (refl, (writer-other names w good.names known, (key-other key is.0, (refl, seen-other gets (counts-of gets is.2.counts)))))
-  event-other names (event.Write u i) good is known = (refl, (count-other u is.0, (count-other i is.1, tt)))
-  event-other names (event.Hint u i x) good is known = (refl, (count-other u is.0, (count-other i is.1, (named x, tt))))
-  event-other names (event.Ack u) good is known = (refl, (count-other u is, tt))
   event-other names (event.StartGet key) good is known = (refl, (key-other key is, tt))
-  event-other names (event.Read g i) good is known = (refl, (count-other g is.0, (count-other i is.1, tt)))
-  event-other names (event.EndGet g) good is known = (refl, (count-other g is, tt))
-  event-other names (event.Down x) good is known = (refl, (named x, tt))
-  event-other names (event.Up x) good is known = (refl, (named x, tt))
-  event-other names (event.Handoff x s) good is known = (refl, (named x, (count-other s.partition is.0, (count-other s.index is.1, tt))))
-  event-other names (event.Lose x) good is known = (refl, (named x, tt))
+  event-other names e good is known = (search (rules, count-other, named))
 
 -- ---- the line
 

@@ -1,5 +1,5 @@
 -- A history is read only from its one text.
-use Rattle.std.proofs.Common.{◌≡◌, ℕ, ◌<◌, ◌≤◌, Bool, true, false, cond, List, [], ◌∷◌, ◌++◌, length, map, codes, Result, Ok, Err, refl, sym, ap, subst, ◌∙◌, append_assoc, arith, rules}
+use Rattle.std.proofs.Common.{◌≡◌, ℕ, ◌≤◌, Bool, true, false, cond, List, [], ◌∷◌, ◌++◌, length, map, codes, Result, Ok, Err, refl, sym, ap, subst, ◌∙◌, append_assoc, arith, rules}
 use Rattle.std.specs.Prelude.{IfOk}
 use Rattle.std.specs.List.{AllByRecursion, flat_map}
 use Rattle.std.proofs.lemmas.Grind.{flat_map-append}
@@ -19,11 +19,10 @@ use Rattle.ring_table.specs.Valid.{IsRing}
 use Rattle.ring_table.proofs.RowLaws.{AreNames}
 use Rattle.plan_runs.specs.declared.event.Entry.{Entry}
 use Rattle.plan_runs.specs.declared.event.Event.{Event}
-use Rattle.script_text.specs.Known.{AreKnown}
 use Rattle.script_text.specs.Said.{event_of, names_after}
 use Rattle.script_text.specs.declared.said.SaidEvent.{SaidEvent}
 use Rattle.script_text.specs.Spelling.{event_fields}
-use Rattle.script_text.specs.Valid.{AreWriters, IsEvent, IsScriptOf}
+use Rattle.script_text.specs.Valid.{AreWriters, IsScriptOf}
 use Rattle.script_text.proofs.SaidLines.{events_of, names_behind, EachSaid, Ends, ends-any, goes-on, first-ok}
 use Rattle.script_text.proofs.ScriptLaws.{events-plain, valid-of, of-valid}
 use Rattle.script_text.proofs.SightLaws.{rest-of, few-said, behind-writers, fields-more, lines-for}

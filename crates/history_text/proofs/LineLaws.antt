@@ -1,5 +1,5 @@
 -- What an entry's line says can be the next entry, and its faults are the line's.
-use Rattle.std.proofs.Common.{◌≡◌, ℕ, ◌<◌, Bool, true, false, cond, nat_lt, List, [], ◌∷◌, length, map, codes, Option, Some, None, Result, Ok, Err, IfOk, refl, sym, ap, subst, ◌∙◌}
+use Rattle.std.proofs.Common.{◌≡◌, ℕ, ◌<◌, Bool, true, false, cond, nat_lt, List, [], ◌∷◌, length, codes, Option, Some, None, Result, Ok, Err, IfOk, refl, sym, ap, subst, ◌∙◌}
 use Rattle.std.specs.Prelude.{IfErr, option_map}
 use Rattle.std.specs.List.{list_all}
 use Rattle.std.specs.Str.{bytes_eq}
@@ -7,7 +7,7 @@ use Rattle.std.proofs.lemmas.Bool.{ltb-true}
 use Rattle.ring_names.specs.declared.refusal.Refusal.{Refusal}
 use Rattle.ring_names.specs.declared.refusal.Refusal.TheVariants.{BadLine, TooLarge}
 use Rattle.texts.specs.Cuts.{front_of, behind_of}
-use Rattle.texts.specs.Numbers.{numbers_of, beyond}
+use Rattle.texts.specs.Numbers.{numbers_of}
 use Rattle.texts.specs.Judging.{Line, Does, ◌⊗◌, both_of, need_at, end_at, map_ok, map_item, whole}
 use Rattle.texts.specs.Late.{IsAt}
 use Rattle.texts.proofs.Items.{both-map_right}

@@ -1,7 +1,7 @@
 -- A reply is read only from its spelling.
-use Rattle.std.proofs.Common.{◌≡◌, ℕ, ◌<◌, ◌≤◌, Bool, true, false, cond, nat_lt, List, [], ◌∷◌, ◌++◌, map, codes, Result, Ok, Err, refl, sym, ap, subst, ◌∙◌, arith, rules}
+use Rattle.std.proofs.Common.{◌≡◌, ℕ, ◌≤◌, Bool, true, false, cond, nat_lt, List, [], ◌∷◌, ◌++◌, map, codes, Result, Ok, Err, refl, sym, ap, subst, ◌∙◌, arith, rules}
 use Rattle.std.specs.Fmt.{decimal}
-use Rattle.std.specs.List.{list_all, AllByRecursion, flat_map}
+use Rattle.std.specs.List.{AllByRecursion}
 use Rattle.std.proofs.lemmas.Bool.{ltb-true, lt-ltb, and_parts, and_from}
 use Rattle.std.proofs.lemmas.List.Concat.{flat_map-cons}
 use Rattle.std.specs.Str.{bytes_eq}
@@ -12,7 +12,7 @@ use Rattle.ring_names.proofs.Logic.{pair_is}
 use Rattle.texts.specs.Parts.{spaced}
 use Rattle.texts.specs.Numbers.{numbers_of, beyond, are_small}
 use Rattle.texts.specs.Judging.{Item, ◌⊗◌, map_ok, map_item, whole}
-use Rattle.texts.specs.Laws.{IsItem, IsLine, IsPlain}
+use Rattle.texts.specs.Laws.{IsLine, IsPlain}
 use Rattle.texts.proofs.Items.{IsItem-⊗, ok_is}
 use Rattle.texts.proofs.Fronts.{Free, Last, IsFront, front-item, front-whole, front-word, numbers-taken, numbers-given}
 use Rattle.texts.proofs.Rows.{numbers-plain}
@@ -23,7 +23,7 @@ use Rattle.plan_runs.specs.Replies.{reply_text}
 use Rattle.script_text.specs.Reading.{count_at}
 use Rattle.script_text.specs.Valid.{IsCount}
 use Rattle.script_text.proofs.FieldLaws.{item-count}
-use Rattle.history_text.specs.Reading.{judge_numbers, numbers_at, ticket_at, reply_at}
+use Rattle.history_text.specs.Reading.{numbers_at, ticket_at, reply_at}
 use Rattle.history_text.specs.Valid.{IsReply}
 
 -- the fields of a reply

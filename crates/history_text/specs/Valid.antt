@@ -1,5 +1,5 @@
 -- Which histories a text can say.
-use Rattle.std.specs.Prelude.{◌≡◌, ℕ, true, List, map}
+use Rattle.std.specs.Prelude.{ℕ, List, map}
 use Rattle.std.specs.List.{AllByRecursion}
 use Rattle.ring_table.specs.Value.{RingValue}
 use Rattle.plan_runs.specs.declared.event.Entry.{Entry}
