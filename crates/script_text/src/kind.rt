@@ -1,8 +1,9 @@
 //! What an event is, by its line.
 
-ghost use Rattle.std.specs.Prelude.{◌≡◌};
+ghost use Rattle.std.specs.Prelude.{◌≡◌, Some};
 ghost use Rattle.texts.specs.Judging.{Does};
-ghost use Rattle.script_text.specs.Reading.{kind_at};
+ghost use Rattle.script_text.specs.Reading.{kind_at, shape_at};
+ghost use Rattle.script_text.specs.Shapes.{shape_of};
 
 use crate::items::{count, handoff, hint, key, pair, put};
 use crate::said::SaidEvent::{self, Plain};
@@ -12,23 +13,15 @@ use ring_names::{Names, Refusal, Slot};
 use ring_table::{Ring, node_field};
 use texts::Fields;
 
-/// Takes what an event's line says, behind the writers seen: a field that is none is `BadLine`, a number above 4,294,967,295, more than 16 gets that a put
-/// knows and a new writer behind 1,024 are `TooLarge`, and of several faults the one of the lesser number decides. Takes no memory.
-#[tactic(auto, unfolding(crate::specs::Reading::kind_at))]
-pub fn said_event<'a>(
+// What it says behind its word.
+fn said_behind<'a>(
+    word: EventWord,
     ring: &Ring,
     names: &Names,
     fields: &mut Fields<'a>,
 ) -> Result<SaidEvent<'a>, Refusal>
-    ensures { Does (kind_at ring.now names.now) fields.old result fields.new }
+    ensures { Does (λ k. shape_at ring.now names.now k (Some (shape_of word))) fields.old result fields.new }
 {
-    let line = fields.line();
-    let Some(word) = fields.next() else {
-        return Err(Refusal::BadLine(line));
-    };
-    let Some(word) = EventWord::of(word) else {
-        return Err(Refusal::BadLine(line));
-    };
     match word {
         EventWord::Do => count(fields).map(|step| Plain(Event::Do(step))),
         EventWord::Open => count(fields).map(|step| Plain(Event::OpenCopy(step))),
@@ -54,4 +47,24 @@ pub fn said_event<'a>(
         }),
         EventWord::Lose => node_field(ring, None, fields).map(|node| Plain(Event::Lose(node))),
     }
+}
+
+/// Takes what an event's line says, behind the writers seen: a field that is none is `BadLine`, a number above 4,294,967,295, more than 16 gets that a put
+/// knows and a new writer behind 1,024 are `TooLarge`, and of several faults the one of the lesser number decides. Takes no memory.
+#[tactic(auto, unfolding(crate::specs::Reading::kind_at))]
+pub fn said_event<'a>(
+    ring: &Ring,
+    names: &Names,
+    fields: &mut Fields<'a>,
+) -> Result<SaidEvent<'a>, Refusal>
+    ensures { Does (kind_at ring.now names.now) fields.old result fields.new }
+{
+    let line = fields.line();
+    let Some(word) = fields.next() else {
+        return Err(Refusal::BadLine(line));
+    };
+    let Some(word) = EventWord::of(word) else {
+        return Err(Refusal::BadLine(line));
+    };
+    said_behind(word, ring, names, fields)
 }
