@@ -1,21 +1,10 @@
 -- What the receipts of one put or get are.
-use Rattle.std.specs.Prelude.{◌≡◌, ◌⊎◌, ℕ, Bool, true, false, not, List, [], ◌++◌, length, cond, Option, is_some}
+use Rattle.std.specs.Prelude.{◌≡◌, ◌⊎◌, ℕ, true, not, List, [], ◌++◌, length, cond, Option, is_some}
 use Rattle.plan_runs.specs.declared.event.Event.{Event}
-use Rattle.plan_runs.specs.declared.event.Event.TheVariants.{StartPut, StartGet}
 use Rattle.ring_names.specs.declared.refusal.Refusal.{Refusal}
 use Rattle.ring_receipts.specs.declared.receipt.Receipt.{Receipt}
 use Rattle.ring_receipts.specs.declared.asked.Asked.{Asked}
 use Rattle.ring_receipts.specs.Blocks.{IsPut, IsGet}
-
--- it starts a put
-abbrev pub starts_put : Event → Bool
-starts_put (StartPut w k v s) = true
-starts_put e = false
-
--- it starts a get
-abbrev pub starts_get : Event → Bool
-starts_get (StartGet k) = true
-starts_get e = false
 
 -- none, where the start was refused; else the block of the put that the event starts, with its acknowledgement just where nothing is refused in
 -- the end

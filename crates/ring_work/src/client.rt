@@ -3,7 +3,7 @@
 ghost use Rattle.std.specs.Prelude.{◌≡◌, ◌<◌, ℕ, true, vec_len, vec_capacity, IfOk, IfErr};
 ghost use Rattle.ring_names.specs.declared.refusal.Refusal.TheVariants.{TurnsSpent};
 ghost use Rattle.std.specs.List.{list_all};
-ghost use Rattle.ring_work.specs.Attempts.{starts_put, starts_get};
+ghost use Rattle.plan_runs.specs.Leaves.{starts_put, starts_get};
 ghost use Rattle.ring_work.specs.Driven.{IsSpent};
 
 use crate::done::Done;

@@ -6,7 +6,8 @@ ghost use Rattle.plan_runs.specs.declared.event.Reply.TheVariants.{Get};
 ghost use Rattle.ring_receipts.specs.declared.receipt.Receipt.{Receipt as TheReceipt};
 ghost use Rattle.ring_receipts.specs.Kinds.{reads, ends};
 ghost use Rattle.ring_work.specs.Noted.{Grows, Completes, IsCounted};
-ghost use Rattle.ring_work.specs.Attempts.{starts_get, AddsGet, IsGetAttempt};
+ghost use Rattle.plan_runs.specs.Leaves.{starts_get};
+ghost use Rattle.ring_work.specs.Attempts.{AddsGet, IsGetAttempt};
 
 use crate::attempt::Attempt;
 use crate::noting::{MAX_ROUNDS, get_number, go_on, note};

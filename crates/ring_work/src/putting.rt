@@ -6,7 +6,8 @@ ghost use Rattle.plan_runs.specs.declared.event.Reply.TheVariants.{Put};
 ghost use Rattle.ring_receipts.specs.declared.receipt.Receipt.{Receipt as TheReceipt};
 ghost use Rattle.ring_receipts.specs.Kinds.{sends, acknowledges};
 ghost use Rattle.ring_work.specs.Noted.{Grows, Completes, IsCounted};
-ghost use Rattle.ring_work.specs.Attempts.{starts_put, AddsPut, IsPutAttempt};
+ghost use Rattle.plan_runs.specs.Leaves.{starts_put};
+ghost use Rattle.ring_work.specs.Attempts.{AddsPut, IsPutAttempt};
 
 use crate::attempt::Attempt;
 use crate::noting::{MAX_ROUNDS, go_on, note, put_number};
