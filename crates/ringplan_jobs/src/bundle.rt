@@ -14,7 +14,7 @@ ghost use Rattle.plan_check.specs.Headline.{KeepsPromises};
 ghost use Rattle.ring_script.specs.Bundles.{IsOfRing, bundle_at};
 ghost use Rattle.ring_script.specs.declared.bundle.Kind.TheVariants.{Check, Play};
 ghost use Rattle.change_text.specs.Wanted.{wanted_at};
-ghost use Rattle.ringplan_jobs.specs.declared.job.Job.TheVariants.{Check as Checking, Plan as Planning, Play as Playing};
+ghost use Rattle.ringplan_jobs.specs.declared.job.Job.TheVariants.{Check as Checking, Plan as Planning};
 ghost use Rattle.ringplan_jobs.specs.Answers.{texts_of};
 ghost use Rattle.ringplan_jobs.specs.Verdict.{TextsKeepPromises, MakesIf, judged, migrated_text, migration, plays};
 ghost use Rattle.ringplan_jobs.specs.Verdict.{shown, verdict};
@@ -176,13 +176,19 @@ pub fn play_bundle(alloc: Global, bytes: &[u8]) -> Result<Vec<u8>, Refusal>
     }
 }
 
-// The same of bytes that are given up once they are read, so that the store takes their memory.
-fn play_given(alloc: Global, bytes: Vec<u8>) -> Result<Vec<u8>, Refusal>
-    ensures { MakesIf Playing bytes.items (texts_of result) }
+// The parts of a bundle of a play, whose bytes are given up once they are read.
+fn read_given(alloc: Global, bytes: Vec<u8>) -> Result<Bundle, Refusal>
+    ensures read { Gives result (whole_text (bundle_at Play) bytes.items) }
+    ensures parts { IfOk result IsOfRing }
 {
-    let read = read_bundle(alloc, Kind::Play, bytes.as_slice());
-    drop(bytes);
-    match read {
+    read_bundle(alloc, Kind::Play, bytes.as_slice())
+}
+
+// What a play prints of a bundle whose bytes are given up, so that the store takes their memory.
+fn play_given(alloc: Global, bytes: Vec<u8>) -> Result<Vec<u8>, Refusal>
+    ensures { Gives (texts_of result) (plays bytes.items) }
+{
+    match read_given(alloc, bytes) {
         Ok(bundle) => play_checked(alloc, bundle),
         Err(e) => Err(e),
     }
