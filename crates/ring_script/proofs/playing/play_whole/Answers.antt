@@ -12,7 +12,7 @@ pub returns-clause-text : goal.returns-clause-text
 returns-clause-text c =
     let world = c.in_ok-world.world in
     let last_first = c.reverse.new.self.items in
-    let events = ap (λ (es : List Event). reverse es) c.reverse.ensures.items ∙ reverse-reverse c.events.result.items ∙ c.events.ensures.value in
+    let events = ap (λ (es : List Event). reverse es) c.reverse.ensures.items ∙ reverse-reverse c.into_vec-events.result.items ∙ c.into_vec-events.ensures.value in
     let same = ap (λ (r : RingValue). play_text r (plan_of world) (reverse last_first)) c.ring.ensures.value
     ∙ (ap (λ (s : List Planned). play_text c.args.approved.now.ring s (reverse last_first)) c.in_ok-world.ensures.plan
     ∙ ap (λ (es : List Event). play_text c.args.approved.now.ring c.args.approved.now.plan es) events) in
