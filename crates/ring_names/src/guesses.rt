@@ -40,17 +40,18 @@ impl Guesses {
         ))
     }
 
-    /// Room for one more behind `count` that were noted. Costs their number where that has doubled. Refused, all is as before.
-    pub fn make_room(&mut self, count: usize) -> Result<(), AllocError> {
+    /// Room for one more behind these, each of which was noted by its place. Costs their bytes where their number has doubled. Refused, all is as before.
+    pub fn make_room(&mut self, list: &[Vec<u8>]) -> Result<(), AllocError> {
+        let count = list.len();
+        // Above the second bound there is no memory for more, and below it the sum stays in range.
         if count < self.table.len() / 2 || count > 1 << 40 {
             return Ok(());
         }
         let empty = Noted { sum: 0, next: 0 };
-        let mut table = vec![in self.alloc; empty; 32 + 4 * count]?;
-        for noted in self.table.as_slice() {
-            put(table.as_mut_slice(), *noted);
+        self.table = vec![in self.alloc; empty; 32 + 4 * count]?;
+        for number in 0..count {
+            self.note(list[number].as_slice(), number);
         }
-        self.table = table;
         Ok(())
     }
 

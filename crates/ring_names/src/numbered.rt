@@ -66,7 +66,7 @@ impl Numbered {
         let kept = Vec::from_slice(self.alloc, bytes)?;
         let key = Vec::from_slice(self.alloc, bytes)?;
         self.list.reserve(1)?;
-        self.guesses.make_room(number)?;
+        self.guesses.make_room(self.list.as_slice())?;
         self.numbers.insert(key, number)?;
         self.guesses.note(bytes, number);
         self.list.push_reserved(kept);
