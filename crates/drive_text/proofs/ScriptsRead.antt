@@ -75,11 +75,6 @@ module _ (ring : RingValue) where
       let fewer : suc n - 1 ≡ n = omega arith in
       rw (over, e, fewer) refl
 
-  -- the text is over
-  pub from-over : (n : ℕ) (seen : Scripts) (s : Left) → is_over s ≡ true → scripts_from n ring seen s ≡ Ok (seen, s)
-  from-over zero seen s over = refl
-  from-over (suc n) seen s over = rw over refl
-
   -- the next script has a fault
   pub from-fault : (n : ℕ) (seen : Scripts) (s : Left) (e : Refusal) → 0 < n → is_over s ≡ false → next_at ring seen s ≡ Err e → scripts_from n ring seen s ≡ Err e
   from-fault zero seen s e some over f = absurd (omega arith)

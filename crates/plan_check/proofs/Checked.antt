@@ -43,14 +43,6 @@ rest-alike ring plan facts cert ends =
 
 -- ---- memory
 
-pub is_memory : (e : Refusal) → (e ≡ OutOfMemory) ⊎ (e ≡ OutOfMemory → ⊥)
-is_memory OutOfMemory = inl refl
-is_memory e = inr (λ h. absurd cc)
-
--- where no clause fails, memory alone is refused
-pub only_memory : (e : Refusal) (o : Option Refusal) → ((e ≡ OutOfMemory → ⊥) → o ≡ Some e) → o ≡ None → e ≡ OutOfMemory
-only_memory e o h none = elim (is_memory e) [ inl is ↦ is | inr not_memory ↦ (let f = h not_memory in absurd cc) ]
-
 -- ---- what verifying facts found
 
 pub facts-good : {X : Type 0} → (o : Option Refusal) (r : Result X Refusal) (f : X) → ((e : Refusal) → o ≡ Some e → r ≡ Err e) → r ≡ Ok f → o ≡ None

@@ -14,10 +14,6 @@ without n (x ∷ xs) = if n == x then without n xs else x ∷ without n xs
 pub by_equal : (n x : ℕ) (P : Bool → Type 0) → (n ≡ x → P true) → (n ≢ x → P false) → P (n == x)
 by_equal n x P same apart = elim (eqb_tells n x) [ inl t ↦ subst P (sym t.0) (same t.1) | inr t ↦ subst P (sym t.0) (apart t.1) ]
 
-not_both : (b : Bool) → b ≡ true → not b ≡ true → ⊥
-not_both true h k = absurd cc
-not_both false h k = absurd cc
-
 first : (b c d : Bool) → (c ≡ true → d ≡ true) → (b || c) ≡ true → (b || d) ≡ true
 first true c d more g = refl
 first false c d more g = more g

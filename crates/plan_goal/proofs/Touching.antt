@@ -43,6 +43,3 @@ spares-next ring plan dead n t serve at same spared told =
     ap (λ (xs : List NodeId). are_spared dead xs) (ap (touched (served_before ring plan n)) w.2 ∙ sym (touched-alike serve (served_before ring plan n) t same)) ∙ spared in
     let one : (here && rest) ≡ rest = rw is refl in
     sym one ∙ sym step ∙ told
-
-pub spares-end : (ring : RingValue) (plan : List Planned) (dead : List NodeId) (n : ℕ) → length plan ≤ n → spares_from ring plan dead n (drop n plan) ≡ spares ring plan dead → spares ring plan dead ≡ true
-spares-end ring plan dead n l told = sym told ∙ at_drop_all (spares_from ring plan dead n) plan n l

@@ -63,27 +63,12 @@ move-within plan m l =
     let rest : List ℕ = filter (λ s. nat_lt m.mirror s) (steps_of plan m.slot) in
     All-cons (λ s. s < length plan) m.mirror (take_while p rest) l (All-take (λ s. s < length plan) _ rest (later-within plan m.slot m.mirror))
 
-pub mirror-set : (plan : List Planned) (n : ℕ) (t : Step) → option_map (λ (x : Planned). x.step) (slice_get plan n) ≡ Some t → is_some (mirror_of t) ≡ sets_mirror plan n
-mirror-set plan n t e = by (slice_get plan n) e
-  where
-    by : (o : Option Planned) → option_map (λ (x : Planned). x.step) o ≡ Some t → is_some (mirror_of t) ≡ (elim o [ Some x ↦ is_some (mirror_of x.step) | None ↦ false ])
-    by None h = absurd cc
-    by (Some x) h = (let s : x.step ≡ t = cc in rw s refl)
-
 -- the steps in front of the next mirror, with one more, and with that mirror
 pub front-more : (p : ℕ → Bool) (xs front new whole : List ℕ) (i d : ℕ) → i < length xs → p (get_or xs i d) ≡ true → front ++ take_while p (drop i xs) ≡ whole → new ≡ front ++ get_or xs i d ∷ [] → new ++ take_while p (drop (i + 1) xs) ≡ whole
 front-more p xs front new whole i d l passes told is =
     let step : take_while p (drop i xs) ≡ get_or xs i d ∷ take_while p (drop (i + 1) xs) =
     at_drop_more (take_while p) xs i d l ∙ take_while-cons p (get_or xs i d) (drop (i + 1) xs) ∙ rw passes refl in
     rw is (append_assoc front (get_or xs i d ∷ []) (take_while p (drop (i + 1) xs)) ∙ ap (λ (l : List ℕ). front ++ l) (sym step) ∙ told)
-
-pub front-stops : (p : ℕ → Bool) (xs front whole : List ℕ) (i d : ℕ) → i < length xs → p (get_or xs i d) ≡ false → front ++ take_while p (drop i xs) ≡ whole → front ≡ whole
-front-stops p xs front whole i d l fails told =
-    let step : take_while p (drop i xs) ≡ [] = at_drop_more (take_while p) xs i d l ∙ take_while-cons p (get_or xs i d) (drop (i + 1) xs) ∙ rw fails refl in
-    sym (append-nil front) ∙ ap (λ (l : List ℕ). front ++ l) (sym step) ∙ told
-
-pub front-ends : (p : ℕ → Bool) (xs front whole : List ℕ) (i : ℕ) → length xs ≤ i → front ++ take_while p (drop i xs) ≡ whole → front ≡ whole
-front-ends p xs front whole i l told = sym (append-nil front) ∙ ap (λ (l : List ℕ). front ++ l) (sym (at_drop_all (take_while p) xs i l)) ∙ told
 
 -- ---- what a move's steps wait for
 

@@ -58,10 +58,6 @@ counts-then j k (Some a) None c p q = absurd p
 counts-then j k None None (Some c) p q = absurd q
 counts-then j k (Some a) (Some b) None p q = absurd q
 
-pub counts-none : (a : Option ℕ) → CountsMore 0 a a
-counts-none None = tt
-counts-none (Some a) = ap (λ x. min 4294967295 x) (let w : a ≡ a + 0 = omega arith in w)
-
 owned-append : (x : ℕ) (rows : List (List NodeId)) (row : List NodeId) → owned_by x (rows ++ row ∷ []) ≡ owned_by x rows + count_by (λ y. y.0 == x) row
 owned-append x [] row = (let z : count_by (λ y. y.0 == x) row + 0 ≡ 0 + count_by (λ y. y.0 == x) row = omega arith in z)
 owned-append x (r ∷ rs) row = (let more = owned-append x rs row in omega arith)

@@ -36,21 +36,6 @@ pub record Extends (w u : World) : Type 0 where
   pub ended : (g : ℕ) → has_ended w g ≡ true → has_ended u g ≡ true
   pub replied : (g v : ℕ) → has_ended w g ≡ true → replied u.gets g v ≡ replied w.gets g v
 
-pub extends_through : (w u x : World) → Extends w u → Extends u x → Extends w x
-extends_through w u x a b = record {
-  puts = (let l = a.puts in let m = b.puts in omega arith);
-  key = λ v l. b.key v (later v l) ∙ a.key v l;
-  writer = λ v l. b.writer v (later v l) ∙ a.writer v l;
-  value = λ v l. b.value v (later v l) ∙ a.value v l;
-  seen = λ v l. b.seen v (later v l) ∙ a.seen v l;
-  acked = λ v e. b.acked v (a.acked v e);
-  ended = λ g e. b.ended g (a.ended g e);
-  replied = λ g v e. b.replied g v (a.ended g e) ∙ a.replied g v e;
-}
-  where
-    later : (v : ℕ) → v < length w.puts → v < length u.puts
-    later v l = (let m = a.puts in omega arith)
-
 -- ---- each event
 
 -- one more put
@@ -129,13 +114,6 @@ event_extends ring plan w (EndGet h) g = same_extends w _ refl (λ k e. ap (λ (
     cc))))
 event_extends ring plan w e g = same_extends w _ (same_puts ring plan w e refl) (λ k h. ap (λ (gs : List GetRecord). reply_at gs k) (same_gets ring plan w e refl))
 
-pub run_extends : (ring : RingValue) (plan : List Planned) (run : List Entry) (w v : World) → Leads ring plan w run v → Extends w v
-run_extends ring plan [] w v l = subst (λ (u : World). Extends w u) (sym l) (same_extends w w refl (λ g e. refl))
-run_extends ring plan (x ∷ xs) w v l =
-    let a = answered ring plan w l.0 x.event x.reply l.1 in
-    let b : Extends w l.0 = subst (λ (u : World). Extends w u) a.1 (event_extends ring plan w x.event (all_met (guards ring plan w x.event) a.0)) in
-    extends_through w l.0 v b (run_extends ring plan xs l.0 v l.2)
-
 -- ---- succession among the puts that are there
 
 -- each get that a put names has ended
@@ -171,12 +149,6 @@ succeeds_stays w u x named a b l (itself _) = itself a
 succeeds_stays w u x named a b l (by _ m _ d r) =
     let less = (direct_parts w a m d).less in
     by a m b (direct_stays w u x named a m l ∙ d) (succeeds_stays w u x named m b (omega arith) r)
-
-pub succeeded_before : (w u : World) → Extends w u → NamesEnded w → (a b : ℕ) → a < length w.puts → Succeeds u a b → Succeeds w a b
-succeeded_before w u x named a b l (itself _) = itself a
-succeeded_before w u x named a b l (by _ m _ d r) =
-    let less = (direct_parts u a m d).less in
-    by a m b (sym (direct_stays w u x named a m l) ∙ d) (succeeded_before w u x named m b (omega arith) r)
 
 -- puts that succeed one another are of one key
 pub succeeds_same_key : (w : World) (a b : ℕ) → Succeeds w a b → key_of_put w a ≡ key_of_put w b

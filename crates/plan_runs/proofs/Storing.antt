@@ -60,10 +60,6 @@ lose_stored ring plan w x y t u e = grind (arith, nat_tests)
 pub lose_hinted : (ring : RingValue) (plan : List Planned) (w : World) (x : NodeId) (y : ℕ) (t : Slot) (u : ℕ) → (lose_effect ring plan w x).hinted y t u ≡ true → w.hinted y t u ≡ true
 lose_hinted ring plan w x y t u e = grind (arith, nat_tests)
 
--- with puts of the slot's partition what is stored fits
-more_fit : (ring : RingValue) (w : World) (s : Slot) (more : ℕ → Bool) → ((v : ℕ) → more v ≡ true → IsPutOf ring w s v) → (t : Slot) (u : ℕ) → (t ≡ s) × (more u ≡ true) → IsPutOf ring w t u
-more_fit ring w s more h t u g = subst (λ (z : Slot). IsPutOf ring w z u) (sym g.0) (h u g.1)
-
 -- ---- where puts and gets only come, or change in what is not read here
 
 pub record Grows (w u : World) : Type 0 where

@@ -61,9 +61,6 @@ copy-suits ring plan n t slot source suits at e =
     let s = and_parts (nat_lt slot.partition ring.q) (nat_lt slot.index ring.n) b.0 in
     (ltb-true slot.partition ring.q s.0, ltb-true slot.index ring.n s.1, b.1)
 
-pub below_at : (n : ℕ) (from : List ℕ) (k : ℕ) → list_all (λ i. nat_lt i n) from ≡ true → k < length from → get_or from k 0 < n
-below_at n from k all l = ltb-true (get_or from k 0) n (all_at (λ (i : ℕ). nat_lt i n) from k (get_or from k 0) all (slice_get-get_or from k 0 l))
-
 -- ---- the owners of one more slot
 
 pub owners_more : (ring : RingValue) (plan : List Planned) (n p : ℕ) (from : List ℕ) (k : ℕ) (xs ys : List NodeId) → 0 < k → k ≤ length from

@@ -55,9 +55,6 @@ grows-alike plan old new e = record {
 
 -- ---- growing
 
-pub grows-same : (plan : List Planned) (old : List ℕ) → Grows plan old old
-grows-same plan old = record { stay = λ n h. h; steps = λ h. h }
-
 pub grows-more : (plan : List Planned) (a b c : List ℕ) → Grows plan a b → Grows plan b c → Grows plan a c
 grows-more plan a b c g h = record { stay = λ n is. h.stay n (g.stay n is); steps = λ is. h.steps (g.steps is) }
 
@@ -133,13 +130,6 @@ one-taken plan all later old new k t g here = λ n is. by n (t n is)
     by : (n : ℕ) → (has n (k ∷ later) ≡ true) ⊎ HasStep plan n old → (has n later ≡ true) ⊎ HasStep plan n new
     by n (inl left) = first n (or_cases (n == k) (has n later) left)
     by n (inr done) = inr (step-stays plan n old new g done)
-
-pub all-taken : (plan : List Planned) (all rest numbers : List ℕ) → TakenOr plan all rest numbers → rest ≡ [] → (n : ℕ) → has n all ≡ true → HasStep plan n numbers
-all-taken plan all rest numbers t e n is = by rest e (t n is)
-  where
-    by : (rest : List ℕ) → rest ≡ [] → (has n rest ≡ true) ⊎ HasStep plan n numbers → HasStep plan n numbers
-    by rest e (inl left) = absurd (let f : has n rest ≡ false = ap (has n) e in cc)
-    by rest e (inr done) = done
 
 pub slot-stays : (ring : RingValue) (plan : List Planned) (slot : Slot) (old new : List ℕ) → Grows plan old new → HasSlot ring plan slot old → HasSlot ring plan slot new
 slot-stays ring plan slot old new g h = record {

@@ -30,9 +30,6 @@ at_last (s ∷ ss) a = at_last ss a
 held_as : (x : NodeId) (o q : Option Held) → o ≡ q → (elim o as (λ _. List Holding) [ None ↦ [] | Some slot ↦ held_of slot x ]) ≡ (elim q as (λ _. List Holding) [ None ↦ [] | Some slot ↦ held_of slot x ])
 held_as x o q e = ap (λ (r : Option Held). elim r as (λ _. List Holding) [ None ↦ [] | Some slot ↦ held_of slot x ]) e
 
-pub holds_none : (ring : RingValue) (plan : List Planned) (p : ℕ) → HoldsBelow ring plan p 0 []
-holds_none ring plan p = record { count = refl; each = λ i l x. absurd (omega arith) }
-
 pub holds_more : (ring : RingValue) (plan : List Planned) (p n : ℕ) (slots : List Held) (a : Held) → HoldsBelow ring plan p n slots → IsHeld ring plan (record { partition = p; index = n }) (held_of a) → HoldsBelow ring plan p (n + 1) (slots ++ a ∷ [])
 holds_more ring plan p n slots a h held = record {
   count = length-append slots (a ∷ []) ∙ ap (λ (k : ℕ). k + 1) h.count;

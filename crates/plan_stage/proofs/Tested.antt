@@ -30,11 +30,6 @@ pub at-copy : (ring : RingValue) (plan : List Planned) (O : Test) (p n : ℕ) (s
 at-copy ring plan O p n slot source at e =
     rw (← e) (at-step (step_clauses ring plan O slot.partition) plan n (Copy slot source) at)
 
--- a copy in another partition has no clauses, nor has one from the slot's owner
-pub no-copy : (ring : RingValue) (plan : List Planned) (O : Test) (p n : ℕ) (slot : Slot) (source : Source) → step_at plan n ≡ Some (Copy slot source) → (slot.partition == p) ≡ false → clauses_at (step_clauses ring plan O p) plan n ≡ []
-no-copy ring plan O p n slot Owner at e = at-step (step_clauses ring plan O p) plan n (Copy slot Owner) at
-no-copy ring plan O p n slot (Slots from) at e = at-step (step_clauses ring plan O p) plan n (Copy slot (Slots from)) at ∙ (rw e refl)
-
 pub listed : (ring : RingValue) (plan : List Planned) (O : Test) (n : ℕ) (slot : Slot) (from : List ℕ) → step_clauses ring plan O slot.partition n (Copy slot (Slots from)) ≡ copy_clauses ring plan O n slot from
 listed ring plan O n slot from =
     let same : (slot.partition == slot.partition) ≡ true = eq-eqb slot.partition slot.partition refl in

@@ -101,9 +101,6 @@ all-at : (ring : RingValue) (seen : List Planned) (y : Planned) (ys : List Plann
 all-at ring [] y ys e = (and_parts (step_suits ring y.step) (list_all (λ (z : Planned). step_suits ring z.step) ys) e).0
 all-at ring (x ∷ seen) y ys e = all-at ring seen y ys (and_parts (step_suits ring x.step) (list_all (λ (z : Planned). step_suits ring z.step) (seen ++ y ∷ ys)) e).1
 
-eq-flip : (x y : ℕ) → eqb x y ≡ eqb y x
-eq-flip x y = grind (arith, nat_tests)
-
 joined-parts : (seen : List Planned) (y : Planned) (ys : List Planned) → joined (seen ++ y ∷ ys) ≡ joined seen ++ (joins y.step ++ joined ys)
 joined-parts seen y ys = flat_map-append (λ (x : Planned). joins x.step) seen (y ∷ ys) ∙ ap (λ (r : List ℕ). joined seen ++ r) (flat_map-cons (λ (x : Planned). joins x.step) y ys)
 

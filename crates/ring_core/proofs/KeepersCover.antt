@@ -18,10 +18,3 @@ NoneBefore hints slot key clock all rest = (x : ℕ) → in_keepers x all ≡ tr
 
 pub none_first : (hints : Hints) (slot : Slot) (key : List ℕ) (clock : List Entry) (all : List NodeId) → NoneBefore hints slot key clock all all
 none_first hints slot key clock all x there gone c = absurd cc
-
-pub none_next : (hints : Hints) (slot : Slot) (key : List ℕ) (clock : List Entry) (all rest later : List NodeId) (y : NodeId) → rest ≡ y ∷ later
-    → (Covers (hinted_at hints y.0 slot key) clock → ⊥) → NoneBefore hints slot key clock all rest → NoneBefore hints slot key clock all later
-none_next hints slot key clock all rest later y is mine before x there gone c = elim (cases_Bool (x == y.0)) [
-  | inl same ↦ mine (subst (λ (z : ℕ). Covers (hinted_at hints z slot key) clock) (equal x y.0 same) c)
-  | inr apart ↦ before x there (left_out x y rest later is apart gone) c
-]

@@ -5,7 +5,6 @@ pub mod SlotOwners
 pub mod KeepersCover
 pub mod SlotHoldsPut
 pub mod Masks
-pub mod NextStep
 pub mod SoundAfterEvent
 pub mod OpenCopies
 pub mod TransfersTold

@@ -40,9 +40,3 @@ one-row-more xs ys ss s h from to = map_push (row_in (xs ++ ys)) ss s ∙ rw (ro
 pub one-total-more : (xs ys : List ℕ) (ss : List Span) (s : Span) → AllByRecursion (IsSpan xs) ss → s.from ≡ length xs → s.to ≡ length xs + length ys → sum_by (λ (row : List ℕ). length row) (map (row_in xs) ss) ≡ length xs → sum_by (λ (row : List ℕ). length row) (map (row_in (xs ++ ys)) (ss ++ s ∷ [])) ≡ length (xs ++ ys)
 one-total-more xs ys ss s h from to total =
     ap (λ rows. sum_by (λ (row : List ℕ). length row) rows) (one-row-more xs ys ss s h from to) ∙ sum_by_push (λ (row : List ℕ). length row) (map (row_in xs) ss) ys ∙ omega (arith, total, length-append xs ys)
-
--- the places of each row are some of the list
-pub span-at : (xs : List ℕ) (ss : List Span) (n : ℕ) (s : Span) → AllByRecursion (IsSpan xs) ss → slice_get ss n ≡ Some s → IsSpan xs s
-span-at xs [] n s h is = absurd cc
-span-at xs (t ∷ ts) zero s h is = (let e : t ≡ s = cc in subst (IsSpan xs) e h.0)
-span-at xs (t ∷ ts) (suc n) s h is = span-at xs ts n s h.1 is

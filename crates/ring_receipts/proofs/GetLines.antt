@@ -73,15 +73,3 @@ module _ (asked : List Asked) (k : List ℕ) where
         } in
         (start ∷ (looks.0 ++ last.0), rest, after, list_is ∙ ap (λ xs. start ∷ xs) joined, (a, after_is, get), c)),
   )
-
-  -- there is none
-  pub get_nowhere : HasNoBlock asked (StartGet k) []
-  get_nowhere lines b = absurd (let e = ap length (b.3 ∙ ap (λ xs. xs ++ b.1) b.4.2.joined) in omega arith)
-
-  -- the list begins with something else
-  pub get_not_there : (list later : List Receipt) (start : Receipt) → list ≡ start ∷ later → ((g : ℕ) → start.event ≡ StartGet k → start.reply ≡ Get g → ⊥)
-      → HasNoBlock asked (StartGet k) list
-  get_not_there list later start list_is other lines b =
-      let get = b.4.2 in
-      let joined : start ∷ later ≡ get.start ∷ ((get.reads ++ get.ends) ++ b.1) = sym list_is ∙ b.3 ∙ ap (λ xs. xs ++ b.1) get.joined in
-      other b.4.0.number (ap (λ (r : Receipt). r.event) (heads joined) ∙ get.event) (ap (λ (r : Receipt). r.reply) (heads joined) ∙ get.reply)

@@ -76,21 +76,3 @@ module _ (asked : List Asked) (w : WriterId) (k v s : List ℕ) where
         } in
         (start ∷ (sent.0 ++ acks.0), rest, asked, list_is ∙ ap (λ xs. start ∷ xs) joined, (refl, inl (ended, put)), c)),
   )
-
-  -- there is none
-  pub put_nowhere : are_ended asked k s ≡ true → HasNoBlock asked (StartPut w k v s) []
-  put_nowhere ended lines b = elim b.4.1 [
-    | inl p ↦ absurd (let e = ap length (b.3 ∙ ap (λ xs. xs ++ b.1) p.1.joined) in omega arith)
-    | inr none ↦ absurd (true≢false (sym ended ∙ none.0))
-  ]
-
-  -- the list begins with something else
-  pub put_not_there : (list later : List Receipt) (start : Receipt) → are_ended asked k s ≡ true → list ≡ start ∷ later
-      → ((n : ℕ) → start.event ≡ StartPut w k v (numbers_of asked s) → start.reply ≡ Put n → ⊥) → HasNoBlock asked (StartPut w k v s) list
-  put_not_there list later start ended list_is other lines b = elim b.4.1 [
-    | inl p ↦ (
-        let put = p.1 in
-        let joined : start ∷ later ≡ put.start ∷ ((put.sent ++ put.acks) ++ b.1) = sym list_is ∙ b.3 ∙ ap (λ xs. xs ++ b.1) put.joined in
-        other put.number (ap (λ (r : Receipt). r.event) (heads joined) ∙ put.event) (ap (λ (r : Receipt). r.reply) (heads joined) ∙ put.reply))
-    | inr none ↦ absurd (true≢false (sym ended ∙ none.0))
-  ]

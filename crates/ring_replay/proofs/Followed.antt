@@ -15,16 +15,6 @@ use Rattle.ring_replay.specs.Replays.{Replays, Follows}
 use Rattle.ring_replay.specs.Faults.{FailsAt, IsFirstFault}
 use Rattle.ring_replay.proofs.FirstFault.{fault_behind}
 
--- nothing was followed yet
-pub follows_none : (a : World) → Follows a [] a
-follows_none a = record {
-  ring = refl;
-  plan = refl;
-  puts = omega arith;
-  gets = omega arith;
-  world = λ w m. (w, refl, m);
-}
-
 -- one entry more was followed
 pub follows_one : (start old new : World) (front : List Entry) (x : Entry) → Follows start front old → ring_of new ≡ ring_of old → plan_of new ≡ plan_of old → IsOneMore old new
     → Answers old x.event x.reply new → Follows start (front ++ x ∷ []) new

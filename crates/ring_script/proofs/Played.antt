@@ -42,17 +42,6 @@ module _ (ring : RingValue) (plan : List Planned) where
       ∙ (ap (λ (n : ℕ). line ++ (event_lines ring plan next (k + 1) es ++ event_line n last)) (plus-one k d es)
       ∙ sym (append_assoc line (event_lines ring plan next (k + 1) es) (event_line (k + length (d ∷ es)) last)))
 
--- nothing was played yet
-pub plays_none : (a : World) (out : List ℕ) → Plays a [] a out out
-plays_none a out = record {
-  ring = refl;
-  plan = refl;
-  puts = omega arith;
-  gets = omega arith;
-  world = λ w m. m;
-  text = λ w m. sym (append-nil out);
-}
-
 -- one event more was played
 pub plays_one : (start old new : World) (es : List Event) (e : Event) (before out after : List ℕ) → Plays start es old before out → Happens old e new out (length es) after → Plays start (es ++ e ∷ []) new before after
 plays_one start old new es e before out after p h = record {

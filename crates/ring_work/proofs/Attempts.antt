@@ -18,13 +18,6 @@ one_unless : (b : Bool) (n : ℕ) → n ≡ cond b 0 1 → n ≡ cond (not b) 1 
 one_unless true n e = e
 one_unless false n e = e
 
--- the start was refused
-pub put_not : (begin : Event) (old new : List Receipt) (refusal : Option Refusal) → new ≡ old → is_some refusal ≡ true → AddsPut begin old new refusal
-put_not begin old new refusal same some = ([], same ∙ sym (append-nil old), inl (refl, some))
-
-pub get_not : (key : List ℕ) (old new : List Receipt) (refusal : Option Refusal) → new ≡ old → is_some refusal ≡ true → AddsGet key old new refusal
-get_not key old new refusal same some = ([], same ∙ sym (append-nil old), inl (refl, some))
-
 -- it was answered
 pub put_made : (begin : Event) (old mid new : List Receipt) (refusal : Option Refusal) (r : Receipt) (n : ℕ) → r.event ≡ begin → r.reply ≡ Put n → mid ≡ old ++ r ∷ []
     → Completes (λ r. sends n r.event) (λ r. acknowledges n r.event) mid new (is_some refusal) → AddsPut begin old new refusal
@@ -74,6 +67,3 @@ get_made key old mid new refusal r n event reply mid_is c = (
 -- behind none
 pub put_alone : (begin : Event) (old new : List Receipt) (refusal : Option Refusal) → old ≡ [] → AddsPut begin old new refusal → IsPutAttempt begin new refusal
 put_alone begin old new refusal none a = subst (λ xs. IsPutAttempt begin xs refusal) (sym (a.1 ∙ ap (λ xs. xs ++ a.0) none)) a.2
-
-pub get_alone : (key : List ℕ) (old new : List Receipt) (refusal : Option Refusal) → old ≡ [] → AddsGet key old new refusal → IsGetAttempt key new refusal
-get_alone key old new refusal none a = subst (λ xs. IsGetAttempt key xs refusal) (sym (a.1 ∙ ap (λ xs. xs ++ a.0) none)) a.2

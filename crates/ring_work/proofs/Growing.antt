@@ -21,14 +21,6 @@ grows_on test old mid new a b = record {
   pass = all_both test a.more b.more a.pass b.pass;
 }
 
--- one
-pub grows_by : (test : Event → Bool) (e : Event) (old new : List Receipt) → test e ≡ true → Adds e old new → Grows (λ r. test r.event) old new
-grows_by test e old new passes a = record {
-  more = a.receipt ∷ [];
-  joined = a.joined;
-  pass = rw (a.event, passes) refl;
-}
-
 -- some, and behind them the last one
 pub completes_by : (each last : Event → Bool) (e : Event) (old mid new : List Receipt) → Grows (λ r. each r.event) old mid → last e ≡ true → Adds e mid new
     → Completes (λ r. each r.event) (λ r. last r.event) old new false

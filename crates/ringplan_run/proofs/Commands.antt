@@ -71,11 +71,6 @@ pub none_named : (sub : Option (List ℕ × List Row)) → None ≡ option_map (
 none_named None e is = refl
 none_named (Some x) e is = absurd cc
 
--- a drive has a subcommand
-pub drive_named : (sub : Option (List ℕ × List Row)) → None ≡ option_map (λ p. p.1) sub → task_named sub ≡ to_drive → ⊥
-drive_named None e is = let bad : to_do Check ≡ to_drive = is in cc
-drive_named (Some x) e is = cc
-
 -- the text of an option is that of the subcommand that was entered
 pub named_there : (sub : Option (List ℕ × List Row)) (rows : List Row) (id : List ℕ) → Some rows ≡ option_map (λ p. p.1) sub → option_named id sub ≡ one_of id rows
 named_there None rows id e = absurd cc
@@ -109,39 +104,6 @@ module _ {E : Type 0} (G : List ℕ → Result ℕ E → Type 0) (parses : (bs :
       by : (p : Option (List ℕ)) → o ≡ p → o ≡ None
       by None e = e
       by (Some t) e = let bad = rw is at (value t e) in absurd bad
-
-  -- a number that is read is that of the text
-  pub number_read : (k : ℕ) → r ≡ Ok (Some k) → 1 ≤ k → k ≤ 64 → (t : List ℕ) × (o ≡ Some t) × IsWorkers t k
-  number_read k is low high = by o refl
-    where
-      by : (p : Option (List ℕ)) → o ≡ p → (t : List ℕ) × (o ≡ Some t) × IsWorkers t k
-      by None e = let bad : Ok None ≡ Ok (Some k) = sym (none e) ∙ is in absurd cc
-      by (Some t) e =
-          let given = rw is at (value t e) in
-          let got = parses t (Ok k) given in
-          (t, e, (got.0.0, sym got.1, low, high))
-
-  -- a number beyond the limits is none of workers
-  pub beyond_read : (k : ℕ) → r ≡ Ok (Some k) → (1 ≤ k → k ≤ 64 → ⊥) → HasNoNumber o
-  beyond_read k is out = by o refl
-    where
-      by : (p : Option (List ℕ)) → o ≡ p → HasNoNumber o
-      by None e = let bad : Ok None ≡ Ok (Some k) = sym (none e) ∙ is in absurd cc
-      by (Some t) e =
-          let given = rw is at (value t e) in
-          let got = parses t (Ok k) given in
-          (t, e, λ j h. let same : k ≡ j = got.1 ∙ h.1 in out (rw same h.2) (rw same h.3))
-
-  -- nor is a text that is no number
-  pub nonsense_read : (d : E) → r ≡ Err d → HasNoNumber o
-  nonsense_read d is = by o refl
-    where
-      by : (p : Option (List ℕ)) → o ≡ p → HasNoNumber o
-      by None e = let bad : Ok None ≡ Err d = sym (none e) ∙ is in absurd cc
-      by (Some t) e =
-          let given = rw is at (value t e) in
-          let got = parses t (Err d) given in
-          (t, e, λ j h. got (h.0, let v = h.1 in let m = h.3 in omega arith))
 
 pub helped : (kinds : Kinds) (k : ErrorKind) → k ≡ DisplayHelp → (k ≡ kind.OutOfMemory) ⊎ IsAmong k kinds → WantsHelp kinds
 helped kinds k e (inl h) = let bad : DisplayHelp ≡ kind.OutOfMemory = cc in absurd cc

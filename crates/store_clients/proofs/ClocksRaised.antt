@@ -62,9 +62,6 @@ raises_one old new c raise = record {
 
 -- ---- clocks of versions
 
-pub raises_none : (old : List Entry) (These : List Entry → Type 0) → ((c : List Entry) → These c → ⊥) → RaisesTo old These old
-raises_none old These none = record { before = λ w. omega arith; above = λ c h. absurd (none c h); from = λ w. inl refl }
-
 -- ---- clocks of what gets found
 
 pub none_found : (found : ℕ → List Version) (seen : List ℕ) → length seen ≡ 0 → (c : List Entry) → IsFoundClock found seen c → ⊥

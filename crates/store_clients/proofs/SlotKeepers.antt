@@ -26,9 +26,6 @@ pub record Passing (up : ℕ → Bool) (held : ℕ → List Version) (keys rest 
   pub rises : IsStrictlySortedBy ((node_order.ghosts).cmp) rest
   pub passed : (y : ℕ) → in_keepers y keys ≡ true → in_keepers y rest ≡ false → (held y ≡ []) ⊎ (up y ≡ true)
 
-pub passing_none : (up : ℕ → Bool) (held : ℕ → List Version) (keys : List NodeId) → IsStrictlySortedBy ((node_order.ghosts).cmp) keys → Passing up held keys keys
-passing_none up held keys rises = record { rises = rises; passed = λ y is out. absurd cc }
-
 pub passing_more : (up : ℕ → Bool) (held : ℕ → List Version) (keys rest more : List NodeId) (y : NodeId) → rest ≡ y ∷ more → (held y.0 ≡ []) ⊎ (up y.0 ≡ true) → Passing up held keys rest → Passing up held keys more
 unfolding IsStrictlySortedBy
 passing_more up held keys rest more y is fine p = record {
@@ -75,12 +72,6 @@ passing_stops up held keys rest more y is others down some p = (
     | inr absent ↦ inl (others z absent)
   ],
 )
-
-pub passing_all : (up : ℕ → Bool) (held : ℕ → List Version) (keys rest : List NodeId) → rest ≡ [] → ((x : ℕ) → in_keepers x keys ≡ false → held x ≡ []) → Passing up held keys rest → IsFirstDown up held None
-passing_all up held keys rest is others p y = elim (cases_Bool (in_keepers y keys)) [
-  | inl there ↦ p.passed y there (ap (in_keepers y) is)
-  | inr absent ↦ inl (others y absent)
-]
 
 -- ---- what they keep, merged
 

@@ -99,17 +99,6 @@ module _ (ring : RingValue) (plan : List Planned) (k : Kept) (w : World) (m : Te
           let l = ltb-true v (length k.puts) p.0 in
           elim (slice_get_cases k.puts v).1 [ inl s ↦ (let some = s.2 in cc) | inr s ↦ (let le = s.0 in omega arith) ])
 
-  -- an index that the ring has not
-  pub exists_past : (v i : ℕ) → ring.n ≤ i → put_exists ring w v i ≡ false
-  exists_past v i past = by (put_exists ring w v i) refl
-    where
-      by : (b : Bool) → put_exists ring w v i ≡ b → put_exists ring w v i ≡ false
-      by false e = e
-      by true e = absurd (
-          let p = and_parts (nat_lt v (length w.puts)) (nat_lt i ring.n) e in
-          let l = ltb-true i ring.n p.1 in
-          omega arith)
-
   -- ---- where the put exists with that index
 
   module _ (v i : ℕ) (there : put_exists ring w v i ≡ true) where

@@ -42,13 +42,6 @@ stays_there [] ys m z e = absurd cc
 stays_there (x ∷ xs) ys zero z e = e
 stays_there (x ∷ xs) ys (suc m) z e = stays_there xs ys m z e
 
--- the last item is the one that came
-pub comes_last : {A : Type 0} (xs : List A) (y : A) (m : ℕ) → m ≡ length xs → slice_get (xs ++ y ∷ []) m ≡ Some y
-comes_last [] y zero e = refl
-comes_last [] y (suc m) e = absurd (omega arith)
-comes_last (x ∷ xs) y zero e = absurd (omega arith)
-comes_last (x ∷ xs) y (suc m) e = comes_last xs y m (omega arith)
-
 -- ---- keys
 
 -- a key that has no place is not among the keys

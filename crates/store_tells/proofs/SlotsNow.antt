@@ -82,18 +82,6 @@ slots_do ring plan w n s old new is_ring is_plan sound r g at t change =
     let k = step_is (record w { done = with_number w.done n }) s in
     rw (done_is ring plan w n s at) (same_slots ring plan new (record w { done = with_number w.done n }) _ (ap (λ (u : World). u.done) k) (ap (λ (u : World). u.lost) k) m)
 
--- a mirror is set, and the slot's generation is one more
-pub slots_mirror : (ring : RingValue) (plan : List Planned) (w : World) (n : ℕ) (s : Slot) (x : NodeId) (old mid new : List (List SlotNow)) → IsRing ring → IsPlan plan → Sound ring plan → Reached ring plan w
-    → first_failing (guards ring plan w (Do n)) ≡ None → step_at plan n ≡ Some (step.Mirror s x) → SlotsMeet ring plan old w
-    → ChangesSlot old mid s (λ a. record a { mirror = Some x }) → ChangesSlot mid new s (λ a. record a { generation = a.generation + 1 }) → SlotsMeet ring plan new (effect ring plan w (Do n))
-slots_mirror ring plan w n s x old mid new is_ring is_plan sound r g at t a b =
-    slots_do ring plan w n (step.Mirror s x) old new is_ring is_plan sound r g at t (mirror_steps old mid new s x a b)
-
--- a slot is switched
-pub slots_switch : (ring : RingValue) (plan : List Planned) (w : World) (n : ℕ) (s : Slot) (old new : List (List SlotNow)) → IsRing ring → IsPlan plan → Sound ring plan → Reached ring plan w
-    → first_failing (guards ring plan w (Do n)) ≡ None → step_at plan n ≡ Some (step.Switch s) → SlotsMeet ring plan old w → ChangesSlot old new s switched → SlotsMeet ring plan new (effect ring plan w (Do n))
-slots_switch ring plan w n s old new is_ring is_plan sound r g at t a = slots_do ring plan w n (step.Switch s) old new is_ring is_plan sound r g at t (switch_steps old new s a)
-
 -- ---- a store that is lost
 
 -- each slot whose group has the node has a generation more

@@ -15,15 +15,6 @@ use Rattle.store_tells.specs.HintsFit.{KeysFit}
 use Rattle.store_tells.specs.Kept.{Kept, Tells}
 use Rattle.ring_store.proofs.MergesAtNodes.{one_reading}
 
-module _ (ring : RingValue) (plan : List Planned) (k : Kept) (w : World) where
-  -- what nodes store reads the same
-  pub stored_same : (new : ℕ → Slot → List ℕ → List Version) → ((x : ℕ) (s : Slot) (key : List ℕ) → new x s key ≡ k.stored x s key) → Tells ring plan k w → Tells ring plan (record k { stored = new }) w
-  stored_same new same m = subst (λ (f : ℕ → Slot → List ℕ → List Version). Tells ring plan (record k { stored = f }) w) (sym (one_reading k.stored new same)) m
-
-  -- what they keep as hints reads the same
-  pub hinted_same : (new : ℕ → Slot → List ℕ → List Version) → ((x : ℕ) (s : Slot) (key : List ℕ) → new x s key ≡ k.hinted x s key) → Tells ring plan k w → Tells ring plan (record k { hinted = new }) w
-  hinted_same new same m = subst (λ (f : ℕ → Slot → List ℕ → List Version). Tells ring plan (record k { hinted = f }) w) (sym (one_reading k.hinted new same)) m
-
 -- a key that was numbered lies in the ring as well
 pub named_fit : (ring : RingValue) (keys : List (List ℕ)) (key : List ℕ) → (place_of ring.q key).partition < ring.q → KeysFit ring keys → KeysFit ring (with_name keys key)
 named_fit ring keys key lies fit = by (place keys key)

@@ -30,9 +30,6 @@ first-ended k whole line rest e =
     let s = shape (λ b. eqb b 10) rest in
     rw (e, s.2) refl
 
-pub first-missing : (k : ℕ) (whole line : List ℕ) → slice_split (λ b. eqb b 10) whole ≡ line ∷ [] → first_line k (lines_of whole) ≡ Err (BadLine k)
-first-missing k whole line e = rw e refl
-
 over-fields : (t : Bool) (b : ℕ) (fields : List (List ℕ)) (lines : List (List (List ℕ))) → Parts fields → is_nothing (cond t ([] ∷ fields) (onto_first b fields) ∷ lines) ≡ false
 unfolding Parts
 over-fields true b fields lines s = rw s.2 refl

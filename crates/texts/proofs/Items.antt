@@ -107,19 +107,6 @@ pub unless_ok : {A : Type 0} (ts : List (Bool × Refusal)) (x : A) → Passes ts
 unless_ok [] x p = refl
 unless_ok (t ∷ ts) x p = rw p.0 (unless_ok ts x p.1)
 
-pub IsLine-unless : {A : Type 0} (read : List (List ℕ) → Result A Refusal) (s : A → List (List ℕ)) (P : A → Type 0) (tests : A → List (Bool × Refusal)) → IsLine read s P → IsLine (λ l. read l >>= λ v. unless (tests v) v) s (λ v. P v × Passes (tests v))
-IsLine-unless {A} read s P tests il = record { takes = take; gives = give }
-  where
-    take : (fields : List (List ℕ)) (v : A) → (read fields >>= λ x. unless (tests x) x) ≡ Ok v → (fields ≡ s v) × (P v × Passes (tests v))
-    take fields v e =
-        let b = bind_ok (read fields) (λ x. unless (tests x) x) v e in
-        let u = unless_is (tests b.0) b.0 v b.2 in
-        let h = il.takes fields b.0 b.1 in
-        rw (← u.0) (h.0, (h.1, u.1))
-
-    give : (v : A) → P v × Passes (tests v) → (read (s v) >>= λ x. unless (tests x) x) ≡ Ok v
-    give v p = rw (il.gives v p.0) (unless_ok (tests v) v p.1)
-
 -- another way to say what is allowed
 pub IsLine-as : {A : Type 0} (read : List (List ℕ) → Result A Refusal) (s t : A → List (List ℕ)) (P Q : A → Type 0) → ((v : A) → s v ≡ t v) → ((v : A) → P v → Q v) → ((v : A) → Q v → P v) → IsLine read s P → IsLine read t Q
 IsLine-as {A} read s t P Q same to from il = record {

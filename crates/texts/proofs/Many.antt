@@ -76,7 +76,3 @@ pub many-step : {A : Type 0} (test : List ℕ → Bool) (read : List A → ℕ �
 many-step test read seen k [] e = absurd cc
 many-step test read seen k (line ∷ []) e = rw e refl
 many-step test read seen k (line ∷ next ∷ more) e = rw e refl
-
-pub many-stop : {A : Type 0} (test : List ℕ → Bool) (read : List A → ℕ → List (List ℕ) → Result A Refusal) (seen : List A) (k : ℕ) (lines : List (List (List ℕ))) → begins_so test lines ≡ false → many_from test read seen k lines ≡ Ok (seen, record { line = k; lines = lines })
-many-stop test read seen k [] e = refl
-many-stop test read seen k (line ∷ more) e = rw e refl

@@ -21,12 +21,6 @@ digits-push (d ∷ ds) c = ap (λ b. is_ascii_digit d && b) (digits-push ds c) �
 pub capped-step : (a d : ℕ) → min (10 * min a 4294967296 + d) 4294967296 ≡ min (10 * a + d) 4294967296
 capped-step a d = omega arith
 
--- one byte that is no digit
-pub no_digits : (ds : List ℕ) (i : ℕ) → i < length ds → is_ascii_digit (get_or ds i 0) ≡ false → all_ascii_digits ds ≡ false
-no_digits [] i h e = absurd (omega arith)
-no_digits (d ∷ ds) zero h e = ap (λ b. b && all_ascii_digits ds) e
-no_digits (d ∷ ds) (suc i) h e = ap (λ b. is_ascii_digit d && b) (no_digits ds i (omega arith) e) ∙ and_false (is_ascii_digit d)
-
 -- the value of one more digit
 pub value-step : (ds : List ℕ) (i v : ℕ) → i < length ds → v ≡ capped (value_from 0 (take i ds)) → min (10 * v + (get_or ds i 0 - 48)) 4294967296 ≡ capped (value_from 0 (take (i + 1) ds))
 value-step ds i v h e = rw (e, capped-step (value_from 0 (take i ds)) (get_or ds i 0 - 48), take_more ds i 0 h, value-push 0 (take i ds) (get_or ds i 0)) refl
