@@ -95,7 +95,8 @@ pub fn merged(alloc: Global, first: &[Entry], second: &[Entry]) -> Result<Vec<En
     ensures counters { IfOk result
         (λ v. (w : ℕ) → counter v.items w ≡ max (counter first.now w) (counter second.now w)) }
 {
-    let mut out = Vec::new(alloc);
+    // Mostly one writer comes to those of the longer one, or none.
+    let mut out = Vec::with_capacity(alloc, first.len().max(second.len()).saturating_add(1))?;
     merge_into(&mut out, first, second)?;
     Ok(out)
 }

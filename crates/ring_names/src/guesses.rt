@@ -6,7 +6,7 @@ use std::alloc::{AllocError, Global};
 #[derive(Clone, Copy)]
 struct Noted {
     sum: u32,
-    next: usize,
+    next: u32,
 }
 
 /// Guesses at the numbers of bytes. Nothing is promised: whoever asks compares the bytes of the number that was
@@ -57,10 +57,10 @@ impl Guesses {
 
     /// Notes the number of these bytes. Takes no memory.
     pub fn note(&mut self, bytes: &[u8], number: usize) {
-        if number < usize::MAX {
+        if number < u32::MAX as usize {
             let noted = Noted {
                 sum: sum_of(bytes),
-                next: number + 1,
+                next: number as u32 + 1,
             };
             put(self.table.as_mut_slice(), noted);
         }
@@ -79,7 +79,7 @@ fn sum_of(bytes: &[u8]) -> u32 {
 // The number that stands there, if it was noted of that sum.
 fn noted_at(table: &[Noted], place: usize, sum: u32) -> Option<usize> {
     match table.get(place) {
-        Some(noted) if noted.sum == sum && 0 < noted.next => Some(noted.next - 1),
+        Some(noted) if noted.sum == sum && 0 < noted.next => Some(noted.next as usize - 1),
         _ => None,
     }
 }

@@ -15,7 +15,7 @@ use crate::versions::Versions;
 use crate::whole::Whole;
 use ring_clock::Clock;
 use ring_names::Refusal;
-use std::alloc::Global;
+use std::alloc::{AllocError, Global};
 
 // Whether some version has a clock that is at least this one, by going through them all.
 fn is_among(versions: &[Version], clock: &Clock) -> bool
@@ -48,6 +48,16 @@ pub fn is_covered(versions: &[Version], kept: &Kept, clock: &Clock) -> bool
     is_among(versions, clock)
 }
 
+// Room for so many, and no more, where there is nothing yet: most sets stay as they are made.
+fn make_room(out: &mut Vec<Version>, room: usize) -> Result<(), AllocError>
+    ensures { out.new.items ≡ out.old.items }
+{
+    if out.is_empty() {
+        out.reserve_exact(room)?;
+    }
+    Ok(())
+}
+
 // Adds copies of the versions that those held do not cover.
 fn push_fresh(
     out: &mut Vec<Version>,
@@ -64,6 +74,7 @@ fn push_fresh(
     let mut rest = versions;
     'versions: while let Some((version, later)) = rest.split_first() {
         if !is_covered(held, kept, &version.clock) {
+            make_room(out, versions.len().saturating_add(held.len()))?;
             out.push(version.try_copy()?)?;
         }
         rest = later;
