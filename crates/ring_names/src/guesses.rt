@@ -44,11 +44,11 @@ impl Guesses {
     pub fn make_room(&mut self, list: &[Vec<u8>]) -> Result<(), AllocError> {
         let count = list.len();
         // Above the second bound there is no memory for more, and below it the sum stays in range.
-        if count < self.table.len() / 2 || count > 1 << 40 {
+        if count < self.table.len() / 4 || count > 1 << 40 {
             return Ok(());
         }
         let empty = Noted { sum: 0, next: 0 };
-        self.table = vec![in self.alloc; empty; 32 + 4 * count]?;
+        self.table = vec![in self.alloc; empty; 32 + 8 * count]?;
         for number in 0..count {
             self.note(list[number].as_slice(), number);
         }

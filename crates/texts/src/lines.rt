@@ -77,6 +77,11 @@ impl<'a> Lines<'a> {
     pub fn begins(&self, word: &[u8]) -> bool
         ensures { result ≡ begins_with word.now self.now.lines }
     {
+        if let (Some(first), Some(byte)) = (word.first(), self.rest.first())
+            && *first != *byte
+        {
+            return false;
+        }
         first_field(self.rest) == word
     }
 
