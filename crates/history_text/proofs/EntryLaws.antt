@@ -30,10 +30,9 @@ use Rattle.plan_runs.specs.declared.event.Event.{Event}
 use Rattle.plan_runs.specs.declared.event.Event.TheVariants as event
 use Rattle.plan_runs.specs.declared.event.Reply.{Reply}
 use Rattle.plan_runs.specs.Replies.{reply_text}
-use Rattle.script_text.specs.Known.{IsKnown}
 use Rattle.script_text.specs.Said.{event_of, names_after}
 use Rattle.script_text.specs.Spelling.{seen_fields, writer_at, event_fields}
-use Rattle.script_text.specs.Valid.{AreWriters, IsCount, IsEvent}
+use Rattle.script_text.specs.Valid.{IsKnown, AreWriters, IsCount, IsEvent}
 use Rattle.script_text.proofs.FieldLaws.{named-at, writer_at-is}
 use Rattle.script_text.specs.declared.said.SaidEvent.{SaidEvent}
 use Rattle.script_text.proofs.KindLaws.{IsSaid, said_fields}

@@ -1,7 +1,7 @@
 //! Whom a history names.
 
 ghost use Rattle.std.specs.Prelude.{◌↔◌, IsTrue, length};
-ghost use Rattle.script_text.specs.Known.{IsKnown};
+ghost use Rattle.script_text.specs.Valid.{IsKnown};
 ghost use Rattle.history_text.specs.Known.{AreKnownEntries};
 ghost use Rattle.ring_table.specs.Value.{names_of};
 

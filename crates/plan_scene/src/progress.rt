@@ -51,17 +51,8 @@ impl Progress {
                 put(self.done.as_mut_slice(), *step, true);
             }
             Event::AbortCopy(step) => put(self.is_open.as_mut_slice(), *step, false),
-            Event::StartPut(_, _, _, _)
-            | Event::Write(_, _)
-            | Event::Hint(_, _, _)
-            | Event::Ack(_)
-            | Event::StartGet(_)
-            | Event::Read(_, _)
-            | Event::EndGet(_)
-            | Event::Down(_)
-            | Event::Up(_)
-            | Event::Handoff(_, _)
-            | Event::Lose(_) => {}
+            // No other is a step's.
+            _ => {}
         }
     }
 

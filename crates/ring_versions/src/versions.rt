@@ -11,14 +11,15 @@ ghost use Rattle.ring_versions.specs.declared.version.Version.{Version};
 
 use crate::fresh::Fresh;
 use crate::kept::{Kept, join};
-use crate::merge::{is_covered, merged};
+use crate::merge::{is_covered, merged, merged_with_one};
 use crate::puts::puts_of;
 use crate::version::Version;
-use crate::whole::Whole;
+use crate::whole::{Held, Shared, Whole};
 use ring_clock::Clock;
 use ring_names::{Listed, Refusal};
 use std::alloc::Global;
 use std::marker::Model;
+use std::slice;
 use std::sync::Arc;
 
 /// Versions of which no one's clock is at most another's. Copies share them.
@@ -27,8 +28,7 @@ use std::sync::Arc;
 /// versions or more. Of other clocks each of the looks may cost a comparison with each version.
 pub struct Versions {
     alloc: Global,
-    // None where there are none.
-    shared: Option<Arc<Whole>>,
+    shared: Shared,
 }
 
 impl Model for Versions {
@@ -58,7 +58,7 @@ impl Versions {
     {
         Versions {
             alloc,
-            shared: None,
+            shared: Shared::Nothing,
         }
     }
 
@@ -69,9 +69,9 @@ impl Versions {
         ensures memory { IfErr result (λ e. e ≡ OutOfMemory) }
     {
         match Arc::new(alloc, whole) {
-            Ok(shared) => Ok(Versions {
+            Ok(whole) => Ok(Versions {
                 alloc,
-                shared: Some(shared),
+                shared: Shared::More(whole),
             }),
             Err(_) => Err(Refusal::OutOfMemory),
         }
@@ -82,10 +82,13 @@ impl Versions {
         ensures one { IfOk result (λ s. s ≡ version ∷ []) }
         ensures memory { IfErr result (λ e. e ≡ OutOfMemory) }
     {
-        let mut list = Vec::with_capacity(alloc, 1)?;
-        list.push_reserved(version);
-        let kept = Kept { tops: None };
-        Versions::whole(alloc, Whole { list, kept })
+        match Arc::new(alloc, version) {
+            Ok(one) => Ok(Versions {
+                alloc,
+                shared: Shared::One(one),
+            }),
+            Err(_) => Err(Refusal::OutOfMemory),
+        }
     }
 
     /// The versions, in no order that is promised.
@@ -94,8 +97,9 @@ impl Versions {
         ensures apart { IsApart self.now }
     {
         match &self.shared {
-            Some(whole) => whole.list.as_slice(),
-            None => &[],
+            Shared::Nothing => &[],
+            Shared::One(one) => slice::from_ref(one),
+            Shared::More(whole) => whole.list.as_slice(),
         }
     }
 
@@ -105,8 +109,9 @@ impl Versions {
         ensures { IsTrue result ↔ Covers self.now clock.now }
     {
         match &self.shared {
-            Some(whole) => is_covered(whole.list.as_slice(), &whole.kept, clock),
-            None => false,
+            Shared::Nothing => false,
+            Shared::One(one) => clock.le(&one.clock),
+            Shared::More(whole) => is_covered(whole.list.as_slice(), &whole.kept, clock),
         }
     }
 
@@ -139,8 +144,12 @@ impl Versions {
         ensures memory { IfErr result (λ e. e ≡ OutOfMemory) }
     {
         match &self.shared {
-            Some(whole) => merged(self.alloc, whole, other),
-            None => other.try_copy(),
+            Shared::Nothing => other.try_copy(),
+            Shared::One(one) => merged_with_one(self.alloc, one, other),
+            Shared::More(whole) => {
+                let (list, kept) = (whole.list.as_slice(), &whole.kept);
+                merged(self.alloc, Held { list, kept }, other)
+            }
         }
     }
 
@@ -169,8 +178,9 @@ impl Versions {
         ensures memory { IfErr result (λ e. e ≡ OutOfMemory) }
     {
         match &self.shared {
-            Some(whole) => join(self.alloc, &whole.kept, whole.list.as_slice()),
-            None => Ok(Clock::new(self.alloc)),
+            Shared::Nothing => Ok(Clock::new(self.alloc)),
+            Shared::One(one) => one.clock.try_copy(),
+            Shared::More(whole) => join(self.alloc, &whole.kept, whole.list.as_slice()),
         }
     }
 
@@ -181,8 +191,9 @@ impl Versions {
         ensures memory { IfErr result (λ e. e ≡ OutOfMemory) }
     {
         let shared = match &self.shared {
-            Some(whole) => Some(Arc::try_clone(whole)?),
-            None => None,
+            Shared::Nothing => Shared::Nothing,
+            Shared::One(one) => Shared::One(Arc::try_clone(one)?),
+            Shared::More(whole) => Shared::More(Arc::try_clone(whole)?),
         };
         Ok(Versions {
             alloc: self.alloc,

@@ -27,12 +27,11 @@ use Rattle.script_text.specs.declared.said.SaidWriter.{SaidWriter}
 use Rattle.script_text.specs.declared.said.SaidWriter.TheVariants.{Known, New}
 use Rattle.script_text.specs.declared.said.SaidEvent.{SaidEvent}
 use Rattle.script_text.specs.declared.said.SaidEvent.TheVariants as said
-use Rattle.script_text.specs.Known.{IsKnown}
 use Rattle.script_text.specs.Spelling.{event_fields}
 use Rattle.script_text.specs.Reading.{count_at, pair_at, judge_key, put_at, hint_at, handoff_at}
 use Rattle.script_text.specs.Shapes.{Shape, Number, Pair, Node, Put, Get, Hint, Handoff, words, shape_of}
 use Rattle.script_text.specs.Reading.{shape_at, kind_at, said_at}
-use Rattle.script_text.specs.Valid.{AreWriters, IsCount, IsEvent}
+use Rattle.script_text.specs.Valid.{IsKnown, AreWriters, IsCount, IsEvent}
 use Rattle.script_text.proofs.FieldLaws.{item-count, pair_fields, AreCounts, item-pair, node_fields, IsNode, item-node, item-hint, item-handoff, item-key}
 use Rattle.script_text.proofs.FieldLaws.{IsWriter, IsPut, put_fields, front-put}
 

@@ -23,11 +23,10 @@ use Rattle.ring_table.proofs.RingLaws.{name_at-plain}
 use Rattle.plan_runs.specs.Words.{is_key}
 use Rattle.plan_runs.specs.declared.event.Event.{Event}
 use Rattle.plan_runs.specs.declared.event.Event.TheVariants as event
-use Rattle.script_text.specs.Known.{IsKnown, AreKnown}
 use Rattle.script_text.specs.declared.speaker.Speaker.TheVariants.{Anyone}
 use Rattle.script_text.specs.Spelling.{seen_fields, event_fields, script_lines, script_text}
 use Rattle.script_text.specs.Reading.{events_at, section_at, script_at, script_reading}
-use Rattle.script_text.specs.Valid.{AreWriters, IsCount, AreGets, IsEvent, IsScriptOf}
+use Rattle.script_text.specs.Valid.{IsKnown, AreKnown, AreWriters, IsCount, AreGets, IsEvent, IsScriptOf}
 use Rattle.script_text.proofs.ValueLaws.{value-plain}
 use Rattle.script_text.proofs.WriterLaws.{front-writers, writer-plain}
 use Rattle.script_text.proofs.SaidLines.{events_of, names_behind, lines_of, Ends, lines-read, lines-given}

@@ -17,9 +17,8 @@ use Rattle.script_text.specs.declared.said.SaidWriter.TheVariants.{Known, New}
 use Rattle.script_text.specs.declared.said.SaidPut.{SaidPut}
 use Rattle.script_text.specs.declared.said.SaidEvent.{SaidEvent}
 use Rattle.script_text.specs.declared.said.SaidEvent.TheVariants as said
-use Rattle.script_text.specs.Known.{IsKnown, AreKnown}
 use Rattle.script_text.specs.Spelling.{event_fields}
-use Rattle.script_text.specs.Valid.{AreWriters, WritesAt, IsEvent}
+use Rattle.script_text.specs.Valid.{IsKnown, AreKnown, AreWriters, WritesAt, IsEvent}
 use Rattle.script_text.proofs.FieldLaws.{named-at, IsWriter}
 use Rattle.script_text.proofs.KindLaws.{IsSmall, NamesWriter, IsSaid}
 use Rattle.script_text.proofs.WriterLaws.{not-before, writer-more, after-writers}

@@ -4,5 +4,4 @@ pub mod Said
 pub mod Shapes
 pub mod Reading
 pub mod Spelling
-pub mod Known
 pub mod Valid

@@ -3,8 +3,8 @@ use Rattle.std.specs.Prelude.{ℕ, List, [], ◌∷◌, codes}
 use Rattle.ring_names.specs.declared.ids.NodeId.{NodeId}
 use Rattle.plan_runs.specs.declared.event.Event.{Event}
 use Rattle.plan_runs.specs.declared.event.Event.TheVariants as event
-use Rattle.script_text.specs.declared.word.EventWord.{EventWord}
-use Rattle.script_text.specs.declared.word.EventWord.TheVariants as word
+use Rattle.script_text.specs.declared.kind.EventWord.{EventWord}
+use Rattle.script_text.specs.declared.kind.EventWord.TheVariants as word
 
 -- the words
 abbrev pub words : List (List ℕ × EventWord)

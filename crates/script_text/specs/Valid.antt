@@ -5,11 +5,10 @@ use Rattle.ring_names.specs.Names.{place}
 use Rattle.ring_names.specs.Values.{is_value}
 use Rattle.texts.specs.Name.{is_name}
 use Rattle.texts.specs.Numbers.{are_small}
-use Rattle.ring_table.specs.Value.{RingValue}
+use Rattle.ring_table.specs.Value.{RingValue, names_of}
 use Rattle.plan_runs.specs.Words.{is_key, is_seen}
 use Rattle.plan_runs.specs.declared.event.Event.{Event}
 use Rattle.plan_runs.specs.declared.event.Event.TheVariants as event
-use Rattle.script_text.specs.Known.{AreKnown}
 
 -- distinct names of writers, at most 1,024: each stands at its own number
 pub record AreWriters (writers : List (List ℕ)) : Type 0 where
@@ -55,6 +54,20 @@ IsEvent (event.Down x) = Unit {0}
 IsEvent (event.Up x) = Unit {0}
 IsEvent (event.Handoff x s) = IsCount s.partition × IsCount s.index
 IsEvent (event.Lose x) = Unit {0}
+
+-- the event's writer is one of so many writers, and its node one of so many nodes
+abbrev pub IsKnown : ℕ → ℕ → Event → Type 0
+IsKnown nodes writers (event.StartPut w k v g) = w.0 < writers
+IsKnown nodes writers (event.Hint u i x) = x.0 < nodes
+IsKnown nodes writers (event.Down x) = x.0 < nodes
+IsKnown nodes writers (event.Up x) = x.0 < nodes
+IsKnown nodes writers (event.Handoff x s) = x.0 < nodes
+IsKnown nodes writers (event.Lose x) = x.0 < nodes
+IsKnown nodes writers e = Unit {0}
+
+-- all events' writers are among the names, and their nodes are the ring's
+abbrev pub AreKnown : RingValue → List (List ℕ) → List Event → Type 0
+AreKnown ring names events = AllByRecursion (IsKnown (length (names_of ring)) (length names)) events
 
 -- a script over the ring whose writers have these names, the new ones numbered behind the old in order of first sight
 pub record IsScriptOf (ring : RingValue) (old names : List (List ℕ)) (script : List Event) : Type 0 where

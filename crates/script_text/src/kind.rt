@@ -1,17 +1,66 @@
-//! What an event is, by its line.
+//! What an event is, by the word that begins its line and what stands behind it.
 
 ghost use Rattle.std.specs.Prelude.{◌≡◌, Some};
+ghost use Rattle.std.specs.Map.{lookup};
+ghost use Rattle.std.specs.Str.{bytes_eq};
 ghost use Rattle.texts.specs.Judging.{Does};
 ghost use Rattle.script_text.specs.Reading.{kind_at, shape_at};
-ghost use Rattle.script_text.specs.Shapes.{shape_of};
+ghost use Rattle.script_text.specs.Shapes.{words, shape_of};
 
 use crate::items::{count, handoff, hint, key, pair, put};
 use crate::said::SaidEvent::{self, Plain};
-use crate::word::EventWord;
 use plan_runs::Event;
 use ring_names::{Names, Refusal, Slot};
 use ring_table::{Ring, node_field};
 use texts::Fields;
+
+// The word that begins an event's line.
+#[derive(Clone, Copy)]
+enum EventWord {
+    Do,
+    Open,
+    Chunk,
+    Close,
+    Abort,
+    Put,
+    Write,
+    Hint,
+    Ack,
+    Get,
+    Read,
+    EndGet,
+    Down,
+    Up,
+    Handoff,
+    Lose,
+}
+
+impl EventWord {
+    // Which word it is, if it is one.
+    fn of(word: &[u8]) -> Option<EventWord>
+        ensures { result ≡ lookup (bytes_eq word.now) words }
+    {
+        match word {
+            b"do" => Some(EventWord::Do),
+            b"open" => Some(EventWord::Open),
+            b"chunk" => Some(EventWord::Chunk),
+            b"close" => Some(EventWord::Close),
+            b"abort" => Some(EventWord::Abort),
+            b"put" => Some(EventWord::Put),
+            b"write" => Some(EventWord::Write),
+            b"hint" => Some(EventWord::Hint),
+            b"ack" => Some(EventWord::Ack),
+            b"get" => Some(EventWord::Get),
+            b"read" => Some(EventWord::Read),
+            b"endget" => Some(EventWord::EndGet),
+            b"down" => Some(EventWord::Down),
+            b"up" => Some(EventWord::Up),
+            b"handoff" => Some(EventWord::Handoff),
+            b"lose" => Some(EventWord::Lose),
+            _ => None,
+        }
+    }
+}
 
 // What it says behind its word.
 fn said_behind<'a>(

@@ -9,7 +9,6 @@ mod said;
 mod script;
 mod speaker;
 mod taken;
-mod word;
 mod words;
 mod writing;
 

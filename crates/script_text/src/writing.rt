@@ -7,7 +7,7 @@ ghost use Rattle.ring_names.specs.declared.refusal.Refusal.TheVariants.{OutOfMem
 ghost use Rattle.texts.specs.Parts.{line_text, text_of, spaced};
 ghost use Rattle.ring_table.specs.Value.{names_of};
 ghost use Rattle.ring_table.specs.Spelling.{name_at};
-ghost use Rattle.script_text.specs.Known.{AreKnown};
+ghost use Rattle.script_text.specs.Valid.{AreKnown};
 ghost use Rattle.script_text.specs.Spelling.{digit_text, byte_text, value_text, writer_at, seen_fields, event_fields};
 ghost use Rattle.script_text.specs.Spelling.{script_text};
 

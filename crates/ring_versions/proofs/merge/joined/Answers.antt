@@ -8,12 +8,12 @@ use Rattle.ring_versions.proofs.merge.joined.Goals as goal
 
 pub whole-requires : goal.whole-requires
 whole-requires c =
-    let held = c.args.held.now.list.items in
+    let held = c.args.held.list.now in
     let fresh = c.args.fresh.items in
     let stay = c.args.stay.items in
     let kept = c.in_ok-kept.kept in
     let items = (c.in_ok-append.ensures).items in
-    let both : AreTops kept (held ++ fresh) = subst (λ (xs : List Version). AreTops kept (xs ++ fresh)) c.as_slice.ensures.value (subst (λ (xs : List Version). AreTops kept (c.as_slice.result.now ++ xs)) c.as_slice-2.ensures.value (c.in_ok-kept.ensures).ok) in (
+    let both : AreTops kept (held ++ fresh) = subst (λ (xs : List Version). AreTops kept (held ++ xs)) c.as_slice.ensures.value (c.in_ok-kept.ensures).ok in (
       subst IsApart (sym items) (merge held c.requires.fresh.0 fresh stay c.requires.fresh.1 c.requires.stay).apart,
       subst (AreTops c.settle.new.kept) (sym items) (c.settle.ensures (fresh ++ stay) (tops_kept kept held fresh stay c.requires.stay both)),
     )

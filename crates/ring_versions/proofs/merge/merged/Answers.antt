@@ -1,4 +1,4 @@
-use Rattle.std.proofs.Common.{◌≡◌, ◌≢◌, ◌∙◌, ℕ, Bool, true, false, List, [], length, sym, ap, subst}
+use Rattle.std.proofs.Common.{◌≡◌, ◌≢◌, ◌∙◌, ℕ, Bool, true, false, List, [], length, refl, sym, ap, subst}
 use Rattle.std.specs.Prelude.{◌==◌}
 use Rattle.std.specs.Vec.{vec_len}
 use Rattle.std.proofs.lemmas.Bool.{eqb-true, eq-eqb}
@@ -20,17 +20,17 @@ filled xs n b len is isnt none = (let zero : n ≡ 0 = len ∙ ap length none in
 
 pub returns-then-is_empty-clause-ok : goal.returns-then-is_empty-clause-ok
 returns-then-is_empty-clause-ok c =
-    let held = c.args.held.now.list.items in
+    let held = c.args.held.list.now in
     let others = c.args.others.now in
     let out = c.push_fresh.new.out in
     let none : out.items ≡ [] = nil_from_length out.items (sym out.ok.0 ∙ eqb-true (vec_len out) 0 (sym c.is_empty.ensures ∙ c.if-is_empty.true)) in
-    let sifted = fresh held others out.items c.as_slice.result.now c.list.result.now c.as_slice.ensures.value c.list.ensures.value (c.in_ok-push_fresh.ensures).ok in
+    let sifted = fresh held others out.items held c.list.result.now refl c.list.ensures.value (c.in_ok-push_fresh.ensures).ok in
     brings_nothing held others c.new.result c.new.ensures c.requires.0 (subst (IsFresh held others) none sifted)
 
 pub returns-clause-ok : goal.returns-clause-ok
 returns-clause-ok c =
-    let held = c.args.held.now.list.items in
+    let held = c.args.held.list.now in
     let others = c.args.others.now in
     let out = c.push_fresh.new.out in
     let some : out.items ≢ [] = λ none. filled out.items (vec_len out) (c.is_empty.result) out.ok.0 c.is_empty.ensures c.if-is_empty.false none in
-    IfOk-weaker c.merged_with.result (IsMerge held others) (Brings held others) (λ s m. brings_merge held others out.items s (fresh held others out.items c.as_slice.result.now c.list.result.now c.as_slice.ensures.value c.list.ensures.value (c.in_ok-push_fresh.ensures).ok) some m) c.merged_with.ensures.ok
+    IfOk-weaker c.merged_with.result (IsMerge held others) (Brings held others) (λ s m. brings_merge held others out.items s (fresh held others out.items held c.list.result.now refl c.list.ensures.value (c.in_ok-push_fresh.ensures).ok) some m) c.merged_with.ensures.ok
