@@ -36,14 +36,18 @@ nowhere (e ∷ es) w h = nowhere es w (λ k d l. h (suc k) d (omega arith)) ∙ 
 pub found : (es : List Entry) (w k : ℕ) (d : Entry) → IsClock es → k < length es → IsBinarySearchResult (λ e. nat_cmp e.writer.0 w) es (Ok k) → (get_or es k d).counter ≡ counter es w
 found es w k d h l r = at es w h k d l (ranked _ w _ (sym (r d)))
 
--- where none was found the counter is 0
-pub not_found : (es : List Entry) (w k : ℕ) → IsClock es → IsBinarySearchResult (λ e. nat_cmp e.writer.0 w) es (Err k) → 0 ≡ counter es w
-not_found es w k h r =
-    let parts = r (λ i j d le l. ranks_rise _ _ w (rise es h i j d le l)) in
-    nowhere es w (λ n d l is. elim (split n k) [
+-- where none was found no key is the one that was looked for
+pub not_at : {A : Type 0} (key : A → ℕ) (xs : List A) (w k : ℕ) → ((i j : ℕ) (d : A) → i ≤ j → j < length xs → key (get_or xs i d) ≤ key (get_or xs j d)) → IsBinarySearchResult (λ x. nat_cmp (key x) w) xs (Err k) → (n : ℕ) (d : A) → n < length xs → key (get_or xs n d) ≢ w
+not_at key xs w k rises r n d l is =
+    let parts = r (λ i j d le l. ranks_rise _ _ w (rises i j d le l)) in
+    elim (split n k) [
       | inl before ↦ omega (arith, ranked _ w _ (sym (parts.0 n d (omega arith) before)))
       | inr behind ↦ omega (arith, ranked _ w _ (sym (parts.1 n d behind l)))
-    ])
+    ]
   where
     split : (n k : ℕ) → (n < k) ⊎ (k ≤ n)
     split n k = grind arith
+
+-- and the counter is 0
+pub not_found : (es : List Entry) (w k : ℕ) → IsClock es → IsBinarySearchResult (λ e. nat_cmp e.writer.0 w) es (Err k) → 0 ≡ counter es w
+not_found es w k h r = nowhere es w (not_at (λ e. e.writer.0) es w k (λ i j d le l. rise es h i j d le l) r)

@@ -4,34 +4,36 @@ ghost use Rattle.std.specs.Prelude.{◌≡◌, ◌↔◌, ◌+◌, ◌<◌, ◌=
 ghost use Rattle.std.specs.Prelude.{if◌then◌else◌};
 ghost use Rattle.ring_names.specs.declared.refusal.Refusal.TheVariants.{OutOfMemory};
 ghost use Rattle.ring_clock.specs.Clock.{IsClock, IsAtMost, IsJoin, counter};
+ghost use Rattle.ring_clock.specs.Blocks.{AreBlocks, entries_of};
 
-use crate::entry::{Entry, counter_of};
-use crate::merge::{is_at_most, merged};
+use crate::block::Block;
+use crate::blocks::{Blocks, are_at_most, counter_in, joined, list, raised};
+use crate::entry::Entry;
 use ring_names::{Refusal, WriterId};
 use std::alloc::Global;
 use std::marker::Model;
-use std::sync::Arc;
 
-/// A vector clock: writers with counters above 0; a writer that it has not counts as 0. Copies share the entries.
+/// A vector clock: writers with counters above 0; a writer that it has not counts as 0.
+///
+/// The entries of thirty-two writers whose numbers follow one another are a block, of 512 bytes at most. Copies share the blocks, and so does
+/// what `bump` and `join` make, for each group of writers in which nothing changed.
 pub struct Clock {
     alloc: Global,
     // The writer for whom it was last raised. Its put knows all that the clock tells, so its counter alone mostly decides a comparison.
     own: WriterId,
-    // None where there are none.
-    entries: Option<Arc<Vec<Entry>>>,
+    blocks: Blocks,
 }
 
 impl Model for Clock {
     ghost use Rattle.std.specs.Prelude.{List};
-    ghost use Rattle.ring_names.specs.Values.{shared_items};
-    ghost use Rattle.ring_clock.specs.Clock.{IsClock};
+    ghost use Rattle.ring_clock.specs.Blocks.{AreBlocks, entries_of, listed};
     ghost use Rattle.ring_clock.specs.declared.entry.Entry.{Entry};
 
     ghost Value = { List Entry };
 
-    ghost view = { λ a. shared_items a.entries };
+    ghost view = { λ a. entries_of (listed a.blocks) };
 
-    ghost invariant = { λ a. IsClock (shared_items a.entries) };
+    ghost invariant = { λ a. AreBlocks (listed a.blocks) };
 }
 
 // Dropped by a call, so that no crate above goes through the two cases wherever a clock ends.
@@ -40,9 +42,9 @@ impl Drop for Clock {
         let Clock {
             alloc: _,
             own: _,
-            entries,
+            blocks,
         } = self;
-        drop(entries);
+        drop(blocks);
     }
 }
 
@@ -54,35 +56,25 @@ impl Clock {
         Clock {
             alloc,
             own: WriterId(0),
-            entries: None,
+            blocks: Blocks::Empty,
         }
     }
 
-    // The clock of these entries, which was last raised for the writer.
-    fn of(alloc: Global, own: WriterId, entries: Vec<Entry>) -> Result<Clock, Refusal>
-        requires { IsClock entries.items }
-        ensures same { IfOk result (λ c. c ≡ entries.items) }
+    // The blocks, in order of the group.
+    fn blocks(&self) -> &[Block]
+        ensures value { entries_of result.now ≡ self.now }
+        ensures valid { AreBlocks result.now }
+    {
+        self.blocks.as_slice()
+    }
+
+    /// A list of the counters above 0, in order of the writer. Costs the entries, and takes the memory of the list.
+    pub fn list(&self, alloc: Global) -> Result<Vec<Entry>, Refusal>
+        ensures value { IfOk result (λ entries. entries.items ≡ self.now) }
+        ensures valid { IsClock self.now }
         ensures memory { IfErr result (λ e. e ≡ OutOfMemory) }
     {
-        match Arc::new(alloc, entries) {
-            Ok(shared) => Ok(Clock {
-                alloc,
-                own,
-                entries: Some(shared),
-            }),
-            Err(_) => Err(Refusal::OutOfMemory),
-        }
-    }
-
-    /// The counters above 0, in order of the writer.
-    pub fn entries(&self) -> &[Entry]
-        ensures value { result.now ≡ self.now }
-        ensures valid { IsClock self.now }
-    {
-        match &self.entries {
-            Some(shared) => shared.as_slice(),
-            None => &[],
-        }
+        Ok(list(alloc, self.blocks())?)
     }
 
     /// The writer for whom the clock was last raised: a guide for those who look for it among others. What `join` makes has that of
@@ -95,7 +87,7 @@ impl Clock {
     pub fn counter(&self, writer: WriterId) -> u64
         ensures { result ≡ counter self.now writer.0 }
     {
-        counter_of(self.entries(), writer)
+        counter_in(self.blocks(), writer)
     }
 
     /// Whether each writer's counter is at most that in the other clock: then a version of this clock is an ancestor of one of
@@ -107,7 +99,7 @@ impl Clock {
         if other.counter(self.own) < self.counter(self.own) {
             return false;
         }
-        is_at_most(self.entries(), other.entries())
+        are_at_most(self.blocks(), other.blocks())
     }
 
     /// The least clock above both: of each writer the greater counter. Costs the entries of both.
@@ -116,8 +108,11 @@ impl Clock {
         ensures counters { IfOk result (λ c. (w : ℕ) → counter c w ≡ max (counter self.now w) (counter other.now w)) }
         ensures memory { IfErr result (λ e. e ≡ OutOfMemory) }
     {
-        let entries = merged(self.alloc, self.entries(), other.entries())?;
-        Clock::of(self.alloc, self.own, entries)
+        Ok(Clock {
+            alloc: self.alloc,
+            own: self.own,
+            blocks: joined(self.alloc, self.blocks(), other.blocks())?,
+        })
     }
 
     /// Raises the clock to another: of each writer the greater counter. Costs the entries of both, and takes memory only where neither is
@@ -145,8 +140,11 @@ impl Clock {
         ensures memory { IfErr result (λ e. e ≡ OutOfMemory) }
     {
         let counter = self.counter(writer) + 1;
-        let entries = merged(self.alloc, self.entries(), &[Entry { writer, counter }])?;
-        Clock::of(self.alloc, writer, entries)
+        Ok(Clock {
+            alloc: self.alloc,
+            own: writer,
+            blocks: raised(self.alloc, self.blocks(), Entry { writer, counter })?,
+        })
     }
 
     /// The same clock once more, which shares the entries. Takes no memory; refused only where 2^64 clocks would share them.
@@ -154,14 +152,10 @@ impl Clock {
         ensures same { IfOk result (λ c. c ≡ self.now) }
         ensures memory { IfErr result (λ e. e ≡ OutOfMemory) }
     {
-        let entries = match &self.entries {
-            Some(shared) => Some(Arc::try_clone(shared)?),
-            None => None,
-        };
         Ok(Clock {
             alloc: self.alloc,
             own: self.own,
-            entries,
+            blocks: self.blocks.try_copy()?,
         })
     }
 }

@@ -1,6 +1,8 @@
 //! Vector clocks of versions (DeCandia et al. 2007, section 4.4), whose actors are writers.
 #![tactic(auto)]
 
+mod block;
+mod blocks;
 mod causes;
 mod clock;
 mod entry;

@@ -1,0 +1,45 @@
+-- What a binary search by group finds among blocks.
+use Rattle.std.proofs.Common.{◌≡◌, ◌≢◌, ℕ, zero, suc, ◌<◌, ◌≤◌, List, [], ◌∷◌, ◌∙◌, length, get_or, Ok, Err, refl, sym, arith}
+use Rattle.std.specs.List.Sorted.{IsBinarySearchResult}
+use Rattle.std.specs.Ordering.{nat_cmp}
+use Rattle.std.proofs.lemmas.Cmp.{ranked}
+use Rattle.ring_clock.specs.declared.entry.Entry.{Entry}
+use Rattle.ring_clock.specs.Clock.{counter}
+use Rattle.ring_clock.specs.Groups.{group, group_in, IsBlock}
+use Rattle.ring_clock.specs.Blocks.{IsBeyond, AreBlocks, entries_of}
+use Rattle.ring_clock.proofs.Searching.{not_at}
+use Rattle.ring_clock.proofs.Ascending.{here_group, there_group}
+
+beyond_at : (g : ℕ) (bs : List (List Entry)) → IsBeyond g bs → (k : ℕ) (d : List Entry) → k < length bs → g < group_in (get_or bs k d)
+beyond_at g [] h k d l = absurd (omega arith)
+beyond_at g (b ∷ bs) h zero d l = h.0
+beyond_at g (b ∷ bs) h (suc k) d l = beyond_at g bs h.1 k d (omega arith)
+
+rise : (bs : List (List Entry)) → AreBlocks bs → (i j : ℕ) (d : List Entry) → i ≤ j → j < length bs → group_in (get_or bs i d) ≤ group_in (get_or bs j d)
+rise [] h i j d le l = absurd (omega arith)
+rise (b ∷ bs) h zero zero d le l = omega arith
+rise (b ∷ bs) h zero (suc j) d le l = omega (arith, beyond_at (group_in b) bs h.1 j d (omega arith))
+rise (b ∷ bs) h (suc i) zero d le l = absurd (omega arith)
+rise (b ∷ bs) h (suc i) (suc j) d le l = rise bs h.2 i j d (omega arith) (omega arith)
+
+pub block_at : (bs : List (List Entry)) → AreBlocks bs → (k : ℕ) (d : List Entry) → k < length bs → IsBlock (get_or bs k d)
+block_at [] h k d l = absurd (omega arith)
+block_at (b ∷ bs) h zero d l = h.0
+block_at (b ∷ bs) h (suc k) d l = block_at bs h.2 k d (omega arith)
+
+at : (bs : List (List Entry)) (w : ℕ) → AreBlocks bs → (k : ℕ) (d : List Entry) → k < length bs → group_in (get_or bs k d) ≡ group w → counter (get_or bs k d) w ≡ counter (entries_of bs) w
+at [] w h k d l is = absurd (omega arith)
+at (b ∷ bs) w h zero d l is = sym (here_group b bs w h (sym is))
+at (b ∷ bs) w h (suc k) d l is = at bs w h.2 k d (omega arith) is ∙ sym (there_group b bs w h (λ x. omega (arith, beyond_at (group_in b) bs h.1 k d (omega arith))))
+
+nowhere : (bs : List (List Entry)) (w : ℕ) → AreBlocks bs → ((k : ℕ) (d : List Entry) → k < length bs → group_in (get_or bs k d) ≢ group w) → 0 ≡ counter (entries_of bs) w
+nowhere [] w are h = refl
+nowhere (b ∷ bs) w are h = nowhere bs w are.2 (λ k d l. h (suc k) d (omega arith)) ∙ sym (there_group b bs w are (λ is. h zero b (omega arith) (sym is)))
+
+-- the block that was found has the writer's counter
+pub found_group : (bs : List (List Entry)) (w k : ℕ) (d : List Entry) → AreBlocks bs → k < length bs → IsBinarySearchResult (λ b. nat_cmp (group_in b) (group w)) bs (Ok k) → counter (get_or bs k d) w ≡ counter (entries_of bs) w
+found_group bs w k d h l r = at bs w h k d l (ranked _ (group w) _ (sym (r d)))
+
+-- where none was found the counter is 0
+pub no_group : (bs : List (List Entry)) (w k : ℕ) → AreBlocks bs → IsBinarySearchResult (λ b. nat_cmp (group_in b) (group w)) bs (Err k) → 0 ≡ counter (entries_of bs) w
+no_group bs w k h r = nowhere bs w h (not_at group_in bs (group w) k (rise bs h) r)

@@ -1,0 +1,208 @@
+//! The blocks of a clock.
+
+ghost use Rattle.std.specs.Prelude.{◌≡◌, ◌↔◌, ◌+◌, ◌<◌, ◌∷◌, [], ℕ, IsTrue, IfOk, IfNone, IfSome, OnOk, length, max};
+ghost use Rattle.ring_clock.specs.Clock.{IsAtMost, counter};
+ghost use Rattle.ring_clock.specs.Groups.{IsBlock, group, group_in};
+ghost use Rattle.ring_clock.specs.Blocks.{AreBlocks, entries_of, listed};
+ghost use Rattle.ring_clock.specs.Standing.{StandFor};
+
+use crate::block::{Block, group_of};
+use crate::entry::{Entry, counter_of};
+use crate::merge::is_at_most;
+use ring_names::WriterId;
+use std::alloc::{AllocError, Global};
+use std::slice;
+use std::sync::Arc;
+
+/// The blocks of a clock, in order of the group. One alone stands in the clock, more are shared once more.
+#[derive(Drop)]
+pub enum Blocks {
+    Empty,
+    One(Block),
+    Many(Arc<Vec<Block>>),
+}
+
+impl Blocks {
+    /// The blocks as a slice.
+    pub fn as_slice(&self) -> &[Block]
+        ensures { result.now ≡ listed self.now }
+    {
+        match self {
+            Blocks::Empty => &[],
+            Blocks::One(block) => slice::from_ref(block),
+            Blocks::Many(shared) => shared.as_slice(),
+        }
+    }
+
+    /// The same blocks once more. Takes no memory.
+    pub fn try_copy(&self) -> Result<Blocks, AllocError>
+        ensures { IfOk result (λ a. listed a ≡ listed self.now) }
+    {
+        Ok(match self {
+            Blocks::Empty => Blocks::Empty,
+            Blocks::One(block) => Blocks::One(block.try_copy()?),
+            Blocks::Many(shared) => Blocks::Many(Arc::try_clone(shared)?),
+        })
+    }
+}
+
+/// The counter of a writer, 0 where it has none. Costs the logarithm of how many blocks there are and of the entries of one.
+pub fn counter_in(blocks: &[Block], writer: WriterId) -> u64
+    requires { AreBlocks blocks.now }
+    ensures { result ≡ counter (entries_of blocks.now) writer.0 }
+{
+    match blocks {
+        [] => 0,
+        [block] => counter_of(block.entries(), writer),
+        _ => match blocks.binary_search_by_key(&group_of(writer), |block| block.group()) {
+            Ok(place) => counter_of(blocks[place].entries(), writer),
+            Err(_) => 0,
+        },
+    }
+}
+
+/// Whether each writer's counter in the first is at most that in the second. Costs the blocks of both, and the entries of those whose
+/// group both have.
+pub fn are_at_most(first: &[Block], second: &[Block]) -> bool
+    requires first { AreBlocks first.now }
+    requires second { AreBlocks second.now }
+    ensures { IsTrue result ↔ IsAtMost (entries_of first.now) (entries_of second.now) }
+{
+    let mut rest = first;
+    let mut others = second;
+    'groups: while let Some((block, later)) = rest.split_first() {
+        let Some((other, later_others)) = others.split_first() else {
+            return false;
+        };
+        let group = block.group();
+        let facing = other.group();
+        if group < facing {
+            return false;
+        }
+        if group == facing {
+            if !is_at_most(block.entries(), other.entries()) {
+                return false;
+            }
+            rest = later;
+        }
+        others = later_others;
+    }
+    true
+}
+
+// Takes the block of the least group in front, the join of two where both lists have that group.
+fn take_joined<'a>(
+    alloc: Global,
+    first: &mut &'a [Block],
+    second: &mut &'a [Block],
+) -> Result<Option<Block>, AllocError>
+    requires first { AreBlocks first.old.now }
+    requires second { AreBlocks second.old.now }
+    ensures none { IfOk result (λ o. IfNone o ((first.old.now ≡ []) × (second.old.now ≡ []))) }
+    ensures some { IfOk result (λ o. IfSome o
+        (λ b. StandFor first.old.now second.old.now (b ∷ first.new.now) (b ∷ second.new.now))) }
+    ensures shorter { IfOk result (λ o. IfSome o
+        (λ b. length first.new.now + length second.new.now < length first.old.now + length second.old.now)) }
+{
+    match (first.split_first(), second.split_first()) {
+        (None, None) => Ok(None),
+        (Some((block, later)), None) => {
+            *first = later;
+            Ok(Some(block.try_copy()?))
+        }
+        (None, Some((block, later))) => {
+            *second = later;
+            Ok(Some(block.try_copy()?))
+        }
+        (Some((block, later)), Some((other, later_others))) => {
+            let group = block.group();
+            let facing = other.group();
+            if group < facing {
+                *first = later;
+                return Ok(Some(block.try_copy()?));
+            }
+            *second = later_others;
+            if facing < group {
+                return Ok(Some(other.try_copy()?));
+            }
+            *first = later;
+            Ok(Some(block.join(alloc, other)?))
+        }
+    }
+}
+
+// Adds the blocks of both lists, one for each group.
+fn push_joined(
+    alloc: Global,
+    out: &mut Vec<Block>,
+    first: &[Block],
+    second: &[Block],
+) -> Result<(), AllocError>
+    requires empty { out.old.items ≡ [] }
+    requires first { AreBlocks first.now }
+    requires second { AreBlocks second.now }
+    ensures blocks { OnOk result (AreBlocks out.new.items) }
+    ensures counters { OnOk result ((w : ℕ) → counter (entries_of out.new.items) w
+        ≡ max (counter (entries_of first.now) w) (counter (entries_of second.now) w)) }
+{
+    let mut rest = first;
+    let mut others = second;
+    'groups: while let Some(block) = take_joined(alloc, &mut rest, &mut others)? {
+        out.push(block)?;
+    }
+    Ok(())
+}
+
+/// Each writer's greater counter of two clocks. Costs the blocks of both and the entries of those whose group both have. Takes memory for
+/// the list of the blocks, where they are several, and for each block of which neither clock has the greater one.
+pub fn joined(alloc: Global, first: &[Block], second: &[Block]) -> Result<Blocks, AllocError>
+    requires first { AreBlocks first.now }
+    requires second { AreBlocks second.now }
+    ensures blocks { IfOk result (λ a. AreBlocks (listed a)) }
+    ensures counters { IfOk result (λ a. (w : ℕ) → counter (entries_of (listed a)) w
+        ≡ max (counter (entries_of first.now) w) (counter (entries_of second.now) w)) }
+{
+    match (first, second) {
+        ([], []) => Ok(Blocks::Empty),
+        ([block], []) | ([], [block]) => Ok(Blocks::One(block.try_copy()?)),
+        ([block], [other]) if block.group() == other.group() => {
+            Ok(Blocks::One(block.join(alloc, other)?))
+        }
+        _ => {
+            let mut out = Vec::with_capacity(alloc, first.len().max(second.len()))?;
+            push_joined(alloc, &mut out, first, second)?;
+            Ok(Blocks::Many(Arc::new(alloc, out)?))
+        }
+    }
+}
+
+/// The blocks in which a writer's counter is the greater one of what it was and what the entry tells. Makes the block of its group anew, and
+/// the list of the blocks, where they are several.
+pub fn raised(alloc: Global, blocks: &[Block], entry: Entry) -> Result<Blocks, AllocError>
+    requires valid { AreBlocks blocks.now }
+    requires some { 0 < entry.counter }
+    ensures blocks { IfOk result (λ a. AreBlocks (listed a)) }
+    ensures counters { IfOk result (λ a. (w : ℕ) → counter (entries_of (listed a)) w
+        ≡ max (counter (entries_of blocks.now) w) (counter (entry ∷ []) w)) }
+{
+    match blocks {
+        [block] if block.group() == group_of(entry.writer) => {
+            Ok(Blocks::One(block.merge(alloc, &[entry])?))
+        }
+        _ => {
+            let own = Block::of(alloc, Vec::from_slice(alloc, &[entry])?)?;
+            joined(alloc, blocks, slice::from_ref(&own))
+        }
+    }
+}
+
+/// The entries of the blocks. Costs them, and takes the memory of the list.
+pub fn list(alloc: Global, blocks: &[Block]) -> Result<Vec<Entry>, AllocError>
+    ensures { IfOk result (λ v. v.items ≡ entries_of blocks.now) }
+{
+    let mut out = Vec::new(alloc);
+    for block in blocks {
+        out.extend_from_slice(block.entries())?;
+    }
+    Ok(out)
+}
