@@ -1,12 +1,12 @@
 -- Counters of blocks, from the front.
-use Rattle.std.proofs.Common.{◌≡◌, ◌≢◌, ◌∙◌, inl, inr, ℕ, ◌<◌, ◌≤◌, List, [], ◌∷◌, ◌++◌, ◌↔◌, length, refl, sym, subst, arith}
+use Rattle.std.proofs.Common.{◌≡◌, ◌≢◌, ◌∙◌, inl, inr, ℕ, ◌<◌, ◌≤◌, List, [], ◌∷◌, refl, sym, arith}
 use Rattle.std.specs.List.{AllByRecursion}
 use Rattle.std.proofs.lemmas.Bool.Decides.{eqb_tells}
 use Rattle.ring_clock.specs.declared.entry.Entry.{Entry}
-use Rattle.ring_clock.specs.Clock.{counter, IsAbove, IsClock, IsAtMost}
-use Rattle.ring_clock.specs.Groups.{group, group_in, IsOfGroup, IsBlock}
+use Rattle.ring_clock.specs.Clock.{counter, IsAbove, IsClock}
+use Rattle.ring_clock.specs.Groups.{group, group_in}
 use Rattle.ring_clock.specs.Blocks.{IsBeyond, AreBlocks, entries_of}
-use Rattle.ring_clock.proofs.Groups.{nothing_front, some_front, above_both, clock_both, in_group, lesser, some_counter}
+use Rattle.ring_clock.proofs.Groups.{nothing_front, some_front, above_both, clock_both, in_group, lesser}
 
 -- by whether w is of the group in front
 pub by_group : (b : List Entry) (w : ℕ) (P : Type 0) → (group w ≡ group_in b → P) → (group w ≢ group_in b → P) → P

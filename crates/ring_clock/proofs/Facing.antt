@@ -1,5 +1,5 @@
 -- Blocks of two clocks that face each other.
-use Rattle.std.proofs.Common.{◌≡◌, ◌≢◌, ◌∙◌, ℕ, ◌<◌, ◌≤◌, List, [], ◌∷◌, ◌↔◌, length, sym, subst, arith}
+use Rattle.std.proofs.Common.{◌≡◌, ◌∙◌, ℕ, ◌<◌, ◌≤◌, List, [], ◌∷◌, ◌↔◌, length, sym, subst, arith}
 use Rattle.ring_clock.specs.declared.entry.Entry.{Entry}
 use Rattle.ring_clock.specs.Clock.{counter, IsAtMost}
 use Rattle.ring_clock.specs.Groups.{group, group_in}
@@ -27,8 +27,8 @@ pub later_facing : (b o : List Entry) (bs os c d : List (List Entry)) → c ≡ 
 later_facing b o bs os c d is other less are too h =
     let theirs = subst AreBlocks other too in
     greater b bs (o ∷ os) (subst AreBlocks is are)
-      (λ w e. there_group o os w theirs (λ x. omega arith) ∙ absent_group (group_in o) os w theirs.1 theirs.2 (omega arith))
-      (subst (λ x. IsAtMost (entries_of x) (entries_of (o ∷ os))) is (subst (λ x. IsAtMost (entries_of c) (entries_of x)) other h))
+    (λ w e. there_group o os w theirs (λ x. omega arith) ∙ absent_group (group_in o) os w theirs.1 theirs.2 (omega arith))
+    (subst (λ x. IsAtMost (entries_of x) (entries_of (o ∷ os))) is (subst (λ x. IsAtMost (entries_of c) (entries_of x)) other h))
 
 -- of two blocks of one group in front the first is at most the second
 front : (b o : List Entry) (bs os : List (List Entry)) → group_in b ≡ group_in o → AreBlocks (b ∷ bs) → AreBlocks (o ∷ os) → IsAtMost (entries_of (b ∷ bs)) (entries_of (o ∷ os)) → IsAtMost b o

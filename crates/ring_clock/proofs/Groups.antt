@@ -1,10 +1,10 @@
 -- Entries of one group, and entries in front of others.
-use Rattle.std.proofs.Common.{◌≡◌, ◌≢◌, ◌∙◌, inl, inr, ℕ, ◌+◌, ◌<◌, ◌≤◌, ◌/◌, List, [], ◌∷◌, ◌++◌, length, refl, sym, subst, arith}
+use Rattle.std.proofs.Common.{◌≡◌, ◌∙◌, inl, inr, ℕ, ◌<◌, List, [], ◌∷◌, ◌++◌, refl, sym, subst, arith}
 use Rattle.std.specs.Prelude.{max}
 use Rattle.std.specs.List.{AllByRecursion}
 use Rattle.std.proofs.lemmas.Bool.Decides.{eqb_tells}
 use Rattle.ring_clock.specs.declared.entry.Entry.{Entry}
-use Rattle.ring_clock.specs.Clock.{counter, IsAbove, IsClock, IsAtMost}
+use Rattle.ring_clock.specs.Clock.{counter, IsAbove, IsClock}
 use Rattle.ring_clock.specs.Groups.{group, group_in, IsOfGroup, IsBlock}
 use Rattle.ring_clock.proofs.Entries.{here, there, absent, by_writer}
 
@@ -54,9 +54,9 @@ pub merged_block : (a b c : List Entry) → IsBlock a → IsBlock b → group_in
 merged_block a b [] first second same clock counters = (let s = some_counter a first in let at = counters s.0 in absurd (omega (arith, s.2)))
 merged_block a b (e ∷ es) first second same clock counters =
     let of : IsOfGroup (group_in a) (e ∷ es) = λ w apart. (
-        let none = first.2 w apart in
-        let too = second.2 w (λ is. apart (is ∙ sym same)) in
-        let at = counters w in
-        omega arith) in
+    let none = first.2 w apart in
+    let too = second.2 w (λ is. apart (is ∙ sym same)) in
+    let at = counters w in
+    omega arith) in
     let is : group e.writer.0 ≡ group_in a = (in_group (group_in a) (e ∷ es) clock of).0 in
     ((clock, omega arith, subst (λ g. IsOfGroup g (e ∷ es)) (sym is) of), is)

@@ -1,11 +1,11 @@
 -- Blocks that stand for two lists of others.
-use Rattle.std.proofs.Common.{◌≡◌, ◌≢◌, ◌∙◌, ℕ, ◌<◌, List, [], ◌∷◌, ◌++◌, length, sym, subst, arith}
+use Rattle.std.proofs.Common.{◌≡◌, ◌∙◌, ℕ, ◌<◌, List, [], ◌∷◌, ◌++◌, length, sym, arith}
 use Rattle.std.specs.Prelude.{max}
 use Rattle.std.proofs.lemmas.List.{append_assoc}
 use Rattle.ring_clock.specs.declared.entry.Entry.{Entry}
 use Rattle.ring_clock.specs.Clock.{counter}
-use Rattle.ring_clock.specs.Groups.{group, group_in, IsBlock}
-use Rattle.ring_clock.specs.Blocks.{IsBeyond, AreBlocks, entries_of}
+use Rattle.ring_clock.specs.Groups.{group_in, IsBlock}
+use Rattle.ring_clock.specs.Blocks.{AreBlocks, entries_of}
 use Rattle.ring_clock.specs.Standing.{StandFor}
 use Rattle.ring_clock.proofs.Ascending.{by_group, absent_group, here_group, there_group, beyond_more}
 

@@ -1,11 +1,10 @@
 -- Entries in blocks, one for each group of writers that has some.
-use Rattle.std.specs.Prelude.{◌≡◌, ◌≢◌, ℕ, ◌<◌, ◌/◌, List, [], ◌∷◌, ◌++◌, length}
+use Rattle.std.specs.Prelude.{ℕ, ◌<◌, List, [], ◌∷◌, ◌++◌}
 use Rattle.std.specs.Arc.{arc_value}
 use Rattle.std.specs.List.{AllByRecursion}
 use Rattle.ring_clock.specs.declared.entry.Entry.{Entry}
 use Rattle.ring_clock.specs.declared.blocks.Blocks.{Blocks}
 use Rattle.ring_clock.specs.declared.blocks.Blocks.TheVariants.{Empty, One, Many}
-use Rattle.ring_clock.specs.Clock.{counter, IsClock}
 use Rattle.ring_clock.specs.Groups.{group_in, IsBlock}
 
 -- each group is above g

@@ -9,6 +9,7 @@ ghost use Rattle.ring_clock.specs.Blocks.{AreBlocks, entries_of};
 use crate::block::Block;
 use crate::blocks::{Blocks, are_at_most, counter_in, joined, list, raised};
 use crate::entry::Entry;
+use crate::walk::Walk;
 use ring_names::{Refusal, WriterId};
 use std::alloc::Global;
 use std::marker::Model;
@@ -36,7 +37,7 @@ impl Model for Clock {
     ghost invariant = { λ a. AreBlocks (listed a.blocks) };
 }
 
-// Dropped by a call, so that no crate above goes through the two cases wherever a clock ends.
+// Dropped by a call, so that no crate above goes through the cases wherever a clock ends.
 impl Drop for Clock {
     fn drop(self) {
         let Clock {
@@ -68,10 +69,17 @@ impl Clock {
         self.blocks.as_slice()
     }
 
+    /// The counters above 0, in order of the writer, to be taken one by one.
+    pub fn entries(&self) -> Walk<'_>
+        ensures value { result ≡ self.now }
+        ensures valid { IsClock self.now }
+    {
+        Walk::of(self.blocks())
+    }
+
     /// A list of the counters above 0, in order of the writer. Costs the entries, and takes the memory of the list.
     pub fn list(&self, alloc: Global) -> Result<Vec<Entry>, Refusal>
         ensures value { IfOk result (λ entries. entries.items ≡ self.now) }
-        ensures valid { IsClock self.now }
         ensures memory { IfErr result (λ e. e ≡ OutOfMemory) }
     {
         Ok(list(alloc, self.blocks())?)
@@ -102,7 +110,9 @@ impl Clock {
         are_at_most(self.blocks(), other.blocks())
     }
 
-    /// The least clock above both: of each writer the greater counter. Costs the entries of both.
+    /// The least clock above both: of each writer the greater counter. Costs the entries of both. Where of a group's entries one clock's are
+    /// at most the other's, those of the greater one are shared. Takes memory for the entries of the other groups, 16 bytes each, and for
+    /// each group 8 bytes, where there are several.
     pub fn join(&self, other: &Clock) -> Result<Clock, Refusal>
         ensures least { IfOk result (λ c. IsJoin self.now other.now c) }
         ensures counters { IfOk result (λ c. (w : ℕ) → counter c w ≡ max (counter self.now w) (counter other.now w)) }
@@ -132,7 +142,8 @@ impl Clock {
         Ok(())
     }
 
-    /// This clock with the writer's counter raised by one. Costs the entries.
+    /// This clock with the writer's counter raised by one. Costs the entries of the writer's group, and the groups. Takes memory for those
+    /// entries, 512 bytes at most, and for each group 8 bytes, where there are several; the other entries are shared.
     pub fn bump(&self, writer: WriterId) -> Result<Clock, Refusal>
         requires { counter self.now writer.0 < 18446744073709551615 }
         ensures counters { IfOk result

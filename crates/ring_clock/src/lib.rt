@@ -8,8 +8,10 @@ mod clock;
 mod entry;
 mod laws;
 mod merge;
+mod walk;
 
 pub use causes::{Cause, clocks};
 pub use clock::Clock;
 pub use entry::Entry;
 pub use laws::{clocks_are_in_order, clocks_grow};
+pub use walk::Walk;

@@ -19,27 +19,28 @@ pub const MANY: usize = 8;
 // is promised of a guide: where it leads astray, the search goes through all versions.
 #[derive(Clone, Copy)]
 struct Guide {
+    writer: WriterId,
     own: WriterId,
     place: usize,
 }
 
-/// The join of some versions' clocks, with a guide beside each entry.
+/// The join of some versions' clocks, with a guide for each entry, in order of the writer.
 #[derive(Drop)]
 pub struct Tops {
     pub join: Clock,
     guides: Vec<Guide>,
 }
 
-// The place of a writer's entry, which is looked for at `next` first.
-fn place_of(entries: &[Entry], writer: WriterId, next: usize) -> Option<usize>
-    ensures { IfSome result (λ place. place < length entries.now) }
+// The place of a writer's guide, which is looked for at `next` first.
+fn place_of(guides: &[Guide], writer: WriterId, next: usize) -> Option<usize>
+    ensures { IfSome result (λ place. place < length guides.now) }
 {
-    if let Some(entry) = entries.get(next)
-        && entry.writer.0 == writer.0
+    if let Some(guide) = guides.get(next)
+        && guide.writer.0 == writer.0
     {
         return Some(next);
     }
-    match entries.binary_search_by_key(&writer.0, |entry| entry.writer.0) {
+    match guides.binary_search_by_key(&writer.0, |guide| guide.writer.0) {
         Ok(place) => Some(place),
         Err(_) => None,
     }
@@ -49,13 +50,14 @@ fn place_of(entries: &[Entry], writer: WriterId, next: usize) -> Option<usize>
 fn guide_to(guides: &mut [Guide], join: &[Entry], version: &Version) {
     let own = version.clock.own();
     let mut next = 0;
-    for entry in version.clock.entries() {
-        if let Some(place) = place_of(join, entry.writer, next) {
+    let mut entries = version.clock.entries();
+    'entries: while let Some(entry) = entries.next() {
+        if let Some(place) = place_of(guides, entry.writer, next) {
             next = place + 1;
-            if entry.counter == join[place].counter
-                && let Some(guide) = guides.get_mut(place)
+            if let Some(top) = join.get(place)
+                && entry.counter == top.counter
             {
-                guide.own = own;
+                guides[place].own = own;
             }
         }
     }
@@ -78,34 +80,37 @@ impl Tops {
         ensures memory { IfErr result (λ e. e ≡ OutOfMemory) }
     {
         let join = self.join.join(&join_of(alloc, versions)?)?;
-        let mut guides = self.guides_for(alloc, join.entries())?;
+        let entries = join.list(alloc)?;
+        let mut guides = self.guides_for(alloc, entries.as_slice())?;
         for version in versions {
-            guide_to(guides.as_mut_slice(), join.entries(), version);
+            guide_to(guides.as_mut_slice(), entries.as_slice(), version);
         }
         Ok(Tops { join, guides })
     }
 
-    // The guides beside the entries of a join that is at least this one.
+    // The guides for the entries of a join that is at least this one.
     fn guides_for(&self, alloc: Global, join: &[Entry]) -> Result<Vec<Guide>, AllocError> {
         let mut guides = Vec::with_capacity(alloc, join.len())?;
         let mut next = 0;
         for entry in join {
-            let old = place_of(self.join.entries(), entry.writer, next);
+            let old = place_of(self.guides.as_slice(), entry.writer, next);
             if let Some(place) = old {
                 next = place + 1;
             }
-            guides.push(self.guide_at(old))?;
+            guides.push(self.guide_at(old, entry.writer))?;
         }
         Ok(guides)
     }
 
-    fn guide_at(&self, place: Option<usize>) -> Guide {
+    // The guide at a place, or one for the writer that leads nowhere.
+    fn guide_at(&self, place: Option<usize>, writer: WriterId) -> Guide {
         if let Some(place) = place
             && let Some(guide) = self.guides.get(place)
         {
             return *guide;
         }
         Guide {
+            writer,
             own: WriterId(0),
             place: 0,
         }
@@ -132,7 +137,7 @@ impl Tops {
     fn place_at(&mut self, own: WriterId, place: usize)
         ensures { self.new.join ≡ self.old.join }
     {
-        if let Some(at) = place_of(self.join.entries(), own, 0)
+        if let Some(at) = place_of(self.guides.as_slice(), own, 0)
             && let Some(guide) = self.guides.get_mut(at)
         {
             guide.place = place;
@@ -160,9 +165,9 @@ impl Tops {
     fn candidate<'a>(&self, versions: &'a [Version], writer: WriterId) -> Option<&'a Version>
         ensures { IfSome result (λ version. IsIn version.now versions.now) }
     {
-        let entries = self.join.entries();
-        let own = self.guide_at(place_of(entries, writer, 0)).own;
-        let place = self.guide_at(place_of(entries, own, 0)).place;
+        let guides = self.guides.as_slice();
+        let own = self.guide_at(place_of(guides, writer, 0), writer).own;
+        let place = self.guide_at(place_of(guides, own, 0), own).place;
         versions.get(place)
     }
 }

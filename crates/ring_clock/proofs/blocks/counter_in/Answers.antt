@@ -1,7 +1,7 @@
-use Rattle.std.proofs.Common.{rules, ◌≡◌, ◌∙◌, ap, List}
+use Rattle.std.proofs.Common.{rules, ◌∙◌, ap, List}
 use Rattle.std.proofs.lemmas.List.Sorted.{answers_always}
 use Rattle.ring_clock.specs.declared.entry.Entry.{Entry}
-use Rattle.ring_clock.specs.Clock.{counter, IsClock}
+use Rattle.ring_clock.specs.Clock.{counter}
 use Rattle.ring_clock.specs.Groups.{group_in}
 use Rattle.ring_clock.proofs.Finding.{block_at, found_group, no_group}
 use Rattle.ring_clock.proofs.blocks.counter_in.Goals as goal

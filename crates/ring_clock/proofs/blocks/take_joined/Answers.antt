@@ -1,4 +1,4 @@
-use Rattle.std.proofs.Common.{◌≡◌, subst, sym, arith}
+use Rattle.std.proofs.Common.{subst, arith}
 use Rattle.ring_clock.specs.Blocks.{AreBlocks}
 use Rattle.ring_clock.proofs.Standing.{first_less, second_less, first_alone, second_alone, joined_front}
 use Rattle.ring_clock.proofs.blocks.take_joined.Goals as goal

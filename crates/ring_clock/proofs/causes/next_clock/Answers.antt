@@ -1,6 +1,5 @@
-use Rattle.std.proofs.Common.{rules, List, [], get_or}
+use Rattle.std.proofs.Common.{rules, [], get_or}
 use Rattle.std.proofs.lemmas.Result.{IfOk-weaker}
-use Rattle.ring_clock.specs.declared.entry.Entry.{Entry}
 use Rattle.ring_clock.specs.Built.{IsInput, IsNext, Bumps}
 use Rattle.ring_clock.proofs.causes.next_clock.Goals as goal
 

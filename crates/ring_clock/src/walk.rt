@@ -1,0 +1,48 @@
+//! The entries of a clock, one after the other.
+
+ghost use Rattle.std.specs.Prelude.{◌≡◌, ◌∷◌, [], MatchOption};
+ghost use Rattle.ring_clock.specs.Blocks.{entries_of};
+
+use crate::block::Block;
+use crate::entry::Entry;
+use std::marker::Model;
+
+/// The counters above 0 of a clock that were not taken yet, in order of the writer.
+#[derive(Drop)]
+pub struct Walk<'a> {
+    rest: &'a [Entry],
+    blocks: &'a [Block],
+}
+
+impl<'a> Model for Walk<'a> {
+    ghost use Rattle.std.specs.Prelude.{List, ◌++◌};
+    ghost use Rattle.ring_clock.specs.Blocks.{entries_of};
+    ghost use Rattle.ring_clock.specs.declared.entry.Entry.{Entry};
+
+    ghost Value = { List Entry };
+
+    ghost view = { λ a. a.rest.now ++ entries_of a.blocks.now };
+}
+
+impl<'a> Walk<'a> {
+    /// All entries of the blocks.
+    pub fn of(blocks: &'a [Block]) -> Walk<'a>
+        ensures { result ≡ entries_of blocks.now }
+    {
+        Walk { rest: &[], blocks }
+    }
+
+    /// Takes the next one, if there is one. Takes no memory.
+    pub fn next(&mut self) -> Option<Entry>
+        ensures { MatchOption result ((self.old ≡ []) × (self.new ≡ [])) (λ entry. self.old ≡ entry ∷ self.new) }
+    {
+        'groups: while self.rest.is_empty() {
+            let (block, later) = self.blocks.split_first()?;
+            self.rest = block.entries();
+            self.blocks = later;
+        }
+        let (entry, later) = self.rest.split_first()?;
+        self.rest = later;
+        Some(*entry)
+    }
+}
