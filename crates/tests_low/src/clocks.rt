@@ -10,11 +10,19 @@ use std::alloc::Global;
 use std::process::Abort;
 use std::test::Fail;
 
-fn entry(writer: u32, counter: u64) -> Entry {
+pub fn entry(writer: u32, counter: u64) -> Entry {
     Entry {
         writer: WriterId(writer),
         counter,
     }
+}
+
+/// The clock with one put more by the writer.
+pub fn raised(clock: &Clock, writer: u32) -> Result<Clock, Refusal> {
+    if clock.counter(WriterId(writer)) == u64::MAX {
+        return Err(Refusal::TooLarge(0));
+    }
+    clock.bump(WriterId(writer))
 }
 
 fn three_clocks(alloc: Global) -> Result<Vec<Clock>, Refusal>
@@ -37,21 +45,21 @@ fn three_clocks(alloc: Global) -> Result<Vec<Clock>, Refusal>
     clocks(alloc, causes.as_slice())
 }
 
-fn told<RT: Abort>(rt: &RT, clocks: &[Clock]) {
+fn told<RT: Abort>(rt: &RT, alloc: Global, clocks: &[Clock]) -> Result<(), Fail> {
     assert_eq!(rt; clocks.len(), 3);
-    same!(rt; clocks[0].entries(), [entry(1, 1)].as_slice());
-    same!(rt; clocks[1].entries(), [entry(2, 1)].as_slice());
-    same!(rt; clocks[2].entries(), [entry(1, 2), entry(2, 1)].as_slice());
+    same!(rt; clocks[0].list(alloc)?.as_slice(), [entry(1, 1)].as_slice());
+    same!(rt; clocks[1].list(alloc)?.as_slice(), [entry(2, 1)].as_slice());
+    same!(rt; clocks[2].list(alloc)?.as_slice(), [entry(1, 2), entry(2, 1)].as_slice());
     holds!(rt; clocks[0].le(&clocks[2]));
     holds!(rt; clocks[1].le(&clocks[2]));
     holds!(rt; !clocks[0].le(&clocks[1]));
+    Ok(())
 }
 
 #[test]
 fn clocks_of_three_puts(rt: HostRuntime) -> Result<(), Fail> {
     let clocks = three_clocks(rt.alloc())?;
-    told(&rt, clocks.as_slice());
-    Ok(())
+    told(&rt, rt.alloc(), clocks.as_slice())
 }
 
 #[test]
@@ -59,7 +67,7 @@ fn one_clock_more(rt: HostRuntime) -> Result<(), Fail> {
     let clock = Clock::new(rt.alloc()).bump(WriterId(3))?;
     same!(rt; clock.counter(WriterId(3)), 1);
     let both = clock.join(&clock)?;
-    same!(rt; both.entries(), [entry(3, 1)].as_slice());
+    same!(rt; both.list(rt.alloc())?.as_slice(), [entry(3, 1)].as_slice());
     Ok(())
 }
 

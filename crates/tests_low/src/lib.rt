@@ -7,6 +7,8 @@ mod board;
 #[cfg(test)]
 mod clocks;
 #[cfg(test)]
+mod groups;
+#[cfg(test)]
 mod names;
 #[cfg(test)]
 mod plans;

@@ -1,7 +1,7 @@
 //! Sets of hundreds of versions in conflict, whose clocks share hundreds of entries, merged with themselves, with newer ones and with ancestors. A
 //! walk over all pairs, by the counters of the puts' own writers, says what must stay.
 
-use crate::clocks::set_of;
+use crate::clocks::{raised, set_of};
 use ring_clock::Clock;
 use ring_names::{Refusal, WriterId};
 use ring_versions::{Version, Versions};
@@ -12,13 +12,6 @@ use std::test::Fail;
 const SHARED: u32 = 500;
 
 const MANY: u32 = 600;
-
-fn raised(clock: &Clock, writer: u32) -> Result<Clock, Refusal> {
-    if clock.counter(WriterId(writer)) == u64::MAX {
-        return Err(Refusal::TooLarge(0));
-    }
-    clock.bump(WriterId(writer))
-}
 
 // The clock of puts by many writers, whose numbers are odd.
 fn shared(alloc: Global) -> Result<Clock, Refusal> {
