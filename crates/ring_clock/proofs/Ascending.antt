@@ -3,14 +3,11 @@ use Rattle.std.proofs.Common.{◌≡◌, ◌≢◌, ◌∙◌, inl, inr, ℕ, �
 use Rattle.std.specs.List.{AllByRecursion}
 use Rattle.std.proofs.lemmas.Bool.Decides.{eqb_tells}
 use Rattle.ring_clock.specs.declared.entry.Entry.{Entry}
-use Rattle.ring_clock.specs.Clock.{counter, IsAbove, IsClock}
-use Rattle.ring_clock.specs.Groups.{group, group_in}
+use Rattle.ring_clock.specs.Clock.{counter, IsAbove, IsClock, IsAtMost}
+use Rattle.ring_clock.specs.Groups.{group, group_in, IsBlock}
 use Rattle.ring_clock.specs.Blocks.{IsBeyond, AreBlocks, entries_of}
-use Rattle.ring_clock.proofs.Groups.{nothing_front, some_front, above_both, clock_both, in_group, lesser}
-
--- by whether w is of the group in front
-pub by_group : (b : List Entry) (w : ℕ) (P : Type 0) → (group w ≡ group_in b → P) → (group w ≢ group_in b → P) → P
-by_group b w P at apart = elim (eqb_tells (group w) (group_in b)) [ inl t ↦ at t.1 | inr t ↦ apart t.1 ]
+use Rattle.ring_clock.proofs.Counting.{Counts, by_equal, above_more}
+use Rattle.ring_clock.proofs.Groups.{nothing_front, some_front, above_both, clock_both, in_group, lesser, some_counter}
 
 pub absent_group : (g : ℕ) (bs : List (List Entry)) (w : ℕ) → IsBeyond g bs → AreBlocks bs → group w ≤ g → counter (entries_of bs) w ≡ 0
 absent_group g [] w beyond are le = refl
@@ -25,9 +22,26 @@ here_group b bs w are is = elim (eqb_tells (counter b w) 0) [
   | inr t ↦ some_front b (entries_of bs) w (grind (arith, t.1))
 ]
 
-pub beyond_more : (g h : ℕ) (bs : List (List Entry)) → g ≤ h → IsBeyond h bs → IsBeyond g bs
-beyond_more g h [] le beyond = tt
-beyond_more g h (b ∷ bs) le beyond = (omega (arith, beyond.0), beyond_more g h bs le beyond.1)
+-- blocks are lists in order of a key
+pub blocks : Counts group_in group counter AreBlocks (λ bs w. counter (entries_of bs) w)
+blocks = record {
+  nil = tt;
+  none = λ w. refl;
+  split = λ b bs h. (h.1, h.2);
+  put = λ b bs more h above are. (h.0, above, are);
+  here = here_group;
+  there = there_group;
+  absent = absent_group;
+  some = λ b bs h. some_counter b h.0;
+}
+
+-- a block whose counters of its own group are at most the other's is at most the other
+pub within : (b o : List Entry) → IsBlock b → ((w : ℕ) → group w ≡ group_in b → counter b w ≤ counter o w) → IsAtMost b o
+within b o block le w = by_equal (group w) (group_in b) (counter b w ≤ counter o w) (λ is. le w is) (λ apart. let none = block.2 w apart in omega arith)
+
+-- a block in the place of another of its group
+pub in_place : (b j : List Entry) (bs : List (List Entry)) → IsBlock j → group_in j ≡ group_in b → AreBlocks (b ∷ bs) → AreBlocks (j ∷ bs)
+in_place b j bs block is are = (block, above_more group_in (group_in j) (group_in b) bs (omega arith) are.1, are.2)
 
 -- ---- the entries of blocks are a clock
 

@@ -1,11 +1,9 @@
+pub mod Counting
 pub mod Entries
 pub mod Searching
-pub mod Merging
 pub mod Groups
 pub mod Ascending
 pub mod Finding
-pub mod Facing
-pub mod Standing
 pub mod Causing
 pub mod Making
 pub mod Order

@@ -1,7 +1,6 @@
 pub mod Clock
-pub mod Merge
 pub mod Groups
 pub mod Blocks
-pub mod Standing
+pub mod Merge
 pub mod Causes
 pub mod Built

@@ -4,7 +4,7 @@ ghost use Rattle.std.specs.Prelude.{◌≡◌, ◌↔◌, ◌+◌, ◌<◌, ◌�
 ghost use Rattle.ring_clock.specs.Clock.{IsAtMost, counter};
 ghost use Rattle.ring_clock.specs.Groups.{IsBlock, group, group_in};
 ghost use Rattle.ring_clock.specs.Blocks.{AreBlocks, entries_of, listed};
-ghost use Rattle.ring_clock.specs.Standing.{StandFor};
+ghost use Rattle.ring_clock.specs.Merge.{BlocksStandFor};
 
 use crate::block::{Block, group_of};
 use crate::entry::{Entry, counter_of};
@@ -100,7 +100,7 @@ fn take_joined<'a>(
     requires second { AreBlocks second.old.now }
     ensures none { IfOk result (λ o. IfNone o ((first.old.now ≡ []) × (second.old.now ≡ []))) }
     ensures some { IfOk result (λ o. IfSome o
-        (λ b. StandFor first.old.now second.old.now (b ∷ first.new.now) (b ∷ second.new.now))) }
+        (λ b. BlocksStandFor first.old.now second.old.now (b ∷ first.new.now) (b ∷ second.new.now))) }
     ensures shorter { IfOk result (λ o. IfSome o
         (λ b. length first.new.now + length second.new.now < length first.old.now + length second.old.now)) }
 {

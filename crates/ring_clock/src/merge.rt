@@ -2,7 +2,7 @@
 
 ghost use Rattle.std.specs.Prelude.{◌≡◌, ◌↔◌, ◌+◌, ◌<◌, ◌∷◌, [], ℕ, IsTrue, IfOk, IfNone, IfSome, OnOk, length, max};
 ghost use Rattle.ring_clock.specs.Clock.{IsClock, IsAtMost, counter};
-ghost use Rattle.ring_clock.specs.Merge.{StandFor};
+ghost use Rattle.ring_clock.specs.Merge.{EntriesStandFor};
 
 use crate::entry::Entry;
 use std::alloc::{AllocError, Global};
@@ -38,7 +38,8 @@ fn take_least<'a>(first: &mut &'a [Entry], second: &mut &'a [Entry]) -> Option<E
     requires first { IsClock first.old.now }
     requires second { IsClock second.old.now }
     ensures none { IfNone result ((first.old.now ≡ []) × (second.old.now ≡ [])) }
-    ensures some { IfSome result (λ e. StandFor first.old.now second.old.now (e ∷ first.new.now) (e ∷ second.new.now)) }
+    ensures some { IfSome result
+        (λ e. EntriesStandFor first.old.now second.old.now (e ∷ first.new.now) (e ∷ second.new.now)) }
     ensures shorter { IfSome result
         (λ e. length first.new.now + length second.new.now < length first.old.now + length second.old.now) }
 {
