@@ -24,193 +24,194 @@ pub above_more : {A : Type 0} (key : A → ℕ) (j k : ℕ) (xs : List A) → j 
 above_more key j k [] le h = tt
 above_more key j k (x ∷ xs) le h = (omega (arith, h.0), above_more key j k xs le h.1)
 
--- ---- lists that stand for two others
-
-pub first_less : {A : Type 0} {key : A → ℕ} {class : ℕ → ℕ} {one : A → ℕ → ℕ} {Are : List A → Type 0} {count : List A → ℕ → ℕ} → Counts key class one Are count → (x y : A) (xs ys : List A) → key x < key y → Are (x ∷ xs) → Are (y ∷ ys) → Stand key Are count (x ∷ xs) (y ∷ ys) (x ∷ xs) (x ∷ y ∷ ys)
-first_less {key = key} {class = class} {count = count} laws x y xs ys less a b =
-    let above : AllByRecursion (λ z. key x < key z) (y ∷ ys) = (less, above_more key (key x) (key y) ys (omega arith) (laws.split y ys b).0) in
-    let both = laws.put x xs (y ∷ ys) a above b in
-    record {
-      first = a;
-      second = both;
-      above = λ k h l. (h, (h.0, l));
-      counters = λ w. by_equal (class w) (key x) (max (count (x ∷ xs) w) (count (x ∷ y ∷ ys) w) ≡ max (count (x ∷ xs) w) (count (y ∷ ys) w))
-          (λ is.
-          let none = laws.absent (key x) (y ∷ ys) w above b (omega arith) in
-          let mine = laws.here x xs w a is in
-          let again = laws.here x (y ∷ ys) w both is in
-          omega arith)
-          (λ apart. let on = laws.there x (y ∷ ys) w both apart in omega arith);
-    }
-
-pub second_less : {A : Type 0} {key : A → ℕ} {class : ℕ → ℕ} {one : A → ℕ → ℕ} {Are : List A → Type 0} {count : List A → ℕ → ℕ} → Counts key class one Are count → (x y : A) (xs ys : List A) → key y < key x → Are (x ∷ xs) → Are (y ∷ ys) → Stand key Are count (x ∷ xs) (y ∷ ys) (y ∷ x ∷ xs) (y ∷ ys)
-second_less laws x y xs ys less a b =
-    let other = first_less laws y x ys xs less b a in
-    record {
-      first = other.second;
-      second = other.first;
-      above = λ k h l. ((l.0, h), l);
-      counters = λ w. (let at = other.counters w in omega arith);
-    }
-
-pub first_alone : {A : Type 0} {key : A → ℕ} {class : ℕ → ℕ} {one : A → ℕ → ℕ} {Are : List A → Type 0} {count : List A → ℕ → ℕ} → Counts key class one Are count → (x : A) (xs ys : List A) → length ys ≡ 0 → Are (x ∷ xs) → Stand key Are count (x ∷ xs) ys (x ∷ xs) (x ∷ ys)
-first_alone laws x xs (y ∷ ys) none a = absurd (omega arith)
-first_alone {key = key} {class = class} {count = count} laws x xs [] none a =
-    let alone = laws.put x xs [] a tt laws.nil in
-    record {
-      first = a;
-      second = alone;
-      above = λ k h l. (h, (h.0, tt));
-      counters = λ w. by_equal (class w) (key x) (max (count (x ∷ xs) w) (count (x ∷ []) w) ≡ max (count (x ∷ xs) w) (count [] w))
-          (λ is. let mine = laws.here x xs w a is in let again = laws.here x [] w alone is in let no = laws.none w in omega arith)
-          (λ apart. let on = laws.there x [] w alone apart in omega arith);
-    }
-
-pub second_alone : {A : Type 0} {key : A → ℕ} {class : ℕ → ℕ} {one : A → ℕ → ℕ} {Are : List A → Type 0} {count : List A → ℕ → ℕ} → Counts key class one Are count → (y : A) (xs ys : List A) → length xs ≡ 0 → Are (y ∷ ys) → Stand key Are count xs (y ∷ ys) (y ∷ xs) (y ∷ ys)
-second_alone laws y xs ys none b =
-    let other = first_alone laws y ys xs none b in
-    record {
-      first = other.second;
-      second = other.first;
-      above = λ k h l. ((l.0, h), l);
-      counters = λ w. (let at = other.counters w in omega arith);
-    }
-
--- an item that has of each writer of its class the greater counter of two in front
-pub joined_front : {A : Type 0} {key : A → ℕ} {class : ℕ → ℕ} {one : A → ℕ → ℕ} {Are : List A → Type 0} {count : List A → ℕ → ℕ} → Counts key class one Are count → (x y z : A) (xs ys : List A) → key x ≡ key y → key z ≡ key x → ((w : ℕ) → one z w ≡ max (one x w) (one y w)) → Are (x ∷ xs) → Are (y ∷ ys) → Are (z ∷ xs) → Are (z ∷ ys) → Stand key Are count (x ∷ xs) (y ∷ ys) (z ∷ xs) (z ∷ ys)
-joined_front {key = key} {class = class} {count = count} laws x y z xs ys same is counters a b c d = record {
-  first = c;
-  second = d;
-  above = λ k h l. ((omega (arith, h.0), h.1), (omega (arith, l.0), l.1));
-  counters = λ w. by_equal (class w) (key x) (max (count (z ∷ xs) w) (count (z ∷ ys) w) ≡ max (count (x ∷ xs) w) (count (y ∷ ys) w))
-      (λ at.
-      let p = laws.here x xs w a at in
-      let q = laws.here y ys w b (at ∙ same) in
-      let r = laws.here z xs w c (at ∙ sym is) in
-      let s = laws.here z ys w d (at ∙ sym is) in
-      let all = counters w in
-      omega arith)
-      (λ apart.
-      let p = laws.there x xs w a apart in
-      let q = laws.there y ys w b (λ e. apart (e ∙ sym same)) in
-      let r = laws.there z xs w c (λ e. apart (e ∙ is)) in
-      let s = laws.there z ys w d (λ e. apart (e ∙ is)) in
-      omega arith);
-}
-
--- what stands for two lists stands for them behind the same items too
-pub behind : {A : Type 0} {key : A → ℕ} {class : ℕ → ℕ} {one : A → ℕ → ℕ} {Are : List A → Type 0} {count : List A → ℕ → ℕ} → Counts key class one Are count → (out a b c d : List A) → Stand key Are count a b c d → Are (out ++ a) → Are (out ++ b) → Stand key Are count (out ++ a) (out ++ b) (out ++ c) (out ++ d)
-behind laws [] a b c d s h k = s
-behind {key = key} {class = class} {count = count} laws (x ∷ xs) a b c d s h k =
-    let mine = laws.split x (xs ++ a) h in
-    let theirs = laws.split x (xs ++ b) k in
-    let t = behind laws xs a b c d s mine.1 theirs.1 in
-    let up = t.above (key x) mine.0 theirs.0 in
-    let first = laws.put x (xs ++ a) (xs ++ c) h up.0 t.first in
-    let second = laws.put x (xs ++ a) (xs ++ d) h up.1 t.second in
-    record {
-      first = first;
-      second = second;
-      above = λ j p q. let more = t.above j p.1 q.1 in ((p.0, more.0), (p.0, more.1));
-      counters = λ w. by_equal (class w) (key x) (max (count (x ∷ (xs ++ c)) w) (count (x ∷ (xs ++ d)) w) ≡ max (count (x ∷ (xs ++ a)) w) (count (x ∷ (xs ++ b)) w))
-          (λ at.
-          let e = laws.here x (xs ++ c) w first at in
-          let f = laws.here x (xs ++ d) w second at in
-          let m = laws.here x (xs ++ a) w h at in
-          let n = laws.here x (xs ++ b) w k at in
-          omega arith)
-          (λ apart.
-          let e = laws.there x (xs ++ c) w first apart in
-          let f = laws.there x (xs ++ d) w second apart in
-          let m = laws.there x (xs ++ a) w h apart in
-          let n = laws.there x (xs ++ b) w k apart in
-          let all = t.counters w in
-          omega arith);
-    }
-
--- what is left of a list in order is one
-pub left : {A : Type 0} {key : A → ℕ} {class : ℕ → ℕ} {one : A → ℕ → ℕ} {Are : List A → Type 0} {count : List A → ℕ → ℕ} → Counts key class one Are count → (out a : List A) → Are (out ++ a) → Are a
-left laws [] a h = h
-left laws (x ∷ xs) a h = left laws xs a (laws.split x (xs ++ a) h).1
-
 -- an item behind others is in front of what follows
 pub again : {A : Type 0} (new out : List A) (x : A) (a : List A) → new ≡ out ++ x ∷ [] → new ++ a ≡ out ++ x ∷ a
 again new out x a is = rw is (append_assoc out (x ∷ []) a)
-
--- ---- two lists that face each other
 
 -- each writer's counter in the first is at most that in the second
 abbrev pub AtMost : {A : Type 0} → (List A → ℕ → ℕ) → List A → List A → Type 0
 AtMost count c d = (w : ℕ) → count c w ≤ count d w
 
-pub rest : {A : Type 0} {key : A → ℕ} {class : ℕ → ℕ} {one : A → ℕ → ℕ} {Are : List A → Type 0} {count : List A → ℕ → ℕ} → Counts key class one Are count → (x : A) (xs c : List A) → c ≡ x ∷ xs → Are c → Are xs
-rest {Are = Are} laws x xs c is a = (laws.split x xs (subst Are is a)).1
+module _ {A : Type 0} {key : A → ℕ} {class : ℕ → ℕ} {one : A → ℕ → ℕ} {Are : List A → Type 0} {count : List A → ℕ → ℕ} (laws : Counts key class one Are count) where
+  -- ---- lists that stand for two others
 
--- an item is left in the first list, and some writer's counter is greater there
-greater : {A : Type 0} {key : A → ℕ} {class : ℕ → ℕ} {one : A → ℕ → ℕ} {Are : List A → Type 0} {count : List A → ℕ → ℕ} → Counts key class one Are count → (x : A) (xs d : List A) → Are (x ∷ xs) → ((w : ℕ) → class w ≡ key x → count d w ≡ 0) → AtMost count (x ∷ xs) d → ⊥
-greater laws x xs d a none h =
-    let s = laws.some x xs a in
-    let at = laws.here x xs s.0 a s.1 in
-    let le = h s.0 in
-    let no = none s.0 s.1 in
-    omega (arith, s.2)
+  pub first_less : (x y : A) (xs ys : List A) → key x < key y → Are (x ∷ xs) → Are (y ∷ ys) → Stand key Are count (x ∷ xs) (y ∷ ys) (x ∷ xs) (x ∷ y ∷ ys)
+  first_less x y xs ys less a b =
+      let above : AllByRecursion (λ z. key x < key z) (y ∷ ys) = (less, above_more key (key x) (key y) ys (omega arith) (laws.split y ys b).0) in
+      let both = laws.put x xs (y ∷ ys) a above b in
+      record {
+        first = a;
+        second = both;
+        above = λ k h l. (h, (h.0, l));
+        counters = λ w. by_equal (class w) (key x) (max (count (x ∷ xs) w) (count (x ∷ y ∷ ys) w) ≡ max (count (x ∷ xs) w) (count (y ∷ ys) w))
+            (λ is.
+            let none = laws.absent (key x) (y ∷ ys) w above b (omega arith) in
+            let mine = laws.here x xs w a is in
+            let again = laws.here x (y ∷ ys) w both is in
+            omega arith)
+            (λ apart. let on = laws.there x (y ∷ ys) w both apart in omega arith);
+      }
 
-pub none_facing : {A : Type 0} {key : A → ℕ} {class : ℕ → ℕ} {one : A → ℕ → ℕ} {Are : List A → Type 0} {count : List A → ℕ → ℕ} → Counts key class one Are count → (x : A) (xs c d : List A) → c ≡ x ∷ xs → length d ≡ 0 → Are c → AtMost count c d → ⊥
-none_facing {Are = Are} {count = count} laws x xs c [] is none a h = greater laws x xs [] (subst Are is a) (λ w e. laws.none w) (subst (λ l. AtMost count l []) is h)
-none_facing laws x xs c (y ∷ ys) is none a h = absurd (omega arith)
+  pub second_less : (x y : A) (xs ys : List A) → key y < key x → Are (x ∷ xs) → Are (y ∷ ys) → Stand key Are count (x ∷ xs) (y ∷ ys) (y ∷ x ∷ xs) (y ∷ ys)
+  second_less x y xs ys less a b =
+      let other = first_less y x ys xs less b a in
+      record {
+        first = other.second;
+        second = other.first;
+        above = λ k h l. ((l.0, h), l);
+        counters = λ w. (let at = other.counters w in omega arith);
+      }
 
-pub later_facing : {A : Type 0} {key : A → ℕ} {class : ℕ → ℕ} {one : A → ℕ → ℕ} {Are : List A → Type 0} {count : List A → ℕ → ℕ} → Counts key class one Are count → (x y : A) (xs ys c d : List A) → c ≡ x ∷ xs → d ≡ y ∷ ys → key x < key y → Are c → Are d → AtMost count c d → ⊥
-later_facing {key = key} {Are = Are} {count = count} laws x y xs ys c d is other less a b h =
-    let theirs = subst Are other b in
-    let above : AllByRecursion (λ z. key x < key z) (y ∷ ys) = (less, above_more key (key x) (key y) ys (omega arith) (laws.split y ys theirs).0) in
-    greater laws x xs (y ∷ ys) (subst Are is a)
+  pub first_alone : (x : A) (xs ys : List A) → length ys ≡ 0 → Are (x ∷ xs) → Stand key Are count (x ∷ xs) ys (x ∷ xs) (x ∷ ys)
+  first_alone x xs (y ∷ ys) none a = absurd (omega arith)
+  first_alone x xs [] none a =
+      let alone = laws.put x xs [] a tt laws.nil in
+      record {
+        first = a;
+        second = alone;
+        above = λ k h l. (h, (h.0, tt));
+        counters = λ w. by_equal (class w) (key x) (max (count (x ∷ xs) w) (count (x ∷ []) w) ≡ max (count (x ∷ xs) w) (count [] w))
+            (λ is. let mine = laws.here x xs w a is in let again = laws.here x [] w alone is in let no = laws.none w in omega arith)
+            (λ apart. let on = laws.there x [] w alone apart in omega arith);
+      }
+
+  pub second_alone : (y : A) (xs ys : List A) → length xs ≡ 0 → Are (y ∷ ys) → Stand key Are count xs (y ∷ ys) (y ∷ xs) (y ∷ ys)
+  second_alone y xs ys none b =
+      let other = first_alone y ys xs none b in
+      record {
+        first = other.second;
+        second = other.first;
+        above = λ k h l. ((l.0, h), l);
+        counters = λ w. (let at = other.counters w in omega arith);
+      }
+
+  -- an item that has of each writer of its class the greater counter of two in front
+  pub joined_front : (x y z : A) (xs ys : List A) → key x ≡ key y → key z ≡ key x → ((w : ℕ) → one z w ≡ max (one x w) (one y w)) → Are (x ∷ xs) → Are (y ∷ ys) → Are (z ∷ xs) → Are (z ∷ ys) → Stand key Are count (x ∷ xs) (y ∷ ys) (z ∷ xs) (z ∷ ys)
+  joined_front x y z xs ys same is counters a b c d = record {
+    first = c;
+    second = d;
+    above = λ k h l. ((omega (arith, h.0), h.1), (omega (arith, l.0), l.1));
+    counters = λ w. by_equal (class w) (key x) (max (count (z ∷ xs) w) (count (z ∷ ys) w) ≡ max (count (x ∷ xs) w) (count (y ∷ ys) w))
+        (λ at.
+        let p = laws.here x xs w a at in
+        let q = laws.here y ys w b (at ∙ same) in
+        let r = laws.here z xs w c (at ∙ sym is) in
+        let s = laws.here z ys w d (at ∙ sym is) in
+        let all = counters w in
+        omega arith)
+        (λ apart.
+        let p = laws.there x xs w a apart in
+        let q = laws.there y ys w b (λ e. apart (e ∙ sym same)) in
+        let r = laws.there z xs w c (λ e. apart (e ∙ is)) in
+        let s = laws.there z ys w d (λ e. apart (e ∙ is)) in
+        omega arith);
+  }
+
+  -- what stands for two lists stands for them behind the same items too
+  pub behind : (out a b c d : List A) → Stand key Are count a b c d → Are (out ++ a) → Are (out ++ b) → Stand key Are count (out ++ a) (out ++ b) (out ++ c) (out ++ d)
+  behind [] a b c d s h k = s
+  behind (x ∷ xs) a b c d s h k =
+      let mine = laws.split x (xs ++ a) h in
+      let theirs = laws.split x (xs ++ b) k in
+      let t = behind xs a b c d s mine.1 theirs.1 in
+      let up = t.above (key x) mine.0 theirs.0 in
+      let first = laws.put x (xs ++ a) (xs ++ c) h up.0 t.first in
+      let second = laws.put x (xs ++ a) (xs ++ d) h up.1 t.second in
+      record {
+        first = first;
+        second = second;
+        above = λ j p q. let more = t.above j p.1 q.1 in ((p.0, more.0), (p.0, more.1));
+        counters = λ w. by_equal (class w) (key x) (max (count (x ∷ (xs ++ c)) w) (count (x ∷ (xs ++ d)) w) ≡ max (count (x ∷ (xs ++ a)) w) (count (x ∷ (xs ++ b)) w))
+            (λ at.
+            let e = laws.here x (xs ++ c) w first at in
+            let f = laws.here x (xs ++ d) w second at in
+            let m = laws.here x (xs ++ a) w h at in
+            let n = laws.here x (xs ++ b) w k at in
+            omega arith)
+            (λ apart.
+            let e = laws.there x (xs ++ c) w first apart in
+            let f = laws.there x (xs ++ d) w second apart in
+            let m = laws.there x (xs ++ a) w h apart in
+            let n = laws.there x (xs ++ b) w k apart in
+            let all = t.counters w in
+            omega arith);
+      }
+
+  -- what is left of a list in order is one
+  pub left : (out a : List A) → Are (out ++ a) → Are a
+  left [] a h = h
+  left (x ∷ xs) a h = left xs a (laws.split x (xs ++ a) h).1
+
+  -- ---- two lists that face each other
+
+  pub rest : (x : A) (xs c : List A) → c ≡ x ∷ xs → Are c → Are xs
+  rest x xs c is a = (laws.split x xs (subst Are is a)).1
+
+  -- an item is left in the first list, and some writer's counter is greater there
+  greater : (x : A) (xs d : List A) → Are (x ∷ xs) → ((w : ℕ) → class w ≡ key x → count d w ≡ 0) → AtMost count (x ∷ xs) d → ⊥
+  greater x xs d a none h =
+      let s = laws.some x xs a in
+      let at = laws.here x xs s.0 a s.1 in
+      let le = h s.0 in
+      let no = none s.0 s.1 in
+      omega (arith, s.2)
+
+  pub none_facing : (x : A) (xs c d : List A) → c ≡ x ∷ xs → length d ≡ 0 → Are c → AtMost count c d → ⊥
+  none_facing x xs c [] is none a h = greater x xs [] (subst Are is a) (λ w e. laws.none w) (subst (λ l. AtMost count l []) is h)
+  none_facing x xs c (y ∷ ys) is none a h = absurd (omega arith)
+
+  pub later_facing : (x y : A) (xs ys c d : List A) → c ≡ x ∷ xs → d ≡ y ∷ ys → key x < key y → Are c → Are d → AtMost count c d → ⊥
+  later_facing x y xs ys c d is other less a b h =
+      let theirs = subst Are other b in
+      let above : AllByRecursion (λ z. key x < key z) (y ∷ ys) = (less, above_more key (key x) (key y) ys (omega arith) (laws.split y ys theirs).0) in
+      greater x xs (y ∷ ys) (subst Are is a)
       (λ w e. laws.absent (key x) (y ∷ ys) w above theirs (omega arith))
       (subst (λ l. AtMost count l (y ∷ ys)) is (subst (λ l. AtMost count c l) other h))
 
--- of two items of one key in front the first is at most the second
-pub front_facing : {A : Type 0} {key : A → ℕ} {class : ℕ → ℕ} {one : A → ℕ → ℕ} {Are : List A → Type 0} {count : List A → ℕ → ℕ} → Counts key class one Are count → (x y : A) (xs ys c d : List A) → c ≡ x ∷ xs → d ≡ y ∷ ys → key x ≡ key y → Are c → Are d → AtMost count c d → (w : ℕ) → class w ≡ key x → one x w ≤ one y w
-front_facing {Are = Are} {count = count} laws x y xs ys c d is other same a b h w at =
-    let le = subst (λ l. AtMost count l (y ∷ ys)) is (subst (λ l. AtMost count c l) other h) w in
-    let mine = laws.here x xs w (subst Are is a) at in
-    let theirs = laws.here y ys w (subst Are other b) (at ∙ same) in
-    omega arith
+  -- of two items of one key in front the first is at most the second
+  pub front_facing : (x y : A) (xs ys c d : List A) → c ≡ x ∷ xs → d ≡ y ∷ ys → key x ≡ key y → Are c → Are d → AtMost count c d → (w : ℕ) → class w ≡ key x → one x w ≤ one y w
+  front_facing x y xs ys c d is other same a b h w at =
+      let le = subst (λ l. AtMost count l (y ∷ ys)) is (subst (λ l. AtMost count c l) other h) w in
+      let mine = laws.here x xs w (subst Are is a) at in
+      let theirs = laws.here y ys w (subst Are other b) (at ∙ same) in
+      omega arith
 
--- an item of the second list alone says nothing
-passed : {A : Type 0} {key : A → ℕ} {class : ℕ → ℕ} {one : A → ℕ → ℕ} {Are : List A → Type 0} {count : List A → ℕ → ℕ} → Counts key class one Are count → (y : A) (c ys : List A) → AllByRecursion (λ z. key y < key z) c → Are c → Are (y ∷ ys) → AtMost count c ys ↔ AtMost count c (y ∷ ys)
-passed {key = key} {class = class} {count = count} laws y c ys above a b = (
-  λ h w. by_equal (class w) (key y) (count c w ≤ count (y ∷ ys) w)
-      (λ is. let none = laws.absent (key y) c w above a (omega arith) in omega arith)
-      (λ apart. let at = h w in let on = laws.there y ys w b apart in omega arith),
-  λ h w. by_equal (class w) (key y) (count c w ≤ count ys w)
-      (λ is. let none = laws.absent (key y) c w above a (omega arith) in omega arith)
-      (λ apart. let at = h w in let on = laws.there y ys w b apart in omega arith),
-)
+  -- an item of the second list alone says nothing
+  passed : (y : A) (c ys : List A) → AllByRecursion (λ z. key y < key z) c → Are c → Are (y ∷ ys) → AtMost count c ys ↔ AtMost count c (y ∷ ys)
+  passed y c ys above a b = (
+    λ h w. by_equal (class w) (key y) (count c w ≤ count (y ∷ ys) w)
+        (λ is. let none = laws.absent (key y) c w above a (omega arith) in omega arith)
+        (λ apart. let at = h w in let on = laws.there y ys w b apart in omega arith),
+    λ h w. by_equal (class w) (key y) (count c w ≤ count ys w)
+        (λ is. let none = laws.absent (key y) c w above a (omega arith) in omega arith)
+        (λ apart. let at = h w in let on = laws.there y ys w b apart in omega arith),
+  )
 
--- two of one key are compared
-compared : {A : Type 0} {key : A → ℕ} {class : ℕ → ℕ} {one : A → ℕ → ℕ} {Are : List A → Type 0} {count : List A → ℕ → ℕ} → Counts key class one Are count → (x y : A) (xs ys : List A) → key x ≡ key y → ((w : ℕ) → one x w ≤ one y w) → Are (x ∷ xs) → Are (y ∷ ys) → AtMost count xs ys ↔ AtMost count (x ∷ xs) (y ∷ ys)
-compared {key = key} {class = class} {count = count} laws x y xs ys same le a b = (
-  λ h w. by_equal (class w) (key x) (count (x ∷ xs) w ≤ count (y ∷ ys) w)
-      (λ is. let at = le w in let mine = laws.here x xs w a is in let theirs = laws.here y ys w b (is ∙ same) in omega arith)
-      (λ apart.
-      let at = h w in
-      let mine = laws.there x xs w a apart in
-      let theirs = laws.there y ys w b (λ e. apart (e ∙ sym same)) in
-      omega arith),
-  λ h w. by_equal (class w) (key x) (count xs w ≤ count ys w)
-      (λ is. let behind_it = laws.split x xs a in let none = laws.absent (key x) xs w behind_it.0 behind_it.1 (omega arith) in omega arith)
-      (λ apart.
-      let at = h w in
-      let mine = laws.there x xs w a apart in
-      let theirs = laws.there y ys w b (λ e. apart (e ∙ sym same)) in
-      omega arith),
-)
+  -- two of one key are compared
+  compared : (x y : A) (xs ys : List A) → key x ≡ key y → ((w : ℕ) → one x w ≤ one y w) → Are (x ∷ xs) → Are (y ∷ ys) → AtMost count xs ys ↔ AtMost count (x ∷ xs) (y ∷ ys)
+  compared x y xs ys same le a b = (
+    λ h w. by_equal (class w) (key x) (count (x ∷ xs) w ≤ count (y ∷ ys) w)
+        (λ is. let at = le w in let mine = laws.here x xs w a is in let theirs = laws.here y ys w b (is ∙ same) in omega arith)
+        (λ apart.
+        let at = h w in
+        let mine = laws.there x xs w a apart in
+        let theirs = laws.there y ys w b (λ e. apart (e ∙ sym same)) in
+        omega arith),
+    λ h w. by_equal (class w) (key x) (count xs w ≤ count ys w)
+        (λ is. let behind_it = laws.split x xs a in let none = laws.absent (key x) xs w behind_it.0 behind_it.1 (omega arith) in omega arith)
+        (λ apart.
+        let at = h w in
+        let mine = laws.there x xs w a apart in
+        let theirs = laws.there y ys w b (λ e. apart (e ∙ sym same)) in
+        omega arith),
+  )
 
-pub pass : {A : Type 0} {key : A → ℕ} {class : ℕ → ℕ} {one : A → ℕ → ℕ} {Are : List A → Type 0} {count : List A → ℕ → ℕ} → Counts key class one Are count → (x y : A) (xs ys c d : List A) → c ≡ x ∷ xs → d ≡ y ∷ ys → key y < key x → Are c → Are d → AtMost count c ys ↔ AtMost count c d
-pass {key = key} {Are = Are} {count = count} laws x y xs ys c d is other less a b =
-    let mine = laws.split x xs (subst Are is a) in
-    let above : AllByRecursion (λ z. key y < key z) c = subst (AllByRecursion (λ z. key y < key z)) (sym is) (less, above_more key (key y) (key x) xs (omega arith) mine.0) in
-    subst (λ l. AtMost count c ys ↔ AtMost count c l) (sym other) (passed laws y c ys above a (subst Are other b))
+  pub pass : (x y : A) (xs ys c d : List A) → c ≡ x ∷ xs → d ≡ y ∷ ys → key y < key x → Are c → Are d → AtMost count c ys ↔ AtMost count c d
+  pass x y xs ys c d is other less a b =
+      let mine = laws.split x xs (subst Are is a) in
+      let above : AllByRecursion (λ z. key y < key z) c = subst (AllByRecursion (λ z. key y < key z)) (sym is) (less, above_more key (key y) (key x) xs (omega arith) mine.0) in
+      subst (λ l. AtMost count c ys ↔ AtMost count c l) (sym other) (passed y c ys above a (subst Are other b))
 
-pub compare : {A : Type 0} {key : A → ℕ} {class : ℕ → ℕ} {one : A → ℕ → ℕ} {Are : List A → Type 0} {count : List A → ℕ → ℕ} → Counts key class one Are count → (x y : A) (xs ys c d : List A) → c ≡ x ∷ xs → d ≡ y ∷ ys → key x ≡ key y → ((w : ℕ) → one x w ≤ one y w) → Are c → Are d → AtMost count xs ys ↔ AtMost count c d
-compare {Are = Are} {count = count} laws x y xs ys c d is other same le a b =
-    subst (λ l. AtMost count xs ys ↔ AtMost count l d) (sym is) (subst (λ l. AtMost count xs ys ↔ AtMost count (x ∷ xs) l) (sym other) (compared laws x y xs ys same le (subst Are is a) (subst Are other b)))
+  pub compare : (x y : A) (xs ys c d : List A) → c ≡ x ∷ xs → d ≡ y ∷ ys → key x ≡ key y → ((w : ℕ) → one x w ≤ one y w) → Are c → Are d → AtMost count xs ys ↔ AtMost count c d
+  compare x y xs ys c d is other same le a b =
+      subst (λ l. AtMost count xs ys ↔ AtMost count l d) (sym is) (subst (λ l. AtMost count xs ys ↔ AtMost count (x ∷ xs) l) (sym other) (compared x y xs ys same le (subst Are is a) (subst Are other b)))

@@ -1,10 +1,8 @@
 -- Counters of lists of entries, from the front.
-use Rattle.std.proofs.Common.{◌≡◌, ◌≢◌, ℕ, ◌<◌, ◌≤◌, List, [], ◌∷◌, ◌↔◌, ◌∙◌, inl, inr, refl, sym, subst, arith}
-use Rattle.std.specs.Prelude.{length}
-use Rattle.std.proofs.lemmas.Bool.Decides.{eqb_tells}
+use Rattle.std.proofs.Common.{◌≡◌, ◌≢◌, ℕ, ◌≤◌, List, [], ◌∷◌, ◌∙◌, refl, sym, arith}
 use Rattle.std.proofs.lemmas.Bool.{ne_eqb, eq-eqb}
 use Rattle.ring_clock.specs.declared.entry.Entry.{Entry}
-use Rattle.ring_clock.specs.Clock.{counter, IsAbove, IsClock, IsAtMost}
+use Rattle.ring_clock.specs.Clock.{counter, IsAbove, IsClock}
 use Rattle.ring_clock.proofs.Counting.{Counts, by_equal}
 
 pub here : (e : Entry) (es : List Entry) (w : ℕ) → e.writer.0 ≡ w → counter (e ∷ es) w ≡ e.counter
@@ -21,12 +19,7 @@ pub absent : (v : ℕ) (es : List Entry) (w : ℕ) → IsAbove v es → w ≤ v 
 absent v [] w h l = refl
 absent v (e ∷ es) w h l = there e es w (λ is. omega (arith, h.0)) ∙ absent v es w h.1 l
 
--- no entry is left in the first list
-pub none_left : (c d : List Entry) → length c ≡ 0 → IsAtMost c d
-none_left [] d e w = omega arith
-none_left (x ∷ xs) d e w = absurd (omega arith)
-
--- entries are such lists
+-- entries are lists in order of a key
 pub entries : Counts (λ e. e.writer.0) (λ w. w) (λ e w. e.counter) IsClock counter
 entries = record {
   nil = tt;

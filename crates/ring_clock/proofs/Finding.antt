@@ -6,19 +6,14 @@ use Rattle.std.proofs.lemmas.Cmp.{ranked}
 use Rattle.ring_clock.specs.declared.entry.Entry.{Entry}
 use Rattle.ring_clock.specs.Clock.{counter}
 use Rattle.ring_clock.specs.Groups.{group, group_in, IsBlock}
-use Rattle.ring_clock.specs.Blocks.{IsBeyond, AreBlocks, entries_of}
-use Rattle.ring_clock.proofs.Searching.{not_at}
+use Rattle.ring_clock.specs.Blocks.{AreBlocks, entries_of}
+use Rattle.ring_clock.proofs.Searching.{each_at, not_at}
 use Rattle.ring_clock.proofs.Ascending.{here_group, there_group}
-
-beyond_at : (g : ℕ) (bs : List (List Entry)) → IsBeyond g bs → (k : ℕ) (d : List Entry) → k < length bs → g < group_in (get_or bs k d)
-beyond_at g [] h k d l = absurd (omega arith)
-beyond_at g (b ∷ bs) h zero d l = h.0
-beyond_at g (b ∷ bs) h (suc k) d l = beyond_at g bs h.1 k d (omega arith)
 
 rise : (bs : List (List Entry)) → AreBlocks bs → (i j : ℕ) (d : List Entry) → i ≤ j → j < length bs → group_in (get_or bs i d) ≤ group_in (get_or bs j d)
 rise [] h i j d le l = absurd (omega arith)
 rise (b ∷ bs) h zero zero d le l = omega arith
-rise (b ∷ bs) h zero (suc j) d le l = omega (arith, beyond_at (group_in b) bs h.1 j d (omega arith))
+rise (b ∷ bs) h zero (suc j) d le l = omega (arith, each_at (λ x. group_in b < group_in x) bs h.1 j d (omega arith))
 rise (b ∷ bs) h (suc i) zero d le l = absurd (omega arith)
 rise (b ∷ bs) h (suc i) (suc j) d le l = rise bs h.2 i j d (omega arith) (omega arith)
 
@@ -30,7 +25,7 @@ block_at (b ∷ bs) h (suc k) d l = block_at bs h.2 k d (omega arith)
 at : (bs : List (List Entry)) (w : ℕ) → AreBlocks bs → (k : ℕ) (d : List Entry) → k < length bs → group_in (get_or bs k d) ≡ group w → counter (get_or bs k d) w ≡ counter (entries_of bs) w
 at [] w h k d l is = absurd (omega arith)
 at (b ∷ bs) w h zero d l is = sym (here_group b bs w h (sym is))
-at (b ∷ bs) w h (suc k) d l is = at bs w h.2 k d (omega arith) is ∙ sym (there_group b bs w h (λ x. omega (arith, beyond_at (group_in b) bs h.1 k d (omega arith))))
+at (b ∷ bs) w h (suc k) d l is = at bs w h.2 k d (omega arith) is ∙ sym (there_group b bs w h (λ x. omega (arith, each_at (λ x. group_in b < group_in x) bs h.1 k d (omega arith))))
 
 nowhere : (bs : List (List Entry)) (w : ℕ) → AreBlocks bs → ((k : ℕ) (d : List Entry) → k < length bs → group_in (get_or bs k d) ≢ group w) → 0 ≡ counter (entries_of bs) w
 nowhere [] w are h = refl

@@ -1,22 +1,23 @@
 -- What a binary search by writer finds among the entries of a clock.
 use Rattle.std.proofs.Common.{◌≡◌, ◌≢◌, ◌⊎◌, inl, inr, ℕ, zero, suc, ◌<◌, ◌≤◌, List, [], ◌∷◌, ◌∙◌, length, get_or, Ok, Err, refl, sym, arith}
+use Rattle.std.specs.List.{AllByRecursion}
 use Rattle.std.specs.List.Sorted.{IsBinarySearchResult}
 use Rattle.std.specs.Ordering.{nat_cmp, ordering_index}
 use Rattle.std.proofs.lemmas.Cmp.{ranked}
 use Rattle.std.proofs.lemmas.Bool.Decides.{nat_tests}
 use Rattle.ring_clock.specs.declared.entry.Entry.{Entry}
-use Rattle.ring_clock.specs.Clock.{counter, IsAbove, IsClock}
+use Rattle.ring_clock.specs.Clock.{counter, IsClock}
 use Rattle.ring_clock.proofs.Entries.{here, there}
 
-above_at : (w : ℕ) (es : List Entry) → IsAbove w es → (k : ℕ) (d : Entry) → k < length es → w < (get_or es k d).writer.0
-above_at w [] h k d l = absurd (omega arith)
-above_at w (e ∷ es) h zero d l = h.0
-above_at w (e ∷ es) h (suc k) d l = above_at w es h.1 k d (omega arith)
+pub each_at : {A : Type 0} (P : A → Type 0) (xs : List A) → AllByRecursion P xs → (k : ℕ) (d : A) → k < length xs → P (get_or xs k d)
+each_at P [] h k d l = absurd (omega arith)
+each_at P (x ∷ xs) h zero d l = h.0
+each_at P (x ∷ xs) h (suc k) d l = each_at P xs h.1 k d (omega arith)
 
 rise : (es : List Entry) → IsClock es → (i j : ℕ) (d : Entry) → i ≤ j → j < length es → (get_or es i d).writer.0 ≤ (get_or es j d).writer.0
 rise [] h i j d le l = absurd (omega arith)
 rise (e ∷ es) h zero zero d le l = omega arith
-rise (e ∷ es) h zero (suc j) d le l = omega (arith, above_at e.writer.0 es h.1 j d (omega arith))
+rise (e ∷ es) h zero (suc j) d le l = omega (arith, each_at (λ x. e.writer.0 < x.writer.0) es h.1 j d (omega arith))
 rise (e ∷ es) h (suc i) zero d le l = absurd (omega arith)
 rise (e ∷ es) h (suc i) (suc j) d le l = rise es h.2 i j d (omega arith) (omega arith)
 
@@ -26,7 +27,7 @@ ranks_rise a b w le = grind (arith, nat_tests)
 at : (es : List Entry) (w : ℕ) → IsClock es → (k : ℕ) (d : Entry) → k < length es → (get_or es k d).writer.0 ≡ w → (get_or es k d).counter ≡ counter es w
 at [] w h k d l is = absurd (omega arith)
 at (e ∷ es) w h zero d l is = sym (here e es w is)
-at (e ∷ es) w h (suc k) d l is = at es w h.2 k d (omega arith) is ∙ sym (there e es w (λ x. omega (arith, above_at e.writer.0 es h.1 k d (omega arith))))
+at (e ∷ es) w h (suc k) d l is = at es w h.2 k d (omega arith) is ∙ sym (there e es w (λ x. omega (arith, each_at (λ x. e.writer.0 < x.writer.0) es h.1 k d (omega arith))))
 
 nowhere : (es : List Entry) (w : ℕ) → ((k : ℕ) (d : Entry) → k < length es → (get_or es k d).writer.0 ≢ w) → 0 ≡ counter es w
 nowhere [] w h = refl
