@@ -26,7 +26,7 @@ impl<'a> Model for Walk<'a> {
 
 impl<'a> Walk<'a> {
     /// All entries of the blocks.
-    pub fn of(blocks: &'a [Block]) -> Walk<'a>
+    pub(crate) fn of(blocks: &'a [Block]) -> Walk<'a>
         ensures { result ≡ entries_of blocks.now }
     {
         Walk { rest: &[], blocks }
