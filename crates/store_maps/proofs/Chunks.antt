@@ -14,9 +14,10 @@ use Rattle.store_maps.specs.declared.key_map.KeyMap.{KeyMap}
 use Rattle.store_maps.specs.declared.slot_map.SlotMap.{SlotMap}
 use Rattle.store_maps.specs.Slots.{held_for}
 use Rattle.store_maps.specs.Chunks.{chunk_of, held_of, place_in, room_in, ArePlaced}
+use Rattle.store_maps.specs.Entries.{entries_of}
 use Rattle.store_maps.specs.Held.{tree_of, held, has_place, IsReady}
 use Rattle.store_maps.specs.Merges.{MergesAll, at_key, has_fresh, AreFreshFor, AreReady}
-use Rattle.ring_names.specs.AtBytes.{value_at}
+use Rattle.ring_names.specs.AtBytes.{value_at, value_in}
 use Rattle.store_maps.proofs.OneAnswer.{none_from_empty, at_none, none_to}
 use Rattle.ring_names.proofs.AtBytes.{bytes_same}
 use Rattle.ring_names.proofs.InLists.{get_lent}
@@ -79,7 +80,7 @@ pub chosen_other : (i j : ℕ) (v : List Version) → i ≢ j → cond (nat_eq i
 chosen_other i j v ne = rw (false_from_ne_true (nat_eq i j) (λ h. ne (eqb-true i j h))) refl
 
 pub no_place : (m : KeyMap) (k : List ℕ) → has_place m k ≡ false → held m k ≡ []
-no_place m k e = ap (λ (o : Option (List Version)). unwrap_or o []) (none_from_empty (value_at (tree_of m).map k) e)
+no_place m k e = ap (λ (o : Option (List Version)). unwrap_or o []) (none_from_empty (value_in (entries_of (tree_of m).entries) k) e)
 
 -- ---- the map m of chunk c becomes n
 

@@ -98,8 +98,8 @@ pub record Forgetting {A X : Type 0} (node : ℕ) (old now : List ℕ → ℕ �
   pub gone : (k : List ℕ) → is_some (all k) ≡ true → value_in rest k ≡ None → now k node ≡ false
   pub stays : (k : List ℕ) → is_some (all k) ≡ false → now k node ≡ old k node
 
-pub forgetting_none : {A X : Type 0} (node : ℕ) (old : List ℕ → ℕ → Bool) (m : BTreeMap (Vec ℕ A) X) → Forgetting node old old (value_at m) m.entries
-forgetting_none node old m = record {
+pub forgetting_none : {A X : Type 0} (node : ℕ) (old : List ℕ → ℕ → Bool) (es : List (Vec ℕ A × X)) → Forgetting node old old (value_in es) es
+forgetting_none node old es = record {
   others = λ k x ne. refl;
   gone = λ k some none. absurd (let there = ap is_some none in cc);
   stays = λ k h. refl;

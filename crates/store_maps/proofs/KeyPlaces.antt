@@ -5,8 +5,9 @@ use Rattle.std.proofs.lemmas.Bool.{cases_Bool, eqb-true, eq-eqb, false_from_ne_t
 use Rattle.ring_versions.specs.declared.version.Version.{Version}
 use Rattle.ring_versions.specs.Versions.{IsApart}
 use Rattle.store_maps.specs.Chunks.{chunk_of}
+use Rattle.store_maps.specs.Entries.{entries_of}
 use Rattle.store_maps.specs.Held.{tree_of, held, has_place}
-use Rattle.ring_names.specs.AtBytes.{value_at}
+use Rattle.ring_names.specs.AtBytes.{value_in}
 use Rattle.store_maps.specs.declared.key_map.KeyMap.{KeyMap}
 use Rattle.store_maps.proofs.OneAnswer.{none_from_empty}
 use Rattle.store_maps.specs.Slots.{space_of}
@@ -36,4 +37,4 @@ in_chunk q c k v w here other = elim (cases_Bool (nat_eq (chunk_of q k) c)) [
 ]
 
 pub no_place : (m : KeyMap) (k : List ℕ) → (has_place m k ≡ true → ⊥) → held m k ≡ []
-no_place m k h = ap (λ (o : Option (List Version)). unwrap_or o []) (none_from_empty (value_at (tree_of m).map k) (false_from_ne_true (has_place m k) h))
+no_place m k h = ap (λ (o : Option (List Version)). unwrap_or o []) (none_from_empty (value_in (entries_of (tree_of m).entries) k) (false_from_ne_true (has_place m k) h))

@@ -15,9 +15,10 @@ use Rattle.ring_versions.specs.declared.version.Version.{Version}
 use Rattle.store_maps.specs.declared.key_tree.KeyTree.{KeyTree}
 use Rattle.store_maps.specs.Trees.{kept}
 use Rattle.store_maps.specs.Held.{AreKeys}
-use Rattle.ring_names.specs.AtBytes.{value_in, value_at, Puts}
+use Rattle.ring_names.specs.AtBytes.{value_in}
 use Rattle.ring_names.proofs.AtBytes.{same_bytes, bytes_same, by_bytes}
-use Rattle.store_maps.proofs.EntriesLeft.{by_items, later_in}
+use Rattle.store_maps.specs.Entries.{by_items, entries_of, PutsAt}
+use Rattle.store_maps.proofs.EntriesLeft.{later_in}
 use Rattle.ring_names.proofs.Logic.{or_swapped}
 use Rattle.std.proofs.lemmas.Bool.{or_right}
 
@@ -25,11 +26,11 @@ use Rattle.std.proofs.lemmas.Bool.{or_right}
 
 -- what is copied so far, with some entries left
 abbrev pub Copying : {A : Type 0} → KeyTree → KeyTree → List (Vec ℕ A × List Version) → Type 0
-Copying from copy rest = (k : List ℕ) → value_in rest k ≡ None → value_at copy.map k ≡ value_at from.map k
+Copying from copy rest = (k : List ℕ) → value_in rest k ≡ None → value_in (entries_of copy.entries) k ≡ value_in (entries_of from.entries) k
 
 pub copying_more : {A : Type 0} (from copy more : KeyTree) (rest later : List (Vec ℕ A × List Version)) (key : Vec ℕ A) (v : List Version)
-    → rest ≡ (key, v) ∷ later → value_at from.map key.items ≡ Some v → Puts copy.map more.map key.items v → Copying from copy rest → Copying from more later
-copying_more from copy more rest later key v is at put s = by_bytes key.items (λ (k : List ℕ). value_in later k ≡ None → value_at more.map k ≡ value_at from.map k)
+    → rest ≡ (key, v) ∷ later → value_in (entries_of from.entries) key.items ≡ Some v → PutsAt (entries_of copy.entries) (entries_of more.entries) key.items v → Copying from copy rest → Copying from more later
+copying_more from copy more rest later key v is at put s = by_bytes key.items (λ (k : List ℕ). value_in later k ≡ None → value_in (entries_of more.entries) k ≡ value_in (entries_of from.entries) k)
     (λ none. put.here ∙ sym at)
     (λ k e none. put.others k e ∙ s k (later_in key v rest later is k e ∙ none))
 
@@ -71,16 +72,16 @@ any_push : (k key : List ℕ) (keys : List (List ℕ)) → list_any (bytes_eq k)
 any_push k key [] = refl
 any_push k key (x ∷ xs) = rw (any_push k key xs) (or_swapped (bytes_eq k x) (bytes_eq k key) (list_any (bytes_eq k) xs))
 
-pub listing_none : (a : KeyTree) (keys : List (List ℕ)) → keys ≡ [] → IsStrictlySortedBy by_items (keys_of a.map.entries) → Listing a a.map.entries keys
+pub listing_none : (a : KeyTree) (keys : List (List ℕ)) → keys ≡ [] → IsStrictlySortedBy by_items (keys_of (entries_of a.entries)) → Listing a (entries_of a.entries) keys
 listing_none a (x ∷ xs) e order = absurd cc
 listing_none a [] e order = record {
-  rises = rising_items a.map.entries order;
+  rises = rising_items (entries_of a.entries) order;
   each = λ k ne none. absurd (ne (ap (λ (o : Option (List Version)). unwrap_or o []) none));
   only = λ k h. absurd cc;
 }
 
 module _ {A : Type 0} (a : KeyTree) (rest later : List (Vec ℕ A × List Version)) (keys : List (List ℕ)) (key : Vec ℕ A) (v : List Version)
-    (is : rest ≡ (key, v) ∷ later) (at : value_at a.map key.items ≡ Some v) (s : Listing a rest keys) where
+    (is : rest ≡ (key, v) ∷ later) (at : value_in (entries_of a.entries) key.items ≡ Some v) (s : Listing a rest keys) where
   rises : IsStrictlySortedBy (slice_cmp nat_cmp) (keys ++ key.items ∷ bytes_left later)
   rises = subst (λ (es : List (Vec ℕ A × List Version)). IsStrictlySortedBy (slice_cmp nat_cmp) (keys ++ bytes_left es)) is s.rises
 

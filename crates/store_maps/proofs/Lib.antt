@@ -4,7 +4,9 @@ pub mod Keys
 pub mod Maps
 pub mod MergesInTurn
 pub mod Puts
+pub mod Settled
 pub mod EntriesLeft
+pub mod EntryPlaces
 pub mod WholeMaps
 pub mod Slots
 pub mod Sharing

@@ -1,12 +1,12 @@
 -- What a map holds after a change at one key.
-use Rattle.std.proofs.Common.{◌≡◌, ◌≢◌, ◌⊎◌, inl, inr, ◌∙◌, ℕ, true, false, List, [], refl, sym, ap, subst, Option, Some}
+use Rattle.std.proofs.Common.{◌≡◌, ◌≢◌, ◌⊎◌, inl, inr, ◌∙◌, ℕ, true, false, List, [], ◌∷◌, refl, sym, ap, subst, Option, Some}
 use Rattle.std.specs.Prelude.{is_some, unwrap_or}
-use Rattle.std.specs.BTreeMap.{BTreeMap}
 use Rattle.std.specs.Str.{bytes_eq}
 use Rattle.std.specs.declared.vec.Vec.{Vec}
 use Rattle.ring_versions.specs.declared.version.Version.{Version}
 use Rattle.ring_versions.specs.Versions.{IsApart, IsMerge}
-use Rattle.ring_names.specs.AtBytes.{value_at, Puts}
+use Rattle.ring_names.specs.AtBytes.{value_in}
+use Rattle.store_maps.specs.Entries.{PutsAt}
 use Rattle.store_maps.specs.Places.{held_in, AreApart}
 use Rattle.store_maps.specs.Merges.{MergesAll, at_key}
 use Rattle.ring_names.proofs.AtBytes.{same_bytes, by_bytes}
@@ -18,7 +18,7 @@ at_here bs v = let e = same_bytes bs in rw e refl
 pub at_other : (bs k : List ℕ) (v : List Version) → bytes_eq bs k ≡ false → at_key bs v k ≡ []
 at_other bs k v e = rw e refl
 
-module _ {A : Type 0} (m n : BTreeMap (Vec ℕ A) (List Version)) (bs : List ℕ) (w : List Version) (p : Puts m n bs w) where
+module _ {A : Type 0} (m n : List (Vec ℕ A × List Version)) (bs : List ℕ) (w : List Version) (p : PutsAt m n bs w) where
   held_here : held_in n bs ≡ w
   held_here = ap (λ (o : Option (List Version)). unwrap_or o []) p.here
 
@@ -40,29 +40,33 @@ module _ {A : Type 0} (m n : BTreeMap (Vec ℕ A) (List Version)) (bs : List ℕ
   pub same_put : held_in m bs ≡ [] → w ≡ [] → (k : List ℕ) → held_in n k ≡ held_in m k
   same_put a b = by_bytes bs (λ (k : List ℕ). held_in n k ≡ held_in m k) (held_here ∙ b ∙ sym a) held_other
 
-  pub place_put : is_some (value_at n bs) ≡ true
+  pub place_put : is_some (value_in n bs) ≡ true
   place_put = ap is_some p.here
 
-  pub stays_put : (k : List ℕ) → is_some (value_at m k) ≡ true → is_some (value_at n k) ≡ true
-  stays_put = by_bytes bs (λ (k : List ℕ). is_some (value_at m k) ≡ true → is_some (value_at n k) ≡ true) (λ h. place_put) (λ k e h. ap is_some (p.others k e) ∙ h)
+  pub stays_put : (k : List ℕ) → is_some (value_in m k) ≡ true → is_some (value_in n k) ≡ true
+  stays_put = by_bytes bs (λ (k : List ℕ). is_some (value_in m k) ≡ true → is_some (value_in n k) ≡ true) (λ h. place_put) (λ k e h. ap is_some (p.others k e) ∙ h)
 
-  pub only_put : (k : List ℕ) → is_some (value_at n k) ≡ true → (is_some (value_at m k) ≡ true) ⊎ (k ≡ bs)
-  only_put = by_bytes bs (λ (k : List ℕ). is_some (value_at n k) ≡ true → (is_some (value_at m k) ≡ true) ⊎ (k ≡ bs)) (λ h. inr refl) (λ k e h. inl (sym (ap is_some (p.others k e)) ∙ h))
+  pub only_put : (k : List ℕ) → is_some (value_in n k) ≡ true → (is_some (value_in m k) ≡ true) ⊎ (k ≡ bs)
+  only_put = by_bytes bs (λ (k : List ℕ). is_some (value_in n k) ≡ true → (is_some (value_in m k) ≡ true) ⊎ (k ≡ bs)) (λ h. inr refl) (λ k e h. inl (sym (ap is_some (p.others k e)) ∙ h))
 
   -- where the bytes had a place
-  pub places_put : is_some (value_at m bs) ≡ true → (k : List ℕ) → is_some (value_at n k) ≡ is_some (value_at m k)
-  places_put h = by_bytes bs (λ (k : List ℕ). is_some (value_at n k) ≡ is_some (value_at m k)) (place_put ∙ sym h) (λ k e. ap is_some (p.others k e))
+  pub places_put : is_some (value_in m bs) ≡ true → (k : List ℕ) → is_some (value_in n k) ≡ is_some (value_in m k)
+  places_put h = by_bytes bs (λ (k : List ℕ). is_some (value_in n k) ≡ is_some (value_in m k)) (place_put ∙ sym h) (λ k e. ap is_some (p.others k e))
 
   -- where this was there before
-  pub unchanged_put : value_at m bs ≡ Some w → (k : List ℕ) → value_at n k ≡ value_at m k
-  unchanged_put h = by_bytes bs (λ (k : List ℕ). value_at n k ≡ value_at m k) (p.here ∙ sym h) p.others
+  pub unchanged_put : value_in m bs ≡ Some w → (k : List ℕ) → value_in n k ≡ value_in m k
+  unchanged_put h = by_bytes bs (λ (k : List ℕ). value_in n k ≡ value_in m k) (p.here ∙ sym h) p.others
 
   -- a new place is not empty
-  pub filled_put : w ≢ [] → (k : List ℕ) → is_some (value_at n k) ≡ true → (is_some (value_at m k) ≡ true) ⊎ (held_in n k ≢ [])
-  filled_put ne = by_bytes bs (λ (k : List ℕ). is_some (value_at n k) ≡ true → (is_some (value_at m k) ≡ true) ⊎ (held_in n k ≢ []))
+  pub filled_put : w ≢ [] → (k : List ℕ) → is_some (value_in n k) ≡ true → (is_some (value_in m k) ≡ true) ⊎ (held_in n k ≢ [])
+  filled_put ne = by_bytes bs (λ (k : List ℕ). is_some (value_in n k) ≡ true → (is_some (value_in m k) ≡ true) ⊎ (held_in n k ≢ []))
       (λ h. inr (λ none. ne (sym held_here ∙ none)))
       (λ k e h. inl (sym (ap is_some (p.others k e)) ∙ h))
 
 -- what is apart stays so where every value stays
-pub apart_same : {A : Type 0} (m n : BTreeMap (Vec ℕ A) (List Version)) → ((k : List ℕ) → value_at n k ≡ value_at m k) → AreApart m → AreApart n
+pub apart_same : {A : Type 0} (m n : List (Vec ℕ A × List Version)) → ((k : List ℕ) → value_in n k ≡ value_in m k) → AreApart m → AreApart n
 apart_same m n e a k = subst (λ (o : Option (List Version)). IsApart (unwrap_or o [])) (sym (e k)) (a k)
+
+pub apart_none : {A : Type 0} (es : List (Vec ℕ A × List Version)) → es ≡ [] → AreApart es
+apart_none [] e k = tt
+apart_none (x ∷ xs) e k = absurd cc

@@ -6,8 +6,9 @@ use Rattle.std.proofs.lemmas.Bool.{false_from_ne_true}
 use Rattle.ring_versions.specs.declared.version.Version.{Version}
 use Rattle.store_maps.specs.declared.key_map.KeyMap.{KeyMap}
 use Rattle.store_maps.specs.Chunks.{chunk_of, held_of, place_in, ArePlaced}
+use Rattle.store_maps.specs.Entries.{entries_of}
 use Rattle.store_maps.specs.Held.{tree_of, held, has_place}
-use Rattle.ring_names.specs.AtBytes.{value_at}
+use Rattle.ring_names.specs.AtBytes.{value_in}
 use Rattle.store_maps.proofs.OneAnswer.{none_from_empty}
 
 -- no key has a place
@@ -26,7 +27,7 @@ bare_push (x ∷ xs) m none s (suc c) k = bare_push xs m none (λ d j. s (suc d)
 
 pub bare_held : (o : Option KeyMap) (k : List ℕ) → place_in o k ≡ false → held_of o k ≡ []
 bare_held None k h = refl
-bare_held (Some m) k h = ap (λ (v : Option (List Version)). unwrap_or v []) (none_from_empty (value_at (tree_of m).map k) h)
+bare_held (Some m) k h = ap (λ (v : Option (List Version)). unwrap_or v []) (none_from_empty (value_in (entries_of (tree_of m).entries) k) h)
 
 pub bare_placed : (q : ℕ) (xs : List KeyMap) → AreBare xs → ArePlaced q xs
 bare_placed q xs s c k h = absurd (let none = s c k in cc)

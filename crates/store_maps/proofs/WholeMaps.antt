@@ -1,7 +1,6 @@
 -- Merges with whole maps, key after key: what holds with some entries left.
 use Rattle.std.proofs.Common.{◌≡◌, ◌≢◌, ◌⊎◌, inl, inr, ◌∙◌, ℕ, true, false, List, [], ◌∷◌, refl, sym, ap, subst, Option, Some, None}
 use Rattle.std.specs.Prelude.{is_some, unwrap_or, MatchOption, IfSome}
-use Rattle.std.specs.BTreeMap.{BTreeMap}
 use Rattle.std.specs.List.Sorted.{IsStrictlySortedBy}
 use Rattle.std.specs.Map.{keys_of}
 use Rattle.std.specs.Str.{bytes_eq}
@@ -21,14 +20,15 @@ use Rattle.store_maps.proofs.OneAnswer.{on_option, at_some, at_none, none_to, so
 use Rattle.ring_names.proofs.AtBytes.{same_bytes, by_bytes}
 use Rattle.store_maps.proofs.MergesInTurn.{merge_none, merge_twice, merge_then_none, merge_after_none}
 use Rattle.store_maps.proofs.Puts.{at_here, at_other}
-use Rattle.store_maps.proofs.EntriesLeft.{by_items, first_in, later_in, none_later}
+use Rattle.store_maps.specs.Entries.{by_items, entries_of}
+use Rattle.store_maps.proofs.EntriesLeft.{first_in, later_in, none_later}
 
 -- what comes to a key is at its place
-more_at : {A : Type 0} (m : BTreeMap (Vec ℕ A) (List Version)) (k : List ℕ) (v : List Version) → value_at m k ≡ Some v → held_in m k ≡ v
-more_at m k v e = ap (λ (o : Option (List Version)). unwrap_or o []) e
+more_at : {A : Type 0} (es : List (Vec ℕ A × List Version)) (k : List ℕ) (v : List Version) → value_in es k ≡ Some v → held_in es k ≡ v
+more_at es k v e = ap (λ (o : Option (List Version)). unwrap_or o []) e
 
-none_at : {A : Type 0} (m : BTreeMap (Vec ℕ A) (List Version)) (k : List ℕ) → value_at m k ≡ None → held_in m k ≡ []
-none_at m k e = ap (λ (o : Option (List Version)). unwrap_or o []) e
+none_at : {A : Type 0} (es : List (Vec ℕ A × List Version)) (k : List ℕ) → value_in es k ≡ None → held_in es k ≡ []
+none_at es k e = ap (λ (o : Option (List Version)). unwrap_or o []) e
 
 -- ---- a merge with a whole map
 
@@ -37,17 +37,17 @@ pub record Merging {A : Type 0} (old more now : List ℕ → List Version) (rest
   pub some : (k : List ℕ) → IsMerge (old k) [] (now k) ⊎ IsMerge (old k) (more k) (now k)
   pub done : (k : List ℕ) → value_in rest k ≡ None → IsMerge (old k) (more k) (now k)
 
-pub merging_none : (old other : KeyTree) → Merging (kept old) (kept other) (kept old) other.map.entries
+pub merging_none : (old other : KeyTree) → Merging (kept old) (kept other) (kept old) (entries_of other.entries)
 merging_none old other = record {
   some = λ k. inl (merge_none (kept old k) (old.apart k));
-  done = λ k e. subst (λ (more : List Version). IsMerge (kept old k) more (kept old k)) (sym (none_at other.map k e)) (merge_none (kept old k) (old.apart k));
+  done = λ k e. subst (λ (more : List Version). IsMerge (kept old k) more (kept old k)) (sym (none_at (entries_of other.entries) k e)) (merge_none (kept old k) (old.apart k));
 }
 
 pub merging_more : {A : Type 0} (old now new : List ℕ → List Version) (other : KeyTree) (rest later : List (Vec ℕ A × List Version)) (key : Vec ℕ A) (v : List Version)
-    → rest ≡ (key, v) ∷ later → value_at other.map key.items ≡ Some v → MergesAll now (at_key key.items v) new → Merging old (kept other) now rest → Merging old (kept other) new later
+    → rest ≡ (key, v) ∷ later → value_in (entries_of other.entries) key.items ≡ Some v → MergesAll now (at_key key.items v) new → Merging old (kept other) now rest → Merging old (kept other) new later
 merging_more old now new other rest later key v is at merged s =
     let mine : IsMerge (now key.items) v (new key.items) = subst (λ (more : List Version). IsMerge (now key.items) more (new key.items)) (at_here key.items v) (merged key.items) in
-    let all = subst (λ (more : List Version). IsMerge (now key.items) more (new key.items)) (sym (more_at other.map key.items v at)) mine in
+    let all = subst (λ (more : List Version). IsMerge (now key.items) more (new key.items)) (sym (more_at (entries_of other.entries) key.items v at)) mine in
     let here : IsMerge (old key.items) (kept other key.items) (new key.items) = elim (s.some key.items) [
       | inl none ↦ merge_after_none (old key.items) (now key.items) (kept other key.items) (new key.items) none all
       | inr twice ↦ merge_twice (old key.items) (kept other key.items) (now key.items) (new key.items) twice all
@@ -74,22 +74,22 @@ pub record Preparing {A : Type 0} (old now other : KeyTree) (keys : FreshKeys) (
   pub ready : (k : List ℕ) → MatchOption (value_at keys.map k) (value_in rest k ≡ None → IsMerge (kept old k) (kept other k) (kept old k))
       (λ x. (has_entry now k ≡ true) × IsFreshFor (kept old k) (kept other k) x)
 
-pub preparing_none : (old other : KeyTree) (keys : FreshKeys) → ((k : List ℕ) → value_at keys.map k ≡ None) → Preparing old old other keys other.map.entries
+pub preparing_none : (old other : KeyTree) (keys : FreshKeys) → ((k : List ℕ) → value_at keys.map k ≡ None) → Preparing old old other keys (entries_of other.entries)
 preparing_none old other keys none = record {
   same = λ k. refl;
   stays = λ k h. h;
   only = λ k h. inl h;
   drawn = λ k h. absurd (let e = none k in cc);
   ready = λ k. none_to (value_at keys.map k) _ _ (none k) (λ e.
-      subst (λ (more : List Version). IsMerge (kept old k) more (kept old k)) (sym (none_at other.map k e)) (merge_none (kept old k) (old.apart k)));
+      subst (λ (more : List Version). IsMerge (kept old k) more (kept old k)) (sym (none_at (entries_of other.entries) k e)) (merge_none (kept old k) (old.apart k)));
 }
 
 module _ {A : Type 0} (old now new other : KeyTree) (keys : FreshKeys) (rest later : List (Vec ℕ A × List Version)) (key : Vec ℕ A) (v : List Version) (x : Fresh)
-    (is : rest ≡ (key, v) ∷ later) (at : value_at other.map key.items ≡ Some v) (same : (k : List ℕ) → kept new k ≡ kept now k)
+    (is : rest ≡ (key, v) ∷ later) (at : value_in (entries_of other.entries) key.items ≡ Some v) (same : (k : List ℕ) → kept new k ≡ kept now k)
     (stays : (k : List ℕ) → has_entry now k ≡ true → has_entry new k ≡ true) (only : (k : List ℕ) → has_entry new k ≡ true → (has_entry now k ≡ true) ⊎ (k ≡ key.items))
     (fresh : IsFreshFor (kept now key.items) v x) (s : Preparing old now other keys rest) where
   its_fresh : IsFreshFor (kept old key.items) (kept other key.items) x
-  its_fresh = subst (λ (was : List Version). IsFreshFor was (kept other key.items) x) (s.same key.items) (subst (λ (comes : List Version). IsFreshFor (kept now key.items) comes x) (sym (more_at other.map key.items v at)) fresh)
+  its_fresh = subst (λ (was : List Version). IsFreshFor was (kept other key.items) x) (s.same key.items) (subst (λ (comes : List Version). IsFreshFor (kept now key.items) comes x) (sym (more_at (entries_of other.entries) key.items v at)) fresh)
 
   comes : has_entry other key.items ≡ true
   comes = ap is_some at
@@ -128,7 +128,7 @@ module _ {A : Type 0} (old now new other : KeyTree) (keys : FreshKeys) (rest lat
   }
 
 -- a place that a turn made is of a key that comes
-pub more_places : (old now new other : KeyTree) (key bs : List ℕ) (v : List Version) → bs ≡ key → value_at other.map key ≡ Some v → ((k : List ℕ) → has_entry new k ≡ true → (has_entry now k ≡ true) ⊎ (k ≡ bs))
+pub more_places : (old now new other : KeyTree) (key bs : List ℕ) (v : List Version) → bs ≡ key → value_in (entries_of other.entries) key ≡ Some v → ((k : List ℕ) → has_entry new k ≡ true → (has_entry now k ≡ true) ⊎ (k ≡ bs))
     → ((k : List ℕ) → has_entry now k ≡ true → (has_entry old k ≡ true) ⊎ (has_entry other k ≡ true)) → (k : List ℕ) → has_entry new k ≡ true → (has_entry old k ≡ true) ⊎ (has_entry other k ≡ true)
 more_places old now new other key bs v same at only before k h = elim (only k h) [
   | inl was ↦ before k was

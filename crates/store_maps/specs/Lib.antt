@@ -1,4 +1,5 @@
 pub mod Places
+pub mod Entries
 pub mod Trees
 pub mod Held
 pub mod Merges

@@ -4,16 +4,17 @@ use Rattle.ring_versions.specs.Fresh.{FitsIn}
 use Rattle.ring_versions.specs.declared.fresh.Fresh.{Fresh}
 use Rattle.ring_versions.specs.declared.version.Version.{Version}
 use Rattle.store_maps.specs.declared.key_tree.KeyTree.{KeyTree}
-use Rattle.ring_names.specs.AtBytes.{value_at}
+use Rattle.ring_names.specs.AtBytes.{value_in}
+use Rattle.store_maps.specs.Entries.{entries_of}
 use Rattle.store_maps.specs.Places.{held_in}
 
 -- the versions of the key, none where it has no place
 abbrev pub kept : KeyTree → List ℕ → List Version
-kept a k = held_in a.map k
+kept a k = held_in (entries_of a.entries) k
 
 -- whether the key has a place, be it empty
 abbrev pub has_entry : KeyTree → List ℕ → Bool
-has_entry a k = is_some (value_at a.map k)
+has_entry a k = is_some (value_in (entries_of a.entries) k)
 
 -- the key has a place, and f was made for its versions
 abbrev pub IsReadyIn : KeyTree → List ℕ → Fresh → Type 0

@@ -16,7 +16,7 @@ impl KeyTree {
         ensures ok { OnOk result (MergesAll (kept self.old) (kept other.now) (kept self.new)) }
         ensures memory { IfErr result (λ e. e ≡ OutOfMemory) }
     {
-        'keys: for (key, versions) in &other.map {
+        'keys: for (key, versions) in other.entries.walk() {
             self.merge(key.as_slice(), versions)?;
         }
         Ok(())
@@ -34,7 +34,7 @@ impl KeyTree {
         ensures memory { IfErr result (λ e. e ≡ OutOfMemory) }
     {
         let mut keys = FreshKeys::new(self.alloc);
-        'keys: for (key, versions) in &other.map {
+        'keys: for (key, versions) in other.entries.walk() {
             let fresh = self.prepare(key.as_slice(), versions)?;
             if !fresh.is_empty() {
                 keys.put(key.as_slice(), fresh)?;

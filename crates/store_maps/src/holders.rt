@@ -100,7 +100,7 @@ impl Holders {
         ensures gone { (k : List ℕ) → has_entry map.now k ≡ true → holds self.new k node.0 ≡ false }
         ensures stays { (k : List ℕ) → has_entry map.now k ≡ false → holds self.new k node.0 ≡ holds self.old k node.0 }
     {
-        'keys: for (key, _) in &map.map {
+        'keys: for (key, _) in map.entries.walk() {
             self.remove(key.as_slice(), node);
         }
     }

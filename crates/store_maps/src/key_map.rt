@@ -65,7 +65,7 @@ impl KeyMap {
         ensures some { IfSome result (λ v. (v.now ≡ held self.now key.now) × (v.now ≢ [])) }
         ensures none { IfNone result (held self.now key.now ≡ []) }
     {
-        match self.tree().map.get(key) {
+        match self.tree().entries.get(key) {
             Some(versions) if !versions.list().is_empty() => Some(versions),
             _ => None,
         }
@@ -75,7 +75,7 @@ impl KeyMap {
     pub fn is_empty(&self) -> bool
         ensures { IsTrue result ↔ ((k : List ℕ) → has_place self.now k ≡ false) }
     {
-        self.tree().map.is_empty()
+        self.tree().entries.is_empty()
     }
 
     /// The keys that have versions, in ascending byte order. Costs a walk over the map.
@@ -92,7 +92,7 @@ impl KeyMap {
         ensures places { (k : List ℕ) → has_place self.new k ≡ has_place self.old k }
         ensures memory { IfErr result (λ e. e ≡ OutOfMemory) }
     {
-        if self.shared.is_some() || self.own.map.is_empty() {
+        if self.shared.is_some() || self.own.entries.is_empty() {
             return Ok(());
         }
         let alloc = self.own.alloc;

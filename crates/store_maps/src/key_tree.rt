@@ -1,27 +1,30 @@
 //! Trees from key to versions.
 
+ghost use Rattle.store_maps.specs.Entries.{entries_of, IsInOrder, IsInOrder-prop};
 ghost use Rattle.store_maps.specs.Places.{AreApart, AreApart-prop};
 
+use crate::entries::Entries;
 use ring_names::{Listed, Refusal};
 use ring_versions::Versions;
 use std::alloc::Global;
-use std::collections::BTreeMap;
 
 /// Versions by key, in ascending byte order of the keys: what a map has for itself, or shares with others.
 #[derive(Drop)]
 pub struct KeyTree {
     pub(crate) alloc: Global,
-    pub(crate) map: BTreeMap<Vec<u8>, Versions>,
-    ghost apart: { AreApart map } by { AreApart-prop map },
+    pub(crate) entries: Entries,
+    ghost order: { IsInOrder entries } by { IsInOrder-prop entries },
+    ghost apart: { AreApart (entries_of entries) } by { AreApart-prop (entries_of entries) },
 }
 
 impl KeyTree {
     ghost use Rattle.std.specs.Prelude.{◌≡◌, ◌⊎◌, ℕ, true, false, [], List, IfOk, IfErr, OnOk, OnErr};
     ghost use Rattle.ring_names.specs.declared.refusal.Refusal.TheVariants.{OutOfMemory};
     ghost use Rattle.ring_versions.specs.Versions.{IsApart};
+    ghost use Rattle.store_maps.specs.Entries.{PutsAt};
     ghost use Rattle.store_maps.specs.Held.{AreKeys};
     ghost use Rattle.store_maps.specs.Trees.{kept, has_entry};
-    ghost use Rattle.ring_names.specs.AtBytes.{value_at, Puts};
+    ghost use Rattle.ring_names.specs.AtBytes.{value_in};
 
     /// No versions.
     pub fn new(alloc: Global) -> KeyTree
@@ -30,7 +33,7 @@ impl KeyTree {
     {
         KeyTree {
             alloc,
-            map: BTreeMap::new(alloc),
+            entries: Entries::new(alloc),
         }
     }
 
@@ -40,7 +43,7 @@ impl KeyTree {
         ensures memory { IfErr result (λ e. e ≡ OutOfMemory) }
     {
         let mut keys = Vec::new(self.alloc);
-        'keys: for (key, versions) in &self.map {
+        'keys: for (key, versions) in self.entries.walk() {
             if !versions.list().is_empty() {
                 let bytes = Vec::from_slice(self.alloc, key.as_slice())?;
                 keys.push(Listed::from_vec(bytes))?;
@@ -56,7 +59,7 @@ impl KeyTree {
         ensures memory { IfErr result (λ e. e ≡ OutOfMemory) }
     {
         let mut copy = KeyTree::new(self.alloc);
-        'keys: for (key, versions) in &self.map {
+        'keys: for (key, versions) in self.entries.walk() {
             copy.put(key.as_slice(), versions.try_copy()?)?;
         }
         Ok(copy)
@@ -65,13 +68,12 @@ impl KeyTree {
     // The versions at the key, in place of what it had.
     pub(crate) fn put(&mut self, key: &[u8], versions: Versions) -> Result<(), Refusal>
         requires { IsApart versions }
-        ensures ok { OnOk result (Puts self.old.map self.new.map key.now versions) }
-        ensures err { OnErr result ((k : List ℕ) → value_at self.new.map k ≡ value_at self.old.map k) }
+        ensures ok { OnOk result (PutsAt (entries_of self.old.entries) (entries_of self.new.entries) key.now versions) }
+        ensures err { OnErr result ((k : List ℕ)
+            → value_in (entries_of self.new.entries) k ≡ value_in (entries_of self.old.entries) k) }
         ensures only { (k : List ℕ) → has_entry self.new k ≡ true → (has_entry self.old k ≡ true) ⊎ (k ≡ key.now) }
         ensures memory { IfErr result (λ e. e ≡ OutOfMemory) }
     {
-        let kept = Vec::from_slice(self.alloc, key)?;
-        self.map.insert(kept, versions)?;
-        Ok(())
+        self.entries.put(self.alloc, key, versions)
     }
 }

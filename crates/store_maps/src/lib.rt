@@ -2,6 +2,7 @@
 #![tactic(auto)]
 
 mod all_keys;
+mod entries;
 mod fresh_keys;
 mod fresh_maps;
 mod holders;
@@ -9,6 +10,7 @@ mod key_map;
 mod key_tree;
 mod one_key;
 mod slot_map;
+mod walk;
 mod whole_slot;
 
 pub use fresh_keys::FreshKeys;

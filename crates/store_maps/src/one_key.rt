@@ -1,5 +1,6 @@
 //! Merges at one key of a tree.
 
+use crate::entries::{Entries, place_of};
 use crate::key_tree::KeyTree;
 use ring_names::Refusal;
 use ring_versions::{Fresh, Versions};
@@ -21,7 +22,7 @@ impl KeyTree {
         ensures ready { IfOk result (λ f. IsReadyIn self.new key.now f) }
         ensures memory { IfErr result (λ e. e ≡ OutOfMemory) }
     {
-        if let Some(versions) = self.map.get(key) {
+        if let Some(versions) = self.entries.get(key) {
             return versions.fresh_of(more);
         }
         self.put(key, Versions::new(self.alloc))?;
@@ -36,8 +37,16 @@ impl KeyTree {
         ensures others { (k : List ℕ) → k ≢ key.now → kept self.new k ≡ kept self.old k }
         ensures places { (k : List ℕ) → has_entry self.new k ≡ has_entry self.old k }
     {
-        if let Some(versions) = self.map.get_mut(key) {
-            versions.absorb(fresh);
+        match &mut self.entries {
+            Entries::Few(list) => match place_of(list.as_slice(), key) {
+                Ok(place) => list[place].1.absorb(fresh),
+                Err(_) => {}
+            },
+            Entries::Many(tree) => {
+                if let Some(versions) = tree.get_mut(key) {
+                    versions.absorb(fresh);
+                }
+            }
         }
     }
 
@@ -52,8 +61,10 @@ impl KeyTree {
         ensures places { OnErr result ((k : List ℕ) → has_entry self.new k ≡ has_entry self.old k) }
         ensures memory { IfErr result (λ e. e ≡ OutOfMemory) }
     {
-        if let Some(versions) = self.map.get_mut(key) {
-            return versions.merge(more);
+        if let Some(versions) = self.entries.get(key) {
+            let fresh = versions.fresh_of(more)?;
+            self.settle(key, fresh);
+            return Ok(());
         }
         if more.list().is_empty() {
             return Ok(());

@@ -8,7 +8,7 @@ use Rattle.store_maps.proofs.key_tree.KeyTree.prepare.Goals as goal
 
 pub returns-in-Some-clause-ready : goal.returns-in-Some-clause-ready
 returns-in-Some-clause-ready c =
-    let is = (c.in-Some.ensures).value in
+    let is = sym (c.in-Some.ensures).some in
     let was = ap (λ (o : Option (List Version)). unwrap_or o []) is in
     IfOk-weaker c.fresh_of.result _ _ (λ f h. (subst IsSome is refl, (c.args.more.now, subst (λ (kept : List Version). IsFreshFor kept c.args.more.now f) was h))) c.fresh_of.ensures.ok
 

@@ -1,0 +1,181 @@
+//! Entries of keys and their versions, in order: few in a vector, many in a tree.
+
+ghost use Rattle.std.specs.Prelude.{◌≡◌, ◌↔◌, ℕ, List, [], Some, None, length, IsTrue, IfSome, IfNone, IfOk, IfErr, OnOk, OnErr};
+ghost use Rattle.std.specs.List.Sorted.{IsStrictlySortedBy};
+ghost use Rattle.std.specs.Map.{keys_of};
+ghost use Rattle.ring_names.specs.AtBytes.{value_in};
+ghost use Rattle.ring_names.specs.declared.refusal.Refusal.TheVariants.{OutOfMemory};
+ghost use Rattle.store_maps.specs.Entries.{by_items, entries_of, left_of, GoesAt, IsInOrder, IsThere, PutsAt};
+
+use crate::walk::Walk;
+use ring_names::Refusal;
+use ring_versions::Versions;
+use std::alloc::Global;
+use std::cmp::Ordering;
+use std::collections::BTreeMap;
+
+// How many entries a vector has at most.
+const FEW: usize = 8;
+
+// Versions by key, in ascending byte order of the keys. The smallest block of a tree is as large as twenty entries of a vector, and most
+// keepers of hints have one key of a chunk: so a vector has the first eight, and is as long as they need.
+#[derive(Drop)]
+pub(crate) enum Entries {
+    Few(Vec<(Vec<u8>, Versions)>),
+    Many(BTreeMap<Vec<u8>, Versions>),
+}
+
+// Where the key is, or where it would stand.
+pub(crate) fn place_of(list: &[(Vec<u8>, Versions)], key: &[u8]) -> Result<usize, usize>
+    ensures found { IfOk result (IsThere key.now list.now) }
+    ensures missing { IfErr result (GoesAt key.now list.now) }
+{
+    let mut rest = list;
+    let mut place = 0;
+    'places: while let Some((entry, later)) = rest.split_first() {
+        match key.cmp(entry.0.as_slice()) {
+            Ordering::Less => return Err(place),
+            Ordering::Equal => return Ok(place),
+            Ordering::Greater => {}
+        }
+        place += 1;
+        rest = later;
+    }
+    Err(place)
+}
+
+// Room for one more entry: a vector grows to one, two, four, eight.
+fn lengthen(list: &mut Vec<(Vec<u8>, Versions)>) -> Result<(), Refusal>
+    ensures same { list.new.items ≡ list.old.items }
+    ensures memory { IfErr result (λ e. e ≡ OutOfMemory) }
+{
+    if list.len() == list.capacity() {
+        list.reserve_exact(list.len().max(1))?;
+    }
+    Ok(())
+}
+
+// The versions at the key, in place of what it had.
+fn put_few(
+    list: &mut Vec<(Vec<u8>, Versions)>,
+    key: Vec<u8>,
+    versions: Versions,
+) -> Result<(), Refusal>
+    requires { IsStrictlySortedBy by_items (keys_of list.old.items) }
+    ensures order { IsStrictlySortedBy by_items (keys_of list.new.items) }
+    ensures ok { OnOk result (PutsAt list.old.items list.new.items key.items versions) }
+    ensures err { OnErr result (list.new.items ≡ list.old.items) }
+    ensures memory { IfErr result (λ e. e ≡ OutOfMemory) }
+{
+    match place_of(list.as_slice(), key.as_slice()) {
+        Ok(place) => list[place].1 = versions,
+        Err(place) => {
+            lengthen(list)?;
+            list.insert(place, (key, versions))?;
+        }
+    }
+    Ok(())
+}
+
+// A tree with what the vector has.
+fn tree_with(
+    alloc: Global,
+    list: &[(Vec<u8>, Versions)],
+) -> Result<BTreeMap<Vec<u8>, Versions>, Refusal>
+    requires { IsStrictlySortedBy by_items (keys_of list.now) }
+    ensures order { IfOk result (λ m. IsStrictlySortedBy by_items (keys_of m.entries)) }
+    ensures same { IfOk result (λ m. (k : List ℕ) → value_in m.entries k ≡ value_in list.now k) }
+    ensures memory { IfErr result (λ e. e ≡ OutOfMemory) }
+{
+    let mut tree = BTreeMap::new(alloc);
+    let mut rest = list;
+    'entries: while let Some(((key, versions), later)) = rest.split_first() {
+        let kept = Vec::from_slice(alloc, key.as_slice())?;
+        tree.insert(kept, versions.try_copy()?)?;
+        rest = later;
+    }
+    Ok(tree)
+}
+
+impl Entries {
+    // None. Takes no memory.
+    pub(crate) fn new(alloc: Global) -> Entries
+        ensures { entries_of result ≡ [] }
+    {
+        Entries::Few(Vec::new(alloc))
+    }
+
+    pub(crate) fn is_empty(&self) -> bool
+        ensures { IsTrue result ↔ (length (entries_of self.now) ≡ 0) }
+    {
+        match self {
+            Entries::Few(list) => list.is_empty(),
+            Entries::Many(tree) => tree.is_empty(),
+        }
+    }
+
+    // The versions at the key, if it is there.
+    pub(crate) fn get(&self, key: &[u8]) -> Option<&Versions>
+        requires { IsInOrder self.now }
+        ensures some { IfSome result (λ v. value_in (entries_of self.now) key.now ≡ Some v.now) }
+        ensures none { IfNone result (value_in (entries_of self.now) key.now ≡ None) }
+    {
+        match self {
+            Entries::Few(list) => match place_of(list.as_slice(), key) {
+                Ok(place) => Some(&list[place].1),
+                Err(_) => None,
+            },
+            Entries::Many(tree) => tree.get(key),
+        }
+    }
+
+    // The entries, in ascending byte order of the keys.
+    pub(crate) fn walk(&self) -> Walk<'_>
+        ensures { left_of result ≡ entries_of self.now }
+    {
+        match self {
+            Entries::Few(list) => Walk::Few(list.as_slice()),
+            Entries::Many(tree) => Walk::Many(tree.iter()),
+        }
+    }
+
+    // A vector that is full becomes a tree, made aside.
+    fn widen(&mut self, alloc: Global) -> Result<(), Refusal>
+        requires { IsInOrder self.old }
+        ensures order { IsInOrder self.new }
+        ensures same { (k : List ℕ) → value_in (entries_of self.new) k ≡ value_in (entries_of self.old) k }
+        ensures memory { IfErr result (λ e. e ≡ OutOfMemory) }
+    {
+        let tree = match self {
+            Entries::Few(list) if list.len() >= FEW => tree_with(alloc, list.as_slice())?,
+            _ => return Ok(()),
+        };
+        *self = Entries::Many(tree);
+        Ok(())
+    }
+
+    // The versions at the key, in place of what it had. Refused, it has changed nothing.
+    pub(crate) fn put(
+        &mut self,
+        alloc: Global,
+        key: &[u8],
+        versions: Versions,
+    ) -> Result<(), Refusal>
+        requires { IsInOrder self.old }
+        ensures order { IsInOrder self.new }
+        ensures ok { OnOk result (PutsAt (entries_of self.old) (entries_of self.new) key.now versions) }
+        ensures err { OnErr result ((k : List ℕ)
+            → value_in (entries_of self.new) k ≡ value_in (entries_of self.old) k) }
+        ensures memory { IfErr result (λ e. e ≡ OutOfMemory) }
+    {
+        self.widen(alloc)?;
+        let kept = Vec::from_slice(alloc, key)?;
+        match self {
+            Entries::Few(list) => put_few(list, kept, versions),
+            Entries::Many(tree) => {
+                tree.insert(kept, versions)?;
+                Ok(())
+            }
+        }
+    }
+}
