@@ -2,6 +2,7 @@ pub mod OneAnswer
 pub mod Chunks
 pub mod Keys
 pub mod Maps
+pub mod MapPlaces
 pub mod MergesInTurn
 pub mod Puts
 pub mod Settled

@@ -1,12 +1,12 @@
 -- What the maps of a slot hold.
-use Rattle.std.specs.Prelude.{◌≡◌, ℕ, Bool, true, List, [], Option, Some, None, IfSome, slice_get}
+use Rattle.std.specs.Prelude.{◌≡◌, ℕ, Bool, true, List, [], Option, Some, None, IfSome}
 use Rattle.ring_versions.specs.Fresh.{FitsIn}
 use Rattle.ring_versions.specs.declared.fresh.Fresh.{Fresh}
 use Rattle.ring_versions.specs.declared.version.Version.{Version}
 use Rattle.store_maps.specs.declared.fresh_keys.FreshKeys.{FreshKeys}
 use Rattle.store_maps.specs.declared.fresh_maps.FreshMaps.{FreshMaps}
 use Rattle.store_maps.specs.declared.slot_map.SlotMap.{SlotMap}
-use Rattle.store_maps.specs.Chunks.{chunk_of, held_of, place_in, room_in}
+use Rattle.store_maps.specs.Chunks.{chunk_of, held_of, map_in, place_in, room_in}
 use Rattle.store_maps.specs.Merges.{fresh_at, fresh_in}
 
 -- how many partitions the hash space has
@@ -15,15 +15,15 @@ space_of a = a.q
 
 -- the versions of the key, none where it has no place in its chunk's map
 abbrev pub held_for : SlotMap → List ℕ → List Version
-held_for a k = held_of (slice_get a.chunks.items (chunk_of a.q k)) k
+held_for a k = held_of (map_in a.chunks.items (chunk_of a.q k)) k
 
 -- whether the key has a place in its chunk's map, be it empty
 abbrev pub has_place_for : SlotMap → List ℕ → Bool
-has_place_for a k = place_in (slice_get a.chunks.items (chunk_of a.q k)) k
+has_place_for a k = place_in (map_in a.chunks.items (chunk_of a.q k)) k
 
 -- whether the key has a place in its chunk's map, and that map shares nothing
 abbrev pub has_room_for : SlotMap → List ℕ → Bool
-has_room_for a k = room_in (slice_get a.chunks.items (chunk_of a.q k)) k
+has_room_for a k = room_in (map_in a.chunks.items (chunk_of a.q k)) k
 
 -- the key has a place in a map that shares nothing, and f was made for its versions
 abbrev pub IsReadyFor : SlotMap → List ℕ → Fresh → Type 0

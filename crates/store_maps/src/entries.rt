@@ -7,6 +7,7 @@ ghost use Rattle.ring_names.specs.AtBytes.{value_in};
 ghost use Rattle.ring_names.specs.declared.refusal.Refusal.TheVariants.{OutOfMemory};
 ghost use Rattle.store_maps.specs.Entries.{by_items, entries_of, left_of, GoesAt, IsInOrder, IsThere, PutsAt};
 
+use crate::lengthen::lengthen;
 use crate::walk::Walk;
 use ring_names::Refusal;
 use ring_versions::Versions;
@@ -42,17 +43,6 @@ pub(crate) fn place_of(list: &[(Vec<u8>, Versions)], key: &[u8]) -> Result<usize
         rest = later;
     }
     Err(place)
-}
-
-// Room for one more entry: a vector grows to one, two, four, eight.
-fn lengthen(list: &mut Vec<(Vec<u8>, Versions)>) -> Result<(), Refusal>
-    ensures same { list.new.items ≡ list.old.items }
-    ensures memory { IfErr result (λ e. e ≡ OutOfMemory) }
-{
-    if list.len() == list.capacity() {
-        list.reserve_exact(list.len().max(1))?;
-    }
-    Ok(())
 }
 
 // The versions at the key, in place of what it had.

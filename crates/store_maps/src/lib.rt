@@ -8,6 +8,7 @@ mod fresh_maps;
 mod holders;
 mod key_map;
 mod key_tree;
+mod lengthen;
 mod one_key;
 mod slot_map;
 mod walk;

@@ -1,26 +1,48 @@
 //! The keys of one slot.
 
-ghost use Rattle.std.specs.Prelude.{◌≡◌, length};
-ghost use Rattle.store_maps.specs.Chunks.{ArePlaced};
+ghost use Rattle.std.specs.Prelude.{◌≡◌, None, IfSome, IfNone};
+ghost use Rattle.store_maps.specs.Chunks.{map_in, ArePlaced, IsBare, IsMapAt};
 
 use crate::fresh_keys::FreshKeys;
 use crate::key_map::KeyMap;
+use crate::lengthen::lengthen;
 use ring_names::Refusal;
 use ring_versions::{Fresh, Versions};
 use std::alloc::Global;
 
-/// The versions of one slot's keys, in a map for each of the sixteen chunks of its partition. Calls take a key's chunk beside the key, so
-/// that its digest is made once for all of them.
+/// The versions of one slot's keys, in a map for each chunk of its partition to which something came, of sixteen at most. Calls take a key's
+/// chunk beside the key, so that its digest is made once for all of them.
 #[derive(Drop)]
 pub struct SlotMap {
+    alloc: Global,
     q: u32,
-    chunks: Vec<KeyMap>,
-    ghost whole: { length chunks.items ≡ 16 },
+    // What is read of a chunk without a map.
+    empty: KeyMap,
+    // The maps with the numbers of their chunks, in the order in which they were made.
+    chunks: Vec<(u32, KeyMap)>,
     ghost placed: { ArePlaced q chunks.items },
+    ghost bare: { IsBare empty },
+}
+
+// Where the map of a chunk is, if there is one.
+fn map_place(maps: &[(u32, KeyMap)], chunk: u32) -> Option<usize>
+    ensures some { IfSome result (IsMapAt chunk maps.now) }
+    ensures none { IfNone result (map_in maps.now chunk ≡ None) }
+{
+    let mut rest = maps;
+    let mut place = 0;
+    'maps: while let Some((entry, later)) = rest.split_first() {
+        if entry.0 == chunk {
+            return Some(place);
+        }
+        place += 1;
+        rest = later;
+    }
+    None
 }
 
 impl SlotMap {
-    ghost use Rattle.std.specs.Prelude.{◌≢◌, ◌↔◌, ◌⊎◌, ◌<◌, ℕ, true, false, [], List, IsTrue, IfSome, IfNone, IfOk};
+    ghost use Rattle.std.specs.Prelude.{◌≢◌, ◌↔◌, ◌⊎◌, ◌<◌, ℕ, true, false, [], List, IsTrue, IfOk};
     ghost use Rattle.std.specs.Prelude.{IfErr, OnOk, OnErr};
     ghost use Rattle.ring_names.specs.declared.refusal.Refusal.TheVariants.{OutOfMemory};
     ghost use Rattle.ring_versions.specs.Fresh.{IsFreshFor};
@@ -38,11 +60,30 @@ impl SlotMap {
         ensures places { IfOk result (λ a. (k : List ℕ) → has_place_for a k ≡ false) }
         ensures memory { IfErr result (λ e. e ≡ OutOfMemory) }
     {
-        let mut chunks = Vec::new(alloc);
-        'chunks: for _chunk in 0..16u32 {
-            chunks.push(KeyMap::new(alloc))?;
+        Ok(SlotMap {
+            alloc,
+            q,
+            empty: KeyMap::new(alloc),
+            chunks: Vec::new(alloc),
+        })
+    }
+
+    // The place of a chunk's map, made where it is missing. No reading changes, whatever the answer.
+    fn open(&mut self, chunk: u32) -> Result<usize, Refusal>
+        ensures space { space_of self.new ≡ space_of self.old }
+        ensures same { (k : List ℕ) → held_for self.new k ≡ held_for self.old k }
+        ensures places { (k : List ℕ) → has_place_for self.new k ≡ has_place_for self.old k }
+        ensures rooms { (k : List ℕ) → has_room_for self.new k ≡ has_room_for self.old k }
+        ensures at { IfOk result (IsMapAt chunk self.new.chunks.items) }
+        ensures memory { IfErr result (λ e. e ≡ OutOfMemory) }
+    {
+        if let Some(place) = map_place(self.chunks.as_slice(), chunk) {
+            return Ok(place);
         }
-        Ok(SlotMap { q, chunks })
+        let place = self.chunks.len();
+        lengthen(&mut self.chunks)?;
+        self.chunks.push((chunk, KeyMap::new(self.alloc)))?;
+        Ok(place)
     }
 
     /// The map of a chunk. Takes no memory.
@@ -53,7 +94,10 @@ impl SlotMap {
         ensures places { (k : List ℕ) → chunk_of (space_of self.now) k ≡ chunk
             → has_place result.now k ≡ has_place_for self.now k }
     {
-        &self.chunks[chunk as usize]
+        match map_place(self.chunks.as_slice(), chunk) {
+            Some(place) => &self.chunks[place].1,
+            None => &self.empty,
+        }
     }
 
     /// Lets copies share the map of a chunk from here on, as `KeyMap::share` does. No reading changes, whatever the answer.
@@ -64,8 +108,10 @@ impl SlotMap {
         ensures places { (k : List ℕ) → has_place_for self.new k ≡ has_place_for self.old k }
         ensures memory { IfErr result (λ e. e ≡ OutOfMemory) }
     {
-        let map = &mut self.chunks[chunk as usize];
-        map.share()
+        match map_place(self.chunks.as_slice(), chunk) {
+            Some(place) => self.chunks[place].1.share(),
+            None => Ok(()),
+        }
     }
 
     /// The versions of a key of the chunk, if it has any. Takes no memory.
@@ -89,8 +135,8 @@ impl SlotMap {
         ensures ready { IfOk result (λ f. IsReadyFor self.new key.now f) }
         ensures memory { IfErr result (λ e. e ≡ OutOfMemory) }
     {
-        let map = &mut self.chunks[chunk as usize];
-        map.prepare(key, more)
+        let place = self.open(chunk)?;
+        self.chunks[place].1.prepare(key, more)
     }
 
     /// The second half of a merge at one key of the chunk, which cannot fail.
@@ -103,8 +149,10 @@ impl SlotMap {
         ensures places { (k : List ℕ) → has_place_for self.new k ≡ has_place_for self.old k }
         ensures rooms { (k : List ℕ) → has_room_for self.new k ≡ has_room_for self.old k }
     {
-        let map = &mut self.chunks[chunk as usize];
-        map.settle(key, fresh);
+        match map_place(self.chunks.as_slice(), chunk) {
+            Some(place) => self.chunks[place].1.settle(key, fresh),
+            None => {}
+        }
     }
 
     /// A merge at one key of the chunk in one call. Refused, it has changed nothing and made no place; it never makes an empty one.
@@ -119,8 +167,11 @@ impl SlotMap {
         ensures places { OnErr result ((k : List ℕ) → has_place_for self.new k ≡ has_place_for self.old k) }
         ensures memory { IfErr result (λ e. e ≡ OutOfMemory) }
     {
-        let map = &mut self.chunks[chunk as usize];
-        map.merge(key, more)
+        if more.list().is_empty() {
+            return Ok(());
+        }
+        let place = self.open(chunk)?;
+        self.chunks[place].1.merge(key, more)
     }
 
     /// Merges a map of the chunk's keys. Refused, it has changed no reading. Costs what `KeyMap::take_in` does.
@@ -133,8 +184,11 @@ impl SlotMap {
         ensures stays { (k : List ℕ) → has_place_for self.old k ≡ true → has_place_for self.new k ≡ true }
         ensures memory { IfErr result (λ e. e ≡ OutOfMemory) }
     {
-        let map = &mut self.chunks[chunk as usize];
-        map.take_in(other)
+        if other.is_empty() {
+            return Ok(());
+        }
+        let place = self.open(chunk)?;
+        self.chunks[place].1.take_in(other)
     }
 
     // The first half of a merge of a chunk with a whole map: makes the places that are missing, and what the other map brings. No reading
@@ -150,8 +204,11 @@ impl SlotMap {
         ensures ready { IfOk result (λ f. AreReadyFor self.new chunk f) }
         ensures memory { IfErr result (λ e. e ≡ OutOfMemory) }
     {
-        let map = &mut self.chunks[chunk as usize];
-        map.prepare_all(other)
+        if other.is_empty() {
+            return Ok(FreshKeys::new(self.alloc));
+        }
+        let place = self.open(chunk)?;
+        self.chunks[place].1.prepare_all(other)
     }
 
     // The second half of a merge of a chunk with a whole map, which cannot fail.
@@ -166,20 +223,20 @@ impl SlotMap {
         ensures places { (k : List ℕ) → has_place_for self.new k ≡ has_place_for self.old k }
         ensures rooms { (k : List ℕ) → has_room_for self.new k ≡ has_room_for self.old k }
     {
-        let map = &mut self.chunks[chunk as usize];
-        map.settle_all(fresh);
+        match map_place(self.chunks.as_slice(), chunk) {
+            Some(place) => self.chunks[place].1.settle_all(fresh),
+            None => {}
+        }
     }
 
     /// Whether no key has a place: for whoever never makes empty ones.
     pub fn is_empty(&self) -> bool
         ensures { IsTrue result ↔ ((k : List ℕ) → has_place_for self.now k ≡ false) }
     {
-        let mut rest = self.chunks.as_slice();
-        'chunks: while let Some((map, later)) = rest.split_first() {
-            if !map.is_empty() {
+        'chunks: for chunk in 0..16u32 {
+            if !self.chunk(chunk).is_empty() {
                 return false;
             }
-            rest = later;
         }
         true
     }
@@ -191,12 +248,17 @@ impl SlotMap {
         ensures places { IfOk result (λ a. (k : List ℕ) → has_place_for a k ≡ has_place_for self.now k) }
         ensures memory { IfErr result (λ e. e ≡ OutOfMemory) }
     {
-        let mut chunks = Vec::new(alloc);
+        let mut chunks = Vec::with_capacity(alloc, self.chunks.len())?;
         let mut rest = self.chunks.as_slice();
-        'chunks: while let Some((map, later)) = rest.split_first() {
-            chunks.push(map.try_copy()?)?;
+        'chunks: while let Some((entry, later)) = rest.split_first() {
+            chunks.push((entry.0, entry.1.try_copy()?))?;
             rest = later;
         }
-        Ok(SlotMap { q: self.q, chunks })
+        Ok(SlotMap {
+            alloc,
+            q: self.q,
+            empty: KeyMap::new(alloc),
+            chunks,
+        })
     }
 }

@@ -1,9 +1,7 @@
-use Rattle.std.proofs.Common.{length}
-use Rattle.store_maps.proofs.Slots.{Passed}
+use Rattle.std.proofs.Common.{◌≡◌, ◌<◌, ℕ, List, false}
+use Rattle.store_maps.specs.Chunks.{chunk_of}
+use Rattle.store_maps.specs.Slots.{space_of, has_place_for}
 use Rattle.store_maps.proofs.slot_map.SlotMap.is_empty.Given as goal
 
 abbrev pub invariant-chunks : goal.invariant-chunks
-invariant-chunks l = Passed l.self.chunks.items l.rest
-
-abbrev pub decreases-chunks : goal.decreases-chunks
-decreases-chunks l = length l.rest
+invariant-chunks l = (k : List ℕ) → chunk_of (space_of l.self) k < l.chunk → has_place_for l.self k ≡ false

@@ -1,32 +1,33 @@
-use Rattle.std.proofs.Common.{refl, ◌∙◌, sym, arith}
-use Rattle.std.proofs.Math.ListN.{length-set}
-use Rattle.store_maps.specs.Chunks.{place_in, room_in}
-use Rattle.store_maps.proofs.Chunks.{within, placed_set, lies_old, places_set, other_held, chunk_ready, merged_chunk}
+use Rattle.std.proofs.Common.{◌∙◌, sym, arith, ap}
+use Rattle.store_maps.specs.Chunks.{map_in, place_in, room_in}
+use Rattle.store_maps.proofs.Chunks.{placed_set, lies_old, places_set, other_held, chunk_ready, merged_chunk, map_seen, place_within, nothing_ready}
 use Rattle.store_maps.proofs.slot_map.SlotMap.settle_chunk.Goals as goal
 
-pub index_mut-map-requires : goal.index_mut-map-requires
-index_mut-map-requires c = let room = within c.args.self.now.chunks.items c.args.chunk c.args.self.now.whole c.requires.chunk in let is = c.args.self.now.chunks.ok.0 in omega arith
+pub index_mut-requires : goal.index_mut-requires
+index_mut-requires c =
+    let less = place_within c.args.chunk c.args.self.now.chunks.items c.in-Some.place (map_seen c.args.chunk c.in-Some.place c.as_slice.ensures.value (c.in-Some.ensures).some) in
+    let all = c.args.self.now.chunks.ok.0 in omega arith
 
 pub settle_all-requires : goal.settle_all-requires
-settle_all-requires c = chunk_ready c.args.self.now c.args.chunk c.index_mut-map.result.now c.index_mut-map.result.now c.requires.chunk c.index_mut-map.ensures.value c.args.fresh c.requires.ready
+settle_all-requires c = chunk_ready c.args.self.now c.args.chunk c.in-Some.place c.index_mut.result.now c.index_mut.result.now.1 (map_seen c.args.chunk c.in-Some.place c.as_slice.ensures.value (c.in-Some.ensures).some) c.index_mut.ensures.value c.args.fresh c.requires.ready
 
 pub invariant_of-self : goal.invariant_of-self
 invariant_of-self c = record {
-  whole = length-set c.args.self.now.chunks.items c.args.chunk c.settle_all.new.self ∙ c.args.self.now.whole;
-  placed = placed_set c.args.self.now c.args.chunk c.index_mut-map.result.now c.settle_all.new.self c.requires.chunk c.index_mut-map.ensures.value c.args.self.now.placed (λ k h. lies_old c.args.self.now c.args.chunk c.index_mut-map.result.now c.settle_all.new.self c.requires.chunk c.index_mut-map.ensures.value c.args.self.now.placed k (sym (c.settle_all.ensures.places k) ∙ h));
+  placed = placed_set c.args.self.now c.args.chunk c.in-Some.place c.index_mut.result.now c.settle_all.new.self (map_seen c.args.chunk c.in-Some.place c.as_slice.ensures.value (c.in-Some.ensures).some) c.index_mut.ensures.value c.args.self.now.placed (λ k h. lies_old c.args.self.now c.args.chunk c.in-Some.place c.index_mut.result.now c.settle_all.new.self (map_seen c.args.chunk c.in-Some.place c.as_slice.ensures.value (c.in-Some.ensures).some) c.index_mut.ensures.value c.args.self.now.placed k (sym (c.settle_all.ensures.places k) ∙ h));
+  bare = c.args.self.now.bare;
 }
 
-pub returns-clause-space : goal.returns-clause-space
-returns-clause-space c = refl
+pub returns-in-Some-clause-merged : goal.returns-in-Some-clause-merged
+returns-in-Some-clause-merged c = merged_chunk c.args.self.now c.args.chunk c.in-Some.place c.index_mut.result.now c.settle_all.new.self (map_seen c.args.chunk c.in-Some.place c.as_slice.ensures.value (c.in-Some.ensures).some) c.index_mut.ensures.value c.args.fresh c.requires.ready c.settle_all.ensures.merged
 
-pub returns-clause-merged : goal.returns-clause-merged
-returns-clause-merged c = merged_chunk c.args.self.now c.args.chunk c.index_mut-map.result.now c.settle_all.new.self c.requires.chunk c.index_mut-map.ensures.value c.args.fresh c.requires.ready c.settle_all.ensures.merged
+pub returns-in-Some-clause-places : goal.returns-in-Some-clause-places
+returns-in-Some-clause-places c = places_set c.args.self.now c.args.chunk c.in-Some.place c.index_mut.result.now c.settle_all.new.self (map_seen c.args.chunk c.in-Some.place c.as_slice.ensures.value (c.in-Some.ensures).some) c.index_mut.ensures.value place_in c.settle_all.ensures.places
 
-pub returns-clause-places : goal.returns-clause-places
-returns-clause-places c = places_set c.args.self.now c.args.chunk c.index_mut-map.result.now c.settle_all.new.self c.requires.chunk c.index_mut-map.ensures.value place_in c.settle_all.ensures.places
+pub returns-in-Some-clause-rooms : goal.returns-in-Some-clause-rooms
+returns-in-Some-clause-rooms c = places_set c.args.self.now c.args.chunk c.in-Some.place c.index_mut.result.now c.settle_all.new.self (map_seen c.args.chunk c.in-Some.place c.as_slice.ensures.value (c.in-Some.ensures).some) c.index_mut.ensures.value room_in c.settle_all.ensures.rooms
 
-pub returns-clause-rooms : goal.returns-clause-rooms
-returns-clause-rooms c = places_set c.args.self.now c.args.chunk c.index_mut-map.result.now c.settle_all.new.self c.requires.chunk c.index_mut-map.ensures.value room_in c.settle_all.ensures.rooms
+pub returns-in-Some-clause-others : goal.returns-in-Some-clause-others
+returns-in-Some-clause-others c = other_held c.args.self.now c.args.chunk c.in-Some.place c.index_mut.result.now c.settle_all.new.self (map_seen c.args.chunk c.in-Some.place c.as_slice.ensures.value (c.in-Some.ensures).some) c.index_mut.ensures.value
 
-pub returns-clause-others : goal.returns-clause-others
-returns-clause-others c = other_held c.args.self.now c.args.chunk c.index_mut-map.result.now c.settle_all.new.self c.requires.chunk c.index_mut-map.ensures.value
+pub returns-in-None-clause-merged : goal.returns-in-None-clause-merged
+returns-in-None-clause-merged c more = nothing_ready c.args.self.now c.args.chunk c.args.fresh more (ap (λ es. map_in es c.args.chunk) (sym c.as_slice.ensures.value) ∙ (c.in-None.ensures).none) c.requires.ready

@@ -1,13 +1,13 @@
 use Rattle.std.proofs.Common.{◌∙◌, sym, subst}
 use Rattle.store_maps.specs.Chunks.{chunk_of}
-use Rattle.store_maps.proofs.Slots.{Copied, copied_none, copied_more, copied_all, copied_whole, copied_holds, copied_places}
+use Rattle.store_maps.proofs.Slots.{Copied, copied_none, copied_more, copied_all, copied_holds, copied_places}
 use Rattle.store_maps.proofs.slot_map.SlotMap.try_copy.Goals as goal
 
 pub chunks-init : goal.chunks-init
-chunks-init c = subst (Copied c.args.self.now.chunks.items c.new-chunks.result.items) (sym c.as_slice-rest.ensures.value) (copied_none c.args.self.now.chunks.items c.new-chunks.result.items c.new-chunks.ensures.items)
+chunks-init c = subst (Copied c.args.self.now.chunks.items c.in_ok-chunks.chunks.items) (sym c.as_slice-rest.ensures.value) (copied_none c.args.self.now.chunks.items c.in_ok-chunks.chunks.items (c.in_ok-chunks.ensures).items)
 
 pub chunks-preserved : goal.chunks-preserved
-chunks-preserved c = copied_more c.args.self.now.chunks.items c.chunks.chunks.items c.push.new.self.items c.chunks.rest.now c.in-Some.later.now c.in-Some.map.now c.in_ok-try_copy.field-0 (c.in-Some.ensures).cases.0 (c.in_ok-push.ensures).items
+chunks-preserved c = copied_more c.args.self.now.chunks.items c.chunks.chunks.items c.push.new.self.items c.chunks.rest.now c.in-Some.later.now c.in-Some.entry.now c.in_ok-try_copy.field-0 (c.in-Some.ensures).cases.0 (c.in_ok-push.ensures).items
     (c.in_ok-try_copy.ensures).same (c.in_ok-try_copy.ensures).places c.chunks.invariant
 
 pub invariant_of-result : goal.invariant_of-result
@@ -15,8 +15,8 @@ invariant_of-result c =
     let maps = c.args.self.now.chunks.items in
     let all = copied_all maps c.chunks.chunks.items c.chunks.rest.now (c.in_default.ensures).cases c.chunks.invariant in
     record {
-      whole = copied_whole maps c.chunks.chunks.items all ∙ c.args.self.now.whole;
       placed = λ i k h. c.args.self.now.placed i k (sym (copied_places maps c.chunks.chunks.items all i k) ∙ h);
+      bare = c.new.ensures.places;
     }
 
 pub returns-clause-same : goal.returns-clause-same
