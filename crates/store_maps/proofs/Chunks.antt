@@ -12,7 +12,7 @@ use Rattle.ring_versions.specs.Versions.{IsApart, IsMerge}
 use Rattle.store_maps.specs.declared.fresh_keys.FreshKeys.{FreshKeys}
 use Rattle.store_maps.specs.declared.key_map.KeyMap.{KeyMap}
 use Rattle.store_maps.specs.declared.slot_map.SlotMap.{SlotMap}
-use Rattle.store_maps.specs.Slots.{held_for, IsReadyFor, AreReadyFor}
+use Rattle.store_maps.specs.Slots.{held_for, has_room_for, IsReadyFor, AreReadyFor}
 use Rattle.store_maps.specs.Chunks.{chunk_of, held_of, map_in, place_in, room_in, ArePlaced, IsBare, IsMapAt}
 use Rattle.store_maps.specs.Entries.{entries_of}
 use Rattle.store_maps.specs.Held.{tree_of, held, has_place, IsReady}
@@ -28,6 +28,18 @@ unfolding chunk_of
 chunk_below q k c e = omega arith
 
 -- ---- what stands where
+
+pub get_here : {X : Type 0} (xs : List X) (i : ℕ) (x : X) → i < length xs → slice_get (set xs i x) i ≡ Some x
+get_here [] i x l = absurd (omega arith)
+get_here (y ∷ ys) zero x l = refl
+get_here (y ∷ ys) (suc i) x l = get_here ys i x (omega arith)
+
+pub get_other : {X : Type 0} (xs : List X) (i j : ℕ) (x : X) → j ≢ i → slice_get (set xs i x) j ≡ slice_get xs j
+get_other [] i j x ne = refl
+get_other (y ∷ ys) zero zero x ne = absurd (ne refl)
+get_other (y ∷ ys) zero (suc j) x ne = refl
+get_other (y ∷ ys) (suc i) zero x ne = refl
+get_other (y ∷ ys) (suc i) (suc j) x ne = get_other ys i j x (λ e. ne (ap suc e))
 
 pub get_back : {X : Type 0} (xs : List X) (x : X) (i : ℕ) → i < length xs → slice_get (xs ++ x ∷ []) i ≡ slice_get xs i
 get_back [] x i l = absurd (omega arith)
@@ -51,6 +63,7 @@ apart_of (Some m) k = (tree_of m).apart k
 
 -- what a slot holds of a key is apart
 pub slot_apart : (a : SlotMap) (k : List ℕ) → IsApart (held_for a k)
+unfolding held_for
 slot_apart a k = apart_of (map_in a.chunks.items (chunk_of a.q k)) k
 
 -- what comes to the keys of a chunk
@@ -264,6 +277,7 @@ nothing_fresh a other f bare none k = none_to (value_at f.map k) _ _ (none k) (n
 
 -- where the chunk has no map, nothing is ready, and so nothing comes
 pub nothing_ready : (a : SlotMap) (c : ℕ) (f : FreshKeys) (more : List ℕ → List Version) → map_in a.chunks.items c ≡ None → AreReadyFor a c f → AreFreshFor (held_for a) more f → MergesAll (held_for a) more (held_for a)
+unfolding has_room_for
 nothing_ready a c f more none ready are k = at_none (value_at f.map k) _ _ (none_where (value_at f.map k) _ (λ x r. bare x r) (ready k)) (are k)
   where
     bare : (x : Fresh) → (chunk_of a.q k ≡ c) × IsReadyFor a k x → ⊥

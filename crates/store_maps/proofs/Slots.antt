@@ -18,6 +18,7 @@ bare_held (Some m) k h = ap (λ (v : Option (List Version)). unwrap_or v []) (no
 
 -- a key without a place has no versions
 pub bare_held_for : (a : SlotMap) (k : List ℕ) → has_place_for a k ≡ false → held_for a k ≡ []
+unfolding held_for has_place_for
 bare_held_for a k h = bare_held (map_in a.chunks.items (chunk_of a.q k)) k h
 
 -- ---- a copy

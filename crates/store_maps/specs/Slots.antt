@@ -13,16 +13,16 @@ use Rattle.store_maps.specs.Merges.{fresh_at, fresh_in}
 abbrev pub space_of : SlotMap → ℕ
 space_of a = a.q
 
--- the versions of the key, none where it has no place in its chunk's map
-abbrev pub held_for : SlotMap → List ℕ → List Version
+-- the versions of the key, none where it has no place in its chunk's map; this and the next two are opened by the slot's own calls alone
+unfoldable pub held_for : SlotMap → List ℕ → List Version
 held_for a k = held_of (map_in a.chunks.items (chunk_of a.q k)) k
 
 -- whether the key has a place in its chunk's map, be it empty
-abbrev pub has_place_for : SlotMap → List ℕ → Bool
+unfoldable pub has_place_for : SlotMap → List ℕ → Bool
 has_place_for a k = place_in (map_in a.chunks.items (chunk_of a.q k)) k
 
 -- whether the key has a place in its chunk's map, and that map shares nothing
-abbrev pub has_room_for : SlotMap → List ℕ → Bool
+unfoldable pub has_room_for : SlotMap → List ℕ → Bool
 has_room_for a k = room_in (map_in a.chunks.items (chunk_of a.q k)) k
 
 -- the key has a place in a map that shares nothing, and f was made for its versions

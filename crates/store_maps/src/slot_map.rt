@@ -41,6 +41,7 @@ fn map_place(maps: &[(u32, KeyMap)], chunk: u32) -> Option<usize>
     None
 }
 
+#[tactic(auto, unfolding(crate::specs::Slots::held_for, crate::specs::Slots::has_place_for, crate::specs::Slots::has_room_for))]
 impl SlotMap {
     ghost use Rattle.std.specs.Prelude.{◌≢◌, ◌↔◌, ◌⊎◌, ◌<◌, ℕ, true, false, [], List, IsTrue, IfOk};
     ghost use Rattle.std.specs.Prelude.{IfErr, OnOk, OnErr};

@@ -4,6 +4,7 @@ use Rattle.store_maps.proofs.OneAnswer.{both_ok}
 use Rattle.store_maps.specs.Held.{held}
 use Rattle.store_maps.specs.Chunks.{chunk_of, place_in, room_in}
 use Rattle.store_maps.proofs.Chunks.{placed_set, lies_old, same_set, stays_set, fresh_chunk, ready_chunk, fresh_before, nothing_fresh, place_within}
+use Rattle.store_maps.specs.Slots.{held_for, has_place_for, has_room_for}
 use Rattle.store_maps.proofs.slot_map.SlotMap.prepare_chunk.Goals as goal
 
 pub index_mut-requires : goal.index_mut-requires
@@ -18,18 +19,23 @@ invariant_of-self c = record {
 }
 
 pub returns-clause-same : goal.returns-clause-same
+unfolding held_for has_place_for has_room_for
 returns-clause-same c k = same_set c.open.new.self c.args.chunk c.in_ok-place.place c.index_mut.result.now c.prepare_all.new.self (c.in_ok-place.ensures).at c.index_mut.ensures.value c.prepare_all.ensures.same k ∙ c.open.ensures.same k
 
 pub returns-clause-stays : goal.returns-clause-stays
+unfolding held_for has_place_for has_room_for
 returns-clause-stays c k h = stays_set c.open.new.self c.args.chunk c.in_ok-place.place c.index_mut.result.now c.prepare_all.new.self (c.in_ok-place.ensures).at c.index_mut.ensures.value place_in c.prepare_all.ensures.stays k (c.open.ensures.places k ∙ h)
 
 pub returns-clause-rooms : goal.returns-clause-rooms
+unfolding held_for has_place_for has_room_for
 returns-clause-rooms c k h = stays_set c.open.new.self c.args.chunk c.in_ok-place.place c.index_mut.result.now c.prepare_all.new.self (c.in_ok-place.ensures).at c.index_mut.ensures.value room_in c.prepare_all.ensures.rooms k (c.open.ensures.rooms k ∙ h)
 
 pub returns-clause-ok : goal.returns-clause-ok
+unfolding held_for has_place_for has_room_for
 returns-clause-ok c = IfOk-weaker c.prepare_all.result _ _ (λ f h. fresh_before c.args.self.now c.open.new.self (held c.args.other.now) f c.open.ensures.same (fresh_chunk c.open.new.self c.args.chunk c.in_ok-place.place c.index_mut.result.now c.prepare_all.new.self (c.in_ok-place.ensures).at c.index_mut.ensures.value c.args.other.now f (λ k h. ap (λ q. chunk_of q k) (c.in_ok-place.ensures).space ∙ c.requires.lies k h) h.0 h.1)) (both_ok c.prepare_all.result _ _ c.prepare_all.ensures.keys c.prepare_all.ensures.ok)
 
 pub returns-clause-ready : goal.returns-clause-ready
+unfolding held_for has_place_for has_room_for
 returns-clause-ready c = IfOk-weaker c.prepare_all.result _ _ (λ f h. ready_chunk c.open.new.self c.args.chunk c.in_ok-place.place c.index_mut.result.now c.prepare_all.new.self (c.in_ok-place.ensures).at c.index_mut.ensures.value c.args.other.now f (λ k h. ap (λ q. chunk_of q k) (c.in_ok-place.ensures).space ∙ c.requires.lies k h) h.0 h.1) (both_ok c.prepare_all.result _ _ c.prepare_all.ensures.keys c.prepare_all.ensures.ready)
 
 pub returns-clause-memory : goal.returns-clause-memory

@@ -1,6 +1,7 @@
 use Rattle.std.proofs.Common.{◌∙◌, sym, arith}
 use Rattle.store_maps.specs.Chunks.{place_in}
 use Rattle.store_maps.proofs.Chunks.{placed_set, lies_old, same_set, places_set, map_seen, place_within}
+use Rattle.store_maps.specs.Slots.{held_for, has_place_for, has_room_for}
 use Rattle.store_maps.proofs.slot_map.SlotMap.share_chunk.Goals as goal
 
 pub index_mut-requires : goal.index_mut-requires
@@ -15,7 +16,9 @@ invariant_of-self c = record {
 }
 
 pub returns-in-Some-clause-same : goal.returns-in-Some-clause-same
+unfolding held_for has_place_for has_room_for
 returns-in-Some-clause-same c = same_set c.args.self.now c.args.chunk c.in-Some.place c.index_mut.result.now c.share.new.self (map_seen c.args.chunk c.in-Some.place c.as_slice.ensures.value (c.in-Some.ensures).some) c.index_mut.ensures.value c.share.ensures.same
 
 pub returns-in-Some-clause-places : goal.returns-in-Some-clause-places
+unfolding held_for has_place_for has_room_for
 returns-in-Some-clause-places c = places_set c.args.self.now c.args.chunk c.in-Some.place c.index_mut.result.now c.share.new.self (map_seen c.args.chunk c.in-Some.place c.as_slice.ensures.value (c.in-Some.ensures).some) c.index_mut.ensures.value place_in c.share.ensures.places
