@@ -9,7 +9,7 @@ use Rattle.store_maps.specs.declared.slot_map.SlotMap.{SlotMap}
 use Rattle.store_maps.specs.Chunks.{chunk_of}
 use Rattle.store_maps.specs.Merges.{at_key}
 use Rattle.store_maps.specs.Slots.{held_for, has_place_for}
-use Rattle.store_maps.proofs.Slots.{bare_held}
+use Rattle.store_maps.proofs.Slots.{bare_held_for}
 use Rattle.ring_hints.specs.declared.kept_for.KeptFor.{KeptFor}
 use Rattle.ring_hints.specs.declared.maps.Maps.{Maps}
 use Rattle.ring_hints.specs.declared.slot_holders.SlotHolders.{SlotHolders}
@@ -62,7 +62,7 @@ module _ (old new : Maps) (before behind : SlotHolders) (pair : KeptFor) (held :
     where
       away : (b : Bool) → has_place_for m k ≡ b → holds_for behind pair.slot k pair.keeper.0 ≡ false
       away true e = gone k e
-      away false e = stays k e ∙ (held pair.keeper.0 pair.slot k ∙ ap has_any (sym (mine k) ∙ bare_held (slice_get m.chunks.items (chunk_of m.q k)) k e))
+      away false e = stays k e ∙ (held pair.keeper.0 pair.slot k ∙ ap has_any (sym (mine k) ∙ bare_held_for m k e))
 
       by : (b : Bool) → is_of pair x s ≡ b → holds_for behind s k x ≡ has_any (hinted_at new x s k)
       by true e =

@@ -11,7 +11,7 @@ use Rattle.store_maps.specs.Merges.{MergesAll, at_key}
 use Rattle.store_maps.specs.Slots.{space_of, held_for, has_place_for}
 use Rattle.store_maps.specs.declared.slot_map.SlotMap.{SlotMap}
 use Rattle.store_maps.proofs.MergesInTurn.{merge_none}
-use Rattle.store_maps.proofs.Slots.{bare_held}
+use Rattle.store_maps.proofs.Slots.{bare_held_for}
 use Rattle.ring_hints.specs.declared.kept_for.KeptFor.{KeptFor}
 use Rattle.ring_hints.specs.declared.pairs.Pairs.{Pairs}
 use Rattle.ring_hints.specs.Kept.{map_of, IsKept, AreKept, ArePaired, PutsMap}
@@ -51,7 +51,7 @@ kept_first q pair m w key more few space bare filled some merged = record {
   space = space;
   filled = λ k h. elim (filled k h) [ inl was ↦ absurd (let n = bare k in cc) | inr ne ↦ ne ];
   used = λ all. not_emptied (held_for m key) (at_key key more key) (held_for w key) (merged key) (inr (λ none. some (sym (at_here key more) ∙ none)))
-      (bare_held (slice_get w.chunks.items (chunk_of w.q key)) key (all key));
+      (bare_held_for w key (all key));
 }
 
 -- ---- whether anything is kept
