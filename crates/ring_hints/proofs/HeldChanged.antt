@@ -1,12 +1,11 @@
 -- Who keeps versions of which keys, once what is kept has changed.
 use Rattle.std.proofs.Common.{◌≡◌, ◌≢◌, inl, inr, ◌∙◌, ℕ, Bool, true, false, cond, List, [], ◌∷◌, refl, sym, ap, Result, Ok, Err}
-use Rattle.std.specs.Prelude.{◌&&◌, ◌||◌, is_err, OnOk, slice_get}
+use Rattle.std.specs.Prelude.{◌&&◌, ◌||◌, is_err, OnOk}
 use Rattle.std.specs.Str.{bytes_eq}
 use Rattle.ring_names.specs.declared.ids.Slot.{Slot}
 use Rattle.ring_versions.specs.declared.version.Version.{Version}
 use Rattle.ring_versions.specs.Versions.{IsMerge}
 use Rattle.store_maps.specs.declared.slot_map.SlotMap.{SlotMap}
-use Rattle.store_maps.specs.Chunks.{chunk_of}
 use Rattle.store_maps.specs.Merges.{at_key}
 use Rattle.store_maps.specs.Slots.{held_for, has_place_for}
 use Rattle.store_maps.proofs.Slots.{bare_held_for}
