@@ -63,10 +63,6 @@ raised_all clock seen [] c none r = record {
 }
 raised_all clock seen (x ∷ xs) c none r = absurd (omega arith)
 
--- what is collected has no greater counter than those that it is collected from
-pub few_collected : (clock : ℕ → List Entry) (In : ℕ → Type 0) (c : List Entry) (n : ℕ) → ((v w : ℕ) → counter (clock v) w ≤ n) → IsJoinOf clock In c → (w : ℕ) → counter c w ≤ n
-few_collected clock In c n few all w = elim (all.from w) [ inl none ↦ omega arith | inr some ↦ (let at = few some.0 w in let is = some.2 in omega arith) ]
-
 none_is_some : {n : ℕ} → None ≡ Some n → ⊥
 none_is_some e = cc
 

@@ -36,9 +36,6 @@ covers_first xs ys k h = (h.0, in_first h.0 xs ys h.1, h.2)
 pub covers_second : (xs ys : List Version) (k : List Entry) → Covers ys k → Covers (xs ++ ys) k
 covers_second xs ys k h = (h.0, in_second h.0 xs ys h.1, h.2)
 
-pub covers_either : (xs ys : List Version) (k : List Entry) → Covers (xs ++ ys) k → Covers xs k ⊎ Covers ys k
-covers_either xs ys k h = elim (in_either h.0 xs ys h.1) [ inl front ↦ inl (h.0, front, h.2) | inr back ↦ inr (h.0, back, h.2) ]
-
 pub covers_front : (x : Version) (xs : List Version) (k : List Entry) → Covers (x ∷ xs) k → IsAtMost k x.clock ⊎ Covers xs k
 covers_front x xs k h = elim h.1 [
   | inl is ↦ inl (subst (λ (v : Version). IsAtMost k v.clock) (sym is) h.2)

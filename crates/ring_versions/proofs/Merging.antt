@@ -20,16 +20,6 @@ pub record Sifted (held versions rest out : List Version) : Type 0 where
   pub covers : (k : List Entry) → Covers versions k → (Covers held k ⊎ Covers out k) ⊎ Covers rest k
   pub apart : IsApart (out ++ rest)
 
-pub sift_none : (held versions out : List Version) → out ≡ [] → IsApart versions → Sifted held versions versions out
-sift_none held versions (x ∷ xs) e a = absurd cc
-sift_none held versions [] e a = record {
-  left = λ v h. h;
-  drawn = λ v h. absurd h;
-  new = λ v h. absurd h;
-  covers = λ k h. inr h;
-  apart = a;
-}
-
 pub sift_old : (held versions rest out later : List Version) (x : Version) → rest ≡ x ∷ later → Covers held x.clock → Sifted held versions rest out → Sifted held versions later out
 sift_old held versions rest out later x is old s =
     let t = subst (λ (r : List Version). Sifted held versions r out) is s in

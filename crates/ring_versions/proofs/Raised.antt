@@ -14,25 +14,6 @@ use Rattle.ring_versions.specs.Raised.{RaisesTo, IsClockIn}
 use Rattle.ring_versions.specs.Tops.{HasJoin, AreTops}
 use Rattle.ring_versions.proofs.Members.{in_first, in_second, in_either}
 
-pub join_none : (vs : List Version) (c : List Entry) → vs ≡ [] → c ≡ [] → RaisesTo [] (IsClockIn vs) c
-join_none vs c none is = record {
-  before = λ w. omega arith;
-  above = λ k h. absurd (subst (λ (xs : List Version). IsIn h.0 xs) none h.1);
-  from = λ w. inl (subst (λ (d : List Entry). counter d w ≡ 0) (sym is) refl);
-}
-
-pub join_one : (vs : List Version) (v : Version) (c : List Entry) → vs ≡ v ∷ [] → c ≡ v.clock → RaisesTo [] (IsClockIn vs) c
-join_one vs v c one is =
-    let in_it : IsIn v vs = subst (λ (xs : List Version). IsIn v xs) (sym one) (inl refl) in
-    record {
-      before = λ w. omega arith;
-      above = λ k h. elim (subst (λ (xs : List Version). IsIn h.0 xs) one h.1) [
-        | inl same ↦ (let e = h.2 in λ w. (let equal : k ≡ c = cc in subst (λ (d : List Entry). counter k w ≤ counter d w) equal (omega arith)))
-        | inr none ↦ absurd none
-      ];
-      from = λ w. inr (v.clock, (v, in_it, refl), subst (λ (d : List Entry). counter v.clock w ≡ counter d w) (sym is) refl);
-    }
-
 join_both : (xs ys vs : List Version) (c d e : List Entry) → vs ≡ xs ++ ys → RaisesTo [] (IsClockIn xs) c → RaisesTo [] (IsClockIn ys) d → ((w : ℕ) → counter e w ≡ max (counter c w) (counter d w)) → RaisesTo [] (IsClockIn vs) e
 join_both xs ys vs c d e is a b raise =
     let to : (x : Version) → IsIn x (xs ++ ys) → IsIn x vs = λ x h. subst (λ (zs : List Version). IsIn x zs) (sym is) h in

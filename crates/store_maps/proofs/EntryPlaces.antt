@@ -67,9 +67,6 @@ at_most key (e ∷ es) (suc i) h = let less = at_most key es i h.1 in omega arit
 is_here : {A : Type 0} (key : List ℕ) (v : Vec ℕ A) → slice_cmp nat_cmp key v.items ≡ Equal → bytes_eq key v.items ≡ true
 is_here key v h = sym (is_eq-slice_cmp key v.items) ∙ ap is_eq h
 
-not_here : {A : Type 0} (key : List ℕ) (v : Vec ℕ A) (r : Ordering) → is_eq r ≡ false → slice_cmp nat_cmp key v.items ≡ r → is_eq (slice_cmp nat_cmp key v.items) ≡ false
-not_here key v r n h = ap is_eq h ∙ n
-
 module _ {A X : Type 0} (key : List ℕ) where
   pub read_there : (es : List (Vec ℕ A × X)) (i : ℕ) (e : Vec ℕ A × X) → IsThere key es i → get_or es i e ≡ e → value_in es key ≡ Some e.1
   read_there [] i e h at = absurd h

@@ -98,13 +98,6 @@ pub record Forgetting {A X : Type 0} (node : ℕ) (old now : List ℕ → ℕ �
   pub gone : (k : List ℕ) → is_some (all k) ≡ true → value_in rest k ≡ None → now k node ≡ false
   pub stays : (k : List ℕ) → is_some (all k) ≡ false → now k node ≡ old k node
 
-pub forgetting_none : {A X : Type 0} (node : ℕ) (old : List ℕ → ℕ → Bool) (es : List (Vec ℕ A × X)) → Forgetting node old old (value_in es) es
-forgetting_none node old es = record {
-  others = λ k x ne. refl;
-  gone = λ k some none. absurd (let there = ap is_some none in cc);
-  stays = λ k h. refl;
-}
-
 pub forgetting_more : {A X : Type 0} (node : ℕ) (old now new : List ℕ → ℕ → Bool) (all : List ℕ → Option X) (rest later : List (Vec ℕ A × X)) (key : Vec ℕ A) (x : X)
     → rest ≡ (key, x) ∷ later → all key.items ≡ Some x → ((k : List ℕ) (x : ℕ) → new k x ≡ (not (bytes_eq key.items k && (node == x)) && now k x))
     → Forgetting node old now all rest → Forgetting node old new all later

@@ -36,11 +36,6 @@ module _ {V : Type 0} (cmp : V → V → Ordering) (same : (a : V) → is_at (cm
       let f : is_in v xs ≡ false = sym (ap (λ (b : Bool). b || is_in v xs) t) ∙ h in
       ap (λ (b : Bool). cond b ys (x ∷ remove_key (is_at (cmp v)) ys)) t ∙ ap (λ (zs : List V). x ∷ zs) (k f)
 
-  -- a key that was not there is put in and taken out
-  pub removed_again : (v : V) (ks : List V) → is_in v ks ≡ false → remove_key (is_at (cmp v)) (insert_key cmp ks v) ≡ ks
-  removed_again v [] h = ap (λ (b : Bool). cond b [] (v ∷ [])) (same v)
-  removed_again v (x ∷ xs) h = restored v x xs (insert_key cmp xs v) (cmp v x) refl h (removed_again v xs)
-
   other : (q v x : V) (xs : List V) (b : Bool) → is_at (cmp v) x ≡ b → is_at (cmp q) v ≡ false → is_in q (remove_key (is_at (cmp v)) xs) ≡ is_in q xs
       → is_in q (cond b xs (x ∷ remove_key (is_at (cmp v)) xs)) ≡ is_in q (x ∷ xs)
   other q v x xs true e h k = ap (λ (b : Bool). b || is_in q xs) (sym (ap (λ (y : V). is_at (cmp q) y) (sym (exact v x e)) ∙ h))

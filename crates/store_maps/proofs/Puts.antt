@@ -36,32 +36,12 @@ module _ {A : Type 0} (m n : List (Vec ℕ A × List Version)) (bs : List ℕ) (
   pub others_put : (k : List ℕ) → k ≢ bs → held_in n k ≡ held_in m k
   others_put = by_bytes bs (λ (k : List ℕ). k ≢ bs → held_in n k ≡ held_in m k) (λ ne. absurd (ne refl)) (λ k e ne. held_other k e)
 
-  -- where nothing was held at the bytes, and nothing is
-  pub same_put : held_in m bs ≡ [] → w ≡ [] → (k : List ℕ) → held_in n k ≡ held_in m k
-  same_put a b = by_bytes bs (λ (k : List ℕ). held_in n k ≡ held_in m k) (held_here ∙ b ∙ sym a) held_other
-
   pub place_put : is_some (value_in n bs) ≡ true
   place_put = ap is_some p.here
-
-  pub stays_put : (k : List ℕ) → is_some (value_in m k) ≡ true → is_some (value_in n k) ≡ true
-  stays_put = by_bytes bs (λ (k : List ℕ). is_some (value_in m k) ≡ true → is_some (value_in n k) ≡ true) (λ h. place_put) (λ k e h. ap is_some (p.others k e) ∙ h)
-
-  pub only_put : (k : List ℕ) → is_some (value_in n k) ≡ true → (is_some (value_in m k) ≡ true) ⊎ (k ≡ bs)
-  only_put = by_bytes bs (λ (k : List ℕ). is_some (value_in n k) ≡ true → (is_some (value_in m k) ≡ true) ⊎ (k ≡ bs)) (λ h. inr refl) (λ k e h. inl (sym (ap is_some (p.others k e)) ∙ h))
 
   -- where the bytes had a place
   pub places_put : is_some (value_in m bs) ≡ true → (k : List ℕ) → is_some (value_in n k) ≡ is_some (value_in m k)
   places_put h = by_bytes bs (λ (k : List ℕ). is_some (value_in n k) ≡ is_some (value_in m k)) (place_put ∙ sym h) (λ k e. ap is_some (p.others k e))
-
-  -- where this was there before
-  pub unchanged_put : value_in m bs ≡ Some w → (k : List ℕ) → value_in n k ≡ value_in m k
-  unchanged_put h = by_bytes bs (λ (k : List ℕ). value_in n k ≡ value_in m k) (p.here ∙ sym h) p.others
-
-  -- a new place is not empty
-  pub filled_put : w ≢ [] → (k : List ℕ) → is_some (value_in n k) ≡ true → (is_some (value_in m k) ≡ true) ⊎ (held_in n k ≢ [])
-  filled_put ne = by_bytes bs (λ (k : List ℕ). is_some (value_in n k) ≡ true → (is_some (value_in m k) ≡ true) ⊎ (held_in n k ≢ []))
-      (λ h. inr (λ none. ne (sym held_here ∙ none)))
-      (λ k e h. inl (sym (ap is_some (p.others k e)) ∙ h))
 
 -- what is apart stays so where every value stays
 pub apart_same : {A : Type 0} (m n : List (Vec ℕ A × List Version)) → ((k : List ℕ) → value_in n k ≡ value_in m k) → AreApart m → AreApart n
