@@ -4,8 +4,10 @@
     hostile_scripts.py reads M G      > bundle    M writers leave M/2 versions in conflict, each with M/2 entries; G gets read them
     hostile_scripts.py writes M N     > bundle    the same versions, written once more by N lines
     hostile_scripts.py seen M N       > bundle    the same versions, and N puts that know 16 gets which found them
+    hostile_scripts.py chained M N    > bundle    N puts by M writers, each of which knows all before it, by a get of its own
     hostile_scripts.py values M G     > bundle    M versions in conflict of 1,024 bytes each, and G gets that read and end
     hostile_scripts.py hints N        > bundle    N hints, at 1,017 nodes and seven slots of a partition for each key
+    hostile_scripts.py scattered N    > bundle    N hints, each at a node and for a slot that has no other
     hostile_scripts.py keepers K N    > bundle    K nodes keep another key for a slot, which N gets read
     hostile_scripts.py down K N       > bundle    the same where a keeper of the key is down, and N reads are refused
     hostile_scripts.py keys M K       > bundle    a slot with K keys moves M times
@@ -17,6 +19,7 @@
 
 Each prints one bundle of ring, plan, certificate and script. Limits: 1,000,000 events, 1,024 writers and 64 MiB.
 """
+import hashlib
 import sys
 
 
@@ -64,6 +67,14 @@ def seen(m, n):
     return small(), [], [], out + ["put w0 k x seen " + row for _ in range(n)]
 
 
+def chained(m, n):
+    out = []
+    for k in range(n):
+        knows = " seen %d" % (k - 1) if k else ""
+        out += ["put w%d k x%s" % (k % m, knows), "write %d 0" % k, "get k", "read %d 0" % k, "read %d 1" % k, "endget %d" % k]
+    return small(), [], [], out
+
+
 def values(m, g):
     out = []
     for n in range(m):
@@ -87,6 +98,24 @@ def hints(n):
         out.append("put w0 key%d x" % k)
         out += ["hint %d %d %s" % (put, m % 7, names[m]) for m in range(7, 1024)][: n - len(out)]
         k += 1
+    return text, [], [], out
+
+
+def scattered(n):
+    """A key of each partition in turn, kept by all nodes that own no slot of it, for each of its slots."""
+    names, text = wide(256)
+    out, put, k = [], 0, 0
+    seen = set()
+    while len(out) < n:
+        partition = hashlib.md5(b"key%d" % k).digest()[0]
+        k += 1
+        if partition in seen:
+            continue
+        seen.add(partition)
+        owners = {(7 * partition + i) % 1024 for i in range(7)}
+        out.append("put w0 key%d x" % (k - 1))
+        out += ["hint %d %d %s" % (put, i, names[m]) for m in range(1024) if m not in owners for i in range(7)][: n - len(out)]
+        put += 1
     return text, [], [], out
 
 
@@ -176,7 +205,7 @@ def waits(n):
 
 FAMILIES = {
     family.__name__: family
-    for family in (reads, writes, seen, values, hints, keepers, down, keys, kept, long_clocks, long_keys, names, waits)
+    for family in (reads, writes, seen, chained, values, hints, scattered, keepers, down, keys, kept, long_clocks, long_keys, names, waits)
 }
 
 
