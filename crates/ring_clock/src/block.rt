@@ -4,18 +4,18 @@ ghost use Rattle.std.specs.Prelude.{◌≡◌, ◌↔◌, ℕ, IfOk, max};
 ghost use Rattle.ring_clock.specs.Clock.{IsClock, counter};
 ghost use Rattle.ring_clock.specs.Groups.{group, group_in, IsBlock};
 
-use crate::entry::Entry;
+use crate::entry::{Entry, GROUP};
 use crate::merge::{is_at_most, merged};
 use ring_names::WriterId;
 use std::alloc::{AllocError, Global};
 use std::marker::Model;
 use std::sync::Arc;
 
-/// Thirty-two writers, whose numbers follow one another, are a group.
+/// The group of a writer.
 pub fn group_of(writer: WriterId) -> u32
     ensures { result ≡ group writer.0 }
 {
-    writer.0 / 32
+    writer.0 / GROUP
 }
 
 /// Entries of writers of one group. Copies share them.

@@ -4,7 +4,7 @@ ghost use Rattle.std.specs.Prelude.{◌≡◌, ◌↔◌, ◌+◌, ◌<◌, ◌�
 ghost use Rattle.ring_clock.specs.Clock.{IsClock, IsAtMost, counter};
 ghost use Rattle.ring_clock.specs.Merge.{EntriesStandFor};
 
-use crate::entry::Entry;
+use crate::entry::{Entry, GROUP};
 use std::alloc::{AllocError, Global};
 
 /// Whether each writer's counter in the first is at most that in the second.
@@ -88,7 +88,7 @@ fn merge_into(out: &mut Vec<Entry>, first: &[Entry], second: &[Entry]) -> Result
     Ok(())
 }
 
-/// Each writer's greater counter of two clocks.
+/// Each writer's greater counter of two clocks. Where their writers are of one group, it takes memory once, for at most as many entries.
 pub fn merged(alloc: Global, first: &[Entry], second: &[Entry]) -> Result<Vec<Entry>, AllocError>
     requires first { IsClock first.now }
     requires second { IsClock second.now }
@@ -96,8 +96,8 @@ pub fn merged(alloc: Global, first: &[Entry], second: &[Entry]) -> Result<Vec<En
     ensures counters { IfOk result
         (λ v. (w : ℕ) → counter v.items w ≡ max (counter first.now w) (counter second.now w)) }
 {
-    // Mostly one writer comes to those of the longer one, or none.
-    let mut out = Vec::with_capacity(alloc, first.len().max(second.len()).saturating_add(1))?;
+    let room = first.len().saturating_add(second.len());
+    let mut out = Vec::with_capacity(alloc, room.min(GROUP as usize))?;
     merge_into(&mut out, first, second)?;
     Ok(out)
 }
