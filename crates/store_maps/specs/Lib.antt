@@ -6,3 +6,4 @@ pub mod Merges
 pub mod Chunks
 pub mod Slots
 pub mod Holders
+pub mod Taken

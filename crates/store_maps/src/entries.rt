@@ -1,16 +1,19 @@
 //! Entries of keys and their versions, in order: few in a vector, many in a tree.
 
-ghost use Rattle.std.specs.Prelude.{◌≡◌, ◌↔◌, ℕ, List, [], Some, None, length, IsTrue, IfSome, IfNone, IfOk, IfErr, OnOk, OnErr};
+ghost use Rattle.std.specs.Prelude.{◌≡◌, ◌↔◌, ℕ, List, [], true, is_some, Some, None, length, IsTrue, IfSome, IfNone, IfOk, IfErr, OnOk, OnErr};
 ghost use Rattle.std.specs.List.Sorted.{IsStrictlySortedBy};
 ghost use Rattle.std.specs.Map.{keys_of};
 ghost use Rattle.ring_names.specs.AtBytes.{value_in};
 ghost use Rattle.ring_names.specs.declared.refusal.Refusal.TheVariants.{OutOfMemory};
+ghost use Rattle.ring_versions.specs.Fresh.{FitsIn};
 ghost use Rattle.store_maps.specs.Entries.{by_items, entries_of, left_of, GoesAt, IsInOrder, IsThere, PutsAt};
+ghost use Rattle.store_maps.specs.Places.{held_in};
+ghost use Rattle.store_maps.specs.Taken.{TakesIn};
 
 use crate::lengthen::lengthen;
 use crate::walk::Walk;
 use ring_names::Refusal;
-use ring_versions::Versions;
+use ring_versions::{Fresh, Versions};
 use std::alloc::Global;
 use std::cmp::Ordering;
 use std::collections::BTreeMap;
@@ -165,6 +168,27 @@ impl Entries {
             Entries::Many(tree) => {
                 tree.insert(kept, versions)?;
                 Ok(())
+            }
+        }
+    }
+
+    // The versions at the key take in what was made for them.
+    pub(crate) fn absorb(&mut self, key: &[u8], fresh: Fresh)
+        requires order { IsInOrder self.old }
+        requires there { is_some (value_in (entries_of self.old) key.now) ≡ true }
+        requires fits { FitsIn (held_in (entries_of self.old) key.now) fresh }
+        ensures order { IsInOrder self.new }
+        ensures taken { TakesIn (entries_of self.old) (entries_of self.new) key.now fresh }
+    {
+        match self {
+            Entries::Few(list) => match place_of(list.as_slice(), key) {
+                Ok(place) => list[place].1.absorb(fresh),
+                Err(_) => {}
+            },
+            Entries::Many(tree) => {
+                if let Some(versions) = tree.get_mut(key) {
+                    versions.absorb(fresh);
+                }
             }
         }
     }

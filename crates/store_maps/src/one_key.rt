@@ -1,6 +1,5 @@
 //! Merges at one key of a tree.
 
-use crate::entries::{Entries, place_of};
 use crate::key_tree::KeyTree;
 use ring_names::Refusal;
 use ring_versions::{Fresh, Versions};
@@ -37,17 +36,7 @@ impl KeyTree {
         ensures others { (k : List ℕ) → k ≢ key.now → kept self.new k ≡ kept self.old k }
         ensures places { (k : List ℕ) → has_entry self.new k ≡ has_entry self.old k }
     {
-        match &mut self.entries {
-            Entries::Few(list) => match place_of(list.as_slice(), key) {
-                Ok(place) => list[place].1.absorb(fresh),
-                Err(_) => {}
-            },
-            Entries::Many(tree) => {
-                if let Some(versions) = tree.get_mut(key) {
-                    versions.absorb(fresh);
-                }
-            }
-        }
+        self.entries.absorb(key, fresh);
     }
 
     /// A merge at one key in one call. Refused, it has changed nothing and made no place; it never makes an empty one.
