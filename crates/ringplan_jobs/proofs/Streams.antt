@@ -54,6 +54,10 @@ too_much a b c front more p q h =
 pub gathered : (bytes now shown buf : List ℕ) (n : ℕ) → now ≡ bytes ++ take n shown → shown ≡ buf → now ≡ bytes ++ take n buf
 gathered bytes now shown buf n grown same = grown ∙ ap (λ l. bytes ++ take n l) same
 
+-- a write took the front of what was left
+pub write_more : (all front rest : List ℕ) (n : ℕ) → all ≡ front ++ rest → all ≡ (front ++ take n rest) ++ drop n rest
+write_more all front rest n e = e ∙ ap (λ l. front ++ l) (sym (take-append-drop n rest)) ∙ sym (append_assoc front (take n rest) (drop n rest))
+
 -- a whole buffer after a read into it
 pub refilled : (n : ℕ) (new old : List ℕ) → n ≡ length old → length new ≡ length old → take n (new ++ drop (length new) old) ≡ new
 refilled n new old e f =
@@ -66,3 +70,21 @@ nothing_read None b c bs p q = tt
 nothing_read (Some x) None c bs p q = absurd p
 nothing_read (Some x) (Some y) None bs p q = absurd q
 nothing_read (Some x) (Some y) (Some z) bs p q = p ∙ ap (λ (l : List ℕ). bs ++ l) (sym q)
+
+-- a write that failed wrote nothing
+pub nothing_written : (a b c : Option (List ℕ)) (bs : List ℕ) → Appends a b bs → Keeps b c → Appends a c bs
+nothing_written None b c bs p q = tt
+nothing_written (Some x) None c bs p q = absurd p
+nothing_written (Some x) (Some y) None bs p q = absurd q
+nothing_written (Some x) (Some y) (Some z) bs p q = q ∙ p
+
+-- nor did a flush
+pub still_kept : (a b c : Option (List ℕ)) → Keeps a b → Keeps b c → Keeps a c
+still_kept None b c p q = tt
+still_kept (Some x) None c p q = absurd p
+still_kept (Some x) (Some y) None p q = absurd q
+still_kept (Some x) (Some y) (Some z) p q = q ∙ p
+
+pub kept_at_first : (a : Option (List ℕ)) → Keeps a a
+kept_at_first None = tt
+kept_at_first (Some x) = refl
