@@ -77,14 +77,3 @@ nothing_written None b c bs p q = tt
 nothing_written (Some x) None c bs p q = absurd p
 nothing_written (Some x) (Some y) None bs p q = absurd q
 nothing_written (Some x) (Some y) (Some z) bs p q = q ∙ p
-
--- nor did a flush
-pub still_kept : (a b c : Option (List ℕ)) → Keeps a b → Keeps b c → Keeps a c
-still_kept None b c p q = tt
-still_kept (Some x) None c p q = absurd p
-still_kept (Some x) (Some y) None p q = absurd q
-still_kept (Some x) (Some y) (Some z) p q = q ∙ p
-
-pub kept_at_first : (a : Option (List ℕ)) → Keeps a a
-kept_at_first None = tt
-kept_at_first (Some x) = refl
