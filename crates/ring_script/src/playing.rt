@@ -1,6 +1,6 @@
 //! Playing a script.
 
-ghost use Rattle.std.specs.Prelude.{◌≡◌, ◌≤◌, ◌++◌, length, map, reverse, IfOk, IfErr, OnOk};
+ghost use Rattle.std.specs.Prelude.{◌≡◌, ◌≤◌, ◌++◌, ◌∷◌, [], codes, length, map, reverse, IfOk, IfErr, OnOk};
 ghost use Rattle.ring_names.specs.declared.refusal.Refusal.TheVariants.{OutOfMemory};
 ghost use Rattle.texts.specs.Parts.{text_of};
 ghost use Rattle.ring_table.specs.Spelling.{rows_lines};
@@ -143,6 +143,16 @@ fn played(
     Ok(out)
 }
 
+// The first line, with room behind it for what so many events mostly print: a text that grows is moved, and leaves a gap where it was.
+fn first_line(alloc: Global, events: usize) -> Result<Vec<u8>, Refusal>
+    ensures items { IfOk result (λ v. v.items ≡ codes "yes" ++ 10 ∷ []) }
+    ensures memory { IfErr result (λ e. e ≡ OutOfMemory) }
+{
+    let mut out = Vec::with_capacity(alloc, events.saturating_mul(24))?;
+    out.extend_from_slice(b"yes\n")?;
+    Ok(out)
+}
+
 // What is printed of the events and behind them, over a store that nothing has happened to, where the last event comes first.
 fn played_from_end(
     alloc: Global,
@@ -158,7 +168,7 @@ fn played_from_end(
     ensures text { IfOk result (λ v. v.items ≡ play_text ring.now (plan_of world.old) (reverse events.old.items)) }
     ensures memory { IfErr result (λ e. e ≡ OutOfMemory) }
 {
-    let mut out = Vec::from_slice(alloc, b"yes\n")?;
+    let mut out = first_line(alloc, events.len())?;
     play_from_end(world, &mut out, events)?;
     push_ending(world, ring, &mut out)?;
     Ok(out)
