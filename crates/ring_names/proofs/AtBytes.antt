@@ -18,10 +18,6 @@ same_bytes k = nat_list_eq_equiv.refl k
 pub bytes_same : (j k : List ℕ) → bytes_eq j k ≡ true → j ≡ k
 bytes_same j k h = (bytes_eq-Decides j k).0 h
 
--- what holds at these bytes and at all others
-pub by_bytes : (bs : List ℕ) (P : List ℕ → Type 0) → P bs → ((k : List ℕ) → bytes_eq bs k ≡ false → P k) → (k : List ℕ) → P k
-by_bytes bs P here other k = elim (cases_Bool (bytes_eq bs k)) [ inl y ↦ subst P (bytes_same bs k y) here | inr n ↦ other k n ]
-
 pub other_bytes : (bs cs ks : List ℕ) → bytes_eq bs cs ≡ false → is_eq (slice_cmp nat_cmp bs ks) ≡ true → is_eq (slice_cmp nat_cmp cs ks) ≡ false
 other_bytes bs cs ks n y =
     let met : bytes_eq bs ks ≡ true = sym (is_eq-slice_cmp bs ks) ∙ y in

@@ -1,4 +1,5 @@
 pub mod AtBytes
+pub mod Finding
 pub mod InLists
 pub mod Logic
 pub mod Places

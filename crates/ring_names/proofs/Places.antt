@@ -7,11 +7,7 @@ use Rattle.std.proofs.lemmas.Slice.Eq.{bytes_eq-Decides}
 use Rattle.std.proofs.lemmas.List.{append-nil, map_push}
 use Rattle.ring_names.specs.Lists.{AllNew}
 use Rattle.ring_names.specs.Names.{place}
-use Rattle.ring_names.specs.AtBytes.{value_at, Puts}
-use Rattle.ring_names.proofs.AtBytes.{by_bytes, same_bytes}
-use Rattle.std.specs.BTreeMap.{BTreeMap}
-use Rattle.std.specs.declared.vec.Vec.{Vec as AnyVec}
-use Rattle.std.specs.Cmp.Lexicographic.{nat_list_eq_equiv}
+use Rattle.ring_names.proofs.AtBytes.{same_bytes}
 use Rattle.ring_names.proofs.Logic.{cond_none}
 
 -- a new name gets the next number
@@ -21,20 +17,9 @@ place-push (n ∷ ns) x e =
     let s = cond_none (bytes_eq x n) (place ns x) e in
     rw (s.0, place-push ns x s.1) refl
 
--- and every other name keeps its own
-pub place-other : (ns : List (List ℕ)) (x k : List ℕ) → bytes_eq k x ≡ false → place (ns ++ x ∷ []) k ≡ place ns k
-place-other [] x k e = rw e refl
-place-other (n ∷ ns) x k e = ap (λ (o : Option ℕ). cond (bytes_eq k n) (Some 0) (option_map (λ m. suc m) o)) (place-other ns x k e)
-
 -- the names once a new one was put last
 pub names-push : (old new : List (Vec ℕ)) (v : Vec ℕ) (ns : List (List ℕ)) (x : List ℕ) → map (λ k. k.items) old ≡ ns → v.items ≡ x → new ≡ old ++ v ∷ [] → map (λ k. k.items) new ≡ ns ++ x ∷ []
 names-push old new v ns x e f is = ap (λ (l : List (Vec ℕ)). map (λ k. k.items) l) is ∙ map_push (λ (k : Vec ℕ). k.items) old v ∙ rw (e, f) refl
-
--- and their numbers at the names
-pub numbers-push : {A : Type 0} (old new : BTreeMap (AnyVec ℕ A) ℕ) (ns : List (List ℕ)) (x : List ℕ) → ((k : List ℕ) → value_at old k ≡ place ns k) → place ns x ≡ None → Puts old new x (length ns) → (k : List ℕ) → value_at new k ≡ place (ns ++ x ∷ []) k
-numbers-push old new ns x at absent put = by_bytes x (λ (k : List ℕ). value_at new k ≡ place (ns ++ x ∷ []) k)
-    (put.here ∙ sym (place-push ns x absent))
-    (λ k e. put.others k e ∙ at k ∙ sym (place-other ns x k (nat_list_eq_equiv.symm k x ∙ e)))
 
 -- ---- names of which each is new
 

@@ -2,6 +2,8 @@ pub mod ByKey
 pub mod Lists
 pub mod Names
 pub mod AtBytes
+pub mod Finding
+pub mod Noted
 pub mod Numbered
 pub mod Refusals
 pub mod Space

@@ -3,11 +3,12 @@
 #![tactic(auto)]
 
 mod decimal;
-mod guesses;
+mod finder;
 mod ids;
 mod listed;
 mod lists;
 mod names;
+mod noted;
 mod numbered;
 mod refusal;
 mod rows;

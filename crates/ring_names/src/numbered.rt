@@ -1,23 +1,22 @@
 //! Bytes and their numbers.
 
-ghost use Rattle.std.specs.Prelude.{◌≡◌, ◌≤◌, [], length, slice_get, IfOk, IfErr, IfSome, OnOk, OnErr, option_map};
+ghost use Rattle.std.specs.Prelude.{◌≡◌, ◌≤◌, [], length, slice_get, IfOk, IfErr, OnOk, OnErr, option_map};
 ghost use Rattle.ring_names.specs.Names.{place, with_name};
 ghost use Rattle.ring_names.specs.declared.refusal.Refusal.TheVariants.{OutOfMemory};
 
-use crate::guesses::Guesses;
+use crate::finder::Finder;
+use crate::noted::bytes_at;
 use crate::refusal::Refusal;
 use std::alloc::Global;
-use std::collections::BTreeMap;
 use std::marker::Model;
 
-/// Bytes, each numbered by their place in order of first sight, from 0. The authors of texts choose them, so they stand in order beside being guessed:
-/// to look bytes up mostly costs their length, and whatever they are their length times the logarithm of how many there are. They are kept twice.
+/// Bytes, each numbered by their place in order of first sight, from 0. The authors of texts choose them: to look bytes up mostly costs their
+/// length, and whatever they are their length times the logarithm of how many there are.
 #[derive(Drop)]
 pub struct Numbered {
     alloc: Global,
     list: Vec<Vec<u8>>,
-    numbers: BTreeMap<Vec<u8>, usize>,
-    guesses: Guesses,
+    finder: Finder,
 }
 
 impl Model for Numbered {
@@ -39,8 +38,7 @@ impl Numbered {
         Numbered {
             alloc,
             list: Vec::new(alloc),
-            numbers: BTreeMap::new(alloc),
-            guesses: Guesses::new(alloc),
+            finder: Finder::new(alloc),
         }
     }
 
@@ -64,11 +62,8 @@ impl Numbered {
         }
         let number = self.len();
         let kept = Vec::from_slice(self.alloc, bytes)?;
-        let key = Vec::from_slice(self.alloc, bytes)?;
         self.list.reserve(1)?;
-        self.guesses.make_room(self.list.as_slice())?;
-        self.numbers.insert(key, number)?;
-        self.guesses.note(bytes, number);
+        self.finder.add(self.list.as_slice(), bytes)?;
         self.list.push_reserved(kept);
         Ok(number)
     }
@@ -77,33 +72,13 @@ impl Numbered {
     pub fn number_of(&self, bytes: &[u8]) -> Option<usize>
         ensures { result ≡ place self.now bytes.now }
     {
-        if let Some(number) = self.guessed(bytes) {
-            return Some(number);
-        }
-        match self.numbers.get(bytes) {
-            Some(number) => Some(*number),
-            None => None,
-        }
-    }
-
-    // The number that is guessed, if it is that of these bytes.
-    fn guessed(&self, bytes: &[u8]) -> Option<usize>
-        ensures { IfSome result (λ n. place self.now bytes.now ≡ Some n) }
-    {
-        let number = self.guesses.guess(bytes)?;
-        match self.get(number) {
-            Some(known) if known == bytes => Some(number),
-            _ => None,
-        }
+        self.finder.number_of(self.list.as_slice(), bytes)
     }
 
     /// The bytes of a number, if there are some. Takes no memory.
     pub fn get(&self, number: usize) -> Option<&[u8]>
         ensures { option_map (λ bytes. bytes.now) result ≡ slice_get self.now number }
     {
-        match self.list.get(number) {
-            Some(bytes) => Some(bytes.as_slice()),
-            None => None,
-        }
+        bytes_at(self.list.as_slice(), number)
     }
 }

@@ -1,0 +1,134 @@
+//! A table of numbers, where that of some bytes is found by a sum of the bytes.
+
+ghost use Rattle.std.specs.Prelude.{◌≡◌, ℕ, List, Some, true, false, length, map, option_map, slice_get, IfSome, IfNone};
+ghost use Rattle.ring_names.specs.Noted.{IsNoted, noted_at, sum_of};
+
+/// What stands at a place of the table: a sum of some bytes, and one more than their number, or 0 where the place is free.
+#[derive(Clone, Copy)]
+pub struct Noted {
+    sum: u32,
+    next: u32,
+}
+
+/// A free place.
+pub const FREE: Noted = Noted { sum: 0, next: 0 };
+
+// At how many places, one behind the other, a number may stand.
+const NEAR: usize = 8;
+
+// A sum of all bytes and of their order.
+fn sum_of(bytes: &[u8]) -> u32
+    ensures { result ≡ sum_of bytes.now }
+{
+    let mut sum = 2_166_136_261u64;
+    for byte in bytes {
+        sum = (sum + *byte as u64) * 16_777_619 % 4_294_967_296;
+    }
+    sum as u32
+}
+
+// The number that stands there, if that was noted of bytes with the sum.
+fn number_at(table: &[Noted], place: usize, sum: u32) -> Option<usize>
+    ensures { result ≡ noted_at table.now place sum }
+{
+    match table.get(place) {
+        Some(noted) if noted.sum == sum && 0 < noted.next => Some(noted.next as usize - 1),
+        _ => None,
+    }
+}
+
+/// The bytes of a number, if there are some.
+pub fn bytes_at(list: &[Vec<u8>], number: usize) -> Option<&[u8]>
+    ensures { option_map (λ bytes. bytes.now) result ≡ slice_get (map (λ b. b.items) list.now) number }
+{
+    match list.get(number) {
+        Some(bytes) => Some(bytes.as_slice()),
+        None => None,
+    }
+}
+
+// Whether these bytes have the number.
+fn is_at(list: &[Vec<u8>], number: usize, bytes: &[u8]) -> bool
+    ensures yes { result ≡ true → slice_get (map (λ b. b.items) list.now) number ≡ Some bytes.now }
+    ensures no { slice_get (map (λ b. b.items) list.now) number ≡ Some bytes.now → result ≡ true }
+{
+    match bytes_at(list, number) {
+        Some(known) => known == bytes,
+        None => false,
+    }
+}
+
+// The number of these bytes, if it stands at that place.
+fn found_at(
+    table: &[Noted],
+    place: usize,
+    sum: u32,
+    list: &[Vec<u8>],
+    bytes: &[u8],
+) -> Option<usize>
+    ensures found { IfSome result (λ n. slice_get (map (λ b. b.items) list.now) n ≡ Some bytes.now) }
+    ensures none { IfNone result
+        ((n : ℕ) → noted_at table.now place sum ≡ Some n → slice_get (map (λ b. b.items) list.now) n ≡ Some bytes.now → ⊥) }
+{
+    let number = number_at(table, place, sum)?;
+    if is_at(list, number, bytes) {
+        return Some(number);
+    }
+    None
+}
+
+/// The number of these bytes, if it was noted. Costs a walk over the bytes, and takes no memory.
+pub fn find(table: &[Noted], list: &[Vec<u8>], bytes: &[u8]) -> Option<usize>
+    ensures found { IfSome result (λ n. slice_get (map (λ b. b.items) list.now) n ≡ Some bytes.now) }
+    ensures none { IfNone result
+        ((n : ℕ) → IsNoted table.now bytes.now n → slice_get (map (λ b. b.items) list.now) n ≡ Some bytes.now → ⊥) }
+{
+    if table.is_empty() {
+        return None;
+    }
+    let sum = sum_of(bytes);
+    let first = sum as usize % table.len();
+    for near in 0..NEAR {
+        if let Some(number) = found_at(table, first + near, sum, list, bytes) {
+            return Some(number);
+        }
+    }
+    None
+}
+
+// Puts it there, if the place is free.
+fn put(table: &mut [Noted], place: usize, noted: Noted) -> bool
+    ensures size { length table.new ≡ length table.old }
+    ensures put { result ≡ true → slice_get table.new place ≡ Some noted }
+    ensures same { result ≡ false → table.new ≡ table.old }
+    ensures kept { (at sum n : ℕ) → noted_at table.old at sum ≡ Some n → noted_at table.new at sum ≡ Some n }
+{
+    if place < table.len() && table[place].next == 0 {
+        table[place] = noted;
+        return true;
+    }
+    false
+}
+
+/// Notes the number of these bytes, if a place near that of their sum is free. What was noted stays so.
+pub fn note(table: &mut [Noted], bytes: &[u8], number: usize) -> bool
+    ensures noted { result ≡ true → IsNoted table.new bytes.now number }
+    ensures same { result ≡ false → table.new ≡ table.old }
+    ensures kept { (b : List ℕ) (n : ℕ) → IsNoted table.old b n → IsNoted table.new b n }
+{
+    if table.is_empty() || u32::MAX as usize <= number {
+        return false;
+    }
+    let sum = sum_of(bytes);
+    let first = sum as usize % table.len();
+    let noted = Noted {
+        sum,
+        next: number as u32 + 1,
+    };
+    for near in 0..NEAR {
+        if put(table, first + near, noted) {
+            return true;
+        }
+    }
+    false
+}
