@@ -16,6 +16,7 @@ use ring_replay::World;
 use ring_table::{Node, Ring, push_row};
 use script_text::Script;
 use std::alloc::{AllocError, Global};
+use std::mem::forget;
 
 // The event at that place, and its line.
 fn play_event(
@@ -185,13 +186,23 @@ pub fn play(alloc: Global, approved: &Approved, script: &Script) -> Result<Vec<u
     played(alloc, approved.ring(), &mut world, script.events())
 }
 
-/// The same of a script that is given up: each event's memory is free once it happened, so that the store takes it.
-pub fn play_whole(alloc: Global, approved: &Approved, script: Script) -> Result<Vec<u8>, Refusal>
+/// The same of a script that is given up: each event's memory is free once it happened, so that the store takes it. Where the program `ends` behind
+/// it, the store's memory is left to the system: to let go what a million events have left, one by one, takes a quarter of a play.
+pub fn play_whole(
+    alloc: Global,
+    approved: &Approved,
+    script: Script,
+    ends: bool,
+) -> Result<Vec<u8>, Refusal>
     ensures text { IfOk result (λ v. v.items ≡ play_text approved.now.ring approved.now.plan script) }
     ensures memory { IfErr result (λ e. e ≡ OutOfMemory) }
 {
     let mut events = script.into_vec();
     events.reverse();
     let mut world = World::start(alloc, approved)?;
-    played_from_end(alloc, approved.ring(), &mut world, &mut events)
+    let text = played_from_end(alloc, approved.ring(), &mut world, &mut events);
+    if ends {
+        forget(world);
+    }
+    text
 }

@@ -148,13 +148,13 @@ pub fn migrate_bundle(alloc: Global, bytes: &[u8]) -> Result<Vec<u8>, Refusal>
     }
 }
 
-// What a play of the bundle's script prints, where the checker accepts its plan.
-fn play_checked(alloc: Global, bundle: Bundle) -> Result<Vec<u8>, Refusal>
+// What a play of the bundle's script prints, where the checker accepts its plan; then the program ends, or goes on.
+fn play_checked(alloc: Global, bundle: Bundle, ends: bool) -> Result<Vec<u8>, Refusal>
     requires { IsOfRing bundle }
     ensures { Gives (texts_of result) (shown bundle) }
 {
     match check(alloc, bundle.ring, bundle.plan, &bundle.cert) {
-        Ok(approved) => play_whole(alloc, &approved, bundle.script),
+        Ok(approved) => play_whole(alloc, &approved, bundle.script, ends),
         Err(turned) => {
             let refusal = turned.refusal;
             Err(refusal)
@@ -171,7 +171,7 @@ pub fn play_bundle(alloc: Global, bytes: &[u8]) -> Result<Vec<u8>, Refusal>
     ensures late { IfErr result (λ e. e ≡ OutOfMemory → NoFaultBefore 5 (whole_text (bundle_at Play) bytes.now)) }
 {
     match read_bundle(alloc, Kind::Play, bytes) {
-        Ok(bundle) => play_checked(alloc, bundle),
+        Ok(bundle) => play_checked(alloc, bundle, false),
         Err(e) => Err(e),
     }
 }
@@ -184,12 +184,12 @@ fn read_given(alloc: Global, bytes: Vec<u8>) -> Result<Bundle, Refusal>
     read_bundle(alloc, Kind::Play, bytes.as_slice())
 }
 
-// What a play prints of a bundle whose bytes are given up, so that the store takes their memory.
+// What a play prints of a bundle whose bytes are given up, so that the store takes their memory, which is left to the system in the end.
 fn play_given(alloc: Global, bytes: Vec<u8>) -> Result<Vec<u8>, Refusal>
     ensures { Gives (texts_of result) (plays bytes.items) }
 {
     match read_given(alloc, bytes) {
-        Ok(bundle) => play_checked(alloc, bundle),
+        Ok(bundle) => play_checked(alloc, bundle, true),
         Err(e) => Err(e),
     }
 }
@@ -233,7 +233,7 @@ pub fn make(alloc: Global, job: Job, bytes: &[u8]) -> Result<Vec<u8>, Refusal>
     }
 }
 
-/// The same of bytes that are given up.
+/// The same of bytes that are given up, for a program that ends behind it: the store of a play is left to the system.
 pub fn make_whole(alloc: Global, job: Job, bytes: Vec<u8>) -> Result<Vec<u8>, Refusal>
     ensures { MakesIf job bytes.items (texts_of result) }
 {
