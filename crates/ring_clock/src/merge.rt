@@ -23,7 +23,7 @@ fn aligned(first: &[Entry], second: &[Entry]) -> Option<usize>
         if entry.writer.0 != other.writer.0 {
             return Some(place);
         }
-        if other.counter < entry.counter {
+        if entry.counter > other.counter {
             return None;
         }
     }
