@@ -1,5 +1,5 @@
 -- Lists in order of a key, each of whose items has the counters of a class of writers: the entries of a clock, and its blocks.
-use Rattle.std.proofs.Common.{◌≡◌, ◌≢◌, ◌∙◌, inl, inr, ℕ, ◌<◌, ◌≤◌, List, [], ◌∷◌, ◌++◌, ◌↔◌, length, sym, subst, arith}
+use Rattle.std.proofs.Common.{◌≡◌, ◌≢◌, ◌⊎◌, ◌∙◌, inl, inr, ℕ, zero, suc, ◌<◌, ◌≤◌, List, [], ◌∷◌, ◌++◌, ◌↔◌, length, drop, refl, sym, subst, arith}
 use Rattle.std.specs.Prelude.{max}
 use Rattle.std.specs.List.{AllByRecursion}
 use Rattle.std.proofs.lemmas.Bool.Decides.{eqb_tells}
@@ -19,6 +19,14 @@ pub record Counts {A : Type 0} (key : A → ℕ) (class : ℕ → ℕ) (one : A 
 
 pub by_equal : (m n : ℕ) (P : Type 0) → (m ≡ n → P) → (m ≢ n → P) → P
 by_equal m n P same apart = elim (eqb_tells m n) [ inl t ↦ same t.1 | inr t ↦ apart t.1 ]
+
+-- by which of two is the lesser
+pub by_order : (m n : ℕ) (P : Type 0) → (m < n → P) → (m ≡ n → P) → (n < m → P) → P
+by_order m n P less same more =
+    by_equal m n P same (λ apart. elim (split m n) [ inl h ↦ less h | inr h ↦ more (grind (arith, apart)) ])
+  where
+    split : (m n : ℕ) → (m < n) ⊎ (n ≤ m)
+    split m n = grind arith
 
 pub above_more : {A : Type 0} (key : A → ℕ) (j k : ℕ) (xs : List A) → j ≤ k → AllByRecursion (λ x. k < key x) xs → AllByRecursion (λ x. j < key x) xs
 above_more key j k [] le h = tt
@@ -187,6 +195,16 @@ module _ {A : Type 0} {key : A → ℕ} {class : ℕ → ℕ} {one : A → ℕ �
         (λ apart. let at = h w in let on = laws.there y ys w b apart in omega arith),
   )
 
+  -- what is behind two of one key is at most too
+  uncovered : (x y : A) (xs ys : List A) → key x ≡ key y → Are (x ∷ xs) → Are (y ∷ ys) → AtMost count (x ∷ xs) (y ∷ ys) → AtMost count xs ys
+  uncovered x y xs ys same a b h w = by_equal (class w) (key x) (count xs w ≤ count ys w)
+      (λ is. let behind_it = laws.split x xs a in let none = laws.absent (key x) xs w behind_it.0 behind_it.1 (omega arith) in omega arith)
+      (λ apart.
+      let at = h w in
+      let mine = laws.there x xs w a apart in
+      let theirs = laws.there y ys w b (λ e. apart (e ∙ sym same)) in
+      omega arith)
+
   -- two of one key are compared
   compared : (x y : A) (xs ys : List A) → key x ≡ key y → ((w : ℕ) → one x w ≤ one y w) → Are (x ∷ xs) → Are (y ∷ ys) → AtMost count xs ys ↔ AtMost count (x ∷ xs) (y ∷ ys)
   compared x y xs ys same le a b = (
@@ -197,13 +215,7 @@ module _ {A : Type 0} {key : A → ℕ} {class : ℕ → ℕ} {one : A → ℕ �
         let mine = laws.there x xs w a apart in
         let theirs = laws.there y ys w b (λ e. apart (e ∙ sym same)) in
         omega arith),
-    λ h w. by_equal (class w) (key x) (count xs w ≤ count ys w)
-        (λ is. let behind_it = laws.split x xs a in let none = laws.absent (key x) xs w behind_it.0 behind_it.1 (omega arith) in omega arith)
-        (λ apart.
-        let at = h w in
-        let mine = laws.there x xs w a apart in
-        let theirs = laws.there y ys w b (λ e. apart (e ∙ sym same)) in
-        omega arith),
+    uncovered x y xs ys same a b,
   )
 
   pub pass : (x y : A) (xs ys c d : List A) → c ≡ x ∷ xs → d ≡ y ∷ ys → key y < key x → Are c → Are d → AtMost count c ys ↔ AtMost count c d
@@ -215,3 +227,18 @@ module _ {A : Type 0} {key : A → ℕ} {class : ℕ → ℕ} {one : A → ℕ �
   pub compare : (x y : A) (xs ys c d : List A) → c ≡ x ∷ xs → d ≡ y ∷ ys → key x ≡ key y → ((w : ℕ) → one x w ≤ one y w) → Are c → Are d → AtMost count xs ys ↔ AtMost count c d
   compare x y xs ys c d is other same le a b =
       subst (λ l. AtMost count xs ys ↔ AtMost count l d) (sym is) (subst (λ l. AtMost count xs ys ↔ AtMost count (x ∷ xs) l) (sym other) (compared x y xs ys same le (subst Are is a) (subst Are other b)))
+
+  -- a list that is at most another has no more items
+  pub no_longer : (d c : List A) → Are c → Are d → AtMost count c d → length c ≤ length d
+  no_longer d [] a b h = omega arith
+  no_longer [] (x ∷ xs) a b h = absurd (none_facing x xs (x ∷ xs) [] refl (omega arith) a h)
+  no_longer (y ∷ ys) (x ∷ xs) a b h = by_order (key x) (key y) (length (x ∷ xs) ≤ length (y ∷ ys))
+      (λ less. absurd (later_facing x y xs ys (x ∷ xs) (y ∷ ys) refl refl less a b h))
+      (λ same. omega (arith, no_longer ys xs (laws.split x xs a).1 (laws.split y ys b).1 (uncovered x y xs ys same a b h)))
+      (λ more. omega (arith, no_longer ys (x ∷ xs) a (laws.split y ys b).1 ((pass x y xs ys (x ∷ xs) (y ∷ ys) refl refl more a b).1 h)))
+
+  -- what is left behind some items is in order
+  pub dropped : (n : ℕ) (xs : List A) → Are xs → Are (drop n xs)
+  dropped zero xs h = h
+  dropped (suc n) [] h = h
+  dropped (suc n) (x ∷ xs) h = dropped n xs (laws.split x xs h).1

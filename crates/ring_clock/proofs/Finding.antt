@@ -1,5 +1,5 @@
 -- What a binary search by group finds among blocks.
-use Rattle.std.proofs.Common.{◌≡◌, ◌≢◌, ℕ, zero, suc, ◌<◌, ◌≤◌, List, [], ◌∷◌, ◌∙◌, length, get_or, Ok, Err, refl, sym, arith}
+use Rattle.std.proofs.Common.{◌≡◌, ◌≢◌, ℕ, zero, suc, ◌<◌, ◌≤◌, List, [], ◌∷◌, ◌∙◌, length, get_or, Ok, Err, refl, sym, ap, arith}
 use Rattle.std.specs.List.Sorted.{IsBinarySearchResult}
 use Rattle.std.specs.Ordering.{nat_cmp}
 use Rattle.std.proofs.lemmas.Cmp.{ranked}
@@ -30,6 +30,10 @@ at (b ∷ bs) w h (suc k) d l is = at bs w h.2 k d (omega arith) is ∙ sym (the
 nowhere : (bs : List (List Entry)) (w : ℕ) → AreBlocks bs → ((k : ℕ) (d : List Entry) → k < length bs → group_in (get_or bs k d) ≢ group w) → 0 ≡ counter (entries_of bs) w
 nowhere [] w are h = refl
 nowhere (b ∷ bs) w are h = nowhere bs w are.2 (λ k d l. h (suc k) d (omega arith)) ∙ sym (there_group b bs w are (λ is. h zero b (omega arith) (sym is)))
+
+-- a block of the writer's group that was looked at has the writer's counter
+pub seen_group : (bs : List (List Entry)) (w k : ℕ) (b : List Entry) → AreBlocks bs → k < length bs → b ≡ get_or bs k b → group_in b ≡ group w → counter b w ≡ counter (entries_of bs) w
+seen_group bs w k b h l is of = ap (λ (x : List Entry). counter x w) is ∙ at bs w h k b l (sym (ap group_in is) ∙ of)
 
 -- the block that was found has the writer's counter
 pub found_group : (bs : List (List Entry)) (w k : ℕ) (d : List Entry) → AreBlocks bs → k < length bs → IsBinarySearchResult (λ b. nat_cmp (group_in b) (group w)) bs (Ok k) → counter (get_or bs k d) w ≡ counter (entries_of bs) w

@@ -1,5 +1,6 @@
 pub mod Counting
 pub mod Entries
+pub mod Aligned
 pub mod Searching
 pub mod Groups
 pub mod Ascending

@@ -1,5 +1,5 @@
 -- What a binary search by writer finds among the entries of a clock.
-use Rattle.std.proofs.Common.{◌≡◌, ◌≢◌, ◌⊎◌, inl, inr, ℕ, zero, suc, ◌<◌, ◌≤◌, List, [], ◌∷◌, ◌∙◌, length, get_or, Ok, Err, refl, sym, arith}
+use Rattle.std.proofs.Common.{◌≡◌, ◌≢◌, ◌⊎◌, inl, inr, ℕ, zero, suc, ◌<◌, ◌≤◌, List, [], ◌∷◌, ◌∙◌, length, get_or, Ok, Err, refl, sym, ap, arith}
 use Rattle.std.specs.List.{AllByRecursion}
 use Rattle.std.specs.List.Sorted.{IsBinarySearchResult}
 use Rattle.std.specs.Ordering.{nat_cmp, ordering_index}
@@ -32,6 +32,10 @@ at (e ∷ es) w h (suc k) d l is = at es w h.2 k d (omega arith) is ∙ sym (the
 nowhere : (es : List Entry) (w : ℕ) → ((k : ℕ) (d : Entry) → k < length es → (get_or es k d).writer.0 ≢ w) → 0 ≡ counter es w
 nowhere [] w h = refl
 nowhere (e ∷ es) w h = nowhere es w (λ k d l. h (suc k) d (omega arith)) ∙ sym (there e es w (h zero e (omega arith)))
+
+-- an entry that was looked at has its writer's counter
+pub seen : (es : List Entry) (w k : ℕ) (e : Entry) → IsClock es → k < length es → e ≡ get_or es k e → e.writer.0 ≡ w → e.counter ≡ counter es w
+seen es w k e h l is of = ap (λ (x : Entry). x.counter) is ∙ at es w h k e l (sym (ap (λ (x : Entry). x.writer.0) is) ∙ of)
 
 -- the entry that was found has the writer's counter
 pub found : (es : List Entry) (w k : ℕ) (d : Entry) → IsClock es → k < length es → IsBinarySearchResult (λ e. nat_cmp e.writer.0 w) es (Ok k) → (get_or es k d).counter ≡ counter es w

@@ -91,7 +91,7 @@ impl Clock {
         self.own
     }
 
-    /// The counter of a writer. Takes no memory, and costs the logarithm of the entries.
+    /// The counter of a writer. Takes no memory, and costs the logarithm of the entries; where all lesser writers have entries, two looks.
     pub fn counter(&self, writer: WriterId) -> u64
         ensures { result ≡ counter self.now writer.0 }
     {
@@ -111,8 +111,9 @@ impl Clock {
     }
 
     /// The least clock above both: of each writer the greater counter. Costs the entries of both. Where of a group's entries one clock's are
-    /// at most the other's, those of the greater one are shared. Takes memory for the entries of the other groups, 16 bytes each, and for
-    /// each group 8 bytes, where there are several.
+    /// at most the other's, those of the greater one are shared. Takes memory for the entries of the other groups, 16 bytes each, and where
+    /// there are several groups for their list: 8 bytes a group, and up to 16 where the clocks have unlike groups, since a list that is
+    /// full is doubled.
     pub fn join(&self, other: &Clock) -> Result<Clock, Refusal>
         ensures least { IfOk result (λ c. IsJoin self.now other.now c) }
         ensures counters { IfOk result (λ c. (w : ℕ) → counter c w ≡ max (counter self.now w) (counter other.now w)) }
@@ -143,7 +144,8 @@ impl Clock {
     }
 
     /// This clock with the writer's counter raised by one. Costs the entries of the writer's group, and the groups. Takes memory for those
-    /// entries, 512 bytes at most, and for each group 8 bytes, where there are several; the other entries are shared.
+    /// entries, 512 bytes at most, and where there are several groups for their list: 8 bytes a group, and up to 16 where the writer's is
+    /// a new one, since the full list is doubled. The other entries are shared.
     pub fn bump(&self, writer: WriterId) -> Result<Clock, Refusal>
         requires { counter self.now writer.0 < 18446744073709551615 }
         ensures counters { IfOk result

@@ -1,14 +1,37 @@
 //! Two lists of entries, gone through side by side.
 
-ghost use Rattle.std.specs.Prelude.{◌≡◌, ◌↔◌, ◌+◌, ◌<◌, ◌∷◌, [], ℕ, IsTrue, IfOk, IfNone, IfSome, OnOk, length, max};
+ghost use Rattle.std.specs.Prelude.{◌≡◌, ◌↔◌, ◌+◌, ◌<◌, ◌≤◌, ◌∷◌, [], ℕ, IsTrue, IfOk, IfNone, IfSome, OnOk, drop, length, max};
 ghost use Rattle.ring_clock.specs.Clock.{IsClock, IsAtMost, counter};
 ghost use Rattle.ring_clock.specs.Merge.{EntriesStandFor};
 
 use crate::entry::{Entry, GROUP};
 use std::alloc::{AllocError, Global};
 
-/// Whether each writer's counter in the first is at most that in the second.
-pub fn is_at_most(first: &[Entry], second: &[Entry]) -> bool
+// How many places in front have one writer in both lists. None where at one of them the first has the greater counter.
+fn aligned(first: &[Entry], second: &[Entry]) -> Option<usize>
+    requires first { IsClock first.now }
+    requires second { IsClock second.now }
+    requires fits { length first.now ≤ length second.now }
+    ensures greater { IfNone result (¬ (IsAtMost first.now second.now)) }
+    ensures within { IfSome result (λ n. n ≤ length first.now) }
+    ensures rest { IfSome result
+        (λ n. IsAtMost (drop n first.now) (drop n second.now) ↔ IsAtMost first.now second.now) }
+{
+    for place in 0..first.len() {
+        let entry = &first[place];
+        let other = &second[place];
+        if entry.writer.0 != other.writer.0 {
+            return Some(place);
+        }
+        if entry.counter > other.counter {
+            return None;
+        }
+    }
+    Some(first.len())
+}
+
+// Whether each writer's counter in the first is at most that in the second, at whatever places the writers stand.
+fn unaligned(first: &[Entry], second: &[Entry]) -> bool
     requires first { IsClock first.now }
     requires second { IsClock second.now }
     ensures { IsTrue result ↔ IsAtMost first.now second.now }
@@ -31,6 +54,21 @@ pub fn is_at_most(first: &[Entry], second: &[Entry]) -> bool
         others = later_others;
     }
     true
+}
+
+/// Whether each writer's counter in the first is at most that in the second. Mostly both have the same writers, at the same places.
+pub fn is_at_most(first: &[Entry], second: &[Entry]) -> bool
+    requires first { IsClock first.now }
+    requires second { IsClock second.now }
+    ensures { IsTrue result ↔ IsAtMost first.now second.now }
+{
+    if second.len() < first.len() {
+        return false;
+    }
+    match aligned(first, second) {
+        Some(passed) => unaligned(&first[passed..], &second[passed..]),
+        None => false,
+    }
 }
 
 // Takes the entry of the least writer in front, the one of the greater counter where both lists have that writer.

@@ -1,6 +1,6 @@
 use Rattle.std.proofs.Common.{◌↔◌, length}
 use Rattle.ring_clock.specs.Clock.{IsClock, IsAtMost}
-use Rattle.ring_clock.proofs.merge.is_at_most.Given as goal
+use Rattle.ring_clock.proofs.merge.unaligned.Given as goal
 
 -- the entries left decide
 pub record Left (l : goal.Live-entries) : Type 0 where
