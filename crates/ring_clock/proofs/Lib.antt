@@ -2,6 +2,7 @@ pub mod Counting
 pub mod Entries
 pub mod Searching
 pub mod Groups
+pub mod Places
 pub mod Ascending
 pub mod Finding
 pub mod Causing

@@ -6,15 +6,15 @@ use Rattle.ring_clock.specs.Groups.{group_in}
 use Rattle.ring_clock.proofs.Finding.{block_at, found_group, no_group}
 use Rattle.ring_clock.proofs.blocks.counter_in.Goals as goal
 
-pub counter_of-requires-in-Ok : goal.counter_of-requires-in-Ok
-counter_of-requires-in-Ok c = rw (c.entries-in-Ok.ensures, c.index-blocks-place.is) (block_at c.args.blocks.now c.requires c.in-Ok.place _ (c.in-Ok.ensures).bound).0
+pub counter-requires-in-Ok : goal.counter-requires-in-Ok
+counter-requires-in-Ok c = rw c.index-blocks-place.is (block_at c.args.blocks.now c.requires c.in-Ok.place _ (c.in-Ok.ensures).bound).0
 
 -- the closure gives a block's group
 pub returns-in-Ok : goal.returns-in-Ok
 returns-in-Ok c =
     let at = (c.in-Ok.ensures).position group_in (answers_always _ _ _ (λ f a r g called. search rules)) in
     let same = found_group c.args.blocks.now c.args.writer.0 c.in-Ok.place c.index-blocks-place.result c.requires (c.in-Ok.ensures).bound (rw c.group_of.ensures at at) in
-    c.counter_of-in-Ok.ensures ∙ ap (λ (es : List Entry). counter es c.args.writer.0) (c.entries-in-Ok.ensures ∙ c.index-blocks-place.is) ∙ same
+    c.counter-in-Ok.ensures ∙ ap (λ (es : List Entry). counter es c.args.writer.0) c.index-blocks-place.is ∙ same
 
 pub returns-in-Err : goal.returns-in-Err
 returns-in-Err c =
