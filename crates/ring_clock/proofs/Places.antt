@@ -196,3 +196,20 @@ pub full_raised : {a : List Entry} {g : ℕ} {xs : List ℕ} → IsFull a g xs �
 full_raised {a} {g} {xs} mine first b second same cs all each =
     made a b g cs first second same (its_group mine) (λ w. subst (λ x. counter (entries_from (32 * g) cs) w ≡ max (counter x w) (counter b w)) mine.view
     (raised g b xs cs mine.long all second (sym same ∙ its_group mine) each w))
+
+-- entries are at most a clock where each one's counter is
+pub entries_below : (es d : List Entry) → IsClock es → ((i : ℕ) (e : Entry) → i < length es → (get_or es i e).counter ≤ counter d (get_or es i e).writer.0) → IsAtMost es d
+entries_below [] d clock each w = omega arith
+entries_below (e ∷ es) d clock each w = by_writer e w (counter (e ∷ es) w ≤ counter d w)
+    (λ is. let at = here e es w is in let le = subst (λ v. e.counter ≤ counter d v) is (each 0 e (omega arith)) in omega arith)
+    (λ apart. let on = there e es w apart in let le = entries_below es d clock.2 (λ i x l. each (suc i) x (omega arith)) w in omega arith)
+
+pub below_entries : (es d : List Entry) → IsClock es → IsAtMost es d → (i : ℕ) (e : Entry) → i < length es → (get_or es i e).counter ≤ counter d (get_or es i e).writer.0
+below_entries [] d clock le i x l = absurd (omega arith)
+below_entries (e ∷ es) d clock le zero x l = (let most = le e.writer.0 in let at = here e es e.writer.0 refl in omega arith)
+below_entries (e ∷ es) d clock le (suc i) x l = below_entries es d clock.2 later i x (omega arith)
+  where
+    later : IsAtMost es d
+    later w = by_writer e w (counter es w ≤ counter d w)
+        (λ is. let none = absent e.writer.0 es w clock.1 (omega arith) in omega arith)
+        (λ apart. let on = there e es w apart in let most = le w in omega arith)

@@ -128,8 +128,8 @@ impl Block {
     {
         match (&*self.shared, &*other.shared) {
             (Form::Few(mine), Form::Few(theirs)) => is_at_most(mine.as_slice(), theirs.as_slice()),
-            (Form::Few(mine), Form::Full(theirs)) => Full::of(mine.as_slice()).is_at_most(theirs),
-            (Form::Full(mine), Form::Few(theirs)) => mine.is_at_most(&Full::of(theirs.as_slice())),
+            (Form::Few(mine), Form::Full(theirs)) => theirs.is_above(mine.as_slice()),
+            (Form::Full(mine), Form::Few(theirs)) => mine.is_below(theirs.as_slice()),
             (Form::Full(mine), Form::Full(theirs)) => mine.is_at_most(theirs),
         }
     }

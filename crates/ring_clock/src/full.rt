@@ -1,7 +1,7 @@
 //! The counters of a group of writers of whom many have one.
 
 ghost use Rattle.std.specs.Prelude.{◌≡◌, ◌↔◌, ◌+◌, ◌*◌, ◌<◌, ◌≤◌, ℕ, IsTrue, slice_index, max};
-ghost use Rattle.ring_clock.specs.Clock.{IsAtMost, counter};
+ghost use Rattle.ring_clock.specs.Clock.{IsClock, IsAtMost, counter};
 ghost use Rattle.ring_clock.specs.Groups.{group, group_in, IsBlock};
 
 use crate::entry::{Entry, GROUP};
@@ -76,6 +76,29 @@ impl Full {
         ensures { IsTrue result ↔ IsAtMost self.now other.now }
     {
         are_below(&self.counters, &other.counters)
+    }
+
+    /// Whether each counter of entries is at most the writer's.
+    pub fn is_above(&self, entries: &[Entry]) -> bool
+        requires { IsClock entries.now }
+        ensures { IsTrue result ↔ IsAtMost entries.now self.now }
+    {
+        for entry in entries {
+            if self.counter(entry.writer) < entry.counter {
+                return false;
+            }
+        }
+        true
+    }
+
+    /// Whether each writer's counter is at most that among entries of the group. By a call, since it needs the room for their counters.
+    #[inline(never)]
+    pub fn is_below(&self, entries: &[Entry]) -> bool
+        requires block { IsBlock entries.now }
+        requires group { group_in self.now ≡ group_in entries.now }
+        ensures { IsTrue result ↔ IsAtMost self.now entries.now }
+    {
+        self.is_at_most(&Full::of(entries))
     }
 
     /// Each writer's greater counter of two of one group.
