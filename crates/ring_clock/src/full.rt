@@ -159,12 +159,13 @@ pub fn group_among(entries: &[Entry]) -> u32
 fn are_below(first: &[u64; 32], second: &[u64; 32]) -> bool
     ensures { IsTrue result ↔ ((k : ℕ) → slice_index first.now k ≤ slice_index second.now k) }
 {
+    let mut held = true;
     for place in 0..32 {
         if second[place] < first[place] {
-            return false;
+            held = false;
         }
     }
-    true
+    held
 }
 
 // Raises each counter to that at its place in the other.
