@@ -13,7 +13,7 @@ use std::alloc::{AllocError, Global};
 use std::marker::Model;
 use std::sync::Arc;
 
-// A block of as many entries, of 16 bytes each, takes as much memory as the counters of its whole group, of 8 bytes each.
+// From so many entries on, of 16 bytes each, the counters of the whole group, of 8 bytes each, take no more memory than they.
 const MANY: usize = 16;
 
 /// The group of a writer.
@@ -23,7 +23,7 @@ pub fn group_of(writer: WriterId) -> u32
     writer.0 / GROUP
 }
 
-/// A block's entries where they are few, and else the counters of the whole group.
+/// The entries of a block, where they are few, or else the counters of its whole group.
 #[derive(Drop)]
 pub enum Form {
     Few(Vec<Entry>),
@@ -157,7 +157,8 @@ impl Block {
         }
     }
 
-    /// Each writer's greater counter of the block and of entries of its group. Costs the entries of both, and takes memory for what it makes.
+    /// Each writer's greater counter of the block and of entries of its group. Costs the entries of both, and takes memory for what it makes:
+    /// 264 bytes where the block is full.
     pub fn merge(&self, alloc: Global, entries: &[Entry]) -> Result<Block, AllocError>
         requires first { IsBlock self.now }
         requires second { IsBlock entries.now }

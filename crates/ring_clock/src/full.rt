@@ -9,11 +9,14 @@ use crate::part::Part;
 use ring_names::WriterId;
 use std::marker::Model;
 
-/// A group's counters in order of the writer, 0 where one has none.
+// How many places for counters a group has.
+const PLACES: usize = GROUP as usize;
+
+/// The counters of all writers of a group, each at its writer's place, 0 where one has none. Takes 264 bytes.
 #[derive(Drop)]
 pub struct Full {
     group: u32,
-    counters: [u64; 32],
+    counters: [u64; PLACES],
 }
 
 impl Model for Full {
@@ -37,7 +40,7 @@ impl Full {
         ensures group { group_in result ≡ group_in entries.now }
         ensures counters { (w : ℕ) → counter result w ≡ counter entries.now w }
     {
-        let mut counters = [0; 32];
+        let mut counters = [0; PLACES];
         raise_to_entries(&mut counters, entries);
         Full {
             group: group_among(entries),
@@ -67,7 +70,10 @@ impl Full {
     pub fn part(&self) -> Part<'_>
         ensures { result ≡ self.now }
     {
-        Part::full(u64::from(self.group) * 32, self.counters.as_slice())
+        Part::full(
+            u64::from(self.group) * u64::from(GROUP),
+            self.counters.as_slice(),
+        )
     }
 
     /// Whether each writer's counter is at most that in another one of the group.
@@ -155,12 +161,12 @@ pub fn group_among(entries: &[Entry]) -> u32
     }
 }
 
-// Whether each counter is at most that at its place in the other.
-fn are_below(first: &[u64; 32], second: &[u64; 32]) -> bool
+// Whether each counter is at most that at its place in the other. Goes through all places, since so several of them are compared at once.
+fn are_below(first: &[u64; PLACES], second: &[u64; PLACES]) -> bool
     ensures { IsTrue result ↔ ((k : ℕ) → slice_index first.now k ≤ slice_index second.now k) }
 {
     let mut held = true;
-    for place in 0..32 {
+    for place in 0..PLACES {
         if second[place] < first[place] {
             held = false;
         }
@@ -169,16 +175,16 @@ fn are_below(first: &[u64; 32], second: &[u64; 32]) -> bool
 }
 
 // Raises each counter to that at its place in the other.
-fn raise_to(counters: &mut [u64; 32], others: &[u64; 32])
+fn raise_to(counters: &mut [u64; PLACES], others: &[u64; PLACES])
     ensures { (k : ℕ) → slice_index counters.new k ≡ max (slice_index counters.old k) (slice_index others.now k) }
 {
-    for place in 0..32 {
+    for place in 0..PLACES {
         counters[place] = counters[place].max(others[place]);
     }
 }
 
 // Raises the counters of a group to those of entries of the group.
-fn raise_to_entries(counters: &mut [u64; 32], entries: &[Entry])
+fn raise_to_entries(counters: &mut [u64; PLACES], entries: &[Entry])
     requires { IsBlock entries.now }
     ensures { (k : ℕ) → k < 32
         → slice_index counters.new k ≡ max (slice_index counters.old k) (counter entries.now (32 * group_in entries.now + k)) }
