@@ -12,30 +12,30 @@ use Rattle.ring_clock.proofs.Entries.{here, there, absent, by_writer}
 use Rattle.ring_clock.proofs.Groups.{merged_block}
 
 -- a counter of 0 has no entry
-pub none_here : (s c : ℕ) (cs : List ℕ) → c ≡ 0 → entries_from s (c ∷ cs) ≡ entries_from (s + 1) cs
+none_here : (s c : ℕ) (cs : List ℕ) → c ≡ 0 → entries_from s (c ∷ cs) ≡ entries_from (s + 1) cs
 none_here s c cs none = rw (eq-eqb c 0 none) refl
 
-pub some_here : (s c : ℕ) (cs : List ℕ) → c ≢ 0 → entries_from s (c ∷ cs) ≡ entry_of s c ∷ entries_from (s + 1) cs
+some_here : (s c : ℕ) (cs : List ℕ) → c ≢ 0 → entries_from s (c ∷ cs) ≡ entry_of s c ∷ entries_from (s + 1) cs
 some_here s c cs some = rw (ne_eqb c 0 some) refl
 
 -- writers before the first one have no counter
-pub above : (v s : ℕ) (cs : List ℕ) → v < s → IsAbove v (entries_from s cs)
+above : (v s : ℕ) (cs : List ℕ) → v < s → IsAbove v (entries_from s cs)
 above v s [] less = tt
 above v s (c ∷ cs) less = by_equal c 0 (IsAbove v (entries_from s (c ∷ cs)))
     (λ none. subst (IsAbove v) (sym (none_here s c cs none)) (above v (s + 1) cs (omega arith)))
     (λ some. subst (IsAbove v) (sym (some_here s c cs some)) (less, above v (s + 1) cs (omega arith)))
 
-pub in_order : (s : ℕ) (cs : List ℕ) → IsClock (entries_from s cs)
+in_order : (s : ℕ) (cs : List ℕ) → IsClock (entries_from s cs)
 in_order s [] = tt
 in_order s (c ∷ cs) = by_equal c 0 (IsClock (entries_from s (c ∷ cs)))
     (λ none. subst IsClock (sym (none_here s c cs none)) (in_order (s + 1) cs))
     (λ some. subst IsClock (sym (some_here s c cs some)) (omega (arith, some), above s (s + 1) cs (omega arith), in_order (s + 1) cs))
 
-pub before : (s : ℕ) (cs : List ℕ) (w : ℕ) → w < s → counter (entries_from s cs) w ≡ 0
+before : (s : ℕ) (cs : List ℕ) (w : ℕ) → w < s → counter (entries_from s cs) w ≡ 0
 before s cs w less = absent w (entries_from s cs) w (above w s cs less) (omega arith)
 
 -- the writer's counter stands at its place
-pub placed : (s : ℕ) (cs : List ℕ) (k : ℕ) → counter (entries_from s cs) (s + k) ≡ get_or cs k 0
+placed : (s : ℕ) (cs : List ℕ) (k : ℕ) → counter (entries_from s cs) (s + k) ≡ get_or cs k 0
 placed s [] k = refl
 placed s (c ∷ cs) zero = by_equal c 0 (counter (entries_from s (c ∷ cs)) (s + 0) ≡ c)
     (λ none. ap (λ es. counter es (s + 0)) (none_here s c cs none) ∙ before (s + 1) cs (s + 0) (omega arith) ∙ sym none)
@@ -47,7 +47,7 @@ placed s (c ∷ cs) (suc k) =
     (λ some. ap (λ es. counter es (s + suc k)) (some_here s c cs some) ∙ there (entry_of s c) (entries_from (s + 1) cs) (s + suc k) (λ is. omega arith) ∙ on)
 
 -- by whether writer w stands before the first one, or at some place
-pub by_place : (s w : ℕ) (P : ℕ → Type 0) → (w < s → P w) → ((k : ℕ) → P (s + k)) → P w
+by_place : (s w : ℕ) (P : ℕ → Type 0) → (w < s → P w) → ((k : ℕ) → P (s + k)) → P w
 by_place s w P less at = elim (split w s) [
   | inl l ↦ less l
   | inr le ↦ subst P (omega arith) (at (w - s))
@@ -58,7 +58,7 @@ by_place s w P less at = elim (split w s) [
 
 -- ---- the counters of a group
 
-pub of_group : (g : ℕ) (cs : List ℕ) → length cs ≡ 32 → IsOfGroup g (entries_from (32 * g) cs)
+of_group : (g : ℕ) (cs : List ℕ) → length cs ≡ 32 → IsOfGroup g (entries_from (32 * g) cs)
 of_group g cs all w = by_place (32 * g) w (λ w. group w ≢ g → counter (entries_from (32 * g) cs) w ≡ 0)
     (λ less apart. before (32 * g) cs w less)
     (λ k apart. placed (32 * g) cs k ∙ get_or_past cs k 0 (let le : 32 ≤ k = far g k apart in omega arith))
@@ -73,7 +73,7 @@ pub no_counter : (g : ℕ) (cs : List ℕ) (w : ℕ) → length cs ≡ 32 → gr
 no_counter g cs w all apart = sym (of_group g cs all w apart)
 
 -- lists of counters are compared place by place
-pub compared : (s : ℕ) (a b : List ℕ) → ((k : ℕ) → get_or a k 0 ≤ get_or b k 0) ↔ IsAtMost (entries_from s a) (entries_from s b)
+compared : (s : ℕ) (a b : List ℕ) → ((k : ℕ) → get_or a k 0 ≤ get_or b k 0) ↔ IsAtMost (entries_from s a) (entries_from s b)
 compared s a b = (
   λ h w. by_place s w (λ w. counter (entries_from s a) w ≤ counter (entries_from s b) w)
       (λ less. let none = before s a w less in omega arith)
@@ -81,13 +81,13 @@ compared s a b = (
   λ h k. (let le = h (s + k) in let mine = placed s a k in let theirs = placed s b k in omega arith),
 )
 
-pub joined : (s : ℕ) (a b c : List ℕ) → ((k : ℕ) → get_or c k 0 ≡ max (get_or a k 0) (get_or b k 0)) → (w : ℕ) → counter (entries_from s c) w ≡ max (counter (entries_from s a) w) (counter (entries_from s b) w)
+joined : (s : ℕ) (a b c : List ℕ) → ((k : ℕ) → get_or c k 0 ≡ max (get_or a k 0) (get_or b k 0)) → (w : ℕ) → counter (entries_from s c) w ≡ max (counter (entries_from s a) w) (counter (entries_from s b) w)
 joined s a b c each w = by_place s w (λ w. counter (entries_from s c) w ≡ max (counter (entries_from s a) w) (counter (entries_from s b) w))
     (λ less. let x = before s a w less in let y = before s b w less in let z = before s c w less in omega arith)
     (λ k. let x = placed s a k in let y = placed s b k in let z = placed s c k in let at = each k in omega arith)
 
 -- counters that are raised to those of a block of the group
-pub raised : (g : ℕ) (es : List Entry) (a c : List ℕ) → length a ≡ 32 → length c ≡ 32 → IsBlock es → group_in es ≡ g → ((k : ℕ) → k < 32 → get_or c k 0 ≡ max (get_or a k 0) (counter es (32 * group_in es + k))) → (w : ℕ) → counter (entries_from (32 * g) c) w ≡ max (counter (entries_from (32 * g) a) w) (counter es w)
+raised : (g : ℕ) (es : List Entry) (a c : List ℕ) → length a ≡ 32 → length c ≡ 32 → IsBlock es → group_in es ≡ g → ((k : ℕ) → k < 32 → get_or c k 0 ≡ max (get_or a k 0) (counter es (32 * group_in es + k))) → (w : ℕ) → counter (entries_from (32 * g) c) w ≡ max (counter (entries_from (32 * g) a) w) (counter es w)
 raised g es a c few all block is each w = by_equal (group w) g (counter (entries_from (32 * g) c) w ≡ max (counter (entries_from (32 * g) a) w) (counter es w))
     (λ at.
     let x = its_counter g a w at in
@@ -102,7 +102,7 @@ raised g es a c few all block is each w = by_equal (group w) g (counter (entries
     omega arith)
 
 -- the counters of a block by place
-pub converted : (es : List Entry) (c : List ℕ) → length c ≡ 32 → IsBlock es → ((k : ℕ) → k < 32 → get_or c k 0 ≡ counter es (32 * group_in es + k)) → (w : ℕ) → counter (entries_from (32 * group_in es) c) w ≡ counter es w
+converted : (es : List Entry) (c : List ℕ) → length c ≡ 32 → IsBlock es → ((k : ℕ) → k < 32 → get_or c k 0 ≡ counter es (32 * group_in es + k)) → (w : ℕ) → counter (entries_from (32 * group_in es) c) w ≡ counter es w
 converted es c all block each w = by_equal (group w) (group_in es) (counter (entries_from (32 * group_in es) c) w ≡ counter es w)
     (λ at.
     let z = its_counter (group_in es) c w at in
@@ -132,17 +132,6 @@ zero_at k few = get_or-replicate 32 k 0 0 few
 
 pub from_zero : (k n x : ℕ) → k < 32 → n ≡ max (get_or (replicate {A = ℕ} 32 0) k 0) x → n ≡ x
 from_zero k n x few is = omega (arith, zero_at k few)
-
--- a clock with the counters of a block is a block of its group
-pub same_block : (a c : List Entry) → IsBlock a → IsClock c → ((w : ℕ) → counter c w ≡ counter a w) → IsBlock c × (group_in c ≡ group_in a)
-same_block a c block clock counters = merged_block a a c block block refl clock (λ w. (let at = counters w in omega arith))
-
--- clocks with the same counters are compared alike
-pub alike : (a b c d : List Entry) → ((w : ℕ) → counter a w ≡ counter c w) → ((w : ℕ) → counter b w ≡ counter d w) → IsAtMost a b ↔ IsAtMost c d
-alike a b c d first second = (
-  λ h w. (let le = h w in let x = first w in let y = second w in omega arith),
-  λ h w. (let le = h w in let x = first w in let y = second w in omega arith),
-)
 
 -- ---- full blocks
 
