@@ -3,6 +3,7 @@ pub mod Entries
 pub mod Aligned
 pub mod Searching
 pub mod Groups
+pub mod Places
 pub mod Ascending
 pub mod Finding
 pub mod Causing

@@ -1,15 +1,20 @@
 //! The entries of one group of writers, which clocks share.
 
-ghost use Rattle.std.specs.Prelude.{◌≡◌, ◌↔◌, ℕ, IfOk, max};
-ghost use Rattle.ring_clock.specs.Clock.{IsClock, counter};
+ghost use Rattle.std.specs.Prelude.{◌≡◌, ◌↔◌, ◌*◌, ◌<◌, ◌∷◌, [], ℕ, IsTrue, IfOk, max};
+ghost use Rattle.ring_clock.specs.Clock.{IsClock, IsAtMost, counter};
 ghost use Rattle.ring_clock.specs.Groups.{group, group_in, IsBlock};
 
-use crate::entry::{Entry, GROUP};
+use crate::entry::{Entry, GROUP, counter_of};
+use crate::full::{Full, group_among};
 use crate::merge::{is_at_most, merged};
+use crate::part::Part;
 use ring_names::WriterId;
 use std::alloc::{AllocError, Global};
 use std::marker::Model;
 use std::sync::Arc;
+
+// From so many entries on, of 16 bytes each, the counters of the whole group, of 8 bytes each, take no more memory than they.
+const MANY: usize = 16;
 
 /// The group of a writer.
 pub fn group_of(writer: WriterId) -> u32
@@ -18,29 +23,61 @@ pub fn group_of(writer: WriterId) -> u32
     writer.0 / GROUP
 }
 
+/// The entries of a block, where they are few, or else the counters of its whole group.
+#[derive(Drop)]
+pub enum Form {
+    Few(Vec<Entry>),
+    Full(Box<Full>),
+}
+
 /// Entries of writers of one group. Copies share them.
 #[derive(Drop)]
 pub struct Block {
-    shared: Arc<Vec<Entry>>,
+    shared: Arc<Form>,
 }
 
 impl Model for Block {
     ghost use Rattle.std.specs.Prelude.{List};
     ghost use Rattle.std.specs.Arc.{arc_value};
     ghost use Rattle.ring_clock.specs.declared.entry.Entry.{Entry};
+    ghost use Rattle.ring_clock.specs.Forms.{entries_in};
 
     ghost Value = { List Entry };
 
-    ghost view = { λ a. (arc_value a.shared).items };
+    ghost view = { λ a. entries_in (arc_value a.shared) };
 }
 
 impl Block {
-    /// The block of these entries.
-    pub fn of(alloc: Global, entries: Vec<Entry>) -> Result<Block, AllocError>
-        ensures { IfOk result (λ b. b ≡ entries.items) }
+    /// The block of one entry.
+    pub fn one(alloc: Global, entry: Entry) -> Result<Block, AllocError>
+        ensures { IfOk result (λ b. b ≡ entry ∷ []) }
     {
-        let shared = Arc::new(alloc, entries)?;
+        let entries = Vec::from_slice(alloc, &[entry])?;
+        let shared = Arc::new(alloc, Form::Few(entries))?;
         Ok(Block { shared })
+    }
+
+    // The block of a group's counters.
+    fn full(alloc: Global, full: Full) -> Result<Block, AllocError>
+        ensures { IfOk result (λ b. b ≡ full) }
+    {
+        let counters = Box::new(alloc, full)?;
+        let shared = Arc::new(alloc, Form::Full(counters))?;
+        Ok(Block { shared })
+    }
+
+    // The block of these entries.
+    fn of(alloc: Global, entries: Vec<Entry>) -> Result<Block, AllocError>
+        requires { IsBlock entries.items }
+        ensures block { IfOk result IsBlock }
+        ensures group { IfOk result (λ b. group_in b ≡ group_in entries.items) }
+        ensures counters { IfOk result (λ b. (w : ℕ) → counter b w ≡ counter entries.items w) }
+    {
+        if entries.len() < MANY {
+            let shared = Arc::new(alloc, Form::Few(entries))?;
+            return Ok(Block { shared });
+        }
+        Block::full(alloc, Full::of(entries.as_slice()))
     }
 
     /// The same block once more. Takes no memory.
@@ -51,20 +88,49 @@ impl Block {
         Ok(Block { shared })
     }
 
-    /// The entries, in order of the writer.
-    pub fn entries(&self) -> &[Entry]
-        ensures { result.now ≡ self.now }
+    /// The entries, to be taken one by one.
+    pub fn part(&self) -> Part<'_>
+        ensures { result ≡ self.now }
     {
-        self.shared.as_slice()
+        match &*self.shared {
+            Form::Few(entries) => Part::few(entries.as_slice()),
+            Form::Full(full) => full.part(),
+        }
     }
 
     /// The group of its writers.
     pub fn group(&self) -> u32
         ensures { result ≡ group_in self.now }
     {
-        match self.entries().first() {
-            Some(entry) => group_of(entry.writer),
-            None => 0,
+        match &*self.shared {
+            Form::Few(entries) => group_among(entries.as_slice()),
+            Form::Full(full) => full.group(),
+        }
+    }
+
+    /// The counter of a writer, 0 where it has none.
+    pub fn counter(&self, writer: WriterId) -> u64
+        requires { IsClock self.now }
+        ensures { result ≡ counter self.now writer.0 }
+    {
+        match &*self.shared {
+            Form::Few(entries) => counter_of(entries.as_slice(), writer),
+            Form::Full(full) => full.counter(writer),
+        }
+    }
+
+    /// Whether each writer's counter is at most that in another block of the group.
+    pub fn is_at_most(&self, other: &Block) -> bool
+        requires first { IsBlock self.now }
+        requires second { IsBlock other.now }
+        requires group { group_in self.now ≡ group_in other.now }
+        ensures { IsTrue result ↔ IsAtMost self.now other.now }
+    {
+        match (&*self.shared, &*other.shared) {
+            (Form::Few(mine), Form::Few(theirs)) => is_at_most(mine.as_slice(), theirs.as_slice()),
+            (Form::Few(mine), Form::Full(theirs)) => theirs.is_above(mine.as_slice()),
+            (Form::Full(mine), Form::Few(theirs)) => mine.is_below(theirs.as_slice()),
+            (Form::Full(mine), Form::Full(theirs)) => mine.is_at_most(theirs),
         }
     }
 
@@ -78,16 +144,21 @@ impl Block {
         ensures group { IfOk result (λ b. group_in b ≡ group_in self.now) }
         ensures counters { IfOk result (λ b. (w : ℕ) → counter b w ≡ max (counter self.now w) (counter other.now w)) }
     {
-        if is_at_most(other.entries(), self.entries()) {
+        if other.is_at_most(self) {
             return self.try_copy();
         }
-        if is_at_most(self.entries(), other.entries()) {
+        if self.is_at_most(other) {
             return other.try_copy();
         }
-        self.merge(alloc, other.entries())
+        match (&*self.shared, &*other.shared) {
+            (_, Form::Few(theirs)) => self.merge(alloc, theirs.as_slice()),
+            (Form::Few(mine), Form::Full(_)) => other.merge(alloc, mine.as_slice()),
+            (Form::Full(mine), Form::Full(theirs)) => Block::full(alloc, mine.join(theirs)),
+        }
     }
 
-    /// Each writer's greater counter of the block and of entries of its group. Costs the entries of both, and takes memory for what it makes.
+    /// Each writer's greater counter of the block and of entries of its group. Costs the entries of both, and takes memory for what it makes:
+    /// 264 bytes where the block is full.
     pub fn merge(&self, alloc: Global, entries: &[Entry]) -> Result<Block, AllocError>
         requires first { IsBlock self.now }
         requires second { IsBlock entries.now }
@@ -96,6 +167,9 @@ impl Block {
         ensures group { IfOk result (λ b. group_in b ≡ group_in self.now) }
         ensures counters { IfOk result (λ b. (w : ℕ) → counter b w ≡ max (counter self.now w) (counter entries.now w)) }
     {
-        Block::of(alloc, merged(alloc, self.entries(), entries)?)
+        match &*self.shared {
+            Form::Few(mine) => Block::of(alloc, merged(alloc, mine.as_slice(), entries)?),
+            Form::Full(mine) => Block::full(alloc, mine.merge(entries)),
+        }
     }
 }

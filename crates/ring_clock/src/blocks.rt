@@ -7,8 +7,8 @@ ghost use Rattle.ring_clock.specs.Blocks.{AreBlocks, entries_of, listed};
 ghost use Rattle.ring_clock.specs.Merge.{BlocksStandFor};
 
 use crate::block::{Block, group_of};
-use crate::entry::{Entry, counter_of};
-use crate::merge::is_at_most;
+use crate::entry::Entry;
+use crate::walk::Walk;
 use ring_names::WriterId;
 use std::alloc::{AllocError, Global};
 use std::slice;
@@ -56,13 +56,13 @@ pub fn counter_in(blocks: &[Block], writer: WriterId) -> u64
     if let Some(guess) = blocks.get(group as usize)
         && guess.group() == group
     {
-        return counter_of(guess.entries(), writer);
+        return guess.counter(writer);
     }
     match blocks {
         [] => 0,
-        [block] => counter_of(block.entries(), writer),
+        [block] => block.counter(writer),
         _ => match blocks.binary_search_by_key(&group, |block| block.group()) {
-            Ok(place) => counter_of(blocks[place].entries(), writer),
+            Ok(place) => blocks[place].counter(writer),
             Err(_) => 0,
         },
     }
@@ -87,7 +87,7 @@ pub fn are_at_most(first: &[Block], second: &[Block]) -> bool
             return false;
         }
         if group == facing {
-            if !is_at_most(block.entries(), other.entries()) {
+            if !block.is_at_most(other) {
                 return false;
             }
             rest = later;
@@ -197,7 +197,7 @@ pub fn raised(alloc: Global, blocks: &[Block], entry: Entry) -> Result<Blocks, A
             Ok(Blocks::One(block.merge(alloc, &[entry])?))
         }
         _ => {
-            let own = Block::of(alloc, Vec::from_slice(alloc, &[entry])?)?;
+            let own = Block::one(alloc, entry)?;
             joined(alloc, blocks, slice::from_ref(&own))
         }
     }
@@ -208,8 +208,9 @@ pub fn list(alloc: Global, blocks: &[Block]) -> Result<Vec<Entry>, AllocError>
     ensures { IfOk result (λ v. v.items ≡ entries_of blocks.now) }
 {
     let mut out = Vec::new(alloc);
-    for block in blocks {
-        out.extend_from_slice(block.entries())?;
+    let mut walk = Walk::of(blocks);
+    'entries: while let Some(entry) = walk.next() {
+        out.push(entry)?;
     }
     Ok(out)
 }

@@ -6,8 +6,10 @@ mod blocks;
 mod causes;
 mod clock;
 mod entry;
+mod full;
 mod laws;
 mod merge;
+mod part;
 mod walk;
 
 pub use causes::{Cause, clocks};

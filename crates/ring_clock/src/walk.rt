@@ -5,12 +5,13 @@ ghost use Rattle.ring_clock.specs.Blocks.{entries_of};
 
 use crate::block::Block;
 use crate::entry::Entry;
+use crate::part::Part;
 use std::marker::Model;
 
 /// The counters above 0 of a clock that were not taken yet, in order of the writer.
 #[derive(Drop)]
 pub struct Walk<'a> {
-    rest: &'a [Entry],
+    part: Part<'a>,
     blocks: &'a [Block],
 }
 
@@ -21,7 +22,7 @@ impl<'a> Model for Walk<'a> {
 
     ghost Value = { List Entry };
 
-    ghost view = { λ a. a.rest.now ++ entries_of a.blocks.now };
+    ghost view = { λ a. a.part ++ entries_of a.blocks.now };
 }
 
 impl<'a> Walk<'a> {
@@ -29,20 +30,23 @@ impl<'a> Walk<'a> {
     pub(crate) fn of(blocks: &'a [Block]) -> Walk<'a>
         ensures { result ≡ entries_of blocks.now }
     {
-        Walk { rest: &[], blocks }
+        Walk {
+            part: Part::few(&[]),
+            blocks,
+        }
     }
 
     /// Takes the next one, if there is one. Takes no memory.
     pub fn next(&mut self) -> Option<Entry>
         ensures { MatchOption result ((self.old ≡ []) × (self.new ≡ [])) (λ entry. self.old ≡ entry ∷ self.new) }
     {
-        'groups: while self.rest.is_empty() {
+        'groups: loop {
+            if let Some(entry) = self.part.next() {
+                return Some(entry);
+            }
             let (block, later) = self.blocks.split_first()?;
-            self.rest = block.entries();
+            self.part = block.part();
             self.blocks = later;
         }
-        let (entry, later) = self.rest.split_first()?;
-        self.rest = later;
-        Some(*entry)
     }
 }

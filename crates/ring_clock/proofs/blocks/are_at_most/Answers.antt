@@ -22,13 +22,13 @@ returns-then-group-facing c = (
 pub returns-then-not-is_at_most : goal.returns-then-not-is_at_most
 returns-then-not-is_at_most c = (
   λ h. absurd cc,
-  λ h. (c.if-not-is_at_most.ensures).1 (rw (c.entries.ensures, c.entries-then-group-facing-2.ensures) (within c.in-Some.block.now c.in-Some-split_first.other.now (subst AreBlocks (c.in-Some.ensures).cases.0 c.groups.invariant.first).0 (front_facing blocks c.in-Some.block.now c.in-Some-split_first.other.now c.in-Some.later.now c.in-Some-split_first.later_others.now c.groups.rest.now c.groups.others.now (c.in-Some.ensures).cases.0 (c.in-Some-split_first.ensures).cases.0 (grind (arith, c.if-group-facing-2.true)) c.groups.invariant.first c.groups.invariant.second (c.groups.invariant.decide.1 h)))),
+  λ h. (c.if-not-is_at_most.ensures).1 (within c.in-Some.block.now c.in-Some-split_first.other.now (subst AreBlocks (c.in-Some.ensures).cases.0 c.groups.invariant.first).0 (front_facing blocks c.in-Some.block.now c.in-Some-split_first.other.now c.in-Some.later.now c.in-Some-split_first.later_others.now c.groups.rest.now c.groups.others.now (c.in-Some.ensures).cases.0 (c.in-Some-split_first.ensures).cases.0 (grind (arith, c.if-group-facing-2.true)) c.groups.invariant.first c.groups.invariant.second (c.groups.invariant.decide.1 h))),
 )
 
 -- src/blocks.rt:72:5
 pub groups-preserved-else-not-is_at_most : goal.groups-preserved-else-not-is_at_most
 groups-preserved-else-not-is_at_most c =
-    let law = compare blocks c.in-Some.block.now c.in-Some-split_first.other.now c.in-Some.later.now c.in-Some-split_first.later_others.now c.groups.rest.now c.groups.others.now (c.in-Some.ensures).cases.0 (c.in-Some-split_first.ensures).cases.0 (grind (arith, c.if-group-facing-2.true)) (rw (c.entries.ensures, c.entries-then-group-facing-2.ensures) at ((c.if-not-is_at_most.ensures).0 refl)) c.groups.invariant.first c.groups.invariant.second in
+    let law = compare blocks c.in-Some.block.now c.in-Some-split_first.other.now c.in-Some.later.now c.in-Some-split_first.later_others.now c.groups.rest.now c.groups.others.now (c.in-Some.ensures).cases.0 (c.in-Some-split_first.ensures).cases.0 (grind (arith, c.if-group-facing-2.true)) ((c.if-not-is_at_most.ensures).0 refl) c.groups.invariant.first c.groups.invariant.second in
     record {
       first = rest blocks c.in-Some.block.now c.in-Some.later.now c.groups.rest.now (c.in-Some.ensures).cases.0 c.groups.invariant.first;
       second = rest blocks c.in-Some-split_first.other.now c.in-Some-split_first.later_others.now c.groups.others.now (c.in-Some-split_first.ensures).cases.0 c.groups.invariant.second;

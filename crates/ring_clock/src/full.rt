@@ -1,0 +1,198 @@
+//! The counters of a group of writers of whom many have one.
+
+ghost use Rattle.std.specs.Prelude.{◌≡◌, ◌↔◌, ◌+◌, ◌*◌, ◌<◌, ◌≤◌, ℕ, IsTrue, slice_index, max};
+ghost use Rattle.ring_clock.specs.Clock.{IsClock, IsAtMost, counter};
+ghost use Rattle.ring_clock.specs.Groups.{group, group_in, IsBlock};
+
+use crate::entry::{Entry, GROUP};
+use crate::part::Part;
+use ring_names::WriterId;
+use std::marker::Model;
+
+// How many places for counters a group has.
+const PLACES: usize = GROUP as usize;
+
+/// The counters of all writers of a group, each at its writer's place, 0 where one has none. Takes 264 bytes.
+#[derive(Drop)]
+pub struct Full {
+    group: u32,
+    counters: [u64; PLACES],
+}
+
+impl Model for Full {
+    ghost use Rattle.std.specs.Prelude.{◌≡◌, ◌<◌, ◌*◌, List};
+    ghost use Rattle.ring_clock.specs.Groups.{group_in};
+    ghost use Rattle.ring_clock.specs.Places.{entries_from};
+    ghost use Rattle.ring_clock.specs.declared.entry.Entry.{Entry};
+
+    ghost Value = { List Entry };
+
+    ghost view = { λ a. entries_from (32 * a.group) a.counters };
+
+    ghost invariant = { λ a. (a.group < 134217728) × (group_in (entries_from (32 * a.group) a.counters) ≡ a.group) };
+}
+
+impl Full {
+    /// The counters of a block.
+    pub fn of(entries: &[Entry]) -> Full
+        requires { IsBlock entries.now }
+        ensures block { IsBlock result }
+        ensures group { group_in result ≡ group_in entries.now }
+        ensures counters { (w : ℕ) → counter result w ≡ counter entries.now w }
+    {
+        let mut counters = [0; PLACES];
+        raise_to_entries(&mut counters, entries);
+        Full {
+            group: group_among(entries),
+            counters,
+        }
+    }
+
+    /// The group of its writers.
+    pub fn group(&self) -> u32
+        ensures { result ≡ group_in self.now }
+    {
+        self.group
+    }
+
+    /// The counter of a writer, 0 where it has none.
+    pub fn counter(&self, writer: WriterId) -> u64
+        ensures { result ≡ counter self.now writer.0 }
+    {
+        if writer.0 / GROUP == self.group {
+            self.counters[(writer.0 % GROUP) as usize]
+        } else {
+            0
+        }
+    }
+
+    /// The entries, to be taken one by one.
+    pub fn part(&self) -> Part<'_>
+        ensures { result ≡ self.now }
+    {
+        Part::full(
+            u64::from(self.group) * u64::from(GROUP),
+            self.counters.as_slice(),
+        )
+    }
+
+    /// Whether each writer's counter is at most that in another one of the group.
+    pub fn is_at_most(&self, other: &Full) -> bool
+        requires { group_in self.now ≡ group_in other.now }
+        ensures { IsTrue result ↔ IsAtMost self.now other.now }
+    {
+        are_below(&self.counters, &other.counters)
+    }
+
+    /// Whether each counter of entries is at most the writer's.
+    pub fn is_above(&self, entries: &[Entry]) -> bool
+        requires { IsClock entries.now }
+        ensures { IsTrue result ↔ IsAtMost entries.now self.now }
+    {
+        for entry in entries {
+            if self.counter(entry.writer) < entry.counter {
+                return false;
+            }
+        }
+        true
+    }
+
+    /// Whether each writer's counter is at most that among entries of the group. By a call, since it needs the room for their counters.
+    #[inline(never)]
+    pub fn is_below(&self, entries: &[Entry]) -> bool
+        requires block { IsBlock entries.now }
+        requires group { group_in self.now ≡ group_in entries.now }
+        ensures { IsTrue result ↔ IsAtMost self.now entries.now }
+    {
+        self.is_at_most(&Full::of(entries))
+    }
+
+    /// Each writer's greater counter of two of one group.
+    pub fn join(&self, other: &Full) -> Full
+        requires first { IsBlock self.now }
+        requires second { IsBlock other.now }
+        requires group { group_in self.now ≡ group_in other.now }
+        ensures block { IsBlock result }
+        ensures group { group_in result ≡ group_in self.now }
+        ensures counters { (w : ℕ) → counter result w ≡ max (counter self.now w) (counter other.now w) }
+    {
+        let mut counters = self.counters;
+        raise_to(&mut counters, &other.counters);
+        Full {
+            group: self.group,
+            counters,
+        }
+    }
+
+    /// Each writer's greater counter of these and of entries of the group.
+    pub fn merge(&self, entries: &[Entry]) -> Full
+        requires first { IsBlock self.now }
+        requires second { IsBlock entries.now }
+        requires group { group_in self.now ≡ group_in entries.now }
+        ensures block { IsBlock result }
+        ensures group { group_in result ≡ group_in self.now }
+        ensures counters { (w : ℕ) → counter result w ≡ max (counter self.now w) (counter entries.now w) }
+    {
+        let mut counters = self.counters;
+        raise_to_entries(&mut counters, entries);
+        Full {
+            group: self.group,
+            counters,
+        }
+    }
+}
+
+// The group of a writer: there are 2^27 of them.
+fn group_in_range(writer: WriterId) -> u32
+    ensures value { result ≡ group writer.0 }
+    ensures few { result < 134217728 }
+{
+    writer.0 / GROUP
+}
+
+/// The group of the first entry's writer.
+pub fn group_among(entries: &[Entry]) -> u32
+    ensures value { result ≡ group_in entries.now }
+    ensures few { result < 134217728 }
+{
+    match entries.first() {
+        Some(entry) => group_in_range(entry.writer),
+        None => 0,
+    }
+}
+
+// Whether each counter is at most that at its place in the other. Goes through all places, since so several of them are compared at once.
+fn are_below(first: &[u64; PLACES], second: &[u64; PLACES]) -> bool
+    ensures { IsTrue result ↔ ((k : ℕ) → slice_index first.now k ≤ slice_index second.now k) }
+{
+    let mut held = true;
+    for place in 0..PLACES {
+        if second[place] < first[place] {
+            held = false;
+        }
+    }
+    held
+}
+
+// Raises each counter to that at its place in the other.
+fn raise_to(counters: &mut [u64; PLACES], others: &[u64; PLACES])
+    ensures { (k : ℕ) → slice_index counters.new k ≡ max (slice_index counters.old k) (slice_index others.now k) }
+{
+    for place in 0..PLACES {
+        counters[place] = counters[place].max(others[place]);
+    }
+}
+
+// Raises the counters of a group to those of entries of the group.
+fn raise_to_entries(counters: &mut [u64; PLACES], entries: &[Entry])
+    requires { IsBlock entries.now }
+    ensures { (k : ℕ) → k < 32
+        → slice_index counters.new k ≡ max (slice_index counters.old k) (counter entries.now (32 * group_in entries.now + k)) }
+{
+    let mut rest = entries;
+    'entries: while let Some((entry, later)) = rest.split_first() {
+        let place = (entry.writer.0 % GROUP) as usize;
+        counters[place] = counters[place].max(entry.counter);
+        rest = later;
+    }
+}
