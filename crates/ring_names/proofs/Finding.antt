@@ -142,16 +142,16 @@ knows-same a b list same knows = record {
 
 pub below-noted : (old new : List Noted) (a : Finder) (list : List (List ℕ)) (bytes : List ℕ) (n : ℕ) → slice_get list n ≡ Some bytes → IsNoted new bytes n → ((bs : List ℕ) (m : ℕ) → IsNoted old bs m → IsNoted new bs m) → FindsBelow old a list n → FindsBelow new a list (n + 1)
 below-noted old new a list bytes n at noted kept below m bs less is = elim (below_next m n less) [
-    | inl earlier ↦ elim (below m bs earlier is) [ inl was ↦ inl (kept bs m was) | inr value ↦ inr value ]
-    | inr last ↦
-        let same : bs ≡ bytes = same_some bs bytes (sym is ∙ ap (λ (k : ℕ). slice_get list k) last ∙ at) in
-        inl (rw (last, same) noted)
-  ]
+  | inl earlier ↦ elim (below m bs earlier is) [ inl was ↦ inl (kept bs m was) | inr value ↦ inr value ]
+  | inr last ↦
+      let same : bs ≡ bytes = same_some bs bytes (sym is ∙ ap (λ (k : ℕ). slice_get list k) last ∙ at) in
+      inl (rw (last, same) noted)
+]
 
 pub below-other : (table : List Noted) (a b : Finder) (list : List (List ℕ)) (bytes : List ℕ) (n : ℕ) → AllNew [] list → slice_get list n ≡ Some bytes → TakesOther a b bytes n → FindsBelow table a list n → FindsBelow table b list (n + 1)
 below-other table a b list bytes n new at takes below m bs less is = elim (below_next m n less) [
-    | inl earlier ↦ kept-other table a b list bytes n new at takes m bs is (below m bs earlier is)
-    | inr last ↦
-        let same : bs ≡ bytes = same_some bs bytes (sym is ∙ ap (λ (k : ℕ). slice_get list k) last ∙ at) in
-        inr (rw (last, same) takes.puts.here)
-  ]
+  | inl earlier ↦ kept-other table a b list bytes n new at takes m bs is (below m bs earlier is)
+  | inr last ↦
+      let same : bs ≡ bytes = same_some bs bytes (sym is ∙ ap (λ (k : ℕ). slice_get list k) last ∙ at) in
+      inr (rw (last, same) takes.puts.here)
+]

@@ -8,9 +8,9 @@ loop-near-init c = λ near n h at is. absurd (omega (arith, h))
 
 pub loop-near-preserved : goal.loop-near-preserved
 loop-near-preserved c = λ near n h at is. elim (below_next near c.loop-near.near h) [
-    | inl less ↦ c.loop-near.invariant near n less at is
-    | inr same ↦ c.in_default.ensures.none n (subst (λ (x : ℕ). noted_at c.args.table.now (c.sum_of-sum.result % length c.args.table.now + x) c.sum_of-sum.result ≡ Some n) same at) is
-  ]
+  | inl less ↦ c.loop-near.invariant near n less at is
+  | inr same ↦ c.in_default.ensures.none n (subst (λ (x : ℕ). noted_at c.args.table.now (c.sum_of-sum.result % length c.args.table.now + x) c.sum_of-sum.result ≡ Some n) same at) is
+]
 
 pub returns-clause-none : goal.returns-clause-none
 returns-clause-none c = λ n noted is.
