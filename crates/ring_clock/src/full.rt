@@ -81,9 +81,13 @@ impl Full {
     pub fn push_to(&self, out: &mut Vec<Entry>) -> Result<(), AllocError>
         ensures { OnOk result (out.new.items ≡ out.old.items ++ self.now) }
     {
-        let mut part = self.part();
-        'entries: while let Some(entry) = part.next() {
-            out.push(entry)?;
+        let first = self.group * GROUP;
+        for place in 0..PLACES {
+            let counter = self.counters[place];
+            if counter > 0 {
+                let writer = WriterId(first + place as u32);
+                out.push(Entry { writer, counter })?;
+            }
         }
         Ok(())
     }
