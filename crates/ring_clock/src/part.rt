@@ -7,12 +7,12 @@ use crate::entry::Entry;
 use ring_names::WriterId;
 use std::marker::Model;
 
-/// Entries of a block that were not taken yet: those of counters of writers that follow one another, or a few.
+/// Entries of a block that were not taken yet: entries, or counters of writers that follow one another.
 #[derive(Drop)]
 pub struct Part<'a> {
+    few: &'a [Entry],
     first: u64,
     counters: &'a [u64],
-    few: &'a [Entry],
 }
 
 impl<'a> Model for Part<'a> {
@@ -22,7 +22,7 @@ impl<'a> Model for Part<'a> {
 
     ghost Value = { List Entry };
 
-    ghost view = { λ a. entries_from a.first a.counters.now ++ a.few.now };
+    ghost view = { λ a. a.few.now ++ entries_from a.first a.counters.now };
 
     ghost invariant = { λ a. a.first + length a.counters.now ≤ 4294967296 };
 }
@@ -33,9 +33,9 @@ impl<'a> Part<'a> {
         ensures { result ≡ entries.now }
     {
         Part {
+            few: entries,
             first: 0,
             counters: &[],
-            few: entries,
         }
     }
 
@@ -45,9 +45,9 @@ impl<'a> Part<'a> {
         ensures { result ≡ entries_from first counters.now }
     {
         Part {
+            few: &[],
             first,
             counters,
-            few: &[],
         }
     }
 
@@ -55,6 +55,10 @@ impl<'a> Part<'a> {
     pub fn next(&mut self) -> Option<Entry>
         ensures { MatchOption result ((self.old ≡ []) × (self.new ≡ [])) (λ entry. self.old ≡ entry ∷ self.new) }
     {
+        if let Some((entry, later)) = self.few.split_first() {
+            self.few = later;
+            return Some(*entry);
+        }
         'places: while let Some((counter, later)) = self.counters.split_first() {
             let writer = WriterId(self.first as u32);
             self.first += 1;
@@ -66,8 +70,6 @@ impl<'a> Part<'a> {
                 });
             }
         }
-        let (entry, later) = self.few.split_first()?;
-        self.few = later;
-        Some(*entry)
+        None
     }
 }
