@@ -1,6 +1,6 @@
 //! The entries of one group of writers, which clocks share.
 
-ghost use Rattle.std.specs.Prelude.{◌≡◌, ◌↔◌, ◌*◌, ◌<◌, ◌∷◌, [], ℕ, IsTrue, IfOk, max};
+ghost use Rattle.std.specs.Prelude.{◌≡◌, ◌↔◌, ◌*◌, ◌<◌, ◌∷◌, ◌++◌, [], ℕ, IsTrue, IfOk, OnOk, max};
 ghost use Rattle.ring_clock.specs.Clock.{IsClock, IsAtMost, counter};
 ghost use Rattle.ring_clock.specs.Groups.{group, group_in, IsBlock};
 
@@ -95,6 +95,16 @@ impl Block {
         match &*self.shared {
             Form::Few(entries) => Part::few(entries.as_slice()),
             Form::Full(full) => full.part(),
+        }
+    }
+
+    /// Adds the entries to a list.
+    pub fn push_to(&self, out: &mut Vec<Entry>) -> Result<(), AllocError>
+        ensures { OnOk result (out.new.items ≡ out.old.items ++ self.now) }
+    {
+        match &*self.shared {
+            Form::Few(entries) => out.extend_from_slice(entries.as_slice()),
+            Form::Full(full) => full.push_to(out),
         }
     }
 

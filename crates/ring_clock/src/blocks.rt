@@ -8,7 +8,6 @@ ghost use Rattle.ring_clock.specs.Merge.{BlocksStandFor};
 
 use crate::block::{Block, group_of};
 use crate::entry::Entry;
-use crate::walk::Walk;
 use ring_names::WriterId;
 use std::alloc::{AllocError, Global};
 use std::slice;
@@ -208,9 +207,8 @@ pub fn list(alloc: Global, blocks: &[Block]) -> Result<Vec<Entry>, AllocError>
     ensures { IfOk result (λ v. v.items ≡ entries_of blocks.now) }
 {
     let mut out = Vec::new(alloc);
-    let mut walk = Walk::of(blocks);
-    'entries: while let Some(entry) = walk.next() {
-        out.push(entry)?;
+    for block in blocks {
+        block.push_to(&mut out)?;
     }
     Ok(out)
 }

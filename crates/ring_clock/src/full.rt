@@ -1,12 +1,13 @@
 //! The counters of a group of writers of whom many have one.
 
-ghost use Rattle.std.specs.Prelude.{◌≡◌, ◌↔◌, ◌+◌, ◌*◌, ◌<◌, ◌≤◌, ℕ, IsTrue, slice_index, max};
+ghost use Rattle.std.specs.Prelude.{◌≡◌, ◌↔◌, ◌+◌, ◌*◌, ◌<◌, ◌≤◌, ◌++◌, ℕ, IsTrue, OnOk, slice_index, max};
 ghost use Rattle.ring_clock.specs.Clock.{IsClock, IsAtMost, counter};
 ghost use Rattle.ring_clock.specs.Groups.{group, group_in, IsBlock};
 
 use crate::entry::{Entry, GROUP};
 use crate::part::Part;
 use ring_names::WriterId;
+use std::alloc::AllocError;
 use std::marker::Model;
 
 // How many places for counters a group has.
@@ -74,6 +75,21 @@ impl Full {
             u64::from(self.group) * u64::from(GROUP),
             self.counters.as_slice(),
         )
+    }
+
+    /// Adds the entries to a list.
+    pub fn push_to(&self, out: &mut Vec<Entry>) -> Result<(), AllocError>
+        ensures { OnOk result (out.new.items ≡ out.old.items ++ self.now) }
+    {
+        let first = self.group * GROUP;
+        for place in 0..PLACES {
+            let counter = self.counters[place];
+            if counter > 0 {
+                let writer = WriterId(first + place as u32);
+                out.push(Entry { writer, counter })?;
+            }
+        }
+        Ok(())
     }
 
     /// Whether each writer's counter is at most that in another one of the group.
