@@ -19,7 +19,8 @@ use Rattle.std.proofs.lemmas.Map.Text.{is_eq-slice_cmp}
 use Rattle.std.proofs.lemmas.Slice.Eq.{bytes_eq-Decides}
 use Rattle.ring_names.specs.AtBytes.{value_in, value_at}
 use Rattle.ring_versions.specs.declared.version.Version.{Version}
-use Rattle.ring_names.proofs.AtBytes.{same_bytes, bytes_same, by_bytes, puts}
+use Rattle.ring_names.proofs.AtBytes.{same_bytes, bytes_same, puts}
+use Rattle.store_maps.proofs.AtBytes.{by_bytes}
 use Rattle.store_maps.specs.Entries.{by_items, left_of, PutsAt, TakesNext}
 use Rattle.store_maps.specs.declared.walk.Walk.{Walk}
 

@@ -14,7 +14,8 @@ use Rattle.std.proofs.lemmas.Bool.{eqb-true, eq-eqb, ne_eqb}
 use Rattle.ring_names.specs.declared.ids.NodeId.{NodeId}
 use Rattle.ring_names.specs.contracts.ids.NodeIdOrd.TheImpl as node_order
 use Rattle.ring_names.specs.AtBytes.{value_in, value_at, Puts}
-use Rattle.ring_names.proofs.AtBytes.{same_bytes, by_bytes, other_bytes}
+use Rattle.ring_names.proofs.AtBytes.{same_bytes, other_bytes}
+use Rattle.store_maps.proofs.AtBytes.{by_bytes}
 use Rattle.ring_names.proofs.Logic.{eqb_turned}
 use Rattle.store_maps.specs.declared.key_map.KeyMap.{KeyMap}
 use Rattle.store_maps.specs.declared.slot_map.SlotMap.{SlotMap}

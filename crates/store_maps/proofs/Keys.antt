@@ -16,7 +16,8 @@ use Rattle.store_maps.specs.declared.key_tree.KeyTree.{KeyTree}
 use Rattle.store_maps.specs.Trees.{kept}
 use Rattle.store_maps.specs.Held.{AreKeys}
 use Rattle.ring_names.specs.AtBytes.{value_in}
-use Rattle.ring_names.proofs.AtBytes.{same_bytes, bytes_same, by_bytes}
+use Rattle.ring_names.proofs.AtBytes.{same_bytes, bytes_same}
+use Rattle.store_maps.proofs.AtBytes.{by_bytes}
 use Rattle.store_maps.specs.Entries.{by_items, entries_of, PutsAt}
 use Rattle.store_maps.proofs.EntriesLeft.{later_in}
 use Rattle.ring_names.proofs.Logic.{or_swapped}

@@ -1,3 +1,4 @@
+pub mod AtBytes
 pub mod OneAnswer
 pub mod Chunks
 pub mod Keys

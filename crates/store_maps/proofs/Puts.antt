@@ -9,7 +9,8 @@ use Rattle.ring_names.specs.AtBytes.{value_in}
 use Rattle.store_maps.specs.Entries.{PutsAt}
 use Rattle.store_maps.specs.Places.{held_in, AreApart}
 use Rattle.store_maps.specs.Merges.{MergesAll, at_key}
-use Rattle.ring_names.proofs.AtBytes.{same_bytes, by_bytes}
+use Rattle.ring_names.proofs.AtBytes.{same_bytes}
+use Rattle.store_maps.proofs.AtBytes.{by_bytes}
 use Rattle.store_maps.proofs.MergesInTurn.{merge_none}
 
 pub at_here : (bs : List ℕ) (v : List Version) → at_key bs v bs ≡ v

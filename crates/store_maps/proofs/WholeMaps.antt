@@ -17,7 +17,8 @@ use Rattle.ring_names.specs.AtBytes.{value_in, value_at, Puts}
 use Rattle.store_maps.specs.Places.{held_in}
 use Rattle.store_maps.specs.Merges.{MergesAll, at_key, has_fresh, AreFreshFor, AreReadyIn}
 use Rattle.store_maps.proofs.OneAnswer.{on_option, at_some, at_none, none_to, some_to}
-use Rattle.ring_names.proofs.AtBytes.{same_bytes, by_bytes}
+use Rattle.ring_names.proofs.AtBytes.{same_bytes}
+use Rattle.store_maps.proofs.AtBytes.{by_bytes}
 use Rattle.store_maps.proofs.MergesInTurn.{merge_none, merge_twice, merge_then_none, merge_after_none}
 use Rattle.store_maps.proofs.Puts.{at_here, at_other}
 use Rattle.store_maps.specs.Entries.{by_items, entries_of}
