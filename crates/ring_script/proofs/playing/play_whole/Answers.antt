@@ -16,4 +16,4 @@ returns-clause-text c =
     let same = ap (λ (r : RingValue). play_text r (plan_of world) (reverse last_first)) c.ring.ensures.value
     ∙ (ap (λ (s : List Planned). play_text c.args.approved.now.ring s (reverse last_first)) c.in_ok-world.ensures.plan
     ∙ ap (λ (es : List Event). play_text c.args.approved.now.ring c.args.approved.now.plan es) events) in
-    subst (λ (text : List ℕ). IfOk c.played_from_end.result (λ v. v.items ≡ text)) same c.played_from_end.ensures.text
+    subst (λ (text : List ℕ). IfOk c.played_from_end-text.result (λ v. v.items ≡ text)) same c.played_from_end-text.ensures.text
