@@ -187,7 +187,7 @@ pub fn play(alloc: Global, approved: &Approved, script: &Script) -> Result<Vec<u
 }
 
 /// The same of a script that is given up: each event's memory is free once it happened, so that the store takes it. Where the program `ends` behind
-/// it, the store's memory is left to the system: to let go what a million events have left, one by one, takes a quarter of a play.
+/// it, the store's memory is left to the system: to let go what a million events have left, one by one, takes a fifth of its time.
 pub fn play_whole(
     alloc: Global,
     approved: &Approved,
