@@ -4,6 +4,7 @@ pub mod Aligned
 pub mod Searching
 pub mod Groups
 pub mod Places
+pub mod Losses
 pub mod Ascending
 pub mod Finding
 pub mod Causing

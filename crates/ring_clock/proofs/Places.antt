@@ -1,12 +1,13 @@
 -- Counters by place.
 use Rattle.std.proofs.Common.{◌≡◌, ◌≢◌, ◌↔◌, ◌∙◌, ◌⊎◌, inl, inr, ℕ, zero, suc, ◌+◌, ◌-◌, ◌*◌, ◌/◌, ◌%◌, ◌<◌, ◌≤◌, List, [], ◌∷◌, length, get_or, refl, sym, subst, arith, ap}
 use Rattle.std.specs.Prelude.{max, set, replicate}
+use Rattle.std.proofs.lemmas.List.Elements.{All-head, All-tail}
 use Rattle.std.proofs.lemmas.List.{get_or_past, get_or-set_same, get_or-set_other, get_or-replicate}
 use Rattle.std.proofs.lemmas.Bool.{ne_eqb, eq-eqb}
 use Rattle.ring_clock.specs.declared.entry.Entry.{Entry}
 use Rattle.ring_clock.specs.Clock.{counter, IsAbove, IsClock, IsAtMost}
 use Rattle.ring_clock.specs.Groups.{group, group_in, IsOfGroup, IsBlock}
-use Rattle.ring_clock.specs.Places.{entry_of, entries_from}
+use Rattle.ring_clock.specs.Places.{entry_of, entries_from, AreLow}
 use Rattle.ring_clock.proofs.Counting.{by_equal}
 use Rattle.ring_clock.proofs.Entries.{here, there, absent, by_writer}
 use Rattle.ring_clock.proofs.Groups.{merged_block}
@@ -72,6 +73,10 @@ its_counter g cs w is = sym (placed (32 * g) cs (w % 32)) ∙ ap (λ v. counter 
 pub no_counter : (g : ℕ) (cs : List ℕ) (w : ℕ) → length cs ≡ 32 → group w ≢ g → 0 ≡ counter (entries_from (32 * g) cs) w
 no_counter g cs w all apart = sym (of_group g cs all w apart)
 
+-- where each writer's counter is below 2^31 that at each place is
+pub low_at : (g : ℕ) (cs : List ℕ) → ((w : ℕ) → counter (entries_from (32 * g) cs) w < 2147483648) → (k : ℕ) → get_or cs k 0 < 2147483648
+low_at g cs low k = omega (arith, placed (32 * g) cs k, low (32 * g + k))
+
 -- lists of counters are compared place by place
 compared : (s : ℕ) (a b : List ℕ) → ((k : ℕ) → get_or a k 0 ≤ get_or b k 0) ↔ IsAtMost (entries_from s a) (entries_from s b)
 compared s a b = (
@@ -111,6 +116,12 @@ converted es c all block each w = by_equal (group w) (group_in es) (counter (ent
     omega arith)
     (λ apart. of_group (group_in es) c all w apart ∙ sym (block.2 w apart))
 
+low_counter : (es : List Entry) → AreLow es → (w : ℕ) → counter es w < 2147483648
+low_counter [] low w = omega arith
+low_counter (e ∷ es) low w = by_writer e w (counter (e ∷ es) w < 2147483648)
+    (λ is. omega (arith, here e es w is, All-head (λ (x : Entry). x.counter < 2147483648) e es low))
+    (λ apart. omega (arith, there e es w apart, low_counter es (All-tail (λ (x : Entry). x.counter < 2147483648) e es low) w))
+
 -- one entry more is taken over
 pub one_more : (g : ℕ) (e : Entry) (es : List Entry) (cs : List ℕ) (k : ℕ) → k < 32 → length cs ≡ 32 → IsClock (e ∷ es) → group e.writer.0 ≡ g → max (get_or (set cs (e.writer.0 % 32) (max (get_or cs (e.writer.0 % 32) 0) e.counter)) k 0) (counter es (32 * g + k)) ≡ max (get_or cs k 0) (counter (e ∷ es) (32 * g + k))
 one_more g e es cs k few all clock is = by_writer e (32 * g + k) (max (get_or (set cs (e.writer.0 % 32) (max (get_or cs (e.writer.0 % 32) 0) e.counter)) k 0) (counter es (32 * g + k)) ≡ max (get_or cs k 0) (counter (e ∷ es) (32 * g + k)))
@@ -140,6 +151,10 @@ pub record IsFull (a : List Entry) (g : ℕ) (cs : List ℕ) : Type 0 where
   pub view : entries_from (32 * g) cs ≡ a
   pub own : group_in (entries_from (32 * g) cs) ≡ g
   pub long : length cs ≡ 32
+  pub low : (w : ℕ) → counter (entries_from (32 * g) cs) w < 2147483648
+
+low_of : {a : List Entry} {g : ℕ} {cs : List ℕ} → IsFull a g cs → (w : ℕ) → counter a w < 2147483648
+low_of full = subst (λ x. (w : ℕ) → counter x w < 2147483648) full.view full.low
 
 its_group : {a : List Entry} {g : ℕ} {cs : List ℕ} → IsFull a g cs → group_in a ≡ g
 its_group {a} {g} {cs} full = subst (λ x. group_in x ≡ g) full.view full.own
@@ -154,36 +169,55 @@ full_compared {a} {b} {g} {h} {xs} {ys} mine theirs same =
     (subst (λ x. ((k : ℕ) → get_or xs k 0 ≤ get_or ys k 0) ↔ IsAtMost (entries_from (32 * g) xs) x) (ap (λ n. entries_from (32 * n) ys) (one_group mine theirs same) ∙ theirs.view)
     (compared (32 * g) xs ys))
 
+-- they are at most entries where each counter is at most its writer's
+pub full_below : {a : List Entry} {g : ℕ} {cs : List ℕ} → IsFull a g cs → (es : List Entry) → ((k : ℕ) → k < 32 → get_or cs k 0 ≤ counter es (g * 32 + k)) ↔ IsAtMost a es
+full_below {a} {g} {cs} full es = subst (λ x. ((k : ℕ) → k < 32 → get_or cs k 0 ≤ counter es (g * 32 + k)) ↔ IsAtMost x es) full.view (
+  λ h w. by_equal (group w) g (counter (entries_from (32 * g) cs) w ≤ counter es w)
+      (λ at.
+      let mine = its_counter g cs w at in
+      let le = h (w % 32) (omega arith) in
+      let same : counter es (g * 32 + w % 32) ≡ counter es w = ap (λ v. counter es v) (omega arith) in
+      omega arith)
+      (λ apart. omega (arith, no_counter g cs w full.long apart)),
+  λ h k few.
+      let mine = its_counter g cs (g * 32 + k) (omega arith) in
+      let le = h (g * 32 + k) in
+      let same : get_or cs ((g * 32 + k) % 32) 0 ≡ get_or cs k 0 = ap (λ n. get_or cs n 0) (omega arith) in
+      omega arith,
+)
+
 -- counters that have of each writer the greater one of two blocks
 pub record Made (a b : List Entry) (g : ℕ) (cs : List ℕ) : Type 0 where
   pub block : IsBlock (entries_from (32 * g) cs)
   pub own : group_in (entries_from (32 * g) cs) ≡ g
   pub same : group_in (entries_from (32 * g) cs) ≡ group_in a
+  pub low : (w : ℕ) → counter (entries_from (32 * g) cs) w < 2147483648
   pub counters : (w : ℕ) → counter (entries_from (32 * g) cs) w ≡ max (counter a w) (counter b w)
 
-made : (a b : List Entry) (g : ℕ) (cs : List ℕ) → IsBlock a → IsBlock b → group_in a ≡ group_in b → group_in a ≡ g → ((w : ℕ) → counter (entries_from (32 * g) cs) w ≡ max (counter a w) (counter b w)) → Made a b g cs
-made a b g cs first second same is counters =
+made : (a b : List Entry) (g : ℕ) (cs : List ℕ) → IsBlock a → IsBlock b → group_in a ≡ group_in b → group_in a ≡ g → ((w : ℕ) → counter a w < 2147483648) → ((w : ℕ) → counter b w < 2147483648) → ((w : ℕ) → counter (entries_from (32 * g) cs) w ≡ max (counter a w) (counter b w)) → Made a b g cs
+made a b g cs first second same is low lower counters =
     let law = merged_block a b (entries_from (32 * g) cs) first second same (in_order (32 * g) cs) counters in
     record {
       block = law.0;
       own = law.1 ∙ is;
       same = law.1;
+      low = λ w. omega (arith, counters w, low w, lower w);
       counters = counters;
     }
 
-pub full_of : (a : List Entry) (g : ℕ) (cs : List ℕ) → IsBlock a → g ≡ group_in a → length cs ≡ 32 → ((k : ℕ) → k < 32 → get_or cs k 0 ≡ counter a (32 * group_in a + k)) → Made a a g cs
-full_of a g cs block is all each =
-    made a a g cs block block refl (sym is) (λ w. (let at = subst (λ n. counter (entries_from (32 * n) cs) w ≡ counter a w) (sym is) (converted a cs all block each w) in omega arith))
+pub full_of : (a : List Entry) (g : ℕ) (cs : List ℕ) → IsBlock a → AreLow a → g ≡ group_in a → length cs ≡ 32 → ((k : ℕ) → k < 32 → get_or cs k 0 ≡ counter a (32 * group_in a + k)) → Made a a g cs
+full_of a g cs block low is all each =
+    made a a g cs block block refl (sym is) (low_counter a low) (low_counter a low) (λ w. (let at = subst (λ n. counter (entries_from (32 * n) cs) w ≡ counter a w) (sym is) (converted a cs all block each w) in omega arith))
 
 pub full_joined : {a b : List Entry} {g h : ℕ} {xs ys : List ℕ} → IsFull a g xs → IsFull b h ys → IsBlock a → IsBlock b → group_in a ≡ group_in b → (cs : List ℕ) → ((k : ℕ) → get_or cs k 0 ≡ max (get_or xs k 0) (get_or ys k 0)) → Made a b g cs
 full_joined {a} {b} {g} {h} {xs} {ys} mine theirs first second same cs each =
-    made a b g cs first second same (its_group mine) (λ w. subst (λ x. counter (entries_from (32 * g) cs) w ≡ max (counter x w) (counter b w)) mine.view
+    made a b g cs first second same (its_group mine) (low_of mine) (low_of theirs) (λ w. subst (λ x. counter (entries_from (32 * g) cs) w ≡ max (counter x w) (counter b w)) mine.view
     (subst (λ x. counter (entries_from (32 * g) cs) w ≡ max (counter (entries_from (32 * g) xs) w) (counter x w)) (ap (λ n. entries_from (32 * n) ys) (one_group mine theirs same) ∙ theirs.view)
     (joined (32 * g) xs ys cs each w)))
 
-pub full_raised : {a : List Entry} {g : ℕ} {xs : List ℕ} → IsFull a g xs → IsBlock a → (b : List Entry) → IsBlock b → group_in a ≡ group_in b → (cs : List ℕ) → length cs ≡ 32 → ((k : ℕ) → k < 32 → get_or cs k 0 ≡ max (get_or xs k 0) (counter b (32 * group_in b + k))) → Made a b g cs
-full_raised {a} {g} {xs} mine first b second same cs all each =
-    made a b g cs first second same (its_group mine) (λ w. subst (λ x. counter (entries_from (32 * g) cs) w ≡ max (counter x w) (counter b w)) mine.view
+pub full_raised : {a : List Entry} {g : ℕ} {xs : List ℕ} → IsFull a g xs → IsBlock a → (b : List Entry) → IsBlock b → AreLow b → group_in a ≡ group_in b → (cs : List ℕ) → length cs ≡ 32 → ((k : ℕ) → k < 32 → get_or cs k 0 ≡ max (get_or xs k 0) (counter b (32 * group_in b + k))) → Made a b g cs
+full_raised {a} {g} {xs} mine first b second low same cs all each =
+    made a b g cs first second same (its_group mine) (low_of mine) (low_counter b low) (λ w. subst (λ x. counter (entries_from (32 * g) cs) w ≡ max (counter x w) (counter b w)) mine.view
     (raised g b xs cs mine.long all second (sym same ∙ its_group mine) each w))
 
 -- entries are at most a clock where each one's counter is

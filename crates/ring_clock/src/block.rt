@@ -1,11 +1,11 @@
 //! The entries of one group of writers, which clocks share.
 
-ghost use Rattle.std.specs.Prelude.{◌≡◌, ◌↔◌, ◌*◌, ◌<◌, ◌∷◌, ◌++◌, [], ℕ, IsTrue, IfOk, OnOk, max};
+ghost use Rattle.std.specs.Prelude.{◌≡◌, ◌↔◌, ◌*◌, ◌<◌, ◌≤◌, ◌∷◌, ◌++◌, [], ℕ, IsTrue, IfOk, IfNone, IfSome, OnOk, max};
 ghost use Rattle.ring_clock.specs.Clock.{IsClock, IsAtMost, counter};
 ghost use Rattle.ring_clock.specs.Groups.{group, group_in, IsBlock};
 
 use crate::entry::{Entry, GROUP, counter_of};
-use crate::full::{Full, group_among};
+use crate::full::{Full, are_low, group_among};
 use crate::merge::{is_at_most, merged};
 use crate::part::Part;
 use ring_names::WriterId;
@@ -13,8 +13,8 @@ use std::alloc::{AllocError, Global};
 use std::marker::Model;
 use std::sync::Arc;
 
-// From so many entries on, of 16 bytes each, the counters of the whole group, of 8 bytes each, take no more memory than they.
-const MANY: usize = 16;
+// From so many entries on, of 16 bytes each, the counters of the whole group, of 132 bytes, take no more memory than they.
+const MANY: usize = 9;
 
 /// The group of a writer.
 pub fn group_of(writer: WriterId) -> u32
@@ -73,7 +73,7 @@ impl Block {
         ensures group { IfOk result (λ b. group_in b ≡ group_in entries.items) }
         ensures counters { IfOk result (λ b. (w : ℕ) → counter b w ≡ counter entries.items w) }
     {
-        if entries.len() < MANY {
+        if entries.len() < MANY || !are_low(entries.as_slice()) {
             let shared = Arc::new(alloc, Form::Few(entries))?;
             return Ok(Block { shared });
         }
@@ -144,6 +144,31 @@ impl Block {
         }
     }
 
+    /// Whether each writer's counter is at most that in another block. None where that is of a lesser group. Mostly both are full and of one
+    /// group: then it looks at each block's form once.
+    pub fn passes(&self, other: &Block) -> Option<bool>
+        requires first { IsBlock self.now }
+        requires second { IsBlock other.now }
+        ensures lesser { IfNone result (group_in other.now < group_in self.now) }
+        ensures not_lesser { IfSome result (λ held. group_in self.now ≤ group_in other.now) }
+        ensures held { IfSome result (λ held. IsTrue held ↔ IsAtMost self.now other.now) }
+    {
+        if let (Form::Full(mine), Form::Full(theirs)) = (&*self.shared, &*other.shared)
+            && mine.group() == theirs.group()
+        {
+            return Some(mine.is_at_most(theirs));
+        }
+        let group = self.group();
+        let facing = other.group();
+        if facing < group {
+            return None;
+        }
+        if group < facing {
+            return Some(false);
+        }
+        Some(self.is_at_most(other))
+    }
+
     /// Each writer's greater counter of two blocks of one group: the greater block itself, where there is one. Costs the entries of
     /// both, and takes memory only where neither is at most the other.
     pub fn join(&self, alloc: Global, other: &Block) -> Result<Block, AllocError>
@@ -168,7 +193,7 @@ impl Block {
     }
 
     /// Each writer's greater counter of the block and of entries of its group. Costs the entries of both, and takes memory for what it makes:
-    /// 264 bytes where the block is full.
+    /// 132 bytes where the block is full, and 16 for each entry where one's counter is too great for that.
     pub fn merge(&self, alloc: Global, entries: &[Entry]) -> Result<Block, AllocError>
         requires first { IsBlock self.now }
         requires second { IsBlock entries.now }
@@ -179,7 +204,12 @@ impl Block {
     {
         match &*self.shared {
             Form::Few(mine) => Block::of(alloc, merged(alloc, mine.as_slice(), entries)?),
-            Form::Full(mine) => Block::full(alloc, mine.merge(entries)),
+            Form::Full(mine) if are_low(entries) => Block::full(alloc, mine.merge(entries)),
+            Form::Full(mine) => {
+                let mut own = Vec::with_capacity(alloc, GROUP as usize)?;
+                mine.push_to(&mut own)?;
+                Block::of(alloc, merged(alloc, own.as_slice(), entries)?)
+            }
         }
     }
 }

@@ -80,16 +80,10 @@ pub fn are_at_most(first: &[Block], second: &[Block]) -> bool
         let Some((other, later_others)) = others.split_first() else {
             return false;
         };
-        let group = block.group();
-        let facing = other.group();
-        if group < facing {
-            return false;
-        }
-        if group == facing {
-            if !block.is_at_most(other) {
-                return false;
-            }
-            rest = later;
+        match block.passes(other) {
+            Some(true) => rest = later,
+            Some(false) => return false,
+            None => {}
         }
         others = later_others;
     }

@@ -3,8 +3,9 @@
 ghost use Rattle.std.specs.Prelude.{◌≡◌, ◌↔◌, ◌+◌, ◌*◌, ◌<◌, ◌≤◌, ◌++◌, ℕ, IsTrue, OnOk, slice_index, max};
 ghost use Rattle.ring_clock.specs.Clock.{IsClock, IsAtMost, counter};
 ghost use Rattle.ring_clock.specs.Groups.{group, group_in, IsBlock};
+ghost use Rattle.ring_clock.specs.Places.{AreLow};
 
-use crate::entry::{Entry, GROUP};
+use crate::entry::{Entry, GROUP, counter_of};
 use crate::part::Part;
 use ring_names::WriterId;
 use std::alloc::AllocError;
@@ -13,15 +14,19 @@ use std::marker::Model;
 // How many places for counters a group has.
 const PLACES: usize = GROUP as usize;
 
-/// The counters of all writers of a group, each at its writer's place, 0 where one has none. Takes 264 bytes.
+// The counters of a full block are below this: then the top bit of a difference of two tells which one is the greater.
+const LIMIT: u32 = 1 << 31;
+
+/// The counters of all writers of a group, each at its writer's place, 0 where one has none: counters below 2^31. Takes 132 bytes.
 #[derive(Drop)]
 pub struct Full {
     group: u32,
-    counters: [u64; PLACES],
+    counters: [u32; PLACES],
 }
 
 impl Model for Full {
-    ghost use Rattle.std.specs.Prelude.{◌≡◌, ◌<◌, ◌*◌, List};
+    ghost use Rattle.std.specs.Prelude.{◌≡◌, ◌<◌, ◌*◌, ℕ, List};
+    ghost use Rattle.ring_clock.specs.Clock.{counter};
     ghost use Rattle.ring_clock.specs.Groups.{group_in};
     ghost use Rattle.ring_clock.specs.Places.{entries_from};
     ghost use Rattle.ring_clock.specs.declared.entry.Entry.{Entry};
@@ -30,13 +35,16 @@ impl Model for Full {
 
     ghost view = { λ a. entries_from (32 * a.group) a.counters };
 
-    ghost invariant = { λ a. (a.group < 134217728) × (group_in (entries_from (32 * a.group) a.counters) ≡ a.group) };
+    ghost invariant = { λ a. (a.group < 134217728)
+        × (group_in (entries_from (32 * a.group) a.counters) ≡ a.group)
+        × ((w : ℕ) → counter (entries_from (32 * a.group) a.counters) w < 2147483648) };
 }
 
 impl Full {
     /// The counters of a block.
     pub fn of(entries: &[Entry]) -> Full
-        requires { IsBlock entries.now }
+        requires block { IsBlock entries.now }
+        requires low { AreLow entries.now }
         ensures block { IsBlock result }
         ensures group { group_in result ≡ group_in entries.now }
         ensures counters { (w : ℕ) → counter result w ≡ counter entries.now w }
@@ -61,7 +69,7 @@ impl Full {
         ensures { result ≡ counter self.now writer.0 }
     {
         if writer.0 / GROUP == self.group {
-            self.counters[(writer.0 % GROUP) as usize]
+            u64::from(self.counters[(writer.0 % GROUP) as usize])
         } else {
             0
         }
@@ -83,7 +91,7 @@ impl Full {
     {
         let first = self.group * GROUP;
         for place in 0..PLACES {
-            let counter = self.counters[place];
+            let counter = u64::from(self.counters[place]);
             if counter > 0 {
                 let writer = WriterId(first + place as u32);
                 out.push(Entry { writer, counter })?;
@@ -93,6 +101,7 @@ impl Full {
     }
 
     /// Whether each writer's counter is at most that in another one of the group.
+    #[inline(always)]
     pub fn is_at_most(&self, other: &Full) -> bool
         requires { group_in self.now ≡ group_in other.now }
         ensures { IsTrue result ↔ IsAtMost self.now other.now }
@@ -113,14 +122,19 @@ impl Full {
         true
     }
 
-    /// Whether each writer's counter is at most that among entries of the group. By a call, since it needs the room for their counters.
-    #[inline(never)]
+    /// Whether each writer's counter is at most that among entries.
     pub fn is_below(&self, entries: &[Entry]) -> bool
-        requires block { IsBlock entries.now }
-        requires group { group_in self.now ≡ group_in entries.now }
+        requires { IsClock entries.now }
         ensures { IsTrue result ↔ IsAtMost self.now entries.now }
     {
-        self.is_at_most(&Full::of(entries))
+        let first = self.group * GROUP;
+        for place in 0..PLACES {
+            let writer = WriterId(first + place as u32);
+            if counter_of(entries, writer) < u64::from(self.counters[place]) {
+                return false;
+            }
+        }
+        true
     }
 
     /// Each writer's greater counter of two of one group.
@@ -144,6 +158,7 @@ impl Full {
     pub fn merge(&self, entries: &[Entry]) -> Full
         requires first { IsBlock self.now }
         requires second { IsBlock entries.now }
+        requires low { AreLow entries.now }
         requires group { group_in self.now ≡ group_in entries.now }
         ensures block { IsBlock result }
         ensures group { group_in result ≡ group_in self.now }
@@ -177,21 +192,30 @@ pub fn group_among(entries: &[Entry]) -> u32
     }
 }
 
-// Whether each counter is at most that at its place in the other. Goes through all places, since so several of them are compared at once.
-fn are_below(first: &[u64; PLACES], second: &[u64; PLACES]) -> bool
+/// Whether a full block can have the counters of entries.
+pub fn are_low(entries: &[Entry]) -> bool
+    ensures { IsTrue result ↔ AreLow entries.now }
+{
+    entries.iter().all(|entry| entry.counter < u64::from(LIMIT))
+}
+
+// Whether each counter is at most that at its place in the other. Goes through all places, since so several of them are compared at once,
+// and stands where it is called, as does what calls it: a call would cost a tenth of what a block does.
+#[inline(always)]
+fn are_below(first: &[u32; PLACES], second: &[u32; PLACES]) -> bool
+    requires first { (k : ℕ) → slice_index first.now k < 2147483648 }
+    requires second { (k : ℕ) → slice_index second.now k < 2147483648 }
     ensures { IsTrue result ↔ ((k : ℕ) → slice_index first.now k ≤ slice_index second.now k) }
 {
-    let mut held = true;
+    let mut lost = 0;
     for place in 0..PLACES {
-        if second[place] < first[place] {
-            held = false;
-        }
+        lost |= second[place].wrapping_sub(first[place]);
     }
-    held
+    lost < LIMIT
 }
 
 // Raises each counter to that at its place in the other.
-fn raise_to(counters: &mut [u64; PLACES], others: &[u64; PLACES])
+fn raise_to(counters: &mut [u32; PLACES], others: &[u32; PLACES])
     ensures { (k : ℕ) → slice_index counters.new k ≡ max (slice_index counters.old k) (slice_index others.now k) }
 {
     for place in 0..PLACES {
@@ -200,15 +224,16 @@ fn raise_to(counters: &mut [u64; PLACES], others: &[u64; PLACES])
 }
 
 // Raises the counters of a group to those of entries of the group.
-fn raise_to_entries(counters: &mut [u64; PLACES], entries: &[Entry])
-    requires { IsBlock entries.now }
+fn raise_to_entries(counters: &mut [u32; PLACES], entries: &[Entry])
+    requires block { IsBlock entries.now }
+    requires low { AreLow entries.now }
     ensures { (k : ℕ) → k < 32
         → slice_index counters.new k ≡ max (slice_index counters.old k) (counter entries.now (32 * group_in entries.now + k)) }
 {
     let mut rest = entries;
     'entries: while let Some((entry, later)) = rest.split_first() {
         let place = (entry.writer.0 % GROUP) as usize;
-        counters[place] = counters[place].max(entry.counter);
+        counters[place] = counters[place].max(entry.counter as u32);
         rest = later;
     }
 }

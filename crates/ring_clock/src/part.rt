@@ -12,7 +12,7 @@ use std::marker::Model;
 pub struct Part<'a> {
     few: &'a [Entry],
     first: u64,
-    counters: &'a [u64],
+    counters: &'a [u32],
 }
 
 impl<'a> Model for Part<'a> {
@@ -40,7 +40,7 @@ impl<'a> Part<'a> {
     }
 
     /// The entries of the counters above 0, of which the first one is that of writer `first`.
-    pub fn full(first: u64, counters: &'a [u64]) -> Part<'a>
+    pub fn full(first: u64, counters: &'a [u32]) -> Part<'a>
         requires { first + length counters.now ≤ 4294967296 }
         ensures { result ≡ entries_from first counters.now }
     {
@@ -66,7 +66,7 @@ impl<'a> Part<'a> {
             if *counter > 0 {
                 return Some(Entry {
                     writer,
-                    counter: *counter,
+                    counter: u64::from(*counter),
                 });
             }
         }
