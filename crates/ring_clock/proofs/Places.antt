@@ -1,13 +1,14 @@
 -- Counters by place.
 use Rattle.std.proofs.Common.{◌≡◌, ◌≢◌, ◌↔◌, ◌∙◌, ◌⊎◌, inl, inr, ℕ, zero, suc, ◌+◌, ◌-◌, ◌*◌, ◌/◌, ◌%◌, ◌<◌, ◌≤◌, List, [], ◌∷◌, length, get_or, refl, sym, subst, arith, ap}
 use Rattle.std.specs.Prelude.{max, set, replicate}
+use Rattle.std.specs.List.{All}
 use Rattle.std.proofs.lemmas.List.Elements.{All-head, All-tail}
 use Rattle.std.proofs.lemmas.List.{get_or_past, get_or-set_same, get_or-set_other, get_or-replicate}
 use Rattle.std.proofs.lemmas.Bool.{ne_eqb, eq-eqb}
 use Rattle.ring_clock.specs.declared.entry.Entry.{Entry}
 use Rattle.ring_clock.specs.Clock.{counter, IsAbove, IsClock, IsAtMost}
 use Rattle.ring_clock.specs.Groups.{group, group_in, IsOfGroup, IsBlock}
-use Rattle.ring_clock.specs.Places.{entry_of, entries_from, AreLow}
+use Rattle.ring_clock.specs.Places.{entry_of, entries_from, IsLow}
 use Rattle.ring_clock.proofs.Counting.{by_equal}
 use Rattle.ring_clock.proofs.Entries.{here, there, absent, by_writer}
 use Rattle.ring_clock.proofs.Groups.{merged_block}
@@ -116,11 +117,11 @@ converted es c all block each w = by_equal (group w) (group_in es) (counter (ent
     omega arith)
     (λ apart. of_group (group_in es) c all w apart ∙ sym (block.2 w apart))
 
-low_counter : (es : List Entry) → AreLow es → (w : ℕ) → counter es w < 2147483648
+low_counter : (es : List Entry) → All IsLow es → (w : ℕ) → counter es w < 2147483648
 low_counter [] low w = omega arith
 low_counter (e ∷ es) low w = by_writer e w (counter (e ∷ es) w < 2147483648)
-    (λ is. omega (arith, here e es w is, All-head (λ (x : Entry). x.counter < 2147483648) e es low))
-    (λ apart. omega (arith, there e es w apart, low_counter es (All-tail (λ (x : Entry). x.counter < 2147483648) e es low) w))
+    (λ is. omega (arith, here e es w is, All-head IsLow e es low))
+    (λ apart. omega (arith, there e es w apart, low_counter es (All-tail IsLow e es low) w))
 
 -- one entry more is taken over
 pub one_more : (g : ℕ) (e : Entry) (es : List Entry) (cs : List ℕ) (k : ℕ) → k < 32 → length cs ≡ 32 → IsClock (e ∷ es) → group e.writer.0 ≡ g → max (get_or (set cs (e.writer.0 % 32) (max (get_or cs (e.writer.0 % 32) 0) e.counter)) k 0) (counter es (32 * g + k)) ≡ max (get_or cs k 0) (counter (e ∷ es) (32 * g + k))
@@ -205,7 +206,7 @@ made a b g cs first second same is low lower counters =
       counters = counters;
     }
 
-pub full_of : (a : List Entry) (g : ℕ) (cs : List ℕ) → IsBlock a → AreLow a → g ≡ group_in a → length cs ≡ 32 → ((k : ℕ) → k < 32 → get_or cs k 0 ≡ counter a (32 * group_in a + k)) → Made a a g cs
+pub full_of : (a : List Entry) (g : ℕ) (cs : List ℕ) → IsBlock a → All IsLow a → g ≡ group_in a → length cs ≡ 32 → ((k : ℕ) → k < 32 → get_or cs k 0 ≡ counter a (32 * group_in a + k)) → Made a a g cs
 full_of a g cs block low is all each =
     made a a g cs block block refl (sym is) (low_counter a low) (low_counter a low) (λ w. (let at = subst (λ n. counter (entries_from (32 * n) cs) w ≡ counter a w) (sym is) (converted a cs all block each w) in omega arith))
 
@@ -215,7 +216,7 @@ full_joined {a} {b} {g} {h} {xs} {ys} mine theirs first second same cs each =
     (subst (λ x. counter (entries_from (32 * g) cs) w ≡ max (counter (entries_from (32 * g) xs) w) (counter x w)) (ap (λ n. entries_from (32 * n) ys) (one_group mine theirs same) ∙ theirs.view)
     (joined (32 * g) xs ys cs each w)))
 
-pub full_raised : {a : List Entry} {g : ℕ} {xs : List ℕ} → IsFull a g xs → IsBlock a → (b : List Entry) → IsBlock b → AreLow b → group_in a ≡ group_in b → (cs : List ℕ) → length cs ≡ 32 → ((k : ℕ) → k < 32 → get_or cs k 0 ≡ max (get_or xs k 0) (counter b (32 * group_in b + k))) → Made a b g cs
+pub full_raised : {a : List Entry} {g : ℕ} {xs : List ℕ} → IsFull a g xs → IsBlock a → (b : List Entry) → IsBlock b → All IsLow b → group_in a ≡ group_in b → (cs : List ℕ) → length cs ≡ 32 → ((k : ℕ) → k < 32 → get_or cs k 0 ≡ max (get_or xs k 0) (counter b (32 * group_in b + k))) → Made a b g cs
 full_raised {a} {g} {xs} mine first b second low same cs all each =
     made a b g cs first second same (its_group mine) (low_of mine) (low_counter b low) (λ w. subst (λ x. counter (entries_from (32 * g) cs) w ≡ max (counter x w) (counter b w)) mine.view
     (raised g b xs cs mine.long all second (sym same ∙ its_group mine) each w))

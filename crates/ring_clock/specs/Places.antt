@@ -1,6 +1,5 @@
 -- Counters of writers whose numbers follow one another, each at its writer's place.
 use Rattle.std.specs.Prelude.{ℕ, ◌+◌, ◌<◌, ◌==◌, List, [], ◌∷◌, if◌then◌else◌}
-use Rattle.std.specs.List.{All}
 use Rattle.ring_clock.specs.declared.entry.Entry.{Entry}
 
 -- the entry of writer w
@@ -12,6 +11,6 @@ abbrev pub entries_from : ℕ → List ℕ → List Entry
 entries_from w [] = []
 entries_from w (c ∷ cs) = if c == 0 then entries_from (w + 1) cs else entry_of w c ∷ entries_from (w + 1) cs
 
--- each counter is below 2^31
-abbrev pub AreLow : List Entry → Type 0
-AreLow es = All (λ e. e.counter < 2147483648) es
+-- its counter is below 2^31
+abbrev pub IsLow : Entry → Type 0
+IsLow e = e.counter < 2147483648

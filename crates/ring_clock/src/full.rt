@@ -1,9 +1,10 @@
 //! The counters of a group of writers of whom many have one.
 
 ghost use Rattle.std.specs.Prelude.{◌≡◌, ◌↔◌, ◌+◌, ◌*◌, ◌<◌, ◌≤◌, ◌++◌, ℕ, IsTrue, OnOk, slice_index, max};
+ghost use Rattle.std.specs.List.{All};
 ghost use Rattle.ring_clock.specs.Clock.{IsClock, IsAtMost, counter};
 ghost use Rattle.ring_clock.specs.Groups.{group, group_in, IsBlock};
-ghost use Rattle.ring_clock.specs.Places.{AreLow};
+ghost use Rattle.ring_clock.specs.Places.{IsLow};
 
 use crate::entry::{Entry, GROUP, counter_of};
 use crate::part::Part;
@@ -44,7 +45,7 @@ impl Full {
     /// The counters of a block.
     pub fn of(entries: &[Entry]) -> Full
         requires block { IsBlock entries.now }
-        requires low { AreLow entries.now }
+        requires low { All IsLow entries.now }
         ensures block { IsBlock result }
         ensures group { group_in result ≡ group_in entries.now }
         ensures counters { (w : ℕ) → counter result w ≡ counter entries.now w }
@@ -122,7 +123,7 @@ impl Full {
         true
     }
 
-    /// Whether each writer's counter is at most that among entries.
+    /// Whether each writer's counter is at most that among entries. Costs a search among these for each place.
     pub fn is_below(&self, entries: &[Entry]) -> bool
         requires { IsClock entries.now }
         ensures { IsTrue result ↔ IsAtMost self.now entries.now }
@@ -158,7 +159,7 @@ impl Full {
     pub fn merge(&self, entries: &[Entry]) -> Full
         requires first { IsBlock self.now }
         requires second { IsBlock entries.now }
-        requires low { AreLow entries.now }
+        requires low { All IsLow entries.now }
         requires group { group_in self.now ≡ group_in entries.now }
         ensures block { IsBlock result }
         ensures group { group_in result ≡ group_in self.now }
@@ -194,7 +195,7 @@ pub fn group_among(entries: &[Entry]) -> u32
 
 /// Whether a full block can have the counters of entries.
 pub fn are_low(entries: &[Entry]) -> bool
-    ensures { IsTrue result ↔ AreLow entries.now }
+    ensures { IsTrue result ↔ All IsLow entries.now }
 {
     entries.iter().all(|entry| entry.counter < u64::from(LIMIT))
 }
@@ -226,7 +227,7 @@ fn raise_to(counters: &mut [u32; PLACES], others: &[u32; PLACES])
 // Raises the counters of a group to those of entries of the group.
 fn raise_to_entries(counters: &mut [u32; PLACES], entries: &[Entry])
     requires block { IsBlock entries.now }
-    requires low { AreLow entries.now }
+    requires low { All IsLow entries.now }
     ensures { (k : ℕ) → k < 32
         → slice_index counters.new k ≡ max (slice_index counters.old k) (counter entries.now (32 * group_in entries.now + k)) }
 {

@@ -1,11 +1,11 @@
-use Rattle.std.proofs.Common.{◌≡◌, ◌∙◌, ℕ, ◌%◌, ◌<◌, subst, refl, arith}
-use Rattle.std.specs.List.{AllByRecursion}
+use Rattle.std.proofs.Common.{◌≡◌, ◌∙◌, ℕ, ◌%◌, subst, refl, arith}
+use Rattle.std.specs.List.{All, AllByRecursion}
 use Rattle.std.proofs.lemmas.List.{length-set}
-use Rattle.std.proofs.lemmas.List.Elements.{All-head, All-tail}
+use Rattle.std.proofs.lemmas.List.Elements.{All-head, All-rest}
 use Rattle.ring_clock.specs.declared.entry.Entry.{Entry}
 use Rattle.ring_clock.specs.Clock.{IsClock}
 use Rattle.ring_clock.specs.Groups.{group, group_in}
-use Rattle.ring_clock.specs.Places.{AreLow}
+use Rattle.ring_clock.specs.Places.{IsLow}
 use Rattle.ring_clock.proofs.Groups.{in_group}
 use Rattle.ring_clock.proofs.Places.{one_more}
 use Rattle.ring_clock.proofs.full.raise_to_entries.Goals as goal
@@ -21,8 +21,8 @@ entries-init c = record {
 
 pub overflow_cast-entry : goal.overflow_cast-entry
 overflow_cast-entry c =
-    let low = subst AreLow (c.in-Some.ensures).cases.0 c.entries.invariant.low in
-    omega (arith, All-head (λ (e : Entry). e.counter < 2147483648) c.in-Some.entry.now c.in-Some.later.now low)
+    let low = subst (All IsLow) (c.in-Some.ensures).cases.0 c.entries.invariant.low in
+    omega (arith, All-head IsLow c.in-Some.entry.now c.in-Some.later.now low)
 
 pub entries-preserved : goal.entries-preserved
 entries-preserved c =
@@ -33,7 +33,7 @@ entries-preserved c =
     record {
       long = length-set c.entries.counters (c.in-Some.entry.now.writer.0 % 32) c.max.result ∙ c.entries.invariant.long;
       clock = clock.2;
-      low = All-tail (λ (e : Entry). e.counter < 2147483648) c.in-Some.entry.now c.in-Some.later.now (subst AreLow is c.entries.invariant.low);
+      low = All-rest IsLow c.in-Some.entry.now c.in-Some.later.now c.entries.rest.now is c.entries.invariant.low;
       all = all.1;
       counters = λ k few.
           let step = one_more g c.in-Some.entry.now c.in-Some.later.now c.entries.counters k few c.entries.invariant.long clock all.0 in

@@ -1,16 +1,16 @@
 use Rattle.std.proofs.Common.{◌≡◌, ℕ, ◌<◌, ◌+◌, ◌*◌, get_or, length}
 use Rattle.std.specs.Prelude.{max}
-use Rattle.std.specs.List.{AllByRecursion}
+use Rattle.std.specs.List.{All, AllByRecursion}
 use Rattle.ring_clock.specs.Clock.{counter, IsClock}
 use Rattle.ring_clock.specs.Groups.{group, group_in}
-use Rattle.ring_clock.specs.Places.{AreLow}
+use Rattle.ring_clock.specs.Places.{IsLow}
 use Rattle.ring_clock.proofs.full.raise_to_entries.Given as goal
 
 -- the counters and the entries left stand for those of the beginning
 pub record Raises (l : goal.Live-entries) : Type 0 where
   pub long : length l.counters ≡ 32
   pub clock : IsClock l.rest
-  pub low : AreLow l.rest
+  pub low : All IsLow l.rest
   pub all : AllByRecursion (λ e. group e.writer.0 ≡ group_in l.entries) l.rest
   pub counters : (k : ℕ) → k < 32 → max (get_or l.counters k 0) (counter l.rest (32 * group_in l.entries + k)) ≡ max (get_or l.initial.counters k 0) (counter l.entries (32 * group_in l.entries + k))
 
