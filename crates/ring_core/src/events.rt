@@ -19,6 +19,7 @@ use store_events::{
 use store_tells::Parts;
 
 /// Why the event is refused now, if it is. Takes no memory.
+#[inline(always)]
 pub(crate) fn refusal(parts: &Parts, event: &Event) -> Option<Refusal>
     requires { IsSound parts.now }
     ensures { Tests parts.now event.now result }

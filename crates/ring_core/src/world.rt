@@ -41,6 +41,7 @@ impl<'a> World<'a> {
     }
 
     /// Why the event would be refused now, if it would, but for want of memory. Takes no memory.
+    #[inline(always)]
     pub fn allows(&self, event: &Event) -> Result<(), Refusal>
         ensures ok { OnOk result (Passes self.now event.now) }
         ensures err { IfErr result (λ e. (e ≢ OutOfMemory) × Refuses self.now event.now e) }

@@ -62,7 +62,8 @@ impl EventWord {
     }
 }
 
-// What it says behind its word.
+// What it says behind its word. Scripts and histories read events, each by a copy of its own: a call for each line would cost more.
+#[inline(always)]
 fn said_behind<'a>(
     word: EventWord,
     ring: &Ring,
@@ -100,6 +101,7 @@ fn said_behind<'a>(
 
 /// Takes what an event's line says, behind the writers seen: a field that is none is `BadLine`, a number above 4,294,967,295, more than 16 gets that a put
 /// knows and a new writer behind 1,024 are `TooLarge`, and of several faults the one of the lesser number decides. Takes no memory.
+#[inline(always)]
 #[tactic(auto, unfolding(crate::specs::Reading::kind_at))]
 pub fn said_event<'a>(
     ring: &Ring,

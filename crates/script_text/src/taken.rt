@@ -44,6 +44,7 @@ fn to_put(alloc: Global, names: &mut Names, put: SaidPut) -> Result<Event, Refus
 
 /// The event that a line says, in memory of its own. A new writer is added behind those known, and the event names it by its number.
 /// Its only refusal is `OutOfMemory`; then the writer may have been added.
+#[inline(always)]
 pub fn keep_event(alloc: Global, names: &mut Names, said: SaidEvent) -> Result<Event, Refusal>
     requires { Fits names.old said }
     ensures ok { IfOk result (λ event. event ≡ event_of names.old said.entry) }
