@@ -1,6 +1,6 @@
 //! Sets of versions.
 
-ghost use Rattle.std.specs.Prelude.{◌≡◌, ◌↔◌, ◌∷◌, [], List, IsTrue, IfOk, IfErr, OnOk, OnErr};
+ghost use Rattle.std.specs.Prelude.{◌≡◌, ◌↔◌, ◌∷◌, [], List, IsTrue, IfOk, IfErr, IfSome, OnOk, OnErr};
 ghost use Rattle.ring_names.specs.declared.refusal.Refusal.TheVariants.{OutOfMemory};
 ghost use Rattle.ring_versions.specs.Fresh.{Brings, IsFreshFor, FitsIn};
 ghost use Rattle.ring_versions.specs.Puts.{ArePuts};
@@ -199,5 +199,19 @@ impl Versions {
             alloc: self.alloc,
             shared,
         })
+    }
+
+    /// The join of the versions' clocks, where it is kept: for one version, and for eight or more. Takes no memory.
+    pub fn top(&self) -> Option<&Clock>
+        ensures { IfSome result (λ c. RaisesTo [] (IsClockIn self.now) c.now) }
+    {
+        match &self.shared {
+            Shared::Nothing => None,
+            Shared::One(one) => Some(&one.clock),
+            Shared::More(whole) => match &whole.kept.tops {
+                Some(tops) => Some(&tops.join),
+                None => None,
+            },
+        }
     }
 }

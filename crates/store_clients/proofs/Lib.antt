@@ -6,6 +6,7 @@ pub mod GetsStartEnd
 pub mod FirstDown
 pub mod SlotKeepers
 pub mod SlotHasOfKey
+pub mod SlotJoins
 pub mod SlotReads
 pub mod GetsKept
 pub mod ClocksRaised

@@ -4,6 +4,8 @@ use Rattle.ring_names.specs.declared.refusal.Refusal.{Refusal}
 use Rattle.ring_names.specs.declared.refusal.Refusal.TheVariants.{NodeDown}
 use Rattle.ring_clock.specs.declared.entry.Entry.{Entry}
 use Rattle.ring_versions.specs.declared.version.Version.{Version}
+use Rattle.ring_clock.specs.Clock.{IsAtMost}
+use Rattle.ring_versions.specs.Raised.{RaisesTo, IsClockIn}
 use Rattle.ring_versions.specs.Versions.{IsIn, Covers, IsApart}
 
 -- each of the nodes below x that has versions is up
@@ -21,3 +23,18 @@ pub record MergesOthers (these : List Version) (among : ℕ → Bool) (others : 
   pub mine : (k : List Entry) → Covers these k → Covers all k
   pub theirs : (x : ℕ) (k : List Entry) → among x ≡ true → Covers (others x) k → Covers all k
   pub apart : IsApart all
+
+-- ---- what joins of clocks tell
+
+-- the version is one of these, or of those of others
+abbrev pub IsAmong : List Version → (ℕ → List Version) → Version → Type 0
+IsAmong these others v = IsIn v these ⊎ ((x : ℕ) × IsIn v (others x))
+
+-- of these versions and those of others, a clock that is at most the join of the clocks of some is at most one of these clocks
+abbrev pub JoinsTell : List Version → (ℕ → List Version) → Type 0
+JoinsTell these others = (v : Version) (some : List Version) (join : List Entry) → IsAmong these others v → ((x : Version) → IsIn x some → IsAmong these others x)
+    → RaisesTo [] (IsClockIn some) join → IsAtMost v.clock join → (Covers some v.clock → ⊥) → ⊥
+
+-- the join of the clocks of these versions is at most that of those
+abbrev pub JoinIsAtMost : List Version → List Version → Type 0
+JoinIsAtMost these those = (c : List Entry) × (d : List Entry) × RaisesTo [] (IsClockIn these) c × RaisesTo [] (IsClockIn those) d × IsAtMost c d

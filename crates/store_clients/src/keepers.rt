@@ -1,13 +1,13 @@
 //! What the nodes that keep hints for a slot keep of one key.
 
-ghost use Rattle.std.specs.Prelude.{◌≡◌, ℕ, [], false, IfErr, OnOk};
+ghost use Rattle.std.specs.Prelude.{◌≡◌, ℕ, [], false, IsTrue, IfErr, OnOk};
 ghost use Rattle.ring_names.specs.declared.refusal.Refusal.TheVariants.{OutOfMemory};
 ghost use Rattle.ring_versions.specs.Versions.{IsApart};
 ghost use Rattle.store_maps.specs.Chunks.{chunk_of};
 ghost use Rattle.ring_hints.specs.Hints.{partitions, hinted_at};
 ghost use Rattle.ring_hints.specs.Views.{in_keepers};
 ghost use Rattle.store_tables.specs.Nodes.{is_up_at};
-ghost use Rattle.store_clients.specs.Keepers.{IsFirstDown, MergesOthers};
+ghost use Rattle.store_clients.specs.Keepers.{IsFirstDown, JoinIsAtMost, JoinsTell, MergesOthers};
 
 use ring_hints::{Hints, KeptFor};
 use ring_names::{NodeId, Refusal, Slot};
@@ -62,7 +62,18 @@ pub fn keeper_refusal(nodes: &Nodes, hints: &Hints, place: &SlotKey) -> Option<R
     }
 }
 
-/// Merges what these nodes keep of the key for the slot.
+// Whether the join of the clocks of those held is at most that of all, where both joins are kept. Of puts of one key all then cover those held.
+fn is_told(all: &Versions, held: &Versions) -> bool
+    ensures { IsTrue result → JoinIsAtMost held.now all.now }
+{
+    match (held.top(), all.top()) {
+        (Some(held), Some(all)) => held.le(all),
+        _ => false,
+    }
+}
+
+/// Merges what these nodes keep of the key for the slot. A node whose versions' join is at most that of all costs one comparison of clocks,
+/// where both joins are kept.
 pub fn merge_hints(
     all: &mut Versions,
     hints: &Hints,
@@ -71,6 +82,7 @@ pub fn merge_hints(
 ) -> Result<(), Refusal>
     requires chunk { chunk_of (partitions hints.now) place.now.key.now ≡ place.now.chunk }
     requires apart { IsApart all.old }
+    requires told { JoinsTell all.old (λ x. hinted_at hints.now x place.now.slot place.now.key.now) }
     ensures ok { OnOk result (MergesOthers all.old (λ x. in_keepers x keepers.now.keys)
         (λ x. hinted_at hints.now x place.now.slot place.now.key.now) all.new) }
     ensures memory { IfErr result (λ e. e ≡ OutOfMemory) }
@@ -80,7 +92,9 @@ pub fn merge_hints(
             keeper: *keeper,
             slot: place.slot,
         };
-        if let Some(held) = hints.key_versions_in(pair, place.chunk, place.key) {
+        if let Some(held) = hints.key_versions_in(pair, place.chunk, place.key)
+            && !is_told(all, held)
+        {
             all.merge(held)?;
         }
     }

@@ -9,7 +9,7 @@ ghost use Rattle.ring_hints.specs.Hints.{hinted_at, partitions};
 ghost use Rattle.plan_runs.specs.World.{World};
 ghost use Rattle.plan_runs.specs.declared.event.Event.TheVariants.{Read};
 ghost use Rattle.store_tells.specs.Parts.{IsSound, Meets, Passes, kept_of, plan_of, ring_of};
-ghost use Rattle.store_clients.specs.Keepers.{MergesOthers};
+ghost use Rattle.store_clients.specs.Keepers.{JoinsTell, MergesOthers};
 ghost use Rattle.store_clients.specs.Looks.{FindsAt, owned_at};
 
 use crate::keepers::{SlotKey, merge_hints};
@@ -36,6 +36,8 @@ fn owner_versions(parts: &Parts, slot: Slot, chunk: u32, key: &[u8]) -> Result<V
 fn slot_versions(parts: &Parts, slot: Slot, chunk: u32, key: &[u8]) -> Result<Versions, Refusal>
     requires stores { chunk_of (shared_space parts.now.stores) key.now ≡ chunk }
     requires hints { chunk_of (partitions parts.now.hints) key.now ≡ chunk }
+    requires told { JoinsTell (owned_at parts.now.slots (held_at parts.now.stores) slot key.now)
+        (λ x. hinted_at parts.now.hints x slot key.now) }
     ensures ok { IfOk result
         (MergesOthers (owned_at parts.now.slots (held_at parts.now.stores) slot key.now) (λ x. true)
         (λ x. hinted_at parts.now.hints x slot key.now)) }

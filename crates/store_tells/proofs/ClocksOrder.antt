@@ -1,5 +1,5 @@
 -- The order of the clocks of a world's puts is succession.
-use Rattle.std.proofs.Common.{◌≡◌, inl, inr, ◌∙◌, ℕ, zero, suc, ◌<◌, true, List, length, refl, sym, subst, arith, lt-ltb, eq-eqb}
+use Rattle.std.proofs.Common.{◌≡◌, inl, inr, ◌∙◌, ℕ, zero, suc, ◌<◌, ◌≤◌, true, List, length, refl, sym, subst, arith, lt-ltb, eq-eqb}
 use Rattle.std.specs.Prelude.{◌↔◌, ◌&&◌, ◌==◌, nat_lt}
 use Rattle.std.specs.Str.{bytes_eq}
 use Rattle.std.proofs.lemmas.Bool.Decides.{eqb_tells}
@@ -56,21 +56,24 @@ module _ (w : World) (clock : ℕ → List Entry) (made : AreClocksOf w clock) w
     ]
   ]
 
+  -- a put whose clock reaches another put's own counter, both of one key, succeeds it
+  reaches : (u v : ℕ) → u < length w.puts → v < length w.puts → key_of_put w u ≡ key_of_put w v → counter (clock v) (writer_of w v) ≤ counter (clock u) (writer_of w v) → Succeeds w u v
+  reaches u v l m key at =
+      let a = writer_of w v in
+      let own = (facts v m).some in
+      let s = source (suc u) u a (omega arith) l (omega arith) in
+      let same : key_of_put w s.0 ≡ key_of_put w v = sym (succeeds_same_key w u s.0 s.4) ∙ key in
+      let equal = s.3 in
+      elim (cases_lt v s.0) [
+        | inl less ↦ succeeds_through w u s.0 v s.4 (by s.0 v v (own_direct w s.0 v less s.1 same s.2) (itself v))
+        | inr least ↦ elim (cases_lt s.0 v) [
+          | inl more ↦ absurd (let own_more = (facts v m).own s.0 (own_direct w v s.0 more m (sym same) (sym s.2)) in omega arith)
+          | inr most_too ↦ (let e : s.0 ≡ v = omega arith in subst (λ (z : ℕ). Succeeds w u z) e s.4)
+        ]
+      ]
+
+  pub own_tells : (u v : ℕ) → u < length w.puts → v < length w.puts → key_of_put w u ≡ key_of_put w v → counter (clock v) (writer_of w v) ≤ counter (clock u) (writer_of w v) → IsAtMost (clock v) (clock u)
+  own_tells u v l m key at = above u v l (reaches u v l m key at)
+
   pub tells : (u v : ℕ) → u < length w.puts → v < length w.puts → key_of_put w u ≡ key_of_put w v → IsAtMost (clock v) (clock u) ↔ Succeeds w u v
-  tells u v l m key = (
-    λ most.
-        let a = writer_of w v in
-        let own = (facts v m).some in
-        let at = most a in
-        let s = source (suc u) u a (omega arith) l (omega arith) in
-        let same : key_of_put w s.0 ≡ key_of_put w v = sym (succeeds_same_key w u s.0 s.4) ∙ key in
-        let equal = s.3 in
-        elim (cases_lt v s.0) [
-          | inl less ↦ succeeds_through w u s.0 v s.4 (by s.0 v v (own_direct w s.0 v less s.1 same s.2) (itself v))
-          | inr least ↦ elim (cases_lt s.0 v) [
-            | inl more ↦ absurd (let own_more = (facts v m).own s.0 (own_direct w v s.0 more m (sym same) (sym s.2)) in omega arith)
-            | inr most_too ↦ (let e : s.0 ≡ v = omega arith in subst (λ (z : ℕ). Succeeds w u z) e s.4)
-          ]
-        ],
-    λ s. above u v l s,
-  )
+  tells u v l m key = (λ most. reaches u v l m key (most (writer_of w v)), λ s. above u v l s)

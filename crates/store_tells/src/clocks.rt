@@ -1,16 +1,16 @@
 //! The clocks of a world's puts. Each function here is a law: it does nothing, and its contract holds of the definitions.
 
-ghost use Rattle.std.specs.Prelude.{◌≡◌, ◌↔◌, ℕ, ◌<◌, false, List, length, Option, Ok};
+ghost use Rattle.std.specs.Prelude.{◌≡◌, ◌↔◌, ℕ, ◌<◌, ◌≤◌, false, List, length, Option, Ok};
 ghost use Rattle.ring_names.specs.declared.ids.WriterId.{WriterId as TheWriter};
 ghost use Rattle.ring_table.specs.Value.{RingValue};
 ghost use Rattle.ring_clock.specs.declared.entry.Entry.{Entry as TheEntry};
-ghost use Rattle.ring_clock.specs.Clock.{IsAtMost};
+ghost use Rattle.ring_clock.specs.Clock.{counter, IsAtMost};
 ghost use Rattle.ring_clock.specs.Built.{IsNext, with_clock};
 ghost use Rattle.plan_text.specs.declared.step.Planned.{Planned};
 ghost use Rattle.plan_runs.specs.declared.event.Event.{Event as TheEvent};
 ghost use Rattle.plan_runs.specs.declared.event.Event.TheVariants.{StartPut};
 ghost use Rattle.plan_runs.specs.declared.event.Reply.{Reply as TheReply};
-ghost use Rattle.plan_runs.specs.World.{World, opening_world, key_of_put};
+ghost use Rattle.plan_runs.specs.World.{World, opening_world, key_of_put, writer_of};
 ghost use Rattle.plan_runs.specs.Succession.{Succeeds};
 ghost use Rattle.plan_runs.specs.Answers.{answer};
 ghost use Rattle.plan_runs.specs.Reached.{Reached};
@@ -22,6 +22,13 @@ pub fn clocks_tell_succession()
     ensures { (w : World) (clock : ℕ → List TheEntry) → AreClocksOf w clock
         → (u v : ℕ) → u < length w.puts → v < length w.puts → key_of_put w u ≡ key_of_put w v
         → IsAtMost (clock v) (clock u) ↔ Succeeds w u v }
+{}
+
+/// A put whose clock reaches another put's own counter, both of one key, has a clock that is at least the other's.
+pub fn own_counters_tell()
+    ensures { (w : World) (clock : ℕ → List TheEntry) → AreClocksOf w clock
+        → (u v : ℕ) → u < length w.puts → v < length w.puts → key_of_put w u ≡ key_of_put w v
+        → counter (clock v) (writer_of w v) ≤ counter (clock u) (writer_of w v) → IsAtMost (clock v) (clock u) }
 {}
 
 /// At the start any clocks will do, an event that starts no put leaves all clocks as they are, and one that starts a put leaves

@@ -9,7 +9,7 @@ mod parts;
 mod shows;
 mod stored;
 
-pub use clocks::{clocks_are_kept, clocks_tell_succession};
+pub use clocks::{clocks_are_kept, clocks_tell_succession, own_counters_tell};
 pub use gets::{ended_gets_show_replies, found_clocks_join, gets_are_kept, reads_are_merged};
 pub use parts::Parts;
 pub use shows::{shown_numbers_are_the_latest, shown_sets_merge, slot_is_held_where_covered};

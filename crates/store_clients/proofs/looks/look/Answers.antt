@@ -2,9 +2,11 @@ use Rattle.std.proofs.Common.{◌≡◌, ◌∙◌, ℕ, sym, subst}
 use Rattle.std.specs.Prelude.{Some, slice_get, option_map}
 use Rattle.std.proofs.Props.{props}
 use Rattle.ring_space.specs.Place.{place_of}
+use Rattle.plan_runs.specs.World.{slot_at}
 use Rattle.store_tells.specs.Parts.{ring_of, plan_of, kept_of}
 use Rattle.store_tells.proofs.StoreInWorld.{holds}
 use Rattle.store_clients.proofs.SlotHasOfKey.{get_key_there, reads_there, finds_shown, chunk_is}
+use Rattle.store_clients.proofs.SlotJoins.{joins_tell}
 use Rattle.store_clients.proofs.looks.look.Goals as goal
 
 pub unreachable-requires : goal.unreachable-requires
@@ -31,6 +33,11 @@ pub slot_versions-requires-clause-hints : goal.slot_versions-requires-clause-hin
 slot_versions-requires-clause-hints c =
     let s = c.requires.sound.sized in
     chunk_is _ _ c.args.parts.now.keys.keys c.in-Some.now.now.key c.place-place.result c.key-key.result.now (s.keys ∙ sym s.hints) c.place-place.ensures.place c.key-key.ensures
+
+pub slot_versions-requires-clause-told : goal.slot_versions-requires-clause-told
+slot_versions-requires-clause-told c =
+    let a = c.args.parts.now in
+    holds a c.requires.sound (hlevel props) (λ w m. joins_tell (ring_of a) (plan_of a) (kept_of a) w m (slot_at c.place-place.result.partition c.args.index) c.key-key.result.now)
 
 pub returns-clause-ok : goal.returns-clause-ok
 returns-clause-ok c w m =

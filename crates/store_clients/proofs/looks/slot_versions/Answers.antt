@@ -6,8 +6,12 @@ use Rattle.ring_versions.specs.declared.version.Version.{Version}
 use Rattle.store_clients.specs.Keepers.{MergesOthers}
 use Rattle.store_clients.specs.Looks.{owned_at}
 use Rattle.store_clients.proofs.SlotKeepers.{among_all, none_among, under_copy}
+use Rattle.store_clients.proofs.SlotJoins.{tells_copy}
 use Rattle.store_clients.proofs.looks.slot_versions.Goals.{in-Some+in_ok-merge_hints, in_default}
 use Rattle.store_clients.proofs.looks.slot_versions.Goals as goal
+
+pub merge_hints-requires-clause-told : goal.merge_hints-requires-clause-told
+merge_hints-requires-clause-told c = tells_copy _ c.in_ok-all.all _ (c.in_ok-all.ensures).ok c.requires.told
 
 pub returns-clause-ok : goal.returns-clause-ok
 returns-clause-ok c =
