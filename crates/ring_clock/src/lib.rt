@@ -10,6 +10,7 @@ mod full;
 mod laws;
 mod merge;
 mod part;
+mod reach;
 mod walk;
 
 pub use causes::{Cause, clocks};

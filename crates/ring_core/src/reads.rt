@@ -173,7 +173,7 @@ impl<'a> World<'a> {
         let Some(now) = self.parts.puts.get(put) else {
             unreachable!()
         };
-        let Some(version) = now.version.list().first() else {
+        let Some(version) = now.version.first() else {
             unreachable!()
         };
         let place = self.parts.keys.place(now.key);

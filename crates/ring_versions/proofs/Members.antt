@@ -1,7 +1,9 @@
 -- Versions in lists, and lists of versions in conflict.
-use Rattle.std.proofs.Common.{◌≡◌, ◌⊎◌, inl, inr, ℕ, zero, suc, ◌<◌, ◌≤◌, List, [], ◌∷◌, ◌++◌, length, get_or, Option, Some, None, Bor, refl, sym, subst, arith}
-use Rattle.std.specs.Prelude.{MatchOption, IfSome}
+use Rattle.std.proofs.Common.{◌≡◌, ◌≢◌, ◌∙◌, ◌⊎◌, Bool, true, IsTrue, inl, inr, ℕ, zero, suc, ◌<◌, List, [], ◌∷◌, ◌++◌, length, get_or, Option, Some, None, Bor, false, ◌↔◌, option_map, is_some, slice_get, refl, sym, ap, subst, arith}
+use Rattle.std.specs.Prelude.{◌==◌}
 use Rattle.std.specs.List.{AllByRecursion, HoldsAt}
+use Rattle.std.proofs.lemmas.Bool.{eqb-true, eq-eqb}
+use Rattle.std.proofs.lemmas.List.{nil_from_length}
 use Rattle.std.proofs.Math.Nat.{le_trans}
 use Rattle.ring_clock.specs.declared.entry.Entry.{Entry}
 use Rattle.ring_clock.specs.Clock.{IsAtMost}
@@ -23,10 +25,6 @@ in_either v (x ∷ xs) ys h = elim h [
   | inr more ↦ elim (in_either v xs ys more) [ inl front ↦ inl (inr front) | inr back ↦ inr back ]
 ]
 
--- x is the last of these
-pub in_last : (x : Version) (xs : List Version) → IsIn x (xs ++ x ∷ [])
-in_last x xs = in_second x xs (x ∷ []) (inl refl)
-
 pub covers_down : (xs : List Version) (k c : List Entry) → IsAtMost k c → Covers xs c → Covers xs k
 covers_down xs k c le h = (h.0, h.1, λ w. le_trans (le w) (h.2 w))
 
@@ -41,6 +39,19 @@ covers_front x xs k h = elim h.1 [
   | inl is ↦ inl (subst (λ (v : Version). IsAtMost k v.clock) (sym is) h.2)
   | inr more ↦ inr (h.0, more, h.2)
 ]
+
+pub covers_either : (xs ys : List Version) (k : List Entry) → Covers (xs ++ ys) k → Covers xs k ⊎ Covers ys k
+covers_either xs ys k h = elim (in_either h.0 xs ys h.1) [ inl front ↦ inl (h.0, front, h.2) | inr back ↦ inr (h.0, back, h.2) ]
+
+-- a list that is found to be empty, or not to be
+pub empty : {A : Type 0} (xs : List A) (n : ℕ) (b : Bool) → n ≡ length xs → b ≡ (n == 0) → b ≡ true → xs ≡ []
+empty xs n b len is so = nil_from_length xs (sym len ∙ eqb-true n 0 (sym is ∙ so))
+
+pub filled : {A : Type 0} (xs : List A) (n : ℕ) (b : Bool) → n ≡ length xs → b ≡ (n == 0) → b ≡ false → xs ≢ []
+filled xs n b len is isnt none = (let told : b ≡ true = is ∙ eq-eqb n 0 (len ∙ ap length none) in cc)
+
+pub neither : (b : Bool) → b ≡ false → IsTrue b → ⊥
+neither b isnt is = cc
 
 each : (v : Version) (vs : List Version) → AllByRecursion (InConflict v) vs → (u : Version) → IsIn u vs → InConflict v u
 each v [] all u h = absurd h
@@ -82,6 +93,12 @@ at (v ∷ vs) zero d l = inl refl
 at (v ∷ vs) (suc k) d l = inr (at vs k d (omega arith))
 
 -- what a slice has at a place is in it
-pub got : (r : Option (Bor Version)) (vs : List Version) (k : ℕ) → MatchOption r (length vs ≤ k) (λ x. (k < length vs) × HoldsAt (λ y. x.now ≡ y) vs k) → IfSome r (λ x. IsIn x.now vs)
-got None vs k h = tt
-got (Some x) vs k h = subst (λ (v : Version). IsIn v vs) (sym (h.1 x.now)) (at vs k x.now h.0)
+pub found_at : (vs : List Version) (k : ℕ) (x : Version) → (k < length vs) × HoldsAt (λ (y : Version). x ≡ y) vs k → IsIn x vs
+found_at vs k x h = subst (λ (v : Version). IsIn v vs) (sym (h.1 x)) (at vs k x h.0)
+
+-- what has no first has none
+pub none_first : (o : Option (Bor Version)) (vs : List Version) → option_map (λ (v : Bor Version). v.now) o ≡ slice_get vs 0 → (is_some o ≡ false) ↔ (vs ≡ [])
+none_first None [] e = (λ h. refl, λ h. refl)
+none_first None (v ∷ vs) e = absurd cc
+none_first (Some x) [] e = absurd cc
+none_first (Some x) (v ∷ vs) e = (λ h. absurd cc, λ h. absurd cc)

@@ -1,72 +1,87 @@
 -- The parts of a merge, one version after the other.
-use Rattle.std.proofs.Common.{◌≡◌, ◌≢◌, ◌∙◌, ◌⊎◌, inl, inr, Bool, false, IsTrue, List, [], ◌∷◌, ◌++◌, length, refl, sym, subst, arith}
+use Rattle.std.proofs.Common.{◌≡◌, ◌≢◌, ◌∙◌, ◌⊎◌, inl, inr, List, [], ◌∷◌, ◌++◌, refl, sym, ap, subst, arith}
 use Rattle.ring_clock.specs.declared.entry.Entry.{Entry}
 use Rattle.ring_versions.specs.declared.version.Version.{Version}
 use Rattle.ring_versions.specs.Versions.{IsIn, Covers, IsApart, IsMerge}
 use Rattle.ring_versions.specs.declared.fresh.Fresh.{Fresh}
 use Rattle.ring_versions.specs.Fresh.{Brings, IsFreshFor, BringsNothing}
-use Rattle.ring_versions.specs.Parts.{IsFresh}
-use Rattle.ring_versions.proofs.Members.{in_either, in_last, covers_down, covers_first, covers_second, covers_front, apart_join, apart_cross, apart_first, apart_second}
-use Rattle.std.proofs.lemmas.List.{append_assoc}
+use Rattle.ring_versions.specs.Parts.{IsFresh, IsReordered}
+use Rattle.ring_versions.proofs.Members.{in_first, in_second, in_either, covers_down, covers_either, covers_first, covers_second, covers_front, apart_join, apart_cross, apart_first, apart_second}
+use Rattle.ring_versions.proofs.Reordered.{turned, reordered_again}
+use Rattle.std.proofs.lemmas.List.{append_assoc, append-nil}
 
-pub neither : (b : Bool) → b ≡ false → IsTrue b → ⊥
-neither b isnt is = cc
+-- ---- what is fresh of a list
 
--- those that are new so far, with a rest to go through
-pub record Sifted (held versions rest out : List Version) : Type 0 where
-  pub left : (v : Version) → IsIn v rest → IsIn v versions
-  pub drawn : (v : Version) → IsIn v out → IsIn v versions
-  pub new : (v : Version) → IsIn v out → Covers held v.clock → ⊥
-  pub covers : (k : List Entry) → Covers versions k → (Covers held k ⊎ Covers out k) ⊎ Covers rest k
-  pub apart : IsApart (out ++ rest)
+fresh_none : (held : List Version) → IsFresh held [] []
+fresh_none held = record { drawn = λ v h. absurd h; new = λ v h. absurd h; covers = λ k h. absurd h.1; apart = tt }
 
-pub sift_old : (held versions rest out later : List Version) (x : Version) → rest ≡ x ∷ later → Covers held x.clock → Sifted held versions rest out → Sifted held versions later out
-sift_old held versions rest out later x is old s =
-    let t = subst (λ (r : List Version). Sifted held versions r out) is s in
-    record {
-      left = λ v h. t.left v (inr h);
-      drawn = t.drawn;
-      new = t.new;
-      covers = λ k h. elim (t.covers k h) [
-        | inl found ↦ inl found
-        | inr more ↦ elim (covers_front x later k more) [ inl le ↦ inl (inl (covers_down held k x.clock le old)) | inr m ↦ inr m ]
-      ];
-      apart = apart_join out later (apart_first out (x ∷ later) t.apart) (apart_second out (x ∷ later) t.apart).1
-          (λ u v h k. apart_cross out (x ∷ later) t.apart u v h (inr k));
-    }
-
-pub sift_new : (held versions rest out more later : List Version) (x : Version) → rest ≡ x ∷ later → more ≡ out ++ x ∷ [] → (Covers held x.clock → ⊥) → Sifted held versions rest out → Sifted held versions later more
-sift_new held versions rest out more later x is put new s =
-    let t = subst (λ (r : List Version). Sifted held versions r out) is s in
-    let u : Sifted held versions later (out ++ x ∷ []) = record {
-      left = λ v h. t.left v (inr h);
-      drawn = λ v h. elim (in_either v out (x ∷ []) h) [
-        | inl old ↦ t.drawn v old
-        | inr last ↦ elim last [ inl at ↦ subst (λ (z : Version). IsIn z versions) at (t.left x (inl refl)) | inr none ↦ absurd none ]
-      ];
-      new = λ v h. elim (in_either v out (x ∷ []) h) [
-        | inl old ↦ t.new v old
-        | inr last ↦ elim last [ inl at ↦ subst (λ (z : Version). Covers held z.clock → ⊥) at new | inr none ↦ absurd none ]
-      ];
-      covers = λ k h. elim (t.covers k h) [
-        | inl found ↦ elim found [ inl old ↦ inl (inl old) | inr mine ↦ inl (inr (covers_first out (x ∷ []) k mine)) ]
-        | inr more_left ↦ elim (covers_front x later k more_left) [
-          | inl le ↦ inl (inr (x, in_last x out, le))
-          | inr m ↦ inr m
-        ]
-      ];
-      apart = subst IsApart (sym (append_assoc out (x ∷ []) later)) t.apart;
-    } in
-    subst (Sifted held versions later) (sym put) u
-
-pub sifted : (held versions rest out : List Version) → length rest ≡ 0 → Sifted held versions rest out → IsFresh held versions out
-sifted held versions (x ∷ xs) out none s = absurd (omega arith)
-sifted held versions [] out none s = record {
-  drawn = s.drawn;
-  new = s.new;
-  covers = λ k h. elim (s.covers k h) [ inl found ↦ found | inr more ↦ absurd more.1 ];
-  apart = apart_first out [] s.apart;
+-- of one version that is covered nothing
+pub fresh_old : (held : List Version) (x : Version) → Covers held x.clock → IsFresh held (x ∷ []) []
+fresh_old held x old = record {
+  drawn = λ v h. absurd h;
+  new = λ v h. absurd h;
+  covers = λ k h. elim (covers_front x [] k h) [ inl le ↦ inl (covers_down held k x.clock le old) | inr none ↦ absurd none.1 ];
+  apart = tt;
 }
+
+-- of those that are not all
+pub fresh_all : (held versions : List Version) → IsApart versions → ((v : Version) → IsIn v versions → Covers held v.clock → ⊥) → IsFresh held versions versions
+fresh_all held versions apart new = record { drawn = λ v h. h; new = new; covers = λ k h. inr h; apart = apart }
+
+pub fresh_new : (held : List Version) (x : Version) → (Covers held x.clock → ⊥) → IsFresh held (x ∷ []) (x ∷ [])
+fresh_new held x new = fresh_all held (x ∷ []) (tt, tt) (λ v h. elim h [ inl is ↦ subst (λ (z : Version). Covers held z.clock → ⊥) is new | inr none ↦ absurd none ])
+
+-- which are as fresh against those that cover none of them
+pub fresh_against : (held versions out : List Version) → ((v : Version) → IsIn v versions → Covers held v.clock → ⊥) → IsFresh [] versions out → IsFresh held versions out
+fresh_against held versions out new f = record {
+  drawn = f.drawn;
+  new = λ v h. new v (f.drawn v h);
+  covers = λ k h. elim (f.covers k h) [ inl none ↦ absurd none.1 | inr mine ↦ inr mine ];
+  apart = f.apart;
+}
+
+pub fresh_as : (a b held versions out : List Version) → a ≡ held → b ≡ versions → IsFresh a b out → IsFresh held versions out
+fresh_as a b held versions out e f h = subst (λ (vs : List Version). IsFresh held vs out) f (subst (λ (vs : List Version). IsFresh vs b out) e h)
+
+pub fresh_reordered : (held versions out other : List Version) → IsReordered out other → IsFresh held versions out → IsFresh held versions other
+fresh_reordered held versions out other r f = record {
+  drawn = λ v h. f.drawn v (r.back v h);
+  new = λ v h. f.new v (r.back v h);
+  covers = λ k h. elim (f.covers k h) [ inl old ↦ inl old | inr mine ↦ inr (mine.0, r.there mine.0 mine.1, mine.2) ];
+  apart = r.apart f.apart;
+}
+
+fresh_both : (held xs ys a b : List Version) → IsApart (xs ++ ys) → IsFresh held xs a → IsFresh held ys b → IsFresh held (xs ++ ys) (a ++ b)
+fresh_both held xs ys a b apart f g = record {
+  drawn = λ v h. elim (in_either v a b h) [ inl x ↦ in_first v xs ys (f.drawn v x) | inr y ↦ in_second v xs ys (g.drawn v y) ];
+  new = λ v h. elim (in_either v a b h) [ inl x ↦ f.new v x | inr y ↦ g.new v y ];
+  covers = λ k h. elim (covers_either xs ys k h) [
+    | inl x ↦ elim (f.covers k x) [ inl old ↦ inl old | inr mine ↦ inr (covers_first a b k mine) ]
+    | inr y ↦ elim (g.covers k y) [ inl old ↦ inl old | inr mine ↦ inr (covers_second a b k mine) ]
+  ];
+  apart = apart_join a b f.apart g.apart (λ u v h k. apart_cross xs ys apart u v (f.drawn u h) (g.drawn v k));
+}
+
+-- what is fresh so far, with a rest to go through
+pub record Sifted (held versions rest out : List Version) : Type 0 where
+  pub done : List Version
+  pub all : done ++ rest ≡ versions
+  pub fresh : IsFresh held done out
+
+pub sift_first : (held versions : List Version) → Sifted held versions versions []
+sift_first held versions = record { done = []; all = refl; fresh = fresh_none held }
+
+pub sift_more : (held versions rest out xs later a more : List Version) → IsApart versions → rest ≡ xs ++ later → IsFresh held xs a → IsReordered (out ++ a) more → Sifted held versions rest out → Sifted held versions later more
+sift_more held versions rest out xs later a more apart is f r s =
+    let all : (s.done ++ xs) ++ later ≡ versions = append_assoc s.done xs later ∙ ap (λ (ys : List Version). s.done ++ ys) (sym is) ∙ s.all in
+    let both = apart_first (s.done ++ xs) later (subst IsApart (sym all) apart) in
+    record { done = s.done ++ xs; all = all; fresh = fresh_reordered held (s.done ++ xs) (out ++ a) more r (fresh_both held s.done xs out a both s.fresh f) }
+
+pub next_apart : (held versions rest out xs later : List Version) → IsApart versions → rest ≡ xs ++ later → Sifted held versions rest out → IsApart xs
+next_apart held versions rest out xs later apart is s = apart_first xs later (subst IsApart is (apart_second s.done rest (subst IsApart (sym s.all) apart)))
+
+pub sifted : (held versions rest out : List Version) → rest ≡ [] → Sifted held versions rest out → IsFresh held versions out
+sifted held versions rest out none s = subst (λ (vs : List Version). IsFresh held vs out) (sym (append-nil s.done) ∙ ap (λ (ys : List Version). s.done ++ ys) (sym none) ∙ s.all) s.fresh
 
 -- ---- the merge
 
@@ -95,6 +110,18 @@ merge olds others fresh stay f k =
         λ le. k.new v b (u, a, le),
       ));
     }
+
+pub merge_reordered : (olds others made other : List Version) → IsReordered made other → IsMerge olds others made → IsMerge olds others other
+merge_reordered olds others made other r m = record {
+  drawn = λ v h. m.drawn v (r.back v h);
+  covers = λ k. (λ h. (m.covers k).0 (h.0, r.back h.0 h.1, h.2), λ h. (let c = (m.covers k).1 h in (c.0, r.there c.0 c.1, c.2)));
+  apart = r.apart m.apart;
+}
+
+-- those left and the fresh ones, in any order
+pub merge_left : (olds others fresh left made : List Version) → IsFresh olds others fresh → IsFresh fresh olds left → IsReordered (left ++ fresh) made → IsMerge olds others made
+merge_left olds others fresh left made f k r =
+    merge_reordered olds others (fresh ++ left) made (reordered_again (fresh ++ left) (left ++ fresh) made (turned [] fresh left) r) (merge olds others fresh left f k)
 
 -- where they leave none, it is the others
 pub merge_others : (olds others fresh : List Version) → IsApart others → IsFresh olds others fresh → IsFresh fresh olds [] → IsMerge olds others others

@@ -1,17 +1,14 @@
 -- The join of the clocks of versions.
-use Rattle.std.proofs.Common.{◌≡◌, ◌⊎◌, inl, inr, ◌∙◌, ℕ, ◌≤◌, List, [], ◌∷◌, ◌++◌, Option, Some, None, Result, Ok, Err, IfOk, refl, sym, subst, arith}
-use Rattle.std.specs.Prelude.{Box, max}
-use Rattle.std.specs.declared.alloc.Global.{Global}
+use Rattle.std.proofs.Common.{◌≡◌, ◌⊎◌, inl, inr, ◌∙◌, ℕ, ◌≤◌, List, [], ◌++◌, Result, Ok, Err, IfOk, refl, sym, subst, arith}
+use Rattle.std.specs.Prelude.{max}
 use Rattle.ring_names.proofs.Logic.{max_either}
 use Rattle.ring_clock.specs.declared.entry.Entry.{Entry}
 use Rattle.ring_clock.specs.Clock.{counter, IsAtMost}
-use Rattle.ring_versions.specs.declared.kept.Kept.{Kept}
-use Rattle.ring_versions.specs.declared.tops.Tops.{Tops}
 use Rattle.ring_versions.specs.declared.version.Version.{Version}
 use Rattle.ring_versions.specs.Versions.{IsIn, Covers, IsMerge}
-use Rattle.ring_versions.specs.Parts.{IsFresh}
+use Rattle.ring_versions.specs.Parts.{IsFresh, IsReordered}
 use Rattle.ring_versions.specs.Raised.{RaisesTo, IsClockIn}
-use Rattle.ring_versions.specs.Tops.{HasJoin, AreTops}
+use Rattle.ring_versions.proofs.Reordered.{turned, reordered_again}
 use Rattle.ring_versions.proofs.Members.{in_first, in_second, in_either}
 
 join_both : (xs ys vs : List Version) (c d e : List Entry) → vs ≡ xs ++ ys → RaisesTo [] (IsClockIn xs) c → RaisesTo [] (IsClockIn ys) d → ((w : ℕ) → counter e w ≡ max (counter c w) (counter d w)) → RaisesTo [] (IsClockIn vs) e
@@ -38,24 +35,6 @@ joined (Ok e) c d xs ys vs is a b raise = join_both xs ys vs c d e is a b raise
 pub below_join : (c : List Entry) (vs : List Version) → RaisesTo [] (IsClockIn vs) c → (v : Version) → IsIn v vs → IsAtMost v.clock c
 below_join c vs j v h = j.above v.clock (v, h, refl)
 
--- a join that is raised to more versions is that of all
-join_more : (c e : List Entry) (xs ys : List Version) → RaisesTo [] (IsClockIn xs) c → RaisesTo c (IsClockIn ys) e → RaisesTo [] (IsClockIn (xs ++ ys)) e
-join_more c e xs ys a b = record {
-  before = λ w. omega arith;
-  above = λ k h w. elim (in_either h.0 xs ys h.1) [
-    | inl front ↦ (let u = a.above k (h.0, front, h.2) w in let r = b.before w in omega arith)
-    | inr back ↦ b.above k (h.0, back, h.2) w
-  ];
-  from = λ w. elim (b.from w) [
-    | inl same ↦ elim (a.from w) [ inl none ↦ inl (same ∙ none) | inr x ↦ inr (x.0, (x.1.0, in_first x.1.0 xs ys x.1.1, x.1.2), x.2 ∙ sym same) ]
-    | inr x ↦ inr (x.0, (x.1.0, in_second x.1.0 xs ys x.1.1, x.1.2), x.2)
-  ];
-}
-
-pub raised : {E : Type 0} (r : Result Tops E) (c : List Entry) (xs ys : List Version) → RaisesTo [] (IsClockIn xs) c → IfOk r (λ t. RaisesTo c (IsClockIn ys) t.join) → IfOk r (λ t. RaisesTo [] (IsClockIn (xs ++ ys)) t.join)
-raised (Err e) c xs ys was more = tt
-raised (Ok t) c xs ys was more = join_more c t.join xs ys was more
-
 -- the join of versions is that of those which stay where the others go that they cover
 join_kept : (c : List Entry) (olds fresh stay : List Version) → IsFresh fresh olds stay → RaisesTo [] (IsClockIn (olds ++ fresh)) c → RaisesTo [] (IsClockIn (fresh ++ stay)) c
 join_kept c olds fresh stay k j =
@@ -80,12 +59,20 @@ join_kept c olds fresh stay k j =
       ];
     }
 
-has_join_kept : (o : Option (Box Tops Global)) (olds fresh stay : List Version) → IsFresh fresh olds stay → HasJoin o (olds ++ fresh) → HasJoin o (fresh ++ stay)
-has_join_kept None olds fresh stay k j = tt
-has_join_kept (Some t) olds fresh stay k j = join_kept t.value.join olds fresh stay k j
+-- and that of the same versions in another order
+pub join_reordered : (c : List Entry) (xs ys : List Version) → IsReordered xs ys → RaisesTo [] (IsClockIn xs) c → RaisesTo [] (IsClockIn ys) c
+join_reordered c xs ys r j = record {
+  before = j.before;
+  above = λ d h. j.above d (h.0, r.back h.0 h.1, h.2);
+  from = λ w. elim (j.from w) [ inl none ↦ inl none | inr x ↦ inr (x.0, (x.1.0, r.there x.1.0 x.1.1, x.1.2), x.2) ];
+}
 
-pub tops_kept : (tops : Kept) (olds fresh stay : List Version) → IsFresh fresh olds stay → AreTops tops (olds ++ fresh) → AreTops tops (fresh ++ stay)
-tops_kept tops olds fresh stay k j = has_join_kept tops.tops olds fresh stay k j
+-- so the join of the joins of those held and of the fresh ones is that of the merge
+pub join_left : (c d e : List Entry) (olds fresh left made : List Version) → IsFresh fresh olds left → IsReordered (left ++ fresh) made → RaisesTo [] (IsClockIn olds) c → RaisesTo [] (IsClockIn fresh) d
+    → ((w : ℕ) → counter e w ≡ max (counter c w) (counter d w)) → RaisesTo [] (IsClockIn made) e
+join_left c d e olds fresh left made k r a b raise =
+    let other = reordered_again (fresh ++ left) (left ++ fresh) made (turned [] fresh left) r in
+    join_reordered e (fresh ++ left) made other (join_kept e olds fresh left k (join_both olds fresh (olds ++ fresh) c d e refl a b raise))
 
 -- a clock that is raised to the join is raised to all
 pub raised_by_join : (old new join : List Entry) (vs : List Version) → ((w : ℕ) → counter new w ≡ max (counter old w) (counter join w)) → RaisesTo [] (IsClockIn vs) join → RaisesTo old (IsClockIn vs) new

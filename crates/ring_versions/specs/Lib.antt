@@ -1,7 +1,7 @@
+pub mod Chunks
 pub mod Fresh
 pub mod Parts
 pub mod Puts
 pub mod Raised
 pub mod Shared
-pub mod Tops
 pub mod Versions

@@ -10,3 +10,9 @@ pub record IsFresh (held versions out : List Version) : Type 0 where
   pub new : (v : Version) → IsIn v out → Covers held v.clock → ⊥
   pub covers : (k : List Entry) → Covers versions k → Covers held k ⊎ Covers out k
   pub apart : IsApart out
+
+-- the second list has the versions of the first, and they are in conflict where those are
+pub record IsReordered (old new : List Version) : Type 0 where
+  pub there : (v : Version) → IsIn v old → IsIn v new
+  pub back : (v : Version) → IsIn v new → IsIn v old
+  pub apart : IsApart old → IsApart new

@@ -1,28 +1,26 @@
 -- The versions that sets share.
-use Rattle.std.specs.Prelude.{List, [], ◌∷◌}
+use Rattle.std.specs.Prelude.{List, [], ◌∷◌, ◌++◌}
 use Rattle.std.specs.Arc.{arc_value}
-use Rattle.ring_versions.specs.Tops.{AreTops}
-use Rattle.ring_versions.specs.Versions.{IsApart}
+use Rattle.ring_versions.specs.Chunks.{all_of}
 use Rattle.ring_versions.specs.declared.version.Version.{Version}
-use Rattle.ring_versions.specs.declared.whole.Held.{Held}
+use Rattle.ring_versions.specs.declared.held.Held.{Held}
+use Rattle.ring_versions.specs.declared.held.Held.TheVariants as held
+use Rattle.ring_versions.specs.declared.left.Left.{Left}
 use Rattle.ring_versions.specs.declared.whole.Shared.{Shared}
-use Rattle.ring_versions.specs.declared.whole.Shared.TheVariants.{Nothing, One, More}
-use Rattle.ring_versions.specs.declared.whole.Whole.{Whole}
+use Rattle.ring_versions.specs.declared.whole.Shared.TheVariants.{Nothing, One, Few, Many}
 
 -- those that are shared
 abbrev pub shared_versions : Shared → List Version
 shared_versions Nothing = []
 shared_versions (One a) = arc_value a ∷ []
-shared_versions (More a) = (arc_value a).list.items
+shared_versions (Few a) = (arc_value a).items
+shared_versions (Many a) = arc_value a
 
--- no two are an ancestor and its successor, and the tops are theirs
-abbrev pub IsWhole : Whole → Type 0
-IsWhole a = IsApart a.list.items × AreTops a.kept a.list.items
+-- those that a merge looks at
+abbrev pub looked_at : Held → List Version
+looked_at (held.Few vs) = vs.now
+looked_at (held.Many a) = a.now
 
--- the same of those that a merge looks at
-abbrev pub IsHeld : Held → Type 0
-IsHeld a = IsApart a.list.now × AreTops a.kept.now a.list.now
-
-abbrev pub AreWhole : Shared → Type 0
-AreWhole (More a) = IsWhole (arc_value a)
-AreWhole s = Unit {0}
+-- those of the chunks and parts left
+abbrev pub all_left : Left → List Version
+all_left a = all_of a.kept.items ++ all_of a.made.items

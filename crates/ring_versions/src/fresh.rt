@@ -17,6 +17,6 @@ impl Fresh {
     pub fn is_empty(&self) -> bool
         ensures { IsTrue result ↔ BringsNothing self.now }
     {
-        self.merged.list().is_empty()
+        self.merged.is_empty()
     }
 }

@@ -1,18 +1,23 @@
 //! Versions of a key's value, of which none is an ancestor of another (DeCandia et al. 2007, section 4.4).
 #![tactic(auto)]
 
+mod chunk;
 mod found;
 mod fresh;
+mod fresh_of;
+mod held;
 mod joining;
-mod kept;
+mod left;
 mod merge;
+mod part;
 mod puts;
-mod tops;
 mod version;
 mod versions;
+mod walk;
 mod whole;
 
 pub use found::Found;
 pub use fresh::Fresh;
 pub use version::Version;
 pub use versions::Versions;
+pub use walk::Walk;

@@ -1,26 +1,33 @@
 //! Sets of versions.
 
-ghost use Rattle.std.specs.Prelude.{◌≡◌, ◌↔◌, ◌∷◌, [], List, IsTrue, IfOk, IfErr, IfSome, OnOk, OnErr};
+ghost use Rattle.std.specs.Prelude.{◌≡◌, ◌↔◌, ◌∷◌, [], List, IsTrue, IfOk, IfErr, IfSome, OnOk, OnErr, slice_get, option_map};
 ghost use Rattle.ring_names.specs.declared.refusal.Refusal.TheVariants.{OutOfMemory};
 ghost use Rattle.ring_versions.specs.Fresh.{Brings, IsFreshFor, FitsIn};
+ghost use Rattle.ring_versions.specs.Parts.{IsReordered};
 ghost use Rattle.ring_versions.specs.Puts.{ArePuts};
 ghost use Rattle.ring_versions.specs.Raised.{RaisesTo, IsClockIn};
-ghost use Rattle.ring_versions.specs.Shared.{IsWhole};
+ghost use Rattle.ring_versions.specs.Shared.{all_left, looked_at};
 ghost use Rattle.ring_versions.specs.Versions.{Covers, IsApart, IsMerge};
 ghost use Rattle.ring_versions.specs.declared.version.Version.{Version};
 
 use crate::fresh::Fresh;
-use crate::kept::{Kept, join};
-use crate::merge::{is_covered, merged, merged_with_one};
+use crate::held::Held;
+use crate::joining::join_of;
+use crate::left::{Left, chunks_of, put_all};
+use crate::merge::merged;
 use crate::puts::puts_of;
 use crate::version::Version;
-use crate::whole::{Held, Shared, Whole};
+use crate::walk::Walk;
+use crate::whole::{Shared, Whole};
 use ring_clock::Clock;
 use ring_names::{Listed, Refusal};
 use std::alloc::Global;
 use std::marker::Model;
 use std::slice;
 use std::sync::Arc;
+
+// From how many versions on a set keeps them in chunks. Fewer are gone through as fast without.
+const MANY: usize = 8;
 
 /// Versions of which no one's clock is at most another's. Copies share them.
 ///
@@ -33,14 +40,15 @@ pub struct Versions {
 
 impl Model for Versions {
     ghost use Rattle.std.specs.Prelude.{List};
-    ghost use Rattle.ring_versions.specs.Shared.{shared_versions, AreWhole};
+    ghost use Rattle.ring_versions.specs.Shared.{shared_versions};
+    ghost use Rattle.ring_versions.specs.Versions.{IsApart};
     ghost use Rattle.ring_versions.specs.declared.version.Version.{Version};
 
     ghost Value = { List Version };
 
     ghost view = { λ a. shared_versions a.shared };
 
-    ghost invariant = { λ a. AreWhole a.shared };
+    ghost invariant = { λ a. IsApart (shared_versions a.shared) };
 }
 
 // Dropped by a call, so that no crate above goes through the two cases wherever a set ends.
@@ -63,18 +71,30 @@ impl Versions {
     }
 
     // The set that has these.
-    pub(crate) fn whole(alloc: Global, whole: Whole) -> Result<Versions, Refusal>
-        requires { IsWhole whole }
-        ensures same { IfOk result (λ s. s ≡ whole.list.items) }
+    pub(crate) fn of_list(alloc: Global, list: Vec<Version>) -> Result<Versions, Refusal>
+        requires { IsApart list.items }
+        ensures same { IfOk result (λ s. IsReordered list.items s) }
         ensures memory { IfErr result (λ e. e ≡ OutOfMemory) }
     {
-        match Arc::new(alloc, whole) {
-            Ok(whole) => Ok(Versions {
-                alloc,
-                shared: Shared::More(whole),
-            }),
-            Err(_) => Err(Refusal::OutOfMemory),
+        if list.len() < MANY {
+            let shared = Shared::Few(Arc::new(alloc, list)?);
+            return Ok(Versions { alloc, shared });
         }
+        let (kept, mut made) = (Vec::new(alloc), Vec::new(alloc));
+        put_all(alloc, &mut made, Held::Few(list.as_slice()))?;
+        Versions::of_left(alloc, join_of(alloc, list.as_slice())?, Left { kept, made })
+    }
+
+    // The set that has these, whose clocks have that join.
+    pub(crate) fn of_left(alloc: Global, join: Clock, left: Left) -> Result<Versions, Refusal>
+        requires apart { IsApart (all_left left) }
+        requires join { RaisesTo [] (IsClockIn (all_left left)) join }
+        ensures same { IfOk result (λ s. s ≡ all_left left) }
+        ensures memory { IfErr result (λ e. e ≡ OutOfMemory) }
+    {
+        let chunks = chunks_of(alloc, left)?;
+        let shared = Shared::Many(Arc::new(alloc, Whole::of(join, chunks))?);
+        Ok(Versions { alloc, shared })
     }
 
     /// This one version.
@@ -82,37 +102,53 @@ impl Versions {
         ensures one { IfOk result (λ s. s ≡ version ∷ []) }
         ensures memory { IfErr result (λ e. e ≡ OutOfMemory) }
     {
-        match Arc::new(alloc, version) {
-            Ok(one) => Ok(Versions {
-                alloc,
-                shared: Shared::One(one),
-            }),
-            Err(_) => Err(Refusal::OutOfMemory),
-        }
+        let shared = Shared::One(Arc::new(alloc, version)?);
+        Ok(Versions { alloc, shared })
     }
 
-    /// The versions, in no order that is promised.
-    pub fn list(&self) -> &[Version]
-        ensures value { result.now ≡ self.now }
+    // The versions as a merge looks at them.
+    pub(crate) fn held(&self) -> Held<'_>
+        ensures value { looked_at result ≡ self.now }
         ensures apart { IsApart self.now }
     {
         match &self.shared {
-            Shared::Nothing => &[],
-            Shared::One(one) => slice::from_ref(one),
-            Shared::More(whole) => whole.list.as_slice(),
+            Shared::Nothing => Held::Few(&[]),
+            Shared::One(one) => Held::Few(slice::from_ref(one)),
+            Shared::Few(list) => Held::Few(list.as_slice()),
+            Shared::Many(whole) => Held::Many(whole),
         }
     }
 
-    /// Whether some version has a clock that is at least this one. Takes no memory. Costs a look: some logarithms, and where some version
-    /// has, one comparison of clocks.
+    /// The versions, in no order that is promised, to be taken one by one.
+    pub fn versions(&self) -> Walk<'_>
+        ensures value { result ≡ self.now }
+        ensures apart { IsApart self.now }
+    {
+        self.held().walk()
+    }
+
+    /// Some version, if there is one.
+    pub fn first(&self) -> Option<&Version>
+        ensures value { option_map (λ v. v.now) result ≡ slice_get self.now 0 }
+        ensures apart { IsApart self.now }
+    {
+        self.versions().next()
+    }
+
+    /// Whether there is no version.
+    pub fn is_empty(&self) -> bool
+        ensures value { IsTrue result ↔ self.now ≡ [] }
+        ensures apart { IsApart self.now }
+    {
+        self.first().is_none()
+    }
+
+    /// Whether some version has a clock that is at least this one. Takes no memory. Costs a look: at the join and at each chunk, and where
+    /// some version has, one comparison of clocks.
     pub fn covers(&self, clock: &Clock) -> bool
         ensures { IsTrue result ↔ Covers self.now clock.now }
     {
-        match &self.shared {
-            Shared::Nothing => false,
-            Shared::One(one) => clock.le(&one.clock),
-            Shared::More(whole) => is_covered(whole.list.as_slice(), &whole.kept, clock),
-        }
+        self.held().covers(clock)
     }
 
     /// Adds another set's versions: what is drawn from both covers the clocks that either covered, and ancestors go. Costs a look for each
@@ -143,14 +179,10 @@ impl Versions {
         ensures ok { IfOk result (Brings self.now other.now) }
         ensures memory { IfErr result (λ e. e ≡ OutOfMemory) }
     {
-        match &self.shared {
-            Shared::Nothing => other.try_copy(),
-            Shared::One(one) => merged_with_one(self.alloc, one, other),
-            Shared::More(whole) => {
-                let (list, kept) = (whole.list.as_slice(), &whole.kept);
-                merged(self.alloc, Held { list, kept }, other)
-            }
+        if self.is_empty() {
+            return other.try_copy();
         }
+        merged(self.alloc, self.held(), other)
     }
 
     /// The second half of a merge, which cannot fail: takes in what was made for this very set. Costs what letting the old versions go does.
@@ -159,7 +191,7 @@ impl Versions {
         ensures { (other : List Version) → IsFreshFor self.old other fresh → IsMerge self.old other self.new }
     {
         let Fresh { merged } = fresh;
-        if !merged.list().is_empty() {
+        if !merged.is_empty() {
             *self = merged;
         }
     }
@@ -169,7 +201,7 @@ impl Versions {
         ensures ok { IfOk result (λ ns. ArePuts self.now ns) }
         ensures memory { IfErr result (λ e. e ≡ OutOfMemory) }
     {
-        puts_of(self.alloc, self.list())
+        puts_of(self.alloc, self.versions())
     }
 
     // The join of the clocks of the versions. Costs nothing for eight versions or more, and else their entries.
@@ -177,10 +209,20 @@ impl Versions {
         ensures ok { IfOk result (RaisesTo [] (IsClockIn self.now)) }
         ensures memory { IfErr result (λ e. e ≡ OutOfMemory) }
     {
+        match self.held() {
+            Held::Few(list) => join_of(self.alloc, list),
+            Held::Many(whole) => whole.join().try_copy(),
+        }
+    }
+
+    /// The join of the versions' clocks, where it is kept: for one version, and for eight or more. Takes no memory.
+    pub fn top(&self) -> Option<&Clock>
+        ensures { IfSome result (λ c. RaisesTo [] (IsClockIn self.now) c.now) }
+    {
         match &self.shared {
-            Shared::Nothing => Ok(Clock::new(self.alloc)),
-            Shared::One(one) => one.clock.try_copy(),
-            Shared::More(whole) => join(self.alloc, &whole.kept, whole.list.as_slice()),
+            Shared::One(one) => Some(&one.clock),
+            Shared::Many(whole) => Some(whole.join()),
+            _ => None,
         }
     }
 
@@ -193,25 +235,12 @@ impl Versions {
         let shared = match &self.shared {
             Shared::Nothing => Shared::Nothing,
             Shared::One(one) => Shared::One(Arc::try_clone(one)?),
-            Shared::More(whole) => Shared::More(Arc::try_clone(whole)?),
+            Shared::Few(list) => Shared::Few(Arc::try_clone(list)?),
+            Shared::Many(whole) => Shared::Many(Arc::try_clone(whole)?),
         };
         Ok(Versions {
             alloc: self.alloc,
             shared,
         })
-    }
-
-    /// The join of the versions' clocks, where it is kept: for one version, and for eight or more. Takes no memory.
-    pub fn top(&self) -> Option<&Clock>
-        ensures { IfSome result (λ c. RaisesTo [] (IsClockIn self.now) c.now) }
-    {
-        match &self.shared {
-            Shared::Nothing => None,
-            Shared::One(one) => Some(&one.clock),
-            Shared::More(whole) => match &whole.kept.tops {
-                Some(tops) => Some(&tops.join),
-                None => None,
-            },
-        }
     }
 }

@@ -1,14 +1,22 @@
 //! What sets of versions share.
 
-use crate::kept::Kept;
+ghost use Rattle.std.specs.Prelude.{◌≡◌, ◌↔◌, [], IsTrue};
+ghost use Rattle.ring_versions.specs.Chunks.{all_of};
+ghost use Rattle.ring_versions.specs.Raised.{RaisesTo, IsClockIn};
+ghost use Rattle.ring_versions.specs.Versions.{Covers};
+
+use crate::chunk::Chunk;
+use crate::part::group_of;
 use crate::version::Version;
+use ring_clock::Clock;
+use std::marker::Model;
 use std::sync::Arc;
 
-/// Versions of which no one's clock is at most another's, and their tops: kept once for all sets that have just these.
+/// Many versions, in chunks that other sets may share, and the join of their clocks.
 #[derive(Drop)]
 pub struct Whole {
-    pub list: Vec<Version>,
-    pub kept: Kept,
+    join: Clock,
+    chunks: Vec<Chunk>,
 }
 
 /// What a set shares with its copies: nothing, or one version, which takes one block of memory, or more.
@@ -16,12 +24,86 @@ pub struct Whole {
 pub enum Shared {
     Nothing,
     One(Arc<Version>),
-    More(Arc<Whole>),
+    Few(Arc<Vec<Version>>),
+    Many(Arc<Whole>),
 }
 
-/// The versions of a set and their tops, as a merge looks at them.
-#[derive(Clone, Copy)]
-pub struct Held<'a> {
-    pub list: &'a [Version],
-    pub kept: &'a Kept,
+impl Model for Whole {
+    ghost use Rattle.std.specs.Prelude.{List, []};
+    ghost use Rattle.ring_versions.specs.Chunks.{all_of};
+    ghost use Rattle.ring_versions.specs.Raised.{RaisesTo, IsClockIn};
+    ghost use Rattle.ring_versions.specs.declared.version.Version.{Version};
+
+    ghost Value = { List Version };
+
+    ghost view = { λ a. all_of a.chunks.items };
+
+    ghost invariant = { λ a. RaisesTo [] (IsClockIn (all_of a.chunks.items)) a.join };
+}
+
+// Whether in the chunks of the clock's own group the version of its own writer covers it.
+fn leads(chunks: &[Chunk], clock: &Clock) -> bool
+    ensures { IsTrue result → Covers (all_of chunks.now) clock.now }
+{
+    let group = group_of(clock.own());
+    let mut rest = chunks;
+    'chunks: while let Some((chunk, later)) = rest.split_first() {
+        let part = chunk.part();
+        if part.group() == group && part.leads(clock) {
+            return true;
+        }
+        rest = later;
+    }
+    false
+}
+
+// Whether some version has a clock that is at least this one, by going through all chunks.
+fn is_in_some(chunks: &[Chunk], clock: &Clock) -> bool
+    ensures { IsTrue result ↔ Covers (all_of chunks.now) clock.now }
+{
+    let mut rest = chunks;
+    'chunks: while let Some((chunk, later)) = rest.split_first() {
+        if chunk.part().covers(clock) {
+            return true;
+        }
+        rest = later;
+    }
+    false
+}
+
+impl Whole {
+    /// The versions of these chunks.
+    pub fn of(join: Clock, chunks: Vec<Chunk>) -> Whole
+        requires { RaisesTo [] (IsClockIn (all_of chunks.items)) join }
+        ensures { result ≡ all_of chunks.items }
+    {
+        Whole { join, chunks }
+    }
+
+    /// The join of the versions' clocks.
+    pub fn join(&self) -> &Clock
+        ensures { RaisesTo [] (IsClockIn self.now) result.now }
+    {
+        &self.join
+    }
+
+    /// The chunks, of which no two were made for one group.
+    pub fn chunks(&self) -> &[Chunk]
+        ensures { all_of result.now ≡ self.now }
+    {
+        self.chunks.as_slice()
+    }
+
+    /// Whether some version has a clock that is at least this one. The clock's own writer mostly decides it, at the cost of a look at the
+    /// join or at the chunks' groups, and of one comparison where some version has.
+    pub fn covers(&self, clock: &Clock) -> bool
+        ensures { IsTrue result ↔ Covers self.now clock.now }
+    {
+        let own = clock.own();
+        if self.join.counter(own) < clock.counter(own) {
+            return false;
+        }
+        let chunks = self.chunks.as_slice();
+        leads(chunks, clock) || is_in_some(chunks, clock)
+    }
 }

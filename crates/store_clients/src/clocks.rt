@@ -48,8 +48,8 @@ fn raise_to_put(clock: &mut Clock, puts: &Puts, put: u32) -> Result<(), Refusal>
     let Some(now) = puts.get(put) else {
         return Ok(());
     };
-    match now.version.list().split_first() {
-        Some((version, _)) => clock.raise(&version.clock),
+    match now.version.versions().next() {
+        Some(version) => clock.raise(&version.clock),
         None => Ok(()),
     }
 }

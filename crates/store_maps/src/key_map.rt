@@ -66,7 +66,7 @@ impl KeyMap {
         ensures none { IfNone result (held self.now key.now ≡ []) }
     {
         match self.tree().entries.get(key) {
-            Some(versions) if !versions.list().is_empty() => Some(versions),
+            Some(versions) if !versions.is_empty() => Some(versions),
             _ => None,
         }
     }

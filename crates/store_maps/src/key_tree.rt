@@ -44,7 +44,7 @@ impl KeyTree {
     {
         let mut keys = Vec::new(self.alloc);
         'keys: for (key, versions) in self.entries.walk() {
-            if !versions.list().is_empty() {
+            if !versions.is_empty() {
                 let bytes = Vec::from_slice(self.alloc, key.as_slice())?;
                 keys.push(Listed::from_vec(bytes))?;
             }

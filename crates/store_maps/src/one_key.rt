@@ -55,7 +55,7 @@ impl KeyTree {
             self.settle(key, fresh);
             return Ok(());
         }
-        if more.list().is_empty() {
+        if more.is_empty() {
             return Ok(());
         }
         self.put(key, more.try_copy()?)

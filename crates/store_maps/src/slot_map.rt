@@ -168,7 +168,7 @@ impl SlotMap {
         ensures places { OnErr result ((k : List ℕ) → has_place_for self.new k ≡ has_place_for self.old k) }
         ensures memory { IfErr result (λ e. e ≡ OutOfMemory) }
     {
-        if more.list().is_empty() {
+        if more.is_empty() {
             return Ok(());
         }
         let place = self.open(chunk)?;

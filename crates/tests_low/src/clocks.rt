@@ -85,21 +85,33 @@ pub fn set_of(alloc: Global, put: u32, clock: &Clock) -> Result<Versions, Refusa
     Versions::of(alloc, version(alloc, put, clock)?)
 }
 
+/// The versions of a set, in a list.
+pub fn listed(alloc: Global, set: &Versions) -> Result<Vec<Version>, Refusal> {
+    let mut out = Vec::new(alloc);
+    let mut walk = set.versions();
+    'versions: while let Some(version) = walk.next() {
+        out.push(version.try_copy()?)?;
+    }
+    Ok(out)
+}
+
 // Two that are in conflict stay, the third makes them ancestors, and they do not come back.
 fn merged<RT: Abort>(
     rt: &RT,
+    alloc: Global,
     all: &mut Versions,
     second: &Versions,
     third: &Versions,
 ) -> Result<(), Fail> {
     all.merge(second)?;
-    same!(rt; all.list().len(), 2);
+    same!(rt; listed(alloc, all)?.len(), 2);
     all.merge(third)?;
-    same!(rt; all.list().len(), 1);
+    same!(rt; listed(alloc, all)?.len(), 1);
     all.merge(second)?;
-    assert_eq!(rt; all.list().len(), 1);
-    same!(rt; all.list()[0].put, 2);
-    same!(rt; all.list()[0].value.as_slice(), b"1".as_slice());
+    let left = listed(alloc, all)?;
+    assert_eq!(rt; left.len(), 1);
+    same!(rt; left[0].put, 2);
+    same!(rt; left[0].value.as_slice(), b"1".as_slice());
     Ok(())
 }
 
@@ -111,7 +123,7 @@ fn conflicts_stay_and_ancestors_go(rt: HostRuntime) -> Result<(), Fail> {
     holds!(rt; !all.covers(&clocks[1]));
     let second = set_of(alloc, 1, &clocks[1])?;
     let third = set_of(alloc, 2, &clocks[2])?;
-    merged(&rt, &mut all, &second, &third)
+    merged(&rt, alloc, &mut all, &second, &third)
 }
 
 #[test]
@@ -120,7 +132,7 @@ fn sets_copied(rt: HostRuntime) -> Result<(), Fail> {
     let clock = Clock::new(alloc).bump(WriterId(3))?;
     let set = set_of(alloc, 4, &clock)?;
     let copy = set.try_copy()?;
-    same!(rt; copy.list().len(), 1);
+    same!(rt; listed(alloc, &copy)?.len(), 1);
     holds!(rt; copy.covers(&clock));
     Ok(())
 }

@@ -172,12 +172,22 @@ fn stores_of_nodes(rt: HostRuntime) -> Result<(), Fail> {
     Ok(())
 }
 
+// How many versions a set has.
+fn count_of(set: &Versions) -> usize {
+    let mut count = 0_usize;
+    let mut walk = set.versions();
+    'versions: while let Some(_) = walk.next() {
+        count = count.wrapping_add(1);
+    }
+    count
+}
+
 // So many versions of the key are at the node.
 fn versions_of<RT: Abort>(rt: &RT, stores: &Stores, at: &SlotKey, node: NodeId, count: usize)
     requires { chunk_of (shared_space stores.now) at.now.key.now ≡ at.now.chunk }
 {
     let found = match stores.key_versions_in(node, at.slot, at.chunk, at.key) {
-        Some(versions) => versions.list().len(),
+        Some(versions) => count_of(versions),
         None => 0,
     };
     same!(rt; found, count);
@@ -250,7 +260,7 @@ fn forgotten<RT: Abort>(rt: &RT, hints: &mut Hints) -> Result<(), Fail> {
 
 // A hint that a node keeps.
 fn hinted<RT: Abort>(rt: &RT, hints: &mut Hints, set: &Versions) -> Result<(), Fail> {
-    if let Some(version) = set.list().first() {
+    if let Some(version) = set.first() {
         hints.add(NodeId(3), SLOT, b"a", version)?;
     }
     holds!(rt; hints.keeps(NodeId(3), SLOT));

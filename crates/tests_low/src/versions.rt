@@ -1,7 +1,7 @@
 //! Sets of hundreds of versions in conflict, whose clocks share hundreds of entries, merged with themselves, with newer ones and with ancestors. A
 //! walk over all pairs, by the counters of the puts' own writers, says what must stay.
 
-use crate::clocks::{raised, set_of};
+use crate::clocks::{listed, raised, set_of};
 use ring_clock::Clock;
 use ring_names::{Refusal, WriterId};
 use ring_versions::{Version, Versions};
@@ -47,8 +47,8 @@ fn after(version: &Version, first: &Version) -> Result<Option<Clock>, Refusal> {
 
 fn newer(alloc: Global, set: &Versions) -> Result<Versions, Refusal> {
     let mut more = Versions::new(alloc);
-    for version in set.list() {
-        if let Some(first) = set.list().first()
+    for version in &listed(alloc, set)? {
+        if let Some(first) = set.first()
             && let Some(clock) = after(version, first)?
         {
             more.merge(&set_of(alloc, version.put.wrapping_add(MANY), &clock)?)?;
@@ -93,13 +93,14 @@ fn merged<RT: Abort>(
     first: &Versions,
     second: &Versions,
 ) -> Result<(), Fail> {
-    let puts = unseen(alloc, first.list(), second.list())?;
+    let (ours, theirs) = (listed(alloc, first)?, listed(alloc, second)?);
+    let puts = unseen(alloc, ours.as_slice(), theirs.as_slice())?;
     let mut set = first.try_copy()?;
     set.merge(second)?;
     assert_eq!(rt; set.puts()?.as_slice(), puts.as_slice());
-    assert_eq!(rt; set.list().len(), puts.len());
+    assert_eq!(rt; listed(alloc, &set)?.len(), puts.len());
     set.merge(first)?;
-    assert_eq!(rt; set.list().len(), puts.len());
+    assert_eq!(rt; listed(alloc, &set)?.len(), puts.len());
     Ok(())
 }
 
@@ -107,7 +108,7 @@ fn merged<RT: Abort>(
 fn many_in_conflict(rt: HostRuntime) -> Result<(), Fail> {
     let alloc = rt.alloc();
     let set = in_conflict(alloc)?;
-    assert_eq!(rt; set.list().len(), MANY as usize);
+    assert_eq!(rt; listed(alloc, &set)?.len(), MANY as usize);
     merged(&rt, alloc, &set, &set)
 }
 

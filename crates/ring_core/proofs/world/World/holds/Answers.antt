@@ -13,8 +13,8 @@ pub unreachable-requires-in_default-first : goal.unreachable-requires-in_default
 unreachable-requires-in_default-first c =
     let a = c.args.self.now.parts in
     holds a c.args.self.now.sound (hlevel props) (λ w m.
-    none_of_one c.list.result.now
-    (ap (λ (vs : List Version). length vs) c.list.ensures.value ∙ one_version (ring_of a) (plan_of a) (kept_of a) w m c.args.put c.in-Some.now.now (sym c.in-Some.ensures))
+    none_of_one c.in-Some.now.now.version
+    (one_version (ring_of a) (plan_of a) (kept_of a) w m c.args.put c.in-Some.now.now (sym c.in-Some.ensures))
     (sym (c.in_default-first.ensures).value))
 
 -- src/reads.rt:144:13
@@ -45,8 +45,8 @@ returns c w m =
     let a = c.args.self.now.parts in
     held_kept (ring_of a) (plan_of a) (kept_of a) w m c.args.put c.args.index c.in-Some.now.now c.in-Some-first.version.now c.key-key.result.now c.place-place.result c.owner_covers-by_owner.result c.hints_cover-by_hints.result
     c.requires.index (sym c.in-Some.ensures)
-    (sym c.list.ensures.value ∙ one_of c.list.result.now c.in-Some-first.version.now
-    (ap (λ (vs : List Version). length vs) c.list.ensures.value ∙ one_version (ring_of a) (plan_of a) (kept_of a) w m c.args.put c.in-Some.now.now (sym c.in-Some.ensures))
+    (one_of c.in-Some.now.now.version c.in-Some-first.version.now
+    (one_version (ring_of a) (plan_of a) (kept_of a) w m c.args.put c.in-Some.now.now (sym c.in-Some.ensures))
     (sym (c.in-Some-first.ensures).value))
     c.key-key.ensures (lies_there (ring_of c.args.self.now.parts) c.args.self.now.parts.keys c.in-Some.now.now.key c.key-key.result.now c.place-place.result c.args.self.now.sound.sized.keys c.place-place.ensures.place c.key-key.ensures) (subst (λ (q : ℕ). c.place-place.result.partition < q) c.args.self.now.sound.sized.keys c.place-place.ensures.partition)
     c.owner_covers-by_owner.ensures c.hints_cover-by_hints.ensures

@@ -1,8 +1,4 @@
 use Rattle.std.proofs.Common.{◌≡◌, ◌∙◌, ℕ, true, List, [], ◌∷◌, ◌++◌, sym, ap, subst}
-use Rattle.std.proofs.lemmas.Bool.{eqb-true}
-use Rattle.std.proofs.lemmas.List.{nil_from_length}
-use Rattle.std.specs.Prelude.{◌==◌, length}
-use Rattle.ring_versions.specs.declared.version.Version.{Version}
 use Rattle.store_maps.proofs.Keys.{Listing, listing_none, listing_empty, listing_more, listed}
 use Rattle.store_maps.specs.Entries.{entries_of, left_of}
 use Rattle.store_maps.proofs.EntriesLeft.{found}
@@ -17,14 +13,13 @@ pub keys-preserved : goal.keys-preserved
 keys-preserved c =
     let start = ap left_of c.into_iter-key-iterator.ensures.into_iter_gives ∙ c.walk-key-items.ensures in
     let at = found (entries_of c.args.self.now.entries) c.keys.yielded c.into_iter-key-iterator.result c.keys.key-iterator c.next.new.self c.next.result (c.in-Some.key, c.in-Some.versions) c.keys.yielded_by c.in-Some.is c.next.ensures.steps start c.args.self.now.order in
-    let none = nil_from_length c.list.result.now (eqb-true (length c.list.result.now) 0 (sym c.is_empty.ensures ∙ c.if-not-is_empty.false)) in
-    listing_empty c.args.self.now (left_of c.keys.key-iterator) (left_of c.next.new.self) c.keys.keys.items c.in-Some.key.now c.in-Some.versions.now (c.in-Some.ensures).steps at c.keys.invariant (sym c.list.ensures.value ∙ none)
+    listing_empty c.args.self.now (left_of c.keys.key-iterator) (left_of c.next.new.self) c.keys.keys.items c.in-Some.key.now c.in-Some.versions.now (c.in-Some.ensures).steps at c.keys.invariant (c.is_empty.ensures.value.0 c.if-not-is_empty.false)
 
 pub keys-preserved-in-Continue-branch-2 : goal.keys-preserved-in-Continue-branch-2
 keys-preserved-in-Continue-branch-2 c =
     let start = ap left_of c.into_iter-key-iterator.ensures.into_iter_gives ∙ c.walk-key-items.ensures in
     let at = found (entries_of c.args.self.now.entries) c.keys.yielded c.into_iter-key-iterator.result c.keys.key-iterator c.next.new.self c.next.result (c.in-Some.key, c.in-Some.versions) c.keys.yielded_by c.in-Some.is c.next.ensures.steps start c.args.self.now.order in
-    let some : c.in-Some.versions.now ≡ [] → ⊥ = λ none. (let empty : c.is_empty.result ≡ true = c.is_empty.ensures ∙ ap (λ (xs : List Version). length xs == 0) (c.list.ensures.value ∙ none) in cc) in
+    let some : c.in-Some.versions.now ≡ [] → ⊥ = λ none. (let empty : c.is_empty.result ≡ true = c.is_empty.ensures.value.1 none in cc) in
     let bytes = c.from_vec.ensures ∙ (c.in_ok-bytes.ensures).items ∙ c.as_slice.ensures.value in
     listing_more c.args.self.now (left_of c.keys.key-iterator) (left_of c.next.new.self) c.keys.keys.items c.in-Some.key.now c.in-Some.versions.now (c.in-Some.ensures).steps at c.keys.invariant some c.push.new.self.items
     ((c.in_ok-push.ensures).items ∙ ap (λ (last : List ℕ). c.keys.keys.items ++ last ∷ []) bytes)

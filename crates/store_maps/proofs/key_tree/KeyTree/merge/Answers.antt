@@ -27,5 +27,5 @@ returns-clause-ok c =
     let m = entries_of c.args.self.now.entries in
     let more = c.args.more.now in
     let none : held_in m c.args.key.now ≡ [] = ap (λ (o : Option (List Version)). unwrap_or o []) (c.in_default.ensures).none in
-    let first = subst (λ (new : List Version). IsMerge [] more new) (sym (c.in_ok-try_copy.ensures).same) (merge_first more c.list.ensures.apart) in
+    let first = subst (λ (new : List Version). IsMerge [] more new) (sym (c.in_ok-try_copy.ensures).same) (merge_first more c.is_empty.ensures.apart) in
     on_ok c.put.result _ _ (λ put. merged_put m (entries_of c.put.new.self.entries) c.args.key.now w put more c.args.self.now.apart (subst (λ (kept : List Version). IsMerge kept more w) (sym none) first)) c.put.ensures.ok

@@ -1,5 +1,4 @@
 use Rattle.std.proofs.Common.{◌∙◌, inl, inr, ap, arith, length, sym}
-use Rattle.std.proofs.lemmas.Bool.{eqb-true}
 use Rattle.store_maps.specs.Merges.{at_key}
 use Rattle.store_maps.proofs.OneAnswer.{on_ok, on_err}
 use Rattle.store_maps.specs.Chunks.{chunk_of, place_in}
@@ -43,4 +42,4 @@ returns-clause-memory c = c.merge.ensures.memory
 
 pub returns-then-is_empty-clause-ok : goal.returns-then-is_empty-clause-ok
 returns-then-is_empty-clause-ok c =
-    nothing_key c.args.self.now c.args.key.now c.args.more.now (sym (ap length c.list.ensures.value) ∙ eqb-true (length c.list.result.now) 0 (sym c.is_empty.ensures ∙ c.if-is_empty.true))
+    nothing_key c.args.self.now c.args.key.now c.args.more.now (ap length (c.is_empty.ensures.value.0 c.if-is_empty.true))

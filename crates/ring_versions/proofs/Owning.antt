@@ -1,0 +1,51 @@
+-- Entries of versions' own writers.
+use Rattle.std.proofs.Common.{◌≡◌, inl, inr, ℕ, ◌<◌, ◌≤◌, List, [], ◌∷◌, ◌++◌, subst, arith}
+use Rattle.std.specs.Prelude.{max}
+use Rattle.std.specs.List.{All}
+use Rattle.std.proofs.Math.Nat.{le_trans}
+use Rattle.std.proofs.lemmas.List.Elements.{All-contains, Contains-append_left, Contains-push}
+use Rattle.ring_clock.specs.declared.entry.Entry.{Entry}
+use Rattle.ring_clock.specs.Clock.{counter, IsAtMost}
+use Rattle.ring_versions.specs.declared.version.Version.{Version}
+use Rattle.ring_versions.specs.Chunks.{AreOwns, IsPart}
+use Rattle.ring_versions.specs.Versions.{IsIn, Covers}
+use Rattle.ring_versions.proofs.Members.{in_either}
+
+pub own_behind : (vs : List Version) (owns : List Entry) (v : Version) (e : Entry) → e.counter ≤ counter v.clock e.writer.0 → AreOwns vs owns → AreOwns (vs ++ v ∷ []) (owns ++ e ∷ [])
+own_behind vs owns v e le each = λ u h. elim (in_either u vs (v ∷ []) h) [
+  | inl old ↦ (let o = each u old in (o.0, Contains-append_left owns (e ∷ []) o.0 o.1, o.2))
+  | inr last ↦ elim last [
+    | inl is ↦ (e, Contains-push owns e, subst (λ (z : Version). e.counter ≤ counter z.clock e.writer.0) is le)
+    | inr none ↦ absurd none
+  ]
+]
+
+-- a join that is raised stays above
+pub part_raised : (vs : List Version) (owns old new more : List Entry) → ((w : ℕ) → counter new w ≡ max (counter old w) (counter more w)) → IsPart vs owns old → IsPart vs owns new
+part_raised vs owns old new more raise p = record { owned = p.owned; above = λ v h w. (let r = raise w in let a = p.above v h w in omega arith) }
+
+-- and one entry more does not hurt
+pub part_owns : (vs : List Version) (owns join : List Entry) (e : Entry) → IsPart vs owns join → IsPart vs (owns ++ e ∷ []) join
+part_owns vs owns join e p = record { owned = λ v h. (let o = p.owned v h in (o.0, Contains-append_left owns (e ∷ []) o.0 o.1, o.2)); above = p.above }
+
+-- a version more, to which the join was raised
+pub part_more : (vs : List Version) (owns old new : List Entry) (x : Version) (e : Entry) → e.counter ≤ counter x.clock e.writer.0 → ((w : ℕ) → counter new w ≡ max (counter old w) (counter x.clock w)) → IsPart vs owns old → IsPart (vs ++ x ∷ []) (owns ++ e ∷ []) new
+part_more vs owns old new x e le raise p = record {
+  owned = own_behind vs owns x e le p.owned;
+  above = λ v h. elim (in_either v vs (x ∷ []) h) [
+    | inl was ↦ (λ w. (let r = raise w in let a = p.above v was w in omega arith))
+    | inr last ↦ elim last [ inl is ↦ subst (λ (z : Version). IsAtMost z.clock new) is (λ w. (let r = raise w in omega arith)) | inr none ↦ absurd none ]
+  ];
+}
+
+-- below each own entry there is no version's clock
+pub beyond : (vs : List Version) (owns top : List Entry) → AreOwns vs owns → All (λ (e : Entry). counter top e.writer.0 < e.counter) owns → (v : Version) → IsIn v vs → IsAtMost v.clock top → ⊥
+beyond vs owns top each all v h le =
+    let o = each v h in
+    let less = All-contains (λ (e : Entry). counter top e.writer.0 < e.counter) owns o.0 all o.1 in
+    let under = le o.0.writer.0 in
+    omega arith
+
+-- so none of them is covered by versions under the clock
+pub none_covered : (vs fresh : List Version) (top : List Entry) → ((v : Version) → IsIn v vs → IsAtMost v.clock top → ⊥) → ((v : Version) → IsIn v fresh → IsAtMost v.clock top) → (v : Version) → IsIn v vs → Covers fresh v.clock → ⊥
+none_covered vs fresh top beyond under v h c = beyond v h (λ w. le_trans (c.2 w) (under c.0 c.1 w))

@@ -1,0 +1,39 @@
+//! The versions that others do not cover.
+
+ghost use Rattle.std.specs.Prelude.{◌≡◌, IfOk, IfErr};
+ghost use Rattle.ring_names.specs.declared.refusal.Refusal.TheVariants.{OutOfMemory};
+ghost use Rattle.ring_versions.specs.Parts.{IsFresh};
+ghost use Rattle.ring_versions.specs.Shared.{looked_at};
+ghost use Rattle.ring_versions.specs.Versions.{IsApart};
+
+use crate::held::Held;
+use crate::version::Version;
+use ring_names::Refusal;
+use std::alloc::{AllocError, Global};
+
+// Room for so many, and no more, where there is nothing yet: most sets stay as they are made.
+fn make_room(out: &mut Vec<Version>, room: usize) -> Result<(), AllocError>
+    ensures { out.new.items ≡ out.old.items }
+{
+    if out.is_empty() {
+        out.reserve_exact(room)?;
+    }
+    Ok(())
+}
+
+/// Copies of the versions that those held do not cover. Takes no memory where they cover all.
+pub fn fresh_of(alloc: Global, versions: Held, held: Held) -> Result<Vec<Version>, Refusal>
+    requires { IsApart (looked_at versions) }
+    ensures ok { IfOk result (λ out. IsFresh (looked_at held.entry) (looked_at versions.entry) out.items) }
+    ensures memory { IfErr result (λ e. e ≡ OutOfMemory) }
+{
+    let mut out = Vec::new(alloc);
+    let mut walk = versions.walk();
+    'versions: while let Some(version) = walk.next() {
+        if !held.covers(&version.clock) {
+            make_room(&mut out, versions.few().saturating_add(held.few()))?;
+            out.push(version.try_copy()?)?;
+        }
+    }
+    Ok(out)
+}

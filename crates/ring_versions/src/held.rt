@@ -1,0 +1,60 @@
+//! The versions of a set, as a merge looks at them.
+
+ghost use Rattle.std.specs.Prelude.{◌≡◌, ◌↔◌, IsTrue};
+ghost use Rattle.ring_versions.specs.Versions.{Covers};
+
+use crate::part::{group_of, is_among};
+use crate::version::Version;
+use crate::walk::Walk;
+use crate::whole::Whole;
+use ring_clock::Clock;
+
+/// Versions in a list, or in chunks.
+#[derive(Clone, Copy)]
+pub enum Held<'a> {
+    Few(&'a [Version]),
+    Many(&'a Whole),
+}
+
+impl<'a> Held<'a> {
+    ghost use Rattle.ring_versions.specs.Shared.{looked_at};
+
+    /// The versions, one after the other.
+    pub fn walk(self) -> Walk<'a>
+        ensures { result ≡ looked_at self.entry }
+    {
+        match self {
+            Held::Few(list) => Walk::few(list),
+            Held::Many(whole) => Walk::many(whole.chunks()),
+        }
+    }
+
+    /// Whether some version has a clock that is at least this one.
+    pub fn covers(self, clock: &Clock) -> bool
+        ensures { IsTrue result ↔ Covers (looked_at self.entry) clock.now }
+    {
+        match self {
+            Held::Few(list) => is_among(list, clock),
+            Held::Many(whole) => whole.covers(clock),
+        }
+    }
+
+    /// How many they are, where they are a list.
+    pub fn few(self) -> usize {
+        match self {
+            Held::Few(list) => list.len(),
+            Held::Many(_) => 0,
+        }
+    }
+
+    /// Whether some version's own writer is of the group.
+    pub fn has_group(self, group: u32) -> bool {
+        let mut walk = self.walk();
+        'versions: while let Some(version) = walk.next() {
+            if group_of(version.clock.own()) == group {
+                return true;
+            }
+        }
+        false
+    }
+}

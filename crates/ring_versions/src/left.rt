@@ -1,0 +1,140 @@
+//! What stays of a set in chunks where others come.
+
+ghost use Rattle.std.specs.Prelude.{◌≡◌, ◌<◌, ◌∷◌, ◌++◌, [], List, length, IsTrue, IfOk, IfErr, OnOk};
+ghost use Rattle.ring_names.specs.declared.refusal.Refusal.TheVariants.{OutOfMemory};
+ghost use Rattle.ring_clock.specs.Clock.{IsAtMost};
+ghost use Rattle.ring_versions.specs.Chunks.{all_of};
+ghost use Rattle.ring_versions.specs.Parts.{IsFresh, IsReordered};
+ghost use Rattle.ring_versions.specs.Shared.{looked_at, all_left};
+ghost use Rattle.ring_versions.specs.Versions.{IsIn, Covers, IsApart};
+ghost use Rattle.ring_versions.specs.declared.version.Version.{Version as TheVersion};
+
+use crate::chunk::Chunk;
+use crate::fresh_of::fresh_of;
+use crate::held::Held;
+use crate::part::{Part, group_of};
+use crate::version::Version;
+use ring_clock::Clock;
+use ring_names::Refusal;
+use std::alloc::Global;
+
+/// Chunks that stay as they are, and parts that are made anew.
+#[derive(Drop)]
+pub struct Left {
+    pub kept: Vec<Chunk>,
+    pub made: Vec<Part>,
+}
+
+// The place of the part that is made for the group, which is made where there is none.
+fn place_for(alloc: Global, made: &mut Vec<Part>, group: u32) -> Result<usize, Refusal>
+    ensures same { all_of made.new.items ≡ all_of made.old.items }
+    ensures ok { IfOk result (λ place. place < length made.new.items) }
+    ensures memory { IfErr result (λ e. e ≡ OutOfMemory) }
+{
+    match made.iter().position(|part| part.group() == group) {
+        Some(place) => Ok(place),
+        None => {
+            let place = made.len();
+            made.push(Part::new(alloc, group))?;
+            Ok(place)
+        }
+    }
+}
+
+// Puts a copy of a version into the part of its own writer's group.
+fn put(alloc: Global, made: &mut Vec<Part>, version: &Version) -> Result<(), Refusal>
+    ensures ok { OnOk result (IsReordered (all_of made.old.items ++ version.now ∷ []) (all_of made.new.items)) }
+    ensures memory { IfErr result (λ e. e ≡ OutOfMemory) }
+{
+    let place = place_for(alloc, made, group_of(version.clock.own()))?;
+    made[place].put(version)
+}
+
+/// Puts copies of versions into parts of their own writers' groups.
+pub fn put_all(alloc: Global, made: &mut Vec<Part>, versions: Held) -> Result<(), Refusal>
+    ensures ok { OnOk result (IsReordered (all_of made.old.items ++ looked_at versions.entry) (all_of made.new.items)) }
+    ensures memory { IfErr result (λ e. e ≡ OutOfMemory) }
+{
+    let mut walk = versions.walk();
+    'versions: while let Some(version) = walk.next() {
+        put(alloc, made, version)?;
+    }
+    Ok(())
+}
+
+// Copies of those versions of a part that the fresh ones leave: all, where it is known that those cover none.
+fn left_in(
+    alloc: Global,
+    part: &Part,
+    fresh: Held,
+    is_beyond: bool,
+) -> Result<Vec<Version>, Refusal>
+    requires apart { IsApart part.now }
+    requires beyond { IsTrue is_beyond → (v : TheVersion) → IsIn v part.now → Covers (looked_at fresh) v.clock → ⊥ }
+    ensures ok { IfOk result (λ out. IsFresh (looked_at fresh.entry) part.now out.items) }
+    ensures memory { IfErr result (λ e. e ≡ OutOfMemory) }
+{
+    let versions = Held::Few(part.versions());
+    if is_beyond {
+        return fresh_of(alloc, versions, Held::Few(&[]));
+    }
+    fresh_of(alloc, versions, fresh)
+}
+
+// Keeps a chunk as it is where the fresh versions leave it so and have none of its group, and else a part of those that they leave.
+fn keep(
+    alloc: Global,
+    left: &mut Left,
+    chunk: &Chunk,
+    fresh: Held,
+    top: &Clock,
+) -> Result<(), Refusal>
+    requires apart { IsApart chunk.now }
+    requires top { (v : TheVersion) → IsIn v (looked_at fresh) → IsAtMost v.clock top.now }
+    ensures ok { OnOk result ((out : List TheVersion) × IsFresh (looked_at fresh.entry) chunk.now out
+        × IsReordered (all_left left.old ++ out) (all_left left.new)) }
+    ensures memory { IfErr result (λ e. e ≡ OutOfMemory) }
+{
+    let part = chunk.part();
+    let is_beyond = part.is_beyond(top);
+    if is_beyond && !fresh.has_group(part.group()) {
+        left.kept.push(chunk.try_copy()?)?;
+        return Ok(());
+    }
+    let versions = left_in(alloc, part, fresh, is_beyond)?;
+    if !versions.is_empty() {
+        left.made.push(part.with(alloc, versions)?)?;
+    }
+    Ok(())
+}
+
+/// Those versions of the chunks that the fresh ones leave. Costs a look at each version, and copies those of the chunks that do not stay
+/// whole. The top is at least each fresh one's clock.
+pub fn left_of(alloc: Global, chunks: &[Chunk], fresh: Held, top: &Clock) -> Result<Left, Refusal>
+    requires apart { IsApart (all_of chunks.now) }
+    requires top { (v : TheVersion) → IsIn v (looked_at fresh) → IsAtMost v.clock top.now }
+    ensures ok { IfOk result (λ l. IsFresh (looked_at fresh.entry) (all_of chunks.now) (all_left l)) }
+    ensures memory { IfErr result (λ e. e ≡ OutOfMemory) }
+{
+    let kept = Vec::with_capacity(alloc, chunks.len())?;
+    let made = Vec::new(alloc);
+    let mut left = Left { kept, made };
+    let mut rest = chunks;
+    'chunks: while let Some((chunk, later)) = rest.split_first() {
+        keep(alloc, &mut left, chunk, fresh, top)?;
+        rest = later;
+    }
+    Ok(left)
+}
+
+/// All as chunks.
+pub fn chunks_of(alloc: Global, left: Left) -> Result<Vec<Chunk>, Refusal>
+    ensures ok { IfOk result (λ chunks. all_of chunks.items ≡ all_left left) }
+    ensures memory { IfErr result (λ e. e ≡ OutOfMemory) }
+{
+    let Left { mut kept, made } = left;
+    for part in made {
+        kept.push(Chunk::of(alloc, part)?)?;
+    }
+    Ok(kept)
+}

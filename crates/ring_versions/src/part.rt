@@ -1,0 +1,167 @@
+//! Versions with what a search asks of them first.
+
+ghost use Rattle.std.specs.Prelude.{◌≡◌, ◌↔◌, ◌∷◌, ◌++◌, [], IsTrue, IfOk, IfErr, OnOk};
+ghost use Rattle.ring_names.specs.declared.refusal.Refusal.TheVariants.{OutOfMemory};
+ghost use Rattle.ring_clock.specs.Clock.{IsAtMost, counter};
+ghost use Rattle.ring_versions.specs.Chunks.{AreOwns};
+ghost use Rattle.ring_versions.specs.Versions.{IsIn, Covers};
+ghost use Rattle.ring_versions.specs.declared.version.Version.{Version as TheVersion};
+
+use crate::version::Version;
+use ring_clock::{Clock, Entry};
+use ring_names::{Refusal, WriterId};
+use std::alloc::Global;
+use std::marker::Model;
+
+// How many writers, whose numbers follow one another, are a group.
+const GROUP: u32 = 32;
+
+/// The group of a writer.
+pub fn group_of(writer: WriterId) -> u32 {
+    writer.0 / GROUP
+}
+
+/// Versions whose own writers were of one group as they came, in order with an entry of each one's own writer. The join is at least
+/// each version's clock.
+#[derive(Drop)]
+pub struct Part {
+    group: u32,
+    versions: Vec<Version>,
+    owns: Vec<Entry>,
+    join: Clock,
+}
+
+impl Model for Part {
+    ghost use Rattle.std.specs.Prelude.{List};
+    ghost use Rattle.ring_versions.specs.Chunks.{IsPart};
+    ghost use Rattle.ring_versions.specs.declared.version.Version.{Version};
+
+    ghost Value = { List Version };
+
+    ghost view = { λ a. a.versions.items };
+
+    ghost invariant = { λ a. IsPart a.versions.items a.owns.items a.join };
+}
+
+// The entry of the version's own writer.
+fn own_of(version: &Version) -> Entry
+    ensures { result.counter ≡ counter version.now.clock result.writer.0 }
+{
+    let writer = version.clock.own();
+    Entry {
+        writer,
+        counter: version.clock.counter(writer),
+    }
+}
+
+// Those of these versions, in their order.
+fn owns_of(alloc: Global, versions: &[Version]) -> Result<Vec<Entry>, Refusal>
+    ensures ok { IfOk result (λ owns. AreOwns versions.now owns.items) }
+    ensures memory { IfErr result (λ e. e ≡ OutOfMemory) }
+{
+    let mut owns = Vec::with_capacity(alloc, versions.len())?;
+    for version in versions {
+        owns.push(own_of(version))?;
+    }
+    Ok(owns)
+}
+
+/// Whether some version has a clock that is at least this one, by going through them all.
+pub fn is_among(versions: &[Version], clock: &Clock) -> bool
+    ensures { IsTrue result ↔ Covers versions.now clock.now }
+{
+    let mut rest = versions;
+    'versions: while let Some((version, later)) = rest.split_first() {
+        if clock.le(&version.clock) {
+            return true;
+        }
+        rest = later;
+    }
+    false
+}
+
+impl Part {
+    /// No version.
+    pub fn new(alloc: Global, group: u32) -> Part
+        ensures { result ≡ [] }
+    {
+        Part {
+            group,
+            versions: Vec::new(alloc),
+            owns: Vec::new(alloc),
+            join: Clock::new(alloc),
+        }
+    }
+
+    /// The part that these of its versions are.
+    pub fn with(&self, alloc: Global, versions: Vec<Version>) -> Result<Part, Refusal>
+        requires { (v : TheVersion) → IsIn v versions.items → IsIn v self.now }
+        ensures ok { IfOk result (λ p. p ≡ versions.items) }
+        ensures memory { IfErr result (λ e. e ≡ OutOfMemory) }
+    {
+        let owns = owns_of(alloc, versions.as_slice())?;
+        let join = self.join.try_copy()?;
+        Ok(Part {
+            group: self.group,
+            versions,
+            owns,
+            join,
+        })
+    }
+
+    /// Adds a copy of a version.
+    pub fn put(&mut self, version: &Version) -> Result<(), Refusal>
+        ensures ok { OnOk result (self.new ≡ self.old ++ version.now ∷ []) }
+        ensures memory { IfErr result (λ e. e ≡ OutOfMemory) }
+    {
+        let copy = version.try_copy()?;
+        self.join.raise(&version.clock)?;
+        self.owns.push(own_of(version))?;
+        self.versions.push(copy)?;
+        Ok(())
+    }
+
+    /// The group of which it was made.
+    pub fn group(&self) -> u32 {
+        self.group
+    }
+
+    /// The versions.
+    pub fn versions(&self) -> &[Version]
+        ensures { result.now ≡ self.now }
+    {
+        self.versions.as_slice()
+    }
+
+    /// Whether the version of the clock's own writer covers the clock.
+    pub fn leads(&self, clock: &Clock) -> bool
+        ensures { IsTrue result → Covers self.now clock.now }
+    {
+        let own = clock.own();
+        let Some(place) = self.owns.iter().position(|entry| entry.writer.0 == own.0) else {
+            return false;
+        };
+        match self.versions.as_slice().get(place) {
+            Some(version) => clock.le(&version.clock),
+            None => false,
+        }
+    }
+
+    /// Whether some version has a clock that is at least this one.
+    pub fn covers(&self, clock: &Clock) -> bool
+        ensures { IsTrue result ↔ Covers self.now clock.now }
+    {
+        let own = clock.own();
+        if self.join.counter(own) < clock.counter(own) {
+            return false;
+        }
+        is_among(self.versions.as_slice(), clock)
+    }
+
+    /// Whether it is plain from the versions' own counters that no version's clock is at most this one.
+    pub fn is_beyond(&self, top: &Clock) -> bool
+        ensures { IsTrue result → (v : TheVersion) → IsIn v self.now → IsAtMost v.clock top.now → ⊥ }
+    {
+        top.is_below_each(self.owns.as_slice())
+    }
+}
