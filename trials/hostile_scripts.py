@@ -11,6 +11,8 @@
     hostile_scripts.py keepers K N    > bundle    K nodes keep another key for a slot, which N gets read
     hostile_scripts.py down K N       > bundle    the same where a keeper of the key is down, and N reads are refused
     hostile_scripts.py keys M K       > bundle    a slot with K keys moves M times
+    hostile_scripts.py touched M K    > bundle    the same, with a put to a key of each chunk in front of each move's copies
+    hostile_scripts.py left M K       > bundle    the same from node to node, each of which keeps what it has
     hostile_scripts.py kept K M N     > bundle    K nodes keep the same M/2 versions for a slot, which N gets read
     hostile_scripts.py long_clocks M N > bundle   N hints of versions whose clocks have M/2 entries
     hostile_scripts.py long_keys N    > bundle    N keys of 64 bytes, each taken by two slots
@@ -134,25 +136,57 @@ def down(k, n):
     return text, [], [], out + ["read 0 0"] * n
 
 
-def keys(m, k):
-    plan = []
+def moving(names, m, k, touch, drops):
+    """K keys of a slot that moves M times along the names, with what a move's `touch` adds between its mirror and its copies."""
+    plan, facts = [], []
+    steps = 4 if drops else 3
     for move in range(m):
-        old, new = ("a", "d") if move % 2 == 0 else ("d", "a")
-        first = 4 * move
+        old, new = names[move % len(names)], names[(move + 1) % len(names)]
+        first = steps * move
         after = " after %d" % (first - 1) if move else ""
-        plan += ["mirror 0 0 %s%s" % (new, after), "copy 0 0 owner after %d" % first,
-                 "switch 0 0 after %d" % (first + 1), "drop 0 0 %s after %d" % (old, first + 2)]
-    copies = range(1, len(plan), 4)
-    cert = ["fact " + " ".join(map(str, range(c, c + 5))) for c in list(copies)[:-1]]
-    cert += ["chain %s %s" % (x, " ".join(map(str, copies))) for x in "ad"]
+        plan += ["mirror 0 0 %s%s" % (new, after), "copy 0 0 owner after %d" % first, "switch 0 0 after %d" % (first + 1)]
+        plan += ["drop 0 0 %s after %d" % (old, first + 2)] * drops
+    copies = range(1, len(plan), steps)
+    cert = ["fact " + " ".join(map(str, range(c, c + steps + 1))) for c in list(copies)[:-1]]
+    chains = {}
+    for move, copy in enumerate(copies):
+        for x in {names[move % len(names)], names[(move + 1) % len(names)]}:
+            chains.setdefault(x, []).append(copy)
+    cert += ["chain %s %s" % (x, " ".join(map(str, chains[x]))) for x in sorted(chains)]
     out = []
     for n in range(k):
         out += ["put w0 key%d x" % n, "write %d 0" % n]
+    puts = k
     for move in range(m):
-        first = 4 * move
-        out += ["do %d" % first, "open %d" % (first + 1)] + ["chunk %d %d" % (first + 1, c) for c in range(16)]
-        out += ["close %d" % (first + 1), "do %d" % (first + 2), "do %d" % (first + 3)]
-    return small(), plan, cert, out
+        first = steps * move
+        out.append("do %d" % first)
+        for key in touch:
+            out += ["put w0 %s x" % key, "write %d 0" % puts]
+            puts += 1
+        out += ["open %d" % (first + 1)] + ["chunk %d %d" % (first + 1, c) for c in range(16)]
+        out += ["close %d" % (first + 1)] + ["do %d" % (first + n) for n in range(2, steps)]
+    return plan, cert, out
+
+
+def one_of_each_chunk():
+    found = {}
+    for n in range(1000):
+        found.setdefault(hashlib.md5(b"key%d" % n).digest()[0] >> 4, "key%d" % n)
+    return [found[c] for c in range(16)]
+
+
+def keys(m, k):
+    return small(), *moving(["a", "d"], m, k, [], True)
+
+
+def touched(m, k):
+    return small(), *moving(["a", "d"], m, k, one_of_each_chunk(), True)
+
+
+def left(m, k):
+    names = ["n%04d" % n for n in range(1024)]
+    text = ring(names, 1, lambda p: [names[0], names[1022], names[1023]])
+    return text, *moving(names[:1000], m, k, one_of_each_chunk(), False)
 
 
 def kept(k, m, n):
@@ -205,7 +239,7 @@ def waits(n):
 
 FAMILIES = {
     family.__name__: family
-    for family in (reads, writes, seen, chained, values, hints, scattered, keepers, down, keys, kept, long_clocks, long_keys, names, waits)
+    for family in (reads, writes, seen, chained, values, hints, scattered, keepers, down, keys, touched, left, kept, long_clocks, long_keys, names, waits)
 }
 
 

@@ -134,5 +134,6 @@ fn sets_copied(rt: HostRuntime) -> Result<(), Fail> {
     let copy = set.try_copy()?;
     same!(rt; listed(alloc, &copy)?.len(), 1);
     holds!(rt; copy.covers(&clock));
+    holds!(rt; copy.top().is_some());
     Ok(())
 }

@@ -109,6 +109,7 @@ fn many_in_conflict(rt: HostRuntime) -> Result<(), Fail> {
     let alloc = rt.alloc();
     let set = in_conflict(alloc)?;
     assert_eq!(rt; listed(alloc, &set)?.len(), MANY as usize);
+    assert!(rt; set.top().is_some());
     merged(&rt, alloc, &set, &set)
 }
 
