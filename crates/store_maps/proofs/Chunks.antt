@@ -14,13 +14,13 @@ use Rattle.store_maps.specs.declared.key_map.KeyMap.{KeyMap}
 use Rattle.store_maps.specs.declared.slot_map.SlotMap.{SlotMap}
 use Rattle.store_maps.specs.Slots.{held_for, has_room_for, IsReadyFor, AreReadyFor}
 use Rattle.store_maps.specs.Chunks.{chunk_of, held_of, map_in, place_in, room_in, ArePlaced, IsBare, IsMapAt}
-use Rattle.store_maps.specs.Entries.{entries_of}
-use Rattle.store_maps.specs.Held.{tree_of, held, has_place, IsReady}
+use Rattle.store_maps.specs.Held.{map_entry, held, has_place, IsReady}
 use Rattle.store_maps.specs.Merges.{MergesAll, at_key, has_fresh, AreFreshFor, AreReady}
-use Rattle.ring_names.specs.AtBytes.{value_at, value_in}
+use Rattle.ring_names.specs.AtBytes.{value_at}
 use Rattle.store_maps.proofs.OneAnswer.{none_from_empty, none_where, at_none, none_to}
 use Rattle.ring_names.proofs.AtBytes.{bytes_same}
 use Rattle.store_maps.proofs.MergesInTurn.{merge_none}
+use Rattle.store_maps.proofs.Over.{map_apart}
 use Rattle.store_maps.proofs.Puts.{at_other}
 
 pub chunk_below : (q : ℕ) (k : List ℕ) (c : ℕ) → chunk_of q k ≡ c → c < 16
@@ -59,7 +59,7 @@ get_last (y ∷ ys) x = get_last ys x
 
 pub apart_of : (o : Option KeyMap) (k : List ℕ) → IsApart (held_of o k)
 apart_of None k = tt
-apart_of (Some m) k = (tree_of m).apart k
+apart_of (Some m) k = map_apart m k
 
 -- what a slot holds of a key is apart
 pub slot_apart : (a : SlotMap) (k : List ℕ) → IsApart (held_for a k)
@@ -76,8 +76,9 @@ chosen_here i j v e = rw (eq-eqb i j e) refl
 pub chosen_other : (i j : ℕ) (v : List Version) → i ≢ j → cond (nat_eq i j) v [] ≡ []
 chosen_other i j v ne = rw (false_from_ne_true (nat_eq i j) (λ h. ne (eqb-true i j h))) refl
 
+-- a key without a place has no versions
 pub no_place : (m : KeyMap) (k : List ℕ) → has_place m k ≡ false → held m k ≡ []
-no_place m k e = ap (λ (o : Option (List Version)). unwrap_or o []) (none_from_empty (value_in (entries_of (tree_of m).entries) k) e)
+no_place m k e = ap (λ (o : Option (List Version)). unwrap_or o []) (none_from_empty (map_entry m k) e)
 
 -- ---- the map of a chunk, by its place
 
@@ -253,7 +254,7 @@ module _ (a : SlotMap) (c i : ℕ) (e : ℕ × KeyMap) (n : KeyMap) (at : IsMapA
       fresh = by_chunk (λ (k : List ℕ). MatchOption (value_at f.map k) (IsMerge (held m k) (chosen a.q c more k) (held m k)) (IsFreshFor (held m k) (chosen a.q c more k)))
           (λ k e. subst (λ (comes : List Version). MatchOption (value_at f.map k) (IsMerge (held m k) comes (held m k)) (IsFreshFor (held m k) comes)) (sym (chosen_here (chunk_of a.q k) c (more k) e))
           (subst (λ (old : List Version). MatchOption (value_at f.map k) (IsMerge old (more k) old) (IsFreshFor old (more k))) (sym (old_held k e)) (are k)))
-          (λ k ne. none_to (value_at f.map k) _ _ (outside k ne) (subst (λ (comes : List Version). IsMerge (held m k) comes (held m k)) (sym (chosen_other (chunk_of a.q k) c (more k) ne)) (merge_none (held m k) ((tree_of m).apart k))))
+          (λ k ne. none_to (value_at f.map k) _ _ (outside k ne) (subst (λ (comes : List Version). IsMerge (held m k) comes (held m k)) (sym (chosen_other (chunk_of a.q k) c (more k) ne)) (merge_none (held m k) (map_apart m k))))
 
 -- a place that was found in the same list
 pub map_seen : (c i : ℕ) {es fs : List (ℕ × KeyMap)} → es ≡ fs → IsMapAt c es i → IsMapAt c fs i

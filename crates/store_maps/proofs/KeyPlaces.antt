@@ -1,18 +1,14 @@
 -- The chunk of a key, and what a map has for a key without a place in it.
 use Rattle.std.proofs.Common.{◌≡◌, ◌≢◌, inl, inr, ◌∙◌, ℕ, true, cond, nat_eq, List, [], refl, sym, ap, Option, Some, None}
-use Rattle.std.specs.Prelude.{unwrap_or}
 use Rattle.std.proofs.lemmas.Bool.{cases_Bool, eqb-true, eq-eqb, false_from_ne_true}
 use Rattle.ring_versions.specs.declared.version.Version.{Version}
 use Rattle.ring_versions.specs.Versions.{IsApart}
 use Rattle.store_maps.specs.Chunks.{chunk_of}
-use Rattle.store_maps.specs.Entries.{entries_of}
-use Rattle.store_maps.specs.Held.{tree_of, held, has_place}
-use Rattle.ring_names.specs.AtBytes.{value_in}
+use Rattle.store_maps.specs.Held.{held, has_place}
 use Rattle.store_maps.specs.declared.key_map.KeyMap.{KeyMap}
-use Rattle.store_maps.proofs.OneAnswer.{none_from_empty}
 use Rattle.store_maps.specs.Slots.{space_of}
 use Rattle.store_maps.specs.declared.slot_map.SlotMap.{SlotMap}
-use Rattle.store_maps.proofs.Chunks.{slot_apart}
+use Rattle.store_maps.proofs.Chunks.{slot_apart, no_place as unplaced}
 use Rattle.ring_space.specs.Place.{place_of}
 use Rattle.ring_space.specs.declared.found.Place.{Place}
 use Rattle.store_maps.specs.Slots.{held_by}
@@ -37,4 +33,4 @@ in_chunk q c k v w here other = elim (cases_Bool (nat_eq (chunk_of q k) c)) [
 ]
 
 pub no_place : (m : KeyMap) (k : List ℕ) → (has_place m k ≡ true → ⊥) → held m k ≡ []
-no_place m k h = ap (λ (o : Option (List Version)). unwrap_or o []) (none_from_empty (value_in (entries_of (tree_of m).entries) k) (false_from_ne_true (has_place m k) h))
+no_place m k h = unplaced m k (false_from_ne_true (has_place m k) h)

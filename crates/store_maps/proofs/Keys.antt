@@ -1,10 +1,11 @@
--- The keys of a map, and copies of maps, entry after entry.
+-- The keys of a tree, and what is put over it, entry after entry.
 use Rattle.std.proofs.Common.{◌≡◌, ◌≢◌, ◌∙◌, ℕ, Bool, true, false, List, [], ◌∷◌, ◌++◌, refl, sym, ap, subst, Option, Some, None, map}
 use Rattle.std.specs.Prelude.{◌||◌, unwrap_or}
 use Rattle.std.specs.Cmp.Lexicographic.{slice_cmp, nat_list_eq_equiv}
 use Rattle.std.specs.List.{AllByRecursion, list_any}
 use Rattle.std.specs.List.Sorted.{IsStrictlySortedBy}
 use Rattle.std.specs.Map.{keys_of}
+use Rattle.std.specs.Option.{option_or}
 use Rattle.std.specs.Ordering.{nat_cmp}
 use Rattle.std.specs.Str.{bytes_eq}
 use Rattle.std.specs.declared.cmp.Ordering.TheVariants.{Less}
@@ -13,7 +14,7 @@ use Rattle.std.proofs.lemmas.List.{append_assoc, append-nil}
 use Rattle.std.proofs.lemmas.Map.Views.{Contains-from_any, list_any-from_Contains}
 use Rattle.ring_versions.specs.declared.version.Version.{Version}
 use Rattle.store_maps.specs.declared.key_tree.KeyTree.{KeyTree}
-use Rattle.store_maps.specs.Trees.{kept}
+use Rattle.store_maps.specs.Trees.{kept, tree_entry}
 use Rattle.store_maps.specs.Held.{AreKeys}
 use Rattle.ring_names.specs.AtBytes.{value_in}
 use Rattle.ring_names.proofs.AtBytes.{same_bytes, bytes_same}
@@ -23,17 +24,26 @@ use Rattle.store_maps.proofs.EntriesLeft.{later_in}
 use Rattle.ring_names.proofs.Logic.{or_swapped}
 use Rattle.std.proofs.lemmas.Bool.{or_right}
 
--- ---- a copy
+-- ---- all that a tree has, put over another
 
--- what is copied so far, with some entries left
-abbrev pub Copying : {A : Type 0} → KeyTree → KeyTree → List (Vec ℕ A × List Version) → Type 0
-Copying from copy rest = (k : List ℕ) → value_in rest k ≡ None → value_in (entries_of copy.entries) k ≡ value_in (entries_of from.entries) k
+-- what was put so far, with some entries left
+pub record Putting {A : Type 0} (from old now : KeyTree) (rest : List (Vec ℕ A × List Version)) : Type 0 where
+  pub done : (k : List ℕ) → value_in rest k ≡ None → tree_entry now k ≡ option_or (tree_entry from k) (tree_entry old k)
+  pub others : (k : List ℕ) → tree_entry from k ≡ None → tree_entry now k ≡ tree_entry old k
 
-pub copying_more : {A : Type 0} (from copy more : KeyTree) (rest later : List (Vec ℕ A × List Version)) (key : Vec ℕ A) (v : List Version)
-    → rest ≡ (key, v) ∷ later → value_in (entries_of from.entries) key.items ≡ Some v → PutsAt (entries_of copy.entries) (entries_of more.entries) key.items v → Copying from copy rest → Copying from more later
-copying_more from copy more rest later key v is at put s = by_bytes key.items (λ (k : List ℕ). value_in later k ≡ None → value_in (entries_of more.entries) k ≡ value_in (entries_of from.entries) k)
-    (λ none. put.here ∙ sym at)
-    (λ k e none. put.others k e ∙ s k (later_in key v rest later is k e ∙ none))
+pub putting_none : (from old : KeyTree) → Putting from old old (entries_of from.entries)
+putting_none from old = record { done = λ k none. rw none refl; others = λ k none. refl }
+
+pub putting_more : {A : Type 0} (from old now more : KeyTree) (rest later : List (Vec ℕ A × List Version)) (key : Vec ℕ A) (v : List Version)
+    → rest ≡ (key, v) ∷ later → tree_entry from key.items ≡ Some v → PutsAt (entries_of now.entries) (entries_of more.entries) key.items v → Putting from old now rest → Putting from old more later
+putting_more from old now more rest later key v is at put s = record {
+  done = by_bytes key.items (λ (k : List ℕ). value_in later k ≡ None → tree_entry more k ≡ option_or (tree_entry from k) (tree_entry old k))
+      (λ none. rw at put.here)
+      (λ k e none. put.others k e ∙ s.done k (later_in key v rest later is k e ∙ none));
+  others = by_bytes key.items (λ (k : List ℕ). tree_entry from k ≡ None → tree_entry more k ≡ tree_entry old k)
+      (λ none. absurd cc)
+      (λ k e none. put.others k e ∙ s.others k none);
+}
 
 -- ---- the keys
 

@@ -11,7 +11,7 @@ pub mod EntriesLeft
 pub mod EntryPlaces
 pub mod WholeMaps
 pub mod Slots
-pub mod Sharing
+pub mod Over
 pub mod Members
 pub mod HoldersChanged
 pub mod KeyPlaces

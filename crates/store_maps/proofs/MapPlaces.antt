@@ -1,13 +1,12 @@
 -- The place of a chunk's map, and a map that is made.
 use Rattle.std.proofs.Common.{◌≡◌, ◌≢◌, inl, inr, ◌∙◌, ◌+◌, ℕ, Bool, true, false, cond, suc, List, [], ◌∷◌, ◌++◌, length, refl, sym, ap, subst, Option, Some, None, arith}
-use Rattle.std.specs.Prelude.{◌==◌}
+use Rattle.std.specs.Prelude.{◌==◌, is_some}
 use Rattle.std.proofs.lemmas.Bool.{eqb-true, eq-eqb, cases_eq, false_from_ne_true}
 use Rattle.store_maps.specs.declared.key_map.KeyMap.{KeyMap}
-use Rattle.std.specs.declared.alloc.Global.{Global}
-use Rattle.std.specs.declared.sync.Arc.{Arc}
-use Rattle.store_maps.specs.declared.key_tree.KeyTree.{KeyTree}
-use Rattle.store_maps.specs.Held.{tree_of, read_of, own_entry, has_place, has_room}
-use Rattle.store_maps.specs.Trees.{has_entry}
+use Rattle.std.specs.Option.{option_or}
+use Rattle.ring_versions.specs.declared.version.Version.{Version}
+use Rattle.store_maps.specs.Held.{map_entry, below, has_place, has_room}
+use Rattle.store_maps.specs.Trees.{tree_entry}
 use Rattle.store_maps.specs.Chunks.{map_in, place_in, ArePlaced, IsBare, IsMapAt}
 
 -- ---- a look, map after map
@@ -75,9 +74,9 @@ placed_pushed q c false es fs news m same is none bare placed = subst (ArePlaced
 
 -- a key without a place has no room
 pub no_room : (m : KeyMap) (k : List ℕ) → has_place m k ≡ false → has_room m k ≡ false
-unfolding tree_of
-no_room m k h = by m.shared h
+unfolding map_entry
+no_room m k h = by (tree_entry m.own k) (below m.shared k) h
   where
-    by : (o : Option (Arc KeyTree Global)) → has_entry (read_of o m.own) k ≡ false → own_entry o m.own k ≡ false
-    by None e = e
-    by (Some shared) e = refl
+    by : (p b : Option (List Version)) → is_some (option_or p b) ≡ false → is_some p ≡ false
+    by None b e = refl
+    by (Some v) b e = e

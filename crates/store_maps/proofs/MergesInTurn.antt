@@ -22,6 +22,14 @@ merge_first b apart = record {
   apart = apart;
 }
 
+-- what was held comes to what came
+pub merge_turned : (a b c : List Version) → IsMerge a b c → IsMerge b a c
+merge_turned a b c m = record {
+  drawn = λ v h. elim (m.drawn v h) [ inl old ↦ inr old | inr new ↦ inl new ];
+  covers = λ k. (λ h. elim ((m.covers k).0 h) [ inl old ↦ inr old | inr new ↦ inl new ], λ h. (m.covers k).1 (elim h [ inl new ↦ inr new | inr old ↦ inl old ]));
+  apart = m.apart;
+}
+
 -- b comes, and then d: in all f, which has both and covers no more
 pub merge_again : (a b c d e f : List Version) → ((v : Version) → IsIn v b → IsIn v f) → ((v : Version) → IsIn v d → IsIn v f)
     → ((k : List Entry) → Covers f k → Covers b k ⊎ Covers d k) → IsMerge a b c → IsMerge c d e → IsMerge a f e

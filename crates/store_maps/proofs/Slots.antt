@@ -1,20 +1,17 @@
 -- The maps of a slot's chunks, one after the other.
 use Rattle.std.proofs.Common.{◌≡◌, ◌∙◌, ℕ, Bool, true, false, cond, List, [], ◌∷◌, ◌++◌, length, refl, sym, ap, subst, Option, Some, None, arith}
-use Rattle.std.specs.Prelude.{◌==◌, unwrap_or}
+use Rattle.std.specs.Prelude.{◌==◌}
 use Rattle.std.proofs.lemmas.List.{append_assoc, append-nil}
-use Rattle.ring_versions.specs.declared.version.Version.{Version}
 use Rattle.store_maps.specs.declared.key_map.KeyMap.{KeyMap}
 use Rattle.store_maps.specs.Chunks.{chunk_of, held_of, map_in, place_in}
 use Rattle.store_maps.specs.Slots.{held_for, has_place_for}
 use Rattle.store_maps.specs.declared.slot_map.SlotMap.{SlotMap}
-use Rattle.store_maps.specs.Entries.{entries_of}
-use Rattle.store_maps.specs.Held.{tree_of, held, has_place}
-use Rattle.ring_names.specs.AtBytes.{value_in}
-use Rattle.store_maps.proofs.OneAnswer.{none_from_empty}
+use Rattle.store_maps.specs.Held.{held, has_place}
+use Rattle.store_maps.proofs.Chunks.{no_place}
 
 pub bare_held : (o : Option KeyMap) (k : List ℕ) → place_in o k ≡ false → held_of o k ≡ []
 bare_held None k h = refl
-bare_held (Some m) k h = ap (λ (v : Option (List Version)). unwrap_or v []) (none_from_empty (value_in (entries_of (tree_of m).entries) k) h)
+bare_held (Some m) k h = no_place m k h
 
 -- a key without a place has no versions
 pub bare_held_for : (a : SlotMap) (k : List ℕ) → has_place_for a k ≡ false → held_for a k ≡ []

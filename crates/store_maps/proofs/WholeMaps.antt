@@ -72,6 +72,7 @@ pub record Preparing {A : Type 0} (old now other : KeyTree) (keys : FreshKeys) (
   pub stays : (k : List ℕ) → has_entry old k ≡ true → has_entry now k ≡ true
   pub only : (k : List ℕ) → has_entry now k ≡ true → (has_entry old k ≡ true) ⊎ (has_entry other k ≡ true)
   pub drawn : (k : List ℕ) → has_fresh keys k ≡ true → has_entry other k ≡ true
+  pub made : (k : List ℕ) → value_in rest k ≡ None → has_entry other k ≡ true → has_entry now k ≡ true
   pub ready : (k : List ℕ) → MatchOption (value_at keys.map k) (value_in rest k ≡ None → IsMerge (kept old k) (kept other k) (kept old k))
       (λ x. (has_entry now k ≡ true) × IsFreshFor (kept old k) (kept other k) x)
 
@@ -81,6 +82,7 @@ preparing_none old other keys none = record {
   stays = λ k h. h;
   only = λ k h. inl h;
   drawn = λ k h. absurd (let e = none k in cc);
+  made = λ k e there. absurd (let gone = ap is_some e in cc);
   ready = λ k. none_to (value_at keys.map k) _ _ (none k) (λ e.
       subst (λ (more : List Version). IsMerge (kept old k) more (kept old k)) (sym (none_at (entries_of other.entries) k e)) (merge_none (kept old k) (old.apart k)));
 }
@@ -88,7 +90,7 @@ preparing_none old other keys none = record {
 module _ {A : Type 0} (old now new other : KeyTree) (keys : FreshKeys) (rest later : List (Vec ℕ A × List Version)) (key : Vec ℕ A) (v : List Version) (x : Fresh)
     (is : rest ≡ (key, v) ∷ later) (at : value_in (entries_of other.entries) key.items ≡ Some v) (same : (k : List ℕ) → kept new k ≡ kept now k)
     (stays : (k : List ℕ) → has_entry now k ≡ true → has_entry new k ≡ true) (only : (k : List ℕ) → has_entry new k ≡ true → (has_entry now k ≡ true) ⊎ (k ≡ key.items))
-    (fresh : IsFreshFor (kept now key.items) v x) (s : Preparing old now other keys rest) where
+    (fresh : IsFreshFor (kept now key.items) v x) (ready : IsReadyIn new key.items x) (s : Preparing old now other keys rest) where
   its_fresh : IsFreshFor (kept old key.items) (kept other key.items) x
   its_fresh = subst (λ (was : List Version). IsFreshFor was (kept other key.items) x) (s.same key.items) (subst (λ (comes : List Version). IsFreshFor (kept now key.items) comes x) (sym (more_at (entries_of other.entries) key.items v at)) fresh)
 
@@ -97,6 +99,9 @@ module _ {A : Type 0} (old now new other : KeyTree) (keys : FreshKeys) (rest lat
 
   places : (k : List ℕ) → has_entry new k ≡ true → (has_entry old k ≡ true) ⊎ (has_entry other k ≡ true)
   places k h = elim (only k h) [ inl was ↦ s.only k was | inr is ↦ inr (subst (λ (j : List ℕ). has_entry other j ≡ true) (sym is) comes) ]
+
+  made_more : (k : List ℕ) → value_in later k ≡ None → has_entry other k ≡ true → has_entry new k ≡ true
+  made_more = by_bytes key.items (λ (k : List ℕ). value_in later k ≡ None → has_entry other k ≡ true → has_entry new k ≡ true) (λ _ there. ready.0) (λ k e none there. stays k (s.made k (later_in key v rest later is k e ∙ none) there))
 
   on_later : (k : List ℕ) → bytes_eq key.items k ≡ false → MatchOption (value_at keys.map k) (value_in later k ≡ None → IsMerge (kept old k) (kept other k) (kept old k))
       (λ x. (has_entry new k ≡ true) × IsFreshFor (kept old k) (kept other k) x)
@@ -109,6 +114,7 @@ module _ {A : Type 0} (old now new other : KeyTree) (keys : FreshKeys) (rest lat
     stays = λ k h. stays k (s.stays k h);
     only = places;
     drawn = s.drawn;
+    made = made_more;
     ready = by_bytes key.items (λ (k : List ℕ). MatchOption (value_at keys.map k) (value_in later k ≡ None → IsMerge (kept old k) (kept other k) (kept old k))
         (λ x. (has_entry new k ≡ true) × IsFreshFor (kept old k) (kept other k) x))
         (on_option (value_at keys.map key.items) _ _ _ _ (λ f none_left. merge_with_none (kept old key.items) (kept other key.items) x (old.apart key.items) none its_fresh) (λ x h. (stays key.items h.0, h.1)) (s.ready key.items))
@@ -116,11 +122,12 @@ module _ {A : Type 0} (old now new other : KeyTree) (keys : FreshKeys) (rest lat
   }
 
   -- this comes to the key
-  pub preparing_more : (more : FreshKeys) → IsReadyIn new key.items x → Puts keys.map more.map key.items x → Preparing old new other more later
-  preparing_more more ready put = record {
+  pub preparing_more : (more : FreshKeys) → Puts keys.map more.map key.items x → Preparing old new other more later
+  preparing_more more put = record {
     same = λ k. same k ∙ s.same k;
     stays = λ k h. stays k (s.stays k h);
     only = places;
+    made = made_more;
     drawn = by_bytes key.items (λ (k : List ℕ). has_fresh more k ≡ true → has_entry other k ≡ true) (λ h. comes) (λ k e h. s.drawn k (sym (ap is_some (put.others k e)) ∙ h));
     ready = by_bytes key.items (λ (k : List ℕ). MatchOption (value_at more.map k) (value_in later k ≡ None → IsMerge (kept old k) (kept other k) (kept old k))
         (λ x. (has_entry new k ≡ true) × IsFreshFor (kept old k) (kept other k) x))

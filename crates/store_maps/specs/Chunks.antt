@@ -34,7 +34,7 @@ abbrev pub place_in : Option KeyMap → List ℕ → Bool
 place_in None k = false
 place_in (Some m) k = has_place m k
 
--- whether the key has a place in the map, if there is a map and it shares nothing
+-- whether the key has a place in the map's own tree, if there is a map
 abbrev pub room_in : Option KeyMap → List ℕ → Bool
 room_in None k = false
 room_in (Some m) k = has_room m k

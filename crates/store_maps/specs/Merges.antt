@@ -37,7 +37,7 @@ AreFreshFor held more f = (k : List ℕ) → MatchOption (fresh_at f k) (IsMerge
 abbrev pub AreReadyIn : KeyTree → FreshKeys → Type 0
 AreReadyIn a f = (k : List ℕ) → IfSome (fresh_at f k) (IsReadyIn a k)
 
--- each key of f has a place in a map that shares nothing, and what f has for it was made for its versions
+-- each key of f has a place in the map's own tree, and what f has for it was made for its versions
 abbrev pub AreReady : KeyMap → FreshKeys → Type 0
 AreReady a f = (k : List ℕ) → IfSome (fresh_at f k) (IsReady a k)
 

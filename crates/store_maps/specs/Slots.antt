@@ -21,19 +21,19 @@ held_for a k = held_of (map_in a.chunks.items (chunk_of a.q k)) k
 unfoldable pub has_place_for : SlotMap → List ℕ → Bool
 has_place_for a k = place_in (map_in a.chunks.items (chunk_of a.q k)) k
 
--- whether the key has a place in its chunk's map, and that map shares nothing
+-- whether the key has a place in the own tree of its chunk's map
 unfoldable pub has_room_for : SlotMap → List ℕ → Bool
 has_room_for a k = room_in (map_in a.chunks.items (chunk_of a.q k)) k
 
--- the key has a place in a map that shares nothing, and f was made for its versions
+-- the key has a place in the own tree of its chunk's map, and f was made for its versions
 abbrev pub IsReadyFor : SlotMap → List ℕ → Fresh → Type 0
 IsReadyFor a k f = (has_room_for a k ≡ true) × FitsIn (held_for a k) f
 
--- each key of f lies in the chunk and has a place in a map that shares nothing, and what f has for it was made for its versions
+-- each key of f lies in the chunk and has a place in its map's own tree, and what f has for it was made for its versions
 abbrev pub AreReadyFor : SlotMap → ℕ → FreshKeys → Type 0
 AreReadyFor a c f = (k : List ℕ) → IfSome (fresh_at f k) (λ x. (chunk_of a.q k ≡ c) × IsReadyFor a k x)
 
--- each key that f has in a chunk lies in that chunk and has a place in a map that shares nothing, and what f has for it was made for its versions
+-- each key that f has in a chunk lies in that chunk and has a place in its map's own tree, and what f has for it was made for its versions
 abbrev pub AllReadyFor : SlotMap → FreshMaps → Type 0
 AllReadyFor a f = (c : ℕ) (k : List ℕ) → IfSome (fresh_in f c k) (λ x. (chunk_of a.q k ≡ c) × IsReadyFor a k x)
 

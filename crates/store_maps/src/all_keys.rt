@@ -28,6 +28,7 @@ impl KeyTree {
         ensures stays { (k : List ℕ) → has_entry self.old k ≡ true → has_entry self.new k ≡ true }
         ensures only { (k : List ℕ) → has_entry self.new k ≡ true
             → (has_entry self.old k ≡ true) ⊎ (has_entry other.now k ≡ true) }
+        ensures made { OnOk result ((k : List ℕ) → has_entry other.now k ≡ true → has_entry self.new k ≡ true) }
         ensures keys { IfOk result (λ f. (k : List ℕ) → has_fresh f k ≡ true → has_entry other.now k ≡ true) }
         ensures ok { IfOk result (λ f. AreFreshFor (kept self.old) (kept other.now) f) }
         ensures ready { IfOk result (λ f. AreReadyIn self.new f) }

@@ -107,6 +107,14 @@ impl Entries {
         }
     }
 
+    // How many there are: a guide, of which nothing is promised.
+    pub(crate) fn len(&self) -> usize {
+        match self {
+            Entries::Few(list) => list.len(),
+            Entries::Many(tree) => tree.len(),
+        }
+    }
+
     // The versions at the key, if it is there.
     pub(crate) fn get(&self, key: &[u8]) -> Option<&Versions>
         requires { IsInOrder self.now }

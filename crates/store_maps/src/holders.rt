@@ -1,5 +1,6 @@
 //! Which nodes have something of which keys.
 
+use crate::key_map::KeyMap;
 use crate::key_tree::KeyTree;
 use crate::slot_map::SlotMap;
 use ring_names::{NodeId, Refusal};
@@ -20,6 +21,7 @@ impl Holders {
     ghost use Rattle.std.specs.Str.{bytes_eq};
     ghost use Rattle.ring_names.specs.declared.refusal.Refusal.TheVariants.{OutOfMemory};
     ghost use Rattle.ring_names.specs.AtBytes.{value_at, Puts};
+    ghost use Rattle.store_maps.specs.Held.{map_entry, has_place};
     ghost use Rattle.store_maps.specs.Holders.{holders_at, holds};
     ghost use Rattle.store_maps.specs.Slots.{has_place_for};
     ghost use Rattle.store_maps.specs.Trees.{has_entry};
@@ -105,6 +107,19 @@ impl Holders {
         }
     }
 
+    // The node is none of those of the map's keys from here on.
+    #[tactic(auto, unfolding(crate::specs::Held::map_entry))]
+    fn forget_map(&mut self, node: NodeId, map: &KeyMap)
+        ensures others { (k : List ℕ) (x : ℕ) → x ≢ node.0 → holds self.new k x ≡ holds self.old k x }
+        ensures gone { (k : List ℕ) → has_place map.now k ≡ true → holds self.new k node.0 ≡ false }
+        ensures stays { (k : List ℕ) → has_place map.now k ≡ false → holds self.new k node.0 ≡ holds self.old k node.0 }
+    {
+        self.forget_keys(node, &map.own);
+        if let Some(shared) = &map.shared {
+            self.forget_keys(node, shared);
+        }
+    }
+
     /// The node is none of those of the slot's keys from here on. Takes no memory, and costs a look-up for each of these keys.
     pub fn forget(&mut self, node: NodeId, map: &SlotMap)
         ensures others { (k : List ℕ) (x : ℕ) → x ≢ node.0 → holds self.new k x ≡ holds self.old k x }
@@ -113,7 +128,7 @@ impl Holders {
             → holds self.new k node.0 ≡ holds self.old k node.0 }
     {
         'chunks: for chunk in 0..16u32 {
-            self.forget_keys(node, map.chunk(chunk).tree());
+            self.forget_map(node, map.chunk(chunk));
         }
     }
 }

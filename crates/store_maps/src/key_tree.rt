@@ -18,18 +18,18 @@ pub struct KeyTree {
 }
 
 impl KeyTree {
-    ghost use Rattle.std.specs.Prelude.{◌≡◌, ◌⊎◌, ℕ, true, false, [], List, IfOk, IfErr, OnOk, OnErr};
+    ghost use Rattle.std.specs.Prelude.{◌≡◌, ◌⊎◌, ℕ, true, List, None, IfOk, IfErr, OnOk, OnErr};
+    ghost use Rattle.std.specs.Option.{option_or};
     ghost use Rattle.ring_names.specs.declared.refusal.Refusal.TheVariants.{OutOfMemory};
     ghost use Rattle.ring_versions.specs.Versions.{IsApart};
     ghost use Rattle.store_maps.specs.Entries.{PutsAt};
     ghost use Rattle.store_maps.specs.Held.{AreKeys};
-    ghost use Rattle.store_maps.specs.Trees.{kept, has_entry};
+    ghost use Rattle.store_maps.specs.Trees.{tree_entry, kept, has_entry};
     ghost use Rattle.ring_names.specs.AtBytes.{value_in};
 
     /// No versions.
     pub fn new(alloc: Global) -> KeyTree
-        ensures versions { (k : List ℕ) → kept result k ≡ [] }
-        ensures places { (k : List ℕ) → has_entry result k ≡ false }
+        ensures { (k : List ℕ) → tree_entry result k ≡ None }
     {
         KeyTree {
             alloc,
@@ -52,17 +52,32 @@ impl KeyTree {
         Ok(keys)
     }
 
-    /// The same tree once more: every key reads the same, and has a place where it has one here.
+    /// The same tree once more.
     pub fn try_copy(&self) -> Result<KeyTree, Refusal>
-        ensures same { IfOk result (λ m. (k : List ℕ) → kept m k ≡ kept self.now k) }
-        ensures places { IfOk result (λ m. (k : List ℕ) → has_entry m k ≡ has_entry self.now k) }
+        ensures same { IfOk result (λ t. (k : List ℕ) → tree_entry t k ≡ tree_entry self.now k) }
         ensures memory { IfErr result (λ e. e ≡ OutOfMemory) }
     {
         let mut copy = KeyTree::new(self.alloc);
-        'keys: for (key, versions) in self.entries.walk() {
-            copy.put(key.as_slice(), versions.try_copy()?)?;
-        }
+        copy.put_all(self)?;
         Ok(copy)
+    }
+
+    /// All that the other has, in place of what its keys had. Refused, some of its keys may have it already.
+    pub fn put_all(&mut self, other: &KeyTree) -> Result<(), Refusal>
+        ensures ok { OnOk result ((k : List ℕ)
+            → tree_entry self.new k ≡ option_or (tree_entry other.now k) (tree_entry self.old k)) }
+        ensures others { (k : List ℕ) → tree_entry other.now k ≡ None → tree_entry self.new k ≡ tree_entry self.old k }
+        ensures memory { IfErr result (λ e. e ≡ OutOfMemory) }
+    {
+        'keys: for (key, versions) in other.entries.walk() {
+            self.put(key.as_slice(), versions.try_copy()?)?;
+        }
+        Ok(())
+    }
+
+    /// How many keys have places: a guide, of which nothing is promised.
+    pub fn len(&self) -> usize {
+        self.entries.len()
     }
 
     // The versions at the key, in place of what it had.

@@ -1,7 +1,5 @@
-use Rattle.std.proofs.Common.{◌∙◌, ap}
 use Rattle.store_maps.specs.Holders.{holds}
 use Rattle.store_maps.specs.Slots.{space_of}
-use Rattle.store_maps.specs.Trees.{has_entry}
 use Rattle.store_maps.proofs.HoldersChanged.{chunks_none, chunks_more, chunk_within}
 use Rattle.store_maps.proofs.holders.Holders.forget.Goals as goal
 
@@ -10,9 +8,8 @@ chunks-init c = chunks_none c.args.node.0 (holds c.args.self.now) c.args.map.now
 
 pub chunks-preserved : goal.chunks-preserved
 chunks-preserved c =
-    chunks_more c.args.node.0 (holds c.args.self.now) (holds c.chunks.self) (holds c.forget_keys.new.self) c.args.map.now c.chunks.chunk c.chunk.result.now
-    c.chunk.ensures.places c.forget_keys.ensures.others
-    (λ k h. c.forget_keys.ensures.gone k (ap (λ t. has_entry t k) c.tree.ensures ∙ h)) (λ k h. c.forget_keys.ensures.stays k (ap (λ t. has_entry t k) c.tree.ensures ∙ h)) c.chunk.ensures.lies c.chunks.invariant
+    chunks_more c.args.node.0 (holds c.args.self.now) (holds c.chunks.self) (holds c.forget_map.new.self) c.args.map.now c.chunks.chunk c.chunk.result.now
+    c.chunk.ensures.places c.forget_map.ensures.others c.forget_map.ensures.gone c.forget_map.ensures.stays c.chunk.ensures.lies c.chunks.invariant
 
 pub returns-clause-others : goal.returns-clause-others
 returns-clause-others c = c.chunks.invariant.others

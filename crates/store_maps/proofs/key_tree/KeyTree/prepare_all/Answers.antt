@@ -1,7 +1,7 @@
 use Rattle.std.proofs.Common.{ap, ◌∙◌, ◌≡◌, ◌⊎◌, true, ℕ, List, sym, subst}
 use Rattle.ring_versions.specs.Fresh.{IsFreshFor}
 use Rattle.store_maps.specs.Trees.{kept, has_entry, IsReadyIn}
-use Rattle.ring_names.specs.AtBytes.{Puts}
+use Rattle.ring_names.specs.AtBytes.{Puts, value_in}
 use Rattle.store_maps.specs.Entries.{entries_of, left_of}
 use Rattle.store_maps.proofs.EntriesLeft.{found}
 use Rattle.store_maps.proofs.WholeMaps.{Preparing, preparing_none, preparing_same, preparing_more, more_places, prepared_fresh, prepared_ready}
@@ -20,7 +20,7 @@ keys-preserved-in-Continue-branch-2 c =
     let only = subst (λ (bs : List ℕ). (k : List ℕ) → has_entry c.prepare.new.self k ≡ true → (has_entry c.keys.self k ≡ true) ⊎ (k ≡ bs)) bytes (c.in_ok-fresh.ensures).only in
     let ready = subst (λ (bs : List ℕ). IsReadyIn c.prepare.new.self bs x) bytes (c.in_ok-fresh.ensures).ready in
     let put = subst (λ (bs : List ℕ). Puts c.keys.keys.map c.put.new.self.map bs x) c.as_slice-then-not-is_empty.ensures.value (c.in_ok-put.ensures).ok in
-    preparing_more c.args.self.now c.keys.self c.prepare.new.self c.args.other.now c.keys.keys (left_of c.keys.key-iterator) (left_of c.next.new.self) c.in-Some.key.now c.in-Some.versions.now x (c.in-Some.ensures).steps at (c.in_ok-fresh.ensures).same (c.in_ok-fresh.ensures).stays only fresh c.keys.invariant c.put.new.self ready put
+    preparing_more c.args.self.now c.keys.self c.prepare.new.self c.args.other.now c.keys.keys (left_of c.keys.key-iterator) (left_of c.next.new.self) c.in-Some.key.now c.in-Some.versions.now x (c.in-Some.ensures).steps at (c.in_ok-fresh.ensures).same (c.in_ok-fresh.ensures).stays only fresh ready c.keys.invariant c.put.new.self put
 
 pub keys-preserved : goal.keys-preserved
 keys-preserved c =
@@ -30,10 +30,14 @@ keys-preserved c =
     let bytes = c.as_slice.ensures.value in
     let fresh = subst (λ (bs : List ℕ). IsFreshFor (kept c.keys.self bs) c.in-Some.versions.now x) bytes (c.in_ok-fresh.ensures).ok in
     let only = subst (λ (bs : List ℕ). (k : List ℕ) → has_entry c.prepare.new.self k ≡ true → (has_entry c.keys.self k ≡ true) ⊎ (k ≡ bs)) bytes (c.in_ok-fresh.ensures).only in
-    preparing_same c.args.self.now c.keys.self c.prepare.new.self c.args.other.now c.keys.keys (left_of c.keys.key-iterator) (left_of c.next.new.self) c.in-Some.key.now c.in-Some.versions.now x (c.in-Some.ensures).steps at (c.in_ok-fresh.ensures).same (c.in_ok-fresh.ensures).stays only fresh c.keys.invariant (c.is_empty.ensures.0 c.if-not-is_empty.false)
+    let ready = subst (λ (bs : List ℕ). IsReadyIn c.prepare.new.self bs x) bytes (c.in_ok-fresh.ensures).ready in
+    preparing_same c.args.self.now c.keys.self c.prepare.new.self c.args.other.now c.keys.keys (left_of c.keys.key-iterator) (left_of c.next.new.self) c.in-Some.key.now c.in-Some.versions.now x (c.in-Some.ensures).steps at (c.in_ok-fresh.ensures).same (c.in_ok-fresh.ensures).stays only fresh ready c.keys.invariant (c.is_empty.ensures.0 c.if-not-is_empty.false)
 
 pub returns-clause-ok : goal.returns-clause-ok
 returns-clause-ok c = prepared_fresh c.args.self.now c.keys.self c.args.other.now c.keys.keys (left_of c.keys.key-iterator) (c.in-None.ensures).steps.0 c.keys.invariant
+
+pub returns-clause-made : goal.returns-clause-made
+returns-clause-made c k = c.keys.invariant.made k (ap (λ es. value_in es k) (c.in-None.ensures).steps.0)
 
 pub returns-clause-ready : goal.returns-clause-ready
 returns-clause-ready c = prepared_ready c.args.self.now c.keys.self c.args.other.now c.keys.keys (left_of c.keys.key-iterator) c.keys.invariant
