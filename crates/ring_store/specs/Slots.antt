@@ -17,7 +17,7 @@ same_slot a b = ((slot_eq.ghosts).eq) a b
 abbrev pub maps_of : {S : Type 0} → HashMap Slot SlotMap S → Slot → Option SlotMap
 maps_of slots s = map.get ((slot_eq.ghosts).eq) slots s
 
--- whether the key has a place in a map that shares nothing, if there are maps
+-- whether the key has a place in the own tree of its map, if there are maps
 abbrev pub placed_by : Option SlotMap → List ℕ → Bool
 placed_by None k = false
 placed_by (Some m) k = has_room_for m k

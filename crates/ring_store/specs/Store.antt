@@ -23,7 +23,7 @@ versions_at a s k = held_by (maps_of a.slots s) k
 abbrev pub chunk_versions : NodeStore → Slot → ℕ → List ℕ → List Version
 chunk_versions a s c k = if chunk_of a.q k == c then versions_at a s k else []
 
--- whether the key has a place in the slot, be it empty, in a map that shares nothing
+-- whether the key has a place in the slot, be it empty, in the own tree of its map
 abbrev pub has_place_at : NodeStore → Slot → List ℕ → Bool
 has_place_at a s k = placed_by (maps_of a.slots s) k
 

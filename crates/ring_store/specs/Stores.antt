@@ -26,7 +26,7 @@ held_at a x s k = stored_in (slice_get a.list.items x) s k
 abbrev pub chunk_held_at : Stores → ℕ → Slot → ℕ → List ℕ → List Version
 chunk_held_at a x s c k = if chunk_of a.q k == c then held_at a x s k else []
 
--- whether the key has a place in the slot at the node, be it empty, in a map that shares nothing
+-- whether the key has a place in the slot at the node, be it empty, in the own tree of its map
 abbrev pub has_place_on : Stores → ℕ → Slot → List ℕ → Bool
 has_place_on a x s k = has_place_in (slice_get a.list.items x) s k
 

@@ -180,8 +180,8 @@ impl Stores {
     }
 
     /// Merges what one node has of a chunk of the slot into what another has of it, as it stands. Refused, it has changed no reading.
-    /// Costs one block where the other has no key of the chunk, whatever there is of it: both share the map then, and it is copied by the
-    /// first write of either; else what `KeyMap::take_in` does.
+    /// Costs what `KeyMap::share` and `KeyMap::take_in` do: where the other has no key of the chunk, both share the map then, and the first
+    /// write of a key by either copies that key.
     pub fn copy_chunk(
         &mut self,
         from: NodeId,

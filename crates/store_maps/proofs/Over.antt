@@ -1,5 +1,5 @@
 -- What a map has for a key, by what its own tree and what it shares have for it.
-use Rattle.std.proofs.Common.{◌≡◌, ◌⊎◌, inl, inr, ◌∙◌, ℕ, true, false, cond, List, [], ◌∷◌, refl, sym, ap, subst, Option, Some, None}
+use Rattle.std.proofs.Common.{◌≡◌, ◌⊎◌, inl, inr, ◌∙◌, ℕ, true, false, cond, List, [], refl, sym, ap, subst, Option, Some, None}
 use Rattle.std.specs.Arc.{arc_value}
 use Rattle.std.specs.Option.{option_or}
 use Rattle.std.specs.Prelude.{is_some, unwrap_or, MatchOption}
@@ -7,23 +7,19 @@ use Rattle.std.specs.declared.alloc.Global.{Global}
 use Rattle.std.specs.declared.sync.Arc.{Arc}
 use Rattle.std.specs.Str.{bytes_eq}
 use Rattle.std.proofs.lemmas.Bool.{cases_Bool, false_from_ne_true}
-use Rattle.std.specs.declared.vec.Vec.{Vec}
-use Rattle.ring_names.specs.AtBytes.{value_in}
 use Rattle.ring_names.proofs.AtBytes.{same_bytes}
 use Rattle.ring_versions.specs.Fresh.{IsFreshFor}
 use Rattle.ring_versions.specs.Versions.{IsApart, IsMerge}
 use Rattle.ring_versions.specs.declared.version.Version.{Version}
 use Rattle.store_maps.specs.Held.{map_entry, below, held, has_place, has_room}
-use Rattle.store_maps.specs.Merges.{MergesAll, at_key, fresh_at, has_fresh, AreFreshFor, AreReady}
+use Rattle.store_maps.specs.Merges.{MergesAll, at_key, fresh_at, AreFreshFor, AreReady}
 use Rattle.store_maps.specs.Trees.{tree_entry, kept, has_entry}
 use Rattle.store_maps.specs.declared.fresh_keys.FreshKeys.{FreshKeys}
 use Rattle.store_maps.specs.declared.key_map.KeyMap.{KeyMap}
 use Rattle.store_maps.specs.declared.key_tree.KeyTree.{KeyTree}
-use Rattle.store_maps.specs.Entries.{entries_of}
 use Rattle.store_maps.proofs.AtBytes.{by_bytes}
-use Rattle.store_maps.proofs.EntriesLeft.{later_in}
 use Rattle.store_maps.proofs.MergesInTurn.{merge_none}
-use Rattle.store_maps.proofs.OneAnswer.{none_from_empty, at_none, none_to, none_where}
+use Rattle.store_maps.proofs.OneAnswer.{at_none, none_to, none_where}
 use Rattle.store_maps.proofs.Puts.{at_other}
 
 -- what one tree or the other has is apart
@@ -49,15 +45,6 @@ module _ (p b : Option (List Version)) where
       by : (p : Option (List Version)) → is_some p ≡ true → option_or p b ≡ p
       by (Some v) h = refl
       by None h = absurd cc
-
-  -- what was brought up is read
-  pub brought : (is_some (option_or p b) ≡ true → is_some p ≡ true) → option_or p b ≡ p
-  brought = by p b
-    where
-      by : (p b : Option (List Version)) → (is_some (option_or p b) ≡ true → is_some p ≡ true) → option_or p b ≡ p
-      by (Some v) b up = refl
-      by None None up = refl
-      by None (Some v) up = absurd (let none = up refl in cc)
 
   -- what holds of a value that is written in the own tree, or else stays below
   pub by_place : (R : List Version → List Version → Type 0) (q : Option (List Version)) → is_some q ≡ is_some p → (is_some p ≡ true → R (unwrap_or p []) (unwrap_or q [])) → (is_some p ≡ false → R (unwrap_or (option_or p b) []) (unwrap_or (option_or p b) []))
@@ -138,41 +125,9 @@ module _ (a : KeyMap) (new : KeyTree) (f : FreshKeys) (ready : AreReady a f) (pl
       (λ here. subst (λ (v : List Version). IsMerge (kept a.own k) v (kept new k)) (ap (λ b. cond b (more k) []) here) (merged comes own_fresh k))
       (λ none. at_none (fresh_at f k) _ _ (nothing k none) (fresh k))
 
--- what comes of a tree whose keys were brought up
-pub fresh_brought : (a b : KeyMap) (t : KeyTree) (f : FreshKeys) → ((k : List ℕ) → map_entry b k ≡ map_entry a k) → ((k : List ℕ) → has_entry t k ≡ true → has_place b k ≡ true → has_room b k ≡ true)
-    → ((k : List ℕ) → has_fresh f k ≡ true → has_entry t k ≡ true) → AreFreshFor (kept b.own) (kept t) f → AreFreshFor (held a) (kept t) f
-unfolding map_entry
-fresh_brought a b t f same up drawn are k = elim (cases_Bool (has_entry t k)) [
-  | inl here ↦ subst (λ (o : Option (List Version)). MatchOption (fresh_at f k) (IsMerge (unwrap_or o []) (kept t k) (unwrap_or o [])) (IsFreshFor (unwrap_or o []) (kept t k))) (sym (brought (tree_entry b.own k) (below b.shared k) (up k here)) ∙ same k) (are k)
-  | inr none ↦ none_to (fresh_at f k) _ _ (none_from_empty (fresh_at f k) (false_from_ne_true (has_fresh f k) (λ h. (let there = drawn k h in cc))))
-      (subst (λ (v : List Version). IsMerge (held a k) v (held a k)) (sym (ap (λ (o : Option (List Version)). unwrap_or o []) (none_from_empty (tree_entry t k) none))) (merge_none (held a k) (map_apart a k)))
-]
-
 -- a merge of two maps that were made one tree each
 pub merged_flat : (a b other : KeyMap) (t new : KeyTree) → b.shared ≡ None → ((k : List ℕ) → map_entry b k ≡ map_entry a k) → ((k : List ℕ) → tree_entry t k ≡ map_entry other k) → MergesAll (kept b.own) (kept t) (kept new)
     → MergesAll (held a) (held other) (λ k. unwrap_or (option_or (tree_entry new k) (below b.shared k)) [])
 unfolding map_entry
 merged_flat a b other t new alone same whole merged k =
     rw (sym (same k), sym (whole k), read_alone b.shared (tree_entry b.own k) k alone, read_alone b.shared (tree_entry new k) k alone) (merged k)
-
--- ---- keys brought up, entry after entry
-
--- what was brought up so far, with some entries left
-pub record BringingUp {A : Type 0} (old now : KeyMap) (keys : KeyTree) (rest : List (Vec ℕ A × List Version)) : Type 0 where
-  pub same : (k : List ℕ) → map_entry now k ≡ map_entry old k
-  pub rooms : (k : List ℕ) → has_room old k ≡ true → has_room now k ≡ true
-  pub up : (k : List ℕ) → value_in rest k ≡ None → has_entry keys k ≡ true → has_place now k ≡ true → has_room now k ≡ true
-
-pub bringing_none : (old : KeyMap) (keys : KeyTree) → BringingUp old old keys (entries_of keys.entries)
-bringing_none old keys = record { same = λ k. refl; rooms = λ k h. h; up = λ k none there. absurd (let gone = ap is_some none in cc) }
-
-pub bringing_more : {A : Type 0} (old now new : KeyMap) (keys : KeyTree) (rest later : List (Vec ℕ A × List Version)) (key : Vec ℕ A) (v : List Version) → rest ≡ (key, v) ∷ later
-    → ((k : List ℕ) → map_entry new k ≡ map_entry now k) → ((k : List ℕ) → has_room now k ≡ true → has_room new k ≡ true) → (has_place new key.items ≡ true → has_room new key.items ≡ true)
-    → BringingUp old now keys rest → BringingUp old new keys later
-bringing_more old now new keys rest later key v is same rooms up s = record {
-  same = λ k. same k ∙ s.same k;
-  rooms = λ k h. rooms k (s.rooms k h);
-  up = by_bytes key.items (λ (k : List ℕ). value_in later k ≡ None → has_entry keys k ≡ true → has_place new k ≡ true → has_room new k ≡ true)
-      (λ none there. up)
-      (λ k e none there place. rooms k (s.up k (later_in key v rest later is k e ∙ none) there (sym (ap is_some (same k)) ∙ place)));
-}

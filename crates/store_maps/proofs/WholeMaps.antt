@@ -11,15 +11,18 @@ use Rattle.ring_versions.specs.declared.fresh.Fresh.{Fresh}
 use Rattle.ring_versions.specs.declared.version.Version.{Version}
 use Rattle.ring_versions.specs.Versions.{IsMerge}
 use Rattle.store_maps.specs.declared.fresh_keys.FreshKeys.{FreshKeys}
+use Rattle.store_maps.specs.declared.key_map.KeyMap.{KeyMap}
 use Rattle.store_maps.specs.declared.key_tree.KeyTree.{KeyTree}
+use Rattle.store_maps.specs.Held.{held, has_place, has_room, IsReady}
 use Rattle.store_maps.specs.Trees.{kept, has_entry, IsReadyIn}
 use Rattle.ring_names.specs.AtBytes.{value_in, value_at, Puts}
 use Rattle.store_maps.specs.Places.{held_in}
-use Rattle.store_maps.specs.Merges.{MergesAll, at_key, has_fresh, AreFreshFor, AreReadyIn}
+use Rattle.store_maps.specs.Merges.{MergesAll, at_key, has_fresh, AreFreshFor, AreReady, AreReadyIn}
 use Rattle.store_maps.proofs.OneAnswer.{on_option, at_some, at_none, none_to, some_to}
 use Rattle.ring_names.proofs.AtBytes.{same_bytes}
 use Rattle.store_maps.proofs.AtBytes.{by_bytes}
 use Rattle.store_maps.proofs.MergesInTurn.{merge_none, merge_twice, merge_then_none, merge_after_none}
+use Rattle.store_maps.proofs.Over.{map_apart}
 use Rattle.store_maps.proofs.Puts.{at_here, at_other}
 use Rattle.store_maps.specs.Entries.{by_items, entries_of}
 use Rattle.store_maps.proofs.EntriesLeft.{first_in, later_in, none_later}
@@ -67,90 +70,94 @@ merging_more old now new other rest later key v is at merged s =
 -- ---- the first half
 
 -- what was made ready so far, with some entries left
-pub record Preparing {A : Type 0} (old now other : KeyTree) (keys : FreshKeys) (rest : List (Vec ℕ A × List Version)) : Type 0 where
-  pub same : (k : List ℕ) → kept now k ≡ kept old k
-  pub stays : (k : List ℕ) → has_entry old k ≡ true → has_entry now k ≡ true
-  pub only : (k : List ℕ) → has_entry now k ≡ true → (has_entry old k ≡ true) ⊎ (has_entry other k ≡ true)
+pub record Preparing {A : Type 0} (old now : KeyMap) (other : KeyTree) (keys : FreshKeys) (rest : List (Vec ℕ A × List Version)) : Type 0 where
+  pub same : (k : List ℕ) → held now k ≡ held old k
+  pub stays : (k : List ℕ) → has_place old k ≡ true → has_place now k ≡ true
+  pub rooms : (k : List ℕ) → has_room old k ≡ true → has_room now k ≡ true
+  pub only : (k : List ℕ) → has_place now k ≡ true → (has_place old k ≡ true) ⊎ (has_entry other k ≡ true)
   pub drawn : (k : List ℕ) → has_fresh keys k ≡ true → has_entry other k ≡ true
-  pub made : (k : List ℕ) → value_in rest k ≡ None → has_entry other k ≡ true → has_entry now k ≡ true
-  pub ready : (k : List ℕ) → MatchOption (value_at keys.map k) (value_in rest k ≡ None → IsMerge (kept old k) (kept other k) (kept old k))
-      (λ x. (has_entry now k ≡ true) × IsFreshFor (kept old k) (kept other k) x)
+  pub made : (k : List ℕ) → value_in rest k ≡ None → has_entry other k ≡ true → has_place now k ≡ true
+  pub ready : (k : List ℕ) → MatchOption (value_at keys.map k) (value_in rest k ≡ None → IsMerge (held old k) (kept other k) (held old k))
+      (λ x. (has_room now k ≡ true) × IsFreshFor (held old k) (kept other k) x)
 
-pub preparing_none : (old other : KeyTree) (keys : FreshKeys) → ((k : List ℕ) → value_at keys.map k ≡ None) → Preparing old old other keys (entries_of other.entries)
+pub preparing_none : (old : KeyMap) (other : KeyTree) (keys : FreshKeys) → ((k : List ℕ) → value_at keys.map k ≡ None) → Preparing old old other keys (entries_of other.entries)
 preparing_none old other keys none = record {
   same = λ k. refl;
   stays = λ k h. h;
+  rooms = λ k h. h;
   only = λ k h. inl h;
   drawn = λ k h. absurd (let e = none k in cc);
   made = λ k e there. absurd (let gone = ap is_some e in cc);
   ready = λ k. none_to (value_at keys.map k) _ _ (none k) (λ e.
-      subst (λ (more : List Version). IsMerge (kept old k) more (kept old k)) (sym (none_at (entries_of other.entries) k e)) (merge_none (kept old k) (old.apart k)));
+      subst (λ (more : List Version). IsMerge (held old k) more (held old k)) (sym (none_at (entries_of other.entries) k e)) (merge_none (held old k) (map_apart old k)));
 }
 
-module _ {A : Type 0} (old now new other : KeyTree) (keys : FreshKeys) (rest later : List (Vec ℕ A × List Version)) (key : Vec ℕ A) (v : List Version) (x : Fresh)
-    (is : rest ≡ (key, v) ∷ later) (at : value_in (entries_of other.entries) key.items ≡ Some v) (same : (k : List ℕ) → kept new k ≡ kept now k)
-    (stays : (k : List ℕ) → has_entry now k ≡ true → has_entry new k ≡ true) (only : (k : List ℕ) → has_entry new k ≡ true → (has_entry now k ≡ true) ⊎ (k ≡ key.items))
-    (fresh : IsFreshFor (kept now key.items) v x) (ready : IsReadyIn new key.items x) (s : Preparing old now other keys rest) where
-  its_fresh : IsFreshFor (kept old key.items) (kept other key.items) x
-  its_fresh = subst (λ (was : List Version). IsFreshFor was (kept other key.items) x) (s.same key.items) (subst (λ (comes : List Version). IsFreshFor (kept now key.items) comes x) (sym (more_at (entries_of other.entries) key.items v at)) fresh)
+module _ {A : Type 0} (old now new : KeyMap) (other : KeyTree) (keys : FreshKeys) (rest later : List (Vec ℕ A × List Version)) (key : Vec ℕ A) (v : List Version) (x : Fresh)
+    (is : rest ≡ (key, v) ∷ later) (at : value_in (entries_of other.entries) key.items ≡ Some v) (same : (k : List ℕ) → held new k ≡ held now k)
+    (stays : (k : List ℕ) → has_place now k ≡ true → has_place new k ≡ true) (rooms : (k : List ℕ) → has_room now k ≡ true → has_room new k ≡ true) (only : (k : List ℕ) → has_place new k ≡ true → (has_place now k ≡ true) ⊎ (k ≡ key.items))
+    (fresh : IsFreshFor (held now key.items) v x) (there : has_place new key.items ≡ true) (s : Preparing old now other keys rest) where
+  its_fresh : IsFreshFor (held old key.items) (kept other key.items) x
+  its_fresh = subst (λ (was : List Version). IsFreshFor was (kept other key.items) x) (s.same key.items) (subst (λ (comes : List Version). IsFreshFor (held now key.items) comes x) (sym (more_at (entries_of other.entries) key.items v at)) fresh)
 
   comes : has_entry other key.items ≡ true
   comes = ap is_some at
 
-  places : (k : List ℕ) → has_entry new k ≡ true → (has_entry old k ≡ true) ⊎ (has_entry other k ≡ true)
+  places : (k : List ℕ) → has_place new k ≡ true → (has_place old k ≡ true) ⊎ (has_entry other k ≡ true)
   places k h = elim (only k h) [ inl was ↦ s.only k was | inr is ↦ inr (subst (λ (j : List ℕ). has_entry other j ≡ true) (sym is) comes) ]
 
-  made_more : (k : List ℕ) → value_in later k ≡ None → has_entry other k ≡ true → has_entry new k ≡ true
-  made_more = by_bytes key.items (λ (k : List ℕ). value_in later k ≡ None → has_entry other k ≡ true → has_entry new k ≡ true) (λ _ there. ready.0) (λ k e none there. stays k (s.made k (later_in key v rest later is k e ∙ none) there))
+  made_more : (k : List ℕ) → value_in later k ≡ None → has_entry other k ≡ true → has_place new k ≡ true
+  made_more = by_bytes key.items (λ (k : List ℕ). value_in later k ≡ None → has_entry other k ≡ true → has_place new k ≡ true) (λ _ _. there) (λ k e none there. stays k (s.made k (later_in key v rest later is k e ∙ none) there))
 
-  on_later : (k : List ℕ) → bytes_eq key.items k ≡ false → MatchOption (value_at keys.map k) (value_in later k ≡ None → IsMerge (kept old k) (kept other k) (kept old k))
-      (λ x. (has_entry new k ≡ true) × IsFreshFor (kept old k) (kept other k) x)
-  on_later k e = on_option (value_at keys.map k) _ _ _ _ (λ f none. f (later_in key v rest later is k e ∙ none)) (λ x h. (stays k h.0, h.1)) (s.ready k)
+  on_later : (k : List ℕ) → bytes_eq key.items k ≡ false → MatchOption (value_at keys.map k) (value_in later k ≡ None → IsMerge (held old k) (kept other k) (held old k))
+      (λ x. (has_room new k ≡ true) × IsFreshFor (held old k) (kept other k) x)
+  on_later k e = on_option (value_at keys.map k) _ _ _ _ (λ f none. f (later_in key v rest later is k e ∙ none)) (λ x h. (rooms k h.0, h.1)) (s.ready k)
 
   -- nothing new comes to the key
   pub preparing_same : BringsNothing x → Preparing old new other keys later
   preparing_same none = record {
     same = λ k. same k ∙ s.same k;
     stays = λ k h. stays k (s.stays k h);
+    rooms = λ k h. rooms k (s.rooms k h);
     only = places;
     drawn = s.drawn;
     made = made_more;
-    ready = by_bytes key.items (λ (k : List ℕ). MatchOption (value_at keys.map k) (value_in later k ≡ None → IsMerge (kept old k) (kept other k) (kept old k))
-        (λ x. (has_entry new k ≡ true) × IsFreshFor (kept old k) (kept other k) x))
-        (on_option (value_at keys.map key.items) _ _ _ _ (λ f none_left. merge_with_none (kept old key.items) (kept other key.items) x (old.apart key.items) none its_fresh) (λ x h. (stays key.items h.0, h.1)) (s.ready key.items))
+    ready = by_bytes key.items (λ (k : List ℕ). MatchOption (value_at keys.map k) (value_in later k ≡ None → IsMerge (held old k) (kept other k) (held old k))
+        (λ x. (has_room new k ≡ true) × IsFreshFor (held old k) (kept other k) x))
+        (on_option (value_at keys.map key.items) _ _ _ _ (λ f none_left. merge_with_none (held old key.items) (kept other key.items) x (map_apart old key.items) none its_fresh) (λ x h. (rooms key.items h.0, h.1)) (s.ready key.items))
         on_later;
   }
 
   -- this comes to the key
-  pub preparing_more : (more : FreshKeys) → Puts keys.map more.map key.items x → Preparing old new other more later
-  preparing_more more put = record {
+  pub preparing_more : (more : FreshKeys) → has_room new key.items ≡ true → Puts keys.map more.map key.items x → Preparing old new other more later
+  preparing_more more room put = record {
     same = λ k. same k ∙ s.same k;
     stays = λ k h. stays k (s.stays k h);
+    rooms = λ k h. rooms k (s.rooms k h);
     only = places;
     made = made_more;
     drawn = by_bytes key.items (λ (k : List ℕ). has_fresh more k ≡ true → has_entry other k ≡ true) (λ h. comes) (λ k e h. s.drawn k (sym (ap is_some (put.others k e)) ∙ h));
-    ready = by_bytes key.items (λ (k : List ℕ). MatchOption (value_at more.map k) (value_in later k ≡ None → IsMerge (kept old k) (kept other k) (kept old k))
-        (λ x. (has_entry new k ≡ true) × IsFreshFor (kept old k) (kept other k) x))
-        (some_to (value_at more.map key.items) _ _ x put.here (ready.0, its_fresh))
-        (λ k e. subst (λ (o : Option Fresh). MatchOption o (value_in later k ≡ None → IsMerge (kept old k) (kept other k) (kept old k)) (λ x. (has_entry new k ≡ true) × IsFreshFor (kept old k) (kept other k) x)) (sym (put.others k e)) (on_later k e));
+    ready = by_bytes key.items (λ (k : List ℕ). MatchOption (value_at more.map k) (value_in later k ≡ None → IsMerge (held old k) (kept other k) (held old k))
+        (λ x. (has_room new k ≡ true) × IsFreshFor (held old k) (kept other k) x))
+        (some_to (value_at more.map key.items) _ _ x put.here (room, its_fresh))
+        (λ k e. subst (λ (o : Option Fresh). MatchOption o (value_in later k ≡ None → IsMerge (held old k) (kept other k) (held old k)) (λ x. (has_room new k ≡ true) × IsFreshFor (held old k) (kept other k) x)) (sym (put.others k e)) (on_later k e));
   }
 
 -- a place that a turn made is of a key that comes
-pub more_places : (old now new other : KeyTree) (key bs : List ℕ) (v : List Version) → bs ≡ key → value_in (entries_of other.entries) key ≡ Some v → ((k : List ℕ) → has_entry new k ≡ true → (has_entry now k ≡ true) ⊎ (k ≡ bs))
-    → ((k : List ℕ) → has_entry now k ≡ true → (has_entry old k ≡ true) ⊎ (has_entry other k ≡ true)) → (k : List ℕ) → has_entry new k ≡ true → (has_entry old k ≡ true) ⊎ (has_entry other k ≡ true)
+pub more_places : (old now new : KeyMap) (other : KeyTree) (key bs : List ℕ) (v : List Version) → bs ≡ key → value_in (entries_of other.entries) key ≡ Some v → ((k : List ℕ) → has_place new k ≡ true → (has_place now k ≡ true) ⊎ (k ≡ bs))
+    → ((k : List ℕ) → has_place now k ≡ true → (has_place old k ≡ true) ⊎ (has_entry other k ≡ true)) → (k : List ℕ) → has_place new k ≡ true → (has_place old k ≡ true) ⊎ (has_entry other k ≡ true)
 more_places old now new other key bs v same at only before k h = elim (only k h) [
   | inl was ↦ before k was
   | inr is ↦ inr (subst (λ (j : List ℕ). has_entry other j ≡ true) (sym (is ∙ same)) (ap is_some at))
 ]
 
-pub prepared_fresh : {A : Type 0} (old now other : KeyTree) (keys : FreshKeys) (rest : List (Vec ℕ A × List Version)) → rest ≡ [] → Preparing old now other keys rest → AreFreshFor (kept old) (kept other) keys
+pub prepared_fresh : {A : Type 0} (old now : KeyMap) (other : KeyTree) (keys : FreshKeys) (rest : List (Vec ℕ A × List Version)) → rest ≡ [] → Preparing old now other keys rest → AreFreshFor (held old) (kept other) keys
 prepared_fresh old now other keys rest none s k =
     on_option (value_at keys.map k) _ _ _ _ (λ f. f (ap (λ (es : List (Vec ℕ _ × List Version)). value_in es k) none)) (λ x h. h.1) (s.ready k)
 
-pub prepared_ready : {A : Type 0} (old now other : KeyTree) (keys : FreshKeys) (rest : List (Vec ℕ A × List Version)) → Preparing old now other keys rest → AreReadyIn now keys
+pub prepared_ready : {A : Type 0} (old now : KeyMap) (other : KeyTree) (keys : FreshKeys) (rest : List (Vec ℕ A × List Version)) → Preparing old now other keys rest → AreReady now keys
 prepared_ready old now other keys rest s k = elim_ready (value_at keys.map k) (s.ready k)
   where
-    elim_ready : (o : Option Fresh) → MatchOption o (value_in rest k ≡ None → IsMerge (kept old k) (kept other k) (kept old k)) (λ x. (has_entry now k ≡ true) × IsFreshFor (kept old k) (kept other k) x) → IfSome o (IsReadyIn now k)
+    elim_ready : (o : Option Fresh) → MatchOption o (value_in rest k ≡ None → IsMerge (held old k) (kept other k) (held old k)) (λ x. (has_room now k ≡ true) × IsFreshFor (held old k) (kept other k) x) → IfSome o (IsReady now k)
     elim_ready None h = tt
     elim_ready (Some x) h = (h.0, (kept other k, subst (λ (was : List Version). IsFreshFor was (kept other k) x) (sym (s.same k)) h.1))
 

@@ -5,11 +5,11 @@ use crate::key_tree::KeyTree;
 use ring_names::Refusal;
 
 impl KeyTree {
-    ghost use Rattle.std.specs.Prelude.{◌≡◌, ◌⊎◌, ℕ, true, List, IfOk, IfErr, OnOk};
+    ghost use Rattle.std.specs.Prelude.{◌≡◌, ℕ, List, IfErr, OnOk};
     ghost use Rattle.ring_names.specs.declared.refusal.Refusal.TheVariants.{OutOfMemory};
     ghost use Rattle.ring_versions.specs.declared.version.Version.{Version};
     ghost use Rattle.store_maps.specs.Trees.{kept, has_entry};
-    ghost use Rattle.store_maps.specs.Merges.{MergesAll, AreFreshFor, AreReadyIn, has_fresh};
+    ghost use Rattle.store_maps.specs.Merges.{MergesAll, AreFreshFor, AreReadyIn};
 
     /// Merges a whole tree: where it is refused, some of the keys may be merged already.
     pub fn merge_all(&mut self, other: &KeyTree) -> Result<(), Refusal>
@@ -20,28 +20,6 @@ impl KeyTree {
             self.merge(key.as_slice(), versions)?;
         }
         Ok(())
-    }
-
-    /// The first half of a merge with a whole tree: makes the places that are missing, and what the other brings.
-    pub fn prepare_all(&mut self, other: &KeyTree) -> Result<FreshKeys, Refusal>
-        ensures same { (k : List ℕ) → kept self.new k ≡ kept self.old k }
-        ensures stays { (k : List ℕ) → has_entry self.old k ≡ true → has_entry self.new k ≡ true }
-        ensures only { (k : List ℕ) → has_entry self.new k ≡ true
-            → (has_entry self.old k ≡ true) ⊎ (has_entry other.now k ≡ true) }
-        ensures made { OnOk result ((k : List ℕ) → has_entry other.now k ≡ true → has_entry self.new k ≡ true) }
-        ensures keys { IfOk result (λ f. (k : List ℕ) → has_fresh f k ≡ true → has_entry other.now k ≡ true) }
-        ensures ok { IfOk result (λ f. AreFreshFor (kept self.old) (kept other.now) f) }
-        ensures ready { IfOk result (λ f. AreReadyIn self.new f) }
-        ensures memory { IfErr result (λ e. e ≡ OutOfMemory) }
-    {
-        let mut keys = FreshKeys::new(self.alloc);
-        'keys: for (key, versions) in other.entries.walk() {
-            let fresh = self.prepare(key.as_slice(), versions)?;
-            if !fresh.is_empty() {
-                keys.put(key.as_slice(), fresh)?;
-            }
-        }
-        Ok(keys)
     }
 
     /// The second half of a merge with a whole tree, which cannot fail.

@@ -13,7 +13,8 @@ use std::sync::Arc;
 /// length times the logarithm of the number of places.
 ///
 /// What a map shares is never changed while another map has it: the first change of a key copies that key alone, and not its versions,
-/// into the map's own tree, which lies over what is shared. So a copy costs what the own tree has, and a look-up at most one in each.
+/// into the map's own tree, which lies over what is shared. So a look-up goes through two trees at most, and a copy of the map takes no
+/// more than its own tree.
 pub struct KeyMap {
     pub(crate) own: KeyTree,
     // Read where the own tree has no place for a key.
@@ -34,7 +35,7 @@ impl KeyMap {
     ghost use Rattle.std.specs.Prelude.{◌≡◌, ◌≢◌, ◌↔◌, ◌⊎◌, ℕ, true, false, [], List, Some, None, IsTrue, IfSome, IfNone, IfOk};
     ghost use Rattle.std.specs.Prelude.{IfErr, OnOk, OnErr};
     ghost use Rattle.ring_names.specs.declared.refusal.Refusal.TheVariants.{OutOfMemory};
-    ghost use Rattle.ring_versions.specs.Fresh.{IsFreshFor};
+    ghost use Rattle.ring_versions.specs.Fresh.{IsFreshFor, BringsNothing};
     ghost use Rattle.ring_versions.specs.declared.version.Version.{Version};
     ghost use Rattle.store_maps.specs.Held.{map_entry, held, has_place, has_room, IsReady, AreKeys};
     ghost use Rattle.store_maps.specs.Merges.{MergesAll, at_key, AreFreshFor, AreReady, has_fresh};
@@ -202,20 +203,6 @@ impl KeyMap {
         self.own.put(key, brought)
     }
 
-    // The same for each key of a tree.
-    fn bring_up_all(&mut self, keys: &KeyTree) -> Result<(), Refusal>
-        ensures same { (k : List ℕ) → map_entry self.new k ≡ map_entry self.old k }
-        ensures rooms { (k : List ℕ) → has_room self.old k ≡ true → has_room self.new k ≡ true }
-        ensures up { OnOk result ((k : List ℕ) → has_entry keys.now k ≡ true → has_place self.new k ≡ true
-            → has_room self.new k ≡ true) }
-        ensures memory { IfErr result (λ e. e ≡ OutOfMemory) }
-    {
-        'keys: for (key, _) in keys.entries.walk() {
-            self.bring_up(key.as_slice())?;
-        }
-        Ok(())
-    }
-
     /// The same map once more: every key reads the same, and has a place where it has one here. Costs a copy of each key that was changed
     /// since the map was shared, of each key if it never was.
     pub fn try_copy(&self) -> Result<KeyMap, Refusal>
@@ -288,6 +275,27 @@ impl KeyMap {
         }
     }
 
+    // The first half of a merge at one key, which can be changed only where something new comes.
+    fn prepare_new(&mut self, key: &[u8], more: &Versions) -> Result<Fresh, Refusal>
+        ensures same { (k : List ℕ) → held self.new k ≡ held self.old k }
+        ensures stays { (k : List ℕ) → has_place self.old k ≡ true → has_place self.new k ≡ true }
+        ensures rooms { (k : List ℕ) → has_room self.old k ≡ true → has_room self.new k ≡ true }
+        ensures only { (k : List ℕ) → has_place self.new k ≡ true → (has_place self.old k ≡ true) ⊎ (k ≡ key.now) }
+        ensures made { OnOk result (has_place self.new key.now ≡ true) }
+        ensures ok { IfOk result (λ f. IsFreshFor (held self.old key.now) more.now f) }
+        ensures room { IfOk result (λ f. (BringsNothing f) ⊎ (has_room self.new key.now ≡ true)) }
+        ensures memory { IfErr result (λ e. e ≡ OutOfMemory) }
+    {
+        let Some(versions) = self.entry(key) else {
+            return self.own.prepare(key, more);
+        };
+        let fresh = versions.fresh_of(more)?;
+        if !fresh.is_empty() {
+            self.bring_up(key)?;
+        }
+        Ok(fresh)
+    }
+
     // The first half of a merge with a whole tree.
     fn prepare_tree(&mut self, other: &KeyTree) -> Result<FreshKeys, Refusal>
         ensures same { (k : List ℕ) → held self.new k ≡ held self.old k }
@@ -301,12 +309,19 @@ impl KeyMap {
         ensures ready { IfOk result (λ f. AreReady self.new f) }
         ensures memory { IfErr result (λ e. e ≡ OutOfMemory) }
     {
-        self.bring_up_all(other)?;
-        self.own.prepare_all(other)
+        let mut keys = FreshKeys::new(self.own.alloc);
+        'keys: for (key, versions) in other.entries.walk() {
+            let fresh = self.prepare_new(key.as_slice(), versions)?;
+            if !fresh.is_empty() {
+                keys.put(key.as_slice(), fresh)?;
+            }
+        }
+        Ok(keys)
     }
 
     /// The first half of a merge with a whole map: makes the places that are missing, and what the other map brings. No reading changes,
-    /// whatever the answer. Costs two look-ups and a merge for each key of the other map.
+    /// whatever the answer. Costs two look-ups and a merge for each key of the other map, and a copy of its keys where some of them were
+    /// changed over what it shares.
     pub fn prepare_all(&mut self, other: &KeyMap) -> Result<FreshKeys, Refusal>
         ensures same { (k : List ℕ) → held self.new k ≡ held self.old k }
         ensures stays { (k : List ℕ) → has_place self.old k ≡ true → has_place self.new k ≡ true }
@@ -362,7 +377,7 @@ impl KeyMap {
 
     /// Merges a whole map. Refused, it has changed no reading. Where this map has no place, it costs what a copy of the other does; where it
     /// shares nothing and has fewer keys than the other shares, such a copy and two look-ups and a merge for each key of this map; and
-    /// else two look-ups and a merge for each key of the other map.
+    /// else what `prepare_all` does.
     pub fn take_in(&mut self, other: &KeyMap) -> Result<(), Refusal>
         ensures ok { OnOk result (MergesAll (held self.old) (held other.now) (held self.new)) }
         ensures err { OnErr result ((k : List ℕ) → held self.new k ≡ held self.old k) }
