@@ -55,8 +55,8 @@ pub fn read_refusal(parts: &Parts, get: u32, index: u32) -> Option<Refusal>
 }
 
 /// The get reads the slot, and the reply is the numbers of the puts that it finds there. Refused, it has changed nothing. Costs a merge of
-/// what the slot has of the get's key with what the get had found, a sort of the numbers, and a look-up for each node that keeps anything
-/// for the slot.
+/// what the slot has of the get's key with what the get had found, a sort of the numbers, and for each node that keeps the key for the slot
+/// a look-up and a merge, which is one comparison of clocks where it keeps nothing new, and one version or eight and more.
 pub fn read(parts: &mut Parts, get: u32, index: u32) -> Result<Reply, Refusal>
     requires sound { IsSound parts.old }
     requires passes { Passes parts.old (Read get index) }
