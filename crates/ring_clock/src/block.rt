@@ -108,6 +108,16 @@ impl Block {
         }
     }
 
+    /// The counters of the whole group, where it has them.
+    pub fn as_full(&self) -> Option<&Full>
+        ensures { IfSome result (λ f. f.now ≡ self.now) }
+    {
+        match &*self.shared {
+            Form::Few(_) => None,
+            Form::Full(full) => Some(full),
+        }
+    }
+
     /// The group of its writers.
     pub fn group(&self) -> u32
         ensures { result ≡ group_in self.now }

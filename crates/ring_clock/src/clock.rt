@@ -63,7 +63,7 @@ impl Clock {
     }
 
     // The blocks, in order of the group.
-    fn blocks(&self) -> &[Block]
+    pub(crate) fn blocks(&self) -> &[Block]
         ensures value { entries_of result.now ≡ self.now }
         ensures valid { AreBlocks result.now }
     {

@@ -1,9 +1,14 @@
-use Rattle.std.proofs.Common.{◌<◌, take}
+use Rattle.std.proofs.Common.{◌≡◌, ◌<◌, ℕ, IfSome, take}
 use Rattle.std.specs.List.{All}
 use Rattle.ring_clock.specs.declared.entry.Entry.{Entry}
 use Rattle.ring_clock.specs.Clock.{counter}
+use Rattle.ring_clock.specs.Groups.{group}
 use Rattle.ring_clock.proofs.clock.Clock.is_below_each.Given as goal
 
--- the counters of those passed are below theirs
+-- the counters of those passed are below theirs, and those of the group are the clock's
+pub record Below (l : goal.Live-loop-entry) : Type 0 where
+  pub passed : All (λ (e : Entry). counter l.self e.writer.0 < e.counter) (take l.entry-index l.entries)
+  pub full : IfSome l.full (λ f. (w : ℕ) → group w ≡ l.group → counter f.now w ≡ counter l.self w)
+
 abbrev pub invariant-loop-entry : goal.invariant-loop-entry
-invariant-loop-entry l = All (λ (e : Entry). counter l.self e.writer.0 < e.counter) (take l.entry-index l.entries)
+invariant-loop-entry l = Below l
