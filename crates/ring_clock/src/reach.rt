@@ -26,7 +26,7 @@ fn full_of(blocks: &[Block], group: u32) -> Option<&Full>
 
 impl Clock {
     /// Whether each of these writers' counters is below that of its entry. Takes no memory. Costs the entries, and a look among blocks where
-    /// their groups change.
+    /// their groups change; of a group that has no full block, or that a lesser one lacks before, what `counter` costs for each.
     pub fn is_below_each(&self, entries: &[Entry]) -> bool
         ensures { IsTrue result ↔ All (λ e. counter self.now e.writer.0 < e.counter) entries.now }
     {

@@ -31,7 +31,10 @@ pub fn fresh_of(alloc: Global, versions: Held, held: Held) -> Result<Vec<Version
     let mut walk = versions.walk();
     'versions: while let Some(version) = walk.next() {
         if !held.covers(&version.clock) {
-            make_room(&mut out, versions.few().saturating_add(held.few()))?;
+            make_room(
+                &mut out,
+                versions.list_len().saturating_add(held.list_len()),
+            )?;
             out.push(version.try_copy()?)?;
         }
     }

@@ -40,7 +40,7 @@ impl<'a> Held<'a> {
     }
 
     /// How many they are, where they are a list.
-    pub fn few(self) -> usize {
+    pub fn list_len(self) -> usize {
         match self {
             Held::Few(list) => list.len(),
             Held::Many(_) => 0,

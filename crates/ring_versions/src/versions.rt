@@ -1,6 +1,7 @@
 //! Sets of versions.
 
-ghost use Rattle.std.specs.Prelude.{◌≡◌, ◌↔◌, ◌∷◌, [], List, IsTrue, IfOk, IfErr, IfSome, OnOk, OnErr, slice_get, option_map};
+ghost use Rattle.std.specs.Prelude.{◌≡◌, ◌↔◌, ◌∷◌, [], List, IsTrue, IfOk, IfErr, IfSome, OnOk, OnErr};
+ghost use Rattle.std.specs.Prelude.{slice_get, option_map};
 ghost use Rattle.ring_names.specs.declared.refusal.Refusal.TheVariants.{OutOfMemory};
 ghost use Rattle.ring_versions.specs.Fresh.{Brings, IsFreshFor, FitsIn};
 ghost use Rattle.ring_versions.specs.Parts.{IsReordered};
@@ -33,6 +34,10 @@ const MANY: usize = 8;
 ///
 /// Costs are told for the clocks of puts, where a version is covered just where its own writer's counter is reached, and for sets of eight
 /// versions or more. Of other clocks each of the looks may cost a comparison with each version.
+///
+/// Eight versions or more stand in chunks, by the group of thirty-two writers of which each one's own writer is. A set takes 8 bytes for each
+/// chunk. A chunk, which sets share, takes some 100 bytes, 16 bytes for each version beside the version, and what its join of their clocks does
+/// not share with these.
 pub struct Versions {
     alloc: Global,
     shared: Shared,
@@ -51,7 +56,7 @@ impl Model for Versions {
     ghost invariant = { λ a. IsApart (shared_versions a.shared) };
 }
 
-// Dropped by a call, so that no crate above goes through the two cases wherever a set ends.
+// Dropped by a call, so that no crate above goes through the cases wherever a set ends.
 impl Drop for Versions {
     fn drop(self) {
         let Versions { alloc: _, shared } = self;
@@ -143,8 +148,8 @@ impl Versions {
         self.first().is_none()
     }
 
-    /// Whether some version has a clock that is at least this one. Takes no memory. Costs a look: at the join and at each chunk, and where
-    /// some version has, one comparison of clocks.
+    /// Whether some version has a clock that is at least this one. Takes no memory. Costs a look: at the join, and where that reaches the clock,
+    /// at each chunk's group and at the entries of one chunk, with one comparison of clocks.
     pub fn covers(&self, clock: &Clock) -> bool
         ensures { IsTrue result ↔ Covers self.now clock.now }
     {
@@ -152,9 +157,9 @@ impl Versions {
     }
 
     /// Adds another set's versions: what is drawn from both covers the clocks that either covered, and ancestors go. Costs a look for each
-    /// version of the two sets. Takes no memory where this set covers the other's; else copies of those that are new, made aside, and where
-    /// some of its own stay, copies of these, the entries of the new ones and the writers of both sets. A refused growth leaves the set as
-    /// it was.
+    /// version of the other set, and for each of its own one at its own writer's entry, or where the new ones may cover it a look. Takes no memory
+    /// where this set covers the other's; else copies of those that are new, made aside, and where some of its own stay, copies of these, of
+    /// eight or more only those in chunks that do not stay as they are, the chunks, and the join. A refused growth leaves the set as it was.
     pub fn merge(&mut self, other: &Versions) -> Result<(), Refusal>
         ensures ok { OnOk result (IsMerge self.old other.now self.new) }
         ensures err { OnErr result (self.new ≡ self.old) }

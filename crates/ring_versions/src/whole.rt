@@ -94,8 +94,8 @@ impl Whole {
         self.chunks.as_slice()
     }
 
-    /// Whether some version has a clock that is at least this one. The clock's own writer mostly decides it, at the cost of a look at the
-    /// join or at the chunks' groups, and of one comparison where some version has.
+    /// Whether some version has a clock that is at least this one. The clock's own writer mostly decides it: by the join where no version
+    /// has, and else by that writer's own version.
     pub fn covers(&self, clock: &Clock) -> bool
         ensures { IsTrue result ↔ Covers self.now clock.now }
     {
