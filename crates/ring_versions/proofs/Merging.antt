@@ -8,12 +8,9 @@ use Rattle.ring_versions.specs.Fresh.{Brings, IsFreshFor, BringsNothing}
 use Rattle.ring_versions.specs.Parts.{IsFresh, IsReordered}
 use Rattle.ring_versions.proofs.Members.{in_first, in_second, in_either, covers_down, covers_either, covers_first, covers_second, covers_front, apart_join, apart_cross, apart_first, apart_second}
 use Rattle.ring_versions.proofs.Reordered.{turned, reordered_again}
-use Rattle.std.proofs.lemmas.List.{append_assoc, append-nil}
+use Rattle.std.proofs.lemmas.List.{append_assoc}
 
 -- ---- what is fresh of a list
-
-fresh_none : (held : List Version) → IsFresh held [] []
-fresh_none held = record { drawn = λ v h. absurd h; new = λ v h. absurd h; covers = λ k h. absurd h.1; apart = tt }
 
 -- of one version that is covered nothing
 pub fresh_old : (held : List Version) (x : Version) → Covers held x.clock → IsFresh held (x ∷ []) []
@@ -68,9 +65,6 @@ pub record Sifted (held versions rest out : List Version) : Type 0 where
   pub all : done ++ rest ≡ versions
   pub fresh : IsFresh held done out
 
-pub sift_first : (held versions : List Version) → Sifted held versions versions []
-sift_first held versions = record { done = []; all = refl; fresh = fresh_none held }
-
 pub sift_more : (held versions rest out xs later a more : List Version) → IsApart versions → rest ≡ xs ++ later → IsFresh held xs a → IsReordered (out ++ a) more → Sifted held versions rest out → Sifted held versions later more
 sift_more held versions rest out xs later a more apart is f r s =
     let all : (s.done ++ xs) ++ later ≡ versions = append_assoc s.done xs later ∙ ap (λ (ys : List Version). s.done ++ ys) (sym is) ∙ s.all in
@@ -79,9 +73,6 @@ sift_more held versions rest out xs later a more apart is f r s =
 
 pub next_apart : (held versions rest out xs later : List Version) → IsApart versions → rest ≡ xs ++ later → Sifted held versions rest out → IsApart xs
 next_apart held versions rest out xs later apart is s = apart_first xs later (subst IsApart is (apart_second s.done rest (subst IsApart (sym s.all) apart)))
-
-pub sifted : (held versions rest out : List Version) → rest ≡ [] → Sifted held versions rest out → IsFresh held versions out
-sifted held versions rest out none s = subst (λ (vs : List Version). IsFresh held vs out) (sym (append-nil s.done) ∙ ap (λ (ys : List Version). s.done ++ ys) (sym none) ∙ s.all) s.fresh
 
 -- ---- the merge
 
