@@ -1,6 +1,5 @@
-use Rattle.std.proofs.Common.{◌∙◌, ℕ, ◌<◌, length, List, sym, ap, subst}
+use Rattle.std.proofs.Common.{ℕ, ◌<◌, sym, ap, subst}
 use Rattle.std.proofs.Props.{props}
-use Rattle.ring_versions.specs.declared.version.Version.{Version}
 use Rattle.ring_space.specs.declared.found.Place.{Place}
 use Rattle.store_maps.specs.Chunks.{chunk_of}
 use Rattle.store_tells.specs.Parts.{ring_of, plan_of, kept_of}
