@@ -124,6 +124,8 @@ def families():
         "down": scripts("down", 62500, 500000, 1000),
         "keys, moves and keys": [lambda m=m: hostile_scripts.bundle("keys", m, 20 * m) for m in doubled(125, 2000)],
         "keys, moves": [lambda m=m: hostile_scripts.bundle("keys", m, 1000) for m in doubled(1000, 8000)],
+        "touched": [lambda m=m: hostile_scripts.bundle("touched", m, 10 * m) for m in doubled(500, 8000)],
+        "left": scripts("left", 25000, 400000, 999),
         "kept, versions": [lambda m=m: hostile_scripts.bundle("kept", 100, m, 20) for m in doubled(128, 1024)],
         "kept, gets": [lambda n=n: hostile_scripts.bundle("kept", 100, 256, n) for n in doubled(500, 4000)],
         "long_clocks": scripts("long_clocks", 62500, 500000, 1024),
