@@ -2,7 +2,7 @@
 use Rattle.std.proofs.Common.{◌≡◌, ◌≢◌, ◌∙◌, ◌⊎◌, inl, inr, List, [], ◌∷◌, ◌++◌, refl, sym, ap, subst, arith}
 use Rattle.ring_clock.specs.declared.entry.Entry.{Entry}
 use Rattle.ring_versions.specs.declared.version.Version.{Version}
-use Rattle.ring_versions.specs.Versions.{IsIn, Covers, IsApart, IsMerge}
+use Rattle.ring_versions.specs.Versions.{IsIn, Covers, IsApart, IsBeside, IsMerge}
 use Rattle.ring_versions.specs.declared.fresh.Fresh.{Fresh}
 use Rattle.ring_versions.specs.Fresh.{Brings, IsFreshFor, BringsNothing}
 use Rattle.ring_versions.specs.Parts.{IsFresh, IsReordered}
@@ -113,6 +113,13 @@ merge_reordered olds others made other r m = record {
 pub merge_left : (olds others fresh left made : List Version) → IsFresh olds others fresh → IsFresh fresh olds left → IsReordered (left ++ fresh) made → IsMerge olds others made
 merge_left olds others fresh left made f k r =
     merge_reordered olds others (fresh ++ left) made (reordered_again (fresh ++ left) (left ++ fresh) made (turned [] fresh left) r) (merge olds others fresh left f k)
+
+-- one version that is in conflict with each
+pub merge_one : (olds made : List Version) (x : Version) → IsApart olds → IsBeside olds x.clock → IsReordered (olds ++ x ∷ []) made → IsMerge olds (x ∷ []) made
+merge_one olds made x apart beside r = merge_left olds (x ∷ []) (x ∷ []) olds made (fresh_new olds x beside.not_covered) (fresh_all (x ∷ []) olds apart (λ v h covered. elim (covers_front x [] v.clock covered) [
+  | inl le ↦ beside.covers_none v h le
+  | inr none ↦ absurd none.1
+])) r
 
 -- where they leave none, it is the others
 pub merge_others : (olds others fresh : List Version) → IsApart others → IsFresh olds others fresh → IsFresh fresh olds [] → IsMerge olds others others

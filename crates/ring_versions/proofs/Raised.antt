@@ -1,5 +1,5 @@
 -- The join of the clocks of versions.
-use Rattle.std.proofs.Common.{◌≡◌, ◌⊎◌, inl, inr, ◌∙◌, ℕ, ◌≤◌, List, [], ◌++◌, Result, Ok, Err, IfOk, refl, sym, subst, arith}
+use Rattle.std.proofs.Common.{◌≡◌, ◌⊎◌, inl, inr, ◌∙◌, ℕ, ◌≤◌, List, [], ◌∷◌, ◌++◌, Result, Ok, Err, IfOk, refl, sym, subst, arith}
 use Rattle.std.specs.Prelude.{max}
 use Rattle.ring_names.proofs.Logic.{max_either}
 use Rattle.ring_clock.specs.declared.entry.Entry.{Entry}
@@ -73,6 +73,20 @@ pub join_left : (c d e : List Entry) (olds fresh left made : List Version) → I
 join_left c d e olds fresh left made k r a b raise =
     let other = reordered_again (fresh ++ left) (left ++ fresh) made (turned [] fresh left) r in
     join_reordered e (fresh ++ left) made other (join_kept e olds fresh left k (join_both olds fresh (olds ++ fresh) c d e refl a b raise))
+
+-- one version more
+pub join_more : (c e : List Entry) (olds made : List Version) (x : Version) → IsReordered (olds ++ x ∷ []) made → RaisesTo [] (IsClockIn olds) c → ((w : ℕ) → counter e w ≡ max (counter c w) (counter x.clock w)) → RaisesTo [] (IsClockIn made) e
+join_more c e olds made x r a raise = join_reordered e (olds ++ x ∷ []) made r (join_both olds (x ∷ []) (olds ++ x ∷ []) c x.clock e refl a one raise)
+  where
+    one : RaisesTo [] (IsClockIn (x ∷ [])) x.clock
+    one = record {
+      before = λ w. omega arith;
+      above = λ d h. subst (λ (k : List Entry). IsAtMost k x.clock) h.2 (elim h.1 [
+        | inl is ↦ subst (λ (v : Version). IsAtMost v.clock x.clock) is (λ w. omega arith)
+        | inr none ↦ absurd none
+      ]);
+      from = λ w. inr (x.clock, (x, inl refl, refl), refl);
+    }
 
 -- a clock that is raised to the join is raised to all
 pub raised_by_join : (old new join : List Entry) (vs : List Version) → ((w : ℕ) → counter new w ≡ max (counter old w) (counter join w)) → RaisesTo [] (IsClockIn vs) join → RaisesTo old (IsClockIn vs) new

@@ -23,6 +23,11 @@ abbrev pub IsApart : List Version → Type 0
 IsApart [] = Unit {0}
 IsApart (v ∷ vs) = AllByRecursion (InConflict v) vs × IsApart vs
 
+-- the clock c is in conflict with each version's
+pub record IsBeside (xs : List Version) (c : List Entry) : Type 0 where
+  pub not_covered : Covers xs c → ⊥
+  pub covers_none : (v : Version) → IsIn v xs → IsAtMost v.clock c → ⊥
+
 -- c is drawn from a and b, covers just the clocks that either covers, and has no ancestors
 pub record IsMerge (a b c : List Version) : Type 0 where
   pub drawn : (v : Version) → IsIn v c → IsIn v a ⊎ IsIn v b

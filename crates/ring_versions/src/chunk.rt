@@ -1,9 +1,10 @@
 //! Versions that sets share.
 
-ghost use Rattle.std.specs.Prelude.{◌≡◌, IfOk, IfErr};
+ghost use Rattle.std.specs.Prelude.{◌≡◌, ◌++◌, ◌∷◌, [], true, false, IfOk, IfErr, OnErr};
 ghost use Rattle.ring_names.specs.declared.refusal.Refusal.TheVariants.{OutOfMemory};
 
 use crate::part::Part;
+use crate::version::Version;
 use ring_names::Refusal;
 use std::alloc::Global;
 use std::marker::Model;
@@ -42,6 +43,30 @@ impl Chunk {
     {
         let shared = Arc::try_clone(&self.shared)?;
         Ok(Chunk { shared })
+    }
+
+    /// Whether no other set shares it.
+    pub fn is_alone(&mut self) -> bool
+        ensures { self.new ≡ self.old }
+    {
+        match Arc::get_mut(&mut self.shared) {
+            Some(_) => true,
+            None => false,
+        }
+    }
+
+    /// Adds a copy of a version in place, and tells whether it did: only where no other set shares the chunk.
+    pub fn add(&mut self, version: &Version) -> Result<bool, Refusal>
+        ensures added { IfOk result (λ done. done ≡ true → self.new ≡ self.old ++ version.now ∷ []) }
+        ensures same { IfOk result (λ done. done ≡ false → self.new ≡ self.old) }
+        ensures err { OnErr result (self.new ≡ self.old) }
+        ensures memory { IfErr result (λ e. e ≡ OutOfMemory) }
+    {
+        let Some(part) = Arc::get_mut(&mut self.shared) else {
+            return Ok(false);
+        };
+        part.put(version)?;
+        Ok(true)
     }
 
     /// Its versions.

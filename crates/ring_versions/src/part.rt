@@ -1,6 +1,6 @@
 //! Versions with what a search asks of them first.
 
-ghost use Rattle.std.specs.Prelude.{◌≡◌, ◌↔◌, ◌∷◌, ◌++◌, [], IsTrue, IfOk, IfErr, OnOk};
+ghost use Rattle.std.specs.Prelude.{◌≡◌, ◌↔◌, ◌∷◌, ◌++◌, [], IsTrue, IfOk, IfErr, OnOk, OnErr};
 ghost use Rattle.ring_names.specs.declared.refusal.Refusal.TheVariants.{OutOfMemory};
 ghost use Rattle.ring_clock.specs.Clock.{IsAtMost, counter};
 ghost use Rattle.ring_versions.specs.Chunks.{AreOwns};
@@ -109,9 +109,10 @@ impl Part {
         })
     }
 
-    /// Adds a copy of a version.
+    /// Adds a copy of a version. Refused, it has changed no version.
     pub fn put(&mut self, version: &Version) -> Result<(), Refusal>
         ensures ok { OnOk result (self.new ≡ self.old ++ version.now ∷ []) }
+        ensures err { OnErr result (self.new ≡ self.old) }
         ensures memory { IfErr result (λ e. e ≡ OutOfMemory) }
     {
         let copy = version.try_copy()?;

@@ -1,6 +1,6 @@
 //! Sets of versions.
 
-ghost use Rattle.std.specs.Prelude.{◌≡◌, ◌↔◌, ◌∷◌, [], List, IsTrue, IfOk, IfErr, IfSome, OnOk, OnErr};
+ghost use Rattle.std.specs.Prelude.{◌≡◌, ◌↔◌, ◌∷◌, [], List, true, false, IsTrue, IfOk, IfErr, IfSome, OnOk, OnErr};
 ghost use Rattle.std.specs.Prelude.{slice_get, option_map};
 ghost use Rattle.ring_names.specs.declared.refusal.Refusal.TheVariants.{OutOfMemory};
 ghost use Rattle.ring_versions.specs.Fresh.{Brings, IsFreshFor, FitsIn};
@@ -165,9 +165,30 @@ impl Versions {
         ensures err { OnErr result (self.new ≡ self.old) }
         ensures memory { IfErr result (λ e. e ≡ OutOfMemory) }
     {
+        if let Shared::One(version) = &other.shared
+            && self.add(version)?
+        {
+            return Ok(());
+        }
         let fresh = self.fresh_of(other)?;
         self.absorb(fresh);
         Ok(())
+    }
+
+    // Merges one version in place, and tells whether it did: only where it is in conflict with each of many, and nothing that changes is shared.
+    fn add(&mut self, version: &Version) -> Result<bool, Refusal>
+        ensures added { IfOk result (λ done. done ≡ true → IsMerge self.old (version.now ∷ []) self.new) }
+        ensures same { IfOk result (λ done. done ≡ false → self.new ≡ self.old) }
+        ensures err { OnErr result (self.new ≡ self.old) }
+        ensures memory { IfErr result (λ e. e ≡ OutOfMemory) }
+    {
+        let Shared::Many(shared) = &mut self.shared else {
+            return Ok(false);
+        };
+        match Arc::get_mut(shared) {
+            Some(whole) => whole.add(version),
+            None => Ok(false),
+        }
     }
 
     /// The first half of a merge: the merge, made aside, or nothing where this set covers the other's versions. Costs what `merge` does.

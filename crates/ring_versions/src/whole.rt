@@ -1,14 +1,18 @@
 //! What sets of versions share.
 
-ghost use Rattle.std.specs.Prelude.{◌≡◌, ◌↔◌, [], IsTrue};
+ghost use Rattle.std.specs.Prelude.{◌≡◌, ◌↔◌, ◌<◌, ◌∷◌, [], true, false, length, IsTrue, IfOk, IfErr, IfSome, OnErr};
+ghost use Rattle.ring_names.specs.declared.refusal.Refusal.TheVariants.{OutOfMemory};
+ghost use Rattle.ring_clock.specs.Clock.{IsAtMost};
 ghost use Rattle.ring_versions.specs.Chunks.{all_of};
 ghost use Rattle.ring_versions.specs.Raised.{RaisesTo, IsClockIn};
-ghost use Rattle.ring_versions.specs.Versions.{Covers};
+ghost use Rattle.ring_versions.specs.Versions.{Covers, IsIn, IsApart, IsBeside, IsMerge};
+ghost use Rattle.ring_versions.specs.declared.version.Version.{Version as TheVersion};
 
 use crate::chunk::Chunk;
 use crate::part::group_of;
 use crate::version::Version;
 use ring_clock::Clock;
+use ring_names::Refusal;
 use std::marker::Model;
 use std::sync::Arc;
 
@@ -71,6 +75,35 @@ fn is_in_some(chunks: &[Chunk], clock: &Clock) -> bool
     false
 }
 
+// Whether it is plain from the versions' own counters that no version's clock is at most this one.
+fn are_beyond(chunks: &[Chunk], clock: &Clock) -> bool
+    ensures { IsTrue result → (v : TheVersion) → IsIn v (all_of chunks.now) → IsAtMost v.clock clock.now → ⊥ }
+{
+    let mut rest = chunks;
+    'chunks: while let Some((chunk, later)) = rest.split_first() {
+        if !chunk.part().is_beyond(clock) {
+            return false;
+        }
+        rest = later;
+    }
+    true
+}
+
+// The place of the chunk of a group, if there is one, and no other set shares it.
+fn place_of(chunks: &mut Vec<Chunk>, group: u32) -> Option<usize>
+    ensures same { chunks.new.items ≡ chunks.old.items }
+    ensures some { IfSome result (λ place. place < length chunks.old.items) }
+{
+    let place = chunks
+        .iter()
+        .position(|chunk| chunk.part().group() == group)?;
+    if chunks[place].is_alone() {
+        Some(place)
+    } else {
+        None
+    }
+}
+
 impl Whole {
     /// The versions of these chunks.
     pub fn of(join: Clock, chunks: Vec<Chunk>) -> Whole
@@ -105,5 +138,37 @@ impl Whole {
         }
         let chunks = self.chunks.as_slice();
         leads(chunks, clock) || is_in_some(chunks, clock)
+    }
+
+    // Whether it is plain that no version has a clock that is at least this one, or one that is at most this one.
+    fn is_beside(&self, clock: &Clock) -> bool
+        ensures { IsTrue result → IsBeside self.now clock.now }
+    {
+        let own = clock.own();
+        self.join.counter(own) < clock.counter(own) && are_beyond(self.chunks.as_slice(), clock)
+    }
+
+    /// Merges one version in place, and tells whether it did: only where it is plain that it is in conflict with each version, and no other set
+    /// shares the chunk of its own writer's group. Costs a look at each version's own entry, and the entries of two joins.
+    pub fn add(&mut self, version: &Version) -> Result<bool, Refusal>
+        requires { IsApart self.old }
+        ensures added { IfOk result (λ done. done ≡ true → IsMerge self.old (version.now ∷ []) self.new) }
+        ensures same { IfOk result (λ done. done ≡ false → self.new ≡ self.old) }
+        ensures err { OnErr result (self.new ≡ self.old) }
+        ensures memory { IfErr result (λ e. e ≡ OutOfMemory) }
+    {
+        if !self.is_beside(&version.clock) {
+            return Ok(false);
+        }
+        let group = group_of(version.clock.own());
+        let Some(place) = place_of(&mut self.chunks, group) else {
+            return Ok(false);
+        };
+        let join = self.join.join(&version.clock)?;
+        let is_added = self.chunks[place].add(version)?;
+        if is_added {
+            self.join = join;
+        }
+        Ok(is_added)
     }
 }
