@@ -37,6 +37,10 @@ module _ {A : Type 0} (m n : List (Vec ℕ A × List Version)) (bs : List ℕ) (
   pub others_put : (k : List ℕ) → k ≢ bs → held_in n k ≡ held_in m k
   others_put = by_bytes bs (λ (k : List ℕ). k ≢ bs → held_in n k ≡ held_in m k) (λ ne. absurd (ne refl)) (λ k e ne. held_other k e)
 
+  -- the same versions change no reading
+  pub same_put : held_in m bs ≡ w → (k : List ℕ) → held_in n k ≡ held_in m k
+  same_put e = by_bytes bs (λ (k : List ℕ). held_in n k ≡ held_in m k) (held_here ∙ sym e) held_other
+
   pub place_put : is_some (value_in n bs) ≡ true
   place_put = ap is_some p.here
 

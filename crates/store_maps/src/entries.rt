@@ -8,7 +8,7 @@ ghost use Rattle.ring_names.specs.declared.refusal.Refusal.TheVariants.{OutOfMem
 ghost use Rattle.ring_versions.specs.Fresh.{FitsIn};
 ghost use Rattle.store_maps.specs.Entries.{by_items, entries_of, left_of, GoesAt, IsInOrder, IsThere, PutsAt};
 ghost use Rattle.store_maps.specs.Places.{held_in};
-ghost use Rattle.store_maps.specs.Taken.{TakesIn};
+ghost use Rattle.store_maps.specs.Taken.{MergesIn, TakesIn};
 
 use crate::lengthen::lengthen;
 use crate::walk::Walk;
@@ -177,6 +177,26 @@ impl Entries {
                 tree.insert(kept, versions)?;
                 Ok(())
             }
+        }
+    }
+
+    // Merges others into the versions at the key. Refused, it has changed nothing.
+    pub(crate) fn merge(&mut self, key: &[u8], more: &Versions) -> Result<(), Refusal>
+        requires order { IsInOrder self.old }
+        requires there { is_some (value_in (entries_of self.old) key.now) ≡ true }
+        ensures order { IsInOrder self.new }
+        ensures merged { MergesIn result (entries_of self.old) (entries_of self.new) key.now more.now }
+        ensures memory { IfErr result (λ e. e ≡ OutOfMemory) }
+    {
+        match self {
+            Entries::Few(list) => match place_of(list.as_slice(), key) {
+                Ok(place) => list[place].1.merge(more),
+                Err(_) => unreachable!(),
+            },
+            Entries::Many(tree) => match tree.get_mut(key) {
+                Some(versions) => versions.merge(more),
+                None => unreachable!(),
+            },
         }
     }
 

@@ -50,10 +50,8 @@ impl KeyTree {
         ensures places { OnErr result ((k : List ℕ) → has_entry self.new k ≡ has_entry self.old k) }
         ensures memory { IfErr result (λ e. e ≡ OutOfMemory) }
     {
-        if let Some(versions) = self.entries.get(key) {
-            let fresh = versions.fresh_of(more)?;
-            self.settle(key, fresh);
-            return Ok(());
+        if self.entries.get(key).is_some() {
+            return self.entries.merge(key, more);
         }
         if more.is_empty() {
             return Ok(());

@@ -42,7 +42,7 @@ returns-in-Ok-clause-taken c =
       after = c.absorb.new.self;
       at = few_at key m c.in-Few.list.items is c.in-Ok.place e there c.index_mut.ensures.value;
       put = few_put key m c.in-Few.list.items is c.in-Ok.place e there c.index_mut.ensures.value c.absorb.new.self;
-      merged = c.absorb.ensures;
+      became = c.absorb.ensures;
     }
 
 pub absorb-requires-in-Some : goal.absorb-requires-in-Some
@@ -67,7 +67,7 @@ returns-in-Some-clause-taken c =
       after = w;
       at = ap (λ es. value_in es c.args.key.now) is ∙ sym value;
       put = subst (λ es. PutsAt es n.entries c.args.key.now w) (sym is) (puts_at c.args.key.now c.in-Many.tree n w ((c.get_mut.follows.holds w).3 (subst IsSome value refl)));
-      merged = c.absorb-in-Some.ensures;
+      became = c.absorb-in-Some.ensures;
     }
 
 pub returns-in-Err-clause-taken : goal.returns-in-Err-clause-taken
