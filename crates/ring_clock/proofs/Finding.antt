@@ -35,10 +35,13 @@ nowhere (b ∷ bs) w are h = nowhere bs w are.2 (λ k d l. h (suc k) d (omega ar
 pub seen_group : (bs : List (List Entry)) (w k : ℕ) (b : List Entry) → AreBlocks bs → k < length bs → b ≡ get_or bs k b → group_in b ≡ group w → counter b w ≡ counter (entries_of bs) w
 seen_group bs w k b h l is of = ap (λ (x : List Entry). counter x w) is ∙ at bs w h k b l (sym (ap group_in is) ∙ of)
 
--- the block that was found has the writer's counter
-pub found_group : (bs : List (List Entry)) (w k : ℕ) (d : List Entry) → AreBlocks bs → k < length bs → IsBinarySearchResult (λ b. nat_cmp (group_in b) (group w)) bs (Ok k) → counter (get_or bs k d) w ≡ counter (entries_of bs) w
-found_group bs w k d h l r = at bs w h k d l (ranked _ (group w) _ (sym (r d)))
+-- the block that was found is of the group, and has the counters of its writers
+pub its_group : (bs : List (List Entry)) (g k : ℕ) (d : List Entry) → IsBinarySearchResult (λ b. nat_cmp (group_in b) g) bs (Ok k) → group_in (get_or bs k d) ≡ g
+its_group bs g k d r = ranked _ g _ (sym (r d))
 
--- where none was found the counter is 0
-pub no_group : (bs : List (List Entry)) (w k : ℕ) → AreBlocks bs → IsBinarySearchResult (λ b. nat_cmp (group_in b) (group w)) bs (Err k) → 0 ≡ counter (entries_of bs) w
-no_group bs w k h r = nowhere bs w h (not_at group_in bs (group w) k (rise bs h) r)
+pub found_group : (bs : List (List Entry)) (g w k : ℕ) (d : List Entry) → AreBlocks bs → k < length bs → IsBinarySearchResult (λ b. nat_cmp (group_in b) g) bs (Ok k) → group w ≡ g → counter (get_or bs k d) w ≡ counter (entries_of bs) w
+found_group bs g w k d h l r of = at bs w h k d l (its_group bs g k d r ∙ sym of)
+
+-- where none was found its writers' counters are 0
+pub no_group : (bs : List (List Entry)) (g w k : ℕ) → AreBlocks bs → IsBinarySearchResult (λ b. nat_cmp (group_in b) g) bs (Err k) → group w ≡ g → counter (entries_of bs) w ≡ 0
+no_group bs g w k h r of = sym (nowhere bs w h (λ j d l is. not_at group_in bs g k (rise bs h) r j d l (is ∙ of)))

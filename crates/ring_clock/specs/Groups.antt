@@ -16,6 +16,10 @@ group_in (e ∷ es) = group e.writer.0
 abbrev pub IsOfGroup : ℕ → List Entry → Type 0
 IsOfGroup g es = (w : ℕ) → group w ≢ g → counter es w ≡ 0
 
+-- some writer of the group has a counter
+abbrev pub HasGroup : List Entry → ℕ → Type 0
+HasGroup es g = (w : ℕ) × (group w ≡ g) × (0 < counter es w)
+
 -- entries of one group, one at least
 abbrev pub IsBlock : List Entry → Type 0
 IsBlock es = IsClock es × (0 < length es) × IsOfGroup (group_in es) es

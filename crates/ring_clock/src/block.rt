@@ -16,7 +16,7 @@ use std::sync::Arc;
 // From so many entries on, of 16 bytes each, the counters of the whole group, of 132 bytes, take no more memory than they.
 const MANY: usize = 9;
 
-/// The group of a writer.
+/// The group of a writer: those whose numbers follow one another are one, whose counters a clock keeps together.
 pub fn group_of(writer: WriterId) -> u32
     ensures { result ≡ group writer.0 }
 {
