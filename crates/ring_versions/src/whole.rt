@@ -48,8 +48,7 @@ fn leads(chunks: &[Chunk], clock: &Clock) -> bool
     let group = group_of(clock.own());
     let mut rest = chunks;
     'chunks: while let Some((chunk, later)) = rest.split_first() {
-        let part = chunk.part();
-        if part.group() == group && part.leads(clock) {
+        if chunk.group() == group && chunk.part().leads(clock) {
             return true;
         }
         rest = later;
@@ -92,6 +91,11 @@ impl Whole {
         ensures { all_of result.now ≡ self.now }
     {
         self.chunks.as_slice()
+    }
+
+    /// Whether some chunk was made for the group. Costs a look at each, and none at what is in them.
+    pub fn has_group(&self, group: u32) -> bool {
+        self.chunks.iter().any(|chunk| chunk.group() == group)
     }
 
     /// Whether some version has a clock that is at least this one. The clock's own writer mostly decides it: by the join where no version
