@@ -39,14 +39,6 @@ impl<'a> Held<'a> {
         }
     }
 
-    /// How many they are, where they are a list.
-    pub fn list_len(self) -> usize {
-        match self {
-            Held::Few(list) => list.len(),
-            Held::Many(_) => 0,
-        }
-    }
-
     /// Whether some version's own writer is of the group. Costs a look at each version of a list, and else at each chunk.
     pub fn has_group(self, group: u32) -> bool {
         match self {
