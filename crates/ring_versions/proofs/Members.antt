@@ -1,5 +1,5 @@
 -- Versions in lists, and lists of versions in conflict.
-use Rattle.std.proofs.Common.{◌≡◌, ◌≢◌, ◌∙◌, ◌⊎◌, Bool, true, IsTrue, inl, inr, ℕ, zero, suc, ◌<◌, List, [], ◌∷◌, ◌++◌, length, get_or, Option, Some, None, Bor, false, ◌↔◌, option_map, is_some, slice_get, refl, sym, ap, subst, arith}
+use Rattle.std.proofs.Common.{◌≡◌, ◌≢◌, ◌∙◌, ◌⊎◌, Bool, true, IsTrue, inl, inr, ℕ, zero, suc, ◌<◌, List, [], ◌∷◌, ◌++◌, length, get_or, false, refl, sym, ap, subst, arith}
 use Rattle.std.specs.Prelude.{◌==◌}
 use Rattle.std.specs.List.{AllByRecursion, HoldsAt}
 use Rattle.std.proofs.lemmas.Bool.{eqb-true, eq-eqb}
@@ -95,10 +95,3 @@ at (v ∷ vs) (suc k) d l = inr (at vs k d (omega arith))
 -- what a slice has at a place is in it
 pub found_at : (vs : List Version) (k : ℕ) (x : Version) → (k < length vs) × HoldsAt (λ (y : Version). x ≡ y) vs k → IsIn x vs
 found_at vs k x h = subst (λ (v : Version). IsIn v vs) (sym (h.1 x)) (at vs k x h.0)
-
--- what has no first has none
-pub none_first : (o : Option (Bor Version)) (vs : List Version) → option_map (λ (v : Bor Version). v.now) o ≡ slice_get vs 0 → (is_some o ≡ false) ↔ (vs ≡ [])
-none_first None [] e = (λ h. refl, λ h. refl)
-none_first None (v ∷ vs) e = absurd cc
-none_first (Some x) [] e = absurd cc
-none_first (Some x) (v ∷ vs) e = (λ h. absurd cc, λ h. absurd cc)

@@ -1,6 +1,7 @@
 -- The parts of a merge, one version after the other.
 use Rattle.std.proofs.Common.{◌≡◌, ◌≢◌, ◌∙◌, ◌⊎◌, inl, inr, List, [], ◌∷◌, ◌++◌, refl, sym, ap, subst, arith}
 use Rattle.ring_clock.specs.declared.entry.Entry.{Entry}
+use Rattle.ring_clock.specs.Clock.{IsAtMost}
 use Rattle.ring_versions.specs.declared.version.Version.{Version}
 use Rattle.ring_versions.specs.Versions.{IsIn, Covers, IsApart, IsBeside, IsMerge}
 use Rattle.ring_versions.specs.declared.fresh.Fresh.{Fresh}
@@ -27,15 +28,6 @@ fresh_all held versions apart new = record { drawn = λ v h. h; new = new; cover
 
 pub fresh_new : (held : List Version) (x : Version) → (Covers held x.clock → ⊥) → IsFresh held (x ∷ []) (x ∷ [])
 fresh_new held x new = fresh_all held (x ∷ []) (tt, tt) (λ v h. elim h [ inl is ↦ subst (λ (z : Version). Covers held z.clock → ⊥) is new | inr none ↦ absurd none ])
-
--- which are as fresh against those that cover none of them
-pub fresh_against : (held versions out : List Version) → ((v : Version) → IsIn v versions → Covers held v.clock → ⊥) → IsFresh [] versions out → IsFresh held versions out
-fresh_against held versions out new f = record {
-  drawn = f.drawn;
-  new = λ v h. new v (f.drawn v h);
-  covers = λ k h. elim (f.covers k h) [ inl none ↦ absurd none.1 | inr mine ↦ inr mine ];
-  apart = f.apart;
-}
 
 pub fresh_as : (a b held versions out : List Version) → a ≡ held → b ≡ versions → IsFresh a b out → IsFresh held versions out
 fresh_as a b held versions out e f h = subst (λ (vs : List Version). IsFresh held vs out) f (subst (λ (vs : List Version). IsFresh vs b out) e h)
@@ -183,3 +175,22 @@ brings_nothing olds others made none a f = record {
 
 pub merge_with_none : (olds others : List Version) (f : Fresh) → IsApart olds → BringsNothing f → IsFreshFor olds others f → IsMerge olds others olds
 merge_with_none olds others f a e for = for.same e
+
+-- ---- one version held, and another one
+
+-- which the one held does not cover
+one_new : (h x : Version) → (IsAtMost x.clock h.clock → ⊥) → IsFresh (h ∷ []) (x ∷ []) (x ∷ [])
+one_new h x new = fresh_new (h ∷ []) x (λ c. elim (covers_front h [] x.clock c) [ inl le ↦ new le | inr none ↦ absurd none.1 ])
+
+pub one_covered : (h x : Version) (made : List Version) → made ≡ [] → IsAtMost x.clock h.clock → Brings (h ∷ []) (x ∷ []) made
+one_covered h x made none le = brings_nothing (h ∷ []) (x ∷ []) made none (tt, tt) (fresh_old (h ∷ []) x (h, inl refl, le))
+
+pub one_covers : (h x : Version) → (IsAtMost x.clock h.clock → ⊥) → IsAtMost h.clock x.clock → Brings (h ∷ []) (x ∷ []) (x ∷ [])
+one_covers h x new le =
+    let f = one_new h x new in
+    brings_merge (h ∷ []) (x ∷ []) (x ∷ []) (x ∷ []) f (λ none. cc) (merge_others (h ∷ []) (x ∷ []) (x ∷ []) (tt, tt) f (fresh_old (x ∷ []) h (x, inl refl, le)))
+
+pub both_stay : (h x : Version) (made : List Version) → (IsAtMost x.clock h.clock → ⊥) → (IsAtMost h.clock x.clock → ⊥) → IsReordered (x ∷ h ∷ []) made → Brings (h ∷ []) (x ∷ []) made
+both_stay h x made new old r =
+    let f = one_new h x new in
+    brings_merge (h ∷ []) (x ∷ []) (x ∷ []) made f (λ none. cc) (merge_reordered (h ∷ []) (x ∷ []) (x ∷ h ∷ []) made r (merge (h ∷ []) (x ∷ []) (x ∷ []) (h ∷ []) f (one_new x h old)))

@@ -1,18 +1,23 @@
 //! Versions that sets share.
 
-ghost use Rattle.std.specs.Prelude.{◌≡◌, ◌++◌, ◌∷◌, [], true, false, IfOk, IfErr, OnErr};
+ghost use Rattle.std.specs.Prelude.{◌≡◌, ◌++◌, ◌∷◌, [], true, false, IsTrue, IfOk, IfErr, OnErr};
 ghost use Rattle.ring_names.specs.declared.refusal.Refusal.TheVariants.{OutOfMemory};
+ghost use Rattle.ring_clock.specs.Clock.{IsAtMost};
+ghost use Rattle.ring_versions.specs.Versions.{IsIn};
+ghost use Rattle.ring_versions.specs.declared.version.Version.{Version as TheVersion};
 
 use crate::part::Part;
 use crate::version::Version;
+use ring_clock::Clock;
 use ring_names::Refusal;
 use std::alloc::Global;
 use std::marker::Model;
 use std::sync::Arc;
 
-/// A part of a set. Copies share it.
+/// A part of a set. Copies share it. The part's group stands beside it, so that who goes through chunks reads only what is in the part that it wants.
 #[derive(Drop)]
 pub struct Chunk {
+    group: u32,
     shared: Arc<Part>,
 }
 
@@ -32,8 +37,9 @@ impl Chunk {
         ensures ok { IfOk result (λ c. c ≡ part) }
         ensures memory { IfErr result (λ e. e ≡ OutOfMemory) }
     {
+        let group = part.group();
         let shared = Arc::new(alloc, part)?;
-        Ok(Chunk { shared })
+        Ok(Chunk { group, shared })
     }
 
     /// The same chunk once more. Takes no memory.
@@ -42,7 +48,15 @@ impl Chunk {
         ensures memory { IfErr result (λ e. e ≡ OutOfMemory) }
     {
         let shared = Arc::try_clone(&self.shared)?;
-        Ok(Chunk { shared })
+        Ok(Chunk {
+            group: self.group,
+            shared,
+        })
+    }
+
+    /// The group of which its part was made.
+    pub fn group(&self) -> u32 {
+        self.group
     }
 
     /// Whether no other set shares it.
@@ -74,5 +88,12 @@ impl Chunk {
         ensures { result.now ≡ self.now }
     {
         &self.shared
+    }
+
+    /// Whether it is plain that no version's clock is at most this one.
+    pub fn is_beyond(&self, top: &Clock) -> bool
+        ensures { IsTrue result → (v : TheVersion) → IsIn v self.now → IsAtMost v.clock top.now → ⊥ }
+    {
+        self.shared.is_beyond(top)
     }
 }

@@ -39,22 +39,13 @@ impl<'a> Held<'a> {
         }
     }
 
-    /// How many they are, where they are a list.
-    pub fn list_len(self) -> usize {
-        match self {
-            Held::Few(list) => list.len(),
-            Held::Many(_) => 0,
-        }
-    }
-
-    /// Whether some version's own writer is of the group.
+    /// Whether some version's own writer is of the group. Costs a look at each version of a list, and else at each chunk.
     pub fn has_group(self, group: u32) -> bool {
-        let mut walk = self.walk();
-        'versions: while let Some(version) = walk.next() {
-            if group_of(version.clock.own()) == group {
-                return true;
-            }
+        match self {
+            Held::Few(list) => list
+                .iter()
+                .any(|version| group_of(version.clock.own()) == group),
+            Held::Many(whole) => whole.has_group(group),
         }
-        false
     }
 }

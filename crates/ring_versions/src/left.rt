@@ -1,12 +1,12 @@
 //! What stays of a set in chunks where others come.
 
-ghost use Rattle.std.specs.Prelude.{◌≡◌, ◌<◌, ◌∷◌, ◌++◌, [], List, length, IsTrue, IfOk, IfErr, OnOk};
+ghost use Rattle.std.specs.Prelude.{◌≡◌, ◌<◌, ◌∷◌, ◌++◌, [], List, length, IfOk, IfErr, OnOk};
 ghost use Rattle.ring_names.specs.declared.refusal.Refusal.TheVariants.{OutOfMemory};
 ghost use Rattle.ring_clock.specs.Clock.{IsAtMost};
 ghost use Rattle.ring_versions.specs.Chunks.{all_of};
 ghost use Rattle.ring_versions.specs.Parts.{IsFresh, IsReordered};
 ghost use Rattle.ring_versions.specs.Shared.{looked_at, all_left};
-ghost use Rattle.ring_versions.specs.Versions.{IsIn, Covers, IsApart};
+ghost use Rattle.ring_versions.specs.Versions.{IsIn, IsApart};
 ghost use Rattle.ring_versions.specs.declared.version.Version.{Version as TheVersion};
 
 use crate::chunk::Chunk;
@@ -62,26 +62,20 @@ pub fn put_all(alloc: Global, made: &mut Vec<Part>, versions: Held) -> Result<()
     Ok(())
 }
 
-// Copies of those versions of a part that the fresh ones leave: all, where it is known that those cover none.
-fn left_in(
-    alloc: Global,
-    part: &Part,
-    fresh: Held,
-    is_beyond: bool,
-) -> Result<Vec<Version>, Refusal>
-    requires apart { IsApart part.now }
-    requires beyond { IsTrue is_beyond → (v : TheVersion) → IsIn v part.now → Covers (looked_at fresh) v.clock → ⊥ }
-    ensures ok { IfOk result (λ out. IsFresh (looked_at fresh.entry) part.now out.items) }
+// Keeps a chunk of which the fresh versions cover none: as it is, or as a part of its own where one of them is to be put to it.
+fn keep_all(alloc: Global, left: &mut Left, chunk: &Chunk, fresh: Held) -> Result<(), Refusal>
+    ensures ok { OnOk result (IsReordered (all_left left.old ++ chunk.now) (all_left left.new)) }
     ensures memory { IfErr result (λ e. e ≡ OutOfMemory) }
 {
-    let versions = Held::Few(part.versions());
-    if is_beyond {
-        return fresh_of(alloc, versions, Held::Few(&[]));
+    if fresh.has_group(chunk.group()) {
+        left.made.push(chunk.part().try_copy(alloc)?)?;
+    } else {
+        left.kept.push(chunk.try_copy()?)?;
     }
-    fresh_of(alloc, versions, fresh)
+    Ok(())
 }
 
-// Keeps a chunk as it is where the fresh versions leave it so and have none of its group, and else a part of those that they leave.
+// Keeps those versions of a chunk that the fresh ones leave: all, where it is plain that those cover none.
 fn keep(
     alloc: Global,
     left: &mut Left,
@@ -95,13 +89,11 @@ fn keep(
         × IsReordered (all_left left.old ++ out) (all_left left.new)) }
     ensures memory { IfErr result (λ e. e ≡ OutOfMemory) }
 {
-    let part = chunk.part();
-    let is_beyond = part.is_beyond(top);
-    if is_beyond && !fresh.has_group(part.group()) {
-        left.kept.push(chunk.try_copy()?)?;
-        return Ok(());
+    if chunk.is_beyond(top) {
+        return keep_all(alloc, left, chunk, fresh);
     }
-    let versions = left_in(alloc, part, fresh, is_beyond)?;
+    let part = chunk.part();
+    let versions = fresh_of(alloc, Held::Few(part.versions()), fresh)?;
     if !versions.is_empty() {
         left.made.push(part.with(alloc, versions)?)?;
     }

@@ -1,6 +1,6 @@
 //! Two sets of versions made one.
 
-ghost use Rattle.std.specs.Prelude.{◌≡◌, IfOk, IfErr};
+ghost use Rattle.std.specs.Prelude.{◌≡◌, ◌∷◌, [], IfOk, IfErr};
 ghost use Rattle.ring_names.specs.declared.refusal.Refusal.TheVariants.{OutOfMemory};
 ghost use Rattle.ring_versions.specs.Fresh.{Brings};
 ghost use Rattle.ring_versions.specs.Parts.{IsFresh};
@@ -56,6 +56,29 @@ fn merged_with_many(
     }
     put_all(alloc, &mut left.made, fresh.held())?;
     Versions::of_left(alloc, held.join().join(&top)?, left)
+}
+
+/// What another version makes of the one held: nothing where that covers it, the set of it where it covers that, and else both.
+pub fn merged_one(
+    alloc: Global,
+    held: &Version,
+    other: &Version,
+    others: &Versions,
+) -> Result<Versions, Refusal>
+    requires { others.now ≡ other.now ∷ [] }
+    ensures ok { IfOk result (Brings (held.now ∷ []) others.now) }
+    ensures memory { IfErr result (λ e. e ≡ OutOfMemory) }
+{
+    if other.clock.le(&held.clock) {
+        return Ok(Versions::new(alloc));
+    }
+    if held.clock.le(&other.clock) {
+        return others.try_copy();
+    }
+    let mut both = Vec::with_capacity(alloc, 2)?;
+    both.push(other.try_copy()?)?;
+    both.push(held.try_copy()?)?;
+    Versions::of_list(alloc, both)
 }
 
 /// What the others make of the versions held: the merge, or no version where those held cover them all. Takes no memory there. Where the

@@ -80,6 +80,18 @@ pub fn is_among(versions: &[Version], clock: &Clock) -> bool
     false
 }
 
+// Copies of versions, with room for one more.
+fn copies_of(alloc: Global, versions: &[Version]) -> Result<Vec<Version>, Refusal>
+    ensures ok { IfOk result (λ out. out.items ≡ versions.now) }
+    ensures memory { IfErr result (λ e. e ≡ OutOfMemory) }
+{
+    let mut out = Vec::with_capacity(alloc, versions.len().saturating_add(1))?;
+    for version in versions {
+        out.push(version.try_copy()?)?;
+    }
+    Ok(out)
+}
+
 impl Part {
     /// No version.
     pub fn new(alloc: Global, group: u32) -> Part
@@ -100,6 +112,23 @@ impl Part {
         ensures memory { IfErr result (λ e. e ≡ OutOfMemory) }
     {
         let owns = owns_of(alloc, versions.as_slice())?;
+        let join = self.join.try_copy()?;
+        Ok(Part {
+            group: self.group,
+            versions,
+            owns,
+            join,
+        })
+    }
+
+    /// The same part once more, with room for one version more. Costs its versions, and looks into none of their clocks.
+    pub fn try_copy(&self, alloc: Global) -> Result<Part, Refusal>
+        ensures ok { IfOk result (λ p. p ≡ self.now) }
+        ensures memory { IfErr result (λ e. e ≡ OutOfMemory) }
+    {
+        let versions = copies_of(alloc, self.versions.as_slice())?;
+        let mut owns = Vec::with_capacity(alloc, self.owns.len().saturating_add(1))?;
+        owns.extend_from_slice(self.owns.as_slice())?;
         let join = self.join.try_copy()?;
         Ok(Part {
             group: self.group,

@@ -15,7 +15,7 @@ use crate::fresh::Fresh;
 use crate::held::Held;
 use crate::joining::join_of;
 use crate::left::{Left, chunks_of, put_all};
-use crate::merge::merged;
+use crate::merge::{merged, merged_one};
 use crate::puts::puts_of;
 use crate::version::Version;
 use crate::walk::Walk;
@@ -35,7 +35,7 @@ const MANY: usize = 8;
 /// Costs are told for the clocks of puts, where a version is covered just where its own writer's counter is reached, and for sets of eight
 /// versions or more. Of other clocks each of the looks may cost a comparison with each version.
 ///
-/// Eight versions or more stand in chunks, by the group of thirty-two writers of which each one's own writer is. A set takes 8 bytes for each
+/// Eight versions or more stand in chunks, by the group of thirty-two writers of which each one's own writer is. A set takes 16 bytes for each
 /// chunk. A chunk, which sets share, takes some 100 bytes, 16 bytes for each version beside the version, and what its join of their clocks does
 /// not share with these.
 pub struct Versions {
@@ -137,7 +137,12 @@ impl Versions {
         ensures value { option_map (λ v. v.now) result ≡ slice_get self.now 0 }
         ensures apart { IsApart self.now }
     {
-        self.versions().next()
+        match &self.shared {
+            Shared::Nothing => None,
+            Shared::One(one) => Some(one),
+            Shared::Few(list) => list.as_slice().first(),
+            Shared::Many(whole) => Walk::many(whole.chunks()).next(),
+        }
     }
 
     /// Whether there is no version.
@@ -145,7 +150,12 @@ impl Versions {
         ensures value { IsTrue result ↔ self.now ≡ [] }
         ensures apart { IsApart self.now }
     {
-        self.first().is_none()
+        match &self.shared {
+            Shared::Nothing => true,
+            Shared::One(_) => false,
+            Shared::Few(list) => list.is_empty(),
+            Shared::Many(whole) => Walk::many(whole.chunks()).next().is_none(),
+        }
     }
 
     /// Whether some version has a clock that is at least this one. Takes no memory. Costs a look: at the join, and where that reaches the clock,
@@ -205,10 +215,11 @@ impl Versions {
         ensures ok { IfOk result (Brings self.now other.now) }
         ensures memory { IfErr result (λ e. e ≡ OutOfMemory) }
     {
-        if self.is_empty() {
-            return other.try_copy();
+        match (&self.shared, &other.shared) {
+            (Shared::Nothing, _) => other.try_copy(),
+            (Shared::One(mine), Shared::One(theirs)) => merged_one(self.alloc, mine, theirs, other),
+            _ => merged(self.alloc, self.held(), other),
         }
-        merged(self.alloc, self.held(), other)
     }
 
     /// The second half of a merge, which cannot fail: takes in what was made for this very set. Costs what letting the old versions go does.

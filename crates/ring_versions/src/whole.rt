@@ -52,8 +52,7 @@ fn leads(chunks: &[Chunk], clock: &Clock) -> bool
     let group = group_of(clock.own());
     let mut rest = chunks;
     'chunks: while let Some((chunk, later)) = rest.split_first() {
-        let part = chunk.part();
-        if part.group() == group && part.leads(clock) {
+        if chunk.group() == group && chunk.part().leads(clock) {
             return true;
         }
         rest = later;
@@ -81,7 +80,7 @@ fn are_beyond(chunks: &[Chunk], clock: &Clock) -> bool
 {
     let mut rest = chunks;
     'chunks: while let Some((chunk, later)) = rest.split_first() {
-        if !chunk.part().is_beyond(clock) {
+        if !chunk.is_beyond(clock) {
             return false;
         }
         rest = later;
@@ -94,9 +93,7 @@ fn place_of(chunks: &mut Vec<Chunk>, group: u32) -> Option<usize>
     ensures same { chunks.new.items ≡ chunks.old.items }
     ensures some { IfSome result (λ place. place < length chunks.old.items) }
 {
-    let place = chunks
-        .iter()
-        .position(|chunk| chunk.part().group() == group)?;
+    let place = chunks.iter().position(|chunk| chunk.group() == group)?;
     if chunks[place].is_alone() {
         Some(place)
     } else {
@@ -125,6 +122,11 @@ impl Whole {
         ensures { all_of result.now ≡ self.now }
     {
         self.chunks.as_slice()
+    }
+
+    /// Whether some chunk was made for the group. Costs a look at each, and none at what is in them.
+    pub fn has_group(&self, group: u32) -> bool {
+        self.chunks.iter().any(|chunk| chunk.group() == group)
     }
 
     /// Whether some version has a clock that is at least this one. The clock's own writer mostly decides it: by the join where no version

@@ -11,6 +11,6 @@ chunks-preserved c = λ h.
     let chunk = c.in-Some.chunk.now in
     let later = all_of c.in-Some.later.now in
     let yes : IsTrue c.is_beyond.result = search rules in
-    let first = subst (λ (vs : List Version). (v : Version) → IsIn v vs → IsAtMost v.clock c.args.clock.now → ⊥) c.part.ensures (c.is_beyond.ensures yes) in
+    let first = c.is_beyond.ensures yes in
     c.chunks.invariant (subst (λ (cs : List (List Version)). (v : Version) → IsIn v (all_of cs) → IsAtMost v.clock c.args.clock.now → ⊥) (sym (c.in-Some.ensures).cases.0)
     (λ v at. elim (in_either v chunk later at) [ inl mine ↦ first v mine | inr more ↦ h v more ]))
