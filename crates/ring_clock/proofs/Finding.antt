@@ -5,7 +5,7 @@ use Rattle.std.specs.Ordering.{nat_cmp}
 use Rattle.std.proofs.lemmas.Cmp.{ranked}
 use Rattle.ring_clock.specs.declared.entry.Entry.{Entry}
 use Rattle.ring_clock.specs.Clock.{counter}
-use Rattle.ring_clock.specs.Groups.{group, group_in, IsBlock}
+use Rattle.ring_clock.specs.Groups.{group, group_in, HasGroup, IsBlock, IsBlockFor}
 use Rattle.ring_clock.specs.Blocks.{AreBlocks, entries_of}
 use Rattle.ring_clock.proofs.Searching.{each_at, not_at}
 use Rattle.ring_clock.proofs.Ascending.{here_group, there_group}
@@ -31,17 +31,20 @@ nowhere : (bs : List (List Entry)) (w : ℕ) → AreBlocks bs → ((k : ℕ) (d 
 nowhere [] w are h = refl
 nowhere (b ∷ bs) w are h = nowhere bs w are.2 (λ k d l. h (suc k) d (omega arith)) ∙ sym (there_group b bs w are (λ is. h zero b (omega arith) (sym is)))
 
--- a block of the writer's group that was looked at has the writer's counter
-pub seen_group : (bs : List (List Entry)) (w k : ℕ) (b : List Entry) → AreBlocks bs → k < length bs → b ≡ get_or bs k b → group_in b ≡ group w → counter b w ≡ counter (entries_of bs) w
-seen_group bs w k b h l is of = ap (λ (x : List Entry). counter x w) is ∙ at bs w h k b l (sym (ap group_in is) ∙ of)
+-- a block of the group that was looked at is its block
+pub seen_group : (bs : List (List Entry)) (g k : ℕ) (b : List Entry) → AreBlocks bs → k < length bs → b ≡ get_or bs k b → group_in b ≡ g → IsBlockFor g (entries_of bs) b
+seen_group bs g k b h l is of = record {
+  block = rw is (block_at bs h k b l);
+  of = of;
+  counters = λ w own. ap (λ (x : List Entry). counter x w) is ∙ at bs w h k b l (sym (ap group_in is) ∙ of ∙ sym own);
+}
 
--- the block that was found is of the group, and has the counters of its writers
-pub its_group : (bs : List (List Entry)) (g k : ℕ) (d : List Entry) → IsBinarySearchResult (λ b. nat_cmp (group_in b) g) bs (Ok k) → group_in (get_or bs k d) ≡ g
-its_group bs g k d r = ranked _ g _ (sym (r d))
+-- so is the block that was found
+pub found_group : (bs : List (List Entry)) (g k : ℕ) (b : List Entry) → AreBlocks bs → k < length bs → b ≡ get_or bs k b → IsBinarySearchResult (λ b. nat_cmp (group_in b) g) bs (Ok k) → IsBlockFor g (entries_of bs) b
+found_group bs g k b h l is r = seen_group bs g k b h l is (ap group_in is ∙ ranked _ g _ (sym (r b)))
 
-pub found_group : (bs : List (List Entry)) (g w k : ℕ) (d : List Entry) → AreBlocks bs → k < length bs → IsBinarySearchResult (λ b. nat_cmp (group_in b) g) bs (Ok k) → group w ≡ g → counter (get_or bs k d) w ≡ counter (entries_of bs) w
-found_group bs g w k d h l r of = at bs w h k d l (its_group bs g k d r ∙ sym of)
-
--- where none was found its writers' counters are 0
-pub no_group : (bs : List (List Entry)) (g w k : ℕ) → AreBlocks bs → IsBinarySearchResult (λ b. nat_cmp (group_in b) g) bs (Err k) → group w ≡ g → counter (entries_of bs) w ≡ 0
-no_group bs g w k h r of = sym (nowhere bs w h (λ j d l is. not_at group_in bs g k (rise bs h) r j d l (is ∙ of)))
+-- where none was found no writer of the group has a counter
+pub no_group : (bs : List (List Entry)) (g k : ℕ) → AreBlocks bs → IsBinarySearchResult (λ b. nat_cmp (group_in b) g) bs (Err k) → ¬ (HasGroup g (entries_of bs))
+no_group bs g k h r has =
+    let none = nowhere bs has.0 h (λ n d l is. not_at group_in bs g k (rise bs h) r n d l (is ∙ has.1)) in
+    absurd (omega (arith, has.2))

@@ -16,10 +16,16 @@ group_in (e ∷ es) = group e.writer.0
 abbrev pub IsOfGroup : ℕ → List Entry → Type 0
 IsOfGroup g es = (w : ℕ) → group w ≢ g → counter es w ≡ 0
 
--- some writer of the group has a counter
-abbrev pub HasGroup : List Entry → ℕ → Type 0
-HasGroup es g = (w : ℕ) × (group w ≡ g) × (0 < counter es w)
-
 -- entries of one group, one at least
 abbrev pub IsBlock : List Entry → Type 0
 IsBlock es = IsClock es × (0 < length es) × IsOfGroup (group_in es) es
+
+-- a writer of group g has a counter
+abbrev pub HasGroup : ℕ → List Entry → Type 0
+HasGroup g es = (w : ℕ) × (group w ≡ g) × (0 < counter es w)
+
+-- b is the block of group g: its writers' counters are those in es
+pub record IsBlockFor (g : ℕ) (es b : List Entry) : Type 0 where
+  pub block : IsBlock b
+  pub of : group_in b ≡ g
+  pub counters : (w : ℕ) → group w ≡ g → counter b w ≡ counter es w

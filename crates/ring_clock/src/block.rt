@@ -16,7 +16,7 @@ use std::sync::Arc;
 // From so many entries on, of 16 bytes each, the counters of the whole group, of 132 bytes, take no more memory than they.
 const MANY: usize = 9;
 
-/// The group of a writer: those whose numbers follow one another are one, whose counters a clock keeps together.
+/// The group of a writer: thirty-two writers whose numbers follow one another, whose counters a clock keeps together.
 pub fn group_of(writer: WriterId) -> u32
     ensures { result ≡ group writer.0 }
 {
@@ -105,16 +105,6 @@ impl Block {
         match &*self.shared {
             Form::Few(entries) => out.extend_from_slice(entries.as_slice()),
             Form::Full(full) => full.push_to(out),
-        }
-    }
-
-    /// The counters of the whole group, where it has them.
-    pub fn as_full(&self) -> Option<&Full>
-        ensures { IfSome result (λ f. f.now ≡ self.now) }
-    {
-        match &*self.shared {
-            Form::Few(_) => None,
-            Form::Full(full) => Some(full),
         }
     }
 

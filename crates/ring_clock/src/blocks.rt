@@ -2,7 +2,7 @@
 
 ghost use Rattle.std.specs.Prelude.{◌≡◌, ◌↔◌, ◌+◌, ◌<◌, ◌∷◌, [], ℕ, IsTrue, IfOk, IfNone, IfSome, OnOk, length, max};
 ghost use Rattle.ring_clock.specs.Clock.{IsAtMost, counter};
-ghost use Rattle.ring_clock.specs.Groups.{IsBlock, group as group_number, group_in};
+ghost use Rattle.ring_clock.specs.Groups.{HasGroup, IsBlock, IsBlockFor, group, group_in};
 ghost use Rattle.ring_clock.specs.Blocks.{AreBlocks, entries_of, listed};
 ghost use Rattle.ring_clock.specs.Merge.{BlocksStandFor};
 
@@ -45,13 +45,12 @@ impl Blocks {
     }
 }
 
-/// The block of a group, if it has one. Costs the logarithm of how many blocks there are; where each lesser group has a block, one look.
+/// The block of a group, where there is one. Costs the logarithm of how many blocks there are. Where each lesser group has a block, one look
+/// takes the place of the search.
 pub fn block_of(blocks: &[Block], group: u32) -> Option<&Block>
     requires { AreBlocks blocks.now }
-    ensures block { IfSome result (λ b. IsBlock b.now × (group_in b.now ≡ group)) }
-    ensures found { IfSome result
-        (λ b. (w : ℕ) → group_number w ≡ group → counter b.now w ≡ counter (entries_of blocks.now) w) }
-    ensures none { IfNone result ((w : ℕ) → group_number w ≡ group → counter (entries_of blocks.now) w ≡ 0) }
+    ensures some { IfSome result (λ b. IsBlockFor group (entries_of blocks.now) b.now) }
+    ensures none { IfNone result (¬ (HasGroup group (entries_of blocks.now))) }
 {
     if let Some(guess) = blocks.get(group as usize)
         && guess.group() == group
@@ -64,14 +63,18 @@ pub fn block_of(blocks: &[Block], group: u32) -> Option<&Block>
     }
 }
 
-/// The counter of a writer, 0 where it has none. Costs a look for the block of its group, and the logarithm of that one's entries.
+/// The counter of a writer, 0 where it has none. Costs a look for the block of its group, and the logarithm of that block's entries.
 pub fn counter_in(blocks: &[Block], writer: WriterId) -> u64
     requires { AreBlocks blocks.now }
     ensures { result ≡ counter (entries_of blocks.now) writer.0 }
 {
-    match block_of(blocks, group_of(writer)) {
-        Some(block) => block.counter(writer),
-        None => 0,
+    match blocks {
+        [] => 0,
+        [block] => block.counter(writer),
+        _ => match block_of(blocks, group_of(writer)) {
+            Some(block) => block.counter(writer),
+            None => 0,
+        },
     }
 }
 

@@ -1,4 +1,4 @@
-//! Clocks beside entries of several writers, and beside groups of them.
+//! Clocks beside entries of several writers.
 
 ghost use Rattle.std.specs.Prelude.{◌↔◌, ◌<◌, IsTrue};
 ghost use Rattle.std.specs.List.{All};
@@ -11,16 +11,16 @@ use crate::clock::Clock;
 use crate::entry::Entry;
 
 impl Clock {
-    /// Whether some writer of the group has a counter. Takes no memory. Costs the logarithm of the groups; where each lesser group has one, a
-    /// look.
+    /// Whether some writer of the group has a counter. Takes no memory. Costs the logarithm of the groups; where all lesser groups have one,
+    /// a look.
     pub fn has_group(&self, group: u32) -> bool
-        ensures { IsTrue result ↔ HasGroup self.now group }
+        ensures { IsTrue result ↔ HasGroup group self.now }
     {
         block_of(self.blocks(), group).is_some()
     }
 
-    /// Whether each of these writers' counters is below that of its entry. Takes no memory. Costs the entries, a look for a group where
-    /// theirs change, and the logarithm of the counters of a group of which few writers have one.
+    /// Whether each of these writers' counters is below that of its entry. Takes no memory. Costs the entries, of each the logarithm of those
+    /// of its group where these are few, and what `has_group` costs wherever their groups change.
     pub fn is_below_each(&self, entries: &[Entry]) -> bool
         ensures { IsTrue result ↔ All (λ e. counter self.now e.writer.0 < e.counter) entries.now }
     {
