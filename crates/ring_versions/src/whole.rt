@@ -6,7 +6,7 @@ ghost use Rattle.ring_versions.specs.Raised.{RaisesTo, IsClockIn};
 ghost use Rattle.ring_versions.specs.Versions.{Covers};
 
 use crate::chunk::Chunk;
-use crate::part::group_of;
+use crate::group::group_of;
 use crate::version::Version;
 use ring_clock::Clock;
 use std::marker::Model;
