@@ -13,10 +13,10 @@ use std::alloc::{AllocError, Global};
 use std::marker::Model;
 use std::sync::Arc;
 
-// From so many entries on, of 16 bytes each, the counters of the whole group, of 132 bytes, take no more memory than they.
-const MANY: usize = 9;
+// From so many entries on, of 16 bytes each, the counters of the whole group, of 260 bytes, take no more memory than they.
+const MANY: usize = 17;
 
-/// The group of a writer: thirty-two writers whose numbers follow one another, whose counters a clock keeps together.
+/// The group of a writer: sixty-four writers whose numbers follow one another, whose counters a clock keeps together.
 pub fn group_of(writer: WriterId) -> u32
     ensures { result ≡ group writer.0 }
 {
@@ -193,7 +193,7 @@ impl Block {
     }
 
     /// Each writer's greater counter of the block and of entries of its group. Costs the entries of both, and takes memory for what it makes:
-    /// 132 bytes where the block is full, and 16 for each entry where one's counter is too great for that.
+    /// 260 bytes where the block is full, and 16 for each entry where one's counter is too great for that.
     pub fn merge(&self, alloc: Global, entries: &[Entry]) -> Result<Block, AllocError>
         requires first { IsBlock self.now }
         requires second { IsBlock entries.now }
