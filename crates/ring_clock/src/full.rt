@@ -123,15 +123,16 @@ impl Full {
         true
     }
 
-    /// Whether each writer's counter is at most that among entries. Costs a search among these for each place.
+    /// Whether each writer's counter is at most that among entries. Costs a search among these for each writer that has a counter.
     pub fn is_below(&self, entries: &[Entry]) -> bool
         requires { IsClock entries.now }
         ensures { IsTrue result ↔ IsAtMost self.now entries.now }
     {
         let first = self.group * GROUP;
         for place in 0..PLACES {
+            let counter = u64::from(self.counters[place]);
             let writer = WriterId(first + place as u32);
-            if counter_of(entries, writer) < u64::from(self.counters[place]) {
+            if counter > 0 && counter_of(entries, writer) < counter {
                 return false;
             }
         }
