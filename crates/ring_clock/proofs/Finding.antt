@@ -5,7 +5,7 @@ use Rattle.std.specs.Ordering.{nat_cmp}
 use Rattle.std.proofs.lemmas.Cmp.{ranked}
 use Rattle.ring_clock.specs.declared.entry.Entry.{Entry}
 use Rattle.ring_clock.specs.Clock.{counter}
-use Rattle.ring_clock.specs.Groups.{group, group_in, IsBlock}
+use Rattle.ring_clock.specs.Groups.{group, group_in, HasGroup, IsBlock, IsBlockFor}
 use Rattle.ring_clock.specs.Blocks.{AreBlocks, entries_of}
 use Rattle.ring_clock.proofs.Searching.{each_at, not_at}
 use Rattle.ring_clock.proofs.Ascending.{here_group, there_group}
@@ -31,14 +31,20 @@ nowhere : (bs : List (List Entry)) (w : ℕ) → AreBlocks bs → ((k : ℕ) (d 
 nowhere [] w are h = refl
 nowhere (b ∷ bs) w are h = nowhere bs w are.2 (λ k d l. h (suc k) d (omega arith)) ∙ sym (there_group b bs w are (λ is. h zero b (omega arith) (sym is)))
 
--- a block of the writer's group that was looked at has the writer's counter
-pub seen_group : (bs : List (List Entry)) (w k : ℕ) (b : List Entry) → AreBlocks bs → k < length bs → b ≡ get_or bs k b → group_in b ≡ group w → counter b w ≡ counter (entries_of bs) w
-seen_group bs w k b h l is of = ap (λ (x : List Entry). counter x w) is ∙ at bs w h k b l (sym (ap group_in is) ∙ of)
+-- a block of the group that was looked at is its block
+pub seen_group : (bs : List (List Entry)) (g k : ℕ) (b : List Entry) → AreBlocks bs → k < length bs → b ≡ get_or bs k b → group_in b ≡ g → IsBlockFor g (entries_of bs) b
+seen_group bs g k b h l is of = record {
+  block = rw is (block_at bs h k b l);
+  of = of;
+  counters = λ w own. ap (λ (x : List Entry). counter x w) is ∙ at bs w h k b l (sym (ap group_in is) ∙ of ∙ sym own);
+}
 
--- the block that was found has the writer's counter
-pub found_group : (bs : List (List Entry)) (w k : ℕ) (d : List Entry) → AreBlocks bs → k < length bs → IsBinarySearchResult (λ b. nat_cmp (group_in b) (group w)) bs (Ok k) → counter (get_or bs k d) w ≡ counter (entries_of bs) w
-found_group bs w k d h l r = at bs w h k d l (ranked _ (group w) _ (sym (r d)))
+-- so is the block that was found
+pub found_group : (bs : List (List Entry)) (g k : ℕ) (b : List Entry) → AreBlocks bs → k < length bs → b ≡ get_or bs k b → IsBinarySearchResult (λ b. nat_cmp (group_in b) g) bs (Ok k) → IsBlockFor g (entries_of bs) b
+found_group bs g k b h l is r = seen_group bs g k b h l is (ap group_in is ∙ ranked _ g _ (sym (r b)))
 
--- where none was found the counter is 0
-pub no_group : (bs : List (List Entry)) (w k : ℕ) → AreBlocks bs → IsBinarySearchResult (λ b. nat_cmp (group_in b) (group w)) bs (Err k) → 0 ≡ counter (entries_of bs) w
-no_group bs w k h r = nowhere bs w h (not_at group_in bs (group w) k (rise bs h) r)
+-- where none was found no writer of the group has a counter
+pub no_group : (bs : List (List Entry)) (g k : ℕ) → AreBlocks bs → IsBinarySearchResult (λ b. nat_cmp (group_in b) g) bs (Err k) → ¬ (HasGroup g (entries_of bs))
+no_group bs g k h r has =
+    let none = nowhere bs has.0 h (λ n d l is. not_at group_in bs g k (rise bs h) r n d l (is ∙ has.1)) in
+    absurd (omega (arith, has.2))

@@ -5,7 +5,7 @@ use Rattle.ring_clock.specs.Clock.{counter, IsClock}
 
 -- the group of a writer
 abbrev pub group : ℕ → ℕ
-group w = w / 32
+group w = w / 64
 
 -- the group of the first entry's writer
 abbrev pub group_in : List Entry → ℕ
@@ -19,3 +19,13 @@ IsOfGroup g es = (w : ℕ) → group w ≢ g → counter es w ≡ 0
 -- entries of one group, one at least
 abbrev pub IsBlock : List Entry → Type 0
 IsBlock es = IsClock es × (0 < length es) × IsOfGroup (group_in es) es
+
+-- a writer of group g has a counter
+abbrev pub HasGroup : ℕ → List Entry → Type 0
+HasGroup g es = (w : ℕ) × (group w ≡ g) × (0 < counter es w)
+
+-- b is the block of group g: its writers' counters are those in es
+pub record IsBlockFor (g : ℕ) (es b : List Entry) : Type 0 where
+  pub block : IsBlock b
+  pub of : group_in b ≡ g
+  pub counters : (w : ℕ) → group w ≡ g → counter b w ≡ counter es w

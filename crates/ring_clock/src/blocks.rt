@@ -2,7 +2,7 @@
 
 ghost use Rattle.std.specs.Prelude.{◌≡◌, ◌↔◌, ◌+◌, ◌<◌, ◌∷◌, [], ℕ, IsTrue, IfOk, IfNone, IfSome, OnOk, length, max};
 ghost use Rattle.ring_clock.specs.Clock.{IsAtMost, counter};
-ghost use Rattle.ring_clock.specs.Groups.{IsBlock, group, group_in};
+ghost use Rattle.ring_clock.specs.Groups.{HasGroup, IsBlock, IsBlockFor, group, group_in};
 ghost use Rattle.ring_clock.specs.Blocks.{AreBlocks, entries_of, listed};
 ghost use Rattle.ring_clock.specs.Merge.{BlocksStandFor};
 
@@ -45,24 +45,35 @@ impl Blocks {
     }
 }
 
-/// The counter of a writer, 0 where it has none. Costs the logarithm of how many blocks there are and of the entries of one. Where each
-/// lesser group has a block, one look takes the place of the search among blocks.
+/// The block of a group, where there is one. Costs the logarithm of how many blocks there are. Where each lesser group has a block, one look
+/// takes the place of the search.
+pub fn block_of(blocks: &[Block], group: u32) -> Option<&Block>
+    requires { AreBlocks blocks.now }
+    ensures some { IfSome result (λ b. IsBlockFor group (entries_of blocks.now) b.now) }
+    ensures none { IfNone result (¬ (HasGroup group (entries_of blocks.now))) }
+{
+    if let Some(guess) = blocks.get(group as usize)
+        && guess.group() == group
+    {
+        return Some(guess);
+    }
+    match blocks.binary_search_by_key(&group, |block| block.group()) {
+        Ok(place) => Some(&blocks[place]),
+        Err(_) => None,
+    }
+}
+
+/// The counter of a writer, 0 where it has none. Costs a look for the block of its group, and the logarithm of that block's entries.
 pub fn counter_in(blocks: &[Block], writer: WriterId) -> u64
     requires { AreBlocks blocks.now }
     ensures { result ≡ counter (entries_of blocks.now) writer.0 }
 {
-    let group = group_of(writer);
-    if let Some(guess) = blocks.get(group as usize)
-        && guess.group() == group
-    {
-        return guess.counter(writer);
-    }
     match blocks {
         [] => 0,
         [block] => block.counter(writer),
-        _ => match blocks.binary_search_by_key(&group, |block| block.group()) {
-            Ok(place) => blocks[place].counter(writer),
-            Err(_) => 0,
+        _ => match block_of(blocks, group_of(writer)) {
+            Some(block) => block.counter(writer),
+            None => 0,
         },
     }
 }

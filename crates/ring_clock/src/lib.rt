@@ -13,6 +13,7 @@ mod part;
 mod reach;
 mod walk;
 
+pub use block::group_of;
 pub use causes::{Cause, clocks};
 pub use clock::Clock;
 pub use entry::Entry;

@@ -1,46 +1,40 @@
 //! Clocks beside entries of several writers.
 
-ghost use Rattle.std.specs.Prelude.{◌≡◌, ◌↔◌, ◌<◌, ℕ, IsTrue, IfSome};
+ghost use Rattle.std.specs.Prelude.{◌↔◌, ◌<◌, IsTrue};
 ghost use Rattle.std.specs.List.{All};
 ghost use Rattle.ring_clock.specs.Clock.{counter};
-ghost use Rattle.ring_clock.specs.Blocks.{AreBlocks, entries_of};
-ghost use Rattle.ring_clock.specs.Groups.{group as group_number};
+ghost use Rattle.ring_clock.specs.Groups.{HasGroup};
 
-use crate::block::{Block, group_of};
+use crate::block::group_of;
+use crate::blocks::block_of;
 use crate::clock::Clock;
 use crate::entry::Entry;
-use crate::full::Full;
-
-// The counters of a group, where its block has all of them and each lesser group has a block.
-fn full_of(blocks: &[Block], group: u32) -> Option<&Full>
-    requires { AreBlocks blocks.now }
-    ensures { IfSome result
-        (λ f. (w : ℕ) → group_number w ≡ group → counter f.now w ≡ counter (entries_of blocks.now) w) }
-{
-    let guess = blocks.get(group as usize)?;
-    if guess.group() != group {
-        return None;
-    }
-    guess.as_full()
-}
 
 impl Clock {
-    /// Whether each of these writers' counters is below that of its entry. Takes no memory. Costs the entries, and a look among blocks where
-    /// their groups change; of a group that has no full block, or that a lesser one lacks before, what `counter` costs for each.
+    /// Whether some writer of the group has a counter. Takes no memory. Costs the logarithm of the groups; where all lesser groups have one,
+    /// a look.
+    pub fn has_group(&self, group: u32) -> bool
+        ensures { IsTrue result ↔ HasGroup group self.now }
+    {
+        block_of(self.blocks(), group).is_some()
+    }
+
+    /// Whether each of these writers' counters is below that of its entry. Takes no memory. Costs the entries, of each the logarithm of those
+    /// of its group where these are few, and what `has_group` costs wherever their groups change.
     pub fn is_below_each(&self, entries: &[Entry]) -> bool
         ensures { IsTrue result ↔ All (λ e. counter self.now e.writer.0 < e.counter) entries.now }
     {
         let mut group = 0;
-        let mut full = full_of(self.blocks(), group);
+        let mut block = block_of(self.blocks(), group);
         for entry in entries {
             let own = group_of(entry.writer);
             if own != group {
                 group = own;
-                full = full_of(self.blocks(), group);
+                block = block_of(self.blocks(), group);
             }
-            let counter = match full {
-                Some(full) => full.counter(entry.writer),
-                None => self.counter(entry.writer),
+            let counter = match block {
+                Some(block) => block.counter(entry.writer),
+                None => 0,
             };
             if counter >= entry.counter {
                 return false;
