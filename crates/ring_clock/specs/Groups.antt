@@ -5,7 +5,7 @@ use Rattle.ring_clock.specs.Clock.{counter, IsClock}
 
 -- the group of a writer
 abbrev pub group : ℕ → ℕ
-group w = w / 32
+group w = w / 64
 
 -- the group of the first entry's writer
 abbrev pub group_in : List Entry → ℕ

@@ -13,10 +13,10 @@ use std::alloc::{AllocError, Global};
 use std::marker::Model;
 use std::sync::Arc;
 
-// From so many entries on, of 16 bytes each, the counters of the whole group, of 132 bytes, take no more memory than they.
-const MANY: usize = 9;
+// From so many entries on, of 16 bytes each, the counters of the whole group, of 260 bytes, take no more memory than they.
+const MANY: usize = 17;
 
-/// The group of a writer: thirty-two writers whose numbers follow one another, whose counters a clock keeps together.
+/// The group of a writer: sixty-four writers whose numbers follow one another, whose counters a clock keeps together.
 pub fn group_of(writer: WriterId) -> u32
     ensures { result ≡ group writer.0 }
 {
@@ -33,11 +33,14 @@ pub enum Form {
 /// Entries of writers of one group. Copies share them.
 #[derive(Drop)]
 pub struct Block {
+    // Beside the entries, so that blocks of two groups are told apart without a look at their memory.
+    group: u32,
     shared: Arc<Form>,
 }
 
 impl Model for Block {
-    ghost use Rattle.std.specs.Prelude.{List};
+    ghost use Rattle.std.specs.Prelude.{◌≡◌, List};
+    ghost use Rattle.ring_clock.specs.Groups.{group_in};
     ghost use Rattle.std.specs.Arc.{arc_value};
     ghost use Rattle.ring_clock.specs.declared.entry.Entry.{Entry};
     ghost use Rattle.ring_clock.specs.Forms.{entries_in};
@@ -45,6 +48,8 @@ impl Model for Block {
     ghost Value = { List Entry };
 
     ghost view = { λ a. entries_in (arc_value a.shared) };
+
+    ghost invariant = { λ a. a.group ≡ group_in (entries_in (arc_value a.shared)) };
 }
 
 impl Block {
@@ -52,18 +57,20 @@ impl Block {
     pub fn one(alloc: Global, entry: Entry) -> Result<Block, AllocError>
         ensures { IfOk result (λ b. b ≡ entry ∷ []) }
     {
+        let group = group_of(entry.writer);
         let entries = Vec::from_slice(alloc, &[entry])?;
         let shared = Arc::new(alloc, Form::Few(entries))?;
-        Ok(Block { shared })
+        Ok(Block { group, shared })
     }
 
     // The block of a group's counters.
     fn full(alloc: Global, full: Full) -> Result<Block, AllocError>
         ensures { IfOk result (λ b. b ≡ full) }
     {
+        let group = full.group();
         let counters = Box::new(alloc, full)?;
         let shared = Arc::new(alloc, Form::Full(counters))?;
-        Ok(Block { shared })
+        Ok(Block { group, shared })
     }
 
     // The block of these entries.
@@ -74,8 +81,9 @@ impl Block {
         ensures counters { IfOk result (λ b. (w : ℕ) → counter b w ≡ counter entries.items w) }
     {
         if entries.len() < MANY || !are_low(entries.as_slice()) {
+            let group = group_among(entries.as_slice());
             let shared = Arc::new(alloc, Form::Few(entries))?;
-            return Ok(Block { shared });
+            return Ok(Block { group, shared });
         }
         Block::full(alloc, Full::of(entries.as_slice()))
     }
@@ -85,7 +93,8 @@ impl Block {
         ensures { IfOk result (λ b. b ≡ self.now) }
     {
         let shared = Arc::try_clone(&self.shared)?;
-        Ok(Block { shared })
+        let group = self.group;
+        Ok(Block { group, shared })
     }
 
     /// The entries, to be taken one by one.
@@ -112,10 +121,7 @@ impl Block {
     pub fn group(&self) -> u32
         ensures { result ≡ group_in self.now }
     {
-        match &*self.shared {
-            Form::Few(entries) => group_among(entries.as_slice()),
-            Form::Full(full) => full.group(),
-        }
+        self.group
     }
 
     /// The counter of a writer, 0 where it has none.
@@ -144,8 +150,8 @@ impl Block {
         }
     }
 
-    /// Whether each writer's counter is at most that in another block. None where that is of a lesser group. Mostly both are full and of one
-    /// group: then it looks at each block's form once.
+    /// Whether each writer's counter is at most that in another block. None where that is of a lesser group. Looks at the memory of neither
+    /// where their groups differ.
     pub fn passes(&self, other: &Block) -> Option<bool>
         requires first { IsBlock self.now }
         requires second { IsBlock other.now }
@@ -153,18 +159,14 @@ impl Block {
         ensures not_lesser { IfSome result (λ held. group_in self.now ≤ group_in other.now) }
         ensures held { IfSome result (λ held. IsTrue held ↔ IsAtMost self.now other.now) }
     {
-        if let (Form::Full(mine), Form::Full(theirs)) = (&*self.shared, &*other.shared)
-            && mine.group() == theirs.group()
-        {
-            return Some(mine.is_at_most(theirs));
-        }
-        let group = self.group();
-        let facing = other.group();
-        if facing < group {
+        if other.group < self.group {
             return None;
         }
-        if group < facing {
+        if self.group < other.group {
             return Some(false);
+        }
+        if let (Form::Full(mine), Form::Full(theirs)) = (&*self.shared, &*other.shared) {
+            return Some(mine.is_at_most(theirs));
         }
         Some(self.is_at_most(other))
     }
@@ -193,7 +195,7 @@ impl Block {
     }
 
     /// Each writer's greater counter of the block and of entries of its group. Costs the entries of both, and takes memory for what it makes:
-    /// 132 bytes where the block is full, and 16 for each entry where one's counter is too great for that.
+    /// 260 bytes where the block is full, and 16 for each entry where one's counter is too great for that.
     pub fn merge(&self, alloc: Global, entries: &[Entry]) -> Result<Block, AllocError>
         requires first { IsBlock self.now }
         requires second { IsBlock entries.now }

@@ -16,9 +16,9 @@ use std::marker::Model;
 
 /// A vector clock: writers with counters above 0; a writer that it has not counts as 0.
 ///
-/// The entries of thirty-two writers whose numbers follow one another are a block: of 16 bytes for each one that has a counter, and from
-/// nine such writers on, where each counter is below 2^31, of 132 bytes for all of them. Copies share the blocks, and so does what `bump` and
-/// `join` make, for each group of writers in which nothing changed.
+/// The entries of sixty-four writers whose numbers follow one another are a block: of 16 bytes for each one that has a counter, and from
+/// seventeen such writers on, where each counter is below 2^31, of 260 bytes for all of them. Copies share the blocks, and so does what
+/// `bump` and `join` make, for each group of writers in which nothing changed.
 pub struct Clock {
     alloc: Global,
     // The writer for whom it was last raised. Its put knows all that the clock tells, so its counter alone mostly decides a comparison.
@@ -113,8 +113,8 @@ impl Clock {
 
     /// The least clock above both: of each writer the greater counter. Costs the entries of both. Where of a group's entries one clock's are
     /// at most the other's, those of the greater one are shared. Takes memory for each of the other groups: 16 bytes for each entry of both
-    /// where these are few, or a counter is 2^31 or more, and else 132 bytes. Where there are several groups, it takes 8 bytes more for each,
-    /// or up to 16 where neither clock has all of them.
+    /// where these are few, or a counter is 2^31 or more, and else 260 bytes. Where there are several groups, it takes 16 bytes more for
+    /// each, or up to 32 where neither clock has all of them.
     pub fn join(&self, other: &Clock) -> Result<Clock, Refusal>
         ensures least { IfOk result (λ c. IsJoin self.now other.now c) }
         ensures counters { IfOk result (λ c. (w : ℕ) → counter c w ≡ max (counter self.now w) (counter other.now w)) }
@@ -145,8 +145,8 @@ impl Clock {
     }
 
     /// This clock with the writer's counter raised by one. Costs the entries of the writer's group, and the groups. Takes memory for those
-    /// entries, 132 bytes at most where each counter is below 2^31 and else 512, and where there are several groups 8 bytes for each, or up
-    /// to 16 where the writer is the first one of its group; the other entries are shared.
+    /// entries, 260 bytes at most where each counter is below 2^31 and else 1024, and where there are several groups 16 bytes for each, or
+    /// up to 32 where the writer is the first one of its group; the other entries are shared.
     pub fn bump(&self, writer: WriterId) -> Result<Clock, Refusal>
         requires { counter self.now writer.0 < 18446744073709551615 }
         ensures counters { IfOk result

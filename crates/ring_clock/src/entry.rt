@@ -6,7 +6,7 @@ ghost use Rattle.ring_clock.specs.Clock.{IsClock, counter};
 use ring_names::WriterId;
 
 /// How many writers, whose numbers follow one another, are a group. Entries of a group are shared together.
-pub const GROUP: u32 = 32;
+pub const GROUP: u32 = 64;
 
 /// How often a writer put, as a clock knows it: a counter above 0.
 #[derive(Clone, Copy, Debug, PartialEq, Eq)]

@@ -18,7 +18,7 @@ const PLACES: usize = GROUP as usize;
 // The counters of a full block are below this: then the top bit of a difference of two tells which one is the greater.
 const LIMIT: u32 = 1 << 31;
 
-/// The counters of all writers of a group, each at its writer's place, 0 where one has none: counters below 2^31. Takes 132 bytes.
+/// The counters of all writers of a group, each at its writer's place, 0 where one has none: counters below 2^31. Takes 260 bytes.
 #[derive(Drop)]
 pub struct Full {
     group: u32,
@@ -34,11 +34,11 @@ impl Model for Full {
 
     ghost Value = { List Entry };
 
-    ghost view = { λ a. entries_from (32 * a.group) a.counters };
+    ghost view = { λ a. entries_from (64 * a.group) a.counters };
 
-    ghost invariant = { λ a. (a.group < 134217728)
-        × (group_in (entries_from (32 * a.group) a.counters) ≡ a.group)
-        × ((w : ℕ) → counter (entries_from (32 * a.group) a.counters) w < 2147483648) };
+    ghost invariant = { λ a. (a.group < 67108864)
+        × (group_in (entries_from (64 * a.group) a.counters) ≡ a.group)
+        × ((w : ℕ) → counter (entries_from (64 * a.group) a.counters) w < 2147483648) };
 }
 
 impl Full {
@@ -123,15 +123,16 @@ impl Full {
         true
     }
 
-    /// Whether each writer's counter is at most that among entries. Costs a search among these for each place.
+    /// Whether each writer's counter is at most that among entries. Costs a search among these for each writer that has a counter.
     pub fn is_below(&self, entries: &[Entry]) -> bool
         requires { IsClock entries.now }
         ensures { IsTrue result ↔ IsAtMost self.now entries.now }
     {
         let first = self.group * GROUP;
         for place in 0..PLACES {
+            let counter = u64::from(self.counters[place]);
             let writer = WriterId(first + place as u32);
-            if counter_of(entries, writer) < u64::from(self.counters[place]) {
+            if counter > 0 && counter_of(entries, writer) < counter {
                 return false;
             }
         }
@@ -174,10 +175,10 @@ impl Full {
     }
 }
 
-// The group of a writer: there are 2^27 of them.
+// The group of a writer: there are 2^26 of them.
 fn group_in_range(writer: WriterId) -> u32
     ensures value { result ≡ group writer.0 }
-    ensures few { result < 134217728 }
+    ensures few { result < 67108864 }
 {
     writer.0 / GROUP
 }
@@ -185,7 +186,7 @@ fn group_in_range(writer: WriterId) -> u32
 /// The group of the first entry's writer.
 pub fn group_among(entries: &[Entry]) -> u32
     ensures value { result ≡ group_in entries.now }
-    ensures few { result < 134217728 }
+    ensures few { result < 67108864 }
 {
     match entries.first() {
         Some(entry) => group_in_range(entry.writer),
@@ -228,8 +229,8 @@ fn raise_to(counters: &mut [u32; PLACES], others: &[u32; PLACES])
 fn raise_to_entries(counters: &mut [u32; PLACES], entries: &[Entry])
     requires block { IsBlock entries.now }
     requires low { All IsLow entries.now }
-    ensures { (k : ℕ) → k < 32
-        → slice_index counters.new k ≡ max (slice_index counters.old k) (counter entries.now (32 * group_in entries.now + k)) }
+    ensures { (k : ℕ) → k < 64
+        → slice_index counters.new k ≡ max (slice_index counters.old k) (counter entries.now (64 * group_in entries.now + k)) }
 {
     let mut rest = entries;
     'entries: while let Some((entry, later)) = rest.split_first() {

@@ -1,8 +1,10 @@
 -- Versions in chunks, which sets share.
-use Rattle.std.specs.Prelude.{◌≤◌, List, [], ◌∷◌, ◌++◌}
+use Rattle.std.specs.Prelude.{◌≡◌, ℕ, ◌<◌, ◌≤◌, IsTrue, List, [], ◌∷◌, ◌++◌}
 use Rattle.std.specs.List.{Contains}
 use Rattle.ring_clock.specs.declared.entry.Entry.{Entry}
 use Rattle.ring_clock.specs.Clock.{counter, IsAtMost}
+use Rattle.ring_clock.specs.Groups.{group}
+use Rattle.ring_versions.specs.declared.group.Group.{Group}
 use Rattle.ring_versions.specs.declared.version.Version.{Version}
 use Rattle.ring_versions.specs.Versions.{IsIn}
 
@@ -15,7 +17,16 @@ all_of (c ∷ cs) = c ++ all_of cs
 abbrev pub AreOwns : List Version → List Entry → Type 0
 AreOwns vs owns = (v : Version) → IsIn v vs → (e : Entry) × Contains owns e × (e.counter ≤ counter v.clock e.writer.0)
 
--- so has each version of a part, whose join is at least each version's clock
-pub record IsPart (vs : List Version) (owns join : List Entry) : Type 0 where
+-- some writer of the group has a counter
+abbrev pub HasGroup : ℕ → List Entry → Type 0
+HasGroup g c = (w : ℕ) × (group w ≡ g) × (0 < counter c w)
+
+-- so it is in each version's clock, where the group is told
+abbrev pub AreOf : Group → List Version → Type 0
+AreOf g vs = IsTrue g.is_told → (v : Version) → IsIn v vs → HasGroup g.number v.clock
+
+-- versions of a group, with entries that each one's clock reaches and a join that is at least each one's clock
+pub record IsPart (g : Group) (vs : List Version) (owns join : List Entry) : Type 0 where
   pub owned : AreOwns vs owns
   pub above : (v : Version) → IsIn v vs → IsAtMost v.clock join
+  pub told : AreOf g vs

@@ -6,6 +6,7 @@ ghost use Rattle.ring_clock.specs.Clock.{IsAtMost};
 ghost use Rattle.ring_versions.specs.Versions.{IsIn};
 ghost use Rattle.ring_versions.specs.declared.version.Version.{Version as TheVersion};
 
+use crate::group::Group;
 use crate::part::Part;
 use crate::version::Version;
 use ring_clock::Clock;
@@ -17,18 +18,21 @@ use std::sync::Arc;
 /// A part of a set. Copies share it. The part's group stands beside it, so that who goes through chunks reads only what is in the part that it wants.
 #[derive(Drop)]
 pub struct Chunk {
-    group: u32,
+    group: Group,
     shared: Arc<Part>,
 }
 
 impl Model for Chunk {
     ghost use Rattle.std.specs.Prelude.{List};
     ghost use Rattle.std.specs.Arc.{arc_value};
+    ghost use Rattle.ring_versions.specs.Chunks.{AreOf};
     ghost use Rattle.ring_versions.specs.declared.version.Version.{Version};
 
     ghost Value = { List Version };
 
     ghost view = { λ a. arc_value a.shared };
+
+    ghost invariant = { λ a. AreOf a.group (arc_value a.shared) };
 }
 
 impl Chunk {
@@ -56,7 +60,7 @@ impl Chunk {
 
     /// The group of which its part was made.
     pub fn group(&self) -> u32 {
-        self.group
+        self.group.number
     }
 
     /// Whether no other set shares it.

@@ -3,7 +3,8 @@
 ghost use Rattle.std.specs.Prelude.{◌≡◌, ◌↔◌, IsTrue};
 ghost use Rattle.ring_versions.specs.Versions.{Covers};
 
-use crate::part::{group_of, is_among};
+use crate::group::group_of;
+use crate::part::is_among;
 use crate::version::Version;
 use crate::walk::Walk;
 use crate::whole::Whole;

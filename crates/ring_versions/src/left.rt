@@ -11,8 +11,9 @@ ghost use Rattle.ring_versions.specs.declared.version.Version.{Version as TheVer
 
 use crate::chunk::Chunk;
 use crate::fresh_of::fresh_of;
+use crate::group::group_of;
 use crate::held::Held;
-use crate::part::{Part, group_of};
+use crate::part::Part;
 use crate::version::Version;
 use ring_clock::Clock;
 use ring_names::Refusal;
@@ -31,7 +32,7 @@ fn place_for(alloc: Global, made: &mut Vec<Part>, group: u32) -> Result<usize, R
     ensures ok { IfOk result (λ place. place < length made.new.items) }
     ensures memory { IfErr result (λ e. e ≡ OutOfMemory) }
 {
-    match made.iter().position(|part| part.group() == group) {
+    match made.iter().position(|part| part.group().number == group) {
         Some(place) => Ok(place),
         None => {
             let place = made.len();

@@ -5,6 +5,7 @@ mod chunk;
 mod found;
 mod fresh;
 mod fresh_of;
+mod group;
 mod held;
 mod joining;
 mod left;

@@ -3,29 +3,22 @@
 ghost use Rattle.std.specs.Prelude.{◌≡◌, ◌↔◌, ◌∷◌, ◌++◌, [], IsTrue, IfOk, IfErr, OnOk, OnErr};
 ghost use Rattle.ring_names.specs.declared.refusal.Refusal.TheVariants.{OutOfMemory};
 ghost use Rattle.ring_clock.specs.Clock.{IsAtMost, counter};
-ghost use Rattle.ring_versions.specs.Chunks.{AreOwns};
+ghost use Rattle.ring_versions.specs.Chunks.{AreOf, AreOwns};
 ghost use Rattle.ring_versions.specs.Versions.{IsIn, Covers};
 ghost use Rattle.ring_versions.specs.declared.version.Version.{Version as TheVersion};
 
+use crate::group::Group;
 use crate::version::Version;
 use ring_clock::{Clock, Entry};
-use ring_names::{Refusal, WriterId};
+use ring_names::Refusal;
 use std::alloc::Global;
 use std::marker::Model;
-
-// How many writers, whose numbers follow one another, are a group.
-const GROUP: u32 = 32;
-
-/// The group of a writer.
-pub fn group_of(writer: WriterId) -> u32 {
-    writer.0 / GROUP
-}
 
 /// Versions whose own writers were of one group as they came, in order with an entry of each one's own writer. The join is at least
 /// each version's clock.
 #[derive(Drop)]
 pub struct Part {
-    group: u32,
+    group: Group,
     versions: Vec<Version>,
     owns: Vec<Entry>,
     join: Clock,
@@ -40,7 +33,7 @@ impl Model for Part {
 
     ghost view = { λ a. a.versions.items };
 
-    ghost invariant = { λ a. IsPart a.versions.items a.owns.items a.join };
+    ghost invariant = { λ a. IsPart a.group a.versions.items a.owns.items a.join };
 }
 
 // The entry of the version's own writer.
@@ -98,7 +91,7 @@ impl Part {
         ensures { result ≡ [] }
     {
         Part {
-            group,
+            group: Group::new(group),
             versions: Vec::new(alloc),
             owns: Vec::new(alloc),
             join: Clock::new(alloc),
@@ -145,14 +138,19 @@ impl Part {
         ensures memory { IfErr result (λ e. e ≡ OutOfMemory) }
     {
         let copy = version.try_copy()?;
+        let own = own_of(version);
+        let group = self.group.with(own);
         self.join.raise(&version.clock)?;
-        self.owns.push(own_of(version))?;
+        self.owns.push(own)?;
         self.versions.push(copy)?;
+        self.group = group;
         Ok(())
     }
 
     /// The group of which it was made.
-    pub fn group(&self) -> u32 {
+    pub fn group(&self) -> Group
+        ensures { AreOf result self.now }
+    {
         self.group
     }
 

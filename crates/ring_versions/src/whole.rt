@@ -9,7 +9,7 @@ ghost use Rattle.ring_versions.specs.Versions.{Covers, IsIn, IsApart, IsBeside, 
 ghost use Rattle.ring_versions.specs.declared.version.Version.{Version as TheVersion};
 
 use crate::chunk::Chunk;
-use crate::part::group_of;
+use crate::group::group_of;
 use crate::version::Version;
 use ring_clock::Clock;
 use ring_names::Refusal;

@@ -31,7 +31,7 @@ entries-preserved c =
     let clock = subst IsClock is c.entries.invariant.clock in
     let all = subst (AllByRecursion (λ (e : Entry). group e.writer.0 ≡ group_in c.args.entries.now)) is c.entries.invariant.all in
     record {
-      long = length-set c.entries.counters (c.in-Some.entry.now.writer.0 % 32) c.max.result ∙ c.entries.invariant.long;
+      long = length-set c.entries.counters (c.in-Some.entry.now.writer.0 % 64) c.max.result ∙ c.entries.invariant.long;
       clock = clock.2;
       low = All-rest IsLow c.in-Some.entry.now c.in-Some.later.now c.entries.rest.now is c.entries.invariant.low;
       all = all.1;
