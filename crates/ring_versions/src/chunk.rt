@@ -69,10 +69,10 @@ impl Chunk {
         &self.shared
     }
 
-    /// Whether it is plain that no version's clock is at most this one.
+    /// Whether it is plain that no version's clock is at most this one: from the group alone, where that tells it, or from what is in the part.
     pub fn is_beyond(&self, top: &Clock) -> bool
         ensures { IsTrue result → (v : TheVersion) → IsIn v self.now → IsAtMost v.clock top.now → ⊥ }
     {
-        self.shared.is_beyond(top)
+        self.group.is_beyond(top) || self.shared.is_beyond(top)
     }
 }

@@ -6,9 +6,8 @@ ghost use Rattle.ring_versions.specs.Raised.{RaisesTo, IsClockIn};
 ghost use Rattle.ring_versions.specs.Versions.{Covers};
 
 use crate::chunk::Chunk;
-use crate::group::group_of;
 use crate::version::Version;
-use ring_clock::Clock;
+use ring_clock::{Clock, group_of};
 use std::marker::Model;
 use std::sync::Arc;
 
