@@ -6,8 +6,9 @@ use Rattle.std.proofs.Math.Nat.{le_trans}
 use Rattle.std.proofs.lemmas.List.Elements.{All-contains, Contains-append_left, Contains-push}
 use Rattle.ring_clock.specs.declared.entry.Entry.{Entry}
 use Rattle.ring_clock.specs.Clock.{counter, IsAtMost}
+use Rattle.ring_clock.specs.Groups.{HasGroup}
 use Rattle.ring_versions.specs.declared.version.Version.{Version}
-use Rattle.ring_versions.specs.Chunks.{AreOf, AreOwns, HasGroup, IsPart}
+use Rattle.ring_versions.specs.Chunks.{AreOf, AreOwns, IsPart}
 use Rattle.ring_versions.specs.declared.group.Group.{Group}
 use Rattle.ring_versions.specs.Versions.{IsIn, Covers}
 use Rattle.ring_versions.proofs.Members.{in_either}

@@ -1,9 +1,9 @@
 -- Versions in chunks, which sets share.
-use Rattle.std.specs.Prelude.{◌≡◌, ℕ, ◌<◌, ◌≤◌, IsTrue, List, [], ◌∷◌, ◌++◌}
+use Rattle.std.specs.Prelude.{◌≤◌, IsTrue, List, [], ◌∷◌, ◌++◌}
 use Rattle.std.specs.List.{Contains}
 use Rattle.ring_clock.specs.declared.entry.Entry.{Entry}
 use Rattle.ring_clock.specs.Clock.{counter, IsAtMost}
-use Rattle.ring_clock.specs.Groups.{group}
+use Rattle.ring_clock.specs.Groups.{HasGroup}
 use Rattle.ring_versions.specs.declared.group.Group.{Group}
 use Rattle.ring_versions.specs.declared.version.Version.{Version}
 use Rattle.ring_versions.specs.Versions.{IsIn}
@@ -17,11 +17,7 @@ all_of (c ∷ cs) = c ++ all_of cs
 abbrev pub AreOwns : List Version → List Entry → Type 0
 AreOwns vs owns = (v : Version) → IsIn v vs → (e : Entry) × Contains owns e × (e.counter ≤ counter v.clock e.writer.0)
 
--- some writer of the group has a counter
-abbrev pub HasGroup : ℕ → List Entry → Type 0
-HasGroup g c = (w : ℕ) × (group w ≡ g) × (0 < counter c w)
-
--- so it is in each version's clock, where the group is told
+-- each version's clock has a counter of the group, where that is told
 abbrev pub AreOf : Group → List Version → Type 0
 AreOf g vs = IsTrue g.is_told → (v : Version) → IsIn v vs → HasGroup g.number v.clock
 

@@ -1,8 +1,8 @@
 //! Versions that sets share.
 
-ghost use Rattle.std.specs.Prelude.{◌≡◌, ◌++◌, ◌∷◌, [], true, false, IsTrue, IfOk, IfErr, OnErr};
+ghost use Rattle.std.specs.Prelude.{◌≡◌, ◌++◌, ◌∷◌, [], ℕ, true, false, max, IsTrue, IfOk, IfErr, OnErr};
 ghost use Rattle.ring_names.specs.declared.refusal.Refusal.TheVariants.{OutOfMemory};
-ghost use Rattle.ring_clock.specs.Clock.{IsAtMost};
+ghost use Rattle.ring_clock.specs.Clock.{IsAtMost, counter};
 ghost use Rattle.ring_versions.specs.Versions.{IsIn};
 ghost use Rattle.ring_versions.specs.declared.version.Version.{Version as TheVersion};
 
@@ -63,27 +63,22 @@ impl Chunk {
         self.group.number
     }
 
-    /// Whether no other set shares it.
-    pub fn is_alone(&mut self) -> bool
-        ensures { self.new ≡ self.old }
-    {
-        match Arc::get_mut(&mut self.shared) {
-            Some(_) => true,
-            None => false,
-        }
-    }
-
-    /// Adds a copy of a version in place, and tells whether it did: only where no other set shares the chunk.
-    pub fn add(&mut self, version: &Version) -> Result<bool, Refusal>
+    /// Adds a copy of a version in place, raises a join to its clock, and tells whether it did both: only where no other set shares the chunk.
+    pub fn add(&mut self, version: &Version, join: &mut Clock) -> Result<bool, Refusal>
         ensures added { IfOk result (λ done. done ≡ true → self.new ≡ self.old ++ version.now ∷ []) }
-        ensures same { IfOk result (λ done. done ≡ false → self.new ≡ self.old) }
-        ensures err { OnErr result (self.new ≡ self.old) }
+        ensures raised { IfOk result (λ done. done ≡ true
+            → (w : ℕ) → counter join.new w ≡ max (counter join.old w) (counter version.now.clock w)) }
+        ensures same { IfOk result (λ done. done ≡ false → (self.new ≡ self.old) × (join.new ≡ join.old)) }
+        ensures err { OnErr result ((self.new ≡ self.old) × (join.new ≡ join.old)) }
         ensures memory { IfErr result (λ e. e ≡ OutOfMemory) }
     {
         let Some(part) = Arc::get_mut(&mut self.shared) else {
             return Ok(false);
         };
+        let joined = join.join(&version.clock)?;
         part.put(version)?;
+        self.group = part.group();
+        *join = joined;
         Ok(true)
     }
 
@@ -94,10 +89,10 @@ impl Chunk {
         &self.shared
     }
 
-    /// Whether it is plain that no version's clock is at most this one.
+    /// Whether it is plain that no version's clock is at most this one: from the group alone, where that tells it, or from what is in the part.
     pub fn is_beyond(&self, top: &Clock) -> bool
         ensures { IsTrue result → (v : TheVersion) → IsIn v self.now → IsAtMost v.clock top.now → ⊥ }
     {
-        self.shared.is_beyond(top)
+        self.group.is_beyond(top) || self.shared.is_beyond(top)
     }
 }

@@ -1,23 +1,12 @@
 //! Groups of writers, by which versions stand together.
 
-ghost use Rattle.std.specs.Prelude.{◌≡◌, ◌∷◌, ◌++◌, [], List};
-ghost use Rattle.ring_clock.specs.Clock.{counter};
-ghost use Rattle.ring_clock.specs.Groups.{group as group_number};
+ghost use Rattle.std.specs.Prelude.{◌≡◌, ◌∷◌, ◌++◌, [], List, IsTrue};
+ghost use Rattle.ring_clock.specs.Clock.{IsAtMost, counter};
 ghost use Rattle.ring_versions.specs.Chunks.{AreOf};
+ghost use Rattle.ring_versions.specs.Versions.{IsIn};
 ghost use Rattle.ring_versions.specs.declared.version.Version.{Version as TheVersion};
 
-use ring_clock::Entry;
-use ring_names::WriterId;
-
-// How many writers, whose numbers follow one another, are a group.
-const GROUP: u32 = 32;
-
-/// The group of a writer.
-pub fn group_of(writer: WriterId) -> u32
-    ensures { result ≡ group_number writer.0 }
-{
-    writer.0 / GROUP
-}
+use ring_clock::{Clock, Entry, group_of};
 
 /// A group of writers, for versions that are put to it, and whether each of these is known to have a counter there.
 #[derive(Clone, Copy)]
@@ -46,5 +35,14 @@ impl Group {
             number: self.number,
             is_told: self.is_told && own.counter > 0 && group_of(own.writer) == self.number,
         }
+    }
+
+    /// Whether it is plain from the group that no version which was put to it has a clock that is at most this one: each has a counter there,
+    /// and this one has none.
+    pub fn is_beyond(self, top: &Clock) -> bool
+        ensures { IsTrue result → (vs : List TheVersion) → AreOf self vs
+            → (v : TheVersion) → IsIn v vs → IsAtMost v.clock top.now → ⊥ }
+    {
+        self.is_told && !top.has_group(self.number)
     }
 }

@@ -3,12 +3,11 @@
 ghost use Rattle.std.specs.Prelude.{◌≡◌, ◌↔◌, IsTrue};
 ghost use Rattle.ring_versions.specs.Versions.{Covers};
 
-use crate::group::group_of;
 use crate::part::is_among;
 use crate::version::Version;
 use crate::walk::Walk;
 use crate::whole::Whole;
-use ring_clock::Clock;
+use ring_clock::{Clock, group_of};
 
 /// Versions in a list, or in chunks.
 #[derive(Clone, Copy)]

@@ -11,11 +11,10 @@ ghost use Rattle.ring_versions.specs.declared.version.Version.{Version as TheVer
 
 use crate::chunk::Chunk;
 use crate::fresh_of::fresh_of;
-use crate::group::group_of;
 use crate::held::Held;
 use crate::part::Part;
 use crate::version::Version;
-use ring_clock::Clock;
+use ring_clock::{Clock, group_of};
 use ring_names::Refusal;
 use std::alloc::Global;
 

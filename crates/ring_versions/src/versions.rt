@@ -35,7 +35,7 @@ const MANY: usize = 8;
 /// Costs are told for the clocks of puts, where a version is covered just where its own writer's counter is reached, and for sets of eight
 /// versions or more. Of other clocks each of the looks may cost a comparison with each version.
 ///
-/// Eight versions or more stand in chunks, by the group of thirty-two writers of which each one's own writer is. A set takes 16 bytes for each
+/// Eight versions or more stand in chunks, by the group of sixty-four writers of which each one's own writer is. A set takes 16 bytes for each
 /// chunk. A chunk, which sets share, takes some 100 bytes, 16 bytes for each version beside the version, and what its join of their clocks does
 /// not share with these.
 pub struct Versions {

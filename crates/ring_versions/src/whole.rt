@@ -9,9 +9,8 @@ ghost use Rattle.ring_versions.specs.Versions.{Covers, IsIn, IsApart, IsBeside, 
 ghost use Rattle.ring_versions.specs.declared.version.Version.{Version as TheVersion};
 
 use crate::chunk::Chunk;
-use crate::group::group_of;
 use crate::version::Version;
-use ring_clock::Clock;
+use ring_clock::{Clock, group_of};
 use ring_names::Refusal;
 use std::marker::Model;
 use std::sync::Arc;
@@ -88,17 +87,11 @@ fn are_beyond(chunks: &[Chunk], clock: &Clock) -> bool
     true
 }
 
-// The place of the chunk of a group, if there is one, and no other set shares it.
-fn place_of(chunks: &mut Vec<Chunk>, group: u32) -> Option<usize>
-    ensures same { chunks.new.items ≡ chunks.old.items }
-    ensures some { IfSome result (λ place. place < length chunks.old.items) }
+// The place of the chunk of a group, if there is one.
+fn place_of(chunks: &[Chunk], group: u32) -> Option<usize>
+    ensures { IfSome result (λ place. place < length chunks.now) }
 {
-    let place = chunks.iter().position(|chunk| chunk.group() == group)?;
-    if chunks[place].is_alone() {
-        Some(place)
-    } else {
-        None
-    }
+    chunks.iter().position(|chunk| chunk.group() == group)
 }
 
 impl Whole {
@@ -162,15 +155,9 @@ impl Whole {
         if !self.is_beside(&version.clock) {
             return Ok(false);
         }
-        let group = group_of(version.clock.own());
-        let Some(place) = place_of(&mut self.chunks, group) else {
-            return Ok(false);
-        };
-        let join = self.join.join(&version.clock)?;
-        let is_added = self.chunks[place].add(version)?;
-        if is_added {
-            self.join = join;
+        match place_of(self.chunks.as_slice(), group_of(version.clock.own())) {
+            Some(place) => self.chunks[place].add(version, &mut self.join),
+            None => Ok(false),
         }
-        Ok(is_added)
     }
 }
