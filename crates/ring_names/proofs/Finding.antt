@@ -1,11 +1,10 @@
 -- What finds the numbers of bytes, once it has taken in one more.
-use Rattle.std.proofs.Common.{◌≡◌, ◌∙◌, ◌⊎◌, inl, inr, ◌<◌, ◌+◌, ℕ, suc, zero, true, false, List, [], ◌∷◌, ◌++◌, length, Option, Some, None, refl, sym, ap, subst, arith}
-use Rattle.std.specs.BTreeMap.{BTreeMap}
+use Rattle.std.proofs.Common.{◌≡◌, ◌∙◌, ◌⊎◌, inl, inr, ◌<◌, ◌+◌, ℕ, suc, zero, List, [], ◌∷◌, ◌++◌, length, Option, Some, None, refl, sym, ap, subst, arith}
 use Rattle.std.specs.Prelude.{slice_get}
 use Rattle.std.specs.Str.{bytes_eq}
 use Rattle.std.proofs.lemmas.Bool.{cases_Bool}
 use Rattle.ring_names.specs.AtBytes.{value_at, value_in}
-use Rattle.ring_names.specs.Finding.{IsKept, FindsAll, FindsBelow, IsSame, Knows, TakesNoted, TakesOther}
+use Rattle.ring_names.specs.Finding.{IsKept, FindsBelow, IsSame, Knows, TakesNoted, TakesOther}
 use Rattle.ring_names.specs.Lists.{AllNew}
 use Rattle.ring_names.specs.Names.{place}
 use Rattle.ring_names.specs.Noted.{IsNoted}

@@ -1,12 +1,10 @@
-use Rattle.std.proofs.Common.{◌≡◌, ◌∙◌, ◌+◌, ◌<◌, ℕ, List, Option, Some, length, map, slice_get, refl, sym, ap, subst, arith}
+use Rattle.std.proofs.Common.{◌≡◌, ◌∙◌, ◌+◌, ℕ, List, Option, Some, length, map, slice_get, refl, sym, ap, subst, arith}
 use Rattle.std.specs.Global.{Vec}
 use Rattle.std.specs.Prelude.{option_map}
 use Rattle.std.proofs.lemmas.List.{length-map}
 use Rattle.std.proofs.lemmas.Option.{slice_get-map, slice_get_read, slice_get_within}
 use Rattle.ring_names.specs.Finding.{FindsBelow, Knows}
-use Rattle.ring_names.specs.Noted.{IsNoted}
 use Rattle.ring_names.specs.declared.finder.Finder.{Finder}
-use Rattle.ring_names.specs.declared.noted.Noted.{Noted}
 use Rattle.ring_names.proofs.Finding.{below-noted, below-other, knows-other, knows-same}
 use Rattle.ring_names.proofs.finder.Finder.fill.Goals.{then-not-note+in_ok-keep_other, else-not-note}
 use Rattle.ring_names.proofs.finder.Finder.fill.Goals as goal
