@@ -40,19 +40,19 @@ fn raised_in_any_order(rt: HostRuntime) -> Result<(), Fail> {
     let alloc = rt.alloc();
     let wanted = [
         entry(0, 1),
-        entry(31, 1),
-        entry(32, 1),
-        entry(33, 1),
+        entry(63, 1),
+        entry(64, 1),
+        entry(65, 1),
         entry(1023, 1),
         entry(LAST, 1),
     ];
-    let up = clock_of(alloc, &[0, 31, 32, 33, 1023, LAST])?;
+    let up = clock_of(alloc, &[0, 63, 64, 65, 1023, LAST])?;
     told(&rt, alloc, &up, wanted.as_slice())?;
-    let down = clock_of(alloc, &[LAST, 1023, 33, 32, 31, 0])?;
+    let down = clock_of(alloc, &[LAST, 1023, 65, 64, 63, 0])?;
     told(&rt, alloc, &down, wanted.as_slice())?;
     holds!(rt; up.le(&down));
     holds!(rt; down.le(&up));
-    for absent in [1, 30, 34, 63, 64, 1022, 1024, 4_294_967_294] {
+    for absent in [1, 62, 66, 127, 128, 1022, 1024, 4_294_967_294] {
         same!(rt; up.counter(WriterId(absent)), 0);
     }
     Ok(())
@@ -61,7 +61,7 @@ fn raised_in_any_order(rt: HostRuntime) -> Result<(), Fail> {
 #[test]
 fn raised_once_more(rt: HostRuntime) -> Result<(), Fail> {
     let alloc = rt.alloc();
-    let writers = [0, 31, 32, 33, 1023, LAST];
+    let writers = [0, 63, 64, 65, 1023, LAST];
     let clock = clock_of(alloc, writers.as_slice())?;
     for writer in writers {
         let more = raised(&clock, writer)?;
@@ -98,8 +98,8 @@ fn joined<RT: Abort>(
 fn joins_of_groups(rt: HostRuntime) -> Result<(), Fail> {
     let alloc = rt.alloc();
     let none = Clock::new(alloc);
-    let first = clock_of(alloc, &[0, 32, 1023])?;
-    let second = clock_of(alloc, &[31, 33, LAST])?;
+    let first = clock_of(alloc, &[0, 64, 1023])?;
+    let second = clock_of(alloc, &[63, 65, LAST])?;
     holds!(rt; !first.le(&second));
     holds!(rt; !second.le(&first));
     joined(
@@ -107,37 +107,37 @@ fn joins_of_groups(rt: HostRuntime) -> Result<(), Fail> {
         alloc,
         &first,
         &none,
-        &[entry(0, 1), entry(32, 1), entry(1023, 1)],
+        &[entry(0, 1), entry(64, 1), entry(1023, 1)],
     )?;
     let wanted = [
         entry(0, 1),
-        entry(31, 1),
-        entry(32, 1),
-        entry(33, 1),
+        entry(63, 1),
+        entry(64, 1),
+        entry(65, 1),
         entry(1023, 1),
         entry(LAST, 1),
     ];
     joined(&rt, alloc, &first, &second, wanted.as_slice())?;
-    let one = clock_of(alloc, &[33])?;
+    let one = clock_of(alloc, &[65])?;
     let other = clock_of(alloc, &[1023])?;
-    joined(&rt, alloc, &one, &none, &[entry(33, 1)])?;
-    joined(&rt, alloc, &one, &other, &[entry(33, 1), entry(1023, 1)])?;
+    joined(&rt, alloc, &one, &none, &[entry(65, 1)])?;
+    joined(&rt, alloc, &one, &other, &[entry(65, 1), entry(1023, 1)])?;
     joined(
         &rt,
         alloc,
         &one,
-        &clock_of(alloc, &[32])?,
-        &[entry(32, 1), entry(33, 1)],
+        &clock_of(alloc, &[64])?,
+        &[entry(64, 1), entry(65, 1)],
     )
 }
 
 #[test]
 fn each_the_greater_in_some_group(rt: HostRuntime) -> Result<(), Fail> {
     let alloc = rt.alloc();
-    let both = clock_of(alloc, &[0, 33, 1023])?;
+    let both = clock_of(alloc, &[0, 65, 1023])?;
     let first = raised_by(&both, &[0, 1023])?;
-    let second = raised_by(&both, &[33, 33, 1022])?;
-    let wanted = [entry(0, 2), entry(33, 3), entry(1022, 1), entry(1023, 2)];
+    let second = raised_by(&both, &[65, 65, 1022])?;
+    let wanted = [entry(0, 2), entry(65, 3), entry(1022, 1), entry(1023, 2)];
     joined(&rt, alloc, &first, &second, wanted.as_slice())?;
     holds!(rt; both.le(&first));
     holds!(rt; both.le(&second));
