@@ -64,6 +64,7 @@ impl Plan {
     }
 
     /// Adds the next step, with the steps that it waits for.
+    #[inline(always)]
     pub fn push(&mut self, step: Step, after: &[u32]) -> Result<(), Refusal>
         requires planned { IsPlanned (length self.old) (record { step = step; after = after.now }) }
         requires steps { length self.old < 131072 }
