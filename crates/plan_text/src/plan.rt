@@ -110,6 +110,7 @@ impl Plan {
     }
 
     /// The numbers of the slot's steps, ascending.
+    #[inline(always)]
     pub fn slot_steps(&self, slot: Slot) -> &[u32]
         ensures value { result.now ≡ steps_of self.now slot }
         ensures within { EachIndex result.now (λ k. slice_index result.now k < length self.now) }
