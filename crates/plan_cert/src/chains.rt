@@ -66,6 +66,7 @@ impl Chains {
     }
 
     /// Adds a chain behind the others. Refused, the chains are as before, and only for want of memory.
+    #[inline(always)]
     pub fn push(&mut self, of: NodeSide, steps: &[u32]) -> Result<(), Refusal>
         ensures ok { OnOk result (self.new ≡ self.old ++ chain_of of steps.now ∷ []) }
         ensures err { OnErr result (self.new ≡ self.old) }

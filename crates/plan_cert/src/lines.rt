@@ -91,18 +91,15 @@ fn last_node(seen: &Chains) -> Option<NodeId>
 fn side(fields: &mut Fields) -> Result<Side, Refusal>
     ensures { Does (λ k. field_at k (judge_side k)) fields.old result fields.new }
 {
-    let line = fields.line();
-    let Some(word) = fields.next() else {
-        return Err(Refusal::BadLine(line));
-    };
-    if word == b"chain".as_slice() {
+    if fields.takes(b"chain") {
         Ok(Side::Both)
-    } else if word == b"take".as_slice() {
+    } else if fields.takes(b"take") {
         Ok(Side::Take)
-    } else if word == b"give".as_slice() {
+    } else if fields.takes(b"give") {
         Ok(Side::Give)
     } else {
-        Err(Refusal::BadLine(line))
+        let _ = fields.next();
+        Err(Refusal::BadLine(fields.line()))
     }
 }
 

@@ -1,11 +1,12 @@
 //! Whether the chains of a node cover its copies.
 
-ghost use Rattle.std.specs.Prelude.{◌≡◌, ◌||◌, ◌∷◌, [], ℕ, map, IfErr, IfOk, OnOk};
+ghost use Rattle.std.specs.Prelude.{◌≡◌, ◌||◌, ◌∷◌, [], ℕ, map, true, IfErr, IfOk, OnOk};
 ghost use Rattle.std.specs.BTreeSet.{contains};
 ghost use Rattle.std.specs.Ordering.{nat_cmp};
 ghost use Rattle.ring_names.specs.Lists.{has};
 ghost use Rattle.ring_names.specs.declared.refusal.Refusal.TheVariants.{CoverMissing, OutOfMemory};
-ghost use Rattle.plan_stage.specs.Clauses.{Gives};
+ghost use Rattle.ring_names.specs.declared.ids.NodeId.{NodeId as TheNode};
+ghost use Rattle.plan_stage.specs.Clauses.{Gives, first_failing};
 ghost use Rattle.plan_cover.specs.Clauses.{in_some};
 ghost use Rattle.plan_cover.specs.Looking.Guards.{chains_at, copy_guard};
 ghost use Rattle.ring_table.specs.Value.{is_side};
@@ -28,11 +29,59 @@ pub fn check_copies(
 ) -> Result<(), Refusal>
     ensures { Gives result (map (copy_guard (chains_at chains.now of.side numbers.now) of.node) copies.now) }
 {
+    let others = behind_leads(chains, of.side, numbers, copies);
+    check_others(alloc, chains, numbers, others, of)
+}
+
+// The same test, by a look-up of each copy among the steps of the chains.
+fn check_others(
+    alloc: Global,
+    chains: &Chains,
+    numbers: &[usize],
+    copies: &[u32],
+    of: NodeSide,
+) -> Result<(), Refusal>
+    ensures { Gives result (map (copy_guard (chains_at chains.now of.side numbers.now) of.node) copies.now) }
+{
     if copies.is_empty() {
         return Ok(());
     }
     let covered = steps_of(alloc, chains, of.side, numbers)?;
     check_covered(&covered, copies, of.node)
+}
+
+// Whether the chain of that number is of the side, and the copy its first step.
+fn leads(chains: &Chains, side: Side, number: usize, copy: u32) -> bool
+    ensures { result ≡ true → in_some copy (chains_at chains.now side (number ∷ [])) ≡ true }
+{
+    if number >= chains.len() || !is_side(side, side_at(chains, number)) {
+        return false;
+    }
+    match chains.steps(number).first() {
+        Some(first) => *first == copy,
+        None => false,
+    }
+}
+
+// The copies from the first on that does not lead the chain at its own place. Where each copy is a chain of its own, as in most certificates, none is
+// left, and nothing is looked up.
+fn behind_leads<'a>(chains: &Chains, side: Side, numbers: &[usize], copies: &'a [u32]) -> &'a [u32]
+    ensures { (x : TheNode) → first_failing (map (copy_guard (chains_at chains.now side numbers.now) x) result.now)
+        ≡ first_failing (map (copy_guard (chains_at chains.now side numbers.now) x) copies.now) }
+{
+    let mut rest = copies;
+    let mut later = numbers;
+    'copies: while let Some((copy, others)) = rest.split_first() {
+        let Some((number, behind)) = later.split_first() else {
+            return rest;
+        };
+        if !leads(chains, side, *number, *copy) {
+            return rest;
+        }
+        rest = others;
+        later = behind;
+    }
+    rest
 }
 
 // Whether the two sides are one.

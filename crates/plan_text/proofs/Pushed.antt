@@ -1,11 +1,9 @@
 -- A plan with one more step.
 use Rattle.std.proofs.Common.{get_or, suc, zero, ◌≡◌, ℕ, ◌+◌, ◌<◌, ◌≤◌, Bool, true, false, cond, List, [], ◌∷◌, ◌++◌, length, refl, sym, ap, ◌∙◌, arith, add-zero, length-append, Ok, Err}
-use Rattle.std.specs.Prelude.{Result, OnOk, ◌&&◌, ◌||◌, ◌==◌}
+use Rattle.std.specs.Prelude.{Result, OnOk}
 use Rattle.std.proofs.lemmas.List.{flat_map_more}
 use Rattle.std.proofs.lemmas.List.Sums.{sum_by_push}
 use Rattle.ring_names.specs.declared.ids.Slot.{Slot}
-use Rattle.ring_names.proofs.Logic.{or_swapped}
-use Rattle.ring_names.proofs.InLists.{different_push}
 use Rattle.plan_text.specs.declared.step.Planned.{Planned}
 use Rattle.plan_text.specs.Steps.{is_on, steps_from, steps_of, joins, retires, joined, retired, dependencies}
 use Rattle.plan_text.specs.Valid.{IsPlanned, EachPlanned, IsPlan}

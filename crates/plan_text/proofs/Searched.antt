@@ -1,6 +1,6 @@
 -- A search in numbers that ascend.
 use Rattle.std.proofs.Common.{◌≡◌, ℕ, suc, zero, ◌+◌, ◌<◌, ◌≤◌, ◌≢◌, true, false, List, [], ◌∷◌, length, get_or, Ok, Err, refl, sym, arith}
-use Rattle.std.specs.Prelude.{Result, Option, Some, None, option_map, ◌||◌, ◌==◌, nat_lt, slice_get}
+use Rattle.std.specs.Prelude.{Result, Option, Some, None, option_map, ◌==◌, nat_lt, slice_get}
 use Rattle.std.specs.Result.{is_ok}
 use Rattle.std.specs.Ordering.{nat_cmp}
 use Rattle.std.specs.List.Sorted.{IsBinarySearchResult}

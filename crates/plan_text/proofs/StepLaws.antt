@@ -17,7 +17,7 @@ use Rattle.texts.specs.Laws.{IsItem, IsLine}
 use Rattle.texts.proofs.Items.{IsItem-⊗, IsItem-map, IsItem-as, IsItem-need, IsLine-map, IsLine-as, map_is, ok_is, unless_ok}
 use Rattle.ring_table.specs.Value.{RingValue, names_of, is_member}
 use Rattle.ring_table.specs.Spelling.{name_at}
-use Rattle.ring_table.proofs.RowLaws.{AreNames, IsItem-declared}
+use Rattle.ring_table.proofs.RowLaws.{AreNames}
 use Rattle.ring_table.specs.Reading.{declared_at}
 use Rattle.plan_text.specs.declared.said.Said.{Said}
 use Rattle.plan_text.specs.declared.said.Said.TheVariants.{Join, Mirror, Copy, Switch, Drop, Retire}

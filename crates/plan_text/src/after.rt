@@ -43,12 +43,12 @@ fn dependencies<'a>(
 pub fn after<'a>(plan: &Plan, fields: &mut Fields<'a>) -> Result<NumberRow<'a>, Refusal>
     ensures { Does (after_at plan.now) fields.old result fields.new }
 {
-    let Some(word) = fields.next() else {
-        return Ok(NumberRow::none());
-    };
-    if word == b"after".as_slice() {
+    if fields.takes(b"after") {
         let row = fields.numbers();
         return dependencies(plan, fields, row);
     }
-    Err(Refusal::BadLine(fields.line()))
+    match fields.next() {
+        None => Ok(NumberRow::none()),
+        Some(_) => Err(Refusal::BadLine(fields.line())),
+    }
 }

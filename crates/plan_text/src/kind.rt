@@ -39,17 +39,15 @@ fn source(n: u32, fields: &mut Fields) -> Result<SaidSource, Refusal>
     requires { n ≤ 7 }
     ensures { Does (source_at n) fields.old result fields.new }
 {
-    let Some(word) = fields.next() else {
-        return Err(Refusal::BadLine(fields.line()));
-    };
-    if word == b"owner".as_slice() {
+    if fields.takes(b"owner") {
         return Ok(SaidSource::Owner);
     }
-    if word == b"slots".as_slice() {
+    if fields.takes(b"slots") {
         let row = fields.numbers();
         let indexes = indexes(n, fields, &row)?;
         return Ok(SaidSource::Slots(indexes));
     }
+    let _ = fields.next();
     Err(Refusal::BadLine(fields.line()))
 }
 
@@ -68,23 +66,21 @@ fn copy(ring: &Ring, fields: &mut Fields) -> Result<(Slot, SaidSource), Refusal>
 pub fn kind(ring: &Ring, plan: &Plan, fields: &mut Fields) -> Result<Said, Refusal>
     ensures { Does (kind_at ring.now plan.now) fields.old result fields.new }
 {
-    let Some(word) = fields.next() else {
-        return Err(Refusal::BadLine(fields.line()));
-    };
-    if word == b"join".as_slice() {
-        joining(ring, plan, fields).map(|node| Said::Join(node))
-    } else if word == b"mirror".as_slice() {
+    if fields.takes(b"mirror") {
         slot_node(ring, fields).map(|(slot, node)| Said::Mirror(slot, node))
-    } else if word == b"copy".as_slice() {
+    } else if fields.takes(b"copy") {
         let (slot, source) = copy(ring, fields)?;
         Ok(Said::Copy(slot, source))
-    } else if word == b"switch".as_slice() {
+    } else if fields.takes(b"switch") {
         slot(ring, fields).map(|slot| Said::Switch(slot))
-    } else if word == b"drop".as_slice() {
+    } else if fields.takes(b"drop") {
         slot_node(ring, fields).map(|(slot, node)| Said::Drop(slot, node))
-    } else if word == b"retire".as_slice() {
+    } else if fields.takes(b"join") {
+        joining(ring, plan, fields).map(|node| Said::Join(node))
+    } else if fields.takes(b"retire") {
         retiring(ring, plan, fields).map(|node| Said::Retire(node))
     } else {
+        let _ = fields.next();
         Err(Refusal::BadLine(fields.line()))
     }
 }

@@ -10,6 +10,7 @@ use ring_table::{Ring, node_field};
 use texts::{Fields, both};
 
 // A number below a limit.
+#[inline(always)]
 fn below(limit: u32, fields: &mut Fields) -> Result<u32, Refusal>
     ensures { Does (λ k. field_at k (judge_below k limit)) fields.old result fields.new }
 {
@@ -23,6 +24,7 @@ fn below(limit: u32, fields: &mut Fields) -> Result<u32, Refusal>
 
 /// A slot of the ring. Else that is `BadLine` or `TooLarge`.
 #[tactic(auto, unfolding(crate::specs::Reading::slot_at))]
+#[inline(always)]
 pub fn slot(ring: &Ring, fields: &mut Fields) -> Result<Slot, Refusal>
     ensures { Does (slot_at ring.now) fields.old result fields.new }
 {
@@ -34,6 +36,7 @@ pub fn slot(ring: &Ring, fields: &mut Fields) -> Result<Slot, Refusal>
 
 /// A slot, and behind it a declared node.
 #[tactic(auto, unfolding(crate::specs::Reading::slot_node_at))]
+#[inline(always)]
 pub fn slot_node(ring: &Ring, fields: &mut Fields) -> Result<(Slot, NodeId), Refusal>
     ensures { Does (slot_node_at ring.now) fields.old result fields.new }
 {

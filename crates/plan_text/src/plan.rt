@@ -64,6 +64,7 @@ impl Plan {
     }
 
     /// Adds the next step, with the steps that it waits for.
+    #[inline(always)]
     pub fn push(&mut self, step: Step, after: &[u32]) -> Result<(), Refusal>
         requires planned { IsPlanned (length self.old) (record { step = step; after = after.now }) }
         requires steps { length self.old < 131072 }
@@ -109,6 +110,7 @@ impl Plan {
     }
 
     /// The numbers of the slot's steps, ascending.
+    #[inline(always)]
     pub fn slot_steps(&self, slot: Slot) -> &[u32]
         ensures value { result.now ≡ steps_of self.now slot }
         ensures within { EachIndex result.now (λ k. slice_index result.now k < length self.now) }

@@ -19,7 +19,7 @@ use Rattle.std.proofs.lemmas.List.{length-map, append-nil, take_more, length-tak
 use Rattle.std.proofs.lemmas.List.Concat.{flat_map-cons}
 use Rattle.ring_table.specs.declared.node.Node.{Node}
 use Rattle.ring_table.specs.Value.{is_member}
-use Rattle.ring_table.specs.Valid.{IsRow}
+use Rattle.ring_table.specs.Valid.{EachIsName, IsRow}
 use Rattle.ring_table.specs.Spelling.{name_at, row_fields, rows_lines}
 use Rattle.ring_table.specs.Reading.{judge_declared, owners_at, row_at, rows_at}
 use Rattle.std.proofs.lemmas.Bool.{and_parts, not-false}
@@ -37,6 +37,10 @@ pub each_at : (P : List ℕ → Type 0) (names : List (List ℕ)) (i : ℕ) (f :
 each_at P [] i f a e = absurd cc
 each_at P (x ∷ xs) zero f a e = let same : x ≡ f = cc in subst P same a.0
 each_at P (x ∷ xs) (suc i) f a e = each_at P xs i f a.1 e
+
+-- what is found among names is one
+pub found_name : (names : List (List ℕ)) (f : List ℕ) (n : ℕ) → EachIsName names → place names f ≡ Some n → is_name f ≡ true
+found_name names f n each e = each_at (λ x. is_name x ≡ true) names n f each (get-place names n f e)
 
 declared_is : (k : ℕ) (names : List (List ℕ)) (f : List ℕ) (v : NodeId) (b : Bool) (o : Option ℕ) → place names f ≡ o → is_name f ≡ b → cond b (elim o [ Some n ↦ Ok (record { 0 = n }) | None ↦ Err (UnknownNode k) ]) (Err (BadLine k)) ≡ Ok v → place names f ≡ Some v.0
 declared_is k names f v true None h g e = absurd cc

@@ -42,6 +42,10 @@ abbrev pub IsAllowance : ℕ → Allowance → Type 0
 IsAllowance format (Joint most) = IsMost most
 IsAllowance format (Split take give) = (2 ≤ format) × (IsMost take × IsMost give)
 
+-- names, each 1 to 32 bytes
+abbrev pub EachIsName : List (List ℕ) → Type 0
+EachIsName names = AllByRecursion (λ name. is_name name ≡ true) names
+
 -- what a ring of that format may declare as a node
 pub record IsNode (format : ℕ) (x : Node) : Type 0 where
   pub name : is_name x.name ≡ true

@@ -1,12 +1,13 @@
 //! Node lines, and the nodes that were declared so far.
 
 ghost use Rattle.std.specs.Prelude.{◌≡◌, ◌<◌, ◌≤◌, ◌+◌, ◌++◌, ◌∷◌, [], length, map, OnOk, OnErr, IfErr, codes, IfOk};
-ghost use Rattle.std.specs.Prelude.{None, not, nat_lt};
+ghost use Rattle.std.specs.Prelude.{None, not, nat_lt, true};
 ghost use Rattle.ring_names.specs.declared.refusal.Refusal.TheVariants.{OutOfMemory};
 ghost use Rattle.ring_names.specs.Names.{place};
 ghost use Rattle.texts.specs.Judging.{Does, map_ok, field_at};
 ghost use Rattle.texts.specs.Left.{Reads, is_word, many_from};
 ghost use Rattle.texts.specs.Late.{IsAt, Late};
+ghost use Rattle.texts.specs.Name.{is_name as is_spelled_name};
 ghost use Rattle.ring_table.specs.Reading.{judge_new, judge_most, second_at, made, allowance_at, judge_membership};
 ghost use Rattle.ring_table.specs.Reading.{node_at, nodes_at};
 
@@ -26,13 +27,14 @@ pub struct Declared {
 
 impl Model for Declared {
     ghost use Rattle.std.specs.Prelude.{◌≡◌, ◌≤◌, List, map, length};
+    ghost use Rattle.ring_table.specs.Valid.{EachIsName};
     ghost use Rattle.ring_table.specs.declared.node.Node.{Node};
 
     ghost Value = { List Node };
 
     ghost view = { λ a. a.nodes.items };
 
-    ghost invariant = { λ a. (a.names ≡ map (λ x. x.name) a.nodes.items) × (length a.nodes.items ≤ 1024) };
+    ghost invariant = { λ a. (a.names ≡ map (λ x. x.name) a.nodes.items) × (length a.nodes.items ≤ 1024) × EachIsName a.names };
 }
 
 // What a node line says, its name still in the text.
@@ -48,7 +50,7 @@ fn new_name<'a>(names: &Names, fields: &mut Fields<'a>) -> Result<&'a [u8], Refu
     ensures { Does (λ k. field_at k (judge_new k names.now)) fields.old (map_ok (λ name. name.now) result) fields.new }
 {
     let line = fields.line();
-    let Some(name) = fields.next() else {
+    let Some(name) = fields.next_long() else {
         return Err(Refusal::BadLine(line));
     };
     if !is_name(name) {
@@ -169,6 +171,7 @@ impl Declared {
     fn push(&mut self, alloc: Global, said: NodeLine) -> Result<(), Refusal>
         requires room { length self.old < 1024 }
         requires new { place (map (λ x. x.name) self.old) said.name.now ≡ None }
+        requires name { is_spelled_name said.name.now ≡ true }
         ensures ok { OnOk result (self.new ≡ self.old ++ node_of said.entry ∷ []) }
         ensures memory { IfErr result (λ e. e ≡ OutOfMemory) }
         ensures grows { length self.old ≤ length self.new }

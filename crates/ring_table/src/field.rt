@@ -12,6 +12,7 @@ use ring_names::{NodeId, Refusal};
 use texts::{Fields, is_name};
 
 // Whether that is the name of the node.
+#[inline(always)]
 fn is_named(ring: &Ring, node: NodeId, name: &[u8]) -> bool
     ensures value { result ≡ true → place (names_of ring.now) name.now ≡ Some node.0 }
     ensures name { result ≡ true → is_name name.now ≡ true }
@@ -24,6 +25,7 @@ fn is_named(ring: &Ring, node: NodeId, name: &[u8]) -> bool
 /// Takes a field that must name a node of the ring. Else that is `BadLine` or `UnknownNode`. Where the node is the `likely` one, as in a
 /// row of lines of one node, its name is not looked up.
 #[tactic(auto, unfolding(crate::specs::Reading::declared_at))]
+#[inline(always)]
 pub fn node_field(
     ring: &Ring,
     likely: Option<NodeId>,
@@ -32,7 +34,7 @@ pub fn node_field(
     ensures { Does (declared_at ring.now) fields.old result fields.new }
 {
     let line = fields.line();
-    let Some(name) = fields.next() else {
+    let Some(name) = fields.next_long() else {
         return Err(Refusal::BadLine(line));
     };
     if let Some(node) = likely {

@@ -6,6 +6,7 @@ ghost use Rattle.ring_names.specs.Lists.{all_different as differ};
 ghost use Rattle.texts.specs.Judging.{Does, field_at, map_ok};
 ghost use Rattle.texts.specs.Left.{Reads, map_part};
 ghost use Rattle.texts.specs.Late.{IsAt, Late};
+ghost use Rattle.ring_table.specs.Valid.{EachIsName};
 ghost use Rattle.ring_table.specs.Value.{is_member as is_member_of};
 ghost use Rattle.ring_table.specs.Reading.{judge_declared, owners_at, row_at, rows_at};
 
@@ -61,26 +62,29 @@ impl Row {
     }
 }
 
-// A declared node.
+// A declared node. What is found is a name, so that is asked of others alone.
+#[tactic(auto, using(crate::proofs::RowLaws::found_name))]
 fn declared_node(names: &Names, fields: &mut Fields) -> Result<NodeId, Refusal>
+    requires { EachIsName names.now }
     ensures { Does (λ k. field_at k (judge_declared k names.now)) fields.old result fields.new }
 {
     let line = fields.line();
-    let Some(name) = fields.next() else {
+    let Some(name) = fields.next_long() else {
         return Err(Refusal::BadLine(line));
     };
-    if !is_name(name) {
-        return Err(Refusal::BadLine(line));
+    if let Some(number) = names.number_of(name) {
+        return Ok(NodeId(number));
     }
-    match names.number_of(name) {
-        Some(number) => Ok(NodeId(number)),
-        None => Err(Refusal::UnknownNode(line)),
+    if is_name(name) {
+        return Err(Refusal::UnknownNode(line));
     }
+    Err(Refusal::BadLine(line))
 }
 
 // So many owners, at most 7.
 fn owners(names: &Names, count: u32, fields: &mut Fields) -> Result<Row, Refusal>
-    requires { count ≤ 7 }
+    requires few { count ≤ 7 }
+    requires names { EachIsName names.now }
     ensures does { Does (λ k. owners_at k names.now count) fields.old result fields.new }
     ensures len { IfOk result (λ row. length row ≡ count) }
 {

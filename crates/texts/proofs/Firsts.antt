@@ -1,10 +1,10 @@
 -- The first field of a text ends at the first space or line end.
-use Rattle.std.proofs.Common.{◌≡◌, ℕ, zero, suc, ◌<◌, ◌≤◌, Bool, true, false, ◌||◌, eqb, List, [], ◌∷◌, length, get_or, take, refl, sym, ap, ◌∙◌, arith}
+use Rattle.std.proofs.Common.{◌≡◌, ℕ, Bool, true, false, cond, ◌||◌, eqb, List, [], ◌∷◌, length, take, refl, sym, ap, ◌∙◌}
 use Rattle.std.specs.Str.{bytes_eq}
 use Rattle.std.specs.List.{slice_split, onto_first}
 use Rattle.std.proofs.lemmas.List.Splits.{slice_split-cons_yes, slice_split-cons_no}
 use Rattle.std.proofs.lemmas.Bool.{or_parts}
-use Rattle.texts.specs.Parts.{fields_of, lines_of}
+use Rattle.texts.specs.Parts.{fields_of, lines_of, until}
 use Rattle.texts.specs.Left.{begins_with}
 use Rattle.texts.proofs.Cuts.{first_part}
 
@@ -43,23 +43,23 @@ stop b bs e = by (eqb b 10) refl
           slice_split-cons_yes (λ c. eqb c 32) b s.0 space,
         )
 
-first_at : (bs : List ℕ) (i : ℕ) → i ≤ length bs → ((k : ℕ) → k < i → (eqb (get_or bs k 0) 32 || eqb (get_or bs k 0) 10) ≡ false) → (i < length bs → (eqb (get_or bs i 0) 32 || eqb (get_or bs i 0) 10) ≡ true) → FirstField bs (take i bs)
+first : (bs : List ℕ) → FirstField bs (until (λ b. eqb b 32 || eqb b 10) bs)
 unfolding FirstField
-first_at [] zero l before at = ([], [], [], refl, refl)
-first_at [] (suc i) l before at = absurd (omega arith)
-first_at (b ∷ bs) zero l before at = stop b bs (at (omega arith))
-first_at (b ∷ bs) (suc i) l before at = more b bs (take i bs) (before 0 (omega arith)) (first_at bs i (omega arith) (λ k h. before (suc k) (omega arith)) (λ h. at (omega arith)))
+first [] = ([], [], [], refl, refl)
+first (b ∷ bs) = by (eqb b 32 || eqb b 10) refl (first bs)
+  where
+    by : (t : Bool) → (eqb b 32 || eqb b 10) ≡ t → FirstField bs (until (λ b. eqb b 32 || eqb b 10) bs) → FirstField (b ∷ bs) (cond t [] (b ∷ until (λ b. eqb b 32 || eqb b 10) bs))
+    by true e f = stop b bs e
+    by false e f = more b bs (until (λ b. eqb b 32 || eqb b 10) bs) e f
 
 begins : (word bs field : List ℕ) → FirstField bs field → begins_with word (lines_of bs) ≡ bytes_eq field word
 unfolding FirstField
 begins word bs field h = rw (h.3, h.4) refl
 
-pub begins_at : (word bs : List ℕ) (i : ℕ) → i ≤ length bs → ((k : ℕ) → k < i → (eqb (get_or bs k 0) 32 || eqb (get_or bs k 0) 10) ≡ false) → (i < length bs → (eqb (get_or bs i 0) 32 || eqb (get_or bs i 0) 10) ≡ true) → begins_with word (lines_of bs) ≡ bytes_eq (take i bs) word
-begins_at word bs i l before at = begins word bs (take i bs) (first_at bs i l before at)
+-- a text begins with what stands in front of the first space or line end
+pub begins_until : (word bs : List ℕ) → begins_with word (lines_of bs) ≡ bytes_eq (until (λ b. eqb b 32 || eqb b 10) bs) word
+begins_until word bs = begins word bs (until (λ b. eqb b 32 || eqb b 10) bs) (first bs)
 
 pub take_whole : (bs : List ℕ) → take (length bs) bs ≡ bs
 take_whole [] = refl
 take_whole (b ∷ bs) = ap (λ (cs : List ℕ). b ∷ cs) (take_whole bs)
-
-pub begins_whole : (word bs : List ℕ) → ((k : ℕ) → k < length bs → (eqb (get_or bs k 0) 32 || eqb (get_or bs k 0) 10) ≡ false) → begins_with word (lines_of bs) ≡ bytes_eq bs word
-begins_whole word bs before = begins_at word bs (length bs) (omega arith) before (λ h. absurd (omega arith)) ∙ ap (λ (cs : List ℕ). bytes_eq cs word) (take_whole bs)

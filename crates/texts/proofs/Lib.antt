@@ -1,4 +1,5 @@
 pub mod Numbers
+pub mod Shorts
 pub mod Cuts
 pub mod Items
 pub mod Decimals
@@ -13,6 +14,8 @@ pub mod Lates
 pub mod FrameLaws
 pub mod Measured
 pub mod Firsts
+pub mod Untils
+pub mod Words
 pub mod InFront
 pub mod Faults
 pub mod Halves

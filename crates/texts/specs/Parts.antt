@@ -1,5 +1,5 @@
 -- A text as lines of fields, and lines of fields as a text.
-use Rattle.std.specs.Prelude.{ℕ, List, [], ◌∷◌, ◌++◌, ◌==◌, map}
+use Rattle.std.specs.Prelude.{ℕ, Bool, List, [], ◌∷◌, ◌++◌, ◌==◌, map, if◌then◌else◌}
 use Rattle.std.specs.List.{slice_split, join_with_byte, flat_map}
 
 -- the parts of a line between the spaces
@@ -21,3 +21,8 @@ text_of lines = flat_map line_text lines
 -- fields, each behind a space
 abbrev pub spaced : List (List ℕ) → List ℕ
 spaced fields = flat_map (λ field. 32 ∷ field) fields
+
+-- the bytes in front of the first that ends them
+abbrev pub until : (ℕ → Bool) → List ℕ → List ℕ
+until ends [] = []
+until ends (b ∷ bs) = if ends b then [] else b ∷ until ends bs

@@ -1,10 +1,11 @@
 //! The parts of a line, one after the other.
 
-ghost use Rattle.std.specs.Prelude.{◌≡◌, ◌∷◌, [], MatchOption};
+ghost use Rattle.std.specs.Prelude.{◌≡◌, ◌∷◌, [], List, ℕ, true, false, MatchOption};
+ghost use Rattle.std.specs.Str.{bytes_eq};
 ghost use Rattle.texts.specs.Parts.{fields_of};
 ghost use Rattle.texts.specs.Cuts.{front_of, behind_of};
 
-use crate::cut::cut_near;
+use crate::cut::{cut, cut_near, stands_in_front};
 use std::marker::Model;
 
 /// The parts of a line between single spaces that were not taken yet.
@@ -31,6 +32,7 @@ impl<'a> Cursor<'a> {
     }
 
     /// Takes the next part, if there is one.
+    #[inline(always)]
     pub fn next(&mut self) -> Option<&'a [u8]>
         ensures { MatchOption result ((self.old ≡ []) × (self.new ≡ [])) (λ field. self.old ≡ field.now ∷ self.new) }
     {
@@ -38,6 +40,39 @@ impl<'a> Cursor<'a> {
         let (field, rest) = cut_near(rest, b' ');
         self.rest = rest;
         Some(field)
+    }
+
+    /// Takes the next part, if there is one, by a search, which is faster than a walk where the part is some ten bytes long.
+    #[inline(always)]
+    pub fn next_long(&mut self) -> Option<&'a [u8]>
+        ensures { MatchOption result ((self.old ≡ []) × (self.new ≡ [])) (λ part. self.old ≡ part.now ∷ self.new) }
+    {
+        let rest = self.rest?;
+        let (part, rest) = cut(rest, b' ');
+        self.rest = rest;
+        Some(part)
+    }
+
+    /// Takes the next part if it is this word, and tells whether it was.
+    #[inline(always)]
+    pub fn takes(&mut self, word: &[u8]) -> bool
+        ensures taken { result ≡ true → self.old ≡ word.now ∷ self.new }
+        ensures left { result ≡ false → self.new ≡ self.old }
+        ensures other { result ≡ false → (x : List ℕ) (xs : List (List ℕ)) → self.old ≡ x ∷ xs
+            → bytes_eq x word.now ≡ false }
+    {
+        let Some(bytes) = self.rest else {
+            return false;
+        };
+        if !stands_in_front(bytes, word, b' ') {
+            return false;
+        }
+        self.rest = if word.len() < bytes.len() {
+            Some(&bytes[word.len() + 1..])
+        } else {
+            None
+        };
+        true
     }
 
     /// The parts in front of the first that is this word, and those behind it, where there is one.

@@ -1,14 +1,14 @@
 //! Cutting bytes at a separator.
 
-ghost use Rattle.std.specs.Prelude.{◌≡◌, ◌∷◌, [], ◌==◌, ◌||◌, List, ℕ, MatchOption};
+ghost use Rattle.std.specs.Prelude.{◌≡◌, ◌∷◌, [], ◌==◌, ◌||◌, MatchOption};
 ghost use Rattle.std.specs.List.{slice_split};
 ghost use Rattle.std.specs.Str.{bytes_eq};
-ghost use Rattle.texts.specs.Parts.{lines_of};
-ghost use Rattle.texts.specs.Left.{begins_with};
+ghost use Rattle.texts.specs.Parts.{until};
 
 use memchr::memchr;
 
 // The bytes in front of the first separator, and those behind it where there is one.
+#[inline(always)]
 pub fn cut(bytes: &[u8], separator: u8) -> (&[u8], Option<&[u8]>)
     ensures { MatchOption result.1
         (slice_split (λ b. b == separator) bytes.now ≡ result.0.now ∷ [])
@@ -21,6 +21,7 @@ pub fn cut(bytes: &[u8], separator: u8) -> (&[u8], Option<&[u8]>)
 }
 
 // The same, for a separator that is near: a walk from byte to byte, which is faster than a search over few bytes.
+#[inline(always)]
 pub fn cut_near(bytes: &[u8], separator: u8) -> (&[u8], Option<&[u8]>)
     ensures { MatchOption result.1
         (slice_split (λ b. b == separator) bytes.now ≡ result.0.now ∷ [])
@@ -34,21 +35,20 @@ pub fn cut_near(bytes: &[u8], separator: u8) -> (&[u8], Option<&[u8]>)
     (bytes, None)
 }
 
-// Whether a field ends at the byte.
-fn is_end(byte: u8) -> bool
-    ensures { result ≡ ((byte == 32) || (byte == 10)) }
+// Whether the bytes in front of the first space, or the first byte `end`, are this word. Byte by byte, which is a few instructions where the word is
+// known at the call.
+#[inline(always)]
+pub fn stands_in_front(bytes: &[u8], word: &[u8], end: u8) -> bool
+    ensures { result ≡ bytes_eq (until (λ b. (b == 32) || (b == end)) bytes.now) word.now }
 {
-    byte == b' ' || byte == b'\n'
-}
-
-// The first field of the first line of a text.
-pub fn first_field(text: &[u8]) -> &[u8]
-    ensures { (word : List ℕ) → begins_with word (lines_of text.now) ≡ bytes_eq result.now word }
-{
-    for at in 0..text.len() {
-        if is_end(text[at]) {
-            return &text[..at];
+    for at in 0..word.len() {
+        let byte = word[at];
+        if byte == b' ' || byte == end || bytes.len() <= at || bytes[at] != byte {
+            return false;
         }
     }
-    text
+    match bytes.get(word.len()) {
+        Some(byte) => *byte == b' ' || *byte == end,
+        None => true,
+    }
 }

@@ -1,6 +1,7 @@
 //! The fields of a line, one after the other.
 
-ghost use Rattle.std.specs.Prelude.{◌≡◌, ◌∷◌, [], drop, option_map, is_some, MatchOption};
+ghost use Rattle.std.specs.Prelude.{◌≡◌, ◌∷◌, [], List, ℕ, true, false, drop, option_map, is_some, MatchOption};
+ghost use Rattle.std.specs.Str.{bytes_eq};
 ghost use Rattle.texts.specs.Parts.{fields_of};
 ghost use Rattle.texts.specs.Cuts.{front_of, behind_of};
 ghost use Rattle.texts.specs.Judging.{Does, word_at, number_at, end_at};
@@ -29,6 +30,7 @@ impl<'a> Model for Fields<'a> {
 
 impl<'a> Fields<'a> {
     /// All fields of a line, given without its last byte 0A.
+    #[inline(always)]
     pub fn of(line: u32, text: &'a [u8]) -> Fields<'a>
         ensures { result ≡ record { number = line; fields = fields_of text.now } }
     {
@@ -46,6 +48,7 @@ impl<'a> Fields<'a> {
     }
 
     /// Takes the next field, if there is one.
+    #[inline(always)]
     pub fn next(&mut self) -> Option<&'a [u8]>
         ensures field { MatchOption result ((self.old.fields ≡ []) × (self.new.fields ≡ []))
             (λ field. self.old.fields ≡ field.now ∷ self.new.fields) }
@@ -54,18 +57,43 @@ impl<'a> Fields<'a> {
         self.rest.next()
     }
 
+    /// Takes the next field, if there is one, as `next` does. It is faster where the field is some ten bytes long, as names of nodes mostly are.
+    #[inline(always)]
+    pub fn next_long(&mut self) -> Option<&'a [u8]>
+        ensures field { MatchOption result ((self.old.fields ≡ []) × (self.new.fields ≡ []))
+            (λ field. self.old.fields ≡ field.now ∷ self.new.fields) }
+        ensures line { self.new.number ≡ self.old.number }
+    {
+        self.rest.next_long()
+    }
+
+    /// Takes the next field if it is this word, and tells whether it was.
+    #[inline(always)]
+    pub fn takes(&mut self, word: &[u8]) -> bool
+        ensures taken { result ≡ true → self.old.fields ≡ word.now ∷ self.new.fields }
+        ensures left { result ≡ false → self.new.fields ≡ self.old.fields }
+        ensures other { result ≡ false → (x : List ℕ) (xs : List (List ℕ)) → self.old.fields ≡ x ∷ xs
+            → bytes_eq x word.now ≡ false }
+        ensures line { self.new.number ≡ self.old.number }
+    {
+        self.rest.takes(word)
+    }
+
     /// Takes a field that must be this word. Else that is `BadLine`.
+    #[inline(always)]
     pub fn word(&mut self, word: &[u8]) -> Result<(), Refusal>
         ensures { Does (λ k. word_at k word.now) self.old result self.new }
     {
-        match self.next() {
-            Some(field) if field == word => Ok(()),
-            _ => Err(Refusal::BadLine(self.line)),
+        if self.takes(word) {
+            return Ok(());
         }
+        let _ = self.next();
+        Err(Refusal::BadLine(self.line))
     }
 
     /// Takes the next field, if there is one, and tells the number that it spells: decimal, without sign and without leading zeros, of any
     /// length, and at most `CAP`.
+    #[inline(always)]
     pub fn value(&mut self) -> Option<u64>
         ensures value { result ≡ option_map capped (first_value self.old.fields) }
         ensures rest { self.new ≡ record { number = self.old.number; fields = drop 1 self.old.fields } }
@@ -85,6 +113,7 @@ impl<'a> Fields<'a> {
     }
 
     /// Takes a field that must be a number. Another field is `BadLine`, a number above the limit `TooLarge`.
+    #[inline(always)]
     pub fn number(&mut self, limit: u32) -> Result<u32, Refusal>
         ensures { Does (λ k. number_at k limit) self.old result self.new }
     {
@@ -96,6 +125,7 @@ impl<'a> Fields<'a> {
     }
 
     /// Takes the numbers that stand in front.
+    #[inline(always)]
     pub fn numbers(&mut self) -> NumberRow<'a>
         ensures numbers { result ≡ numbers_of self.old.fields }
         ensures rest { self.new ≡ record { number = self.old.number; fields = beyond self.old.fields } }
@@ -104,6 +134,7 @@ impl<'a> Fields<'a> {
     }
 
     /// Asks that no field is left. Else that is `BadLine`.
+    #[inline(always)]
     pub fn ended(&mut self) -> Result<(), Refusal>
         ensures { Does (λ k. end_at k) self.old result self.new }
     {

@@ -5,7 +5,7 @@ ghost use Rattle.texts.specs.Parts.{lines_of};
 ghost use Rattle.texts.specs.Late.{IsAt};
 ghost use Rattle.texts.specs.Left.{next_line, next_number, is_over, over_at, begins_with};
 
-use crate::cut::{cut, first_field};
+use crate::cut::{cut, stands_in_front};
 use crate::fields::Fields;
 use ring_names::Refusal;
 use std::marker::Model;
@@ -55,6 +55,7 @@ impl<'a> Lines<'a> {
     }
 
     /// Takes a line that must come. Where there is none, or it is unfinished, that is `BadLine` at its number.
+    #[inline(always)]
     pub fn next(&mut self) -> Result<Fields<'a>, Refusal>
         ensures found { IfOk result (λ x. (x.number ≡ self.old.line) × (next_line self.old ≡ Ok (x.fields, self.new))) }
         ensures missing { IfErr result (λ e. next_line self.old ≡ Err e) }
@@ -74,15 +75,11 @@ impl<'a> Lines<'a> {
     }
 
     /// Whether the next line begins with the field `word`.
+    #[inline(always)]
     pub fn begins(&self, word: &[u8]) -> bool
         ensures { result ≡ begins_with word.now self.now.lines }
     {
-        if let (Some(first), Some(byte)) = (word.first(), self.rest.first())
-            && *first != *byte
-        {
-            return false;
-        }
-        first_field(self.rest) == word
+        stands_in_front(self.rest, word, b'\n')
     }
 
     /// Whether nothing is left.

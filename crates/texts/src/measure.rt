@@ -34,6 +34,7 @@ impl Measure {
     }
 
     // Keeps the next number, if it is one of the first.
+    #[inline(always)]
     fn keep(&mut self, value: u64)
         requires { value ≤ 4294967296 }
         ensures first { self.old.count < 8 → value < 4294967296
@@ -48,6 +49,7 @@ impl Measure {
     }
 
     /// Takes the next number, given as at most `CAP`.
+    #[inline(always)]
     pub(crate) fn add(&mut self, value: u64)
         requires { value ≤ 4294967296 }
         ensures { (xs : List ℕ) (n : ℕ) → value ≡ capped n → Measures xs self.old → Measures (xs ++ n ∷ []) self.new }

@@ -1,6 +1,6 @@
 //! Numbers in decimal.
 
-ghost use Rattle.std.specs.Prelude.{◌≡◌, ◌∷◌, [], true, ⊤, MatchOption, IfSome};
+ghost use Rattle.std.specs.Prelude.{◌≡◌, ◌≤◌, ◌∷◌, [], true, length, ⊤, MatchOption, IfSome};
 ghost use Rattle.std.specs.Str.{all_ascii_digits};
 ghost use Rattle.texts.specs.Parts.{fields_of};
 ghost use Rattle.texts.specs.Kept.{fields_left};
@@ -22,6 +22,7 @@ pub(crate) struct Front<'a> {
 }
 
 // Whether some digits are a number: there are some, and no leading zero.
+#[inline(always)]
 fn are_number(digits: &[u8]) -> bool
     ensures { all_ascii_digits digits.now ≡ true → result ≡ is_number digits.now }
 {
@@ -31,13 +32,40 @@ fn are_number(digits: &[u8]) -> bool
     }
 }
 
+// The value of digits of any number.
+#[cold]
+fn capped_value(digits: &[u8]) -> u64
+    ensures { result ≡ capped (value_from 0 digits.now) }
+{
+    let mut value = 0u64;
+    for at in 0..digits.len() {
+        value = (10 * value + digits[at].saturating_sub(b'0') as u64).min(CAP);
+    }
+    value
+}
+
+// The value of some digits, at most `CAP`, given that of up to 9 of them, which is below it.
+#[inline(always)]
+fn value_of(digits: &[u8], short: u64) -> u64
+    requires digits { all_ascii_digits digits.now ≡ true }
+    requires short { length digits.now ≤ 9 → short ≡ value_from 0 digits.now }
+    ensures { result ≡ capped (value_from 0 digits.now) }
+{
+    if digits.len() <= 9 {
+        return short;
+    }
+    capped_value(digits)
+}
+
 /// The number that the bytes up to the first space spell, in one walk over them.
+#[inline(always)]
 pub(crate) fn number_in_front(bytes: &[u8]) -> Option<Front<'_>>
     ensures none { MatchOption result (numbers_of (fields_of bytes.now) ≡ []) (λ _. ⊤) }
     ensures field { IfSome result (λ n. fields_of bytes.now ≡ n.digits.now ∷ fields_left n.rest) }
     ensures number { IfSome result (λ n. is_number n.digits.now ≡ true) }
     ensures value { IfSome result (λ n. n.value ≡ capped (value_from 0 n.digits.now)) }
 {
+    // of more than 9 digits it means nothing
     let mut value = 0u64;
     for at in 0..bytes.len() {
         let byte = bytes[at];
@@ -50,18 +78,18 @@ pub(crate) fn number_in_front(bytes: &[u8]) -> Option<Front<'_>>
             }
             return Some(Front {
                 digits: &bytes[..at],
-                value,
+                value: value_of(&bytes[..at], value),
                 rest: Some(&bytes[at + 1..]),
             });
         }
-        value = (10 * value + (byte - b'0') as u64).min(CAP);
+        value = value.wrapping_mul(10).wrapping_add((byte - b'0') as u64);
     }
     if !are_number(bytes) {
         return None;
     }
     Some(Front {
         digits: bytes,
-        value,
+        value: value_of(bytes, value),
         rest: None,
     })
 }

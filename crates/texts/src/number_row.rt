@@ -45,6 +45,7 @@ impl<'a> Cursor<'a> {
 
     // Takes the next part if it is a number, and tells its value, at most `CAP`.
     #[tactic(auto, using(crate::proofs::InFront::none_beyond))]
+    #[inline(always)]
     pub(crate) fn next_number(&mut self) -> Option<(&'a [u8], u64)>
         ensures number { MatchOption result (numbers_of self.old ≡ [])
             (λ n. (is_number n.0.now ≡ true) × (numbers_of self.old ≡ value_from 0 n.0.now ∷ numbers_of self.new)) }
@@ -63,6 +64,7 @@ impl<'a> Cursor<'a> {
     }
 
     /// Takes the numbers that stand in front.
+    #[inline(always)]
     pub fn numbers(&mut self) -> NumberRow<'a>
         ensures numbers { result ≡ numbers_of self.old }
         ensures rest { self.new ≡ beyond self.old }

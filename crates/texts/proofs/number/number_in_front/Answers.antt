@@ -4,7 +4,8 @@ use Rattle.std.specs.Str.{all_ascii_digits}
 use Rattle.texts.proofs.Cuts.{cut_at, none_at}
 use Rattle.texts.proofs.Firsts.{take_whole}
 use Rattle.texts.proofs.InFront.{none_in_front, odd_in_front, digit_is_no_space}
-use Rattle.texts.proofs.Numbers.{value-step, digits-step}
+use Rattle.texts.proofs.Numbers.{digits-step}
+use Rattle.texts.proofs.Shorts.{short-step}
 use Rattle.texts.proofs.number.number_in_front.Goals as goal
 
 pub returns-then-byte-ne32-clause-none : goal.returns-then-byte-ne32-clause-none
@@ -21,7 +22,7 @@ loop-at-preserved c =
     let digit = sym c.is_ascii_digit.ensures.value ∙ c.if-not-is_ascii_digit.false in
     record {
       digits = digits-step c.args.bytes.now c.loop-at.at within c.loop-at.invariant.digits digit;
-      value = c.min-value.ensures ∙ value-step c.args.bytes.now c.loop-at.at c.loop-at.value within c.loop-at.invariant.value;
+      value = λ l. short-step c.args.bytes.now c.loop-at.at c.loop-at.value within l c.loop-at.invariant.digits digit (c.loop-at.invariant.value (omega arith));
       none = below_more (λ (k : ℕ). eqb (get_or c.args.bytes.now k 0) 32 ≡ false) c.loop-at.at (λ k h. c.loop-at.invariant.none k h) (digit_is_no_space (get_or c.args.bytes.now c.loop-at.at 0) digit);
     }
 
