@@ -93,6 +93,7 @@ impl Index {
     }
 
     /// Takes in the plan's next step.
+    #[inline(always)]
     pub fn add(&mut self, step: &Step, number: u32) -> Result<(), Refusal>
         ensures ok { OnOk result ((plan : List Planned) → HoldsSteps self.old plan → length plan ≡ number
             → (x : Planned) → x.step ≡ step.now → HoldsSteps self.new (plan ++ x ∷ [])) }
@@ -110,6 +111,7 @@ impl Index {
     }
 
     /// The numbers of the slot's steps.
+    #[inline(always)]
     pub fn slot_numbers(&self, slot: Slot) -> &[u32]
         ensures { result.now ≡ numbers_at self.now.slots slot }
     {

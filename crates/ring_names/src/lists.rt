@@ -29,6 +29,7 @@ impl<K: Eq + Hash + Drop, V: Drop> Lists<K, V> {
     }
 
     /// The values of the key, in the order in which they were added.
+    #[inline(always)]
     pub fn items(&self, key: &K) -> &[V]
         ensures { result.now ≡ list_at K.eq self.now key.now }
     {
@@ -39,6 +40,7 @@ impl<K: Eq + Hash + Drop, V: Drop> Lists<K, V> {
     }
 
     /// Puts the value last in the list of the key.
+    #[inline(always)]
     pub fn add(&mut self, key: K, value: V) -> Result<(), Refusal>
         ensures ok { OnOk result (AddsLast K.eq self.old self.new key value) }
         ensures err { OnErr result (AreSame K.eq self.old self.new) }

@@ -50,7 +50,7 @@ fn new_name<'a>(names: &Names, fields: &mut Fields<'a>) -> Result<&'a [u8], Refu
     ensures { Does (λ k. field_at k (judge_new k names.now)) fields.old (map_ok (λ name. name.now) result) fields.new }
 {
     let line = fields.line();
-    let Some(name) = fields.next_long() else {
+    let Some(name) = fields.next() else {
         return Err(Refusal::BadLine(line));
     };
     if !is_name(name) {

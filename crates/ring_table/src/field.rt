@@ -34,7 +34,7 @@ pub fn node_field(
     ensures { Does (declared_at ring.now) fields.old result fields.new }
 {
     let line = fields.line();
-    let Some(name) = fields.next_long() else {
+    let Some(name) = fields.next() else {
         return Err(Refusal::BadLine(line));
     };
     if let Some(node) = likely {

@@ -69,7 +69,7 @@ fn declared_node(names: &Names, fields: &mut Fields) -> Result<NodeId, Refusal>
     ensures { Does (λ k. field_at k (judge_declared k names.now)) fields.old result fields.new }
 {
     let line = fields.line();
-    let Some(name) = fields.next_long() else {
+    let Some(name) = fields.next() else {
         return Err(Refusal::BadLine(line));
     };
     if let Some(number) = names.number_of(name) {

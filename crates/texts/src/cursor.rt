@@ -5,7 +5,7 @@ ghost use Rattle.std.specs.Str.{bytes_eq};
 ghost use Rattle.texts.specs.Parts.{fields_of};
 ghost use Rattle.texts.specs.Cuts.{front_of, behind_of};
 
-use crate::cut::{cut, cut_near, stands_in_front};
+use crate::cut::{cut_near, stands_in_front};
 use std::marker::Model;
 
 /// The parts of a line between single spaces that were not taken yet.
@@ -40,17 +40,6 @@ impl<'a> Cursor<'a> {
         let (field, rest) = cut_near(rest, b' ');
         self.rest = rest;
         Some(field)
-    }
-
-    /// Takes the next part, if there is one, by a search, which is faster than a walk where the part is some ten bytes long.
-    #[inline(always)]
-    pub fn next_long(&mut self) -> Option<&'a [u8]>
-        ensures { MatchOption result ((self.old ≡ []) × (self.new ≡ [])) (λ part. self.old ≡ part.now ∷ self.new) }
-    {
-        let rest = self.rest?;
-        let (part, rest) = cut(rest, b' ');
-        self.rest = rest;
-        Some(part)
     }
 
     /// Takes the next part if it is this word, and tells whether it was.

@@ -20,14 +20,23 @@ pub fn cut(bytes: &[u8], separator: u8) -> (&[u8], Option<&[u8]>)
     }
 }
 
-// The same, for a separator that is near: a walk from byte to byte, which is faster than a search over few bytes.
+// The same, for a separator that is near: a walk over the bytes, four at a time, which is faster than a search over few of them.
 #[inline(always)]
 pub fn cut_near(bytes: &[u8], separator: u8) -> (&[u8], Option<&[u8]>)
     ensures { MatchOption result.1
         (slice_split (λ b. b == separator) bytes.now ≡ result.0.now ∷ [])
         (λ rest. slice_split (λ b. b == separator) bytes.now ≡ result.0.now ∷ slice_split (λ b. b == separator) rest.now) }
 {
-    for at in 0..bytes.len() {
+    let mut start = 0;
+    'fours: while bytes.len() - start >= 4
+        && bytes[start] != separator
+        && bytes[start + 1] != separator
+        && bytes[start + 2] != separator
+        && bytes[start + 3] != separator
+    {
+        start += 4;
+    }
+    for at in start..bytes.len() {
         if bytes[at] == separator {
             return (&bytes[..at], Some(&bytes[at + 1..]));
         }

@@ -57,16 +57,6 @@ impl<'a> Fields<'a> {
         self.rest.next()
     }
 
-    /// Takes the next field, if there is one, as `next` does. It is faster where the field is some ten bytes long, as names of nodes mostly are.
-    #[inline(always)]
-    pub fn next_long(&mut self) -> Option<&'a [u8]>
-        ensures field { MatchOption result ((self.old.fields ≡ []) × (self.new.fields ≡ []))
-            (λ field. self.old.fields ≡ field.now ∷ self.new.fields) }
-        ensures line { self.new.number ≡ self.old.number }
-    {
-        self.rest.next_long()
-    }
-
     /// Takes the next field if it is this word, and tells whether it was.
     #[inline(always)]
     pub fn takes(&mut self, word: &[u8]) -> bool
