@@ -3,7 +3,7 @@
 words, the families alone whose command or name is one of them. Of `ringside`, which must be built too, the same plans by each command, and goals.
 
 For each family of `hostile_plans.py` and `hostile_scripts.py`, and for rings whose members change, a line for each size: the bundle's and the output's
-megabytes, the seconds of processor time, how many times those of half the size, and the most memory. It says of which line a bound is passed,
+megabytes, the seconds of processor time (of three runs the least, where these are below two), how many times those of half the size, and the most memory. It says of which line a bound is passed,
 and ends with 0 only where none is: from a megabyte and a tenth of a second on 2.3 times at a doubling; a second for ten megabytes of bundle and of
 output; memory of 8 times the bundle and the output, of `play`, `replay` and `drive` 16 times, and 16 MB beside.
 """
@@ -141,6 +141,13 @@ def families():
     yield ["drive"], "1,024 writers", [lambda n=n: clients(1024, n) for n in doubled(12500, 100000)]
 
 
+def least(words, bundle):
+    """The run that took the least time: of three where one takes less than two seconds, since what else the machine does may double a short one."""
+    run = lambda: Measured(words[1:], bundle, program=SIDE) if words[0] == "ringside" else Measured(words, bundle)
+    made = run()
+    return min([made, run(), run()], key=lambda it: it.seconds) if made.seconds < 2 else made
+
+
 def main():
     wanted, passed = sys.argv[1:], 0
     for words, name, made in families():
@@ -152,7 +159,7 @@ def main():
             bundle = make().encode()
             if len(bundle) > 67108864:
                 break
-            made = Measured(words[1:], bundle, program=SIDE) if words[0] == "ringside" else Measured(words, bundle)
+            made = least(words, bundle)
             out, status, seconds, memory = made.size, made.status, made.seconds, made.memory
             size, both = len(bundle) / 1e6, (len(bundle) + out) / 1e6
             over = []
