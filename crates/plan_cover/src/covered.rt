@@ -63,8 +63,8 @@ fn leads(chains: &Chains, side: Side, number: usize, copy: u32) -> bool
     }
 }
 
-// The copies from the first on that does not lead the chain at its own place. Where each copy is a chain of its own, as in most certificates, none is
-// left, and nothing is looked up.
+// The copies from the first on that does not lead the chain at its own place. Where each copy is a chain of its own, none is left, and
+// nothing is looked up: so it may be where a node may have as many transfers open as it has copies.
 fn behind_leads<'a>(chains: &Chains, side: Side, numbers: &[usize], copies: &'a [u32]) -> &'a [u32]
     ensures { (x : TheNode) → first_failing (map (copy_guard (chains_at chains.now side numbers.now) x) result.now)
         ≡ first_failing (map (copy_guard (chains_at chains.now side numbers.now) x) copies.now) }

@@ -144,7 +144,8 @@ impl Whole {
     }
 
     /// Merges one version in place, and tells whether it did: only where it is plain that it is in conflict with each version, and no other set
-    /// shares the chunk of its own writer's group. Costs a look at each version's own entry, and the entries of two joins.
+    /// shares the chunk of its own writer's group. Costs a look at each chunk's group, or where the version has counters there at each of its
+    /// versions' own entries, and the entries of two joins.
     pub fn add(&mut self, version: &Version) -> Result<bool, Refusal>
         requires { IsApart self.old }
         ensures added { IfOk result (λ done. done ≡ true → IsMerge self.old (version.now ∷ []) self.new) }
