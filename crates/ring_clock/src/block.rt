@@ -33,14 +33,11 @@ pub enum Form {
 /// Entries of writers of one group. Copies share them.
 #[derive(Drop)]
 pub struct Block {
-    // Beside the entries, so that blocks of two groups are told apart without a look at their memory.
-    group: u32,
     shared: Arc<Form>,
 }
 
 impl Model for Block {
-    ghost use Rattle.std.specs.Prelude.{◌≡◌, List};
-    ghost use Rattle.ring_clock.specs.Groups.{group_in};
+    ghost use Rattle.std.specs.Prelude.{List};
     ghost use Rattle.std.specs.Arc.{arc_value};
     ghost use Rattle.ring_clock.specs.declared.entry.Entry.{Entry};
     ghost use Rattle.ring_clock.specs.Forms.{entries_in};
@@ -48,8 +45,6 @@ impl Model for Block {
     ghost Value = { List Entry };
 
     ghost view = { λ a. entries_in (arc_value a.shared) };
-
-    ghost invariant = { λ a. a.group ≡ group_in (entries_in (arc_value a.shared)) };
 }
 
 impl Block {
@@ -57,20 +52,18 @@ impl Block {
     pub fn one(alloc: Global, entry: Entry) -> Result<Block, AllocError>
         ensures { IfOk result (λ b. b ≡ entry ∷ []) }
     {
-        let group = group_of(entry.writer);
         let entries = Vec::from_slice(alloc, &[entry])?;
         let shared = Arc::new(alloc, Form::Few(entries))?;
-        Ok(Block { group, shared })
+        Ok(Block { shared })
     }
 
     // The block of a group's counters.
     fn full(alloc: Global, full: Full) -> Result<Block, AllocError>
         ensures { IfOk result (λ b. b ≡ full) }
     {
-        let group = full.group();
         let counters = Box::new(alloc, full)?;
         let shared = Arc::new(alloc, Form::Full(counters))?;
-        Ok(Block { group, shared })
+        Ok(Block { shared })
     }
 
     // The block of these entries.
@@ -81,9 +74,8 @@ impl Block {
         ensures counters { IfOk result (λ b. (w : ℕ) → counter b w ≡ counter entries.items w) }
     {
         if entries.len() < MANY || !are_low(entries.as_slice()) {
-            let group = group_among(entries.as_slice());
             let shared = Arc::new(alloc, Form::Few(entries))?;
-            return Ok(Block { group, shared });
+            return Ok(Block { shared });
         }
         Block::full(alloc, Full::of(entries.as_slice()))
     }
@@ -93,8 +85,7 @@ impl Block {
         ensures { IfOk result (λ b. b ≡ self.now) }
     {
         let shared = Arc::try_clone(&self.shared)?;
-        let group = self.group;
-        Ok(Block { group, shared })
+        Ok(Block { shared })
     }
 
     /// The entries, to be taken one by one.
@@ -121,7 +112,10 @@ impl Block {
     pub fn group(&self) -> u32
         ensures { result ≡ group_in self.now }
     {
-        self.group
+        match &*self.shared {
+            Form::Few(entries) => group_among(entries.as_slice()),
+            Form::Full(full) => full.group(),
+        }
     }
 
     /// The counter of a writer, 0 where it has none.
@@ -150,8 +144,8 @@ impl Block {
         }
     }
 
-    /// Whether each writer's counter is at most that in another block. None where that is of a lesser group. Looks at the memory of neither
-    /// where their groups differ.
+    /// Whether each writer's counter is at most that in another block. None where that is of a lesser group. Mostly both are full and of one
+    /// group: then it looks at each block's form once.
     pub fn passes(&self, other: &Block) -> Option<bool>
         requires first { IsBlock self.now }
         requires second { IsBlock other.now }
@@ -159,14 +153,18 @@ impl Block {
         ensures not_lesser { IfSome result (λ held. group_in self.now ≤ group_in other.now) }
         ensures held { IfSome result (λ held. IsTrue held ↔ IsAtMost self.now other.now) }
     {
-        if other.group < self.group {
+        if let (Form::Full(mine), Form::Full(theirs)) = (&*self.shared, &*other.shared)
+            && mine.group() == theirs.group()
+        {
+            return Some(mine.is_at_most(theirs));
+        }
+        let group = self.group();
+        let facing = other.group();
+        if facing < group {
             return None;
         }
-        if self.group < other.group {
+        if group < facing {
             return Some(false);
-        }
-        if let (Form::Full(mine), Form::Full(theirs)) = (&*self.shared, &*other.shared) {
-            return Some(mine.is_at_most(theirs));
         }
         Some(self.is_at_most(other))
     }

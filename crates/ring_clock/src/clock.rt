@@ -100,21 +100,25 @@ impl Clock {
     }
 
     /// Whether each writer's counter is at most that in the other clock: then a version of this clock is an ancestor of one of
-    /// the other, or it is the same (DeCandia et al. 2007, section 4.4). Takes no memory. Costs the logarithm of the entries where the
-    /// counter of the writer for whom this clock was last raised is less in the other, and else the entries of both.
+    /// the other, or it is the same (DeCandia et al. 2007, section 4.4). Takes no memory. Costs the entries of both; where one has several
+    /// groups, the logarithm of the entries if the counter of the writer for whom this clock was last raised is less in the other.
     pub fn le(&self, other: &Clock) -> bool
         ensures { IsTrue result ↔ IsAtMost self.now other.now }
     {
-        if other.counter(self.own) < self.counter(self.own) {
+        let (blocks, others) = (self.blocks(), other.blocks());
+        // Two blocks alone are compared as fast as two counters are looked up.
+        if (blocks.len() > 1 || others.len() > 1)
+            && counter_in(others, self.own) < counter_in(blocks, self.own)
+        {
             return false;
         }
-        are_at_most(self.blocks(), other.blocks())
+        are_at_most(blocks, others)
     }
 
     /// The least clock above both: of each writer the greater counter. Costs the entries of both. Where of a group's entries one clock's are
     /// at most the other's, those of the greater one are shared. Takes memory for each of the other groups: 16 bytes for each entry of both
-    /// where these are few, or a counter is 2^31 or more, and else 260 bytes. Where there are several groups, it takes 16 bytes more for
-    /// each, or up to 32 where neither clock has all of them.
+    /// where these are few, or a counter is 2^31 or more, and else 260 bytes. Where there are several groups, it takes 8 bytes more for each,
+    /// or up to 16 where neither clock has all of them.
     pub fn join(&self, other: &Clock) -> Result<Clock, Refusal>
         ensures least { IfOk result (λ c. IsJoin self.now other.now c) }
         ensures counters { IfOk result (λ c. (w : ℕ) → counter c w ≡ max (counter self.now w) (counter other.now w)) }
@@ -145,8 +149,8 @@ impl Clock {
     }
 
     /// This clock with the writer's counter raised by one. Costs the entries of the writer's group, and the groups. Takes memory for those
-    /// entries, 260 bytes at most where each counter is below 2^31 and else 1024, and where there are several groups 16 bytes for each, or
-    /// up to 32 where the writer is the first one of its group; the other entries are shared.
+    /// entries, 260 bytes at most where each counter is below 2^31 and else 1024, and where there are several groups 8 bytes for each, or up
+    /// to 16 where the writer is the first one of its group; the other entries are shared.
     pub fn bump(&self, writer: WriterId) -> Result<Clock, Refusal>
         requires { counter self.now writer.0 < 18446744073709551615 }
         ensures counters { IfOk result

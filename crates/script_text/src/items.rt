@@ -12,6 +12,7 @@ use ring_table::{Ring, node_field};
 use texts::{CAP, Fields, NumberRow, both, is_name};
 
 /// A number. Else that is `BadLine` or `TooLarge`.
+#[inline(always)]
 pub fn count(fields: &mut Fields) -> Result<u32, Refusal>
     ensures { Does count_at fields.old result fields.new }
 {
@@ -19,6 +20,7 @@ pub fn count(fields: &mut Fields) -> Result<u32, Refusal>
 }
 
 /// Two numbers. Else that is `BadLine` or `TooLarge`.
+#[inline(always)]
 #[tactic(auto, unfolding(crate::specs::Reading::pair_at))]
 pub fn pair(fields: &mut Fields) -> Result<(u32, u32), Refusal>
     ensures { Does pair_at fields.old result fields.new }
