@@ -12,7 +12,7 @@ use std::alloc::{AllocError, Global};
 use texts::push_numbers;
 
 /// One event. Steps, puts and gets are named by their numbers, puts and gets in order of their start.
-#[derive(Debug, Drop)]
+#[derive(Debug)]
 pub enum Event {
     /// A step that is no copy is done.
     Do(u32),
@@ -48,8 +48,36 @@ pub enum Event {
     Lose(NodeId),
 }
 
+// Dropped by a call, so that no crate above goes through the sixteen kinds wherever an event ends.
+impl Drop for Event {
+    fn drop(self) {
+        match self {
+            Event::StartPut(_, key, value, seen) => {
+                drop(key);
+                drop(value);
+                drop(seen);
+            }
+            Event::StartGet(key) => drop(key),
+            Event::Do(_)
+            | Event::OpenCopy(_)
+            | Event::ChunkCopy(_, _)
+            | Event::CloseCopy(_)
+            | Event::AbortCopy(_)
+            | Event::Write(_, _)
+            | Event::Hint(_, _, _)
+            | Event::Ack(_)
+            | Event::Read(_, _)
+            | Event::EndGet(_)
+            | Event::Down(_)
+            | Event::Up(_)
+            | Event::Handoff(_, _)
+            | Event::Lose(_) => {}
+        }
+    }
+}
+
 /// What an event is answered.
-#[derive(Debug, Drop)]
+#[derive(Debug)]
 pub enum Reply {
     /// It is done.
     Plain,
@@ -63,6 +91,16 @@ pub enum Reply {
     Found(Listed<u32>),
     /// The puts that a get answers, ascending.
     Answer(Listed<u32>),
+}
+
+// By a call, as an event.
+impl Drop for Reply {
+    fn drop(self) {
+        match self {
+            Reply::Found(puts) | Reply::Answer(puts) => drop(puts),
+            Reply::Plain | Reply::Put(_) | Reply::Ticket(_, _) | Reply::Get(_) => {}
+        }
+    }
 }
 
 /// An event with the reply that it got.

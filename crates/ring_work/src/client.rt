@@ -8,7 +8,7 @@ ghost use Rattle.ring_work.specs.Driven.{IsSpent};
 
 use crate::done::Done;
 use crate::getting::{finish_get, start_get};
-use crate::noting::{go_on, no_limit};
+use crate::noting::{go_on, no_limit, submit};
 use crate::putting::put_on;
 use crate::site::{LockedStore, Site, is_set, ring, set};
 use plan_check::Gate;
@@ -98,8 +98,8 @@ fn get_line<L: RunLedger, R: Wait, G: Gate>(
     asked.reserve(1)?;
     let alloc = site.job.alloc;
     let key = key.try_copy(alloc)?;
-    let start = Event::StartGet(key.try_copy(alloc)?);
-    let number = start_get(site.store, &mut done.share, &mut done.receipts, &start)?;
+    let wanted = key.try_copy(alloc)?;
+    let number = start_get(site.store, &mut done.share, &mut done.receipts, wanted)?;
     let refusal = finish_get(site.store, &mut done.share, &mut done.receipts, number);
     let ended = refusal.is_none();
     asked.push_reserved(Asked { number, key, ended });
@@ -112,7 +112,7 @@ fn node_line<L: RunLedger, R: Wait>(
     done: &mut Done<L>,
     line: &Event,
 ) -> Result<(), Refusal> {
-    match done.note(store, line) {
+    match submit(store, &mut done.share, &mut done.receipts, line) {
         Ok(()) => Ok(()),
         Err(refusal) => go_on(refusal),
     }

@@ -40,7 +40,7 @@ impl<L: RunLedger> Done<L> {
     pub fn note<R: Wait>(
         &mut self,
         store: &LockedStore<L, R>,
-        event: &Event,
+        event: Event,
     ) -> Result<(), Refusal> {
         note(store, &mut self.share, &mut self.receipts, event)
     }

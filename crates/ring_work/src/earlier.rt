@@ -135,7 +135,7 @@ fn break_off<L: RunLedger, R: Wait>(
     ensures parts { share.new.token.parts ≡ share.old.token.parts }
 {
     for copy in copies {
-        note(store, share, receipts, &Event::AbortCopy(*copy))?;
+        note(store, share, receipts, Event::AbortCopy(*copy))?;
     }
     Ok(())
 }

@@ -20,8 +20,8 @@ use std::alloc::Global;
 use std::sync::Wait;
 use std::thread;
 
-/// Starts the get. Its number.
-pub(crate) fn start_get<L: RunLedger, R: Wait>(
+// Submits the event that starts a get. Its number.
+fn submit_get<L: RunLedger, R: Wait>(
     store: &LockedStore<L, R>,
     share: &mut Share<L>,
     receipts: &mut Vec<Receipt>,
@@ -39,6 +39,22 @@ pub(crate) fn start_get<L: RunLedger, R: Wait>(
     let get = get_number(&receipt.reply);
     receipts.push_reserved(receipt);
     Ok(get)
+}
+
+/// Starts a get of the key. Its number.
+pub(crate) fn start_get<L: RunLedger, R: Wait>(
+    store: &LockedStore<L, R>,
+    share: &mut Share<L>,
+    receipts: &mut Vec<Receipt>,
+    key: Key,
+) -> Result<u32, Refusal>
+    ensures ok { IfOk result (λ get. (r : TheReceipt) × (r.event ≡ StartGet key) × (r.reply ≡ Get get)
+        × (receipts.new.items ≡ receipts.old.items ++ r ∷ [])) }
+    ensures err { OnErr result (receipts.new.items ≡ receipts.old.items) }
+    ensures count { IsCounted share.old.count share.new.count receipts.old.items receipts.new.items }
+    ensures parts { share.new.token.parts ≡ share.old.token.parts }
+{
+    submit_get(store, share, receipts, &Event::StartGet(key))
 }
 
 // The slots that a get has read: bit i is set where the slot of index i is read.
@@ -78,7 +94,7 @@ fn read_round<L: RunLedger, R: Wait>(
     let ring = store.executor.approved().ring();
     for index in 0..ring.n() {
         if slots.count < ring.r() && !slots.has(index) {
-            match note(store, share, receipts, &Event::Read(get, index)) {
+            match note(store, share, receipts, Event::Read(get, index)) {
                 Ok(()) => slots.add(index),
                 Err(refusal) => go_on(refusal)?,
             }
@@ -125,7 +141,7 @@ pub(crate) fn finish_get<L: RunLedger, R: Wait>(
     if let Err(refusal) = read_rounds(store, share, receipts, get) {
         return Some(refusal);
     }
-    match note(store, share, receipts, &Event::EndGet(get)) {
+    match note(store, share, receipts, Event::EndGet(get)) {
         Ok(()) => None,
         Err(refusal) => Some(refusal),
     }
@@ -142,7 +158,7 @@ fn get_on<L: RunLedger, R: Wait>(
     ensures count { IsCounted share.old.count share.new.count receipts.old.items receipts.new.items }
     ensures parts { share.new.token.parts ≡ share.old.token.parts }
 {
-    match start_get(store, share, receipts, &Event::StartGet(key)) {
+    match start_get(store, share, receipts, key) {
         Ok(get) => finish_get(store, share, receipts, get),
         Err(refusal) => Some(refusal),
     }

@@ -19,7 +19,7 @@ fn hand<L: RunLedger, R: Wait, G: Gate>(
     node: NodeId,
     slot: Slot,
 ) -> Result<bool, Refusal> {
-    match done.note(site.store, &Event::Handoff(node, slot)) {
+    match done.note(site.store, Event::Handoff(node, slot)) {
         Ok(()) => Ok(true),
         Err(refusal) => {
             go_on(refusal)?;

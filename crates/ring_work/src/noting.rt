@@ -17,7 +17,7 @@ use std::sync::Wait;
 pub(crate) const MAX_ROUNDS: u32 = 64;
 
 /// Submits the event and keeps its receipt, for which there is room before the lock is asked. Refused, nothing is kept.
-pub(crate) fn note<L: RunLedger, R: Wait>(
+pub(crate) fn submit<L: RunLedger, R: Wait>(
     store: &LockedStore<L, R>,
     share: &mut Share<L>,
     receipts: &mut Vec<Receipt>,
@@ -32,6 +32,21 @@ pub(crate) fn note<L: RunLedger, R: Wait>(
     let receipt = store.executor.submit(store.rt, event, share)?;
     receipts.push_reserved(receipt);
     Ok(())
+}
+
+/// As `submit`. Takes the event, so that who notes one need not let it go at each of several ends.
+pub(crate) fn note<L: RunLedger, R: Wait>(
+    store: &LockedStore<L, R>,
+    share: &mut Share<L>,
+    receipts: &mut Vec<Receipt>,
+    event: Event,
+) -> Result<(), Refusal>
+    ensures ok { OnOk result (Adds event receipts.old.items receipts.new.items) }
+    ensures err { OnErr result (receipts.new.items ≡ receipts.old.items) }
+    ensures count { IsCounted share.old.count share.new.count receipts.old.items receipts.new.items }
+    ensures parts { share.new.token.parts ≡ share.old.token.parts }
+{
+    submit(store, share, receipts, &event)
 }
 
 /// The number of the put that was started.

@@ -59,7 +59,7 @@ fn leave_hint<L: RunLedger, R: Wait>(
             store,
             share,
             receipts,
-            &Event::Hint(put, index, NodeId(node)),
+            Event::Hint(put, index, NodeId(node)),
         ) {
             Ok(()) => break,
             Err(refusal) => go_on(refusal)?,
@@ -80,7 +80,7 @@ fn send<L: RunLedger, R: Wait>(
     ensures count { IsCounted share.old.count share.new.count receipts.old.items receipts.new.items }
     ensures parts { share.new.token.parts ≡ share.old.token.parts }
 {
-    match note(store, share, receipts, &Event::Write(put, index)) {
+    match note(store, share, receipts, Event::Write(put, index)) {
         Ok(()) => Ok(()),
         Err(Refusal::NodeDown(_)) => leave_hint(store, share, receipts, put, index),
         Err(refusal) => go_on(refusal),
@@ -121,7 +121,7 @@ fn send_rounds<L: RunLedger, R: Wait>(
         if let Err(refusal) = send_round(store, share, receipts, put) {
             return Some(refusal);
         }
-        match note(store, share, receipts, &Event::Ack(put)) {
+        match note(store, share, receipts, Event::Ack(put)) {
             Ok(()) => return None,
             Err(Refusal::StaleTickets(now)) => current = now,
             Err(refusal) => return Some(refusal),

@@ -196,7 +196,7 @@ fn do_step<L: RunLedger, R: Wait, G: Gate>(
     done: &mut Done<L>,
     step: u32,
 ) -> Result<bool, Refusal> {
-    match done.note(site.store, &Event::Do(step)) {
+    match done.note(site.store, Event::Do(step)) {
         Ok(()) => Ok(true),
         Err(refusal) => {
             go_on(refusal)?;
@@ -212,7 +212,7 @@ fn copy_chunks<L: RunLedger, R: Wait, G: Gate>(
     step: u32,
 ) -> Result<bool, Refusal> {
     for chunk in 0..CHUNKS {
-        match done.note(site.store, &Event::ChunkCopy(step, chunk)) {
+        match done.note(site.store, Event::ChunkCopy(step, chunk)) {
             Ok(()) | Err(Refusal::AlreadyDone) => {}
             Err(Refusal::NodeDown(_)) => return Ok(false),
             Err(refusal) => return Err(refusal),
@@ -232,10 +232,10 @@ fn copy_on<L: RunLedger, R: Wait, G: Gate>(
         return Err(Refusal::TurnsSpent);
     }
     if copy_chunks(site, done, step)? {
-        done.note(site.store, &Event::CloseCopy(step))?;
+        done.note(site.store, Event::CloseCopy(step))?;
         return Ok(true);
     }
-    done.note(site.store, &Event::AbortCopy(step))?;
+    done.note(site.store, Event::AbortCopy(step))?;
     Ok(false)
 }
 
@@ -246,7 +246,7 @@ fn copy<L: RunLedger, R: Wait, G: Gate>(
     worker: u32,
     step: u32,
 ) -> Result<bool, Refusal> {
-    match done.note(site.store, &Event::OpenCopy(step)) {
+    match done.note(site.store, Event::OpenCopy(step)) {
         Ok(()) => copy_on(site, done, worker, step),
         Err(refusal) => {
             go_on(refusal)?;
