@@ -2,6 +2,7 @@
 
 ghost use Rattle.std.specs.Prelude.{◌≡◌, ◌↔◌, ◌*◌, ◌<◌, ◌≤◌, ◌∷◌, ◌++◌, [], ℕ, IsTrue, IfOk, IfNone, IfSome, OnOk, max};
 ghost use Rattle.ring_clock.specs.Clock.{IsClock, IsAtMost, counter};
+ghost use Rattle.ring_clock.specs.Forms.{entries_in, looked_in};
 ghost use Rattle.ring_clock.specs.Groups.{group, group_in, IsBlock};
 
 use crate::entry::{Entry, GROUP, counter_of};
@@ -11,6 +12,7 @@ use crate::part::Part;
 use ring_names::WriterId;
 use std::alloc::{AllocError, Global};
 use std::marker::Model;
+use std::slice;
 use std::sync::Arc;
 
 // From so many entries on, of 16 bytes each, the counters of the whole group, of 260 bytes, take no more memory than they.
@@ -23,11 +25,32 @@ pub fn group_of(writer: WriterId) -> u32
     writer.0 / GROUP
 }
 
-/// The entries of a block, where they are few, or else the counters of its whole group.
+/// The entries of a block, where they are few, or else the counters of its whole group. One entry, as most clocks have, stands in the form.
 #[derive(Drop)]
 pub enum Form {
+    One(Entry),
     Few(Vec<Entry>),
     Full(Box<Full>),
+}
+
+// A form as it is looked at.
+#[derive(Clone, Copy)]
+pub enum Look<'a> {
+    Few(&'a [Entry]),
+    Full(&'a Full),
+}
+
+impl Form {
+    #[inline(always)]
+    fn look(&self) -> Look<'_>
+        ensures { looked_in result ≡ entries_in self.now }
+    {
+        match self {
+            Form::One(entry) => Look::Few(slice::from_ref(entry)),
+            Form::Few(entries) => Look::Few(entries.as_slice()),
+            Form::Full(full) => Look::Full(full),
+        }
+    }
 }
 
 /// Entries of writers of one group. Copies share them.
@@ -52,8 +75,7 @@ impl Block {
     pub fn one(alloc: Global, entry: Entry) -> Result<Block, AllocError>
         ensures { IfOk result (λ b. b ≡ entry ∷ []) }
     {
-        let entries = Vec::from_slice(alloc, &[entry])?;
-        let shared = Arc::new(alloc, Form::Few(entries))?;
+        let shared = Arc::new(alloc, Form::One(entry))?;
         Ok(Block { shared })
     }
 
@@ -73,6 +95,9 @@ impl Block {
         ensures group { IfOk result (λ b. group_in b ≡ group_in entries.items) }
         ensures counters { IfOk result (λ b. (w : ℕ) → counter b w ≡ counter entries.items w) }
     {
+        if let [entry] = entries.as_slice() {
+            return Block::one(alloc, *entry);
+        }
         if entries.len() < MANY || !are_low(entries.as_slice()) {
             let shared = Arc::new(alloc, Form::Few(entries))?;
             return Ok(Block { shared });
@@ -92,9 +117,9 @@ impl Block {
     pub fn part(&self) -> Part<'_>
         ensures { result ≡ self.now }
     {
-        match &*self.shared {
-            Form::Few(entries) => Part::few(entries.as_slice()),
-            Form::Full(full) => full.part(),
+        match self.shared.look() {
+            Look::Few(entries) => Part::few(entries),
+            Look::Full(full) => full.part(),
         }
     }
 
@@ -102,9 +127,9 @@ impl Block {
     pub fn push_to(&self, out: &mut Vec<Entry>) -> Result<(), AllocError>
         ensures { OnOk result (out.new.items ≡ out.old.items ++ self.now) }
     {
-        match &*self.shared {
-            Form::Few(entries) => out.extend_from_slice(entries.as_slice()),
-            Form::Full(full) => full.push_to(out),
+        match self.shared.look() {
+            Look::Few(entries) => out.extend_from_slice(entries),
+            Look::Full(full) => full.push_to(out),
         }
     }
 
@@ -112,9 +137,9 @@ impl Block {
     pub fn group(&self) -> u32
         ensures { result ≡ group_in self.now }
     {
-        match &*self.shared {
-            Form::Few(entries) => group_among(entries.as_slice()),
-            Form::Full(full) => full.group(),
+        match self.shared.look() {
+            Look::Few(entries) => group_among(entries),
+            Look::Full(full) => full.group(),
         }
     }
 
@@ -123,9 +148,9 @@ impl Block {
         requires { IsClock self.now }
         ensures { result ≡ counter self.now writer.0 }
     {
-        match &*self.shared {
-            Form::Few(entries) => counter_of(entries.as_slice(), writer),
-            Form::Full(full) => full.counter(writer),
+        match self.shared.look() {
+            Look::Few(entries) => counter_of(entries, writer),
+            Look::Full(full) => full.counter(writer),
         }
     }
 
@@ -136,11 +161,11 @@ impl Block {
         requires group { group_in self.now ≡ group_in other.now }
         ensures { IsTrue result ↔ IsAtMost self.now other.now }
     {
-        match (&*self.shared, &*other.shared) {
-            (Form::Few(mine), Form::Few(theirs)) => is_at_most(mine.as_slice(), theirs.as_slice()),
-            (Form::Few(mine), Form::Full(theirs)) => theirs.is_above(mine.as_slice()),
-            (Form::Full(mine), Form::Few(theirs)) => mine.is_below(theirs.as_slice()),
-            (Form::Full(mine), Form::Full(theirs)) => mine.is_at_most(theirs),
+        match (self.shared.look(), other.shared.look()) {
+            (Look::Few(mine), Look::Few(theirs)) => is_at_most(mine, theirs),
+            (Look::Few(mine), Look::Full(theirs)) => theirs.is_above(mine),
+            (Look::Full(mine), Look::Few(theirs)) => mine.is_below(theirs),
+            (Look::Full(mine), Look::Full(theirs)) => mine.is_at_most(theirs),
         }
     }
 
@@ -185,10 +210,10 @@ impl Block {
         if self.is_at_most(other) {
             return other.try_copy();
         }
-        match (&*self.shared, &*other.shared) {
-            (_, Form::Few(theirs)) => self.merge(alloc, theirs.as_slice()),
-            (Form::Few(mine), Form::Full(_)) => other.merge(alloc, mine.as_slice()),
-            (Form::Full(mine), Form::Full(theirs)) => Block::full(alloc, mine.join(theirs)),
+        match (self.shared.look(), other.shared.look()) {
+            (_, Look::Few(theirs)) => self.merge(alloc, theirs),
+            (Look::Few(mine), Look::Full(_)) => other.merge(alloc, mine),
+            (Look::Full(mine), Look::Full(theirs)) => Block::full(alloc, mine.join(theirs)),
         }
     }
 
@@ -202,10 +227,10 @@ impl Block {
         ensures group { IfOk result (λ b. group_in b ≡ group_in self.now) }
         ensures counters { IfOk result (λ b. (w : ℕ) → counter b w ≡ max (counter self.now w) (counter entries.now w)) }
     {
-        match &*self.shared {
-            Form::Few(mine) => Block::of(alloc, merged(alloc, mine.as_slice(), entries)?),
-            Form::Full(mine) if are_low(entries) => Block::full(alloc, mine.merge(entries)),
-            Form::Full(mine) => {
+        match self.shared.look() {
+            Look::Few(mine) => Block::of(alloc, merged(alloc, mine, entries)?),
+            Look::Full(mine) if are_low(entries) => Block::full(alloc, mine.merge(entries)),
+            Look::Full(mine) => {
                 let mut own = Vec::with_capacity(alloc, GROUP as usize)?;
                 mine.push_to(&mut own)?;
                 Block::of(alloc, merged(alloc, own.as_slice(), entries)?)

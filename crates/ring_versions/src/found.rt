@@ -1,10 +1,11 @@
 //! Versions with the join of their clocks.
 
-ghost use Rattle.std.specs.Prelude.{◌≡◌, [], IfOk, IfErr};
+ghost use Rattle.std.specs.Prelude.{◌≡◌, [], List, IfOk, IfErr};
 ghost use Rattle.ring_names.specs.declared.refusal.Refusal.TheVariants.{OutOfMemory};
 ghost use Rattle.ring_versions.specs.Puts.{ArePuts};
 ghost use Rattle.ring_versions.specs.Raised.{RaisesTo, IsClockIn};
 ghost use Rattle.ring_versions.specs.Versions.{IsMerge};
+ghost use Rattle.ring_versions.specs.declared.version.Version.{Version};
 
 use crate::versions::Versions;
 use ring_clock::Clock;
@@ -57,15 +58,37 @@ impl Found {
         self.versions.puts()
     }
 
-    /// These and what another set brings, merged aside. Costs what a merge costs, and the entries of the two joins.
-    pub fn with(&self, more: &Versions) -> Result<Found, Refusal>
-        ensures ok { IfOk result (IsMerge self.now more.now) }
+    // The same versions once more, with their join. Takes no memory.
+    fn try_copy(&self) -> Result<Found, Refusal>
+        ensures same { IfOk result (λ f. f ≡ self.now) }
+        ensures memory { IfErr result (λ e. e ≡ OutOfMemory) }
+    {
+        let versions = self.versions.try_copy()?;
+        let join = self.join.try_copy()?;
+        Ok(Found { versions, join })
+    }
+
+    // The join of what a merge with another set has. Costs the entries of the two joins.
+    fn join_with(&self, more: &Versions) -> Result<Clock, Refusal>
+        ensures ok { IfOk result (λ c. (all : List Version) → IsMerge self.now more.now all → RaisesTo [] (IsClockIn all) c) }
         ensures memory { IfErr result (λ e. e ≡ OutOfMemory) }
     {
         let mut join = self.join.try_copy()?;
         join.raise(&more.join()?)?;
-        let mut versions = self.versions.try_copy()?;
-        versions.merge(more)?;
+        Ok(join)
+    }
+
+    /// These and what another set brings, merged aside. Costs what a merge costs and, where the other brings a version, the entries of the two
+    /// joins.
+    pub fn with(&self, more: &Versions) -> Result<Found, Refusal>
+        ensures ok { IfOk result (IsMerge self.now more.now) }
+        ensures memory { IfErr result (λ e. e ≡ OutOfMemory) }
+    {
+        let versions = self.versions.made_with(more)?;
+        if versions.is_empty() {
+            return self.try_copy();
+        }
+        let join = self.join_with(more)?;
         Ok(Found { versions, join })
     }
 }

@@ -213,7 +213,7 @@ impl Versions {
     }
 
     // What the other makes of this set: the merge, or no version where this one covers the other's.
-    fn made_with(&self, other: &Versions) -> Result<Versions, Refusal>
+    pub(crate) fn made_with(&self, other: &Versions) -> Result<Versions, Refusal>
         ensures ok { IfOk result (Brings self.now other.now) }
         ensures memory { IfErr result (λ e. e ≡ OutOfMemory) }
     {
