@@ -25,7 +25,7 @@ pub fn group_of(writer: WriterId) -> u32
     writer.0 / GROUP
 }
 
-/// The entries of a block, where they are few, or else the counters of its whole group. One entry, as a put has that knows no get, stands in the form.
+/// The entries of a block, where they are few, or else the counters of its whole group. One entry, as puts have of who knows no get, stands in the form.
 #[derive(Drop)]
 pub enum Form {
     One(Entry),

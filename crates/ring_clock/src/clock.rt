@@ -106,7 +106,7 @@ impl Clock {
         ensures { IsTrue result ↔ IsAtMost self.now other.now }
     {
         let (blocks, others) = (self.blocks(), other.blocks());
-        // Two blocks alone are compared as fast as two counters are looked up.
+        // One block each are at most sixty-four counters: these are compared at once.
         if (blocks.len() > 1 || others.len() > 1)
             && counter_in(others, self.own) < counter_in(blocks, self.own)
         {
