@@ -22,7 +22,7 @@ block_at [] h k d l = absurd (omega arith)
 block_at (b ∷ bs) h zero d l = h.0
 block_at (b ∷ bs) h (suc k) d l = block_at bs h.2 k d (omega arith)
 
-at : (bs : List (List Entry)) (w : ℕ) → AreBlocks bs → (k : ℕ) (d : List Entry) → k < length bs → group_in (get_or bs k d) ≡ group w → counter (get_or bs k d) w ≡ counter (entries_of bs) w
+pub at : (bs : List (List Entry)) (w : ℕ) → AreBlocks bs → (k : ℕ) (d : List Entry) → k < length bs → group_in (get_or bs k d) ≡ group w → counter (get_or bs k d) w ≡ counter (entries_of bs) w
 at [] w h k d l is = absurd (omega arith)
 at (b ∷ bs) w h zero d l is = sym (here_group b bs w h (sym is))
 at (b ∷ bs) w h (suc k) d l is = at bs w h.2 k d (omega arith) is ∙ sym (there_group b bs w h (λ x. omega (arith, each_at (λ x. group_in b < group_in x) bs h.1 k d (omega arith))))

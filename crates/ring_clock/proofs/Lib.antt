@@ -7,6 +7,7 @@ pub mod Places
 pub mod Losses
 pub mod Ascending
 pub mod Finding
+pub mod Placing
 pub mod Causing
 pub mod Making
 pub mod Order

@@ -1,6 +1,6 @@
 //! The blocks of a clock.
 
-ghost use Rattle.std.specs.Prelude.{◌≡◌, ◌↔◌, ◌+◌, ◌<◌, ◌∷◌, [], ℕ, IsTrue, IfOk, IfNone, IfSome, OnOk, length, max};
+ghost use Rattle.std.specs.Prelude.{◌≡◌, ◌↔◌, ◌+◌, ◌<◌, ◌∷◌, [], ℕ, true, false, IsTrue, IfOk, IfNone, IfSome, OnOk, OnErr, length, get_or, max};
 ghost use Rattle.ring_clock.specs.Clock.{IsAtMost, counter};
 ghost use Rattle.ring_clock.specs.Groups.{HasGroup, IsBlock, IsBlockFor, group, group_in};
 ghost use Rattle.ring_clock.specs.Blocks.{AreBlocks, entries_of, listed};
@@ -10,8 +10,8 @@ use crate::block::{Block, group_of};
 use crate::entry::Entry;
 use ring_names::WriterId;
 use std::alloc::{AllocError, Global};
-use std::slice;
 use std::sync::Arc;
+use std::{mem, slice};
 
 /// The blocks of a clock, in order of the group. One alone stands in the clock, more are shared once more.
 #[derive(Drop)]
@@ -45,6 +45,24 @@ impl Blocks {
     }
 }
 
+// The place of the block of a group, where there is one.
+fn place_of(blocks: &[Block], group: u32) -> Option<usize>
+    requires { AreBlocks blocks.now }
+    ensures within { IfSome result (λ place. place < length blocks.now) }
+    ensures of { IfSome result (λ place. group_in (get_or blocks.now place []) ≡ group) }
+    ensures none { IfNone result (¬ (HasGroup group (entries_of blocks.now))) }
+{
+    if let Some(guess) = blocks.get(group as usize)
+        && guess.group() == group
+    {
+        return Some(group as usize);
+    }
+    match blocks.binary_search_by_key(&group, |block| block.group()) {
+        Ok(place) => Some(place),
+        Err(_) => None,
+    }
+}
+
 /// The block of a group, where there is one. Costs the logarithm of how many blocks there are. Where each lesser group has a block, one look
 /// takes the place of the search.
 pub fn block_of(blocks: &[Block], group: u32) -> Option<&Block>
@@ -52,15 +70,8 @@ pub fn block_of(blocks: &[Block], group: u32) -> Option<&Block>
     ensures some { IfSome result (λ b. IsBlockFor group (entries_of blocks.now) b.now) }
     ensures none { IfNone result (¬ (HasGroup group (entries_of blocks.now))) }
 {
-    if let Some(guess) = blocks.get(group as usize)
-        && guess.group() == group
-    {
-        return Some(guess);
-    }
-    match blocks.binary_search_by_key(&group, |block| block.group()) {
-        Ok(place) => Some(&blocks[place]),
-        Err(_) => None,
-    }
+    let place = place_of(blocks, group)?;
+    Some(&blocks[place])
 }
 
 /// The counter of a writer, 0 where it has none. Costs a look for the block of its group, and the logarithm of that block's entries.
@@ -205,6 +216,37 @@ pub fn raised(alloc: Global, blocks: &[Block], entry: Entry) -> Result<Blocks, A
             joined(alloc, blocks, slice::from_ref(&own))
         }
     }
+}
+
+/// Raises the block of one group in place, where both have it, and tells whether the others are then reached; if not, nothing has changed. Costs
+/// the blocks of both, and takes memory only for the one block, where neither's is the greater one.
+pub fn raise_one(
+    alloc: Global,
+    blocks: &mut Vec<Block>,
+    others: &[Block],
+    group: u32,
+) -> Result<bool, AllocError>
+    requires first { AreBlocks blocks.old.items }
+    requires second { AreBlocks others.now }
+    ensures valid { AreBlocks blocks.new.items }
+    ensures raised { IfOk result (λ done. done ≡ true → (w : ℕ) → counter (entries_of blocks.new.items) w
+        ≡ max (counter (entries_of blocks.old.items) w) (counter (entries_of others.now) w)) }
+    ensures same { IfOk result (λ done. done ≡ false → blocks.new.items ≡ blocks.old.items) }
+    ensures err { OnErr result (blocks.new.items ≡ blocks.old.items) }
+{
+    let Some(other) = block_of(others, group) else {
+        return Ok(false);
+    };
+    let Some(place) = place_of(blocks.as_slice(), group) else {
+        return Ok(false);
+    };
+    let joined = blocks[place].join(alloc, other)?;
+    let before = mem::replace(&mut blocks[place], joined);
+    if are_at_most(others, blocks.as_slice()) {
+        return Ok(true);
+    }
+    blocks[place] = before;
+    Ok(false)
 }
 
 /// The entries of the blocks. Costs them, and takes the memory of the list.

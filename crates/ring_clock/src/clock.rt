@@ -1,18 +1,19 @@
 //! Clocks.
 
-ghost use Rattle.std.specs.Prelude.{◌≡◌, ◌↔◌, ◌+◌, ◌<◌, ◌==◌, [], ℕ, IsTrue, IfOk, IfErr, OnOk, OnErr, max};
+ghost use Rattle.std.specs.Prelude.{◌≡◌, ◌↔◌, ◌+◌, ◌<◌, ◌==◌, [], ℕ, true, false, IsTrue, IfOk, IfErr, OnOk, OnErr, max};
 ghost use Rattle.std.specs.Prelude.{if◌then◌else◌};
 ghost use Rattle.ring_names.specs.declared.refusal.Refusal.TheVariants.{OutOfMemory};
 ghost use Rattle.ring_clock.specs.Clock.{IsClock, IsAtMost, IsJoin, counter};
 ghost use Rattle.ring_clock.specs.Blocks.{AreBlocks, entries_of};
 
-use crate::block::Block;
-use crate::blocks::{Blocks, are_at_most, counter_in, joined, list, raised};
+use crate::block::{Block, group_of};
+use crate::blocks::{Blocks, are_at_most, counter_in, joined, list, raise_one, raised};
 use crate::entry::Entry;
 use crate::walk::Walk;
 use ring_names::{Refusal, WriterId};
 use std::alloc::Global;
 use std::marker::Model;
+use std::sync::Arc;
 
 /// A vector clock: writers with counters above 0; a writer that it has not counts as 0.
 ///
@@ -131,14 +132,34 @@ impl Clock {
         })
     }
 
+    // Raises the entries of one group in place, those of the group of the other's own writer, and tells whether that raises the clock to the other:
+    // only where no other clock shares the list of its blocks.
+    fn raise_own(&mut self, other: &Clock) -> Result<bool, Refusal>
+        ensures raised { IfOk result (λ done. done ≡ true
+            → (w : ℕ) → counter self.new w ≡ max (counter self.old w) (counter other.now w)) }
+        ensures same { IfOk result (λ done. done ≡ false → self.new ≡ self.old) }
+        ensures err { OnErr result (self.new ≡ self.old) }
+        ensures memory { IfErr result (λ e. e ≡ OutOfMemory) }
+    {
+        let alloc = self.alloc;
+        let Blocks::Many(shared) = &mut self.blocks else {
+            return Ok(false);
+        };
+        let Some(blocks) = Arc::get_mut(shared) else {
+            return Ok(false);
+        };
+        Ok(raise_one(alloc, blocks, other.blocks(), group_of(other.own))?)
+    }
+
     /// Raises the clock to another: of each writer the greater counter. Costs the entries of both, and takes memory only where neither is
-    /// at most the other.
+    /// at most the other: for the entries of one group alone, where no other clock shares the list of the groups and those of all others are at
+    /// most its own, and else what `join` takes.
     pub fn raise(&mut self, other: &Clock) -> Result<(), Refusal>
         ensures ok { OnOk result ((w : ℕ) → counter self.new w ≡ max (counter self.old w) (counter other.now w)) }
         ensures err { OnErr result (self.new ≡ self.old) }
         ensures memory { IfErr result (λ e. e ≡ OutOfMemory) }
     {
-        if !other.le(self) {
+        if !other.le(self) && !self.raise_own(other)? {
             *self = if self.le(other) {
                 other.try_copy()?
             } else {

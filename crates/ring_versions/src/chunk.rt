@@ -75,10 +75,8 @@ impl Chunk {
         let Some(part) = Arc::get_mut(&mut self.shared) else {
             return Ok(false);
         };
-        let joined = join.join(&version.clock)?;
-        part.put(version)?;
+        part.put_under(version, join)?;
         self.group = part.group();
-        *join = joined;
         Ok(true)
     }
 

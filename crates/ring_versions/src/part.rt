@@ -1,6 +1,6 @@
 //! Versions with what a search asks of them first.
 
-ghost use Rattle.std.specs.Prelude.{◌≡◌, ◌↔◌, ◌∷◌, ◌++◌, [], IsTrue, IfOk, IfErr, OnOk, OnErr};
+ghost use Rattle.std.specs.Prelude.{◌≡◌, ◌↔◌, ◌∷◌, ◌++◌, [], ℕ, max, IsTrue, IfOk, IfErr, OnOk, OnErr};
 ghost use Rattle.ring_names.specs.declared.refusal.Refusal.TheVariants.{OutOfMemory};
 ghost use Rattle.ring_clock.specs.Clock.{IsAtMost, counter};
 ghost use Rattle.ring_versions.specs.Chunks.{AreOf, AreOwns};
@@ -143,6 +143,27 @@ impl Part {
         self.join.raise(&version.clock)?;
         self.owns.push(own)?;
         self.versions.push(copy)?;
+        self.group = group;
+        Ok(())
+    }
+
+    /// Adds a copy of a version, and raises a join to its clock. Refused, it has changed no version, nor that join.
+    pub fn put_under(&mut self, version: &Version, join: &mut Clock) -> Result<(), Refusal>
+        ensures ok { OnOk result (self.new ≡ self.old ++ version.now ∷ []) }
+        ensures raised { OnOk result
+            ((w : ℕ) → counter join.new w ≡ max (counter join.old w) (counter version.now.clock w)) }
+        ensures err { OnErr result ((self.new ≡ self.old) × (join.new ≡ join.old)) }
+        ensures memory { IfErr result (λ e. e ≡ OutOfMemory) }
+    {
+        let copy = version.try_copy()?;
+        let own = own_of(version);
+        let group = self.group.with(own);
+        self.owns.reserve(1)?;
+        self.versions.reserve(1)?;
+        self.join.raise(&version.clock)?;
+        join.raise(&version.clock)?;
+        self.owns.push_reserved(own);
+        self.versions.push_reserved(copy);
         self.group = group;
         Ok(())
     }
