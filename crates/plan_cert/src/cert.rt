@@ -20,10 +20,19 @@ pub struct Chain {
 }
 
 /// A certificate: paths of dependencies, and chains of copies, both in the order written.
-#[derive(Debug, Drop)]
+#[derive(Debug)]
 pub struct Cert {
     pub facts: Rows,
     pub chains: Chains,
+}
+
+// Dropped by a call, so that no crate above goes through its parts wherever a certificate ends.
+impl Drop for Cert {
+    fn drop(self) {
+        let Cert { facts, chains } = self;
+        drop(facts);
+        drop(chains);
+    }
 }
 
 fn is_fact(path: &[u32]) -> bool

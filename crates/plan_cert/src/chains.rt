@@ -9,11 +9,20 @@ use std::alloc::Global;
 use std::marker::Model;
 
 /// Chains in order, their steps kept in rows, so that a chain needs no memory of its own.
-#[derive(Debug, Drop)]
+#[derive(Debug)]
 pub struct Chains {
     sides: Vec<NodeSide>,
     // the steps of each
     rows: Rows,
+}
+
+// Dropped by a call, as a certificate is.
+impl Drop for Chains {
+    fn drop(self) {
+        let Chains { sides, rows } = self;
+        drop(sides);
+        drop(rows);
+    }
 }
 
 impl Model for Chains {

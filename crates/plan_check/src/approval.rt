@@ -9,10 +9,18 @@ use std::marker::Model;
 
 /// A ring with a plan that the checker accepted: the plan is sound, and so every run of it keeps the promises that
 /// `sound_plans_keep_promises` states. Only the checker makes one.
-#[derive(Drop)]
 pub struct Approved {
     ring: Ring,
     plan: Plan,
+}
+
+// Dropped by a call, so that no crate above goes through its parts wherever what was approved ends.
+impl Drop for Approved {
+    fn drop(self) {
+        let Approved { ring, plan } = self;
+        drop(ring);
+        drop(plan);
+    }
 }
 
 impl Model for Approved {

@@ -73,11 +73,24 @@ impl NodeIndex {
 }
 
 /// The index of a plan.
-#[derive(Drop)]
 pub struct Index {
     slots: Lists<Slot, u32>,
     joins: NodeIndex,
     retirements: NodeIndex,
+}
+
+// Dropped by a call, as a plan is.
+impl Drop for Index {
+    fn drop(self) {
+        let Index {
+            slots,
+            joins,
+            retirements,
+        } = self;
+        drop(slots);
+        drop(joins);
+        drop(retirements);
+    }
 }
 
 impl Index {

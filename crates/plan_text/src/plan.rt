@@ -23,7 +23,6 @@ pub(crate) struct Kept {
 }
 
 /// A plan. Its steps have numbers from 0, in the order written.
-#[derive(Drop)]
 pub struct Plan {
     steps: Vec<Kept>,
     // the dependencies of the steps
@@ -31,6 +30,21 @@ pub struct Plan {
     // how many they are together
     dependencies: u32,
     index: Index,
+}
+
+// Dropped by a call, so that no crate above goes through its parts wherever a plan ends.
+impl Drop for Plan {
+    fn drop(self) {
+        let Plan {
+            steps,
+            rows,
+            dependencies: _,
+            index,
+        } = self;
+        drop(steps);
+        drop(rows);
+        drop(index);
+    }
 }
 
 impl Model for Plan {

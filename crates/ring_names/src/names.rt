@@ -10,9 +10,16 @@ use std::alloc::Global;
 use std::marker::Model;
 
 /// Names, each numbered by its place in order of first sight, from 0; fewer than 2^32.
-#[derive(Drop)]
 pub struct Names {
     names: Numbered,
+}
+
+// Dropped by a call, so that no crate above goes through its parts wherever a list of names ends.
+impl Drop for Names {
+    fn drop(self) {
+        let Names { names } = self;
+        drop(names);
+    }
 }
 
 impl Model for Names {

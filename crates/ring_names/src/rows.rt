@@ -15,10 +15,19 @@ pub(crate) struct Span {
 }
 
 /// Rows of numbers, kept one behind the other, so that a row needs no memory of its own.
-#[derive(Debug, Drop)]
+#[derive(Debug)]
 pub struct Rows {
     spans: Vec<Span>,
     numbers: Vec<u32>,
+}
+
+// Dropped by a call, so that no crate above goes through its parts wherever a table of rows ends.
+impl Drop for Rows {
+    fn drop(self) {
+        let Rows { spans, numbers } = self;
+        drop(spans);
+        drop(numbers);
+    }
 }
 
 impl Model for Rows {

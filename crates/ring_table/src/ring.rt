@@ -14,7 +14,6 @@ use std::marker::Model;
 /// A ring. Partitions are the `q` equal parts of the hash space (section 6.2 of DeCandia et al. 2007, strategy 3);
 /// each has `n` slots, and each slot one owner, a member. Of the slots `r` answer a read and `w` take a write,
 /// with `r + w > n + f` (section 4.5), where `f` stores may be lost.
-#[derive(Drop)]
 pub struct Ring {
     format: u32,
     q: u32,
@@ -25,6 +24,26 @@ pub struct Ring {
     names: Names,
     nodes: Vec<Node>,
     owners: Vec<Listed<NodeId>>,
+}
+
+// Dropped by a call, so that no crate above goes through its parts wherever a ring ends.
+impl Drop for Ring {
+    fn drop(self) {
+        let Ring {
+            format: _,
+            q: _,
+            n: _,
+            r: _,
+            w: _,
+            loss: _,
+            names,
+            nodes,
+            owners,
+        } = self;
+        drop(names);
+        drop(nodes);
+        drop(owners);
+    }
 }
 
 impl Model for Ring {
@@ -74,13 +93,13 @@ impl Ring {
     }
 
     /// A ring of format 1 as one of format 2, and any other as it is. Nothing but the format changes.
-    pub fn migrate(self) -> Ring
+    pub fn migrate(mut self) -> Ring
         ensures { result ≡ migrated self }
     {
-        if self.format != 1 {
-            return self;
+        if self.format == 1 {
+            self.format = 2;
         }
-        Ring { format: 2, ..self }
+        self
     }
 
     /// The number of partitions, a power of two from 1 to 4,096.

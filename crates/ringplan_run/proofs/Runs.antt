@@ -4,15 +4,15 @@ use Rattle.std.specs.Fmt.{digits}
 use Rattle.ring_names.specs.declared.refusal.Refusal.{Refusal}
 use Rattle.ring_names.specs.declared.refusal.Refusal.TheVariants.{OutOfMemory, ReadFailed}
 use Rattle.ring_names.specs.Refusals.{line_of}
-use Rattle.ringplan_run.specs.declared.form.Form.{Form}
+use Rattle.ringplan_command.specs.declared.form.Form.{Form}
 use Rattle.ringplan_jobs.specs.declared.job.Job.{Job}
 use Rattle.ringplan_jobs.specs.declared.job.Job.TheVariants.{Check}
 use Rattle.ringplan_jobs.specs.Answers.{output_of, status_of}
-use Rattle.ringplan_run.specs.Command.{Asked, Asks, AsksBy, AsksDrive, IsMany, asked, only, word_of}
+use Rattle.ringplan_command.specs.Command.{Asked, Asks, AsksBy, AsksDrive, IsMany, asked, only, word_of}
 use Rattle.ringplan_jobs.specs.Io.{Tells}
 use Rattle.ringplan_jobs.specs.Outcomes.{Finds}
 use Rattle.ringplan_run.specs.Run.{FindsDrive, Prints, PrintsFound, Runs, Says, answered, driven, unread, undriven, out_of_memory}
-use Rattle.ringplan_run.proofs.Commands.{asked_alone}
+use Rattle.ringplan_command.proofs.Commands.{asked_alone}
 
 pub no_memory_line : line_of OutOfMemory ≡ codes "no 60" ++ 10 ∷ []
 unfolding digits

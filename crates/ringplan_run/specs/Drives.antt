@@ -15,8 +15,8 @@ use Rattle.history_text.specs.Spelling.{history_text}
 use Rattle.drive_report.specs.Report.{report_value}
 use Rattle.drive_text.specs.Drives.{drive_at}
 use Rattle.drive_text.specs.declared.bundle.DriveBundle.{DriveBundle}
-use Rattle.ringplan_run.specs.declared.form.Form.{Form}
-use Rattle.ringplan_run.specs.declared.form.Form.TheVariants.{History, Report}
+use Rattle.ringplan_command.specs.declared.form.Form.{Form}
+use Rattle.ringplan_command.specs.declared.form.Form.TheVariants.{History, Report}
 
 -- the text of an outcome: `yes` and the history, or the line of the report
 abbrev pub outcome_text : RingValue → List (List ℕ) → List Entry → List ℕ → ℕ → Form → List ℕ

@@ -5,11 +5,11 @@ use Rattle.ring_names.specs.declared.refusal.Refusal.{Refusal}
 use Rattle.ring_names.specs.declared.refusal.Refusal.TheVariants.{TooLarge, OutOfMemory, ReadFailed}
 use Rattle.ring_names.specs.Refusals.{line_of}
 use Rattle.ringplan_jobs.specs.Answers.{output_of, status_of}
-use Rattle.ringplan_run.specs.Command.{Asked, Asks, AsksDrive, IsRefused, WantsHelp}
+use Rattle.ringplan_command.specs.Command.{Asked, Asks, AsksDrive, IsRefused, WantsHelp}
 use Rattle.ringplan_jobs.specs.Io.{AppendsPart, max_input}
 use Rattle.ringplan_jobs.specs.Outcomes.{Outcome}
 use Rattle.ringplan_run.specs.Drives.{Drives}
-use Rattle.ringplan_run.specs.declared.form.Form.{Form}
+use Rattle.ringplan_command.specs.declared.form.Form.{Form}
 use Rattle.ringplan_jobs.specs.declared.job.Job.{Job}
 
 -- what comes of an input to a drive by so many workers, printed in that form: what the drive makes of it, and of more than the most that may come that it is too large

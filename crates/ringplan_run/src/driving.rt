@@ -9,7 +9,6 @@ ghost use Rattle.ring_work.specs.Driven.{IsFault};
 ghost use Rattle.ringplan_jobs.specs.Answers.{texts_of};
 ghost use Rattle.ringplan_run.specs.Drives.{outcome_text, DrivesIf, DrivesOfIf, IsOutcome};
 
-use crate::form::Form;
 use drive_report::write_report;
 use drive_text::{DriveBundle, read_drive};
 use history_text::{are_known, write_history};
@@ -17,6 +16,7 @@ use plan_check::{Approved, OpenGate, check};
 use ring_names::{Names, Refusal};
 use ring_receipts::Outcome;
 use ring_work::{MAX_ENTRIES, drive};
+use ringplan_command::Form;
 use script_text::Script;
 use std::alloc::Global;
 use std::sync::Wait;

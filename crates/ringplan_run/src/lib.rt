@@ -2,11 +2,8 @@
 //! the exit status.
 #![tactic(auto)]
 
-mod command;
 mod driving;
-mod form;
 mod program;
 
 pub use driving::drive_bundle;
-pub use form::Form;
 pub use program::{end_without_memory, end_without_words, run, run_alone};

@@ -3,17 +3,16 @@
 ghost use Rattle.std.specs.Prelude.{◌≡◌, ◌<◌, ◌≤◌, ◌∷◌, ℕ, List, [], IfOk, drop, map};
 ghost use Rattle.ring_names.specs.Refusals.{line_of};
 ghost use Rattle.ringplan_jobs.specs.Answers.{texts_of};
-ghost use Rattle.ringplan_run.specs.Command.{asked, only, word_of};
+ghost use Rattle.ringplan_command.specs.Command.{asked, only, word_of};
 ghost use Rattle.ringplan_jobs.specs.Io.{Tells};
 ghost use Rattle.ringplan_jobs.specs.Outcomes.{Finds};
 ghost use Rattle.ringplan_run.specs.Run.{FindsDrive, Prints, PrintsFound, Runs};
 ghost use Rattle.ringplan_jobs.specs.declared.job.Job.{Job};
 ghost use Rattle.ringplan_jobs.specs.declared.job.Job.TheVariants.{Check};
 
-use crate::command::{CommandLine, parse};
 use crate::driving::drive_bundle;
-use crate::form::Form;
 use ring_names::Refusal;
+use ringplan_command::{CommandLine, Form, parse};
 use ringplan_jobs::{Job, answer_of, make_check_by, make_whole, read_all, write_all};
 use std::alloc::Global;
 use std::convert::AsStr;

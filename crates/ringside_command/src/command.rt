@@ -102,19 +102,35 @@ fn goal<'a>(alloc: Global) -> Result<Command<'a>, AllocError> {
         .arg(flag(alloc, "even", EVEN))
 }
 
+// A command with one subcommand more, where memory was refused for neither.
+fn with<'a>(
+    command: Result<Command<'a>, AllocError>,
+    more: Result<Command<'a>, AllocError>,
+) -> Result<Command<'a>, AllocError> {
+    command?.subcommand(more?)
+}
+
+// A command with the subcommands that show a plan.
+fn with_showing<'a>(
+    alloc: Global,
+    command: Result<Command<'a>, AllocError>,
+) -> Result<Command<'a>, AllocError> {
+    let why = with(command, Ok(job(alloc, "why", WHY, WHY_STREAMS)));
+    let show = with(why, show(alloc));
+    let draw = with(show, Ok(job(alloc, "draw", DRAW, DRAW_STREAMS)));
+    with(draw, steps(alloc))
+}
+
 // The command lines that there are.
 fn command<'a>(alloc: Global) -> Result<Command<'a>, AllocError> {
-    Command::new(alloc, "ringside")
+    let alone = Command::new(alloc, "ringside")
         .about(ABOUT)
         .after_help(STREAMS)
-        .subcommand_required(true)
-        .subcommand(job(alloc, "why", WHY, WHY_STREAMS))?
-        .subcommand(show(alloc)?)?
-        .subcommand(job(alloc, "draw", DRAW, DRAW_STREAMS))?
-        .subcommand(steps(alloc)?)?
-        .subcommand(goal(alloc)?)?
-        .subcommand(windows(alloc)?)?
-        .subcommand(job(alloc, "bundle", BUNDLE, BUNDLE_STREAMS))?
-        .subcommand(job(alloc, "cert", CERT, CERT_STREAMS))?
-        .subcommand(job(alloc, "after", AFTER, AFTER_STREAMS))
+        .subcommand_required(true);
+    let showing = with_showing(alloc, Ok(alone));
+    let goal = with(showing, goal(alloc));
+    let windows = with(goal, windows(alloc));
+    let bundle = with(windows, Ok(job(alloc, "bundle", BUNDLE, BUNDLE_STREAMS)));
+    let cert = with(bundle, Ok(job(alloc, "cert", CERT, CERT_STREAMS)));
+    with(cert, Ok(job(alloc, "after", AFTER, AFTER_STREAMS)))
 }

@@ -1,6 +1,6 @@
 use Rattle.std.proofs.Common.{rules, map, refl}
 use Rattle.ringplan_jobs.specs.Answers.{texts_of}
-use Rattle.ringplan_run.specs.Command.{asked}
+use Rattle.ringplan_command.specs.Command.{asked}
 use Rattle.ringplan_run.specs.Run.{help, refused}
 use Rattle.ringplan_run.proofs.Runs.{Ran, ran, ran_alone, ran_asked, ran_by, ran_driven, ran_out, said, many_few}
 use Rattle.ringplan_run.proofs.program.run.Goals as goal

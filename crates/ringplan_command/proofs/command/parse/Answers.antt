@@ -1,7 +1,7 @@
 use Rattle.std.proofs.Common.{map}
-use Rattle.ringplan_run.specs.Command.{asked}
-use Rattle.ringplan_run.proofs.Commands.{asked_alone, job_asked}
-use Rattle.ringplan_run.proofs.command.parse.Goals as goal
+use Rattle.ringplan_command.specs.Command.{asked}
+use Rattle.ringplan_command.proofs.Commands.{asked_alone, job_asked}
+use Rattle.ringplan_command.proofs.command.parse.Goals as goal
 
 pub returns-in-Ok-clause-job : goal.returns-in-Ok-clause-job
 returns-in-Ok-clause-job g c = λ job e.

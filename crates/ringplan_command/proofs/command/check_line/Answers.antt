@@ -2,9 +2,9 @@ use Rattle.std.proofs.Common.{◌≡◌, ◌∙◌, sym, subst, codes, List, [],
 use Rattle.std.specs.Prelude.{Option}
 use Rattle.clap.specs.Words.{found_of, one_text, rows_of, subcommand_rows_of}
 use Rattle.clap.proofs.WalkLemmas.{one_text-rows}
-use Rattle.ringplan_run.specs.Command.{HasNoNumber, asked_by, option_named}
-use Rattle.ringplan_run.proofs.Commands.{named_there, none_given, some_given, bad_given, refused_line}
-use Rattle.ringplan_run.proofs.command.check_line.Goals as goal
+use Rattle.ringplan_command.specs.Command.{HasNoNumber, asked_by, option_named}
+use Rattle.ringplan_command.proofs.Commands.{named_there, none_given, some_given, bad_given, refused_line}
+use Rattle.ringplan_command.proofs.command.check_line.Goals as goal
 
 pub returns-in-Unnamed : goal.returns-in-Unnamed
 returns-in-Unnamed c =

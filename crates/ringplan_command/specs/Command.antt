@@ -8,12 +8,12 @@ use Rattle.clap.specs.Words.{App, IsAmong, Kinds, Row, Rule, Shape, fault_of, ne
 use Rattle.clap.specs.declared.builder.value_parser.ValueParser.TheVariants as parser
 use Rattle.clap.specs.declared.error.kind.ErrorKind.{ErrorKind}
 use Rattle.clap.specs.declared.error.kind.ErrorKind.TheVariants.{DisplayHelp}
-use Rattle.ringplan_run.specs.declared.command.CommandLine.{CommandLine}
-use Rattle.ringplan_run.specs.declared.command.CommandLine.TheVariants.{Do, CheckBy, Drive, Help, Refused, OutOfMemory}
-use Rattle.ringplan_run.specs.declared.command.Workers.{Workers}
-use Rattle.ringplan_run.specs.declared.command.Workers.TheVariants.{Unnamed, Many, NoNumber}
-use Rattle.ringplan_run.specs.declared.form.Form.{Form}
-use Rattle.ringplan_run.specs.declared.form.Form.TheVariants.{History, Report}
+use Rattle.ringplan_command.specs.declared.command.CommandLine.{CommandLine}
+use Rattle.ringplan_command.specs.declared.command.CommandLine.TheVariants.{Do, CheckBy, Drive, Help, Refused, OutOfMemory}
+use Rattle.ringplan_command.specs.declared.command.Workers.{Workers}
+use Rattle.ringplan_command.specs.declared.command.Workers.TheVariants.{Unnamed, Many, NoNumber}
+use Rattle.ringplan_command.specs.declared.form.Form.{Form}
+use Rattle.ringplan_command.specs.declared.form.Form.TheVariants.{History, Report}
 use Rattle.ringplan_jobs.specs.declared.job.Job.{Job}
 use Rattle.ringplan_jobs.specs.declared.job.Job.TheVariants.{Check, Migrate, Plan, Play, Replay}
 

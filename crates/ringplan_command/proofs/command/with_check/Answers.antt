@@ -1,8 +1,8 @@
 use Rattle.std.proofs.Common.{rules, ◌≡◌, ◌∙◌, ap, ap₂, codes}
 use Rattle.std.proofs.lemmas.Result.{IfOk-weaker}
 use Rattle.clap.specs.Words.{App, app_of, new_app, with_rule, with_subcommand}
-use Rattle.ringplan_run.specs.Command.{checking}
-use Rattle.ringplan_run.proofs.command.with_check.Goals as goal
+use Rattle.ringplan_command.specs.Command.{checking}
+use Rattle.ringplan_command.proofs.command.with_check.Goals as goal
 
 pub returns : goal.returns
 returns c =

@@ -1,8 +1,8 @@
 use Rattle.std.proofs.Common.{rules, ◌≡◌, ◌∙◌, ap, ap₂, codes}
 use Rattle.std.proofs.lemmas.Result.{IfOk-weaker}
 use Rattle.clap.specs.Words.{App, app_of, new_app, rule_of, with_rule, with_subcommand}
-use Rattle.ringplan_run.specs.Command.{driving, json_option, workers_option}
-use Rattle.ringplan_run.proofs.command.with_drive.Goals as goal
+use Rattle.ringplan_command.specs.Command.{driving, json_option, workers_option}
+use Rattle.ringplan_command.proofs.command.with_drive.Goals as goal
 
 pub returns : goal.returns
 returns c =

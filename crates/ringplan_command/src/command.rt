@@ -2,9 +2,9 @@
 
 ghost use Rattle.std.specs.Prelude.{◌≡◌, ◌⊎◌, ◌∷◌, [], false, IfOk, codes, drop, map};
 ghost use Rattle.clap.specs.Words.{app_of, found_of, new_app, one_text, rule_of, subcommand_rows_of, with_subcommand};
-ghost use Rattle.ringplan_run.specs.Command.{Answers, asked, asked_by, checking, driving, job_named, ringplan};
-ghost use Rattle.ringplan_run.specs.Command.{task_named, to_do, to_drive, wanting, word_of, workers_option, IsForm};
-ghost use Rattle.ringplan_run.specs.Command.{MeansWorkers};
+ghost use Rattle.ringplan_command.specs.Command.{Answers, asked, asked_by, checking, driving, job_named, ringplan};
+ghost use Rattle.ringplan_command.specs.Command.{task_named, to_do, to_drive, wanting, word_of, workers_option, IsForm};
+ghost use Rattle.ringplan_command.specs.Command.{MeansWorkers};
 ghost use Rattle.ringplan_jobs.specs.declared.job.Job.{Job};
 
 use crate::form::Form;

@@ -13,11 +13,11 @@ use Rattle.clap.specs.declared.error.kind.ErrorKind.TheVariants.{DisplayHelp}
 use Rattle.clap.specs.declared.error.kind.ErrorKind.TheVariants as kind
 use Rattle.clap.specs.declared.parser.matches.ArgMatches.{ArgMatches}
 use Rattle.clap.proofs.OnLiterals.{clap_on_literals}
-use Rattle.ringplan_run.specs.declared.command.CommandLine.{CommandLine}
-use Rattle.ringplan_run.specs.declared.command.CommandLine.TheVariants.{Do, CheckBy, Drive, Help, Refused, OutOfMemory}
+use Rattle.ringplan_command.specs.declared.command.CommandLine.{CommandLine}
+use Rattle.ringplan_command.specs.declared.command.CommandLine.TheVariants.{Do, CheckBy, Drive, Help, Refused, OutOfMemory}
 use Rattle.ringplan_jobs.specs.declared.job.Job.{Job}
 use Rattle.ringplan_jobs.specs.declared.job.Job.TheVariants.{Check, Migrate, Plan, Play, Replay}
-use Rattle.ringplan_run.specs.Command.{Answers, Asked, AsksBy, HasNoNumber, IsMistaken, IsRefused, IsWorkers, Task, WantsHelp, asked, asked_by, by_drive, by_workers, only, option_named, ringplan, task_named, to_do, to_drive, word_of}
+use Rattle.ringplan_command.specs.Command.{Answers, Asked, AsksBy, HasNoNumber, IsMistaken, IsRefused, IsWorkers, Task, WantsHelp, asked, asked_by, by_drive, by_workers, only, option_named, ringplan, task_named, to_do, to_drive, word_of}
 
 is_free : is_simple_and_free ringplan ≡ true
 unfolding clap_on_literals

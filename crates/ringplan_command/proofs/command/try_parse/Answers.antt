@@ -1,8 +1,8 @@
 use Rattle.std.proofs.Common.{◌∙◌, sym, map, Ok, Err, inl}
 use Rattle.clap.specs.Words.{app_of, kind_of}
 use Rattle.clap.specs.declared.parser.matches.ArgMatches.{ArgMatches}
-use Rattle.ringplan_run.proofs.Commands.{parsed, answers_words, entered_by, helped, mistaken}
-use Rattle.ringplan_run.proofs.command.try_parse.Goals as goal
+use Rattle.ringplan_command.proofs.Commands.{parsed, answers_words, entered_by, helped, mistaken}
+use Rattle.ringplan_command.proofs.command.try_parse.Goals as goal
 
 pub returns-in-Ok : goal.returns-in-Ok
 returns-in-Ok g c =
