@@ -1,9 +1,9 @@
 -- The steps of a move, and those for which they wait.
 use Rattle.std.proofs.Common.{◌≡◌, ◌∙◌, ℕ, suc, zero, ◌+◌, ◌<◌, ◌≤◌, Bool, true, false, cond, List, [], ◌∷◌, ◌++◌, length, get_or, take, drop, inl, inr, refl, sym, ap, arith}
-use Rattle.std.specs.Prelude.{Option, Some, None, is_some, option_map, slice_get, not, ◌&&◌, ◌||◌, ◌==◌, nat_lt}
+use Rattle.std.specs.Prelude.{Option, Some, None, option_map, slice_get, not, ◌&&◌, ◌||◌, ◌==◌, nat_lt}
 use Rattle.std.specs.List.{All, filter, list_all, list_any, take_while, range_with_len}
 use Rattle.std.proofs.lemmas.Bool.{and_parts, lt-ltb, ltb-true, eqb-true}
-use Rattle.std.proofs.lemmas.List.{append_assoc, append-nil, take_all, at_drop_more, at_drop_all}
+use Rattle.std.proofs.lemmas.List.{append_assoc, take_all, at_drop_more}
 use Rattle.std.proofs.lemmas.List.Elements.{All-nil, All-cons, All-append, All-take, All-filter, All-from_get_or}
 use Rattle.std.proofs.lemmas.List.Folds.{list_any_more}
 use Rattle.std.proofs.lemmas.List.Sums.{take_while-cons}
@@ -12,7 +12,6 @@ use Rattle.ring_names.specs.declared.ids.NodeId.{NodeId}
 use Rattle.ring_names.specs.Lists.{has}
 use Rattle.ring_table.specs.Value.{RingValue}
 use Rattle.texts.specs.Numbers.{ascending}
-use Rattle.plan_text.specs.declared.step.Step.{Step}
 use Rattle.plan_text.specs.declared.step.Planned.{Planned}
 use Rattle.plan_text.specs.Steps.{is_on, steps_from, steps_of, depends, mirror_of}
 use Rattle.plan_text.specs.Valid.{IsPlan, EachPlanned}

@@ -7,14 +7,15 @@ ghost use Rattle.ring_table.specs.Value.{names_of};
 ghost use Rattle.plan_text.specs.Valid.{Suits};
 ghost use Rattle.plan_lines.specs.MoveLines.{move_object, move_data, moves_text};
 
+use crate::objects::{put_numbers, put_slot};
 use crate::own_steps::move_steps;
-use crate::parts::{name_value, numbers, push_line};
+use crate::parts::{name_value, push_line};
 use crate::waits::move_after;
 use plan_moves::{Move, moves};
 use plan_text::Plan;
 use ring_names::{Refusal, Slot};
 use ring_table::Ring;
-use serde_json::{Value, json};
+use serde_json::{Map, Value, put};
 use std::alloc::{AllocError, Global};
 
 // A move's number, the numbers of the steps that must be done before it, and those of its own steps.
@@ -31,9 +32,14 @@ fn move_object(head: &Head, slot: Slot, from: Value, to: Value) -> Result<Value,
     ensures { IfOk result (λ v. view v
         ≡ move_object head.now.after.now head.now.number head.now.steps.now slot (view from) (view to)) }
 {
-    let after = numbers(head.alloc, head.after)?;
-    let steps = numbers(head.alloc, head.steps)?;
-    json!(in head.alloc; {"after": after, "from": from, "move": head.number, "partition": slot.partition, "slot": slot.index, "steps": steps, "to": to})
+    let mut map = Map::new(head.alloc);
+    put(&mut map, head.alloc, "to", to)?;
+    put(&mut map, head.alloc, "from", from)?;
+    put(&mut map, head.alloc, "move", Value::from(head.number))?;
+    put_slot(&mut map, head.alloc, slot)?;
+    put_numbers(&mut map, head.alloc, "after", head.after)?;
+    put_numbers(&mut map, head.alloc, "steps", head.steps)?;
+    Ok(Value::Object(map))
 }
 
 // The object of the plan's move of that number.

@@ -1,12 +1,13 @@
 //! The objects of steps. Their members come by name, so a line begins with what must be done before it.
 
-ghost use Rattle.std.specs.Prelude.{◌≡◌, codes, IfOk};
-ghost use Rattle.serde_json.specs.View.{view};
-ghost use Rattle.plan_lines.specs.Lines.{node_object, slot_object, drop_object, mirror_object, copy_object};
+ghost use Rattle.std.specs.Prelude.{◌≡◌, codes, map, IfOk, OnOk};
+ghost use Rattle.serde_json.specs.View.{view, items_of, members_view};
+ghost use Rattle.serde_json.specs.Data.{array, string, put as with_member};
+ghost use Rattle.plan_lines.specs.Lines.{number_data, node_object, slot_object, drop_object, mirror_object, copy_object};
 
 use crate::parts::numbers;
 use ring_names::Slot;
-use serde_json::{Value, json};
+use serde_json::{Map, Value, put};
 use std::alloc::{AllocError, Global};
 
 /// A step's number, and the numbers of the steps that must be done before it.
@@ -17,44 +18,86 @@ pub(crate) struct Head<'a> {
     pub after: &'a [u32],
 }
 
-/// A step of a node that joins.
-pub(crate) fn join_object(head: &Head, node: Value) -> Result<Value, AllocError>
-    ensures { IfOk result (λ v. view v ≡ node_object (codes "join") head.now.after.now head.now.step (view node)) }
+/// Puts the numbers among the members, under that name.
+pub(crate) fn put_numbers(
+    members: &mut Map<String, Value>,
+    alloc: Global,
+    name: &str,
+    given: &[u32],
+) -> Result<(), AllocError>
+    ensures { OnOk result (members_view members.new.entries
+        ≡ with_member name.now (array (items_of (map number_data given.now))) (members_view members.old.entries)) }
 {
-    let after = numbers(head.alloc, head.after)?;
-    json!(in head.alloc; {"after": after, "do": "join", "node": node, "step": head.step})
+    let list = numbers(alloc, given)?;
+    put(members, alloc, name, Value::Array(list))
 }
 
-/// A step of a node that retires.
-pub(crate) fn retire_object(head: &Head, node: Value) -> Result<Value, AllocError>
-    ensures { IfOk result (λ v. view v ≡ node_object (codes "retire") head.now.after.now head.now.step (view node)) }
+/// Puts the slot's partition and index among the members.
+pub(crate) fn put_slot(
+    members: &mut Map<String, Value>,
+    alloc: Global,
+    slot: Slot,
+) -> Result<(), AllocError>
+    ensures { OnOk result (members_view members.new.entries ≡ with_member (codes "slot") (number_data slot.index)
+        (with_member (codes "partition") (number_data slot.partition) (members_view members.old.entries))) }
 {
-    let after = numbers(head.alloc, head.after)?;
-    json!(in head.alloc; {"after": after, "do": "retire", "node": node, "step": head.step})
+    put(members, alloc, "partition", Value::from(slot.partition))?;
+    put(members, alloc, "slot", Value::from(slot.index))
+}
+
+// Puts a step's kind, its number, and what must be done before it among the members.
+fn put_step(members: &mut Map<String, Value>, head: &Head, kind: &str) -> Result<(), AllocError>
+    ensures { OnOk result (members_view members.new.entries
+        ≡ with_member (codes "after") (array (items_of (map number_data head.now.after.now)))
+        (with_member (codes "step") (number_data head.now.step)
+        (with_member (codes "do") (string kind.now) (members_view members.old.entries)))) }
+{
+    let kind = String::from_str(head.alloc, kind)?;
+    put(members, head.alloc, "do", Value::String(kind))?;
+    put(members, head.alloc, "step", Value::from(head.step))?;
+    put_numbers(members, head.alloc, "after", head.after)
+}
+
+/// A step of that kind, of a node alone: that it joins, or that it retires.
+pub(crate) fn node_object(head: &Head, kind: &str, node: Value) -> Result<Value, AllocError>
+    ensures { IfOk result (λ v. view v ≡ node_object kind.now head.now.after.now head.now.step (view node)) }
+{
+    let mut map = Map::new(head.alloc);
+    put(&mut map, head.alloc, "node", node)?;
+    put_step(&mut map, head, kind)?;
+    Ok(Value::Object(map))
 }
 
 /// A step that switches the slot's owner.
 pub(crate) fn switch_object(head: &Head, slot: Slot) -> Result<Value, AllocError>
     ensures { IfOk result (λ v. view v ≡ slot_object (codes "switch") head.now.after.now head.now.step slot) }
 {
-    let after = numbers(head.alloc, head.after)?;
-    json!(in head.alloc; {"after": after, "do": "switch", "partition": slot.partition, "slot": slot.index, "step": head.step})
+    let mut map = Map::new(head.alloc);
+    put_slot(&mut map, head.alloc, slot)?;
+    put_step(&mut map, head, "switch")?;
+    Ok(Value::Object(map))
 }
 
 /// A step that drops what a node has of the slot.
 pub(crate) fn drop_object(head: &Head, slot: Slot, node: Value) -> Result<Value, AllocError>
     ensures { IfOk result (λ v. view v ≡ drop_object head.now.after.now head.now.step slot (view node)) }
 {
-    let after = numbers(head.alloc, head.after)?;
-    json!(in head.alloc; {"after": after, "do": "drop", "node": node, "partition": slot.partition, "slot": slot.index, "step": head.step})
+    let mut map = Map::new(head.alloc);
+    put(&mut map, head.alloc, "node", node)?;
+    put_slot(&mut map, head.alloc, slot)?;
+    put_step(&mut map, head, "drop")?;
+    Ok(Value::Object(map))
 }
 
 /// A step that sets the slot's mirror.
 pub(crate) fn mirror_object(head: &Head, slot: Slot, to: Value) -> Result<Value, AllocError>
     ensures { IfOk result (λ v. view v ≡ mirror_object head.now.after.now head.now.step slot (view to)) }
 {
-    let after = numbers(head.alloc, head.after)?;
-    json!(in head.alloc; {"after": after, "do": "mirror", "partition": slot.partition, "slot": slot.index, "step": head.step, "to": to})
+    let mut map = Map::new(head.alloc);
+    put(&mut map, head.alloc, "to", to)?;
+    put_slot(&mut map, head.alloc, slot)?;
+    put_step(&mut map, head, "mirror")?;
+    Ok(Value::Object(map))
 }
 
 /// A step that copies the slot to its mirror.
@@ -66,6 +109,10 @@ pub(crate) fn copy_object(
 ) -> Result<Value, AllocError>
     ensures { IfOk result (λ v. view v ≡ copy_object head.now.after.now head.now.step slot (view from) (view to)) }
 {
-    let after = numbers(head.alloc, head.after)?;
-    json!(in head.alloc; {"after": after, "do": "copy", "from": from, "partition": slot.partition, "slot": slot.index, "step": head.step, "to": to})
+    let mut map = Map::new(head.alloc);
+    put(&mut map, head.alloc, "to", to)?;
+    put(&mut map, head.alloc, "from", from)?;
+    put_slot(&mut map, head.alloc, slot)?;
+    put_step(&mut map, head, "copy")?;
+    Ok(Value::Object(map))
 }

@@ -10,15 +10,13 @@ ghost use Rattle.plan_text.specs.Valid.{Suits, source_suits, step_suits};
 ghost use Rattle.plan_stage.specs.Parties.{source_slots};
 ghost use Rattle.plan_cover.specs.Looking.Serving.{serving_at};
 ghost use Rattle.plan_text.specs.declared.step.Step.TheVariants.{Copy};
-ghost use Rattle.plan_lines.specs.Lines.{node_data, owners_data, step_data, steps_text};
+ghost use Rattle.plan_lines.specs.Lines.{node_data, node_object, owners_data, step_data, steps_text};
 
-use crate::objects::{
-    Head, copy_object, drop_object, join_object, mirror_object, retire_object, switch_object,
-};
+use crate::objects::{Head, copy_object, drop_object, mirror_object, node_object, switch_object};
 use crate::parts::{mirror_value, name_value, push_line};
 use plan_cover::Present;
 use plan_text::{Plan, Source, Step};
-use ring_names::{Refusal, Slot};
+use ring_names::{NodeId, Refusal, Slot};
 use ring_table::Ring;
 use serde_json::Value;
 use std::alloc::Global;
@@ -95,6 +93,15 @@ fn copy_value(
     Ok(copy_object(head, slot, from, to)?)
 }
 
+// The object of a step of that kind, of a node alone.
+fn node_value(head: &Head, kind: &str, ring: &Ring, node: NodeId) -> Result<Value, Refusal>
+    ensures value { IfOk result (λ v. view v
+        ≡ node_object kind.now head.now.after.now head.now.step (node_data (names_of ring.now) node)) }
+    ensures memory { IfErr result (λ e. e ≡ OutOfMemory) }
+{
+    Ok(node_object(head, kind, name_value(head.alloc, ring, node)?)?)
+}
+
 // The object of a step, where the slots are served so.
 fn step_value(head: &Head, ring: &Ring, present: &Present, step: &Step) -> Result<Value, Refusal>
     requires suits { step_suits ring.now step.now ≡ true }
@@ -103,7 +110,7 @@ fn step_value(head: &Head, ring: &Ring, present: &Present, step: &Step) -> Resul
     ensures memory { IfErr result (λ e. e ≡ OutOfMemory) }
 {
     match step {
-        Step::Join(node) => Ok(join_object(head, name_value(head.alloc, ring, *node)?)?),
+        Step::Join(node) => node_value(head, "join", ring, *node),
         Step::Mirror(slot, node) => {
             Ok(mirror_object(head, *slot, name_value(head.alloc, ring, *node)?)?)
         }
@@ -112,7 +119,7 @@ fn step_value(head: &Head, ring: &Ring, present: &Present, step: &Step) -> Resul
         Step::Drop(slot, node) => {
             Ok(drop_object(head, *slot, name_value(head.alloc, ring, *node)?)?)
         }
-        Step::Retire(node) => Ok(retire_object(head, name_value(head.alloc, ring, *node)?)?),
+        Step::Retire(node) => node_value(head, "retire", ring, *node),
     }
 }
 
