@@ -1,10 +1,10 @@
 -- A block in the place of one of its group, among others.
 use Rattle.std.proofs.Common.{◌≡◌, ◌≢◌, ◌∙◌, ℕ, zero, suc, ◌<◌, List, [], ◌∷◌, length, get_or, set, sym, ap, arith, get_or-set_same}
-use Rattle.std.specs.Prelude.{max}
-use Rattle.std.proofs.lemmas.List.{length-set, set-set, set-get_or}
+use Rattle.std.specs.Prelude.{max, Some}
+use Rattle.std.proofs.lemmas.List.{length-set}
 use Rattle.ring_clock.specs.declared.entry.Entry.{Entry}
-use Rattle.ring_clock.specs.Clock.{counter, IsAtMost}
-use Rattle.ring_clock.specs.Groups.{group, group_in, IsBlock, IsBlockFor}
+use Rattle.ring_clock.specs.Clock.{counter}
+use Rattle.ring_clock.specs.Groups.{group, group_in, IsAtMostBut, IsBlock, IsBlockFor}
 use Rattle.ring_clock.specs.Blocks.{IsBeyond, AreBlocks, entries_of}
 use Rattle.ring_clock.proofs.Counting.{by_equal}
 use Rattle.ring_clock.proofs.Ascending.{here_group, there_group, in_place}
@@ -30,8 +30,11 @@ others_stay (b ∷ bs) (suc p) j d w within block is are apart =
     (λ own. here_group b (set bs p j) w still own ∙ sym (here_group b bs w are own))
     (λ other. there_group b (set bs p j) w still other ∙ others_stay bs p j d w (omega arith) block is are.2 apart ∙ sym (there_group b bs w are other))
 
+some_same : (g k : ℕ) → Some g ≡ Some k → k ≡ g
+some_same g k e = cc
+
 -- blocks of which one is raised to that of its group among others, which are then reached
-pub raised_at : (bs os : List (List Entry)) (p g : ℕ) (o j d : List Entry) → AreBlocks bs → p < length bs → group_in (get_or bs p d) ≡ g → IsBlockFor g (entries_of os) o → IsBlock j → group_in j ≡ group_in (get_or bs p d) → ((w : ℕ) → counter j w ≡ max (counter (get_or bs p d) w) (counter o w)) → IsAtMost (entries_of os) (entries_of (set bs p j)) → (w : ℕ) → counter (entries_of (set bs p j)) w ≡ max (counter (entries_of bs) w) (counter (entries_of os) w)
+pub raised_at : (bs os : List (List Entry)) (p g : ℕ) (o j d : List Entry) → AreBlocks bs → p < length bs → group_in (get_or bs p d) ≡ g → IsBlockFor g (entries_of os) o → IsBlock j → group_in j ≡ group_in (get_or bs p d) → ((w : ℕ) → counter j w ≡ max (counter (get_or bs p d) w) (counter o w)) → IsAtMostBut (Some g) (entries_of os) (entries_of bs) → (w : ℕ) → counter (entries_of (set bs p j)) w ≡ max (counter (entries_of bs) w) (counter (entries_of os) w)
 raised_at bs os p g o j d are within of other block is counters le w = by_equal (group w) g (counter (entries_of (set bs p j)) w ≡ max (counter (entries_of bs) w) (counter (entries_of os) w))
     (λ own.
     let still = still_blocks bs p j d within block is are in
@@ -45,9 +48,5 @@ raised_at bs os p g o j d are within of other block is counters le w = by_equal 
     omega arith)
     (λ apart.
     let stay = others_stay bs p j d w within block is are (λ e. apart (e ∙ is ∙ of)) in
-    let most = le w in
+    let most = le w (λ e. apart (some_same g (group w) e)) in
     omega arith)
-
--- a block that is put back
-pub put_back : (bs : List (List Entry)) (p : ℕ) (b j : List Entry) → b ≡ get_or bs p b → set (set bs p j) p b ≡ bs
-put_back bs p b j is = set-set bs p j b ∙ ap (λ (x : List Entry). set bs p x) is ∙ set-get_or bs p b

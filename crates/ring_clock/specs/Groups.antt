@@ -1,5 +1,5 @@
 -- Groups of writers, whose entries stand together.
-use Rattle.std.specs.Prelude.{◌≡◌, ◌≢◌, ℕ, ◌<◌, ◌/◌, List, [], ◌∷◌, length}
+use Rattle.std.specs.Prelude.{◌≡◌, ◌≢◌, ℕ, ◌<◌, ◌≤◌, ◌/◌, List, [], ◌∷◌, length, max, Option, Some}
 use Rattle.ring_clock.specs.declared.entry.Entry.{Entry}
 use Rattle.ring_clock.specs.Clock.{counter, IsClock}
 
@@ -29,3 +29,13 @@ pub record IsBlockFor (g : ℕ) (es b : List Entry) : Type 0 where
   pub block : IsBlock b
   pub of : group_in b ≡ g
   pub counters : (w : ℕ) → group w ≡ g → counter b w ≡ counter es w
+
+-- c is a block of the group of block a, with each writer's greater counter of a and b
+pub record IsRaisedBlock (a b c : List Entry) : Type 0 where
+  pub block : IsBlock c
+  pub group : group_in c ≡ group_in a
+  pub counters : (w : ℕ) → counter c w ≡ max (counter a w) (counter b w)
+
+-- each writer's counter in c is at most that in d, but for the writers of one group, if one is given
+abbrev pub IsAtMostBut : Option ℕ → List Entry → List Entry → Type 0
+IsAtMostBut but c d = (w : ℕ) → but ≢ Some (group w) → counter c w ≤ counter d w

@@ -1,9 +1,9 @@
 //! The entries of one group of writers, which clocks share.
 
-ghost use Rattle.std.specs.Prelude.{◌≡◌, ◌↔◌, ◌*◌, ◌<◌, ◌≤◌, ◌∷◌, ◌++◌, [], ℕ, IsTrue, IfOk, IfNone, IfSome, OnOk, max};
+ghost use Rattle.std.specs.Prelude.{◌≡◌, ◌↔◌, ◌*◌, ◌<◌, ◌≤◌, ◌∷◌, ◌++◌, [], ℕ, true, false, IsTrue, IfOk, OnOk, OnErr, max};
 ghost use Rattle.ring_clock.specs.Clock.{IsClock, IsAtMost, counter};
 ghost use Rattle.ring_clock.specs.Forms.{entries_in, looked_in};
-ghost use Rattle.ring_clock.specs.Groups.{group, group_in, IsBlock};
+ghost use Rattle.ring_clock.specs.Groups.{group, group_in, IsBlock, IsRaisedBlock};
 
 use crate::entry::{Entry, GROUP, counter_of};
 use crate::full::{Full, are_low, group_among};
@@ -50,6 +50,26 @@ impl Form {
             Form::Few(entries) => Look::Few(entries.as_slice()),
             Form::Full(full) => Look::Full(full),
         }
+    }
+
+    // Raises each writer's counter to that in another form of the group where it stands, and tells whether it did: only where this one is full, and
+    // no counter of the other too great for that.
+    fn raise(&mut self, other: &Form) -> bool
+        requires first { IsBlock (entries_in self.old) }
+        requires second { IsBlock (entries_in other.now) }
+        requires group { group_in (entries_in self.old) ≡ group_in (entries_in other.now) }
+        ensures raised { result ≡ true → IsRaisedBlock (entries_in self.old) (entries_in other.now) (entries_in self.new) }
+        ensures same { result ≡ false → self.new ≡ self.old }
+    {
+        let Form::Full(mine) = self else {
+            return false;
+        };
+        match other.look() {
+            Look::Full(theirs) => mine.raise(theirs),
+            Look::Few(theirs) if are_low(theirs) => mine.raise_to(theirs),
+            Look::Few(_) => return false,
+        }
+        true
     }
 }
 
@@ -169,29 +189,19 @@ impl Block {
         }
     }
 
-    /// Whether each writer's counter is at most that in another block. None where that is of a lesser group. Mostly both are full and of one
-    /// group: then it looks at each block's form once.
-    pub fn passes(&self, other: &Block) -> Option<bool>
+    /// Whether each writer's counter is at most that in another block, of whatever group. Mostly both are full: then it looks at each block's
+    /// form once.
+    pub fn passes(&self, other: &Block) -> bool
         requires first { IsBlock self.now }
         requires second { IsBlock other.now }
-        ensures lesser { IfNone result (group_in other.now < group_in self.now) }
-        ensures not_lesser { IfSome result (λ held. group_in self.now ≤ group_in other.now) }
-        ensures held { IfSome result (λ held. IsTrue held ↔ IsAtMost self.now other.now) }
+        ensures { IsTrue result ↔ IsAtMost self.now other.now }
     {
         if let (Form::Full(mine), Form::Full(theirs)) = (&*self.shared, &*other.shared)
             && mine.group() == theirs.group()
         {
-            return Some(mine.is_at_most(theirs));
+            return mine.is_at_most(theirs);
         }
-        let group = self.group();
-        let facing = other.group();
-        if facing < group {
-            return None;
-        }
-        if group < facing {
-            return Some(false);
-        }
-        Some(self.is_at_most(other))
+        self.group() == other.group() && self.is_at_most(other)
     }
 
     /// Each writer's greater counter of two blocks of one group: the greater block itself, where there is one. Costs the entries of
@@ -215,6 +225,37 @@ impl Block {
             (Look::Few(mine), Look::Full(_)) => other.merge(alloc, mine),
             (Look::Full(mine), Look::Full(theirs)) => Block::full(alloc, mine.join(theirs)),
         }
+    }
+
+    // Raises each writer's counter to that in another block of the group where it stands, and tells whether it did: only where no other clock shares
+    // the block, it is full, and no counter of the other is too great for that.
+    fn raise_here(&mut self, other: &Block) -> bool
+        requires first { IsBlock self.old }
+        requires second { IsBlock other.now }
+        requires group { group_in self.old ≡ group_in other.now }
+        ensures raised { result ≡ true → IsRaisedBlock self.old other.now self.new }
+        ensures same { result ≡ false → self.new ≡ self.old }
+    {
+        match Arc::get_mut(&mut self.shared) {
+            Some(form) => form.raise(&other.shared),
+            None => false,
+        }
+    }
+
+    /// Raises each writer's counter to that in another block of the group. Costs the entries of both. Takes no memory where the block is full, no other
+    /// clock shares it, and no counter of the other is too great for that; else what `join` takes.
+    pub fn raise(&mut self, alloc: Global, other: &Block) -> Result<(), AllocError>
+        requires first { IsBlock self.old }
+        requires second { IsBlock other.now }
+        requires group { group_in self.old ≡ group_in other.now }
+        ensures ok { OnOk result (IsRaisedBlock self.old other.now self.new) }
+        ensures err { OnErr result (self.new ≡ self.old) }
+    {
+        if self.raise_here(other) {
+            return Ok(());
+        }
+        *self = self.join(alloc, other)?;
+        Ok(())
     }
 
     /// Each writer's greater counter of the block and of entries of its group. Costs the entries of both, and takes memory for what it makes:

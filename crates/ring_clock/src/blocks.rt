@@ -2,7 +2,7 @@
 
 ghost use Rattle.std.specs.Prelude.{◌≡◌, ◌↔◌, ◌+◌, ◌<◌, ◌∷◌, [], ℕ, true, false, IsTrue, IfOk, IfNone, IfSome, OnOk, OnErr, length, get_or, max};
 ghost use Rattle.ring_clock.specs.Clock.{IsAtMost, counter};
-ghost use Rattle.ring_clock.specs.Groups.{HasGroup, IsBlock, IsBlockFor, group, group_in};
+ghost use Rattle.ring_clock.specs.Groups.{HasGroup, IsAtMostBut, IsBlock, IsBlockFor, group, group_in};
 ghost use Rattle.ring_clock.specs.Blocks.{AreBlocks, entries_of, listed};
 ghost use Rattle.ring_clock.specs.Merge.{BlocksStandFor};
 
@@ -10,8 +10,8 @@ use crate::block::{Block, group_of};
 use crate::entry::Entry;
 use ring_names::WriterId;
 use std::alloc::{AllocError, Global};
+use std::slice;
 use std::sync::Arc;
-use std::{mem, slice};
 
 /// The blocks of a clock, in order of the group. One alone stands in the clock, more are shared once more.
 #[derive(Drop)]
@@ -46,16 +46,25 @@ impl Blocks {
 }
 
 // The place of the block of a group, where there is one.
+#[inline(always)]
 fn place_of(blocks: &[Block], group: u32) -> Option<usize>
     requires { AreBlocks blocks.now }
     ensures within { IfSome result (λ place. place < length blocks.now) }
     ensures of { IfSome result (λ place. group_in (get_or blocks.now place []) ≡ group) }
     ensures none { IfNone result (¬ (HasGroup group (entries_of blocks.now))) }
 {
-    if let Some(guess) = blocks.get(group as usize)
-        && guess.group() == group
-    {
-        return Some(group as usize);
+    let count = blocks.len();
+    if count == 0 {
+        return None;
+    }
+    let last = count - 1;
+    let guess = last.min(group as usize);
+    let found = blocks[guess].group();
+    if found == group {
+        return Some(guess);
+    }
+    if guess == last && found < group {
+        return None;
     }
     match blocks.binary_search_by_key(&group, |block| block.group()) {
         Ok(place) => Some(place),
@@ -63,8 +72,8 @@ fn place_of(blocks: &[Block], group: u32) -> Option<usize>
     }
 }
 
-/// The block of a group, where there is one. Costs the logarithm of how many blocks there are. Where each lesser group has a block, one look
-/// takes the place of the search.
+/// The block of a group, where there is one. Costs the logarithm of how many blocks there are. Where each lesser group has a block, or all other
+/// blocks are of lesser groups, one look takes the place of the search.
 pub fn block_of(blocks: &[Block], group: u32) -> Option<&Block>
     requires { AreBlocks blocks.now }
     ensures some { IfSome result (λ b. IsBlockFor group (entries_of blocks.now) b.now) }
@@ -89,27 +98,47 @@ pub fn counter_in(blocks: &[Block], writer: WriterId) -> u64
     }
 }
 
-/// Whether each writer's counter in the first is at most that in the second. Costs the blocks of both, and the entries of those whose
-/// group both have.
+// Whether the counters of a block are at most its writers' in the blocks. Costs a look for the block of its group, and the entries of both.
+#[inline(always)]
+fn is_reached(block: &Block, blocks: &[Block]) -> bool
+    requires one { IsBlock block.now }
+    requires valid { AreBlocks blocks.now }
+    ensures { IsTrue result ↔ IsAtMost block.now (entries_of blocks.now) }
+{
+    match block_of(blocks, block.group()) {
+        Some(other) => block.passes(other),
+        None => false,
+    }
+}
+
+// Whether each writer's counter in the first is at most that in the second, the writers of one group left out if it is given. A look for each
+// group leaves the blocks of other groups unread.
+fn are_reached(but: Option<u32>, first: &[Block], second: &[Block]) -> bool
+    requires first { AreBlocks first.now }
+    requires second { AreBlocks second.now }
+    ensures { IsTrue result ↔ IsAtMostBut but (entries_of first.now) (entries_of second.now) }
+{
+    let mut rest = first;
+    'groups: while let Some((block, later)) = rest.split_first() {
+        if but != Some(block.group()) && !is_reached(block, second) {
+            return false;
+        }
+        rest = later;
+    }
+    true
+}
+
+/// Whether each writer's counter in the first is at most that in the second. Costs a look for each block of the first, the logarithm of the
+/// blocks of the second where not all lesser groups have one there, and the entries of those whose group both have.
 pub fn are_at_most(first: &[Block], second: &[Block]) -> bool
     requires first { AreBlocks first.now }
     requires second { AreBlocks second.now }
     ensures { IsTrue result ↔ IsAtMost (entries_of first.now) (entries_of second.now) }
 {
-    let mut rest = first;
-    let mut others = second;
-    'groups: while let Some((block, later)) = rest.split_first() {
-        let Some((other, later_others)) = others.split_first() else {
-            return false;
-        };
-        match block.passes(other) {
-            Some(true) => rest = later,
-            Some(false) => return false,
-            None => {}
-        }
-        others = later_others;
+    match (first, second) {
+        ([block], [other]) => block.passes(other),
+        _ => are_reached(None, first, second),
     }
-    true
 }
 
 // Takes the block of the least group in front, the join of two where both lists have that group.
@@ -219,7 +248,7 @@ pub fn raised(alloc: Global, blocks: &[Block], entry: Entry) -> Result<Blocks, A
 }
 
 /// Raises the block of one group in place, where both have it, and tells whether the others are then reached; if not, nothing has changed. Costs
-/// the blocks of both, and takes memory only for the one block, where neither's is the greater one.
+/// the blocks of both, and takes memory only for the one block, where other clocks share it or few of its writers have a counter.
 pub fn raise_one(
     alloc: Global,
     blocks: &mut Vec<Block>,
@@ -240,13 +269,11 @@ pub fn raise_one(
     let Some(place) = place_of(blocks.as_slice(), group) else {
         return Ok(false);
     };
-    let joined = blocks[place].join(alloc, other)?;
-    let before = mem::replace(&mut blocks[place], joined);
-    if are_at_most(others, blocks.as_slice()) {
-        return Ok(true);
+    if !are_reached(Some(group), others, blocks.as_slice()) {
+        return Ok(false);
     }
-    blocks[place] = before;
-    Ok(false)
+    blocks[place].raise(alloc, other)?;
+    Ok(true)
 }
 
 /// The entries of the blocks. Costs them, and takes the memory of the list.

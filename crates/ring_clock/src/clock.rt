@@ -152,8 +152,8 @@ impl Clock {
     }
 
     /// Raises the clock to another: of each writer the greater counter. Costs the entries of both, and takes memory only where neither is
-    /// at most the other: for the entries of one group alone, where no other clock shares the list of the groups and those of all others are at
-    /// most its own, and else what `join` takes.
+    /// at most the other: what `join` takes, but where no other clock shares the list of the groups, and those of all groups but the other's own
+    /// are at most its own, for the entries of that group alone, and none where they have 260 bytes that no other clock shares.
     pub fn raise(&mut self, other: &Clock) -> Result<(), Refusal>
         ensures ok { OnOk result ((w : ℕ) → counter self.new w ≡ max (counter self.old w) (counter other.now w)) }
         ensures err { OnErr result (self.new ≡ self.old) }

@@ -3,7 +3,7 @@
 ghost use Rattle.std.specs.Prelude.{◌≡◌, ◌↔◌, ◌+◌, ◌*◌, ◌<◌, ◌≤◌, ◌++◌, ℕ, IsTrue, OnOk, slice_index, max};
 ghost use Rattle.std.specs.List.{All};
 ghost use Rattle.ring_clock.specs.Clock.{IsClock, IsAtMost, counter};
-ghost use Rattle.ring_clock.specs.Groups.{group, group_in, IsBlock};
+ghost use Rattle.ring_clock.specs.Groups.{group, group_in, IsBlock, IsRaisedBlock};
 ghost use Rattle.ring_clock.specs.Places.{IsLow};
 
 use crate::entry::{Entry, GROUP, counter_of};
@@ -55,6 +55,16 @@ impl Full {
         Full {
             group: group_among(entries),
             counters,
+        }
+    }
+
+    // The same counters once more.
+    fn copy(&self) -> Full
+        ensures { result ≡ self.now }
+    {
+        Full {
+            group: self.group,
+            counters: self.counters,
         }
     }
 
@@ -148,12 +158,30 @@ impl Full {
         ensures group { group_in result ≡ group_in self.now }
         ensures counters { (w : ℕ) → counter result w ≡ max (counter self.now w) (counter other.now w) }
     {
-        let mut counters = self.counters;
-        raise_to(&mut counters, &other.counters);
-        Full {
-            group: self.group,
-            counters,
-        }
+        let mut made = self.copy();
+        made.raise(other);
+        made
+    }
+
+    /// Raises each writer's counter to that in another one of the group.
+    pub fn raise(&mut self, other: &Full)
+        requires first { IsBlock self.old }
+        requires second { IsBlock other.now }
+        requires group { group_in self.old ≡ group_in other.now }
+        ensures { IsRaisedBlock self.old other.now self.new }
+    {
+        raise_to(&mut self.counters, &other.counters);
+    }
+
+    /// Raises each writer's counter to that among entries of the group.
+    pub fn raise_to(&mut self, entries: &[Entry])
+        requires first { IsBlock self.old }
+        requires second { IsBlock entries.now }
+        requires low { All IsLow entries.now }
+        requires group { group_in self.old ≡ group_in entries.now }
+        ensures { IsRaisedBlock self.old entries.now self.new }
+    {
+        raise_to_entries(&mut self.counters, entries);
     }
 
     /// Each writer's greater counter of these and of entries of the group.
@@ -166,12 +194,9 @@ impl Full {
         ensures group { group_in result ≡ group_in self.now }
         ensures counters { (w : ℕ) → counter result w ≡ max (counter self.now w) (counter entries.now w) }
     {
-        let mut counters = self.counters;
-        raise_to_entries(&mut counters, entries);
-        Full {
-            group: self.group,
-            counters,
-        }
+        let mut made = self.copy();
+        made.raise_to(entries);
+        made
     }
 }
 

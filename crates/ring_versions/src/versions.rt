@@ -169,9 +169,9 @@ impl Versions {
     /// Adds another set's versions: what is drawn from both covers the clocks that either covered, and ancestors go. Costs a look for each
     /// version of the other set, and for each of its own chunks one at its group, or where the new ones have counters there one at each of its
     /// versions' own entries, or where they may cover it a look. Takes no memory where this set covers the other's. One version that is in
-    /// conflict with each of many is put in place where no other set shares these: that takes the memory of the version, of its chunk's join and of
-    /// the set's. Else takes copies of those that are new, made aside, and where some of its own stay, copies of these, of eight or more only
-    /// those in chunks that do not stay as they are, the chunks, and the join. A refused growth leaves the set as it was.
+    /// conflict with each of many is put in place where no other set shares these: that takes the memory of the version, and what raises its chunk's
+    /// join and the set's (`Clock::raise`). Else takes copies of those that are new, made aside, and where some of its own stay, copies of these, of
+    /// eight or more only those in chunks that do not stay as they are, the chunks, and the join. A refused growth leaves the set as it was.
     pub fn merge(&mut self, other: &Versions) -> Result<(), Refusal>
         ensures ok { OnOk result (IsMerge self.old other.now self.new) }
         ensures err { OnErr result (self.new ≡ self.old) }

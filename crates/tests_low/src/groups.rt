@@ -117,7 +117,13 @@ fn joins_of_groups(rt: HostRuntime) -> Result<(), Fail> {
         entry(1023, 1),
         entry(LAST, 1),
     ];
-    joined(&rt, alloc, &first, &second, wanted.as_slice())?;
+    joined(&rt, alloc, &first, &second, wanted.as_slice())
+}
+
+#[test]
+fn joins_of_one_group_each(rt: HostRuntime) -> Result<(), Fail> {
+    let alloc = rt.alloc();
+    let none = Clock::new(alloc);
     let one = clock_of(alloc, &[65])?;
     let other = clock_of(alloc, &[1023])?;
     joined(&rt, alloc, &one, &none, &[entry(65, 1)])?;
