@@ -1,15 +1,22 @@
 #!/usr/bin/env python3
-"""What bundles that were made to cost much cost, at each doubling: trials/costs.py [WORD..], once `rt ci` or `rt run` has built crates/ringplan. With
-words, the families alone whose command or name is one of them. Of `ringside`, which must be built too, the same plans by each command, and goals.
+"""What bundles that were made to cost much cost, at each doubling: trials/costs.py [--instructions] [WORD..], once `rt ci` or `rt run` has built
+crates/ringplan. With words, the families alone whose command or name is one of them. Of `ringside`, which must be built too, the same plans by each
+command, and goals.
 
 For each family of `hostile_plans.py` and `hostile_scripts.py`, and for rings whose members change, a line for each size: the bundle's and the output's
-megabytes, the seconds of processor time (of three runs the least, where these are below two), how many times those of half the size, and the most memory. It says of which line a bound is passed,
+megabytes, the seconds of processor time (of seven runs the least, where these are below two), how many times those of half the size, and the most memory. It says of which line a bound is passed,
 and ends with 0 only where none is: from a megabyte and a tenth of a second on 2.3 times at a doubling; a second for ten megabytes of bundle and of
 output; memory of 8 times the bundle and the output, of `play`, `replay` and `drive` 16 times, and 16 MB beside.
+
+With --instructions a line has what valgrind's callgrind counts in place of seconds and memory, of bundles from a megabyte on, and the bound is 2.3 times at a
+doubling: that is the same on each machine, whatever else it does, and takes some fifty times as long.
 """
 import os
+import re
 import subprocess
 import sys
+import tempfile
+from concurrent.futures import ThreadPoolExecutor
 
 sys.path.insert(0, os.path.dirname(os.path.abspath(__file__)))
 sys.dont_write_bytecode = True
@@ -142,16 +149,49 @@ def families():
 
 
 def least(words, bundle):
-    """The run that took the least time: of three where one takes less than two seconds, since what else the machine does may double a short one."""
+    """The run that took the least time: of seven where one takes less than two seconds, since what else the machine does may double a short one."""
     run = lambda: Measured(words[1:], bundle, program=SIDE) if words[0] == "ringside" else Measured(words, bundle)
     made = run()
-    return min([made, run(), run()], key=lambda it: it.seconds) if made.seconds < 2 else made
+    return min([made, *[run() for _ in range(6)]], key=lambda it: it.seconds) if made.seconds < 2 else made
+
+
+def counted(words, bundle):
+    """The size of the bundle, and the instructions of a run over it."""
+    with tempfile.NamedTemporaryFile() as given:
+        given.write(bundle)
+        given.flush()
+        run = [SIDE, *words[1:]] if words[0] == "ringside" else [RUN, *words]
+        with open(given.name, "rb") as text:
+            made = subprocess.run(["valgrind", "--tool=callgrind", "--callgrind-out-file=/dev/null", *run], stdin=text, stdout=subprocess.DEVNULL, stderr=subprocess.PIPE)
+    return len(bundle), int(re.search(rb"refs: +([\d,]+)", made.stderr)[1].replace(b",", b""))
+
+
+def counts(wanted):
+    passed = 0
+    with ThreadPoolExecutor(os.cpu_count()) as pool:
+        for words, name, made in [it for it in families() if is_wanted(it[0], it[1], wanted)]:
+            print("%s, %s" % (" ".join(words[:5]), name), flush=True)
+            sizes = [it for it in (make().encode() for make in made) if 1e6 <= len(it) <= 67108864]
+            before = None
+            for size, count in pool.map(lambda it: counted(words, it), sizes):
+                over = before and count > 2.3 * before
+                passed += bool(over)
+                print("  %6.2f MB: %8.1f million instructions, %s times%s" % (size / 1e6, count / 1e6, "%5.2f" % (count / before) if before else "    -", "  <-" if over else ""), flush=True)
+                before = count
+    print("costs: %d bounds passed" % passed)
+    return 1 if passed else 0
+
+
+def is_wanted(words, name, wanted):
+    return not wanted or bool({words[0], words[-1], name.split(",")[0]} & {*wanted})
 
 
 def main():
-    wanted, passed = sys.argv[1:], 0
+    wanted, passed = [it for it in sys.argv[1:] if it != "--instructions"], 0
+    if len(wanted) < len(sys.argv) - 1:
+        return counts(wanted)
     for words, name, made in families():
-        if wanted and not {words[0], words[-1], name.split(",")[0]} & {*wanted}:
+        if not is_wanted(words, name, wanted):
             continue
         print("%s, %s" % (" ".join(words[:5]), name), flush=True)
         before = None

@@ -152,8 +152,8 @@ impl Clock {
     }
 
     /// Raises the clock to another: of each writer the greater counter. Costs the entries of both, and takes memory only where neither is
-    /// at most the other: what `join` takes, but where no other clock shares the list of the groups, and those of all groups but the other's own
-    /// are at most its own, for the entries of that group alone, and none where they have 260 bytes that no other clock shares.
+    /// at most the other: what `join` takes; but where no other clock shares the list of its groups, both have the group of the other's own writer, and
+    /// in all other groups its counters reach the other's, for that group alone, and none for 260 bytes that no other clock shares.
     pub fn raise(&mut self, other: &Clock) -> Result<(), Refusal>
         ensures ok { OnOk result ((w : ℕ) → counter self.new w ≡ max (counter self.old w) (counter other.now w)) }
         ensures err { OnErr result (self.new ≡ self.old) }
