@@ -100,9 +100,9 @@ impl Clock {
         counter_in(self.blocks(), writer)
     }
 
-    /// Whether each writer's counter is at most that in the other clock: then a version of this clock is an ancestor of one of
-    /// the other, or it is the same (DeCandia et al. 2007, section 4.4). Takes no memory. Costs the entries of both; where one has several
-    /// groups, the logarithm of the entries if the counter of the writer for whom this clock was last raised is less in the other.
+    /// Whether each writer's counter is at most that in the other clock: then a version of this clock is an ancestor of one of the other, or it is the
+    /// same (DeCandia et al. 2007, section 4.4). Takes no memory. Costs the entries of both, and for each group what `has_group` costs; where one has
+    /// several groups, the logarithm of the entries if the counter of the writer for whom this clock was last raised is less in the other.
     pub fn le(&self, other: &Clock) -> bool
         ensures { IsTrue result ↔ IsAtMost self.now other.now }
     {
@@ -151,7 +151,7 @@ impl Clock {
         Ok(raise_one(alloc, blocks, other.blocks(), group_of(other.own))?)
     }
 
-    /// Raises the clock to another: of each writer the greater counter. Costs the entries of both, and takes memory only where neither is
+    /// Raises the clock to another: of each writer the greater counter. Costs what `le` and `join` do, and takes memory only where neither is
     /// at most the other: what `join` takes; but where no other clock shares the list of its groups, both have the group of the other's own writer, and
     /// in all other groups its counters reach the other's, for that group alone, and none for 260 bytes that no other clock shares.
     pub fn raise(&mut self, other: &Clock) -> Result<(), Refusal>
