@@ -6,7 +6,7 @@ use crate::page::{Page, count_fields, field, number, place_of};
 use crate::said::Said;
 use ring_names::Refusal;
 use std::alloc::Global;
-use texts::is_name;
+use texts::{Lines, is_name};
 
 // A line at fault, and where it stands.
 #[derive(Clone, Copy)]
@@ -52,14 +52,15 @@ pub fn bad_line(alloc: Global, said: &mut Said, page: Page, number: u32) -> Resu
     Ok(())
 }
 
+// Whether the byte parts fields in a line as people write it.
+fn is_blank(byte: u8) -> bool {
+    byte == b' ' || byte == b'\t' || byte == b'\r'
+}
+
 // Whether the line has more than one space between fields, or one at an end.
 fn is_spaced(text: &[u8]) -> bool {
-    for place in 0..count_fields(text) {
-        if field(text, place).is_empty() {
-            return true;
-        }
-    }
-    false
+    text.split(|byte| *byte == b' ')
+        .any(|field| field.is_empty())
 }
 
 // What is wrong with a number where one is wanted.
@@ -96,10 +97,13 @@ fn field_fault(word: &[u8], wanted: &[u8]) -> Option<&'static [u8]> {
 
 // The first field in which the line departs from the form, and what is wrong with it.
 fn wrong_field(text: &[u8], form: &[u8]) -> Option<(usize, &'static [u8])> {
-    let most = count_fields(form).min(count_fields(text));
-    for place in 1..most {
-        if let Some(fault) = field_fault(field(text, place), field(form, place)) {
-            return Some((place, fault));
+    let mut words = text.split(|byte| *byte == b' ');
+    for (place, wanted) in form.split(|byte| *byte == b' ').enumerate() {
+        let word = words.next()?;
+        if place > 0 {
+            if let Some(fault) = field_fault(word, wanted) {
+                return Some((place, fault));
+            }
         }
     }
     None
@@ -108,8 +112,9 @@ fn wrong_field(text: &[u8], form: &[u8]) -> Option<(usize, &'static [u8])> {
 // What is wrong with the steps behind `after` in the field of that place.
 fn after_fault(text: &[u8], after: usize) -> Option<(usize, &'static [u8])> {
     let mut last: Option<u32> = None;
-    for at in after.saturating_add(1)..count_fields(text) {
-        let Some(step) = number(field(text, at)) else {
+    let steps = text.split(|byte| *byte == b' ').enumerate();
+    for (at, word) in steps.skip(after.saturating_add(1)) {
+        let Some(step) = number(word) else {
             return Some((at, b"no number of a step"));
         };
         if let Some(before) = last {
@@ -179,18 +184,12 @@ impl<'a> Line<'a> {
     fn respace(&self, said: &mut Said, words: &[u8]) {
         said.mend(words);
         said.put(self.number);
-        let mut is_begun = false;
-        let mut is_apart = false;
-        for byte in self.text {
-            if *byte == b' ' || *byte == b'\t' || *byte == b'\r' {
-                is_apart = is_begun;
-            } else {
-                if is_apart {
-                    said.add(b" ");
-                }
-                said.add_with(b"@", &[&[*byte]], &[]);
-                is_begun = true;
-                is_apart = false;
+        let mut gap: &[u8] = b"";
+        for word in self.text.split(|byte| is_blank(*byte)) {
+            if !word.is_empty() {
+                said.add(gap);
+                said.add(word);
+                gap = b" ";
             }
         }
         said.add(b"\n")
@@ -329,10 +328,14 @@ impl<'a> Line<'a> {
 
     // How many lines `slots` stand in front of the line.
     fn partitions(&self) -> u32 {
+        let mut lines = Lines::of(self.page.after(self.start.saturating_add(3)));
         let mut count = 0u32;
         for line in self.start.saturating_add(4)..self.number {
-            if field(self.page.text(line), 0) == b"slots".as_slice() {
+            if lines.begins(b"slots") {
                 count = count.saturating_add(1);
+            }
+            if lines.next().is_err() {
+                break;
             }
         }
         count

@@ -33,16 +33,22 @@ pub fn cut_line(text: &[u8]) -> (&[u8], &[u8]) {
 }
 
 impl<'a> Page<'a> {
-    /// The line of that number, without its line feed. None where the text is over before it.
-    pub fn line(&self, number: u32) -> Option<&'a [u8]> {
+    /// What follows the first so many lines; nothing where the text is over before.
+    pub fn after(&self, lines: u32) -> &'a [u8] {
         let mut rest = self.bytes;
-        for turn in 1..number {
+        for turn in 0..lines {
             match cut(rest).1 {
                 Some(behind) => rest = behind,
-                None => return None,
+                None => return b"",
             }
         }
-        if rest.is_empty() || number == 0 {
+        rest
+    }
+
+    /// The line of that number, without its line feed. None where the text is over before it.
+    pub fn line(&self, number: u32) -> Option<&'a [u8]> {
+        let rest = self.after(number.checked_sub(1)?);
+        if rest.is_empty() {
             return None;
         }
         Some(cut(rest).0)
@@ -199,12 +205,8 @@ pub fn count_fields(line: &[u8]) -> usize {
 
 /// The place of the first field that is this word.
 pub fn place_of(line: &[u8], word: &[u8]) -> Option<usize> {
-    for place in 0..count_fields(line) {
-        if field(line, place) == word {
-            return Some(place);
-        }
-    }
-    None
+    line.split(|byte| *byte == b' ')
+        .position(|field| field == word)
 }
 
 /// The number that a field spells, if it is one.
