@@ -6,6 +6,7 @@ use crate::page::{Page, count_fields, field, number, place_of};
 use crate::said::Said;
 use ring_names::Refusal;
 use std::alloc::Global;
+use texts::Lines;
 
 /// A limit is passed.
 pub fn too_large(said: &mut Said, line: u32) {
@@ -28,12 +29,15 @@ pub fn too_large(said: &mut Said, line: u32) {
 
 /// The node line of a ring that declares the name, if there is one: the number of the line.
 fn declared(page: Page, name: &[u8]) -> Option<u32> {
+    let mut lines = Lines::of(page.after(3));
     for line in 4..1029u32 {
-        let text = page.line(line)?;
-        if field(text, 0) != b"node".as_slice() {
+        let Ok(mut fields) = lines.next() else {
+            return None;
+        };
+        if !fields.takes(b"node") {
             return None;
         }
-        if field(text, 1) == name {
+        if fields.takes(name) {
             return Some(line);
         }
     }
@@ -45,27 +49,24 @@ fn last_field(text: &[u8]) -> &[u8] {
     field(text, count_fields(text).saturating_sub(1))
 }
 
-// Whether a field behind the first may be something else than a name.
-fn is_other(word: &[u8]) -> bool {
-    number(word).is_some()
-        || word == b"owner".as_slice()
-        || word == b"slots".as_slice()
-        || word == b"in".as_slice()
-        || word == b"out".as_slice()
+// The place of the first node in a line.
+fn first_node(text: &[u8]) -> usize {
+    let word = field(text, 0);
+    if word == b"mirror".as_slice() || word == b"drop".as_slice() {
+        return 3;
+    }
+    if word == b"slots".as_slice() {
+        return 2;
+    }
+    1
 }
 
-// The first field behind the word that should be a declared name and is none.
-fn undeclared(page: Page, line: u32) -> Option<usize> {
-    let text = page.text(line);
-    for place in 1..count_fields(text) {
-        let word = field(text, place);
-        if word == b"after".as_slice() {
-            return None;
-        }
-        if declared(page, word).is_none() && (!is_other(word) || place == 1) {
-            if field(text, 0) != b"slots".as_slice() || place > 1 {
-                return Some(place);
-            }
+// The place of the first node in the line that is not declared.
+fn undeclared(page: Page, text: &[u8]) -> Option<usize> {
+    let fields = text.split(|byte| *byte == b' ').enumerate();
+    for (place, name) in fields.skip(first_node(text)) {
+        if declared(page, name).is_none() {
+            return Some(place);
         }
     }
     None
@@ -74,20 +75,24 @@ fn undeclared(page: Page, line: u32) -> Option<usize> {
 // The ring's name that is nearest to another, or nothing.
 fn nearest_name<'a>(alloc: Global, page: Page<'a>, name: &[u8]) -> Result<&'a [u8], Refusal> {
     let mut nearest = Nearest::new(name);
-    for line in 4..1029u32 {
-        let text = page.text(line);
-        if field(text, 0) != b"node".as_slice() {
+    let mut lines = Lines::of(page.after(3));
+    for turn in 0..1025 {
+        let Ok(mut fields) = lines.next() else {
+            break;
+        };
+        if !fields.takes(b"node") {
             break;
         }
-        nearest.look(alloc, name, field(text, 1))?;
+        nearest.look(alloc, name, fields.next().unwrap_or(b""))?;
     }
     Ok(nearest.word)
 }
 
 /// A name is not declared.
 pub fn unknown_node(alloc: Global, said: &mut Said, page: Page, line: u32) -> Result<(), Refusal> {
-    let place = undeclared(page, line).unwrap_or(1);
-    let name = field(page.text(line), place);
+    let text = page.text(line);
+    let place = undeclared(page, text).unwrap_or(first_node(text));
+    let name = field(text, place);
     said.title_with(b"no node `@` is declared", &[name], &[]);
     let at = page.at(line, place, place);
     said.fault_at(at, b"not among the ring's `node` lines");
@@ -140,11 +145,15 @@ fn declared_again(said: &mut Said, line: u32, first: Option<u32>) {
 // The first line of the part that says the same of the node, or in a change names it.
 fn earlier(page: Page, line: u32, start: u32) -> Option<u32> {
     let text = page.text(line);
-    let is_change = field(page.text(start), 0) == b"change".as_slice();
+    let (word, node) = (field(text, 0), field(text, 1));
+    let mut lines = Lines::of(page.after(start.saturating_sub(1)));
+    let is_change = lines.begins(b"change");
     for at in start..line.min(start.saturating_add(4097)) {
-        let other = page.text(at);
-        let same_word = is_change || field(other, 0) == field(text, 0);
-        if same_word && field(other, 1) == field(text, 1) {
+        let Ok(mut fields) = lines.next() else {
+            return None;
+        };
+        let same_word = fields.next() == Some(word) || is_change;
+        if same_word && fields.takes(node) {
             return Some(at);
         }
     }
@@ -265,8 +274,9 @@ pub fn shared_node(said: &mut Said, page: Page, line: u32) {
 
 // The first field that names a node declared `out`, and the line that declares it.
 fn outsider(page: Page, text: &[u8]) -> Option<(usize, u32)> {
-    for place in 1..count_fields(text) {
-        if let Some(node) = declared(page, field(text, place)) {
+    let fields = text.split(|byte| *byte == b' ').enumerate();
+    for (place, name) in fields.skip(first_node(text)) {
+        if let Some(node) = declared(page, name) {
             if last_field(page.text(node)) == b"out".as_slice() {
                 return Some((place, node));
             }
@@ -298,8 +308,9 @@ pub fn not_member(said: &mut Said, page: Page, line: u32) {
 // The first field behind `after` that names a step not in front of that one.
 fn later(text: &[u8], step: u32) -> Option<usize> {
     let first = place_of(text, b"after").unwrap_or(0).saturating_add(1);
-    for place in first..count_fields(text) {
-        if let Some(other) = number(field(text, place)) {
+    let fields = text.split(|byte| *byte == b' ').enumerate();
+    for (place, word) in fields.skip(first) {
+        if let Some(other) = number(word) {
             if other >= step {
                 return Some(place);
             }
