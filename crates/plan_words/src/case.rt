@@ -1,5 +1,6 @@
 //! A bundle whose texts are in order, and whose plan is refused.
 
+use crate::ends::Ends;
 use plan_cert::Cert;
 use plan_stage::{Stage, stage_at};
 use plan_text::{Plan, Source, Step};
@@ -16,6 +17,7 @@ pub struct Case<'a> {
     pub ring: &'a Ring,
     pub plan: &'a Plan,
     pub cert: &'a Cert,
+    pub ends: &'a Ends,
 }
 
 /// A number of items as one of lines.
@@ -140,16 +142,7 @@ impl<'a> Case<'a> {
         if second >= self.plan.len() {
             return false;
         }
-        if self.plan.depends(first, second) {
-            return true;
-        }
-        for place in 0..self.cert.facts.len() {
-            let path = self.cert.facts.row(place);
-            if path.first() == Some(&first) && path.last() == Some(&second) {
-                return true;
-            }
-        }
-        false
+        self.plan.depends(first, second) || self.ends.has(first, second)
     }
 
     // Whether the node owns the slot, and whether it is its mirror, in front of the step.

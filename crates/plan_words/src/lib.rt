@@ -4,6 +4,7 @@
 
 mod case;
 mod certificates;
+mod ends;
 mod holders;
 mod sources;
 mod stages;
