@@ -3,8 +3,8 @@
 use crate::ends::Ends;
 use plan_cert::Cert;
 use plan_stage::{Stage, stage_at};
-use plan_text::{Plan, Source, Step};
-use ring_names::{NodeId, Refusal, Slot};
+use plan_text::{Plan, Step};
+use ring_names::{Refusal, Slot};
 use ring_table::Ring;
 use std::alloc::Global;
 use text_words::{Page, Said, place_of, span_of};
@@ -23,6 +23,16 @@ pub struct Case<'a> {
 /// A number of items as one of lines.
 pub fn small(count: usize) -> u32 {
     u32::try_from(count).unwrap_or(u32::MAX)
+}
+
+/// The slot of a step, if it has one.
+pub fn slot_of(step: &Step) -> Option<Slot> {
+    match step {
+        Step::Mirror(slot, _) | Step::Copy(slot, _) | Step::Switch(slot) | Step::Drop(slot, _) => {
+            Some(*slot)
+        }
+        Step::Join(_) | Step::Retire(_) => None,
+    }
 }
 
 // The line without the steps that it waits for.
@@ -96,13 +106,7 @@ impl<'a> Case<'a> {
 
     /// The slot of a step, if it has one.
     pub fn slot(&self, number: u32) -> Option<Slot> {
-        match self.step(number)? {
-            Step::Mirror(slot, _)
-            | Step::Copy(slot, _)
-            | Step::Switch(slot)
-            | Step::Drop(slot, _) => Some(*slot),
-            Step::Join(_) | Step::Retire(_) => None,
-        }
+        slot_of(self.step(number)?)
     }
 
     // How many of the slot's steps stand in front of the step.
@@ -145,50 +149,6 @@ impl<'a> Case<'a> {
         self.plan.depends(first, second) || self.ends.has(first, second)
     }
 
-    // Whether the node owns the slot, and whether it is its mirror, in front of the step.
-    fn holds(&self, node: u32, slot: Slot, number: u32) -> Result<(bool, bool), Refusal> {
-        match self.stage(slot, number)? {
-            Some(stage) => Ok((stage.owner.0 == node, stage.mirror == Some(NodeId(node)))),
-            None => Ok((false, false)),
-        }
-    }
-
-    /// Whether the node takes part in the copy: as the mirror that is given what is copied, or as an owner whose slot is read.
-    pub fn part(&self, node: u32, number: u32) -> Result<Option<Role>, Refusal> {
-        let Some(Step::Copy(slot, source)) = self.step(number) else {
-            return Ok(None);
-        };
-        let (is_owner, is_mirror) = self.holds(node, *slot, number)?;
-        if is_mirror {
-            return Ok(Some(Role::Takes));
-        }
-        let gives = match source {
-            Source::Owner => is_owner,
-            Source::Slots(from) => self.is_read(node, slot.partition, from.as_slice(), number)?,
-        };
-        Ok(if gives { Some(Role::Gives) } else { None })
-    }
-
-    // Whether the node owns one of the listed slots.
-    fn is_read(
-        &self,
-        node: u32,
-        partition: u32,
-        listed: &[u32],
-        number: u32,
-    ) -> Result<bool, Refusal> {
-        for index in listed {
-            let slot = Slot {
-                partition,
-                index: *index,
-            };
-            if self.holds(node, slot, number)?.0 {
-                return Ok(true);
-            }
-        }
-        Ok(false)
-    }
-
     /// Shows the line of a step that is at fault.
     pub fn fault(&self, said: &mut Said, number: u32) {
         said.fault_with(self.step_line(number), b"step #", &[], &[number])
@@ -220,11 +180,4 @@ impl<'a> Case<'a> {
         }
         said.add(b"\n")
     }
-}
-
-/// How a node takes part in a copy.
-#[derive(Clone, Copy, Debug, PartialEq, Eq)]
-pub enum Role {
-    Takes,
-    Gives,
 }

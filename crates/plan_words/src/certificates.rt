@@ -1,6 +1,7 @@
 //! Certificates that do not show what they must.
 
-use crate::case::{Case, Role, small};
+use crate::case::{Case, small};
+use crate::roles::{Role, role_at, roles};
 use ring_names::{NodeId, Refusal};
 use ring_table::{Allowance, NodeSide, Side};
 use text_words::{Said, field};
@@ -74,7 +75,8 @@ fn show_chains(case: Case, said: &mut Said, node: u32, side: Option<Side>) {
 pub fn cover_missing(case: Case, said: &mut Said, node: u32, number: u32) -> Result<(), Refusal> {
     let name = case.name(node);
     said.title_with(b"no chain of @ has its copy, step #", &[name], &[number]);
-    let role = case.part(node, number)?.unwrap_or(Role::Gives);
+    let roles = roles(case, NodeId(node))?;
+    let role = role_at(roles.as_slice(), number).unwrap_or(Role::Gives);
     let about: &[u8] = if role == Role::Takes {
         b"step # copies to @"
     } else {
@@ -89,20 +91,20 @@ pub fn cover_missing(case: Case, said: &mut Said, node: u32, number: u32) -> Res
     Ok(())
 }
 
-// Whether the copy is one in which the node has a part that the side counts.
-fn suits(case: Case, of: NodeSide, number: u32) -> Result<bool, Refusal> {
-    let role = case.part(of.node.0, number)?;
-    Ok(match of.side {
+// Whether the side counts a step in which the node has that role.
+fn counts(side: Side, role: Option<Role>) -> bool {
+    match side {
         Side::Both => role.is_some(),
         Side::Take => role == Some(Role::Takes),
         Side::Give => role == Some(Role::Gives),
-    })
+    }
 }
 
 // The first step of a chain that is none of the node's copies.
 fn misfit(case: Case, of: NodeSide, steps: &[u32]) -> Result<Option<u32>, Refusal> {
+    let roles = roles(case, of.node)?;
     for step in steps {
-        if !suits(case, of, *step)? {
+        if !counts(of.side, role_at(roles.as_slice(), *step)) {
             return Ok(Some(*step));
         }
     }

@@ -1,6 +1,7 @@
 //! Nodes that hold slots when they must not, and nodes that are no members.
 
 use crate::case::Case;
+use crate::time::Time;
 use plan_text::Step;
 use ring_names::{NodeId, Refusal, Slot};
 use text_words::Said;
@@ -13,37 +14,18 @@ struct Stay {
     to: Option<u32>,
 }
 
-// A slot as its steps go by: its owner and the step with which that entered, and the mirror with its step.
-#[derive(Clone, Copy)]
-struct Time {
-    owner: NodeId,
-    from: Option<u32>,
-    mirror: Option<(NodeId, u32)>,
-}
-
-impl Time {
-    // The mirror takes the owner's place.
-    fn switch(&mut self) {
-        if let Some((next, begun)) = self.mirror {
-            self.owner = next;
-            self.from = Some(begun);
-            self.mirror = None;
-        }
+// The stay that lasts beyond the slot's last step.
+fn last_stay(time: Time, slot: Slot, node: NodeId, number: u32) -> Option<Stay> {
+    let (from, to) = (time.from, None);
+    if time.owner == node && begins(from, number) {
+        return Some(Stay { slot, from, to });
     }
-
-    // The stay that lasts beyond the slot's last step.
-    fn last(&self, slot: Slot, node: NodeId, number: u32) -> Option<Stay> {
-        let (from, to) = (self.from, None);
-        if self.owner == node && begins(from, number) {
-            return Some(Stay { slot, from, to });
-        }
-        let (next, begun) = self.mirror?;
-        let from = Some(begun);
-        if next == node && begun < number {
-            return Some(Stay { slot, from, to });
-        }
-        None
+    let (next, begun) = time.mirror?;
+    let from = Some(begun);
+    if next == node && begun < number {
+        return Some(Stay { slot, from, to });
     }
+    None
 }
 
 // The first stay of the node with the slot that has begun before the step and is not over by then.
@@ -51,26 +33,19 @@ fn stay_with(case: Case, node: NodeId, slot: Slot, number: u32) -> Option<Stay> 
     if slot.partition >= case.ring.q() || slot.index >= case.ring.n() {
         return None;
     }
-    let mut time = Time {
-        owner: case.ring.owner(slot),
-        from: None,
-        mirror: None,
-    };
+    let mut time = Time::new(case.ring.owner(slot));
     for other in case.plan.slot_steps(slot) {
-        match case.step(*other) {
-            Some(Step::Mirror(_, next)) => time.mirror = Some((*next, *other)),
-            Some(Step::Switch(_)) => {
-                let (from, to) = (time.from, Some(*other));
-                let is_in = time.owner == node && begins(from, number);
-                if is_in && !case.is_ordered(*other, number) {
-                    return Some(Stay { slot, from, to });
-                }
-                time.switch();
+        let step = case.step(*other)?;
+        if let Step::Switch(_) = step {
+            let (from, to) = (time.from, Some(*other));
+            let is_in = time.owner == node && begins(from, number);
+            if is_in && !case.is_ordered(*other, number) {
+                return Some(Stay { slot, from, to });
             }
-            _ => {}
         }
+        time.act(step, *other);
     }
-    time.last(slot, node, number)
+    last_stay(time, slot, node, number)
 }
 
 fn begins(from: Option<u32>, number: u32) -> bool {

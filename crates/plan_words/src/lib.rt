@@ -6,8 +6,10 @@ mod case;
 mod certificates;
 mod ends;
 mod holders;
+mod roles;
 mod sources;
 mod stages;
 mod telling;
+mod time;
 
 pub use telling::{Read, tell_plan};
