@@ -165,37 +165,53 @@ pub fn not_joined(case: Case, said: &mut Said, number: u32) {
     case.wait(said, number, join)
 }
 
-// A node that comes to hold a slot: the step with which it enters, none at the start.
+// A slot that a node comes to hold: the step with which it enters, none at the start.
 #[derive(Clone, Copy)]
 struct Entry {
-    node: NodeId,
     slot: Slot,
     from: Option<u32>,
 }
 
-// The first drop of the node's that stands behind its entry among the slot's steps.
-fn drop_of(case: Case, entry: Entry) -> Option<u32> {
-    for other in case.plan.slot_steps(entry.slot) {
-        if let Some(Step::Drop(_, dropped)) = case.step(*other) {
-            let is_behind = entry.from.is_none() || entry.from < Some(*other);
-            if *dropped == entry.node && is_behind {
-                return Some(*other);
+// The drops of the node, by slot and then by number.
+fn drops_of(case: Case, node: NodeId) -> Result<Vec<(Slot, u32)>, Refusal> {
+    let mut drops = Vec::new(case.alloc);
+    for number in 0..case.plan.len() {
+        if let Step::Drop(slot, dropped) = case.plan.step(number) {
+            if *dropped == node {
+                drops.push((*slot, number))?;
             }
         }
     }
-    None
+    drops.sort_unstable();
+    Ok(drops)
 }
 
-// What a node holds when it retires: slots without a drop, and drops for which the retirement does not wait.
+// The first of the drops that is of the entry's slot and comes after the entry.
+fn drop_after(drops: &[(Slot, u32)], entry: Entry) -> Option<u32> {
+    let first = match entry.from {
+        Some(from) => from.saturating_add(1),
+        None => 0,
+    };
+    let place = match drops.binary_search(&(entry.slot, first)) {
+        Ok(place) | Err(place) => place,
+    };
+    match drops.get(place) {
+        Some((slot, number)) if *slot == entry.slot => Some(*number),
+        _ => None,
+    }
+}
+
+// What a node holds when it retires: slots without a drop, and drops for which the retirement does not wait. All drops of the node are at hand.
 #[derive(Drop)]
 struct Left {
+    all: Vec<(Slot, u32)>,
     slots: Vec<Slot>,
     drops: Vec<u32>,
 }
 
 impl Left {
     fn add(&mut self, case: Case, entry: Entry, number: u32) -> Result<(), Refusal> {
-        match drop_of(case, entry) {
+        match drop_after(self.all.as_slice(), entry) {
             Some(drop) if case.is_ordered(drop, number) => {}
             Some(drop) => self.drops.push(drop)?,
             None => self.slots.push(entry.slot)?,
@@ -212,7 +228,7 @@ fn find_left(case: Case, left: &mut Left, node: NodeId, number: u32) -> Result<(
         for owner in row.as_slice() {
             let (slot, from) = (Slot { partition, index }, None);
             if *owner == node {
-                left.add(case, Entry { node, slot, from }, number)?;
+                left.add(case, Entry { slot, from }, number)?;
             }
             index = index.saturating_add(1);
         }
@@ -222,7 +238,7 @@ fn find_left(case: Case, left: &mut Left, node: NodeId, number: u32) -> Result<(
         if let Step::Mirror(slot, mirror) = case.plan.step(other) {
             let (slot, from) = (*slot, Some(other));
             if *mirror == node {
-                left.add(case, Entry { node, slot, from }, number)?;
+                left.add(case, Entry { slot, from }, number)?;
             }
         }
     }
@@ -288,6 +304,7 @@ pub fn retired_in_use(case: Case, said: &mut Said, number: u32) -> Result<(), Re
     );
     case.fault(said, number);
     let mut left = Left {
+        all: drops_of(case, *node)?,
         slots: Vec::new(case.alloc),
         drops: Vec::new(case.alloc),
     };
