@@ -8,7 +8,7 @@ megabytes, the seconds of processor time (of seven runs the least, where these a
 and ends with 0 only where none is: from a megabyte and a tenth of a second on 2.3 times at a doubling; a second for ten megabytes of bundle and of
 output; memory of 8 times the bundle and the output, of `play`, `replay` and `drive` 16 times, and 16 MB beside.
 
-With --instructions a line has what valgrind's callgrind counts in place of seconds and memory, of bundles from a megabyte on, and the bound is 2.3 times at a
+With --instructions a line has what valgrind's callgrind counts in place of seconds and memory, of bundles from a megabyte on (or the last two doublings), and the bound is 2.3 times at a
 doubling: that is the same on each machine, whatever else it does, and takes some fifty times as long.
 """
 import os
@@ -95,6 +95,20 @@ def doubled(first, last):
     return out
 
 
+def refused():
+    """Plans and rings that are refused, for reasons that cost much to find."""
+    return {
+        "fields": plans("fields", 131072, 4194304),
+        "twice": plans("twice", 65536, 1048576),
+        "repeats": plans("repeats", 512, 4096),
+        "swapped": plans("swapped", 512, 4096),
+        "last": plans("last", 16384, 131072),
+        "gaps": plans("gaps", 25600, 204800),
+        "sources": plans("sources", 25600, 204800),
+        "leaves": plans("leaves", 16384, 131072),
+    }
+
+
 def families():
     """The command's words, the family's name, and what makes its bundles, each twice as large as the one before."""
     checks = {
@@ -113,6 +127,8 @@ def families():
     for words in (["why"], ["show"], ["draw"], ["steps"], ["steps", "--moves"], ["cert"], ["bundle"], ["after"], ["windows", "--rounds", "1"], ["windows", "--rounds", "64"]):
         for name, made in checks.items():
             yield ["ringside", *words], name, made
+    for name, made in refused().items():
+        yield ["ringside", "why"], name, made
     windows = [lambda q=q: plan_of(members(102, q)) for q in doubled(512, 4096)]
     yield ["ringside", "windows", "--rounds", "1"], "a tenth of the nodes", windows
     yield ["ringside", "goal"], "a tenth of the nodes", [lambda q=q: members(102, q) for q in doubled(512, 4096)]
@@ -171,7 +187,8 @@ def counts(wanted):
     with ThreadPoolExecutor(os.cpu_count()) as pool:
         for words, name, made in [it for it in families() if is_wanted(it[0], it[1], wanted)]:
             print("%s, %s" % (" ".join(words[:5]), name), flush=True)
-            sizes = [it for it in (make().encode() for make in made) if 1e6 <= len(it) <= 67108864]
+            sizes = [it for it in (make().encode() for make in made) if len(it) <= 67108864]
+            sizes = [it for it in sizes if len(it) >= min(1e6, len(sizes[-1]) / 4)]
             before = None
             for size, count in pool.map(lambda it: counted(words, it), sizes):
                 over = before and count > 2.3 * before

@@ -8,6 +8,17 @@
     hostile_plans.py rows N     > bundle    N steps that wait for 4,096 others, with wide numbers
     hostile_plans.py retires N  > bundle    many slots moved to one node, N steps, which then retires
 
+Plans that the checker refuses, whose reasons cost much to find:
+
+    hostile_plans.py fields N   > bundle    a line `drop` of N fields
+    hostile_plans.py twice N    > bundle    a step that waits for N others, for the last one twice
+    hostile_plans.py repeats N  > bundle    1,024 nodes, N partitions and N steps, and a node that joins twice
+    hostile_plans.py swapped N  > bundle    N partitions of seven slots, the last two in the wrong order
+    hostile_plans.py last N     > bundle    one slot moved to and fro, N steps in all; the last link of a chain has no fact
+    hostile_plans.py gaps N     > bundle    the same with N/2 steps, and N facts before those of the links
+    hostile_plans.py sources N  > bundle    a copy that reads a slot, which then moves N/8 times, with N facts before those of the moves
+    hostile_plans.py leaves N   > bundle    one slot moved to and fro, N steps in all, and the node retires without waiting
+
 Each prints one bundle of ring, plan and certificate. Limits: 131,072 steps, 262,144 facts, 65,536 chains, 524,288 dependencies
 and 64 MiB.
 """
@@ -93,7 +104,60 @@ def retires(n):
     return ring(nodes, 4096, lambda p: "abc"), plan, []
 
 
-KINDS = {f.__name__: f for f in (moves, facts, chains, names, rows, retires)}
+def fields(n):
+    return small(), ["drop 0 0 n0000 " + " ".join("1" for _ in range(n - 4))], []
+
+
+def twice(n):
+    return small(), ["drop 0 0 a after " + " ".join(map(str, [*range(n), n - 1]))], []
+
+
+def large(partitions):
+    """A ring of 1,024 nodes with long names and seven slots a partition."""
+    nodes = ["n" * 28 + "%04d" % k for k in range(1024)]
+    out = ring(nodes, partitions, lambda p: nodes[p % 1000:p % 1000 + 7])
+    return ["quorum 7 4 4" if line.startswith("quorum") else line for line in out]
+
+
+def repeats(n):
+    front = [line.replace("1023 64 in", "1023 64 out") for line in large(n)]
+    join = "join " + "n" * 28 + "1023"
+    return front, ["switch 0 0"] * min(n, 4000) + [join] + ["switch 0 0"] * max(0, n - 4000) + [join], []
+
+
+def swapped(n):
+    front = large(n)
+    front[-3:-1] = front[-2], front[-3]
+    return front, [], []
+
+
+def last(n):
+    front, plan, cert = moves(n)
+    return front, plan, cert[:len(plan) // 4 - 2] + cert[-2:]
+
+
+def gaps(n):
+    front, plan, cert = last(n // 2)
+    return front, plan, ["fact 0 1"] * n + cert
+
+
+def sources(n):
+    plan = ["mirror 0 1 e", "copy 0 1 slots 0 2 after 0"]
+    cert = ["fact 0 1"] * n
+    for move in range(n // 8):
+        old, new = ("a", "d") if move % 2 == 0 else ("d", "a")
+        first = len(plan)
+        plan += ["mirror 0 0 %s after 1%s" % (new, " %d" % (first - 1) if move else ""), "copy 0 0 owner after %d" % first,
+                 "switch 0 0 after %d" % (first + 1), "drop 0 0 %s after %d" % (old, first + 2)]
+        cert.append("fact 1 %d %d %d" % (first, first + 1, first + 2))
+    return ring("abcde", 1, lambda p: "abc"), plan, cert[:-1]
+
+
+def leaves(n):
+    return small(), to_and_fro(n - 1) + ["retire d"], []
+
+
+KINDS = {f.__name__: f for f in (moves, facts, chains, names, rows, retires, fields, twice, repeats, swapped, last, gaps, sources, leaves)}
 
 def bundle(name, number):
     front, plan, cert = KINDS[name](number)
