@@ -9,6 +9,7 @@ ghost use Rattle.ring_board.specs.Views.{IsSeat, joined};
 ghost use Rattle.ring_board.specs.Words.{IsWord};
 
 use crate::board::Board;
+use crate::closed::ClosedBoard;
 use crate::seat::Seat;
 use crate::view::{Closing, Rule, Size, View};
 use atomic_table::{Closed, Seat as TableSeat, Shared};
@@ -93,5 +94,24 @@ impl Board {
         let words = step_words(alloc, &closed, size.steps as usize);
         free(closed);
         words
+    }
+
+    /// The end of the board, as `close`, with its words in a value that nothing else makes. Refused where there is no memory for them.
+    pub fn end(self, seats: Vec<Seat>) -> Result<ClosedBoard, Refusal>
+        requires some { 0 < vec_len seats }
+        requires boards { All (λ s. s.board ≡ self.id) seats.items }
+        ensures words { IfOk result (λ b. (length b ≡ self.steps) × All (IsWord self.workers) b) }
+        ensures told { IfOk result
+            (λ b. All (λ s. (k : ℕ) → k < self.steps → Fits s k (slice_index b k)) seats.items) }
+        ensures known { IfOk result
+            (λ b. AreAll seats.items → (k : ℕ) → k < self.steps → IsTold seats.items k (slice_index b k)) }
+        ensures held_once { (k : ℕ) → held_times k seats.items ≤ 1 }
+        ensures finished_once { (k : ℕ) → finished_times k seats.items ≤ 1 }
+        ensures memory { IfErr result (λ e. e ≡ OutOfMemory) }
+    {
+        match self.close(seats) {
+            Ok(words) => Ok(ClosedBoard { words }),
+            Err(refusal) => Err(refusal),
+        }
     }
 }

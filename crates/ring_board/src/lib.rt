@@ -5,9 +5,11 @@
 mod board;
 mod claim;
 mod close;
+mod closed;
 mod seat;
 mod view;
 
 pub use board::{Board, MAX_WORKERS};
 pub use claim::Claim;
+pub use closed::ClosedBoard;
 pub use seat::Seat;
