@@ -1,6 +1,6 @@
 //! The lock round a running store and its history.
 
-ghost use Rattle.std.specs.Prelude.{◌≡◌};
+ghost use Rattle.std.specs.Prelude.{◌≡◌, ◌<◌, ◌≤◌, IfSome};
 
 use crate::ledgered::Ledgered;
 use crate::run_ledger::RunLedger;
@@ -9,6 +9,7 @@ use plan_check::Approved;
 use plan_runs::{Entry, Event};
 use ring_names::{NodeId, Refusal, Slot};
 use ring_receipts::Receipt;
+use ring_replay::World;
 use std::alloc::Global;
 use std::sync::ledger::Blank;
 use std::sync::{Mutex, Wait};
@@ -20,6 +21,19 @@ pub struct Executor<'a, L: RunLedger> {
     inside: Mutex<Ledgered<'a, L>>,
     ghost ring: { approved.now.ring ≡ L.ring },
     ghost plan: { approved.now.plan ≡ L.plan },
+}
+
+// The first node, of those from that number on and below the end, with which the store lets the put be left for its slot of that index.
+fn first_keeper(world: &World, put: u32, index: u32, from: u32, end: u32) -> Option<NodeId>
+    ensures { IfSome result (λ x. (from ≤ x.0) × (x.0 < end)) }
+{
+    for node in from..end {
+        let keeper = NodeId(node);
+        if world.allows(&Event::Hint(put, index, keeper)).is_ok() {
+            return Some(keeper);
+        }
+    }
+    None
 }
 
 impl<'a, L: RunLedger> Executor<'a, L> {
@@ -128,6 +142,22 @@ impl<'a, L: RunLedger> Executor<'a, L> {
         ensures { IfSome result (λ pair. (pair.0.0 < length L.ring.nodes) × (is_ring_slot L.ring pair.1 ≡ true)) }
     {
         self.inside.lock(rt).world().hint_at(n)
+    }
+
+    /// The first node from that number on with which the put could be left for its slot of that index when it was looked at, if there was one. It
+    /// looks at each node up to it.
+    pub fn keeper_from<R: Wait>(&self, rt: &R, put: u32, index: u32, from: u32) -> Option<NodeId>
+        ensures { IfSome result (λ x. (from ≤ x.0) × (x.0 < length L.ring.nodes)) }
+    {
+        let nodes = self.approved.ring().nodes().len() as u32;
+        first_keeper(self.inside.lock(rt).world(), put, index, from, nodes)
+    }
+
+    /// How many entries the history had when it was looked at.
+    pub fn entry_count<R: Wait>(&self, rt: &R) -> u32
+        ensures { result ≤ 1000000 }
+    {
+        self.inside.lock(rt).entries().len() as u32
     }
 
     /// Gives up the store with its history, as where the threads that were to share it could not start.
