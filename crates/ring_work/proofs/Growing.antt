@@ -43,3 +43,18 @@ completes_not each last old new a = record {
   are_last = refl;
   closed = refl;
 }
+
+-- some, and behind them some and the last one
+pub completes_on : (each last : Receipt → Bool) (old mid new : List Receipt) (b : Bool) → Grows each old mid → Completes each last mid new b → Completes each last old new b
+completes_on each last old mid new b a c = record {
+  body = a.more ++ c.body;
+  close = c.close;
+  joined =
+      c.joined
+      ∙ ap (λ xs. xs ++ (c.body ++ c.close)) a.joined
+      ∙ append_assoc old a.more (c.body ++ c.close)
+      ∙ ap (λ xs. old ++ xs) (sym (append_assoc a.more c.body c.close));
+  are_each = all_both each a.more c.body a.pass c.are_each;
+  are_last = c.are_last;
+  closed = c.closed;
+}

@@ -3,3 +3,4 @@ pub mod Attempts
 pub mod Histories
 pub mod Aborts
 pub mod Stops
+pub mod Handles

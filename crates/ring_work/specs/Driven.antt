@@ -1,5 +1,5 @@
 -- What a drive promises.
-use Rattle.std.specs.Prelude.{◌≡◌, ◌⊎◌, ◌+◌, ◌<◌, ◌≤◌, ℕ, List, ◌++◌, length, Option, Some}
+use Rattle.std.specs.Prelude.{◌≡◌, ◌⊎◌, ◌+◌, ◌<◌, ◌≤◌, ℕ, List, [], ◌++◌, length, slice_index_or, Option, Some, None}
 use Rattle.ring_names.specs.declared.refusal.Refusal.{Refusal}
 use Rattle.ring_names.specs.declared.refusal.Refusal.TheVariants.{OutOfMemory, Disagree, TurnsSpent}
 use Rattle.ring_table.specs.Value.{RingValue}
@@ -41,6 +41,21 @@ IsFault e = (e ≡ TurnsSpent) ⊎ ((e ≡ Disagree) ⊎ (e ≡ OutOfMemory))
 -- numbers from 64 on
 abbrev pub MayStop : (ℕ → ℕ → Type 0) → List Planned → ℕ → Type 0
 MayStop may_refuse plan clients = (0 < length plan) ⊎ ((client : ℕ) × (line : ℕ) × (64 ≤ client) × (client < 64 + clients) × may_refuse client line)
+
+-- a gate must refuse the pass before some line of a script, for which its client asks by the line's number from 0; client s has the number 64 + s
+abbrev pub MustTurn : (ℕ → ℕ → Type 0) → List (List Event) → Type 0
+MustTurn must scripts = (s : ℕ) × (line : ℕ) × (s < length scripts) × (line < length (slice_index_or scripts s [])) × must (64 + s) line
+
+-- of the passes of that worker at the marks below `marks`, there is none that a gate must refuse
+abbrev pub MayPass : (ℕ → ℕ → Type 0) → ℕ → ℕ → Type 0
+MayPass must worker marks = (mark : ℕ) → mark < marks → must worker mark → ⊥
+
+-- how grave it is what a thread met: nothing, then out of memory, then records that disagree or a full history, and then a limit of turns
+abbrev pub gravity : Option Refusal → ℕ
+gravity None = 0
+gravity (Some OutOfMemory) = 1
+gravity (Some TurnsSpent) = 3
+gravity (Some e) = 2
 
 -- what was met is the limit of turns
 abbrev pub IsSpent : Option Refusal → Type 0

@@ -1,10 +1,10 @@
 //! Clients, each of which does the lines of a script.
 
-ghost use Rattle.std.specs.Prelude.{◌≡◌, ◌<◌, ℕ, true, vec_len, vec_capacity, IfOk, IfErr};
+ghost use Rattle.std.specs.Prelude.{◌≡◌, ◌<◌, ℕ, true, length, vec_len, vec_capacity, IfOk, IfErr, IsTrue};
 ghost use Rattle.ring_names.specs.declared.refusal.Refusal.TheVariants.{TurnsSpent};
 ghost use Rattle.std.specs.List.{list_all};
 ghost use Rattle.plan_runs.specs.Leaves.{starts_put, starts_get};
-ghost use Rattle.ring_work.specs.Driven.{IsSpent};
+ghost use Rattle.ring_work.specs.Driven.{IsSpent, MayPass};
 
 use crate::done::Done;
 use crate::getting::{finish_get, start_get};
@@ -132,19 +132,21 @@ fn do_line<L: RunLedger, R: Wait, G: Gate>(
     }
 }
 
-// The lines in order, until all are to stop. The refusal that ends them, if one does.
+// The lines in order, until all are to stop. Whether all were done; the refusal that ends them, if one does.
 fn do_lines<L: RunLedger, R: Wait, G: Gate>(
     site: &Site<L, R, G>,
     done: &mut Done<L>,
     client: u32,
     lines: &[Event],
-) -> Result<(), Refusal>
+) -> Result<bool, Refusal>
+    ensures passed { IfOk result (λ all. IsTrue all
+        → MayPass (G.must_refuse site.now.job.now.gate.now) client (length lines.now)) }
     ensures spent { IfErr result (λ e. e ≡ TurnsSpent → (line : ℕ) × G.may_refuse site.now.job.now.gate.now client line) }
 {
     let mut asked = Vec::new(site.job.alloc);
     for (number, line) in lines.iter().enumerate() {
         if is_set(&site.flags.stop) {
-            break;
+            return Ok(false);
         }
         if !site.job.gate.pass(site.job.rt, client, number as u64) {
             return Err(Refusal::TurnsSpent);
@@ -153,7 +155,7 @@ fn do_lines<L: RunLedger, R: Wait, G: Gate>(
             return Err(no_limit(refusal));
         }
     }
-    Ok(())
+    Ok(true)
 }
 
 /// A client: the lines of its script, one behind the other. It stops all where it meets a full history or want of memory, and where its gate
@@ -164,16 +166,21 @@ pub(crate) fn serve<L: RunLedger, R: Wait, G: Gate>(
     client: u32,
     script: &Script,
 ) -> Done<L>
-    ensures { IsSpent result.stopped → (line : ℕ) × G.may_refuse site.now.job.now.gate.now client line }
+    ensures spent { IsSpent result.stopped → (line : ℕ) × G.may_refuse site.now.job.now.gate.now client line }
+    ensures passed { IsTrue result.complete
+        → MayPass (G.must_refuse site.now.job.now.gate.now) client (length script.now) }
 {
     let mut done = done;
-    let ended = do_lines(site, &mut done, client, script.events());
-    done.stopped = match ended {
-        Ok(()) => None,
+    match do_lines(site, &mut done, client, script.events()) {
+        Ok(all) => {
+            done.stopped = None;
+            done.complete = all;
+        }
         Err(refusal) => {
             set(&site.flags.stop);
-            Some(refusal)
+            done.stopped = Some(refusal);
+            done.complete = false;
         }
-    };
+    }
     done
 }

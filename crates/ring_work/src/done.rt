@@ -10,12 +10,13 @@ use ring_receipts::Receipt;
 use std::alloc::Global;
 use std::sync::Wait;
 
-/// What a thread was answered, its share, and the refusal that ended it, if one did.
+/// What a thread was answered, its share, the refusal that ended it, if one did, and whether it left no line undone that it was to do.
 #[derive(Drop)]
 pub(crate) struct Done<L: RunLedger> {
     pub receipts: Vec<Receipt>,
     pub share: Share<L>,
     pub stopped: Option<Refusal>,
+    pub complete: bool,
 }
 
 /// The same of the worker of that number, with its seat at the board.
@@ -33,6 +34,7 @@ impl<L: RunLedger> Done<L> {
             receipts: Vec::new(alloc),
             share,
             stopped: None,
+            complete: true,
         }
     }
 

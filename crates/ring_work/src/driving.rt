@@ -1,14 +1,14 @@
 //! A drive.
 
 ghost use Rattle.std.specs.Prelude.{◌≡◌, ◌+◌, ◌<◌, ◌≤◌, ◌++◌, ◌∷◌, All, [], Some, true, length, vec_len, map, IsTrue};
-ghost use Rattle.std.specs.Prelude.{IsNone, IfOk, IfErr, IfNone, IfSome};
+ghost use Rattle.std.specs.Prelude.{IsNone, IfOk, IfErr, IfNone, IfSome, OnOk};
 ghost use Rattle.std.specs.List.{AllByRecursion, list_all};
 ghost use Rattle.ring_names.specs.declared.refusal.Refusal.TheVariants.{OutOfMemory, TurnsSpent};
 ghost use Rattle.ring_board.specs.Words.{finished_word};
 ghost use Rattle.script_text.specs.Client.{is_client_event};
 ghost use Rattle.ring_receipts.specs.Agreed.{Agrees};
 ghost use Rattle.ring_receipts.specs.Finishing.{list_at};
-ghost use Rattle.ring_work.specs.Driven.{Driven, IsHistory, IsWhole, IsSafe, IsFault, MayStop, IsSpent};
+ghost use Rattle.ring_work.specs.Driven.{Driven, IsHistory, IsWhole, IsSafe, IsFault, MayStop, MustTurn, IsSpent};
 
 use crate::earlier::finish_all;
 use crate::fault::Fault;
@@ -18,7 +18,7 @@ use crate::site::Job;
 use crate::threads::run_all;
 use plan_check::{Approved, Gate};
 use plan_runs::Entry;
-use ring_board::{Board, Seat};
+use ring_board::{Board, ClosedBoard, Seat};
 use ring_exec::{Executor, Ledgered, RunLedger, Share};
 use ring_names::{Listed, Refusal};
 use ring_receipts::{Outcome, Receipt, agrees};
@@ -63,13 +63,13 @@ fn all_seats(seats: Vec<Seat>, first: Seat, last: Seat) -> Result<Vec<Seat>, Ref
     Ok(seats)
 }
 
-// The words of the board, where all seats are given back.
-fn words_of(board: Board, first: Seat, last: Seat, seats: Vec<Seat>) -> Result<Vec<u64>, Refusal>
+// The board at its end, where all seats are given back.
+fn end_of(board: Board, first: Seat, last: Seat, seats: Vec<Seat>) -> Result<ClosedBoard, Refusal>
     requires first { (first.board ≡ board.id) × (last.board ≡ board.id) }
     requires seats { All (λ s. s.board ≡ board.id) seats.items }
 {
     let seats = all_seats(seats, first, last)?;
-    board.close(seats)
+    board.end(seats)
 }
 
 // The worker that finished each step, by the board's words. Refused where a step is not finished, and where memory runs out.
@@ -86,10 +86,19 @@ fn finishers_of(alloc: Global, words: &[u64]) -> Result<Vec<u32>, Refusal>
     Ok(finishers)
 }
 
-// The same of words that may be refused.
-fn finishers_by(alloc: Global, words: Result<Vec<u64>, Refusal>) -> Result<Vec<u32>, Refusal> {
-    let words = words?;
-    finishers_of(alloc, words.as_slice())
+// The board at its end, and the worker that finished each step by its words.
+#[derive(Drop)]
+struct Finish {
+    board: ClosedBoard,
+    finishers: Vec<u32>,
+    ghost told: { map finished_word finishers.items ≡ board },
+}
+
+// The finish of a board at its end, where it has one. Refused as `finishers_of`.
+fn finish_of(alloc: Global, end: Result<ClosedBoard, Refusal>) -> Result<Finish, Refusal> {
+    let board = end?;
+    let finishers = finishers_of(alloc, board.words())?;
+    Ok(Finish { board, finishers })
 }
 
 /// The history, and whether it finishes every step. It is safe, since the plan is approved.
@@ -134,16 +143,18 @@ pub(crate) fn bare(alloc: Global, approved: &Approved, refusal: Refusal) -> Faul
     }
 }
 
-// Why the outcome is none of so many lists, if it is: what ended a thread or was refused behind it comes before steps that are left and receipts that
-// disagree.
+// Why the outcome is none of so many lists, if it is: what ended a thread or was refused behind it comes before steps or lines that are left and
+// receipts that disagree.
 fn judge<'a, R: Wait, G: Gate>(
     job: &Job<'a, R, G>,
     lists: usize,
     outcome: &Outcome,
     finished: bool,
+    complete: bool,
     stopped: Option<Refusal>,
 ) -> Option<Refusal>
     ensures finished { IfNone result (IsTrue finished) }
+    ensures complete { IfNone result (IsTrue complete) }
     ensures agrees { IfNone result (Agrees (length job.now.approved.now.plan) job.now.scripts.now job.now.workers outcome.now.history.items outcome.now.receipts.items outcome.now.finishers.items) }
     ensures lists { IfNone result (length outcome.now.receipts.items ≡ lists) }
     ensures fault { IfSome result IsFault }
@@ -152,7 +163,7 @@ fn judge<'a, R: Wait, G: Gate>(
     if let Some(refusal) = stopped {
         return Some(told(refusal));
     }
-    if !finished || outcome.receipts.len() != lists {
+    if !finished || !complete || outcome.receipts.len() != lists {
         return Some(Refusal::Disagree);
     }
     match agrees(job.alloc, job.approved, job.scripts, job.workers, outcome) {
@@ -172,17 +183,13 @@ fn worst(met: Option<Refusal>, other: Refusal) -> Refusal
     }
 }
 
-// The finishers. Where they are refused and nothing was before, that is what the drive met.
-fn noted(
-    alloc: Global,
-    finishers: Result<Vec<u32>, Refusal>,
-    met: Option<Refusal>,
-) -> (Vec<u32>, Option<Refusal>)
-    ensures { IsSpent result.1 → IsSpent met }
+// The finish of a drive that met this. Where it is refused and nothing was met before, that is what the drive met.
+fn finish_after(finish: Result<Finish, Refusal>, met: Option<Refusal>) -> Result<Finish, Refusal>
+    ensures { IfErr result (λ e. e ≡ TurnsSpent → IsSpent met) }
 {
-    match finishers {
-        Ok(finishers) => (finishers, met),
-        Err(refusal) => (Vec::new(alloc), Some(met.unwrap_or(no_limit(refusal)))),
+    match finish {
+        Ok(finish) => Ok(finish),
+        Err(refusal) => Err(met.unwrap_or(no_limit(refusal))),
     }
 }
 
@@ -194,6 +201,7 @@ fn fault_of(outcome: Outcome, refusal: Refusal) -> Fault
         history,
         receipts: _,
         finishers: _,
+        board: _,
     } = outcome;
     Fault { refusal, history }
 }
@@ -254,13 +262,15 @@ fn begun<'a, R: Wait, G: Gate>(
     Ok((board, first, last, front))
 }
 
-// What the threads of a drive leave behind, where all seats are given back. Their lists stand behind those in front.
+// What the threads of a drive leave behind, where all seats are given back. Their lists stand behind those in front. It is complete where all
+// threads were started and left no line undone.
 #[derive(Drop)]
 struct Ran<L: RunLedger> {
     shares: Vec<Share<L>>,
     receipts: Vec<Listed<Receipt>>,
-    finishers: Vec<u32>,
+    finish: Result<Finish, Refusal>,
     refusal: Option<Refusal>,
+    complete: bool,
 }
 
 // Runs the threads, on a board where the entries' steps are finished.
@@ -277,6 +287,9 @@ fn run<'a, L: RunLedger + Send + Sync, R: Threads + Wait + Sync, G: Gate + Sync>
     ensures first { IfOk result (λ r. 0 < vec_len front → list_at r.receipts.items 0 ≡ list_at front.items 0) }
     ensures spent { IfOk result (λ r. IsSpent r.refusal
         → MayStop (G.may_refuse job.now.gate.now) job.now.approved.now.plan (length job.now.scripts.now)) }
+    ensures finish { IfOk result (λ r. IfErr r.finish (λ e. e ≡ TurnsSpent → IsSpent r.refusal)) }
+    ensures turned { IfOk result (λ r. MustTurn (G.must_refuse job.now.gate.now) job.now.scripts.now
+        → IsTrue r.complete → ⊥) }
 {
     let (board, first, last, front) = begun(job, entries, front)?;
     let (first, left) = run_all(&*job, &*executor, &board, first, share)?;
@@ -285,16 +298,46 @@ fn run<'a, L: RunLedger + Send + Sync, R: Threads + Wait + Sync, G: Gate + Sync>
         shares,
         receipts,
         refusal,
+        complete,
     } = left;
-    let finishers = finishers_by(job.alloc, words_of(board, first, last, seats));
+    let finish = finish_of(job.alloc, end_of(board, first, last, seats));
     let (receipts, refusal) = behind(front, receipts, refusal);
-    let (finishers, refusal) = noted(job.alloc, finishers, refusal);
+    let finish = finish_after(finish, refusal);
     Ok(Ran {
         shares,
         receipts,
-        finishers,
+        finish,
         refusal,
+        complete,
     })
+}
+
+// The outcome of a drive that met this, where it is one of so many lists; else its history, and why it is none.
+fn judged<'a, R: Wait, G: Gate>(
+    job: &Job<'a, R, G>,
+    outcome: Outcome,
+    lists: usize,
+    finished: bool,
+    complete: bool,
+    stopped: Option<Refusal>,
+) -> Result<Outcome, Fault>
+    requires run { IsHistory job.now.approved.now.ring job.now.approved.now.plan outcome.history.items }
+    requires whole { IsTrue finished → IsWhole job.now.approved.now.ring job.now.approved.now.plan outcome.history.items }
+    requires safe { IsSafe job.now.approved.now.ring job.now.approved.now.plan outcome.history.items }
+    requires board { map finished_word outcome.finishers.items ≡ outcome.board }
+    ensures ok { IfOk result (λ o. Driven job.now.approved.now.ring job.now.approved.now.plan job.now.scripts.now job.now.workers o.history.items o.receipts.items o.finishers.items) }
+    ensures lists { IfOk result (λ o. (vec_len o.receipts ≡ lists) × (o.receipts ≡ outcome.receipts)) }
+    ensures board { IfOk result (λ o. map finished_word o.finishers.items ≡ o.board) }
+    ensures turned { (IsTrue complete → ⊥) → OnOk result ⊥ }
+    ensures refusal { IfErr result (λ f. IsFault f.refusal) }
+    ensures spent { IfErr result (λ f. f.refusal ≡ TurnsSpent → IsSpent stopped) }
+    ensures history { IfErr result
+        (λ f. IsHistory job.now.approved.now.ring job.now.approved.now.plan f.history.items) }
+{
+    match judge(job, lists, &outcome, finished, complete, stopped) {
+        None => Ok(outcome),
+        Some(refusal) => Err(fault_of(outcome, refusal)),
+    }
 }
 
 // What a drive of so many lists comes to whose threads have ended.
@@ -306,8 +349,11 @@ fn ended<'a, L: RunLedger, R: Wait, G: Gate>(
 ) -> Result<Outcome, Fault>
     requires ring { job.now.approved.now.ring ≡ L.ring }
     requires plan { job.now.approved.now.plan ≡ L.plan }
+    requires finish { IfErr ran.finish (λ e. e ≡ TurnsSpent → IsSpent ran.refusal) }
     ensures ok { IfOk result (λ o. Driven job.now.approved.now.ring job.now.approved.now.plan job.now.scripts.now job.now.workers o.history.items o.receipts.items o.finishers.items) }
     ensures lists { IfOk result (λ o. (vec_len o.receipts ≡ lists) × (o.receipts ≡ ran.receipts)) }
+    ensures board { IfOk result (λ o. map finished_word o.finishers.items ≡ o.board) }
+    ensures turned { (IsTrue ran.complete → ⊥) → OnOk result ⊥ }
     ensures refusal { IfErr result (λ f. IsFault f.refusal) }
     ensures spent { IfErr result (λ f. f.refusal ≡ TurnsSpent → IsSpent ran.refusal) }
     ensures history { IfErr result
@@ -316,22 +362,29 @@ fn ended<'a, L: RunLedger, R: Wait, G: Gate>(
     let Ran {
         shares,
         receipts,
-        finishers,
+        finish,
         refusal,
+        complete,
     } = ran;
     let ledgered = match executor.finish(shares) {
         Ok(ledgered) => ledgered,
         Err(other) => return Err(bare(job.alloc, job.approved, told(worst(refusal, other)))),
     };
     let (history, finished) = history_of(job.approved, ledgered);
-    let outcome = Outcome {
-        history,
-        receipts,
-        finishers,
-    };
-    match judge(job, lists, &outcome, finished, refusal) {
-        None => Ok(outcome),
-        Some(refusal) => Err(fault_of(outcome, refusal)),
+    match finish {
+        Ok(Finish { board, finishers }) => {
+            let outcome = Outcome {
+                history,
+                receipts,
+                finishers,
+                board,
+            };
+            judged(job, outcome, lists, finished, complete, refusal)
+        }
+        Err(other) => Err(Fault {
+            refusal: told(other),
+            history,
+        }),
     }
 }
 
@@ -353,6 +406,8 @@ pub(crate) fn drive_on<'a, L: RunLedger + Send + Sync, R: Threads + Wait + Sync,
     ensures threads { IfOk result
         (λ o. vec_len o.receipts ≡ vec_len front + (job.now.workers + (length job.now.scripts.now + 1))) }
     ensures first { IfOk result (λ o. 0 < vec_len front → list_at o.receipts.items 0 ≡ list_at front.items 0) }
+    ensures board { IfOk result (λ o. map finished_word o.finishers.items ≡ o.board) }
+    ensures turned { MustTurn (G.must_refuse job.now.gate.now) job.now.scripts.now → OnOk result ⊥ }
     ensures refusal { IfErr result (λ f. IsFault f.refusal) }
     ensures spent { IfErr result (λ f. f.refusal ≡ TurnsSpent
         → MayStop (G.may_refuse job.now.gate.now) job.now.approved.now.plan (length job.now.scripts.now)) }
@@ -382,6 +437,8 @@ fn drive_as<'a, L: RunLedger + Send + Sync, R: Threads + Wait + Sync, G: Gate + 
     requires scripts { length job.now.scripts.now ≤ 8 }
     ensures ok { IfOk result (λ o. Driven job.now.approved.now.ring job.now.approved.now.plan job.now.scripts.now job.now.workers o.history.items o.receipts.items o.finishers.items) }
     ensures threads { IfOk result (λ o. vec_len o.receipts ≡ job.now.workers + (length job.now.scripts.now + 1)) }
+    ensures board { IfOk result (λ o. map finished_word o.finishers.items ≡ o.board) }
+    ensures turned { MustTurn (G.must_refuse job.now.gate.now) job.now.scripts.now → OnOk result ⊥ }
     ensures refusal { IfErr result (λ f. IsFault f.refusal) }
     ensures spent { IfErr result (λ f. f.refusal ≡ TurnsSpent
         → MayStop (G.may_refuse job.now.gate.now) job.now.approved.now.plan (length job.now.scripts.now)) }
@@ -414,6 +471,10 @@ pub fn drive<R: Threads + Wait + Sync, G: Gate + Sync>(
     ensures ok { IfOk result (λ o. Driven approved.now.ring approved.now.plan scripts.now workers o.history.items o.receipts.items o.finishers.items) }
     // A list for each worker, for each client and for the handoffs, and no other.
     ensures threads { IfOk result (λ o. vec_len o.receipts ≡ workers + (length scripts.now + 1)) }
+    // Each finisher is the word of its step with which the board was closed; only the end of a board makes such words.
+    ensures board { IfOk result (λ o. map finished_word o.finishers.items ≡ o.board) }
+    // Where the gate must refuse the pass before a line of a script, there is no outcome.
+    ensures turned { MustTurn (G.must_refuse gate.now) scripts.now → OnOk result ⊥ }
     ensures refusal { IfErr result (λ f. IsFault f.refusal) }
     ensures spent { IfErr result
         (λ f. f.refusal ≡ TurnsSpent → MayStop (G.may_refuse gate.now) approved.now.plan (length scripts.now)) }

@@ -10,7 +10,7 @@ ghost use Rattle.plan_runs.specs.Leaves.{starts_get};
 ghost use Rattle.ring_work.specs.Attempts.{AddsGet, IsGetAttempt};
 
 use crate::attempt::Attempt;
-use crate::noting::{MAX_ROUNDS, get_number, go_on, note};
+use crate::noting::{Idle, MAX_ROUNDS, get_number, go_on, note};
 use crate::site::LockedStore;
 use plan_runs::{Event, Key};
 use ring_exec::{Executor, RunLedger, Share};
@@ -103,6 +103,29 @@ fn read_round<L: RunLedger, R: Wait>(
     Ok(())
 }
 
+// Another round, where it can meet another answer than the last one.
+fn another_read_round<L: RunLedger, R: Wait>(
+    store: &LockedStore<L, R>,
+    share: &mut Share<L>,
+    receipts: &mut Vec<Receipt>,
+    get: u32,
+    slots: &mut Slots,
+    idle: &mut Idle,
+) -> Result<(), Refusal>
+    ensures grows { Grows (λ r. reads get r.event) receipts.old.items receipts.new.items }
+    ensures count { IsCounted share.old.count share.new.count receipts.old.items receipts.new.items }
+    ensures parts { share.new.token.parts ≡ share.old.token.parts }
+{
+    let length = store.executor.entry_count(store.rt);
+    if idle.is_at(length) {
+        return Ok(());
+    }
+    let before = receipts.len();
+    let came = read_round(store, share, receipts, get, slots);
+    idle.note(length, receipts.len() != before);
+    came
+}
+
 // Rounds, up to one behind which R slots are read.
 fn read_rounds<L: RunLedger, R: Wait>(
     store: &LockedStore<L, R>,
@@ -116,8 +139,9 @@ fn read_rounds<L: RunLedger, R: Wait>(
 {
     let enough = store.executor.approved().ring().r();
     let mut slots = Slots { mask: 0, count: 0 };
+    let mut idle = Idle::new();
     'rounds: for _ in 0..MAX_ROUNDS {
-        read_round(store, share, receipts, get, &mut slots)?;
+        another_read_round(store, share, receipts, get, &mut slots, &mut idle)?;
         if slots.count >= enough {
             break;
         }
@@ -165,7 +189,8 @@ fn get_on<L: RunLedger, R: Wait>(
 }
 
 /// A get of the key. It is started; then come rounds, at most 64, of reads of each slot that is not read, in order, until R slots are read; then it
-/// asks to end. A refused start, a full history and want of memory end it at once.
+/// asks to end. A round in which nothing was answered is not done again while nothing is answered to other threads either. A refused start, a full
+/// history and want of memory end it at once.
 pub fn get_all<'a, L: RunLedger, R: Wait>(
     rt: &R,
     alloc: Global,

@@ -1,8 +1,8 @@
 //! What the threads of a drive leave behind.
 
-ghost use Rattle.std.specs.Prelude.{◌≡◌, ◌⊎◌, All, None, vec_len, IfOk, IfErr};
+ghost use Rattle.std.specs.Prelude.{◌≡◌, ◌⊎◌, ◌≤◌, All, None, false, vec_len, IfOk, IfErr, IsTrue};
 ghost use Rattle.ring_names.specs.declared.refusal.Refusal.TheVariants.{OutOfMemory};
-ghost use Rattle.ring_work.specs.Driven.{IsSpent};
+ghost use Rattle.ring_work.specs.Driven.{IsSpent, gravity};
 
 use crate::done::{Done, Sat};
 use ring_board::{Board, Seat};
@@ -11,18 +11,22 @@ use ring_names::{Listed, Refusal};
 use ring_receipts::Receipt;
 use std::alloc::Global;
 
-/// The seats of the workers, the shares of all threads, their receipts in the order in which the threads were joined, and the worst refusal that
-/// ended one. There is room for all of them from the start, so that no thread's are lost.
+/// The seats of the workers, the shares of all threads, their receipts in the order in which the threads were joined, the worst refusal that
+/// ended one, and whether all threads were started and left no line undone. There is room for all of them from the start, so that no thread's are
+/// lost.
 #[derive(Drop)]
 pub(crate) struct Left<L: RunLedger> {
     pub seats: Vec<Seat>,
     pub shares: Vec<Share<L>>,
     pub receipts: Vec<Listed<Receipt>>,
     pub refusal: Option<Refusal>,
+    pub complete: bool,
 }
 
 // How bad a refusal is: want of memory least, a limit of turns most.
-fn weight(refusal: &Option<Refusal>) -> u8 {
+fn weight(refusal: &Option<Refusal>) -> u8
+    ensures { result ≡ gravity refusal.now }
+{
     match refusal {
         None => 0,
         Some(Refusal::OutOfMemory) => 1,
@@ -33,7 +37,8 @@ fn weight(refusal: &Option<Refusal>) -> u8 {
 
 /// The worse of the two: a limit of turns comes before a full history and records that disagree, and these before want of memory.
 pub(crate) fn worse(one: Option<Refusal>, other: Option<Refusal>) -> Option<Refusal>
-    ensures { (result ≡ one) ⊎ (result ≡ other) }
+    ensures one { (result ≡ one) ⊎ (result ≡ other) }
+    ensures graver { (gravity one ≤ gravity result) × (gravity other ≤ gravity result) }
 {
     if weight(&one) < weight(&other) {
         other
@@ -57,6 +62,7 @@ impl<L: RunLedger> Left<L> {
             shares,
             receipts,
             refusal: None,
+            complete: true,
         })
     }
 
@@ -64,6 +70,7 @@ impl<L: RunLedger> Left<L> {
     pub fn note(&mut self, refusal: Option<Refusal>)
         ensures seats { self.new.seats ≡ self.old.seats }
         ensures spent { IsSpent self.new.refusal → IsSpent self.old.refusal ⊎ IsSpent refusal }
+        ensures complete { IsTrue self.new.complete → IsTrue self.old.complete }
     {
         self.refusal = worse(self.refusal.take(), refusal);
     }
@@ -72,8 +79,10 @@ impl<L: RunLedger> Left<L> {
     pub fn note_start(&mut self, refused: bool)
         ensures seats { self.new.seats ≡ self.old.seats }
         ensures spent { IsSpent self.new.refusal → IsSpent self.old.refusal }
+        ensures complete { IsTrue self.new.complete → refused ≡ false }
     {
         if refused {
+            self.complete = false;
             self.note(Some(Refusal::OutOfMemory));
         }
     }
@@ -82,6 +91,7 @@ impl<L: RunLedger> Left<L> {
     pub fn share(&mut self, share: Share<L>)
         ensures seats { self.new.seats ≡ self.old.seats }
         ensures spent { IsSpent self.new.refusal → IsSpent self.old.refusal }
+        ensures complete { IsTrue self.new.complete → IsTrue self.old.complete }
     {
         if self.shares.push(share).is_err() {
             self.note(Some(Refusal::OutOfMemory));
@@ -92,12 +102,15 @@ impl<L: RunLedger> Left<L> {
     pub fn take(&mut self, done: Done<L>)
         ensures seats { self.new.seats ≡ self.old.seats }
         ensures spent { IsSpent self.new.refusal → IsSpent self.old.refusal ⊎ IsSpent done.stopped }
+        ensures complete { IsTrue self.new.complete → IsTrue self.old.complete × IsTrue done.complete }
     {
         let Done {
             receipts,
             share,
             stopped,
+            complete,
         } = done;
+        self.complete = self.complete && complete;
         if self.receipts.push(Listed::from_vec(receipts)).is_err() {
             self.note(Some(Refusal::OutOfMemory));
         }
@@ -111,6 +124,7 @@ impl<L: RunLedger> Left<L> {
         requires one { sat.seat.board ≡ board.now.id }
         ensures seats { All (λ s. s.board ≡ board.now.id) self.new.seats.items }
         ensures spent { IsSpent self.new.refusal → IsSpent self.old.refusal ⊎ IsSpent sat.done.stopped }
+        ensures complete { IsTrue self.new.complete → IsTrue self.old.complete }
     {
         let Sat {
             done,

@@ -16,6 +16,30 @@ use std::sync::Wait;
 /// The most rounds of a put or a get.
 pub(crate) const MAX_ROUNDS: u32 = 64;
 
+/// The history's length before the last round of a put or a get, where nothing was answered in that round. While the length stays, the store does,
+/// and another round would be refused all the same.
+#[derive(Drop)]
+pub(crate) struct Idle {
+    length: Option<u32>,
+}
+
+impl Idle {
+    /// Before the first round.
+    pub fn new() -> Idle {
+        Idle { length: None }
+    }
+
+    /// Whether nothing was answered in the last round, and nothing since it began, where the history is so long now.
+    pub fn is_at(&self, length: u32) -> bool {
+        self.length == Some(length)
+    }
+
+    /// Notes a round that began at that length, and whether something was answered in it.
+    pub fn note(&mut self, length: u32, answered: bool) {
+        self.length = if answered { None } else { Some(length) };
+    }
+}
+
 /// Submits the event and keeps its receipt, for which there is room before the lock is asked. Refused, nothing is kept.
 pub(crate) fn submit<L: RunLedger, R: Wait>(
     store: &LockedStore<L, R>,

@@ -1,6 +1,6 @@
 //! A put through the lock.
 
-ghost use Rattle.std.specs.Prelude.{◌≡◌, ◌+◌, ◌∷◌, ◌++◌, [], true, vec_len, IfOk, IfErr, OnErr, is_some};
+ghost use Rattle.std.specs.Prelude.{◌≡◌, ◌+◌, ◌∷◌, ◌++◌, [], true, false, vec_len, IfOk, IfErr, OnOk, OnErr, is_some};
 ghost use Rattle.plan_runs.specs.declared.event.Event.TheVariants.{StartPut};
 ghost use Rattle.plan_runs.specs.declared.event.Reply.TheVariants.{Put};
 ghost use Rattle.ring_receipts.specs.declared.receipt.Receipt.{Receipt as TheReceipt};
@@ -10,11 +10,11 @@ ghost use Rattle.plan_runs.specs.Leaves.{starts_put};
 ghost use Rattle.ring_work.specs.Attempts.{AddsPut, IsPutAttempt};
 
 use crate::attempt::Attempt;
-use crate::noting::{MAX_ROUNDS, go_on, note, put_number};
+use crate::noting::{Idle, MAX_ROUNDS, go_on, note, put_number};
 use crate::site::LockedStore;
 use plan_runs::{Event, Key, Seen};
 use ring_exec::{Executor, RunLedger, Share};
-use ring_names::{NodeId, Refusal, Value, WriterId};
+use ring_names::{Refusal, Value, WriterId};
 use ring_receipts::Receipt;
 use std::alloc::Global;
 use std::sync::Wait;
@@ -53,17 +53,17 @@ fn leave_hint<L: RunLedger, R: Wait>(
     ensures count { IsCounted share.old.count share.new.count receipts.old.items receipts.new.items }
     ensures parts { share.new.token.parts ≡ share.old.token.parts }
 {
-    let nodes = store.executor.approved().ring().nodes().len() as u32;
-    for node in 0..nodes {
-        match note(
-            store,
-            share,
-            receipts,
-            Event::Hint(put, index, NodeId(node)),
-        ) {
+    let nodes = store.executor.approved().ring().nodes().len();
+    let mut from = 0u32;
+    'keepers: for _ in 0..nodes {
+        let Some(keeper) = store.executor.keeper_from(store.rt, put, index, from) else {
+            break;
+        };
+        match note(store, share, receipts, Event::Hint(put, index, keeper)) {
             Ok(()) => break,
             Err(refusal) => go_on(refusal)?,
         }
+        from = keeper.0.saturating_add(1);
     }
     Ok(())
 }
@@ -104,6 +104,55 @@ fn send_round<L: RunLedger, R: Wait>(
     Ok(())
 }
 
+// A round: the put is sent to each slot, and then asks to be acknowledged.
+fn round<L: RunLedger, R: Wait>(
+    store: &LockedStore<L, R>,
+    share: &mut Share<L>,
+    receipts: &mut Vec<Receipt>,
+    put: u32,
+) -> Result<(), Refusal>
+    ensures grows { OnErr result (Grows (λ r. sends put r.event) receipts.old.items receipts.new.items) }
+    ensures completes { OnOk result (Completes (λ r. sends put r.event)
+        (λ r. acknowledges put r.event) receipts.old.items receipts.new.items false) }
+    ensures count { IsCounted share.old.count share.new.count receipts.old.items receipts.new.items }
+    ensures parts { share.new.token.parts ≡ share.old.token.parts }
+{
+    send_round(store, share, receipts, put)?;
+    note(store, share, receipts, Event::Ack(put))?;
+    Ok(())
+}
+
+// How many tickets of a put were current behind its last round, and whether that round is to be done again.
+#[derive(Drop)]
+struct Last {
+    current: u32,
+    idle: Idle,
+}
+
+// Another round, where it can meet another answer than the last one. Refused as that one where it can not.
+fn another_round<L: RunLedger, R: Wait>(
+    store: &LockedStore<L, R>,
+    share: &mut Share<L>,
+    receipts: &mut Vec<Receipt>,
+    put: u32,
+    last: &mut Last,
+) -> Result<(), Refusal>
+    ensures grows { OnErr result (Grows (λ r. sends put r.event) receipts.old.items receipts.new.items) }
+    ensures completes { OnOk result (Completes (λ r. sends put r.event)
+        (λ r. acknowledges put r.event) receipts.old.items receipts.new.items false) }
+    ensures count { IsCounted share.old.count share.new.count receipts.old.items receipts.new.items }
+    ensures parts { share.new.token.parts ≡ share.old.token.parts }
+{
+    let length = store.executor.entry_count(store.rt);
+    if last.idle.is_at(length) {
+        return Err(Refusal::StaleTickets(last.current));
+    }
+    let before = receipts.len();
+    let came = round(store, share, receipts, put);
+    last.idle.note(length, receipts.len() != before);
+    came
+}
+
 // Rounds, up to one behind which the put is acknowledged. The last refusal, where none is.
 fn send_rounds<L: RunLedger, R: Wait>(
     store: &LockedStore<L, R>,
@@ -116,19 +165,19 @@ fn send_rounds<L: RunLedger, R: Wait>(
     ensures count { IsCounted share.old.count share.new.count receipts.old.items receipts.new.items }
     ensures parts { share.new.token.parts ≡ share.old.token.parts }
 {
-    let mut current = 0u32;
+    let mut last = Last {
+        current: 0,
+        idle: Idle::new(),
+    };
     'rounds: for _ in 0..MAX_ROUNDS {
-        if let Err(refusal) = send_round(store, share, receipts, put) {
-            return Some(refusal);
-        }
-        match note(store, share, receipts, Event::Ack(put)) {
+        match another_round(store, share, receipts, put, &mut last) {
             Ok(()) => return None,
-            Err(Refusal::StaleTickets(now)) => current = now,
+            Err(Refusal::StaleTickets(now)) => last.current = now,
             Err(refusal) => return Some(refusal),
         }
         thread::yield_now();
     }
-    Some(Refusal::StaleTickets(current))
+    Some(Refusal::StaleTickets(last.current))
 }
 
 /// A put, started by that event: rounds of at most 64 in which it is sent to each slot, or to a stand-in, and then asks to be acknowledged. Its
@@ -152,7 +201,8 @@ pub(crate) fn put_on<L: RunLedger, R: Wait>(
 
 /// A put of that writer, which knows the replies of the gets `seen`. It is started; then come rounds, at most 64: for each slot in order a write,
 /// and where a node of the slot is down a hint at each node, by number, until one takes it; then it asks to be acknowledged, and where too few
-/// tickets are current there is another round. A refused start, a full history and want of memory end it at once.
+/// tickets are current there is another round. A round in which nothing was answered is not done again while nothing is answered to other threads
+/// either. A refused start, a full history and want of memory end it at once.
 pub fn put_all<'a, L: RunLedger, R: Wait>(
     rt: &R,
     alloc: Global,

@@ -1,13 +1,15 @@
 //! A drive that goes on from a history.
 
-ghost use Rattle.std.specs.Prelude.{◌≡◌, ◌≢◌, ◌↔◌, ◌+◌, ◌<◌, ◌≤◌, [], ◌∷◌, true, length, vec_len, IfOk, IfErr};
+ghost use Rattle.std.specs.Prelude.{◌≡◌, ◌≢◌, ◌↔◌, ◌+◌, ◌<◌, ◌≤◌, [], ◌∷◌, true, length, map, vec_len, IfOk, IfErr};
+ghost use Rattle.std.specs.Prelude.{OnOk};
 ghost use Rattle.std.specs.List.{AllByRecursion, list_all};
 ghost use Rattle.ring_names.specs.declared.refusal.Refusal.TheVariants.{OutOfMemory, HistoryFull, TurnsSpent};
 ghost use Rattle.plan_runs.specs.World.{opening_world};
+ghost use Rattle.ring_board.specs.Words.{finished_word};
 ghost use Rattle.script_text.specs.Client.{is_client_event};
 ghost use Rattle.ring_exec.specs.Faults.{IsFirstFault};
 ghost use Rattle.ring_receipts.specs.Finishing.{list_at};
-ghost use Rattle.ring_work.specs.Driven.{IsHistory, IsFault, MayStop};
+ghost use Rattle.ring_work.specs.Driven.{IsHistory, IsFault, MayStop, MustTurn};
 ghost use Rattle.ring_work.specs.Resumed.{Continues, Resumed, IsStop, TellsFault};
 
 use crate::driving::{bare, drive_on, history_of, told};
@@ -98,6 +100,8 @@ fn resume_on<'a, L: RunLedger + Send + Sync, R: Threads + Wait + Sync, G: Gate +
     ensures ok { IfOk result (λ o. Resumed job.now.approved.now.ring job.now.approved.now.plan job.now.scripts.now job.now.workers entries.now o.history.items o.receipts.items o.finishers.items) }
     ensures threads { IfOk result
         (λ o. vec_len o.receipts ≡ 1 + (job.now.workers + (length job.now.scripts.now + 1))) }
+    ensures board { IfOk result (λ o. map finished_word o.finishers.items ≡ o.board) }
+    ensures turned { MustTurn (G.must_refuse job.now.gate.now) job.now.scripts.now → OnOk result ⊥ }
     ensures refusal { IfErr result (λ f. IsFault f.refusal) }
     ensures spent { IfErr result (λ f. f.refusal ≡ TurnsSpent
         → MayStop (G.may_refuse job.now.gate.now) job.now.approved.now.plan (length job.now.scripts.now)) }
@@ -155,6 +159,8 @@ fn resume_as<'a, L: RunLedger + Send + Sync, R: Threads + Wait + Sync, G: Gate +
     ensures ok { IfOk result (λ o. Resumed job.now.approved.now.ring job.now.approved.now.plan job.now.scripts.now job.now.workers entries.now o.history.items o.receipts.items o.finishers.items) }
     ensures threads { IfOk result
         (λ o. vec_len o.receipts ≡ 1 + (job.now.workers + (length job.now.scripts.now + 1))) }
+    ensures board { IfOk result (λ o. map finished_word o.finishers.items ≡ o.board) }
+    ensures turned { MustTurn (G.must_refuse job.now.gate.now) job.now.scripts.now → OnOk result ⊥ }
     ensures refusal { IfErr result
         (λ f. IsStop job.now.approved.now.ring job.now.approved.now.plan entries.now f.refusal) }
     ensures full { IfErr result (λ f. (f.refusal ≡ HistoryFull) ↔ (1000000 < length entries.now)) }
@@ -195,6 +201,10 @@ pub fn resume<R: Threads + Wait + Sync, G: Gate + Sync>(
     ensures ok { IfOk result (λ o. Resumed approved.now.ring approved.now.plan scripts.now workers entries.now o.history.items o.receipts.items o.finishers.items) }
     // A list of what came before, and one for each worker, for each client and for the handoffs, and no other.
     ensures threads { IfOk result (λ o. vec_len o.receipts ≡ 1 + (workers + (length scripts.now + 1))) }
+    // Each finisher is the word of its step with which the board was closed; only the end of a board makes such words.
+    ensures board { IfOk result (λ o. map finished_word o.finishers.items ≡ o.board) }
+    // Where the gate must refuse the pass before a line of a script, there is no outcome.
+    ensures turned { MustTurn (G.must_refuse gate.now) scripts.now → OnOk result ⊥ }
     ensures refusal { IfErr result (λ f. IsStop approved.now.ring approved.now.plan entries.now f.refusal) }
     // Too many entries, and these alone, come before all else; else the first entry at which they are no run is told, memory aside.
     ensures full { IfErr result (λ f. (f.refusal ≡ HistoryFull) ↔ (1000000 < length entries.now)) }

@@ -1,8 +1,9 @@
 //! The threads of a drive.
 
-ghost use Rattle.std.specs.Prelude.{◌≡◌, ◌⊎◌, ◌+◌, ◌<◌, ◌≤◌, ℕ, All, None, true, is_some, length, vec_len, IfOk, IfErr};
+ghost use Rattle.std.specs.Prelude.{◌≡◌, ◌⊎◌, ◌+◌, ◌<◌, ◌≤◌, ℕ, All, Any, [], None, true, false, is_some, length, vec_len};
+ghost use Rattle.std.specs.Prelude.{slice_index_or, IfOk, IfErr, IsTrue};
 ghost use Rattle.ring_names.specs.declared.refusal.Refusal.TheVariants.{OutOfMemory};
-ghost use Rattle.ring_work.specs.Driven.{MayStop, IsSpent};
+ghost use Rattle.ring_work.specs.Driven.{MayStop, MustTurn, MayPass, IsSpent};
 
 use crate::client::serve;
 use crate::done::{Done, Sat};
@@ -32,15 +33,17 @@ impl<L: RunLedger> Promise<Sat<L>> for AtBoard {
     ghost kept_by = { λ p r. (r.seat.board ≡ p.0.value.id) × (IsSpent r.done.stopped → 0 < length p.1.value) };
 }
 
-// What the client of that number hands back met no limit of turns that this gate may not make it meet.
+// What the client of that number hands back met no limit of turns that this gate may not make it meet; and where it did all of its lines, of which
+// there are so many, the gate let it pass before each.
 #[derive(Drop)]
-struct ByGate<G: Gate>(Snapshot<G>, u32);
+struct ByGate<G: Gate>(Snapshot<G>, u32, usize);
 
 impl<L: RunLedger, G: Gate> Promise<Done<L>> for ByGate<G> {
-    ghost use Rattle.std.specs.Prelude.{ℕ};
-    ghost use Rattle.ring_work.specs.Driven.{IsSpent};
+    ghost use Rattle.std.specs.Prelude.{ℕ, IsTrue};
+    ghost use Rattle.ring_work.specs.Driven.{IsSpent, MayPass};
 
-    ghost kept_by = { λ p r. IsSpent r.stopped → (line : ℕ) × G.may_refuse p.0.value p.1 line };
+    ghost kept_by = { λ p r. (IsSpent r.stopped → (line : ℕ) × G.may_refuse p.0.value p.1 line)
+        × (IsTrue r.complete → MayPass (G.must_refuse p.0.value) p.1 p.2) };
 }
 
 // What the thread of handoffs hands back met no limit of turns.
@@ -157,53 +160,71 @@ fn start_workers<'s, 'x, 'e, 'a, L: RunLedger + Send + Sync, R: Wait + Sync, G: 
     refused
 }
 
-// Starts the client of that number and keeps its handle. Whether that was refused.
+// Starts the client of that number and keeps its handle. Whether that was refused, or a start was before.
 fn start_client<'s, 'x, 'e, 'a, L: RunLedger + Send + Sync, R: Wait + Sync, G: Gate + Sync>(
     scope: &Scope<'s, &'x ()>,
     site: &'s Site<'e, 'a, L, R, G>,
     handles: &mut Vec<PromisedHandle<Done<L>, ByGate<G>>>,
     number: usize,
     done: Done<L>,
+    refused: bool,
 ) -> bool
     requires scripts { (number < length site.now.job.now.scripts.now) × (length site.now.job.now.scripts.now ≤ 8) }
     requires old { All (λ h. (h.promise.0.value ≡ site.now.job.now.gate.now) × (64 ≤ h.promise.1)
         × (h.promise.1 < 64 + length site.now.job.now.scripts.now)) handles.old.items }
-    ensures { All (λ h. (h.promise.0.value ≡ site.now.job.now.gate.now) × (64 ≤ h.promise.1)
+    ensures all { All (λ h. (h.promise.0.value ≡ site.now.job.now.gate.now) × (64 ≤ h.promise.1)
         × (h.promise.1 < 64 + length site.now.job.now.scripts.now)) handles.new.items }
+    ensures kept { (client line : ℕ) → Any (λ h. (h.promise.1 ≡ client) × (line < h.promise.2)) handles.old.items
+        → Any (λ h. (h.promise.1 ≡ client) × (line < h.promise.2)) handles.new.items }
+    ensures before { result ≡ false → refused ≡ false }
+    ensures served { result ≡ false
+        → (line : ℕ) → line < length (slice_index_or site.now.job.now.scripts.now number [])
+        → Any (λ h. (h.promise.1 ≡ 64 + number) × (line < h.promise.2)) handles.new.items }
 {
     let client = 64 + number as u32;
     let script = &site.job.scripts[number];
+    let lines = script.len();
     let spawned = scope.spawn_with(
-        ByGate(Snapshot::of(site.job.gate), client),
+        ByGate(Snapshot::of(site.job.gate), client, lines),
         move || -> Done<L>
-            ensures { IsSpent result.stopped
-                → (line : ℕ) × G.may_refuse site.entry.now.job.now.gate.now client line }
+            ensures { (IsSpent result.stopped
+                → (line : ℕ) × G.may_refuse site.entry.now.job.now.gate.now client line)
+                × (IsTrue result.complete
+                → MayPass (G.must_refuse site.entry.now.job.now.gate.now) client (length script.entry.now)) }
         { serve(site, done, client, script) },
     );
     match spawned {
-        Ok(handle) => handles.push(handle).is_err(),
+        Ok(handle) => match handles.push(handle) {
+            Ok(()) => refused,
+            Err(_refusal) => true,
+        },
         Err(_refusal) => true,
     }
 }
 
-// Starts a client for each script, from the last one on. Whether one was refused.
+// Starts a client for each script, from the last one on. Whether one was refused, or a start was before.
 fn start_clients<'s, 'x, 'e, 'a, L: RunLedger + Send + Sync, R: Wait + Sync, G: Gate + Sync>(
     scope: &Scope<'s, &'x ()>,
     site: &'s Site<'e, 'a, L, R, G>,
     handles: &mut Vec<PromisedHandle<Done<L>, ByGate<G>>>,
     root: &mut Share<L>,
+    before: bool,
 ) -> bool
     requires scripts { length site.now.job.now.scripts.now ≤ 8 }
     requires parts { length site.now.job.now.scripts.now < root.old.token.parts }
     requires none { vec_len handles.old ≡ 0 }
-    ensures { All (λ h. (h.promise.0.value ≡ site.now.job.now.gate.now) × (64 ≤ h.promise.1)
+    ensures all { All (λ h. (h.promise.0.value ≡ site.now.job.now.gate.now) × (64 ≤ h.promise.1)
         × (h.promise.1 < 64 + length site.now.job.now.scripts.now)) handles.new.items }
+    ensures served { result ≡ false → (s line : ℕ) → s < length site.now.job.now.scripts.now
+        → line < length (slice_index_or site.now.job.now.scripts.now s [])
+        → Any (λ h. (h.promise.1 ≡ 64 + s) × (line < h.promise.2)) handles.new.items }
 {
     let clients = site.job.scripts.len();
-    let mut refused = false;
+    let mut refused = before;
     for started in 0..clients {
         let done = Done::new(site.job.alloc, root.split());
-        refused = start_client(scope, site, handles, clients - 1 - started, done) || refused;
+        let number = clients - 1 - started;
+        refused = start_client(scope, site, handles, number, done, refused);
     }
     refused
 }
@@ -219,6 +240,7 @@ fn join_workers<L: RunLedger, R: Threads + Wait, G: Gate>(
     requires seats { All (λ s. s.board ≡ site.now.board.now.id) left.seats.items }
     ensures seats { All (λ s. s.board ≡ site.now.board.now.id) result.seats.items }
     ensures spent { IsSpent result.refusal → IsSpent left.refusal ⊎ (0 < length site.now.plan.now) }
+    ensures complete { IsTrue result.complete → IsTrue left.complete }
 {
     let mut left = left;
     let mut handles = handles;
@@ -241,6 +263,10 @@ fn join_clients<L: RunLedger, R: Threads + Wait, G: Gate>(
     ensures seats { result.seats ≡ left.seats }
     ensures spent { IsSpent result.refusal
         → MayStop (G.may_refuse site.now.job.now.gate.now) site.now.plan.now (length site.now.job.now.scripts.now) }
+    ensures complete { IsTrue result.complete → IsTrue left.complete }
+    ensures passed { IsTrue result.complete → (client line : ℕ)
+        → Any (λ h. (h.promise.1 ≡ client) × (line < h.promise.2)) handles.items
+        → G.must_refuse site.now.job.now.gate.now client line → ⊥ }
 {
     let mut left = left;
     let mut handles = handles;
@@ -258,6 +284,7 @@ fn join_handoffs<L: RunLedger, R: Threads + Wait>(
 ) -> Left<L>
     ensures seats { result.seats ≡ left.seats }
     ensures spent { IsSpent result.refusal → IsSpent left.refusal }
+    ensures complete { IsTrue result.complete → IsTrue left.complete }
 {
     let mut left = left;
     if let Some(handle) = handle {
@@ -285,6 +312,8 @@ fn run_in<'s, 'x, 'e, 'a, L: RunLedger + Send + Sync, R: Threads + Wait + Sync, 
     ensures seats { All (λ s. s.board ≡ site.now.board.now.id) result.1.seats.items }
     ensures spent { IsSpent result.1.refusal
         → MayStop (G.may_refuse site.now.job.now.gate.now) site.now.plan.now (length site.now.job.now.scripts.now) }
+    ensures turned { MustTurn (G.must_refuse site.now.job.now.gate.now) site.now.job.now.scripts.now
+        → IsTrue result.1.complete → ⊥ }
 {
     let mut first = first;
     let mut root = share;
@@ -295,8 +324,8 @@ fn run_in<'s, 'x, 'e, 'a, L: RunLedger + Send + Sync, R: Threads + Wait + Sync, 
     } = room;
     let handing = start_handoffs(scope, site, Done::new(site.job.alloc, root.split()));
     let unseated = start_workers(scope, site, &mut sitting, &mut first, &mut root);
-    let unserved = start_clients(scope, site, &mut serving, &mut root);
-    let refused = handing.is_none() || unseated || unserved;
+    let before = handing.is_none() || unseated;
+    let refused = start_clients(scope, site, &mut serving, &mut root, before);
     if refused {
         set(&site.flags.stop);
     }
@@ -328,6 +357,8 @@ pub(crate) fn run_all<'e, 'a, L: RunLedger + Send + Sync, R: Threads + Wait + Sy
     ensures seats { IfOk result (λ a. All (λ s. s.board ≡ board.now.id) a.1.seats.items) }
     ensures spent { IfOk result (λ a. IsSpent a.1.refusal
         → MayStop (G.may_refuse job.now.gate.now) job.now.approved.now.plan (length job.now.scripts.now)) }
+    ensures turned { IfOk result (λ a. MustTurn (G.must_refuse job.now.gate.now) job.now.scripts.now
+        → IsTrue a.1.complete → ⊥) }
     ensures memory { IfErr result (λ e. e ≡ OutOfMemory) }
 {
     let rt = job.rt;
@@ -357,6 +388,8 @@ pub(crate) fn run_all<'e, 'a, L: RunLedger + Send + Sync, R: Threads + Wait + Sy
             ensures seats { All (λ s. s.board ≡ site.entry.now.board.now.id) result.1.seats.items }
             ensures spent { IsSpent result.1.refusal → MayStop (G.may_refuse site.entry.now.job.now.gate.now)
                 site.entry.now.plan.now (length site.entry.now.job.now.scripts.now) }
+            ensures turned { MustTurn (G.must_refuse site.entry.now.job.now.gate.now)
+                site.entry.now.job.now.scripts.now → IsTrue result.1.complete → ⊥ }
         { run_in(scope, site, room, first, share) },
     );
     Ok(back)

@@ -6,9 +6,10 @@ ghost use Rattle.script_text.specs.Client.{is_client_event};
 
 use crate::came::{Came, broken_one, drive_one, well};
 use crate::inputs::{
-    FOUR, JOIN, NO_CHAINS, NOTHING, RING, SILENCE, TWO_CHAINS, TWO_COPIES, approved, ring, script,
+    FIVE, FOUR, JOIN, NO_CHAINS, NOTHING, RING, SILENCE, TWO_CHAINS, TWO_COPIES, approved, ring,
+    script,
 };
-use crate::turnstile::Turnstile;
+use crate::turnstile::{ShutAt, Turnstile};
 use plan_check::{Gate, OpenGate};
 use plan_runs::Event;
 use ring_names::{NodeId, Refusal};
@@ -128,6 +129,53 @@ fn nodes_that_stay_down(rt: HostRuntime) {
     let script = b"script 1\ndown b\ndown c\nput w1 a x31\nget a\nput w1 a x32 seen 0\nend\n";
     let came = drive_texts(&rt, still(RING, script), 1, &OpenGate);
     assert_eq!(rt; came, Ok(well(69, 3)));
+}
+
+#[test]
+fn nodes_that_are_all_down(rt: HostRuntime) {
+    // The put and the get are started, and nothing else of them is answered.
+    let script = b"script 1\ndown a\ndown b\ndown c\nput w1 a x31\nget a\nend\n";
+    let came = drive_texts(&rt, still(RING, script), 1, &OpenGate);
+    assert_eq!(rt; came, Ok(well(5, 3)));
+}
+
+#[test]
+fn a_stand_in_that_is_down(rt: HostRuntime) {
+    // The hint is left with e. It stays there, since b is down.
+    let script = b"script 1\ndown b\ndown d\nput w1 a x31\nend\n";
+    let came = drive_texts(&rt, still(FIVE, script), 1, &OpenGate);
+    assert_eq!(rt; came, Ok(well(7, 3)));
+}
+
+#[test]
+fn a_gate_that_shuts_before_a_line(rt: HostRuntime) {
+    // The put of line 0 is the whole history.
+    let script = b"script 1\nput w1 a x31\ndown b\nget a\nend\n";
+    let gate = ShutAt {
+        worker: 64,
+        mark: 1,
+    };
+    let came = broken_texts(&rt, still(RING, script), 1, &gate);
+    assert_eq!(rt; came, Ok(Some((5, Refusal::TurnsSpent))));
+}
+
+#[test]
+fn a_gate_that_shuts_at_a_copy(rt: HostRuntime) {
+    // The copy that the worker shows is the last that was opened.
+    for (mark, entries) in [(2, 3), (5, 23)] {
+        let gate = ShutAt { worker: 0, mark };
+        let came = broken_texts(&rt, copies(SILENCE), 1, &gate);
+        assert_eq!(rt; came, Ok(Some((entries, Refusal::TurnsSpent))));
+    }
+}
+
+#[test]
+fn a_gate_that_shuts_at_other_steps(rt: HostRuntime) {
+    for mark in [0, 1, 3, 4, 6] {
+        let gate = ShutAt { worker: 0, mark };
+        let came = drive_texts(&rt, copies(SILENCE), 1, &gate);
+        assert_eq!(rt; came, Ok(well(41, 3)));
+    }
 }
 
 // A node that goes down and comes up, as often as a script may say.

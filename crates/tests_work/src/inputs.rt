@@ -20,6 +20,11 @@ pub const RING: &[u8] =
 pub const FOUR: &[u8] =
     b"ring 1\nspace 4\nquorum 3 2 2\nnode a 4 in\nnode b 4 in\nnode c 4 in\nnode d 4 in\nslots 0 a b c\nslots 1 a b c\nslots 2 a b c\nslots 3 a b c\nend\n";
 
+/// With another member, e.
+pub const FIVE: &[u8] =
+    b"ring 1\nspace 4\nquorum 3 2 2\nnode a 4 in\nnode b 4 in\nnode c 4 in\nnode d 4 in\nnode e 4 in\nslots 0 a b c\nslots 1 a b c\nslots 2 a b c\n\
+    slots 3 a b c\nend\n";
+
 /// Two copies, of which none waits for the other.
 pub const TWO_COPIES: &[u8] =
     b"plan 1\njoin d\nmirror 0 1 d after 0\ncopy 0 1 owner after 1\nswitch 0 1 after 2\nmirror 1 1 d after 0\ncopy 1 1 owner after 4\nswitch 1 1 after 5\nend\n";

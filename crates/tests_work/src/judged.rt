@@ -3,6 +3,7 @@
 use crate::inputs::{JOIN, NO_CHAINS, RING, SILENCE, approved, ring, script};
 use plan_check::Approved;
 use plan_runs::{Entry, Event, Reply};
+use ring_board::{Board, ClosedBoard};
 use ring_names::{Listed, NodeId, Refusal};
 use ring_receipts::{Outcome, Receipt, agrees};
 use script_text::Script;
@@ -54,6 +55,14 @@ fn lists(
     Ok(lists)
 }
 
+// A board of no step at its end, at which the judge does not look.
+fn board(alloc: Global) -> Result<ClosedBoard, Refusal> {
+    let (board, seat) = Board::new(alloc, 0, 0)?;
+    let mut seats = Vec::new(alloc);
+    seats.push(seat)?;
+    board.end(seats)
+}
+
 // Whether the judge says yes to them, with that finisher.
 fn judged(
     alloc: Global,
@@ -68,6 +77,7 @@ fn judged(
         history,
         receipts,
         finishers,
+        board: board(alloc)?,
     };
     agrees(alloc, approved, slice::from_ref(script), 1, &outcome)
 }

@@ -7,7 +7,7 @@ ghost use Rattle.script_text.specs.Client.{is_client_event};
 use crate::came::{Came, told, well};
 use crate::inputs::{MOVE, MOVE_CHAINS, RING, SILENCE, approved, ring, script};
 use crate::turnstile::Shut;
-use plan_check::{Approved, OpenGate};
+use plan_check::{Approved, Gate, OpenGate};
 use plan_runs::{Entry, Event, Reply};
 use ring_names::Refusal;
 use ring_work::{Fault, drive, resume};
@@ -15,58 +15,96 @@ use script_text::Script;
 use std::alloc::{AllocError, Global};
 use std::slice;
 use std::sync::Wait;
+use std::test::Fail;
 use std::thread::Threads;
 
-// What a resume comes to: what its outcome is, and whether the first two steps alone were finished before it; else its refusal and the length of its
-// history.
-type Ended = Result<(Came, bool), (Refusal, usize)>;
+// What a resume comes to: what its outcome is, and how many steps were finished before it, where these are the first ones; else its refusal and the
+// length of its history.
+type Ended = Result<(Came, Option<usize>), (Refusal, usize)>;
 
-// A history that broke off in the copy, behind its first chunk. The first entry has that reply.
-fn broken(alloc: Global, first: Reply) -> Result<Vec<Entry>, AllocError> {
+// Entries of these events, each answered that it is done.
+fn done(alloc: Global, events: &[Event]) -> Result<Vec<Entry>, AllocError> {
     let mut entries = Vec::new(alloc);
-    entries.push(Entry {
-        event: Event::Do(0),
-        reply: first,
-    })?;
-    for event in [Event::Do(1), Event::OpenCopy(2), Event::ChunkCopy(2, 0)] {
+    for event in events {
         entries.push(Entry {
-            event,
+            event: event.try_copy(alloc)?,
             reply: Reply::Plain,
         })?;
     }
     Ok(entries)
 }
 
+// A history that broke off in the copy, behind its first chunk.
+fn broken(alloc: Global) -> Result<Vec<Entry>, AllocError> {
+    let events = [
+        Event::Do(0),
+        Event::Do(1),
+        Event::OpenCopy(2),
+        Event::ChunkCopy(2, 0),
+    ];
+    done(alloc, events.as_slice())
+}
+
+// A history that broke off behind the copy.
+fn copied(alloc: Global) -> Result<Vec<Entry>, AllocError> {
+    let events = [Event::Do(0), Event::Do(1), Event::OpenCopy(2)];
+    let mut entries = done(alloc, events.as_slice())?;
+    for chunk in 0..16 {
+        entries.push(Entry {
+            event: Event::ChunkCopy(2, chunk),
+            reply: Reply::Plain,
+        })?;
+    }
+    entries.push(Entry {
+        event: Event::CloseCopy(2),
+        reply: Reply::Plain,
+    })?;
+    Ok(entries)
+}
+
+// How many steps were finished before a resume by one worker, where these are the first ones and the worker finished the others.
+fn finished_before(finishers: &[u32]) -> Option<usize> {
+    let mut before = 0usize;
+    for (step, finisher) in finishers.iter().enumerate() {
+        match *finisher {
+            0 => {}
+            1 if before == step => before = step + 1,
+            _ => return None,
+        }
+    }
+    Some(before)
+}
+
 // What the resume of the plan from these entries comes to.
-fn resumed<RT: AllocGlobal + Threads + Wait + Sync>(
+fn resumed<RT: AllocGlobal + Threads + Wait + Sync, G: Gate + Sync>(
     rt: &RT,
     approved: &Approved,
     script: &Script,
     entries: &[Entry],
+    gate: &G,
 ) -> Result<Ended, Refusal>
     requires { list_all is_client_event script.now ≡ true }
 {
     let scripts = slice::from_ref(script);
-    match resume(rt, rt.alloc(), approved, entries, scripts, 1, &OpenGate) {
+    match resume(rt, rt.alloc(), approved, entries, scripts, 1, gate) {
         Ok(outcome) => {
             let came = told(rt.alloc(), approved, scripts, 1, &outcome)?;
-            let finishers = outcome.finishers.as_slice();
-            Ok(Ok((came, finishers == [1, 1, 0, 0, 0].as_slice())))
+            Ok(Ok((came, finished_before(outcome.finishers.as_slice()))))
         }
         Err(fault) => Ok(Err((fault.refusal, fault.history.len()))),
     }
 }
 
-// The same from the history that broke off.
-fn resumed_from<RT: AllocGlobal + Threads + Wait + Sync>(
+// The same of the plan that moves a slot.
+fn resumed_from<RT: AllocGlobal + Threads + Wait + Sync, G: Gate + Sync>(
     rt: &RT,
-    first: Reply,
+    entries: &[Entry],
+    gate: &G,
 ) -> Result<Ended, Refusal> {
     let ring = ring(rt.alloc(), RING)?;
     let script = script(rt.alloc(), &ring, SILENCE)?;
     let approved = approved(rt.alloc(), ring, MOVE, MOVE_CHAINS)?;
-    let entries = broken(rt.alloc(), first)?;
-    resumed(rt, &approved, &script, entries.as_slice())
+    resumed(rt, &approved, &script, entries, gate)
 }
 
 // The fault of a drive whose worker may not pass; none where it ends.
@@ -93,25 +131,54 @@ fn stopped_and_resumed<RT: AllocGlobal + Threads + Wait + Sync>(
     let Some(fault) = stopped(rt, &approved, &script) else {
         return Err(Refusal::Disagree);
     };
-    let ended = resumed(rt, &approved, &script, fault.history.as_slice())?;
+    let ended = resumed(rt, &approved, &script, fault.history.as_slice(), &OpenGate)?;
     Ok((fault.refusal, ended))
 }
 
 #[test]
-fn a_copy_that_broke_off_is_done_again(rt: HostRuntime) {
+fn a_copy_that_broke_off_is_done_again(rt: HostRuntime) -> Result<(), Fail> {
     // The four entries, the abort, the copy with its fifteen other chunks, and the two steps behind it.
-    let ended = resumed_from(&rt, Reply::Plain);
-    assert_eq!(rt; ended, Ok(Ok((well(24, 4), true))));
+    let entries = broken(rt.alloc())?;
+    let ended = resumed_from(&rt, entries.as_slice(), &OpenGate);
+    assert_eq!(rt; ended, Ok(Ok((well(24, 4), Some(2)))));
+    Ok(())
+}
+
+#[test]
+fn a_copy_that_was_closed_stays_done(rt: HostRuntime) -> Result<(), Fail> {
+    // The twenty entries and the two steps behind the copy, which is not broken off.
+    let entries = copied(rt.alloc())?;
+    let ended = resumed_from(&rt, entries.as_slice(), &OpenGate);
+    assert_eq!(rt; ended, Ok(Ok((well(22, 4), Some(3)))));
+    Ok(())
+}
+
+#[test]
+fn a_resume_that_breaks_off(rt: HostRuntime) -> Result<(), Fail> {
+    // The four entries, the abort, and the copy that is opened once more, at which the gate is shut.
+    let entries = broken(rt.alloc())?;
+    let ended = resumed_from(&rt, entries.as_slice(), &Shut);
+    assert_eq!(rt; ended, Ok(Err((Refusal::TurnsSpent, 6))));
+    Ok(())
 }
 
 #[test]
 fn a_drive_that_stopped_goes_on(rt: HostRuntime) {
     let ended = stopped_and_resumed(&rt);
-    assert_eq!(rt; ended, Ok((Refusal::TurnsSpent, Ok((well(24, 4), true)))));
+    assert_eq!(rt;
+        ended,
+        Ok((Refusal::TurnsSpent, Ok((well(24, 4), Some(2)))))
+    );
 }
 
 #[test]
-fn entries_that_are_no_run(rt: HostRuntime) {
-    let ended = resumed_from(&rt, Reply::Put(0));
+fn entries_that_are_no_run(rt: HostRuntime) -> Result<(), Fail> {
+    let mut entries = Vec::new(rt.alloc());
+    entries.push(Entry {
+        event: Event::Do(0),
+        reply: Reply::Put(0),
+    })?;
+    let ended = resumed_from(&rt, entries.as_slice(), &OpenGate);
     assert_eq!(rt; ended, Ok(Err((Refusal::Mismatch(0, 0), 0))));
+    Ok(())
 }

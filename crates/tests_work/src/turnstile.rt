@@ -97,6 +97,25 @@ impl Gate for Behind {
     }
 }
 
+/// Shut for one worker at one mark alone.
+#[derive(Clone, Copy, Debug)]
+pub struct ShutAt {
+    pub worker: u32,
+    pub mark: u64,
+}
+
+impl Gate for ShutAt {
+    ghost use Rattle.std.specs.Prelude.{◌≡◌};
+
+    ghost may_refuse = { λ gate worker mark. (worker ≡ gate.worker) × (mark ≡ gate.mark) };
+
+    ghost must_refuse = { λ gate worker mark. (worker ≡ gate.worker) × (mark ≡ gate.mark) };
+
+    fn pass<R: Wait>(&self, _rt: &R, worker: u32, mark: u64) -> bool {
+        !(worker == self.worker && mark == self.mark)
+    }
+}
+
 /// Lets nobody pass.
 #[derive(Clone, Copy, Debug)]
 pub struct Shut;

@@ -3,8 +3,8 @@ use Rattle.ring_receipts.specs.Kinds.{sends}
 use Rattle.ring_work.specs.Noted.{Grows, IsCounted}
 use Rattle.ring_work.proofs.putting.leave_hint.Given as goal
 
-abbrev pub invariant-loop-node : goal.invariant-loop-node
-invariant-loop-node g l = record {
+abbrev pub invariant-keepers : goal.invariant-keepers
+invariant-keepers g l = record {
   grows : Grows (λ r. sends l.put r.event) l.fn.receipts.items l.receipts.items;
   count : IsCounted l.fn.share.count l.share.count l.fn.receipts.items l.receipts.items;
   parts : l.share.token.parts ≡ l.fn.share.token.parts;

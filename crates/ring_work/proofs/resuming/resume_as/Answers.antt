@@ -18,3 +18,6 @@ returns-in-Ok-clause-fault g c =
     let of_ring = subst (λ (ring : RingValue). IsHistory ring g.L.RunLedger.plan entries) (sym c.requires.ring) c.in-Ok.ensures.run in
     let run = subst (λ (plan : List Planned). IsHistory a.ring plan entries) (sym c.requires.plan) of_ring in
     IfErr-weaker c.resume_on.result _ _ (λ f h. tells_of_run a.ring a.plan entries f.refusal run) c.resume_on.ensures.refusal
+
+pub returns-in-Ok-clause-empty : goal.returns-in-Ok-clause-empty
+returns-in-Ok-clause-empty g c = IfErr-weaker c.resume_on.result _ _ (λ f h none. absurd (none h)) c.resume_on.ensures.refusal

@@ -17,4 +17,5 @@ loop-handle-preserved g c =
         | inl old ↦ c.loop-handle.invariant.spent old
         | inr new ↦ inr (subst (λ (plan : List Planned). 0 < length plan) popped.1.1 (c.join.ensures.1 new))
       ];
+      complete = λ s. c.loop-handle.invariant.complete (c.take_seat.ensures.complete s);
     }
