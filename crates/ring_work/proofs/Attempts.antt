@@ -1,5 +1,5 @@
 -- A start, and what follows it, is an attempt.
-use Rattle.std.proofs.Common.{◌≡◌, ◌∙◌, ◌≤◌, ℕ, Bool, true, false, cond, List, [], ◌∷◌, ◌++◌, length, refl, sym, ap, subst, append_assoc, append-nil, inl, inr, arith}
+use Rattle.std.proofs.Common.{◌≡◌, ◌∙◌, ◌≤◌, ℕ, Bool, true, false, cond, List, [], ◌∷◌, ◌++◌, length, refl, sym, ap, subst, append_assoc, inr, arith}
 use Rattle.std.specs.Prelude.{not, Option, is_some}
 use Rattle.ring_names.specs.declared.refusal.Refusal.{Refusal}
 use Rattle.plan_runs.specs.declared.event.Event.{Event}
@@ -8,7 +8,7 @@ use Rattle.plan_runs.specs.declared.event.Reply.TheVariants.{Put, Get}
 use Rattle.ring_receipts.specs.declared.receipt.Receipt.{Receipt}
 use Rattle.ring_receipts.specs.Kinds.{sends, acknowledges, reads, ends}
 use Rattle.ring_work.specs.Noted.{Completes}
-use Rattle.ring_work.specs.Attempts.{AddsPut, AddsGet, IsPutAttempt, IsGetAttempt}
+use Rattle.ring_work.specs.Attempts.{AddsPut, AddsGet, IsPutAttempt}
 
 at_most : (b : Bool) (n : ℕ) → n ≡ cond b 0 1 → n ≤ 1
 at_most true n e = omega arith

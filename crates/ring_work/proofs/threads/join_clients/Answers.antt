@@ -1,9 +1,9 @@
-use Rattle.std.proofs.Common.{◌≡◌, ◌∙◌, ◌<◌, ◌≤◌, ◌+◌, ℕ, Some, length, subst, sym, inl, inr, vec_len}
+use Rattle.std.proofs.Common.{◌≡◌, ◌∙◌, ◌<◌, ◌≤◌, ◌+◌, ℕ, Some, length, subst, sym, inl, inr}
 use Rattle.std.proofs.lemmas.List.Elements.{All-pop}
 use Rattle.std.specs.declared.thread.PromisedHandle.{PromisedHandle}
 use Rattle.ring_work.specs.declared.done.Done.{Done}
 use Rattle.ring_work.specs.declared.threads.ByGate.{ByGate}
-use Rattle.ring_work.proofs.Handles.{any_taken, any_of_none}
+use Rattle.ring_work.proofs.Handles.{any_taken}
 use Rattle.ring_work.proofs.threads.join_clients.Goals as goal
 
 pub loop-handle-preserved : goal.loop-handle-preserved
