@@ -33,8 +33,8 @@ data-alike names f g n (Join x) after same = refl
 data-alike names f g n (Mirror s x) after same = refl
 data-alike names f g n (Copy s source) after same =
     let owners : owners_data names f (source_slots s source) ≡ owners_data names g (source_slots s source) = ap (λ (ds : List Data). array (items_of ds)) (owners-alike names f g (source_slots s source) same) in
-    ap (λ (d : Data). copy_object after n s d (mirror_data names (f s).mirror)) owners
-    ∙ ap (λ (v : Serving). copy_object after n s (owners_data names g (source_slots s source)) (mirror_data names v.mirror)) (same s)
+    ap (λ (d : Data). copy_object after n s source d (mirror_data names (f s).mirror)) owners
+    ∙ ap (λ (v : Serving). copy_object after n s source (owners_data names g (source_slots s source)) (mirror_data names v.mirror)) (same s)
 data-alike names f g n (Switch s) after same = refl
 data-alike names f g n (Drop s x) after same = refl
 data-alike names f g n (Retire x) after same = refl

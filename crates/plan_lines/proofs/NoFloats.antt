@@ -5,6 +5,7 @@ use Rattle.serde_json.specs.View.{items_of}
 use Rattle.serde_json.specs.Written.{has_float, items_have_float}
 use Rattle.ring_names.specs.declared.ids.NodeId.{NodeId}
 use Rattle.ring_names.specs.declared.ids.Slot.{Slot}
+use Rattle.plan_text.specs.declared.step.Source.TheVariants.{Owner, Slots}
 use Rattle.plan_text.specs.declared.step.Step.{Step}
 use Rattle.plan_text.specs.declared.step.Step.TheVariants.{Join, Mirror, Copy, Switch, Drop, Retire}
 use Rattle.plan_text.specs.declared.step.Planned.{Planned}
@@ -29,7 +30,9 @@ mirror-plain names (Some x) = refl
 pub step-plain : (names : List (List ℕ)) (serve : Slot → Serving) (n : ℕ) (t : Step) (after : List ℕ) → has_float (step_data names serve n t after) ≡ false
 step-plain names serve n (Join x) after = rw (numbers-plain after) refl
 step-plain names serve n (Mirror s x) after = rw (numbers-plain after) refl
-step-plain names serve n (Copy s source) after = rw (numbers-plain after, owners-plain names serve (source_slots s source), mirror-plain names (serve s).mirror) refl
+step-plain names serve n (Copy s Owner) after = rw (numbers-plain after, owners-plain names serve (source_slots s Owner), mirror-plain names (serve s).mirror) refl
+step-plain names serve n (Copy s (Slots from)) after =
+    rw (numbers-plain after, numbers-plain from, owners-plain names serve (source_slots s (Slots from)), mirror-plain names (serve s).mirror) refl
 step-plain names serve n (Switch s) after = rw (numbers-plain after) refl
 step-plain names serve n (Drop s x) after = rw (numbers-plain after) refl
 step-plain names serve n (Retire x) after = rw (numbers-plain after) refl

@@ -1,12 +1,14 @@
 -- The lines of a plan's steps.
 use Rattle.std.specs.Prelude.{ℕ, ◌+◌, List, [], ◌∷◌, ◌++◌, map, codes, Option, Some, None}
-use Rattle.serde_json.specs.Data.{Data, null, number, unsigned, string, array, object, member, no_members}
+use Rattle.serde_json.specs.Data.{Data, Members, null, number, unsigned, string, array, object, member, no_members, put}
 use Rattle.serde_json.specs.View.{items_of}
 use Rattle.serde_json.specs.Written.{compact_text}
 use Rattle.ring_names.specs.declared.ids.NodeId.{NodeId}
 use Rattle.ring_names.specs.declared.ids.Slot.{Slot}
 use Rattle.ring_table.specs.Value.{RingValue, names_of}
 use Rattle.ring_table.specs.Spelling.{name_at}
+use Rattle.plan_text.specs.declared.step.Source.{Source}
+use Rattle.plan_text.specs.declared.step.Source.TheVariants.{Owner, Slots}
 use Rattle.plan_text.specs.declared.step.Step.{Step}
 use Rattle.plan_text.specs.declared.step.Step.TheVariants.{Join, Mirror, Copy, Switch, Drop, Retire}
 use Rattle.plan_text.specs.declared.step.Planned.{Planned}
@@ -49,16 +51,22 @@ mirror_object after n s to = object (member (codes "after") (array (items_of (ma
     (member (codes "partition") (number_data s.partition) (member (codes "slot") (number_data s.index)
     (member (codes "step") (number_data n) (member (codes "to") to no_members))))))
 
-abbrev pub copy_object : List ℕ → ℕ → Slot → Data → Data → Data
-copy_object after n s from to = object (member (codes "after") (array (items_of (map number_data after))) (member (codes "do") (string (codes "copy"))
-    (member (codes "from") from (member (codes "partition") (number_data s.partition) (member (codes "slot") (number_data s.index)
-    (member (codes "step") (number_data n) (member (codes "to") to no_members)))))))
+-- the members, with the indexes of the listed slots from which a copy reads, in the plan's order; none more where it reads from its slot's owner
+abbrev pub with_listed : Source → Members → Members
+with_listed Owner ms = ms
+with_listed (Slots from) ms = put (codes "slots") (array (items_of (map number_data from))) ms
 
--- step n with what must be done before it, where the slots are served so: a copy goes from the owners of the slots that it reads to the slot's mirror
+abbrev pub copy_object : List ℕ → ℕ → Slot → Source → Data → Data → Data
+copy_object after n s source from to = object (with_listed source (member (codes "after") (array (items_of (map number_data after)))
+    (member (codes "do") (string (codes "copy")) (member (codes "from") from (member (codes "partition") (number_data s.partition)
+    (member (codes "slot") (number_data s.index) (member (codes "step") (number_data n) (member (codes "to") to no_members))))))))
+
+-- step n with what must be done before it, where the slots are served so: a copy goes from the owners of the slots that it reads to the slot's mirror,
+-- and says which slots these are where they are listed
 abbrev pub step_data : List (List ℕ) → (Slot → Serving) → ℕ → Step → List ℕ → Data
 step_data names serve n (Join x) after = node_object (codes "join") after n (node_data names x)
 step_data names serve n (Mirror s x) after = mirror_object after n s (node_data names x)
-step_data names serve n (Copy s source) after = copy_object after n s (owners_data names serve (source_slots s source)) (mirror_data names (serve s).mirror)
+step_data names serve n (Copy s source) after = copy_object after n s source (owners_data names serve (source_slots s source)) (mirror_data names (serve s).mirror)
 step_data names serve n (Switch s) after = slot_object (codes "switch") after n s
 step_data names serve n (Drop s x) after = drop_object after n s (node_data names x)
 step_data names serve n (Retire x) after = node_object (codes "retire") after n (node_data names x)

@@ -3,9 +3,10 @@
 ghost use Rattle.std.specs.Prelude.{◌≡◌, codes, map, IfOk, OnOk};
 ghost use Rattle.serde_json.specs.View.{view, items_of, members_view};
 ghost use Rattle.serde_json.specs.Data.{array, string, put as with_member};
-ghost use Rattle.plan_lines.specs.Lines.{number_data, node_object, slot_object, drop_object, mirror_object, copy_object};
+ghost use Rattle.plan_lines.specs.Lines.{number_data, with_listed, node_object, slot_object, drop_object, mirror_object, copy_object};
 
 use crate::parts::numbers;
+use plan_text::Source;
 use ring_names::Slot;
 use serde_json::{Map, Value, put};
 use std::alloc::{AllocError, Global};
@@ -43,6 +44,20 @@ pub(crate) fn put_slot(
 {
     put(members, alloc, "partition", Value::from(slot.partition))?;
     put(members, alloc, "slot", Value::from(slot.index))
+}
+
+// Puts the indexes of the listed slots among the members, where a copy reads these.
+fn put_listed(
+    members: &mut Map<String, Value>,
+    alloc: Global,
+    source: &Source,
+) -> Result<(), AllocError>
+    ensures { OnOk result (members_view members.new.entries ≡ with_listed source.now (members_view members.old.entries)) }
+{
+    match source {
+        Source::Owner => Ok(()),
+        Source::Slots(from) => put_numbers(members, alloc, "slots", from.as_slice()),
+    }
 }
 
 // Puts a step's kind, its number, and what must be done before it among the members.
@@ -100,19 +115,22 @@ pub(crate) fn mirror_object(head: &Head, slot: Slot, to: Value) -> Result<Value,
     Ok(Value::Object(map))
 }
 
-/// A step that copies the slot to its mirror.
+/// A step that copies the slot to its mirror, from its owner or from listed slots.
 pub(crate) fn copy_object(
     head: &Head,
     slot: Slot,
+    source: &Source,
     from: Value,
     to: Value,
 ) -> Result<Value, AllocError>
-    ensures { IfOk result (λ v. view v ≡ copy_object head.now.after.now head.now.step slot (view from) (view to)) }
+    ensures { IfOk result (λ v. view v
+        ≡ copy_object head.now.after.now head.now.step slot source.now (view from) (view to)) }
 {
     let mut map = Map::new(head.alloc);
     put(&mut map, head.alloc, "to", to)?;
     put(&mut map, head.alloc, "from", from)?;
     put_slot(&mut map, head.alloc, slot)?;
+    put_listed(&mut map, head.alloc, source)?;
     put_step(&mut map, head, "copy")?;
     Ok(Value::Object(map))
 }

@@ -90,7 +90,7 @@ fn copy_value(
 {
     let from = owners_value(head.alloc, ring, present, slot, source)?;
     let to = mirror_value(head.alloc, ring, present.at(ring, slot).mirror)?;
-    Ok(copy_object(head, slot, from, to)?)
+    Ok(copy_object(head, slot, source, from, to)?)
 }
 
 // The object of a step of that kind, of a node alone.
@@ -142,7 +142,8 @@ fn push_step(
 }
 
 /// The plan's steps as lines of JSON, one for each in order: its number, its kind, the numbers of the steps that must be done before it, and its
-/// slot and nodes: a copy goes from the owners of the slots that it reads, just before it, to the slot's mirror. Refused only for want of memory.
+/// slot and nodes: a copy goes from the owners of the slots that it reads, just before it, to the slot's mirror. A copy that reads listed slots
+/// has their indexes as well, in the plan's order. Refused only for want of memory.
 /// Costs one pass over the plan.
 pub fn write_steps(alloc: Global, ring: &Ring, plan: &Plan) -> Result<Vec<u8>, Refusal>
     requires { Suits ring.now plan.now }
