@@ -11,10 +11,11 @@ mod needs;
 mod numbers;
 mod order;
 mod paths;
+mod runs;
 mod sides;
 mod stays;
 
 pub use excess::{Excess, overload};
-pub use finding::certificate;
+pub use finding::{Outcome, certificate};
 pub use numbers::{at, small};
 pub use order::Order;

@@ -33,10 +33,11 @@ pub(crate) struct Matching {
 }
 
 impl Matching {
-    pub(crate) fn of(alloc: Global, before: &Before) -> Result<Matching, Refusal> {
+    /// A matching that begins with these links.
+    pub(crate) fn of(alloc: Global, before: &Before, links: Links) -> Result<Matching, Refusal> {
         let count = before.copies.len();
         Ok(Matching {
-            links: Links::of(alloc, count)?,
+            links,
             seen: vec![in alloc; 0u64; before.words]?,
             asked_by: vec![in alloc; 0u32; count]?,
             queue: Vec::new(alloc),

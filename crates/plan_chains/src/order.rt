@@ -4,6 +4,7 @@ use crate::links::Links;
 use crate::looks::Looks;
 use crate::matching::{Before, Matching};
 use crate::numbers::{at, set, set_word, small, word};
+use crate::runs::runs_of;
 use plan_text::Plan;
 use ring_names::{Refusal, Rows};
 use std::alloc::Global;
@@ -21,33 +22,41 @@ pub struct Order<'a> {
     masks: Vec<u64>,
     // by step, 1 and its place among the copies where a chain ends with it, or 0
     lasts: Vec<u32>,
+    // by step, the first step of its run
+    runs: Vec<u32>,
 }
 
 impl<'a> Order<'a> {
-    /// The order of a plan.
+    /// The order of a plan. Costs one pass over the plan.
     pub fn of(alloc: Global, plan: &'a Plan) -> Result<Order<'a>, Refusal> {
         Ok(Order {
             plan,
             looks: Looks::new(),
             masks: vec![in alloc; 0u64; plan.len() as usize]?,
             lasts: vec![in alloc; 0u32; plan.len() as usize]?,
+            runs: runs_of(alloc, plan)?,
         })
     }
 
     /// The fewest chains into which the copies can be put, each copy of a chain behind the one before it: as many transfers may be open at once in some
     /// order of the plan's, and no more in any (Dilworth 1950). The copies ascend. None where the looks that are left are too few.
     pub fn fewest(&mut self, alloc: Global, copies: &[u32]) -> Result<Option<u32>, Refusal> {
-        let links = self.links(alloc, copies)?;
+        let links = self.links(alloc, copies, 1)?;
         Ok(match links {
             Some(links) => Some(links.count()),
             None => None,
         })
     }
 
-    /// Such chains, as few as there can be, by a matching of copies with those behind them (Fulkerson 1956). They stand in the order of their first copies. None where
-    /// the looks that are left are too few.
-    pub fn chains(&mut self, alloc: Global, copies: &[u32]) -> Result<Option<Rows>, Refusal> {
-        let links = self.links(alloc, copies)?;
+    /// Such chains: one for each run of a slot's copies where these are no more than `enough`; else as few as there can be, by a matching of copies with later ones
+    /// (Fulkerson 1956). They are in the order of their first copies. None where the looks that are left are too few.
+    pub fn chains(
+        &mut self,
+        alloc: Global,
+        copies: &[u32],
+        enough: u32,
+    ) -> Result<Option<Rows>, Refusal> {
+        let links = self.links(alloc, copies, enough)?;
         Ok(match links {
             Some(links) => Some(links.chains(alloc, copies)?),
             None => None,
@@ -94,8 +103,56 @@ impl<'a> Order<'a> {
         0
     }
 
-    // As many links as can be, where the looks that are left suffice.
-    fn links(&mut self, alloc: Global, copies: &[u32]) -> Result<Option<Links>, Refusal> {
+    // Links each copy to the one before it in its run. Costs a look at each copy.
+    fn along_runs(&mut self, alloc: Global, copies: &[u32]) -> Result<Links, Refusal> {
+        let mut links = Links::of(alloc, copies.len())?;
+        for place in 0..copies.len() {
+            let run = self.run(at(copies, place));
+            let last = at(self.lasts.as_slice(), run);
+            if last != 0 {
+                links.join(last.saturating_sub(1), small(place));
+            }
+            let number = small(place).saturating_add(1);
+            set(self.lasts.as_mut_slice(), run, number);
+        }
+        self.forget_runs(copies);
+        Ok(links)
+    }
+
+    // Forgets which copies end chains along runs.
+    fn forget_runs(&mut self, copies: &[u32]) {
+        for copy in copies {
+            let run = self.run(*copy);
+            set(self.lasts.as_mut_slice(), run, 0);
+        }
+    }
+
+    // The first step of the step's run.
+    fn run(&self, step: u32) -> usize {
+        at(self.runs.as_slice(), step as usize) as usize
+    }
+
+    // Links along runs where these make no more chains than `enough`; else as many links as can be, where the looks that are left suffice.
+    fn links(
+        &mut self,
+        alloc: Global,
+        copies: &[u32],
+        enough: u32,
+    ) -> Result<Option<Links>, Refusal> {
+        let links = self.along_runs(alloc, copies)?;
+        if links.count() <= enough {
+            return Ok(Some(links));
+        }
+        self.more_links(alloc, copies, links)
+    }
+
+    // As many links as can be, found from these links on.
+    fn more_links(
+        &mut self,
+        alloc: Global,
+        copies: &[u32],
+        links: Links,
+    ) -> Result<Option<Links>, Refusal> {
         let words = copies.len().saturating_add(63) / 64;
         if !self.can_pass(copies, words) {
             return Ok(None);
@@ -108,7 +165,7 @@ impl<'a> Order<'a> {
         for word in 0..words {
             self.pass(&mut before, word);
         }
-        self.linked(alloc, &before)
+        self.linked(alloc, &before, links)
     }
 
     // Takes the looks of a pass for each word, if they are left.
@@ -159,13 +216,20 @@ impl<'a> Order<'a> {
         mask
     }
 
-    // As many links as can be.
-    fn linked(&mut self, alloc: Global, before: &Before) -> Result<Option<Links>, Refusal> {
-        let mut matching = Matching::of(alloc, before)?;
+    // Makes the links as many as can be, by a search for each copy that follows none.
+    fn linked(
+        &mut self,
+        alloc: Global,
+        before: &Before,
+        links: Links,
+    ) -> Result<Option<Links>, Refusal> {
+        let mut matching = Matching::of(alloc, before, links)?;
         for copy in 0..before.copies.len() {
-            matching.link(before, copy)?;
-            if !self.looks.spend(matching.spent) {
-                return Ok(None);
+            if matching.links.before(small(copy)) == 0 {
+                matching.link(before, copy)?;
+                if !self.looks.spend(matching.spent) {
+                    return Ok(None);
+                }
             }
         }
         let Matching { links, .. } = matching;

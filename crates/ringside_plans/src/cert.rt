@@ -10,8 +10,7 @@ ghost use Rattle.plan_cert.specs.Spelling.{cert_text};
 ghost use Rattle.plan_cert.specs.Valid.{Suits as CertSuits};
 ghost use Rattle.ringside_plans.specs.Certs.{front_at, front_reading, parts, IsCertifiedBy, IsCertifiedText, IsClaimedText};
 
-use plan_cert::Cert;
-use plan_chains::{Excess, certificate, overload};
+use plan_chains::{Excess, Outcome, certificate, overload};
 use plan_check::check;
 use plan_rounds::write_texts;
 use plan_scene::name;
@@ -29,10 +28,10 @@ pub(crate) struct Front {
     pub(crate) plan: Plan,
 }
 
-// A certificate, and the text of it behind those of its ring and its plan.
+// A certificate that was found, and its text after those of its ring and its plan.
 #[derive(Drop)]
 struct Candidate {
-    cert: Cert,
+    found: Outcome,
     text: Vec<u8>,
 }
 
@@ -60,13 +59,13 @@ fn read_front(alloc: Global, bytes: &[u8]) -> Result<Front, Refusal>
 fn found(alloc: Global, ring: &Ring, plan: &Plan) -> Result<Candidate, Refusal>
     requires { PlanSuits ring.now plan.now }
     ensures { IfOk result (λ f. f.text.items
-        ≡ ring_text ring.now ++ (plan_text ring.now plan.now ++ cert_text ring.now f.cert)) }
+        ≡ ring_text ring.now ++ (plan_text ring.now plan.now ++ cert_text ring.now f.found.cert)) }
 {
-    let cert = certificate(alloc, ring, plan)?;
+    let found = certificate(alloc, ring, plan)?;
     let mut text = write_ring(alloc, ring)?;
-    let claims = write_texts(alloc, ring, plan, &cert)?;
+    let claims = write_texts(alloc, ring, plan, &found.cert)?;
     text.extend_from_slice(claims.as_slice())?;
-    Ok(Candidate { cert, text })
+    Ok(Candidate { found, text })
 }
 
 // The same, where the checker accepts the plan by it.
@@ -74,20 +73,20 @@ fn certified(alloc: Global, front: Front) -> Result<Vec<u8>, Refusal>
     requires { PlanSuits front.ring front.plan }
     ensures { IfOk result (λ text. IsCertifiedBy front.ring front.plan text.items) }
 {
-    let Candidate { cert, text } = found(alloc, &front.ring, &front.plan)?;
+    let Candidate { found, text } = found(alloc, &front.ring, &front.plan)?;
     let Front { ring, plan } = front;
-    match check(alloc, ring, plan, &cert) {
+    match check(alloc, ring, plan, &found.cert) {
         Ok(_) => Ok(text),
         Err(turned) => {
             let refusal = turned.refusal;
-            Err(refusal)
+            Err(found.refusal(refusal))
         }
     }
 }
 
 /// The texts of the ring and the plan with which the bytes begin, and of a certificate that is found for them: paths of dependencies, and the fewest chains that the
 /// plan's order allows. What stands behind the plan is not read. Refused is the first fault of the two texts; else, where that certificate is not enough, what the
-/// checker refuses with it.
+/// checker refuses with it. But where a node has too many chains since the search for fewer was given up, the refusal is `NoPlan`.
 pub fn cert_bundle(alloc: Global, bytes: &[u8]) -> Result<Vec<u8>, Refusal>
     // The ring and the plan are those of the bundle, the checker accepts the plan by the certificate, and so the plan keeps its promises.
     ensures certified { IfOk result (λ text. IsCertifiedText bytes.now text.items) }

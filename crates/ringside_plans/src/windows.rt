@@ -37,10 +37,10 @@ fn window_over(alloc: Global, before: &[u8], plan: Plan) -> Result<Window, Refus
     if !plan.suits(&ring) {
         return Err(Refusal::NoPlan);
     }
-    let cert = certificate(alloc, &ring, &plan)?;
+    let found = certificate(alloc, &ring, &plan)?;
     let mut text = Vec::from_slice(alloc, before)?;
-    text.extend_from_slice(write_texts(alloc, &ring, &plan, &cert)?.as_slice())?;
-    match check(alloc, ring, plan, &cert) {
+    text.extend_from_slice(write_texts(alloc, &ring, &plan, &found.cert)?.as_slice())?;
+    match check(alloc, ring, plan, &found.cert) {
         Ok(approved) => {
             let next = ring_after(alloc, &approved, before)?;
             Ok(Window { text, next })

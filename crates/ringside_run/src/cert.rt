@@ -9,6 +9,10 @@ use ringside_plans::{Kind, cert_bundle, found_bundle, kind_of, push_excess};
 use std::alloc::Global;
 use words::Words;
 
+// What is said where the search for a certificate was given up.
+const GIVEN_UP: &[u8; 268] =
+    b"refused: the search for fewer chains was given up after 100,000,000 looks\n  Some node has more chains than it may have transfers open. Fewer may be enough, so a certificate may exist.\n  Let copies of that node wait directly for earlier ones: then no search is needed.\n";
+
 /// What `cert_bundle` says of a bundle; where that has a change, a plan is made first.
 pub(crate) fn cert_of(alloc: Global, bytes: &[u8]) -> Result<Vec<u8>, Refusal> {
     match kind_of(bytes) {
@@ -36,7 +40,8 @@ fn found_of(alloc: Global, bytes: &[u8]) -> Result<Option<Vec<u8>>, Refusal> {
     }
 }
 
-/// Adds why there is no certificate: what the checker has against the one that was found, with its lines; or what there is to say of the bundle where none was sought.
+/// Adds why there is no certificate: that the search was given up; or what the checker has against the one that was found, with its lines; or what there is to say of
+/// the bundle where none was sought.
 pub(crate) fn push_why_none<W: Watch>(
     work: &Work<W>,
     out: &mut Words,
@@ -44,10 +49,22 @@ pub(crate) fn push_why_none<W: Watch>(
     refusal: &Refusal,
 ) -> Result<(), Refusal> {
     match found_of(work.alloc, bytes)? {
-        Some(text) => {
-            push_words_of(work, out, text.as_slice(), refusal)?;
-            push_excess(work.alloc, out, text.as_slice(), refusal)
-        }
+        Some(text) => push_why_not(work, out, text.as_slice(), refusal),
         None => push_words_of(work, out, bytes, refusal),
     }
+}
+
+// Adds why the certificate of the text is none. The checker refuses nothing as `NoPlan`.
+fn push_why_not<W: Watch>(
+    work: &Work<W>,
+    out: &mut Words,
+    text: &[u8],
+    refusal: &Refusal,
+) -> Result<(), Refusal> {
+    if matches!(refusal, Refusal::NoPlan) {
+        out.text(GIVEN_UP);
+        return Ok(());
+    }
+    push_words_of(work, out, text, refusal)?;
+    push_excess(work.alloc, out, text, refusal)
 }

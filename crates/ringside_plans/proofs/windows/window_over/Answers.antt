@@ -9,7 +9,7 @@ returns-in-Ok c =
     record {
       ring = ring;
       plan = c.args.plan;
-      cert = c.in_ok-cert.cert;
+      cert = c.in_ok-found.found.cert;
       is_ring = c.in_ok-ring.ensures.found.0;
       begins = c.in_ok-ring.ensures.found.1;
       text_is = c.in_ok-extend_from_slice.ensures.items ∙ ap (λ (xs : List ℕ). xs ++ c.as_slice.result.now) c.in_ok-text.ensures.items
