@@ -4,11 +4,13 @@
 mod cert;
 mod goal;
 mod rings;
+mod room;
 mod sections;
 mod windows;
 
 pub use cert::{cert_bundle, found_bundle, push_excess};
 pub use goal::{goal_bundle, led_bundle, nodes_of, wish_bundle, wish_words, wished_goal};
 pub use rings::{rewritten, ring_after};
+pub use room::MAX_WINDOWS;
 pub use sections::{Kind, front, kind_of};
-pub use windows::{MAX_WINDOWS, cut_plan};
+pub use windows::cut_plan;

@@ -9,6 +9,7 @@ ghost use Rattle.plan_check.specs.Approval.{IsApproved};
 ghost use Rattle.ringside_plans.specs.Windows.{IsWindow, AreWindows, AreWindowsOf, IsAsked, AreAskedOf};
 
 use crate::rings::{are_rows, ring_after};
+use crate::room::Room;
 use plan_chains::certificate;
 use plan_check::{Approved, check};
 use plan_moves::{last_owners, rounds};
@@ -18,9 +19,6 @@ use plan_windows::cut;
 use ring_names::{Listed, NodeId, Refusal};
 use ring_table::{read_ring, write_ring};
 use std::alloc::Global;
-
-/// The most bytes that all windows of a plan may have together: as many as a bundle may.
-pub const MAX_WINDOWS: usize = 67_108_864;
 
 // A window, and the text of the ring that it leaves.
 #[derive(Drop)]
@@ -59,22 +57,25 @@ struct Windows {
     next: Vec<u8>,
 }
 
-// The windows of these plans, one behind the other. More than the most bytes are `TooLarge(0)`.
-fn all_windows(alloc: Global, first: &[u8], plans: Vec<Plan>) -> Result<Windows, Refusal>
+// The windows of these plans, one after the other. More than the most bytes are `TooLarge(0)`, as soon as that is known.
+fn all_windows(
+    alloc: Global,
+    first: &[u8],
+    plans: Vec<Plan>,
+    mut room: Room,
+) -> Result<Windows, Refusal>
     ensures { IfOk result (λ w. AreWindows first.now (map (λ t. t.items) w.texts.items) w.next.items) }
 {
     let mut texts = Vec::new(alloc);
     let mut next = Vec::from_slice(alloc, first)?;
-    let mut size = 0usize;
     for plan in plans {
+        room.ask()?;
         let window = window_over(alloc, next.as_slice(), plan)?;
-        size = size.saturating_add(window.text.len());
-        if size > MAX_WINDOWS {
-            return Err(Refusal::TooLarge(0));
-        }
+        room.take(window.text.as_slice());
         texts.push(window.text)?;
         next = window.next;
     }
+    room.ask()?;
     Ok(Windows { texts, next })
 }
 
@@ -99,7 +100,8 @@ fn windows_of(alloc: Global, approved: &Approved, width: u32) -> Result<Vec<Vec<
     let first = write_ring(alloc, ring)?;
     let rounds = rounds(alloc, plan)?;
     let plans = cut(alloc, ring, plan, rounds.as_slice(), width)?;
-    let windows = all_windows(alloc, first.as_slice(), plans)?;
+    let room = Room::new(ring, first.as_slice(), plans.len());
+    let windows = all_windows(alloc, first.as_slice(), plans, room)?;
     let rows = last_owners(alloc, ring, plan)?;
     ends_so(alloc, windows.next.as_slice(), rows.as_slice())?;
     Ok(windows.texts)
@@ -131,7 +133,8 @@ fn asked(alloc: Global, texts: &[Vec<u8>], only: Option<u32>) -> Result<Vec<u8>,
 
 /// An approved plan in windows of so many rounds of copies, each the texts of a ring, a plan and its certificate, over the ring that the window before leaves; or the window of
 /// that number alone, counted from 1. What takes a slot from one owner to the next stays in one window. Refused is what the checker refuses of a window; as `NoPlan` a ring that no text can say
-/// and a number without a window; as `TooLarge(0)` windows that have more than `MAX_WINDOWS` bytes together.
+/// and a number without a window; as `TooLarge(0)` windows that have more than `MAX_WINDOWS` bytes together, before any is made where
+/// their number and the ring's length show it.
 pub fn cut_plan(
     alloc: Global,
     approved: &Approved,
