@@ -1,0 +1,3 @@
+"""What goes with `ringplan`: a reference store for the plans that it checks."""
+
+__version__ = "1.0.0"
