@@ -1,7 +1,7 @@
 """The texts of docs/FORMATS.md as values: rings, plans, certificates, changes, scripts, histories, and the lines of steps.
 
-A reader takes a text and returns a value. The value's `lines` are the lines that were read, byte for byte. A text that does not read is a `BadText` with the number
-of its line. Limits and meanings are not looked at here: `ringplan` decides whether a ring, a plan or a history is right.
+A reader takes a text and returns a value. The value's `lines` are the lines that were read, byte for byte. A text that does not read is a `BadText` with the
+number of its line. Limits and meanings are not looked at here: `ringplan` decides whether a ring, a plan or a history is right.
 """
 
 from __future__ import annotations

@@ -1,0 +1,53 @@
+"""Where the package finds the programs that it runs, and how it asks them.
+
+A program is the path that the environment gives under the program's name, else what the tree has built that this file is in, else what the search path has.
+"""
+
+from __future__ import annotations
+
+import os
+import pathlib
+import shutil
+import subprocess
+from typing import NamedTuple
+
+TOP = pathlib.Path(__file__).parents[2]
+# The program of each command.
+PROGRAMS = {"replay": "ringplan", "goal": "ringside", "steps": "ringside"}
+
+
+class Answer(NamedTuple):
+    """What a program printed, and the status with which it ended."""
+
+    text: str
+    status: int
+
+    def first(self) -> str:
+        """The first line."""
+        return self.text.split("\n")[0]
+
+
+class NoProgram(Exception):
+    """A program that is not there, or that could not answer."""
+
+
+def find(command: str) -> str:
+    """The path of the program that has the command."""
+    name = PROGRAMS[command]
+    built = TOP / "crates" / name / "out" / name
+    path = os.environ.get(name) or (str(built) if built.exists() else shutil.which(name))
+    if path is None:
+        raise NoProgram(f"there is no program {name}: put it on the search path, or its path into the variable {name}")
+    return path
+
+
+def ask(command: str, text: str, *options: str) -> Answer:
+    """Runs a command on a text. A program that is not there, or that was killed, is `NoProgram`."""
+    path = find(command)
+    try:
+        ran = subprocess.run([path, command, *options], input=text.encode(), stdout=subprocess.PIPE)
+    except OSError as error:
+        raise NoProgram(f"{path} cannot be run: {error.strerror}") from error
+    if ran.returncode < 0:
+        raise NoProgram(f"{path} {command} was ended by signal {-ran.returncode}")
+    return Answer(ran.stdout.decode(), ran.returncode)
