@@ -1,0 +1,150 @@
+"""The command line of the runner.
+
+    ringplan-run apply BUNDLE --do FOLDER [--board FILE] [--workers K] [--give-up N]
+    ringplan-run status | history | judge | retry STEP  [--board FILE]
+"""
+
+from __future__ import annotations
+
+import argparse
+import itertools
+import signal
+import sys
+import time
+from types import FrameType
+
+from ringplan import programs, texts
+from ringplan.run.board import State, Status, Stop, names_of
+from ringplan.run.hooks import Hooks
+from ringplan.run.runner import Options, Runner, judge
+from ringplan.run.sqlite import SqliteBoard
+
+
+def read_bundle(path: str) -> str:
+    """A bundle that is a ring, a plan and its certificate."""
+    try:
+        with open(path, encoding="ascii", newline="") as file:
+            bundle = file.read()
+        read = texts.read_texts(bundle)
+    except (OSError, UnicodeError, texts.BadText) as error:
+        raise Stop(Status.FAULT, f"{path}: {error}") from error
+    if [type(text) for text in read] != [texts.Ring, texts.Plan, texts.Certificate]:
+        raise Stop(Status.FAULT, f"{path}: a bundle to apply is a ring, a plan and its certificate")
+    return bundle
+
+
+def read_steps(bundle: str) -> list[texts.StepLine]:
+    """The lines of steps of an approved plan. A plan that is refused is a `Stop`."""
+    answer = programs.ask("steps", bundle)
+    if answer.status:
+        raise Stop(Status.REFUSED, f"the plan is refused:\n{answer.text}".rstrip())
+    return texts.read_steps(answer.text)
+
+
+def apply(words: argparse.Namespace) -> Status:
+    bundle = read_bundle(words.bundle)
+    programs.find("replay")
+    steps = read_steps(bundle)
+    hooks = Hooks(words.do, f"{words.board}.hooks")
+    hooks.demand(sorted({step.do for step in steps}))
+    board = SqliteBoard(words.board, is_new=True)
+    board.begin(bundle, names_of(steps))
+    runner = Runner(board, hooks, steps, Options(words.workers, words.give_up, words.pause, words.longest_pause))
+
+    signals = itertools.count()
+
+    def on_signal(number: int, frame: FrameType | None) -> None:
+        runner.stop()
+        if next(signals):
+            hooks.end()
+
+    signal.signal(signal.SIGINT, on_signal)
+    signal.signal(signal.SIGTERM, on_signal)
+    status = runner.run()
+    print(f"{len(runner.done)} of {len(steps)} steps are done, and the judge says yes")
+    return status
+
+
+def told(state: State, is_held: bool) -> str:
+    """What there is to say of a step that was begun and is not done."""
+    tries = state.tries
+    if tries.is_given_up:
+        return f"given up after {tries.failures} failures"
+    if state.worker:
+        return f"{state.worker} does it" if is_held else "a runner that ended was doing it"
+    return f"{tries.failures} failures, {tries.waits} times not now, again in {max(0.0, tries.until - time.time()):.0f} s"
+
+
+def status(words: argparse.Namespace) -> Status:
+    board = SqliteBoard(words.board)
+    states, is_held = list(board.states()), board.is_held()
+    print(f"{sum(state.is_done for state in states)} of {len(states)} steps are done; {'a' if is_held else 'no'} runner works with the board")
+    for state in states:
+        if not state.is_done and (state.worker or state.tries.failures or state.tries.waits):
+            print(state.number, f"{state.name}:", told(state, is_held))
+    return Status.DONE
+
+
+def history(words: argparse.Namespace) -> Status:
+    print("history 1")
+    for line in SqliteBoard(words.board).entries():
+        print(line)
+    print("end")
+    return Status.DONE
+
+
+def retry(words: argparse.Namespace) -> Status:
+    SqliteBoard(words.board).retry(words.step)
+    return Status.DONE
+
+
+def see_judge(words: argparse.Namespace) -> Status:
+    answer = judge(SqliteBoard(words.board))
+    print(answer.text, end="")
+    return Status.DONE if answer.first() == "yes" else Status.REFUSED
+
+
+def count(word: str) -> int:
+    if not word.isdecimal() or int(word) < 1:
+        raise argparse.ArgumentTypeError(f"{word} is no number from 1")
+    return int(word)
+
+
+def command_line() -> argparse.ArgumentParser:
+    parser = argparse.ArgumentParser(prog="ringplan-run", description="Goes through an approved plan by hooks.")
+    commands = parser.add_subparsers(dest="command", required=True, metavar="COMMAND")
+    calls = {
+        "apply": (apply, "goes through the plan of a bundle, or goes on where it was left"),
+        "status": (status, "says which steps are done, and which wait"),
+        "history": (history, "prints the history so far"),
+        "retry": (retry, "has a step tried again that was given up, or that pauses"),
+        "judge": (see_judge, "has the history so far judged"),
+    }
+    for name, (call, what) in calls.items():
+        command = commands.add_parser(name, help=what, description=what)
+        command.set_defaults(call=call)
+        command.add_argument("--board", default="ringplan.board", metavar="FILE", help="where the run is remembered (default: %(default)s)")
+        if name == "retry":
+            command.add_argument("step", type=int, help="the step's number")
+        if name == "apply":
+            command.add_argument("bundle", help="a ring, a plan and its certificate")
+            command.add_argument("--do", required=True, metavar="FOLDER", help="the folder of the hooks")
+            command.add_argument("--workers", type=count, default=1, metavar="K", help="how many steps may be done at once (default: %(default)s)")
+            command.add_argument("--give-up", type=count, metavar="N", help="gives a step up that failed so often (default: never)")
+            command.add_argument("--pause", type=float, default=1.0, metavar="SECONDS", help="the pause before a second try; it doubles (default: %(default)s)")
+            command.add_argument("--longest-pause", type=float, default=300.0, metavar="SECONDS", help="the longest pause (default: %(default)s)")
+    return parser
+
+
+def main() -> None:
+    words = command_line().parse_args()
+    try:
+        code = words.call(words)
+    except (Stop, programs.NoProgram) as fault:
+        print(f"ringplan-run: {fault}", file=sys.stderr)
+        code = fault.status if isinstance(fault, Stop) else Status.FAULT
+    sys.exit(int(code))
+
+
+if __name__ == "__main__":
+    main()

@@ -1,0 +1,146 @@
+"""What a runner remembers of a plan: which steps are done, who does which one, and the history, all in one place that outlives the runner."""
+
+from __future__ import annotations
+
+import enum
+from collections import Counter
+from collections.abc import Iterable, Iterator, Sequence
+from dataclasses import dataclass
+from typing import NamedTuple, Protocol
+
+from ringplan.texts import StepLine
+
+CHUNKS = 16
+
+
+class Status(enum.IntEnum):
+    """How a command ends."""
+
+    DONE = 0
+    # The plan is refused, or the judge says no.
+    REFUSED = 1
+    # The command line, a file or a program is at fault.
+    FAULT = 2
+    # The board is of another plan.
+    OTHER_PLAN = 3
+    # The board is of this plan with another ring or certificate.
+    CHANGED_BUNDLE = 4
+    # Another runner works with the board.
+    OTHER_RUNNER = 5
+    # Steps were given up, and all others that did not wait for them are done.
+    GIVEN_UP = 6
+    # A signal stopped the runner before all steps were done.
+    STOPPED = 7
+
+
+class Stop(Exception):
+    """A fault that ends a command, with its status."""
+
+    def __init__(self, status: Status, what: str) -> None:
+        super().__init__(what)
+        self.status = status
+
+
+class Name(NamedTuple):
+    """A step by what it does. Its number may change when a plan is changed half way; its name stays."""
+
+    kind: str
+    # Both are -1 for a step of no slot.
+    partition: int
+    slot: int
+    # Empty for a switch.
+    node: str
+    # How many steps before it, in the plan, are of the same kind, slot and node.
+    turn: int
+
+    def __str__(self) -> str:
+        slot = [] if self.partition < 0 else [str(self.partition), str(self.slot)]
+        return " ".join([self.kind, *slot, *([self.node] if self.node else [])])
+
+    def file(self) -> str:
+        """A file name that no other step of the plan has."""
+        return f"{str(self).replace(' ', ',')},{self.turn}"
+
+
+def names_of(steps: Sequence[StepLine]) -> list[Name]:
+    """The name of each step, in order."""
+    seen, names = Counter[tuple[str, int, int, str]](), list[Name]()
+    for step in steps:
+        partition, slot = (-1, -1) if step.partition is None else step.place()
+        short = (step.do, partition, slot, step.who())
+        names.append(Name(*short, seen[short]))
+        seen[short] += 1
+    return names
+
+
+class Note(NamedTuple):
+    """An entry of the history of a step: `do`, `open`, `chunk`, `close` or `abort`, and the number of the chunk."""
+
+    word: str
+    chunk: int | None = None
+
+
+@dataclass(frozen=True)
+class Tries:
+    """How a step was tried in vain: how often its hook failed, how often it said `not now`, and when it may be tried again, in seconds since 1970."""
+
+    failures: int = 0
+    waits: int = 0
+    until: float = 0.0
+    is_given_up: bool = False
+
+
+@dataclass(frozen=True)
+class Claim:
+    """A step that one worker does, and what is known of it."""
+
+    name: Name
+    worker: str
+    # Whether its hook may have run before.
+    is_again: bool
+    # Whether the history has an `open` of it without an end: the worker that opened it died.
+    is_open: bool
+    # The chunks that the history has of it.
+    marks: frozenset[int]
+    tries: Tries
+
+
+@dataclass(frozen=True)
+class State:
+    """A step as the board has it. The worker is empty where nobody does it."""
+
+    number: int
+    name: Name
+    worker: str
+    tries: Tries
+    is_done: bool
+
+
+class Board(Protocol):
+    """The memory of a runner. Each call is one transaction: after a crash it has happened or not."""
+
+    def begin(self, bundle: str, names: Sequence[Name]) -> None:
+        """Makes the board this plan's, for one runner. Claims of a runner that died end. A board of another plan, or with another runner, is a `Stop`."""
+
+    def claim(self, worker: str, candidates: Iterable[Name]) -> Claim | float:
+        """Claims the first of the candidates that nobody has, that is not given up and whose pause is over.
+
+        Where there is none, returns when the first of their pauses ends, in seconds since 1970; infinity where none pauses."""
+
+    def note(self, claim: Claim, notes: Iterable[Note], is_done: bool = False) -> None:
+        """Adds entries to the history, in order. A step that is done is nobody's any more."""
+
+    def give_back(self, claim: Claim, tries: Tries) -> None:
+        """Ends a claim of a step that is not done."""
+
+    def retry(self, number: int) -> None:
+        """Forgets in how many tries the step failed. A step that is not there, or done, is a `Stop`."""
+
+    def states(self) -> Iterator[State]:
+        """All steps, in the order of their numbers."""
+
+    def bundle(self) -> str:
+        """The bundle of the board's plan."""
+
+    def entries(self) -> Iterator[str]:
+        """The lines of the history between its first and its last, with the numbers that the steps have now."""

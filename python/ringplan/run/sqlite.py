@@ -1,0 +1,166 @@
+"""A board in an SQLite file, for one runner at a time."""
+
+from __future__ import annotations
+
+import contextlib
+import fcntl
+import math
+import os
+import sqlite3
+import threading
+import time
+from collections.abc import Iterable, Iterator, Sequence
+from typing import Any
+
+from ringplan.run.board import Claim, Name, Note, State, Status, Stop, Tries
+
+SCHEMA = """
+create table if not exists plan (bundle text not null);
+create table if not exists steps (
+    id integer primary key, number integer not null unique, kind text not null, partition integer not null, slot integer not null, node text not null,
+    turn integer not null, worker text not null default '', is_begun integer not null default 0, is_open integer not null default 0,
+    is_done integer not null default 0, failures integer not null default 0, waits integer not null default 0, until real not null default 0,
+    is_given_up integer not null default 0, unique (kind, partition, slot, node, turn));
+create table if not exists entries (
+    place integer primary key autoincrement, step integer not null references steps (id), word text not null, chunk integer);
+create index if not exists entries_of_step on entries (step);
+"""
+NAMED = "kind=? and partition=? and slot=? and node=? and turn=?"
+
+
+def plan_of(bundle: str) -> str:
+    """The plan's text in a bundle."""
+    begin = bundle.index("plan 1\n")
+    return bundle[begin : bundle.index("\nend\n", begin)]
+
+
+class SqliteBoard:
+    """A board in a file. Beside it stands a lock, `FILE.lock`, that the system frees when the runner dies."""
+
+    def __init__(self, path: str, is_new: bool = False) -> None:
+        self.path, self.lock, self.held = path, threading.Lock(), -1
+        if not is_new and not os.path.exists(path):
+            raise Stop(Status.FAULT, f"there is no board {path}")
+        try:
+            self.connection = sqlite3.connect(path, timeout=30, isolation_level=None, check_same_thread=False)
+            self.connection.execute("pragma journal_mode=wal")
+            self.connection.execute("pragma synchronous=full")
+            if is_new:
+                self.connection.executescript(SCHEMA)
+            self.connection.execute("select bundle from plan, steps, entries limit 0")
+        except sqlite3.Error as error:
+            raise Stop(Status.FAULT, f"{path} is no board: {error}") from error
+
+    @contextlib.contextmanager
+    def change(self) -> Iterator[sqlite3.Connection]:
+        """One transaction."""
+        with self.lock:
+            self.connection.execute("begin immediate")
+            try:
+                yield self.connection
+            except BaseException:
+                self.connection.execute("rollback")
+                raise
+            self.connection.execute("commit")
+
+    def rows(self, query: str, *values: Any) -> list[tuple[Any, ...]]:
+        with self.lock:
+            return self.connection.execute(query, values).fetchall()
+
+    def hold(self) -> None:
+        """Takes the lock beside the file, until the process ends."""
+        self.held = os.open(f"{self.path}.lock", os.O_RDWR | os.O_CREAT, 0o666)
+        # Who asks whether the lock is held holds it for a moment.
+        for _ in range(20):
+            with contextlib.suppress(BlockingIOError):
+                fcntl.flock(self.held, fcntl.LOCK_EX | fcntl.LOCK_NB)
+                return
+            time.sleep(0.02)
+        raise Stop(Status.OTHER_RUNNER, f"another runner works with the board {self.path}")
+
+    def is_held(self) -> bool:
+        """Whether a runner works with the board."""
+        try:
+            handle = os.open(f"{self.path}.lock", os.O_RDWR)
+        except FileNotFoundError:
+            return False
+        try:
+            fcntl.flock(handle, fcntl.LOCK_SH | fcntl.LOCK_NB)
+            return False
+        except BlockingIOError:
+            return True
+        finally:
+            os.close(handle)
+
+    def begin(self, bundle: str, names: Sequence[Name]) -> None:
+        self.hold()
+        with self.change() as it:
+            known = it.execute("select bundle from plan").fetchone()
+            if known is None:
+                it.execute("insert into plan values (?)", (bundle,))
+                columns = "number, kind, partition, slot, node, turn"
+                it.executemany(f"insert into steps ({columns}) values (?, ?, ?, ?, ?, ?)", [(number, *name) for number, name in enumerate(names)])
+            elif known[0] != bundle:
+                if plan_of(known[0]) != plan_of(bundle):
+                    raise Stop(Status.OTHER_PLAN, f"the board {self.path} is of another plan")
+                raise Stop(Status.CHANGED_BUNDLE, f"the board {self.path} is of this plan, with another ring or certificate")
+            it.execute("update steps set worker=''")
+
+    def claim(self, worker: str, candidates: Iterable[Name]) -> Claim | float:
+        query = f"select id, is_begun, is_open, failures, waits, until from steps where {NAMED} and worker='' and not is_done and not is_given_up"
+        soonest, now = math.inf, time.time()
+        with self.change() as it:
+            for name in candidates:
+                row = it.execute(query, name).fetchone()
+                if row is None or row[-1] > now:
+                    soonest = min(soonest, row[-1] if row else math.inf)
+                    continue
+                step, is_begun, is_open, *tries = row
+                marks = frozenset(chunk for (chunk,) in it.execute("select chunk from entries where step=? and word='chunk'", (step,)))
+                it.execute("update steps set worker=?, is_begun=1 where id=?", (worker, step))
+                return Claim(name, worker, bool(is_begun), bool(is_open), marks, Tries(*tries))
+        return soonest
+
+    def own(self, it: sqlite3.Connection, claim: Claim) -> int:
+        """The step's place in its table. A claim that has ended is a `Stop`."""
+        row = it.execute(f"select id from steps where {NAMED} and worker=? and not is_done", (*claim.name, claim.worker)).fetchone()
+        if row is None:
+            raise Stop(Status.OTHER_RUNNER, f"the claim of {claim.name} has ended")
+        return int(row[0])
+
+    def note(self, claim: Claim, notes: Iterable[Note], is_done: bool = False) -> None:
+        with self.change() as it:
+            step = self.own(it, claim)
+            for word, chunk in notes:
+                it.execute("insert into entries (step, word, chunk) values (?, ?, ?)", (step, word, chunk))
+                if word in ("open", "close", "abort"):
+                    it.execute("update steps set is_open=? where id=?", (word == "open", step))
+            if is_done:
+                it.execute("update steps set is_done=1, worker='' where id=?", (step,))
+
+    def give_back(self, claim: Claim, tries: Tries) -> None:
+        with self.change() as it:
+            values = (tries.failures, tries.waits, tries.until, tries.is_given_up, self.own(it, claim))
+            it.execute("update steps set worker='', failures=?, waits=?, until=?, is_given_up=? where id=?", values)
+
+    def retry(self, number: int) -> None:
+        with self.change() as it:
+            row = it.execute("select is_done from steps where number=?", (number,)).fetchone()
+            if row is None or row[0]:
+                raise Stop(Status.FAULT, f"step {number} is done" if row else f"there is no step {number}")
+            it.execute("update steps set failures=0, waits=0, until=0, is_given_up=0 where number=?", (number,))
+
+    def states(self) -> Iterator[State]:
+        query = "select number, kind, partition, slot, node, turn, worker, failures, waits, until, is_given_up, is_done from steps order by number"
+        for row in self.rows(query):
+            yield State(row[0], Name(*row[1:6]), row[6], Tries(row[7], row[8], row[9], bool(row[10])), bool(row[11]))
+
+    def bundle(self) -> str:
+        rows = self.rows("select bundle from plan")
+        if not rows:
+            raise Stop(Status.FAULT, f"the board {self.path} has no plan yet")
+        return str(rows[0][0])
+
+    def entries(self) -> Iterator[str]:
+        for word, number, chunk in self.rows("select word, number, chunk from entries join steps on steps.id = entries.step order by place"):
+            yield f"{word} {number} = ok" if chunk is None else f"{word} {number} {chunk} = ok"
