@@ -42,10 +42,10 @@ def find(command: str) -> str:
 
 
 def ask(command: str, text: str, *options: str) -> Answer:
-    """Runs a command on a text. A program that is not there, or that was killed, is `NoProgram`."""
+    """Runs a command on a text. A program that is not there, or that was killed, is `NoProgram`. A signal from the terminal does not reach it."""
     path = find(command)
     try:
-        ran = subprocess.run([path, command, *options], input=text.encode(), stdout=subprocess.PIPE)
+        ran = subprocess.run([path, command, *options], input=text.encode(), stdout=subprocess.PIPE, start_new_session=True)
     except OSError as error:
         raise NoProgram(f"{path} cannot be run: {error.strerror}") from error
     if ran.returncode < 0:

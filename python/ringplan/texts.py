@@ -79,7 +79,7 @@ def joined(*words: object) -> str:
 
 
 @dataclass(frozen=True)
-class Node:
+class RingNode:
     """A node of a ring. Its allowances are one number for all its transfers, or two: for those that it takes and for those that it gives."""
 
     name: str
@@ -93,19 +93,19 @@ class Ring:
 
     form: int
     quorum: tuple[int, ...]
-    nodes: tuple[Node, ...]
+    nodes: tuple[RingNode, ...]
     rows: tuple[tuple[str, ...], ...]
 
     @staticmethod
     def read(reader: Reader, form: int) -> Ring:
-        space, quorum, nodes, rows = 0, tuple[int, ...](), list[Node](), list[tuple[str, ...]]()
+        space, quorum, nodes, rows = 0, tuple[int, ...](), list[RingNode](), list[tuple[str, ...]]()
         for place, (word, *fields) in enumerate(reader.until_end()):
             if place == 0 and word == "space" and len(fields) == 1:
                 space = reader.number(fields[0])
             elif place == 1 and word == "quorum" and len(fields) in (3, 4):
                 quorum = reader.numbers(fields)
             elif place > 1 and word == "node" and len(fields) in (3, 4) and fields[-1] in ("in", "out") and not rows:
-                nodes.append(Node(reader.name(fields[0]), reader.numbers(fields[1:-1]), fields[-1] == "in"))
+                nodes.append(RingNode(reader.name(fields[0]), reader.numbers(fields[1:-1]), fields[-1] == "in"))
             elif place > 1 and word == "slots" and fields and fields[0] == str(len(rows)) and len(fields) == 1 + quorum[0]:
                 rows.append(reader.names(fields[1:]))
             else:
@@ -180,7 +180,7 @@ class Plan:
 
 
 @dataclass(frozen=True)
-class Claim:
+class CertificateLine:
     """A line of a certificate: a fact, or the chain of a node (`chain`, `take` or `give`), with the numbers of its steps."""
 
     kind: str
@@ -188,12 +188,12 @@ class Claim:
     steps: tuple[int, ...]
 
     @staticmethod
-    def read(reader: Reader, line: list[str]) -> Claim:
+    def read(reader: Reader, line: list[str]) -> CertificateLine:
         kind, *fields = line
         if kind == "fact" and len(fields) >= 2:
-            return Claim(kind, None, reader.numbers(fields))
+            return CertificateLine(kind, None, reader.numbers(fields))
         if kind in ("chain", "take", "give") and len(fields) >= 2:
-            return Claim(kind, reader.name(fields[0]), reader.numbers(fields[1:]))
+            return CertificateLine(kind, reader.name(fields[0]), reader.numbers(fields[1:]))
         raise reader.bad("no such line of a certificate")
 
     def line(self) -> str:
@@ -205,15 +205,15 @@ class Certificate:
     """What a planner claims of a plan, for the checker to verify."""
 
     form: int
-    claims: tuple[Claim, ...]
+    body: tuple[CertificateLine, ...]
 
     @staticmethod
     def read(reader: Reader, form: int) -> Certificate:
-        return Certificate(form, tuple(Claim.read(reader, line) for line in reader.until_end()))
+        return Certificate(form, tuple(CertificateLine.read(reader, line) for line in reader.until_end()))
 
     def lines(self) -> Iterator[str]:
         yield f"cert {self.form}"
-        yield from (claim.line() for claim in self.claims)
+        yield from (line.line() for line in self.body)
         yield "end"
 
 

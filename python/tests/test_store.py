@@ -8,7 +8,7 @@ import pytest
 
 from ringplan import programs
 from ringplan.store.__main__ import run
-from ringplan.store.history import Get, History, Put
+from ringplan.store.history import Get, Put, Recorder
 from ringplan.store.traffic import Load
 from ringplan.store.versions import Version, latest, merged
 
@@ -33,7 +33,7 @@ def test_the_latest_version_alone_loses_a_put() -> None:
 
 
 def test_puts_and_gets_are_numbered_in_the_order_of_the_history() -> None:
-    history = History()
+    history = Recorder()
     get, put, other = Get(7, "k"), Put(9, "w", "k", {}, "", []), Put(4, "v", "k", {}, "", [])
     put.seen.append(get)
     history.note(("get", get))

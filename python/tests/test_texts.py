@@ -12,7 +12,7 @@ TOP = pathlib.Path(__file__).parents[2]
 BUNDLES = sorted(TOP.glob("examples/*.bundle"))
 
 
-@pytest.mark.parametrize("path", BUNDLES, ids=lambda path: path.stem)
+@pytest.mark.parametrize("path", BUNDLES, ids=[path.stem for path in BUNDLES])
 def test_a_bundle_is_written_as_it_was_read(path: pathlib.Path) -> None:
     bundle = path.read_text()
     assert texts.write_texts(texts.read_texts(bundle)) == bundle

@@ -8,6 +8,7 @@ from __future__ import annotations
 
 import argparse
 import itertools
+import os
 import signal
 import sys
 import time
@@ -143,6 +144,10 @@ def main() -> None:
     except (Stop, programs.NoProgram) as fault:
         print(f"ringplan-run: {fault}", file=sys.stderr)
         code = fault.status if isinstance(fault, Stop) else Status.FAULT
+    except BrokenPipeError:
+        # Whoever read the output is gone.
+        os.dup2(os.open(os.devnull, os.O_WRONLY), 1)
+        code = Status.FAULT
     sys.exit(int(code))
 
 

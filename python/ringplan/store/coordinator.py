@@ -15,7 +15,7 @@ import time
 from collections.abc import Callable, Iterable, Iterator, Sequence
 from functools import partial
 
-from ringplan.store.history import Get, History, Put
+from ringplan.store.history import Get, Put, Recorder
 from ringplan.store.members import Blocked, Doubt, Member, Partition, Slot, using
 from ringplan.store.nodes import Gone, Node
 from ringplan.store.versions import Clock, Contents, Version, is_at_most, merged
@@ -29,7 +29,7 @@ class Store:
     """A ring of members, and what its coordinators share."""
 
     def __init__(self, ring: Ring, make_node: Callable[[str], Node]) -> None:
-        self.history = History()
+        self.history = Recorder()
         self.members = [Member(node.name, number, make_node(node.name), node.is_in) for number, node in enumerate(ring.nodes)]
         self.by_name = {member.name: member for member in self.members}
         self.partitions = [Partition(number, (self.by_name[name] for name in row)) for number, row in enumerate(ring.rows)]

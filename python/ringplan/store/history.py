@@ -43,24 +43,24 @@ class Get:
 
 
 Word = str | int | Put | Get
-Entry = tuple[tuple[Word, ...], tuple[str | int, ...]]
+Recorded = tuple[tuple[Word, ...], tuple[str | int, ...]]
 
 
-class History:
+class Recorder:
     """Entries by thread, each with its place."""
 
     def __init__(self) -> None:
-        self.places, self.lists, self.local = itertools.count(), list[list[tuple[int, Entry]]](), threading.local()
+        self.places, self.lists, self.local = itertools.count(), list[list[tuple[int, Recorded]]](), threading.local()
 
     def note(self, event: tuple[Word, ...], reply: tuple[str | int, ...] = ("ok",)) -> None:
         """Keeps an event and its reply. Called while what the event touches is held."""
-        mine: list[tuple[int, Entry]] | None = getattr(self.local, "list", None)
+        mine: list[tuple[int, Recorded]] | None = getattr(self.local, "list", None)
         if mine is None:
             mine = self.local.list = []
             self.lists.append(mine)
         mine.append((next(self.places), (event, reply)))
 
-    def entries(self) -> list[Entry]:
+    def entries(self) -> list[Recorded]:
         placed = [one for mine in self.lists for one in mine]
         placed.sort(key=lambda one: one[0])
         return [entry for _, entry in placed]
