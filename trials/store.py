@@ -84,7 +84,7 @@ def run(folder, words, seed, broken=""):
         with open(f"{folder}/{file}", "w") as it:
             it.write(text)
     command = [sys.executable, "-m", "ringplan.store", *(f"{folder}/{file}" for file in ("bundle", "steps", "out")), "--seed", str(seed), *options]
-    command += ["--break", broken, "--limit", "15"] if broken else []
+    command += ["--break", broken, "--limit", "15", "--clients", "3"] if broken else []
     ran = subprocess.run(command, stdout=subprocess.PIPE, timeout=180, env={**os.environ, "PYTHONPATH": f"{top}/python"})
     if ran.returncode:
         return None, f"status {ran.returncode}", ""
