@@ -12,6 +12,10 @@ use Rattle.ring_core.specs.World.{ring_of, plan_of, Meets, put_count, get_count}
 abbrev pub Replays : RingValue → List Planned → World → List Entry → Type 0
 Replays ring plan a history = ∥ ((w : TheWorld) × Meets a w × IsRun ring plan history w) ∥₁
 
+-- the history is a run of the plan
+abbrev pub IsHistory : RingValue → List Planned → List Entry → Type 0
+IsHistory ring plan history = ∥ ((w : TheWorld) × IsRun ring plan history w) ∥₁
+
 -- the entries led the store on: from whatever world it was in they lead to one that it is in now
 pub record Follows (old : World) (entries : List Entry) (new : World) : Type 0 where
   pub ring : ring_of new ≡ ring_of old

@@ -9,13 +9,10 @@ use Rattle.plan_runs.specs.declared.event.Event.{Event}
 use Rattle.plan_runs.specs.World.{World}
 use Rattle.plan_runs.specs.Runs.{IsRun}
 use Rattle.plan_check.specs.Safe.{Safe}
+pub use Rattle.ring_exec.specs.Replays.{IsHistory}
 use Rattle.ring_exec.specs.Tables.{AllDone}
 use Rattle.ring_receipts.specs.declared.receipt.Receipt.{Receipt}
 use Rattle.ring_receipts.specs.Agreed.{Agrees}
-
--- the history is a run of the plan
-abbrev pub IsHistory : RingValue → List Planned → List Entry → Type 0
-IsHistory ring plan history = ∥ ((w : World) × IsRun ring plan history w) ∥₁
 
 -- it is one that finishes every step
 abbrev pub IsWhole : RingValue → List Planned → List Entry → Type 0

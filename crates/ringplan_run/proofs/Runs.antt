@@ -9,9 +9,9 @@ use Rattle.ringplan_jobs.specs.declared.job.Job.{Job}
 use Rattle.ringplan_jobs.specs.declared.job.Job.TheVariants.{Check}
 use Rattle.ringplan_jobs.specs.Answers.{output_of, status_of}
 use Rattle.ringplan_command.specs.Command.{Asked, Asks, AsksBy, AsksDrive, IsMany, asked, only, word_of}
-use Rattle.ringplan_jobs.specs.Io.{Tells}
+use Rattle.ringplan_jobs.specs.Io.{Prints, Tells}
 use Rattle.ringplan_jobs.specs.Outcomes.{Finds}
-use Rattle.ringplan_run.specs.Run.{FindsDrive, Prints, PrintsFound, Runs, Says, answered, driven, unread, undriven, out_of_memory}
+use Rattle.ringplan_run.specs.Run.{FindsDrive, PrintsFound, Runs, Says, answered, driven, unread, undriven, out_of_memory}
 use Rattle.ringplan_command.proofs.Commands.{asked_alone}
 
 pub no_memory_line : line_of OutOfMemory ≡ codes "no 60" ++ 10 ∷ []

@@ -1,12 +1,11 @@
 -- How a run of the program ends.
 use Rattle.std.specs.Prelude.{◌≡◌, ◌≢◌, ◌⊎◌, ℕ, ◌<◌, ◌≤◌, List, Option, Result, Ok, Err, length}
-use Rattle.std.specs.Io.KnownBytes.{Appends}
 use Rattle.ring_names.specs.declared.refusal.Refusal.{Refusal}
 use Rattle.ring_names.specs.declared.refusal.Refusal.TheVariants.{TooLarge, OutOfMemory, ReadFailed}
 use Rattle.ring_names.specs.Refusals.{line_of}
 use Rattle.ringplan_jobs.specs.Answers.{output_of, status_of}
 use Rattle.ringplan_command.specs.Command.{Asked, Asks, AsksDrive, IsRefused, WantsHelp}
-use Rattle.ringplan_jobs.specs.Io.{AppendsPart, max_input}
+use Rattle.ringplan_jobs.specs.Io.{Prints, max_input}
 use Rattle.ringplan_jobs.specs.Outcomes.{Outcome}
 use Rattle.ringplan_run.specs.Drives.{Drives}
 use Rattle.ringplan_command.specs.declared.form.Form.{Form}
@@ -30,10 +29,6 @@ pub data Says (asked : Asked) (bytes : List ℕ) (text : List ℕ) (status : ℕ
   unread : (job : Job) → Asks asked job → text ≡ line_of ReadFailed → status ≡ 3 → Says asked bytes text status
   undriven : (workers : ℕ) (form : Form) → AsksDrive asked workers form → text ≡ line_of ReadFailed → status ≡ 3 → Says asked bytes text status
   out_of_memory : text ≡ line_of OutOfMemory → status ≡ 3 → Says asked bytes text status
-
--- the text was written and the status is the one that goes with it, or some first part was and the status is 3
-abbrev pub Prints : Option (List ℕ) → Option (List ℕ) → List ℕ → ℕ → ℕ → Type 0
-Prints old new text status result = (Appends old new text × (result ≡ status)) ⊎ (AppendsPart old new text × (result ≡ 3))
 
 -- a run says something and prints it
 abbrev pub Runs : Asked → List ℕ → Option (List ℕ) → Option (List ℕ) → ℕ → Type 0

@@ -4,9 +4,9 @@ ghost use Rattle.std.specs.Prelude.{◌≡◌, ◌<◌, ◌≤◌, ◌∷◌, �
 ghost use Rattle.ring_names.specs.Refusals.{line_of};
 ghost use Rattle.ringplan_jobs.specs.Answers.{texts_of};
 ghost use Rattle.ringplan_command.specs.Command.{asked, only, word_of};
-ghost use Rattle.ringplan_jobs.specs.Io.{Tells};
+ghost use Rattle.ringplan_jobs.specs.Io.{Prints, Tells};
 ghost use Rattle.ringplan_jobs.specs.Outcomes.{Finds};
-ghost use Rattle.ringplan_run.specs.Run.{FindsDrive, Prints, PrintsFound, Runs};
+ghost use Rattle.ringplan_run.specs.Run.{FindsDrive, PrintsFound, Runs};
 ghost use Rattle.ringplan_jobs.specs.declared.job.Job.{Job};
 ghost use Rattle.ringplan_jobs.specs.declared.job.Job.TheVariants.{Check};
 
