@@ -96,7 +96,8 @@ pub record IsReached (ring wanted : RingValue) (dead : List NodeId) (bytes : Lis
   pub keeps : KeepsPromises ring plan
   pub text : bytes ≡ plan_text ring plan ++ cert_text ring cert
 
--- why there is none: memory ran out, no plan was found, or the checker refused one that leads there, for this reason
+-- why there is none: memory ran out, no plan was found, or the checker refused one that leads there, for this reason; by some certificate, since the
+-- search, which gives both, promises nothing
 pub data IsUnreached (ring wanted : RingValue) (dead : List NodeId) (e : Refusal) : Type 0 where
   no_memory : e ≡ OutOfMemory → IsUnreached ring wanted dead e
   none_found : e ≡ NoPlan → IsUnreached ring wanted dead e

@@ -30,7 +30,8 @@ pub record IsProposed (ring : RingValue) (change : Change) (bytes : List ℕ) : 
   pub fulfils : fulfils plan change.joins change.leaves ≡ true
   pub text : bytes ≡ plan_text ring plan ++ cert_text ring cert
 
--- why there is none: memory ran out, no plan was found, or the checker refused one of the ring that makes the change, for this reason
+-- why there is none: memory ran out, no plan was found, or the checker refused one of the ring that makes the change, for this reason; by some
+-- certificate, since the planner, which gives both, promises nothing
 pub data IsTurnedAway (ring : RingValue) (change : Change) (e : Refusal) : Type 0 where
   no_memory : e ≡ OutOfMemory → IsTurnedAway ring change e
   none_found : e ≡ NoPlan → IsTurnedAway ring change e
