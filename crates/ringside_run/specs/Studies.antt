@@ -4,11 +4,13 @@ use Rattle.texts.specs.Left.{whole_text}
 use Rattle.ring_table.specs.Value.{RingValue}
 use Rattle.plan_text.specs.declared.step.Planned.{Planned}
 use Rattle.plan_text.specs.Changes.{fulfils}
+use Rattle.plan_runs.specs.declared.event.Entry.{Entry}
 use Rattle.change_text.specs.declared.wanted.Wanted.{Wanted}
 use Rattle.change_text.specs.Wanted.{wanted_at}
 use Rattle.history_text.specs.Replays.{Parts, replay_at}
 use Rattle.plan_moves.specs.Owners.{last_owners}
 use Rattle.plan_check.specs.Approval.{IsApproved}
+use Rattle.ring_replay.specs.Replays.{IsHistory}
 use Rattle.ring_script.specs.Bundles.{bundle_at}
 use Rattle.ring_script.specs.declared.bundle.Bundle.{Bundle}
 use Rattle.ring_script.specs.declared.bundle.Kind.TheVariants as kind
@@ -19,6 +21,19 @@ pub data IsStudyOf (bytes : List ℕ) (ring : RingValue) (plan : List Planned) :
   of_plan : (b : Bundle) → whole_text (bundle_at kind.Check) bytes ≡ Ok b → b.ring ≡ ring → b.plan ≡ plan → IsStudyOf bytes ring plan
   of_history : (p : Parts) → whole_text replay_at bytes ≡ Ok p → p.0 ≡ ring → p.1.0 ≡ plan → IsStudyOf bytes ring plan
   of_change : (w : Wanted) → whole_text wanted_at bytes ≡ Ok w → w.ring ≡ ring → fulfils plan w.change.joins w.change.leaves ≡ true → IsStudyOf bytes ring plan
+
+-- the bundle's plan is one that the checker accepts, so it keeps its promises
+abbrev pub HasApproved : List ℕ → Type 0
+HasApproved bytes = (ring : RingValue) × (plan : List Planned) × IsStudyOf bytes ring plan × IsApproved ring plan
+
+-- the bytes are the texts of this ring, this plan, its certificate and this history, which is a run of the plan
+pub record IsRecorded (bytes : List ℕ) (ring : RingValue) (plan : List Planned) (history : List Entry) : Type 0 where
+  pub parts : Parts
+  pub read : whole_text replay_at bytes ≡ Ok parts
+  pub ring_is : parts.0 ≡ ring
+  pub plan_is : parts.1.0 ≡ plan
+  pub history_is : parts.1.1.1.0 ≡ history
+  pub run : IsHistory ring plan history
 
 -- the bytes are the texts of a ring, a plan, its certificate and a history
 abbrev pub HasHistory : List ℕ → Type 0

@@ -127,7 +127,8 @@ fn mirror_of(plan: &Plan, number: Option<u32>) -> Option<NodeId> {
     }
 }
 
-fn earlier(one: Option<u32>, other: Option<u32>) -> Option<u32> {
+/// The lesser of two numbers, of those that are there.
+pub(crate) fn earlier(one: Option<u32>, other: Option<u32>) -> Option<u32> {
     match (one, other) {
         (Some(one), Some(other)) => Some(one.min(other)),
         (None, other) => other,
@@ -250,14 +251,15 @@ fn push_left(out: &mut Words, plan: &Plan, progress: &Progress, slot: Slot, step
     out.byte(b'\n');
 }
 
-fn slot_of(plan: &Plan, number: u32) -> Option<Slot> {
+/// The slot of a step, if there is such a step and it has one.
+pub(crate) fn slot_of(plan: &Plan, number: u32) -> Option<Slot> {
     if number >= plan.len() {
         return None;
     }
     match plan.step(number) {
-        Step::Mirror(slot, _) => Some(*slot),
-        Step::Copy(_, _) | Step::Switch(_) | Step::Drop(_, _) | Step::Join(_) | Step::Retire(_) =>
-            None,
+        Step::Mirror(slot, _) | Step::Copy(slot, _) | Step::Switch(slot) | Step::Drop(slot, _) =>
+            Some(*slot),
+        Step::Join(_) | Step::Retire(_) => None,
     }
 }
 

@@ -2,32 +2,42 @@
 
 ghost use Rattle.std.specs.Prelude.{IfOk};
 ghost use Rattle.ringplan_jobs.specs.Verdict.{TextsKeepPromises};
+ghost use Rattle.ringside_run.specs.Made.{IsBundleOf};
 
+use change_text::read_wanted;
 use ring_names::Refusal;
+use ring_table::write_ring;
 use ringplan_jobs::{check_bundle, plan_bundle};
 use ringside_plans::{Kind, front, kind_of};
 use std::alloc::Global;
 
 // The ring's text, and behind it a plan that makes the change, with its certificate.
-fn planned(alloc: Global, bytes: &[u8]) -> Result<Vec<u8>, Refusal> {
+fn planned(alloc: Global, bytes: &[u8]) -> Result<Vec<u8>, Refusal>
+    ensures whose { IfOk result (λ text. IsBundleOf bytes.now text.items) }
+{
     let plan = plan_bundle(alloc, bytes)?;
-    let mut text = Vec::from_slice(alloc, &bytes[..front(bytes, 1)])?;
+    // The planner has taken the ring, so it is read again.
+    let wanted = read_wanted(alloc, bytes)?;
+    let mut text = write_ring(alloc, &wanted.ring)?;
     text.extend_from_slice(plan.as_slice())?;
     Ok(text)
 }
 
+// The first sections of a text.
+fn first_part(alloc: Global, bytes: &[u8], sections: u32) -> Result<Vec<u8>, Refusal>
+    ensures whose { IfOk result (λ text. IsBundleOf bytes.now text.items) }
+{
+    let text = Vec::from_slice(alloc, &bytes[..front(bytes, sections)])?;
+    Ok(text)
+}
+
 /// The texts of a ring, a plan and its certificate, without what stands behind them; a plan is made first where there is a change. Nothing is checked.
-pub fn texts_of(alloc: Global, bytes: &[u8]) -> Result<Vec<u8>, Refusal> {
+pub fn texts_of(alloc: Global, bytes: &[u8]) -> Result<Vec<u8>, Refusal>
+    ensures whose { IfOk result (λ text. IsBundleOf bytes.now text.items) }
+{
     match kind_of(bytes) {
         Kind::Change => planned(alloc, bytes),
-        Kind::Plan => {
-            let text = Vec::from_slice(alloc, bytes)?;
-            Ok(text)
-        }
-        Kind::History => {
-            let text = Vec::from_slice(alloc, &bytes[..front(bytes, 3)])?;
-            Ok(text)
-        }
+        Kind::Plan | Kind::History => first_part(alloc, bytes, 3),
     }
 }
 
@@ -36,6 +46,8 @@ pub fn texts_of(alloc: Global, bytes: &[u8]) -> Result<Vec<u8>, Refusal> {
 pub fn whole_bundle(alloc: Global, bytes: &[u8]) -> Result<Vec<u8>, Refusal>
     // They are such texts, and the plan keeps its promises.
     ensures keeps { IfOk result (λ text. TextsKeepPromises text.items) }
+    // They are the bundle's own, or those of its ring and of a plan that makes its change.
+    ensures whose { IfOk result (λ text. IsBundleOf bytes.now text.items) }
 {
     let text = texts_of(alloc, bytes)?;
     check_bundle(alloc, text.as_slice())?;

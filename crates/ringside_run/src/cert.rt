@@ -1,5 +1,8 @@
 //! A certificate for a bundle, and why there is none.
 
+ghost use Rattle.std.specs.Prelude.{IfOk};
+ghost use Rattle.ringside_run.specs.Made.{IsCertOf};
+
 use crate::bundle::texts_of;
 use crate::study::Work;
 use crate::why::push_words_of;
@@ -13,13 +16,20 @@ use words::Words;
 const GIVEN_UP: &[u8; 268] =
     b"refused: the search for fewer chains was given up after 100,000,000 looks\n  Some node has more chains than it may have transfers open. Fewer may be enough, so a certificate may exist.\n  Let copies of that node wait directly for earlier ones: then no search is needed.\n";
 
+// A certificate for a bundle with a change: a plan is made first.
+fn cert_of_change(alloc: Global, bytes: &[u8]) -> Result<Vec<u8>, Refusal>
+    ensures { IfOk result (λ text. IsCertOf bytes.now text.items) }
+{
+    let text = texts_of(alloc, bytes)?;
+    cert_bundle(alloc, text.as_slice())
+}
+
 /// What `cert_bundle` says of a bundle; where that has a change, a plan is made first.
-pub(crate) fn cert_of(alloc: Global, bytes: &[u8]) -> Result<Vec<u8>, Refusal> {
+pub(crate) fn cert_of(alloc: Global, bytes: &[u8]) -> Result<Vec<u8>, Refusal>
+    ensures certified { IfOk result (λ text. IsCertOf bytes.now text.items) }
+{
     match kind_of(bytes) {
-        Kind::Change => {
-            let text = texts_of(alloc, bytes)?;
-            cert_bundle(alloc, text.as_slice())
-        }
+        Kind::Change => cert_of_change(alloc, bytes),
         Kind::Plan | Kind::History => cert_bundle(alloc, bytes),
     }
 }

@@ -10,12 +10,13 @@ mod program;
 mod show;
 mod steps;
 mod study;
+mod trail;
 mod why;
 mod windows;
 
 pub use after::after_bundle;
 pub use bundle::whole_bundle;
-pub use program::{end_without_memory, end_without_words, run};
+pub use program::{end_without_memory, end_without_words, run, run_job};
 pub use ringplan_jobs::{Unwatched, Watch};
 pub use ringside_plans::{cert_bundle, goal_bundle, wish_bundle};
 pub use show::{draw_bundle, show_bundle};

@@ -1,5 +1,11 @@
 //! The program, over any input and any output.
 
+ghost use Rattle.std.specs.Prelude.{◌≡◌, ◌++◌, ℕ, List, IfOk};
+ghost use Rattle.ring_names.specs.Refusals.{line_of, number_of};
+ghost use Rattle.ringplan_jobs.specs.Answers.{refused_status};
+ghost use Rattle.ringplan_jobs.specs.Io.{Prints, Tells};
+ghost use Rattle.ringside_run.specs.Made.{IsAnswered, IsMade, Runs, Says};
+
 use crate::after::{after_bundle, push_open};
 use crate::bundle::whole_bundle;
 use crate::cert::{cert_of, push_why_none};
@@ -44,28 +50,48 @@ pub fn run<S: AsStr, R: Read + Drop, W: Write, P: Watch>(
     watch: &P,
 ) -> u8 {
     match parse(alloc, words) {
-        CommandLine::Do(job) => {
-            let found = answer_of_input(&Work { alloc, watch }, &job, input);
-            tell(alloc, found, output)
-        }
+        CommandLine::Do(job) => run_job(&Work { alloc, watch }, &job, input, output),
         CommandLine::Help(text) => finish(output, text.as_slice(), 0),
         CommandLine::Refused(text) => finish(output, text.as_slice(), REFUSED),
         CommandLine::OutOfMemory => end_without_memory(output),
     }
 }
 
+/// Does a job with the whole input, prints what comes of it, and returns the exit status, as `run` does.
+pub fn run_job<R: Read + Drop, W: Write, P: Watch>(
+    work: &Work<P>,
+    job: &Job,
+    input: &mut R,
+    output: &mut W,
+) -> u8
+    // Status 0 comes only with what the job makes of the bytes that were read; what is printed then is all of that.
+    ensures { (bytes : List ℕ) × Tells (R.remaining input.old) bytes
+        × Runs job.now bytes (W.contents output.old) (W.contents output.new) result }
+{
+    match answer_of_input(work, job, input) {
+        Ok(answer) => finish(output, answer.output.as_slice(), answer.status),
+        Err(_) => end_without_memory(output),
+    }
+}
+
 /// Says that memory was refused, and returns the exit status of that, 3.
-pub fn end_without_memory<W: Write>(output: &mut W) -> u8 {
+pub fn end_without_memory<W: Write>(output: &mut W) -> u8
+    ensures { Prints (W.contents output.old) (W.contents output.new) (line_of Refusal.OutOfMemory) 3 result }
+{
     finish(output, NO_MEMORY, FAILED)
 }
 
 /// Says that the words of a command line are no text, and returns the exit status of that, 2.
-pub fn end_without_words<W: Write>(output: &mut W) -> u8 {
+pub fn end_without_words<W: Write>(output: &mut W) -> u8
+    ensures { Prints (W.contents output.old) (W.contents output.new) NO_WORDS.now 2 result }
+{
     finish(output, NO_WORDS, REFUSED)
 }
 
 // What is made of the bundle.
-fn make_of<W: Watch>(work: &Work<W>, making: &Making, bytes: &[u8]) -> Result<Vec<u8>, Refusal> {
+fn make_of<W: Watch>(work: &Work<W>, making: &Making, bytes: &[u8]) -> Result<Vec<u8>, Refusal>
+    ensures { IfOk result (λ text. IsMade making.now bytes.now text.items) }
+{
     match making {
         Making::Bundle => whole_bundle(work.alloc, bytes),
         Making::Cert => cert_of(work.alloc, bytes),
@@ -80,25 +106,27 @@ fn make_of<W: Watch>(work: &Work<W>, making: &Making, bytes: &[u8]) -> Result<Ve
     }
 }
 
-// What is made of the bundle, or the refusal's line and why.
-fn made<W: Watch>(work: &Work<W>, making: &Making, bytes: &[u8]) -> Result<Answer, Refusal> {
-    let found = make_of(work, making, bytes);
-    let mut words = Words::new(work.alloc);
-    match &found {
-        Ok(_) | Err(Refusal::OutOfMemory) => {}
-        Err(refusal) => push_said(work, &mut words, making, bytes, refusal)?,
+// The text that is made of the bundle, or the refusal's line and why.
+fn made<W: Watch>(work: &Work<W>, making: &Making, bytes: &[u8]) -> Result<Answer, Refusal>
+    ensures { IfOk result (λ a. a.status ≡ 0 → IsMade making.now bytes.now a.output.items) }
+{
+    match make_of(work, making, bytes) {
+        Ok(output) => Ok(Answer { output, status: 0 }),
+        Err(refusal) => {
+            let mut words = Words::new(work.alloc);
+            push_said(work, &mut words, making, bytes, &refusal)?;
+            refused_with(work.alloc, refusal, words)
+        }
     }
-    answer_with(work.alloc, found, words)
 }
 
-// The answer, and behind a refusal's line those words.
-fn answer_with(
-    alloc: Global,
-    found: Result<Vec<u8>, Refusal>,
-    words: Words,
-) -> Result<Answer, Refusal> {
+// A refusal's line and its status, and behind the line those words.
+fn refused_with(alloc: Global, refusal: Refusal, words: Words) -> Result<Answer, Refusal>
+    ensures { IfOk result (λ a. (more : List ℕ) × (a.output.items ≡ line_of refusal ++ more)
+        × (a.status ≡ refused_status (number_of refusal))) }
+{
     let words = words.end()?;
-    let mut answer = answer_of(alloc, found)?;
+    let mut answer = answer_of(alloc, Err(refusal))?;
     answer.output.extend_from_slice(words.as_slice())?;
     Ok(answer)
 }
@@ -112,6 +140,7 @@ fn push_said<W: Watch>(
     refusal: &Refusal,
 ) -> Result<(), Refusal> {
     match (making, refusal) {
+        (_, Refusal::OutOfMemory) => Err(Refusal::OutOfMemory),
         (Making::Cert, _) => push_why_none(work, out, bytes, refusal),
         (Making::After, Refusal::WrongStage(step)) => push_open(work, out, bytes, *step),
         (Making::Windows(_), _) => push_windows_words(work, out, bytes, refusal),
@@ -123,10 +152,23 @@ fn push_said<W: Watch>(
 }
 
 // The answer where the input was not read.
-fn refused<W: Watch>(work: &Work<W>, refusal: Refusal) -> Result<Answer, Refusal> {
+fn unread<W: Watch>(work: &Work<W>, refusal: Refusal) -> Result<Answer, Refusal>
+    ensures { IfOk result (λ a. (more : List ℕ) × (a.output.items ≡ line_of refusal ++ more)
+        × (a.status ≡ refused_status (number_of refusal))) }
+{
     let mut words = Words::new(work.alloc);
     push_words_of(work, &mut words, b"", &refusal)?;
-    answer_with(work.alloc, Err(refusal), words)
+    refused_with(work.alloc, refusal, words)
+}
+
+// The answer to a job with these bytes.
+fn answer_to<W: Watch>(work: &Work<W>, job: &Job, bytes: &[u8]) -> Result<Answer, Refusal>
+    ensures { IfOk result (λ a. IsAnswered job.now bytes.now a.output.items a.status) }
+{
+    match job {
+        Job::Why => why_bundle(work, bytes),
+        Job::Make(making) => made(work, making, bytes),
+    }
 }
 
 // The answer to a job with the whole input.
@@ -134,31 +176,20 @@ fn answer_of_input<R: Read + Drop, P: Watch>(
     work: &Work<P>,
     job: &Job,
     input: &mut R,
-) -> Result<Answer, Refusal> {
-    let bytes = match read_all(work.alloc, input) {
-        Ok(bytes) => bytes,
-        Err(refusal) => return refused(work, refusal),
-    };
-    match job {
-        Job::Why => why_bundle(work, bytes.as_slice()),
-        Job::Make(making) => made(work, making, bytes.as_slice()),
-    }
-}
-
-// Prints the answer, and returns its exit status.
-fn tell<W: Write>(alloc: Global, found: Result<Answer, Refusal>, output: &mut W) -> u8 {
-    let answer = match found {
-        Ok(answer) => Ok(answer),
-        Err(refusal) => answer_of(alloc, Err(refusal)),
-    };
-    match answer {
-        Ok(answer) => finish(output, answer.output.as_slice(), answer.status),
-        Err(_) => end_without_memory(output),
+) -> Result<Answer, Refusal>
+    ensures { IfOk result (λ a. (bytes : List ℕ) × Tells (R.remaining input.old) bytes
+        × Says job.now bytes a.output.items a.status) }
+{
+    match read_all(work.alloc, input) {
+        Ok(bytes) => answer_to(work, job, bytes.as_slice()),
+        Err(refusal) => unread(work, refusal),
     }
 }
 
 // Prints the text, and ends with the status, or with 3 where the output fails.
-fn finish<W: Write>(output: &mut W, text: &[u8], status: u8) -> u8 {
+fn finish<W: Write>(output: &mut W, text: &[u8], status: u8) -> u8
+    ensures { Prints (W.contents output.old) (W.contents output.new) text.now status result }
+{
     match write_all(output, text) {
         Ok(()) => status,
         Err(_) => FAILED,

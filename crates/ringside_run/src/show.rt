@@ -1,5 +1,8 @@
 //! Summaries and pictures.
 
+ghost use Rattle.std.specs.Prelude.{OnOk};
+ghost use Rattle.ringside_run.specs.Studies.{HasApproved};
+
 use crate::study::{Study, Work, studied};
 use plan_picture::{Sheet, picture};
 use plan_scene::{Progress, Scene};
@@ -34,7 +37,10 @@ fn shape_of(asked: Asked) -> Shape {
 }
 
 /// The summary of a bundle's plan, where the checker accepts it; with a history its progress. Refused is what `studied` refuses.
-pub fn show_bundle<W: Watch>(work: &Work<W>, bytes: &[u8], wish: Wish) -> Result<Vec<u8>, Refusal> {
+pub fn show_bundle<W: Watch>(work: &Work<W>, bytes: &[u8], wish: Wish) -> Result<Vec<u8>, Refusal>
+    // It comes only where the checker accepted the bundle's plan.
+    ensures approved { OnOk result (HasApproved bytes.now) }
+{
     let found = studied(work, bytes)?;
     let Shown { scene, progress } = shown_by(work.alloc, &found)?;
     let view = View {
@@ -49,7 +55,10 @@ pub fn show_bundle<W: Watch>(work: &Work<W>, bytes: &[u8], wish: Wish) -> Result
 }
 
 /// The picture of a bundle's plan as SVG, where the checker accepts it; with a history that of the run's progress. Refused is what `studied` refuses.
-pub fn draw_bundle<W: Watch>(work: &Work<W>, bytes: &[u8]) -> Result<Vec<u8>, Refusal> {
+pub fn draw_bundle<W: Watch>(work: &Work<W>, bytes: &[u8]) -> Result<Vec<u8>, Refusal>
+    // It comes only where the checker accepted the bundle's plan.
+    ensures approved { OnOk result (HasApproved bytes.now) }
+{
     let found = studied(work, bytes)?;
     let Shown { scene, progress } = shown_by(work.alloc, &found)?;
     let run = progress.as_ref();

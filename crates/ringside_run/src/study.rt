@@ -1,8 +1,9 @@
 //! A bundle whose plan the checker accepts.
 
-ghost use Rattle.std.specs.Prelude.{◌≡◌, None, IfOk, IfSome};
+ghost use Rattle.std.specs.Prelude.{◌≡◌, ◌≤◌, None, length, IfOk, IfSome, OnOk};
 ghost use Rattle.plan_text.specs.Valid.{Suits};
-ghost use Rattle.ringside_run.specs.Studies.{IsStudyOf, HasHistory};
+ghost use Rattle.ring_replay.specs.Replays.{IsHistory};
+ghost use Rattle.ringside_run.specs.Studies.{IsStudyOf, IsRecorded};
 
 use crate::changing::study_change;
 use history_text::read_replay;
@@ -60,21 +61,30 @@ fn study_plan(alloc: Global, bytes: &[u8]) -> Result<Study, Refusal>
     accepted(alloc, bundle.ring, bundle.plan, bundle.cert)
 }
 
+// Asks whether the history is a run of the approved plan.
+fn follow<W: Watch>(work: &Work<W>, approved: &Approved, history: &[Entry]) -> Result<(), Refusal>
+    requires { length history.now ≤ 1000000 }
+    ensures { OnOk result (IsHistory approved.now.ring approved.now.plan history.now) }
+{
+    let _ = replay_watched(work.alloc, approved, history, work.watch)?;
+    Ok(())
+}
+
 // A bundle with a history.
 fn study_history<W: Watch>(work: &Work<W>, bytes: &[u8]) -> Result<Study, Refusal>
     ensures of { IfOk result (λ s. IsStudyOf bytes.now s.approved.ring s.approved.plan) }
-    ensures history { IfOk result (λ _. HasHistory bytes.now) }
+    ensures history { IfOk result
+        (λ s. IfSome s.history (λ h. IsRecorded bytes.now s.approved.ring s.approved.plan h.items)) }
 {
     let bundle = read_replay(work.alloc, bytes)?;
-    let mut found = accepted(work.alloc, bundle.ring, bundle.plan, bundle.cert)?;
-    let _ = replay_watched(
-        work.alloc,
-        &found.approved,
-        bundle.history.as_slice(),
-        work.watch,
-    )?;
-    found.history = Some(bundle.history);
-    Ok(found)
+    let found = accepted(work.alloc, bundle.ring, bundle.plan, bundle.cert)?;
+    follow(work, &found.approved, bundle.history.as_slice())?;
+    let Study { approved, cert, .. } = found;
+    Ok(Study {
+        approved,
+        cert,
+        history: Some(bundle.history),
+    })
 }
 
 /// The plan of a bundle, where the checker accepts it; where the bundle has a change, a plan is made first. Refused is the first fault of the texts, what the
@@ -82,8 +92,9 @@ fn study_history<W: Watch>(work: &Work<W>, bytes: &[u8]) -> Result<Study, Refusa
 pub fn studied<W: Watch>(work: &Work<W>, bytes: &[u8]) -> Result<Study, Refusal>
     // The ring and the plan are those of the bundle, or the plan makes its change.
     ensures of { IfOk result (λ s. IsStudyOf bytes.now s.approved.ring s.approved.plan) }
-    // What has happened comes of a history in the bundle.
-    ensures history { IfOk result (λ s. IfSome s.history (λ _. HasHistory bytes.now)) }
+    // What has happened is the bundle's history, and a run of the plan.
+    ensures history { IfOk result
+        (λ s. IfSome s.history (λ h. IsRecorded bytes.now s.approved.ring s.approved.plan h.items)) }
 {
     match kind_of(bytes) {
         Kind::Change => study_change(work.alloc, bytes),

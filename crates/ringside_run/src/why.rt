@@ -1,14 +1,20 @@
 //! Why a bundle is refused.
 
-ghost use Rattle.std.specs.Prelude.{◌≡◌, ◌≢◌, IfOk};
+ghost use Rattle.std.specs.Prelude.{◌≡◌, ◌≢◌, Ok, IfOk, IfNone, IsTrue};
+ghost use Rattle.texts.specs.Left.{whole_text};
+ghost use Rattle.ring_script.specs.Bundles.{bundle_at};
+ghost use Rattle.ring_script.specs.declared.bundle.Bundle.{Bundle as TheBundle};
+ghost use Rattle.ring_script.specs.declared.bundle.Kind.TheVariants as kind;
 ghost use Rattle.ringplan_jobs.specs.Verdict.{TextsKeepPromises};
-ghost use Rattle.ringside_run.specs.Why.{AnswersCheck};
+ghost use Rattle.ringside_run.specs.Studies.{HasApproved};
+ghost use Rattle.ringside_run.specs.Why.{AnswersCheck, IsWhy};
 
 use crate::study::{Study, Work, studied};
+use crate::trail::Trail;
 use change_text::{Wanted, read_wanted};
 use history_text::read_replay;
 use plan_check::{Approved, check};
-use plan_runs::{Entry, Event};
+use plan_runs::{Entry, Event, Reply};
 use plan_words::{Read, tell_plan};
 use ring_names::Refusal;
 use ringplan_jobs::{
@@ -309,55 +315,66 @@ fn tell_entry<W: Watch>(
         let line = line_behind(bytes, 1).saturating_add(1).saturating_add(step);
         said.beside_with(line, b"step #", &[], &[step]);
     }
-    tell_reply(work, said, &found.approved, history, entry as usize)
-}
-
-// Says what the reply to the entry's event should have been, unless that is refused.
-fn tell_reply<W: Watch>(
-    work: &Work<W>,
-    said: &mut Said,
-    approved: &Approved,
-    history: &[Entry],
-    place: usize,
-) -> Result<(), Refusal> {
-    let mut text = Vec::new(work.alloc);
-    if due(work, &mut text, approved, history, place)? {
-        said.note_with(b"The reply that was due: `@`.", &[text.as_slice()], &[]);
+    let Some((before, _)) = history.split_at_checked(entry as usize) else {
+        return Ok(());
+    };
+    let trail = Trail {
+        ring: found.approved.ring(),
+        plan: found.approved.plan(),
+        history: before,
+        line: line_behind(bytes, 3).saturating_add(1),
+    };
+    match due(work, &found.approved, before, &wrong.event)? {
+        Some(reply) => tell_reply(work.alloc, said, &trail, wrong, &reply),
+        None => Ok(()),
     }
-    Ok(())
 }
 
-// The reply to an entry's event, behind the entries in front of it; false where it is refused.
+// Says what the reply should have been, and where the puts came from in which it differs.
+fn tell_reply(
+    alloc: Global,
+    said: &mut Said,
+    trail: &Trail,
+    wrong: &Entry,
+    reply: &Reply,
+) -> Result<(), Refusal> {
+    let mut text = Vec::new(alloc);
+    reply.write_text(&mut text)?;
+    said.note_with(b"The reply that was due: `@`.", &[text.as_slice()], &[]);
+    trail.tell(alloc, said, wrong, reply)
+}
+
+// The reply to an event after those entries; None where it is refused.
 fn due<W: Watch>(
     work: &Work<W>,
-    out: &mut Vec<u8>,
     approved: &Approved,
-    history: &[Entry],
-    place: usize,
-) -> Result<bool, Refusal> {
-    if place >= history.len() || place > 1_000_000 {
-        return Ok(false);
+    before: &[Entry],
+    event: &Event,
+) -> Result<Option<Reply>, Refusal> {
+    if before.len() > 1_000_000 {
+        return Ok(None);
     }
-    match replay_watched(work.alloc, approved, &history[..place], work.watch) {
-        Ok(mut world) => reply_of(&mut world, out, &history[place].event),
-        Err(Refusal::OutOfMemory) => Err(Refusal::OutOfMemory),
-        Err(_) => Ok(false),
+    match replay_watched(work.alloc, approved, before, work.watch) {
+        Ok(mut world) => reply_of(&mut world, event),
+        Err(refusal) => none_unless_memory(refusal),
     }
 }
 
-// The reply of the world to the event; false where it is refused.
-fn reply_of(world: &mut World, out: &mut Vec<u8>, event: &Event) -> Result<bool, Refusal> {
+// The reply of the world to the event; None where it is refused.
+fn reply_of(world: &mut World, event: &Event) -> Result<Option<Reply>, Refusal> {
     if world.puts() == u32::MAX || world.gets() == u32::MAX {
-        return Ok(false);
+        return Ok(None);
     }
     match world.apply(event) {
-        Ok(reply) => {
-            reply.write_text(out)?;
-            Ok(true)
-        }
-        Err(Refusal::OutOfMemory) => Err(Refusal::OutOfMemory),
-        Err(_) => Ok(false),
+        Ok(reply) => Ok(Some(reply)),
+        Err(refusal) => none_unless_memory(refusal),
     }
+}
+
+// No reply, but where memory is out.
+fn none_unless_memory(refusal: Refusal) -> Result<Option<Reply>, Refusal> {
+    unless_memory(refusal)?;
+    Ok(None)
 }
 
 // Adds why a bundle is refused so, in words: nothing where there is no more to say than its line.
@@ -416,9 +433,21 @@ fn push_yes<W: Watch>(work: &Work<W>, out: &mut Words, bytes: &[u8]) -> Result<(
     Ok(())
 }
 
+// Whether the bytes are the texts of a ring, a plan and a certificate, and no more.
+fn is_plan(alloc: Global, bytes: &[u8]) -> Result<bool, Refusal>
+    ensures { IfOk result
+        (λ b. (x : TheBundle) → whole_text (bundle_at kind.Check) bytes.now ≡ Ok x → IsTrue b) }
+{
+    match read_bundle(alloc, Sections::Check, bytes) {
+        Ok(_) => Ok(true),
+        Err(Refusal::OutOfMemory) => Err(Refusal::OutOfMemory),
+        Err(_) => Ok(false),
+    }
+}
+
 // Why a ring, a plan and its certificate are accepted or refused.
 fn why_plan<W: Watch>(work: &Work<W>, bytes: &[u8]) -> Result<Answer, Refusal>
-    ensures { IfOk result (AnswersCheck bytes.now) }
+    ensures { IfOk result (λ a. AnswersCheck bytes.now a.output.items a.status) }
 {
     let found = make(work.alloc, Job::Check, bytes);
     let mut words = Words::new(work.alloc);
@@ -432,15 +461,19 @@ fn why_plan<W: Watch>(work: &Work<W>, bytes: &[u8]) -> Result<Answer, Refusal>
     Ok(answer)
 }
 
-// Adds why a bundle with a change or a history is accepted or refused, and tells which.
+// Adds why a bundle with a change or a history is accepted or refused, and gives the refusal.
 fn push_more<W: Watch>(
     work: &Work<W>,
     out: &mut Words,
     bytes: &[u8],
-) -> Result<Option<Refusal>, Refusal> {
+) -> Result<Option<Refusal>, Refusal>
+    ensures { IfOk result (λ r. IfNone r (HasApproved bytes.now)) }
+{
     match studied(work, bytes) {
         Ok(found) => {
             push_accepted(out, &found);
+            // The plan is approved, which the prover knows once it is read.
+            let _ = found.approved.plan();
             Ok(None)
         }
         Err(refusal) => {
@@ -451,8 +484,10 @@ fn push_more<W: Watch>(
     }
 }
 
-// The same with the line in front.
-fn why_more<W: Watch>(work: &Work<W>, bytes: &[u8]) -> Result<Answer, Refusal> {
+// Why a bundle with a change or a history is accepted or refused.
+fn why_more<W: Watch>(work: &Work<W>, bytes: &[u8]) -> Result<Answer, Refusal>
+    ensures { IfOk result (λ a. a.status ≡ 0 → HasApproved bytes.now) }
+{
     let mut words = Words::new(work.alloc);
     let found = match push_more(work, &mut words, bytes)? {
         Some(refusal) => Err(refusal),
@@ -466,7 +501,13 @@ fn why_more<W: Watch>(work: &Work<W>, bytes: &[u8]) -> Result<Answer, Refusal> {
 
 /// What the checker says of a bundle, and why: its line, and then words with the lines concerned and a mend, where there is one. Of a bundle with a change the
 /// planner's refusal or the yes to its plan, of one with a history also whether that is a run. The status is that of the line.
-pub fn why_bundle<W: Watch>(work: &Work<W>, bytes: &[u8]) -> Result<Answer, Refusal> {
+pub fn why_bundle<W: Watch>(work: &Work<W>, bytes: &[u8]) -> Result<Answer, Refusal>
+    // Status 0 comes only where the plan keeps its promises; of a ring, a plan and a certificate line and status are those of a check.
+    ensures why { IfOk result (λ a. IsWhy bytes.now a.output.items a.status) }
+{
+    if is_plan(work.alloc, bytes)? {
+        return why_plan(work, bytes);
+    }
     match kind_of(bytes) {
         Kind::Plan => why_plan(work, bytes),
         Kind::Change | Kind::History => why_more(work, bytes),

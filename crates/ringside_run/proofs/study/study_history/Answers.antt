@@ -1,5 +1,7 @@
-use Rattle.std.proofs.Common.{sym}
+use Rattle.std.proofs.Common.{List, refl, sym, subst}
 use Rattle.history_text.specs.Replays.{parts_of}
+use Rattle.plan_runs.specs.declared.event.Entry.{Entry}
+use Rattle.ring_replay.specs.Replays.{IsHistory}
 use Rattle.ringside_run.specs.Studies.{of_history}
 use Rattle.ringside_run.proofs.study.study_history.Goals as goal
 
@@ -8,3 +10,9 @@ returns-clause-of g c =
     let b = c.in_ok-bundle in
     let same = c.in_ok-found.ensures.same in
     of_history (parts_of b.bundle) b.ensures.read (sym same.0) (sym same.1)
+
+pub returns-clause-history : goal.returns-clause-history
+returns-clause-history g c =
+    let b = c.in_ok-bundle in
+    let same = c.in_ok-found.ensures.same in
+    record { parts = parts_of b.bundle; read = b.ensures.read; ring_is = sym same.0; plan_is = sym same.1; history_is = refl; run = subst (λ (h : List Entry). IsHistory c.in_ok-found.found.approved.ring c.in_ok-found.found.approved.plan h) c.as_slice.ensures.value c.in_ok-follow.ensures }
