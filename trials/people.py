@@ -5,7 +5,8 @@ Mends: each example, and each with edits as people make them (a typo, a line tha
 lost), drawn from a fixed seed. The first line and the status of `why` are those of `ringplan check`, and each mend that it shows is applied and asked of it. Walks: mends alone, one behind the other, from a refused example to an accepted one.
 Large plans: 131,072 steps over 1,024 nodes, and 32,768 rounds, by each command: the seconds are printed (10 are a fault), at most 200 MB, a picture of at most 1 MB, and
 the bytes that people.sums names. Terminals: a replay of a long history tells a terminal on standard error how far it is, and wipes that out; what is no terminal is told
-nothing. Pictures: each is well-formed, and the words of each bar are no wider than it."""
+nothing. Pictures: each is well-formed, and the words of each bar are no wider than it. Trails: of random plays with one reply spoiled at a read or at the end of a
+get, `why` shows the line of each put that differs, no line that the bundle has not, and at most twelve beside the entry and the one before it."""
 import glob, hashlib, os, pty, random, re, resource, subprocess, sys, tempfile, time, xml.dom.minidom
 
 top = os.path.dirname(os.path.dirname(os.path.abspath(__file__)))
@@ -257,6 +258,67 @@ def terminals(puts):
     return len(lines)
 
 
+def traffic(draw):
+    """A bundle of a move under random traffic, and its entries: what `play` refuses is left out."""
+    with open(f"{top}/examples/move_one_slot.bundle") as it:
+        texts = it.read()
+    steps = ["do 0", "do 1", "open 2", *(f"chunk 2 {c}" for c in range(16)), "close 2", "do 3", "do 4"]
+    events, puts, gets = [], 0, 0
+    for _ in range(120):
+        kind = draw.randrange(9)
+        if kind == 0:
+            events.append(f"put w{draw.randrange(3)} {draw.choice('ab')} x31" + (f" seen {draw.randrange(gets)}" if gets and draw.random() < 0.5 else ""))
+            puts += 1
+        elif kind == 1:
+            events.append(f"get {draw.choice('ab')}")
+            gets += 1
+        elif kind == 2:
+            events.append(f"{draw.choice(['down', 'up'])} {draw.choice('abcd')}")
+        elif kind == 3 and puts:
+            events.append(f"hint {draw.randrange(puts)} {draw.randrange(3)} {draw.choice('abcd')}")
+        elif kind in (4, 5) and gets:
+            get = draw.randrange(max(0, gets - 3), gets)
+            events.append(draw.choice([f"read {get} {draw.randrange(3)}", f"read {get} {draw.randrange(3)}", f"endget {get}"]))
+        elif kind == 6 and steps:
+            events.append(steps.pop(0))
+        elif kind == 7:
+            events.append(f"handoff {draw.choice('abcd')} 0 {draw.randrange(3)}")
+        elif puts:
+            events.append(f"write {draw.randrange(max(0, puts - 4), puts)} {draw.randrange(3)}")
+    played = ask(PLAN, "play", texts + "\n".join(["script 1", *events, "end"]) + "\n")[0].split("\n")
+    said = [line.split(" ", 1)[1] for line in played[1 : len(events) + 1]]
+    return texts, [(event, reply) for event, reply in zip(events, said) if not reply.startswith("no ")]
+
+
+def trails(runs):
+    """How many spoiled replies were asked of `why`, and the most lines of a trail."""
+    asked, most = 0, 0
+    for seed in range(runs):
+        draw = random.Random(seed)
+        texts, entries = traffic(draw)
+        places = [k for k, (_, reply) in enumerate(entries) if reply.split(" ")[0] in ("found", "reply")]
+        starts = [k for k, (event, _) in enumerate(entries) if event.startswith("put ")]
+        if not places or not starts:
+            continue
+        place = draw.choice(places)
+        word, *due = entries[place][1].split(" ")
+        other = draw.randrange(len(starts))
+        told = set(map(int, due)) ^ {other}
+        spoiled = " ".join([word, *map(str, sorted(told))])
+        lines = texts + "history 1\n" + "".join(f"{event} = {spoiled if k == place else reply}\n" for k, (event, reply) in enumerate(entries)) + "end\n"
+        shown, status = ask(SIDE, "why", lines)
+        all_lines, first = lines.split("\n"), texts.count("\n") + 2
+        seen = {int(number): words for number, words in re.findall(r"^ *(\d+) \| (.*)$", shown, re.M)}
+        asked, most = asked + 1, max(most, len(seen) - 2)
+        if shown.split("\n")[0] != f"no 70 {place} 0" or status != 1:
+            faults.append(f"trail {seed}: {shown[:60]!r}")
+        if any(all_lines[number - 1] != words for number, words in seen.items()) or len(seen) > 14:
+            faults.append(f"trail {seed}: lines that the bundle has not, or too many: {sorted(seen)}")
+        if starts[other] < place and first + starts[other] not in seen:
+            faults.append(f"trail {seed}: put {other} is not shown")
+    return asked, most
+
+
 faults = []
 (bundles, shown, accepted), numbers = mends()
 print(f"mends: {bundles} bundles, {shown} mends shown, {accepted} of them accepted; refusals by number: " + ", ".join(f"{k}: {numbers[k]}" for k in sorted(numbers, key=int)))
@@ -272,6 +334,7 @@ for path in sorted(glob.glob(f"{top}/examples/*.bundle") + glob.glob(f"{top}/cra
     if not status:
         pictures, bars = pictures + 1, bars + look(path, drawn)
 print(f"pictures: {pictures} well-formed, {bars} bars with words")
+print("trails: {} spoiled replies, at most {} lines each".format(*trails(300)))
 for it in faults:
     print(it)
 print(f"{len(faults)} faults")
