@@ -1,6 +1,7 @@
 #!/usr/bin/env python3
 """Makes the pictures of docs/GALLERY.md by `ringside draw`, from examples and from two larger rings that it writes. It wants the program as it is built.
-With a folder behind its name it writes the bundles of the two there, and a PNG of each picture by Chromium, for who looks at them."""
+With `--compare` it writes nothing, and ends with 1 where a picture is not what `ringside draw` makes of its bundle. With a folder it writes the bundles of
+the two rings there, and a PNG of each picture by Chromium."""
 import os, subprocess, sys
 
 here = os.path.dirname(os.path.abspath(__file__))
@@ -46,10 +47,17 @@ PICTURES = {
     "rounds": rounds(1000),
 }
 
+only_compares = sys.argv[1:] == ["--compare"]
+old = []
 for name, bundle in PICTURES.items():
     drawn = subprocess.run([SIDE, "draw"], input=bundle.encode(), stdout=subprocess.PIPE)
     if drawn.returncode:
         sys.exit(f"{name}: {drawn.stdout.decode()}")
+    if only_compares:
+        with open(f"{here}/{name}.svg", "rb") as it:
+            if it.read() != drawn.stdout:
+                old.append(name)
+        continue
     with open(f"{here}/{name}.svg", "wb") as it:
         it.write(drawn.stdout)
     if len(sys.argv) > 1:
@@ -59,3 +67,6 @@ for name, bundle in PICTURES.items():
         wide, high = int(size.split(b'"')[0]), int(size.split(b'height="', 1)[1].split(b'"')[0])
         words = ["chromium", "--headless", "--no-sandbox", "--disable-gpu", f"--window-size={wide},{high}", f"--screenshot={sys.argv[1]}/{name}.png", f"file://{here}/{name}.svg"]
         subprocess.run(words, stderr=subprocess.DEVNULL, timeout=120)
+if only_compares:
+    print(f"pictures: {len(PICTURES)}, {len(old)} are old {' '.join(old)}")
+    sys.exit(1 if old else 0)
