@@ -6,6 +6,7 @@ mod bundle;
 mod cert;
 mod changing;
 mod goal_words;
+mod history_words;
 mod program;
 mod show;
 mod steps;
