@@ -1,5 +1,5 @@
 #!/usr/bin/env python3
-"""How good the rings are that `ringside goal` makes of a change, with weights and racks: the owners behind its plan, against the exact best of small rings, which a
+"""How good the rings are that `ringplan goal` makes of a change, with weights and racks: the owners behind its plan, against the exact best of small rings, which a
 minimum cost flow finds. It wants the program as it is built. `trials/wishes.py COUNT` tries so many random changes, else 300.
 
 It says how many share racks, or lack slots of joiners' parts, or move more than the best, and ends with 0 only where none does; and how many are as even as the best, and the worst ratio."""
@@ -10,7 +10,7 @@ import sys
 from math import lcm
 
 TOP = os.path.dirname(os.path.dirname(os.path.abspath(__file__)))
-SIDE = os.path.join(TOP, "crates", "ringside", "out", "ringside")
+RUN = os.path.join(TOP, "crates", "ringplan", "out", "ringplan")
 
 
 def case(number):
@@ -51,7 +51,7 @@ def asked(number):
 def answered(number):
     """The owners by number behind the plan, and None where there is none."""
     names, options, text = asked(number)
-    ran = subprocess.run([SIDE, "goal", *options], input=text.encode(), stdout=subprocess.PIPE, timeout=60)
+    ran = subprocess.run([RUN, "goal", *options], input=text.encode(), stdout=subprocess.PIPE, stderr=subprocess.STDOUT, timeout=60)
     out = ran.stdout.decode()
     if out.startswith("no 28\n") and ran.returncode == 1:
         return None

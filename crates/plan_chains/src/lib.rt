@@ -8,7 +8,6 @@ mod links;
 mod looks;
 mod matching;
 mod needs;
-mod numbers;
 mod order;
 mod paths;
 mod runs;
@@ -17,5 +16,4 @@ mod stays;
 
 pub use excess::{Excess, overload};
 pub use finding::{Outcome, certificate};
-pub use numbers::{at, small};
 pub use order::Order;

@@ -1,8 +1,8 @@
 //! Which steps of a plan must come before which.
 
-use crate::numbers::{at, place_of, set};
 use crate::paths::Paths;
 use crate::stays::{Stay, Stays};
+use numbers::{at, place_of, set};
 use plan_text::{Plan, Source, Step};
 use ring_names::{NodeId, Refusal, Slot};
 use ring_table::Ring;

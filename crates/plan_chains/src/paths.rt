@@ -1,7 +1,7 @@
 //! Paths of dependencies.
 
 use crate::looks::Looks;
-use crate::numbers::{at, set};
+use numbers::{at, set};
 use plan_order::Ends;
 use plan_text::Plan;
 use ring_names::{Refusal, Rows};

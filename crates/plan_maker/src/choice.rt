@@ -1,172 +1,118 @@
-//! Which slots move, and which nodes enter their partitions.
+//! The choice of the owners that are wished for.
 
-use crate::members::{Members, Role};
-use plan_rounds::{Groups, Layout, at, lower, raise, set, small};
-use ring_names::{Lists, Refusal};
+use crate::filling::fill;
+use crate::giving::give;
+use crate::outcome::Wished;
+use crate::thinning::thin;
+use find_flow::{Members, Role, Search, Seats, Wish, balance_all, raise_all};
+use ring_names::{Listed, NodeId, Refusal};
 use ring_table::Ring;
 use std::alloc::Global;
 
-/// Which slots move, and which nodes enter each partition in their place.
-#[derive(Drop)]
-pub struct Choice {
-    /// The owners of all slots, and which of these move.
-    pub layout: Layout,
-    // the places of the slots of each owner
-    owned: Lists<u32, u32>,
-    // how many slots of each partition move
-    counts: Vec<u32>,
-    // the nodes that enter, in as many places for each partition as it has slots
-    entering: Vec<u32>,
-    // how many enter each partition
-    entered: Vec<u32>,
-    // the slots that each member owns in the end
-    load: Vec<u32>,
-    // the copies of each group
-    copies: Vec<u32>,
+// What is counted before the slots of nodes that join are given.
+#[derive(Clone, Copy)]
+struct Counts {
+    left: u32,
+    mended: u32,
+    shared_before: u32,
 }
 
-impl Choice {
-    /// No slot is known yet.
-    pub fn new(alloc: Global, ring: &Ring) -> Choice {
-        Choice {
-            layout: Layout::new(alloc, ring),
-            owned: Lists::new(alloc),
-            counts: Vec::new(alloc),
-            entering: Vec::new(alloc),
-            entered: Vec::new(alloc),
-            load: Vec::new(alloc),
-            copies: Vec::new(alloc),
+// The owners by partition and index.
+fn rows(alloc: Global, seats: &Seats) -> Result<Vec<Listed<NodeId>>, Refusal> {
+    let mut rows = Vec::new(alloc);
+    for partition in 0..seats.partitions {
+        let mut row = Vec::new(alloc);
+        for index in 0..seats.slots {
+            row.push(NodeId(seats.now(seats.place(partition, index))))?;
+        }
+        rows.push(Listed::from_vec(row))?;
+    }
+    Ok(rows)
+}
+
+// How many slots the nodes that join own.
+fn joined(seats: &Seats) -> u32 {
+    let mut joined = 0u32;
+    for node in 0..seats.members.count() {
+        if seats.members.role(node) == Role::Joins {
+            joined = joined.saturating_add(seats.load(node));
         }
     }
+    joined
+}
 
-    /// The slots of the nodes that leave move, and nobody enters yet.
-    pub fn begin(&mut self, alloc: Global, ring: &Ring, members: &Members) -> Result<(), Refusal> {
-        self.layout.fill(ring)?;
-        self.own()?;
-        self.counts = vec![in alloc; 0u32; self.layout.partitions]?;
-        self.entering = vec![in alloc; 0u32; self.layout.total()]?;
-        self.entered = vec![in alloc; 0u32; self.layout.partitions]?;
-        self.load = vec![in alloc; 0u32; members.count() as usize]?;
-        self.copies = vec![in alloc; 0u32; members.groups.len()]?;
-        for place in 0..self.layout.total() {
-            let owner = self.layout.owner(place);
-            raise(&mut self.load, owner as usize);
-            if members.role(owner) == Role::Leaves {
-                self.give(&members.groups, place);
-            }
-        }
-        Ok(())
+// What each member owns in the end, and its weight.
+fn loads(alloc: Global, seats: &Seats) -> Result<(Vec<u32>, Vec<u32>), Refusal> {
+    let (mut loads, mut weights) = (Vec::new(alloc), Vec::new(alloc));
+    for node in 0..seats.members.count() {
+        loads.push(seats.load(node))?;
+        weights.push(if seats.members.is_after(node) {
+            seats.members.weight(node)
+        } else {
+            0
+        })?;
     }
+    Ok((loads, weights))
+}
 
-    // What each owner owns.
-    fn own(&mut self) -> Result<(), Refusal> {
-        for place in 0..self.layout.total() {
-            self.owned.add(self.layout.owner(place), small(place))?;
-        }
-        Ok(())
-    }
+fn told(alloc: Global, seats: &Seats, counts: Counts) -> Result<Wished, Refusal> {
+    let (loads, weights) = loads(alloc, seats)?;
+    Ok(Wished {
+        rows: rows(alloc, seats)?,
+        moves: seats.moved(),
+        left: counts.left,
+        mended: counts.mended,
+        joined: joined(seats),
+        shared_before: counts.shared_before,
+        shared: seats.shared(),
+        loads,
+        weights,
+    })
+}
 
-    /// The places of the slots that the node owns.
-    pub fn places(&self, node: u32) -> &[u32] {
-        self.owned.items(&node)
-    }
+// Gives those that join their parts, and mends the balance, as far as looks allow.
+fn settle(alloc: Global, seats: &mut Seats) -> Result<(), Refusal> {
+    let mut search = Search::new(alloc);
+    search.fill(alloc)?;
+    raise_all(alloc, seats, &mut search, 0)?;
+    give(alloc, seats)?;
+    raise_all(alloc, seats, &mut search, 1)?;
+    balance_all(alloc, seats, &mut search)
+}
 
-    /// Lets the slot at the place move away from its owner.
-    pub fn give(&mut self, groups: &Groups, place: usize) {
-        let owner = self.layout.owner(place);
-        let partition = self.layout.partition(place);
-        self.layout.let_move(place, true);
-        raise(&mut self.counts, partition);
-        lower(&mut self.load, owner as usize);
-        raise(&mut self.copies, groups.giver(owner));
-    }
+// The owners that are wished for, and what is counted on the way.
+fn choose(alloc: Global, ring: &Ring, seats: &mut Seats) -> Result<Counts, Refusal> {
+    seats.begin(alloc, ring)?;
+    let left = seats.moved();
+    let shared_before = seats.shared_before();
+    thin(seats);
+    let mended = seats.moved().saturating_sub(left);
+    fill(alloc, seats)?;
+    settle(alloc, seats)?;
+    Ok(Counts {
+        left,
+        mended,
+        shared_before,
+    })
+}
 
-    /// Lets the slot at the place stay with its owner after all.
-    pub fn keep(&mut self, groups: &Groups, place: usize) {
-        let owner = self.layout.owner(place);
-        let partition = self.layout.partition(place);
-        self.layout.let_move(place, false);
-        lower(&mut self.counts, partition);
-        raise(&mut self.load, owner as usize);
-        lower(&mut self.copies, groups.giver(owner));
-    }
+fn wished_of(alloc: Global, ring: &Ring, members: &Members) -> Result<Wished, Refusal> {
+    let mut seats = Seats::new(alloc, ring, members);
+    let counts = choose(alloc, ring, &mut seats)?;
+    told(alloc, &seats, counts)
+}
 
-    /// Lets the node enter the partition.
-    pub fn enter(&mut self, groups: &Groups, partition: usize, node: u32) {
-        let count = at(&self.entered, partition);
-        let place = self.layout.place(partition, count as usize);
-        set(&mut self.entering, place, node);
-        raise(&mut self.entered, partition);
-        raise(&mut self.load, node as usize);
-        raise(&mut self.copies, groups.taker(node));
-    }
-
-    /// Whether the node owns a slot of the partition, one that moves too.
-    pub fn owns(&self, partition: usize, node: u32) -> bool {
-        for index in 0..self.layout.slots {
-            if self.layout.owner(self.layout.place(partition, index)) == node {
-                return true;
-            }
-        }
-        false
-    }
-
-    /// Whether the node owns a slot of the partition, or enters it.
-    pub fn holds(&self, partition: usize, node: u32) -> bool {
-        for place in 0..at(&self.entered, partition) as usize {
-            if self.entering(partition, place) == node {
-                return true;
-            }
-        }
-        self.owns(partition, node)
-    }
-
-    /// Lets one node enter the partition in the place of another.
-    pub fn replace(&mut self, groups: &Groups, partition: usize, old: u32, new: u32) {
-        for turn in 0..at(&self.entered, partition) as usize {
-            let place = self.layout.place(partition, turn);
-            if at(&self.entering, place) == old {
-                set(&mut self.entering, place, new);
-                lower(&mut self.load, old as usize);
-                raise(&mut self.load, new as usize);
-                lower(&mut self.copies, groups.taker(old));
-                raise(&mut self.copies, groups.taker(new));
-                return;
-            }
-        }
-    }
-
-    /// How many nodes enter the partition.
-    pub fn entered(&self, partition: usize) -> u32 {
-        at(&self.entered, partition)
-    }
-
-    /// The node that enters the partition at that place among those that do.
-    pub fn entering(&self, partition: usize, place: usize) -> u32 {
-        at(&self.entering, self.layout.place(partition, place))
-    }
-
-    /// How many slots of the partition move.
-    pub fn moving(&self, partition: usize) -> u32 {
-        at(&self.counts, partition)
-    }
-
-    /// How many more slots of the partition could move to members that join: each of them owns at most one.
-    pub fn room(&self, members: &Members, partition: usize) -> u32 {
-        small(members.joiners.len().min(self.layout.slots)).saturating_sub(self.moving(partition))
-    }
-
-    /// How many slots the member owns in the end.
-    pub fn load(&self, node: u32) -> u32 {
-        at(&self.load, node as usize)
-    }
-
-    /// How much of its allowance a group with one copy more uses, in parts of 64: of two that are as good otherwise the lesser is taken.
-    pub fn crowd(&self, groups: &Groups, group: usize) -> u32 {
-        let copies = at(&self.copies, group).saturating_add(1).saturating_mul(64);
-        match copies.checked_div(groups.most(group)) {
-            Some(crowd) => crowd,
-            None => copies,
-        }
-    }
+/// The owners that are wished for: each partition has as many different ones as it has slots, all of them members in the end.
+///
+/// In this order: each partition has the fewest pairs of slots in one rack; the nodes that join lack as few slots of their parts as can be, where the part
+/// of a node is that of its weight among all members in the end, rounded down, and at most one slot of each partition; as few slots move as can be; and
+/// the slots are spread as evenly by weight as these moves allow: the sum over the members of the square of a member's slots by its weight is the least. The
+/// balance, and rare slots of parts, stay behind the best where the search for them would take too long.
+///
+/// Refused is a wish that no ring fulfils, as `NoPlan`: a join of a member, a leave of another than a member, and leaves that leave fewer members than a
+/// partition has slots; and want of memory as `OutOfMemory`. The same input gives the same owners.
+pub fn wished(alloc: Global, ring: &Ring, wish: &Wish) -> Result<Wished, Refusal> {
+    let mut members = Members::new(alloc);
+    members.begin(alloc, ring, wish)?;
+    wished_of(alloc, ring, &members)
 }

@@ -1,14 +1,20 @@
-//! The planner: a plan that changes a ring's members, and its certificate. Nothing is promised of what it makes but that the checker
-//! can be asked: it moves as few slots as the change needs, spreads them evenly, and lets as many transfers run at once as allowances permit.
+//! The planner: the owners that are wished for where some nodes join and some leave, by weight and apart by racks, and the plan of a change with its
+//! certificate. Nothing is promised of what it makes but that the checker can be asked. It keeps the slots of a partition apart by racks, moves as few
+//! slots as that and the change need, takes the most even of such choices, and lets as many transfers run at once as allowances permit.
 #![tactic(auto)]
 
 mod choice;
-mod givers;
+mod filling;
+mod giving;
 mod maker;
-mod members;
-mod mending;
-mod moves;
-mod ranked;
+mod outcome;
+mod ranks;
 mod takers;
+mod thinning;
+mod tidings;
 
+pub use choice::wished;
+pub use find_flow::Wish;
 pub use maker::make;
+pub use outcome::Wished;
+pub use tidings::push_words;

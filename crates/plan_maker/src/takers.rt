@@ -1,109 +1,97 @@
-//! The members that enter a partition, the one that shall most in front.
+//! The member that takes a slot which nobody owns.
 
-use crate::choice::Choice;
-use crate::members::{Members, Role};
-use crate::ranked::Ranked;
-use plan_rounds::small;
+use crate::ranks::{NOBODY, Ranks, Who, sooner};
+use find_flow::Seats;
+use numbers::NONE;
 use ring_names::Refusal;
 use std::alloc::Global;
-use std::cmp::Reverse;
-use std::collections::BinaryHeap;
 
-// Members by how much they shall enter. Those that join come first until they have their share; then those with few slots, with much
-// allowance left, and of small number.
+/// Members by how soon they take slots.
 #[derive(Drop)]
-struct Takers {
-    heap: BinaryHeap<Ranked>,
-    // those that were looked at for a partition
-    aside: Vec<Ranked>,
-    // the share of each member that joins
-    fair: u32,
+pub struct Takers {
+    ranks: Ranks,
+    // from where to where members may not take a slot, in the order of the racks
+    blocked: Vec<(u32, u32)>,
 }
 
 impl Takers {
-    // The members that stay, and those that join too where these take turns with them.
-    fn gather(
-        &mut self,
-        choice: &Choice,
-        members: &Members,
-        with_joiners: bool,
-    ) -> Result<(), Refusal> {
-        for node in 0..members.count() {
-            let role = members.role(node);
-            if role == Role::Stays || (with_joiners && role == Role::Joins) {
-                let taker = self.ranked(choice, members, node);
-                self.heap.push(taker)?;
+    /// No member is known yet.
+    pub fn new(alloc: Global, who: Who) -> Takers {
+        Takers {
+            ranks: Ranks::new(alloc, who),
+            blocked: Vec::new(alloc),
+        }
+    }
+
+    /// All members have their ranks.
+    pub fn fill(&mut self, alloc: Global, seats: &Seats) -> Result<(), Refusal> {
+        self.ranks.fill(alloc, seats)
+    }
+
+    /// Whether no member is left.
+    pub fn is_empty(&self) -> bool {
+        self.ranks.is_empty()
+    }
+
+    /// The member's rank is another.
+    pub fn renew(&mut self, seats: &Seats, node: u32) {
+        self.ranks.renew(seats, node);
+    }
+
+    // Those that own a slot of the partition, or did before.
+    fn block_owners(&mut self, seats: &Seats, partition: usize) -> Result<(), Refusal> {
+        for index in 0..seats.slots {
+            let place = seats.place(partition, index);
+            for node in [seats.first(place), seats.now(place)] {
+                if node != NONE {
+                    let turn = seats.members.racks.turn(node);
+                    self.blocked.push((turn, turn.saturating_add(1)))?;
+                }
             }
         }
         Ok(())
     }
 
-    fn ranked(&self, choice: &Choice, members: &Members, node: u32) -> Ranked {
-        let groups = &members.groups;
-        let load = choice.load(node);
-        Ranked {
-            is_sated: Reverse(members.role(node) != Role::Joins || load >= self.fair),
-            load: 0 - i64::from(load),
-            crowd: Reverse(choice.crowd(groups, groups.taker(node))),
-            node: Reverse(node),
-        }
-    }
-
-    // Lets that many members enter the partition that own no slot of it. Refused as `NoPlan` where there are not as many.
-    fn enter(
-        &mut self,
-        choice: &mut Choice,
-        members: &Members,
-        partition: usize,
-        count: u32,
-    ) -> Result<(), Refusal> {
-        let mut left = count;
-        for _ in 0..self.heap.len() {
-            if left == 0 {
-                break;
-            }
-            let Some(mut first) = self.heap.pop() else {
-                break;
-            };
-            let node = first.node.0;
-            if !choice.owns(partition, node) {
-                choice.enter(&members.groups, partition, node);
-                first = self.ranked(choice, members, node);
-                left = left.saturating_sub(1);
-            }
-            self.aside.push(first)?;
-        }
-        for taker in self.aside.iter() {
-            self.heap.push(*taker)?;
-        }
-        self.aside.clear();
-        if left > 0 {
-            return Err(Refusal::NoPlan);
+    // The rack, where the partition has no room for it.
+    fn block_rack(&mut self, seats: &Seats, partition: usize, rack: usize) -> Result<(), Refusal> {
+        let racks = &seats.members.racks;
+        let count = seats.count(partition, rack);
+        let is_open = count < racks.most(rack) && seats.is_open(partition);
+        if !is_open && count >= racks.least(rack) {
+            self.blocked.push(racks.span(rack))?;
         }
         Ok(())
     }
-}
 
-/// Lets members enter the partitions in the place of slots that move: those that join take turns with those that stay, or only those that stay
-/// enter, for slots for which those that join are too few. Refused as `NoPlan` where there are not as many.
-pub fn enter(
-    alloc: Global,
-    choice: &mut Choice,
-    members: &Members,
-    fair: u32,
-    with_joiners: bool,
-) -> Result<(), Refusal> {
-    let mut takers = Takers {
-        heap: BinaryHeap::new(alloc),
-        aside: Vec::new(alloc),
-        fair,
-    };
-    takers.gather(choice, members, with_joiners)?;
-    let joiners = small(members.joiners.len());
-    let spared = if with_joiners { 0 } else { joiners };
-    for partition in 0..choice.layout.partitions {
-        let count = choice.moving(partition).saturating_sub(spared);
-        takers.enter(choice, members, partition, count)?;
+    // All racks without room. Where no rack must have a slot these are among those that have one.
+    fn block_racks(&mut self, seats: &Seats, partition: usize) -> Result<(), Refusal> {
+        if seats.members.racks.level > 0 {
+            for rack in seats.members.racks.with_members.iter() {
+                self.block_rack(seats, partition, *rack as usize)?;
+            }
+            return Ok(());
+        }
+        for index in 0..seats.slots {
+            if let Some(rack) = seats.rack_at(seats.place(partition, index)) {
+                self.block_rack(seats, partition, rack)?;
+            }
+        }
+        Ok(())
     }
-    Ok(())
+
+    /// The member that comes first of those that may take a slot of the partition which nobody owns, if there is one.
+    pub fn taker(&mut self, seats: &Seats, partition: usize) -> Result<Option<u32>, Refusal> {
+        self.blocked.clear();
+        self.block_owners(seats, partition)?;
+        self.block_racks(seats, partition)?;
+        self.blocked.sort_unstable();
+        let mut first = NOBODY;
+        let mut from = 0u32;
+        for (start, end) in self.blocked.iter() {
+            first = sooner(first, self.ranks.first(from, *start));
+            from = from.max(*end);
+        }
+        first = sooner(first, self.ranks.first(from, self.ranks.len()));
+        Ok(first.node())
+    }
 }

@@ -6,9 +6,9 @@
 use crate::groups::Groups;
 use crate::listed::fewest;
 use crate::moving::Move;
-use crate::numbers::{at, parts, set, small};
 use crate::round_sets::RoundSets;
 use crate::rounds::counts;
+use numbers::{at, parts, set, small};
 use ring_names::Refusal;
 use std::alloc::Global;
 

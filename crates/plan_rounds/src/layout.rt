@@ -1,6 +1,6 @@
 //! The owners of all slots, and which slots move.
 
-use crate::numbers::{at, set};
+use numbers::{at, set};
 use ring_names::{Refusal, Slot};
 use ring_table::Ring;
 use std::alloc::Global;
@@ -48,14 +48,6 @@ impl Layout {
         self.place(slot.partition as usize, slot.index as usize)
     }
 
-    /// The partition of the slot at the place.
-    pub fn partition(&self, place: usize) -> usize {
-        match place.checked_div(self.slots) {
-            Some(partition) => partition,
-            None => 0,
-        }
-    }
-
     /// How many slots there are.
     pub fn total(&self) -> usize {
         self.owners.len()
@@ -71,8 +63,8 @@ impl Layout {
         at(&self.moving, place) != 0
     }
 
-    /// Lets the slot at the place move away from its owner, or stay.
-    pub fn let_move(&mut self, place: usize, moves: bool) {
-        set(&mut self.moving, place, u32::from(moves));
+    /// Lets the slot at the place move away from its owner.
+    pub fn let_move(&mut self, place: usize) {
+        set(&mut self.moving, place, 1);
     }
 }

@@ -5,11 +5,11 @@
 mod both_texts;
 mod colours;
 mod groups;
+mod handover;
 mod later;
 mod layout;
 mod listed;
 mod moving;
-mod numbers;
 mod phases;
 mod round_sets;
 mod rounds;
@@ -19,11 +19,6 @@ mod urgency;
 mod writing;
 
 pub use both_texts::write_texts;
-pub use groups::Groups;
-pub use layout::Layout;
-pub use moving::Move;
-pub use numbers::{at, lower, raise, set, small};
-pub use rounds::Schedule;
+pub use handover::Handover;
 pub use steps::add;
-pub use task::Task;
-pub use writing::{Turnover, write};
+pub use writing::Turnover;

@@ -1,9 +1,9 @@
 //! Copies that list slots which move, and the moves of these slots behind them.
 
 use crate::later::Later;
-use crate::numbers::{at, row, set, small};
 use crate::task::Task;
 use crate::urgency::by_urgency;
+use numbers::{at, row, set, small};
 use ring_names::{Refusal, Rows};
 use std::alloc::Global;
 

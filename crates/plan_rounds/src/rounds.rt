@@ -5,10 +5,10 @@ use crate::groups::Groups;
 use crate::later::Later;
 use crate::listed::{around, fewest, is_worth, sources};
 use crate::moving::Move;
-use crate::numbers::{raise, row, small};
 use crate::phases::{behind, in_phases};
 use crate::task::Task;
 use crate::urgency::by_urgency;
+use numbers::{raise, row, small};
 use ring_names::{Refusal, Rows};
 use std::alloc::Global;
 
@@ -106,9 +106,8 @@ impl Schedule {
         Ok(true)
     }
 
-    /// Gives the moves rounds, in each of which a group has no more copies than its allowance. Copies read their owners, but where it saves at
-    /// least half of the rounds some list R slots that do not move.
-    pub fn fill(&mut self, task: &Task) -> Result<(), Refusal> {
+    // Copies read their owners, but where it saves at least half of the rounds some list R slots that do not move.
+    fn read_all(&mut self, task: &Task) -> Result<(), Refusal> {
         if let Some(listed) = sources(task)? {
             self.listed = listed;
             self.add_parties(task)?;
@@ -156,13 +155,13 @@ impl Schedule {
         Ok(())
     }
 
-    /// The same, where nodes may both give and take, and some groups may be barred: no copy reads from these, but lists R slots of other owners. Refused as
-    /// `NoPlan` where a partition has not as many.
-    pub fn fill_around(&mut self, task: &Task) -> Result<(), Refusal> {
+    /// Gives the moves rounds, in each of which a group has no more copies than its allowance. No copy reads from a barred group, but lists R slots of other
+    /// owners. Refused as `NoPlan` where a partition has not as many.
+    pub fn fill(&mut self, task: &Task) -> Result<(), Refusal> {
         if task.groups.has_barred() {
             return self.read_around(task);
         }
-        self.fill(task)?;
+        self.read_all(task)?;
         // Where nodes both give and take, colours may need more.
         self.try_urgency(task, &Rows::new(task.alloc))
     }

@@ -1,10 +1,10 @@
 //! The steps of a plan and the chains of its certificate, out of moves and their rounds.
 
 use crate::moving::Move;
-use crate::numbers::{at, row, small};
 use crate::rounds::Schedule;
 use crate::steps::add;
 use crate::task::Task;
+use numbers::{at, row, small};
 use plan_cert::{Cert, Chains};
 use plan_text::{Plan, Source, Step};
 use ring_names::{Listed, Lists, NodeId, Refusal, Rows, Slot};

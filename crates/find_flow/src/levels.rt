@@ -2,9 +2,9 @@
 
 use crate::meeting::Aim;
 use crate::members::Role;
-use crate::numbers::{NONE, at, set};
 use crate::search::Search;
 use crate::seats::Seats;
+use numbers::{NONE, at, set};
 use ring_names::Refusal;
 use std::alloc::Global;
 
@@ -30,7 +30,7 @@ fn find_level(
     levels: &mut [u32],
     level: u32,
 ) -> Result<(), Refusal> {
-    search.meeting.set_levels(alloc, seats, level)?;
+    search.set_levels(alloc, seats, level)?;
     for node in 0..seats.members.count() {
         if at(levels, node as usize) == NONE && !search.meeting.is_frozen(node) {
             if !seats.is_costly(node) {
@@ -39,7 +39,7 @@ fn find_level(
             }
             match search.find(alloc, seats, node, Aim::Part)? {
                 Some(from) => mark_path(search, levels, from, level),
-                None => search.meeting.freeze(),
+                None => search.freeze(alloc, seats)?,
             }
         }
     }
@@ -56,6 +56,7 @@ pub fn find_levels(alloc: Global, seats: &Seats, search: &mut Search) -> Result<
     }
     find_level(alloc, seats, search, &mut levels, 0)?;
     find_level(alloc, seats, search, &mut levels, 1)?;
+    search.forget();
     search.meeting.thaw(alloc, levels.len())?;
     for node in 0..seats.members.count() {
         search

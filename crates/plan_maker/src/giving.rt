@@ -1,10 +1,9 @@
 //! The members that give slots to those that join, besides the slots that move anyway.
 
-use crate::members::Role;
-use crate::numbers::{at, raise};
 use crate::ranks::Who;
-use crate::seats::Seats;
 use crate::takers::Takers;
+use find_flow::{Role, Seats};
+use numbers::{at, raise};
 use ring_names::Refusal;
 use std::alloc::Global;
 use std::cmp::Reverse;

@@ -2,8 +2,8 @@
 
 use crate::grouped::Grouped;
 use crate::meeting::{Link, Meeting};
-use crate::numbers::{at, set, small};
 use crate::seats::Seats;
+use numbers::{at, set, small, swap};
 use ring_names::Refusal;
 use std::alloc::Global;
 
@@ -11,16 +11,20 @@ use std::alloc::Global;
 #[derive(Drop)]
 pub struct Offers {
     level: u32,
-    // whether the lists are those of the search
-    is_open: bool,
-    // the places of the slots
+    // whether the lists are those of the seats and the levels as they are now
+    is_known: bool,
+    // the places of the slots, but for those of owners at which no search goes on
     places: Vec<u32>,
-    // the same by rack, but for those that are used
+    // the same by rack; a rack's group is cut before those that the search has used
     by_rack: Grouped,
-    // the partitions of the slots, but for those that are used
+    // the partitions of the slots; the first of them are not used by the search
     partitions: Vec<u32>,
+    // how many partitions are not used
+    unused: usize,
     // of each rack 1 where the partitions were gone through
     done: Vec<u32>,
+    // the racks whose slots or whose partitions were gone through
+    touched: Vec<u32>,
     // racks, and partitions with room for them that were not used as the one who asked has a slot there
     late: Vec<(u32, u32)>,
 }
@@ -30,43 +34,64 @@ impl Offers {
     pub fn new(alloc: Global, level: u32) -> Offers {
         Offers {
             level,
-            is_open: false,
+            is_known: false,
             places: Vec::new(alloc),
             by_rack: Grouped::new(alloc),
             partitions: Vec::new(alloc),
+            unused: 0,
             done: Vec::new(alloc),
+            touched: Vec::new(alloc),
             late: Vec::new(alloc),
         }
     }
 
-    /// Another search begins.
-    pub fn close(&mut self) {
-        self.is_open = false;
+    /// The seats or the levels change.
+    pub fn forget(&mut self) {
+        self.is_known = false;
     }
 
-    // The slots of the level, and their partitions.
+    /// Another search begins: nothing is used yet.
+    pub fn close(&mut self) {
+        for rack in self.touched.iter() {
+            self.by_rack.restore(*rack as usize);
+            set(&mut self.done, *rack as usize, 0);
+        }
+        self.touched.clear();
+        self.unused = self.partitions.len();
+        self.late.clear();
+    }
+
+    // The slots of the level.
     fn gather(&mut self, seats: &Seats, meeting: &Meeting) -> Result<(), Refusal> {
         self.places.clear();
-        self.partitions.clear();
-        let mut place = 0usize;
-        for partition in 0..seats.partitions {
-            let count = self.places.len();
-            for _ in 0..seats.slots {
-                if meeting.level_at(seats, place) == self.level {
-                    self.places.push(small(place))?;
-                }
-                place = place.saturating_add(1);
-            }
-            if self.places.len() > count {
-                self.partitions.push(small(partition))?;
+        for place in 0..seats.total() {
+            let is_on_level = meeting.level_at(seats, place) == self.level;
+            if is_on_level && !meeting.is_frozen(seats.now(place)) {
+                self.places.push(small(place))?;
             }
         }
         Ok(())
     }
 
-    // Puts the slots into the lists of their racks.
+    // The partitions of the slots.
+    fn list_partitions(&mut self, seats: &Seats) -> Result<(), Refusal> {
+        self.partitions.clear();
+        let mut last = None;
+        for place in self.places.iter() {
+            let partition = seats.partition(*place as usize);
+            if last != Some(partition) {
+                self.partitions.push(small(partition))?;
+                last = Some(partition);
+            }
+        }
+        Ok(())
+    }
+
+    // Puts the slots into the lists of their racks and partitions, of which none is used yet.
     fn sort(&mut self, alloc: Global, seats: &Seats) -> Result<(), Refusal> {
+        self.list_partitions(seats)?;
         let racks = &seats.members.racks;
+        self.done = vec![in alloc; 0u32; racks.len()]?;
         self.by_rack.begin(alloc, racks.len())?;
         for place in self.places.iter() {
             self.by_rack.count(racks.of(seats.now(*place as usize)));
@@ -76,6 +101,8 @@ impl Offers {
             let rack = racks.of(seats.now(*place as usize));
             self.by_rack.put(rack, *place);
         }
+        self.touched.clear();
+        self.close();
         Ok(())
     }
 
@@ -86,15 +113,39 @@ impl Offers {
         seats: &Seats,
         meeting: &mut Meeting,
     ) -> Result<(), Refusal> {
-        if self.is_open {
+        if self.is_known {
             return Ok(());
         }
-        self.is_open = true;
-        self.gather(seats, meeting)?;
-        self.sort(alloc, seats)?;
-        self.done = vec![in alloc; 0u32; seats.members.racks.len()]?;
-        self.late.clear();
+        self.is_known = true;
         meeting.spend(small(seats.total()));
+        self.gather(seats, meeting)?;
+        self.sort(alloc, seats)
+    }
+
+    /// Drops the slots of owners at which no search goes on.
+    pub fn prune(
+        &mut self,
+        alloc: Global,
+        seats: &Seats,
+        meeting: &mut Meeting,
+    ) -> Result<(), Refusal> {
+        let count = self.places.len();
+        if !self.is_known || count == 0 {
+            return Ok(());
+        }
+        let mut kept = 0usize;
+        for turn in 0..count {
+            let place = at(&self.places, turn);
+            if !meeting.is_frozen(seats.now(place as usize)) {
+                set(&mut self.places, kept, place);
+                kept = kept.saturating_add(1);
+            }
+        }
+        self.places.truncate(kept);
+        meeting.spend(small(count));
+        if kept < count {
+            self.sort(alloc, seats)?;
+        }
         Ok(())
     }
 
@@ -107,12 +158,19 @@ impl Offers {
     ) -> Result<(), Refusal> {
         let rack = seats.members.racks.of(node);
         let (start, end) = (self.by_rack.start(rack), self.by_rack.end(rack));
+        if start >= end {
+            return Ok(());
+        }
+        self.touched.push(small(rack))?;
         let mut kept = start;
         for turn in start..end {
+            if !meeting.look() {
+                break;
+            }
             let place = self.by_rack.item(turn);
             let partition = seats.partition(place as usize);
             if seats.knows(partition, node) {
-                self.by_rack.write(kept, place);
+                self.by_rack.swap(kept, turn);
                 kept = kept.saturating_add(1);
             } else {
                 let to = node;
@@ -120,7 +178,6 @@ impl Offers {
             }
         }
         self.by_rack.cut(rack, kept);
-        meeting.spend(small(end.saturating_sub(start)));
         Ok(())
     }
 
@@ -132,7 +189,7 @@ impl Offers {
         link: Link,
     ) -> Result<bool, Refusal> {
         let rack = seats.members.racks.of(link.to);
-        if seats.count(link.partition, rack) >= seats.members.racks.most(rack) {
+        if !seats.has_room(link.partition, rack) {
             return Ok(false);
         }
         if seats.knows(link.partition, link.to) {
@@ -145,19 +202,19 @@ impl Offers {
 
     // The first of a rack goes through all partitions.
     fn use_all(&mut self, seats: &Seats, meeting: &mut Meeting, node: u32) -> Result<(), Refusal> {
-        let count = self.partitions.len();
         let mut kept = 0usize;
-        for turn in 0..count {
-            let number = at(&self.partitions, turn);
-            let partition = number as usize;
+        for turn in 0..self.unused {
+            if !meeting.look() {
+                break;
+            }
+            let partition = at(&self.partitions, turn) as usize;
             let to = node;
             if !self.use_partition(seats, meeting, Link { to, partition })? {
-                set(&mut self.partitions, kept, number);
+                swap(&mut self.partitions, kept, turn);
                 kept = kept.saturating_add(1);
             }
         }
-        self.partitions.truncate(kept);
-        meeting.spend(small(count));
+        self.unused = kept;
         Ok(())
     }
 
@@ -165,13 +222,15 @@ impl Offers {
     fn use_late(&mut self, seats: &Seats, meeting: &mut Meeting, node: u32) -> Result<(), Refusal> {
         let own = seats.members.racks.of(node);
         for (rack, number) in self.late.iter() {
+            if !meeting.look() {
+                break;
+            }
             let partition = *number as usize;
             if *rack as usize == own && !seats.knows(partition, node) {
                 let to = node;
                 meeting.meet_all(seats, Link { to, partition }, self.level)?;
             }
         }
-        meeting.spend(small(self.late.len()));
         Ok(())
     }
 
@@ -191,6 +250,7 @@ impl Offers {
             return self.use_late(seats, meeting, node);
         }
         set(&mut self.done, rack, 1);
+        self.touched.push(small(rack))?;
         self.use_all(seats, meeting, node)
     }
 }

@@ -7,6 +7,7 @@ use crate::levels::find_levels;
 use crate::meeting::Aim;
 use crate::search::Search;
 use crate::seats::Seats;
+use numbers::{set_word, word};
 use ring_names::Refusal;
 use std::alloc::Global;
 
@@ -18,7 +19,7 @@ fn raise(alloc: Global, seats: &mut Seats, search: &mut Search, node: u32) -> Re
         }
         match search.find(alloc, seats, node, Aim::Part)? {
             Some(from) => search.shift(seats, from),
-            None => search.meeting.freeze(),
+            None => search.freeze(alloc, seats)?,
         }
     }
     Ok(())
@@ -31,11 +32,29 @@ pub fn raise_all(
     search: &mut Search,
     level: u32,
 ) -> Result<(), Refusal> {
-    search.meeting.set_levels(alloc, seats, level)?;
+    search.set_levels(alloc, seats, level)?;
     for node in 0..seats.members.count() {
         raise(alloc, seats, search, node)?;
     }
     Ok(())
+}
+
+// Where the members of the level stand that would lack a slot of their part if they gave one, or the others.
+fn class(level: u32, is_costly: bool) -> usize {
+    level.saturating_mul(2).saturating_add(u32::from(is_costly)) as usize
+}
+
+// The greatest gain of a slot fewer among the members of each class.
+fn gains(alloc: Global, seats: &Seats, search: &Search) -> Result<Vec<u64>, Refusal> {
+    let mut gains = vec![in alloc; 0u64; 6]?;
+    for node in 0..seats.members.count() {
+        if seats.members.is_after(node) && !search.meeting.is_frozen(node) {
+            let place = class(search.meeting.level(node), seats.is_costly(node));
+            let gain = word(&gains, place).max(seats.give_price(node));
+            set_word(&mut gains, place, gain);
+        }
+    }
+    Ok(gains)
 }
 
 // Whether the balance may be mended by a slot more of the node.
@@ -47,11 +66,12 @@ fn takes_part(seats: &Seats, search: &Search, node: u32) -> bool {
     level == 0 || (level == 2 && seats.wants(node))
 }
 
-// The member with the fewest slots for its weight of those that take part.
-fn poorest(seats: &Seats, search: &Search) -> Option<u32> {
+// The member with the fewest slots for its weight of those that take part, and to which one with more for its weight could give.
+fn poorest(seats: &Seats, search: &Search, gains: &[u64]) -> Option<u32> {
     let mut found: Option<u32> = None;
     for node in 0..seats.members.count() {
-        if takes_part(seats, search, node) {
+        let gain = word(gains, class(search.meeting.level(node), seats.wants(node)));
+        if gain > seats.take_price(node) && takes_part(seats, search, node) {
             found = match found {
                 Some(other) if seats.take_price(other) <= seats.take_price(node) => Some(other),
                 _ => Some(node),
@@ -68,12 +88,13 @@ fn balance(alloc: Global, seats: &mut Seats, search: &mut Search) -> Result<(), 
         if search.meeting.is_spent() {
             break;
         }
-        let Some(first) = poorest(seats, search) else {
+        let gains = gains(alloc, seats, search)?;
+        let Some(first) = poorest(seats, search, &gains) else {
             break;
         };
         match search.find(alloc, seats, first, Aim::Balance)? {
             Some(from) => search.shift(seats, from),
-            None => search.meeting.freeze(),
+            None => search.freeze(alloc, seats)?,
         }
     }
     Ok(())

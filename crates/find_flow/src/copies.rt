@@ -1,6 +1,6 @@
 //! The copies in which each node takes part, beside its allowance.
 
-use crate::numbers::{at, lower, raise};
+use numbers::{at, lower, raise};
 use ring_names::Refusal;
 use ring_table::{Allowance, Ring};
 use std::alloc::Global;

@@ -32,6 +32,32 @@ impl Search {
         Ok(())
     }
 
+    /// The seats or the levels change.
+    pub fn forget(&mut self) {
+        for level in 0..self.offers.len() {
+            if let Some(offers) = self.offers.get_mut(level) {
+                offers.forget();
+            }
+        }
+    }
+
+    /// All nodes that join are on that level, and all others on level 0; nobody is frozen.
+    pub fn set_levels(&mut self, alloc: Global, seats: &Seats, level: u32) -> Result<(), Refusal> {
+        self.forget();
+        self.meeting.set_levels(alloc, seats, level)
+    }
+
+    /// No search goes on at those that were met.
+    pub fn freeze(&mut self, alloc: Global, seats: &Seats) -> Result<(), Refusal> {
+        self.meeting.freeze();
+        for level in 0..self.offers.len() {
+            if let Some(offers) = self.offers.get_mut(level) {
+                offers.prune(alloc, seats, &mut self.meeting)?;
+            }
+        }
+        Ok(())
+    }
+
     // Meets those that could have another slot move in place of one of the node's that moves, so that the node has that one again.
     fn meet_back(&mut self, seats: &Seats, node: u32) -> Result<(), Refusal> {
         if seats.members.role(node) != Role::Stays {
@@ -96,7 +122,8 @@ impl Search {
     }
 
     /// Hands slots on along the path from a member to the first.
-    pub fn shift(&self, seats: &mut Seats, from: u32) {
+    pub fn shift(&mut self, seats: &mut Seats, from: u32) {
+        self.forget();
         let mut node = from;
         for _ in 0..seats.members.count() {
             if node == self.meeting.first {

@@ -1,8 +1,8 @@
 //! What a wish comes to, in words.
 
-use crate::numbers::{at, quotient};
 use crate::outcome::Wished;
-use crate::wish::Wish;
+use find_flow::Wish;
+use numbers::{at, quotient, small};
 use ring_table::Ring;
 use words::Words;
 
@@ -17,11 +17,7 @@ fn name(ring: &Ring, node: u32) -> &[u8] {
 // Who joins: up to three names, else how many.
 fn push_joins(out: &mut Words, ring: &Ring, wish: &Wish) {
     if wish.joins.len() > 3 {
-        out.fill(
-            b"the # nodes that join",
-            &[],
-            &[crate::numbers::small(wish.joins.len())],
-        );
+        out.fill(b"the # nodes that join", &[], &[small(wish.joins.len())]);
         return;
     }
     let mut left = wish.joins.len();
@@ -93,7 +89,7 @@ fn is_poorer(wished: &Wished, one: u32, other: u32) -> bool {
 // The members with the fewest and with the most slots for their weights.
 fn farthest(wished: &Wished) -> Option<(u32, u32)> {
     let mut found: Option<(u32, u32)> = None;
-    for node in 0..crate::numbers::small(wished.weights.len()) {
+    for node in 0..small(wished.weights.len()) {
         if at(&wished.weights, node as usize) > 0 {
             found = match found {
                 None => Some((node, node)),

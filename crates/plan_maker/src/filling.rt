@@ -1,9 +1,9 @@
 //! Who takes the slots that nobody owns.
 
-use crate::numbers::NONE;
 use crate::ranks::Who;
-use crate::seats::Seats;
 use crate::takers::Takers;
+use find_flow::Seats;
+use numbers::NONE;
 use ring_names::Refusal;
 use std::alloc::Global;
 

@@ -5,8 +5,8 @@
 //! such that a slot is handed on from level to level alone: a slot that did not move is on level 1, and one that moved on that of its owner.
 
 use crate::members::Role;
-use crate::numbers::{NONE, at, set};
 use crate::seats::Seats;
+use numbers::{NONE, at, set, small};
 use ring_names::Refusal;
 use std::alloc::Global;
 
@@ -135,6 +135,12 @@ impl Meeting {
         self.looks = self.looks.saturating_sub(looks);
     }
 
+    /// Spends a look. Answers whether the search goes on.
+    pub fn look(&mut self) -> bool {
+        self.spend(1);
+        !self.is_over()
+    }
+
     /// Whether the search is at its end: one is found that can give a slot, or no look is left.
     pub fn is_over(&self) -> bool {
         self.found.is_some() || self.is_spent()
@@ -164,11 +170,7 @@ impl Meeting {
         }
         self.met.push(node)?;
         set(&mut self.to, place, link.to);
-        set(
-            &mut self.partitions,
-            place,
-            crate::numbers::small(link.partition),
-        );
+        set(&mut self.partitions, place, small(link.partition));
         if self.found.is_none() && self.can_give(seats, node) {
             self.found = Some(node);
         }
@@ -178,13 +180,19 @@ impl Meeting {
     /// Meets those that own a slot of the partition on that level and could hand it to the node of the link.
     pub fn meet_all(&mut self, seats: &Seats, link: Link, level: u32) -> Result<(), Refusal> {
         let rack = seats.members.racks.of(link.to);
+        let has_room = seats.has_room(link.partition, rack);
         for index in 0..seats.slots {
             let place = seats.place(link.partition, index);
-            if self.level_at(seats, place) == level && seats.suits(place, rack) {
-                self.meet(seats, seats.now(place), link)?;
+            if let (Some(old), true) = (
+                seats.rack_at(place),
+                self.level_at(seats, place) == level,
+            ) {
+                if old == rack || (has_room && seats.can_spare(link.partition, old)) {
+                    self.meet(seats, seats.now(place), link)?;
+                }
             }
         }
-        self.spend(crate::numbers::small(seats.slots));
+        self.spend(small(seats.slots));
         Ok(())
     }
 

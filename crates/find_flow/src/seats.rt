@@ -3,7 +3,7 @@
 use crate::copies::Copies;
 use crate::grouped::Grouped;
 use crate::members::{Members, Role};
-use crate::numbers::{NONE, at, lower, raise, set, small};
+use numbers::{NONE, at, lower, raise, set, small};
 use ring_names::Refusal;
 use ring_table::Ring;
 use std::alloc::Global;
@@ -181,7 +181,8 @@ impl<'a> Seats<'a> {
             return holes > 0;
         }
         let mut missing = 0u32;
-        for rack in 0..racks.len() {
+        for rack in racks.with_members.iter() {
+            let rack = *rack as usize;
             let lack = racks
                 .least(rack)
                 .saturating_sub(self.count(partition, rack));
@@ -190,16 +191,24 @@ impl<'a> Seats<'a> {
         missing < holes
     }
 
-    /// Whether somebody of the rack could own the slot in place of the one that owns it now.
-    pub fn suits(&self, place: usize, rack: usize) -> bool {
+    /// Whether the partition has room for one slot more in the rack.
+    pub fn has_room(&self, partition: usize, rack: usize) -> bool {
+        self.count(partition, rack) < self.members.racks.most(rack)
+    }
+
+    /// Whether a rack that has a slot of the partition may have one fewer.
+    pub fn can_spare(&self, partition: usize, rack: usize) -> bool {
+        let least = self.members.racks.least(rack);
+        least == 0 || self.count(partition, rack) > least
+    }
+
+    // Whether somebody of the rack could own the slot in place of the one that owns it now.
+    fn suits(&self, place: usize, rack: usize) -> bool {
         let partition = self.partition(place);
-        let racks = &self.members.racks;
         match self.rack_at(place) {
             None => false,
             Some(old) => {
-                old == rack
-                    || (self.count(partition, rack) < racks.most(rack)
-                        && self.count(partition, old) > racks.least(old))
+                old == rack || (self.has_room(partition, rack) && self.can_spare(partition, old))
             }
         }
     }

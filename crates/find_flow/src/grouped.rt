@@ -1,6 +1,6 @@
 //! Numbers in groups, one group behind the other.
 
-use crate::numbers::{at, raise, set};
+use numbers::{at, raise, set, small, swap};
 use ring_names::Refusal;
 use std::alloc::Global;
 
@@ -69,13 +69,19 @@ impl Grouped {
         at(&self.items, place)
     }
 
-    /// Writes a number at the place.
-    pub fn write(&mut self, place: usize, number: u32) {
-        set(&mut self.items, place, number);
+    /// Exchanges the numbers at two places.
+    pub fn swap(&mut self, one: usize, other: usize) {
+        swap(&mut self.items, one, other);
     }
 
     /// The group ends before that place.
     pub fn cut(&mut self, group: usize, end: usize) {
-        set(&mut self.ends, group, crate::numbers::small(end));
+        set(&mut self.ends, group, small(end));
+    }
+
+    /// The group, into which all was put, is as long as before it was cut.
+    pub fn restore(&mut self, group: usize) {
+        let end = at(&self.starts, group.saturating_add(1));
+        set(&mut self.ends, group, end);
     }
 }

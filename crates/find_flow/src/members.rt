@@ -1,8 +1,8 @@
 //! What a wish does to each node.
 
-use crate::numbers::{at, quotient, small};
 use crate::racks::Racks;
 use crate::wish::Wish;
+use numbers::{at, quotient, small};
 use ring_names::{NodeId, Refusal};
 use ring_table::Ring;
 use std::alloc::Global;
@@ -68,7 +68,7 @@ impl Members {
         if !wish.leaves.is_empty() && self.after < ring.n() {
             return Err(Refusal::NoPlan);
         }
-        self.racks.set_level(ring.n());
+        self.racks.set_level(ring.n())?;
         self.share(ring)
     }
 

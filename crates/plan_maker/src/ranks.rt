@@ -1,7 +1,7 @@
 //! The order in which members take slots.
 
-use crate::numbers::{NONE, small};
-use crate::seats::Seats;
+use find_flow::Seats;
+use numbers::{NONE, small};
 use ring_names::Refusal;
 use std::alloc::Global;
 

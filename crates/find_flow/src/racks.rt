@@ -3,7 +3,7 @@
 //! A partition has the fewest pairs of slots in one rack where its slots are spread as evenly as the racks' members allow: each rack has as many
 //! as the level says, or all its members if these are fewer, and some racks have one more.
 
-use crate::numbers::{at, raise, set, small};
+use numbers::{at, raise, set, small};
 use ring_names::Refusal;
 use std::alloc::Global;
 
@@ -20,6 +20,8 @@ pub struct Racks {
     firsts: Vec<u32>,
     // how many members each rack has in the end
     counts: Vec<u32>,
+    /// The racks that have members in the end. Where the level is not 0, these are at most as many as a partition has slots.
+    pub with_members: Vec<u32>,
     /// How many slots of a partition each rack has at least, if it has as many members.
     pub level: u32,
     /// How many racks have one slot more than that in each partition.
@@ -49,6 +51,7 @@ impl Racks {
             turns: Vec::new(alloc),
             firsts: Vec::new(alloc),
             counts: Vec::new(alloc),
+            with_members: Vec::new(alloc),
             level: 0,
             above: 0,
         }
@@ -89,14 +92,20 @@ impl Racks {
         sum
     }
 
-    /// Finds the level for partitions of so many slots, once all members are known.
-    pub fn set_level(&mut self, slots: u32) {
+    /// Finds the racks with members, and the level for partitions of so many slots, once all members are known.
+    pub fn set_level(&mut self, slots: u32) -> Result<(), Refusal> {
+        for rack in 0..self.len() {
+            if at(&self.counts, rack) > 0 {
+                self.with_members.push(small(rack))?;
+            }
+        }
         for level in 0..slots.saturating_add(1) {
             if self.sum(level) <= slots {
                 self.level = level;
             }
         }
         self.above = slots.saturating_sub(self.sum(self.level));
+        Ok(())
     }
 
     /// How many racks there are.

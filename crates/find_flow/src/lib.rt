@@ -1,0 +1,22 @@
+//! The search for owners of a ring's slots: who owns each slot before and now, what a wish makes of each node, and paths along which slots are handed on.
+//! Nothing is promised of it but that it answers.
+#![tactic(auto)]
+
+mod copies;
+mod grouped;
+mod levels;
+mod meeting;
+mod members;
+mod mending;
+mod offers;
+mod racks;
+mod search;
+mod seats;
+mod wish;
+
+pub use members::{Members, Role};
+pub use mending::{balance_all, raise_all};
+pub use racks::Racks;
+pub use search::Search;
+pub use seats::Seats;
+pub use wish::Wish;
