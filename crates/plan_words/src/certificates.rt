@@ -226,18 +226,50 @@ fn crowded(case: Case, node: u32) -> Option<(NodeSide, u32, u32)> {
     None
 }
 
-/// A node has more chains than its allowance.
-pub fn too_many_chains(case: Case, said: &mut Said, node: u32) {
+/// What is known of a way to have fewer chains of a node.
+#[derive(Clone, Copy, Debug, PartialEq, Eq)]
+pub enum Remedy {
+    /// Nothing: no other certificate was sought, or the search does not tell.
+    Unknown,
+    /// Another certificate, which the search finds and the checker accepts.
+    Certificate,
+    /// Another plan alone: no certificate has as few as the node bears.
+    Plan,
+}
+
+/// Says that a certificate has more chains of a node than its allowance, and what may mend that.
+pub fn too_many_chains(case: Case, said: &mut Said, node: u32, remedy: Remedy) {
     let Some((of, count, most)) = crowded(case, node) else {
         return said.title(b"a node has more chains than its allowance");
     };
     said.title_with(
-        b"@ may be in # transfers at once, and bears #",
+        b"the certificate has # chains of @, whose allowance is #",
         &[case.name(node)],
         &[count, most],
     );
     said.beside(case.node_line(node), b"its allowance");
     show_chains(case, said, node, Some(of.side));
+    if remedy == Remedy::Certificate {
+        return said.note(
+            b"The plan's order allows fewer: `ringplan cert < FILE > MENDED` finds them, and the checker then says yes.",
+        );
+    }
+    if remedy == Remedy::Plan {
+        said.note_with(
+            b"By the plan's order more than # of its copies may run at once, so no certificate has as few chains.",
+            &[],
+            &[most],
+        );
+    } else {
+        said.note(
+            b"The plan's order may allow fewer: `ringplan cert < FILE > MENDED` looks for them.",
+        );
+    }
+    join_chains(case, said, of)
+}
+
+// Says that two chains of that side of the node may be joined, and joins the last two, where it has them.
+fn join_chains(case: Case, said: &mut Said, of: NodeSide) {
     said.note(
         b"Each chain is one transfer at a time. Join two: let the first copy of one wait for the last of the other.",
     );

@@ -12,4 +12,5 @@ mod stages;
 mod telling;
 mod time;
 
+pub use certificates::Remedy;
 pub use telling::{Read, tell_plan};

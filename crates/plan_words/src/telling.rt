@@ -1,7 +1,7 @@
 //! Why a plan is refused.
 
 use crate::case::Case;
-use crate::certificates::{bad_path, chain_broken, cover_missing, too_many_chains};
+use crate::certificates::{Remedy, bad_path, chain_broken, cover_missing, too_many_chains};
 use crate::ends::Ends;
 use crate::holders::{not_joined, retired_in_use, shared_in_plan};
 use crate::sources::{bad_source, moving_source};
@@ -20,6 +20,8 @@ pub struct Read<'a> {
     pub ring: &'a Ring,
     pub plan: &'a Plan,
     pub cert: &'a Cert,
+    /// What is known of fewer chains, where the certificate has too many.
+    pub remedy: Remedy,
 }
 
 /// Says why the plan of a bundle is refused, where the checker refuses it so, and whether it does.
@@ -49,7 +51,7 @@ pub fn tell_plan(
         Refusal::BadPath(fact) => bad_path(case, said, *fact),
         Refusal::CoverMissing(node, step) => cover_missing(case, said, *node, *step)?,
         Refusal::ChainBroken(chain) => chain_broken(case, said, *chain)?,
-        Refusal::TooManyChains(node) => too_many_chains(case, said, *node),
+        Refusal::TooManyChains(node) => too_many_chains(case, said, *node, read.remedy),
         _ => return Ok(false),
     }
     Ok(true)

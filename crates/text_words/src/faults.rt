@@ -1,145 +1,70 @@
 //! Lines that are in the grammar and still refused.
 
-use crate::forms::{Part, part_of};
-use crate::near::Nearest;
+use crate::forms::Part;
+use crate::line::{Line, line_of};
+use crate::names::{declared, first_node};
 use crate::page::{Page, count_fields, field, number, place_of};
 use crate::said::Said;
-use ring_names::Refusal;
-use std::alloc::Global;
 use texts::Lines;
-
-/// A limit is passed.
-pub fn too_large(said: &mut Said, line: u32) {
-    if line == 0 {
-        return said.title(b"the bundle is larger than 67,108,864 bytes");
-    }
-    said.title_with(
-        b"a number or a count in line # is above its limit",
-        &[],
-        &[line],
-    );
-    said.fault(line, b"here");
-    said.note(
-        b"Limits: 4,096 partitions of at most 7 slots, 1,024 nodes, allowances of 64; 131,072 steps, 4,096",
-    );
-    said.note(
-        b"dependencies of a step; 262,144 facts of 1,024 steps; 65,536 chains. Partitions and slots count from 0.",
-    )
-}
-
-/// The node line of a ring that declares the name, if there is one: the number of the line.
-fn declared(page: Page, name: &[u8]) -> Option<u32> {
-    let mut lines = Lines::of(page.after(3));
-    for line in 4..1029u32 {
-        let Ok(mut fields) = lines.next() else {
-            return None;
-        };
-        if !fields.takes(b"node") {
-            return None;
-        }
-        if fields.takes(name) {
-            return Some(line);
-        }
-    }
-    None
-}
 
 // The last field of a line.
 fn last_field(text: &[u8]) -> &[u8] {
     field(text, count_fields(text).saturating_sub(1))
 }
 
-// The place of the first node in a line.
-fn first_node(text: &[u8]) -> usize {
-    let word = field(text, 0);
-    if word == b"mirror".as_slice() || word == b"drop".as_slice() {
-        return 3;
+/// Says that a node is named twice, or joins though it is a member, and which line names it first.
+pub fn repeated(said: &mut Said, page: Page, number: u32) {
+    let line = line_of(page, number);
+    let name = field(line.text, 1);
+    said.title_with(b"`@` is named a second time", &[name], &[]);
+    let declared = declared(page, name);
+    if line.part == Part::Ring {
+        line.whole(said, b"the second declaration");
+        tell_first(said, declared);
+        said.note(b"Take one of the two out, or give the second another name.");
+        return line.take_out(said);
     }
-    if word == b"slots".as_slice() {
-        return 2;
-    }
-    1
-}
-
-// The place of the first node in the line that is not declared.
-fn undeclared(page: Page, text: &[u8]) -> Option<usize> {
-    let fields = text.split(|byte| *byte == b' ').enumerate();
-    for (place, name) in fields.skip(first_node(text)) {
-        if declared(page, name).is_none() {
-            return Some(place);
-        }
-    }
-    None
-}
-
-// The ring's name that is nearest to another, or nothing.
-fn nearest_name<'a>(alloc: Global, page: Page<'a>, name: &[u8]) -> Result<&'a [u8], Refusal> {
-    let mut nearest = Nearest::new(name);
-    let mut lines = Lines::of(page.after(3));
-    for turn in 0..1025 {
-        let Ok(mut fields) = lines.next() else {
-            break;
-        };
-        if !fields.takes(b"node") {
-            break;
-        }
-        nearest.look(alloc, name, fields.next().unwrap_or(b""))?;
-    }
-    Ok(nearest.word)
-}
-
-/// A name is not declared.
-pub fn unknown_node(alloc: Global, said: &mut Said, page: Page, line: u32) -> Result<(), Refusal> {
-    let text = page.text(line);
-    let place = undeclared(page, text).unwrap_or(first_node(text));
-    let name = field(text, place);
-    said.title_with(b"no node `@` is declared", &[name], &[]);
-    let at = page.at(line, place, place);
-    said.fault_at(at, b"not among the ring's `node` lines");
-    let near = nearest_name(alloc, page, name)?;
-    if near.is_empty() {
-        return Ok(());
-    }
-    let (front, behind) = page.around(line, place);
-    said.mend_with(b"`@` was meant?", &[near], &[]);
-    said.put(line);
-    said.add_with(b"@@@\n", &[front, near, behind], &[]);
-    Ok(())
-}
-
-/// A node is declared, joined, retired or named a second time, or joins though it is a member.
-pub fn repeated(said: &mut Said, page: Page, line: u32) {
-    let text = page.text(line);
-    let (part, start) = part_of(page, line);
-    said.title_with(b"`@` is named a second time", &[field(text, 1)], &[]);
-    let declared = declared(page, field(text, 1));
-    if part == Part::Ring {
-        return declared_again(said, line, declared);
-    }
-    said.fault(line, b"here");
+    line.whole(said, b"here");
     if let Some(node) = declared {
         let is_member = last_field(page.text(node)) == b"in".as_slice();
-        if is_member && field(text, 0) == b"join".as_slice() {
-            said.beside(node, b"it is a member already");
-            return said.note(b"A node joins that is declared `out`. Take the line out.");
+        if is_member && line.word() == b"join".as_slice() {
+            return tell_member(said, line, node);
         }
     }
-    if let Some(first) = earlier(page, line, start) {
-        said.beside(first, b"the first time");
-    }
-    let note =
-        b"A plan joins and retires a node once, and a change names it once. Take one of the lines out.";
-    said.note(note)
+    tell_first(said, earlier(page, number, line.start));
+    tell_once(said, line)
 }
 
-// A ring declares a node twice: in this line, and first in that one.
-fn declared_again(said: &mut Said, line: u32, first: Option<u32>) {
-    said.fault(line, b"the second declaration");
-    if let Some(first) = first {
-        said.beside(first, b"the first");
+// Says that a node that shall join is a member already.
+fn tell_member(said: &mut Said, line: Line, node: u32) {
+    said.title_with(
+        b"`@` shall join and is a member already",
+        &[field(line.text, 1)],
+        &[],
+    );
+    said.beside(node, b"declared `in`");
+    said.note(b"Only a node that is declared `out` joins.");
+    if line.part == Part::Change {
+        line.take_out(said)
     }
-    let note = b"Take one of the two out, or give the second another name.";
-    said.note(note)
+}
+
+// Says that a plan or a change names a node once.
+fn tell_once(said: &mut Said, line: Line) {
+    if line.part == Part::Change {
+        said.note(b"A change names a node once.");
+        return line.take_out(said);
+    }
+    said.note(
+        b"A plan joins a node once, and retires it once. Take one of the steps out: later ones then count one less.",
+    )
+}
+
+// Shows the line that names the node first, if it is known.
+fn tell_first(said: &mut Said, first: Option<u32>) {
+    if let Some(first) = first {
+        said.beside(first, b"the first time");
+    }
 }
 
 // The first line of the part that says the same of the node, or in a change names it.
@@ -158,88 +83,6 @@ fn earlier(page: Page, line: u32, start: u32) -> Option<u32> {
         }
     }
     None
-}
-
-// What a line `quorum` asks for.
-#[derive(Clone, Copy)]
-struct Asked {
-    slots: u32,
-    read: u32,
-    write: u32,
-    loss: u32,
-}
-
-impl Asked {
-    fn of(text: &[u8]) -> Asked {
-        let value = |place: usize| number(field(text, place)).unwrap_or(0);
-        Asked {
-            slots: value(1),
-            read: value(2),
-            write: value(3),
-            loss: value(4),
-        }
-    }
-
-    // Whether a read or a write asks for no slot, or for more than there are.
-    fn is_out(&self) -> bool {
-        let Asked {
-            slots,
-            read,
-            write,
-            ..
-        } = *self;
-        read < 1 || write < 1 || read > slots || write > slots
-    }
-
-    fn tell(&self, said: &mut Said, line: u32) {
-        let Asked {
-            slots,
-            read,
-            write,
-            loss,
-        } = *self;
-        if loss > 0 {
-            return said.fault_with(
-                line,
-                b"# + # is not above # + #",
-                &[],
-                &[read, write, slots, loss],
-            );
-        }
-        said.fault_with(line, b"# + # is not above #", &[], &[read, write, slots])
-    }
-
-    // For how many slots a write must ask, so that it meets each read.
-    fn wanted(&self) -> u32 {
-        self.slots
-            .saturating_add(self.loss)
-            .saturating_add(1)
-            .saturating_sub(self.read)
-    }
-}
-
-/// Reads and writes need not meet.
-pub fn quorum(said: &mut Said, page: Page, line: u32) {
-    let asked = Asked::of(page.text(line));
-    let (slots, wanted) = (asked.slots, asked.wanted());
-    if asked.is_out() {
-        said.title_with(
-            b"a read and a write ask for 1 to # slots each",
-            &[],
-            &[slots],
-        );
-        return said.fault_with(line, b"R is # and W is #", &[], &[asked.read, asked.write]);
-    }
-    said.title(b"a read and a write need not meet in a slot");
-    asked.tell(said, line);
-    if wanted > slots {
-        let note = b"Let fewer stores be lost, or let partitions have more slots.";
-        return said.note(note);
-    }
-    let (front, behind) = page.around(line, 3);
-    said.mend_with(b"let a write ask for # slots", &[], &[wanted]);
-    said.put(line);
-    said.add_with(b"@#@\n", &[front, behind], &[wanted])
 }
 
 // The first field that names the owner of a slot in front, if one does.

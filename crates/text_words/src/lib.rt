@@ -1,13 +1,21 @@
-//! Why a bundle's text is refused, in words: the lines concerned, what is at fault in them and what belongs to it, and lines that mend it. Nothing is promised of
-//! the words; whether a mend mends, the checker is asked.
+//! Why a bundle's text is refused, in words: the lines concerned, what is at fault in them and what belongs to it, and
+//! lines that mend it, or a command. Nothing is promised of the words; whether a mend mends, the checker is asked.
 #![tactic(auto)]
 
 mod faults;
+mod fields;
 mod forms;
+mod habit;
+mod limits;
+mod line;
 mod lines;
+mod names;
 mod near;
+mod order;
 mod page;
+mod quorum;
 mod said;
+mod spacing;
 mod telling;
 
 pub use page::{Page, Place, Span, field, place_of, span_of};

@@ -59,6 +59,12 @@ impl<'a> Page<'a> {
         self.line(number).unwrap_or(b"".as_slice())
     }
 
+    /// Whether the text is over at the end of the line of that number, and there is no newline behind it.
+    pub fn is_unfinished(&self, number: u32) -> bool {
+        let rest = self.after(number.saturating_sub(1));
+        !rest.is_empty() && memchr(b'\n', rest).is_none()
+    }
+
     /// Where the fields from one place up to another stand in the line; all of it where it has no such.
     pub fn at(&self, line: u32, first: usize, last: usize) -> Place {
         let text = self.text(line);

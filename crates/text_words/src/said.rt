@@ -1,5 +1,6 @@
 //! What is said of a refusal.
 
+use crate::habit::Habit;
 use crate::page::{Page, Place, cut_line};
 use std::alloc::Global;
 use words::Words;
@@ -23,8 +24,8 @@ struct Change {
     end: usize,
 }
 
-/// Why something is refused: a title, the lines concerned, notes, and a mend. Words are given as they are, or by a template, in which `@` is the next name and `#` the next number.
-/// Where memory is refused, what is pushed of it is lost with it.
+/// Why something is refused: a title, the lines concerned, notes, and a mend. Words are given as they are, or by a
+/// template, in which `@` is the next name and `#` the next number. Where memory is refused, all words are lost.
 #[derive(Drop)]
 pub struct Said {
     title: Words,
@@ -38,6 +39,8 @@ pub struct Said {
     changes: Vec<Change>,
     // The lines of the changes, each with its line feed.
     news: Words,
+    // A habit without which the whole text is written, in the place of changes.
+    habit: Option<Habit>,
 }
 
 // How many bytes of a line are shown.
@@ -62,6 +65,7 @@ impl Said {
             says: Words::new(alloc),
             changes: Vec::new(alloc),
             news: Words::new(alloc),
+            habit: None,
         }
     }
 
@@ -170,9 +174,15 @@ impl Said {
         self.says.fill(words, names, numbers);
     }
 
+    /// Mends the whole text by writing it without the habit, and says so by these words.
+    pub fn rewrite(&mut self, habit: Habit, words: &[u8]) {
+        self.mend(words);
+        self.habit = Some(habit);
+    }
+
     /// Whether there is a mend.
     pub fn has_mend(&self) -> bool {
-        !self.changes.is_empty()
+        !self.changes.is_empty() || self.habit.is_some()
     }
 
     /// Begins what the mended text has in the place of the line. Where nothing is added, the line goes.
@@ -300,8 +310,17 @@ impl Said {
         out.fill(b" @\n", &[note], &[])
     }
 
-    /// The whole text with the mend's changes.
+    /// The whole text as the mend writes it.
     pub fn mended(&self, out: &mut Words, page: Page) {
+        match self.habit {
+            Some(habit) => habit.push_without(out, page),
+            None => self.push_changed(out, page),
+        }
+        self.tell_losses(out);
+    }
+
+    // The whole text with the mend's changes.
+    fn push_changed(&self, out: &mut Words, page: Page) {
         let mut line = 0u32;
         let mut rest = page.bytes;
         for turn in 0..page.bytes.len() {
@@ -313,7 +332,6 @@ impl Said {
             out.text(self.changed(line).unwrap_or(one));
             rest = behind;
         }
-        self.tell_losses(out);
     }
 
     // What stands in the place of the line, where that changes.

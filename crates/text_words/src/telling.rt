@@ -1,10 +1,11 @@
 //! Why the texts of a bundle are refused.
 
-use crate::faults::{
-    later_dependency, not_member, quorum, repeated, shared_node, too_large, unknown_node,
-};
+use crate::faults::{later_dependency, not_member, repeated, shared_node};
+use crate::limits::too_large;
 use crate::lines::bad_line;
+use crate::names::unknown_node;
 use crate::page::Page;
+use crate::quorum::quorum;
 use crate::said::Said;
 use ring_names::Refusal;
 use std::alloc::Global;
@@ -19,7 +20,7 @@ pub fn tell_text(
     let page = Page { bytes };
     match refusal {
         Refusal::BadLine(line) => bad_line(alloc, said, page, *line)?,
-        Refusal::TooLarge(line) => too_large(said, *line),
+        Refusal::TooLarge(line) => too_large(said, page, *line),
         Refusal::UnknownNode(line) => unknown_node(alloc, said, page, *line)?,
         Refusal::Repeated(line) => repeated(said, page, *line),
         Refusal::QuorumTooSmall(line) => quorum(said, page, *line),

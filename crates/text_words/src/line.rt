@@ -1,0 +1,116 @@
+//! A line at fault, and where it stands in its part.
+
+use crate::forms::{Part, part_of};
+use crate::page::{Page, field};
+use crate::said::Said;
+
+/// A line of a page, and the part that it stands in.
+#[derive(Clone, Copy)]
+pub struct Line<'a> {
+    pub page: Page<'a>,
+    pub number: u32,
+    pub text: &'a [u8],
+    pub part: Part,
+    /// The first line of the part.
+    pub start: u32,
+}
+
+/// The line of that number.
+pub fn line_of(page: Page, number: u32) -> Line {
+    let (part, start) = part_of(page, number);
+    Line {
+        page,
+        number,
+        text: page.text(number),
+        part,
+        start,
+    }
+}
+
+impl<'a> Line<'a> {
+    /// The first field.
+    pub fn word(&self) -> &'a [u8] {
+        field(self.text, 0)
+    }
+
+    /// The first line of the part, from that number on, that begins with the word; its line `end` is the last.
+    pub fn find(&self, word: &[u8], from: u32) -> Option<u32> {
+        let mut number = from;
+        let rest = self.page.after(from.saturating_sub(1));
+        for text in rest.split(|byte| *byte == b'\n') {
+            if field(text, 0) == word {
+                return Some(number);
+            }
+            if text == b"end".as_slice() {
+                return None;
+            }
+            number = number.saturating_add(1);
+        }
+        None
+    }
+
+    /// How many lines of the part begin with the word, among those from its first line up to the last that is asked for.
+    pub fn count(&self, word: &[u8], last: u32) -> u32 {
+        let (mut number, mut count) = (self.start, 0u32);
+        let rest = self.page.after(self.start.saturating_sub(1));
+        for text in rest.split(|byte| *byte == b'\n') {
+            if number > last || text == b"end".as_slice() {
+                break;
+            }
+            if field(text, 0) == word {
+                count = count.saturating_add(1);
+            }
+            number = number.saturating_add(1);
+        }
+        count
+    }
+
+    /// Whether a line of the part before this one begins with the word.
+    pub fn is_after(&self, word: &[u8]) -> bool {
+        match self.find(word, self.start) {
+            Some(first) => first < self.number,
+            None => false,
+        }
+    }
+
+    /// Says that the whole line is at fault.
+    pub fn whole(&self, said: &mut Said, words: &[u8]) {
+        said.fault(self.number, words)
+    }
+
+    /// Says that the field of that place is at fault.
+    pub fn part(&self, said: &mut Said, place: usize, words: &[u8]) {
+        said.fault_at(self.page.at(self.number, place, place), words)
+    }
+
+    /// Mends the line by another word in the place of a field.
+    pub fn replace(&self, said: &mut Said, place: usize, word: &[u8]) {
+        let (front, rest) = self.page.around(self.number, place);
+        said.put(self.number);
+        said.add_with(b"@@@\n", &[front, word, rest], &[]);
+    }
+
+    /// Mends the text by a new line before this one.
+    pub fn insert(&self, said: &mut Said, new: &[u8]) {
+        said.put(self.number);
+        said.add_with(b"@\n@\n", &[new, self.text], &[]);
+    }
+
+    /// Mends the text by taking the line out.
+    pub fn take_out(&self, said: &mut Said) {
+        said.mend_with(b"line # goes", &[], &[self.number]);
+        said.put(self.number);
+    }
+}
+
+/// Mends the text by moving the one line to stand before the other, which is above it.
+pub fn move_up(page: Page, said: &mut Said, line: u32, before: u32) {
+    said.mend_with(
+        b"move line # before line #; line # goes",
+        &[],
+        &[line, before, line],
+    );
+    said.put(before);
+    said.add_with(b"@\n@\n", &[page.text(line), page.text(before)], &[]);
+    said.put(line);
+}

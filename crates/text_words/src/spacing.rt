@@ -1,0 +1,153 @@
+//! Lines at fault for how they are written, whatever they say.
+
+use crate::habit::{Habit, is_blank};
+use crate::line::Line;
+use crate::page::Place;
+use crate::said::Said;
+
+// The byte order mark of a text in UTF-8.
+const MARK: &[u8; 3] = b"\xEF\xBB\xBF";
+
+/// Says what is wrong with how the line is written, if something is, and whether that is so.
+pub fn tell_spacing(line: Line, said: &mut Said) -> bool {
+    if line.number == 1 && line.text.starts_with(MARK) {
+        tell_mark(line, said);
+        return true;
+    }
+    if let Some(habit) = habit_of(line.text) {
+        tell_habit(line, said, habit);
+        return true;
+    }
+    if let Some(words) = parting_fault(line.text) {
+        line.whole(said, words);
+        respace(line, said, line.text, b"one space between fields");
+        return true;
+    }
+    if Habit::Capitals.is_in(line.text) {
+        tell_habit(line, said, Habit::Capitals);
+        return true;
+    }
+    false
+}
+
+// What is wrong with what stands between the fields of a line, if something is.
+fn parting_fault(text: &[u8]) -> Option<&'static [u8]> {
+    if text.contains(&b'\t') {
+        return Some(b"it has a tab");
+    }
+    if text.contains(&b',') {
+        return Some(b"it has a comma");
+    }
+    let has_gap = text
+        .split(|byte| *byte == b' ')
+        .any(|field| field.is_empty());
+    if has_gap {
+        return Some(b"more than one space between fields");
+    }
+    None
+}
+
+// The first habit of the line that concerns its blanks, if it has one.
+fn habit_of(text: &[u8]) -> Option<Habit> {
+    let habits = [
+        Habit::CarriageReturn,
+        Habit::Empty,
+        Habit::Comment,
+        Habit::Indent,
+        Habit::Tail,
+    ];
+    for habit in habits {
+        if habit.is_in(text) {
+            return Some(habit);
+        }
+    }
+    None
+}
+
+// Says that the text begins with a byte order mark.
+fn tell_mark(line: Line, said: &mut Said) {
+    let place = Place {
+        line: 1,
+        from: 0,
+        to: MARK.len(),
+    };
+    said.title(b"the text begins with a byte order mark");
+    said.fault_at(place, b"three bytes that some editors put first");
+    said.note(b"`sed '1s/^\\xEF\\xBB\\xBF//' FILE > MENDED` takes it out (GNU sed).");
+    let rest = line.text.get(MARK.len()..).unwrap_or(b"".as_slice());
+    respace(line, said, rest, b"without the mark");
+}
+
+// Says that the line has the habit, and how many others have it; mends the line, or where there are others all of them.
+fn tell_habit(line: Line, said: &mut Said, habit: Habit) {
+    if habit == Habit::Capitals {
+        line.part(said, first_capital(line.text), habit.words());
+    } else {
+        line.whole(said, habit.words());
+    }
+    let (count, lines) = habit.count(line.page);
+    if count <= 1 {
+        return mend_one(line, said, habit);
+    }
+    let (command, numbers) = (habit.command(), [count, lines]);
+    if count == lines {
+        said.note_with(b"All # lines are so: `@` mends them.", &[command], &[lines]);
+    } else {
+        said.note_with(
+            b"# of the # lines are so: `@` mends them.",
+            &[command],
+            &numbers,
+        );
+    }
+    said.rewrite(habit, b"all of them, by that command")
+}
+
+// The place of the first field with a letter of upper case.
+fn first_capital(text: &[u8]) -> usize {
+    for (place, word) in text.split(|byte| *byte == b' ').enumerate() {
+        if Habit::Capitals.is_in(word) {
+            return place;
+        }
+    }
+    0
+}
+
+// Mends a line, the only one that has the habit.
+fn mend_one(line: Line, said: &mut Said, habit: Habit) {
+    match habit {
+        Habit::Empty | Habit::Comment => line.take_out(said),
+        Habit::CarriageReturn => respace(line, said, line.text, b"without it"),
+        Habit::Indent | Habit::Tail => respace(
+            line,
+            said,
+            line.text,
+            b"without blanks at its ends",
+        ),
+        Habit::Capitals => lower(line, said),
+    }
+}
+
+// Mends the line by the text with its fields between single spaces.
+fn respace(line: Line, said: &mut Said, text: &[u8], words: &[u8]) {
+    said.mend(words);
+    said.put(line.number);
+    let mut gap: &[u8] = b"";
+    for word in text.split(|byte| is_blank(*byte) || *byte == b'\r' || *byte == b',') {
+        if !word.is_empty() {
+            said.add(gap);
+            said.add(word);
+            gap = b" ";
+        }
+    }
+    said.add(b"\n")
+}
+
+// Mends the line by letters of lower case.
+fn lower(line: Line, said: &mut Said) {
+    said.mend(b"in lower case");
+    said.put(line.number);
+    for byte in line.text {
+        said.add(&[byte.to_ascii_lowercase()]);
+    }
+    said.add(b"\n")
+}
