@@ -1,21 +1,20 @@
 #!/usr/bin/env python3
-"""Tries `ringside` from outside, beside `ringplan`; it wants both programs as they are built. `trials/people.py EDITS` gives each bundle so many edits, else 40.
+"""Tries the commands for people from outside; it wants the program as it is built. `trials/people.py EDITS` gives each bundle so many edits, else 40.
 
 Mends: each example, and each with edits as people make them (a typo, a line that is lost, doubled or exchanged, a number that is changed, a dependency that is
 lost), drawn from a fixed seed. The first line and the status of `why` are those of `ringplan check`, and each mend that it shows is applied and asked of it. Walks: mends alone, one behind the other, from a refused example to an accepted one.
 Large plans: 131,072 steps over 1,024 nodes, and 32,768 rounds, by each command: the seconds are printed (10 are a fault), at most 200 MB, a picture of at most 1 MB, and
-the bytes that people.sums names. Terminals: a replay of a long history tells a terminal on standard error how far it is, and wipes that out; what is no terminal is told
-nothing. Pictures: each is well-formed, and the words of each bar are no wider than it. Trails: of random plays with one reply spoiled at a read or at the end of a
+the bytes that people.sums names. Pictures: each is well-formed, 900 wide and titled, and each bar has words that are no wider than it; so are maps. Trails: of random plays with one reply spoiled at a read or at the end of a
 get, `why` shows the line of each put that differs, no line that the bundle has not, and at most twelve beside the entry and the one before it."""
-import glob, hashlib, os, pty, random, re, resource, subprocess, sys, tempfile, time, xml.dom.minidom
+import glob, hashlib, os, random, re, resource, subprocess, sys, time, xml.dom.minidom
 
 top = os.path.dirname(os.path.dirname(os.path.abspath(__file__)))
-PLAN, SIDE = f"{top}/crates/ringplan/out/ringplan", f"{top}/crates/ringside/out/ringside"
+RUN = f"{top}/crates/ringplan/out/ringplan"
 EDITS = int(sys.argv[1]) if len(sys.argv) > 1 else 40
 
 
-def ask(program, words, text):
-    ran = subprocess.run([program, *words.split()], input=text.encode(), stdout=subprocess.PIPE, timeout=60)
+def ask(words, text):
+    ran = subprocess.run([RUN, *words.split()], input=text.encode(), stdout=subprocess.PIPE, stderr=subprocess.STDOUT, timeout=60)
     return ran.stdout.decode(), ran.returncode
 
 
@@ -53,10 +52,13 @@ def edited(lines, draw):
 
 
 def mended(text, told):
-    """The text with the mend that the words show, and what they say of it; None where they show none."""
+    """The text with the mend that the words show, and what they say of it; None where they show none. A mend that is a command is run."""
     found = re.search(r"\n  mend: ([^\n]*)\n((?: *\d+ \+ [^\n]*\n)*)  then the checker (says yes|goes on, to `([^`]*)`)[.,]", told)
     if not found:
         return None
+    command = re.search(r"`([^`]* > MENDED)` mends", told)
+    if "by that command" in found[1]:
+        return run_command(command[1], text), found[4] or "yes"
     new = {}
     for line in found[2].splitlines():
         number, words = re.match(r" *(\d+) \+ (.*)", line).groups()
@@ -67,7 +69,19 @@ def mended(text, told):
     out = []
     for number, line in enumerate(text.split("\n"), 1):
         out += new.get(number, [line])
+    if "with a newline at its end" in found[1]:
+        out.append("")
     return "\n".join(out), found[4] or "yes"
+
+
+def run_command(command, text):
+    """What the command makes of the text in the file that it calls FILE."""
+    with tempfile.TemporaryDirectory() as folder:
+        with open(f"{folder}/FILE", "w", newline="") as it:
+            it.write(text)
+        subprocess.run(command, shell=True, cwd=folder, check=False)
+        with open(f"{folder}/MENDED", newline="") as it:
+            return it.read()
 
 
 def mends():
@@ -80,7 +94,7 @@ def mends():
             continue
         for turn in range(EDITS + 1):
             text = whole if turn == 0 else "\n".join(edited(whole.split("\n"), draw))
-            (line, status), (told, ends) = ask(PLAN, "check", text), ask(SIDE, "why", text)
+            (line, status), (told, ends) = ask("check", text), ask("why", text)
             counts[0] += 1
             if told.split("\n")[0] + "\n" != line or status != ends:
                 faults.append(f"{path}, edit {turn}: check says {line.strip()!r} ({status}), why {told[:60]!r} ({ends})")
@@ -90,7 +104,7 @@ def mends():
                 numbers[line.split()[1]] = numbers.get(line.split()[1], 0) + 1
             mend = mended(text, told)
             if mend:
-                answer = ask(PLAN, "check", mend[0])[0].strip()
+                answer = ask("check", mend[0])[0].strip()
                 counts[1], counts[2] = counts[1] + 1, counts[2] + (answer == "yes")
                 if answer != mend[1]:
                     faults.append(f"{path}, edit {turn}: the mend is said to lead to {mend[1]!r}, and leads to {answer!r}")
@@ -103,13 +117,13 @@ def walks():
     for path in sorted(glob.glob(f"{top}/examples/*.bundle")):
         with open(path) as it:
             text = it.read()
-        mend, turns = mended(text, ask(SIDE, "why", text)[0]), 0
+        mend, turns = mended(text, ask("why", text)[0]), 0
         begun += mend is not None
         while mend and mend[1] != "yes" and turns < 20:
             text, turns = mend[0], turns + 1
-            mend = mended(text, ask(SIDE, "why", text)[0])
+            mend = mended(text, ask("why", text)[0])
         if mend:
-            line, status = ask(PLAN, "check", mend[0])
+            line, status = ask("check", mend[0])
             ended += not status
             if status:
                 faults.append(f"{path}: mends lead to {line.strip()!r}")
@@ -165,23 +179,30 @@ WIDTHS |= {"c": 55, "k": 58, "f": 36, "t": 40, "r": 42, "w": 82, "m": 98, "-": 3
 
 
 def look(name, picture):
-    """Whether the picture is well-formed, and how many bars have words: none wider than its bar."""
-    root, bar, count = xml.dom.minidom.parseString(picture).documentElement, None, 0
+    """Whether the picture is well-formed, 900 wide and titled, and how many bars it has: each copy's has words, none wider than the bar or less than 10 pixels high."""
+    root, bar, count, bare = xml.dom.minidom.parseString(picture).documentElement, None, 0, 0
+    if root.getAttribute("width") != "900" or [it.nodeName for it in root.childNodes if it.nodeType == it.ELEMENT_NODE][:2] != ["title", "desc"]:
+        faults.append(f"{name}: not 900 wide, or without title and description")
     for shape in root.childNodes:
         if shape.nodeName == "rect" and shape.getElementsByTagName("title"):
             bar = int(shape.getAttribute("width"))
-        elif shape.nodeName == "text" and shape.getAttribute("class") == "b" and shape.getAttribute("text-anchor") == "middle":
-            words = shape.firstChild.data
-            count += 1
-            if sum(WIDTHS.get(it, 100) for it in words) * 11 / 100 > bar:
-                faults.append(f"{name}: {words!r} is wider than its bar of {bar}")
+            bare += shape.getElementsByTagName("title")[0].firstChild.data.startswith("step ")
+        elif shape.nodeName == "text" and "b" in shape.getAttribute("class").split() and shape.getAttribute("text-anchor") == "middle":
+            words, size = shape.firstChild.data, re.search(r"font-size:(\d+)px", shape.getAttribute("style"))
+            size = int(size[1]) if size else 11
+            wide = float(shape.getAttribute("textLength") or sum(WIDTHS.get(it, 100) for it in words) * size / 100)
+            count, bare = count + 1, bare - 1
+            if wide > bar or size < 10:
+                faults.append(f"{name}: {words!r} of size {size} is wider than its bar of {bar}, or too small")
+    if bare:
+        faults.append(f"{name}: {bare} bars without words")
     return count
 
 
 def run(words, text):
     """What the program writes, its seconds, and the most memory that any run has taken, in MB."""
     begun = time.time()
-    ran = subprocess.run([SIDE, *words.split()], input=text, stdout=subprocess.PIPE, timeout=60)
+    ran = subprocess.run([RUN, *words.split()], input=text, stdout=subprocess.PIPE, timeout=60)
     return ran.stdout, ran.returncode, time.time() - begun, resource.getrusage(resource.RUSAGE_CHILDREN).ru_maxrss // 1024
 
 
@@ -193,69 +214,20 @@ def large():
         with open(sums) as it:
             wanted = dict(reversed(line.split("  ")) for line in it.read().splitlines())
     for name, text in (("steps", steps(131072)), ("rounds", rounds(32768))):
-        for words in ("why", "show --racks-behind n", "show --all", "draw", "steps", "bundle", "cert", "after"):
+        for words in ("why", "show --racks-behind n", "show --all", "draw", "draw --map", "steps", "bundle", "cert", "after"):
             out, status, seconds, megabytes = run(words, text.encode())
             label = f"{name} {words}"
             found.append(f"{hashlib.md5(out).hexdigest()}  {label}")
             most, memory = max(most, seconds), max(memory, megabytes)
-            if status or seconds > 10 or (words == "draw" and len(out) > 1_000_000):
+            if status or seconds > 10 or (words.startswith("draw") and len(out) > 1_000_000):
                 faults.append(f"{label}: status {status}, {seconds:.2f} s, {len(out)} bytes")
             if wanted.get(label) != found[-1].split("  ")[0]:
                 faults.append(f"{label}: writes other bytes than people.sums names: {found[-1]}")
-            if words == "draw":
+            if words.startswith("draw"):
                 look(label, out)
     if memory > 200:
         faults.append(f"{memory} MB")
     return most, memory
-
-
-def told(program, words, text, terminal):
-    """What the program writes to its output, and to its standard error, which is a terminal or a file."""
-    with tempfile.TemporaryFile() as bundle, tempfile.TemporaryFile() as out, tempfile.TemporaryFile() as errors:
-        bundle.write(text.encode())
-        bundle.seek(0)
-        ours, theirs = pty.openpty() if terminal else (None, errors.fileno())
-        with subprocess.Popen([program, *words.split()], stdin=bundle, stdout=out, stderr=theirs) as ran:
-            if terminal:
-                os.close(theirs)
-                seen = b""
-                try:
-                    while part := os.read(ours, 65536):
-                        seen += part
-                except OSError:
-                    # a terminal whose other side is closed
-                    pass
-                os.close(ours)
-            ran.wait(timeout=60)
-        if not terminal:
-            errors.seek(0)
-            seen = errors.read()
-        out.seek(0)
-        return out.read().decode(), seen.decode(), ran.returncode
-
-
-def terminals(puts):
-    """How many lines a terminal is shown by a replay of so many puts."""
-    with open(f"{top}/examples/move_one_slot.bundle") as it:
-        texts = it.read()
-    events = [word for k in range(puts) for word in (f"put w{k % 64} k x31", f"write {k} 0", f"write {k} 1", f"ack {k}")]
-    script = "\n".join(["script 1", *events, "end"]) + "\n"
-    replies = ask(PLAN, "play", texts + script)[0].split("\n")
-    said = (reply.split(" ", 1)[1] for reply in replies[1 : len(events) + 1])
-    history = texts + "\n".join(["history 1", *(f"{event} = {reply}" for event, reply in zip(events, said)), "end"]) + "\n"
-    plain, errors, status = told(SIDE, "show", history, False)
-    if status or errors:
-        faults.append(f"a long replay: status {status}, and {errors[:60]!r} where there is no terminal")
-    shown, seen, status = told(SIDE, "show", history, True)
-    lines = re.findall(r"\rringside: (\d+) of (\d+) entries", seen)
-    places = [int(done) for done, of in lines if int(of) == len(events)]
-    wiped = "".join(f"\rringside: {done} of {of} entries" for done, of in lines) + "\r" + " " * 44 + "\r"
-    if not lines or len(places) != len(lines) or places != sorted(places) or seen != wiped or shown != plain or status:
-        faults.append(f"a long replay at a terminal: status {status}, {len(lines)} lines, {seen[-80:]!r}")
-    short, seen, status = told(SIDE, "show", texts, True)
-    if seen or status:
-        faults.append(f"a short run at a terminal: status {status}, {seen[:60]!r}")
-    return len(lines)
 
 
 def traffic(draw):
@@ -285,7 +257,7 @@ def traffic(draw):
             events.append(f"handoff {draw.choice('abcd')} 0 {draw.randrange(3)}")
         elif puts:
             events.append(f"write {draw.randrange(max(0, puts - 4), puts)} {draw.randrange(3)}")
-    played = ask(PLAN, "play", texts + "\n".join(["script 1", *events, "end"]) + "\n")[0].split("\n")
+    played = ask("play", texts + "\n".join(["script 1", *events, "end"]) + "\n")[0].split("\n")
     said = [line.split(" ", 1)[1] for line in played[1 : len(events) + 1]]
     return texts, [(event, reply) for event, reply in zip(events, said) if not reply.startswith("no ")]
 
@@ -306,7 +278,7 @@ def trails(runs):
         told = set(map(int, due)) ^ {other}
         spoiled = " ".join([word, *map(str, sorted(told))])
         lines = texts + "history 1\n" + "".join(f"{event} = {spoiled if k == place else reply}\n" for k, (event, reply) in enumerate(entries)) + "end\n"
-        shown, status = ask(SIDE, "why", lines)
+        shown, status = ask("why", lines)
         all_lines, first = lines.split("\n"), texts.count("\n") + 2
         seen = {int(number): words for number, words in re.findall(r"^ *(\d+) \| (.*)$", shown, re.M)}
         asked, most = asked + 1, max(most, len(seen) - 2)
@@ -325,14 +297,15 @@ print(f"mends: {bundles} bundles, {shown} mends shown, {accepted} of them accept
 begun, ended = walks()
 print(f"walks: {begun} refused examples have a mend, and {ended} of them become accepted by mends alone")
 most, memory = large()
-print(f"large plans: 16 runs of at most {most:.2f} s and {memory} MB")
-print(f"terminals: {terminals(240000)} lines of a replay of 960,000 entries, wiped out; none where there is no terminal")
+print(f"large plans: 18 runs of at most {most:.2f} s and {memory} MB")
 bars, pictures = 0, 0
-for path in sorted(glob.glob(f"{top}/examples/*.bundle") + glob.glob(f"{top}/crates/ringside_cases/data/*64*.bundle")):
+for path in sorted(glob.glob(f"{top}/examples/*.bundle") + glob.glob(f"{top}/crates/tests_cases/data/*64*.bundle")):
     with open(path) as it:
-        drawn, status = ask(SIDE, "draw", it.read())
-    if not status:
-        pictures, bars = pictures + 1, bars + look(path, drawn)
+        text = it.read()
+    for words in ("draw", "draw --map"):
+        drawn, status = ask(words, text)
+        if not status:
+            pictures, bars = pictures + 1, bars + look(path, drawn)
 print(f"pictures: {pictures} well-formed, {bars} bars with words")
 print("trails: {} spoiled replies, at most {} lines each".format(*trails(300)))
 for it in faults:

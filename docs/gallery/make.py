@@ -1,12 +1,12 @@
 #!/usr/bin/env python3
-"""Makes the pictures of docs/GALLERY.md by `ringside draw`, from examples and from two larger rings that it writes. It wants the program as it is built.
-With `--compare` it writes nothing, and ends with 1 where a picture is not what `ringside draw` makes of its bundle. With a folder it writes the bundles of
+"""Makes the pictures of docs/GALLERY.md by `ringplan draw`, from examples and from two larger rings that it writes. It wants the program as it is built.
+With `--compare` it writes nothing, and ends with 1 where a picture is not what `ringplan draw` makes of its bundle. With a folder it writes the bundles of
 the two rings there, and a PNG of each picture by Chromium."""
 import os, subprocess, sys
 
 here = os.path.dirname(os.path.abspath(__file__))
 top = os.path.dirname(os.path.dirname(here))
-SIDE = f"{top}/crates/ringside/out/ringside"
+PROGRAM = f"{top}/crates/ringplan/out/ringplan"
 
 
 def large():
@@ -40,17 +40,22 @@ PICTURES = {
     "replace": read("examples/plan_replace.bundle"),
     "drain": read("examples/plan_drain.bundle"),
     "listed": read("examples/copy_from_listed_slots.bundle"),
-    "grow64": read("crates/ringside_cases/data/ring64_grow.bundle"),
-    "swap64": read("crates/ringside_cases/data/ring64_swap.bundle"),
-    "progress64": read("crates/ringside_cases/data/progress64.bundle"),
+    "grow64": read("crates/tests_cases/data/ring64_grow.bundle"),
+    "swap64": read("crates/tests_cases/data/ring64_swap.bundle"),
+    "progress64": read("crates/tests_cases/data/progress64.bundle"),
+    "down64": read("crates/tests_cases/data/down64.bundle"),
+    "map64": read("crates/tests_cases/data/ring64_grow.bundle"),
     "large": large(),
     "rounds": rounds(1000),
 }
 
+# Pictures of another kind than the plan's rounds.
+OPTIONS = {"map64": ["--map", "--racks-behind", "."]}
+
 only_compares = sys.argv[1:] == ["--compare"]
 old = []
 for name, bundle in PICTURES.items():
-    drawn = subprocess.run([SIDE, "draw"], input=bundle.encode(), stdout=subprocess.PIPE)
+    drawn = subprocess.run([PROGRAM, "draw", *OPTIONS.get(name, [])], input=bundle.encode(), stdout=subprocess.PIPE)
     if drawn.returncode:
         sys.exit(f"{name}: {drawn.stdout.decode()}")
     if only_compares:

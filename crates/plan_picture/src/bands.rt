@@ -1,6 +1,6 @@
 //! The rows of a picture of many rounds or many nodes: one for each of the busiest nodes, and one for the others of each kind.
 
-use crate::order::kind;
+use crate::order::{KINDS, kind};
 use crate::sheet::Sheet;
 use plan_scene::{at, small};
 use ring_names::Refusal;
@@ -25,18 +25,18 @@ pub struct Bands {
 }
 
 // How many nodes of each kind get a row: in turns, until there are enough.
-fn rooms(sheet: &Sheet, nodes: &[u32]) -> [usize; 3] {
-    let mut counts = [0usize; 3];
+fn rooms(sheet: &Sheet, nodes: &[u32]) -> [usize; KINDS] {
+    let mut counts = [0usize; KINDS];
     for node in nodes {
         let place = kind(sheet, *node) as usize;
-        if place < 3 {
+        if place < KINDS {
             counts[place] = counts[place].saturating_add(1);
         }
     }
-    let mut rooms = [0usize; 3];
+    let mut rooms = [0usize; KINDS];
     let mut left = NAMED;
     for turn in 0..NAMED {
-        for place in 0..3 {
+        for place in 0..KINDS {
             if left > 0 && rooms[place] < counts[place] {
                 rooms[place] = rooms[place].saturating_add(1);
                 left -= 1;
@@ -54,7 +54,7 @@ impl Bands {
             rows: vec![in sheet.alloc; 0u32; sheet.ring.nodes().len()]?,
         };
         let rooms = rooms(sheet, nodes);
-        for wanted in 0..3u32 {
+        for wanted in 0..4u32 {
             let mut seen = 0usize;
             for node in nodes {
                 if kind(sheet, *node) == wanted {

@@ -1,12 +1,14 @@
 //! A picture of many rounds or many nodes: columns of equal numbers of rounds, a row of bars for each of the busiest nodes, and the others summed.
 
 use crate::bands::{Band, Bands};
-use crate::frame::{LEAST, name_style, push_frame, push_key};
+use crate::fitting::{Look, push_fitting};
+use crate::frame::{caption_of, name_class, push_frame, push_key};
 use crate::sheet::Sheet;
-use crate::slots::{most_owned, push_slots};
+use crate::slots::{SLOTS, most_owned, push_slots, slots_head};
 use crate::state::{State, state_of};
+use crate::style::{DONE, GIVE, PALE, SOME, TAKE};
 use crate::svg::{
-    Area, DONE, GIVE, Point, TAKE, push_area, push_picture, push_rule, push_said, push_titled,
+    Area, MARGIN, Point, WIDE, push_area, push_picture, push_rule, push_said, push_titled,
     push_words,
 };
 use crate::widths::width;
@@ -24,8 +26,17 @@ const ALL: u32 = 74;
 
 const FIRST: u32 = 204;
 
-// What stands at the right of the rows.
-const PANEL: u32 = 270;
+// How far behind the columns the words begin, how wide those of transfers at once are, and what stands behind them.
+const GAP: u32 = 8;
+
+const AT_ONCE: u32 = 118;
+
+const PANEL: u32 = GAP + AT_ONCE + SLOTS + MARGIN;
+
+// How wide the words before the rows are at least and at most.
+const NARROW: u32 = 90;
+
+const BROAD: u32 = 160;
 
 // How many copies each row takes and gives in each column, and how many of them are done.
 #[derive(Drop)]
@@ -135,11 +146,20 @@ struct Grid {
     right: u32,
     row: u32,
     bottom: u32,
-    wide: u32,
     // the copies at full height of a named row, and of a summed one, if there is one
     scale: u32,
     sum_scale: u32,
     most: u32,
+}
+
+// What stands before the name of a node of that kind.
+fn sign(kind: u32) -> &'static [u8] {
+    match kind {
+        0 => b"x ",
+        1 => b"- ",
+        2 => b"+ ",
+        _ => b"",
+    }
 }
 
 // The words in front of a row.
@@ -147,17 +167,13 @@ fn label(sheet: &Sheet, band: &Band) -> Words {
     let mut words = Words::new(sheet.alloc);
     match band.node {
         Some(node) => {
-            if band.kind == 0 {
-                words.text(b"- ");
-            }
-            if band.kind == 1 {
-                words.text(b"+ ");
-            }
+            words.text(sign(band.kind));
             words.text(name(sheet.ring, node));
         }
         None => match band.kind {
-            0 => push_many(&mut words, band.count, b"more leaves", b"more leave"),
-            1 => push_many(&mut words, band.count, b"more joins", b"more join"),
+            0 => push_many(&mut words, band.count, b"more is down", b"more are down"),
+            1 => push_many(&mut words, band.count, b"more leaves", b"more leave"),
+            2 => push_many(&mut words, band.count, b"more joins", b"more join"),
             _ => push_many(&mut words, band.count, b"more node", b"more nodes"),
         },
     }
@@ -166,16 +182,17 @@ fn label(sheet: &Sheet, band: &Band) -> Words {
 
 impl Grid {
     fn of(sheet: &Sheet, nodes: &[u32], bands: &Bands, tally: &Tally) -> Result<Grid, Refusal> {
-        let mut words = 110u32;
+        let mut words = NARROW;
         for band in bands.bands.as_slice() {
-            words = words.max(width(label(sheet, band).end()?.as_slice(), 12));
+            let wide = width(label(sheet, band).end()?.as_slice(), 12);
+            words = words.max((wide.saturating_mul(9) / 8).saturating_add(1));
         }
-        let left = words.saturating_add(40);
+        let left = words.min(BROAD).saturating_add(MARGIN + 12);
         let columns = small(tally.columns).max(1);
-        let room = 1180u32.saturating_sub(PANEL).saturating_sub(left);
+        let room = (WIDE - PANEL).saturating_sub(left);
         let column = match room.checked_div(columns) {
-            Some(column) => column.min(150).max(8),
-            None => 8,
+            Some(column) => column.min(150).max(6),
+            None => 6,
         };
         let right = left.saturating_add(column.saturating_mul(columns));
         let rows = small(bands.bands.len());
@@ -186,7 +203,6 @@ impl Grid {
             right,
             row,
             bottom: FIRST.saturating_add(rows.saturating_mul(row)),
-            wide: right.saturating_add(PANEL).max(LEAST),
             scale: tally.most(bands, true),
             sum_scale: if bands.have_sums() {
                 tally.most(bands, false)
@@ -215,11 +231,7 @@ impl Grid {
             height: high,
         };
         let about = rounds_words(sheet, tally, column, b": copies ", count);
-        let fill = if sheet.progress.is_some() {
-            b"#c9d1d9"
-        } else {
-            b"#8a95a3"
-        };
+        let fill = if sheet.progress.is_some() { PALE } else { SOME };
         push_titled(out, bar, fill, b"", &about);
         let done = parts_of(at(tally.done.as_slice(), column), most, ALL);
         if done > 0 {
@@ -240,7 +252,7 @@ impl Grid {
         }
         let mut words = Words::new(sheet.alloc);
         push_many(&mut words, most, b"copy", b"copies");
-        let right = Point::at(self.right.saturating_add(8), TOP + 9);
+        let right = Point::at(self.right.saturating_add(GAP), TOP + 9);
         push_said(out, right, b" class=\"h\"", &words);
         let before = Point::at(self.left.saturating_sub(12), TOP + ALL - 4);
         push_words(
@@ -263,15 +275,10 @@ impl Grid {
                 push_said(out, place, b" class=\"h\"", &words);
             }
         }
-        let once = Point::at(self.right.saturating_add(8), FIRST - 14);
-        push_words(out, once, b" class=\"h\"", b"at once");
-        let owned = Point::at(self.right.saturating_add(104), FIRST - 14);
-        push_words(
-            out,
-            owned,
-            b" class=\"h\"",
-            b"slots owned, now \xe2\x86\x92 then",
-        )
+        let once = Point::at(self.right.saturating_add(GAP), FIRST - 14);
+        push_words(out, once, b" class=\"h\"", b"never more than");
+        let owned = Point::at(self.right.saturating_add(GAP + AT_ONCE), FIRST - 14);
+        push_words(out, owned, b" class=\"h\"", slots_head(sheet))
     }
 
     // The middle of the row of that number.
@@ -287,16 +294,29 @@ impl Grid {
         push_rule(out, from, Point::at(self.right, middle));
         let y = middle.saturating_add(4);
         let before = Point::at(self.left.saturating_sub(12), y);
-        let words = label(sheet, band);
-        let Some(node) = band.node else {
-            return push_said(out, before, b" class=\"s\" text-anchor=\"end\"", &words);
+        let room = self.left.saturating_sub(MARGIN + 12);
+        let class = match band.node {
+            Some(node) => name_class(sheet, node),
+            None => b"s",
         };
-        let style = name_style(sheet, node);
-        push_said(out, before, style.as_slice(), &words);
-        out.heed(&style);
-        let once = Point::at(self.right.saturating_add(8), y);
-        push_said(out, once, b" class=\"h\"", &sheet.at_once(node));
-        let owned = Point::at(self.right.saturating_add(104), middle.saturating_sub(5));
+        let look = Look::new(class, 12, b" text-anchor=\"end\"");
+        push_fitting(
+            out,
+            before,
+            look,
+            &label(sheet, band),
+            (room / 9).saturating_mul(8),
+        );
+        let Some(node) = band.node else {
+            return;
+        };
+        let once = Point::at(self.right.saturating_add(GAP), y);
+        let look = Look::new(b"k", 10, b"");
+        push_fitting(out, once, look, &sheet.at_once(node), AT_ONCE - GAP);
+        let owned = Point::at(
+            self.right.saturating_add(GAP + AT_ONCE),
+            middle.saturating_sub(5),
+        );
         push_slots(sheet, out, node, owned, self.most)
     }
 
@@ -340,7 +360,8 @@ impl Grid {
             words.text(b", in a row of many ");
             words.number(self.sum_scale);
         }
-        push_said(out, next, b" class=\"h\"", &words);
+        let room = (WIDE - MARGIN).saturating_sub(next.x);
+        push_fitting(out, next, Look::new(b"h", 11, b""), &words, room);
         let mut words = Words::new(sheet.alloc);
         push_many(
             &mut words,
@@ -352,7 +373,8 @@ impl Grid {
             b" In a round stand the copies that wait only for copies to their left; nothing stops between rounds.",
         );
         let below = Point::at(self.left, y.saturating_add(20));
-        push_said(out, below, b" class=\"h\"", &words);
+        let room = (WIDE - MARGIN).saturating_sub(self.left);
+        push_fitting(out, below, Look::new(b"h", 11, b""), &words, room);
         y.saturating_add(36)
     }
 }
@@ -418,7 +440,8 @@ pub fn dense_picture(sheet: &Sheet, nodes: &[u32]) -> Result<Vec<u8>, Refusal> {
     let tally = Tally::of(sheet, &bands)?;
     let grid = Grid::of(sheet, nodes, &bands, &tally)?;
     let mut shapes = Words::new(sheet.alloc);
-    push_frame(sheet, &mut shapes, grid.wide);
+    let caption = caption_of(sheet);
+    push_frame(sheet, &mut shapes, &caption);
     grid.push_all(sheet, &mut shapes, &tally);
     grid.push_heads(sheet, &mut shapes, &tally);
     let mut number = 0usize;
@@ -429,6 +452,6 @@ pub fn dense_picture(sheet: &Sheet, nodes: &[u32]) -> Result<Vec<u8>, Refusal> {
     }
     let height = grid.push_notes(sheet, &mut shapes, &tally);
     let mut out = Words::new(sheet.alloc);
-    push_picture(&mut out, grid.wide, height, &shapes);
+    push_picture(&mut out, height, &caption, &shapes);
     out.end()
 }

@@ -1,7 +1,7 @@
 //! Which picture is drawn.
 
 use crate::dense::dense_picture;
-use crate::full::full_picture;
+use crate::full::{Plot, full_picture};
 use crate::lanes::Lanes;
 use crate::order::in_order;
 use crate::sheet::Sheet;
@@ -12,8 +12,8 @@ const ROUNDS: u32 = 40;
 
 const LANES: u32 = 90;
 
-/// The picture of a plan, and of how far a run has come where there is one, as SVG. It has every copy up to 40 rounds and 90 lanes, and else at most 60 columns
-/// and 30 rows of sums. The same plan has the same bytes. Its only refusal is `OutOfMemory`.
+/// The picture of a plan, and of how far a run has come where there is one, as SVG. It has every copy up to 40 rounds and 90 lanes, where each bar
+/// has room for the number of its partition, and else at most 60 columns and 31 rows of sums. The same plan has the same bytes. Its only refusal is `OutOfMemory`.
 pub fn picture(sheet: &Sheet) -> Result<Vec<u8>, Refusal> {
     let nodes = in_order(sheet)?;
     if sheet.scene.round_count() > ROUNDS || nodes.len() > LANES as usize {
@@ -27,7 +27,11 @@ pub fn picture(sheet: &Sheet) -> Result<Vec<u8>, Refusal> {
     if needed > LANES {
         return dense_picture(sheet, nodes.as_slice());
     }
-    full_picture(sheet, nodes.as_slice(), &lanes)
+    let plot = Plot::of(sheet, nodes.as_slice(), &lanes)?;
+    if !plot.has_room(sheet) {
+        return dense_picture(sheet, nodes.as_slice());
+    }
+    full_picture(sheet, nodes.as_slice(), &plot)
 }
 
 // The lanes with all copies counted.

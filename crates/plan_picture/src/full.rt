@@ -1,13 +1,15 @@
 //! A picture with every copy: a row for each node, a column for each round, a bar for each copy of a node.
 
-use crate::frame::{LEAST, name_style, push_frame, push_idle, push_key};
+use crate::bars::{have_room, push_bar};
+use crate::fitting::{Look, push_fitting};
+use crate::frame::{caption_of, push_frame, push_idle, push_key, push_name};
 use crate::lanes::Lanes;
 use crate::order::by_copy;
 use crate::sheet::Sheet;
-use crate::slots::{most_owned, push_slots};
-use crate::state::{State, state_of};
+use crate::slots::{SLOTS, most_owned, push_slots, slots_head};
+use crate::style::{GIVE, SOME, TAKE};
 use crate::svg::{
-    Area, GIVE, Point, TAKE, push_area, push_picture, push_rule, push_said, push_titled, push_words,
+    Area, MARGIN, Point, WIDE, push_area, push_picture, push_rule, push_said, push_words,
 };
 use crate::widths::width;
 use plan_scene::{Shown, name, small};
@@ -17,22 +19,17 @@ use words::Words;
 // How high a lane is, and the least that a row is.
 const LANE: u32 = 19;
 
-const ROW: u32 = 34;
+const ROW: u32 = 44;
 
-// Where the first row begins, and how wide what stands at the right is.
+// Where the first row begins, and how far behind the columns the slots that a node owns begin.
 const TOP: u32 = 112;
 
-const PANEL: u32 = 190;
+const GAP: u32 = 16;
 
-// The outline of a white bar at the node that takes, and at one that gives.
-const TAKER: &[u8] = b" rx=\"3\" stroke=\"#1d5fd0\"";
+// How wide the words before the rows are at least and at most.
+const NARROW: u32 = 100;
 
-const GIVER: &[u8] = b" rx=\"3\" stroke=\"#c2570c\"";
-
-// How words stand on a filled bar, and on a white one.
-const LIGHT: &[u8] = b" class=\"b\" text-anchor=\"middle\" style=\"fill:#ffffff\"";
-
-const DARK: &[u8] = b" class=\"b\" text-anchor=\"middle\"";
+const BROAD: u32 = 190;
 
 // A row of a picture.
 #[derive(Clone, Copy)]
@@ -43,44 +40,42 @@ struct Row {
     lanes: u32,
 }
 
-// Where the rows and columns of a picture stand.
+/// Where the rows and columns of a picture stand.
 #[derive(Drop)]
-struct Plot {
+pub struct Plot {
     rows: Vec<Row>,
     left: u32,
     column: u32,
     right: u32,
     bottom: u32,
-    wide: u32,
     most: u32,
 }
 
 impl Plot {
-    fn of(sheet: &Sheet, nodes: &[u32], lanes: &Lanes) -> Result<Plot, Refusal> {
-        let mut words = 110u32;
-        for node in nodes {
-            words = words.max(width(name(sheet.ring, *node), 12));
-            words = words.max(width(told(sheet, *node).end()?.as_slice(), 10));
-        }
-        let left = words.saturating_add(44);
+    /// The rows of the nodes, as high as the most copies that one has in a round.
+    pub fn of(sheet: &Sheet, nodes: &[u32], lanes: &Lanes) -> Result<Plot, Refusal> {
+        let left = words_before(sheet, nodes).saturating_add(MARGIN + 12);
         let rounds = sheet.scene.round_count().max(1);
-        let room = 1180u32.saturating_sub(PANEL).saturating_sub(left);
+        let room = (WIDE - MARGIN - SLOTS - GAP).saturating_sub(left);
         let column = match room.checked_div(rounds) {
             Some(column) => column.min(190).max(12),
             None => 12,
         };
-        let right = left.saturating_add(column.saturating_mul(rounds));
         let mut plot = Plot {
             rows: Vec::new(sheet.alloc),
             left,
             column,
-            right,
+            right: left.saturating_add(column.saturating_mul(rounds)),
             bottom: TOP,
-            wide: right.saturating_add(PANEL).max(LEAST),
             most: most_owned(sheet, nodes),
         };
         plot.place(nodes, lanes)?;
         Ok(plot)
+    }
+
+    /// Whether each bar has room for words.
+    pub fn has_room(&self, sheet: &Sheet) -> bool {
+        have_room(sheet, self.column.saturating_sub(4))
     }
 
     // Gives each node its row.
@@ -118,24 +113,15 @@ impl Plot {
             push_area(
                 out,
                 column,
-                if round % 2 == 1 {
-                    b"#f4f6f8"
-                } else {
-                    b"#fafbfc"
-                },
+                if round % 2 == 1 { b"odd" } else { b"even" },
                 b"",
             );
             if rounds <= 24 || round % 5 == 1 {
                 self.push_round(sheet, out, round);
             }
         }
-        let head = Point::at(self.right.saturating_add(24), TOP - 13);
-        push_words(
-            out,
-            head,
-            b" class=\"h\"",
-            b"slots owned, now \xe2\x86\x92 then",
-        )
+        let head = Point::at(self.right.saturating_add(GAP), TOP - 13);
+        push_words(out, head, b" class=\"h\"", slots_head(sheet))
     }
 
     // The number of a round over its column.
@@ -153,19 +139,37 @@ impl Plot {
     // What stands at both ends of a row.
     fn push_ends(&self, sheet: &Sheet, out: &mut Words, row: &Row) {
         let middle = row.y.saturating_add(row.height / 2);
-        let style = name_style(sheet, row.node);
-        let x = self.left.saturating_sub(12);
-        let above = Point::at(x, middle.saturating_sub(1));
-        push_words(out, above, style.as_slice(), name(sheet.ring, row.node));
-        out.heed(&style);
-        let below = Point::at(x, middle.saturating_add(13));
-        let words = told(sheet, row.node);
-        push_said(out, below, b" class=\"k\" text-anchor=\"end\"", &words);
-        let panel = Point::at(self.right.saturating_add(24), middle.saturating_sub(5));
+        self.push_role(sheet, out, row.node, middle);
+        let panel = Point::at(self.right.saturating_add(GAP), middle.saturating_sub(5));
         push_slots(sheet, out, row.node, panel, self.most);
         let line = row.y.saturating_add(row.height).saturating_add(4);
         let from = Point::at(self.left, line);
         push_rule(out, from, Point::at(self.right, line))
+    }
+
+    // The name of a row's node, what it does, and how many transfers it never has more of at once.
+    fn push_role(&self, sheet: &Sheet, out: &mut Words, node: u32, middle: u32) {
+        let at_once = sheet.at_once(node);
+        out.heed(&at_once);
+        let role = role_of(sheet, node, at_once.len() > 0);
+        let has_three = at_once.len() > 0 && role.len() > 0;
+        let first = middle.saturating_sub(if has_three { 8 } else { 1 });
+        let x = self.left.saturating_sub(12);
+        let room = self.left.saturating_sub(MARGIN + 12);
+        push_name(sheet, out, Point::at(x, first), node, room);
+        self.push_side(out, first.saturating_add(13), &role);
+        self.push_side(out, first.saturating_add(25), &at_once)
+    }
+
+    // Small words before a row.
+    fn push_side(&self, out: &mut Words, y: u32, words: &Words) {
+        out.heed(words);
+        if words.len() > 0 {
+            let look = Look::new(b"k", 10, b" text-anchor=\"end\"");
+            let place = Point::at(self.left.saturating_sub(12), y);
+            let room = self.left.saturating_sub(MARGIN + 12);
+            push_fitting(out, place, look, words, room)
+        }
     }
 
     // The bar of a copy in a row's lane.
@@ -194,7 +198,11 @@ impl Plot {
         }
         let mut below = y.saturating_add(20);
         for line in LINES {
-            push_words(out, Point::at(self.left, below), b" class=\"h\"", line);
+            let mut words = Words::new(sheet.alloc);
+            words.text(line);
+            let look = Look::new(b"h", 11, b"");
+            let room = (WIDE - MARGIN).saturating_sub(self.left);
+            push_fitting(out, Point::at(self.left, below), look, &words, room);
             below = below.saturating_add(15);
         }
         push_idle(sheet, out, Point::at(self.left, below.saturating_add(5)))?;
@@ -210,10 +218,10 @@ const LINES: [&[u8]; 2] = [
 
 // What the bars mean where a run has begun.
 fn push_done_keys(out: &mut Words, start: Point) {
-    let outline = b" rx=\"2\" stroke=\"#8a95a3\"";
-    let next = push_key(out, start, b"#8a95a3", b" rx=\"2\"", b"copied");
-    let next = push_key(out, next, b"#c9d1d9", outline, b"open, as far as it is");
-    push_key(out, next, b"#ffffff", outline, b"still to do");
+    let round = b" rx=\"2\"";
+    let next = push_key(out, start, SOME, round, b"copied");
+    let next = push_key(out, next, b"pale edge", round, b"open, as far as it is");
+    push_key(out, next, b"bare edge", round, b"still to do");
 }
 
 // What the bars mean of a plan alone.
@@ -224,106 +232,37 @@ fn push_plan_keys(out: &mut Words, start: Point) {
     push_key(out, next, TAKE, round, takes);
 }
 
-// `joins, 4 of 4 at once`
-fn told(sheet: &Sheet, node: u32) -> Words {
+// How wide the words before the rows are.
+fn words_before(sheet: &Sheet, nodes: &[u32]) -> u32 {
+    let mut wide = NARROW;
+    for node in nodes {
+        let at_once = sheet.at_once(*node);
+        let role = role_of(sheet, *node, at_once.len() > 0);
+        wide = wide.max(width(name(sheet.ring, *node), 12).saturating_mul(9) / 8);
+        wide = wide.max(width(role.as_slice(), 10));
+        wide = wide.max(width(at_once.as_slice(), 10));
+    }
+    wide.min(BROAD)
+}
+
+// `joins`, and `down, leaves, never more than`
+fn role_of(sheet: &Sheet, node: u32, has_bound: bool) -> Words {
+    let parts = [
+        (sheet.is_down(node), b"down".as_slice()),
+        (sheet.joins(node), b"joins".as_slice()),
+        (sheet.leaves(node), b"leaves".as_slice()),
+        (has_bound, b"never more than".as_slice()),
+    ];
     let mut words = Words::new(sheet.alloc);
-    if sheet.joins(node) {
-        words.text(b"joins");
-    }
-    if sheet.leaves(node) {
-        words.text(b"leaves");
-    }
-    let at_once = sheet.at_once(node);
-    words.heed(&at_once);
-    if at_once.len() > 0 {
-        if words.len() > 0 {
+    for (is_said, part) in parts {
+        if is_said && words.len() > 0 {
             words.text(b", ");
         }
-        words.text(at_once.as_slice());
-        words.text(b" at once");
+        if is_said {
+            words.text(part);
+        }
     }
     words
-}
-
-// `5.1`
-fn slot_word(sheet: &Sheet, shown: &Shown) -> Words {
-    let mut word = Words::new(sheet.alloc);
-    word.number(shown.slot.partition);
-    word.byte(b'.');
-    word.number(shown.slot.index);
-    word
-}
-
-// The words of a bar: the slot with the other node where there is room for it, the slot alone, or nothing.
-fn label(sheet: &Sheet, shown: &Shown, takes: bool, room: u32) -> Words {
-    let slot = slot_word(sheet, shown);
-    let mut long = Words::new(sheet.alloc);
-    long.words(&slot);
-    long.text(if takes {
-        b" \xe2\x86\x90 "
-    } else {
-        b" \xe2\x86\x92 "
-    });
-    let reads = sheet.scene.shown.read_by(shown);
-    if !takes {
-        long.text(name(sheet.ring, shown.to));
-    } else if reads.len() == 1 {
-        long.text(name(sheet.ring, reads[0]));
-    } else {
-        long.number(small(reads.len()));
-        long.text(b" nodes");
-    }
-    if width(long.as_slice(), 11) <= room {
-        return long;
-    }
-    if width(slot.as_slice(), 11) <= room {
-        return slot;
-    }
-    Words::new(sheet.alloc)
-}
-
-// What a bar says to a pointer.
-fn title(sheet: &Sheet, shown: &Shown) -> Words {
-    let mut words = Words::new(sheet.alloc);
-    words.text(b"step ");
-    words.number(shown.copy.unwrap_or(0));
-    words.text(b": copy of slot ");
-    words.number(shown.slot.index);
-    words.text(b" of partition ");
-    words.number(shown.slot.partition);
-    words.text(b" from ");
-    plan_scene::push_names(&mut words, sheet.ring, sheet.scene.shown.read_by(shown), 7);
-    words.text(b" to ");
-    words.text(name(sheet.ring, shown.to));
-    words
-}
-
-// The bar of a copy at one of its nodes. It is white while the copy is open, with a part for the chunks that are marked, and where it is left out.
-fn push_bar(sheet: &Sheet, out: &mut Words, area: Area, shown: &Shown, takes: bool) {
-    let (fill, outline) = if takes { (TAKE, TAKER) } else { (GIVE, GIVER) };
-    let about = title(sheet, shown);
-    let state = state_of(sheet, shown);
-    let ink = match state {
-        State::Planned | State::Copied => {
-            push_titled(out, area, fill, b" rx=\"3\"", &about);
-            LIGHT
-        }
-        State::Open(_) | State::Left => {
-            push_titled(out, area, b"#ffffff", outline, &about);
-            DARK
-        }
-    };
-    if let State::Open(chunks) = state {
-        let mut part = area;
-        part.width = plan_scene::parts_of(chunks, 16, area.width);
-        push_area(out, part, fill, b" rx=\"3\" opacity=\"0.4\"");
-    }
-    let words = label(sheet, shown, takes, area.width);
-    out.heed(&words);
-    if words.len() > 0 {
-        let x = area.x.saturating_add(area.width / 2);
-        push_said(out, Point::at(x, area.y.saturating_add(12)), ink, &words)
-    }
 }
 
 // The bars of a copy, one for each of its nodes.
@@ -348,11 +287,11 @@ fn push_part(sheet: &Sheet, out: &mut Words, plot: &Plot, lanes: &mut Lanes, par
     push_bar(sheet, out, area, shown, node == shown.to)
 }
 
-/// The picture of every copy.
-pub fn full_picture(sheet: &Sheet, nodes: &[u32], counted: &Lanes) -> Result<Vec<u8>, Refusal> {
-    let plot = Plot::of(sheet, nodes, counted)?;
+/// The picture of every copy, where each bar has room for words.
+pub fn full_picture(sheet: &Sheet, nodes: &[u32], plot: &Plot) -> Result<Vec<u8>, Refusal> {
+    let caption = caption_of(sheet);
     let mut shapes = Words::new(sheet.alloc);
-    push_frame(sheet, &mut shapes, plot.wide);
+    push_frame(sheet, &mut shapes, &caption);
     plot.push_columns(sheet, &mut shapes);
     for row in plot.rows.as_slice() {
         plot.push_ends(sheet, &mut shapes, row);
@@ -360,11 +299,11 @@ pub fn full_picture(sheet: &Sheet, nodes: &[u32], counted: &Lanes) -> Result<Vec
     let mut lanes = Lanes::new(sheet, nodes)?;
     for place in by_copy(sheet)?.as_slice() {
         if let Some(shown) = sheet.shown(*place) {
-            push_copy(sheet, &mut shapes, &plot, &mut lanes, shown);
+            push_copy(sheet, &mut shapes, plot, &mut lanes, shown);
         }
     }
     let height = plot.push_notes(sheet, &mut shapes)?;
     let mut out = Words::new(sheet.alloc);
-    push_picture(&mut out, plot.wide, height, &shapes);
+    push_picture(&mut out, height, &caption, &shapes);
     out.end()
 }

@@ -4,7 +4,7 @@ use crate::sheet::Sheet;
 use plan_scene::small;
 use ring_names::Refusal;
 
-// A node among those that take part: leavers first, then joiners, then by how much they do.
+// A node that has a row: those that are down first, then leavers, then joiners, then by how much they do.
 #[derive(Clone, Copy, PartialEq, Eq, PartialOrd, Ord)]
 struct Ranked {
     kind: u32,
@@ -12,22 +12,27 @@ struct Ranked {
     node: u32,
 }
 
-/// 0 for a node that leaves, 1 for one that joins, and 2 for one that stays.
+/// How many kinds of nodes there are.
+pub const KINDS: usize = 4;
+
+/// 0 for a node that is down, 1 for one that leaves, 2 for one that joins, and 3 for one that stays.
 pub fn kind(sheet: &Sheet, node: u32) -> u32 {
-    if sheet.leaves(node) {
+    if sheet.is_down(node) {
         0
-    } else if sheet.joins(node) {
+    } else if sheet.leaves(node) {
         1
-    } else {
+    } else if sheet.joins(node) {
         2
+    } else {
+        3
     }
 }
 
-/// The nodes that take part: those that leave, those that join and those that stay, the busiest first.
+/// The nodes that take part or are down: those that are down, those that leave, those that join and those that stay, the busiest of each first.
 pub fn in_order(sheet: &Sheet) -> Result<Vec<u32>, Refusal> {
     let mut ranked = Vec::new(sheet.alloc);
     for node in 0..small(sheet.ring.nodes().len()) {
-        if sheet.scene.takes_part(node) {
+        if sheet.scene.takes_part(node) || sheet.is_down(node) {
             ranked.push(Ranked {
                 kind: kind(sheet, node),
                 idleness: u32::MAX - sheet.work(node),

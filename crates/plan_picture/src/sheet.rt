@@ -1,6 +1,6 @@
 //! What a picture is made of.
 
-use plan_scene::{Progress, Scene, Shown, at};
+use plan_scene::{Present, Progress, Scene, Shown, at};
 use plan_text::Plan;
 use ring_table::Ring;
 use std::alloc::Global;
@@ -13,6 +13,8 @@ pub struct Sheet<'a> {
     pub ring: &'a Ring,
     pub plan: &'a Plan,
     pub scene: &'a Scene,
+    /// How the ring stands after the last entry of the history, or before the first step.
+    pub present: &'a Present,
     pub progress: Option<&'a Progress>,
 }
 
@@ -32,13 +34,18 @@ impl<'a> Sheet<'a> {
         self.scene.joins.as_slice().contains(&node)
     }
 
+    /// Whether the node is down.
+    pub fn is_down(&self, node: u32) -> bool {
+        self.present.is_down(node)
+    }
+
     /// How many transfers the node has.
     pub fn work(&self, node: u32) -> u32 {
         let gives = at(self.scene.loads.gives.as_slice(), node as usize);
         gives.saturating_add(at(self.scene.loads.takes.as_slice(), node as usize))
     }
 
-    /// How many transfers the node has at once, of how many it may bear.
+    /// How many transfers the node never has more of at once, and how many it bears: `3 at once (bears 4)`.
     pub fn at_once(&self, node: u32) -> Words {
         let mut text = Words::new(self.alloc);
         if let Some(declared) = self.ring.nodes().get(node as usize) {

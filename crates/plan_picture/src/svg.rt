@@ -1,21 +1,13 @@
 //! Shapes as SVG. Coordinates are whole pixels, so that the same picture has the same bytes.
 
+use crate::style::{PAGE, STYLE};
 use words::Words;
 
-/// The colour of what is given.
-pub const GIVE: &[u8] = b"#c2570c";
+/// How wide every picture is: a page of a repository shows it in about this width.
+pub const WIDE: u32 = 900;
 
-/// The colour of what is taken.
-pub const TAKE: &[u8] = b"#1d5fd0";
-
-/// The colour of words.
-pub const INK: &[u8] = b"#16202c";
-
-/// The colour of words that matter less.
-pub const SOFT: &[u8] = b"#5d6b7a";
-
-/// The colour of what is done.
-pub const DONE: &[u8] = b"#2f855a";
+/// How far from the edges of a picture its words begin and end.
+pub const MARGIN: u32 = 24;
 
 /// A rectangle.
 #[derive(Clone, Copy, Debug)]
@@ -40,8 +32,15 @@ impl Point {
     }
 }
 
-// ` x="12"`
-fn push_measure(out: &mut Words, name: &[u8], number: u32) {
+/// What is said of a picture: the title over it, and what stands below that.
+#[derive(Drop)]
+pub struct Caption {
+    pub title: Words,
+    pub about: Words,
+}
+
+/// Adds an attribute with a number: ` x="12"`.
+pub fn push_measure(out: &mut Words, name: &[u8], number: u32) {
     out.byte(b' ');
     out.text(name);
     out.text(b"=\"");
@@ -49,45 +48,50 @@ fn push_measure(out: &mut Words, name: &[u8], number: u32) {
     out.byte(b'"');
 }
 
-// The beginning of a rectangle, up to what closes it.
-fn push_open(out: &mut Words, area: Area, fill: &[u8], more: &[u8]) {
+// The beginning of a rectangle of that class, up to what closes it.
+fn push_open(out: &mut Words, area: Area, class: &[u8], more: &[u8]) {
     out.text(b"<rect");
     push_measure(out, b"x", area.x);
     push_measure(out, b"y", area.y);
     push_measure(out, b"width", area.width);
     push_measure(out, b"height", area.height);
-    out.text(b" fill=\"");
-    out.text(fill);
+    out.text(b" class=\"");
+    out.text(class);
     out.byte(b'"');
     out.text(more);
 }
 
-/// A rectangle, with further attributes, each behind a space.
-pub fn push_area(out: &mut Words, area: Area, fill: &[u8], more: &[u8]) {
-    push_open(out, area, fill, more);
+/// A rectangle of that class, with further attributes, each after a space.
+pub fn push_area(out: &mut Words, area: Area, class: &[u8], more: &[u8]) {
+    push_open(out, area, class, more);
     out.text(b"/>\n");
 }
 
-/// The same, with words that show where a pointer rests on it.
-pub fn push_titled(out: &mut Words, area: Area, fill: &[u8], more: &[u8], title: &Words) {
-    push_open(out, area, fill, more);
+/// A rectangle with words that show where a pointer rests on it.
+pub fn push_titled(out: &mut Words, area: Area, class: &[u8], more: &[u8], title: &Words) {
+    push_open(out, area, class, more);
     out.text(b"><title>");
     out.words(title);
     out.text(b"</title></rect>\n");
 }
 
-/// Words at a place, with attributes, each behind a space. Names of nodes and the words here have no character that must be escaped.
-pub fn push_words(out: &mut Words, at: Point, attributes: &[u8], words: &[u8]) {
+/// The beginning of words at a place, up to their attributes.
+pub fn push_begin(out: &mut Words, at: Point) {
     out.text(b"<text");
     push_measure(out, b"x", at.x);
     push_measure(out, b"y", at.y);
+}
+
+/// Words at a place, with attributes, each after a space. Names of nodes and the words here have no character that must be escaped.
+pub fn push_words(out: &mut Words, at: Point, attributes: &[u8], words: &[u8]) {
+    push_begin(out, at);
     out.text(attributes);
     out.byte(b'>');
     out.text(words);
     out.text(b"</text>\n");
 }
 
-/// The same, of words that were written elsewhere.
+/// Words at a place, of a text that was written elsewhere.
 pub fn push_said(out: &mut Words, at: Point, attributes: &[u8], words: &Words) {
     push_words(out, at, attributes, words.as_slice());
     out.heed(words);
@@ -100,31 +104,31 @@ pub fn push_rule(out: &mut Words, from: Point, to: Point) {
     push_measure(out, b"y1", from.y);
     push_measure(out, b"x2", to.x);
     push_measure(out, b"y2", to.y);
-    out.text(b" stroke=\"#dfe4ea\"/>\n");
+    out.text(b" class=\"rule\"/>\n");
 }
 
-// The fonts and sizes of words, by class.
-const STYLE: &[u8] =
-    b"<style>text{font-family:'DejaVu Sans',Verdana,sans-serif;fill:#16202c}\n.t{font-size:19px;font-weight:bold}.s{font-size:12px;fill:#5d6b7a}.n{font-size:12px}.b{font-size:11px}.h{font-size:11px;fill:#5d6b7a}.k{font-size:10px;fill:#5d6b7a}</style>\n";
-
-/// A whole picture of that size round its shapes, on white.
-pub fn push_picture(out: &mut Words, width: u32, height: u32, shapes: &Words) {
+/// A whole picture of that height round its shapes. Its caption is what a screen reader says.
+pub fn push_picture(out: &mut Words, height: u32, caption: &Caption, shapes: &Words) {
     out.text(b"<svg xmlns=\"http://www.w3.org/2000/svg\" viewBox=\"0 0 ");
-    out.number(width);
+    out.number(WIDE);
     out.byte(b' ');
     out.number(height);
     out.byte(b'"');
-    push_measure(out, b"width", width);
+    push_measure(out, b"width", WIDE);
     push_measure(out, b"height", height);
-    out.text(b" role=\"img\">\n");
+    out.text(b" role=\"img\" aria-labelledby=\"title about\">\n<title id=\"title\">");
+    out.words(&caption.title);
+    out.text(b"</title>\n<desc id=\"about\">");
+    out.words(&caption.about);
+    out.text(b"</desc>\n");
     out.text(STYLE);
     let whole = Area {
         x: 0,
         y: 0,
-        width,
+        width: WIDE,
         height,
     };
-    push_area(out, whole, b"#ffffff", b"");
+    push_area(out, whole, PAGE, b"");
     out.words(shapes);
     out.text(b"</svg>\n");
 }

@@ -1,8 +1,8 @@
 //! Who joins and who leaves, and what must move for it.
 
 use crate::names::{name, push_many, push_names};
-use crate::numbers::small;
 use crate::scene::Scene;
+use numbers::small;
 use ring_table::Ring;
 use words::Words;
 
@@ -36,6 +36,16 @@ pub fn push_change(out: &mut Words, ring: &Ring, scene: &Scene) {
     if !leaves.is_empty() {
         push_who(out, ring, leaves, b"leaves", b"leave");
     }
+}
+
+/// How many slots move, with the word for one or that for more; where a slot moves more than once `1000 moves of 1 slot`.
+pub fn push_moves(out: &mut Words, scene: &Scene, one: &[u8], more: &[u8]) {
+    let moves = scene.move_count();
+    if moves == scene.moved_slots {
+        return push_many(out, moves, one, more);
+    }
+    push_many(out, moves, b"move of ", b"moves of ");
+    push_many(out, scene.moved_slots, b"slot", b"slots")
 }
 
 /// The fewest slots that must move where these nodes join and leave: each of a leaver, and as many more as give each joiner its share of all,

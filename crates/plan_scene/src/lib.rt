@@ -6,15 +6,16 @@ mod change;
 mod copies;
 mod loads;
 mod names;
-mod numbers;
+mod present;
 mod progress;
 mod scene;
 mod shown;
 
-pub use change::{count_members, fewest_moves, push_change};
+pub use change::{count_members, fewest_moves, push_change, push_moves};
 pub use loads::Loads;
 pub use names::{name, push_many, push_names, push_quorum, rack};
 pub use numbers::{at, parts_of, raise, row, small};
+pub use present::Present;
 pub use progress::Progress;
 pub use scene::Scene;
 pub use shown::{AllShown, Shown};

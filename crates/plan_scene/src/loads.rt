@@ -1,8 +1,8 @@
 //! What each node owns, gives, takes and may bear.
 
 use crate::copies::Copies;
-use crate::numbers::{at, raise};
 use crate::shown::AllShown;
+use numbers::{at, raise};
 use plan_cert::Cert;
 use plan_chains::Order;
 use plan_moves::owned;
@@ -96,19 +96,25 @@ impl Loads {
         }
     }
 
-    /// How many transfers the node has at once, of how many it may bear: `3 of 4`, or `2 of 2 in, 1 of 2 out`. Nothing where it has none of a side.
+    /// How many transfers the node never has more of at once, and how many it bears: `3 at once (bears 4)`, or `2 in at once (bears 2), 1 out at once (bears 2)`.
+    /// Nothing where it has none of a side.
     pub fn push_at_once(&self, out: &mut Words, allowance: Allowance, node: u32) {
         let place = node as usize;
         match allowance {
-            Allowance::Joint(most) => push_of(out, at(self.joint.as_slice(), place), most, b""),
+            Allowance::Joint(most) => push_of(
+                out,
+                at(self.joint.as_slice(), place),
+                most,
+                b" at once",
+            ),
             Allowance::Split { take, give } => {
                 let taken = at(self.taking.as_slice(), place);
                 let given = at(self.giving.as_slice(), place);
-                push_of(out, taken, take, b" in");
+                push_of(out, taken, take, b" in at once");
                 if taken > 0 && given > 0 {
                     out.text(b", ");
                 }
-                push_of(out, given, give, b" out")
+                push_of(out, given, give, b" out at once")
             }
         }
     }
@@ -121,13 +127,14 @@ fn put(numbers: &mut [u32], place: usize, found: Option<u32>) {
     }
 }
 
-// `3 of 4`, and the word behind it; nothing of none.
-fn push_of(out: &mut Words, count: u32, most: u32, word: &[u8]) {
+// `3 at once (bears 4)`, with these words in the middle; nothing of none.
+fn push_of(out: &mut Words, count: u32, most: u32, words: &[u8]) {
     if count == 0 {
         return;
     }
     out.number(count);
-    out.text(b" of ");
+    out.text(words);
+    out.text(b" (bears ");
     out.number(most);
-    out.text(word);
+    out.byte(b')');
 }

@@ -18,7 +18,7 @@ pub fn push_names(out: &mut Words, ring: &Ring, nodes: &[u32], most: usize) {
     } else {
         nodes.len()
     };
-    let others = crate::numbers::small(nodes.len().saturating_sub(shown));
+    let others = numbers::small(nodes.len().saturating_sub(shown));
     let mut place = 0usize;
     for node in nodes {
         if place >= shown {

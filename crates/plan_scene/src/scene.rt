@@ -1,8 +1,8 @@
 //! What is shown of a plan.
 
 use crate::loads::Loads;
-use crate::numbers::{at, raise};
 use crate::shown::{AllShown, Shown};
+use numbers::{at, raise};
 use plan_cert::Cert;
 use plan_check::Approved;
 use plan_moves::{last_owners, moves, rounds};
@@ -23,6 +23,8 @@ pub struct Scene {
     pub joins: Vec<u32>,
     /// Those that retire.
     pub leaves: Vec<u32>,
+    /// How many different slots move.
+    pub moved_slots: u32,
     /// The owners in the end, by partition.
     pub last_rows: Vec<Listed<NodeId>>,
     pub loads: Loads,
@@ -38,6 +40,7 @@ impl Scene {
         let widths = widths(alloc, shown.moves.as_slice())?;
         let joins = joining(alloc, plan)?;
         let leaves = retiring(alloc, plan)?;
+        let moved_slots = moved_slots(alloc, ring, shown.moves.as_slice())?;
         let last_rows = last_owners(alloc, ring, plan)?;
         let mut loads = Loads::of(alloc, ring, cert, &shown, last_rows.as_slice())?;
         loads.count_fewest(alloc, ring, plan, &shown)?;
@@ -47,6 +50,7 @@ impl Scene {
             widths,
             joins,
             leaves,
+            moved_slots,
             last_rows,
             loads,
         })
@@ -54,7 +58,7 @@ impl Scene {
 
     /// How many rounds of copies run one behind the other.
     pub fn round_count(&self) -> u32 {
-        crate::numbers::small(self.widths.len())
+        numbers::small(self.widths.len())
     }
 
     /// How many copies the widest round has.
@@ -66,9 +70,9 @@ impl Scene {
         most
     }
 
-    /// How many slots move.
+    /// How many moves there are.
     pub fn move_count(&self) -> u32 {
-        crate::numbers::small(self.shown.moves.len())
+        numbers::small(self.shown.moves.len())
     }
 
     /// Whether the node is a member in the end.
@@ -99,6 +103,21 @@ fn widths(alloc: Global, moves: &[Shown]) -> Result<Vec<u32>, Refusal> {
         }
     }
     Ok(widths)
+}
+
+// How many different slots move.
+fn moved_slots(alloc: Global, ring: &Ring, moves: &[Shown]) -> Result<u32, Refusal> {
+    let mut marks = vec![in alloc; 0u32; (ring.q() as usize).saturating_mul(7)]?;
+    let mut count = 0u32;
+    for shown in moves {
+        let row = (shown.slot.partition as usize).saturating_mul(7);
+        let place = row.saturating_add(shown.slot.index as usize);
+        if at(marks.as_slice(), place) == 0 {
+            count = count.saturating_add(1);
+        }
+        raise(marks.as_mut_slice(), place);
+    }
+    Ok(count)
 }
 
 // The nodes that join, in the order of the steps.

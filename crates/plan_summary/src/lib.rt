@@ -5,9 +5,12 @@ mod domains;
 mod failing;
 mod overview;
 mod pieces;
+mod ring;
 mod rounds;
 mod running;
+mod span;
 mod table;
 mod writing;
 
 pub use overview::{Shape, View, summary};
+pub use ring::ring_summary;

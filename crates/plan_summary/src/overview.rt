@@ -1,17 +1,18 @@
 //! The summary of a plan, in words.
 
 use crate::domains::sharing;
-use crate::failing::{all_pairs, kept_by_one, pairs};
+use crate::failing::{all_pairs, kept, kept_by_one, pairs};
 use crate::rounds::push_rounds;
 use crate::running::push_progress;
+use crate::span::Span;
 use crate::table::push_table;
 use crate::writing::{end_line, push_tenths};
 use plan_scene::{
-    Progress, Scene, at, count_members, fewest_moves, parts_of, push_change, push_many,
-    push_quorum, raise, small,
+    Present, Progress, Scene, at, count_members, fewest_moves, parts_of, push_change, push_many,
+    push_moves, push_names, push_quorum, small,
 };
 use plan_text::Plan;
-use ring_names::{NodeId, Refusal, push_decimal};
+use ring_names::Refusal;
 use ring_table::Ring;
 use std::alloc::Global;
 use words::Words;
@@ -32,6 +33,10 @@ pub struct View<'a> {
     pub ring: &'a Ring,
     pub plan: &'a Plan,
     pub scene: &'a Scene,
+    /// How the ring stands after the last entry of the history, or before the first step.
+    pub present: &'a Present,
+    /// How far the history has come, where there is one.
+    pub progress: Option<&'a Progress>,
     pub shape: Shape,
     /// The byte behind which a node's name names its rack, where racks are asked for.
     pub racks_behind: Option<u8>,
@@ -48,22 +53,8 @@ fn tell_change(view: &View, line: &mut Words) {
     line.byte(b'.');
 }
 
-// How many different slots move.
-fn moved_slots(view: &View) -> Result<u32, Refusal> {
-    let mut marks = vec![in view.alloc; 0u32; (view.ring.q() as usize).saturating_mul(7)]?;
-    let mut count = 0u32;
-    for shown in view.scene.shown.moves.as_slice() {
-        let row = (shown.slot.partition as usize).saturating_mul(7);
-        let place = row.saturating_add(shown.slot.index as usize);
-        if at(marks.as_slice(), place) == 0 {
-            count = count.saturating_add(1);
-        }
-        raise(marks.as_mut_slice(), place);
-    }
-    Ok(count)
-}
-
-fn tell_moves(view: &View, line: &mut Words, slots: u32) {
+fn tell_moves(view: &View, line: &mut Words) {
+    let slots = view.scene.moved_slots;
     let total = view.ring.q().saturating_mul(view.ring.n());
     let moves = view.scene.move_count();
     line.text(b"  moves     ");
@@ -147,41 +138,6 @@ fn tell_sources(line: &mut Words, listed: u32) {
     line.text(b" listed slots of the partition in place of the owner");
 }
 
-// The fewest and the most slots among nodes.
-#[derive(Clone, Copy)]
-struct Span {
-    least: u32,
-    most: u32,
-}
-
-impl Span {
-    fn new() -> Span {
-        Span {
-            least: u32::MAX,
-            most: 0,
-        }
-    }
-
-    fn add(&mut self, count: u32) {
-        self.least = self.least.min(count);
-        self.most = self.most.max(count);
-    }
-
-    // `4 slots`, or `3 to 5 slots`.
-    fn push(&self, out: &mut Words) {
-        out.number(self.least.min(self.most));
-        if self.least < self.most {
-            out.text(b" to ");
-            out.number(self.most);
-        }
-        out.text(if self.most == 1 && self.least >= 1 {
-            b" slot"
-        } else {
-            b" slots"
-        });
-    }
-}
-
 // How many slots the members own, now or in the end.
 fn span_of(view: &View, is_end: bool) -> Span {
     let mut span = Span::new();
@@ -191,8 +147,8 @@ fn span_of(view: &View, is_end: bool) -> Span {
             if view.scene.stays(view.ring, node) {
                 span.add(at(loads.after.as_slice(), node as usize));
             }
-        } else if view.ring.is_member(NodeId(node)) {
-            span.add(at(loads.before.as_slice(), node as usize));
+        } else if view.present.is_member(node) {
+            span.add(at(view.present.owned.as_slice(), node as usize));
         }
     }
     span
@@ -212,7 +168,7 @@ fn tell_balance(view: &View, line: &mut Words) {
 }
 
 fn tell_racks(view: &View, line: &mut Words, behind: u8) {
-    let now = sharing(view.ring, view.ring.rows(), behind);
+    let now = sharing(view.ring, view.present.rows.as_slice(), behind);
     let then = sharing(view.ring, view.scene.last_rows.as_slice(), behind);
     line.text(b"  racks     ");
     push_many(line, now, b"partition has", b"partitions have");
@@ -224,10 +180,38 @@ fn tell_racks(view: &View, line: &mut Words, behind: u8) {
     }
 }
 
-fn tell_one_fails(view: &View, line: &mut Words) {
-    let (ring, loads) = (view.ring, &view.scene.loads);
-    line.text(b"  if one fails   ");
-    line.number(kept_by_one(ring, loads.before.as_slice()));
+// Who is down, and how many partitions answer all the same.
+fn tell_down(view: &View, line: &mut Words) {
+    let (ring, present) = (view.ring, view.present);
+    line.text(b"  down      ");
+    push_names(line, ring, present.down.as_slice(), 6);
+    line.text(b"; without ");
+    line.text(if present.down.len() == 1 {
+        b"it "
+    } else {
+        b"them "
+    });
+    line.number(kept(ring, present.rows.as_slice(), present));
+    line.text(b" of ");
+    push_many(line, ring.q(), b"partition answers", b"partitions answer");
+    line.text(b" reads and writes");
+}
+
+// `if one fails`, and beside whom.
+fn push_failing(view: &View, line: &mut Words, words: &[u8]) {
+    line.text(words);
+    if !view.present.down.is_empty() {
+        line.text(b"beside ");
+        push_names(line, view.ring, view.present.down.as_slice(), 3);
+        line.text(b": ");
+    }
+}
+
+fn tell_one_fails(view: &View, line: &mut Words) -> Result<(), Refusal> {
+    let (ring, present) = (view.ring, view.present);
+    push_failing(view, line, b"  if one fails   ");
+    let now = kept_by_one(view.alloc, ring, present.rows.as_slice(), present)?;
+    line.number(now);
     line.text(b" of ");
     push_many(
         line,
@@ -236,35 +220,43 @@ fn tell_one_fails(view: &View, line: &mut Words) {
         b"partitions still answer",
     );
     line.text(b" reads and writes now, ");
-    line.number(kept_by_one(ring, loads.after.as_slice()));
+    let then = kept_by_one(view.alloc, ring, view.scene.last_rows.as_slice(), present)?;
+    line.number(then);
     line.text(b" in the end");
+    Ok(())
 }
 
 fn tell_two_fail(view: &View, line: &mut Words) -> Result<(), Refusal> {
-    let now = pairs(view.alloc, view.ring, view.ring.rows())?;
-    let then = pairs(view.alloc, view.ring, view.scene.last_rows.as_slice())?;
-    line.text(b"  if two fail    ");
+    let (ring, present) = (view.ring, view.present);
+    let now = pairs(view.alloc, ring, present.rows.as_slice(), present)?;
+    let then = pairs(view.alloc, ring, view.scene.last_rows.as_slice(), present)?;
+    push_failing(view, line, b"  if two fail    ");
     line.number(now);
     line.text(b" of ");
     push_many(
         line,
-        all_pairs(count_before(view) as usize),
+        all_pairs(count_up(view, false)),
         b"pair of members",
         b"pairs of members",
     );
     line.text(b" share a partition now, ");
     line.number(then);
     line.text(b" of ");
-    line.number(all_pairs(count_members(view.ring, view.scene) as usize));
+    line.number(all_pairs(count_up(view, true)));
     line.text(b" in the end");
     Ok(())
 }
 
-// How many members there are before the first step.
-fn count_before(view: &View) -> u32 {
+// How many members are up, now or in the end.
+fn count_up(view: &View, is_end: bool) -> u32 {
     let mut count = 0u32;
-    for node in view.ring.nodes() {
-        if node.is_member {
+    for node in 0..small(view.ring.nodes().len()) {
+        let is_member = if is_end {
+            view.scene.stays(view.ring, node)
+        } else {
+            view.present.is_member(node)
+        };
+        if is_member && !view.present.is_down(node) {
             count = count.saturating_add(1);
         }
     }
@@ -279,12 +271,8 @@ fn push_total(view: &View, out: &mut Words) {
     out.text(b" to join, ");
     out.number(small(scene.leaves.len()));
     out.text(b" to leave, ");
-    push_many(
-        out,
-        scene.move_count(),
-        b"slot to move in ",
-        b"slots to move in ",
-    );
+    push_moves(out, scene, b"slot to move", b"slots to move");
+    out.text(b" in ");
     push_many(out, scene.round_count(), b"round.\n", b"rounds.\n");
 }
 
@@ -293,7 +281,11 @@ fn push_overview(view: &View, out: &mut Words, line: &mut Words) -> Result<(), R
     tell_change(view, line);
     end_line(out, line, 2);
     out.byte(b'\n');
-    tell_moves(view, line, moved_slots(view)?);
+    if !view.present.down.is_empty() {
+        tell_down(view, line);
+        end_line(out, line, INDENT);
+    }
+    tell_moves(view, line);
     end_line(out, line, INDENT);
     tell_round_count(view, line);
     end_line(out, line, INDENT);
@@ -310,27 +302,28 @@ fn push_overview(view: &View, out: &mut Words, line: &mut Words) -> Result<(), R
         tell_racks(view, line, behind);
         end_line(out, line, INDENT);
     }
-    tell_one_fails(view, line);
-    end_line(out, line, INDENT);
-    tell_two_fail(view, line)?;
-    end_line(out, line, INDENT);
+    push_failures(view, out, line)?;
     out.byte(b'\n');
     Ok(())
 }
 
+// What remains where a node or two fail.
+fn push_failures(view: &View, out: &mut Words, line: &mut Words) -> Result<(), Refusal> {
+    tell_one_fails(view, line)?;
+    end_line(out, line, INDENT);
+    tell_two_fail(view, line)?;
+    end_line(out, line, INDENT);
+    Ok(())
+}
+
 // All of the summary; the second text is that of one line.
-fn push_summary(
-    view: &View,
-    out: &mut Words,
-    line: &mut Words,
-    progress: Option<&Progress>,
-) -> Result<(), Refusal> {
+fn push_summary(view: &View, out: &mut Words, line: &mut Words) -> Result<(), Refusal> {
     push_overview(view, out, line)?;
     push_table(view, out, line)?;
     out.byte(b'\n');
     push_rounds(view, out, line)?;
     out.byte(b'\n');
-    if let Some(progress) = progress {
+    if let Some(progress) = view.progress {
         push_progress(view, out, line, progress);
     }
     push_total(view, out);
@@ -339,10 +332,10 @@ fn push_summary(
 
 /// The summary of a plan: who joins and leaves, what moves in how many rounds, what it does to balance, racks and failures, the table of nodes, the
 /// rounds, and where there is a history how far it has come. Lines have at most 100 bytes. Its only refusal is `OutOfMemory`.
-pub fn summary(view: &View, progress: Option<&Progress>) -> Result<Vec<u8>, Refusal> {
+pub fn summary(view: &View) -> Result<Vec<u8>, Refusal> {
     let mut out = Words::new(view.alloc);
     let mut line = Words::new(view.alloc);
-    push_summary(view, &mut out, &mut line, progress)?;
+    push_summary(view, &mut out, &mut line)?;
     line.end()?;
     out.end()
 }

@@ -1,4 +1,4 @@
-//! The table of the nodes that take part.
+//! The table of the nodes that take part or are down.
 
 use crate::overview::{Shape, View};
 use crate::writing::{
@@ -6,7 +6,7 @@ use crate::writing::{
     push_trimmed,
 };
 use plan_scene::{Scene, at, name, parts_of, push_many, push_names, small};
-use ring_names::{NodeId, Refusal};
+use ring_names::Refusal;
 use ring_table::Node;
 use std::alloc::Global;
 use words::Words;
@@ -30,25 +30,27 @@ struct Table {
     top: u32,
 }
 
-// The nodes that take part, by number.
+// The nodes that take part or are down, by number.
 fn taking_part(view: &View) -> Result<Vec<u32>, Refusal> {
     let mut nodes = Vec::new(view.alloc);
     for node in 0..small(view.ring.nodes().len()) {
-        if view.scene.takes_part(node) {
+        if view.scene.takes_part(node) || view.present.is_down(node) {
             nodes.push(node)?;
         }
     }
     Ok(nodes)
 }
 
-// What a node does in a plan, for the order in which nodes get a row.
-fn kind(scene: &Scene, node: u32) -> usize {
-    if scene.leaves.as_slice().contains(&node) {
+// What a node does in a plan, for the order in which nodes get a row: one that is down comes first.
+fn kind(view: &View, node: u32) -> usize {
+    if view.present.is_down(node) {
         0
-    } else if scene.joins.as_slice().contains(&node) {
+    } else if view.scene.leaves.as_slice().contains(&node) {
         1
-    } else {
+    } else if view.scene.joins.as_slice().contains(&node) {
         2
+    } else {
+        3
     }
 }
 
@@ -63,7 +65,7 @@ fn ranked(view: &View, nodes: &[u32]) -> Result<Vec<(usize, u32, u32)>, Refusal>
     let mut order = Vec::new(view.alloc);
     for node in nodes {
         let rank = u32::MAX - work(view.scene, *node);
-        order.push((kind(view.scene, *node), rank, *node))?;
+        order.push((kind(view, *node), rank, *node))?;
     }
     order.sort_unstable();
     Ok(order)
@@ -131,7 +133,7 @@ impl Table {
             rows,
             hidden,
             names: 4,
-            at_once: 9,
+            at_once: 15,
             top: 1,
         })
     }
@@ -153,7 +155,7 @@ impl Table {
     fn tell_row(&self, view: &View, line: &mut Words, node: u32) {
         let (scene, place) = (view.scene, node as usize);
         line.text(b"  ");
-        line.byte(sign(scene, node));
+        line.byte(sign(view, node));
         line.byte(b' ');
         push_left(line, name(view.ring, node), self.names);
         push_spaces(line, 2);
@@ -162,15 +164,10 @@ impl Table {
         push_count(line, at(scene.loads.gives.as_slice(), place));
         push_spaces(line, 2);
         push_count(line, at(scene.loads.takes.as_slice(), place));
-        push_spaces(line, 3);
-        push_number_right(line, at(scene.loads.before.as_slice(), place), 4);
-        line.text(b" -> ");
-        if scene.leaves.as_slice().contains(&node) {
-            line.text(b"gone ");
-            return;
+        if view.progress.is_some() {
+            return push_three(view, line, node);
         }
-        push_number_left(line, at(scene.loads.after.as_slice(), place), 4);
-        line.byte(b' ');
+        push_two(view, line, node)
     }
 
     // The line of a node, all of it; the second text is that of one line.
@@ -199,8 +196,12 @@ impl Table {
         push_spaces(out, 4);
         push_left(out, b"node", self.names);
         push_spaces(out, 2);
-        push_left(out, b"at once", self.at_once);
-        out.text(b"  gives  takes   slots\n");
+        push_left(out, b"never more than", self.at_once);
+        out.text(if view.progress.is_some() {
+            b"  gives  takes  begun    now    end\n"
+        } else {
+            b"  gives  takes   slots\n"
+        });
         for node in self.rows.as_slice() {
             self.push_row(view, out, line, *node);
         }
@@ -231,7 +232,36 @@ impl Table {
     }
 }
 
-// Adds how many transfers the node has at once, or a point, and tells how many bytes that takes.
+// The slots that the node owns before the first step and after the last.
+fn push_two(view: &View, line: &mut Words, node: u32) {
+    let (loads, place) = (&view.scene.loads, node as usize);
+    push_spaces(line, 3);
+    push_number_right(line, at(loads.before.as_slice(), place), 4);
+    line.text(b" -> ");
+    if view.scene.leaves.as_slice().contains(&node) {
+        return line.text(b"gone ");
+    }
+    push_number_left(line, at(loads.after.as_slice(), place), 4);
+    line.byte(b' ');
+}
+
+// The slots that the node owns before the first step, after the last entry of the history, and after the last step.
+fn push_three(view: &View, line: &mut Words, node: u32) {
+    let (loads, place) = (&view.scene.loads, node as usize);
+    push_spaces(line, 2);
+    push_number_right(line, at(loads.before.as_slice(), place), 5);
+    push_spaces(line, 2);
+    push_number_right(line, at(view.present.owned.as_slice(), place), 5);
+    push_spaces(line, 2);
+    if view.scene.leaves.as_slice().contains(&node) {
+        push_right(line, b"gone", 5);
+    } else {
+        push_number_right(line, at(loads.after.as_slice(), place), 5);
+    }
+    push_spaces(line, 2)
+}
+
+// Adds how many transfers the node never has more of at once, or a point, and tells how many bytes that takes.
 fn push_at_once(view: &View, line: &mut Words, node: u32) -> usize {
     let begin = line.len();
     if let Some(Node { allowance, .. }) = view.ring.nodes().get(node as usize) {
@@ -243,10 +273,11 @@ fn push_at_once(view: &View, line: &mut Words, node: u32) -> usize {
     line.len().saturating_sub(begin)
 }
 
-fn sign(scene: &Scene, node: u32) -> u8 {
-    match kind(scene, node) {
-        0 => b'-',
-        1 => b'+',
+fn sign(view: &View, node: u32) -> u8 {
+    match kind(view, node) {
+        0 => b'x',
+        1 => b'-',
+        2 => b'+',
         _ => b'~',
     }
 }
@@ -263,7 +294,8 @@ fn push_count(line: &mut Words, count: u32) {
 fn push_idle(view: &View, out: &mut Words) -> Result<(), Refusal> {
     let mut idle = Vec::new(view.alloc);
     for node in 0..small(view.ring.nodes().len()) {
-        if view.ring.is_member(NodeId(node)) && !view.scene.takes_part(node) {
+        let has_row = view.scene.takes_part(node) || view.present.is_down(node);
+        if view.present.is_member(node) && !has_row {
             idle.push(node)?;
         }
     }
@@ -280,7 +312,8 @@ fn push_idle(view: &View, out: &mut Words) -> Result<(), Refusal> {
     Ok(())
 }
 
-/// The table: for each node that takes part, how many transfers it has at once, gives and takes, and how many slots it owns now and then.
+/// The table: for each node that takes part or is down, how many transfers it never has more of at once, gives and takes, and how many slots it owns in the beginning, with a
+/// history now, and in the end.
 ///
 /// The second text is that of one line.
 pub fn push_table(view: &View, out: &mut Words, line: &mut Words) -> Result<(), Refusal> {

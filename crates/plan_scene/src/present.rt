@@ -1,0 +1,170 @@
+//! How a ring stands after the last entry of a history.
+
+use crate::progress::Progress;
+use crate::scene::Scene;
+use crate::shown::Shown;
+use plan_moves::owned;
+use plan_text::{Plan, Step};
+use ring_names::{Listed, NodeId, Refusal};
+use ring_table::Ring;
+use std::alloc::Global;
+
+/// Who owns each slot, who is a member and who is down: after the last entry of a history, or before the first step where there is none.
+#[derive(Drop)]
+pub struct Present {
+    /// The owners, by partition.
+    pub rows: Vec<Listed<NodeId>>,
+    /// How many slots each node owns.
+    pub owned: Vec<u32>,
+    /// The nodes that are down, by number.
+    pub down: Vec<u32>,
+    // by node
+    is_member: Vec<bool>,
+    // by node
+    is_down: Vec<bool>,
+}
+
+impl Present {
+    /// The ring as the history leaves it. Its only refusal is `OutOfMemory`.
+    pub fn of(
+        alloc: Global,
+        ring: &Ring,
+        plan: &Plan,
+        scene: &Scene,
+        progress: Option<&Progress>,
+    ) -> Result<Present, Refusal> {
+        let rows = rows_now(alloc, ring, scene.shown.moves.as_slice(), progress)?;
+        let mut present = Present::with_rows(alloc, ring, rows)?;
+        present.note_nodes(ring, progress)?;
+        if let Some(progress) = progress {
+            present.note_steps(plan, progress);
+        }
+        Ok(present)
+    }
+
+    /// The ring as it is, without a plan. Its only refusal is `OutOfMemory`.
+    pub fn at_rest(alloc: Global, ring: &Ring) -> Result<Present, Refusal> {
+        let rows = rows_now(alloc, ring, &[], None)?;
+        let mut present = Present::with_rows(alloc, ring, rows)?;
+        present.note_nodes(ring, None)?;
+        Ok(present)
+    }
+
+    // These owners, and nothing known yet of the nodes.
+    fn with_rows(
+        alloc: Global,
+        ring: &Ring,
+        rows: Vec<Listed<NodeId>>,
+    ) -> Result<Present, Refusal> {
+        let owned = owned(alloc, ring.nodes().len(), rows.as_slice())?;
+        Ok(Present {
+            rows,
+            owned,
+            down: Vec::new(alloc),
+            is_member: Vec::new(alloc),
+            is_down: Vec::new(alloc),
+        })
+    }
+
+    // Who was a member at the start, and who is down.
+    fn note_nodes(&mut self, ring: &Ring, progress: Option<&Progress>) -> Result<(), Refusal> {
+        let mut number = 0u32;
+        for node in ring.nodes() {
+            self.is_member.push(node.is_member)?;
+            let is_down = is_down(progress, number);
+            self.is_down.push(is_down)?;
+            if is_down {
+                self.down.push(number)?;
+            }
+            number = number.saturating_add(1);
+        }
+        Ok(())
+    }
+
+    // Who has joined and retired since.
+    fn note_steps(&mut self, plan: &Plan, progress: &Progress) {
+        for number in 0..plan.len() {
+            if !progress.is_done(number) {
+                continue;
+            }
+            match plan.step(number) {
+                Step::Join(node) => self.set_member(*node, true),
+                Step::Retire(node) => self.set_member(*node, false),
+                _ => {}
+            }
+        }
+    }
+
+    fn set_member(&mut self, node: NodeId, is_member: bool) {
+        if let Some(old) = self.is_member.get_mut(node.0 as usize) {
+            *old = is_member;
+        }
+    }
+
+    /// Whether the node is down.
+    pub fn is_down(&self, node: u32) -> bool {
+        is_set(self.is_down.as_slice(), node)
+    }
+
+    /// Whether the node is a member.
+    pub fn is_member(&self, node: u32) -> bool {
+        is_set(self.is_member.as_slice(), node)
+    }
+}
+
+// What is written at the node's place.
+fn is_set(marks: &[bool], node: u32) -> bool {
+    match marks.get(node as usize) {
+        Some(mark) => *mark,
+        None => false,
+    }
+}
+
+fn is_down(progress: Option<&Progress>, node: u32) -> bool {
+    match progress {
+        Some(progress) => progress.is_down(node),
+        None => false,
+    }
+}
+
+// Whether the move's slot has gone over to its new owner.
+fn is_switched(shown: &Shown, progress: &Progress) -> bool {
+    match shown.switch {
+        Some(step) => progress.is_done(step),
+        None => false,
+    }
+}
+
+// The owners by partition. A slot's moves stand in their order, so its last switch that is done decides.
+fn rows_now(
+    alloc: Global,
+    ring: &Ring,
+    moves: &[Shown],
+    progress: Option<&Progress>,
+) -> Result<Vec<Listed<NodeId>>, Refusal> {
+    let mut rows = Vec::new(alloc);
+    for row in ring.rows() {
+        rows.push(Vec::from_slice(alloc, row.as_slice())?)?;
+    }
+    if let Some(progress) = progress {
+        for shown in moves {
+            if is_switched(shown, progress) {
+                set_owner(rows.as_mut_slice(), shown);
+            }
+        }
+    }
+    let mut listed = Vec::new(alloc);
+    for row in rows {
+        listed.push(Listed::from_vec(row))?;
+    }
+    Ok(listed)
+}
+
+// Gives the slot to the node to which it moves.
+fn set_owner(rows: &mut [Vec<NodeId>], shown: &Shown) {
+    if let Some(row) = rows.get_mut(shown.slot.partition as usize) {
+        if let Some(owner) = row.get_mut(shown.slot.index as usize) {
+            *owner = NodeId(shown.to);
+        }
+    }
+}
