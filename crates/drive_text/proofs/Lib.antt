@@ -1,2 +1,5 @@
 pub mod ScriptsRead
 pub mod BundleRead
+mod Examples
+pub mod NoFloats
+pub mod Ascii

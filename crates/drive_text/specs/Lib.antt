@@ -1,1 +1,3 @@
 pub mod Drives
+pub mod Report
+pub mod Refused

@@ -1,7 +1,6 @@
 -- Where a fault of two rings lies, by the two.
-use Rattle.std.proofs.Common.{◌≡◌, ℕ, ◌≤◌, Result, Ok, arith}
-use Rattle.ring_names.specs.declared.refusal.Refusal.{Refusal}
-use Rattle.texts.specs.Left.{Left, lines_on, one_line, then_part}
+use Rattle.std.proofs.Common.{◌≡◌, ℕ, ◌≤◌, Ok, arith}
+use Rattle.texts.specs.Left.{Left, lines_on, then_part}
 use Rattle.texts.specs.Frames.{end_line_at}
 use Rattle.texts.specs.Late.{ReadsTo}
 use Rattle.texts.proofs.Lates.{Advances, advances-line, advances-then, advances-map, to-first, to-second, to-map, next-after}

@@ -2,3 +2,4 @@
 pub mod GoalFaults
 pub mod Touching
 pub mod Turned
+pub mod Joining

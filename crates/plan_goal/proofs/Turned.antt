@@ -8,7 +8,10 @@ use Rattle.ring_table.specs.Value.{RingValue}
 use Rattle.plan_text.specs.declared.step.Planned.{Planned}
 use Rattle.plan_cert.specs.declared.cert.Cert.{Cert}
 use Rattle.plan_check.specs.First.{first_refusal}
+use Rattle.plan_text.specs.Valid.{IsPlan}
+use Rattle.change_text.specs.declared.change.Change.{Change}
 use Rattle.plan_goal.specs.Reached.{Leads, IsUnreached, no_memory, not_accepted}
+use Rattle.plan_goal.specs.Proposals.{Makes, IsTurnedAway, no_memory as no_memory_left, not_accepted as not_allowed}
 
 pub unreached : (ring wanted : RingValue) (dead : List NodeId) (plan : List Planned) (cert : Cert) (e : Refusal)
     → Leads ring wanted dead plan cert → ((e ≡ OutOfMemory → ⊥) → first_refusal ring plan cert ≡ Some e) → IsUnreached ring wanted dead e
@@ -30,3 +33,9 @@ same-answer true true e = refl
 same-answer false false e = refl
 same-answer true false e = absurd cc
 same-answer false true e = absurd cc
+
+-- likewise of a plan that makes a change
+pub turned-away : (ring : RingValue) (change : Change) (plan : List Planned) (cert : Cert) (e : Refusal)
+    → IsPlan plan → Makes ring change plan cert → ((e ≡ OutOfMemory → ⊥) → first_refusal ring plan cert ≡ Some e) → IsTurnedAway ring change e
+turned-away ring change plan cert OutOfMemory is_plan made h = no_memory_left refl
+turned-away ring change plan cert e is_plan made h = not_allowed plan cert is_plan made (h (λ o. cc))

@@ -1,2 +1,4 @@
 pub mod Goals
 pub mod Reached
+pub mod Joins
+pub mod Proposals

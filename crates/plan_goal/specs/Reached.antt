@@ -13,7 +13,7 @@ use Rattle.plan_text.specs.declared.step.Planned.{Planned}
 use Rattle.plan_text.specs.Changes.{numbers}
 use Rattle.plan_text.specs.Spelling.{plan_text}
 use Rattle.plan_text.specs.Steps.{joined, retired}
-use Rattle.plan_text.specs.Valid.{IsPlan, Suits as PlanSuits}
+use Rattle.plan_text.specs.Valid.{Suits as PlanSuits}
 use Rattle.plan_cert.specs.declared.cert.Cert.{Cert}
 use Rattle.plan_cert.specs.Spelling.{cert_text}
 use Rattle.plan_cert.specs.Valid.{Suits as CertSuits}

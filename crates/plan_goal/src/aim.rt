@@ -1,7 +1,7 @@
 //! Where a plan shall lead.
 
 use crate::dead::Dead;
-use plan_rounds::{Layout, Move, small};
+use numbers::small;
 use ring_names::{NodeId, Refusal, Slot};
 use ring_table::{Allowance, Node, Ring};
 use std::alloc::Global;
@@ -139,61 +139,6 @@ pub fn why_unfit(aim: &Aim) -> Option<Unfit> {
         }
     }
     None
-}
-
-// The next node of the list, from the place on, that the row has not; the place behind it comes too.
-fn next_new(nodes: &[NodeId], row: &[NodeId], from: usize) -> Option<(NodeId, usize)> {
-    for place in from..nodes.len() {
-        if let Some(node) = nodes.get(place) {
-            if !has(row, *node) {
-                return Some((*node, place.saturating_add(1)));
-            }
-        }
-    }
-    None
-}
-
-// Adds the moves of a partition: the slots whose owners it loses go in order to the nodes that it gains.
-fn push_moves(
-    aim: &Aim,
-    layout: &mut Layout,
-    out: &mut Vec<Move>,
-    partition: usize,
-) -> Result<(), Refusal> {
-    let (ours, theirs) = rows(aim, partition);
-    let mut from = 0usize;
-    for index in 0..ours.len() {
-        let Some(owner) = ours.get(index) else {
-            break;
-        };
-        if has(theirs, *owner) {
-            continue;
-        }
-        let Some((node, next)) = next_new(theirs, ours, from) else {
-            break;
-        };
-        from = next;
-        let slot = Slot {
-            partition: small(partition),
-            index: small(index),
-        };
-        layout.let_move(layout.place_of(slot), true);
-        out.push(Move {
-            slot,
-            from: owner.0,
-            to: node.0,
-        })?;
-    }
-    Ok(())
-}
-
-/// The moves that lead there, by partition and index, as few as can be; the layout is told which slots these are.
-pub fn moves(aim: &Aim, layout: &mut Layout) -> Result<Vec<Move>, Refusal> {
-    let mut out = Vec::new(aim.alloc);
-    for partition in 0..layout.partitions {
-        push_moves(aim, layout, &mut out, partition)?;
-    }
-    Ok(out)
 }
 
 /// The nodes that become members, by number.

@@ -1,50 +1,29 @@
 //! The plan itself, of which nothing is promised.
 
-use crate::aim::{Aim, joins, moves, retires};
+use crate::aim::{Aim, joins, retires};
 use plan_cert::Cert;
-use plan_rounds::{Groups, Layout, Schedule, Task, Turnover, write};
+use plan_rounds::{Handover, Turnover};
 use plan_text::Plan;
 use ring_names::Refusal;
 
-// The transfers that nodes bear at once; none goes to a dead one or reads from it.
-fn groups(aim: &Aim) -> Result<Groups, Refusal> {
-    let mut groups = Groups::new(aim.alloc);
-    groups.fill(aim.ring)?;
-    for node in aim.dead {
-        groups.bar(node.0);
-    }
-    Ok(groups)
-}
-
-// The plan of a task, with the members that come and go.
-fn plan_of(aim: &Aim, task: &Task) -> Result<(Plan, Cert), Refusal> {
-    let (joins, retires) = (joins(aim)?, retires(aim)?);
-    let mut schedule = Schedule::new(aim.alloc);
-    schedule.fill_around(task)?;
-    let turnover = Turnover {
-        joins: joins.as_slice(),
-        retires: retires.as_slice(),
-    };
-    write(task, &schedule, &turnover)
-}
-
-// The plan by these groups and this layout.
-fn find_by(aim: &Aim, groups: &Groups, layout: &mut Layout) -> Result<(Plan, Cert), Refusal> {
-    layout.fill(aim.ring)?;
-    let moves = moves(aim, layout)?;
-    let task = Task {
+// The plan with this change of members.
+fn find_by<'a>(aim: &'a Aim<'a>, turnover: Turnover<'a>) -> Result<(Plan, Cert), Refusal> {
+    let handover = Handover {
         alloc: aim.alloc,
-        layout: &*layout,
-        groups,
-        moves: moves.as_slice(),
-        reads: aim.ring.r(),
+        ring: aim.ring,
+        rows: aim.wanted.rows(),
+        turnover,
+        dead: aim.dead,
     };
-    plan_of(aim, &task)
+    handover.plan()
 }
 
 /// A plan that leads there, with its certificate.
 pub fn find(aim: &Aim) -> Result<(Plan, Cert), Refusal> {
-    let groups = groups(aim)?;
-    let mut layout = Layout::new(aim.alloc, aim.ring);
-    find_by(aim, &groups, &mut layout)
+    let (joins, retires) = (joins(aim)?, retires(aim)?);
+    let turnover = Turnover {
+        joins: joins.as_slice(),
+        retires: retires.as_slice(),
+    };
+    find_by(aim, turnover)
 }

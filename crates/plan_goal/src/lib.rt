@@ -1,15 +1,20 @@
-//! Plans that lead from a ring to another one: any placement of the same slots, also around nodes that are dead for good.
+//! Plans that the checker accepts: of a change of a ring's members, and from a ring to another one, with any placement of the same slots, also around
+//! nodes that are dead for good.
 #![tactic(auto)]
 
 mod aim;
+mod alone;
 mod dead;
 mod finding;
+mod judging;
 mod leading;
+mod proposal;
 mod reaching;
 mod reading;
 mod sparing;
 
 pub use aim::{Aim, Unfit, why_unfit};
+pub use proposal::propose;
 pub use reaching::reach;
 pub use reading::{Goal, read_goal};
 pub use sparing::is_among;

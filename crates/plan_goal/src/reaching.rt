@@ -29,8 +29,8 @@ struct Found {
     text: Vec<u8>,
 }
 
-// Why the planner has no plan: for want of memory, or because it found none, whatever it says of the cause.
-fn cause(refusal: Refusal) -> Refusal
+/// Why the planner has no plan: for want of memory, or because it found none, whatever it says of the cause.
+pub(crate) fn cause(refusal: Refusal) -> Refusal
     ensures { (result ≡ OutOfMemory) ⊎ (result ≡ NoPlan) }
 {
     match refusal {

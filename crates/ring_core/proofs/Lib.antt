@@ -10,6 +10,8 @@ pub mod OpenCopies
 pub mod TransfersTold
 pub mod RunPromises
 pub mod ReplyCopies
+pub mod FirstFault
+pub mod Followed
 pub use Rattle.store_tables.proofs.Counting
 pub use Rattle.store_tells.proofs.KeepersDeclared
 pub use Rattle.store_tells.proofs.StoreInWorld

@@ -1,9 +1,14 @@
-//! A store in one process that runs an approved plan.
+//! A store in one process that runs an approved plan, and the replay of a history: each event is applied in order to a store that nothing has
+//! happened to, and must be answered with the reply that the history has of it.
 #![tactic(auto)]
 
 mod events;
+mod following;
 mod reads;
+mod replaying;
 mod transfers;
 mod world;
 
+pub use following::follow;
+pub use replaying::replay;
 pub use world::World;

@@ -14,11 +14,11 @@ use Rattle.plan_runs.specs.Answers.{answer}
 use Rattle.plan_runs.specs.World.{opening_world}
 use Rattle.plan_runs.proofs.Answered.{first_refused}
 use Rattle.plan_runs.proofs.Split.{joined}
-use Rattle.ring_replay.proofs.StoreInWorld.{holds}
-use Rattle.ring_replay.specs.Stores.{World}
-use Rattle.ring_replay.specs.World.{ring_of, plan_of, put_count, get_count, Meets, Answers, Refuses, Stays}
-use Rattle.ring_replay.proofs.GuardRefusals.{never_full}
-use Rattle.ring_replay.specs.Replays.{Replays}
+use Rattle.ring_core.proofs.StoreInWorld.{holds}
+use Rattle.ring_core.specs.declared.world.World.{World}
+use Rattle.ring_core.specs.World.{ring_of, plan_of, put_count, get_count, Meets, Answers, Refuses, Stays}
+use Rattle.ring_core.proofs.GuardRefusals.{never_full}
+use Rattle.ring_core.specs.Replays.{Replays}
 use Rattle.ring_receipts.specs.Entries.{entry}
 
 -- the event with its reply stands last

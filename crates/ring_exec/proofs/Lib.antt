@@ -2,4 +2,4 @@ pub mod Histories
 pub mod Sums
 pub mod Looks
 pub mod Replied
-pub use Rattle.ring_replay.proofs.FirstFault
+pub use Rattle.ring_core.proofs.FirstFault

@@ -11,13 +11,13 @@ use Rattle.plan_text.specs.Valid.{is_ring_slot}
 use Rattle.plan_runs.specs.World.{World as TheWorld, keeps, key_of_put, passing_below}
 use Rattle.plan_runs.proofs.Passing.{some_found, is_below, below_is}
 use Rattle.plan_runs.proofs.Places.{partition_within}
-use Rattle.ring_replay.proofs.Counting.{count_most}
-use Rattle.ring_replay.specs.Parts.{kept_of}
-use Rattle.ring_replay.proofs.KeepersDeclared.{keeper_within}
-use Rattle.ring_replay.proofs.StoreInWorld.{holds, reached_of}
-use Rattle.ring_replay.specs.Stores.{World}
-use Rattle.ring_replay.specs.World.{ring_of, plan_of, Meets}
-use Rattle.ring_replay.specs.Tables.{left_of, IsNextStep, AllDone}
+use Rattle.ring_core.proofs.Counting.{count_most}
+use Rattle.ring_core.specs.Parts.{kept_of}
+use Rattle.ring_core.proofs.KeepersDeclared.{keeper_within}
+use Rattle.ring_core.proofs.StoreInWorld.{holds, reached_of}
+use Rattle.ring_core.specs.declared.world.World.{World}
+use Rattle.ring_core.specs.World.{ring_of, plan_of, Meets}
+use Rattle.ring_core.specs.Tables.{left_of, IsNextStep, AllDone}
 
 -- the step that could begin is one of the plan's
 pub next_within : (a : World) (plan : List Planned) (from : ℕ) (o : Option ℕ) → plan_of a ≡ plan

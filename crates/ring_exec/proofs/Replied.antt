@@ -9,9 +9,9 @@ use Rattle.plan_runs.specs.declared.event.Reply.{Reply}
 use Rattle.plan_runs.specs.Answers.{reply_to}
 use Rattle.plan_runs.specs.World.{World as TheWorld}
 use Rattle.plan_runs.proofs.Answered.{answered}
-use Rattle.ring_replay.proofs.StoreInWorld.{holds}
-use Rattle.ring_replay.specs.Stores.{World}
-use Rattle.ring_replay.specs.World.{ring_of, plan_of, Answers}
+use Rattle.ring_core.proofs.StoreInWorld.{holds}
+use Rattle.ring_core.specs.declared.world.World.{World}
+use Rattle.ring_core.specs.World.{ring_of, plan_of, Answers}
 use Rattle.ring_exec.specs.Replies.{fits_reply}
 
 fits : (ring : RingValue) (plan : List Planned) (w : TheWorld) (e : Event) → fits_reply e (reply_to ring plan w e) ≡ true

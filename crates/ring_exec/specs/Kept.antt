@@ -1,2 +1,2 @@
 -- What stands under the lock beside the history.
-pub use Rattle.ring_replay.specs.Stores.{World}
+pub use Rattle.ring_core.specs.declared.world.World.{World}

@@ -7,9 +7,9 @@ use crate::run_ledger::RunLedger;
 use crate::share::Share;
 use plan_check::Approved;
 use plan_runs::{Entry, Event};
+use ring_core::World;
 use ring_names::{NodeId, Refusal, Slot};
 use ring_receipts::Receipt;
-use ring_replay::World;
 use std::alloc::Global;
 use std::sync::ledger::Blank;
 use std::sync::{Mutex, Wait};
@@ -44,7 +44,7 @@ impl<'a, L: RunLedger> Executor<'a, L> {
     ghost use Rattle.plan_text.specs.Valid.{is_ring_slot};
     ghost use Rattle.plan_runs.specs.Runs.{IsRun};
     ghost use Rattle.plan_runs.specs.World.{World as TheWorld, opening_world};
-    ghost use Rattle.ring_replay.specs.Faults.{IsFirstFault};
+    ghost use Rattle.ring_core.specs.Faults.{IsFirstFault};
     ghost use Rattle.ring_exec.specs.Replies.{fits_reply};
 
     /// A store before the first event, and the one share of its ledger, which counts none and has all of the ledger's parts.

@@ -1,17 +1,17 @@
 //! A running store with its history and its book.
 
 ghost use Rattle.std.specs.Prelude.{◌≡◌, ◌≤◌, vec_len};
-ghost use Rattle.ring_replay.specs.World.{ring_of, plan_of, put_count, get_count};
-ghost use Rattle.ring_replay.specs.Replays.{Replays};
+ghost use Rattle.ring_core.specs.World.{ring_of, plan_of, put_count, get_count};
+ghost use Rattle.ring_core.specs.Replays.{Replays};
 
 use crate::restoring::retold;
 use crate::run_ledger::RunLedger;
 use crate::share::{Share, count_of};
 use plan_check::Approved;
 use plan_runs::{Entry, Event};
+use ring_core::World;
 use ring_names::Refusal;
 use ring_receipts::Receipt;
-use ring_replay::World;
 use std::alloc::Global;
 use std::sync::ledger::{Blank, Book};
 
@@ -41,11 +41,11 @@ impl<'a, L: RunLedger> Ledgered<'a, L> {
     ghost use Rattle.std.specs.List.{sum_by};
     ghost use Rattle.ring_names.specs.declared.refusal.Refusal.TheVariants.{OutOfMemory, HistoryFull};
     ghost use Rattle.plan_runs.specs.World.{World as TheWorld, opening_world};
-    ghost use Rattle.ring_replay.specs.World.{Meets, Passes, Answers, Refuses, Stays};
-    ghost use Rattle.ring_replay.specs.Tables.{AllDone};
-    ghost use Rattle.ring_replay.specs.Replays.{Replays};
+    ghost use Rattle.ring_core.specs.World.{Meets, Passes, Answers, Refuses, Stays};
+    ghost use Rattle.ring_core.specs.Tables.{AllDone};
+    ghost use Rattle.ring_core.specs.Replays.{Replays};
     ghost use Rattle.ring_receipts.specs.Entries.{entry};
-    ghost use Rattle.ring_replay.specs.Faults.{IsFirstFault};
+    ghost use Rattle.ring_core.specs.Faults.{IsFirstFault};
     ghost use Rattle.ring_exec.specs.Replies.{fits_reply};
 
     /// The store before the first event, with an empty history, and the one share of its ledger, which has all of its parts.

@@ -3,14 +3,14 @@
 ghost use Rattle.std.specs.Prelude.{◌≡◌, ◌≢◌, ◌≤◌, ◌++◌, length, IfOk, IfErr, OnOk};
 ghost use Rattle.ring_names.specs.declared.refusal.Refusal.TheVariants.{OutOfMemory, HistoryFull};
 ghost use Rattle.plan_runs.specs.World.{World as TheWorld, opening_world};
-ghost use Rattle.ring_replay.specs.World.{ring_of, plan_of, Meets, Answers, IsOneMore, HasNumber, put_count, get_count};
-ghost use Rattle.ring_replay.specs.Replays.{Replays, Follows};
-ghost use Rattle.ring_replay.specs.Faults.{FailsAt, IsFirstFault};
+ghost use Rattle.ring_core.specs.World.{ring_of, plan_of, Meets, Answers, IsOneMore, HasNumber, put_count, get_count};
+ghost use Rattle.ring_core.specs.Replays.{Replays, Follows};
+ghost use Rattle.ring_core.specs.Faults.{FailsAt, IsFirstFault};
 
 use plan_check::Approved;
 use plan_runs::Entry;
+use ring_core::{World, follow};
 use ring_names::Refusal;
-use ring_replay::{World, follow};
 use std::alloc::Global;
 
 // The entry once more, with the store's own reply, where the store answers it so. Out of memory comes last.

@@ -15,9 +15,9 @@ use Rattle.plan_runs.specs.declared.event.Event.{Event}
 use Rattle.plan_runs.specs.declared.event.Reply.{Reply}
 use Rattle.plan_runs.specs.Answers.{answer}
 use Rattle.plan_runs.specs.World.{World as TheWorld, opening_world}
-use Rattle.ring_replay.specs.Replays.{World}
-use Rattle.ring_replay.specs.Tables.{owners_now}
-use Rattle.ring_replay.specs.World.{ring_of, plan_of, Meets}
+use Rattle.ring_core.specs.declared.world.World.{World}
+use Rattle.ring_core.specs.Tables.{owners_now}
+use Rattle.ring_core.specs.World.{ring_of, plan_of, Meets}
 use Rattle.ring_script.specs.Play.{behind, said, event_line, world_after, event_lines, owners_text, play_text}
 use Rattle.ring_script.specs.Steps.{Happens, Plays}
 

@@ -7,9 +7,9 @@ use Rattle.ring_table.specs.Value.{RingValue}
 use Rattle.plan_text.specs.declared.step.Planned.{Planned}
 use Rattle.plan_runs.specs.declared.event.Entry.{Entry}
 use Rattle.plan_runs.specs.World.{World as TheWorld}
-use Rattle.ring_replay.specs.Replays.{World}
-use Rattle.ring_replay.specs.World.{plan_of, Meets}
-use Rattle.ring_replay.specs.Replays.{Replays}
+use Rattle.ring_core.specs.declared.world.World.{World}
+use Rattle.ring_core.specs.World.{plan_of, Meets}
+use Rattle.ring_core.specs.Replays.{Replays}
 use Rattle.ring_script.specs.Replay.{ending_text, IsReplayed}
 
 pub is_replayed : (ring by : RingValue) (plan : List Planned) (a : World) (history : List Entry) (r : Result (Vec ℕ) Refusal) → Replays ring plan a history → by ≡ ring → plan_of a ≡ plan

@@ -13,7 +13,7 @@ use Rattle.plan_runs.specs.declared.event.Reply.{Reply}
 use Rattle.plan_runs.specs.Answers.{answer}
 use Rattle.plan_runs.specs.Replies.{reply_text}
 use Rattle.plan_runs.specs.World.{World, opening_world}
-use Rattle.ring_replay.specs.Tables.{owners_now}
+use Rattle.ring_core.specs.Tables.{owners_now}
 
 -- the world behind an event: the same where it is refused
 abbrev pub behind : World → Result (World × Reply) Refusal → World

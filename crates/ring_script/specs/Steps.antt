@@ -4,8 +4,8 @@ use Rattle.std.specs.Fmt.{decimal}
 use Rattle.plan_runs.specs.declared.event.Event.{Event}
 use Rattle.plan_runs.specs.Answers.{answer}
 use Rattle.plan_runs.specs.World.{World as TheWorld}
-use Rattle.ring_replay.specs.Replays.{World}
-use Rattle.ring_replay.specs.World.{ring_of, plan_of, Meets, put_count, get_count}
+use Rattle.ring_core.specs.declared.world.World.{World}
+use Rattle.ring_core.specs.World.{ring_of, plan_of, Meets, put_count, get_count}
 use Rattle.ring_script.specs.Play.{behind, said, world_after, event_lines}
 
 -- the event of that place was answered: the store is in the world behind it, and the text has its line

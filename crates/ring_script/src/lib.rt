@@ -8,4 +8,3 @@ mod replaying;
 pub use bundle::{Bundle, Kind, read_bundle};
 pub use playing::{play, play_whole};
 pub use replaying::replay_history;
-pub use ring_replay::{Unwatched, Watch, World, replay_watched};

@@ -5,14 +5,14 @@ ghost use Rattle.ring_names.specs.declared.refusal.Refusal.TheVariants.{OutOfMem
 ghost use Rattle.texts.specs.Parts.{text_of};
 ghost use Rattle.ring_table.specs.Spelling.{rows_lines};
 ghost use Rattle.plan_runs.specs.World.{World as TheWorld, opening_world};
-ghost use Rattle.ring_replay.specs.World.{ring_of, plan_of, Meets, put_count, get_count, HasNumber};
+ghost use Rattle.ring_core.specs.World.{ring_of, plan_of, Meets, put_count, get_count, HasNumber};
 ghost use Rattle.ring_script.specs.Play.{owners_text, play_text};
 ghost use Rattle.ring_script.specs.Steps.{Happens, Plays};
 
 use plan_check::Approved;
 use plan_runs::Event;
+use ring_core::World;
 use ring_names::{Listed, NodeId, Refusal, push_decimal};
-use ring_replay::World;
 use ring_table::{Node, Ring, push_row};
 use script_text::Script;
 use std::alloc::{AllocError, Global};

@@ -3,15 +3,15 @@
 ghost use Rattle.std.specs.Prelude.{◌≡◌, ◌≢◌, ◌≤◌, length, IfOk, IfErr};
 ghost use Rattle.ring_names.specs.declared.refusal.Refusal.TheVariants.{OutOfMemory};
 ghost use Rattle.plan_runs.specs.World.{World as TheWorld, opening_world};
-ghost use Rattle.ring_replay.specs.World.{ring_of, plan_of, Meets};
-ghost use Rattle.ring_replay.specs.Faults.{IsFirstFault};
+ghost use Rattle.ring_core.specs.World.{ring_of, plan_of, Meets};
+ghost use Rattle.ring_core.specs.Faults.{IsFirstFault};
 ghost use Rattle.ring_script.specs.Replay.{ending_text, IsReplayed};
 
 use crate::playing::push_ending;
 use plan_check::Approved;
 use plan_runs::Entry;
+use ring_core::{World, replay};
 use ring_names::Refusal;
-use ring_replay::{World, replay};
 use ring_table::Ring;
 use std::alloc::Global;
 

@@ -3,7 +3,7 @@
 use crate::ring_texts::{push_nodes, push_numbered, push_owners};
 use crate::rings::ring_from;
 use crate::same::{holds, same};
-use plan_wish::{Wish, Wished, wished};
+use plan_maker::{Wish, Wished, wished};
 use ring_names::{NodeId, Refusal};
 use ring_table::Ring;
 use std::alloc::{AllocError, Global};

@@ -3,8 +3,8 @@
 use crate::answering::{MOVE, approved, script_of};
 use plan_check::Approved;
 use plan_runs::{Entry, Event};
+use ring_core::{World, replay};
 use ring_names::{Listed, NodeId};
-use ring_replay::{World, replay};
 use ring_script::play;
 use script_text::Script;
 use std::process::Abort;

@@ -2,8 +2,8 @@
 
 use crate::answering::{LOSS, MOVE, SPLIT_MOVE, STAND_IN, Texts, answered, approved};
 use plan_check::Approved;
+use ring_core::World;
 use ring_names::{Listed, NodeId, Slot};
-use ring_replay::World;
 use std::process::Abort;
 use std::test::Fail;
 

@@ -1,5 +1,4 @@
 use Rattle.std.proofs.lemmas.Result.{IfErr-weaker}
-use Rattle.plan_goal.specs.Reached.{IsUnreached}
 use Rattle.plan_goal.proofs.Turned.{unreached}
 use Rattle.plan_goal.proofs.reaching.reach.Goals as goal
 

@@ -3,11 +3,11 @@ use Rattle.std.proofs.lemmas.List.{length-take, take_more}
 use Rattle.ring_names.specs.declared.refusal.Refusal.TheVariants.{OutOfMemory}
 use Rattle.plan_runs.specs.declared.event.Entry.{Entry}
 use Rattle.plan_runs.specs.World.{World as TheWorld}
-use Rattle.ring_replay.specs.World.{ring_of, plan_of, Meets}
-use Rattle.ring_replay.proofs.SoundAfterEvent.{has_number}
-use Rattle.ring_replay.specs.Replays.{Follows}
-use Rattle.ring_replay.specs.Faults.{IsFirstFault}
-use Rattle.ring_replay.proofs.Followed.{follows_one, fault_followed}
+use Rattle.ring_core.specs.World.{ring_of, plan_of, Meets}
+use Rattle.ring_core.proofs.SoundAfterEvent.{has_number}
+use Rattle.ring_core.specs.Replays.{Follows}
+use Rattle.ring_core.specs.Faults.{IsFirstFault}
+use Rattle.ring_core.proofs.Followed.{follows_one, fault_followed}
 use Rattle.ring_exec.proofs.restoring.retell_all.Goals as goal
 
 pub retell-requires : goal.retell-requires

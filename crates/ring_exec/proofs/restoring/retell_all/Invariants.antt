@@ -1,6 +1,6 @@
 use Rattle.std.proofs.Common.{◌≡◌, ◌+◌, ◌≤◌, ◌++◌, length, take}
 use Rattle.std.specs.Vec.{vec_len, vec_capacity}
-use Rattle.ring_replay.specs.Replays.{Follows}
+use Rattle.ring_core.specs.Replays.{Follows}
 use Rattle.ring_exec.proofs.restoring.retell_all.Given as goal
 
 abbrev pub invariant-loop-place : goal.invariant-loop-place

@@ -1,6 +1,6 @@
 use Rattle.plan_runs.specs.World.{opening_world}
-use Rattle.ring_replay.proofs.FirstFault.{fault_not_full}
-use Rattle.ring_replay.proofs.Followed.{replays_all, fault_from_start}
+use Rattle.ring_core.proofs.FirstFault.{fault_not_full}
+use Rattle.ring_core.proofs.Followed.{replays_all, fault_from_start}
 use Rattle.ring_exec.proofs.restoring.retold.Goals as goal
 
 pub returns-in-Ok-clause-run : goal.returns-in-Ok-clause-run

@@ -1,7 +1,7 @@
 use Rattle.std.proofs.Common.{◌≡◌, ◌∙◌, ℕ, ◌+◌, List, [], ◌∷◌, ◌++◌, length, take, sym, ap, subst, arith}
 use Rattle.std.proofs.lemmas.List.{length-take, take_more}
 use Rattle.plan_runs.specs.declared.event.Event.{Event}
-use Rattle.ring_replay.proofs.SoundAfterEvent.{has_number}
+use Rattle.ring_core.proofs.SoundAfterEvent.{has_number}
 use Rattle.ring_script.specs.Steps.{Happens, Plays}
 use Rattle.ring_script.proofs.Played.{plays_one}
 use Rattle.ring_script.proofs.playing.play_events.Goals as goal

@@ -4,7 +4,7 @@ use Rattle.std.proofs.lemmas.List.{reverse-reverse}
 use Rattle.ring_table.specs.Value.{RingValue}
 use Rattle.plan_text.specs.declared.step.Planned.{Planned}
 use Rattle.plan_runs.specs.declared.event.Event.{Event}
-use Rattle.ring_replay.specs.World.{plan_of}
+use Rattle.ring_core.specs.World.{plan_of}
 use Rattle.ring_script.specs.Play.{play_text}
 use Rattle.ring_script.proofs.playing.play_whole.Goals as goal
 

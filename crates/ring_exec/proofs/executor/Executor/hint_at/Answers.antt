@@ -1,6 +1,6 @@
 use Rattle.std.proofs.Common.{◌≡◌, ◌∙◌, ap}
 use Rattle.ring_table.specs.Value.{RingValue}
-use Rattle.ring_replay.specs.World.{ring_of}
+use Rattle.ring_core.specs.World.{ring_of}
 use Rattle.ring_exec.proofs.Looks.{hint_within}
 use Rattle.ring_exec.proofs.executor.Executor.hint_at.Goals as goal
 

@@ -1,6 +1,6 @@
 use Rattle.std.proofs.Common.{◌≡◌, ◌∙◌, List, ap}
 use Rattle.plan_text.specs.declared.step.Planned.{Planned}
-use Rattle.ring_replay.specs.World.{plan_of}
+use Rattle.ring_core.specs.World.{plan_of}
 use Rattle.ring_exec.proofs.Looks.{left_within}
 use Rattle.ring_exec.proofs.executor.Executor.left.Goals as goal
 

@@ -2,7 +2,7 @@
 use Rattle.std.proofs.Common.{List, subst}
 use Rattle.std.proofs.Math.Logic.{∥∥₁_map}
 use Rattle.plan_runs.specs.declared.event.Entry.{Entry}
-use Rattle.ring_replay.specs.Replays.{Replays}
+use Rattle.ring_core.specs.Replays.{Replays}
 use Rattle.ring_exec.proofs.executor.Executor.restore.Goals as goal
 
 pub returns-clause-run : goal.returns-clause-run

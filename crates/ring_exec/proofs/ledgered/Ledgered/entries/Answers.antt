@@ -1,6 +1,6 @@
 use Rattle.std.proofs.Common.{List, subst, sym}
 use Rattle.plan_runs.specs.declared.event.Entry.{Entry}
-use Rattle.ring_replay.specs.Replays.{Replays}
+use Rattle.ring_core.specs.Replays.{Replays}
 use Rattle.ring_exec.proofs.ledgered.Ledgered.entries.Goals as goal
 
 pub returns-clause-run : goal.returns-clause-run

@@ -2,8 +2,8 @@ use Rattle.std.proofs.Common.{rules, ◌≡◌, List, [], sym, subst, ◌∙◌}
 use Rattle.plan_runs.specs.World.{opening_world}
 use Rattle.plan_runs.specs.declared.event.Entry.{Entry}
 use Rattle.ring_table.specs.Value.{RingValue}
-use Rattle.ring_replay.specs.World.{Meets}
-use Rattle.ring_replay.specs.Replays.{Replays}
+use Rattle.ring_core.specs.World.{Meets}
+use Rattle.ring_core.specs.Replays.{Replays}
 use Rattle.ring_exec.proofs.Histories.{replays_none}
 use Rattle.ring_exec.proofs.ledgered.Ledgered.new.Goals as goal
 

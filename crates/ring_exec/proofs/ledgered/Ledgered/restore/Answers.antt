@@ -2,7 +2,7 @@ use Rattle.std.proofs.Common.{rules, ◌∙◌, List, sym, subst}
 use Rattle.ring_table.specs.Value.{RingValue}
 use Rattle.plan_text.specs.declared.step.Planned.{Planned}
 use Rattle.plan_runs.specs.declared.event.Entry.{Entry}
-use Rattle.ring_replay.specs.Replays.{Replays}
+use Rattle.ring_core.specs.Replays.{Replays}
 use Rattle.ring_exec.proofs.ledgered.Ledgered.restore.Goals as goal
 
 pub invariant_of-restored : goal.invariant_of-restored

@@ -1,3 +1,0 @@
-mod Examples
-pub mod NoFloats
-pub mod Ascii

@@ -1,0 +1,57 @@
+//! The plan by which nodes join and nothing else happens.
+
+ghost use Rattle.std.specs.Prelude.{◌≡◌, ◌≤◌, [], length, IfOk, IfErr};
+ghost use Rattle.ring_names.specs.declared.refusal.Refusal.TheVariants.{OutOfMemory};
+ghost use Rattle.change_text.specs.Valid.{IsChange};
+ghost use Rattle.plan_goal.specs.Joins.{joins_alone, no_claims};
+ghost use Rattle.plan_goal.specs.Proposals.{IsProposed};
+
+use crate::judging::{Rejected, judge};
+use change_text::Change;
+use plan_cert::{Cert, Chains};
+use plan_text::{Plan, Step};
+use ring_names::{NodeId, Refusal, Rows};
+use ring_table::Ring;
+use std::alloc::Global;
+
+// The steps that join the nodes, in their order, of which none waits for another.
+fn joins_alone(alloc: Global, nodes: &[NodeId]) -> Result<Plan, Refusal>
+    requires { length nodes.now ≤ 131072 }
+    ensures plan { IfOk result (λ p. p ≡ joins_alone nodes.now) }
+    ensures memory { IfErr result (λ e. e ≡ OutOfMemory) }
+{
+    let mut plan = Plan::new(alloc);
+    for node in nodes {
+        plan.push(Step::Join(*node), &[])?;
+    }
+    Ok(plan)
+}
+
+// A certificate without facts and chains.
+fn no_claims(alloc: Global) -> Cert
+    ensures { result ≡ no_claims }
+{
+    Cert {
+        facts: Rows::new(alloc),
+        chains: Chains::new(alloc),
+    }
+}
+
+/// The text of the plan by which the change's nodes join, where nobody leaves. Its only refusal is `OutOfMemory`.
+pub fn propose_joins(alloc: Global, ring: Ring, change: &Change) -> Result<Vec<u8>, Refusal>
+    requires change { IsChange ring change.now }
+    requires nobody { change.now.leaves ≡ [] }
+    ensures proposed { IfOk result (λ v. IsProposed ring change.now v.items) }
+    ensures memory { IfErr result (λ e. e ≡ OutOfMemory) }
+{
+    // A ring has few nodes, and so few can join.
+    let _ = ring.n();
+    let plan = joins_alone(alloc, change.joins.as_slice())?;
+    match judge(alloc, ring, change, plan, no_claims(alloc)) {
+        Ok(text) => Ok(text),
+        Err(rejected) => {
+            let Rejected { refusal, .. } = rejected;
+            Err(refusal)
+        }
+    }
+}

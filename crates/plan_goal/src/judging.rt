@@ -1,0 +1,66 @@
+//! Whether a plan may be proposed for a change.
+
+ghost use Rattle.std.specs.Prelude.{◌≡◌, ◌↔◌, IsTrue, IfOk, IfErr};
+ghost use Rattle.ring_names.specs.declared.refusal.Refusal.TheVariants.{OutOfMemory};
+ghost use Rattle.plan_check.specs.Certified.{IsCertified};
+ghost use Rattle.plan_goal.specs.Proposals.{Makes, IsProposed, IsTurnedAway};
+
+use change_text::Change;
+use plan_cert::Cert;
+use plan_check::{Turned, check};
+use plan_rounds::write_texts;
+use plan_text::Plan;
+use ring_names::Refusal;
+use ring_table::Ring;
+use std::alloc::Global;
+
+/// A ring that is given back, and why.
+#[derive(Drop)]
+pub struct Rejected {
+    pub ring: Ring,
+    pub refusal: Refusal,
+}
+
+// Whether the plan is one of the ring that makes the change, and the certificate is one of the ring.
+fn makes(ring: &Ring, change: &Change, plan: &Plan, cert: &Cert) -> bool
+    ensures { IsTrue result ↔ Makes ring.now change.now plan.now cert.now }
+{
+    plan.suits(ring)
+        && cert.suits(ring)
+        && plan.fulfils(change.joins.as_slice(), change.leaves.as_slice())
+}
+
+/// The text to propose, where the plan makes the change and the checker accepts it by the certificate. Refused otherwise, the ring
+/// comes back: with `NoPlan` where the plan is none of the ring that makes the change, or the certificate none of the ring; with the
+/// checker's refusal where it refuses the plan; and with `OutOfMemory` where memory ran out.
+pub fn judge(
+    alloc: Global,
+    ring: Ring,
+    change: &Change,
+    plan: Plan,
+    cert: Cert,
+) -> Result<Vec<u8>, Rejected>
+    ensures proposed { IfOk result (λ v. IsProposed ring change.now v.items) }
+    ensures refused { IfErr result (λ r. IsTurnedAway ring change.now r.refusal) }
+    ensures same { IfErr result (λ r. r.ring ≡ ring) }
+    ensures memory { Makes ring change.now plan cert → IsCertified ring plan cert
+        → IfErr result (λ r. r.refusal ≡ OutOfMemory) }
+{
+    // Every plan is well formed.
+    let _ = plan.len();
+    if !makes(&ring, change, &plan, &cert) {
+        let refusal = Refusal::NoPlan;
+        return Err(Rejected { ring, refusal });
+    }
+    let text = match write_texts(alloc, &ring, &plan, &cert) {
+        Ok(text) => text,
+        Err(refusal) => return Err(Rejected { ring, refusal }),
+    };
+    match check(alloc, ring, plan, &cert) {
+        Ok(_) => Ok(text),
+        Err(turned) => {
+            let Turned { ring, refusal, .. } = turned;
+            Err(Rejected { ring, refusal })
+        }
+    }
+}

@@ -1,2 +1,0 @@
-pub mod Proposals
-pub mod Joins

@@ -1,0 +1,57 @@
+//! A whole history.
+
+ghost use Rattle.std.specs.Prelude.{◌≡◌, ◌≢◌, ◌≤◌, length, IfOk, IfErr, OnOk};
+ghost use Rattle.ring_names.specs.declared.refusal.Refusal.TheVariants.{OutOfMemory};
+ghost use Rattle.plan_runs.specs.Runs.{IsRun};
+ghost use Rattle.plan_runs.specs.World.{World as TheWorld, opening_world};
+ghost use Rattle.ring_core.specs.World.{ring_of, plan_of, Meets, put_count, get_count};
+ghost use Rattle.ring_core.specs.Replays.{Replays, Follows};
+ghost use Rattle.ring_core.specs.Faults.{IsFirstFault};
+
+use crate::following::follow;
+use crate::world::World;
+use plan_check::Approved;
+use plan_runs::Entry;
+use ring_names::Refusal;
+use std::alloc::Global;
+
+// All entries in order.
+fn follow_all(world: &mut World, history: &[Entry]) -> Result<(), Refusal>
+    requires few { length history.now ≤ 1000000 }
+    requires puts { put_count world.old ≡ 0 }
+    requires gets { get_count world.old ≡ 0 }
+    ensures ok { OnOk result (Follows world.old history.now world.new) }
+    ensures err { IfErr result (λ e. e ≢ OutOfMemory → (w : TheWorld) → Meets world.old w
+        → IsFirstFault (ring_of world.old) (plan_of world.old) w 0 history.now e) }
+{
+    for (place, entry) in history.iter().enumerate() {
+        follow(world, place as u32, entry)?;
+    }
+    Ok(())
+}
+
+/// The store behind the history: each event is applied in order to a store that nothing has happened to, and is answered as the history has it, so
+/// that the history is a run of the plan. Else `Mismatch`, with the place of the first entry, from 0, whose event is refused or has another reply,
+/// and with that refusal's number or 0. Each entry costs one `World::apply` and one comparison of replies. Out of memory comes last at each entry.
+pub fn replay<'a>(
+    alloc: Global,
+    approved: &'a Approved,
+    history: &[Entry],
+) -> Result<World<'a>, Refusal>
+    requires few { length history.now ≤ 1000000 }
+    ensures ok { IfOk result (λ a. Replays approved.now.ring approved.now.plan a history.now) }
+    ensures ring { IfOk result (λ a. ring_of a ≡ approved.now.ring) }
+    ensures plan { IfOk result (λ a. plan_of a ≡ approved.now.plan) }
+    ensures err { IfErr result (λ e. e ≢ OutOfMemory
+        → IsFirstFault approved.now.ring approved.now.plan (opening_world approved.now.ring) 0 history.now e) }
+    // No run is refused.
+    ensures only { IfErr result
+        (λ e. e ≢ OutOfMemory → (w : TheWorld) → IsRun approved.now.ring approved.now.plan history.now w → ⊥) }
+{
+    let mut world = World::start(alloc, approved)?;
+    let found = follow_all(&mut world, history);
+    match found {
+        Ok(()) => Ok(world),
+        Err(refusal) => Err(refusal),
+    }
+}
