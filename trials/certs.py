@@ -1,5 +1,5 @@
 #!/usr/bin/env python3
-"""Tries `ringside cert` from outside; it wants both programs as they are built. `trials/certs.py PLANS SEED` draws so many plans, else 1,000, from that seed.
+"""Tries `ringplan cert` from outside; it wants the program as it is built. `trials/certs.py PLANS SEED` draws so many plans, else 1,000, from that seed.
 
 Each plan is drawn over a small ring (2 or 4 partitions of 2 or 3 slots, 4 to 7 nodes with one number or two, sources that are listed or not), with dependencies of which some
 are left out, some go by way of other steps and some are of no use. Whether there is a certificate is decided here by other means than the program's: by the whole order that
@@ -8,13 +8,13 @@ as they were, and a certificate to which `ringplan check` says yes; else it refu
 import os, random, re, subprocess, sys
 
 top = os.path.dirname(os.path.dirname(os.path.abspath(__file__)))
-PLAN, SIDE = f"{top}/crates/ringplan/out/ringplan", f"{top}/crates/ringside/out/ringside"
+RUN = f"{top}/crates/ringplan/out/ringplan"
 PLANS = int(sys.argv[1]) if len(sys.argv) > 1 else 1000
 SEED = int(sys.argv[2]) if len(sys.argv) > 2 else 20261126
 
 
-def ask(program, word, text):
-    ran = subprocess.run([program, word], input=text.encode(), stdout=subprocess.PIPE, timeout=60)
+def ask(word, text):
+    ran = subprocess.run([RUN, word], input=text.encode(), stdout=subprocess.PIPE, stderr=subprocess.STDOUT, timeout=60)
     return ran.stdout.decode(), ran.returncode
 
 
@@ -228,11 +228,11 @@ def antichain(numbers, before):
 
 def judge(number, plan, counts, faults):
     text, wanted = plan.text(), verdict(plan)
-    out, status = ask(SIDE, "cert", text)
+    out, status = ask("cert", text)
     if wanted is None:
         counts["with a certificate"] += 1
         counts["facts"] += out.count("\nfact ")
-        line, ends = ask(PLAN, "check", out)
+        line, ends = ask("check", out)
         if status or not out.startswith(text + "cert ") or (line, ends) != ("yes\n", 0):
             faults.append(f"plan {number}: there is a certificate, and cert ends with {status}, check says {line.strip()!r} of {out[:60]!r}:\n{text}")
     elif wanted == "plan":

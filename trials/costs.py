@@ -1,7 +1,6 @@
 #!/usr/bin/env python3
 """What bundles that were made to cost much cost, at each doubling: trials/costs.py [--instructions] [WORD..], once `rt ci` or `rt run` has built
-crates/ringplan. With words, the families alone whose command or name is one of them. Of `ringside`, which must be built too, the same plans by each
-command, and goals.
+crates/ringplan. With words, the families alone whose command or name is one of them.
 
 For each family of `hostile_plans.py` and `hostile_scripts.py`, and for rings whose members change, a line for each size: the bundle's and the output's
 megabytes, the seconds of processor time (of seven runs the least, where these are below two), how many times those of half the size, and the most memory. It says of which line a bound is passed,
@@ -22,7 +21,7 @@ sys.path.insert(0, os.path.dirname(os.path.abspath(__file__)))
 sys.dont_write_bytecode = True
 import hostile_plans
 import hostile_scripts
-from measured import RUN, SIDE, Measured
+from measured import RUN, Measured
 
 
 def members(leave, partitions):
@@ -126,14 +125,14 @@ def families():
     yield ["plan"], "half of the nodes", [lambda q=q: members(512, q) for q in doubled(512, 4096)]
     for words in (["why"], ["show"], ["draw"], ["steps"], ["steps", "--moves"], ["cert"], ["bundle"], ["after"], ["windows", "--rounds", "1"], ["windows", "--rounds", "64"]):
         for name, made in checks.items():
-            yield ["ringside", *words], name, made
+            yield [*words], name, made
     for name, made in refused().items():
-        yield ["ringside", "why"], name, made
+        yield ["why"], name, made
     windows = [lambda q=q: plan_of(members(102, q)) for q in doubled(512, 4096)]
-    yield ["ringside", "windows", "--rounds", "1"], "a tenth of the nodes", windows
-    yield ["ringside", "goal"], "a tenth of the nodes", [lambda q=q: members(102, q) for q in doubled(512, 4096)]
-    yield ["ringside", "goal"], "each slot to another node", [lambda q=q: shifted(q) for q in doubled(512, 4096)]
-    yield ["ringside", *around(100, 512)[0]], "100 dead nodes", [lambda q=q: around(100, q)[1] for q in doubled(512, 4096)]
+    yield ["windows", "--rounds", "1"], "a tenth of the nodes", windows
+    yield ["goal"], "a tenth of the nodes", [lambda q=q: members(102, q) for q in doubled(512, 4096)]
+    yield ["goal"], "each slot to another node", [lambda q=q: shifted(q) for q in doubled(512, 4096)]
+    yield [*around(100, 512)[0]], "100 dead nodes", [lambda q=q: around(100, q)[1] for q in doubled(512, 4096)]
     plays = {
         "reads, versions": [lambda m=m: hostile_scripts.bundle("reads", m, 500) for m in doubled(128, 1024)],
         "reads, gets": scripts("reads", 500, 32000, 1024),
@@ -166,7 +165,7 @@ def families():
 
 def least(words, bundle):
     """The run that took the least time: of seven where one takes less than two seconds, since what else the machine does may double a short one."""
-    run = lambda: Measured(words[1:], bundle, program=SIDE) if words[0] == "ringside" else Measured(words, bundle)
+    run = lambda: Measured(words, bundle)
     made = run()
     return min([made, *[run() for _ in range(6)]], key=lambda it: it.seconds) if made.seconds < 2 else made
 
@@ -176,7 +175,7 @@ def counted(words, bundle):
     with tempfile.NamedTemporaryFile() as given:
         given.write(bundle)
         given.flush()
-        run = [SIDE, *words[1:]] if words[0] == "ringside" else [RUN, *words]
+        run = [RUN, *words]
         with open(given.name, "rb") as text:
             made = subprocess.run(["valgrind", "--tool=callgrind", "--callgrind-out-file=/dev/null", *run], stdin=text, stdout=subprocess.DEVNULL, stderr=subprocess.PIPE)
     return len(bundle), int(re.search(rb"refs: +([\d,]+)", made.stderr)[1].replace(b",", b""))

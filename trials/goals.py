@@ -1,5 +1,5 @@
 #!/usr/bin/env python3
-"""Tries `ringside goal` from outside, beside `ringplan`; it wants both programs as they are built. `trials/goals.py COUNT` tries so many random goals, else 200.
+"""Tries `ringplan goal` from outside; it wants the program as it is built. `trials/goals.py COUNT` tries so many random goals, else 200.
 
 Goals: rings of 1 to 16 partitions, joint and split allowances, nodes that join, leave and are dead for good, drawn from a fixed seed; any placement of the slots. Of each plan: the checker says
 yes; it moves each slot that must move once, and no other; its rounds of copies are at most 1.2 times the fewest that allowances permit, rounded up to a whole round; no step names a dead node, and no copy reads
@@ -13,12 +13,12 @@ are a fault."""
 import json, os, random, subprocess, sys, time
 
 top = os.path.dirname(os.path.dirname(os.path.abspath(__file__)))
-PLAN, SIDE = f"{top}/crates/ringplan/out/ringplan", f"{top}/crates/ringside/out/ringside"
+RUN = f"{top}/crates/ringplan/out/ringplan"
 COUNT = int(sys.argv[1]) if len(sys.argv) > 1 else 200
 
 
-def ask(program, words, text):
-    ran = subprocess.run([program, *words], input=text.encode(), stdout=subprocess.PIPE, timeout=300)
+def ask(words, text):
+    ran = subprocess.run([RUN, *words], input=text.encode(), stdout=subprocess.PIPE, stderr=subprocess.STDOUT, timeout=300)
     return ran.stdout.decode(), ran.returncode
 
 
@@ -162,7 +162,7 @@ def play(draw, ring, rows, wished, dead, out):
     at = len(script)
     for number, key in enumerate(keys):
         script += [f"get {key}"] + [f"read {number} {i}" for i in range(n)] + [f"endget {number}"]
-    played, status = ask(PLAN, ["play"], out + "\n".join(["script 1", *script, "end"]) + "\n")
+    played, status = ask(["play"], out + "\n".join(["script 1", *script, "end"]) + "\n")
     lines = played.splitlines()
     if status or lines[0] != "yes":
         return "the play was refused: " + lines[0]
@@ -182,7 +182,7 @@ def play(draw, ring, rows, wished, dead, out):
 
 def cut(text, wished):
     """What is wrong with the windows of a plan."""
-    out, status = ask(SIDE, ["windows", "--rounds", "1"], text)
+    out, status = ask(["windows", "--rounds", "1"], text)
     if status:
         return "no windows: " + " / ".join(out.splitlines()[:2])
     parts = out.split("end\n")[:-1]
@@ -193,12 +193,12 @@ def cut(text, wished):
         window = "end\n".join(parts[k : k + 3]) + "end\n"
         if parts[k] + "end\n" != before:
             return f"window {k // 3} begins with another ring"
-        if ask(PLAN, ["check"], window) != ("yes\n", 0):
+        if ask(["check"], window) != ("yes\n", 0):
             return f"the checker refuses window {k // 3}"
-        if ask(SIDE, ["windows", "--rounds", "1", "--only", str(k // 3 + 1)], text) != (window, 0):
+        if ask(["windows", "--rounds", "1", "--only", str(k // 3 + 1)], text) != (window, 0):
             return f"window {k // 3} alone is another"
-        before = ask(SIDE, ["after"], window)[0]
-        played = ask(PLAN, ["play"], window + "\n".join(["script 1", *script_of(parts[k + 1]), "end"]) + "\n")[0].splitlines()
+        before = ask(["after"], window)[0]
+        played = ask(["play"], window + "\n".join(["script 1", *script_of(parts[k + 1]), "end"]) + "\n")[0].splitlines()
         if [it for it in played if it.startswith("slots")] != [it for it in before.splitlines() if it.startswith("slots")]:
             return f"window {k // 3} is played to other owners"
     last = [it.split()[2:] for it in before.splitlines() if it.startswith("slots")]
@@ -207,11 +207,11 @@ def cut(text, wished):
 
 def timed(what, words, text):
     """One command on a large ring: its output, with its seconds and its memory printed."""
-    path = "/tmp/ringside_goals_%d" % os.getpid()
+    path = "/tmp/ringplan_goals_%d" % os.getpid()
     with open(path, "w") as it:
         it.write(text)
     with open(path) as it:
-        child = subprocess.Popen([SIDE, *words], stdin=it, stdout=subprocess.PIPE)
+        child = subprocess.Popen([RUN, *words], stdin=it, stdout=subprocess.PIPE)
         out = child.stdout.read().decode()
         _, status, used = os.wait4(child.pid, 0)
     os.remove(path)
@@ -255,7 +255,7 @@ def many_windows(ring, old, new):
     plan, faults = timed("a certificate for 500 moves of one slot", ["cert"], ring + "\n".join(["plan 1", *steps, "end", ""]))
     faults += timed("their windows of 50 rounds", ["windows", "--rounds", "50"], plan)[1]
     began = time.monotonic()
-    said = [ask(SIDE, ["windows", "--rounds", "1", *only], plan) for only in ((), ("--only", "7"))]
+    said = [ask(["windows", "--rounds", "1", *only], plan) for only in ((), ("--only", "7"))]
     print(f"their windows of one round, all and the seventh: {time.monotonic() - began:.2f} s, {said[0][0].splitlines()[0]}")
     return faults + sum(status != 2 or not out.startswith("no 2 0\nrefused: the windows") for out, status in said)
 
@@ -264,7 +264,7 @@ draw, lost, found, none, around = random.Random(5), large(), 0, 0, 0
 for trial in range(COUNT):
     ring, before, rows, after, wished, dead = drawn(draw)
     text = ring_text(ring, before, rows) + ring_text(ring, after, wished)
-    out, status = ask(SIDE, ["goal", *[it for x in dead for it in ("--dead", x)]], text)
+    out, status = ask(["goal", *[it for x in dead for it in ("--dead", x)]], text)
     if is_hopeless(ring, rows, wished, dead):
         why = "" if (out.splitlines()[0], status) == ("no 28", 1) else "a plan that cannot be"
         none += 1
@@ -272,9 +272,9 @@ for trial in range(COUNT):
         why = "no plan: " + " / ".join(out.splitlines()[:2])
     else:
         why = judge(ring, before, rows, after, wished, dead, out)
-        if not why and ask(PLAN, ["check"], out) != ("yes\n", 0):
+        if not why and ask(["check"], out) != ("yes\n", 0):
             why = "the checker refuses it"
-        if not why and ask(SIDE, ["steps", "--moves"], out) != (told_moves(rows, parsed(out.split("end\n")[1].splitlines()[1:])), 0):
+        if not why and ask(["steps", "--moves"], out) != (told_moves(rows, parsed(out.split("end\n")[1].splitlines()[1:])), 0):
             why = "other lines of its moves"
         why = why or play(draw, ring, rows, wished, dead, out)
         why = why or (not dead and cut(out, wished)) or ""

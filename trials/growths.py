@@ -1,6 +1,6 @@
 #!/usr/bin/env python3
 """Refuses each growth of memory in turn, one to a run, and each start of a thread: trials/growths.py, once `rt ci` or `rt run` has built
-crates/ringplan, crates/ringside and crates/tests_growths. It needs a C compiler, for what it preloads; where there is none it says so and ends with 0.
+crates/ringplan and crates/tests_growths. It needs a C compiler, for what it preloads; where there is none it says so and ends with 0.
 
 Of each case of `tests_cases` the program prints what it prints with memory and all its threads, or `no 60` with status 3; the checks are also done
 by three workers. Of a drive by several workers, in which the threads' turns are not the same in two runs, the first line alone is compared. The stores of `tests_growths`, which run through all kinds of event, print the same, for an
@@ -18,7 +18,6 @@ import time
 HERE = os.path.dirname(os.path.abspath(__file__))
 CRATES = os.path.join(os.path.dirname(HERE), "crates")
 RUN = os.path.join(CRATES, "ringplan", "out", "ringplan")
-SIDE = os.path.join(CRATES, "ringside", "out", "ringside")
 STORES = os.path.join(CRATES, "tests_growths", "out", "tests_growths")
 CASES = os.path.join(CRATES, "tests_cases")
 
@@ -35,7 +34,7 @@ COMMANDS = {
 }
 
 
-# What is asked of the program for people: each command of some bundles, and of others why they are refused.
+# What is asked for people: each command of some bundles, and of others why they are refused.
 MADE = ["plan_replace", "replay_a_move", "node_enters_before_it_left"]
 REFUSED = ["broken_fact", "more_chains_than_allowance", "retired_in_use", "copy_in_no_chain", "chain_out_of_order", "moving_source", "switch_without_copy", "no_certificate",
     "node_that_has_not_joined", "quorums_need_not_meet", "owner_twice_apart", "plan_the_last_member", "replay_an_early_ack", "replay_another_reply"]
@@ -49,14 +48,14 @@ SOUGHT = ["no_certificate", "more_chains_than_allowance"]
 
 
 def people():
-    """The same of the program for people."""
+    """Runs of the commands for people."""
     for name in MADE + REFUSED:
         for words in ("why", "show --all --racks-behind .", "draw", "steps", "bundle", "cert", "after") if name in MADE else ("why", "cert") if name in SOUGHT else ("why",):
-            given = os.path.join(CRATES, "ringside_cases", "data", name + ".bundle")
-            yield "%s %s, ringside" % (name, words), [SIDE, *words.split()], given, (3, b"no 60\n"), False
+            given = os.path.join(CRATES, "tests_cases", "data", name + ".bundle")
+            yield "%s %s" % (name, words), [RUN, *words.split()], given, (3, b""), False
     for name, words in WISHED:
-        given = os.path.join(CRATES, "ringside_cases", "data", name + ".bundle")
-        yield "%s %s, ringside" % (name, words), [SIDE, *words.split()], given, (3, b"no 60\n"), False
+        given = os.path.join(CRATES, "tests_cases", "data", name + ".bundle")
+        yield "%s %s" % (name, words), [RUN, *words.split()], given, (3, b""), False
 
 
 def cases():
@@ -65,7 +64,7 @@ def cases():
     with open(os.path.join(CASES, "args")) as file:
         names = file.read().split()
     kinds = ["check"]
-    for name in names:
+    for name in names[: names.index("why")]:
         if name in COMMANDS:
             kinds = [name]
             continue

@@ -6,7 +6,6 @@ import tempfile
 
 TOP = os.path.dirname(os.path.dirname(os.path.abspath(__file__)))
 RUN = os.path.join(TOP, "crates", "ringplan", "out", "ringplan")
-SIDE = os.path.join(TOP, "crates", "ringside", "out", "ringside")
 
 
 class Measured:

@@ -1,6 +1,6 @@
-"""Where the package finds the programs that it runs, and how it asks them.
+"""Where the package finds the program that it runs, and how it asks it.
 
-A program is the path that the environment gives under the program's name, else what the tree has built that this file is in, else what the search path has.
+It is the path that the environment gives under the program's name, else what the tree has built that this file is in, else what the search path has.
 """
 
 from __future__ import annotations
@@ -12,14 +12,14 @@ import subprocess
 from typing import NamedTuple
 
 TOP = pathlib.Path(__file__).parents[2]
-# The program of each command.
-PROGRAMS = {"replay": "ringplan", "goal": "ringside", "steps": "ringside"}
+NAME = "ringplan"
 
 
 class Answer(NamedTuple):
-    """What a program printed, and the status with which it ended."""
+    """What the program printed on standard output and on standard error, and the status with which it ended."""
 
     text: str
+    errors: str
     status: int
 
     def first(self) -> str:
@@ -31,23 +31,22 @@ class NoProgram(Exception):
     """A program that is not there, or that could not answer."""
 
 
-def find(command: str) -> str:
-    """The path of the program that has the command."""
-    name = PROGRAMS[command]
-    built = TOP / "crates" / name / "out" / name
-    path = os.environ.get(name) or (str(built) if built.exists() else shutil.which(name))
+def find() -> str:
+    """The path of the program."""
+    built = TOP / "crates" / NAME / "out" / NAME
+    path = os.environ.get(NAME) or (str(built) if built.exists() else shutil.which(NAME))
     if path is None:
-        raise NoProgram(f"there is no program {name}: put it on the search path, or its path into the variable {name}")
+        raise NoProgram(f"there is no program {NAME}: put it on the search path, or its path into the variable {NAME}")
     return path
 
 
 def ask(command: str, text: str, *options: str) -> Answer:
     """Runs a command on a text. A program that is not there, or that was killed, is `NoProgram`. A signal from the terminal does not reach it."""
-    path = find(command)
+    path = find()
     try:
-        ran = subprocess.run([path, command, *options], input=text.encode(), stdout=subprocess.PIPE, start_new_session=True)
+        ran = subprocess.run([path, command, *options], input=text.encode(), capture_output=True, start_new_session=True)
     except OSError as error:
         raise NoProgram(f"{path} cannot be run: {error.strerror}") from error
     if ran.returncode < 0:
         raise NoProgram(f"{path} {command} was ended by signal {-ran.returncode}")
-    return Answer(ran.stdout.decode(), ran.returncode)
+    return Answer(ran.stdout.decode(), ran.stderr.decode(), ran.returncode)

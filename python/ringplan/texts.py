@@ -340,7 +340,7 @@ def read_plan(bundle: str) -> tuple[Ring, Plan]:
 
 @dataclass(frozen=True)
 class StepLine:
-    """A line of `ringside steps`. A member that the line does not have is None."""
+    """A line of `ringplan steps`. A member that the line does not have is None."""
 
     step: int
     do: str

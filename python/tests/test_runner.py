@@ -100,7 +100,7 @@ class Bench:
 @pytest.fixture
 def bench(tmp_path: pathlib.Path) -> Iterator[Bench]:
     try:
-        programs.find("replay"), programs.find("steps")
+        programs.find()
     except programs.NoProgram as error:
         pytest.skip(str(error))
     yield Bench(tmp_path)
@@ -258,7 +258,7 @@ def test_faults_have_their_statuses(bench: Bench) -> None:
 
 def test_a_no_of_the_judge_stops_the_runner(bench: Bench, monkeypatch: pytest.MonkeyPatch) -> None:
     judge = bench.folder / "judge"
-    judge.write_text("#!/bin/sh\ncat > /dev/null\necho no 70 0 40\nexit 1\n")
+    judge.write_text(f'#!/bin/sh\n[ "$1" = replay ] || exec {programs.find()} "$@"\ncat > /dev/null\necho no 70 0 40\nexit 1\n')
     judge.chmod(0o755)
     monkeypatch.setenv("ringplan", str(judge))
     code, _, err = bench.run("apply")
@@ -296,7 +296,8 @@ def test_a_board_keeps_claims_apart(tmp_path: pathlib.Path) -> None:
 
 def test_a_no_on_the_way_lets_no_further_step_begin(bench: Bench, monkeypatch: pytest.MonkeyPatch) -> None:
     judge = bench.folder / "judge"
-    judge.write_text(f"#!/bin/sh\ngrep -c = >> {bench.folder}/judged\n[ $(wc -l < {bench.folder}/judged) -lt 3 ] && echo yes || echo no 70 50 40\n")
+    others = f'[ "$1" = replay ] || exec {programs.find()} "$@"'
+    judge.write_text(f"#!/bin/sh\n{others}\ngrep -c = >> {bench.folder}/judged\n[ $(wc -l < {bench.folder}/judged) -lt 3 ] && echo yes || echo no 70 50 40\n")
     judge.chmod(0o755)
     monkeypatch.setenv("ringplan", str(judge))
     monkeypatch.setattr(runner, "JUDGED", 20)

@@ -61,7 +61,7 @@ def bundle() -> tuple[str, str]:
     """A bundle and its lines of steps."""
     text = (TOP / "examples/planned_grow.bundle").read_text()
     try:
-        programs.find("replay")
+        programs.find()
         return text, programs.ask("steps", text).text
     except programs.NoProgram as error:
         pytest.skip(str(error))

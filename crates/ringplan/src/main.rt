@@ -1,15 +1,19 @@
-//! Checks a bundle, plans a change, or plays a script: bytes on standard input, what comes of them on standard output.
+//! Plans, checks, shows, runs and judges changes of the members of a replicated store.
 #![tactic(auto)]
 
 use ringplan_run::{end_without_memory, end_without_words, run};
 use std::env;
-use std::io::ErrorKind;
+use std::io::{ErrorKind, IsTerminal, Read, Result as IoResult};
 use std::process::ExitCode;
 
 fn main(rt: HostRuntime) -> ExitCode {
     let mut output = rt.stdout();
+    let mut input = Console {
+        rt: &rt,
+        is_new: true,
+    };
     let status = match words(&rt) {
-        Ok(words) => run(&rt, words.as_slice(), &mut rt.stdin(), &mut output),
+        Ok(words) => run(&rt, words.as_slice(), &mut input, &mut output),
         Err(ErrorKind::InvalidData) => end_without_words(&mut output),
         Err(_) => end_without_memory(&mut output),
     };
@@ -24,5 +28,24 @@ fn words(rt: &HostRuntime) -> Result<Vec<String>, ErrorKind> {
             Err(_) => Err(ErrorKind::OutOfMemory),
         },
         Err(error) => Err(error.kind()),
+    }
+}
+
+// Standard input. Before the first read from a terminal, standard error says that a bundle is awaited.
+#[derive(Drop)]
+struct Console<'a> {
+    rt: &'a HostRuntime,
+    is_new: bool,
+}
+
+impl<'a> Read for Console<'a> {
+    fn read(&mut self, buf: &mut [u8]) -> IoResult<usize> {
+        if self.is_new && self.rt.stdin().is_terminal() {
+            let _ = eprint!(self.rt;
+                "ringplan: reads a bundle from the terminal, up to Ctrl-D; ringplan check FILE reads a file\n"
+            );
+        }
+        self.is_new = false;
+        self.rt.stdin().read(buf)
     }
 }

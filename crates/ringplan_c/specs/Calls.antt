@@ -5,7 +5,7 @@ use Rattle.ring_names.specs.declared.refusal.Refusal.TheVariants.{OutOfMemory}
 use Rattle.ringplan_c.specs.Room.{Fills}
 use Rattle.ringplan_jobs.specs.Answers.{output_of, status_of}
 use Rattle.ringplan_jobs.specs.Outcomes.{Outcome}
-use Rattle.ringplan_jobs.specs.declared.job.Job.{Job}
+use Rattle.ringplan_job.specs.declared.job.Job.{Job}
 
 -- what comes of an input as of the program's, or want of memory
 abbrev pub Comes : Job → List ℕ → Result (List ℕ) Refusal → Type 0

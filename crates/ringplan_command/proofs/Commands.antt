@@ -1,23 +1,26 @@
 -- What `clap` makes of the program's command lines.
-use Rattle.std.proofs.Common.{◌≡◌, ◌≢◌, ◌⊎◌, ℕ, ◌≤◌, ◌<◌, [], ◌∷◌, List, Result, Ok, Err, Option, Some, None, IfOk, true, codes, option_map, refl, sym, ap, ◌∙◌, subst, drop, inl, inr, arith}
+use Rattle.std.proofs.Common.{◌≡◌, ◌≢◌, ◌⊎◌, ℕ, [], ◌∷◌, List, Result, Ok, Err, Option, Some, None, IfOk, true, codes, option_map, refl, sym, ap, ◌∙◌, subst, drop, inl, inr}
 use Rattle.std.specs.Str.Parse.{ParsesUnsigned}
 use Rattle.std.specs.Global.{Vec}
-use Rattle.clap.specs.Words.{App, FailsBy, IsAmong, Kinds, Row, TriesOne, fault_of, is_simple, is_simple_and_free, built, one_of, subcommand_of, subcommand_rows_of, HasMatchesOf}
+use Rattle.clap.specs.Words.{App, FailsBy, IsAmong, Kinds, Row, TriesOne, fault_of, is_simple, is_simple_and_free, built, first_of, one_of, subcommand_of, subcommand_rows_of, HasMatchesOf}
 use Rattle.clap.specs.Simple.{names_of, entered}
 use Rattle.clap.specs.Walk.{stop_after}
 use Rattle.clap.specs.Faults.{built_fault}
 use Rattle.clap.specs.Walk.{nothing_held}
 use Rattle.clap.specs.declared.error.Error.{Error}
 use Rattle.clap.specs.declared.error.kind.ErrorKind.{ErrorKind}
-use Rattle.clap.specs.declared.error.kind.ErrorKind.TheVariants.{DisplayHelp}
+use Rattle.clap.specs.declared.error.kind.ErrorKind.TheVariants.{DisplayHelp, DisplayVersion}
 use Rattle.clap.specs.declared.error.kind.ErrorKind.TheVariants as kind
 use Rattle.clap.specs.declared.parser.matches.ArgMatches.{ArgMatches}
 use Rattle.clap.proofs.OnLiterals.{clap_on_literals}
-use Rattle.ringplan_command.specs.declared.command.CommandLine.{CommandLine}
-use Rattle.ringplan_command.specs.declared.command.CommandLine.TheVariants.{Do, CheckBy, Drive, Help, Refused, OutOfMemory}
-use Rattle.ringplan_jobs.specs.declared.job.Job.{Job}
-use Rattle.ringplan_jobs.specs.declared.job.Job.TheVariants.{Check, Migrate, Plan, Play, Replay}
-use Rattle.ringplan_command.specs.Command.{Answers, Asked, AsksBy, HasNoNumber, IsMistaken, IsRefused, IsWorkers, Task, WantsHelp, asked, asked_by, by_drive, by_workers, only, option_named, ringplan, task_named, to_do, to_drive, word_of}
+use Rattle.ringplan_command.specs.Tree.{ringplan, word_of}
+use Rattle.ringplan_command.specs.Files.{IsJob, Names, files_named, files_of, no_files, text_named}
+use Rattle.ringplan_command.specs.declared.word.Word.{Word}
+use Rattle.ringplan_command.specs.declared.command.Request.{Request}
+use Rattle.ringplan_command.specs.declared.command.Request.TheVariants.{Do, CheckBy, Drive, Make, Help, Refused, Mistaken, OutOfMemory}
+use Rattle.ringplan_job.specs.declared.job.Job.{Job}
+use Rattle.ringplan_job.specs.declared.job.Job.TheVariants.{Check, Migrate, Plan, Play, Replay}
+use Rattle.ringplan_command.specs.Command.{Answers, Asked, HasNoNumber, IsMistaken, IsRefused, AsksWord, IsOfWord, IsTurnedAway, WantsHelp, asked, asked_by, asks_word, by_drive, by_workers, only, option_named, task_named, to_do, to_drive, to_make, word_of_making}
 
 is_free : is_simple_and_free ringplan ≡ true
 unfolding clap_on_literals
@@ -53,16 +56,16 @@ pub entered_by : (app : App) (words : List (List ℕ)) (m : ArgMatches) → app 
 entered_by app words m e h = (let P : App → Type 0 = λ a. HasMatchesOf a words m in subst P e h is_plain).1
 
 -- a refused line answers whatever is refused
-pub refused_line : {E : Type 0} → (asked : Asked) (r : Result CommandLine E) → IsRefused asked → IfOk r (λ line. (text : Vec ℕ) × (line ≡ Refused text)) → IfOk r (Answers asked)
+pub refused_line : {E : Type 0} → (asked : Asked) (r : Result Request E) → IsRefused asked → IfOk r (λ line. (text : Vec ℕ) × (line ≡ Refused text)) → IfOk r (Answers asked)
 refused_line asked (Ok line) is (text, e) = rw e is
 refused_line asked (Err e) is h = tt
 
 -- what answers a line with no fault and the subcommand that was entered answers the words
-pub answers_words : {E : Type 0} → (words : List (List ℕ)) (m : ArgMatches) (r : Result CommandLine E) → fault_of ringplan words ≡ [] → subcommand_rows_of m ≡ subcommand_of ringplan words
-    → IfOk r (Answers (asked_by [] (subcommand_rows_of m))) → IfOk r (Answers (asked words))
-answers_words words m r none met h =
+pub answers_words : {T E : Type 0} (request_in : T → Request) (words : List (List ℕ)) (m : ArgMatches) (r : Result T E) → fault_of ringplan words ≡ []
+    → subcommand_rows_of m ≡ subcommand_of ringplan words → IfOk r (λ x. Answers (asked_by [] (subcommand_rows_of m)) (request_in x)) → IfOk r (λ x. Answers (asked words) (request_in x))
+answers_words request_in words m r none met h =
     let same : asked_by [] (subcommand_rows_of m) ≡ asked words = λ i. asked_by (sym none i) (met i) in
-    subst (λ (a : Asked). IfOk r (Answers a)) same h
+    subst (λ (a : Asked). IfOk r (λ x. Answers a (request_in x))) same h
 
 -- ---- the options that `check` and `drive` name
 
@@ -75,6 +78,11 @@ none_named (Some x) e is = absurd cc
 pub named_there : (sub : Option (List ℕ × List Row)) (rows : List Row) (id : List ℕ) → Some rows ≡ option_map (λ p. p.1) sub → option_named id sub ≡ one_of id rows
 named_there None rows id e = absurd cc
 named_there (Some x) rows id e = let same : rows ≡ x.1 = cc in rw same refl
+
+-- the text of an argument likewise
+pub text_there : (sub : Option (List ℕ × List Row)) (rows : List Row) (id : List ℕ) → Some rows ≡ option_map (λ p. p.1) sub → text_named id sub ≡ first_of id rows
+text_there None rows id e = absurd cc
+text_there (Some x) rows id e = let same : rows ≡ x.1 = cc in rw same refl
 
 -- one without the option names none
 pub none_given : (sub : Option (List ℕ × List Row)) → task_named sub ≡ to_do Check → option_named (codes "workers") sub ≡ None → asked_by [] sub ≡ only Check
@@ -90,10 +98,10 @@ drive_given sub is = rw is refl
 
 -- one whose text is no number is refused
 pub bad_given : (sub : Option (List ℕ × List Row)) → task_named sub ≡ to_do Check → HasNoNumber (option_named (codes "workers") sub) → IsRefused (asked_by [] sub)
-bad_given sub is h = inr (rw is h)
+bad_given sub is h = inr (inl (rw is h))
 
 pub bad_driven : (sub : Option (List ℕ × List Row)) → task_named sub ≡ to_drive → HasNoNumber (option_named (codes "workers") sub) → IsRefused (asked_by [] sub)
-bad_driven sub is h = inr (rw is h)
+bad_driven sub is h = inr (inl (rw is h))
 
 module _ {E : Type 0} (G : List ℕ → Result ℕ E → Type 0) (parses : (bs : List ℕ) (s : Result ℕ E) → G bs s → ParsesUnsigned 32 10 bs s) (o : Option (List ℕ)) (r : Result (Option ℕ) E)
     (none : o ≡ None → r ≡ Ok None) (value : (t : List ℕ) → o ≡ Some t → TriesOne G t r) where
@@ -105,19 +113,74 @@ module _ {E : Type 0} (G : List ℕ → Result ℕ E → Type 0) (parses : (bs :
       by None e = e
       by (Some t) e = let bad = rw is at (value t e) in absurd bad
 
-pub helped : (kinds : Kinds) (k : ErrorKind) → k ≡ DisplayHelp → (k ≡ kind.OutOfMemory) ⊎ IsAmong k kinds → WantsHelp kinds
-helped kinds k e (inl h) = let bad : DisplayHelp ≡ kind.OutOfMemory = cc in absurd cc
-helped kinds k e (inr h) = let P : ErrorKind → Type 0 = λ k. IsAmong k kinds in subst P e h
+pub helped : (kinds : Kinds) (k : ErrorKind) → (k ≡ DisplayHelp) ⊎ (k ≡ DisplayVersion) → (k ≡ kind.OutOfMemory) ⊎ IsAmong k kinds → WantsHelp kinds
+helped kinds k (inl e) (inl h) = let bad : DisplayHelp ≡ kind.OutOfMemory = cc in absurd cc
+helped kinds k (inr e) (inl h) = let bad : DisplayVersion ≡ kind.OutOfMemory = cc in absurd cc
+helped kinds k (inl e) (inr h) = let P : ErrorKind → Type 0 = λ k. IsAmong k kinds in inl (subst P e h)
+helped kinds k (inr e) (inr h) = let P : ErrorKind → Type 0 = λ k. IsAmong k kinds in inr (subst P e h)
 
-pub mistaken : (kinds : Kinds) (k : ErrorKind) → k ≢ DisplayHelp → k ≢ kind.OutOfMemory → (k ≡ kind.OutOfMemory) ⊎ IsAmong k kinds → IsMistaken kinds
-mistaken kinds k n m (inl h) = absurd (m h)
-mistaken kinds k n m (inr h) = (k, n, h)
+-- another name of the same kind
+pub asks_help : (j k : ErrorKind) → j ≡ k → (j ≡ DisplayHelp) ⊎ (j ≡ DisplayVersion) → (k ≡ DisplayHelp) ⊎ (k ≡ DisplayVersion)
+asks_help j k e (inl is) = inl (sym e ∙ is)
+asks_help j k e (inr is) = inr (sym e ∙ is)
+
+pub mistaken : (kinds : Kinds) (k : ErrorKind) → k ≢ DisplayHelp → k ≢ DisplayVersion → k ≢ kind.OutOfMemory → (k ≡ kind.OutOfMemory) ⊎ IsAmong k kinds → IsMistaken kinds
+mistaken kinds k n v m (inl h) = absurd (m h)
+mistaken kinds k n v m (inr h) = (k, n, v, h)
 
 none_mistaken : (kinds : Kinds) → kinds ≡ [] → IsMistaken kinds → ⊥
-none_mistaken kinds e (k, n, h) = let P : Kinds → Type 0 = IsAmong k in subst P e h
+none_mistaken kinds e (k, n, v, h) = let P : Kinds → Type 0 = IsAmong k in subst P e h
+
+none_helped : (kinds : Kinds) → kinds ≡ [] → WantsHelp kinds → ⊥
+none_helped kinds e (inl h) = let P : Kinds → Type 0 = IsAmong DisplayHelp in subst P e h
+none_helped kinds e (inr h) = let P : Kinds → Type 0 = IsAmong DisplayVersion in subst P e h
+
+-- a line that asks for a job alone is not refused
+none_refused : (job : Job) (asked : Asked) → asked ≡ only job → IsRefused asked → ⊥
+none_refused job asked e (inl h) = none_mistaken _ (ap (λ x. x.faults) e) h
+none_refused job asked e (inr (inl (t, is, h))) = let none : Some t ≡ None = sym is ∙ ap (λ x. x.workers) e in absurd cc
+none_refused job asked e (inr (inr (w, is))) = let task : to_make w ≡ to_do job = ap (λ x. x.task) (sym is ∙ e) in absurd cc
+
+-- a refused line answers whatever is refused
+pub turned_away : (asked : Asked) (r : Request) → IsRefused asked → IsTurnedAway r → Answers asked r
+turned_away asked (Refused text) h is = h
+turned_away asked (Mistaken text) h is = h
+turned_away asked (Do _) h is = absurd is
+turned_away asked (CheckBy _) h is = absurd is
+turned_away asked (Drive _ _) h is = absurd is
+turned_away asked (Make _) h is = absurd is
+turned_away asked (Help _) h is = absurd is
+turned_away asked OutOfMemory h is = absurd is
+
+-- what a command for people makes answers a line that asks for it, and so does its refusal
+pub of_word : {E : Type 0} (asked : Asked) (w : Word) (r : Result Request E) → AsksWord asked w → IfOk r (IsOfWord w) → IfOk r (Answers asked)
+of_word asked w (Ok (Make making)) e h = e ∙ ap (λ (v : Word). asks_word v) (sym h)
+of_word asked w (Ok (Mistaken text)) e h = inr (inr (w, e))
+of_word asked w (Ok (Do _)) e h = absurd h
+of_word asked w (Ok (CheckBy _)) e h = absurd h
+of_word asked w (Ok (Drive _ _)) e h = absurd h
+of_word asked w (Ok (Help _)) e h = absurd h
+of_word asked w (Ok (Refused _)) e h = absurd h
+of_word asked w (Ok OutOfMemory) e h = absurd h
+of_word asked w (Err x) e h = tt
+
+-- the words of a command for people ask for what it makes
+pub word_asked : (sub : Option (List ℕ × List Row)) (w : Word) → task_named sub ≡ to_make w → AsksWord (asked_by [] sub) w
+word_asked sub w is = rw is refl
+
+-- a line that is turned away asks for no job
+pub no_job : (r : Request) → IsTurnedAway r → IsJob r → ⊥
+no_job (Refused text) is job = job
+no_job (Mistaken text) is job = job
+no_job (Do _) is job = is
+no_job (CheckBy _) is job = is
+no_job (Drive _ _) is job = is
+no_job (Make _) is job = is
+no_job (Help _) is job = job
+no_job OutOfMemory is job = job
 
 -- a line that asks for a job alone is taken for that
-pub job_asked : (job : Job) (asked : Asked) (line : CommandLine) → asked ≡ only job → Answers asked line → (line ≡ Do job) ⊎ (line ≡ OutOfMemory)
+pub job_asked : (job : Job) (asked : Asked) (r : Request) → asked ≡ only job → Answers asked r → (r ≡ Do job) ⊎ (r ≡ OutOfMemory)
 job_asked job asked (Do other) e h =
     let same : only other ≡ only job = sym h ∙ e in
     let task : to_do other ≡ to_do job = ap (λ x. x.task) same in
@@ -128,7 +191,24 @@ job_asked job asked (Drive k form) e h =
     let same : by_drive h.0 h.1 ≡ only job = sym h.2 ∙ e in
     let task : to_drive ≡ to_do job = ap (λ x. x.task) same in
     absurd cc
-job_asked job asked (Help text) e h = let P : Kinds → Type 0 = WantsHelp in absurd (subst P (ap (λ x. x.faults) e) h)
-job_asked job asked (Refused text) e (inl h) = absurd (none_mistaken _ (ap (λ x. x.faults) e) h)
-job_asked job asked (Refused text) e (inr (t, is, h)) = let none : Some t ≡ None = sym is ∙ ap (λ x. x.workers) e in absurd cc
+job_asked job asked (Make making) e h = let task : to_make (word_of_making making) ≡ to_do job = ap (λ x. x.task) (sym h ∙ e) in absurd cc
+job_asked job asked (Help text) e h = absurd (none_helped _ (ap (λ x. x.faults) e) h)
+job_asked job asked (Refused text) e h = absurd (none_refused job asked e h)
+job_asked job asked (Mistaken text) e h = absurd (none_refused job asked e h)
 job_asked job asked OutOfMemory e h = inr refl
+
+-- a line of a job's word alone names no files
+files_behind : List (List ℕ) → Names
+files_behind rest = files_named (entered (built ringplan) (stop_after (built ringplan).top.rules (names_of (built ringplan)) rest))
+
+none_by_word : (job : Job) → files_behind (word_of job ∷ []) ≡ no_files
+unfolding clap_on_literals files_behind
+none_by_word Check = refl
+none_by_word Migrate = refl
+none_by_word Play = refl
+none_by_word Plan = refl
+none_by_word Replay = refl
+
+pub no_files_alone : (job : Job) (words : List (List ℕ)) → drop 1 words ≡ word_of job ∷ [] → files_of words ≡ no_files
+unfolding files_behind
+no_files_alone job words e = ap files_behind e ∙ none_by_word job

@@ -1,66 +1,44 @@
 -- The command lines of the program.
-use Rattle.std.specs.Prelude.{◌≡◌, ◌≢◌, ◌⊎◌, ℕ, ◌≤◌, Bool, true, false, List, Option, Some, None, [], pos, codes, ⊤, if◌then◌else◌, option_and_then}
+use Rattle.std.specs.Prelude.{◌≡◌, ◌≢◌, ◌⊎◌, ℕ, ◌≤◌, Bool, false, List, Option, Some, None, [], codes, ⊤, if◌then◌else◌, option_and_then}
 use Rattle.std.specs.Option.{option_map_or}
 use Rattle.std.specs.Str.{bytes_eq}
 use Rattle.std.specs.Str.Parse.{IsNumeral, digits_value, without_leading_plus}
-use Rattle.clap.specs.declared.builder.action.ArgAction.TheVariants.{SetTrue}
-use Rattle.clap.specs.Words.{App, IsAmong, Kinds, Row, Rule, Shape, fault_of, new_app, new_rule, one_of, subcommand_of, with_rule, with_subcommand}
-use Rattle.clap.specs.declared.builder.value_parser.ValueParser.TheVariants as parser
+use Rattle.clap.specs.Words.{IsAmong, Kinds, Row, fault_of, one_of, subcommand_of}
 use Rattle.clap.specs.declared.error.kind.ErrorKind.{ErrorKind}
-use Rattle.clap.specs.declared.error.kind.ErrorKind.TheVariants.{DisplayHelp}
-use Rattle.ringplan_command.specs.declared.command.CommandLine.{CommandLine}
-use Rattle.ringplan_command.specs.declared.command.CommandLine.TheVariants.{Do, CheckBy, Drive, Help, Refused, OutOfMemory}
+use Rattle.clap.specs.declared.error.kind.ErrorKind.TheVariants.{DisplayHelp, DisplayVersion}
+use Rattle.ringplan_command.specs.Tree.{drive_word, ringplan, word_of}
+use Rattle.ringplan_command.specs.declared.command.Request.{Request}
+use Rattle.ringplan_command.specs.declared.command.Request.TheVariants.{Do, CheckBy, Drive, Make, Help, Refused, Mistaken, OutOfMemory}
+use Rattle.ringplan_command.specs.declared.word.Word.{Word}
+use Rattle.ringplan_command.specs.declared.word.Word.TheVariants as people
+use Rattle.ringplan_job.specs.declared.making.Making.{Making}
+use Rattle.ringplan_job.specs.declared.making.Making.TheVariants.{Why, Bundle, Cert, After, Show, Draw, Steps, Moves, Windows, Goal, Even}
 use Rattle.ringplan_command.specs.declared.command.Workers.{Workers}
 use Rattle.ringplan_command.specs.declared.command.Workers.TheVariants.{Unnamed, Many, NoNumber}
 use Rattle.ringplan_command.specs.declared.form.Form.{Form}
 use Rattle.ringplan_command.specs.declared.form.Form.TheVariants.{History, Report}
-use Rattle.ringplan_jobs.specs.declared.job.Job.{Job}
-use Rattle.ringplan_jobs.specs.declared.job.Job.TheVariants.{Check, Migrate, Plan, Play, Replay}
+use Rattle.ringplan_job.specs.declared.job.Job.{Job}
+use Rattle.ringplan_job.specs.declared.job.Job.TheVariants.{Check, Migrate, Plan, Play, Replay}
 
--- the word that asks for a job
-abbrev pub word_of : Job → List ℕ
-word_of Check = codes "check"
-word_of Migrate = codes "migrate"
-word_of Play = codes "play"
-word_of Plan = codes "plan"
-word_of Replay = codes "replay"
+-- the command for people by which a making is asked for
+abbrev pub word_of_making : Making → Word
+word_of_making Why = people.Why
+word_of_making (Show wish) = people.Show
+word_of_making (Draw wish) = people.Draw
+word_of_making Steps = people.Steps
+word_of_making Moves = people.Steps
+word_of_making (Goal options) = people.Goal
+word_of_making (Even options) = people.Goal
+word_of_making (Windows cut) = people.Windows
+word_of_making Bundle = people.Bundle
+word_of_making Cert = people.Cert
+word_of_making After = people.After
 
--- the program's name, behind which it wants a subcommand
-abbrev pub wanting : App
-wanting = let app = new_app (codes "ringplan") in record app { top = record app.top { subcommand_required = true } }
-
--- with one subcommand more, that of a job
-abbrev pub with_job : App → Job → App
-with_job app job = with_subcommand app (new_app (word_of job)).top
-
--- `--workers K`, with K from 1 to 64
-abbrev pub workers_option : Rule
-workers_option = record (new_rule (codes "workers")) { long = Some (codes "workers"); value_names = 1; parser = Some (parser.Signed (pos 1) (pos 64)) }
-
--- `check`, which may name workers
-abbrev pub checking : App
-checking = with_rule (new_app (word_of Check)) workers_option
-
--- `--json`
-abbrev pub json_option : Rule
-json_option = record (new_rule (codes "json")) { long = Some (codes "json"); action = Some SetTrue }
-
--- the word that asks for a drive
-abbrev pub drive_word : List ℕ
-drive_word = codes "drive"
-
--- `drive`, which may name workers and a form
-abbrev pub driving : App
-driving = with_rule (with_rule (new_app drive_word) workers_option) json_option
-
--- `ringplan`, which wants one of its subcommands `plan`, `check`, `play`, `drive`, `replay` and `migrate`
-abbrev pub ringplan : App
-ringplan = with_job (with_job (with_subcommand (with_job (with_subcommand (with_job wanting Plan) checking.top) Play) driving.top) Replay) Migrate
-
--- what is to be done: a job, or a drive
+-- what is to be done: a job, a drive, or what a command for people makes
 pub data Task : Type 0 where
   to_do : Job → Task
   to_drive : Task
+  to_make : Word → Task
 
 -- what the words of a command line ask: how they fail, and where they do not, what is to be done, and the texts of the workers and of the form
 -- that are named
@@ -82,9 +60,20 @@ is_named job subcommand = is_word (word_of job) subcommand
 abbrev pub job_named : Option (List ℕ × List Row) → Job
 job_named subcommand = if is_named Play subcommand then Play else (if is_named Plan subcommand then Plan else (if is_named Migrate subcommand then Migrate else (if is_named Replay subcommand then Replay else Check)))
 
+-- the command for people of a subcommand, by its name
+abbrev pub more_named : Option (List ℕ × List Row) → Option Word
+more_named subcommand = if is_word (codes "goal") subcommand then Some people.Goal else (if is_word (codes "windows") subcommand then Some people.Windows
+    else (if is_word (codes "bundle") subcommand then Some people.Bundle else (if is_word (codes "cert") subcommand then Some people.Cert
+    else (if is_word (codes "after") subcommand then Some people.After else None))))
+
+abbrev pub word_named : Option (List ℕ × List Row) → Option Word
+word_named subcommand = if is_word (codes "why") subcommand then Some people.Why else (if is_word (codes "show") subcommand then Some people.Show
+    else (if is_word (codes "draw") subcommand then Some people.Draw else (if is_word (codes "steps") subcommand then Some people.Steps
+    else more_named subcommand)))
+
 -- what it asks to be done
 abbrev pub task_named : Option (List ℕ × List Row) → Task
-task_named subcommand = if is_word drive_word subcommand then to_drive else to_do (job_named subcommand)
+task_named subcommand = if is_word drive_word subcommand then to_drive else option_map_or to_make (word_named subcommand) (to_do (job_named subcommand))
 
 -- the text that the subcommand has for an option
 abbrev pub option_named : List ℕ → Option (List ℕ × List Row) → Option (List ℕ)
@@ -148,13 +137,13 @@ IsForm json History = json ≡ Some (codes "true") → ⊥
 abbrev pub AsksDrive : Asked → ℕ → Form → Type 0
 AsksDrive asked k form = (workers json : Option (List ℕ)) × (asked ≡ by_drive workers json) × IsMany workers k × IsForm json form
 
--- the faults ask for help
+-- the faults ask for help, or for the version
 abbrev pub WantsHelp : Kinds → Type 0
-WantsHelp kinds = IsAmong DisplayHelp kinds
+WantsHelp kinds = IsAmong DisplayHelp kinds ⊎ IsAmong DisplayVersion kinds
 
 -- some fault is a mistake
 abbrev pub IsMistaken : Kinds → Type 0
-IsMistaken kinds = (k : ErrorKind) × (k ≢ DisplayHelp) × IsAmong k kinds
+IsMistaken kinds = (k : ErrorKind) × (k ≢ DisplayHelp) × (k ≢ DisplayVersion) × IsAmong k kinds
 
 -- workers are named, and not by a number from 1 to 64
 abbrev pub HasNoNumber : Option (List ℕ) → Type 0
@@ -166,15 +155,37 @@ MeansWorkers workers Unnamed = workers ≡ None
 MeansWorkers workers (Many k) = (text : List ℕ) × (workers ≡ Some text) × IsWorkers text k
 MeansWorkers workers NoNumber = HasNoNumber workers
 
--- the line is refused
+-- just what that command for people makes
+abbrev pub asks_word : Word → Asked
+asks_word w = record { faults = []; task = to_make w; workers = None; json = None }
+
+-- what is asked is just that
+abbrev pub AsksWord : Asked → Word → Type 0
+AsksWord asked w = asked ≡ asks_word w
+
+-- the line is refused: for its words, for its workers, or for the value of an option of a command for people
 abbrev pub IsRefused : Asked → Type 0
-IsRefused asked = IsMistaken asked.faults ⊎ HasNoNumber asked.workers
+IsRefused asked = IsMistaken asked.faults ⊎ (HasNoNumber asked.workers ⊎ ((w : Word) × AsksWord asked w))
 
 -- what a command line that asks so is taken for, memory aside
-abbrev pub Answers : Asked → CommandLine → Type 0
+abbrev pub Answers : Asked → Request → Type 0
 Answers asked (Do job) = asked ≡ only job
 Answers asked (CheckBy workers) = AsksBy asked workers
 Answers asked (Drive workers form) = AsksDrive asked workers form
+Answers asked (Make making) = AsksWord asked (word_of_making making)
 Answers asked (Help text) = WantsHelp asked.faults
 Answers asked (Refused text) = IsRefused asked
+Answers asked (Mistaken text) = IsRefused asked
 Answers asked OutOfMemory = ⊤
+
+-- a line that is refused, on standard output or on standard error
+abbrev pub IsTurnedAway : Request → Type 0
+IsTurnedAway (Refused text) = ⊤
+IsTurnedAway (Mistaken text) = ⊤
+IsTurnedAway _ = ⊥
+
+-- what that command for people makes, or a line that is refused
+abbrev pub IsOfWord : Word → Request → Type 0
+IsOfWord w (Make making) = word_of_making making ≡ w
+IsOfWord w (Mistaken text) = ⊤
+IsOfWord w _ = ⊥

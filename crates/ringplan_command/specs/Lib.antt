@@ -1,1 +1,3 @@
 pub mod Command
+pub mod Files
+pub mod Tree

@@ -2,7 +2,15 @@
 #![tactic(auto)]
 
 mod command;
+mod files;
 mod form;
+mod help;
+mod line;
+mod naming;
+mod tree;
+mod word;
 
-pub use command::{CommandLine, parse};
+pub use command::{CommandLine, Request, parse};
+pub use files::Files;
 pub use form::Form;
+pub use word::Word;

@@ -12,12 +12,12 @@ use Rattle.plan_cert.specs.Valid.{Suits}
 use Rattle.change_text.specs.declared.wanted.Wanted.{Wanted}
 use Rattle.change_text.specs.Wanted.{wanted_at}
 use Rattle.plan_check.specs.First.{first_refusal}
-use Rattle.plan_proposal.specs.Proposals.{IsProposed, IsTurnedAway}
+use Rattle.plan_goal.specs.Proposals.{IsProposed, IsTurnedAway}
 use Rattle.ring_script.specs.Bundles.{bundle_at}
 use Rattle.ring_script.specs.Play.{play_text}
 use Rattle.ring_script.specs.declared.bundle.Bundle.{Bundle}
 use Rattle.ring_script.specs.declared.bundle.Kind.TheVariants.{Check, Play}
-use Rattle.ringplan_jobs.specs.declared.job.Job.TheVariants.{Plan}
+use Rattle.ringplan_job.specs.declared.job.Job.TheVariants.{Plan}
 use Rattle.ringplan_jobs.specs.Answers.{texts_of}
 use Rattle.ringplan_jobs.specs.Verdict.{IsAnswerTo, MakesIf, judged, migrated_text, migration, plays, shown, verdict}
 

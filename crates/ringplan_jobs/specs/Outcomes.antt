@@ -4,7 +4,7 @@ use Rattle.ring_names.specs.declared.refusal.Refusal.{Refusal}
 use Rattle.ring_names.specs.declared.refusal.Refusal.TheVariants.{TooLarge, OutOfMemory, ReadFailed}
 use Rattle.ringplan_jobs.specs.Io.{max_input}
 use Rattle.ringplan_jobs.specs.Verdict.{Makes}
-use Rattle.ringplan_jobs.specs.declared.job.Job.{Job}
+use Rattle.ringplan_job.specs.declared.job.Job.{Job}
 
 -- what comes of an input: what the job makes of it, and of more than the most that may come that it is too large
 abbrev pub Outcome : Job → List ℕ → Result (List ℕ) Refusal → Type 0

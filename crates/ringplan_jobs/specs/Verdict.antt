@@ -12,14 +12,14 @@ use Rattle.change_text.specs.declared.wanted.Wanted.{Wanted}
 use Rattle.change_text.specs.Wanted.{wanted_at}
 use Rattle.plan_check.specs.First.{first_refusal}
 use Rattle.plan_check.specs.Headline.{KeepsPromises}
-use Rattle.plan_proposal.specs.Proposals.{IsProposed, IsTurnedAway}
+use Rattle.plan_goal.specs.Proposals.{IsProposed, IsTurnedAway}
 use Rattle.ring_script.specs.Bundles.{bundle_at}
 use Rattle.ring_script.specs.Play.{play_text}
 use Rattle.ring_script.specs.declared.bundle.Bundle.{Bundle}
 use Rattle.ring_script.specs.declared.bundle.Kind.TheVariants as kind
 use Rattle.ringplan_jobs.specs.Replays.{Replays}
-use Rattle.ringplan_jobs.specs.declared.job.Job.{Job}
-use Rattle.ringplan_jobs.specs.declared.job.Job.TheVariants.{Check, Migrate, Plan, Play, Replay}
+use Rattle.ringplan_job.specs.declared.job.Job.{Job}
+use Rattle.ringplan_job.specs.declared.job.Job.TheVariants.{Check, Migrate, Plan, Play, Replay}
 
 -- yes, or the first clause that does not hold
 abbrev pub judged : Option Refusal → Result (Unit {0}) Refusal

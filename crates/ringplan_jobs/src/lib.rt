@@ -4,7 +4,6 @@
 mod answer;
 mod bundle;
 mod input;
-mod job;
 mod output;
 mod replaying;
 
@@ -14,7 +13,7 @@ pub use bundle::{
     play_bundle,
 };
 pub use input::{MAX_INPUT, read_all};
-pub use job::Job;
 pub use output::write_all;
 pub use replaying::replay_bundle;
-pub use ring_script::{Kind, Unwatched, Watch, World, read_bundle, replay_watched};
+pub use ring_script::{Kind, read_bundle};
+pub use ringplan_job::Job;

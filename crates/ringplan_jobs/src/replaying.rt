@@ -8,7 +8,7 @@ ghost use Rattle.history_text.specs.Replays.{parts_of, replay_at, IsReplay};
 ghost use Rattle.ringplan_jobs.specs.Answers.{texts_of};
 ghost use Rattle.ringplan_jobs.specs.Replays.{IsJudgedIf, ReplaysOfIf};
 ghost use Rattle.ringplan_jobs.specs.Verdict.{MakesIf};
-ghost use Rattle.ringplan_jobs.specs.declared.job.Job.TheVariants.{Replay as Replaying};
+ghost use Rattle.ringplan_job.specs.declared.job.Job.TheVariants.{Replay as Replaying};
 
 use history_text::{ReplayBundle, read_replay};
 use plan_check::{Approved, check};

@@ -1,18 +1,18 @@
 -- How the parts of a run make up its end.
-use Rattle.std.proofs.Common.{◌≡◌, ◌⊎◌, inl, inr, ℕ, ◌<◌, ◌≤◌, arith, List, [], ◌∷◌, ◌++◌, Option, Some, None, Result, Ok, Err, IfOk, codes, drop, refl, sym, ap, ◌∙◌, subst}
+use Rattle.std.proofs.Common.{◌≡◌, inl, inr, ℕ, ◌<◌, ◌≤◌, arith, List, [], ◌∷◌, ◌++◌, Option, Some, None, Result, Ok, Err, codes, refl, sym, ◌∙◌, subst}
 use Rattle.std.specs.Fmt.{digits}
 use Rattle.ring_names.specs.declared.refusal.Refusal.{Refusal}
 use Rattle.ring_names.specs.declared.refusal.Refusal.TheVariants.{OutOfMemory, ReadFailed}
 use Rattle.ring_names.specs.Refusals.{line_of}
 use Rattle.ringplan_command.specs.declared.form.Form.{Form}
-use Rattle.ringplan_jobs.specs.declared.job.Job.{Job}
-use Rattle.ringplan_jobs.specs.declared.job.Job.TheVariants.{Check}
+use Rattle.ringplan_job.specs.declared.job.Job.{Job}
+use Rattle.ringplan_job.specs.declared.job.Job.TheVariants.{Check}
 use Rattle.ringplan_jobs.specs.Answers.{output_of, status_of}
-use Rattle.ringplan_command.specs.Command.{Asked, Asks, AsksBy, AsksDrive, IsMany, asked, only, word_of}
+use Rattle.ringplan_command.specs.Command.{Asked, Asks, AsksBy, AsksDrive, AsksWord, IsMany, only, word_of_making}
 use Rattle.ringplan_jobs.specs.Io.{Prints, Tells}
 use Rattle.ringplan_jobs.specs.Outcomes.{Finds}
-use Rattle.ringplan_run.specs.Run.{FindsDrive, PrintsFound, Runs, Says, answered, driven, unread, undriven, out_of_memory}
-use Rattle.ringplan_command.proofs.Commands.{asked_alone}
+use Rattle.ringplan_run.specs.Run.{FindsDrive, PrintsFound, Says, Shows, ShowsReport, answered, driven, unread, undriven, reported, out_of_memory}
+use Rattle.ringplan_job.specs.declared.making.Making.{Making}
 
 pub no_memory_line : line_of OutOfMemory ≡ codes "no 60" ++ 10 ∷ []
 unfolding digits
@@ -27,7 +27,7 @@ Said asked told text status = (bytes : List ℕ) × Tells told bytes × Says ask
 
 -- and what was said was printed
 abbrev pub Ran : Asked → Option (List ℕ) → Option (List ℕ) → Option (List ℕ) → ℕ → Type 0
-Ran asked told old new result = (bytes : List ℕ) × Tells told bytes × Runs asked bytes old new result
+Ran asked told old new result = (bytes : List ℕ) × Tells told bytes × Shows asked bytes old new result
 
 -- what is said whatever the bytes
 pub said : (asked : Asked) (told : Option (List ℕ)) (text : List ℕ) (status : ℕ) → ((bytes : List ℕ) → Says asked bytes text status) → Said asked told text status
@@ -76,9 +76,10 @@ pub ran_by : (asked : Asked) (k : ℕ) (told old new : Option (List ℕ)) (found
     → (bytes : List ℕ) × Tells told bytes × Finds Check bytes found → PrintsFound old new found result → Ran asked told old new result
 ran_by asked k told old new found result e h prints = ran_found asked Check told old new found result (inr (refl, (k, e))) h prints
 
--- a job's word alone asks for just that
-pub ran_alone : (job : Job) (words : List (List ℕ)) (told old new : Option (List ℕ)) (result : ℕ) → drop 1 words ≡ word_of job ∷ [] → Ran (asked words) told old new result → Ran (only job) told old new result
-ran_alone job words told old new result e h = let P : Asked → Type 0 = λ k. Ran k told old new result in subst P (asked_alone job words e) h
+-- what is made for people is printed
+pub ran_report : (asked : Asked) (making : Making) (told old new : Option (List ℕ)) (result : ℕ) → AsksWord asked (word_of_making making)
+    → (bytes : List ℕ) × Tells told bytes × ShowsReport making bytes old new result → Ran asked told old new result
+ran_report asked making told old new result e (bytes, tells, (text, status, reports, prints)) = (bytes, tells, (text, status, reported making e reports, prints))
 
 -- ---- drives
 

@@ -12,7 +12,7 @@ use Rattle.plan_check.specs.First.{first_refusal}
 use Rattle.ring_receipts.specs.declared.receipt.Receipt.{Receipt}
 use Rattle.ring_work.specs.Driven.{Driven, IsFault}
 use Rattle.history_text.specs.Spelling.{history_text}
-use Rattle.drive_report.specs.Report.{report_value}
+use Rattle.drive_text.specs.Report.{report_value}
 use Rattle.drive_text.specs.Drives.{drive_at}
 use Rattle.drive_text.specs.declared.bundle.DriveBundle.{DriveBundle}
 use Rattle.ringplan_command.specs.declared.form.Form.{Form}

@@ -1,15 +1,18 @@
 -- How a run of the program ends.
-use Rattle.std.specs.Prelude.{◌≡◌, ◌≢◌, ◌⊎◌, ℕ, ◌<◌, ◌≤◌, List, Option, Result, Ok, Err, length}
+use Rattle.std.specs.Prelude.{◌≡◌, ◌≢◌, ◌⊎◌, ℕ, ◌<◌, ◌≤◌, List, [], Option, None, IsSome, is_some, Result, Ok, Err, length, if◌then◌else◌}
 use Rattle.ring_names.specs.declared.refusal.Refusal.{Refusal}
 use Rattle.ring_names.specs.declared.refusal.Refusal.TheVariants.{TooLarge, OutOfMemory, ReadFailed}
 use Rattle.ring_names.specs.Refusals.{line_of}
 use Rattle.ringplan_jobs.specs.Answers.{output_of, status_of}
-use Rattle.ringplan_command.specs.Command.{Asked, Asks, AsksDrive, IsRefused, WantsHelp}
+use Rattle.ringplan_command.specs.Command.{Asked, Asks, AsksDrive, AsksWord, IsRefused, WantsHelp, word_of_making}
+use Rattle.ringplan_command.specs.Files.{Names}
 use Rattle.ringplan_jobs.specs.Io.{Prints, max_input}
 use Rattle.ringplan_jobs.specs.Outcomes.{Outcome}
 use Rattle.ringplan_run.specs.Drives.{Drives}
 use Rattle.ringplan_command.specs.declared.form.Form.{Form}
-use Rattle.ringplan_jobs.specs.declared.job.Job.{Job}
+use Rattle.ringplan_job.specs.declared.job.Job.{Job}
+use Rattle.ringplan_job.specs.declared.making.Making.{Making}
+use Rattle.ringplan_people.specs.Made.{IsReport}
 
 -- what comes of an input to a drive by so many workers, printed in that form: what the drive makes of it, and of more than the most that may come that it is too large
 abbrev pub DriveOutcome : ℕ → Form → List ℕ → Result (List ℕ) Refusal → Type 0
@@ -20,6 +23,12 @@ abbrev pub FindsDrive : ℕ → Form → List ℕ → Result (List ℕ) Refusal 
 FindsDrive workers form bytes (Ok text) = DriveOutcome workers form bytes (Ok text)
 FindsDrive workers form bytes (Err e) = e ≢ OutOfMemory → e ≢ ReadFailed → DriveOutcome workers form bytes (Err e)
 
+-- what is printed for people, and the status: a report of the bytes, or nothing where there are too many of them, or where memory or a read failed
+pub data Reports (making : Making) (bytes : List ℕ) (text : List ℕ) (status : ℕ) : Type 0 where
+  read : IsReport making bytes text status → Reports making bytes text status
+  too_large : max_input < length bytes → text ≡ [] → status ≡ 2 → Reports making bytes text status
+  failed : text ≡ [] → status ≡ 3 → Reports making bytes text status
+
 -- the text and the status of a run, by what its command line asks and the bytes of its input
 pub data Says (asked : Asked) (bytes : List ℕ) (text : List ℕ) (status : ℕ) : Type 0 where
   help : WantsHelp asked.faults → status ≡ 0 → Says asked bytes text status
@@ -28,11 +37,37 @@ pub data Says (asked : Asked) (bytes : List ℕ) (text : List ℕ) (status : ℕ
   driven : (workers : ℕ) (form : Form) (r : Result (List ℕ) Refusal) → AsksDrive asked workers form → DriveOutcome workers form bytes r → text ≡ output_of r → status ≡ status_of r → Says asked bytes text status
   unread : (job : Job) → Asks asked job → text ≡ line_of ReadFailed → status ≡ 3 → Says asked bytes text status
   undriven : (workers : ℕ) (form : Form) → AsksDrive asked workers form → text ≡ line_of ReadFailed → status ≡ 3 → Says asked bytes text status
+  reported : (making : Making) → AsksWord asked (word_of_making making) → Reports making bytes text status → Says asked bytes text status
   out_of_memory : text ≡ line_of OutOfMemory → status ≡ 3 → Says asked bytes text status
 
--- a run says something and prints it
-abbrev pub Runs : Asked → List ℕ → Option (List ℕ) → Option (List ℕ) → ℕ → Type 0
-Runs asked bytes old new result = (text : List ℕ) × (status : ℕ) × Says asked bytes text status × Prints old new text status result
+-- something is said and printed
+abbrev pub Shows : Asked → List ℕ → Option (List ℕ) → Option (List ℕ) → ℕ → Type 0
+Shows asked bytes old new result = (text : List ℕ) × (status : ℕ) × Says asked bytes text status × Prints old new text status result
+
+-- what is made of the bytes for people is printed
+abbrev pub ShowsReport : Making → List ℕ → Option (List ℕ) → Option (List ℕ) → ℕ → Type 0
+ShowsReport making bytes old new result = (text : List ℕ) × (status : ℕ) × Reports making bytes text status × Prints old new text status result
+
+-- a text is printed; or where a file is named for it, that is written, and nothing printed
+pub data Delivers (target : Option (List ℕ)) (old new : Option (List ℕ)) (text : List ℕ) (status result : ℕ) : Type 0 where
+  printed : Prints old new text status result → Delivers target old new text status result
+  filed : IsSome target → new ≡ old → (result ≡ status) ⊎ (result ≡ 3) → Delivers target old new text status result
+
+-- something is said, and printed or written to the target
+abbrev pub RunsTo : Asked → Option (List ℕ) → List ℕ → Option (List ℕ) → Option (List ℕ) → ℕ → Type 0
+RunsTo asked target bytes old new result = (text : List ℕ) × (status : ℕ) × Says asked bytes text status × Delivers target old new text status result
+
+-- nothing is printed, since a file that is named could not be read
+abbrev pub IsUnopened : Option (List ℕ) → Option (List ℕ) → Option (List ℕ) → ℕ → Type 0
+IsUnopened source old new result = IsSome source × (new ≡ old) × ((result ≡ 2) ⊎ (result ≡ 3))
+
+-- a run says something and prints it, or writes it to the file that its line names; or it could not read a file
+abbrev pub Runs : Asked → Names → List ℕ → Option (List ℕ) → Option (List ℕ) → ℕ → Type 0
+Runs asked files bytes old new result = RunsTo asked files.output bytes old new result ⊎ IsUnopened files.input old new result
+
+-- the bytes that are told of what is read: none are where a file is named
+abbrev pub told_by : Names → Option (List ℕ) → Option (List ℕ)
+told_by files told = if is_some files.input then None else told
 
 -- what was found is printed with its status, or that memory was refused is
 abbrev pub PrintsFound : Option (List ℕ) → Option (List ℕ) → Result (List ℕ) Refusal → ℕ → Type 0

@@ -9,8 +9,7 @@ ghost use Rattle.ring_work.specs.Driven.{IsFault};
 ghost use Rattle.ringplan_jobs.specs.Answers.{texts_of};
 ghost use Rattle.ringplan_run.specs.Drives.{outcome_text, DrivesIf, DrivesOfIf, IsOutcome};
 
-use drive_report::write_report;
-use drive_text::{DriveBundle, read_drive};
+use drive_text::{DriveBundle, read_drive, write_report};
 use history_text::{are_known, write_history};
 use plan_check::{Approved, OpenGate, check};
 use ring_names::{Names, Refusal};

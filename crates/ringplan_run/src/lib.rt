@@ -3,6 +3,7 @@
 #![tactic(auto)]
 
 mod driving;
+mod files;
 mod program;
 
 pub use driving::drive_bundle;

@@ -1,22 +1,28 @@
 //! The program, over any input and any output.
 
-ghost use Rattle.std.specs.Prelude.{◌≡◌, ◌<◌, ◌≤◌, ◌∷◌, ℕ, List, [], IfOk, drop, map};
+ghost use Rattle.std.specs.Prelude.{◌≡◌, ◌<◌, ◌≤◌, ◌∷◌, ℕ, List, [], IfOk, drop, map, option_map, string_bytes};
 ghost use Rattle.ring_names.specs.Refusals.{line_of};
 ghost use Rattle.ringplan_jobs.specs.Answers.{texts_of};
-ghost use Rattle.ringplan_command.specs.Command.{asked, only, word_of};
+ghost use Rattle.ringplan_command.specs.Command.{Answers, Asked, asked, only};
+ghost use Rattle.ringplan_command.specs.Files.{files_of, no_files};
+ghost use Rattle.ringplan_command.specs.Tree.{word_of};
 ghost use Rattle.ringplan_jobs.specs.Io.{Prints, Tells};
 ghost use Rattle.ringplan_jobs.specs.Outcomes.{Finds};
-ghost use Rattle.ringplan_run.specs.Run.{FindsDrive, PrintsFound, Runs};
-ghost use Rattle.ringplan_jobs.specs.declared.job.Job.{Job};
-ghost use Rattle.ringplan_jobs.specs.declared.job.Job.TheVariants.{Check};
+ghost use Rattle.ringplan_run.specs.Run.{FindsDrive, PrintsFound, Reports, Runs, RunsTo, Shows, ShowsReport, told_by};
+ghost use Rattle.ringplan_job.specs.declared.job.Job.{Job};
+ghost use Rattle.ringplan_job.specs.declared.job.Job.TheVariants.{Check};
 
 use crate::driving::drive_bundle;
+use crate::files::{open, save, say};
 use ring_names::Refusal;
-use ringplan_command::{CommandLine, Form, parse};
+use ringplan_command::{CommandLine, Files as Named, Form, Request, parse};
+use ringplan_job::Making;
 use ringplan_jobs::{Job, answer_of, make_check_by, make_whole, read_all, write_all};
+use ringplan_people::{Report, report_bundle, report_unread};
 use std::alloc::Global;
 use std::convert::AsStr;
 use std::io::{Read, Write};
+use std::rt::Files;
 use std::sync::Wait;
 use std::thread::Threads;
 
@@ -33,37 +39,131 @@ const FAILED: u8 = 3;
 // The exit status where the command line is refused.
 const REFUSED: u8 = 2;
 
-/// Runs a command line, whose first word is the program's name, and returns the exit status: 0 for a plan that
-/// was found, for yes, for what a play or a drive prints, for migrated texts and for help, 1 for a plan that is refused or that there is none of and
-/// for a drive that broke off, 2 for a text or a command line that is refused, and 3 where memory, the input or the output failed. It waits for the
-/// threads that `drive` and `check --workers` ask for; every other line that names a job is done by `run_alone`.
-pub fn run<RT: AllocGlobal + Threads + Wait + Sync, S: AsStr, R: Read + Drop, W: Write>(
-    rt: &RT,
-    words: &[S],
-    input: &mut R,
-    output: &mut W,
-) -> u8
-    ensures line { (bytes : List ℕ) × Tells (R.remaining input.old) bytes
-        × Runs (asked (map S.text words.now)) bytes (W.contents output.old) (W.contents output.new) result }
+/// Runs a command line, whose first word is the program's name, and returns the exit status: 0 for what was printed, for yes and for help, 1 for a plan
+/// that is refused or that there is none of, for a drive that broke off and for a history that is no run, 2 for a text or a command line that is
+/// refused, and 3 where memory, an input or an output failed. `plan`, `check`, `play`, `drive`, `replay` and `migrate` print their refusals on the output,
+/// the other commands on standard error.
+///
+/// Where the line names a file, that is read in place of the input; where it names one with `-o`, what would be printed with status 0 is written there. It
+/// waits for the threads that `drive` and `check --workers` ask for; every other line that names a job is done by `run_alone`.
+pub fn run<
+    RT: AllocGlobal + Files + Eprint + Threads + Wait + Sync,
+    S: AsStr,
+    R: Read + Drop,
+    W: Write,
+>(rt: &RT, words: &[S], input: &mut R, output: &mut W) -> u8
+    ensures line { (bytes : List ℕ) × Tells (told_by (files_of (map S.text words.now)) (R.remaining input.old)) bytes
+        × Runs (asked (map S.text words.now)) (files_of (map S.text words.now)) bytes (W.contents output.old) (W.contents output.new) result }
     // `check` alone asks for the check, and `migrate` alone for the migration.
     ensures job { (job : Job) → drop 1 (map S.text words.now) ≡ word_of job ∷ []
         → (bytes : List ℕ) × Tells (R.remaining input.old) bytes
-        × Runs (only job) bytes (W.contents output.old) (W.contents output.new) result }
+        × Runs (only job) no_files bytes (W.contents output.old) (W.contents output.new) result }
+{
+    let CommandLine { request, files } = parse(rt.alloc(), words);
+    let Named {
+        input: source,
+        output: target,
+    } = files;
+    match source {
+        None => run_to(rt, request, target, input, output),
+        Some(name) => match open(rt, name.as_str()) {
+            Ok(mut file) => run_to(rt, request, target, &mut file, output),
+            Err(status) => status,
+        },
+    }
+}
+
+// Does what is asked for with the whole input, and prints what comes of it, or writes it to the target.
+fn run_to<RT: AllocGlobal + Files + Eprint + Threads + Wait + Sync, R: Read + Drop, W: Write>(
+    rt: &RT,
+    request: Request,
+    target: Option<String>,
+    input: &mut R,
+    output: &mut W,
+) -> u8
+    requires { (asked : Asked) × Answers asked request }
+    ensures { (asked : Asked) → Answers asked request → (bytes : List ℕ) × Tells (R.remaining input.old) bytes
+        × RunsTo asked (option_map string_bytes target) bytes (W.contents output.old) (W.contents output.new) result }
+{
+    let Some(name) = target else {
+        return run_request(rt, request, input, output);
+    };
+    let mut text = Vec::new(rt.alloc());
+    let status = run_request(rt, request, input, &mut text);
+    if status == 0 {
+        save(rt, name.as_str(), text.as_slice())
+    } else {
+        finish(output, text.as_slice(), status)
+    }
+}
+
+// Does what is asked for with the whole input, and prints what comes of it.
+fn run_request<RT: AllocGlobal + Eprint + Threads + Wait + Sync, R: Read + Drop, W: Write>(
+    rt: &RT,
+    request: Request,
+    input: &mut R,
+    output: &mut W,
+) -> u8
+    requires { (asked : Asked) × Answers asked request }
+    ensures { (asked : Asked) → Answers asked request → (bytes : List ℕ) × Tells (R.remaining input.old) bytes
+        × Shows asked bytes (W.contents output.old) (W.contents output.new) result }
 {
     let alloc = rt.alloc();
-    match parse(alloc, words) {
-        CommandLine::Do(job) => run_alone(alloc, job, input, output),
-        CommandLine::CheckBy(workers) => {
+    match request {
+        Request::Do(job) => run_alone(alloc, job, input, output),
+        Request::CheckBy(workers) => {
             let found = make_of_by(rt, alloc, workers, input);
             tell(alloc, found, output)
         }
-        CommandLine::Drive(workers, form) => {
+        Request::Drive(workers, form) => {
             let found = drive_of(rt, alloc, workers, form, input);
             tell(alloc, found, output)
         }
-        CommandLine::Help(text) => finish(output, text.as_slice(), 0),
-        CommandLine::Refused(text) => finish(output, text.as_slice(), REFUSED),
-        CommandLine::OutOfMemory => end_without_memory(output),
+        Request::Make(making) => run_making(rt, &making, input, output),
+        Request::Help(text) => finish(output, text.as_slice(), 0),
+        Request::Refused(text) => finish(output, text.as_slice(), REFUSED),
+        Request::Mistaken(text) => {
+            say(rt, text.as_slice());
+            REFUSED
+        }
+        Request::OutOfMemory => end_without_memory(output),
+    }
+}
+
+// Prints what is made of the whole input for people, on standard error why nothing is, and returns the exit status.
+fn run_making<RT: AllocGlobal + Eprint, R: Read + Drop, W: Write>(
+    rt: &RT,
+    making: &Making,
+    input: &mut R,
+    output: &mut W,
+) -> u8
+    ensures { (bytes : List ℕ) × Tells (R.remaining input.old) bytes
+        × ShowsReport making.now bytes (W.contents output.old) (W.contents output.new) result }
+{
+    match report_of(rt.alloc(), making, input) {
+        Ok(report) => {
+            say(rt, report.errors.as_slice());
+            finish(output, report.output.as_slice(), report.status)
+        }
+        Err(_) => {
+            say(rt, NO_MEMORY);
+            FAILED
+        }
+    }
+}
+
+// What is printed of the whole input for people.
+fn report_of<R: Read + Drop>(
+    alloc: Global,
+    making: &Making,
+    input: &mut R,
+) -> Result<Report, Refusal>
+    ensures { IfOk result (λ r. (bytes : List ℕ) × Tells (R.remaining input.old) bytes
+        × Reports making.now bytes r.output.items r.status) }
+{
+    match read_all(alloc, input) {
+        Ok(bytes) => report_bundle(alloc, making, bytes.as_slice()),
+        Err(refusal) => report_unread(alloc, refusal),
     }
 }
 
@@ -75,7 +175,7 @@ pub fn run_alone<R: Read + Drop, W: Write>(
     output: &mut W,
 ) -> u8
     ensures { (bytes : List ℕ) × Tells (R.remaining input.old) bytes
-        × Runs (only job) bytes (W.contents output.old) (W.contents output.new) result }
+        × Shows (only job) bytes (W.contents output.old) (W.contents output.new) result }
 {
     let found = make_of(alloc, job, input);
     tell(alloc, found, output)

@@ -4,12 +4,14 @@
 //! accepted, no first part may be: how many are is printed where it is not none. A check is also made by 1, 3 and 64 workers: how many of them
 //! say otherwise is printed where it is not none. Of each play the history of its answered events is replayed, and that history with a fault at
 //! each place: of how many a replay says otherwise than the play does is printed where it is not none. Of each drive the history that it prints is
-//! replayed, and it is said where a replay does not say yes to it.
+//! replayed, and it is said where a replay does not say yes to it. The words of `people.rt` ask for what is printed for people.
 #![tactic(auto)]
 
 mod histories;
+mod people;
 
 use crate::histories::{is_replayed, others};
+use crate::people::{show_report, words_of};
 use ringplan_jobs::{check_bundle, plan_bundle, play_bundle, replay_bundle};
 use ringplan_run::run;
 use std::alloc::Global;
@@ -32,22 +34,50 @@ enum Asked {
     Replay,
 }
 
+// What is asked of the bundles that follow: a job, or a report for people by those words.
+#[derive(Clone, Copy)]
+enum Wanted {
+    Job(Asked),
+    Report(&'static [&'static str]),
+}
+
 fn main(rt: HostRuntime) -> io::Result<()> {
-    let mut asked = Asked::Check;
+    let mut wanted = Wanted::Job(Asked::Check);
     for word in env::args(&rt)?.skip(1) {
-        match word.as_str() {
-            "check" => asked = Asked::Check,
-            "migrate" => asked = Asked::Migrate,
-            "play" => asked = Asked::Play,
-            "plan" => asked = Asked::Plan,
-            "drive" => asked = Asked::Drive,
-            "report" => asked = Asked::Report,
-            "race" => asked = Asked::Race,
-            "replay" => asked = Asked::Replay,
-            name => show(&rt, asked, name)?,
+        match wanted_of(word.as_str()) {
+            Some(next) => wanted = next,
+            None => show_wanted(&rt, wanted, word.as_str())?,
         }
     }
     Ok(())
+}
+
+// What the word asks for, if it is no bundle's name.
+fn wanted_of(word: &str) -> Option<Wanted> {
+    let asked = match word {
+        "check" => Asked::Check,
+        "migrate" => Asked::Migrate,
+        "play" => Asked::Play,
+        "plan" => Asked::Plan,
+        "drive" => Asked::Drive,
+        "report" => Asked::Report,
+        "race" => Asked::Race,
+        "replay" => Asked::Replay,
+        _ => return words_of(word).map(Wanted::Report),
+    };
+    Some(Wanted::Job(asked))
+}
+
+// Prints what is asked of the bundle.
+fn show_wanted<RT: Runtime + AllocGlobal + Threads + Wait + Sync>(
+    rt: &RT,
+    wanted: Wanted,
+    name: &str,
+) -> io::Result<()> {
+    match wanted {
+        Wanted::Job(asked) => show(rt, asked, name),
+        Wanted::Report(words) => show_report(rt, words, name),
+    }
 }
 
 // What was written, and the exit status.

@@ -3,6 +3,7 @@
 use crate::memory::{MemoryReader, MemoryWriter};
 use ringplan_run::run;
 use std::process::Abort;
+use std::rt::Files;
 use std::sync::Wait;
 use std::test::Fail;
 use std::thread::Threads;
@@ -26,7 +27,7 @@ const DRIVE: &[u8] =
 const MANY: usize = 4096;
 
 // A run that reads 16 bytes a call, and how many reads it made.
-fn reads_of<RT: AllocGlobal + Threads + Wait + Sync + Abort>(
+fn reads_of<RT: AllocGlobal + Files + Eprint + Threads + Wait + Sync + Abort>(
     rt: &RT,
     word: &str,
     bundle: &[u8],
@@ -49,7 +50,11 @@ fn failed<RT: Abort>(rt: &RT, ended: u8, shown: &[u8], text: &[u8]) {
 }
 
 // Each read of the bundle fails in turn.
-fn reads_fail<RT: AllocGlobal + Threads + Wait + Sync + Abort>(rt: &RT, word: &str, bundle: &[u8]) {
+fn reads_fail<RT: AllocGlobal + Files + Eprint + Threads + Wait + Sync + Abort>(
+    rt: &RT,
+    word: &str,
+    bundle: &[u8],
+) {
     let reads = reads_of(rt, word, bundle);
     assert!(rt; reads > bundle.len() / 16);
     for calls in 0..reads {
@@ -75,7 +80,7 @@ fn each_read_fails(rt: HostRuntime) {
 }
 
 // A run with this input, to this output.
-fn written<RT: AllocGlobal + Threads + Wait + Sync + Abort>(
+fn written<RT: AllocGlobal + Files + Eprint + Threads + Wait + Sync + Abort>(
     rt: &RT,
     word: &str,
     bundle: &[u8],
@@ -90,7 +95,7 @@ fn written<RT: AllocGlobal + Threads + Wait + Sync + Abort>(
 }
 
 // What the whole output is, where a write takes a byte, and that the last call is no write.
-fn output_of<RT: AllocGlobal + Threads + Wait + Sync + Abort>(
+fn output_of<RT: AllocGlobal + Files + Eprint + Threads + Wait + Sync + Abort>(
     rt: &RT,
     word: &str,
     bundle: &[u8],
@@ -110,7 +115,7 @@ fn broke_off<RT: Abort>(rt: &RT, ended: u8, shown: &[u8], text: &[u8], count: us
 }
 
 // The call behind so many writes of a byte each fails, a write or the flush behind the last one.
-fn call_fails<RT: AllocGlobal + Threads + Wait + Sync + Abort>(
+fn call_fails<RT: AllocGlobal + Files + Eprint + Threads + Wait + Sync + Abort>(
     rt: &RT,
     word: &str,
     bundle: &[u8],
@@ -123,7 +128,7 @@ fn call_fails<RT: AllocGlobal + Threads + Wait + Sync + Abort>(
 }
 
 // Each write fails in turn, and the flush behind them.
-fn writes_fail<RT: AllocGlobal + Threads + Wait + Sync + Abort>(
+fn writes_fail<RT: AllocGlobal + Files + Eprint + Threads + Wait + Sync + Abort>(
     rt: &RT,
     word: &str,
     bundle: &[u8],
@@ -136,7 +141,7 @@ fn writes_fail<RT: AllocGlobal + Threads + Wait + Sync + Abort>(
 }
 
 // Each write but the first ones takes nothing, in turn: so much is out, and no further call is made.
-fn writes_take_nothing<RT: AllocGlobal + Threads + Wait + Sync + Abort>(
+fn writes_take_nothing<RT: AllocGlobal + Files + Eprint + Threads + Wait + Sync + Abort>(
     rt: &RT,
     word: &str,
     bundle: &[u8],
@@ -151,7 +156,11 @@ fn writes_take_nothing<RT: AllocGlobal + Threads + Wait + Sync + Abort>(
 }
 
 // Each write of the run fails in turn, or takes nothing.
-fn ends_fail<RT: AllocGlobal + Threads + Wait + Sync + Abort>(rt: &RT, word: &str, bundle: &[u8]) {
+fn ends_fail<RT: AllocGlobal + Files + Eprint + Threads + Wait + Sync + Abort>(
+    rt: &RT,
+    word: &str,
+    bundle: &[u8],
+) {
     let text = output_of(rt, word, bundle);
     writes_fail(rt, word, bundle, text.as_slice());
     writes_take_nothing(rt, word, bundle, text.as_slice());

@@ -5,6 +5,7 @@ ghost use Rattle.std.specs.Prelude.{◌<◌};
 use crate::memory::{Endless, InterruptedReader, InterruptedWriter, MemoryReader, MemoryWriter};
 use ringplan_run::{end_without_words, run};
 use std::process::Abort;
+use std::rt::Files;
 use std::str;
 use std::sync::Wait;
 use std::test::Fail;
@@ -35,7 +36,7 @@ fn ends_with<RT: Abort>(rt: &RT, ended: u8, status: u8, shown: &[u8], text: &[u8
 }
 
 // The command line ends with this status, and prints a text that contains the other.
-fn told<RT: AllocGlobal + Threads + Wait + Sync + Abort>(
+fn told<RT: AllocGlobal + Files + Eprint + Threads + Wait + Sync + Abort>(
     rt: &RT,
     words: &[&str],
     status: u8,
@@ -47,7 +48,7 @@ fn told<RT: AllocGlobal + Threads + Wait + Sync + Abort>(
 }
 
 // The same of a command line of two words behind the program's name.
-fn told_of<RT: AllocGlobal + Threads + Wait + Sync + Abort>(
+fn told_of<RT: AllocGlobal + Files + Eprint + Threads + Wait + Sync + Abort>(
     rt: &RT,
     first: &str,
     second: &str,
@@ -64,7 +65,10 @@ fn helps_printed(rt: HostRuntime) -> Result<(), Fail> {
     told_of(&rt, "check", "--help", 0, "Exit status")?;
     told_of(&rt, "play", "--help", 0, "for each event")?;
     told_of(&rt, "plan", "--help", 0, "change 1")?;
-    told_of(&rt, "play", "-h", 0, "Example: ringplan play <")?;
+    told_of(&rt, "play", "--help", 0, "Example: ringplan play examples/")?;
+    told_of(&rt, "play", "-h", 0, "With --help: the formats")?;
+    told_of(&rt, "goal", "--help", 0, "goal ring")?;
+    told_of(&rt, "--version", "-h", 0, "ringplan 1.0.0")?;
     told_of(&rt, "help", "check", 0, "Exit status")
 }
 
@@ -83,20 +87,37 @@ fn mistakes_told(rt: HostRuntime) -> Result<(), Fail> {
         2,
         "error: unexpected argument '--fast'",
     )?;
-    told_of(
+    told(
         &rt,
-        "check",
-        "move_one_slot.bundle",
+        &["ringplan", "check", "one", "other"],
         2,
-        "ringplan check < FILE",
-    )?;
-    told_of(
-        &rt,
-        "check",
-        "migrate",
-        2,
-        "error: unexpected argument 'migrate'",
+        "error: unexpected argument 'other'",
     )
+}
+
+// The command line ends with this status, and prints nothing.
+fn silent<RT: AllocGlobal + Files + Eprint + Threads + Wait + Sync + Abort>(
+    rt: &RT,
+    words: &[&str],
+    status: u8,
+) {
+    let mut output = MemoryWriter::new(rt.alloc(), 4096, 2);
+    let ended = run(rt, words, &mut Endless, &mut output);
+    ends_with(rt, ended, status, output.bytes.as_slice(), b"");
+}
+
+#[test]
+fn people_told_on_standard_error(rt: HostRuntime) {
+    silent(&rt, &["ringplan", "goal", "--fast"], 2);
+    silent(&rt, &["ringplan", "goal", "--weight", "b"], 2);
+    silent(&rt, &["ringplan", "windows", "--rounds", "0"], 2);
+    silent(&rt, &["ringplan", "show"], 2);
+}
+
+#[test]
+fn files_that_are_not_there(rt: HostRuntime) {
+    silent(&rt, &["ringplan", "check", "none.bundle"], 3);
+    silent(&rt, &["ringplan", "show", "none.bundle"], 3);
 }
 
 #[test]
@@ -149,7 +170,7 @@ fn words_that_are_no_text(rt: HostRuntime) -> Result<(), Fail> {
 }
 
 // The answer to the least bundle, where a read gives and a write takes so many bytes at most.
-fn answered<RT: AllocGlobal + Threads + Wait + Sync + Abort>(rt: &RT, step: usize)
+fn answered<RT: AllocGlobal + Files + Eprint + Threads + Wait + Sync + Abort>(rt: &RT, step: usize)
     requires { 0 < step }
 {
     let mut input = MemoryReader {

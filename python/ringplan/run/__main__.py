@@ -38,13 +38,13 @@ def read_steps(bundle: str) -> list[texts.StepLine]:
     """The lines of steps of an approved plan. A plan that is refused is a `Stop`."""
     answer = programs.ask("steps", bundle)
     if answer.status:
-        raise Stop(Status.REFUSED, f"the plan is refused:\n{answer.text}".rstrip())
+        raise Stop(Status.REFUSED, f"the plan is refused:\n{answer.errors}".rstrip())
     return texts.read_steps(answer.text)
 
 
 def apply(words: argparse.Namespace) -> Status:
     bundle = read_bundle(words.bundle)
-    programs.find("replay")
+    programs.find()
     steps = read_steps(bundle)
     hooks = Hooks(words.do, f"{words.board}.hooks")
     hooks.demand(sorted({step.do for step in steps}))

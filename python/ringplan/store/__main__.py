@@ -48,7 +48,7 @@ def run(bundle: str, steps: str, load: Load, broken: str = "", dead: tuple[str, 
 def main() -> None:
     parser = argparse.ArgumentParser(prog="python3 -m ringplan.store", description=(__doc__ or "").split("\n")[0])
     parser.add_argument("bundle", help="a ring, a plan and its certificate")
-    parser.add_argument("steps", help="the lines of `ringside steps` of that bundle")
+    parser.add_argument("steps", help="the lines of `ringplan steps` of that bundle")
     parser.add_argument("out", help="the bundle with the history, for `ringplan replay`")
     parser.add_argument("--break", dest="broken", default="", choices=["", "latest_timestamp_wins", "empty_and_not_told", *STORES, *EXECUTORS], metavar="NAME")
     parser.add_argument("--dead", nargs="*", default=[], metavar="NODE", help="servers that are killed for good before the plan begins")

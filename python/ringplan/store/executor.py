@@ -1,6 +1,6 @@
 """Workers that go through an approved plan on a store, as docs/STORES.md says ("Going through a plan").
 
-The steps are the lines of `ringside steps`. A worker takes any step that waits for nothing and that nobody holds. Where it dies in the middle of a copy, the
+The steps are the lines of `ringplan steps`. A worker takes any step that waits for nothing and that nobody holds. Where it dies in the middle of a copy, the
 copy stays open: the next worker writes its `abort`, and goes on at the chunks that are not marked.
 """
 

@@ -1,0 +1,45 @@
+-- What leads from a ring to the ring that it shall become.
+use Rattle.std.specs.Prelude.{◌≡◌, ℕ, Bool, not, ◌&&◌, ◌||◌, ◌⊎◌, List, ◌++◌, Some, Ok, map, length}
+use Rattle.ring_names.specs.declared.ids.NodeId.{NodeId}
+use Rattle.ring_names.specs.Lists.{has}
+use Rattle.ring_names.specs.Names.{place}
+use Rattle.texts.specs.Left.{whole_text}
+use Rattle.ring_table.specs.Spelling.{ring_text}
+use Rattle.ring_table.specs.Value.{RingValue, names_of, is_member}
+use Rattle.change_text.specs.declared.change.Change.{Change}
+use Rattle.change_text.specs.declared.wanted.Wanted.{Wanted}
+use Rattle.change_text.specs.Wanted.{wanted_at}
+use Rattle.plan_text.specs.Changes.{numbers}
+use Rattle.plan_goal.specs.declared.reading.Goal.{Goal}
+use Rattle.plan_goal.specs.Goals.{goal_at}
+use Rattle.plan_goal.specs.Reached.{IsReached}
+use Rattle.plan_bundles.specs.Rings.{flags}
+
+-- the bytes are the text of the ring, and behind it those of a plan that leads to the wanted one and of its certificate
+abbrev pub LeadsFrom : RingValue → RingValue → List NodeId → List ℕ → Type 0
+LeadsFrom ring wanted dead text = (more : List ℕ) × (text ≡ ring_text ring ++ more) × IsReached ring wanted dead more
+
+-- the nodes have these names, in their order
+abbrev pub AreNamed : RingValue → List (List ℕ) → List NodeId → Type 0
+AreNamed ring names nodes = map (place (names_of ring)) names ≡ map (λ x. Some x.0) nodes
+
+-- the bytes lead from the first of two rings to the second, around the nodes of these names
+abbrev pub IsGoalReached : List ℕ → List (List ℕ) → List ℕ → Type 0
+IsGoalReached bytes names text = (g : Goal) × (whole_text goal_at bytes ≡ Ok g) × (dead : List NodeId) × AreNamed g.ring names dead × LeadsFrom g.ring g.wanted dead text
+
+-- whether the node is a member once the change is made
+abbrev pub is_changed_member : RingValue → Change → ℕ → Bool
+is_changed_member ring change x = (is_member ring.nodes (record { 0 = x }) || has x (numbers change.joins)) && not (has x (numbers change.leaves))
+
+-- the second ring has the members that the change makes of the first one's
+abbrev pub HasChangedMembers : RingValue → Change → RingValue → Type 0
+HasChangedMembers ring change wanted = map (λ x. x.is_member) wanted.nodes ≡ flags (is_changed_member ring change) (length ring.nodes)
+
+-- the bytes lead from a ring to one with the members of its change, around the nodes of these names
+abbrev pub IsWishReached : List ℕ → List (List ℕ) → List ℕ → Type 0
+IsWishReached bytes names text = (w : Wanted) × (whole_text wanted_at bytes ≡ Ok w) × (wanted : RingValue) × (dead : List NodeId) × AreNamed w.ring names dead
+    × HasChangedMembers w.ring w.change wanted × LeadsFrom w.ring wanted dead text
+
+-- the bytes lead from a ring to another one: to the second of two rings, or to one with the members of a change
+abbrev pub IsLed : List ℕ → List (List ℕ) → List ℕ → Type 0
+IsLed bytes names text = IsGoalReached bytes names text ⊎ IsWishReached bytes names text

@@ -1,0 +1,44 @@
+-- Windows of a plan: bundles that are done one behind the other.
+use Rattle.std.specs.Prelude.{◌≡◌, ℕ, ◌-◌, List, [], ◌∷◌, ◌++◌, Option, Some, None, length, slice_get}
+use Rattle.std.specs.List.{concat}
+use Rattle.ring_table.specs.Value.{RingValue}
+use Rattle.ring_table.specs.Valid.{IsRing}
+use Rattle.ring_table.specs.Spelling.{ring_text}
+use Rattle.plan_text.specs.declared.step.Planned.{Planned}
+use Rattle.plan_text.specs.Spelling.{plan_text}
+use Rattle.plan_cert.specs.declared.cert.Cert.{Cert}
+use Rattle.plan_cert.specs.Spelling.{cert_text}
+use Rattle.plan_moves.specs.Owners.{last_owners}
+use Rattle.plan_check.specs.Certified.{IsCertified}
+use Rattle.plan_check.specs.Headline.{KeepsPromises}
+use Rattle.plan_bundles.specs.Rings.{IsRingOf, members_after}
+
+-- a window over a ring's text: that text, a plan that keeps its promises, and its certificate; and the text of the ring that the plan leaves
+pub record IsWindow (before text after : List ℕ) : Type 0 where
+  pub ring : RingValue
+  pub plan : List Planned
+  pub cert : Cert
+  pub is_ring : IsRing ring
+  pub begins : before ≡ ring_text ring
+  pub text_is : text ≡ before ++ (plan_text ring plan ++ cert_text ring cert)
+  pub certified : IsCertified ring plan cert
+  pub keeps : KeepsPromises ring plan
+  pub leaves : IsRingOf after (last_owners ring plan) (members_after ring plan (length ring.nodes))
+
+-- windows one behind the other, from one ring's text to another's
+pub data AreWindows (first : List ℕ) : List (List ℕ) → List ℕ → Type 0 where
+  no_window : AreWindows first [] first
+  one_more : (texts : List (List ℕ)) (before text after : List ℕ) → AreWindows first texts before → IsWindow before text after → AreWindows first (texts ++ text ∷ []) after
+
+-- the windows lead from the ring's text to that of a ring with the owners that the plan leaves
+abbrev pub AreWindowsOf : RingValue → List Planned → List (List ℕ) → Type 0
+AreWindowsOf ring plan texts = (last : List ℕ) × AreWindows (ring_text ring) texts last × (end : RingValue) × IsRing end × (last ≡ ring_text end) × (end.owners ≡ last_owners ring plan)
+
+-- what is asked for of texts: the one of a number, counted from 1, or all, one behind the other
+abbrev pub IsAsked : List (List ℕ) → Option ℕ → List ℕ → Type 0
+IsAsked texts (Some number) text = slice_get texts (number - 1) ≡ Some text
+IsAsked texts None text = text ≡ concat texts
+
+-- the text is what is asked for of windows of the plan
+abbrev pub AreAskedOf : RingValue → List Planned → Option ℕ → List ℕ → Type 0
+AreAskedOf ring plan only text = (texts : List (List ℕ)) × AreWindowsOf ring plan texts × IsAsked texts only text

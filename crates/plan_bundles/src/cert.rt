@@ -1,0 +1,134 @@
+//! A certificate for a ring and a plan, whether or not one stands behind them.
+
+ghost use Rattle.std.specs.Prelude.{◌≡◌, ◌++◌, IfOk};
+ghost use Rattle.texts.specs.Judging.{Gives, map_ok};
+ghost use Rattle.texts.specs.Left.{Reads};
+ghost use Rattle.ring_table.specs.Spelling.{ring_text};
+ghost use Rattle.plan_text.specs.Spelling.{plan_text};
+ghost use Rattle.plan_text.specs.Valid.{Suits as PlanSuits};
+ghost use Rattle.plan_cert.specs.Spelling.{cert_text};
+ghost use Rattle.plan_cert.specs.Valid.{Suits as CertSuits};
+ghost use Rattle.plan_bundles.specs.Certs.{front_at, front_reading, parts, IsCertifiedBy, IsCertifiedText, IsClaimedText};
+
+use plan_chains::{Excess, Outcome, certificate, overload};
+use plan_check::check;
+use plan_rounds::write_texts;
+use plan_scene::name;
+use plan_text::{Plan, read_plan_section};
+use ring_names::{NodeId, Refusal};
+use ring_table::{Ring, Side, read_ring_section, write_ring};
+use std::alloc::Global;
+use texts::Lines;
+use words::Words;
+
+/// A ring, and a plan of it.
+#[derive(Drop)]
+pub(crate) struct Front {
+    pub(crate) ring: Ring,
+    pub(crate) plan: Plan,
+}
+
+// A certificate that was found, and its text after those of its ring and its plan.
+#[derive(Drop)]
+struct Candidate {
+    found: Outcome,
+    text: Vec<u8>,
+}
+
+// The ring, and the plan behind it. A ring's fault comes before a plan's.
+#[tactic(auto, unfolding(crate::specs::Certs::front_at))]
+fn read_both(alloc: Global, lines: &mut Lines) -> Result<Front, Refusal>
+    ensures read { Reads result lines.new (front_at lines.old) }
+    ensures suits { IfOk result (λ f. PlanSuits f.ring f.plan) }
+{
+    let ring = read_ring_section(alloc, lines)?;
+    let plan = read_plan_section(alloc, &ring, lines)?;
+    Ok(Front { ring, plan })
+}
+
+// The ring and the plan with which the bytes begin; what stands behind them is not read.
+fn read_front(alloc: Global, bytes: &[u8]) -> Result<Front, Refusal>
+    ensures read { Gives (map_ok parts result) (front_reading bytes.now) }
+    ensures suits { IfOk result (λ f. PlanSuits f.ring f.plan) }
+{
+    let mut lines = Lines::of(bytes);
+    read_both(alloc, &mut lines)
+}
+
+// A certificate for the plan, which the checker was not asked about.
+fn found(alloc: Global, ring: &Ring, plan: &Plan) -> Result<Candidate, Refusal>
+    requires { PlanSuits ring.now plan.now }
+    ensures { IfOk result (λ f. f.text.items
+        ≡ ring_text ring.now ++ (plan_text ring.now plan.now ++ cert_text ring.now f.found.cert)) }
+{
+    let found = certificate(alloc, ring, plan)?;
+    let mut text = write_ring(alloc, ring)?;
+    let claims = write_texts(alloc, ring, plan, &found.cert)?;
+    text.extend_from_slice(claims.as_slice())?;
+    Ok(Candidate { found, text })
+}
+
+// The same, where the checker accepts the plan by it.
+fn certified(alloc: Global, front: Front) -> Result<Vec<u8>, Refusal>
+    requires { PlanSuits front.ring front.plan }
+    ensures { IfOk result (λ text. IsCertifiedBy front.ring front.plan text.items) }
+{
+    let Candidate { found, text } = found(alloc, &front.ring, &front.plan)?;
+    let Front { ring, plan } = front;
+    match check(alloc, ring, plan, &found.cert) {
+        Ok(_) => Ok(text),
+        Err(turned) => {
+            let refusal = turned.refusal;
+            Err(found.refusal(refusal))
+        }
+    }
+}
+
+/// The texts of the ring and the plan with which the bytes begin, and of a certificate that is found for them: paths of dependencies, and the fewest chains that the
+/// plan's order allows. What stands behind the plan is not read. Refused is the first fault of the two texts; else, where that certificate is not enough, what the
+/// checker refuses with it. But where a node has too many chains since the search for fewer was given up, the refusal is `NoPlan`.
+pub fn cert_bundle(alloc: Global, bytes: &[u8]) -> Result<Vec<u8>, Refusal>
+    // The ring and the plan are those of the bundle, the checker accepts the plan by the certificate, and so the plan keeps its promises.
+    ensures certified { IfOk result (λ text. IsCertifiedText bytes.now text.items) }
+{
+    let front = read_front(alloc, bytes)?;
+    certified(alloc, front)
+}
+
+/// The same, but the checker is not asked: where there is no certificate, the best that was found.
+pub fn found_bundle(alloc: Global, bytes: &[u8]) -> Result<Vec<u8>, Refusal>
+    ensures { IfOk result (λ text. IsClaimedText bytes.now text.items) }
+{
+    let front = read_front(alloc, bytes)?;
+    let Candidate { text, .. } = found(alloc, &front.ring, &front.plan)?;
+    Ok(text)
+}
+
+/// Adds, where the checker refuses a found certificate since a node has too many chains, that there can be no fewer, if that is so.
+pub fn push_excess(
+    alloc: Global,
+    out: &mut Words,
+    text: &[u8],
+    refusal: &Refusal,
+) -> Result<(), Refusal> {
+    let Refusal::TooManyChains(node) = refusal else {
+        return Ok(());
+    };
+    let Front { ring, plan } = read_front(alloc, text)?;
+    if let Some(excess) = overload(alloc, &ring, &plan, NodeId(*node))? {
+        fill_excess(out, name(&ring, *node), excess);
+    }
+    Ok(())
+}
+
+fn fill_excess(out: &mut Words, node: &[u8], excess: Excess) {
+    let words: &[u8] = match excess.side {
+        Side::Both =>
+            b"  @: # copies may run at once, by the plan's order, and it bears #; no certificate can do with fewer chains.\n",
+        Side::Take =>
+            b"  @: # copies to it may run at once, by the plan's order, and it bears #; no certificate can do with fewer chains.\n",
+        Side::Give =>
+            b"  @: # copies from it may run at once, by the plan's order, and it bears #; no certificate can do with fewer chains.\n",
+    };
+    out.fill(words, &[node], &[excess.fewest, excess.most]);
+}

@@ -1,0 +1,189 @@
+//! Plans that are done one behind the other.
+
+use crate::groups::Groups;
+use numbers::{at, set, small};
+use plan_rounds::add;
+use plan_text::{Plan, Source, Step};
+use ring_names::{Listed, Refusal};
+use ring_table::Ring;
+use std::alloc::Global;
+
+// How often the steps may be gone through until no group waits for a later window.
+const PASSES: u32 = 64;
+
+// The window of each group.
+#[derive(Drop)]
+struct Windows<'a> {
+    plan: &'a Plan,
+    of_steps: &'a [u32],
+    of_groups: Vec<u32>,
+}
+
+impl<'a> Windows<'a> {
+    fn of_step(&self, step: u32) -> u32 {
+        let group = at(self.of_steps, step as usize);
+        at(&self.of_groups, group as usize)
+    }
+
+    // The group of the step comes in that window or later.
+    fn raise(&mut self, step: u32, window: u32) -> bool {
+        let group = at(self.of_steps, step as usize) as usize;
+        if at(&self.of_groups, group) >= window {
+            return false;
+        }
+        set(&mut self.of_groups, group, window);
+        true
+    }
+
+    // Each group comes in the window of its copy's round, counted from 1.
+    fn begin(&mut self, rounds: &[u32], width: u32) {
+        let plan = self.plan;
+        for number in 0..plan.len() {
+            if matches!(plan.step(number), Step::Copy(_, _)) {
+                let round = at(rounds, number as usize).saturating_sub(1);
+                if let Some(window) = round.checked_div(width) {
+                    self.raise(number, window);
+                }
+            }
+        }
+    }
+
+    // Each group comes no sooner than those that its steps wait for. Answers whether one was too soon.
+    fn pass(&mut self) -> bool {
+        let plan = self.plan;
+        let mut is_raised = false;
+        for number in 0..plan.len() {
+            let mut window = 0u32;
+            for dependency in plan.deps(number) {
+                window = window.max(self.of_step(*dependency));
+            }
+            if self.raise(number, window) {
+                is_raised = true;
+            }
+        }
+        is_raised
+    }
+
+    // The same until none is too soon; where that takes too long, there is one window.
+    fn settle(&mut self) {
+        for _ in 0..PASSES {
+            if !self.pass() {
+                return;
+            }
+        }
+        for group in 0..self.of_groups.len() {
+            set(&mut self.of_groups, group, 0);
+        }
+    }
+
+    // How many windows there are, one at least.
+    fn count(&self) -> u32 {
+        let mut last = 0u32;
+        for window in self.of_groups.iter() {
+            last = last.max(*window);
+        }
+        last.saturating_add(1)
+    }
+}
+
+// The step once more.
+fn again(alloc: Global, step: &Step) -> Result<Step, Refusal> {
+    Ok(match step {
+        Step::Join(node) => Step::Join(*node),
+        Step::Mirror(slot, node) => Step::Mirror(*slot, *node),
+        Step::Copy(slot, Source::Owner) => Step::Copy(*slot, Source::Owner),
+        Step::Copy(slot, Source::Slots(from)) => {
+            let from = Vec::from_slice(alloc, from.as_slice())?;
+            Step::Copy(*slot, Source::Slots(Listed::from_vec(from)))
+        }
+        Step::Switch(slot) => Step::Switch(*slot),
+        Step::Drop(slot, node) => Step::Drop(*slot, *node),
+        Step::Retire(node) => Step::Retire(*node),
+    })
+}
+
+// Plans that are being written, one for each window.
+#[derive(Drop)]
+struct Cutting {
+    alloc: Global,
+    plans: Vec<Plan>,
+    // by step its number in its window
+    numbers: Vec<u32>,
+}
+
+impl Cutting {
+    // What the step waits for in its own window, by its numbers there.
+    fn after(
+        &self,
+        windows: &Windows,
+        dependencies: &[u32],
+        window: u32,
+    ) -> Result<Vec<u32>, Refusal> {
+        let mut after = Vec::new(self.alloc);
+        for dependency in dependencies {
+            if windows.of_step(*dependency) == window {
+                after.push(at(&self.numbers, *dependency as usize))?;
+            }
+        }
+        Ok(after)
+    }
+
+    // Adds a step to its window.
+    fn add(
+        &mut self,
+        windows: &Windows,
+        step: &Step,
+        dependencies: &[u32],
+        window: u32,
+    ) -> Result<(), Refusal> {
+        let after = self.after(windows, dependencies, window)?;
+        let step = again(self.alloc, step)?;
+        if let Some(plan) = self.plans.get_mut(window as usize) {
+            self.numbers.push(add(plan, step, &after)?)?;
+        }
+        Ok(())
+    }
+}
+
+// The plans of the windows.
+fn plans(alloc: Global, windows: &Windows) -> Result<Vec<Plan>, Refusal> {
+    let mut cutting = Cutting {
+        alloc,
+        plans: Vec::new(alloc),
+        numbers: Vec::new(alloc),
+    };
+    for _ in 0..windows.count() {
+        cutting.plans.push(Plan::new(alloc))?;
+    }
+    let plan = windows.plan;
+    for number in 0..plan.len() {
+        cutting.add(
+            windows,
+            plan.step(number),
+            plan.deps(number),
+            windows.of_step(number),
+        )?;
+    }
+    Ok(cutting.plans)
+}
+
+/// The plan's steps in windows of so many rounds of copies, by the round of each step: a plan for each window, in which a step waits for what it waits for in that window; what is done in
+/// earlier windows is done. The steps that take a slot from one owner to the next stay together, with the drop behind them.
+pub fn cut(
+    alloc: Global,
+    ring: &Ring,
+    plan: &Plan,
+    rounds: &[u32],
+    width: u32,
+) -> Result<Vec<Plan>, Refusal> {
+    let mut groups = Groups::new(alloc, ring);
+    groups.fill(ring, plan)?;
+    let mut windows = Windows {
+        plan,
+        of_steps: groups.of_steps.as_slice(),
+        of_groups: vec![in alloc; 0u32; groups.count as usize]?,
+    };
+    windows.begin(rounds, width);
+    windows.settle();
+    plans(alloc, &windows)
+}

@@ -1,0 +1,214 @@
+//! Bundles that lead from a ring to the ring that it shall become.
+
+ghost use Rattle.std.specs.Prelude.{◌≡◌, map, length, IfOk};
+ghost use Rattle.plan_bundles.specs.Rings.{flags};
+ghost use Rattle.plan_bundles.specs.Goals.{AreNamed, HasChangedMembers, IsGoalReached, IsLed, IsWishReached, LeadsFrom, is_changed_member};
+
+use crate::rings::rewritten;
+use crate::sections::{Kind, kind_of};
+use change_text::{Change, Wanted, read_wanted};
+use plan_goal::{Goal, is_among, reach, read_goal};
+use plan_maker::{Wish, Wished, push_words, wished};
+use plan_scene::rack;
+use ring_names::{Listed, Names, NodeId, Refusal};
+use ring_table::{Ring, read_ring, write_ring};
+use ringplan_job::Options;
+use std::alloc::Global;
+use words::Words;
+
+/// The nodes of these names, in their order. A name that the ring does not declare is `UnknownNode(0)`.
+pub fn nodes_of(alloc: Global, ring: &Ring, names: &[Vec<u8>]) -> Result<Vec<NodeId>, Refusal>
+    ensures { IfOk result (λ v. AreNamed ring.now (map (λ name. name.items) names.now) v.items) }
+{
+    let mut nodes = Vec::new(alloc);
+    for name in names {
+        match ring.number_of(name.as_slice()) {
+            Some(node) => nodes.push(node)?,
+            None => return Err(Refusal::UnknownNode(0)),
+        }
+    }
+    Ok(nodes)
+}
+
+// The text of the ring, and behind it the texts of a plan that leads to the wanted one, and of its certificate.
+fn lead(alloc: Global, goal: Goal, dead: &[NodeId]) -> Result<Vec<u8>, Refusal>
+    ensures { IfOk result (λ text. LeadsFrom goal.ring goal.wanted dead.now text.items) }
+{
+    let Goal { ring, wanted } = goal;
+    let mut text = write_ring(alloc, &ring)?;
+    let plan = reach(alloc, ring, &wanted, dead)?;
+    text.extend_from_slice(plan.as_slice())?;
+    Ok(text)
+}
+
+/// Of a bundle of two rings the first, a plan that leads from it to the second, and its certificate, around the nodes that are named dead. Refused is the first fault
+/// of the rings, a name that the first does not declare, as `UnknownNode(0)`, and what `reach` refuses.
+pub fn goal_bundle(alloc: Global, bytes: &[u8], dead: &[Vec<u8>]) -> Result<Vec<u8>, Refusal>
+    ensures reached { IfOk result (λ text. IsGoalReached bytes.now (map (λ name. name.items) dead.now) text.items) }
+{
+    let goal = read_goal(alloc, bytes)?;
+    let nodes = nodes_of(alloc, &goal.ring, dead)?;
+    lead(alloc, goal, nodes.as_slice())
+}
+
+// Whether each node is a member once the change is made.
+fn members_of(alloc: Global, ring: &Ring, change: &Change) -> Result<Vec<bool>, Refusal>
+    ensures { IfOk result (λ members. members.items
+        ≡ flags (is_changed_member ring.now change.now) (length ring.now.nodes)) }
+{
+    let mut members = Vec::new(alloc);
+    // A ring has few nodes.
+    let count = ring.nodes().len() as u32;
+    'nodes: for node in 0..count {
+        members.push(is_member_of(ring, change, NodeId(node)))?;
+    }
+    Ok(members)
+}
+
+// Whether the node is one.
+fn is_member_of(ring: &Ring, change: &Change, node: NodeId) -> bool
+    ensures { result ≡ is_changed_member ring.now change.now node.0 }
+{
+    (ring.is_member(node) || is_among(change.joins.as_slice(), node))
+        && !is_among(change.leaves.as_slice(), node)
+}
+
+// The ring with the members of the change and these owners.
+fn wanted_ring(
+    alloc: Global,
+    ring: &Ring,
+    change: &Change,
+    rows: &[Listed<NodeId>],
+) -> Result<Ring, Refusal>
+    ensures { IfOk result (λ wanted. HasChangedMembers ring.now change.now wanted) }
+{
+    let members = members_of(alloc, ring, change)?;
+    let text = write_ring(alloc, ring)?;
+    let found = rewritten(
+        alloc,
+        ring.nodes(),
+        text.as_slice(),
+        rows,
+        members.as_slice(),
+    )?;
+    read_ring(alloc, found.as_slice())
+}
+
+// Of each node the parts of the slots that it shall have.
+fn weights(alloc: Global, ring: &Ring, options: &Options) -> Result<Vec<u32>, Refusal> {
+    let mut weights = vec![in alloc; 1u32; ring.nodes().len()]?;
+    let nodes = nodes_of(alloc, ring, options.weighed.as_slice())?;
+    for place in 0..nodes.len() {
+        if let (Some(node), Some(weight)) = (nodes.get(place), options.weights.get(place)) {
+            if let Some(old) = weights.get_mut(node.0 as usize) {
+                *old = *weight;
+            }
+        }
+    }
+    Ok(weights)
+}
+
+// Of each node the number of its rack, where racks are asked for.
+fn racks(alloc: Global, ring: &Ring, behind: Option<u8>) -> Result<Vec<u32>, Refusal> {
+    let mut racks = Vec::new(alloc);
+    let mut names = Names::new(alloc);
+    if let Some(behind) = behind {
+        for node in ring.nodes() {
+            if names.len() == u32::MAX {
+                break;
+            }
+            racks.push(names.add(rack(node.name.as_slice(), behind))?)?;
+        }
+    }
+    Ok(racks)
+}
+
+// What is wished of the ring.
+#[derive(Drop)]
+struct Asked {
+    weights: Vec<u32>,
+    racks: Vec<u32>,
+}
+
+fn asked_for(alloc: Global, ring: &Ring, options: &Options) -> Result<Asked, Refusal> {
+    Ok(Asked {
+        weights: weights(alloc, ring, options)?,
+        racks: racks(alloc, ring, options.racks_behind)?,
+    })
+}
+
+// The wish for a change.
+fn wish<'a>(asked: &'a Asked, change: &'a Change) -> Wish<'a> {
+    Wish {
+        joins: change.joins.as_slice(),
+        leaves: change.leaves.as_slice(),
+        weights: asked.weights.as_slice(),
+        racks: asked.racks.as_slice(),
+    }
+}
+
+// The owners that are wished for.
+fn placed(
+    alloc: Global,
+    ring: &Ring,
+    change: &Change,
+    options: &Options,
+) -> Result<Wished, Refusal> {
+    let asked = asked_for(alloc, ring, options)?;
+    wished(alloc, ring, &wish(&asked, change))
+}
+
+// The ring that is wished for.
+fn wished_ring(
+    alloc: Global,
+    ring: &Ring,
+    change: &Change,
+    options: &Options,
+) -> Result<Ring, Refusal>
+    ensures { IfOk result (λ wanted. HasChangedMembers ring.now change.now wanted) }
+{
+    let placed = placed(alloc, ring, change, options)?;
+    wanted_ring(alloc, ring, change, placed.rows.as_slice())
+}
+
+/// Of a bundle of a ring and a change the ring, a plan that leads from it to one with the members of the change, and its certificate, around the nodes that are
+/// named dead: by weight and with racks apart as the options say. Refused is the first fault of the texts, a name that the ring does not declare, as
+/// `UnknownNode(0)`, a change that leaves too few members, as `NoPlan`, and what `reach` refuses.
+pub fn wish_bundle(alloc: Global, bytes: &[u8], options: &Options) -> Result<Vec<u8>, Refusal>
+    ensures reached { IfOk result (λ text.
+        IsWishReached bytes.now (map (λ name. name.items) options.now.dead.items) text.items) }
+{
+    let Wanted { ring, change } = read_wanted(alloc, bytes)?;
+    let nodes = nodes_of(alloc, &ring, options.dead.as_slice())?;
+    let wanted = wished_ring(alloc, &ring, &change, options)?;
+    lead(alloc, Goal { ring, wanted }, nodes.as_slice())
+}
+
+/// Says in words how far from even the ring is that is wished for, and what becomes of racks. Refused as `wish_bundle` is, but that no plan is made.
+pub fn wish_words(alloc: Global, bytes: &[u8], options: &Options) -> Result<Vec<u8>, Refusal> {
+    let Wanted { ring, change } = read_wanted(alloc, bytes)?;
+    let asked = asked_for(alloc, &ring, options)?;
+    let wish = wish(&asked, &change);
+    let placed = wished(alloc, &ring, &wish)?;
+    let mut words = Words::new(alloc);
+    push_words(&mut words, &ring, &wish, &placed);
+    Ok(words.end()?)
+}
+
+/// The ring of a change, and the ring that is wished for.
+pub fn wished_goal(alloc: Global, bytes: &[u8], options: &Options) -> Result<Goal, Refusal> {
+    let Wanted { ring, change } = read_wanted(alloc, bytes)?;
+    let wanted = wished_ring(alloc, &ring, &change, options)?;
+    Ok(Goal { ring, wanted })
+}
+
+/// What leads to the ring that is wished for: `goal_bundle` of two rings, and `wish_bundle` of a ring and a change.
+pub fn led_bundle(alloc: Global, bytes: &[u8], options: &Options) -> Result<Vec<u8>, Refusal>
+    ensures led { IfOk result (λ text.
+        IsLed bytes.now (map (λ name. name.items) options.now.dead.items) text.items) }
+{
+    match kind_of(bytes) {
+        Kind::Change => wish_bundle(alloc, bytes, options),
+        Kind::Plan | Kind::History => goal_bundle(alloc, bytes, options.dead.as_slice()),
+    }
+}

@@ -1,0 +1,18 @@
+//! What is made for people of rings and plans, without a run: plans that lead to a ring that is wished for, certificates, windows, and the ring that a plan leaves.
+#![tactic(auto)]
+
+mod cert;
+mod cutting;
+mod goal;
+mod groups;
+mod rings;
+mod room;
+mod sections;
+mod windows;
+
+pub use cert::{cert_bundle, found_bundle, push_excess};
+pub use goal::{goal_bundle, led_bundle, nodes_of, wish_bundle, wish_words, wished_goal};
+pub use rings::{rewritten, ring_after};
+pub use room::MAX_WINDOWS;
+pub use sections::{Kind, front, kind_of};
+pub use windows::cut_plan;

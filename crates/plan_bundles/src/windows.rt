@@ -1,0 +1,149 @@
+//! A plan in windows, each a bundle of its own over the ring that the one before leaves.
+
+ghost use Rattle.std.specs.Prelude.{◌≡◌, map, IfOk, OnOk};
+ghost use Rattle.std.specs.List.{concat};
+ghost use Rattle.ring_table.specs.Value.{RingValue};
+ghost use Rattle.ring_table.specs.Valid.{IsRing};
+ghost use Rattle.ring_table.specs.Spelling.{ring_text};
+ghost use Rattle.plan_check.specs.Approval.{IsApproved};
+ghost use Rattle.plan_bundles.specs.Windows.{IsWindow, AreWindows, AreWindowsOf, IsAsked, AreAskedOf};
+
+use crate::cutting::cut;
+use crate::rings::{are_rows, ring_after};
+use crate::room::Room;
+use plan_chains::certificate;
+use plan_check::{Approved, check};
+use plan_moves::{last_owners, rounds};
+use plan_rounds::write_texts;
+use plan_text::Plan;
+use ring_names::{Listed, NodeId, Refusal};
+use ring_table::{read_ring, write_ring};
+use std::alloc::Global;
+
+// A window, and the text of the ring that it leaves.
+#[derive(Drop)]
+struct Window {
+    text: Vec<u8>,
+    next: Vec<u8>,
+}
+
+// The window of a plan over the ring of that text.
+fn window_over(alloc: Global, before: &[u8], plan: Plan) -> Result<Window, Refusal>
+    ensures { IfOk result (λ w. IsWindow before.now w.text.items w.next.items) }
+{
+    let ring = read_ring(alloc, before)?;
+    if !plan.suits(&ring) {
+        return Err(Refusal::NoPlan);
+    }
+    let found = certificate(alloc, &ring, &plan)?;
+    let mut text = Vec::from_slice(alloc, before)?;
+    text.extend_from_slice(write_texts(alloc, &ring, &plan, &found.cert)?.as_slice())?;
+    match check(alloc, ring, plan, &found.cert) {
+        Ok(approved) => {
+            let next = ring_after(alloc, &approved, before)?;
+            Ok(Window { text, next })
+        }
+        Err(turned) => {
+            let refusal = turned.refusal;
+            Err(refusal)
+        }
+    }
+}
+
+// Windows one behind the other, and the text of the ring that they leave.
+#[derive(Drop)]
+struct Windows {
+    texts: Vec<Vec<u8>>,
+    next: Vec<u8>,
+}
+
+// The windows of these plans, one after the other. More than the most bytes are `TooLarge(0)`, as soon as that is known.
+fn all_windows(
+    alloc: Global,
+    first: &[u8],
+    plans: Vec<Plan>,
+    mut room: Room,
+) -> Result<Windows, Refusal>
+    ensures { IfOk result (λ w. AreWindows first.now (map (λ t. t.items) w.texts.items) w.next.items) }
+{
+    let mut texts = Vec::new(alloc);
+    let mut next = Vec::from_slice(alloc, first)?;
+    for plan in plans {
+        room.ask()?;
+        let window = window_over(alloc, next.as_slice(), plan)?;
+        room.take(window.text.as_slice());
+        texts.push(window.text)?;
+        next = window.next;
+    }
+    room.ask()?;
+    Ok(Windows { texts, next })
+}
+
+// Asks whether the text is that of a ring with these owners. Else that is `NoPlan`.
+fn ends_so(alloc: Global, text: &[u8], rows: &[Listed<NodeId>]) -> Result<(), Refusal>
+    ensures { OnOk result ((end : RingValue) × IsRing end × (text.now ≡ ring_text end) × (end.owners ≡ rows.now)) }
+{
+    let ring = read_ring(alloc, text)?;
+    if are_rows(ring.rows(), rows) {
+        return Ok(());
+    }
+    Err(Refusal::NoPlan)
+}
+
+// The windows of an approved plan, each of so many rounds of copies.
+fn windows_of(alloc: Global, approved: &Approved, width: u32) -> Result<Vec<Vec<u8>>, Refusal>
+    ensures windows { IfOk result (λ texts.
+        AreWindowsOf approved.now.ring approved.now.plan (map (λ t. t.items) texts.items)) }
+    ensures approved { IsApproved approved.now.ring approved.now.plan }
+{
+    let (ring, plan) = (approved.ring(), approved.plan());
+    let first = write_ring(alloc, ring)?;
+    let rounds = rounds(alloc, plan)?;
+    let plans = cut(alloc, ring, plan, rounds.as_slice(), width)?;
+    let room = Room::new(ring, first.as_slice(), plans.len());
+    let windows = all_windows(alloc, first.as_slice(), plans, room)?;
+    let rows = last_owners(alloc, ring, plan)?;
+    ends_so(alloc, windows.next.as_slice(), rows.as_slice())?;
+    Ok(windows.texts)
+}
+
+// The texts one behind the other.
+fn joined(alloc: Global, texts: &[Vec<u8>]) -> Result<Vec<u8>, Refusal>
+    ensures { IfOk result (λ v. v.items ≡ concat (map (λ t. t.items) texts.now)) }
+{
+    let mut out = Vec::new(alloc);
+    for text in texts {
+        out.extend_from_slice(text.as_slice())?;
+    }
+    Ok(out)
+}
+
+// What is asked for of the texts.
+fn asked(alloc: Global, texts: &[Vec<u8>], only: Option<u32>) -> Result<Vec<u8>, Refusal>
+    ensures { IfOk result (λ v. IsAsked (map (λ t. t.items) texts.now) only v.items) }
+{
+    let Some(number) = only else {
+        return joined(alloc, texts);
+    };
+    match texts.get(number.saturating_sub(1) as usize) {
+        Some(text) => Ok(Vec::from_slice(alloc, text.as_slice())?),
+        None => Err(Refusal::NoPlan),
+    }
+}
+
+/// An approved plan in windows of so many rounds of copies, each the texts of a ring, a plan and its certificate, over the ring that the window before leaves; or the window of
+/// that number alone, counted from 1. What takes a slot from one owner to the next stays in one window. Refused is what the checker refuses of a window; as `NoPlan` a ring that no text can say
+/// and a number without a window; as `TooLarge(0)` windows that have more than `MAX_WINDOWS` bytes together, before any is made where
+/// their number and the ring's length show it.
+pub fn cut_plan(
+    alloc: Global,
+    approved: &Approved,
+    width: u32,
+    only: Option<u32>,
+) -> Result<Vec<u8>, Refusal>
+    ensures windows { IfOk result (λ text. AreAskedOf approved.now.ring approved.now.plan only text.items) }
+    ensures approved { IsApproved approved.now.ring approved.now.plan }
+{
+    let texts = windows_of(alloc, approved, width)?;
+    asked(alloc, texts.as_slice(), only)
+}

@@ -1,0 +1,45 @@
+-- The files that a command line names.
+use Rattle.std.specs.Prelude.{ℕ, List, Option, Some, None, codes, ⊤, if◌then◌else◌, option_and_then, option_map, string_bytes}
+use Rattle.std.specs.Str.{bytes_eq}
+use Rattle.clap.specs.Words.{Row, first_of, subcommand_of}
+use Rattle.ringplan_command.specs.Tree.{ringplan}
+use Rattle.ringplan_command.specs.declared.command.Request.{Request}
+use Rattle.ringplan_command.specs.declared.command.Request.TheVariants.{Do, CheckBy, Drive, Make}
+use Rattle.ringplan_command.specs.declared.files.Files.{Files}
+
+-- the names of files that are read and written, where they are no standard stream
+pub record Names : Type 0 where
+  pub input : Option (List ℕ)
+  pub output : Option (List ℕ)
+
+abbrev pub no_files : Names
+no_files = record { input = None; output = None }
+
+-- `-` names no file
+abbrev pub but_dash : Option (List ℕ) → Option (List ℕ)
+but_dash None = None
+but_dash (Some name) = if bytes_eq name (codes "-") then None else Some name
+
+-- the text of an argument of the subcommand
+abbrev pub text_named : List ℕ → Option (List ℕ × List Row) → Option (List ℕ)
+text_named id subcommand = option_and_then (λ x. first_of id x.1) subcommand
+
+-- the files of a subcommand
+abbrev pub files_named : Option (List ℕ × List Row) → Names
+files_named subcommand = record { input = but_dash (text_named (codes "file") subcommand); output = but_dash (text_named (codes "output") subcommand) }
+
+-- the files that these words name
+abbrev pub files_of : List (List ℕ) → Names
+files_of words = files_named (subcommand_of ringplan words)
+
+-- the names that were read
+abbrev pub files_in : Files → Names
+files_in files = record { input = option_map string_bytes files.input; output = option_map string_bytes files.output }
+
+-- a job is asked for
+abbrev pub IsJob : Request → Type 0
+IsJob (Do job) = ⊤
+IsJob (CheckBy workers) = ⊤
+IsJob (Drive workers form) = ⊤
+IsJob (Make making) = ⊤
+IsJob _ = ⊥

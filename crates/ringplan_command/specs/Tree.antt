@@ -1,0 +1,95 @@
+-- The commands and options of the program, as clap sees them.
+use Rattle.std.specs.Prelude.{◌≡◌, ℕ, true, false, List, Some, pos, codes}
+use Rattle.clap.specs.Words.{App, Rule, app_of, new_app, new_rule, with_rule, with_subcommand}
+use Rattle.clap.specs.declared.builder.action.ArgAction.TheVariants.{Append, SetTrue}
+use Rattle.clap.specs.declared.builder.command.Command.{Command}
+use Rattle.clap.specs.declared.builder.command.Command.TheViews.{out-Command}
+use Rattle.clap.specs.declared.builder.value_parser.ValueParser.TheVariants as parser
+use Rattle.ringplan_job.specs.declared.job.Job.{Job}
+use Rattle.ringplan_job.specs.declared.job.Job.TheVariants.{Check, Migrate, Plan, Play, Replay}
+
+-- the word that asks for a job
+abbrev pub word_of : Job → List ℕ
+word_of Check = codes "check"
+word_of Migrate = codes "migrate"
+word_of Play = codes "play"
+word_of Plan = codes "plan"
+word_of Replay = codes "replay"
+
+-- the word that asks for a drive
+abbrev pub drive_word : List ℕ
+drive_word = codes "drive"
+
+-- the command is read by these rules, none of which goes for its subcommands too
+abbrev pub IsApp : App → Command → Type 0
+IsApp app command = (app_of command ≡ app) × ((out-Command command).has_globals ≡ false)
+
+-- an option that is there or not
+abbrev pub flag_option : List ℕ → Rule
+flag_option word = record (new_rule word) { long = Some word; action = Some SetTrue }
+
+-- an option with a value
+abbrev pub text_option : List ℕ → Rule
+text_option word = record (new_rule word) { long = Some word; value_names = 1 }
+
+-- an option that may stand several times
+abbrev pub list_option : List ℕ → Rule
+list_option word = record (text_option word) { action = Some Append }
+
+-- `--workers K`, with K from 1 to 64
+abbrev pub workers_option : Rule
+workers_option = record (text_option (codes "workers")) { parser = Some (parser.Signed (pos 1) (pos 64)) }
+
+-- an option with a number from 1 to 1,000,000
+abbrev pub cut_option : List ℕ → Rule
+cut_option word = record (text_option word) { parser = Some (parser.Signed (pos 1) (pos 1000000)) }
+
+-- the file that is read
+abbrev pub file_argument : Rule
+file_argument = record (new_rule (codes "file")) { value_names = 1 }
+
+-- `-o FILE`, the file that is written
+abbrev pub output_option : Rule
+output_option = record (text_option (codes "output")) { short = Some 111 }
+
+-- a subcommand, which may name files
+abbrev pub job_app : List ℕ → App
+job_app word = with_rule (with_rule (new_app word) file_argument) output_option
+
+abbrev pub check_app : App
+check_app = with_rule (job_app (codes "check")) workers_option
+
+abbrev pub drive_app : App
+drive_app = with_rule (with_rule (job_app drive_word) workers_option) (flag_option (codes "json"))
+
+abbrev pub show_app : App
+show_app = with_rule (with_rule (job_app (codes "show")) (flag_option (codes "all"))) (text_option (codes "racks-behind"))
+
+abbrev pub draw_app : App
+draw_app = with_rule (with_rule (job_app (codes "draw")) (flag_option (codes "map"))) (text_option (codes "racks-behind"))
+
+abbrev pub steps_app : App
+steps_app = with_rule (job_app (codes "steps")) (flag_option (codes "moves"))
+
+abbrev pub windows_app : App
+windows_app = with_rule (with_rule (job_app (codes "windows")) (record (cut_option (codes "rounds")) { required = true })) (cut_option (codes "only"))
+
+abbrev pub goal_app : App
+goal_app = with_rule (with_rule (with_rule (with_rule (job_app (codes "goal")) (list_option (codes "dead"))) (list_option (codes "weight")))
+    (text_option (codes "racks-behind"))) (flag_option (codes "even"))
+
+-- the program's name, which wants a subcommand, and its version
+abbrev pub top_app : App
+top_app = let app = new_app (codes "ringplan") in record app { top = record app.top { subcommand_required = true; has_version = true } }
+
+-- a program with one subcommand more
+abbrev pub with : App → App → App
+with app sub = with_subcommand app sub.top
+
+-- the first seven subcommands, and then all
+abbrev pub first_commands : App
+first_commands = with (with (with (with (with (with (with top_app goal_app) show_app) draw_app) check_app) (job_app (codes "why"))) steps_app) windows_app
+
+abbrev pub ringplan : App
+ringplan = with (with (with (with (with (with (with (with first_commands drive_app) (job_app (codes "play"))) (job_app (codes "replay"))) (job_app (codes "after")))
+    (job_app (codes "bundle"))) (job_app (codes "cert"))) (job_app (codes "plan"))) (job_app (codes "migrate"))

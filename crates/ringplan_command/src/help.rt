@@ -1,0 +1,288 @@
+//! The texts of help, and of command lines that are refused.
+
+/// The version of the program, and of the logic in which it is proved: the last word of `rt version`.
+pub(crate) const VERSION: &str = "1.0.0 (Rattle logic dac8208d650f15bf)";
+
+pub(crate) const ABOUT: &str =
+    "Plans, checks, shows, runs and judges changes of the members of a replicated store";
+
+pub(crate) const MORE: &str = "With --help: the formats, an example and the exit statuses.";
+
+pub(crate) const FILE: &str = "The bundle; with `-` or without it standard input is read";
+
+pub(crate) const OUTPUT: &str =
+    "Writes to FILE in place of standard output: all of the text, or with another exit status than 0 nothing";
+
+pub(crate) const GOAL: &str =
+    "Prints a plan that leads to a goal ring, by racks, weights and dead nodes, with its certificate";
+
+pub(crate) const SHOW: &str =
+    "Prints a summary of the plan, and with a history how far it has come";
+
+pub(crate) const DRAW: &str =
+    "Prints a picture of the plan as SVG, and with a history how far it has come";
+
+pub(crate) const MAP: &str =
+    "Draws who owns what before the plan and after it, in place of who gives what to whom";
+
+pub(crate) const RACK_COLUMNS: &str =
+    "Groups the nodes of a map by rack; a rack is what follows the last C of a node's name";
+
+pub(crate) const CHECK: &str = "Says whether the checker accepts the plan";
+
+pub(crate) const WHY: &str =
+    "Says why a bundle is refused: the lines concerned, and lines that may mend it";
+
+pub(crate) const STEPS: &str =
+    "Prints the plan's steps as lines of JSON, for a program that does them on a store";
+
+pub(crate) const WINDOWS: &str =
+    "Prints the plan cut into bundles that are done one after the other";
+
+pub(crate) const AFTER: &str =
+    "Prints the ring that the plan leaves, or what a history has done of it";
+
+pub(crate) const PLAY: &str =
+    "Runs the events of a script over a model of the store, and prints each reply";
+
+pub(crate) const DRIVE: &str =
+    "Runs the plan by threads: workers do its steps while clients do their scripts";
+
+pub(crate) const REPLAY: &str = "Says whether a history is a run of the plan";
+
+pub(crate) const PLAN: &str =
+    "Prints a plan for a change, with its certificate, without regard to racks, weights and dead nodes";
+
+pub(crate) const BUNDLE: &str =
+    "Prints ring, plan and certificate in one text; for a change it makes the plan first";
+
+pub(crate) const CERT: &str =
+    "Prints ring and plan with a certificate that it finds, whether or not the bundle has one";
+
+pub(crate) const MIGRATE: &str =
+    "Prints the bundle with a ring of format 1 in format 2; checks nothing";
+
+pub(crate) const WORKERS: &str =
+    "Checks the partitions by K threads, 1 to 64, and the paths by as many as there are processors; the answer is the same";
+
+pub(crate) const DRIVERS: &str = "Does the steps by K threads, 1 to 64; without it by one";
+
+pub(crate) const JSON: &str =
+    "Prints a report in place of the history: one line of JSON, with the events, who finished each step, and how many workers there were";
+
+pub(crate) const MOVES: &str =
+    "Prints a line for each slot that moves, in place of one for each step";
+
+pub(crate) const ALL: &str =
+    "Shows every node, round and copy; without it at most 24 nodes, 12 rounds and 6 entries of a round";
+
+pub(crate) const RACKS: &str =
+    "Says how many partitions have two slots in one rack; a rack is what follows the last C of a node's name";
+
+pub(crate) const DEAD: &str =
+    "A node that is dead for good: its slots are read from others, and it does not drop and does not retire";
+
+pub(crate) const WEIGHT: &str =
+    "A node's name, `=` and how many parts of the slots it shall have, 1 to 1000; the others have 1";
+
+pub(crate) const RACKS_APART: &str =
+    "Keeps the slots of a partition in different racks as far as possible; a rack is what follows the last C of a node's name";
+
+pub(crate) const EVEN: &str =
+    "Says in words how far from even the goal ring is, in place of a plan";
+
+pub(crate) const ROUNDS: &str = "How many rounds of copies a window has, 1 to 1000000";
+
+pub(crate) const ONLY: &str = "Prints the window of that number alone, counted from 1";
+
+pub(crate) const NO_WORKERS: &[u8; 105] =
+    b"error: invalid value for '--workers <K>': not a number from 1 to 64\n\nFor more information, try '--help'.\n";
+
+pub(crate) const NO_WEIGHT: &[u8; 127] =
+    b"error: invalid value for '--weight <NODE=K>': not a name, '=' and a number from 1 to 1000\n\nFor more information, try '--help'.\n";
+
+pub(crate) const NO_BYTE: &[u8; 102] =
+    b"error: invalid value for '--racks-behind <C>': not one character\n\nFor more information, try '--help'.\n";
+
+pub(crate) const STREAMS: &str = "\
+Example: ringplan goal --racks-behind . examples/plan_grow.bundle
+
+A bundle is the text of a ring, then one of these: a change; a plan and its certificate; these and then a script or a history.
+Standard output has what the command prints. `plan`, `check`, `play`, `drive`, `replay` and `migrate` print their refusals there too: one line
+of `no`, the refusal's number and its values. The other commands print refusals on standard error, with why.
+
+Exit status:
+  0  it was printed, or yes
+  1  the plan is refused, there is none, a drive broke off, or the history is no run of the plan
+  2  a text or the command line is refused
+  3  out of memory, or an input or output failed";
+
+pub(crate) const PLAN_STREAMS: &str = "\
+Example: ringplan plan examples/plan_replace.bundle
+
+Input: the text of a ring, then that of a change: `change 1`, a line `join <node>` for each node that joins, then a line `leave <node>` for
+each member that leaves, `end`.
+Standard output: the text of a plan that makes the change, then that of its certificate. After the ring's text they are what `check` and `play`
+read. Or one line of `no`, the refusal's number and its values: `no 28` where there is no plan, for example because fewer members would be left
+than a partition has slots. A change without `leave` lines always has a plan.
+
+Exit status:
+  0  a plan was printed
+  1  there is no plan
+  2  a text or the command line is refused
+  3  out of memory, or an input or output failed";
+
+pub(crate) const DRIVE_STREAMS: &str = "\
+Example: ringplan drive --workers 3 examples/drive_a_move_by_three.bundle
+
+Input: the texts of a ring, a plan, its certificate and 1 to 8 scripts. A script has `put`, `get`, `down` and `up` lines alone, and the numbers
+after `seen` count its own `get` lines from 0.
+Standard output: `yes`, and the text of the history: each event that was answered, with its reply, in the order in which they happened. It is a
+run of the plan that finishes every step; with several threads chance decides which one of many. With `--json` one line of JSON instead. Or one
+line of `no`, the refusal's number and its values.
+
+Exit status:
+  0  the plan was run
+  1  the plan is refused, or the drive broke off (`no 70`, `no 71`)
+  2  a text or the command line is refused
+  3  out of memory, or an input or output failed";
+
+pub(crate) const CHECK_STREAMS: &str = "\
+Example: ringplan check examples/move_one_slot.bundle
+
+Input: the texts of a ring, a plan and its certificate.
+Standard output: `yes`, or one line of `no`, the refusal's number and its values. `ringplan why` says the same in words.
+
+Exit status:
+  0  yes
+  1  the plan is refused
+  2  a text or the command line is refused
+  3  out of memory, or an input or output failed";
+
+pub(crate) const REPLAY_STREAMS: &str = "\
+Example: ringplan replay examples/replay_a_move.bundle
+
+Input: the texts of a ring, a plan, its certificate and a history: `history 1`, for each entry an event, ` = ` and its reply, and `end`.
+Standard output: where the history is a run of the plan with these replies, `yes`, the owners of each partition's slots after the last entry, and
+`end`. Else `no 70`, the place of the first entry, counted from 0, that cannot have happened so, and the number by which its event would be refused,
+or 0 where it would be answered otherwise. Where the plan or a text is refused, one line of `no`.
+
+Exit status:
+  0  the history is a run of the plan
+  1  the plan is refused, or the history is no run of it (`no 70`)
+  2  a text or the command line is refused
+  3  out of memory (at an entry too), or an input or output failed";
+
+pub(crate) const MIGRATE_STREAMS: &str = "\
+Example: ringplan migrate examples/move_one_slot.bundle
+
+Input: the texts of a ring, a plan and its certificate.
+Standard output: the bundle, with `ring 2` and `cert 2` where the ring had format 1, and else unchanged; or one line of `no`, the number of the
+first fault of the texts and its line. The plan is not checked.
+
+Exit status:
+  0  the bundle was printed
+  2  a text or the command line is refused
+  3  out of memory, or an input or output failed";
+
+pub(crate) const PLAY_STREAMS: &str = "\
+Example: ringplan play examples/play_a_move_under_traffic.bundle
+
+Input: the texts of a ring, a plan, its certificate and a script.
+Standard output: `yes`; for each event of the script its place, counted from 0, and its reply, or `no`, the refusal's number and its values;
+then the owners of each partition's slots, and `end`. A refused event changes nothing. Where the plan or a text is refused, one line of `no`.
+
+Exit status:
+  0  the script was played, whatever the replies
+  1  the plan is refused
+  2  a text or the command line is refused
+  3  out of memory (at an event too), or an input or output failed";
+
+pub(crate) const WHY_STREAMS: &str = "\
+Example: ringplan why examples/node_enters_before_it_left.bundle
+
+Input: a bundle: a ring with a change, or with a plan and its certificate, and perhaps a history.
+Standard output: the line that `ringplan check` prints of a ring, a plan and its certificate, and then words: the lines concerned, with `^` under
+the fault and `-` under what belongs to it, and new lines in place of some of them. New lines are shown only where the checker was asked about the
+bundle with them: `then the checker says yes` where it does.
+
+Exit status: 0 yes, 1 no plan, one that is refused, or a history that is no run, 2 a text or the command line is refused, 3 memory, input or output";
+
+pub(crate) const BUNDLE_STREAMS: &str = "\
+Example: ringplan bundle examples/plan_replace.bundle -o planned.bundle
+
+Input: a bundle: a ring with a change, or with a plan and its certificate.
+Standard output: the texts of the ring, a plan and its certificate, which `ringplan check` accepts. Standard error: else what `why` prints.
+
+Exit status: 0 printed, 1 no plan or one that is refused, 2 a text or the command line is refused, 3 memory, input or output";
+
+pub(crate) const CERT_STREAMS: &str = "\
+Example: ringplan cert examples/no_certificate.bundle -o certified.bundle
+
+Input: a bundle: a ring with a change, or with a plan. What follows the plan, as a certificate, is not read.
+Standard output: the texts of the ring, the plan and a certificate for it, which `ringplan check` accepts. Standard error: else what `why` prints of
+the bundle with the best certificate that was found. Chains are as few as the plan's order allows: where a node has too many, no certificate exists.
+
+Exit status: 0 printed, 1 no plan or one that is refused, 2 a text or the command line is refused, 3 memory, input or output";
+
+pub(crate) const AFTER_STREAMS: &str = "\
+Example: ringplan after examples/planned_replace.bundle
+
+Input: a bundle: a ring with a change, or with a plan and its certificate, and perhaps a history.
+Standard output: the text of a ring with the same nodes, and with the owners and members after the plan, or after the steps that the history has
+done: the next change begins with it. A move that a history has begun and not switched is `no 21` and the step that began it.
+
+Exit status: 0 printed, 1 no plan, one that is refused, or an open move, 2 a text or the command line is refused, 3 memory, input or output";
+
+pub(crate) const SHOW_STREAMS: &str = "\
+Example: ringplan show --racks-behind . examples/plan_grow.bundle
+
+Input: a bundle: a ring with a change, or with a plan and its certificate, and perhaps a history.
+Standard output: who joins and leaves, what moves in how many rounds, what becomes of balance, racks and failures, the nodes that take part, and the
+copies of each round; with a history who is down, and what is done, open and next. Of a ring alone each node with its slots, allowance and state.
+Partitions, slots, steps and rounds are numbers; `5.1` is slot 1 of partition 5.
+
+Exit status: 0 printed, 1 no plan, one that is refused, or a history that is no run, 2 a text or the command line is refused, 3 memory, input or output";
+
+pub(crate) const DRAW_STREAMS: &str = "\
+Example: ringplan draw examples/plan_grow.bundle -o plan.svg
+
+Input: a bundle: a ring with a change, or with a plan and its certificate, and perhaps a history.
+Standard output: an SVG file that needs no other: a row for each node that takes part, a column for each round, a bar for each copy, which shows its
+step under a pointer; with a history what is copied, open and still to do, and who is down. Above 40 rounds or 90 copies side by side columns and
+rows are summed. With `--map` a row is a partition and a column a node: grey is owned before and after, orange given, blue taken.
+
+Exit status: 0 printed, 1 no plan, one that is refused, or a history that is no run, 2 a text or the command line is refused, 3 memory, input or output";
+
+pub(crate) const STEPS_STREAMS: &str = "\
+Example: ringplan steps examples/plan_replace.bundle
+
+Input: a bundle: a ring with a change, or with a plan and its certificate.
+Standard output: an object a line, for each step in the plan's order: `step` its number, `do` its kind (`join`, `mirror`, `copy`, `switch`, `drop` or
+`retire`), `after` the numbers of the steps that must be done before it, and as far as it has them `partition` and `slot`, `node` the node that joins,
+retires or drops what it has, `from` the owners that a copy reads, and `to` the node that mirrors the slot. Members are sorted by name.
+With `--moves` an object a line for each slot that moves: `move` its number, `partition` and `slot`, `from` and `to` the nodes, `steps` the numbers of
+its steps in their order, and `after` those of the steps that must be done before all of these can be.
+
+Exit status: 0 printed, 1 no plan or one that is refused, 2 a text or the command line is refused, 3 memory, input or output";
+
+pub(crate) const GOAL_STREAMS: &str = "\
+Example: ringplan goal --dead b examples/goal_around_a_dead_node.bundle -o plan.bundle
+
+Input: the text of a ring, and then that of the goal ring, with the same nodes, partitions and quorums; or that of a change, and then the goal ring
+is made: no slot moves without need, and what moves goes where it keeps racks apart and slots even by weight.
+Standard output: the texts of the first ring, a plan that leads to the goal ring, and its certificate, which `ringplan check` accepts. Standard error:
+else what `why` prints. The slots of a partition are compared as sets. A dead node that shall leave keeps its line `in`: it cannot take part in its
+own retirement.
+
+Exit status: 0 printed, 1 no plan, 2 a text or the command line is refused, 3 memory, input or output";
+
+pub(crate) const WINDOWS_STREAMS: &str = "\
+Example: ringplan windows --rounds 1 examples/plan_replace.bundle
+
+Input: a bundle: a ring with a change, or with a plan and its certificate.
+Standard output: for each window the texts of a ring, a plan and its certificate, which `ringplan check` accepts, one after the other: three sections
+that end with `end`. Play or run the first, then the second; between them the ring is at rest. A slot moves within one window. Each window has the
+whole ring, and all of them together at most 67,108,864 bytes: of a large ring with many rounds let a window have more of these.
+
+Exit status: 0 printed, 1 no plan, one that is refused, or no window of that number, 2 a text, the command line or so many bytes are refused, 3 memory, input or output";

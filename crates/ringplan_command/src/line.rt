@@ -1,0 +1,134 @@
+//! What a line with a command for people asks for.
+
+ghost use Rattle.std.specs.Prelude.{◌≡◌, IfOk};
+ghost use Rattle.ringplan_command.specs.Command.{IsOfWord, word_of_making};
+
+use crate::command::Request;
+use crate::help::{NO_BYTE, NO_WEIGHT};
+use crate::naming::{add_dead, add_weights};
+use crate::word::Word;
+use clap::ArgMatches;
+use ringplan_job::{Cut, DrawWish, Making, Options, Picture, Shape, Wish};
+use std::alloc::{AllocError, Global};
+
+/// What a line with that command and these options asks for.
+pub(crate) fn make_line(
+    alloc: Global,
+    options: &ArgMatches,
+    word: Word,
+) -> Result<Request, AllocError>
+    ensures { IfOk result (IsOfWord word) }
+{
+    match word {
+        Word::Why => Ok(Request::Make(Making::Why)),
+        Word::Cert => Ok(Request::Make(Making::Cert)),
+        Word::After => Ok(Request::Make(Making::After)),
+        Word::Bundle => Ok(Request::Make(Making::Bundle)),
+        Word::Steps => Ok(Request::Make(lines_of(options))),
+        Word::Windows => Ok(Request::Make(Making::Windows(cut_of(options)))),
+        Word::Show => show_line(alloc, options),
+        Word::Draw => draw_line(alloc, options),
+        Word::Goal => goal_line(alloc, options),
+    }
+}
+
+// A line that is refused with that text.
+fn mistaken(alloc: Global, text: &[u8]) -> Result<Request, AllocError>
+    ensures { IfOk result (λ line. (text : _) × (line ≡ Request.Mistaken text)) }
+{
+    let text = Vec::from_slice(alloc, text)?;
+    Ok(Request::Mistaken(text))
+}
+
+fn lines_of(options: &ArgMatches) -> Making
+    ensures { word_of_making result ≡ Word.Steps }
+{
+    if options.get_flag("moves") {
+        return Making::Moves;
+    }
+    Making::Steps
+}
+
+// What a line with the word `show` asks for.
+fn show_line(alloc: Global, options: &ArgMatches) -> Result<Request, AllocError>
+    ensures { IfOk result (IsOfWord Word.Show) }
+{
+    let Some(racks_behind) = rack_byte(options) else {
+        return mistaken(alloc, NO_BYTE);
+    };
+    let shape = if options.get_flag("all") {
+        Shape::Whole
+    } else {
+        Shape::Short
+    };
+    Ok(Request::Make(Making::Show(Wish {
+        shape,
+        racks_behind,
+    })))
+}
+
+// What a line with the word `draw` asks for.
+fn draw_line(alloc: Global, options: &ArgMatches) -> Result<Request, AllocError>
+    ensures { IfOk result (IsOfWord Word.Draw) }
+{
+    let Some(racks_behind) = rack_byte(options) else {
+        return mistaken(alloc, NO_BYTE);
+    };
+    let picture = if options.get_flag("map") {
+        Picture::Map
+    } else {
+        Picture::Rounds
+    };
+    Ok(Request::Make(Making::Draw(DrawWish {
+        picture,
+        racks_behind,
+    })))
+}
+
+// How a line with the word `windows` asks that a plan be cut. Both numbers are from 1 to 1,000,000, and the first is there.
+fn cut_of(options: &ArgMatches) -> Cut {
+    Cut {
+        rounds: options.get_one::<u32>("rounds").unwrap_or(1),
+        only: options.get_one::<u32>("only"),
+    }
+}
+
+// What a line with the word `goal` asks for.
+fn goal_line(alloc: Global, matches: &ArgMatches) -> Result<Request, AllocError>
+    ensures { IfOk result (IsOfWord Word.Goal) }
+{
+    let mut options = Options::new(alloc);
+    add_dead(&mut options, alloc, matches)?;
+    if !add_weights(&mut options, alloc, matches)? {
+        return mistaken(alloc, NO_WEIGHT);
+    }
+    match rack_byte(matches) {
+        Some(racks_behind) => options.racks_behind = racks_behind,
+        None => return mistaken(alloc, NO_BYTE),
+    }
+    Ok(Request::Make(goal_of(options, matches.get_flag("even"))))
+}
+
+// A plan that leads to the goal ring, or how even that is.
+fn goal_of(options: Options, is_even: bool) -> Making
+    ensures { word_of_making result ≡ Word.Goal }
+{
+    if is_even {
+        return Making::Even(options);
+    }
+    Making::Goal(options)
+}
+
+// The byte in front of racks, if they are asked for. None where what is given for it is no one byte.
+fn rack_byte(options: &ArgMatches) -> Option<Option<u8>> {
+    match options.get_str("racks-behind") {
+        None => Some(None),
+        Some(text) => {
+            let bytes = text.as_bytes();
+            match bytes.first() {
+                Some(byte) if bytes.len() == 1 => Some(Some(*byte)),
+                _ => None,
+            }
+        }
+    }
+}

@@ -1,0 +1,192 @@
+//! The commands and options that there are.
+
+ghost use Rattle.std.specs.Prelude.{◌≡◌, false, IfOk};
+ghost use Rattle.clap.specs.Words.{App, rule_of, with_rule, with_subcommand};
+ghost use Rattle.ringplan_command.specs.Tree.{IsApp, cut_option, draw_app, drive_app, flag_option, goal_app, job_app, ringplan, show_app};
+ghost use Rattle.ringplan_command.specs.Tree.{check_app, file_argument, output_option, steps_app, text_option, top_app};
+ghost use Rattle.ringplan_command.specs.Tree.{windows_app, workers_option};
+
+use crate::help::{
+    ABOUT, AFTER, AFTER_STREAMS, ALL, BUNDLE, BUNDLE_STREAMS, CERT, CERT_STREAMS, CHECK,
+    CHECK_STREAMS, DEAD, DRAW, DRAW_STREAMS, DRIVE, DRIVE_STREAMS, DRIVERS, EVEN, FILE, GOAL,
+    GOAL_STREAMS, JSON, MAP, MIGRATE, MIGRATE_STREAMS, MORE, MOVES, ONLY, OUTPUT, PLAN,
+    PLAN_STREAMS, PLAY, PLAY_STREAMS, RACK_COLUMNS, RACKS, RACKS_APART, REPLAY, REPLAY_STREAMS,
+    ROUNDS, SHOW, SHOW_STREAMS, STEPS, STEPS_STREAMS, STREAMS, VERSION, WEIGHT, WHY, WHY_STREAMS,
+    WINDOWS, WINDOWS_STREAMS, WORKERS,
+};
+use clap::{Arg, ArgAction, Command, value_parser};
+use std::alloc::{AllocError, Global};
+
+// A command that was made, or for which memory was refused.
+type Made<'a> = Result<Command<'a>, AllocError>;
+
+// The command with one argument more.
+fn with_arg<'a>(command: Made<'a>, arg: Arg<'a>) -> Made<'a>
+    requires { arg.global ≡ false }
+    ensures { (app : App) → IfOk command.entry (IsApp app) → IfOk result (IsApp (with_rule app (rule_of arg.entry))) }
+{
+    command?.arg(arg)
+}
+
+// The command with one subcommand more.
+fn with<'a>(command: Made<'a>, more: Made<'a>) -> Made<'a>
+    ensures { (app sub : App) → IfOk command.entry (IsApp app) → IfOk more.entry (IsApp sub)
+        → IfOk result (IsApp (with_subcommand app sub.top)) }
+{
+    command?.subcommand(more?)
+}
+
+// An option that is there or not.
+fn flag<'a>(alloc: Global, word: &'a str, help: &'a str) -> Arg<'a>
+    ensures rule { rule_of result ≡ flag_option word.entry.now }
+    ensures local { result.global ≡ false }
+{
+    Arg::new(alloc, word)
+        .long(word)
+        .help(help)
+        .action(ArgAction::SetTrue)
+}
+
+// An option with a value of that name.
+fn option<'a>(alloc: Global, word: &'a str, value: &'a str, help: &'a str) -> Arg<'a>
+    ensures rule { rule_of result ≡ text_option word.entry.now }
+    ensures local { result.global ≡ false }
+{
+    Arg::new(alloc, word)
+        .long(word)
+        .value_name(value)
+        .help(help)
+}
+
+// `--workers K`, with K from 1 to 64.
+fn workers<'a>(alloc: Global, help: &'a str) -> Arg<'a>
+    ensures rule { rule_of result ≡ workers_option }
+    ensures local { result.global ≡ false }
+{
+    option(alloc, "workers", "K", help).value_parser(value_parser!(u32).range(1..=64))
+}
+
+// An option of `windows`, with a number from 1 to 1,000,000.
+fn number<'a>(alloc: Global, word: &'a str, value: &'a str, help: &'a str) -> Arg<'a>
+    ensures rule { rule_of result ≡ cut_option word.entry.now }
+    ensures local { result.global ≡ false }
+{
+    option(alloc, word, value, help).value_parser(value_parser!(u32).range(1..=1_000_000))
+}
+
+// The bundle's file.
+fn file<'a>(alloc: Global) -> Arg<'a>
+    ensures rule { rule_of result ≡ file_argument }
+    ensures local { result.global ≡ false }
+{
+    Arg::new(alloc, "file").value_name("FILE").help(FILE)
+}
+
+// `-o FILE`.
+fn output<'a>(alloc: Global) -> Arg<'a>
+    ensures rule { rule_of result ≡ output_option }
+    ensures local { result.global ≡ false }
+{
+    option(alloc, "output", "FILE", OUTPUT).short('o')
+}
+
+// A subcommand with what it does, and what it reads and prints.
+fn job<'a>(alloc: Global, word: &'a str, about: &'a str, streams: &'a str) -> Made<'a>
+    ensures { IfOk result (IsApp (job_app word.entry.now)) }
+{
+    let command = Command::new(alloc, word)
+        .about(about)
+        .after_help(MORE)
+        .after_long_help(streams);
+    with_arg(with_arg(Ok(command), file(alloc)), output(alloc))
+}
+
+fn check<'a>(alloc: Global) -> Made<'a>
+    ensures { IfOk result (IsApp check_app) }
+{
+    let command = job(alloc, "check", CHECK, CHECK_STREAMS);
+    with_arg(command, workers(alloc, WORKERS))
+}
+
+fn drive<'a>(alloc: Global) -> Made<'a>
+    ensures { IfOk result (IsApp drive_app) }
+{
+    let command = job(alloc, "drive", DRIVE, DRIVE_STREAMS);
+    let command = with_arg(command, workers(alloc, DRIVERS));
+    with_arg(command, flag(alloc, "json", JSON))
+}
+
+fn show<'a>(alloc: Global) -> Made<'a>
+    ensures { IfOk result (IsApp show_app) }
+{
+    let command = job(alloc, "show", SHOW, SHOW_STREAMS);
+    let command = with_arg(command, flag(alloc, "all", ALL));
+    with_arg(command, option(alloc, "racks-behind", "C", RACKS))
+}
+
+fn draw<'a>(alloc: Global) -> Made<'a>
+    ensures { IfOk result (IsApp draw_app) }
+{
+    let command = job(alloc, "draw", DRAW, DRAW_STREAMS);
+    let command = with_arg(command, flag(alloc, "map", MAP));
+    with_arg(command, option(alloc, "racks-behind", "C", RACK_COLUMNS))
+}
+
+fn steps<'a>(alloc: Global) -> Made<'a>
+    ensures { IfOk result (IsApp steps_app) }
+{
+    let command = job(alloc, "steps", STEPS, STEPS_STREAMS);
+    with_arg(command, flag(alloc, "moves", MOVES))
+}
+
+fn windows<'a>(alloc: Global) -> Made<'a>
+    ensures { IfOk result (IsApp windows_app) }
+{
+    let command = job(alloc, "windows", WINDOWS, WINDOWS_STREAMS);
+    let command = with_arg(command, number(alloc, "rounds", "K", ROUNDS).required(true));
+    with_arg(command, number(alloc, "only", "W", ONLY))
+}
+
+fn goal<'a>(alloc: Global) -> Made<'a>
+    ensures { IfOk result (IsApp goal_app) }
+{
+    let dead = option(alloc, "dead", "NODE", DEAD).action(ArgAction::Append);
+    let weight = option(alloc, "weight", "NODE=K", WEIGHT).action(ArgAction::Append);
+    let command = job(alloc, "goal", GOAL, GOAL_STREAMS);
+    let command = with_arg(with_arg(command, dead), weight);
+    let command = with_arg(command, option(alloc, "racks-behind", "C", RACKS_APART));
+    with_arg(command, flag(alloc, "even", EVEN))
+}
+
+// The program's own line, which wants a subcommand.
+fn top<'a>(alloc: Global) -> Made<'a>
+    ensures { IfOk result (IsApp top_app) }
+{
+    let command = Command::new(alloc, "ringplan")
+        .about(ABOUT)
+        .version(VERSION)
+        .after_help(STREAMS)
+        .subcommand_required(true);
+    Ok(command)
+}
+
+/// The command lines that there are.
+pub(crate) fn command<'a>(alloc: Global) -> Result<Command<'a>, AllocError>
+    ensures { IfOk result (IsApp ringplan) }
+{
+    let line = with(top(alloc), goal(alloc));
+    let line = with(line, show(alloc));
+    let line = with(line, draw(alloc));
+    let line = with(line, check(alloc));
+    let line = with(line, job(alloc, "why", WHY, WHY_STREAMS));
+    let line = with(line, steps(alloc));
+    let line = with(line, windows(alloc));
+    let line = with(line, drive(alloc));
+    let line = with(line, job(alloc, "play", PLAY, PLAY_STREAMS));
+    let line = with(line, job(alloc, "replay", REPLAY, REPLAY_STREAMS));
+    let line = with(line, job(alloc, "after", AFTER, AFTER_STREAMS));
+    let line = with(line, job(alloc, "bundle", BUNDLE, BUNDLE_STREAMS));
+    let line = with(line, job(alloc, "cert", CERT, CERT_STREAMS));
+    let line = with(line, job(alloc, "plan", PLAN, PLAN_STREAMS));
+    with(line, job(alloc, "migrate", MIGRATE, MIGRATE_STREAMS))
+}

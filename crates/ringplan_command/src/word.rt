@@ -1,0 +1,70 @@
+//! The commands for people.
+
+ghost use Rattle.std.specs.Prelude.{◌≡◌};
+ghost use Rattle.clap.specs.Words.{subcommand_rows_of};
+ghost use Rattle.ringplan_command.specs.Command.{more_named, word_named};
+
+use clap::ArgMatches;
+
+/// A command for people, by its word.
+#[derive(Clone, Copy, Debug, PartialEq, Eq)]
+pub enum Word {
+    Why,
+    Show,
+    Draw,
+    Steps,
+    Goal,
+    Windows,
+    Bundle,
+    Cert,
+    After,
+}
+
+/// The command for people that the subcommand is, if it is one.
+pub(crate) fn people_word(matches: &ArgMatches) -> Option<Word>
+    ensures { result ≡ word_named (subcommand_rows_of matches.now) }
+{
+    if matches.subcommand_matches("why").is_some() {
+        return Some(Word::Why);
+    }
+    if matches.subcommand_matches("show").is_some() {
+        return Some(Word::Show);
+    }
+    if matches.subcommand_matches("draw").is_some() {
+        return Some(Word::Draw);
+    }
+    if matches.subcommand_matches("steps").is_some() {
+        return Some(Word::Steps);
+    }
+    more_of(matches)
+}
+
+// The command for people, where it is none of the first four.
+fn more_of(matches: &ArgMatches) -> Option<Word>
+    ensures { result ≡ more_named (subcommand_rows_of matches.now) }
+{
+    if matches.subcommand_matches("goal").is_some() {
+        return Some(Word::Goal);
+    }
+    if matches.subcommand_matches("windows").is_some() {
+        return Some(Word::Windows);
+    }
+    if matches.subcommand_matches("bundle").is_some() {
+        return Some(Word::Bundle);
+    }
+    if matches.subcommand_matches("cert").is_some() {
+        return Some(Word::Cert);
+    }
+    match matches.subcommand_matches("after") {
+        Some(_) => Some(Word::After),
+        None => None,
+    }
+}
+
+/// Whether the word is that of a command for people.
+pub(crate) fn is_for_people(word: &str) -> bool {
+    matches!(
+        word,
+        "why" | "show" | "draw" | "steps" | "goal" | "windows" | "bundle" | "cert" | "after"
+    )
+}

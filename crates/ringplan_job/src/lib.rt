@@ -1,0 +1,10 @@
+//! What there is to be done with a bundle, as the command line asks for it.
+#![tactic(auto)]
+
+mod job;
+mod making;
+mod options;
+
+pub use job::Job;
+pub use making::{Cut, DrawWish, Making, Picture, Shape, Wish};
+pub use options::Options;

@@ -1,0 +1,73 @@
+//! What can be made of a bundle.
+
+use crate::options::Options;
+
+/// How much a summary shows.
+#[derive(Clone, Copy, Debug)]
+pub enum Shape {
+    /// What fits on a screen; the rest is summed.
+    Short,
+    /// All.
+    Whole,
+}
+
+/// What a summary is to show.
+#[derive(Clone, Copy, Debug)]
+pub struct Wish {
+    pub shape: Shape,
+    /// The byte behind which a node's name names its rack, where racks are asked for.
+    pub racks_behind: Option<u8>,
+}
+
+/// Which picture is wanted.
+#[derive(Clone, Copy, Debug)]
+pub enum Picture {
+    /// Who gives what to whom in which round.
+    Rounds,
+    /// Who owns what before the plan and after it.
+    Map,
+}
+
+/// What is to be drawn.
+#[derive(Clone, Copy, Debug)]
+pub struct DrawWish {
+    pub picture: Picture,
+    /// The byte behind which a node's name names its rack, where a map is to be grouped by rack.
+    pub racks_behind: Option<u8>,
+}
+
+/// How a plan is to be cut.
+#[derive(Clone, Copy, Debug)]
+pub struct Cut {
+    /// How many rounds of copies a window has.
+    pub rounds: u32,
+    /// The window that is wanted, from 1 on; all where there is none.
+    pub only: Option<u32>,
+}
+
+/// What can be made of a bundle.
+#[derive(Debug, Drop)]
+pub enum Making {
+    /// Why it is refused, or what a yes says.
+    Why,
+    /// Ring, plan and certificate in one text.
+    Bundle,
+    /// Ring, plan and a certificate that is found, whether or not the bundle has one.
+    Cert,
+    /// The ring that the plan, or what a history has done of it, leaves.
+    After,
+    /// A summary.
+    Show(Wish),
+    /// A picture.
+    Draw(DrawWish),
+    /// The plan's steps as lines of JSON.
+    Steps,
+    /// The slots that move, as lines of JSON.
+    Moves,
+    /// The plan in parts, or one of these.
+    Windows(Cut),
+    /// A plan that leads to the ring that is wished for.
+    Goal(Options),
+    /// In words how far from even that ring is.
+    Even(Options),
+}

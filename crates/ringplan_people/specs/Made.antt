@@ -1,0 +1,60 @@
+-- What is made of a bundle.
+use Rattle.std.specs.Prelude.{◌≡◌, ◌≢◌, ◌⊎◌, ℕ, List, [], ◌++◌, Ok, map, ⊤}
+use Rattle.ring_names.specs.declared.refusal.Refusal.{Refusal}
+use Rattle.ring_names.specs.Refusals.{line_of, number_of}
+use Rattle.texts.specs.Left.{whole_text}
+use Rattle.ring_table.specs.Value.{RingValue}
+use Rattle.ring_table.specs.Spelling.{ring_text}
+use Rattle.plan_text.specs.declared.step.Planned.{Planned}
+use Rattle.change_text.specs.declared.wanted.Wanted.{Wanted}
+use Rattle.change_text.specs.Wanted.{wanted_at}
+use Rattle.plan_check.specs.Approval.{IsApproved}
+use Rattle.plan_goal.specs.Proposals.{IsProposed}
+use Rattle.plan_lines.specs.Lines.{steps_text}
+use Rattle.plan_lines.specs.MoveLines.{moves_text}
+use Rattle.ringplan_jobs.specs.Answers.{refused_status}
+use Rattle.ringplan_jobs.specs.Verdict.{TextsKeepPromises}
+use Rattle.ringplan_job.specs.declared.making.Making.{Making}
+use Rattle.ringplan_job.specs.declared.making.Making.TheVariants.{Why, Bundle, Cert, After, Show, Draw, Steps, Moves, Windows, Goal, Even}
+use Rattle.plan_bundles.specs.Certs.{IsCertifiedText}
+use Rattle.plan_bundles.specs.Goals.{IsLed}
+use Rattle.plan_bundles.specs.Windows.{AreAskedOf}
+use Rattle.ringplan_people.specs.Studies.{IsStudyOf, HasApproved, IsShown, HasHistory, IsLeftBy}
+use Rattle.ringplan_people.specs.Why.{IsWhy}
+
+-- the text is a first part of the bytes; or it is that of the bytes' ring, of a plan that makes their change, and of its certificate
+pub data IsBundleOf (bytes text : List ℕ) : Type 0 where
+  own : (rest : List ℕ) → bytes ≡ text ++ rest → IsBundleOf bytes text
+  planned : (w : Wanted) (more : List ℕ) → whole_text wanted_at bytes ≡ Ok w → IsProposed w.ring w.change more → text ≡ ring_text w.ring ++ more → IsBundleOf bytes text
+
+-- the text has a certificate for the ring and the plan with which the bytes begin, or for those of a bundle that is made of their change
+abbrev pub IsCertOf : List ℕ → List ℕ → Type 0
+IsCertOf bytes text = IsCertifiedText bytes text ⊎ ((whole : List ℕ) × IsBundleOf bytes whole × IsCertifiedText whole text)
+
+-- this holds of the bundle's plan, which the checker accepted
+abbrev pub OfPlan : (RingValue → List Planned → Type 0) → List ℕ → Type 0
+OfPlan claim bytes = (ring : RingValue) × (plan : List Planned) × IsStudyOf bytes ring plan × IsApproved ring plan × claim ring plan
+
+-- the text is what is asked for of the bytes; of a summary and a picture only the plan is promised, or of a summary that the bytes are a ring's; of how even a ring is, nothing
+abbrev pub IsMade : Making → List ℕ → List ℕ → Type 0
+IsMade Bundle bytes text = TextsKeepPromises text × IsBundleOf bytes text
+IsMade Cert bytes text = IsCertOf bytes text
+IsMade After bytes text = HasHistory bytes ⊎ IsLeftBy bytes text
+IsMade (Show wish) bytes text = IsShown bytes
+IsMade (Draw wish) bytes text = HasApproved bytes
+IsMade Steps bytes text = OfPlan (λ ring plan. text ≡ steps_text ring plan) bytes
+IsMade Moves bytes text = OfPlan (λ ring plan. text ≡ moves_text ring plan) bytes
+IsMade (Windows cut) bytes text = OfPlan (λ ring plan. AreAskedOf ring plan cut.only text) bytes
+IsMade (Goal options) bytes text = IsLed bytes (map (λ name. name.items) options.dead.items) text
+IsMade (Even options) bytes text = ⊤
+IsMade Why bytes text = ⊥
+
+-- what is printed of the bytes, and the status: why they are refused, or what a yes says; else what is made of them, or nothing where they are refused
+pub data IsReport (making : Making) (bytes : List ℕ) (text : List ℕ) (status : ℕ) : Type 0 where
+  told : making ≡ Why → IsWhy bytes text status → IsReport making bytes text status
+  made : IsMade making bytes text → status ≡ 0 → IsReport making bytes text status
+  refused : making ≢ Why → text ≡ [] → status ≢ 0 → IsReport making bytes text status
+
+-- nothing is printed, and on standard error the refusal's line and some words, with the status of the refusal
+abbrev pub IsRefusal : Refusal → List ℕ → List ℕ → ℕ → Type 0
+IsRefusal refusal text errors status = (text ≡ []) × ((words : List ℕ) × (errors ≡ line_of refusal ++ words)) × (status ≡ refused_status (number_of refusal))

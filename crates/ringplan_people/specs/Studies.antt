@@ -1,0 +1,55 @@
+-- Whose the ring and the plan of a bundle are.
+use Rattle.std.specs.Prelude.{◌≡◌, ℕ, true, List, Ok, length}
+use Rattle.texts.specs.Left.{whole_text}
+use Rattle.ring_table.specs.Value.{RingValue}
+use Rattle.ring_table.specs.Spelling.{ring_text}
+use Rattle.plan_text.specs.declared.step.Planned.{Planned}
+use Rattle.plan_text.specs.Changes.{fulfils}
+use Rattle.plan_runs.specs.declared.event.Entry.{Entry}
+use Rattle.change_text.specs.declared.wanted.Wanted.{Wanted}
+use Rattle.change_text.specs.Wanted.{wanted_at}
+use Rattle.history_text.specs.Replays.{Parts, replay_at}
+use Rattle.plan_moves.specs.Owners.{last_owners}
+use Rattle.plan_check.specs.Approval.{IsApproved}
+use Rattle.ring_core.specs.Replays.{IsHistory}
+use Rattle.ring_script.specs.Bundles.{bundle_at}
+use Rattle.ring_script.specs.declared.bundle.Bundle.{Bundle}
+use Rattle.ring_script.specs.declared.bundle.Kind.TheVariants as kind
+use Rattle.plan_bundles.specs.Rings.{IsRingOf, members_after}
+
+-- the ring and the plan of a bundle: those that its texts say, without a history behind them or with one; or its ring, and a plan that makes its change
+pub data IsStudyOf (bytes : List ℕ) (ring : RingValue) (plan : List Planned) : Type 0 where
+  of_plan : (b : Bundle) → whole_text (bundle_at kind.Check) bytes ≡ Ok b → b.ring ≡ ring → b.plan ≡ plan → IsStudyOf bytes ring plan
+  of_history : (p : Parts) → whole_text replay_at bytes ≡ Ok p → p.0 ≡ ring → p.1.0 ≡ plan → IsStudyOf bytes ring plan
+  of_change : (w : Wanted) → whole_text wanted_at bytes ≡ Ok w → w.ring ≡ ring → fulfils plan w.change.joins w.change.leaves ≡ true → IsStudyOf bytes ring plan
+
+-- the bundle's plan is one that the checker accepts, so it keeps its promises
+abbrev pub HasApproved : List ℕ → Type 0
+HasApproved bytes = (ring : RingValue) × (plan : List Planned) × IsStudyOf bytes ring plan × IsApproved ring plan
+
+-- the bytes are the text of a ring, and nothing more
+abbrev pub IsRingText : List ℕ → Type 0
+IsRingText bytes = (ring : RingValue) × (bytes ≡ ring_text ring)
+
+-- what a summary is of: a plan that the checker accepts, or a ring alone
+pub data IsShown (bytes : List ℕ) : Type 0 where
+  of_approved : HasApproved bytes → IsShown bytes
+  of_ring : IsRingText bytes → IsShown bytes
+
+-- the bytes are the texts of this ring, this plan, its certificate and this history, which is a run of the plan
+pub record IsRecorded (bytes : List ℕ) (ring : RingValue) (plan : List Planned) (history : List Entry) : Type 0 where
+  pub parts : Parts
+  pub read : whole_text replay_at bytes ≡ Ok parts
+  pub ring_is : parts.0 ≡ ring
+  pub plan_is : parts.1.0 ≡ plan
+  pub history_is : parts.1.1.1.0 ≡ history
+  pub run : IsHistory ring plan history
+
+-- the bytes are the texts of a ring, a plan, its certificate and a history
+abbrev pub HasHistory : List ℕ → Type 0
+HasHistory bytes = (p : Parts) × (whole_text replay_at bytes ≡ Ok p)
+
+-- the text is that of a ring with the owners behind the last step of the bundle's plan, and with the members that were or joined, and did not retire
+abbrev pub IsLeftBy : List ℕ → List ℕ → Type 0
+IsLeftBy bytes text = (ring : RingValue) × (plan : List Planned) × IsStudyOf bytes ring plan × IsApproved ring plan
+    × IsRingOf text (last_owners ring plan) (members_after ring plan (length ring.nodes))

@@ -1,0 +1,78 @@
+//! A certificate for a bundle, and why there is none.
+
+ghost use Rattle.std.specs.Prelude.{IfOk};
+ghost use Rattle.ringplan_people.specs.Made.{IsCertOf};
+
+use crate::bundle::texts_of;
+use crate::why::push_words_of;
+use plan_bundles::{Kind, cert_bundle, found_bundle, kind_of, push_excess};
+use ring_names::Refusal;
+use std::alloc::Global;
+use words::Words;
+
+// What is said where the search for a certificate was given up.
+const GIVEN_UP: &[u8; 268] =
+    b"refused: the search for fewer chains was given up after 100,000,000 looks\n  Some node has more chains than it may have transfers open. Fewer may be enough, so a certificate may exist.\n  Let copies of that node wait directly for earlier ones: then no search is needed.\n";
+
+// A certificate for a bundle with a change: a plan is made first.
+fn cert_of_change(alloc: Global, bytes: &[u8]) -> Result<Vec<u8>, Refusal>
+    ensures { IfOk result (λ text. IsCertOf bytes.now text.items) }
+{
+    let text = texts_of(alloc, bytes)?;
+    cert_bundle(alloc, text.as_slice())
+}
+
+/// What `cert_bundle` says of a bundle; where that has a change, a plan is made first.
+pub(crate) fn cert_of(alloc: Global, bytes: &[u8]) -> Result<Vec<u8>, Refusal>
+    ensures certified { IfOk result (λ text. IsCertOf bytes.now text.items) }
+{
+    match kind_of(bytes) {
+        Kind::Change => cert_of_change(alloc, bytes),
+        Kind::Plan | Kind::History => cert_bundle(alloc, bytes),
+    }
+}
+
+// The same of a bundle that may have a change: none where there is no plan, or a text is at fault.
+fn found_of(alloc: Global, bytes: &[u8]) -> Result<Option<Vec<u8>>, Refusal> {
+    let found = match kind_of(bytes) {
+        Kind::Change => match texts_of(alloc, bytes) {
+            Ok(text) => found_bundle(alloc, text.as_slice()),
+            Err(refusal) => Err(refusal),
+        },
+        Kind::Plan | Kind::History => found_bundle(alloc, bytes),
+    };
+    match found {
+        Ok(text) => Ok(Some(text)),
+        Err(Refusal::OutOfMemory) => Err(Refusal::OutOfMemory),
+        Err(_) => Ok(None),
+    }
+}
+
+/// Adds why there is no certificate: that the search was given up; or what the checker has against the one that was found, with its lines; or what there is to say of
+/// the bundle where none was sought.
+pub(crate) fn push_why_none(
+    alloc: Global,
+    out: &mut Words,
+    bytes: &[u8],
+    refusal: &Refusal,
+) -> Result<(), Refusal> {
+    match found_of(alloc, bytes)? {
+        Some(text) => push_why_not(alloc, out, text.as_slice(), refusal),
+        None => push_words_of(alloc, out, bytes, refusal),
+    }
+}
+
+// Adds why the certificate of the text is none. The checker refuses nothing as `NoPlan`.
+fn push_why_not(
+    alloc: Global,
+    out: &mut Words,
+    text: &[u8],
+    refusal: &Refusal,
+) -> Result<(), Refusal> {
+    if matches!(refusal, Refusal::NoPlan) {
+        out.text(GIVEN_UP);
+        return Ok(());
+    }
+    push_words_of(alloc, out, text, refusal)?;
+    push_excess(alloc, out, text, refusal)
+}

@@ -1,0 +1,209 @@
+//! Why no plan leads to the ring that is wished for, in words.
+
+use crate::why::push_words_of;
+use plan_bundles::{Kind, front, kind_of, nodes_of, wished_goal};
+use plan_goal::{Aim, Goal, Unfit, read_goal, why_unfit};
+use ring_names::{NodeId, Refusal};
+use ring_table::{Ring, read_ring};
+use ringplan_job::Options;
+use std::alloc::Global;
+use text_words::{Page, Said, tell_text};
+use words::Words;
+
+// The bytes of a node's name.
+fn name(ring: &Ring, node: u32) -> &[u8] {
+    match ring.nodes().get(node as usize) {
+        Some(node) => node.name.as_slice(),
+        None => b"?",
+    }
+}
+
+// Says why no plan leads there, whatever its steps.
+fn push_unfit(out: &mut Words, goal: &Goal, unfit: Unfit) {
+    let ring = &goal.ring;
+    match unfit {
+        Unfit::Space => out.text(
+            b"refused: the rings have other `space` or `quorum` lines, and no plan changes these\n",
+        ),
+        Unfit::Node(node) => {
+            let declared = if (node as usize) < ring.nodes().len() {
+                ring
+            } else {
+                &goal.wanted
+            };
+            out.fill(
+                b"refused: the rings do not declare node @ alike: its name, its allowance and its place among the `node` lines must be the same\n",
+                &[name(declared, node)],
+                &[],
+            )
+        }
+        Unfit::DeadOwner(slot) => out.fill(
+            b"refused: slot # of partition # shall go to a node that is named dead\n",
+            &[],
+            &[slot.index, slot.partition],
+        ),
+        Unfit::Unread(partition) => out.fill(
+            b"refused: in partition # fewer than # slots have owners that are not named dead\n  A slot of a dead node is read from # others, as a read is answered by so many.\n",
+            &[],
+            &[partition, ring.r(), ring.r()],
+        ),
+    }
+}
+
+// Says why no plan was found.
+fn push_no_plan(
+    alloc: Global,
+    out: &mut Words,
+    goal: &Goal,
+    options: &Options,
+) -> Result<(), Refusal> {
+    let dead = nodes_of(alloc, &goal.ring, options.dead.as_slice())?;
+    let unfit = why_unfit(&Aim {
+        alloc,
+        ring: &goal.ring,
+        wanted: &goal.wanted,
+        dead: dead.as_slice(),
+    });
+    match unfit {
+        Some(unfit) => push_unfit(out, goal, unfit),
+        None => out.text(b"refused: the planner found no plan\n"),
+    }
+    Ok(())
+}
+
+// The rings of a bundle, or the ring of a change and the one that is wished for.
+fn goal_of(alloc: Global, bytes: &[u8], options: &Options) -> Result<Goal, Refusal> {
+    match kind_of(bytes) {
+        Kind::Change => wished_goal(alloc, bytes, options),
+        Kind::Plan | Kind::History => read_goal(alloc, bytes),
+    }
+}
+
+// Says which name the ring does not declare.
+fn push_unknown(out: &mut Words, ring: &Ring, options: &Options) {
+    for names in [options.dead.as_slice(), options.weighed.as_slice()] {
+        for name in names {
+            if ring.number_of(name.as_slice()).is_none() {
+                out.fill(
+                    b"refused: the command line names @, and the ring declares no such node\n",
+                    &[name.as_slice()],
+                    &[],
+                );
+                return;
+            }
+        }
+    }
+}
+
+// The refusal of a line, as many lines less.
+fn behind(refusal: &Refusal, lines: u32) -> Option<Refusal> {
+    match refusal {
+        Refusal::BadLine(line) => Some(Refusal::BadLine(line.checked_sub(lines)?)),
+        Refusal::TooLarge(line) => Some(Refusal::TooLarge(line.checked_sub(lines)?)),
+        Refusal::UnknownNode(line) => Some(Refusal::UnknownNode(line.checked_sub(lines)?)),
+        Refusal::Repeated(line) => Some(Refusal::Repeated(line.checked_sub(lines)?)),
+        Refusal::QuorumTooSmall(line) => Some(Refusal::QuorumTooSmall(line.checked_sub(lines)?)),
+        Refusal::SharedNode(line) => Some(Refusal::SharedNode(line.checked_sub(lines)?)),
+        Refusal::NotMember(line) => Some(Refusal::NotMember(line.checked_sub(lines)?)),
+        _ => None,
+    }
+}
+
+// Whether the text begins as one of a ring.
+fn begins_a_ring(text: &[u8]) -> bool {
+    let line = &text[..text.len().min(7)];
+    line == b"ring 1\n".as_slice()
+        || line == b"ring 2\n".as_slice()
+        || line == b"ring 3\n".as_slice()
+}
+
+// Says what is wrong with a text; lines of the second ring are counted from its first.
+fn push_fault(
+    alloc: Global,
+    out: &mut Words,
+    bytes: &[u8],
+    refusal: &Refusal,
+) -> Result<(), Refusal> {
+    let first = &bytes[..front(bytes, 1)];
+    let second = &bytes[front(bytes, 1)..];
+    let lines = Page { bytes: first }.count();
+    match behind(refusal, lines) {
+        Some(Refusal::BadLine(1)) if begins_a_ring(second) => {
+            out.text(b"refused: behind the ring stands another one, and a change is wanted\n");
+            Ok(())
+        }
+        Some(inside) if kind_of(bytes) != Kind::Change && is_behind(&inside) => {
+            let mut said = Said::new(alloc);
+            let _ = tell_text(alloc, &mut said, second, &inside)?;
+            said.push(out, Page { bytes: second });
+            out.fill(
+                b"  Lines are counted from the first of the second ring, which is line # of the bundle.\n",
+                &[],
+                &[lines.saturating_add(1)],
+            );
+            Ok(())
+        }
+        _ => push_words_of(alloc, out, bytes, refusal),
+    }
+}
+
+// Whether the line is one of the second ring.
+fn is_behind(inside: &Refusal) -> bool {
+    !matches!(
+        inside,
+        Refusal::BadLine(0)
+            | Refusal::TooLarge(0)
+            | Refusal::UnknownNode(0)
+            | Refusal::Repeated(0)
+            | Refusal::QuorumTooSmall(0)
+            | Refusal::SharedNode(0)
+            | Refusal::NotMember(0)
+    )
+}
+
+// Says why there is no plan, or which name is unknown, by the rings.
+fn push_by_goal(
+    alloc: Global,
+    out: &mut Words,
+    bytes: &[u8],
+    options: &Options,
+    refusal: &Refusal,
+) -> Result<(), Refusal> {
+    match goal_of(alloc, bytes, options) {
+        Ok(goal) => push_no_plan(alloc, out, &goal, options),
+        Err(Refusal::OutOfMemory) => Err(Refusal::OutOfMemory),
+        Err(_) => push_words_of(alloc, out, bytes, refusal),
+    }
+}
+
+// Says which name of the command line is unknown.
+fn push_names(
+    alloc: Global,
+    out: &mut Words,
+    bytes: &[u8],
+    options: &Options,
+) -> Result<(), Refusal> {
+    match read_ring(alloc, &bytes[..front(bytes, 1)]) {
+        Ok(ring) => {
+            push_unknown(out, &ring, options);
+            Ok(())
+        }
+        Err(Refusal::OutOfMemory) => Err(Refusal::OutOfMemory),
+        Err(_) => Ok(()),
+    }
+}
+
+/// Adds why no plan leads to the ring that is wished for.
+pub fn push_goal_words(
+    alloc: Global,
+    out: &mut Words,
+    bytes: &[u8],
+    options: &Options,
+    refusal: &Refusal,
+) -> Result<(), Refusal> {
+    match refusal {
+        Refusal::NoPlan => push_by_goal(alloc, out, bytes, options, refusal),
+        Refusal::UnknownNode(0) => push_names(alloc, out, bytes, options),
+        _ => push_fault(alloc, out, bytes, refusal),
+    }
+}

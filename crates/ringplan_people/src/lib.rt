@@ -1,0 +1,25 @@
+//! What is made of bundles for people: plans in words and pictures, whole bundles, plans that lead to a ring that is wished for, and the ring that a plan leaves.
+#![tactic(auto)]
+
+mod after;
+mod bundle;
+mod cert;
+mod changing;
+mod goal_words;
+mod history_words;
+mod reporting;
+mod show;
+mod steps;
+mod study;
+mod trail;
+mod why;
+mod windows;
+
+pub use after::after_bundle;
+pub use bundle::whole_bundle;
+pub use plan_bundles::{cert_bundle, goal_bundle, wish_bundle};
+pub use reporting::{Report, report_bundle, report_unread};
+pub use show::{draw_bundle, show_bundle};
+pub use steps::{moves_bundle, steps_bundle};
+pub use why::why_bundle;
+pub use windows::windows_bundle;

@@ -1,0 +1,155 @@
+//! What is printed of a bundle for people: on standard output what is made of it, or on standard error why nothing is.
+
+ghost use Rattle.std.specs.Prelude.{◌≡◌, ◌≢◌, ◌⊎◌, ◌++◌, ℕ, List, [], IfOk};
+ghost use Rattle.ring_names.specs.Refusals.{line_of, number_of};
+ghost use Rattle.ringplan_jobs.specs.Answers.{refused_status};
+ghost use Rattle.ringplan_job.specs.declared.making.Making.TheVariants.{Why};
+ghost use Rattle.ringplan_people.specs.Made.{IsMade, IsRefusal, IsReport};
+ghost use Rattle.ringplan_people.specs.Why.{IsWhy};
+
+use crate::after::{after_bundle, push_open};
+use crate::bundle::whole_bundle;
+use crate::cert::{cert_of, push_why_none};
+use crate::goal_words::push_goal_words;
+use crate::show::{draw_bundle, show_bundle};
+use crate::steps::{moves_bundle, steps_bundle};
+use crate::why::{push_words_of, why_bundle};
+use crate::windows::{push_windows_words, windows_bundle};
+use plan_bundles::{front, led_bundle, wish_words};
+use ring_names::Refusal;
+use ringplan_job::Making;
+use ringplan_jobs::{Answer, answer_of};
+use std::alloc::Global;
+use words::Words;
+
+/// What is printed on standard output and on standard error, and the exit status.
+#[derive(Debug, Drop)]
+pub struct Report {
+    pub output: Vec<u8>,
+    pub errors: Vec<u8>,
+    pub status: u8,
+}
+
+// What is made of the bundle.
+fn make_of(alloc: Global, making: &Making, bytes: &[u8]) -> Result<Vec<u8>, Refusal>
+    requires { making.now ≢ Why }
+    ensures { IfOk result (λ text. IsMade making.now bytes.now text.items) }
+{
+    match making {
+        Making::Why => unreachable!(),
+        Making::Bundle => whole_bundle(alloc, bytes),
+        Making::Cert => cert_of(alloc, bytes),
+        Making::After => after_bundle(alloc, bytes),
+        Making::Show(wish) => show_bundle(alloc, bytes, *wish),
+        Making::Draw(wish) => draw_bundle(alloc, bytes, *wish),
+        Making::Steps => steps_bundle(alloc, bytes),
+        Making::Moves => moves_bundle(alloc, bytes),
+        Making::Windows(cut) => windows_bundle(alloc, bytes, *cut),
+        Making::Goal(options) => led_bundle(alloc, bytes, options),
+        Making::Even(options) => wish_words(alloc, bytes, options),
+    }
+}
+
+// What standard error says of what was made: that a plan which was asked for has no steps.
+fn note_of(making: &Making, output: &[u8]) -> &'static [u8] {
+    match making {
+        Making::Goal(_) if output[front(output, 1)..].starts_with(b"plan 1\nend\n") => {
+            b"ringplan: the plan has no steps, as the ring is what it shall be\n"
+        }
+        _ => b"",
+    }
+}
+
+// The report of what was made.
+fn made(alloc: Global, making: &Making, output: Vec<u8>) -> Result<Report, Refusal>
+    ensures { IfOk result (λ r. (r.output.items ≡ output.items) × (r.status ≡ 0)) }
+{
+    let errors = Vec::from_slice(alloc, note_of(making, output.as_slice()))?;
+    Ok(Report {
+        output,
+        errors,
+        status: 0,
+    })
+}
+
+// The report of a refusal: on standard error its line, and then those words.
+fn refused_with(alloc: Global, refusal: Refusal, words: Words) -> Result<Report, Refusal>
+    ensures { IfOk result (λ r. IsRefusal refusal r.output.items r.errors.items r.status) }
+{
+    let words = words.end()?;
+    let Answer { output, status } = answer_of(alloc, Err(refusal))?;
+    let mut errors = output;
+    errors.extend_from_slice(words.as_slice())?;
+    Ok(Report {
+        output: Vec::new(alloc),
+        errors,
+        status,
+    })
+}
+
+// Adds why it was refused.
+fn push_said(
+    alloc: Global,
+    out: &mut Words,
+    making: &Making,
+    bytes: &[u8],
+    refusal: &Refusal,
+) -> Result<(), Refusal> {
+    match (making, refusal) {
+        (_, Refusal::OutOfMemory) => Err(Refusal::OutOfMemory),
+        (Making::Cert, _) => push_why_none(alloc, out, bytes, refusal),
+        (Making::After, Refusal::WrongStage(step)) => push_open(alloc, out, bytes, *step),
+        (Making::Windows(_), _) => push_windows_words(alloc, out, bytes, refusal),
+        (Making::Goal(options) | Making::Even(options), _) => {
+            push_goal_words(alloc, out, bytes, options, refusal)
+        }
+        _ => push_words_of(alloc, out, bytes, refusal),
+    }
+}
+
+// The report of what is made of the bundle, or of why nothing is.
+fn report_made(alloc: Global, making: &Making, bytes: &[u8]) -> Result<Report, Refusal>
+    requires { making.now ≢ Why }
+    ensures { IfOk result (λ r. IsReport making.now bytes.now r.output.items r.status) }
+{
+    match make_of(alloc, making, bytes) {
+        Ok(output) => made(alloc, making, output),
+        Err(refusal) => {
+            let mut words = Words::new(alloc);
+            push_said(alloc, &mut words, making, bytes, &refusal)?;
+            refused_with(alloc, refusal, words)
+        }
+    }
+}
+
+// The report of why a bundle is refused, or of what a yes says.
+fn report_why(alloc: Global, bytes: &[u8]) -> Result<Report, Refusal>
+    ensures { IfOk result (λ r. IsWhy bytes.now r.output.items r.status) }
+{
+    let Answer { output, status } = why_bundle(alloc, bytes)?;
+    Ok(Report {
+        output,
+        errors: Vec::new(alloc),
+        status,
+    })
+}
+
+/// What is printed of a bundle, where `making` is asked for. On standard output stands what is made of the bundle, and the status is 0; or it is
+/// empty, and on standard error stand the refusal's line and why. `why` prints both on standard output. The only refusal is `OutOfMemory`.
+pub fn report_bundle(alloc: Global, making: &Making, bytes: &[u8]) -> Result<Report, Refusal>
+    ensures { IfOk result (λ r. IsReport making.now bytes.now r.output.items r.status) }
+{
+    match making {
+        Making::Why => report_why(alloc, bytes),
+        _ => report_made(alloc, making, bytes),
+    }
+}
+
+/// What is printed where the input could not be read whole: nothing on standard output, and on standard error the refusal's line and why.
+pub fn report_unread(alloc: Global, refusal: Refusal) -> Result<Report, Refusal>
+    ensures { IfOk result (λ r. IsRefusal refusal r.output.items r.errors.items r.status) }
+{
+    let mut words = Words::new(alloc);
+    push_words_of(alloc, &mut words, b"", &refusal)?;
+    refused_with(alloc, refusal, words)
+}

@@ -1,0 +1,122 @@
+//! Summaries and pictures.
+
+ghost use Rattle.std.specs.Prelude.{OnOk};
+ghost use Rattle.ringplan_people.specs.Studies.{HasApproved, IsShown};
+
+use crate::study::{Study, studied};
+use plan_bundles::front;
+use plan_picture::{Sheet, map_picture, picture};
+use plan_scene::{Present, Progress, Scene};
+use plan_summary::{Shape, View, ring_summary, summary};
+use ring_names::Refusal;
+use ring_table::read_ring;
+use ringplan_job::{DrawWish, Picture, Shape as Asked, Wish};
+use std::alloc::Global;
+
+// What is shown of a bundle's plan, and how far its history has come, where there is one.
+#[derive(Drop)]
+struct Shown {
+    scene: Scene,
+    progress: Option<Progress>,
+    present: Present,
+}
+
+fn shown_by(alloc: Global, found: &Study) -> Result<Shown, Refusal> {
+    let (ring, plan) = (found.approved.ring(), found.approved.plan());
+    let progress = match &found.history {
+        Some(history) => Some(Progress::of(alloc, plan, history.as_slice())?),
+        None => None,
+    };
+    let scene = Scene::of(alloc, &found.approved, &found.cert)?;
+    let present = Present::of(alloc, ring, plan, &scene, progress.as_ref())?;
+    Ok(Shown {
+        scene,
+        progress,
+        present,
+    })
+}
+
+// How much the summary shows that is asked for.
+fn shape_of(asked: Asked) -> Shape {
+    match asked {
+        Asked::Short => Shape::Short,
+        Asked::Whole => Shape::Whole,
+    }
+}
+
+// The summary of a ring alone.
+fn show_ring(alloc: Global, bytes: &[u8], wish: Wish) -> Result<Vec<u8>, Refusal>
+    ensures shown { OnOk result (IsShown bytes.now) }
+{
+    let ring = read_ring(alloc, bytes)?;
+    ring_summary(alloc, &ring, wish.racks_behind)
+}
+
+/// The summary of a bundle's plan, where the checker accepts it; with a history its progress. Of a ring and nothing more it is that of the ring. Refused is what
+/// `studied` refuses, or the ring's reader.
+pub fn show_bundle(alloc: Global, bytes: &[u8], wish: Wish) -> Result<Vec<u8>, Refusal>
+    // It comes only where the checker accepted the bundle's plan, or the bytes are a ring's text.
+    ensures shown { OnOk result (IsShown bytes.now) }
+{
+    // Nothing stands after the first line `end`.
+    if front(bytes, 1) == bytes.len() {
+        return show_ring(alloc, bytes, wish);
+    }
+    show_plan(alloc, bytes, wish)
+}
+
+// The summary of a bundle's plan.
+fn show_plan(alloc: Global, bytes: &[u8], wish: Wish) -> Result<Vec<u8>, Refusal>
+    ensures shown { OnOk result (IsShown bytes.now) }
+{
+    let found = studied(alloc, bytes)?;
+    let Shown {
+        scene,
+        progress,
+        present,
+    } = shown_by(alloc, &found)?;
+    let run = progress.as_ref();
+    let view = View {
+        alloc,
+        ring: found.approved.ring(),
+        plan: found.approved.plan(),
+        scene: &scene,
+        present: &present,
+        progress: run,
+        shape: shape_of(wish.shape),
+        racks_behind: wish.racks_behind,
+    };
+    summary(&view)
+}
+
+/// The picture of a bundle's plan as SVG, or the map of its slots, where the checker accepts it; with a history that of the run's progress.
+/// Refused is what `studied` refuses.
+pub fn draw_bundle(alloc: Global, bytes: &[u8], wish: DrawWish) -> Result<Vec<u8>, Refusal>
+    // It comes only where the checker accepted the bundle's plan.
+    ensures approved { OnOk result (HasApproved bytes.now) }
+{
+    let found = studied(alloc, bytes)?;
+    let Shown {
+        scene,
+        progress,
+        present,
+    } = shown_by(alloc, &found)?;
+    let run = progress.as_ref();
+    let sheet = Sheet {
+        alloc,
+        ring: found.approved.ring(),
+        plan: found.approved.plan(),
+        scene: &scene,
+        present: &present,
+        progress: run,
+    };
+    drawn(&sheet, wish)
+}
+
+// The picture that is asked for.
+fn drawn(sheet: &Sheet, wish: DrawWish) -> Result<Vec<u8>, Refusal> {
+    match wish.picture {
+        Picture::Rounds => picture(sheet),
+        Picture::Map => map_picture(sheet, wish.racks_behind),
+    }
+}

@@ -1,0 +1,52 @@
+//! The steps of a bundle's plan, for whoever carries them out on a store of his own.
+
+ghost use Rattle.std.specs.Prelude.{◌≡◌, List, IfOk};
+ghost use Rattle.ring_table.specs.Value.{RingValue};
+ghost use Rattle.plan_text.specs.declared.step.Planned.{Planned};
+ghost use Rattle.plan_check.specs.Approval.{IsApproved};
+ghost use Rattle.plan_lines.specs.Lines.{steps_text};
+ghost use Rattle.plan_lines.specs.MoveLines.{moves_text};
+ghost use Rattle.ringplan_people.specs.Studies.{IsStudyOf};
+
+use crate::study::studied;
+use plan_check::Approved;
+use plan_lines::{write_moves, write_steps};
+use ring_names::Refusal;
+use std::alloc::Global;
+
+// The steps of an approved plan.
+fn steps_of(alloc: Global, approved: &Approved) -> Result<Vec<u8>, Refusal>
+    ensures text { IfOk result (λ v. v.items ≡ steps_text approved.now.ring approved.now.plan) }
+    ensures approved { IsApproved approved.now.ring approved.now.plan }
+{
+    write_steps(alloc, approved.ring(), approved.plan())
+}
+
+/// The steps of a bundle's plan as lines of JSON, where the checker accepts it; where the bundle has a change, a plan is made first, and a history changes
+/// nothing. Refused is what `studied` refuses.
+pub fn steps_bundle(alloc: Global, bytes: &[u8]) -> Result<Vec<u8>, Refusal>
+    // They are those of the bundle's plan, which the checker accepted, in order, and none is left out.
+    ensures steps { IfOk result (λ text. (ring : RingValue) × (plan : List Planned)
+        × IsStudyOf bytes.now ring plan × IsApproved ring plan × (text.items ≡ steps_text ring plan)) }
+{
+    let found = studied(alloc, bytes)?;
+    steps_of(alloc, &found.approved)
+}
+
+// The slots that an approved plan moves.
+fn moves_of(alloc: Global, approved: &Approved) -> Result<Vec<u8>, Refusal>
+    ensures text { IfOk result (λ v. v.items ≡ moves_text approved.now.ring approved.now.plan) }
+    ensures approved { IsApproved approved.now.ring approved.now.plan }
+{
+    write_moves(alloc, approved.ring(), approved.plan())
+}
+
+/// The slots that a bundle's plan moves as lines of JSON, where the checker accepts it; else as `steps_bundle`.
+pub fn moves_bundle(alloc: Global, bytes: &[u8]) -> Result<Vec<u8>, Refusal>
+    // They are the moves of the bundle's plan, which the checker accepted, in order, and none is left out.
+    ensures moves { IfOk result (λ text. (ring : RingValue) × (plan : List Planned)
+        × IsStudyOf bytes.now ring plan × IsApproved ring plan × (text.items ≡ moves_text ring plan)) }
+{
+    let found = studied(alloc, bytes)?;
+    moves_of(alloc, &found.approved)
+}

@@ -1,0 +1,98 @@
+//! A bundle whose plan the checker accepts.
+
+ghost use Rattle.std.specs.Prelude.{◌≡◌, ◌≤◌, None, length, IfOk, IfSome, OnOk};
+ghost use Rattle.plan_text.specs.Valid.{Suits};
+ghost use Rattle.ring_core.specs.Replays.{IsHistory};
+ghost use Rattle.ringplan_people.specs.Studies.{IsStudyOf, IsRecorded};
+
+use crate::changing::study_change;
+use history_text::read_replay;
+use plan_bundles::{Kind, kind_of};
+use plan_cert::Cert;
+use plan_check::{Approved, check};
+use plan_runs::Entry;
+use plan_text::Plan;
+use ring_core::replay;
+use ring_names::Refusal;
+use ring_table::Ring;
+use ringplan_jobs::{Kind as Sections, read_bundle};
+use std::alloc::Global;
+
+/// An approved plan with its certificate, and what has happened of it.
+#[derive(Drop)]
+pub struct Study {
+    pub approved: Approved,
+    pub cert: Cert,
+    /// A run of the plan, where the bundle has a history.
+    pub history: Option<Vec<Entry>>,
+}
+
+/// A plan with no history, where the checker accepts it.
+pub(crate) fn accepted(alloc: Global, ring: Ring, plan: Plan, cert: Cert) -> Result<Study, Refusal>
+    requires { Suits ring plan }
+    ensures same { IfOk result (λ s. (s.approved.ring ≡ ring) × (s.approved.plan ≡ plan)) }
+    ensures history { IfOk result (λ s. s.history ≡ None) }
+{
+    match check(alloc, ring, plan, &cert) {
+        Ok(approved) => Ok(Study {
+            approved,
+            cert,
+            history: None,
+        }),
+        Err(turned) => {
+            let refusal = turned.refusal;
+            Err(refusal)
+        }
+    }
+}
+
+// A bundle without a history.
+fn study_plan(alloc: Global, bytes: &[u8]) -> Result<Study, Refusal>
+    ensures of { IfOk result (λ s. IsStudyOf bytes.now s.approved.ring s.approved.plan) }
+    ensures history { IfOk result (λ s. s.history ≡ None) }
+{
+    let bundle = read_bundle(alloc, Sections::Check, bytes)?;
+    accepted(alloc, bundle.ring, bundle.plan, bundle.cert)
+}
+
+// Asks whether the history is a run of the approved plan.
+fn follow(alloc: Global, approved: &Approved, history: &[Entry]) -> Result<(), Refusal>
+    requires { length history.now ≤ 1000000 }
+    ensures { OnOk result (IsHistory approved.now.ring approved.now.plan history.now) }
+{
+    let _ = replay(alloc, approved, history)?;
+    Ok(())
+}
+
+// A bundle with a history.
+fn study_history(alloc: Global, bytes: &[u8]) -> Result<Study, Refusal>
+    ensures of { IfOk result (λ s. IsStudyOf bytes.now s.approved.ring s.approved.plan) }
+    ensures history { IfOk result
+        (λ s. IfSome s.history (λ h. IsRecorded bytes.now s.approved.ring s.approved.plan h.items)) }
+{
+    let bundle = read_replay(alloc, bytes)?;
+    let found = accepted(alloc, bundle.ring, bundle.plan, bundle.cert)?;
+    follow(alloc, &found.approved, bundle.history.as_slice())?;
+    let Study { approved, cert, .. } = found;
+    Ok(Study {
+        approved,
+        cert,
+        history: Some(bundle.history),
+    })
+}
+
+/// The plan of a bundle, where the checker accepts it; where the bundle has a change, a plan is made first. Refused is the first fault of the texts, what the
+/// planner or the checker refuses, and a history that is no run of the plan.
+pub fn studied(alloc: Global, bytes: &[u8]) -> Result<Study, Refusal>
+    // The ring and the plan are those of the bundle, or the plan makes its change.
+    ensures of { IfOk result (λ s. IsStudyOf bytes.now s.approved.ring s.approved.plan) }
+    // What has happened is the bundle's history, and a run of the plan.
+    ensures history { IfOk result
+        (λ s. IfSome s.history (λ h. IsRecorded bytes.now s.approved.ring s.approved.plan h.items)) }
+{
+    match kind_of(bytes) {
+        Kind::Change => study_change(alloc, bytes),
+        Kind::Plan => study_plan(alloc, bytes),
+        Kind::History => study_history(alloc, bytes),
+    }
+}

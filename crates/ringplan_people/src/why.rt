@@ -1,0 +1,345 @@
+//! Why a bundle is refused.
+
+ghost use Rattle.std.specs.Prelude.{◌≡◌, ◌≢◌, Ok, IfOk, IfNone, IsTrue};
+ghost use Rattle.texts.specs.Left.{whole_text};
+ghost use Rattle.ring_script.specs.Bundles.{bundle_at};
+ghost use Rattle.ring_script.specs.declared.bundle.Bundle.{Bundle as TheBundle};
+ghost use Rattle.ring_script.specs.declared.bundle.Kind.TheVariants as kind;
+ghost use Rattle.ringplan_jobs.specs.Verdict.{TextsKeepPromises};
+ghost use Rattle.ringplan_people.specs.Studies.{HasApproved};
+ghost use Rattle.ringplan_people.specs.Why.{AnswersCheck, IsWhy};
+
+use crate::history_words::{tell_history, unless_memory};
+use crate::study::{Study, studied};
+use change_text::{Wanted, read_wanted};
+use plan_bundles::{Kind, cert_bundle, front, kind_of};
+use plan_words::{Read, Remedy, tell_plan};
+use ring_names::Refusal;
+use ringplan_jobs::{
+    Answer, Job, Kind as Sections, answer_of, check_bundle, make, plan_bundle, read_bundle,
+};
+use std::alloc::Global;
+use text_words::{Page, Said, tell_text};
+use words::Words;
+
+// What comes of a mended bundle.
+#[derive(Clone, Copy, PartialEq, Eq)]
+enum Outcome {
+    /// The checker says yes.
+    Accepted,
+    /// There is a plan for its change.
+    Planned,
+    /// The checker says yes, and the history is a run of the plan.
+    Replayed,
+    /// Another refusal.
+    Next(Refusal),
+    /// The same.
+    Same,
+}
+
+// What comes of a bundle that was refused so before it was mended.
+fn asked(alloc: Global, mended: &[u8], was: &Refusal) -> Result<Outcome, Refusal>
+    // Where the checker says yes, the plan keeps its promises.
+    ensures yes { IfOk result (λ o. o ≡ Outcome.Accepted → TextsKeepPromises mended.now) }
+{
+    match kind_of(mended) {
+        Kind::Plan => match check_bundle(alloc, mended) {
+            Ok(()) => Ok(Outcome::Accepted),
+            Err(refusal) => next(refusal, was),
+        },
+        Kind::Change => match plan_bundle(alloc, mended) {
+            Ok(_) => Ok(Outcome::Planned),
+            Err(refusal) => next(refusal, was),
+        },
+        Kind::History => match studied(alloc, mended) {
+            Ok(_) => Ok(Outcome::Replayed),
+            Err(refusal) => next(refusal, was),
+        },
+    }
+}
+
+// What comes of a bundle that is refused.
+fn next(refusal: Refusal, was: &Refusal) -> Result<Outcome, Refusal>
+    ensures { IfOk result (λ o. o ≢ Outcome.Accepted) }
+{
+    if refusal == Refusal::OutOfMemory {
+        return Err(refusal);
+    }
+    Ok(if refusal == *was {
+        Outcome::Same
+    } else {
+        Outcome::Next(refusal)
+    })
+}
+
+// Adds the mend, with what comes of the mended bundle, unless that is refused as before.
+fn push_mend(
+    alloc: Global,
+    out: &mut Words,
+    bytes: &[u8],
+    said: &Said,
+    was: &Refusal,
+) -> Result<(), Refusal> {
+    let mut mended = Words::new(alloc);
+    said.mended(&mut mended, Page { bytes });
+    let outcome = asked(alloc, mended.end()?.as_slice(), was)?;
+    if outcome == Outcome::Same {
+        return Ok(());
+    }
+    said.push_mend(out);
+    push_outcome(alloc, out, outcome)
+}
+
+fn push_outcome(alloc: Global, out: &mut Words, outcome: Outcome) -> Result<(), Refusal> {
+    let words: &[u8] = match outcome {
+        Outcome::Accepted => b"  then the checker says yes.\n",
+        Outcome::Planned => b"  then there is a plan.\n",
+        Outcome::Replayed => b"  then the checker says yes, and the history is a run of it.\n",
+        Outcome::Next(refusal) => return push_next(alloc, out, refusal),
+        Outcome::Same => b"",
+    };
+    out.text(words);
+    Ok(())
+}
+
+fn push_next(alloc: Global, out: &mut Words, refusal: Refusal) -> Result<(), Refusal> {
+    let mut line = Vec::new(alloc);
+    refusal.write_line(&mut line)?;
+    line.pop();
+    out.fill(
+        b"  then the checker goes on, to `@`.\n",
+        &[line.as_slice()],
+        &[],
+    );
+    Ok(())
+}
+
+// Says what there is to say of the refusal of a bundle whose texts are in order.
+fn tell_read(
+    alloc: Global,
+    said: &mut Said,
+    bytes: &[u8],
+    refusal: &Refusal,
+) -> Result<(), Refusal> {
+    match refusal {
+        Refusal::NoPlan => tell_no_plan(alloc, said, bytes),
+        Refusal::Mismatch(entry, code) => tell_history(alloc, said, bytes, *entry, *code),
+        _ => tell_checked(alloc, said, &bytes[..front(bytes, 3)], refusal),
+    }
+}
+
+// The most bytes of texts for which another certificate is sought: the search may take the square of their steps.
+const SOUGHT: usize = 65_536;
+
+// What may mend that a certificate has too many chains of a node, where that is why its plan is refused.
+fn remedy_of(alloc: Global, texts: &[u8], refusal: &Refusal) -> Result<Remedy, Refusal> {
+    let Refusal::TooManyChains(node) = refusal else {
+        return Ok(Remedy::Unknown);
+    };
+    if texts.len() > SOUGHT {
+        return Ok(Remedy::Unknown);
+    }
+    match cert_bundle(alloc, texts) {
+        Ok(_) => Ok(Remedy::Certificate),
+        Err(Refusal::OutOfMemory) => Err(Refusal::OutOfMemory),
+        Err(Refusal::TooManyChains(other)) if other == *node => Ok(Remedy::Plan),
+        Err(_) => Ok(Remedy::Unknown),
+    }
+}
+
+// Says why the checker refuses the plan of these texts.
+fn tell_checked(
+    alloc: Global,
+    said: &mut Said,
+    texts: &[u8],
+    refusal: &Refusal,
+) -> Result<(), Refusal> {
+    let bundle = match read_bundle(alloc, Sections::Check, texts) {
+        Ok(bundle) => bundle,
+        Err(refusal) => return unless_memory(refusal),
+    };
+    let read = Read {
+        bytes: texts,
+        ring: &bundle.ring,
+        plan: &bundle.plan,
+        cert: &bundle.cert,
+        remedy: remedy_of(alloc, texts, refusal)?,
+    };
+    let _ = tell_plan(alloc, said, read, refusal)?;
+    Ok(())
+}
+
+// How many members the change would leave.
+fn members_left(wanted: &Wanted) -> u32 {
+    let mut members = 0u32;
+    for node in wanted.ring.nodes() {
+        members = members.saturating_add(u32::from(node.is_member));
+    }
+    for node in wanted.change.joins.as_slice() {
+        members = members.saturating_add(u32::from(!wanted.ring.is_member(*node)));
+    }
+    for node in wanted.change.leaves.as_slice() {
+        members = members.saturating_sub(u32::from(wanted.ring.is_member(*node)));
+    }
+    members
+}
+
+// Says why there is no plan for a change.
+fn tell_no_plan(alloc: Global, said: &mut Said, bytes: &[u8]) -> Result<(), Refusal> {
+    let wanted = match read_wanted(alloc, bytes) {
+        Ok(wanted) => wanted,
+        Err(refusal) => return unless_memory(refusal),
+    };
+    tell_few(said, members_left(&wanted), wanted.ring.n());
+    Ok(())
+}
+
+// Says that so many members are too few for partitions of so many slots, where they are.
+fn tell_few(said: &mut Said, members: u32, slots: u32) {
+    if members >= slots {
+        said.title(b"the planner found no plan");
+        return;
+    }
+    said.title_with(
+        b"there is no plan: # members would be left",
+        &[],
+        &[members],
+    );
+    said.note(
+        b"Partition 0 cannot be filled, nor any other: each slot of one wants a member of its own.",
+    );
+    said.note(b"Let fewer nodes leave, or more join.")
+}
+
+// Adds why a bundle is refused so, in words: nothing where there is no more to say than its line.
+fn push_why(
+    alloc: Global,
+    out: &mut Words,
+    said: &mut Said,
+    bytes: &[u8],
+    refusal: &Refusal,
+) -> Result<(), Refusal> {
+    if !tell_text(alloc, said, bytes, refusal)? {
+        tell_read(alloc, said, bytes, refusal)?;
+    }
+    said.push(out, Page { bytes });
+    if said.has_mend() {
+        push_mend(alloc, out, bytes, said, refusal)?;
+    }
+    Ok(())
+}
+
+/// Adds why a bundle is refused so, in words: nothing where there is no more to say than its line.
+pub fn push_words_of(
+    alloc: Global,
+    out: &mut Words,
+    bytes: &[u8],
+    refusal: &Refusal,
+) -> Result<(), Refusal> {
+    let mut said = Said::new(alloc);
+    push_why(alloc, out, &mut said, bytes, refusal)
+}
+
+// Adds what a yes says of a plan.
+fn push_accepted(out: &mut Words, found: &Study) {
+    let (ring, plan) = (found.approved.ring(), found.approved.plan());
+    let begin: &[u8] = if plan.len() == 1 {
+        b"accepted: # step. In every run of the plan, in any order that it allows:\n  any # slots of a partition include one that has each acknowledged put, or a successor"
+    } else {
+        b"accepted: # steps. In every run of the plan, in any order that it allows:\n  any # slots of a partition include one that has each acknowledged put, or a successor"
+    };
+    out.fill(begin, &[], &[plan.len(), ring.r()]);
+    if ring.loss() > 0 {
+        out.fill(b",\n  with # lost between", &[], &[ring.loss()]);
+    }
+    let end =
+        b";\n  no two slots of a partition share a node;\n  no node has more transfers open than its allowance.\n";
+    out.text(end);
+    if found.history.is_some() {
+        out.text(b"  The history is a run of it.\n");
+    }
+}
+
+// Adds what a yes says of the plan of a bundle.
+fn push_yes(alloc: Global, out: &mut Words, bytes: &[u8]) -> Result<(), Refusal> {
+    let found = studied(alloc, bytes)?;
+    push_accepted(out, &found);
+    Ok(())
+}
+
+// Whether the bytes are the texts of a ring, a plan and a certificate, and no more.
+fn is_plan(alloc: Global, bytes: &[u8]) -> Result<bool, Refusal>
+    ensures { IfOk result
+        (λ b. (x : TheBundle) → whole_text (bundle_at kind.Check) bytes.now ≡ Ok x → IsTrue b) }
+{
+    match read_bundle(alloc, Sections::Check, bytes) {
+        Ok(_) => Ok(true),
+        Err(Refusal::OutOfMemory) => Err(Refusal::OutOfMemory),
+        Err(_) => Ok(false),
+    }
+}
+
+// Why a ring, a plan and its certificate are accepted or refused.
+fn why_plan(alloc: Global, bytes: &[u8]) -> Result<Answer, Refusal>
+    ensures { IfOk result (λ a. AnswersCheck bytes.now a.output.items a.status) }
+{
+    let found = make(alloc, Job::Check, bytes);
+    let mut words = Words::new(alloc);
+    match &found {
+        Ok(_) => push_yes(alloc, &mut words, bytes)?,
+        Err(refusal) => push_words_of(alloc, &mut words, bytes, refusal)?,
+    }
+    let words = words.end()?;
+    let mut answer = answer_of(alloc, found)?;
+    answer.output.extend_from_slice(words.as_slice())?;
+    Ok(answer)
+}
+
+// Adds why a bundle with a change or a history is accepted or refused, and gives the refusal.
+fn push_more(alloc: Global, out: &mut Words, bytes: &[u8]) -> Result<Option<Refusal>, Refusal>
+    ensures { IfOk result (λ r. IfNone r (HasApproved bytes.now)) }
+{
+    match studied(alloc, bytes) {
+        Ok(found) => {
+            push_accepted(out, &found);
+            // The plan is approved, which the prover knows once it is read.
+            let _ = found.approved.plan();
+            Ok(None)
+        }
+        Err(refusal) => {
+            unless_memory(refusal)?;
+            push_words_of(alloc, out, bytes, &refusal)?;
+            Ok(Some(refusal))
+        }
+    }
+}
+
+// Why a bundle with a change or a history is accepted or refused.
+fn why_more(alloc: Global, bytes: &[u8]) -> Result<Answer, Refusal>
+    ensures { IfOk result (λ a. a.status ≡ 0 → HasApproved bytes.now) }
+{
+    let mut words = Words::new(alloc);
+    let found = match push_more(alloc, &mut words, bytes)? {
+        Some(refusal) => Err(refusal),
+        None => Ok(Vec::from_slice(alloc, b"yes\n")?),
+    };
+    let words = words.end()?;
+    let mut answer = answer_of(alloc, found)?;
+    answer.output.extend_from_slice(words.as_slice())?;
+    Ok(answer)
+}
+
+/// What the checker says of a bundle, and why: its line, and then words with the lines concerned and a mend, where there is one. Of a bundle with a change the
+/// planner's refusal or the yes to its plan, of one with a history also whether that is a run. The status is that of the line.
+pub fn why_bundle(alloc: Global, bytes: &[u8]) -> Result<Answer, Refusal>
+    // Status 0 comes only where the plan keeps its promises; of a ring, a plan and a certificate line and status are those of a check.
+    ensures why { IfOk result (λ a. IsWhy bytes.now a.output.items a.status) }
+{
+    if is_plan(alloc, bytes)? {
+        return why_plan(alloc, bytes);
+    }
+    match kind_of(bytes) {
+        Kind::Plan => why_plan(alloc, bytes),
+        Kind::Change | Kind::History => why_more(alloc, bytes),
+    }
+}

@@ -1,0 +1,61 @@
+//! The windows of a bundle's plan.
+
+ghost use Rattle.std.specs.Prelude.{List, IfOk};
+ghost use Rattle.ring_table.specs.Value.{RingValue};
+ghost use Rattle.plan_text.specs.declared.step.Planned.{Planned};
+ghost use Rattle.plan_check.specs.Approval.{IsApproved};
+ghost use Rattle.plan_bundles.specs.Windows.{AreAskedOf};
+ghost use Rattle.ringplan_people.specs.Studies.{IsStudyOf};
+
+use crate::study::studied;
+use crate::why::push_words_of;
+use plan_bundles::cut_plan;
+use ring_names::Refusal;
+use ringplan_job::Cut;
+use std::alloc::Global;
+use words::Words;
+
+// What is said of too many bytes.
+const TOO_MANY: &[u8; 123] =
+    b"refused: the windows have more than 67,108,864 bytes together, as each has the whole ring\n  Let a window have more rounds.\n";
+
+/// The plan of a bundle in windows, or one of these, as `cut_plan` says; a history changes nothing. Refused is what `studied` refuses, and what `cut_plan` does.
+pub fn windows_bundle(alloc: Global, bytes: &[u8], cut: Cut) -> Result<Vec<u8>, Refusal>
+    // They are windows of the bundle's plan, which the checker accepted, from the ring's text on to its end, or the one of the number that is asked for.
+    ensures windows { IfOk result (λ text. (ring : RingValue) × (plan : List Planned)
+        × IsStudyOf bytes.now ring plan × IsApproved ring plan × AreAskedOf ring plan cut.only text.items) }
+{
+    let found = studied(alloc, bytes)?;
+    cut_plan(alloc, &found.approved, cut.rounds, cut.only)
+}
+
+/// Adds why `windows_bundle` refuses a bundle.
+pub fn push_windows_words(
+    alloc: Global,
+    out: &mut Words,
+    bytes: &[u8],
+    refusal: &Refusal,
+) -> Result<(), Refusal> {
+    match refusal {
+        Refusal::TooLarge(0) => {
+            out.text(TOO_MANY);
+            Ok(())
+        }
+        Refusal::NoPlan => push_no_window(alloc, out, bytes),
+        _ => push_words_of(alloc, out, bytes, refusal),
+    }
+}
+
+// Says that there is no such window, where the plan itself is accepted.
+fn push_no_window(alloc: Global, out: &mut Words, bytes: &[u8]) -> Result<(), Refusal> {
+    match studied(alloc, bytes) {
+        Ok(_) => {
+            out.text(
+                b"refused: the plan has no window of that number, or no ring can say what one of its windows leaves\n",
+            );
+            Ok(())
+        }
+        Err(Refusal::OutOfMemory) => Err(Refusal::OutOfMemory),
+        Err(_) => push_words_of(alloc, out, bytes, &Refusal::NoPlan),
+    }
+}

@@ -1,0 +1,117 @@
+-- What is printed, or written to a file.
+use Rattle.std.proofs.Common.{◌≡◌, ◌⊎◌, inl, inr, ℕ, List, [], ◌∷◌, ◌++◌, Option, Some, None, Err, drop, refl, sym, ap, ◌∙◌, subst}
+use Rattle.std.proofs.lemmas.List.{append_assoc, append-nil}
+use Rattle.std.specs.Prelude.{IsSome, String, option_map, string_bytes}
+use Rattle.std.specs.Global.{Global}
+use Rattle.ringplan_command.specs.declared.files.Files.{Files}
+use Rattle.ring_names.specs.declared.refusal.Refusal.{Refusal}
+use Rattle.ring_names.specs.declared.refusal.Refusal.TheVariants.{TooLarge, OutOfMemory, ReadFailed}
+use Rattle.ring_names.specs.Refusals.{number_of}
+use Rattle.ringplan_job.specs.declared.job.Job.{Job}
+use Rattle.ringplan_job.specs.declared.making.Making.{Making}
+use Rattle.ringplan_jobs.specs.Answers.{refused_status}
+use Rattle.ringplan_jobs.specs.Io.{Prints, AppendsPart, Reads, Tells}
+use Rattle.ringplan_command.specs.Command.{Asked, asked, only}
+use Rattle.ringplan_command.specs.Files.{Names, files_in, files_of, no_files}
+use Rattle.ringplan_command.specs.Tree.{word_of}
+use Rattle.ringplan_command.proofs.Commands.{asked_alone, no_files_alone}
+use Rattle.ringplan_run.specs.Run.{Delivers, Reports, Runs, RunsTo, Shows, failed, filed, printed, told_by, too_large}
+
+-- nothing is printed, with any status
+pub prints_nothing : (old : Option (List ℕ)) (status : ℕ) → Prints old old [] status status
+prints_nothing None status = inl (tt, refl)
+prints_nothing (Some xs) status = inl (sym (append-nil xs), refl)
+
+-- a first part that was printed is one of the whole
+prints_part : (old new : Option (List ℕ)) (text front rest : List ℕ) (result : ℕ) → text ≡ front ++ rest → Prints old new front 3 result → AppendsPart old new text × (result ≡ 3)
+prints_part old new text front rest result e (inl (appends, is)) = ((front, rest, e, appends), is)
+prints_part old new text front rest result e (inr ((first, more, same, appends), is)) =
+    ((first, more ++ rest, e ∙ (ap (λ (xs : List ℕ). xs ++ rest) same ∙ append_assoc first more rest), appends), is)
+
+-- what was said to a list of bytes is printed
+pub handed_on : (asked : Asked) (bytes shown : List ℕ) (old new : Option (List ℕ)) (status result : ℕ) → Shows asked bytes (Some []) (Some shown) status → Prints old new shown status result
+    → Shows asked bytes old new result
+handed_on asked bytes shown old new status result (text, wanted, says, inl (appends, is)) prints =
+    (text, wanted, says, subst (λ (s : ℕ). Prints old new text s result) is (subst (λ (xs : List ℕ). Prints old new xs status result) appends prints))
+handed_on asked bytes shown old new status result (text, wanted, says, inr ((front, rest, e, appends), three)) prints =
+    let part = subst (λ (s : ℕ). Prints old new front s result) three (subst (λ (xs : List ℕ). Prints old new xs status result) appends prints) in
+    (text, wanted, says, inr (prints_part old new text front rest result e part))
+
+-- what is printed is delivered
+pub delivers : (asked : Asked) (target : Option (List ℕ)) (bytes : List ℕ) (old new : Option (List ℕ)) (result : ℕ) → Shows asked bytes old new result → RunsTo asked target bytes old new result
+delivers asked target bytes old new result (text, status, says, prints) = (text, status, says, printed prints)
+
+-- what was said with status 0 to a list of bytes is written to a file
+pub saved : (asked : Asked) (target : Option (List ℕ)) (bytes shown : List ℕ) (old : Option (List ℕ)) (status result : ℕ) → IsSome target → status ≡ 0
+    → Shows asked bytes (Some []) (Some shown) status → (result ≡ 0) ⊎ (result ≡ 3) → RunsTo asked target bytes old old result
+saved asked target bytes shown old status result some zero (text, wanted, says, inl (appends, is)) (inl e) = (text, wanted, says, filed some refl (inl (e ∙ (sym zero ∙ is))))
+saved asked target bytes shown old status result some zero (text, wanted, says, inl (appends, is)) (inr e) = (text, wanted, says, filed some refl (inr e))
+saved asked target bytes shown old status result some zero (text, wanted, says, inr (part, three)) h = let bad : 0 ≡ 3 = sym zero ∙ three in absurd cc
+
+-- where no file is written, all is printed
+only_printed : (target : Option (List ℕ)) (old new : Option (List ℕ)) (text : List ℕ) (status result : ℕ) → Delivers None old new text status result → Delivers target old new text status result
+only_printed target old new text status result (printed p) = printed p
+only_printed target old new text status result (filed some e r) = absurd cc
+
+-- ---- the files of a line
+
+-- the names that were read, by the first of them
+pub named_in : {X : Type 0} (found : Files) (input : Option (String Global)) (files : Names) → found.input ≡ input → (files_in found ≡ files) ⊎ ((files_in found ≡ no_files) × X)
+    → (record { input = option_map string_bytes input; output = option_map string_bytes found.output } ≡ files) ⊎ (record { input = option_map string_bytes input; output = option_map string_bytes found.output } ≡ no_files)
+named_in found input files e (inl h) = inl (subst (λ (i : Option (String Global)). record { input = option_map string_bytes i; output = option_map string_bytes found.output } ≡ files) e h)
+named_in found input files e (inr h) = inr (subst (λ (i : Option (String Global)). record { input = option_map string_bytes i; output = option_map string_bytes found.output } ≡ no_files) e h.0)
+
+-- a run by a line that names these files
+abbrev pub RanBy : Asked → Names → Option (List ℕ) → Option (List ℕ) → Option (List ℕ) → ℕ → Type 0
+RanBy asked files told old new result = (bytes : List ℕ) × Tells (told_by files told) bytes × Runs asked files bytes old new result
+
+-- what was read from the input, where no file is named or none is used
+tells_less : (files : Names) (told : Option (List ℕ)) (bytes : List ℕ) → Tells told bytes → Tells (told_by files told) bytes
+tells_less files told bytes h = by files.input
+  where
+    by : (input : Option (List ℕ)) → Tells (told_by (record { input = input; output = files.output }) told) bytes
+    by None = h
+    by (Some name) = tt
+
+-- the input was read
+pub ran_input : (asked : Asked) (files : Names) (target told old new : Option (List ℕ)) (result : ℕ) → (record { input = None; output = target } ≡ files) ⊎ (record { input = None; output = target } ≡ no_files)
+    → (bytes : List ℕ) × Tells told bytes × RunsTo asked target bytes old new result → RanBy asked files told old new result
+ran_input asked files target told old new result (inl e) (bytes, tells, runs) =
+    subst (λ (f : Names). RanBy asked f told old new result) e (bytes, tells, inl runs)
+ran_input asked files target told old new result (inr e) (bytes, tells, runs) =
+    let none = subst (λ (t : Option (List ℕ)). RunsTo asked t bytes old new result) (ap (λ (f : Names). f.output) e) runs in
+    (bytes, tells_less files told bytes tells, inl (none.0, none.1, none.2, only_printed files.output old new none.0 none.1 result none.3))
+
+-- a file was read
+pub ran_file : (asked : Asked) (files : Names) (name : List ℕ) (target told other old new : Option (List ℕ)) (result : ℕ)
+    → (record { input = Some name; output = target } ≡ files) ⊎ (record { input = Some name; output = target } ≡ no_files)
+    → (bytes : List ℕ) × Tells other bytes × RunsTo asked target bytes old new result → RanBy asked files told old new result
+ran_file asked files name target told other old new result (inl e) (bytes, tells, runs) = subst (λ (f : Names). RanBy asked f told old new result) e (bytes, tt, inl runs)
+ran_file asked files name target told other old new result (inr e) h = let bad : Some name ≡ None = ap (λ (f : Names). f.input) e in absurd cc
+
+-- a file could not be read
+pub ran_unopened : (asked : Asked) (files : Names) (name : List ℕ) (target told old : Option (List ℕ)) (result : ℕ)
+    → (record { input = Some name; output = target } ≡ files) ⊎ (record { input = Some name; output = target } ≡ no_files)
+    → (result ≡ 2) ⊎ (result ≡ 3) → RanBy asked files told old old result
+ran_unopened asked files name target told old result (inl e) h = subst (λ (f : Names). RanBy asked f told old old result) e ([], tt, inr (refl, refl, h))
+ran_unopened asked files name target told old result (inr e) h = let bad : Some name ≡ None = ap (λ (f : Names). f.input) e in absurd cc
+
+-- the word of a job alone asks for just that, and names no file
+pub ran_alone : (job : Job) (words : List (List ℕ)) (told old new : Option (List ℕ)) (result : ℕ) → drop 1 words ≡ word_of job ∷ [] → RanBy (asked words) (files_of words) told old new result
+    → RanBy (only job) no_files told old new result
+ran_alone job words told old new result e h =
+    let named = subst (λ (f : Names). RanBy (asked words) f told old new result) (no_files_alone job words e) h in
+    subst (λ (a : Asked). RanBy a no_files told old new result) (asked_alone job words e) named
+
+-- ---- reports of what was not read
+
+pub reports_unread : (making : Making) (bytes text : List ℕ) (status : ℕ) (e : Refusal) → Reads bytes (Err e) → text ≡ [] → status ≡ refused_status (number_of e) → Reports making bytes text status
+reports_unread making bytes text status (TooLarge line) reads t s = too_large reads.1 t s
+reports_unread making bytes text status ReadFailed reads t s = failed t s
+reports_unread making bytes text status OutOfMemory reads t s = failed t s
+reports_unread making bytes text status e reads t s = absurd reads
+
+-- whatever the reader tells, some bytes are what it tells
+pub told_bytes : (told : Option (List ℕ)) → (bytes : List ℕ) × Tells told bytes
+told_bytes None = ([], tt)
+told_bytes (Some xs) = (xs, refl)

@@ -1,0 +1,54 @@
+use Rattle.std.proofs.Common.{rules, [], subst, refl}
+use Rattle.ringplan_jobs.specs.Answers.{texts_of}
+use Rattle.ringplan_command.specs.Command.{Answers}
+use Rattle.ringplan_command.specs.declared.command.Request.{Request}
+use Rattle.ringplan_run.specs.Run.{help, refused}
+use Rattle.ringplan_run.proofs.Runs.{many_few, ran, ran_asked, ran_by, ran_driven, ran_out, ran_report, said}
+use Rattle.ringplan_run.proofs.Deliveries.{prints_nothing}
+use Rattle.ringplan_run.proofs.program.run_request.Goals as goal
+
+pub returns-in-Do : goal.returns-in-Do
+returns-in-Do g c = λ asked h.
+    let asks = subst (λ (r : Request). Answers asked r) c.in-Do.is h in
+    ran_asked c.in-Do.job asked (g.R.Read.remaining c.args.input.now) _ _ c.run_alone.result asks c.run_alone.ensures
+
+pub returns-in-CheckBy : goal.returns-in-CheckBy
+returns-in-CheckBy g c = λ asked h.
+    let asks = subst (λ (r : Request). Answers asked r) c.in-CheckBy.is h in
+    ran_by asked c.in-CheckBy.workers (g.R.Read.remaining c.args.input.now) _ _ (texts_of c.make_of_by-found.result) c.tell.result asks c.make_of_by-found.ensures c.tell.ensures
+
+pub drive_of-found-requires : goal.drive_of-found-requires
+drive_of-found-requires g c =
+    let asks = subst (λ (r : Request). Answers c.requires.0 r) c.in-Drive.is c.requires.1 in
+    (search rules, many_few asks.0 c.in-Drive.workers asks.3)
+
+pub returns-in-Drive : goal.returns-in-Drive
+returns-in-Drive g c = λ asked h.
+    let asks = subst (λ (r : Request). Answers asked r) c.in-Drive.is h in
+    ran_driven asked c.in-Drive.workers c.in-Drive.form (g.R.Read.remaining c.args.input.now) _ _ (texts_of c.drive_of-found.result) c.tell-in-Drive.result asks c.drive_of-found.ensures c.tell-in-Drive.ensures
+
+pub returns-in-Make : goal.returns-in-Make
+returns-in-Make g c = λ asked h.
+    let asks = subst (λ (r : Request). Answers asked r) c.in-Make.is h in
+    ran_report asked c.in-Make.making (g.R.Read.remaining c.args.input.now) _ _ c.run_making.result asks c.run_making.ensures
+
+pub returns-in-Help : goal.returns-in-Help
+returns-in-Help g c = λ asked h.
+    let told = g.R.Read.remaining c.args.input.now in
+    let asks = subst (λ (r : Request). Answers asked r) c.in-Help.is h in
+    ran _ told _ _ c.in-Help.text.items c.as_slice.result.now 0 c.finish.result (said _ told c.in-Help.text.items 0 (λ bytes. help asks refl)) c.as_slice.ensures.value c.finish.ensures
+
+pub returns-in-Refused : goal.returns-in-Refused
+returns-in-Refused g c = λ asked h.
+    let told = g.R.Read.remaining c.args.input.now in
+    let asks = subst (λ (r : Request). Answers asked r) c.in-Refused.is h in
+    ran _ told _ _ c.in-Refused.text.items c.as_slice-in-Refused.result.now 2 c.finish-in-Refused.result (said _ told c.in-Refused.text.items 2 (λ bytes. refused asks refl)) c.as_slice-in-Refused.ensures.value c.finish-in-Refused.ensures
+
+pub returns-in-Mistaken : goal.returns-in-Mistaken
+returns-in-Mistaken g c = λ asked h.
+    let told = g.R.Read.remaining c.args.input.now in
+    let asks = subst (λ (r : Request). Answers asked r) c.in-Mistaken.is h in
+    ran _ told _ _ [] [] 2 2 (said _ told [] 2 (λ bytes. refused asks refl)) refl (prints_nothing _ 2)
+
+pub returns-in-OutOfMemory : goal.returns-in-OutOfMemory
+returns-in-OutOfMemory g c = λ asked h. ran_out asked (g.R.Read.remaining c.args.input.now) _ _ _ c.end_without_memory.ensures

@@ -1,0 +1,60 @@
+//! What is printed for people.
+
+use ringplan_command::{CommandLine, Request, parse};
+use ringplan_people::{Report, report_bundle};
+use std::alloc::Global;
+use std::rt::Runtime;
+use std::{fs, io, str};
+
+/// The words of the command line that the word stands for, if it is no bundle's name.
+pub fn words_of(word: &str) -> Option<&'static [&'static str]> {
+    let words: &'static [&'static str] = match word {
+        "why" => &["ringplan", "why"],
+        "show" => &["ringplan", "show"],
+        "all" => &["ringplan", "show", "--all", "--racks-behind", "."],
+        "draw" => &["ringplan", "draw"],
+        "map" => &["ringplan", "draw", "--map"],
+        "racks" => &["ringplan", "draw", "--map", "--racks-behind", "."],
+        "steps" => &["ringplan", "steps"],
+        "moves" => &["ringplan", "steps", "--moves"],
+        "bundle" => &["ringplan", "bundle"],
+        "cert" => &["ringplan", "cert"],
+        "after" => &["ringplan", "after"],
+        "goal" => &["ringplan", "goal", "--racks-behind", "."],
+        "even" => &["ringplan", "goal", "--even", "--racks-behind", "."],
+        "dead" => &["ringplan", "goal", "--dead", "b"],
+        "windows" => &["ringplan", "windows", "--rounds", "2"],
+        "only" => &["ringplan", "windows", "--rounds", "1", "--only", "2"],
+        _ => return None,
+    };
+    Some(words)
+}
+
+// What is printed of the bundle, where memory is there and the words ask for a command for people.
+fn report_of(alloc: Global, words: &[&str], bundle: &[u8]) -> Option<Report> {
+    let CommandLine { request, .. } = parse(alloc, words);
+    match request {
+        Request::Make(making) => report_bundle(alloc, &making, bundle).ok(),
+        _ => None,
+    }
+}
+
+/// Prints the command, the name of a bundle, what standard output and standard error have of it, and the exit status.
+pub fn show_report<RT: Runtime + AllocGlobal>(
+    rt: &RT,
+    words: &[&str],
+    name: &str,
+) -> io::Result<()> {
+    let path = format!(in rt.alloc(); "{name}.bundle")?;
+    let bundle = fs::read(rt, path.as_str())?;
+    let command = words.get(1).copied().unwrap_or("");
+    match report_of(rt.alloc(), words, bundle.as_slice()) {
+        Some(report) => {
+            let output = str::from_utf8(report.output.as_slice()).unwrap_or("no text\n");
+            let errors = str::from_utf8(report.errors.as_slice()).unwrap_or("no text\n");
+            let status = report.status;
+            print!(rt; "{command} {name}\n{output}{errors}{status}\n")
+        }
+        None => print!(rt; "{command} {name}\nno report\n"),
+    }
+}

@@ -1,0 +1,128 @@
+#!/usr/bin/env python3
+"""Tries what the program reads and writes, from outside: files that are named, standard input, output and error, and a terminal. It wants the program as it
+is built."""
+import os, pty, subprocess, sys, tempfile
+
+top = os.path.dirname(os.path.dirname(os.path.abspath(__file__)))
+RUN = f"{top}/crates/ringplan/out/ringplan"
+EXAMPLES = f"{top}/examples"
+MOST = 67_108_864
+faults = []
+tried = 0
+
+
+def run(*words, given=b"", folder=None):
+    ran = subprocess.run([RUN, *words], input=given, stdout=subprocess.PIPE, stderr=subprocess.PIPE, timeout=60, cwd=folder)
+    return ran.stdout, ran.stderr, ran.returncode
+
+
+def owes(what, found, output, errors, status):
+    """Each of the three is a value that must be met, or a test of it."""
+    global tried
+    tried += 1
+    for part, wanted in zip(found, (output, errors, status)):
+        if not (wanted(part) if callable(wanted) else part == wanted):
+            faults.append(f"{what}: {found[0][:80]!r}, {found[1][:200]!r}, {found[2]}")
+            return
+
+
+def contains(text):
+    return lambda found: text in found
+
+
+def read(name):
+    with open(f"{EXAMPLES}/{name}.bundle", "rb") as it:
+        return it.read()
+
+
+def files(folder):
+    good, plan = f"{EXAMPLES}/move_one_slot.bundle", f"{EXAMPLES}/plan_replace.bundle"
+    text = read("move_one_slot")
+    owes("a file", run("check", good), b"yes\n", b"", 0)
+    owes("a dash", run("check", "-", given=text), b"yes\n", b"", 0)
+    owes("no file", run("check", given=text), b"yes\n", b"", 0)
+    owes("a file before options", run("show", good, "--all"), contains(b"d joins"), b"", 0)
+    owes("a file that is missing", run("check", "none.bundle", folder=folder), b"", b"ringplan: none.bundle: No such file or directory (os error 2)\n", 3)
+    owes("a folder", run("check", folder), b"", f"ringplan: {folder}: is a directory\n".encode(), 3)
+    large = f"{folder}/large"
+    with open(large, "wb") as it:
+        it.truncate(MOST + 1)
+    for word in ("check", "show"):
+        owes("a file that is too large", run(word, large), b"", f"ringplan: {large}: has more than {MOST} bytes\n".encode(), 2)
+    with open(large, "wb") as it:
+        it.truncate(MOST)
+    owes("a file of the most bytes", run("check", large), contains(b"no "), b"", 2)
+    owes("two files", run("check", good, good), contains(b"unexpected argument"), b"", 2)
+    owes("a file that is only there", run("plan", plan), contains(b"plan 1\n"), b"", 0)
+
+
+def outputs(folder):
+    plan = f"{EXAMPLES}/plan_replace.bundle"
+    target = f"{folder}/out"
+    whole = run("goal", plan)[0]
+    for option in (["-o", target], [f"--output={target}"], [f"-o{target}"]):
+        owes("an output", run("goal", *option, plan), b"", b"", 0)
+        with open(target, "rb") as it:
+            if it.read() != whole:
+                faults.append(f"{option}: another text")
+        os.remove(target)
+    with open(target, "wb") as it:
+        it.write(b"old")
+    owes("an output that is refused", run("goal", "-o", target, f"{EXAMPLES}/copy_out_of_order.bundle"), b"", contains(b"refused"), 2)
+    owes("a check that says no", run("check", "-o", target, f"{EXAMPLES}/copy_out_of_order.bundle"), contains(b"no "), b"", 1)
+    with open(target, "rb") as it:
+        if it.read() != b"old":
+            faults.append("a refusal changes the output's file")
+    owes("an output in no folder", run("goal", "-o", f"{folder}/none/out", plan), b"", contains(b"No such file or directory"), 3)
+    owes("an output that is a folder", run("goal", "-o", folder, plan), b"", contains(b"Is a directory"), 3)
+    owes("a device", run("goal", "-o", "/dev/null", plan), b"", b"", 0)
+    if not os.path.exists("/dev/null") or os.path.isfile("/dev/null"):
+        faults.append("/dev/null is no device any more")
+    owes("a full device", run("goal", "-o", "/dev/full", plan), b"", contains(b"No space left on device"), 3)
+    owes("a dash", run("goal", "-o", "-", plan), whole, b"", 0)
+    left = [name for name in os.listdir(folder) if name.endswith(".part")]
+    if left:
+        faults.append(f"parts are left: {left}")
+
+
+def streams():
+    refused = read("copy_out_of_order")
+    for word in ("show", "draw", "steps", "bundle", "after", "windows --rounds 2"):
+        owes(f"{word} of a refused plan", run(*word.split(), given=refused), b"", lambda text: text.startswith(b"no 2"), 1)
+    owes("check of a refused plan", run("check", given=refused), lambda text: text.startswith(b"no 2"), b"", 1)
+    owes("why of a refused plan", run("why", given=refused), contains(b"refused:"), b"", 1)
+    owes("a wrong option of goal", run("goal", "--ded", "b"), b"", contains(b"unexpected argument"), 2)
+    owes("a wrong option of check", run("check", "--ded"), contains(b"unexpected argument"), b"", 2)
+    owes("a wrong weight", run("goal", "--weight", "b"), b"", contains(b"--weight <NODE=K>"), 2)
+    owes("a wrong number of rounds", run("windows", "--rounds", "0"), b"", contains(b"1..=1000000"), 2)
+    ring = read("plan_replace").split(b"change 1\n")[0]
+    owes("a goal that is reached", run("goal", given=ring + b"change 1\nend\n"), ring + b"plan 1\nend\ncert 1\nend\n", contains(b"the plan has no steps"), 0)
+    owes("no command", run(), contains(b"Usage"), b"", 2)
+    logic = subprocess.run(["rt", "version"], stdout=subprocess.PIPE).stdout.decode().split()[-1]
+    for word in ("--version", "-V"):
+        owes("the version", run(word), f"ringplan 1.0.0 (Rattle logic {logic})\n".encode(), b"", 0)
+    short, long = run("check", "-h")[0], run("check", "--help")[0]
+    if not (len(short) < len(long) and b"Exit status" in long and b"Exit status" not in short):
+        faults.append("-h is no shorter than --help")
+
+
+def terminal():
+    """At a terminal with nothing to read the program says that it waits."""
+    ours, theirs = pty.openpty()
+    with subprocess.Popen([RUN, "check"], stdin=theirs, stdout=subprocess.PIPE, stderr=subprocess.PIPE) as ran:
+        os.close(theirs)
+        os.write(ours, read("move_one_slot") + b"\x04")
+        output, errors = ran.communicate(timeout=60)
+        owes("a terminal", (output, errors, ran.returncode), b"yes\n", contains(b"reads a bundle from the terminal"), 0)
+    os.close(ours)
+
+
+with tempfile.TemporaryDirectory() as scratch:
+    files(scratch)
+    outputs(scratch)
+streams()
+terminal()
+for fault in faults:
+    print(fault)
+print(f"streams: {tried} runs, {len(faults)} faults")
+sys.exit(bool(faults))
