@@ -14,8 +14,9 @@ SEED = int(sys.argv[2]) if len(sys.argv) > 2 else 20261126
 
 
 def ask(word, text):
-    ran = subprocess.run([RUN, word], input=text.encode(), stdout=subprocess.PIPE, stderr=subprocess.STDOUT, timeout=60)
-    return ran.stdout.decode(), ran.returncode
+    ran = subprocess.run([RUN, word], input=text.encode(), capture_output=True, timeout=60)
+    # A refusal of a command for people stands on standard error.
+    return (ran.stdout + (ran.stderr if ran.returncode else b"")).decode(), ran.returncode
 
 
 class Drawn:

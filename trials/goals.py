@@ -18,8 +18,9 @@ COUNT = int(sys.argv[1]) if len(sys.argv) > 1 else 200
 
 
 def ask(words, text):
-    ran = subprocess.run([RUN, *words], input=text.encode(), stdout=subprocess.PIPE, stderr=subprocess.STDOUT, timeout=300)
-    return ran.stdout.decode(), ran.returncode
+    ran = subprocess.run([RUN, *words], input=text.encode(), capture_output=True, timeout=300)
+    # A refusal of a command for people stands on standard error.
+    return (ran.stdout + (ran.stderr if ran.returncode else b"")).decode(), ran.returncode
 
 
 def ring_text(ring, members, rows):

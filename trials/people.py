@@ -14,8 +14,9 @@ EDITS = int(sys.argv[1]) if len(sys.argv) > 1 else 40
 
 
 def ask(words, text):
-    ran = subprocess.run([RUN, *words.split()], input=text.encode(), stdout=subprocess.PIPE, stderr=subprocess.STDOUT, timeout=60)
-    return ran.stdout.decode(), ran.returncode
+    ran = subprocess.run([RUN, *words.split()], input=text.encode(), capture_output=True, timeout=60)
+    # A refusal of a command for people stands on standard error.
+    return (ran.stdout + (ran.stderr if ran.returncode else b"")).decode(), ran.returncode
 
 
 def edited(lines, draw):

@@ -51,8 +51,8 @@ def asked(number):
 def answered(number):
     """The owners by number behind the plan, and None where there is none."""
     names, options, text = asked(number)
-    ran = subprocess.run([RUN, "goal", *options], input=text.encode(), stdout=subprocess.PIPE, stderr=subprocess.STDOUT, timeout=60)
-    out = ran.stdout.decode()
+    ran = subprocess.run([RUN, "goal", *options], input=text.encode(), capture_output=True, timeout=60)
+    out = (ran.stdout + (ran.stderr if ran.returncode else b"")).decode()
     if out.startswith("no 28\n") and ran.returncode == 1:
         return None
     if ran.returncode:
