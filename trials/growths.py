@@ -34,6 +34,9 @@ COMMANDS = {
 }
 
 
+# Where memory is refused to a command for people, standard output has nothing; but it has the refusal where memory is refused before the command is known.
+NOTHING = [(3, b""), (3, b"no 60\n")]
+
 # What is asked for people: each command of some bundles, and of others why they are refused.
 MADE = ["plan_replace", "replay_a_move", "node_enters_before_it_left"]
 REFUSED = ["broken_fact", "more_chains_than_allowance", "retired_in_use", "copy_in_no_chain", "chain_out_of_order", "moving_source", "switch_without_copy", "no_certificate",
@@ -52,15 +55,15 @@ def people():
     for name in MADE + REFUSED:
         for words in ("why", "show --all --racks-behind .", "draw", "steps", "bundle", "cert", "after") if name in MADE else ("why", "cert") if name in SOUGHT else ("why",):
             given = os.path.join(CRATES, "tests_cases", "data", name + ".bundle")
-            yield "%s %s" % (name, words), [RUN, *words.split()], given, (3, b""), False
+            yield "%s %s" % (name, words), [RUN, *words.split()], given, NOTHING, False
     for name, words in WISHED:
         given = os.path.join(CRATES, "tests_cases", "data", name + ".bundle")
-        yield "%s %s" % (name, words), [RUN, *words.split()], given, (3, b""), False
+        yield "%s %s" % (name, words), [RUN, *words.split()], given, NOTHING, False
 
 
 def cases():
     """The runs: a name, the program with its words, its input, what is owed where memory is refused, and whether the first line alone counts."""
-    yield "stores", [STORES], os.path.join(CRATES, "tests_growths", "stdin"), (1, b""), False
+    yield "stores", [STORES], os.path.join(CRATES, "tests_growths", "stdin"), [(1, b"")], False
     with open(os.path.join(CASES, "args")) as file:
         names = file.read().split()
     kinds = ["check"]
@@ -70,7 +73,7 @@ def cases():
             continue
         for words in COMMANDS[kinds[0]]:
             label = " ".join([name, *words])
-            yield label, [RUN, *words], os.path.join(CASES, "data", name + ".bundle"), (3, b"no 60\n"), kinds[0] == "race"
+            yield label, [RUN, *words], os.path.join(CASES, "data", name + ".bundle"), [(3, b"no 60\n")], kinds[0] == "race"
     yield from people()
 
 
@@ -91,7 +94,7 @@ def refuse_each(case, preload, scratch):
     for what, setting, count in (("growth", "REFUSED", growths), ("start", "REFUSED_START", starts)):
         for number in range(1, count + 1):
             found = run(words, given, first, preload, **{setting: str(number)})
-            if found not in (whole, owed):
+            if found not in [whole, *owed]:
                 return name, growths, ended, starts, "%s %d ends with %d and prints %r" % (what, number, found[0], found[1][:200])
             ended[what, found == whole] += 1
     return name, growths, ended, starts, None

@@ -50,11 +50,11 @@ fn whole_words(sheet: &Sheet, shown: &Shown, takes: bool) -> Words {
 // The words of a bar: the slot with the other node where there is room for it, else the slot, else the partition.
 fn label(sheet: &Sheet, shown: &Shown, takes: bool, room: u32) -> Words {
     let whole = whole_words(sheet, shown, takes);
-    if can_fit(&whole, room) {
+    if can_fit(whole.as_slice(), room) {
         return whole;
     }
     let slot = slot_word(sheet, shown);
-    if can_fit(&slot, room) {
+    if can_fit(slot.as_slice(), room) {
         return slot;
     }
     let mut partition = Words::new(sheet.alloc);
@@ -68,9 +68,14 @@ pub fn have_room(sheet: &Sheet, wide: u32) -> bool {
     for shown in sheet.scene.shown.moves.as_slice() {
         most = most.max(shown.slot.partition);
     }
-    let mut words = Words::new(sheet.alloc);
-    words.number(most);
-    can_fit(&words, wide.saturating_sub(RIM))
+    // All digits are as wide as this one.
+    let digits: &[u8] = match most {
+        0..=9 => b"0",
+        10..=99 => b"00",
+        100..=999 => b"000",
+        _ => b"0000",
+    };
+    can_fit(digits, wide.saturating_sub(RIM))
 }
 
 // What a bar says to a pointer.

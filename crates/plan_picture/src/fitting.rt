@@ -68,6 +68,6 @@ fn push_narrow(out: &mut Words, size: u32, room: u32) {
 }
 
 /// Whether the words fit at their least size where they are made narrower by a fifth at most.
-pub fn can_fit(words: &Words, room: u32) -> bool {
-    width(words.as_slice(), LEAST).saturating_mul(4) <= room.saturating_mul(5)
+pub fn can_fit(words: &[u8], room: u32) -> bool {
+    width(words, LEAST).saturating_mul(4) <= room.saturating_mul(5)
 }

@@ -54,7 +54,7 @@ pub struct Plot {
 impl Plot {
     /// The rows of the nodes, as high as the most copies that one has in a round.
     pub fn of(sheet: &Sheet, nodes: &[u32], lanes: &Lanes) -> Result<Plot, Refusal> {
-        let left = words_before(sheet, nodes).saturating_add(MARGIN + 12);
+        let left = words_before(sheet, nodes)?.saturating_add(MARGIN + 12);
         let rounds = sheet.scene.round_count().max(1);
         let room = (WIDE - MARGIN - SLOTS - GAP).saturating_sub(left);
         let column = match room.checked_div(rounds) {
@@ -233,16 +233,16 @@ fn push_plan_keys(out: &mut Words, start: Point) {
 }
 
 // How wide the words before the rows are.
-fn words_before(sheet: &Sheet, nodes: &[u32]) -> u32 {
+fn words_before(sheet: &Sheet, nodes: &[u32]) -> Result<u32, Refusal> {
     let mut wide = NARROW;
     for node in nodes {
         let at_once = sheet.at_once(*node);
         let role = role_of(sheet, *node, at_once.len() > 0);
         wide = wide.max(width(name(sheet.ring, *node), 12).saturating_mul(9) / 8);
-        wide = wide.max(width(role.as_slice(), 10));
-        wide = wide.max(width(at_once.as_slice(), 10));
+        wide = wide.max(width(role.end()?.as_slice(), 10));
+        wide = wide.max(width(at_once.end()?.as_slice(), 10));
     }
-    wide.min(BROAD)
+    Ok(wide.min(BROAD))
 }
 
 // `joins`, and `down, leaves, never more than`
