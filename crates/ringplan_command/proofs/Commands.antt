@@ -139,7 +139,7 @@ none_helped kinds e (inr h) = let P : Kinds → Type 0 = IsAmong DisplayVersion 
 none_refused : (job : Job) (asked : Asked) → asked ≡ only job → IsRefused asked → ⊥
 none_refused job asked e (inl h) = none_mistaken _ (ap (λ x. x.faults) e) h
 none_refused job asked e (inr (inl (t, is, h))) = let none : Some t ≡ None = sym is ∙ ap (λ x. x.workers) e in absurd cc
-none_refused job asked e (inr (inr (w, is))) = let task : to_make w ≡ to_do job = ap (λ x. x.task) (sym is ∙ e) in absurd cc
+none_refused job asked e (inr (inr (w, is, values))) = let task : to_make w ≡ to_do job = ap (λ x. x.task) (sym is ∙ e) in absurd cc
 
 -- a refused line answers whatever is refused
 pub turned_away : (asked : Asked) (r : Request) → IsRefused asked → IsTurnedAway r → Answers asked r
@@ -155,7 +155,7 @@ turned_away asked OutOfMemory h is = absurd is
 -- what a command for people makes answers a line that asks for it, and so does its refusal
 pub of_word : {E : Type 0} (asked : Asked) (w : Word) (r : Result Request E) → AsksWord asked w → IfOk r (IsOfWord w) → IfOk r (Answers asked)
 of_word asked w (Ok (Make making)) e h = e ∙ ap (λ (v : Word). asks_word v) (sym h)
-of_word asked w (Ok (Mistaken text)) e h = inr (inr (w, e))
+of_word asked w (Ok (Mistaken text)) e h = inr (inr (w, e, h))
 of_word asked w (Ok (Do _)) e h = absurd h
 of_word asked w (Ok (CheckBy _)) e h = absurd h
 of_word asked w (Ok (Drive _ _)) e h = absurd h

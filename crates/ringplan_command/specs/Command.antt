@@ -163,9 +163,16 @@ asks_word w = record { faults = []; task = to_make w; workers = None; json = Non
 abbrev pub AsksWord : Asked → Word → Type 0
 AsksWord asked w = asked ≡ asks_word w
 
+-- the command for people has an option with a value that may be refused
+abbrev pub TakesValues : Word → Type 0
+TakesValues people.Show = ⊤
+TakesValues people.Draw = ⊤
+TakesValues people.Goal = ⊤
+TakesValues w = ⊥
+
 -- the line is refused: for its words, for its workers, or for the value of an option of a command for people
 abbrev pub IsRefused : Asked → Type 0
-IsRefused asked = IsMistaken asked.faults ⊎ (HasNoNumber asked.workers ⊎ ((w : Word) × AsksWord asked w))
+IsRefused asked = IsMistaken asked.faults ⊎ (HasNoNumber asked.workers ⊎ ((w : Word) × AsksWord asked w × TakesValues w))
 
 -- what a command line that asks so is taken for, memory aside
 abbrev pub Answers : Asked → Request → Type 0
@@ -184,8 +191,8 @@ IsTurnedAway (Refused text) = ⊤
 IsTurnedAway (Mistaken text) = ⊤
 IsTurnedAway _ = ⊥
 
--- what that command for people makes, or a line that is refused
+-- what that command for people makes, or a line that is refused for the value of one of its options
 abbrev pub IsOfWord : Word → Request → Type 0
 IsOfWord w (Make making) = word_of_making making ≡ w
-IsOfWord w (Mistaken text) = ⊤
+IsOfWord w (Mistaken text) = TakesValues w
 IsOfWord w _ = ⊥

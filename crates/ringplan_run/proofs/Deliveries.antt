@@ -44,14 +44,14 @@ delivers asked target bytes old new result (text, status, says, prints) = (text,
 -- what was said with status 0 to a list of bytes is written to a file
 pub saved : (asked : Asked) (target : Option (List ℕ)) (bytes shown : List ℕ) (old : Option (List ℕ)) (status result : ℕ) → IsSome target → status ≡ 0
     → Shows asked bytes (Some []) (Some shown) status → (result ≡ 0) ⊎ (result ≡ 3) → RunsTo asked target bytes old old result
-saved asked target bytes shown old status result some zero (text, wanted, says, inl (appends, is)) (inl e) = (text, wanted, says, filed some refl (inl (e ∙ (sym zero ∙ is))))
-saved asked target bytes shown old status result some zero (text, wanted, says, inl (appends, is)) (inr e) = (text, wanted, says, filed some refl (inr e))
+saved asked target bytes shown old status result some zero (text, wanted, says, inl (appends, is)) (inl e) = (text, wanted, says, filed some refl (sym is ∙ zero) (inl e))
+saved asked target bytes shown old status result some zero (text, wanted, says, inl (appends, is)) (inr e) = (text, wanted, says, filed some refl (sym is ∙ zero) (inr e))
 saved asked target bytes shown old status result some zero (text, wanted, says, inr (part, three)) h = let bad : 0 ≡ 3 = sym zero ∙ three in absurd cc
 
 -- where no file is written, all is printed
 only_printed : (target : Option (List ℕ)) (old new : Option (List ℕ)) (text : List ℕ) (status result : ℕ) → Delivers None old new text status result → Delivers target old new text status result
 only_printed target old new text status result (printed p) = printed p
-only_printed target old new text status result (filed some e r) = absurd cc
+only_printed target old new text status result (filed some e zero r) = absurd cc
 
 -- ---- the files of a line
 
