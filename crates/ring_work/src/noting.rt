@@ -1,6 +1,6 @@
 //! Events that are submitted, with their receipts kept.
 
-ghost use Rattle.std.specs.Prelude.{◌≡◌, ◌≢◌, ◌+◌, ◌∷◌, ◌++◌, ◌⊎◌, [], true, vec_len, IfOk, IfErr, OnOk, OnErr};
+ghost use Rattle.std.specs.Prelude.{◌≡◌, ◌≢◌, ◌+◌, ◌∷◌, ◌++◌, ◌⊎◌, ◌↔◌, [], true, vec_len, if◌then◌else◌, IfOk, IfErr, OnOk, OnErr, IsTrue};
 ghost use Rattle.ring_names.specs.declared.refusal.Refusal.TheVariants.{HistoryFull, OutOfMemory, TurnsSpent};
 ghost use Rattle.ring_exec.specs.Replies.{is_put, is_get};
 ghost use Rattle.plan_runs.specs.declared.event.Reply.TheVariants.{Put, Get};
@@ -25,17 +25,23 @@ pub(crate) struct Idle {
 
 impl Idle {
     /// Before the first round.
-    pub fn new() -> Idle {
+    pub fn new() -> Idle
+        ensures { result.length ≡ None }
+    {
         Idle { length: None }
     }
 
     /// Whether nothing was answered in the last round, and nothing since it began, where the history is so long now.
-    pub fn is_at(&self, length: u32) -> bool {
+    pub fn is_at(&self, length: u32) -> bool
+        ensures { IsTrue result ↔ (self.now.length ≡ Some length) }
+    {
         self.length == Some(length)
     }
 
     /// Notes a round that began at that length, and whether something was answered in it.
-    pub fn note(&mut self, length: u32, answered: bool) {
+    pub fn note(&mut self, length: u32, answered: bool)
+        ensures { self.new.length ≡ (if answered then None else Some length) }
+    {
         self.length = if answered { None } else { Some(length) };
     }
 }

@@ -123,6 +123,7 @@ fn first_step<'a, L: RunLedger, RT: Wait + Abort>(
     let waits = refusal_of(rt, executor, Event::Do(3), share);
     same!(rt; waits, Some(Refusal::NotReady));
     same!(rt; share.count(), 1);
+    same!(rt; executor.entry_count(rt), 1);
     Ok(())
 }
 

@@ -1,0 +1,42 @@
+#!/usr/bin/env python3
+"""Looks up what docs/DEFINITIONS.md claims: each call of its last table is a public function with a contract, each clause that the row names stands in the contract of
+one of its calls, and each call has one of them. Ends with 0 only where all are there."""
+import pathlib
+import re
+import sys
+
+TOP = pathlib.Path(__file__).resolve().parent.parent
+
+
+def contracts(call: str) -> list[str]:
+    """The signatures, with their clauses, of the public functions that a `crate::function` names."""
+    crate, function = call.split("::")
+    found = []
+    for file in sorted((TOP / "crates" / crate / "src").rglob("*.rt")):
+        text = file.read_text()
+        for start in re.finditer(r'^( *)pub (?:extern "C" )?fn %s\b' % function, text, re.M):
+            end = re.search(r"^%s\{|\{\s*\}\s*$" % start[1], text[start.start() :], re.M)
+            found.append(text[start.start() :][: end.start() if end else None])
+    return [it for it in found if re.search(r"\bensures\b", it)]
+
+
+def faults(row: str) -> list[str]:
+    calls, clauses = row.split("|")[1:3]
+    named = {call: contracts(call) for call in re.findall(r"`(\w+::\w+)`", calls)}
+    missing = [f"{call} has no contract" for call, found in named.items() if not found]
+    for clause in re.findall(r"`(\w+)`", clauses):
+        lacking = [call for call, found in named.items() if not any(re.search(r"\b%s\b" % clause, it) for it in found)]
+        # A row that names several calls may name clauses of some of them.
+        missing += [f"{clause} is in no contract of {', '.join(named)}"] if len(lacking) == len(named) else []
+    return missing
+
+
+def main() -> int:
+    rows = [line for line in (TOP / "docs/DEFINITIONS.md").read_text().splitlines() if re.match(r"\| `\w+::\w+`", line)]
+    missing = [fault for row in rows for fault in faults(row)]
+    print(*missing, f"{len(rows)} rows, {len(missing)} faults", sep="\n")
+    return 1 if missing or not rows else 0
+
+
+if __name__ == "__main__":
+    sys.exit(main())
