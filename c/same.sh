@@ -98,4 +98,6 @@ for way in "${!all[@]}"; do
     echo "$way: ${same[$way]:-0} of ${all[$way]} answers are the program's"
     [ "${same[$way]:-0}" = "${all[$way]}" ] || differing=1
 done
+# The commands of docs/EMBEDDING.md.
+"$top/trials/pages.py" docs/EMBEDDING.md || differing=1
 exit $differing
