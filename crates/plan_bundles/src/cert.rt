@@ -10,6 +10,7 @@ ghost use Rattle.plan_cert.specs.Spelling.{cert_text};
 ghost use Rattle.plan_cert.specs.Valid.{Suits as CertSuits};
 ghost use Rattle.plan_bundles.specs.Certs.{front_at, front_reading, parts, IsCertifiedBy, IsCertifiedText, IsClaimedText};
 
+use helpers::Words;
 use plan_chains::{Excess, Outcome, certificate, overload};
 use plan_check::check;
 use plan_rounds::write_texts;
@@ -19,7 +20,6 @@ use ring_names::{NodeId, Refusal};
 use ring_table::{Ring, Side, read_ring_section, write_ring};
 use std::alloc::Global;
 use texts::Lines;
-use words::Words;
 
 /// A ring, and a plan of it.
 #[derive(Drop)]

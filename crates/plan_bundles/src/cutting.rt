@@ -1,7 +1,7 @@
 //! Plans that are done one behind the other.
 
 use crate::groups::Groups;
-use numbers::{at, set, small};
+use helpers::{at, set, small};
 use plan_rounds::add;
 use plan_text::{Plan, Source, Step};
 use ring_names::{Listed, Refusal};

@@ -1,6 +1,6 @@
 //! Which copy follows which in a chain.
 
-use numbers::{at, set, small};
+use helpers::{at, set, small};
 use ring_names::{Refusal, Rows};
 use std::alloc::Global;
 

@@ -1,7 +1,7 @@
 //! As many links as the order of copies allows.
 
 use crate::links::Links;
-use numbers::{at, set, set_word, small, word};
+use helpers::{at, set, set_word, small, word};
 use ring_names::Refusal;
 use std::alloc::Global;
 

@@ -2,7 +2,7 @@
 
 use crate::paths::Paths;
 use crate::stays::{Stay, Stays};
-use numbers::{at, place_of, set};
+use helpers::{at, place_of, set};
 use plan_text::{Plan, Source, Step};
 use ring_names::{NodeId, Refusal, Slot};
 use ring_table::Ring;

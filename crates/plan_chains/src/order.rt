@@ -4,7 +4,7 @@ use crate::links::Links;
 use crate::looks::Looks;
 use crate::matching::{Before, Matching};
 use crate::runs::runs_of;
-use numbers::{at, set, set_word, small, word};
+use helpers::{at, set, set_word, small, word};
 use plan_text::Plan;
 use ring_names::{Refusal, Rows};
 use std::alloc::Global;

@@ -1,7 +1,7 @@
 //! Paths of dependencies.
 
 use crate::looks::Looks;
-use numbers::{at, set};
+use helpers::{at, set};
 use plan_order::Ends;
 use plan_text::Plan;
 use ring_names::{Refusal, Rows};

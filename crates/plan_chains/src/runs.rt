@@ -2,7 +2,7 @@
 
 ghost use Rattle.std.specs.Prelude.{◌<◌, length};
 
-use numbers::{at, set};
+use helpers::{at, set};
 use plan_text::{Plan, Step};
 use ring_names::{Refusal, Slot};
 use std::alloc::Global;

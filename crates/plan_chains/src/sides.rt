@@ -1,7 +1,7 @@
 //! The copies of each side of each node.
 
 use crate::stays::Stays;
-use numbers::{at, set, small};
+use helpers::{at, set, small};
 use plan_text::{Plan, Source, Step};
 use ring_names::{NodeId, Refusal, Slot};
 use ring_table::{Allowance, NodeSide, Ring, Side};

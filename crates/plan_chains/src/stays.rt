@@ -1,7 +1,7 @@
 //! Who serves each slot, and since when, on the way through a plan.
 
 use crate::looks::Looks;
-use numbers::{at, place_of, set, small};
+use helpers::{at, place_of, set, small};
 use plan_text::Step;
 use ring_names::{NodeId, Refusal, Slot};
 use ring_table::Ring;

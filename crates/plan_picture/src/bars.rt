@@ -5,8 +5,8 @@ use crate::sheet::Sheet;
 use crate::state::{State, state_of};
 use crate::style::{GIVE, TAKE};
 use crate::svg::{Area, Point, push_area, push_titled};
+use helpers::Words;
 use plan_scene::{Shown, name, small};
-use words::Words;
 
 // How words stand on a bar: white on a filled one.
 const LIGHT: &[u8] = b"b on";

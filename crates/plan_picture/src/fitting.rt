@@ -2,7 +2,7 @@
 
 use crate::svg::{Point, push_begin, push_measure};
 use crate::widths::width;
-use words::Words;
+use helpers::Words;
 
 // The least size of words, in pixels.
 const LEAST: u32 = 10;

@@ -5,12 +5,12 @@ use crate::sheet::Sheet;
 use crate::style::DONE;
 use crate::svg::{Area, Caption, MARGIN, Point, WIDE, push_area, push_said, push_words};
 use crate::widths::width;
+use helpers::Words;
 use plan_scene::{
     fewest_moves, name, parts_of, push_change, push_many, push_moves, push_names, push_quorum,
     small,
 };
 use ring_names::Refusal;
-use words::Words;
 
 // How wide the bar of progress is.
 const BAR: u32 = 210;

@@ -1,10 +1,10 @@
 //! What a picture is made of.
 
+use helpers::Words;
 use plan_scene::{Present, Progress, Scene, Shown, at};
 use plan_text::Plan;
 use ring_table::Ring;
 use std::alloc::Global;
-use words::Words;
 
 /// An approved plan with what is shown of it, and how far a run has come, where there is one.
 #[derive(Clone, Copy)]

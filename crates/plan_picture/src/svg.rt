@@ -1,7 +1,7 @@
 //! Shapes as SVG. Coordinates are whole pixels, so that the same picture has the same bytes.
 
 use crate::style::{PAGE, STYLE};
-use words::Words;
+use helpers::Words;
 
 /// How wide every picture is: a page of a repository shows it in about this width.
 pub const WIDE: u32 = 900;

@@ -8,7 +8,7 @@ use crate::listed::fewest;
 use crate::moving::Move;
 use crate::round_sets::RoundSets;
 use crate::rounds::counts;
-use numbers::{at, parts, set, small};
+use helpers::{at, parts, set, small};
 use ring_names::Refusal;
 use std::alloc::Global;
 

@@ -1,6 +1,6 @@
 //! Groups of transfers that one number of an allowance counts.
 
-use numbers::{at, set};
+use helpers::{at, set};
 use ring_names::{NodeId, Refusal};
 use ring_table::{Allowance, NodeSide, Ring, Side};
 use std::alloc::Global;

@@ -6,7 +6,7 @@ use crate::moving::Move;
 use crate::rounds::Schedule;
 use crate::task::Task;
 use crate::writing::{Turnover, write};
-use numbers::small;
+use helpers::small;
 use plan_cert::Cert;
 use plan_text::Plan;
 use ring_names::{Listed, NodeId, Refusal, Slot};

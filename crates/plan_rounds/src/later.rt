@@ -1,7 +1,7 @@
 //! Rounds in turn: each copy takes the first round in which all of its groups are free, from the last on that each of them has taken part in.
 
 use crate::groups::Groups;
-use numbers::{at, raise, set};
+use helpers::{at, raise, set};
 use ring_names::Refusal;
 use std::alloc::Global;
 

@@ -1,6 +1,6 @@
 //! The owners of all slots, and which slots move.
 
-use numbers::{at, set};
+use helpers::{at, set};
 use ring_names::{Refusal, Slot};
 use ring_table::Ring;
 use std::alloc::Global;

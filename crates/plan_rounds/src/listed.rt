@@ -7,7 +7,7 @@ use crate::groups::Groups;
 use crate::moving::Move;
 use crate::rounds::counts;
 use crate::task::Task;
-use numbers::{at, lower, parts, raise, small};
+use helpers::{at, lower, parts, raise, small};
 use ring_names::{Refusal, Rows};
 
 // The slots, by index, that each move's copy lists; none where it reads the owner.

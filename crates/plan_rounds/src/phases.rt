@@ -3,7 +3,7 @@
 use crate::later::Later;
 use crate::task::Task;
 use crate::urgency::by_urgency;
-use numbers::{at, row, set, small};
+use helpers::{at, row, set, small};
 use ring_names::{Refusal, Rows};
 use std::alloc::Global;
 

@@ -8,7 +8,7 @@ use crate::moving::Move;
 use crate::phases::{behind, in_phases};
 use crate::task::Task;
 use crate::urgency::by_urgency;
-use numbers::{raise, row, small};
+use helpers::{raise, row, small};
 use ring_names::{Refusal, Rows};
 use std::alloc::Global;
 

@@ -7,7 +7,7 @@
 //! A copy that must come behind others waits in no queue until each of these has a round; so those that others wait for are queued first.
 
 use crate::groups::Groups;
-use numbers::{at, lower, raise, row, set, small};
+use helpers::{at, lower, raise, row, set, small};
 use ring_names::{Refusal, Rows};
 use std::alloc::Global;
 use std::cmp::Reverse;

@@ -4,7 +4,7 @@ use crate::moving::Move;
 use crate::rounds::Schedule;
 use crate::steps::add;
 use crate::task::Task;
-use numbers::{at, row, small};
+use helpers::{at, row, small};
 use plan_cert::{Cert, Chains};
 use plan_text::{Plan, Source, Step};
 use ring_names::{Listed, Lists, NodeId, Refusal, Rows, Slot};

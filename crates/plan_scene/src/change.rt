@@ -2,9 +2,8 @@
 
 use crate::names::{name, push_many, push_names};
 use crate::scene::Scene;
-use numbers::small;
+use helpers::{Words, small};
 use ring_table::Ring;
-use words::Words;
 
 // `a and b join`, or nothing where nobody does.
 fn push_who(out: &mut Words, ring: &Ring, nodes: &[u32], one: &[u8], more: &[u8]) {

@@ -12,9 +12,9 @@ mod scene;
 mod shown;
 
 pub use change::{count_members, fewest_moves, push_change, push_moves};
+pub use helpers::{at, parts_of, raise, row, small};
 pub use loads::Loads;
 pub use names::{name, push_many, push_names, push_quorum, rack};
-pub use numbers::{at, parts_of, raise, row, small};
 pub use present::Present;
 pub use progress::Progress;
 pub use scene::Scene;

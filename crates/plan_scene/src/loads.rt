@@ -2,7 +2,7 @@
 
 use crate::copies::Copies;
 use crate::shown::AllShown;
-use numbers::{at, raise};
+use helpers::{Words, at, raise};
 use plan_cert::Cert;
 use plan_chains::Order;
 use plan_moves::owned;
@@ -10,7 +10,6 @@ use plan_text::Plan;
 use ring_names::{Listed, NodeId, Refusal};
 use ring_table::{Allowance, Ring, Side};
 use std::alloc::Global;
-use words::Words;
 
 /// Numbers by node.
 #[derive(Drop)]

@@ -1,7 +1,7 @@
 //! The names of nodes, and counts in words.
 
+use helpers::Words;
 use ring_table::Ring;
-use words::Words;
 
 /// The name of the node of that number.
 pub fn name(ring: &Ring, node: u32) -> &[u8] {
@@ -18,7 +18,7 @@ pub fn push_names(out: &mut Words, ring: &Ring, nodes: &[u32], most: usize) {
     } else {
         nodes.len()
     };
-    let others = numbers::small(nodes.len().saturating_sub(shown));
+    let others = helpers::small(nodes.len().saturating_sub(shown));
     let mut place = 0usize;
     for node in nodes {
         if place >= shown {

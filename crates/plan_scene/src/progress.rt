@@ -47,7 +47,7 @@ impl Progress {
             Event::Do(step) => put(self.done.as_mut_slice(), *step, true),
             Event::OpenCopy(step) => put(self.is_open.as_mut_slice(), *step, true),
             Event::ChunkCopy(step, _) => {
-                numbers::raise(self.chunks.as_mut_slice(), *step as usize)
+                helpers::raise(self.chunks.as_mut_slice(), *step as usize)
             }
             Event::CloseCopy(step) => {
                 put(self.is_open.as_mut_slice(), *step, false);
@@ -88,7 +88,7 @@ impl Progress {
 
     /// How many chunks of the copy are copied, of 16.
     pub fn chunks(&self, step: u32) -> u32 {
-        numbers::at(self.chunks.as_slice(), step as usize).min(16)
+        helpers::at(self.chunks.as_slice(), step as usize).min(16)
     }
 
     /// How many steps are done.

@@ -2,7 +2,7 @@
 
 use crate::loads::Loads;
 use crate::shown::{AllShown, Shown};
-use numbers::{at, raise};
+use helpers::{at, raise};
 use plan_cert::Cert;
 use plan_check::Approved;
 use plan_moves::{last_owners, moves, rounds};
@@ -58,7 +58,7 @@ impl Scene {
 
     /// How many rounds of copies run one behind the other.
     pub fn round_count(&self) -> u32 {
-        numbers::small(self.widths.len())
+        helpers::small(self.widths.len())
     }
 
     /// How many copies the widest round has.
@@ -72,7 +72,7 @@ impl Scene {
 
     /// How many moves there are.
     pub fn move_count(&self) -> u32 {
-        numbers::small(self.shown.moves.len())
+        helpers::small(self.shown.moves.len())
     }
 
     /// Whether the node is a member in the end.

@@ -1,6 +1,6 @@
 //! The moves of a plan, with the steps that belong to them.
 
-use numbers::{at, row};
+use helpers::{at, row};
 use plan_moves::Move;
 use plan_text::{Plan, Source, Step};
 use ring_names::{Refusal, Rows, Slot};
@@ -169,7 +169,7 @@ impl AllShown {
                 reads: None,
                 is_listed: false,
             })?;
-            way.begin(slot, numbers::small(self.moves.len()));
+            way.begin(slot, helpers::small(self.moves.len()));
         }
         Ok(())
     }

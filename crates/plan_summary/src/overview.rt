@@ -7,6 +7,7 @@ use crate::running::push_progress;
 use crate::span::Span;
 use crate::table::push_table;
 use crate::writing::{end_line, push_tenths};
+use helpers::Words;
 use plan_scene::{
     Present, Progress, Scene, at, count_members, fewest_moves, parts_of, push_change, push_many,
     push_moves, push_names, push_quorum, small,
@@ -15,7 +16,6 @@ use plan_text::Plan;
 use ring_names::Refusal;
 use ring_table::Ring;
 use std::alloc::Global;
-use words::Words;
 
 /// How much a summary shows.
 #[derive(Clone, Copy, Debug, PartialEq, Eq)]

@@ -1,7 +1,7 @@
 //! Words that flow into lines.
 
 use crate::writing::{WIDTH, push_spaces};
-use words::Words;
+use helpers::Words;
 
 /// A line that is being filled with words. What does not fit goes to a line of its own behind the indent.
 #[derive(Clone, Copy)]

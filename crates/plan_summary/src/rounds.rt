@@ -3,10 +3,10 @@
 use crate::overview::{Shape, View};
 use crate::pieces::Flow;
 use crate::writing::{push_number_right, push_spaces};
+use helpers::Words;
 use plan_scene::{Shown, at, name, push_many, small};
 use ring_names::Refusal;
 use std::alloc::Global;
-use words::Words;
 
 // How many rounds a short list has, and how many it shows where there are more.
 const SHORT: u32 = 12;

@@ -2,10 +2,10 @@
 
 use crate::overview::View;
 use crate::writing::{end_line, push_times};
+use helpers::Words;
 use plan_scene::{Progress, name, push_many};
 use plan_text::Step;
 use ring_names::Slot;
-use words::Words;
 
 // Behind which column of a line its words begin.
 const INDENT: usize = 12;

@@ -1,6 +1,6 @@
 //! How many slots nodes own.
 
-use words::Words;
+use helpers::Words;
 
 /// The fewest and the most slots among nodes.
 #[derive(Clone, Copy)]

@@ -5,11 +5,11 @@ use crate::writing::{
     WIDTH, push_left, push_number_left, push_number_right, push_right, push_spaces, push_times,
     push_trimmed,
 };
+use helpers::Words;
 use plan_scene::{Scene, at, name, parts_of, push_many, push_names, small};
 use ring_names::Refusal;
 use ring_table::Node;
 use std::alloc::Global;
-use words::Words;
 
 // How many rows a short table has.
 const SHORT: usize = 24;

@@ -1,6 +1,6 @@
 //! Words and numbers in lines of text.
 
-use words::Words;
+use helpers::Words;
 
 /// The widest line, in bytes.
 pub const WIDTH: usize = 100;

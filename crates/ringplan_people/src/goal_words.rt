@@ -1,6 +1,7 @@
 //! Why no plan leads to the ring that is wished for, in words.
 
 use crate::why::push_words_of;
+use helpers::Words;
 use plan_bundles::{Kind, front, kind_of, nodes_of, wished_goal};
 use plan_goal::{Aim, Goal, Unfit, read_goal, why_unfit};
 use ring_names::{NodeId, Refusal};
@@ -8,7 +9,6 @@ use ring_table::{Ring, read_ring};
 use ringplan_job::Options;
 use std::alloc::Global;
 use text_words::{Page, Said, tell_text};
-use words::Words;
 
 // The bytes of a node's name.
 fn name(ring: &Ring, node: u32) -> &[u8] {

@@ -12,6 +12,7 @@ ghost use Rattle.ringplan_people.specs.Why.{AnswersCheck, IsWhy};
 use crate::history_words::{tell_history, unless_memory};
 use crate::study::{Study, studied};
 use change_text::{Wanted, read_wanted};
+use helpers::Words;
 use plan_bundles::{Kind, cert_bundle, front, kind_of};
 use plan_words::{Read, Remedy, tell_plan};
 use ring_names::Refusal;
@@ -20,7 +21,6 @@ use ringplan_jobs::{
 };
 use std::alloc::Global;
 use text_words::{Page, Said, tell_text};
-use words::Words;
 
 // What comes of a mended bundle.
 #[derive(Clone, Copy, PartialEq, Eq)]

@@ -1,7 +1,7 @@
 //! Ways of writing that no text may have, and that mostly many lines of one share.
 
 use crate::page::{Page, cut_line};
-use words::Words;
+use helpers::Words;
 
 /// A way of writing for which a line is refused.
 #[derive(Clone, Copy, Debug, PartialEq, Eq)]

@@ -2,8 +2,8 @@
 
 use crate::habit::Habit;
 use crate::page::{Page, Place, cut_line};
+use helpers::Words;
 use std::alloc::Global;
-use words::Words;
 
 // A line that is shown, and what is said of a part of it.
 #[derive(Clone, Copy)]

@@ -1,5 +1,4 @@
 //! Lists of numbers, read and written by place, and parts of numbers. A place that a list does not have reads as 0, and what is written there is lost.
-#![tactic(auto)]
 
 use ring_names::{Rows, Slot};
 
