@@ -14,10 +14,10 @@ use helpers::Words;
 use plan_chains::{Excess, Outcome, certificate, overload};
 use plan_check::check;
 use plan_rounds::write_texts;
-use plan_scene::name;
 use plan_text::{Plan, read_plan_section};
 use ring_names::{NodeId, Refusal};
 use ring_table::{Ring, Side, read_ring_section, write_ring};
+use show_plan::name;
 use std::alloc::Global;
 use texts::Lines;
 

@@ -10,10 +10,10 @@ use change_text::{Change, Wanted, read_wanted};
 use helpers::Words;
 use plan_goal::{Goal, is_among, reach, read_goal};
 use plan_maker::{Wish, Wished, push_words, wished};
-use plan_scene::rack;
 use ring_names::{Listed, Names, NodeId, Refusal};
 use ring_table::{Ring, read_ring, write_ring};
 use ringplan_job::Options;
+use show_plan::rack;
 use std::alloc::Global;
 
 /// The nodes of these names, in their order. A name that the ring does not declare is `UnknownNode(0)`.

@@ -2,7 +2,7 @@
 
 use crate::order::{KINDS, kind};
 use crate::sheet::Sheet;
-use plan_scene::{at, small};
+use helpers::{at, small};
 use ring_names::Refusal;
 
 // How many nodes have a row of their own.

@@ -5,8 +5,8 @@ use crate::sheet::Sheet;
 use crate::state::{State, state_of};
 use crate::style::{GIVE, TAKE};
 use crate::svg::{Area, Point, push_area, push_titled};
-use helpers::Words;
-use plan_scene::{Shown, name, small};
+use helpers::{Words, small};
+use show_plan::{Shown, name};
 
 // How words stand on a bar: white on a filled one.
 const LIGHT: &[u8] = b"b on";
@@ -88,7 +88,7 @@ fn title(sheet: &Sheet, shown: &Shown) -> Words {
     words.text(b" of partition ");
     words.number(shown.slot.partition);
     words.text(b" from ");
-    plan_scene::push_names(&mut words, sheet.ring, sheet.scene.shown.read_by(shown), 7);
+    show_plan::push_names(&mut words, sheet.ring, sheet.scene.shown.read_by(shown), 7);
     words.text(b" to ");
     words.text(name(sheet.ring, shown.to));
     words
@@ -115,7 +115,7 @@ pub fn push_bar(sheet: &Sheet, out: &mut Words, area: Area, shown: &Shown, takes
     };
     if let State::Open(chunks) = state {
         let mut part = area;
-        part.width = plan_scene::parts_of(chunks, 16, area.width);
+        part.width = helpers::parts_of(chunks, 16, area.width);
         push_area(out, part, fill, b" rx=\"3\" opacity=\"0.4\"");
     }
     let room = area.width.saturating_sub(RIM);

@@ -2,7 +2,7 @@
 
 use crate::columns::Columns;
 use crate::sheet::Sheet;
-use plan_scene::{at, raise, small};
+use helpers::{at, raise, small};
 use ring_names::{NodeId, Refusal};
 
 // How many rows a map has at most.

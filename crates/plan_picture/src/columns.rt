@@ -1,8 +1,9 @@
 //! The columns of a map: one for each node, or for many together.
 
 use crate::sheet::Sheet;
-use plan_scene::{at, name, rack, small};
+use helpers::{at, small};
 use ring_names::{NodeId, Refusal};
+use show_plan::{name, rack};
 
 // How many columns a map has at most.
 const MOST: usize = 60;

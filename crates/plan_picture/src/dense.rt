@@ -12,9 +12,9 @@ use crate::svg::{
     push_words,
 };
 use crate::widths::width;
-use helpers::Words;
-use plan_scene::{Shown, at, name, parts_of, push_many, raise, small};
+use helpers::{Words, at, parts_of, raise, small};
 use ring_names::Refusal;
+use show_plan::{Shown, name, push_many};
 
 // How many columns there are at most.
 const COLUMNS: u32 = 60;

@@ -5,12 +5,9 @@ use crate::sheet::Sheet;
 use crate::style::DONE;
 use crate::svg::{Area, Caption, MARGIN, Point, WIDE, push_area, push_said, push_words};
 use crate::widths::width;
-use helpers::Words;
-use plan_scene::{
-    fewest_moves, name, parts_of, push_change, push_many, push_moves, push_names, push_quorum,
-    small,
-};
+use helpers::{Words, parts_of, small};
 use ring_names::Refusal;
+use show_plan::{fewest_moves, name, push_change, push_many, push_moves, push_names, push_quorum};
 
 // How wide the bar of progress is.
 const BAR: u32 = 210;

@@ -12,9 +12,9 @@ use crate::svg::{
     Area, MARGIN, Point, WIDE, push_area, push_picture, push_rule, push_said, push_words,
 };
 use crate::widths::width;
-use helpers::Words;
-use plan_scene::{Shown, name, small};
+use helpers::{Words, small};
 use ring_names::Refusal;
+use show_plan::{Shown, name};
 
 // How high a lane is, and the least that a row is.
 const LANE: u32 = 19;

@@ -1,8 +1,9 @@
 //! The lanes of a node: one for each copy that it has in a round.
 
 use crate::sheet::Sheet;
-use plan_scene::{Shown, at, raise};
+use helpers::{at, raise};
 use ring_names::Refusal;
+use show_plan::Shown;
 
 /// How many copies each row has in each round, as far as they are counted.
 #[derive(Drop)]

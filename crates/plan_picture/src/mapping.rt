@@ -7,9 +7,9 @@ use crate::frame::{caption_of, name_class, push_frame, push_key};
 use crate::sheet::Sheet;
 use crate::svg::{Area, Caption, MARGIN, Point, WIDE, push_area, push_picture, push_said};
 use crate::widths::width;
-use helpers::Words;
-use plan_scene::{at, name, parts_of, push_many, rack, small};
+use helpers::{Words, at, parts_of, small};
 use ring_names::Refusal;
+use show_plan::{name, push_many, rack};
 
 // How far down the names of racks stand, and those of the columns begin.
 const HEAD: u32 = 98;

@@ -1,7 +1,7 @@
 //! The order in which nodes are drawn.
 
 use crate::sheet::Sheet;
-use plan_scene::small;
+use helpers::small;
 use ring_names::Refusal;
 
 // A node that has a row: those that are down first, then leavers, then joiners, then by how much they do.

@@ -4,8 +4,7 @@ use crate::fitting::{Look, push_fitting};
 use crate::sheet::Sheet;
 use crate::style::{INK, KEPT, TAKE};
 use crate::svg::{Area, Point, push_area};
-use helpers::Words;
-use plan_scene::{at, parts_of};
+use helpers::{Words, at, parts_of};
 
 // The width of the longest bar.
 const BAR: u32 = 70;

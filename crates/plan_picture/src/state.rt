@@ -1,7 +1,7 @@
 //! How far a run has come with a move.
 
 use crate::sheet::Sheet;
-use plan_scene::Shown;
+use show_plan::Shown;
 
 /// What a bar says of its copy.
 #[derive(Clone, Copy, Debug, PartialEq, Eq)]

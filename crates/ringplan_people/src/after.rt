@@ -12,10 +12,10 @@ use helpers::Words;
 use plan_bundles::{front, rewritten, ring_after};
 use plan_check::Approved;
 use plan_runs::Entry;
-use plan_scene::Progress;
 use plan_text::{Plan, Step};
 use ring_names::{Listed, NodeId, Refusal, Slot};
 use ring_table::Ring;
+use show_plan::Progress;
 use std::alloc::Global;
 
 // Whether there is such a step, and it is done.

@@ -1,10 +1,11 @@
 //! The rounds of copies.
 
+use crate::names::{name, push_many};
 use crate::overview::{Shape, View};
 use crate::pieces::Flow;
+use crate::shown::Shown;
 use crate::writing::{push_number_right, push_spaces};
-use helpers::Words;
-use plan_scene::{Shown, at, name, push_many, small};
+use helpers::{Words, at, small};
 use ring_names::Refusal;
 use std::alloc::Global;
 

@@ -1,12 +1,13 @@
 //! The table of the nodes that take part or are down.
 
+use crate::names::{name, push_many, push_names};
 use crate::overview::{Shape, View};
+use crate::scene::Scene;
 use crate::writing::{
     WIDTH, push_left, push_number_left, push_number_right, push_right, push_spaces, push_times,
     push_trimmed,
 };
-use helpers::Words;
-use plan_scene::{Scene, at, name, parts_of, push_many, push_names, small};
+use helpers::{Words, at, parts_of, small};
 use ring_names::Refusal;
 use ring_table::Node;
 use std::alloc::Global;

@@ -1,6 +1,7 @@
 //! What remains where nodes fail, beside those that are down.
 
-use plan_scene::{Present, at, raise, small};
+use crate::present::Present;
+use helpers::{at, raise, small};
 use ring_names::{Listed, NodeId, Refusal};
 use ring_table::Ring;
 use std::alloc::Global;

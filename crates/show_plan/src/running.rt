@@ -1,9 +1,10 @@
 //! How far a run of a plan has come, in words.
 
+use crate::names::{name, push_many};
 use crate::overview::View;
+use crate::progress::Progress;
 use crate::writing::{end_line, push_times};
 use helpers::Words;
-use plan_scene::{Progress, name, push_many};
 use plan_text::Step;
 use ring_names::Slot;
 

@@ -1,6 +1,6 @@
 //! Racks, as the names of nodes tell them.
 
-use plan_scene::{name, rack};
+use crate::names::{name, rack};
 use ring_names::{Listed, NodeId};
 use ring_table::Ring;
 

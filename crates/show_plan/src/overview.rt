@@ -1,17 +1,18 @@
 //! The summary of a plan, in words.
 
+use crate::change::{count_members, fewest_moves, push_change, push_moves};
 use crate::domains::sharing;
 use crate::failing::{all_pairs, kept, kept_by_one, pairs};
+use crate::names::{push_many, push_names, push_quorum};
+use crate::present::Present;
+use crate::progress::Progress;
 use crate::rounds::push_rounds;
 use crate::running::push_progress;
+use crate::scene::Scene;
 use crate::span::Span;
 use crate::table::push_table;
 use crate::writing::{end_line, push_tenths};
-use helpers::Words;
-use plan_scene::{
-    Present, Progress, Scene, at, count_members, fewest_moves, parts_of, push_change, push_many,
-    push_moves, push_names, push_quorum, small,
-};
+use helpers::{Words, at, parts_of, small};
 use plan_text::Plan;
 use ring_names::Refusal;
 use ring_table::Ring;
