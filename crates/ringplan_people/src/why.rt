@@ -14,11 +14,11 @@ use crate::study::{Study, studied};
 use change_text::{Wanted, read_wanted};
 use helpers::Words;
 use plan_bundles::{Kind, cert_bundle, front, kind_of};
-use plan_words::{Read, Remedy, tell_plan};
 use ring_names::Refusal;
 use ringplan_jobs::{
     Answer, Job, Kind as Sections, answer_of, check_bundle, make, plan_bundle, read_bundle,
 };
+use show_refusal::{Read, Remedy, tell_plan};
 use std::alloc::Global;
 use text_words::{Page, Said, tell_text};
 
