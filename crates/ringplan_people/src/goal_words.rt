@@ -7,8 +7,8 @@ use plan_goal::{Aim, Goal, Unfit, read_goal, why_unfit};
 use ring_names::{NodeId, Refusal};
 use ring_table::{Ring, read_ring};
 use ringplan_job::Options;
+use show_why::{Page, Said, tell_text};
 use std::alloc::Global;
-use text_words::{Page, Said, tell_text};
 
 // The bytes of a node's name.
 fn name(ring: &Ring, node: u32) -> &[u8] {

@@ -19,8 +19,8 @@ use ringplan_jobs::{
     Answer, Job, Kind as Sections, answer_of, check_bundle, make, plan_bundle, read_bundle,
 };
 use show_refusal::{Read, Remedy, tell_plan};
+use show_why::{Page, Said, tell_text};
 use std::alloc::Global;
-use text_words::{Page, Said, tell_text};
 
 // What comes of a mended bundle.
 #[derive(Clone, Copy, PartialEq, Eq)]

@@ -6,8 +6,8 @@ use plan_stage::{Stage, stage_at};
 use plan_text::{Plan, Step};
 use ring_names::{Refusal, Slot};
 use ring_table::Ring;
+use show_why::{Page, Said, place_of, span_of};
 use std::alloc::Global;
-use text_words::{Page, Said, place_of, span_of};
 
 /// A bundle, and what was read of it.
 #[derive(Clone, Copy)]

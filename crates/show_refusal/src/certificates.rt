@@ -4,7 +4,7 @@ use crate::case::{Case, small};
 use crate::roles::{Role, role_at, roles};
 use ring_names::{NodeId, Refusal};
 use ring_table::{Allowance, NodeSide, Side};
-use text_words::{Said, field};
+use show_why::{Said, field};
 
 // The first two steps of a path, one behind the other, of which that is not known: their place, and they.
 fn gap(case: Case, path: &[u32], is_fact: bool) -> Option<(usize, u32, u32)> {

@@ -4,7 +4,7 @@ use crate::case::Case;
 use crate::time::Time;
 use plan_text::Step;
 use ring_names::{NodeId, Refusal, Slot};
-use text_words::Said;
+use show_why::Said;
 
 // A node's time with a slot: the step with which it enters, none at the start, and the switch with which another takes its place.
 #[derive(Clone, Copy)]

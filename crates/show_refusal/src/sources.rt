@@ -3,7 +3,7 @@
 use crate::case::Case;
 use plan_text::{Source, Step};
 use ring_names::Slot;
-use text_words::Said;
+use show_why::Said;
 
 // How many of the indexes are different.
 fn different(indexes: &[u32]) -> u32 {

@@ -4,7 +4,7 @@ use crate::case::Case;
 use plan_stage::Stage;
 use plan_text::Step;
 use ring_names::{NodeId, Refusal, Slot};
-use text_words::Said;
+use show_why::Said;
 
 // Why the step does not fit the stage; the node is `@`.
 fn cause(step: &Step, stage: &Stage) -> &'static [u8] {

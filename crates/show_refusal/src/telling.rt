@@ -10,8 +10,8 @@ use plan_cert::Cert;
 use plan_text::Plan;
 use ring_names::Refusal;
 use ring_table::Ring;
+use show_why::{Page, Said};
 use std::alloc::Global;
-use text_words::{Page, Said};
 
 /// A bundle's texts, with what was read of them.
 #[derive(Clone, Copy)]
