@@ -10,8 +10,8 @@ ghost use Rattle.plan_cert.specs.Spelling.{cert_text};
 ghost use Rattle.plan_cert.specs.Valid.{Suits as CertSuits};
 ghost use Rattle.plan_bundles.specs.Certs.{front_at, front_reading, parts, IsCertifiedBy, IsCertifiedText, IsClaimedText};
 
+use find_chains::{Excess, Outcome, certificate, overload};
 use helpers::Words;
-use plan_chains::{Excess, Outcome, certificate, overload};
 use plan_check::check;
 use plan_rounds::write_texts;
 use plan_text::{Plan, read_plan_section};

@@ -11,7 +11,7 @@ ghost use Rattle.plan_bundles.specs.Windows.{IsWindow, AreWindows, AreWindowsOf,
 use crate::cutting::cut;
 use crate::rings::{are_rows, ring_after};
 use crate::room::Room;
-use plan_chains::certificate;
+use find_chains::certificate;
 use plan_check::{Approved, check};
 use plan_moves::{last_owners, rounds};
 use plan_rounds::write_texts;

@@ -2,9 +2,9 @@
 
 use crate::copies::Copies;
 use crate::shown::AllShown;
+use find_chains::Order;
 use helpers::{Words, at, raise};
 use plan_cert::Cert;
-use plan_chains::Order;
 use plan_moves::owned;
 use plan_text::Plan;
 use ring_names::{Listed, NodeId, Refusal};
