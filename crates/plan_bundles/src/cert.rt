@@ -11,9 +11,9 @@ ghost use Rattle.plan_cert.specs.Valid.{Suits as CertSuits};
 ghost use Rattle.plan_bundles.specs.Certs.{front_at, front_reading, parts, IsCertifiedBy, IsCertifiedText, IsClaimedText};
 
 use find_chains::{Excess, Outcome, certificate, overload};
+use find_rounds::write_texts;
 use helpers::Words;
 use plan_check::check;
-use plan_rounds::write_texts;
 use plan_text::{Plan, read_plan_section};
 use ring_names::{NodeId, Refusal};
 use ring_table::{Ring, Side, read_ring_section, write_ring};

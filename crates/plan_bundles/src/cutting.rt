@@ -1,8 +1,8 @@
 //! Plans that are done one behind the other.
 
 use crate::groups::Groups;
+use find_rounds::add;
 use helpers::{at, set, small};
-use plan_rounds::add;
 use plan_text::{Plan, Source, Step};
 use ring_names::{Listed, Refusal};
 use ring_table::Ring;
