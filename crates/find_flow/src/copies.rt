@@ -1,6 +1,6 @@
 //! The copies in which each node takes part, beside its allowance.
 
-use numbers::{at, lower, raise};
+use helpers::{at, lower, raise};
 use ring_names::Refusal;
 use ring_table::{Allowance, Ring};
 use std::alloc::Global;

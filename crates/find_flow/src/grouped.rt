@@ -1,6 +1,6 @@
 //! Numbers in groups, one group behind the other.
 
-use numbers::{at, raise, set, small, swap};
+use helpers::{at, raise, set, small, swap};
 use ring_names::Refusal;
 use std::alloc::Global;
 

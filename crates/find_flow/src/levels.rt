@@ -4,7 +4,7 @@ use crate::meeting::Aim;
 use crate::members::Role;
 use crate::search::Search;
 use crate::seats::Seats;
-use numbers::{NONE, at, set};
+use helpers::{NONE, at, set};
 use ring_names::Refusal;
 use std::alloc::Global;
 

@@ -6,7 +6,7 @@
 
 use crate::members::Role;
 use crate::seats::Seats;
-use numbers::{NONE, at, set, small};
+use helpers::{NONE, at, set, small};
 use ring_names::Refusal;
 use std::alloc::Global;
 

@@ -2,7 +2,7 @@
 
 use crate::racks::Racks;
 use crate::wish::Wish;
-use numbers::{at, quotient, small};
+use helpers::{at, quotient, small};
 use ring_names::{NodeId, Refusal};
 use ring_table::Ring;
 use std::alloc::Global;

@@ -7,7 +7,7 @@ use crate::levels::find_levels;
 use crate::meeting::Aim;
 use crate::search::Search;
 use crate::seats::Seats;
-use numbers::{set_word, word};
+use helpers::{set_word, word};
 use ring_names::Refusal;
 use std::alloc::Global;
 

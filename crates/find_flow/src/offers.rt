@@ -3,7 +3,7 @@
 use crate::grouped::Grouped;
 use crate::meeting::{Link, Meeting};
 use crate::seats::Seats;
-use numbers::{at, set, small, swap};
+use helpers::{at, set, small, swap};
 use ring_names::Refusal;
 use std::alloc::Global;
 

@@ -3,7 +3,7 @@
 //! A partition has the fewest pairs of slots in one rack where its slots are spread as evenly as the racks' members allow: each rack has as many
 //! as the level says, or all its members if these are fewer, and some racks have one more.
 
-use numbers::{at, raise, set, small};
+use helpers::{at, raise, set, small};
 use ring_names::Refusal;
 use std::alloc::Global;
 

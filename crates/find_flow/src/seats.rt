@@ -3,7 +3,7 @@
 use crate::copies::Copies;
 use crate::grouped::Grouped;
 use crate::members::{Members, Role};
-use numbers::{NONE, at, lower, raise, set, small};
+use helpers::{NONE, at, lower, raise, set, small};
 use ring_names::Refusal;
 use ring_table::Ring;
 use std::alloc::Global;

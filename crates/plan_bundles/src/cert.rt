@@ -10,16 +10,16 @@ ghost use Rattle.plan_cert.specs.Spelling.{cert_text};
 ghost use Rattle.plan_cert.specs.Valid.{Suits as CertSuits};
 ghost use Rattle.plan_bundles.specs.Certs.{front_at, front_reading, parts, IsCertifiedBy, IsCertifiedText, IsClaimedText};
 
-use plan_chains::{Excess, Outcome, certificate, overload};
+use find_chains::{Excess, Outcome, certificate, overload};
+use find_rounds::write_texts;
+use helpers::Words;
 use plan_check::check;
-use plan_rounds::write_texts;
-use plan_scene::name;
 use plan_text::{Plan, read_plan_section};
 use ring_names::{NodeId, Refusal};
 use ring_table::{Ring, Side, read_ring_section, write_ring};
+use show_plan::name;
 use std::alloc::Global;
 use texts::Lines;
-use words::Words;
 
 /// A ring, and a plan of it.
 #[derive(Drop)]

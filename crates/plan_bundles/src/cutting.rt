@@ -1,8 +1,8 @@
 //! Plans that are done one behind the other.
 
 use crate::groups::Groups;
-use numbers::{at, set, small};
-use plan_rounds::add;
+use find_rounds::add;
+use helpers::{at, set, small};
 use plan_text::{Plan, Source, Step};
 use ring_names::{Listed, Refusal};
 use ring_table::Ring;
@@ -176,8 +176,7 @@ pub fn cut(
     rounds: &[u32],
     width: u32,
 ) -> Result<Vec<Plan>, Refusal> {
-    let mut groups = Groups::new(alloc, ring);
-    groups.fill(ring, plan)?;
+    let groups = Groups::of(alloc, ring, plan)?;
     let mut windows = Windows {
         plan,
         of_steps: groups.of_steps.as_slice(),

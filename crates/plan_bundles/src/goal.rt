@@ -7,14 +7,14 @@ ghost use Rattle.plan_bundles.specs.Goals.{AreNamed, HasChangedMembers, IsGoalRe
 use crate::rings::rewritten;
 use crate::sections::{Kind, kind_of};
 use change_text::{Change, Wanted, read_wanted};
+use helpers::Words;
 use plan_goal::{Goal, is_among, reach, read_goal};
 use plan_maker::{Wish, Wished, push_words, wished};
-use plan_scene::rack;
 use ring_names::{Listed, Names, NodeId, Refusal};
 use ring_table::{Ring, read_ring, write_ring};
 use ringplan_job::Options;
+use show_plan::rack;
 use std::alloc::Global;
-use words::Words;
 
 /// The nodes of these names, in their order. A name that the ring does not declare is `UnknownNode(0)`.
 pub fn nodes_of(alloc: Global, ring: &Ring, names: &[Vec<u8>]) -> Result<Vec<NodeId>, Refusal>

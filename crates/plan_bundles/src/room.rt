@@ -5,9 +5,9 @@
 //! a byte longer. A slot's owner is the name of a node, which is as long as the shortest name at least. The first ring's text is known before any window is made. Without a byte
 //! for each node, and with the shortest name in the place of each owner's, it is no longer than any ring's text, and so than any window.
 
-use plan_scene::name;
 use ring_names::{NodeId, Refusal};
 use ring_table::{Node, Ring};
+use show_plan::name;
 
 /// The most bytes that all windows of a plan may have together: as many as a bundle may.
 pub const MAX_WINDOWS: usize = 67_108_864;

@@ -11,10 +11,10 @@ ghost use Rattle.plan_bundles.specs.Windows.{IsWindow, AreWindows, AreWindowsOf,
 use crate::cutting::cut;
 use crate::rings::{are_rows, ring_after};
 use crate::room::Room;
-use plan_chains::certificate;
+use find_chains::certificate;
+use find_rounds::write_texts;
 use plan_check::{Approved, check};
 use plan_moves::{last_owners, rounds};
-use plan_rounds::write_texts;
 use plan_text::Plan;
 use ring_names::{Listed, NodeId, Refusal};
 use ring_table::{read_ring, write_ring};

@@ -1,7 +1,7 @@
 //! Where a plan shall lead.
 
 use crate::dead::Dead;
-use numbers::small;
+use helpers::small;
 use ring_names::{NodeId, Refusal, Slot};
 use ring_table::{Allowance, Node, Ring};
 use std::alloc::Global;

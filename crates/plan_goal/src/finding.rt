@@ -1,8 +1,8 @@
 //! The plan itself, of which nothing is promised.
 
 use crate::aim::{Aim, joins, retires};
+use find_rounds::{Handover, Turnover};
 use plan_cert::Cert;
-use plan_rounds::{Handover, Turnover};
 use plan_text::Plan;
 use ring_names::Refusal;
 

@@ -6,9 +6,9 @@ ghost use Rattle.plan_check.specs.Certified.{IsCertified};
 ghost use Rattle.plan_goal.specs.Proposals.{Makes, IsProposed, IsTurnedAway};
 
 use change_text::Change;
+use find_rounds::write_texts;
 use plan_cert::Cert;
 use plan_check::{Turned, check};
-use plan_rounds::write_texts;
 use plan_text::Plan;
 use ring_names::Refusal;
 use ring_table::Ring;

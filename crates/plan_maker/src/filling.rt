@@ -3,7 +3,7 @@
 use crate::ranks::Who;
 use crate::takers::Takers;
 use find_flow::Seats;
-use numbers::NONE;
+use helpers::NONE;
 use ring_names::Refusal;
 use std::alloc::Global;
 

@@ -3,7 +3,7 @@
 use crate::ranks::Who;
 use crate::takers::Takers;
 use find_flow::{Role, Seats};
-use numbers::{at, raise};
+use helpers::{at, raise};
 use ring_names::Refusal;
 use std::alloc::Global;
 use std::cmp::Reverse;

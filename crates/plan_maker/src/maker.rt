@@ -2,8 +2,8 @@
 
 use crate::choice::wished;
 use find_flow::Wish;
+use find_rounds::{Handover, Turnover};
 use plan_cert::Cert;
-use plan_rounds::{Handover, Turnover};
 use plan_text::Plan;
 use ring_names::{NodeId, Refusal};
 use ring_table::Ring;

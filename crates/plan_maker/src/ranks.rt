@@ -1,7 +1,7 @@
 //! The order in which members take slots.
 
 use find_flow::Seats;
-use numbers::{NONE, small};
+use helpers::{NONE, small};
 use ring_names::Refusal;
 use std::alloc::Global;
 

@@ -2,7 +2,7 @@
 
 use crate::ranks::{NOBODY, Ranks, Who, sooner};
 use find_flow::Seats;
-use numbers::NONE;
+use helpers::NONE;
 use ring_names::Refusal;
 use std::alloc::Global;
 

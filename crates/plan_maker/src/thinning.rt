@@ -1,7 +1,7 @@
 //! The slots that move because too many of their partition are in one rack.
 
 use find_flow::Seats;
-use numbers::NONE;
+use helpers::NONE;
 use std::cmp::Reverse;
 
 // How much it is that a slot moves: the greatest first. Those of a rack above its most come first, then those whose owner has many slots for its

@@ -2,9 +2,8 @@
 
 use crate::outcome::Wished;
 use find_flow::Wish;
-use numbers::{at, quotient, small};
+use helpers::{Words, at, quotient, small};
 use ring_table::Ring;
-use words::Words;
 
 // The name of the node.
 fn name(ring: &Ring, node: u32) -> &[u8] {

@@ -8,15 +8,15 @@ ghost use Rattle.ringplan_people.specs.Studies.{HasHistory, IsLeftBy};
 
 use crate::study::{Study, studied};
 use crate::why::push_words_of;
+use helpers::Words;
 use plan_bundles::{front, rewritten, ring_after};
 use plan_check::Approved;
 use plan_runs::Entry;
-use plan_scene::Progress;
 use plan_text::{Plan, Step};
 use ring_names::{Listed, NodeId, Refusal, Slot};
 use ring_table::Ring;
+use show_plan::Progress;
 use std::alloc::Global;
-use words::Words;
 
 // Whether there is such a step, and it is done.
 fn has_done(progress: &Progress, step: Option<u32>) -> bool {

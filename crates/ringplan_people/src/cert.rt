@@ -5,10 +5,10 @@ ghost use Rattle.ringplan_people.specs.Made.{IsCertOf};
 
 use crate::bundle::texts_of;
 use crate::why::push_words_of;
+use helpers::Words;
 use plan_bundles::{Kind, cert_bundle, found_bundle, kind_of, push_excess};
 use ring_names::Refusal;
 use std::alloc::Global;
-use words::Words;
 
 // What is said where the search for a certificate was given up.
 const GIVEN_UP: &[u8; 268] =

@@ -1,14 +1,14 @@
 //! Why no plan leads to the ring that is wished for, in words.
 
 use crate::why::push_words_of;
+use helpers::Words;
 use plan_bundles::{Kind, front, kind_of, nodes_of, wished_goal};
 use plan_goal::{Aim, Goal, Unfit, read_goal, why_unfit};
 use ring_names::{NodeId, Refusal};
 use ring_table::{Ring, read_ring};
 use ringplan_job::Options;
+use show_why::{Page, Said, tell_text};
 use std::alloc::Global;
-use text_words::{Page, Said, tell_text};
-use words::Words;
 
 // The bytes of a node's name.
 fn name(ring: &Ring, node: u32) -> &[u8] {

@@ -7,8 +7,8 @@ use plan_check::{Approved, check};
 use plan_runs::{Entry, Event, Reply};
 use ring_core::{World, replay};
 use ring_names::Refusal;
+use show_why::{Page, Said};
 use std::alloc::Global;
-use text_words::{Page, Said};
 
 // Why an event could not have happened.
 fn reason(code: u32) -> &'static [u8] {

@@ -15,12 +15,12 @@ use crate::show::{draw_bundle, show_bundle};
 use crate::steps::{moves_bundle, steps_bundle};
 use crate::why::{push_words_of, why_bundle};
 use crate::windows::{push_windows_words, windows_bundle};
+use helpers::Words;
 use plan_bundles::{front, led_bundle, wish_words};
 use ring_names::Refusal;
 use ringplan_job::Making;
 use ringplan_jobs::{Answer, answer_of};
 use std::alloc::Global;
-use words::Words;
 
 /// What is printed on standard output and on standard error, and the exit status.
 #[derive(Debug, Drop)]

@@ -5,12 +5,11 @@ ghost use Rattle.ringplan_people.specs.Studies.{HasApproved, IsShown};
 
 use crate::study::{Study, studied};
 use plan_bundles::front;
-use plan_picture::{Sheet, map_picture, picture};
-use plan_scene::{Present, Progress, Scene};
-use plan_summary::{Shape, View, ring_summary, summary};
 use ring_names::Refusal;
 use ring_table::read_ring;
 use ringplan_job::{DrawWish, Picture, Shape as Asked, Wish};
+use show_picture::{Sheet, map_picture, picture};
+use show_plan::{Present, Progress, Scene, Shape, View, ring_summary, summary};
 use std::alloc::Global;
 
 // What is shown of a bundle's plan, and how far its history has come, where there is one.

@@ -6,8 +6,8 @@ use plan_text::{Plan, Step};
 use ring_names::{Refusal, Slot};
 use ring_space::place;
 use ring_table::Ring;
+use show_why::Said;
 use std::alloc::Global;
-use text_words::Said;
 
 // A trail has at most twelve lines: three puts with two entries each, and three steps of the slot.
 const PUTS: usize = 3;

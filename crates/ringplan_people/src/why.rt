@@ -12,15 +12,15 @@ ghost use Rattle.ringplan_people.specs.Why.{AnswersCheck, IsWhy};
 use crate::history_words::{tell_history, unless_memory};
 use crate::study::{Study, studied};
 use change_text::{Wanted, read_wanted};
+use helpers::Words;
 use plan_bundles::{Kind, cert_bundle, front, kind_of};
-use plan_words::{Read, Remedy, tell_plan};
 use ring_names::Refusal;
 use ringplan_jobs::{
     Answer, Job, Kind as Sections, answer_of, check_bundle, make, plan_bundle, read_bundle,
 };
+use show_refusal::{Read, Remedy, tell_plan};
+use show_why::{Page, Said, tell_text};
 use std::alloc::Global;
-use text_words::{Page, Said, tell_text};
-use words::Words;
 
 // What comes of a mended bundle.
 #[derive(Clone, Copy, PartialEq, Eq)]

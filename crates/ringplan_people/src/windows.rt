@@ -9,11 +9,11 @@ ghost use Rattle.ringplan_people.specs.Studies.{IsStudyOf};
 
 use crate::study::studied;
 use crate::why::push_words_of;
+use helpers::Words;
 use plan_bundles::cut_plan;
 use ring_names::Refusal;
 use ringplan_job::Cut;
 use std::alloc::Global;
-use words::Words;
 
 // What is said of too many bytes.
 const TOO_MANY: &[u8; 123] =

@@ -1,0 +1,87 @@
+//! Which copy follows which in a chain.
+
+use helpers::{at, set, small};
+use ring_names::{Refusal, Rows};
+use std::alloc::Global;
+
+/// Which copy follows which, by their places among the copies of a node: a copy follows at most one other, which comes before it, and is followed by at most one.
+#[derive(Drop)]
+pub(crate) struct Links {
+    // by copy, 1 and the copy that it follows, and 1 and the copy that follows it; 0 for none
+    follows: Vec<u32>,
+    followed: Vec<u32>,
+}
+
+impl Links {
+    /// No copy follows another.
+    pub(crate) fn of(alloc: Global, copies: usize) -> Result<Links, Refusal> {
+        Ok(Links {
+            follows: vec![in alloc; 0u32; copies]?,
+            followed: vec![in alloc; 0u32; copies]?,
+        })
+    }
+
+    /// 1 and the copy that this one follows, or 0.
+    pub(crate) fn before(&self, copy: u32) -> u32 {
+        at(self.follows.as_slice(), copy as usize)
+    }
+
+    /// 1 and the copy that follows this one, or 0.
+    pub(crate) fn behind(&self, copy: u32) -> u32 {
+        at(self.followed.as_slice(), copy as usize)
+    }
+
+    /// Lets a copy follow another.
+    pub(crate) fn join(&mut self, first: u32, second: u32) {
+        set(
+            self.follows.as_mut_slice(),
+            second as usize,
+            first.saturating_add(1),
+        );
+        set(
+            self.followed.as_mut_slice(),
+            first as usize,
+            second.saturating_add(1),
+        );
+    }
+
+    /// How many chains there are.
+    pub(crate) fn count(&self) -> u32 {
+        let mut count = 0u32;
+        for before in self.follows.as_slice() {
+            if *before == 0 {
+                count = count.saturating_add(1);
+            }
+        }
+        count
+    }
+
+    /// The chains, by their first copies, each with the numbers of its steps.
+    pub(crate) fn chains(&self, alloc: Global, copies: &[u32]) -> Result<Rows, Refusal> {
+        let mut rows = Rows::new(alloc);
+        let mut chain = Vec::new(alloc);
+        for place in 0..copies.len() {
+            let first = small(place);
+            if self.before(first) == 0 {
+                chain.clear();
+                self.walk(&mut chain, copies, first)?;
+                rows.push(chain.as_slice())?;
+            }
+        }
+        Ok(rows)
+    }
+
+    // The copies from this one on.
+    fn walk(&self, chain: &mut Vec<u32>, copies: &[u32], first: u32) -> Result<(), Refusal> {
+        let mut copy = first;
+        for turn in 0..copies.len() {
+            chain.push(at(copies, copy as usize))?;
+            let next = self.behind(copy);
+            if next == 0 {
+                break;
+            }
+            copy = next.saturating_sub(1);
+        }
+        Ok(())
+    }
+}

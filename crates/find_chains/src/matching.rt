@@ -1,0 +1,122 @@
+//! As many links as the order of copies allows.
+
+use crate::links::Links;
+use helpers::{at, set, set_word, small, word};
+use ring_names::Refusal;
+use std::alloc::Global;
+
+/// Copies, and for each which of them come before it, in words of 64.
+#[derive(Drop)]
+pub(crate) struct Before<'a> {
+    pub(crate) copies: &'a [u32],
+    pub(crate) words: usize,
+    pub(crate) sets: Vec<u64>,
+}
+
+// What a search for a link comes to.
+#[derive(Clone, Copy, PartialEq, Eq)]
+enum Found {
+    Link,
+    Nothing,
+}
+
+/// A matching that is made greater by alternating paths.
+#[derive(Drop)]
+pub(crate) struct Matching {
+    pub(crate) links: Links,
+    // of a search: by word the copies that were seen, by copy 1 and who asked for it, and who is to be asked
+    seen: Vec<u64>,
+    asked_by: Vec<u32>,
+    queue: Vec<u32>,
+    /// The looks of the last search.
+    pub(crate) spent: u64,
+}
+
+impl Matching {
+    /// A matching that begins with these links.
+    pub(crate) fn of(alloc: Global, before: &Before, links: Links) -> Result<Matching, Refusal> {
+        let count = before.copies.len();
+        Ok(Matching {
+            links,
+            seen: vec![in alloc; 0u64; before.words]?,
+            asked_by: vec![in alloc; 0u32; count]?,
+            queue: Vec::new(alloc),
+            spent: 0,
+        })
+    }
+
+    /// Lets the copy follow one before it, if it can, where others may follow another than before.
+    pub(crate) fn link(&mut self, before: &Before, copy: usize) -> Result<(), Refusal> {
+        let _ = self.search(before, copy)?;
+        Ok(())
+    }
+
+    // Looks for a copy that this one can follow.
+    fn search(&mut self, before: &Before, copy: usize) -> Result<Found, Refusal> {
+        self.spent = 0;
+        self.queue.clear();
+        self.queue.push(small(copy))?;
+        for place in 0..self.seen.len() {
+            set_word(self.seen.as_mut_slice(), place, 0);
+        }
+        for turn in 0..before.copies.len() {
+            if turn >= self.queue.len() {
+                break;
+            }
+            let asking = at(self.queue.as_slice(), turn);
+            for number in 0..before.words {
+                self.spent = self.spent.saturating_add(1);
+                if let Some(free) = self.ask(before, asking, number)? {
+                    self.turn_over(free);
+                    return Ok(Found::Link);
+                }
+            }
+        }
+        Ok(Found::Nothing)
+    }
+
+    // Asks the copies of a word that come before the asking one and were not seen: the first that nobody follows, if there is one.
+    fn ask(&mut self, before: &Before, asking: u32, number: usize) -> Result<Option<u32>, Refusal> {
+        let cell = (asking as usize)
+            .saturating_mul(before.words)
+            .saturating_add(number);
+        let seen = word(self.seen.as_slice(), number);
+        let new = word(before.sets.as_slice(), cell) & !seen;
+        if new == 0 {
+            return Ok(None);
+        }
+        set_word(self.seen.as_mut_slice(), number, seen | new);
+        let mut bit = 1u64;
+        for place in 0..64usize {
+            if new & bit != 0 {
+                let copy = small(number.saturating_mul(64).saturating_add(place));
+                set(
+                    self.asked_by.as_mut_slice(),
+                    copy as usize,
+                    asking.saturating_add(1),
+                );
+                let follower = self.links.behind(copy);
+                if follower == 0 {
+                    return Ok(Some(copy));
+                }
+                self.queue.push(follower.saturating_sub(1))?;
+            }
+            bit = bit.wrapping_add(bit);
+        }
+        Ok(None)
+    }
+
+    // Lets who asked for the copy follow it, and so on back to the first that asked.
+    fn turn_over(&mut self, free: u32) {
+        let mut copy = free;
+        for turn in 0..self.asked_by.len() {
+            let asker = at(self.asked_by.as_slice(), copy as usize).saturating_sub(1);
+            let old = self.links.before(asker);
+            self.links.join(copy, asker);
+            if old == 0 {
+                break;
+            }
+            copy = old.saturating_sub(1);
+        }
+    }
+}

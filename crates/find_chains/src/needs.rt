@@ -1,0 +1,174 @@
+//! Which steps of a plan must come before which.
+
+use crate::paths::Paths;
+use crate::stays::{Stay, Stays};
+use helpers::{at, place_of, set};
+use plan_text::{Plan, Source, Step};
+use ring_names::{NodeId, Refusal, Slot};
+use ring_table::Ring;
+use std::alloc::Global;
+
+/// Who asks for paths, step by step: what the checker's clauses of slots and steps compare.
+#[derive(Drop)]
+pub(crate) struct Needs<'a> {
+    ring: &'a Ring,
+    plan: &'a Plan,
+    stays: Stays,
+    // by the place of a slot, 1 and its last step, or 0
+    lasts: Vec<u32>,
+}
+
+impl<'a> Needs<'a> {
+    /// Before the first step.
+    pub(crate) fn of(alloc: Global, ring: &'a Ring, plan: &'a Plan) -> Result<Needs<'a>, Refusal> {
+        let slots = (ring.q() as usize).saturating_mul(7);
+        Ok(Needs {
+            ring,
+            plan,
+            stays: Stays::of(alloc, ring)?,
+            lasts: vec![in alloc; 0u32; slots]?,
+        })
+    }
+
+    /// Asks for what each step must come behind.
+    pub(crate) fn ask_all(&mut self, paths: &mut Paths) -> Result<(), Refusal> {
+        let plan = self.plan;
+        for number in 0..plan.len() {
+            let step = plan.step(number);
+            self.ask(paths, step, number)?;
+            self.stays.act(step, number)?;
+        }
+        Ok(())
+    }
+
+    // Asks for what a step must come behind.
+    fn ask(&mut self, paths: &mut Paths, step: &Step, number: u32) -> Result<(), Refusal> {
+        match step {
+            Step::Join(_) => Ok(()),
+            Step::Mirror(slot, node) => {
+                self.follow(paths, *slot, number)?;
+                self.mirror(paths, *slot, *node, number)
+            }
+            Step::Copy(slot, source) => {
+                self.follow(paths, *slot, number)?;
+                self.copy(paths, *slot, source, number)
+            }
+            Step::Switch(slot) | Step::Drop(slot, _) => self.follow(paths, *slot, number),
+            Step::Retire(node) => self.retire(paths, *node, number),
+        }
+    }
+
+    // A step of a slot comes behind the slot's step before it.
+    fn follow(&mut self, paths: &mut Paths, slot: Slot, number: u32) -> Result<(), Refusal> {
+        let place = place_of(slot);
+        let last = at(self.lasts.as_slice(), place);
+        set(self.lasts.as_mut_slice(), place, number.saturating_add(1));
+        if last == 0 {
+            return Ok(());
+        }
+        paths.need(last.saturating_sub(1), number)
+    }
+
+    // A mirror comes behind the switches by which its node left other slots of the partition, and behind the node's join.
+    fn mirror(
+        &self,
+        paths: &mut Paths,
+        slot: Slot,
+        node: NodeId,
+        number: u32,
+    ) -> Result<(), Refusal> {
+        for index in 0..self.ring.n() {
+            if index != slot.index {
+                let partition = slot.partition;
+                self.leave(paths, Slot { partition, index }, node, number)?;
+            }
+        }
+        self.join(paths, node, number)
+    }
+
+    // A step comes behind the switches by which the node left the slot.
+    fn leave(
+        &self,
+        paths: &mut Paths,
+        slot: Slot,
+        node: NodeId,
+        number: u32,
+    ) -> Result<(), Refusal> {
+        let mut next = self.stays.latest_at(slot, node.0);
+        for turn in 0..self.stays.len() {
+            let Some(stay) = self.stay(paths, next) else {
+                break;
+            };
+            need_some(paths, stay.left, number)?;
+            next = stay.same_before;
+        }
+        Ok(())
+    }
+
+    // The stay, where there is one and a look is left.
+    fn stay(&self, paths: &mut Paths, place: Option<usize>) -> Option<Stay> {
+        let stay = self.stays.stay(place)?;
+        if paths.look() { Some(stay) } else { None }
+    }
+
+    // A step comes behind the node's join.
+    fn join(&self, paths: &mut Paths, node: NodeId, number: u32) -> Result<(), Refusal> {
+        need_some(paths, self.plan.join_of(node), number)
+    }
+
+    // A copy from listed slots comes before or behind each switch of these.
+    fn copy(
+        &self,
+        paths: &mut Paths,
+        slot: Slot,
+        source: &Source,
+        number: u32,
+    ) -> Result<(), Refusal> {
+        match source {
+            Source::Owner => Ok(()),
+            Source::Slots(from) => {
+                for index in from.as_slice() {
+                    let partition = slot.partition;
+                    let index = *index;
+                    self.switches(paths, Slot { partition, index }, number)?;
+                }
+                Ok(())
+            }
+        }
+    }
+
+    // A step comes before or behind each switch of the slot.
+    fn switches(&self, paths: &mut Paths, slot: Slot, number: u32) -> Result<(), Refusal> {
+        for step in self.plan.slot_steps(slot) {
+            if !paths.look() {
+                break;
+            }
+            if *step < self.plan.len() && matches!(self.plan.step(*step), Step::Switch(_)) {
+                paths.need((*step).min(number), (*step).max(number))?;
+            }
+        }
+        Ok(())
+    }
+
+    // A retirement comes behind the node's join, and behind each drop of what it held.
+    fn retire(&self, paths: &mut Paths, node: NodeId, number: u32) -> Result<(), Refusal> {
+        self.join(paths, node, number)?;
+        let mut next = self.stays.latest_of(node.0);
+        for turn in 0..self.stays.len() {
+            let Some(stay) = self.stay(paths, next) else {
+                break;
+            };
+            need_some(paths, stay.dropped, number)?;
+            next = stay.node_before;
+        }
+        Ok(())
+    }
+}
+
+// A step comes behind another, where there is that.
+fn need_some(paths: &mut Paths, first: Option<u32>, last: u32) -> Result<(), Refusal> {
+    match first {
+        Some(first) => paths.need(first, last),
+        None => Ok(()),
+    }
+}

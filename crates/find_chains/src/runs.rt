@@ -1,0 +1,52 @@
+//! Steps of one slot that a plan's direct dependencies put in a row.
+
+ghost use Rattle.std.specs.Prelude.{◌<◌, length};
+
+use helpers::{at, set};
+use plan_text::{Plan, Step};
+use ring_names::{Refusal, Slot};
+use std::alloc::Global;
+
+/// By step the first step of its run. A run is steps of one slot, each of which waits directly for the slot's step before it; a step of no slot is a run of its own.
+/// Costs for each step a binary search in its slot's steps and one in its dependencies.
+pub(crate) fn runs_of(alloc: Global, plan: &Plan) -> Result<Vec<u32>, Refusal> {
+    let mut runs = vec![in alloc; 0u32; plan.len() as usize]?;
+    for number in 0..plan.len() {
+        let run = match awaited_of_slot(plan, number) {
+            Some(before) => at(runs.as_slice(), before as usize),
+            None => number,
+        };
+        set(runs.as_mut_slice(), number as usize, run);
+    }
+    Ok(runs)
+}
+
+// The step before this one of its slot, where this one waits for that directly.
+fn awaited_of_slot(plan: &Plan, number: u32) -> Option<u32>
+    requires { number < length plan.now }
+{
+    let slot = slot_of(plan.step(number))?;
+    let before = step_before(plan.slot_steps(slot), number)?;
+    if plan.depends(before, number) {
+        Some(before)
+    } else {
+        None
+    }
+}
+
+// The slot of a step, if it has one.
+fn slot_of(step: &Step) -> Option<Slot> {
+    match step {
+        Step::Mirror(slot, _) | Step::Copy(slot, _) | Step::Switch(slot) | Step::Drop(slot, _) =>
+            Some(*slot),
+        Step::Join(_) | Step::Retire(_) => None,
+    }
+}
+
+// The number before this one, of ascending numbers.
+fn step_before(numbers: &[u32], number: u32) -> Option<u32> {
+    let place = match numbers.binary_search(&number) {
+        Ok(place) | Err(place) => place,
+    };
+    numbers.get(place.checked_sub(1)?).copied()
+}

@@ -1,0 +1,126 @@
+//! The copies of each side of each node.
+
+use crate::stays::Stays;
+use helpers::{at, set, small};
+use plan_text::{Plan, Source, Step};
+use ring_names::{NodeId, Refusal, Slot};
+use ring_table::{Allowance, NodeSide, Ring, Side};
+use std::alloc::Global;
+
+/// The copies of each side, ascending, each once.
+#[derive(Drop)]
+pub struct Sides {
+    // by twice a node's number those that it takes, or all where it is joint; one place behind, those that read from a split node
+    lists: Vec<Vec<u32>>,
+    // by node, whether it has two numbers
+    split: Vec<bool>,
+}
+
+impl Sides {
+    /// Those of a plan of the ring. Costs one pass over the plan.
+    pub fn of(alloc: Global, ring: &Ring, plan: &Plan) -> Result<Sides, Refusal> {
+        let mut sides = Sides::empty(alloc, ring)?;
+        let mut stays = Stays::of(alloc, ring)?;
+        for number in 0..plan.len() {
+            let step = plan.step(number);
+            if let Step::Copy(slot, source) = step {
+                sides.copy(&stays, *slot, source, number)?;
+            }
+            stays.act(step, number)?;
+        }
+        Ok(sides)
+    }
+
+    fn empty(alloc: Global, ring: &Ring) -> Result<Sides, Refusal> {
+        let mut sides = Sides {
+            lists: Vec::new(alloc),
+            split: Vec::new(alloc),
+        };
+        for node in ring.nodes() {
+            sides.lists.push(Vec::new(alloc))?;
+            sides.lists.push(Vec::new(alloc))?;
+            let is_split = matches!(node.allowance, Allowance::Split { .. });
+            sides.split.push(is_split)?;
+        }
+        Ok(sides)
+    }
+
+    // A copy: the slot's mirror takes, and the owners of the slots that it reads give.
+    fn copy(
+        &mut self,
+        stays: &Stays,
+        slot: Slot,
+        source: &Source,
+        number: u32,
+    ) -> Result<(), Refusal> {
+        if let Some(node) = stays.mirror(slot) {
+            self.add(node, Side::Take, number)?;
+        }
+        match source {
+            Source::Owner => self.give(stays, slot, number),
+            Source::Slots(from) => {
+                for index in from.as_slice() {
+                    let partition = slot.partition;
+                    let index = *index;
+                    self.give(stays, Slot { partition, index }, number)?;
+                }
+                Ok(())
+            }
+        }
+    }
+
+    // The slot's owner gives.
+    fn give(&mut self, stays: &Stays, slot: Slot, number: u32) -> Result<(), Refusal> {
+        match stays.owner(slot) {
+            Some(node) => self.add(node, Side::Give, number),
+            None => Ok(()),
+        }
+    }
+
+    // Where the copies of that side of the node are kept.
+    fn place(&self, node: u32, side: Side) -> usize {
+        let place = (node as usize).saturating_mul(2);
+        let is_split = self.split.get(node as usize) == Some(&true);
+        if is_split && side == Side::Give {
+            return place.saturating_add(1);
+        }
+        place
+    }
+
+    // Adds a copy, unless it is the last already.
+    fn add(&mut self, node: u32, side: Side, number: u32) -> Result<(), Refusal> {
+        let place = self.place(node, side);
+        if let Some(list) = self.lists.get_mut(place) {
+            if list.last() != Some(&number) {
+                list.push(number)?;
+            }
+        }
+        Ok(())
+    }
+
+    /// The copies of that side of the node.
+    pub fn copies(&self, of: NodeSide) -> &[u32] {
+        match self.lists.get(self.place(of.node.0, of.side)) {
+            Some(list) => list.as_slice(),
+            None => &[],
+        }
+    }
+}
+
+/// The sides of the node of that number, each with the most transfers that it may have open at once: one where it has one number, and else two.
+pub fn sides_of(ring: &Ring, number: usize) -> [Option<(NodeSide, u32)>; 2] {
+    let node = NodeId(small(number));
+    match ring.nodes().get(number) {
+        Some(declared) => match declared.allowance {
+            Allowance::Joint(most) => [one(node, Side::Both, most), None],
+            Allowance::Split { take, give } => {
+                [one(node, Side::Take, take), one(node, Side::Give, give)]
+            }
+        },
+        None => [None, None],
+    }
+}
+
+fn one(node: NodeId, side: Side, most: u32) -> Option<(NodeSide, u32)> {
+    Some((NodeSide { node, side }, most))
+}

@@ -1,0 +1,198 @@
+//! Which nodes serve each slot, and from when to when, on the way through a plan.
+
+use helpers::{at, place_of, set, small};
+use plan_text::Step;
+use ring_names::{NodeId, Refusal, Slot};
+use ring_table::Ring;
+use std::alloc::Global;
+use std::collections::BTreeMap;
+
+/// A stay of a node at a slot: from the start or a mirror on, up to the switch after which it no longer owns the slot, and the drop of what it has of it.
+#[derive(Clone, Copy, Debug)]
+pub struct Stay {
+    pub slot: Slot,
+    pub node: u32,
+    /// The mirror with which it began; none where the node owned the slot before the first step.
+    pub begun: Option<u32>,
+    /// The switch by which the node left.
+    pub left: Option<u32>,
+    /// The first drop of the node at the slot after the stay began.
+    pub dropped: Option<u32>,
+    /// The place of the node's stay at the slot before this one.
+    pub same_before: Option<usize>,
+    /// The place of the node's stay before this one, at any slot.
+    pub node_before: Option<usize>,
+}
+
+/// All stays so far, in the order in which they began: those of the ring's owners by slot, then one for each mirror. A step costs a look-up among the nodes that mirrored its slot.
+#[derive(Drop)]
+pub struct Stays {
+    all: Vec<Stay>,
+    // by the place of a slot: 1 and the stays of its first owner, of its owner and of its mirror; by node 1 and the latest one; 0 for none
+    firsts: Vec<u32>,
+    owners: Vec<u32>,
+    mirrors: Vec<u32>,
+    by_node: Vec<u32>,
+    // the latest stay of each mirror; ordered, since plans choose how often a slot moves
+    latest: BTreeMap<(Slot, u32), usize>,
+}
+
+// The place that a number of 1 and it says.
+fn place(number: u32) -> Option<usize> {
+    if number == 0 {
+        return None;
+    }
+    Some(number.saturating_sub(1) as usize)
+}
+
+impl Stays {
+    /// Before the first step.
+    pub fn of(alloc: Global, ring: &Ring) -> Result<Stays, Refusal> {
+        let slots = (ring.q() as usize).saturating_mul(7);
+        let mut stays = Stays {
+            all: Vec::new(alloc),
+            firsts: vec![in alloc; 0u32; slots]?,
+            owners: vec![in alloc; 0u32; slots]?,
+            mirrors: vec![in alloc; 0u32; slots]?,
+            by_node: vec![in alloc; 0u32; ring.nodes().len()]?,
+            latest: BTreeMap::new(alloc),
+        };
+        stays.begin_all(ring)?;
+        Ok(stays)
+    }
+
+    // The ring's owners begin.
+    fn begin_all(&mut self, ring: &Ring) -> Result<(), Refusal> {
+        let mut partition = 0u32;
+        for row in ring.rows() {
+            let mut index = 0u32;
+            for node in row.as_slice() {
+                let slot = Slot { partition, index };
+                let number = self.begin(slot, *node, None)?;
+                set(self.firsts.as_mut_slice(), place_of(slot), number);
+                set(self.owners.as_mut_slice(), place_of(slot), number);
+                index = index.saturating_add(1);
+            }
+            partition = partition.saturating_add(1);
+        }
+        Ok(())
+    }
+
+    // A node begins to serve the slot, from the start or with a mirror: 1 and the place of its stay.
+    fn begin(&mut self, slot: Slot, node: NodeId, begun: Option<u32>) -> Result<u32, Refusal> {
+        let stay = Stay {
+            slot,
+            node: node.0,
+            begun,
+            left: None,
+            dropped: None,
+            same_before: self.latest_at(slot, node.0),
+            node_before: self.latest_of(node.0),
+        };
+        self.all.push(stay)?;
+        let number = small(self.all.len());
+        set(self.by_node.as_mut_slice(), node.0 as usize, number);
+        Ok(number)
+    }
+
+    /// Lets the step of that number act.
+    pub fn act(&mut self, step: &Step, number: u32) -> Result<(), Refusal> {
+        match step {
+            Step::Mirror(slot, node) => self.mirror_to(*slot, *node, number)?,
+            Step::Switch(slot) => self.switch(place_of(*slot), number),
+            Step::Drop(slot, node) => self.drop_held(*slot, node.0, number),
+            Step::Copy(_, _) | Step::Join(_) | Step::Retire(_) => {}
+        }
+        Ok(())
+    }
+
+    // The node becomes the mirror of the slot.
+    fn mirror_to(&mut self, slot: Slot, node: NodeId, number: u32) -> Result<(), Refusal> {
+        let place = self.all.len();
+        let stay = self.begin(slot, node, Some(number))?;
+        self.latest.insert((slot, node.0), place)?;
+        set(self.mirrors.as_mut_slice(), place_of(slot), stay);
+        Ok(())
+    }
+
+    // The mirror of the slot becomes its owner, if it has one.
+    fn switch(&mut self, slot: usize, number: u32) {
+        let mirror = at(self.mirrors.as_slice(), slot);
+        let owner = at(self.owners.as_slice(), slot);
+        if mirror == 0 {
+            return;
+        }
+        set(self.owners.as_mut_slice(), slot, mirror);
+        set(self.mirrors.as_mut_slice(), slot, 0);
+        if let Some(owner) = place(owner) {
+            if let Some(stay) = self.all.get_mut(owner) {
+                stay.left = Some(number);
+            }
+        }
+    }
+
+    // The node drops what it has of the slot.
+    fn drop_held(&mut self, slot: Slot, node: u32, number: u32) {
+        let mut next = self.latest_at(slot, node);
+        for turn in 0..self.all.len() {
+            let Some(stay) = next else {
+                return;
+            };
+            next = self.drop_one(stay, number);
+        }
+    }
+
+    // One stay is dropped. The one before it of the node at the slot, unless this one was dropped before: then so were all before it.
+    fn drop_one(&mut self, place: usize, number: u32) -> Option<usize> {
+        let stay = self.all.get_mut(place)?;
+        if stay.dropped.is_some() {
+            return None;
+        }
+        stay.dropped = Some(number);
+        stay.same_before
+    }
+
+    /// How many there are so far.
+    pub fn len(&self) -> usize {
+        self.all.len()
+    }
+
+    /// The stay of that place, if there is one.
+    pub fn stay(&self, place: Option<usize>) -> Option<Stay> {
+        self.all.get(place?).copied()
+    }
+
+    /// The place of the latest stay of the node at the slot.
+    pub fn latest_at(&self, slot: Slot, node: u32) -> Option<usize> {
+        if let Some(place) = self.latest.get(&(slot, node)) {
+            return Some(*place);
+        }
+        let first = place(at(self.firsts.as_slice(), place_of(slot)));
+        if self.stay(first)?.node == node {
+            first
+        } else {
+            None
+        }
+    }
+
+    /// The place of the latest stay of the node.
+    pub fn latest_of(&self, node: u32) -> Option<usize> {
+        place(at(self.by_node.as_slice(), node as usize))
+    }
+
+    /// The place of the stay of the slot's mirror.
+    pub fn mirror_at(&self, slot: Slot) -> Option<usize> {
+        place(at(self.mirrors.as_slice(), place_of(slot)))
+    }
+
+    /// Who owns the slot.
+    pub fn owner(&self, slot: Slot) -> Option<u32> {
+        let place = place(at(self.owners.as_slice(), place_of(slot)));
+        Some(self.stay(place)?.node)
+    }
+
+    /// Who mirrors the slot.
+    pub fn mirror(&self, slot: Slot) -> Option<u32> {
+        Some(self.stay(self.mirror_at(slot))?.node)
+    }
+}

@@ -1,0 +1,257 @@
+//! Rounds: in each of them a group takes part in no more copies than its allowance.
+//!
+//! A group is cut into seats, each with one copy a round, so that rounds are the colours of the edges of a graph between seats. Where
+//! what gives and what takes are apart, the graph has two sides, and as many rounds do as the fullest seat has copies (Kőnig 1916).
+
+use crate::groups::Groups;
+use crate::listed::fewest;
+use crate::moving::Move;
+use crate::round_sets::RoundSets;
+use crate::rounds::counts;
+use helpers::{at, parts, set, small};
+use ring_names::Refusal;
+use std::alloc::Global;
+
+// Marks that a seat has no copy.
+const NONE: u32 = 4_294_967_295;
+
+// One end of a copy: a group, and one of its seats.
+#[derive(Clone, Copy)]
+struct End {
+    group: usize,
+    seat: usize,
+}
+
+// The two ends of a copy, and its round.
+#[derive(Clone, Copy)]
+struct Seated {
+    giver: End,
+    taker: End,
+    round: usize,
+}
+
+/// Seats of all groups, and the copy that each has in each round.
+#[derive(Drop)]
+pub struct Colours {
+    /// How many rounds there are.
+    pub rounds: usize,
+    // the first seat of each group, and one more behind the last
+    firsts: Vec<u32>,
+    // the copy of each seat in each round
+    table: Vec<u32>,
+    // the rounds in which each group has a free seat
+    free: RoundSets,
+    // of each copy its seats and round, if it has any
+    seated: Vec<Option<Seated>>,
+}
+
+impl Colours {
+    /// No group has a seat yet.
+    pub fn new(alloc: Global) -> Colours {
+        Colours {
+            rounds: 0,
+            firsts: Vec::new(alloc),
+            table: Vec::new(alloc),
+            free: RoundSets::new(alloc),
+            seated: Vec::new(alloc),
+        }
+    }
+
+    // Empty seats for so many copies, by how many each group has.
+    fn begin(
+        &mut self,
+        alloc: Global,
+        groups: &Groups,
+        counts: &[u32],
+        copies: usize,
+    ) -> Result<(), Refusal> {
+        let rounds = fewest(groups, counts);
+        self.rounds = rounds as usize;
+        let mut seats = 0u32;
+        for group in 0..groups.len() {
+            self.firsts.push(seats)?;
+            seats = seats.saturating_add(parts(at(counts, group), rounds));
+        }
+        self.firsts.push(seats)?;
+        let cells = (seats as usize).saturating_mul(self.rounds);
+        self.table = vec![in alloc; NONE; cells]?;
+        for _ in 0..copies {
+            self.seated.push(None)?;
+        }
+        self.free.fill(groups.len(), self.rounds)
+    }
+
+    /// Gives seats to the copies of these moves, as many as it can.
+    pub fn colour_all(
+        &mut self,
+        alloc: Global,
+        groups: &Groups,
+        moves: &[Move],
+    ) -> Result<(), Refusal> {
+        self.begin(alloc, groups, &counts(alloc, groups, moves)?, moves.len())?;
+        let mut copy = 0usize;
+        for step in moves {
+            self.colour(alloc, copy, groups.giver(step.from), groups.taker(step.to))?;
+            copy = copy.saturating_add(1);
+        }
+        Ok(())
+    }
+
+    fn cell(&self, end: End, round: usize) -> usize {
+        end.seat.saturating_mul(self.rounds).saturating_add(round)
+    }
+
+    // The copy of the seat in the round.
+    fn copy_at(&self, end: End, round: usize) -> Option<usize> {
+        match self.table.get(self.cell(end, round)) {
+            Some(copy) if *copy != NONE => Some(*copy as usize),
+            _ => None,
+        }
+    }
+
+    // A seat of the group that is free in the round.
+    fn free_end(&self, group: usize, round: usize) -> Option<End> {
+        let first = at(&self.firsts, group) as usize;
+        let end = at(&self.firsts, group.saturating_add(1)) as usize;
+        for seat in first..end {
+            let end = End { group, seat };
+            if self.copy_at(end, round).is_none() {
+                return Some(end);
+            }
+        }
+        None
+    }
+
+    // Says anew whether the group has a free seat in the round.
+    fn renew(&mut self, group: usize, round: usize) {
+        let is_free = self.free_end(group, round).is_some();
+        self.free.put(group, round, is_free);
+    }
+
+    // Gives a seat a copy in the round, or none.
+    fn write(&mut self, end: End, round: usize, copy: u32) {
+        let cell = self.cell(end, round);
+        set(&mut self.table, cell, copy);
+        self.renew(end.group, round);
+    }
+
+    fn place(&mut self, copy: usize, seated: Seated) {
+        self.write(seated.giver, seated.round, small(copy));
+        self.write(seated.taker, seated.round, small(copy));
+        if let Some(old) = self.seated.get_mut(copy) {
+            *old = Some(seated);
+        }
+    }
+
+    fn lift(&mut self, seated: Seated) {
+        self.write(seated.giver, seated.round, NONE);
+        self.write(seated.taker, seated.round, NONE);
+    }
+
+    fn seated(&self, copy: usize) -> Option<Seated> {
+        match self.seated.get(copy) {
+            Some(seated) => *seated,
+            None => None,
+        }
+    }
+
+    /// The round of a copy that has one.
+    pub fn round(&self, copy: usize) -> Option<usize> {
+        match self.seated(copy) {
+            Some(seated) => Some(seated.round),
+            None => None,
+        }
+    }
+
+    // The copies that follow one another from a seat on, by turns of the one round and of the other; and the last one's other seat.
+    fn path(
+        &self,
+        alloc: Global,
+        from: End,
+        first: usize,
+        second: usize,
+    ) -> Result<(Vec<u32>, End), Refusal> {
+        let mut copies = Vec::new(alloc);
+        let mut end = from;
+        let mut round = first;
+        for _ in 0..self.seated.len() {
+            let Some(copy) = self.copy_at(end, round) else {
+                break;
+            };
+            let Some(seated) = self.seated(copy) else {
+                break;
+            };
+            copies.push(small(copy))?;
+            end = if seated.giver.seat == end.seat {
+                seated.taker
+            } else {
+                seated.giver
+            };
+            round = if round == first { second } else { first };
+        }
+        Ok((copies, end))
+    }
+
+    // The copies that are in the one of the two rounds go to the other.
+    fn exchange(&mut self, copies: &[u32], first: usize, second: usize) {
+        for copy in copies {
+            if let Some(seated) = self.seated(*copy as usize) {
+                self.lift(seated);
+            }
+        }
+        for copy in copies {
+            if let Some(seated) = self.seated(*copy as usize) {
+                let round = if seated.round == first { second } else { first };
+                self.place(*copy as usize, Seated { round, ..seated });
+            }
+        }
+    }
+
+    // Gives a copy free seats of its groups in the round, if there are such.
+    fn sit(&mut self, copy: usize, giver: usize, taker: usize, round: usize) {
+        if let (Some(giver), Some(taker)) = (
+            self.free_end(giver, round),
+            self.free_end(taker, round),
+        ) {
+            self.place(
+                copy,
+                Seated {
+                    giver,
+                    taker,
+                    round,
+                },
+            );
+        }
+    }
+
+    // Gives a copy seats in a round in which both groups are free, and where there is no such round makes one by exchanging two rounds
+    // along a path of copies, if it can.
+    fn colour(
+        &mut self,
+        alloc: Global,
+        copy: usize,
+        giver: usize,
+        taker: usize,
+    ) -> Result<(), Refusal> {
+        if let Some(round) = self.free.common(giver, taker) {
+            self.sit(copy, giver, taker, round);
+            return Ok(());
+        }
+        let (Some(first), Some(second)) = (
+            self.free.common(giver, giver),
+            self.free.common(taker, taker),
+        ) else {
+            return Ok(());
+        };
+        let (Some(stays), Some(from)) = (self.free_end(giver, first), self.free_end(taker, second))
+        else {
+            return Ok(());
+        };
+        let (copies, last) = self.path(alloc, from, first, second)?;
+        if last.seat != stays.seat {
+            self.exchange(&copies, first, second);
+            self.sit(copy, giver, taker, first);
+        }
+        Ok(())
+    }
+}

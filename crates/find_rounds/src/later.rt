@@ -1,0 +1,59 @@
+//! Rounds in turn: each copy takes the first round in which all of its groups are free, from the last on that each of them has taken part in.
+
+use crate::groups::Groups;
+use helpers::{at, raise, set};
+use ring_names::Refusal;
+use std::alloc::Global;
+
+/// The last round of each group, and how many copies it has there.
+#[derive(Drop)]
+pub struct Later {
+    last: Vec<u32>,
+    taken: Vec<u32>,
+}
+
+impl Later {
+    /// No group is known yet.
+    pub fn new(alloc: Global) -> Later {
+        Later {
+            last: Vec::new(alloc),
+            taken: Vec::new(alloc),
+        }
+    }
+
+    /// So many groups are free from the round on.
+    pub fn begin(&mut self, alloc: Global, groups: usize, round: u32) -> Result<(), Refusal> {
+        self.last = vec![in alloc; round; groups]?;
+        self.taken = vec![in alloc; 0u32; groups]?;
+        Ok(())
+    }
+
+    // The first round from its last on in which the group is free.
+    fn earliest(&self, groups: &Groups, group: usize) -> u32 {
+        let last = at(&self.last, group);
+        if at(&self.taken, group) >= groups.most(group) {
+            return last.saturating_add(1);
+        }
+        last
+    }
+
+    fn take(&mut self, group: usize, round: u32) {
+        if at(&self.last, group) < round {
+            set(&mut self.last, group, round);
+            set(&mut self.taken, group, 0);
+        }
+        raise(&mut self.taken, group);
+    }
+
+    /// The round of the next copy, in which these groups take part.
+    pub fn round(&mut self, groups: &Groups, parties: &[u32]) -> u32 {
+        let mut round = 0u32;
+        for group in parties {
+            round = round.max(self.earliest(groups, *group as usize));
+        }
+        for group in parties {
+            self.take(*group as usize, round);
+        }
+        round
+    }
+}

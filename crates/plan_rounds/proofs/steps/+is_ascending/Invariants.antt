@@ -1,5 +1,0 @@
-use Rattle.std.proofs.Common.{length}
-use Rattle.plan_rounds.proofs.steps.+is_ascending.Given as goal
-
-abbrev pub decreases-is_ascending : goal.decreases-is_ascending
-decreases-is_ascending l = length l.numbers.now

@@ -1,0 +1,129 @@
+//! The bars of copies.
+
+use crate::fitting::{Look, can_fit, push_fitting};
+use crate::sheet::Sheet;
+use crate::state::{State, state_of};
+use crate::style::{GIVE, TAKE};
+use crate::svg::{Area, Point, push_area, push_titled};
+use helpers::{Words, small};
+use show_plan::{Shown, name};
+
+// How words stand on a bar: white on a filled one.
+const LIGHT: &[u8] = b"b on";
+
+const DARK: &[u8] = b"b";
+
+const ROUND: &[u8] = b" rx=\"3\"";
+
+// How much room the words of a bar have less than the bar.
+const RIM: u32 = 2;
+
+// `5.1`
+fn slot_word(sheet: &Sheet, shown: &Shown) -> Words {
+    let mut word = Words::new(sheet.alloc);
+    word.number(shown.slot.partition);
+    word.byte(b'.');
+    word.number(shown.slot.index);
+    word
+}
+
+// `5.1 ← n04`: the slot with the other node.
+fn whole_words(sheet: &Sheet, shown: &Shown, takes: bool) -> Words {
+    let mut words = slot_word(sheet, shown);
+    words.text(if takes {
+        b" \xe2\x86\x90 "
+    } else {
+        b" \xe2\x86\x92 "
+    });
+    let reads = sheet.scene.shown.read_by(shown);
+    if !takes {
+        words.text(name(sheet.ring, shown.to));
+    } else if reads.len() == 1 {
+        words.text(name(sheet.ring, reads[0]));
+    } else {
+        words.number(small(reads.len()));
+        words.text(b" nodes");
+    }
+    words
+}
+
+// The words of a bar: the slot with the other node where there is room for it, else the slot, else the partition.
+fn label(sheet: &Sheet, shown: &Shown, takes: bool, room: u32) -> Words {
+    let whole = whole_words(sheet, shown, takes);
+    if can_fit(whole.as_slice(), room) {
+        return whole;
+    }
+    let slot = slot_word(sheet, shown);
+    if can_fit(slot.as_slice(), room) {
+        return slot;
+    }
+    let mut partition = Words::new(sheet.alloc);
+    partition.number(shown.slot.partition);
+    partition
+}
+
+/// Whether a bar that is so wide has room for the number of each partition that moves.
+pub fn have_room(sheet: &Sheet, wide: u32) -> bool {
+    let mut most = 0u32;
+    for shown in sheet.scene.shown.moves.as_slice() {
+        most = most.max(shown.slot.partition);
+    }
+    // All digits are as wide as this one.
+    let digits: &[u8] = match most {
+        0..=9 => b"0",
+        10..=99 => b"00",
+        100..=999 => b"000",
+        _ => b"0000",
+    };
+    can_fit(digits, wide.saturating_sub(RIM))
+}
+
+// What a bar says to a pointer.
+fn title(sheet: &Sheet, shown: &Shown) -> Words {
+    let mut words = Words::new(sheet.alloc);
+    words.text(b"step ");
+    words.number(shown.copy.unwrap_or(0));
+    words.text(b": copy of slot ");
+    words.number(shown.slot.index);
+    words.text(b" of partition ");
+    words.number(shown.slot.partition);
+    words.text(b" from ");
+    show_plan::push_names(&mut words, sheet.ring, sheet.scene.shown.read_by(shown), 7);
+    words.text(b" to ");
+    words.text(name(sheet.ring, shown.to));
+    words
+}
+
+/// The bar of a copy at one of its nodes. It is bare while the copy is open, with a part for the chunks that are marked, and where it is left out.
+pub fn push_bar(sheet: &Sheet, out: &mut Words, area: Area, shown: &Shown, takes: bool) {
+    let (fill, outline) = if takes {
+        (TAKE, b"bare taker".as_slice())
+    } else {
+        (GIVE, b"bare giver".as_slice())
+    };
+    let about = title(sheet, shown);
+    let state = state_of(sheet, shown);
+    let ink = match state {
+        State::Planned | State::Copied => {
+            push_titled(out, area, fill, ROUND, &about);
+            LIGHT
+        }
+        State::Open(_) | State::Left => {
+            push_titled(out, area, outline, ROUND, &about);
+            DARK
+        }
+    };
+    if let State::Open(chunks) = state {
+        let mut part = area;
+        part.width = helpers::parts_of(chunks, 16, area.width);
+        push_area(out, part, fill, b" rx=\"3\" opacity=\"0.4\"");
+    }
+    let room = area.width.saturating_sub(RIM);
+    let words = label(sheet, shown, takes, room);
+    let look = Look::new(ink, 11, b" text-anchor=\"middle\"");
+    let middle = Point::at(
+        area.x.saturating_add(area.width / 2),
+        area.y.saturating_add(12),
+    );
+    push_fitting(out, middle, look, &words, room)
+}

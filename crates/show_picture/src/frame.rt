@@ -1,0 +1,149 @@
+//! What stands round the rows of a picture.
+
+use crate::fitting::{Look, push_fitting};
+use crate::sheet::Sheet;
+use crate::style::DONE;
+use crate::svg::{Area, Caption, MARGIN, Point, WIDE, push_area, push_said, push_words};
+use crate::widths::width;
+use helpers::{Words, parts_of, small};
+use ring_names::Refusal;
+use show_plan::{fewest_moves, name, push_change, push_many, push_moves, push_names, push_quorum};
+
+// How wide the bar of progress is.
+const BAR: u32 = 210;
+
+/// How wide the words of a picture are at most.
+pub const ROOM: u32 = WIDE - 2 * MARGIN;
+
+// What the plan does.
+fn tell_change(sheet: &Sheet, out: &mut Words) {
+    let scene = sheet.scene;
+    push_change(out, sheet.ring, scene);
+    out.text(b": ");
+    push_moves(out, scene, b"slot moves", b"slots move");
+    out.text(b" in ");
+    push_many(out, scene.round_count(), b"round", b"rounds")
+}
+
+// What the ring is, and how wide the rounds are.
+fn tell_ring(sheet: &Sheet, out: &mut Words) {
+    let scene = sheet.scene;
+    push_quorum(out, sheet.ring, b", any ", b" and any ");
+    out.text(b". The widest round has ");
+    push_many(out, scene.widest(), b"copy.", b"copies.");
+    if scene.move_count() > 0 && scene.move_count() == fewest_moves(sheet.ring, scene) {
+        out.text(b" No plan moves fewer.");
+    }
+}
+
+/// The title of a picture, and what is said below it.
+pub fn caption_of(sheet: &Sheet) -> Caption {
+    let mut caption = Caption {
+        title: Words::new(sheet.alloc),
+        about: Words::new(sheet.alloc),
+    };
+    tell_change(sheet, &mut caption.title);
+    tell_ring(sheet, &mut caption.about);
+    caption
+}
+
+/// The title over a picture, what is said below it, and how many steps are done.
+pub fn push_frame(sheet: &Sheet, out: &mut Words, caption: &Caption) {
+    // Bold words are wider by about an eighth.
+    let title = Look::new(b"t", 19, b"");
+    push_fitting(
+        out,
+        Point::at(MARGIN, 34),
+        title,
+        &caption.title,
+        ROOM / 9 * 8,
+    );
+    let about = Look::new(b"s", 12, b"");
+    push_fitting(out, Point::at(MARGIN, 55), about, &caption.about, ROOM);
+    push_progress(sheet, out)
+}
+
+// The bar that says how many steps are done.
+fn push_progress(sheet: &Sheet, out: &mut Words) {
+    let Some(progress) = sheet.progress else {
+        return;
+    };
+    let steps = sheet.plan.len();
+    let done = progress.count();
+    let mut bar = Area {
+        x: WIDE - MARGIN - BAR,
+        y: 64,
+        width: BAR,
+        height: 12,
+    };
+    push_area(out, bar, b"track", b" rx=\"3\"");
+    bar.width = parts_of(done, steps, BAR);
+    push_area(out, bar, DONE, b" rx=\"3\"");
+    let mut words = Words::new(sheet.alloc);
+    words.number(done);
+    words.text(b" of ");
+    push_many(&mut words, steps, b"step done", b"steps done");
+    let right = Point::at(bar.x.saturating_sub(8), 75);
+    push_said(out, right, b" class=\"s\" text-anchor=\"end\"", &words)
+}
+
+/// A patch of that class with its meaning, and where the next one may stand.
+pub fn push_key(out: &mut Words, at: Point, class: &[u8], more: &[u8], words: &[u8]) -> Point {
+    let patch = Area {
+        x: at.x,
+        y: at.y.saturating_sub(9),
+        width: 20,
+        height: 11,
+    };
+    push_area(out, patch, class, more);
+    let x = at.x.saturating_add(26);
+    push_words(out, Point::at(x, at.y), b" class=\"h\"", words);
+    Point::at(x.saturating_add(width(words, 11)).saturating_add(20), at.y)
+}
+
+/// The class of a node's name: its colour and weight say what it does, and it is crossed out where it is down.
+pub fn name_class(sheet: &Sheet, node: u32) -> &'static [u8] {
+    match (sheet.is_down(node), sheet.leaves(node), sheet.joins(node)) {
+        (false, true, _) => b"n leaves",
+        (false, _, true) => b"n joins",
+        (false, _, _) => b"n",
+        (true, true, _) => b"n leaves down",
+        (true, _, true) => b"n joins down",
+        (true, _, _) => b"n down",
+    }
+}
+
+/// The name of a node, which ends at its place.
+pub fn push_name(sheet: &Sheet, out: &mut Words, at: Point, node: u32, room: u32) {
+    let look = Look::new(name_class(sheet, node), 12, b" text-anchor=\"end\"");
+    let mut words = Words::new(sheet.alloc);
+    words.text(name(sheet.ring, node));
+    let is_bold = sheet.leaves(node) || sheet.joins(node);
+    let room = if is_bold {
+        (room / 9).saturating_mul(8)
+    } else {
+        room
+    };
+    push_fitting(out, at, look, &words, room)
+}
+
+/// The members that do nothing, in words, where there are any.
+pub fn push_idle(sheet: &Sheet, out: &mut Words, at: Point) -> Result<(), Refusal> {
+    let mut idle = Vec::new(sheet.alloc);
+    for node in 0..small(sheet.ring.nodes().len()) {
+        let has_row = sheet.scene.takes_part(node) || sheet.is_down(node);
+        if sheet.present.is_member(node) && !has_row {
+            idle.push(node)?;
+        }
+    }
+    if idle.is_empty() {
+        return Ok(());
+    }
+    let mut words = Words::new(sheet.alloc);
+    words.text(b"No part in it: ");
+    push_names(&mut words, sheet.ring, idle.as_slice(), 6);
+    words.byte(b'.');
+    let room = WIDE.saturating_sub(MARGIN).saturating_sub(at.x);
+    push_fitting(out, at, Look::new(b"h", 11, b""), &words, room);
+    Ok(())
+}

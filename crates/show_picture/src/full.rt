@@ -1,0 +1,309 @@
+//! A picture with every copy: a row for each node, a column for each round, a bar for each copy of a node.
+
+use crate::bars::{have_room, push_bar};
+use crate::fitting::{Look, push_fitting};
+use crate::frame::{caption_of, push_frame, push_idle, push_key, push_name};
+use crate::lanes::Lanes;
+use crate::order::by_copy;
+use crate::sheet::Sheet;
+use crate::slots::{SLOTS, most_owned, push_slots, slots_head};
+use crate::style::{GIVE, SOME, TAKE};
+use crate::svg::{
+    Area, MARGIN, Point, WIDE, push_area, push_picture, push_rule, push_said, push_words,
+};
+use crate::widths::width;
+use helpers::{Words, small};
+use ring_names::Refusal;
+use show_plan::{Shown, name};
+
+// How high a lane is, and the least that a row is.
+const LANE: u32 = 19;
+
+const ROW: u32 = 44;
+
+// Where the first row begins, and how far behind the columns the slots that a node owns begin.
+const TOP: u32 = 112;
+
+const GAP: u32 = 16;
+
+// How wide the words before the rows are at least and at most.
+const NARROW: u32 = 100;
+
+const BROAD: u32 = 190;
+
+// A row of a picture.
+#[derive(Clone, Copy)]
+struct Row {
+    node: u32,
+    y: u32,
+    height: u32,
+    lanes: u32,
+}
+
+/// Where the rows and columns of a picture stand.
+#[derive(Drop)]
+pub struct Plot {
+    rows: Vec<Row>,
+    left: u32,
+    column: u32,
+    right: u32,
+    bottom: u32,
+    most: u32,
+}
+
+impl Plot {
+    /// The rows of the nodes, as high as the most copies that one has in a round.
+    pub fn of(sheet: &Sheet, nodes: &[u32], lanes: &Lanes) -> Result<Plot, Refusal> {
+        let left = words_before(sheet, nodes)?.saturating_add(MARGIN + 12);
+        let rounds = sheet.scene.round_count().max(1);
+        let room = (WIDE - MARGIN - SLOTS - GAP).saturating_sub(left);
+        let column = match room.checked_div(rounds) {
+            Some(column) => column.min(190).max(12),
+            None => 12,
+        };
+        let mut plot = Plot {
+            rows: Vec::new(sheet.alloc),
+            left,
+            column,
+            right: left.saturating_add(column.saturating_mul(rounds)),
+            bottom: TOP,
+            most: most_owned(sheet, nodes),
+        };
+        plot.place(nodes, lanes)?;
+        Ok(plot)
+    }
+
+    /// Whether each bar has room for words.
+    pub fn has_room(&self, sheet: &Sheet) -> bool {
+        have_room(sheet, self.column.saturating_sub(4))
+    }
+
+    // Gives each node its row.
+    fn place(&mut self, nodes: &[u32], lanes: &Lanes) -> Result<(), Refusal> {
+        for place in 0..nodes.len() {
+            let needed = lanes.needed(place);
+            let height = needed.saturating_mul(LANE).max(ROW);
+            self.rows.push(Row {
+                node: nodes[place],
+                y: self.bottom,
+                height,
+                lanes: needed,
+            })?;
+            self.bottom = self.bottom.saturating_add(height).saturating_add(9);
+        }
+        Ok(())
+    }
+
+    // Where a round's column begins.
+    fn start(&self, round: u32) -> u32 {
+        let before = round.saturating_sub(1);
+        self.left.saturating_add(self.column.saturating_mul(before))
+    }
+
+    // The columns, and their numbers.
+    fn push_columns(&self, sheet: &Sheet, out: &mut Words) {
+        let rounds = sheet.scene.round_count();
+        for round in 1..=rounds {
+            let column = Area {
+                x: self.start(round),
+                y: TOP - 6,
+                width: self.column,
+                height: self.bottom.saturating_sub(TOP).saturating_add(2),
+            };
+            push_area(
+                out,
+                column,
+                if round % 2 == 1 { b"odd" } else { b"even" },
+                b"",
+            );
+            if rounds <= 24 || round % 5 == 1 {
+                self.push_round(sheet, out, round);
+            }
+        }
+        let head = Point::at(self.right.saturating_add(GAP), TOP - 13);
+        push_words(out, head, b" class=\"h\"", slots_head(sheet))
+    }
+
+    // The number of a round over its column.
+    fn push_round(&self, sheet: &Sheet, out: &mut Words, round: u32) {
+        let mut words = Words::new(sheet.alloc);
+        if self.column > 56 {
+            words.text(b"round ");
+        }
+        words.number(round);
+        let middle = self.start(round).saturating_add(self.column / 2);
+        let place = Point::at(middle, TOP - 13);
+        push_said(out, place, b" class=\"h\" text-anchor=\"middle\"", &words);
+    }
+
+    // What stands at both ends of a row.
+    fn push_ends(&self, sheet: &Sheet, out: &mut Words, row: &Row) {
+        let middle = row.y.saturating_add(row.height / 2);
+        self.push_role(sheet, out, row.node, middle);
+        let panel = Point::at(self.right.saturating_add(GAP), middle.saturating_sub(5));
+        push_slots(sheet, out, row.node, panel, self.most);
+        let line = row.y.saturating_add(row.height).saturating_add(4);
+        let from = Point::at(self.left, line);
+        push_rule(out, from, Point::at(self.right, line))
+    }
+
+    // The name of a row's node, what it does, and how many transfers it never has more of at once.
+    fn push_role(&self, sheet: &Sheet, out: &mut Words, node: u32, middle: u32) {
+        let at_once = sheet.at_once(node);
+        out.heed(&at_once);
+        let role = role_of(sheet, node, at_once.len() > 0);
+        let has_three = at_once.len() > 0 && role.len() > 0;
+        let first = middle.saturating_sub(if has_three { 8 } else { 1 });
+        let x = self.left.saturating_sub(12);
+        let room = self.left.saturating_sub(MARGIN + 12);
+        push_name(sheet, out, Point::at(x, first), node, room);
+        self.push_side(out, first.saturating_add(13), &role);
+        self.push_side(out, first.saturating_add(25), &at_once)
+    }
+
+    // Small words before a row.
+    fn push_side(&self, out: &mut Words, y: u32, words: &Words) {
+        out.heed(words);
+        if words.len() > 0 {
+            let look = Look::new(b"k", 10, b" text-anchor=\"end\"");
+            let place = Point::at(self.left.saturating_sub(12), y);
+            let room = self.left.saturating_sub(MARGIN + 12);
+            push_fitting(out, place, look, words, room)
+        }
+    }
+
+    // The bar of a copy in a row's lane.
+    fn area(&self, row: &Row, round: u32, lane: u32) -> Area {
+        let spare = row.height.saturating_sub(row.lanes.saturating_mul(LANE)) / 2;
+        Area {
+            x: self.start(round).saturating_add(2),
+            y: row
+                .y
+                .saturating_add(lane.saturating_mul(LANE))
+                .saturating_add(spare)
+                .saturating_add(2),
+            width: self.column.saturating_sub(4),
+            height: LANE - 4,
+        }
+    }
+
+    // What is said below the rows; how high the picture is with it.
+    fn push_notes(&self, sheet: &Sheet, out: &mut Words) -> Result<u32, Refusal> {
+        let y = self.bottom.saturating_add(18);
+        let start = Point::at(self.left, y);
+        if sheet.progress.is_some() {
+            push_done_keys(out, start);
+        } else {
+            push_plan_keys(out, start);
+        }
+        let mut below = y.saturating_add(20);
+        for line in LINES {
+            let mut words = Words::new(sheet.alloc);
+            words.text(line);
+            let look = Look::new(b"h", 11, b"");
+            let room = (WIDE - MARGIN).saturating_sub(self.left);
+            push_fitting(out, Point::at(self.left, below), look, &words, room);
+            below = below.saturating_add(15);
+        }
+        push_idle(sheet, out, Point::at(self.left, below.saturating_add(5)))?;
+        Ok(below.saturating_add(20))
+    }
+}
+
+// What stands below every picture.
+const LINES: [&[u8]; 2] = [
+    b"In a round stand the copies that wait only for copies to their left. Nothing stops between rounds:",
+    b"a copy begins as soon as the steps are done that it waits for.",
+];
+
+// What the bars mean where a run has begun.
+fn push_done_keys(out: &mut Words, start: Point) {
+    let round = b" rx=\"2\"";
+    let next = push_key(out, start, SOME, round, b"copied");
+    let next = push_key(out, next, b"pale edge", round, b"open, as far as it is");
+    push_key(out, next, b"bare edge", round, b"still to do");
+}
+
+// What the bars mean of a plan alone.
+fn push_plan_keys(out: &mut Words, start: Point) {
+    let round = b" rx=\"2\"";
+    let next = push_key(out, start, GIVE, round, b"gives a slot");
+    let takes = b"takes a slot; 5.1 is slot 1 of partition 5";
+    push_key(out, next, TAKE, round, takes);
+}
+
+// How wide the words before the rows are.
+fn words_before(sheet: &Sheet, nodes: &[u32]) -> Result<u32, Refusal> {
+    let mut wide = NARROW;
+    for node in nodes {
+        let at_once = sheet.at_once(*node);
+        let role = role_of(sheet, *node, at_once.len() > 0);
+        wide = wide.max(width(name(sheet.ring, *node), 12).saturating_mul(9) / 8);
+        wide = wide.max(width(role.end()?.as_slice(), 10));
+        wide = wide.max(width(at_once.end()?.as_slice(), 10));
+    }
+    Ok(wide.min(BROAD))
+}
+
+// `joins`, and `down, leaves, never more than`
+fn role_of(sheet: &Sheet, node: u32, has_bound: bool) -> Words {
+    let parts = [
+        (sheet.is_down(node), b"down".as_slice()),
+        (sheet.joins(node), b"joins".as_slice()),
+        (sheet.leaves(node), b"leaves".as_slice()),
+        (has_bound, b"never more than".as_slice()),
+    ];
+    let mut words = Words::new(sheet.alloc);
+    for (is_said, part) in parts {
+        if is_said && words.len() > 0 {
+            words.text(b", ");
+        }
+        if is_said {
+            words.text(part);
+        }
+    }
+    words
+}
+
+// The bars of a copy, one for each of its nodes.
+fn push_copy(sheet: &Sheet, out: &mut Words, plot: &Plot, lanes: &mut Lanes, shown: &Shown) {
+    push_part(sheet, out, plot, lanes, (shown, shown.to));
+    for node in sheet.scene.shown.read_by(shown) {
+        push_part(sheet, out, plot, lanes, (shown, *node));
+    }
+}
+
+// The bar of a copy at that node.
+fn push_part(sheet: &Sheet, out: &mut Words, plot: &Plot, lanes: &mut Lanes, part: (&Shown, u32)) {
+    let (shown, node) = part;
+    let Some(place) = lanes.row(node) else {
+        return;
+    };
+    let Some(row) = plot.rows.as_slice().get(place) else {
+        return;
+    };
+    let lane = lanes.take(place, shown.round);
+    let area = plot.area(row, shown.round, lane);
+    push_bar(sheet, out, area, shown, node == shown.to)
+}
+
+/// The picture of every copy, where each bar has room for words.
+pub fn full_picture(sheet: &Sheet, nodes: &[u32], plot: &Plot) -> Result<Vec<u8>, Refusal> {
+    let caption = caption_of(sheet);
+    let mut shapes = Words::new(sheet.alloc);
+    push_frame(sheet, &mut shapes, &caption);
+    plot.push_columns(sheet, &mut shapes);
+    for row in plot.rows.as_slice() {
+        plot.push_ends(sheet, &mut shapes, row);
+    }
+    let mut lanes = Lanes::new(sheet, nodes)?;
+    for place in by_copy(sheet)?.as_slice() {
+        if let Some(shown) = sheet.shown(*place) {
+            push_copy(sheet, &mut shapes, plot, &mut lanes, shown);
+        }
+    }
+    let height = plot.push_notes(sheet, &mut shapes)?;
+    let mut out = Words::new(sheet.alloc);
+    push_picture(&mut out, height, &caption, &shapes);
+    out.end()
+}

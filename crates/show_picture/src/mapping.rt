@@ -1,0 +1,352 @@
+//! A map of who owns what: a row for each partition, a column for each node, a cell where the node owns a slot before the plan or after it.
+
+use crate::cells::{Cells, DUE, GIVEN, GONE, KEPT, MARKS, TAKEN, joined};
+use crate::columns::{Column, Columns, Sharing};
+use crate::fitting::{Look, push_fitting};
+use crate::frame::{caption_of, name_class, push_frame, push_key};
+use crate::sheet::Sheet;
+use crate::svg::{Area, Caption, MARGIN, Point, WIDE, push_area, push_picture, push_said};
+use crate::widths::width;
+use helpers::{Words, at, parts_of, small};
+use ring_names::Refusal;
+use show_plan::{name, push_many, rack};
+
+// How far down the names of racks stand, and those of the columns begin.
+const HEAD: u32 = 98;
+
+// How much room the names of columns have.
+const NAMES: u32 = 120;
+
+// How wide a column is at most, and how far behind the left edge the first begins.
+const WIDEST: u32 = 58;
+
+// Below which width of columns their names are small.
+const NARROW: u32 = 18;
+
+const LEFT: u32 = MARGIN + 42;
+
+// How each mark is painted.
+fn class_of_mark(mark: usize) -> &'static [u8] {
+    match mark {
+        KEPT => b"kept",
+        GIVEN => b"give",
+        GONE => b"bare giver",
+        TAKEN => b"take",
+        _ => b"bare taker",
+    }
+}
+
+// Where rows and columns stand.
+#[derive(Clone, Copy)]
+struct Grid {
+    top: u32,
+    row: u32,
+    column: u32,
+    bottom: u32,
+}
+
+impl Grid {
+    fn of(sheet: &Sheet, columns: &Columns, cells: &Cells) -> Result<Grid, Refusal> {
+        let mut names = 0u32;
+        for column in columns.columns.as_slice() {
+            let wide = width(label(sheet, columns, column).end()?.as_slice(), 12);
+            names = names.max((wide.saturating_mul(9) / 8).saturating_add(1));
+        }
+        let rows = small(cells.rows);
+        let row = match rows {
+            0..=32 => 16,
+            33..=64 => 10,
+            _ => 6,
+        };
+        let room = WIDE - MARGIN - LEFT;
+        let column = match room.checked_div(small(columns.columns.len())) {
+            Some(column) => column.min(WIDEST),
+            None => WIDEST,
+        };
+        let top = names.min(NAMES).saturating_add(HEAD + 12);
+        Ok(Grid {
+            top,
+            row,
+            column,
+            bottom: top.saturating_add(rows.saturating_mul(row)),
+        })
+    }
+
+    fn x(&self, column: usize) -> u32 {
+        LEFT.saturating_add(self.column.saturating_mul(small(column)))
+    }
+
+    fn y(&self, row: usize) -> u32 {
+        self.top.saturating_add(self.row.saturating_mul(small(row)))
+    }
+
+    // The ground of a column.
+    fn push_ground(&self, out: &mut Words, place: usize, column: &Column) {
+        let ground = Area {
+            x: self.x(place),
+            y: self.top.saturating_sub(4),
+            width: self.column,
+            height: self.bottom.saturating_sub(self.top).saturating_add(8),
+        };
+        let class = if column.is_joining {
+            b"new".as_slice()
+        } else if column.rack % 2 == 0 {
+            b"odd".as_slice()
+        } else {
+            b"even".as_slice()
+        };
+        push_area(out, ground, class, b"")
+    }
+
+    // What stands over a column, from below upwards.
+    fn push_label(&self, sheet: &Sheet, out: &mut Words, place: usize, named: (&Column, &Words)) {
+        let (column, words) = named;
+        let is_small = self.column < NARROW;
+        let middle = self.x(place).saturating_add(self.column / 2);
+        let (x, y) = (middle.saturating_add(4), self.top.saturating_sub(9));
+        let mut more = Words::new(sheet.alloc);
+        more.text(b" transform=\"rotate(-90 ");
+        more.number(x);
+        more.byte(b' ');
+        more.number(y);
+        more.text(b")\"");
+        let class = class_of(sheet, column, is_small);
+        out.heed(&more);
+        out.heed(&class);
+        let size = if is_small { 10 } else { 12 };
+        let look = Look::new(class.as_slice(), size, more.as_slice());
+        push_fitting(out, Point::at(x, y), look, words, NAMES / 9 * 8)
+    }
+
+    // The name of the rack over its first column.
+    fn push_rack(&self, sheet: &Sheet, out: &mut Words, place: usize, behind: u8, node: u32) {
+        let mut words = Words::new(sheet.alloc);
+        words.text(rack(name(sheet.ring, node), behind));
+        let look = Look::new(b"h", 11, b"");
+        let room = self.column.saturating_mul(2).max(30);
+        push_fitting(out, Point::at(self.x(place), HEAD), look, &words, room)
+    }
+
+    // The columns, with the racks over them.
+    fn push_columns(&self, sheet: &Sheet, out: &mut Words, columns: &Columns) {
+        let mut place = 0usize;
+        let mut last = None;
+        for column in columns.columns.as_slice() {
+            self.push_ground(out, place, column);
+            self.push_label(sheet, out, place, (column, &label(sheet, columns, column)));
+            if let (Some(behind), Sharing::Nobody) = (columns.racks_behind, columns.sharing) {
+                if last != Some(column.rack) {
+                    self.push_rack(sheet, out, place, behind, column.node);
+                }
+            }
+            last = Some(column.rack);
+            place = place.saturating_add(1);
+        }
+    }
+
+    // The numbers of partitions before the rows.
+    fn push_numbers(&self, sheet: &Sheet, out: &mut Words, cells: &Cells) {
+        for row in 0..cells.rows {
+            if self.row >= 12 || row % 4 == 0 {
+                let mut words = Words::new(sheet.alloc);
+                words.number(small(row).saturating_mul(cells.shared));
+                let y = self.y(row).saturating_add(self.row / 2).saturating_add(4);
+                let place = Point::at(LEFT - 8, y);
+                push_said(out, place, b" class=\"k\" text-anchor=\"end\"", &words);
+            }
+        }
+    }
+
+    // The cells of a column, of one mark, as one shape.
+    fn push_cells(&self, out: &mut Words, cells: &Cells, column: usize, mark: usize, most: u32) {
+        let mut is_open = false;
+        for row in 0..cells.rows {
+            let count = cells.at(mark, row, column);
+            if count == 0 {
+                continue;
+            }
+            if !is_open {
+                out.text(b"<path class=\"");
+                out.text(class_of_mark(mark));
+                out.text(b"\" d=\"");
+            }
+            is_open = true;
+            let mut before = 0u32;
+            for other in 0..mark {
+                before = before.saturating_add(cells.at(other, row, column));
+            }
+            self.push_cell(
+                out,
+                (row, column),
+                (before, before.saturating_add(count)),
+                most,
+            );
+        }
+        if is_open {
+            out.text(b"\"/>\n");
+        }
+    }
+
+    // A cell's part from one number of slots to another, of the most that a cell has.
+    fn push_cell(&self, out: &mut Words, place: (usize, usize), slots: (u32, u32), most: u32) {
+        let (row, column) = place;
+        let (from, to) = slots;
+        let room = self.column.saturating_sub(1);
+        let start = parts_of(from, most, room);
+        let end = parts_of(to, most, room)
+            .max(start.saturating_add(1))
+            .min(room);
+        let start = start.min(end.saturating_sub(1));
+        out.byte(b'M');
+        out.number(self.x(column).saturating_add(start));
+        out.byte(b' ');
+        out.number(self.y(row));
+        out.byte(b'h');
+        out.number(end.saturating_sub(start));
+        out.byte(b'v');
+        out.number(self.row.saturating_sub(1));
+        out.byte(b'H');
+        out.number(self.x(column).saturating_add(start));
+        out.byte(b'z');
+    }
+
+    // What is said below the rows; how high the picture is with it.
+    fn push_notes(&self, sheet: &Sheet, out: &mut Words, columns: &Columns, cells: &Cells) -> u32 {
+        let y = self.bottom.saturating_add(26);
+        push_keys(sheet, out, Point::at(MARGIN, y));
+        let look = Look::new(b"h", 11, b"");
+        let room = WIDE - 2 * MARGIN;
+        let below = y.saturating_add(20);
+        let words = parts_words(sheet, columns, cells);
+        push_fitting(out, Point::at(MARGIN, below), look, &words, room);
+        if sheet.scene.joins.is_empty() {
+            return below.saturating_add(20);
+        }
+        let last = below.saturating_add(16);
+        push_fitting(
+            out,
+            Point::at(MARGIN, last),
+            look,
+            &joiners_words(sheet),
+            room,
+        );
+        last.saturating_add(20)
+    }
+}
+
+// What stands over a column: the name of its node or of the first, or that of its rack.
+fn label(sheet: &Sheet, columns: &Columns, column: &Column) -> Words {
+    let own = name(sheet.ring, column.node);
+    let mut words = Words::new(sheet.alloc);
+    match (columns.sharing, columns.racks_behind) {
+        (Sharing::Racks, Some(behind)) => words.text(rack(own, behind)),
+        (Sharing::Counts(_), _) => {
+            words.text(own);
+            words.text(b" ..");
+        }
+        _ => words.text(own),
+    }
+    words
+}
+
+// The class of those words.
+fn class_of(sheet: &Sheet, column: &Column, is_small: bool) -> Words {
+    let mut class = Words::new(sheet.alloc);
+    if column.count == 1 {
+        class.text(name_class(sheet, column.node));
+    } else if column.is_joining {
+        class.text(b"n joins");
+    } else {
+        class.text(b"n");
+    }
+    if is_small {
+        class.text(b" c");
+    }
+    class
+}
+
+// What the marks mean.
+fn push_keys(sheet: &Sheet, out: &mut Words, start: Point) {
+    let next = push_key(
+        out,
+        start,
+        class_of_mark(KEPT),
+        b"",
+        b"owned before and after",
+    );
+    if sheet.progress.is_none() {
+        let next = push_key(out, next, class_of_mark(GIVEN), b"", b"given");
+        push_key(out, next, class_of_mark(TAKEN), b"", b"taken");
+        return;
+    }
+    let next = push_key(out, next, class_of_mark(GIVEN), b"", b"still to give");
+    let next = push_key(out, next, class_of_mark(GONE), b"", b"given");
+    let next = push_key(out, next, class_of_mark(TAKEN), b"", b"taken");
+    push_key(out, next, class_of_mark(DUE), b"", b"still to take");
+}
+
+// What rows and columns are.
+fn parts_words(sheet: &Sheet, columns: &Columns, cells: &Cells) -> Words {
+    let mut words = Words::new(sheet.alloc);
+    words.text(b"Who owns what before and after. A row is ");
+    push_many(&mut words, cells.shared, b"partition", b"partitions");
+    words.text(match columns.sharing {
+        Sharing::Nobody => b", a column a node".as_slice(),
+        Sharing::Racks => b", a column a rack or its joiners".as_slice(),
+        Sharing::Counts(_) => b", a column some nodes, from the named one on".as_slice(),
+    });
+    let most = cells.most();
+    if most > 1 {
+        words.text(b"; a full cell has ");
+        words.number(most);
+        words.text(b" slots");
+    }
+    words.byte(b'.');
+    if !sheet.scene.joins.is_empty() {
+        words.text(b" Joiners stand on blue.");
+    }
+    words
+}
+
+// How many slots of how many partitions joiners own in the end.
+fn joiners_words(sheet: &Sheet) -> Words {
+    let counts = joined(sheet);
+    let mut words = Words::new(sheet.alloc);
+    words.text(b"In the end joiners own ");
+    for turn in 1..8usize {
+        let own = 8 - turn;
+        let count = at(counts.as_slice(), own);
+        if count > 0 {
+            push_many(&mut words, small(own), b"slot of ", b"slots of ");
+            push_many(&mut words, count, b"partition", b"partitions");
+            words.text(b", ");
+        }
+    }
+    words.text(b"none of ");
+    words.number(counts[0]);
+    words.byte(b'.');
+    words
+}
+
+/// The map of who owns what before the plan and after it, as SVG: by node, grouped by rack where racks are asked for. Above 128 partitions rows have several, and
+/// above 60 nodes columns. Its only refusal is `OutOfMemory`.
+pub fn map_picture(sheet: &Sheet, racks_behind: Option<u8>) -> Result<Vec<u8>, Refusal> {
+    let columns = Columns::of(sheet, racks_behind)?;
+    let cells = Cells::of(sheet, &columns)?;
+    let grid = Grid::of(sheet, &columns, &cells)?;
+    let caption = caption_of(sheet);
+    let most = cells.most();
+    let mut shapes = Words::new(sheet.alloc);
+    push_frame(sheet, &mut shapes, &caption);
+    grid.push_columns(sheet, &mut shapes, &columns);
+    grid.push_numbers(sheet, &mut shapes, &cells);
+    for column in 0..columns.columns.len() {
+        for mark in 0..MARKS {
+            grid.push_cells(&mut shapes, &cells, column, mark, most);
+        }
+    }
+    let height = grid.push_notes(sheet, &mut shapes, &columns, &cells);
+    let mut out = Words::new(sheet.alloc);
+    push_picture(&mut out, height, &caption, &shapes);
+    out.end()
+}

@@ -1,0 +1,67 @@
+//! The order in which nodes are drawn.
+
+use crate::sheet::Sheet;
+use helpers::small;
+use ring_names::Refusal;
+
+// A node that has a row: those that are down first, then leavers, then joiners, then by how much they do.
+#[derive(Clone, Copy, PartialEq, Eq, PartialOrd, Ord)]
+struct Ranked {
+    kind: u32,
+    idleness: u32,
+    node: u32,
+}
+
+/// How many kinds of nodes there are.
+pub const KINDS: usize = 4;
+
+/// 0 for a node that is down, 1 for one that leaves, 2 for one that joins, and 3 for one that stays.
+pub fn kind(sheet: &Sheet, node: u32) -> u32 {
+    if sheet.is_down(node) {
+        0
+    } else if sheet.leaves(node) {
+        1
+    } else if sheet.joins(node) {
+        2
+    } else {
+        3
+    }
+}
+
+/// The nodes that take part or are down: those that are down, those that leave, those that join and those that stay, the busiest of each first.
+pub fn in_order(sheet: &Sheet) -> Result<Vec<u32>, Refusal> {
+    let mut ranked = Vec::new(sheet.alloc);
+    for node in 0..small(sheet.ring.nodes().len()) {
+        if sheet.scene.takes_part(node) || sheet.is_down(node) {
+            ranked.push(Ranked {
+                kind: kind(sheet, node),
+                idleness: u32::MAX - sheet.work(node),
+                node,
+            })?;
+        }
+    }
+    ranked.sort_unstable();
+    let mut nodes = Vec::new(sheet.alloc);
+    for one in ranked.as_slice() {
+        nodes.push(one.node)?;
+    }
+    Ok(nodes)
+}
+
+/// The places of the moves that have a copy, in the order of their copies.
+pub fn by_copy(sheet: &Sheet) -> Result<Vec<u32>, Refusal> {
+    let mut order = Vec::new(sheet.alloc);
+    let mut place = 0u32;
+    for shown in sheet.scene.shown.moves.as_slice() {
+        if let Some(copy) = shown.copy {
+            order.push((copy, place))?;
+        }
+        place = place.saturating_add(1);
+    }
+    order.sort_unstable();
+    let mut places = Vec::new(sheet.alloc);
+    for (_, place) in order.as_slice() {
+        places.push(*place)?;
+    }
+    Ok(places)
+}

@@ -1,0 +1,58 @@
+//! What a picture is made of.
+
+use helpers::{Words, at};
+use plan_text::Plan;
+use ring_table::Ring;
+use show_plan::{Present, Progress, Scene, Shown};
+use std::alloc::Global;
+
+/// An approved plan with what is shown of it, and how far a run has come, where there is one.
+#[derive(Clone, Copy)]
+pub struct Sheet<'a> {
+    pub alloc: Global,
+    pub ring: &'a Ring,
+    pub plan: &'a Plan,
+    pub scene: &'a Scene,
+    /// How the ring stands after the last entry of the history, or before the first step.
+    pub present: &'a Present,
+    pub progress: Option<&'a Progress>,
+}
+
+impl<'a> Sheet<'a> {
+    /// The move of that place.
+    pub fn shown(&self, place: u32) -> Option<&Shown> {
+        self.scene.shown.moves.as_slice().get(place as usize)
+    }
+
+    /// Whether the node retires.
+    pub fn leaves(&self, node: u32) -> bool {
+        self.scene.leaves.as_slice().contains(&node)
+    }
+
+    /// Whether the node joins.
+    pub fn joins(&self, node: u32) -> bool {
+        self.scene.joins.as_slice().contains(&node)
+    }
+
+    /// Whether the node is down.
+    pub fn is_down(&self, node: u32) -> bool {
+        self.present.is_down(node)
+    }
+
+    /// How many transfers the node has.
+    pub fn work(&self, node: u32) -> u32 {
+        let gives = at(self.scene.loads.gives.as_slice(), node as usize);
+        gives.saturating_add(at(self.scene.loads.takes.as_slice(), node as usize))
+    }
+
+    /// How many transfers the node never has more of at once, and how many it bears: `3 at once (bears 4)`.
+    pub fn at_once(&self, node: u32) -> Words {
+        let mut text = Words::new(self.alloc);
+        if let Some(declared) = self.ring.nodes().get(node as usize) {
+            self.scene
+                .loads
+                .push_at_once(&mut text, declared.allowance, node);
+        }
+        text
+    }
+}

@@ -1,0 +1,102 @@
+//! How many slots a node owns, in the beginning, now and in the end, as a bar.
+
+use crate::fitting::{Look, push_fitting};
+use crate::sheet::Sheet;
+use crate::style::{INK, KEPT, TAKE};
+use crate::svg::{Area, Point, push_area};
+use helpers::{Words, at, parts_of};
+
+// The width of the longest bar.
+const BAR: u32 = 70;
+
+// How wide the numbers behind a bar are at most.
+const NUMBERS: u32 = 86;
+
+/// How wide bar and numbers are at most.
+pub const SLOTS: u32 = BAR + 8 + NUMBERS;
+
+/// The most slots that one of the nodes owns in the beginning or in the end, and at least 1.
+pub fn most_owned(sheet: &Sheet, nodes: &[u32]) -> u32 {
+    let loads = &sheet.scene.loads;
+    let mut most = 1u32;
+    for node in nodes {
+        most = most.max(at(loads.before.as_slice(), *node as usize));
+        most = most.max(at(loads.after.as_slice(), *node as usize));
+    }
+    most
+}
+
+const ARROW: &[u8] = b" \xe2\x86\x92 ";
+
+/// What stands over the bars.
+pub fn slots_head(sheet: &Sheet) -> &'static [u8] {
+    if sheet.progress.is_some() {
+        return b"slots: begun \xe2\x86\x92 now \xe2\x86\x92 end";
+    }
+    b"slots owned, now \xe2\x86\x92 then"
+}
+
+/// A grey bar of the slots that the node keeps, with what it takes in colour or what it gives in outline, and the numbers: `16 → 13`, or with a history
+/// `16 → 14 → 13`, where a line through the bar stands at what it owns now.
+pub fn push_slots(sheet: &Sheet, out: &mut Words, node: u32, at_place: Point, most: u32) {
+    let loads = &sheet.scene.loads;
+    let before = at(loads.before.as_slice(), node as usize);
+    let after = at(loads.after.as_slice(), node as usize);
+    let (start, end) = (parts_of(before, most, BAR), parts_of(after, most, BAR));
+    let mut bar = Area {
+        x: at_place.x,
+        y: at_place.y,
+        width: start.min(end),
+        height: 10,
+    };
+    push_area(out, bar, KEPT, b"");
+    bar.x = at_place.x.saturating_add(start.min(end));
+    if end > start {
+        bar.width = end - start;
+        push_area(out, bar, TAKE, b"");
+    }
+    if start > end {
+        bar.width = start - end;
+        push_area(out, bar, b"lost", b"");
+    }
+    push_now(sheet, out, node, at_place, most);
+    push_numbers(sheet, out, at_place, node)
+}
+
+// With a history a line at what the node owns now, where the end is another.
+fn push_now(sheet: &Sheet, out: &mut Words, node: u32, at_place: Point, most: u32) {
+    let loads = &sheet.scene.loads;
+    let before = at(loads.before.as_slice(), node as usize);
+    let after = at(loads.after.as_slice(), node as usize);
+    if sheet.progress.is_none() || before == after {
+        return;
+    }
+    let now = parts_of(at(sheet.present.owned.as_slice(), node as usize), most, BAR);
+    let line = Area {
+        x: at_place.x.saturating_add(now).saturating_sub(1),
+        y: at_place.y.saturating_sub(2),
+        width: 2,
+        height: 14,
+    };
+    push_area(out, line, INK, b"")
+}
+
+// `16 → 13` behind the bar, with a history `16 → 14 → 13`, or one number where nothing changes.
+fn push_numbers(sheet: &Sheet, out: &mut Words, place: Point, node: u32) {
+    let loads = &sheet.scene.loads;
+    let before = at(loads.before.as_slice(), node as usize);
+    let now = at(sheet.present.owned.as_slice(), node as usize);
+    let after = at(loads.after.as_slice(), node as usize);
+    let mut words = Words::new(sheet.alloc);
+    words.number(before);
+    if sheet.progress.is_some() && (before != now || now != after) {
+        words.text(ARROW);
+        words.number(now);
+    }
+    if before != after || before != now {
+        words.text(ARROW);
+        words.number(after);
+    }
+    let behind = Point::at(place.x.saturating_add(BAR + 8), place.y.saturating_add(9));
+    push_fitting(out, behind, Look::new(b"b", 11, b""), &words, NUMBERS)
+}

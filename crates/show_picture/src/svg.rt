@@ -1,0 +1,134 @@
+//! Shapes as SVG. Coordinates are whole pixels, so that the same picture has the same bytes.
+
+use crate::style::{PAGE, STYLE};
+use helpers::Words;
+
+/// How wide every picture is: a page of a repository shows it in about this width.
+pub const WIDE: u32 = 900;
+
+/// How far from the edges of a picture its words begin and end.
+pub const MARGIN: u32 = 24;
+
+/// A rectangle.
+#[derive(Clone, Copy, Debug)]
+pub struct Area {
+    pub x: u32,
+    pub y: u32,
+    pub width: u32,
+    pub height: u32,
+}
+
+/// A place.
+#[derive(Clone, Copy, Debug)]
+pub struct Point {
+    pub x: u32,
+    pub y: u32,
+}
+
+impl Point {
+    /// The place at so many to the right and so many down.
+    pub fn at(x: u32, y: u32) -> Point {
+        Point { x, y }
+    }
+}
+
+/// What is said of a picture: the title over it, and what stands below that.
+#[derive(Drop)]
+pub struct Caption {
+    pub title: Words,
+    pub about: Words,
+}
+
+/// Adds an attribute with a number: ` x="12"`.
+pub fn push_measure(out: &mut Words, name: &[u8], number: u32) {
+    out.byte(b' ');
+    out.text(name);
+    out.text(b"=\"");
+    out.number(number);
+    out.byte(b'"');
+}
+
+// The beginning of a rectangle of that class, up to what closes it.
+fn push_open(out: &mut Words, area: Area, class: &[u8], more: &[u8]) {
+    out.text(b"<rect");
+    push_measure(out, b"x", area.x);
+    push_measure(out, b"y", area.y);
+    push_measure(out, b"width", area.width);
+    push_measure(out, b"height", area.height);
+    out.text(b" class=\"");
+    out.text(class);
+    out.byte(b'"');
+    out.text(more);
+}
+
+/// A rectangle of that class, with further attributes, each after a space.
+pub fn push_area(out: &mut Words, area: Area, class: &[u8], more: &[u8]) {
+    push_open(out, area, class, more);
+    out.text(b"/>\n");
+}
+
+/// A rectangle with words that show where a pointer rests on it.
+pub fn push_titled(out: &mut Words, area: Area, class: &[u8], more: &[u8], title: &Words) {
+    push_open(out, area, class, more);
+    out.text(b"><title>");
+    out.words(title);
+    out.text(b"</title></rect>\n");
+}
+
+/// The beginning of words at a place, up to their attributes.
+pub fn push_begin(out: &mut Words, at: Point) {
+    out.text(b"<text");
+    push_measure(out, b"x", at.x);
+    push_measure(out, b"y", at.y);
+}
+
+/// Words at a place, with attributes, each after a space. Names of nodes and the words here have no character that must be escaped.
+pub fn push_words(out: &mut Words, at: Point, attributes: &[u8], words: &[u8]) {
+    push_begin(out, at);
+    out.text(attributes);
+    out.byte(b'>');
+    out.text(words);
+    out.text(b"</text>\n");
+}
+
+/// Words at a place, of a text that was written elsewhere.
+pub fn push_said(out: &mut Words, at: Point, attributes: &[u8], words: &Words) {
+    push_words(out, at, attributes, words.as_slice());
+    out.heed(words);
+}
+
+/// A thin line from one place to another.
+pub fn push_rule(out: &mut Words, from: Point, to: Point) {
+    out.text(b"<line");
+    push_measure(out, b"x1", from.x);
+    push_measure(out, b"y1", from.y);
+    push_measure(out, b"x2", to.x);
+    push_measure(out, b"y2", to.y);
+    out.text(b" class=\"rule\"/>\n");
+}
+
+/// A whole picture of that height round its shapes. Its caption is what a screen reader says.
+pub fn push_picture(out: &mut Words, height: u32, caption: &Caption, shapes: &Words) {
+    out.text(b"<svg xmlns=\"http://www.w3.org/2000/svg\" viewBox=\"0 0 ");
+    out.number(WIDE);
+    out.byte(b' ');
+    out.number(height);
+    out.byte(b'"');
+    push_measure(out, b"width", WIDE);
+    push_measure(out, b"height", height);
+    out.text(b" role=\"img\" aria-labelledby=\"title about\">\n<title id=\"title\">");
+    out.words(&caption.title);
+    out.text(b"</title>\n<desc id=\"about\">");
+    out.words(&caption.about);
+    out.text(b"</desc>\n");
+    out.text(STYLE);
+    let whole = Area {
+        x: 0,
+        y: 0,
+        width: WIDE,
+        height,
+    };
+    push_area(out, whole, PAGE, b"");
+    out.words(shapes);
+    out.text(b"</svg>\n");
+}

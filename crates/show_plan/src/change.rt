@@ -1,0 +1,83 @@
+//! Who joins and who leaves, and what must move for it.
+
+use crate::names::{name, push_many, push_names};
+use crate::scene::Scene;
+use helpers::{Words, small};
+use ring_table::Ring;
+
+// `a and b join`, or nothing where nobody does.
+fn push_who(out: &mut Words, ring: &Ring, nodes: &[u32], one: &[u8], more: &[u8]) {
+    let mut width = 0usize;
+    for node in nodes {
+        width = width.saturating_add(name(ring, *node).len());
+    }
+    if nodes.len() <= 3 && width <= 40 {
+        push_names(out, ring, nodes, 3);
+    } else {
+        push_many(out, small(nodes.len()), b"node", b"nodes");
+    }
+    out.byte(b' ');
+    out.text(if nodes.len() == 1 { one } else { more });
+}
+
+/// Who joins and who leaves.
+pub fn push_change(out: &mut Words, ring: &Ring, scene: &Scene) {
+    let (joins, leaves) = (scene.joins.as_slice(), scene.leaves.as_slice());
+    if joins.is_empty() && leaves.is_empty() {
+        out.text(b"Nobody joins or leaves");
+    }
+    if !joins.is_empty() {
+        push_who(out, ring, joins, b"joins", b"join");
+    }
+    if !joins.is_empty() && !leaves.is_empty() {
+        out.text(b" and ");
+    }
+    if !leaves.is_empty() {
+        push_who(out, ring, leaves, b"leaves", b"leave");
+    }
+}
+
+/// How many slots move, with the word for one or that for more; where a slot moves more than once `1000 moves of 1 slot`.
+pub fn push_moves(out: &mut Words, scene: &Scene, one: &[u8], more: &[u8]) {
+    let moves = scene.move_count();
+    if moves == scene.moved_slots {
+        return push_many(out, moves, one, more);
+    }
+    push_many(out, moves, b"move of ", b"moves of ");
+    push_many(out, scene.moved_slots, b"slot", b"slots")
+}
+
+/// The fewest slots that must move where these nodes join and leave: each of a leaver, and as many more as give each joiner its share of all,
+/// rounded down.
+pub fn fewest_moves(ring: &Ring, scene: &Scene) -> u32 {
+    let members = count_members(ring, scene);
+    let total = ring.q().saturating_mul(ring.n());
+    let share = match total.checked_div(members) {
+        Some(share) => share,
+        None => 0,
+    };
+    let joins = small(scene.joins.len());
+    let (mut leaving, mut given) = (0u32, 0u32);
+    for row in ring.rows() {
+        let mut left = 0u32;
+        for node in row.as_slice() {
+            if scene.leaves.as_slice().contains(&node.0) {
+                left = left.saturating_add(1);
+            }
+        }
+        leaving = leaving.saturating_add(left);
+        given = given.saturating_add(left.min(joins));
+    }
+    leaving.saturating_add(share.saturating_mul(joins).saturating_sub(given))
+}
+
+/// How many members there are in the end.
+pub fn count_members(ring: &Ring, scene: &Scene) -> u32 {
+    let mut count = 0u32;
+    for node in 0..small(ring.nodes().len()) {
+        if scene.stays(ring, node) {
+            count = count.saturating_add(1);
+        }
+    }
+    count
+}

@@ -1,0 +1,31 @@
+//! What is shown of a plan, and a plan in words: its moves and their rounds, what each node owns, gives and takes, and how far a run has come.
+//! Nothing is promised of it but what `plan_moves` says of moves, rounds and owners.
+#![tactic(auto)]
+
+mod change;
+mod domains;
+mod failing;
+mod loads;
+mod names;
+mod overview;
+mod pieces;
+mod present;
+mod progress;
+mod ring;
+mod rounds;
+mod running;
+mod scene;
+mod shown;
+mod span;
+mod table;
+mod writing;
+
+pub use change::{fewest_moves, push_change, push_moves};
+pub use loads::Loads;
+pub use names::{name, push_many, push_names, push_quorum, rack};
+pub use overview::{Shape, View, summary};
+pub use present::Present;
+pub use progress::Progress;
+pub use ring::ring_summary;
+pub use scene::Scene;
+pub use shown::{AllShown, Shown};

@@ -1,0 +1,342 @@
+//! The summary of a plan, in words.
+
+use crate::change::{count_members, fewest_moves, push_change, push_moves};
+use crate::domains::sharing;
+use crate::failing::{all_pairs, kept, kept_by_one, pairs};
+use crate::names::{push_many, push_names, push_quorum};
+use crate::present::Present;
+use crate::progress::Progress;
+use crate::rounds::push_rounds;
+use crate::running::push_progress;
+use crate::scene::Scene;
+use crate::span::Span;
+use crate::table::push_table;
+use crate::writing::{end_line, push_tenths};
+use helpers::{Words, at, parts_of, small};
+use plan_text::Plan;
+use ring_names::Refusal;
+use ring_table::Ring;
+use std::alloc::Global;
+
+/// How much a summary shows.
+#[derive(Clone, Copy, Debug, PartialEq, Eq)]
+pub enum Shape {
+    /// At most 24 nodes, 12 rounds and 6 entries of a round; the rest is summed.
+    Short,
+    /// All.
+    Whole,
+}
+
+/// What a summary is made of.
+#[derive(Clone, Copy)]
+pub struct View<'a> {
+    pub alloc: Global,
+    pub ring: &'a Ring,
+    pub plan: &'a Plan,
+    pub scene: &'a Scene,
+    /// How the ring stands after the last entry of the history, or before the first step.
+    pub present: &'a Present,
+    /// How far the history has come, where there is one.
+    pub progress: Option<&'a Progress>,
+    pub shape: Shape,
+    /// The byte behind which a node's name names its rack, where racks are asked for.
+    pub racks_behind: Option<u8>,
+}
+
+// Behind which column of a line its words begin.
+const INDENT: usize = 12;
+
+// What the plan does to its ring.
+fn tell_change(view: &View, line: &mut Words) {
+    push_change(line, view.ring, view.scene);
+    line.text(b" a ring of ");
+    push_quorum(line, view.ring, b": any ", b", any ");
+    line.byte(b'.');
+}
+
+fn tell_moves(view: &View, line: &mut Words) {
+    let slots = view.scene.moved_slots;
+    let total = view.ring.q().saturating_mul(view.ring.n());
+    let moves = view.scene.move_count();
+    line.text(b"  moves     ");
+    if moves > slots {
+        push_many(line, moves, b"move of ", b"moves of ");
+    }
+    line.number(slots);
+    line.text(b" of ");
+    push_many(line, total, b"slot (", b"slots (");
+    line.number(parts_of(slots, total, 100));
+    line.text(b" %)");
+    push_fewest(view, line)
+}
+
+// Whether fewer moves would do.
+fn push_fewest(view: &View, line: &mut Words) {
+    if view.scene.joins.is_empty() && view.scene.leaves.is_empty() {
+        return;
+    }
+    let moves = view.scene.move_count();
+    let fewest = fewest_moves(view.ring, view.scene);
+    if moves == fewest {
+        line.text(b", no more than must");
+    }
+    if moves > fewest {
+        line.text(b", where ");
+        line.number(fewest);
+        line.text(b" would do");
+    }
+}
+
+fn tell_round_count(view: &View, line: &mut Words) {
+    line.text(b"  rounds    ");
+    line.number(view.scene.round_count());
+    line.text(b" of copies behind one another; the widest has ");
+    line.number(view.scene.widest());
+}
+
+// How many mirrors open rounds before their copies.
+fn count_early(view: &View) -> u32 {
+    let mut early = 0u32;
+    for shown in view.scene.shown.moves.as_slice() {
+        if shown.round > shown.opens.saturating_add(1) {
+            early = early.saturating_add(1);
+        }
+    }
+    early
+}
+
+// How many copies read listed slots.
+fn count_listed(view: &View) -> u32 {
+    let mut listed = 0u32;
+    for shown in view.scene.shown.moves.as_slice() {
+        if shown.is_listed {
+            listed = listed.saturating_add(1);
+        }
+    }
+    listed
+}
+
+// What mirrors cost.
+fn tell_writes(view: &View, line: &mut Words) {
+    line.text(b"  writes    twice for a slot while its mirror is open; ");
+    let early = count_early(view);
+    if early == 0 {
+        line.text(b"each opens just before its copy");
+        return;
+    }
+    push_many(
+        line,
+        early,
+        b"mirror opens rounds before its copy",
+        b"mirrors open rounds before their copies",
+    )
+}
+
+// How many copies read more than the owner.
+fn tell_sources(line: &mut Words, listed: u32) {
+    line.text(b"  sources   ");
+    push_many(line, listed, b"copy reads", b"copies read");
+    line.text(b" listed slots of the partition in place of the owner");
+}
+
+// How many slots the members own, now or in the end.
+fn span_of(view: &View, is_end: bool) -> Span {
+    let mut span = Span::new();
+    let loads = &view.scene.loads;
+    for node in 0..small(view.ring.nodes().len()) {
+        if is_end {
+            if view.scene.stays(view.ring, node) {
+                span.add(at(loads.after.as_slice(), node as usize));
+            }
+        } else if view.present.is_member(node) {
+            span.add(at(view.present.owned.as_slice(), node as usize));
+        }
+    }
+    span
+}
+
+fn tell_balance(view: &View, line: &mut Words) {
+    let total = view.ring.q().saturating_mul(view.ring.n());
+    line.text(b"  balance   a member owns ");
+    span_of(view, false).push(line);
+    line.text(b" now and ");
+    span_of(view, true).push(line);
+    line.text(b" in the end; even would be ");
+    push_tenths(
+        line,
+        parts_of(total, count_members(view.ring, view.scene), 10),
+    )
+}
+
+fn tell_racks(view: &View, line: &mut Words, behind: u8) {
+    let now = sharing(view.ring, view.present.rows.as_slice(), behind);
+    let then = sharing(view.ring, view.scene.last_rows.as_slice(), behind);
+    line.text(b"  racks     ");
+    push_many(line, now, b"partition has", b"partitions have");
+    line.text(b" two slots in one rack now, ");
+    line.number(then);
+    line.text(b" in the end");
+    if then > now {
+        line.text(b"   WORSE");
+    }
+}
+
+// Who is down, and how many partitions answer all the same.
+fn tell_down(view: &View, line: &mut Words) {
+    let (ring, present) = (view.ring, view.present);
+    line.text(b"  down      ");
+    push_names(line, ring, present.down.as_slice(), 6);
+    line.text(b"; without ");
+    line.text(if present.down.len() == 1 {
+        b"it "
+    } else {
+        b"them "
+    });
+    line.number(kept(ring, present.rows.as_slice(), present));
+    line.text(b" of ");
+    push_many(line, ring.q(), b"partition answers", b"partitions answer");
+    line.text(b" reads and writes");
+}
+
+// `if one fails`, and beside whom.
+fn push_failing(view: &View, line: &mut Words, words: &[u8]) {
+    line.text(words);
+    if !view.present.down.is_empty() {
+        line.text(b"beside ");
+        push_names(line, view.ring, view.present.down.as_slice(), 3);
+        line.text(b": ");
+    }
+}
+
+fn tell_one_fails(view: &View, line: &mut Words) -> Result<(), Refusal> {
+    let (ring, present) = (view.ring, view.present);
+    push_failing(view, line, b"  if one fails   ");
+    let now = kept_by_one(view.alloc, ring, present.rows.as_slice(), present)?;
+    line.number(now);
+    line.text(b" of ");
+    push_many(
+        line,
+        ring.q(),
+        b"partition still answers",
+        b"partitions still answer",
+    );
+    line.text(b" reads and writes now, ");
+    let then = kept_by_one(view.alloc, ring, view.scene.last_rows.as_slice(), present)?;
+    line.number(then);
+    line.text(b" in the end");
+    Ok(())
+}
+
+fn tell_two_fail(view: &View, line: &mut Words) -> Result<(), Refusal> {
+    let (ring, present) = (view.ring, view.present);
+    let now = pairs(view.alloc, ring, present.rows.as_slice(), present)?;
+    let then = pairs(view.alloc, ring, view.scene.last_rows.as_slice(), present)?;
+    push_failing(view, line, b"  if two fail    ");
+    line.number(now);
+    line.text(b" of ");
+    push_many(
+        line,
+        all_pairs(count_up(view, false)),
+        b"pair of members",
+        b"pairs of members",
+    );
+    line.text(b" share a partition now, ");
+    line.number(then);
+    line.text(b" of ");
+    line.number(all_pairs(count_up(view, true)));
+    line.text(b" in the end");
+    Ok(())
+}
+
+// How many members are up, now or in the end.
+fn count_up(view: &View, is_end: bool) -> u32 {
+    let mut count = 0u32;
+    for node in 0..small(view.ring.nodes().len()) {
+        let is_member = if is_end {
+            view.scene.stays(view.ring, node)
+        } else {
+            view.present.is_member(node)
+        };
+        if is_member && !view.present.is_down(node) {
+            count = count.saturating_add(1);
+        }
+    }
+    count
+}
+
+// The last line.
+fn push_total(view: &View, out: &mut Words) {
+    let scene = view.scene;
+    out.text(b"Plan: ");
+    out.number(small(scene.joins.len()));
+    out.text(b" to join, ");
+    out.number(small(scene.leaves.len()));
+    out.text(b" to leave, ");
+    push_moves(out, scene, b"slot to move", b"slots to move");
+    out.text(b" in ");
+    push_many(out, scene.round_count(), b"round.\n", b"rounds.\n");
+}
+
+// What the plan does, line by line; the second text is that of one line.
+fn push_overview(view: &View, out: &mut Words, line: &mut Words) -> Result<(), Refusal> {
+    tell_change(view, line);
+    end_line(out, line, 2);
+    out.byte(b'\n');
+    if !view.present.down.is_empty() {
+        tell_down(view, line);
+        end_line(out, line, INDENT);
+    }
+    tell_moves(view, line);
+    end_line(out, line, INDENT);
+    tell_round_count(view, line);
+    end_line(out, line, INDENT);
+    tell_writes(view, line);
+    end_line(out, line, INDENT);
+    let listed = count_listed(view);
+    if listed > 0 {
+        tell_sources(line, listed);
+        end_line(out, line, INDENT);
+    }
+    tell_balance(view, line);
+    end_line(out, line, INDENT);
+    if let Some(behind) = view.racks_behind {
+        tell_racks(view, line, behind);
+        end_line(out, line, INDENT);
+    }
+    push_failures(view, out, line)?;
+    out.byte(b'\n');
+    Ok(())
+}
+
+// What remains where a node or two fail.
+fn push_failures(view: &View, out: &mut Words, line: &mut Words) -> Result<(), Refusal> {
+    tell_one_fails(view, line)?;
+    end_line(out, line, INDENT);
+    tell_two_fail(view, line)?;
+    end_line(out, line, INDENT);
+    Ok(())
+}
+
+// All of the summary; the second text is that of one line.
+fn push_summary(view: &View, out: &mut Words, line: &mut Words) -> Result<(), Refusal> {
+    push_overview(view, out, line)?;
+    push_table(view, out, line)?;
+    out.byte(b'\n');
+    push_rounds(view, out, line)?;
+    out.byte(b'\n');
+    if let Some(progress) = view.progress {
+        push_progress(view, out, line, progress);
+    }
+    push_total(view, out);
+    Ok(())
+}
+
+/// The summary of a plan: who joins and leaves, what moves in how many rounds, what it does to balance, racks and failures, the table of nodes, the
+/// rounds, and where there is a history how far it has come. Lines have at most 100 bytes. Its only refusal is `OutOfMemory`.
+pub fn summary(view: &View) -> Result<Vec<u8>, Refusal> {
+    let mut out = Words::new(view.alloc);
+    let mut line = Words::new(view.alloc);
+    push_summary(view, &mut out, &mut line)?;
+    line.end()?;
+    out.end()
+}

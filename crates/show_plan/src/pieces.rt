@@ -1,0 +1,36 @@
+//! Words that flow into lines.
+
+use crate::writing::{WIDTH, push_spaces};
+use helpers::Words;
+
+/// A line that is being filled with words. What does not fit goes to a line of its own behind the indent.
+#[derive(Clone, Copy)]
+pub struct Flow {
+    indent: usize,
+    column: usize,
+}
+
+impl Flow {
+    /// A line that is filled up to its indent.
+    pub fn new(indent: usize) -> Flow {
+        Flow {
+            indent,
+            column: indent,
+        }
+    }
+
+    /// Adds a word behind so many spaces.
+    pub fn push(&mut self, out: &mut Words, word: &[u8], gap: usize) {
+        let end = self.column.saturating_add(gap).saturating_add(word.len());
+        if self.column > self.indent && end > WIDTH {
+            out.byte(b'\n');
+            push_spaces(out, self.indent);
+            self.column = self.indent;
+        } else if self.column > self.indent {
+            push_spaces(out, gap);
+            self.column = self.column.saturating_add(gap);
+        }
+        out.text(word);
+        self.column = self.column.saturating_add(word.len());
+    }
+}

@@ -1,0 +1,132 @@
+//! How far a run of a plan has come.
+
+use plan_runs::{Entry, Event};
+use plan_text::Plan;
+use ring_names::Refusal;
+use std::alloc::Global;
+
+/// A copy that is open, and how many of its 16 chunks were copied.
+#[derive(Clone, Copy, Debug)]
+pub struct OpenCopy {
+    pub step: u32,
+    pub chunks: u32,
+}
+
+/// Which steps of a plan a history has done, which copies it leaves open, and which nodes are down after its last entry.
+#[derive(Drop)]
+pub struct Progress {
+    // by step
+    done: Vec<bool>,
+    // by step, how many chunks were copied
+    chunks: Vec<u32>,
+    // by step
+    is_open: Vec<bool>,
+    // by node, as far as one was ever down
+    is_down: Vec<bool>,
+}
+
+impl Progress {
+    /// The progress after the history, which is a run of the plan.
+    pub fn of(alloc: Global, plan: &Plan, history: &[Entry]) -> Result<Progress, Refusal> {
+        let steps = plan.len() as usize;
+        let mut progress = Progress {
+            done: vec![in alloc; false; steps]?,
+            chunks: vec![in alloc; 0u32; steps]?,
+            is_open: vec![in alloc; false; steps]?,
+            is_down: Vec::new(alloc),
+        };
+        for entry in history {
+            progress.note(&entry.event)?;
+        }
+        Ok(progress)
+    }
+
+    // An event more.
+    fn note(&mut self, event: &Event) -> Result<(), Refusal> {
+        match event {
+            Event::Do(step) => put(self.done.as_mut_slice(), *step, true),
+            Event::OpenCopy(step) => put(self.is_open.as_mut_slice(), *step, true),
+            Event::ChunkCopy(step, _) => {
+                helpers::raise(self.chunks.as_mut_slice(), *step as usize)
+            }
+            Event::CloseCopy(step) => {
+                put(self.is_open.as_mut_slice(), *step, false);
+                put(self.done.as_mut_slice(), *step, true);
+            }
+            Event::AbortCopy(step) => put(self.is_open.as_mut_slice(), *step, false),
+            Event::Down(node) => self.put_down(node.0)?,
+            Event::Up(node) => put(self.is_down.as_mut_slice(), node.0, false),
+            // No other is a step's or a node's.
+            _ => {}
+        }
+        Ok(())
+    }
+
+    // The node is down.
+    fn put_down(&mut self, node: u32) -> Result<(), Refusal> {
+        for number in self.is_down.len()..(node as usize).saturating_add(1) {
+            self.is_down.push(false)?;
+        }
+        put(self.is_down.as_mut_slice(), node, true);
+        Ok(())
+    }
+
+    /// Whether the step is done.
+    pub fn is_done(&self, step: u32) -> bool {
+        is_put(self.done.as_slice(), step)
+    }
+
+    /// Whether the step is an open copy.
+    pub fn is_open(&self, step: u32) -> bool {
+        is_put(self.is_open.as_slice(), step)
+    }
+
+    /// Whether the node is down.
+    pub fn is_down(&self, node: u32) -> bool {
+        is_put(self.is_down.as_slice(), node)
+    }
+
+    /// How many chunks of the copy are copied, of 16.
+    pub fn chunks(&self, step: u32) -> u32 {
+        helpers::at(self.chunks.as_slice(), step as usize).min(16)
+    }
+
+    /// How many steps are done.
+    pub fn count(&self) -> u32 {
+        let mut count = 0u32;
+        for is_done in self.done.as_slice() {
+            if *is_done {
+                count = count.saturating_add(1);
+            }
+        }
+        count
+    }
+
+    /// Whether the step is neither done nor open, and each step that it waits for is done.
+    pub fn is_ready(&self, plan: &Plan, step: u32) -> bool {
+        if step >= plan.len() || self.is_done(step) || self.is_open(step) {
+            return false;
+        }
+        for earlier in plan.deps(step) {
+            if !self.is_done(*earlier) {
+                return false;
+            }
+        }
+        true
+    }
+}
+
+// Writes at the place, if there is one.
+fn put(marks: &mut [bool], place: u32, mark: bool) {
+    if let Some(old) = marks.get_mut(place as usize) {
+        *old = mark;
+    }
+}
+
+// What is written at the place.
+fn is_put(marks: &[bool], place: u32) -> bool {
+    match marks.get(place as usize) {
+        Some(mark) => *mark,
+        None => false,
+    }
+}

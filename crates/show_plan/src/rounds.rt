@@ -1,0 +1,238 @@
+//! The rounds of copies.
+
+use crate::names::{name, push_many};
+use crate::overview::{Shape, View};
+use crate::pieces::Flow;
+use crate::shown::Shown;
+use crate::writing::{push_number_right, push_spaces};
+use helpers::{Words, at, small};
+use ring_names::Refusal;
+use std::alloc::Global;
+
+// How many rounds a short list has, and how many it shows where there are more.
+const SHORT: u32 = 12;
+
+const SHOWN: u32 = 10;
+
+// How many pairs of nodes, and slots of a pair, a short list has in a round.
+const ENTRIES: usize = 6;
+
+// How far the copies of a round are indented.
+const INDENT: usize = 18;
+
+// A move among those that are listed: by round, then by whom it reads and to whom it goes. Copies that read listed slots stand by themselves.
+#[derive(Clone, Copy, PartialEq, Eq, PartialOrd, Ord)]
+struct Placed {
+    round: u32,
+    reads: u64,
+    to: u32,
+    place: u32,
+}
+
+// The moves that have a copy, in the order in which they are listed.
+fn in_order(alloc: Global, moves: &[Shown]) -> Result<Vec<Placed>, Refusal> {
+    let mut order = Vec::new(alloc);
+    let mut place = 0u32;
+    for shown in moves {
+        if shown.round > 0 {
+            let apart = u64::from(u32::MAX).saturating_add(u64::from(place));
+            order.push(Placed {
+                round: shown.round,
+                reads: if shown.is_listed {
+                    apart
+                } else {
+                    u64::from(shown.from)
+                },
+                to: shown.to,
+                place,
+            })?;
+        }
+        place = place.saturating_add(1);
+    }
+    order.sort_unstable();
+    Ok(order)
+}
+
+// Whether the two stand in one entry.
+fn are_alike(one: &Placed, other: &Placed) -> bool {
+    one.round == other.round && one.reads == other.reads && one.to == other.to
+}
+
+// How many of these stand in one entry with the first.
+fn alike_in_front(order: &[Placed]) -> usize {
+    let mut count = 0usize;
+    let Some(first) = order.first() else {
+        return 0;
+    };
+    for one in order {
+        if !are_alike(first, one) {
+            break;
+        }
+        count = count.saturating_add(1);
+    }
+    count
+}
+
+// The first so many of these, and the others.
+fn cut(order: &[Placed], count: usize) -> (&[Placed], &[Placed]) {
+    if count <= order.len() {
+        return (&order[..count], &order[count..]);
+    }
+    (order, &[])
+}
+
+// `5.1`: partition and slot.
+fn push_slot(out: &mut Words, shown: &Shown) {
+    out.number(shown.slot.partition);
+    out.byte(b'.');
+    out.number(shown.slot.index);
+}
+
+// Whom the copy reads.
+fn push_read(view: &View, out: &mut Words, shown: &Shown) {
+    let nodes = view.scene.shown.read_by(shown);
+    if nodes.len() > 2 {
+        return push_many(out, small(nodes.len()), b"node", b"nodes");
+    }
+    let mut is_first = true;
+    for node in nodes {
+        if !is_first {
+            out.byte(b'+');
+        }
+        out.text(name(view.ring, *node));
+        is_first = false;
+    }
+}
+
+// The word for a copy: the first of an entry has the nodes in front.
+fn tell_copy(view: &View, word: &mut Words, shown: &Shown, is_first: bool) {
+    word.clear();
+    if is_first {
+        push_read(view, word, shown);
+        word.text(b" > ");
+        word.text(name(view.ring, shown.to));
+        word.text(b": ");
+    }
+    push_slot(word, shown)
+}
+
+// `and 5 more`.
+fn tell_more(word: &mut Words, count: usize, what: &[u8]) {
+    word.clear();
+    word.text(b"and ");
+    word.number(small(count));
+    word.byte(b' ');
+    word.text(what);
+}
+
+// The entry of copies between the same nodes. The last text is that of one word.
+fn push_entry(view: &View, out: &mut Words, flow: &mut Flow, entry: &[Placed], word: &mut Words) {
+    let most = match view.shape {
+        Shape::Short if entry.len() > ENTRIES => ENTRIES - 1,
+        _ => entry.len(),
+    };
+    let (these, others) = cut(entry, most);
+    let mut gap = 3usize;
+    for one in these {
+        if let Some(shown) = view.scene.shown.moves.as_slice().get(one.place as usize) {
+            tell_copy(view, word, shown, gap == 3);
+            flow.push(out, word.as_slice(), gap);
+        }
+        gap = 1;
+    }
+    if others.is_empty() {
+        return;
+    }
+    tell_more(word, others.len(), b"more");
+    flow.push(out, word.as_slice(), 1)
+}
+
+// How many entries the round has.
+fn entries(round: &[Placed]) -> usize {
+    let mut count = 0usize;
+    let mut rest = round;
+    for turn in 0..round.len() {
+        let alike = alike_in_front(rest);
+        if alike == 0 {
+            break;
+        }
+        count = count.saturating_add(1);
+        rest = cut(rest, alike).1;
+    }
+    count
+}
+
+// The lines of a round. The last text is that of one word.
+fn push_round(view: &View, out: &mut Words, round: &[Placed], word: &mut Words) {
+    let Some(first) = round.first() else {
+        return;
+    };
+    push_spaces(out, 2);
+    push_number_right(out, first.round, 5);
+    push_spaces(out, 2);
+    push_number_right(out, small(round.len()), 6);
+    push_spaces(out, 3);
+    let most = match view.shape {
+        Shape::Short if entries(round) > ENTRIES => ENTRIES - 1,
+        _ => round.len(),
+    };
+    push_entries(view, out, round, most, word);
+    out.byte(b'\n');
+}
+
+// The first so many entries of a round, and how many copies the others have.
+fn push_entries(view: &View, out: &mut Words, round: &[Placed], most: usize, word: &mut Words) {
+    let mut flow = Flow::new(INDENT);
+    let mut rest = round;
+    for turn in 0..most {
+        if rest.is_empty() {
+            break;
+        }
+        let (entry, others) = cut(rest, alike_in_front(rest));
+        push_entry(view, out, &mut flow, entry, word);
+        rest = others;
+    }
+    if rest.is_empty() {
+        return;
+    }
+    tell_more(word, rest.len(), b"copies more");
+    flow.push(out, word.as_slice(), 3)
+}
+
+// The rounds in this order, with the copies of each.
+fn push_in_order(view: &View, out: &mut Words, word: &mut Words, order: &[Placed]) {
+    let count = view.scene.round_count();
+    let most = match view.shape {
+        Shape::Short if count > SHORT => SHOWN,
+        _ => count,
+    };
+    let mut rest = order;
+    for round in 0..most {
+        let width = at(view.scene.widths.as_slice(), round as usize) as usize;
+        let (these, others) = cut(rest, width);
+        push_round(view, out, these, word);
+        rest = others;
+    }
+    if rest.is_empty() {
+        return;
+    }
+    out.text(b"     ..  ");
+    push_number_right(out, small(rest.len()), 6);
+    out.text(b"   in ");
+    push_many(
+        out,
+        count.saturating_sub(most),
+        b"round more",
+        b"rounds more",
+    );
+    out.text(b" (--all)\n");
+}
+
+/// The rounds, with the copies of each. The second text is that of one word; it is empty before and behind.
+pub fn push_rounds(view: &View, out: &mut Words, word: &mut Words) -> Result<(), Refusal> {
+    out.text(b"  round  copies   from > to: partition.slot\n");
+    let order = in_order(view.alloc, view.scene.shown.moves.as_slice())?;
+    push_in_order(view, out, word, order.as_slice());
+    word.clear();
+    Ok(())
+}

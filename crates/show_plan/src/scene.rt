@@ -1,0 +1,142 @@
+//! What is shown of a plan.
+
+use crate::loads::Loads;
+use crate::shown::{AllShown, Shown};
+use helpers::{at, place_of, raise};
+use plan_cert::Cert;
+use plan_check::Approved;
+use plan_moves::{last_owners, moves, rounds};
+use plan_text::{Plan, Step};
+use ring_names::{Listed, NodeId, Refusal};
+use ring_table::Ring;
+use std::alloc::Global;
+
+/// An approved plan with all that is said of it: its moves and their rounds, what each node gives and takes, and who owns what in the end.
+#[derive(Drop)]
+pub struct Scene {
+    pub shown: AllShown,
+    /// By step.
+    pub rounds: Vec<u32>,
+    /// By round, from 1 on: how many copies it has.
+    pub widths: Vec<u32>,
+    /// The nodes that join, in the order of the plan's steps.
+    pub joins: Vec<u32>,
+    /// Those that retire.
+    pub leaves: Vec<u32>,
+    /// How many different slots move.
+    pub moved_slots: u32,
+    /// The owners in the end, by partition.
+    pub last_rows: Vec<Listed<NodeId>>,
+    pub loads: Loads,
+}
+
+impl Scene {
+    /// What is shown of a plan that the checker accepted by the certificate. Its only refusal is `OutOfMemory`.
+    pub fn of(alloc: Global, approved: &Approved, cert: &Cert) -> Result<Scene, Refusal> {
+        let (ring, plan) = (approved.ring(), approved.plan());
+        let begun = moves(alloc, ring, plan)?;
+        let rounds = rounds(alloc, plan)?;
+        let shown = AllShown::of(alloc, ring, plan, begun.as_slice(), rounds.as_slice())?;
+        let widths = widths(alloc, shown.moves.as_slice())?;
+        let joins = joining(alloc, plan)?;
+        let leaves = retiring(alloc, plan)?;
+        let moved_slots = moved_slots(alloc, ring, shown.moves.as_slice())?;
+        let last_rows = last_owners(alloc, ring, plan)?;
+        let mut loads = Loads::of(alloc, ring, cert, &shown, last_rows.as_slice())?;
+        loads.count_fewest(alloc, ring, plan)?;
+        Ok(Scene {
+            shown,
+            rounds,
+            widths,
+            joins,
+            leaves,
+            moved_slots,
+            last_rows,
+            loads,
+        })
+    }
+
+    /// How many rounds of copies run one behind the other.
+    pub fn round_count(&self) -> u32 {
+        helpers::small(self.widths.len())
+    }
+
+    /// How many copies the widest round has.
+    pub fn widest(&self) -> u32 {
+        let mut most = 0u32;
+        for width in self.widths.as_slice() {
+            most = most.max(*width);
+        }
+        most
+    }
+
+    /// How many moves there are.
+    pub fn move_count(&self) -> u32 {
+        helpers::small(self.shown.moves.len())
+    }
+
+    /// Whether the node is a member in the end.
+    pub fn stays(&self, ring: &Ring, node: u32) -> bool {
+        let is_member = ring.is_member(NodeId(node)) || self.joins.as_slice().contains(&node);
+        is_member && !self.leaves.as_slice().contains(&node)
+    }
+
+    /// Whether the node joins, leaves, gives or takes.
+    pub fn takes_part(&self, node: u32) -> bool {
+        at(self.loads.gives.as_slice(), node as usize) > 0
+            || at(self.loads.takes.as_slice(), node as usize) > 0
+            || self.joins.as_slice().contains(&node)
+            || self.leaves.as_slice().contains(&node)
+    }
+}
+
+// How many copies each round has.
+fn widths(alloc: Global, moves: &[Shown]) -> Result<Vec<u32>, Refusal> {
+    let mut most = 0u32;
+    for shown in moves {
+        most = most.max(shown.round);
+    }
+    let mut widths = vec![in alloc; 0u32; most as usize]?;
+    for shown in moves {
+        if shown.round > 0 {
+            raise(widths.as_mut_slice(), shown.round as usize - 1);
+        }
+    }
+    Ok(widths)
+}
+
+// How many different slots move.
+fn moved_slots(alloc: Global, ring: &Ring, moves: &[Shown]) -> Result<u32, Refusal> {
+    let mut marks = vec![in alloc; 0u32; (ring.q() as usize).saturating_mul(7)]?;
+    let mut count = 0u32;
+    for shown in moves {
+        let place = place_of(shown.slot);
+        if at(marks.as_slice(), place) == 0 {
+            count = count.saturating_add(1);
+        }
+        raise(marks.as_mut_slice(), place);
+    }
+    Ok(count)
+}
+
+// The nodes that join, in the order of the steps.
+fn joining(alloc: Global, plan: &Plan) -> Result<Vec<u32>, Refusal> {
+    let mut nodes = Vec::new(alloc);
+    for number in 0..plan.len() {
+        if let Step::Join(node) = plan.step(number) {
+            nodes.push(node.0)?;
+        }
+    }
+    Ok(nodes)
+}
+
+// The nodes that retire, in the order of the steps.
+fn retiring(alloc: Global, plan: &Plan) -> Result<Vec<u32>, Refusal> {
+    let mut nodes = Vec::new(alloc);
+    for number in 0..plan.len() {
+        if let Step::Retire(node) = plan.step(number) {
+            nodes.push(node.0)?;
+        }
+    }
+    Ok(nodes)
+}

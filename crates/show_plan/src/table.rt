@@ -1,0 +1,325 @@
+//! The table of the nodes that take part or are down.
+
+use crate::names::{name, push_many, push_names};
+use crate::overview::{Shape, View};
+use crate::scene::Scene;
+use crate::writing::{
+    WIDTH, push_left, push_number_left, push_number_right, push_right, push_spaces, push_times,
+    push_trimmed,
+};
+use helpers::{Words, at, parts_of, small};
+use ring_names::Refusal;
+use ring_table::Node;
+use std::alloc::Global;
+
+// How many rows a short table has.
+const SHORT: usize = 24;
+
+// How wide the longest bar is.
+const BAR: usize = 24;
+
+// The rows of a table, and what they have in common.
+#[derive(Drop)]
+struct Table {
+    // the nodes of the rows, by number
+    rows: Vec<u32>,
+    // those that take part and have no row
+    hidden: Vec<u32>,
+    names: usize,
+    at_once: usize,
+    // the most slots that a node of a row owns before or behind the plan
+    top: u32,
+}
+
+// The nodes that take part or are down, by number.
+fn taking_part(view: &View) -> Result<Vec<u32>, Refusal> {
+    let mut nodes = Vec::new(view.alloc);
+    for node in 0..small(view.ring.nodes().len()) {
+        if view.scene.takes_part(node) || view.present.is_down(node) {
+            nodes.push(node)?;
+        }
+    }
+    Ok(nodes)
+}
+
+// What a node does in a plan, for the order in which nodes get a row: one that is down comes first.
+fn kind(view: &View, node: u32) -> usize {
+    if view.present.is_down(node) {
+        0
+    } else if view.scene.leaves.as_slice().contains(&node) {
+        1
+    } else if view.scene.joins.as_slice().contains(&node) {
+        2
+    } else {
+        3
+    }
+}
+
+// How many transfers the node has.
+fn work(scene: &Scene, node: u32) -> u32 {
+    let gives = at(scene.loads.gives.as_slice(), node as usize);
+    gives.saturating_add(at(scene.loads.takes.as_slice(), node as usize))
+}
+
+// The nodes by kind, and among those of a kind the ones with the most transfers first.
+fn ranked(view: &View, nodes: &[u32]) -> Result<Vec<(usize, u32, u32)>, Refusal> {
+    let mut order = Vec::new(view.alloc);
+    for node in nodes {
+        let rank = u32::MAX - work(view.scene, *node);
+        order.push((kind(view, *node), rank, *node))?;
+    }
+    order.sort_unstable();
+    Ok(order)
+}
+
+// The same in turns: the first of each kind, then the second of each, and so on.
+fn in_turns(
+    alloc: Global,
+    ranked: &[(usize, u32, u32)],
+) -> Result<Vec<(usize, usize, u32)>, Refusal> {
+    let mut turns = Vec::new(alloc);
+    let (mut kind, mut place) = (0usize, 0usize);
+    for (of, _, node) in ranked {
+        place = if *of == kind { place } else { 0 };
+        kind = *of;
+        turns.push((place, kind, *node))?;
+        place = place.saturating_add(1);
+    }
+    turns.sort_unstable();
+    Ok(turns)
+}
+
+// The first so many of these, by number.
+fn first_of(
+    alloc: Global,
+    turns: &[(usize, usize, u32)],
+    most: usize,
+) -> Result<Vec<u32>, Refusal> {
+    let mut found = Vec::new(alloc);
+    for (_, _, node) in &turns[..turns.len().min(most)] {
+        found.push(*node)?;
+    }
+    found.sort_unstable();
+    Ok(found)
+}
+
+// Those of the nodes that get one of so many rows: the busiest that leave, that join and that stay, in turns.
+fn chosen(view: &View, nodes: &[u32], most: usize) -> Result<Vec<u32>, Refusal> {
+    let order = ranked(view, nodes)?;
+    let turns = in_turns(view.alloc, order.as_slice())?;
+    first_of(view.alloc, turns.as_slice(), most)
+}
+
+// Those of the nodes that are not among the others.
+fn without(alloc: Global, nodes: &[u32], others: &[u32]) -> Result<Vec<u32>, Refusal> {
+    let mut found = Vec::new(alloc);
+    for node in nodes {
+        if !others.contains(node) {
+            found.push(*node)?;
+        }
+    }
+    Ok(found)
+}
+
+impl Table {
+    fn of(view: &View) -> Result<Table, Refusal> {
+        let nodes = taking_part(view)?;
+        let most = match view.shape {
+            Shape::Short => SHORT,
+            Shape::Whole => nodes.len(),
+        };
+        let rows = chosen(view, nodes.as_slice(), most)?;
+        let hidden = without(view.alloc, nodes.as_slice(), rows.as_slice())?;
+        Ok(Table {
+            rows,
+            hidden,
+            names: 4,
+            at_once: 15,
+            top: 1,
+        })
+    }
+
+    // Makes the columns as wide as what stands in them; the text is empty, and is so behind it.
+    fn measure(&mut self, view: &View, line: &mut Words) {
+        let loads = &view.scene.loads;
+        for node in self.rows.as_slice() {
+            let place = *node as usize;
+            self.names = self.names.max(name(view.ring, *node).len());
+            self.at_once = self.at_once.max(push_at_once(view, line, *node));
+            line.clear();
+            self.top = self.top.max(at(loads.before.as_slice(), place));
+            self.top = self.top.max(at(loads.after.as_slice(), place));
+        }
+    }
+
+    // The line of a node, up to its bar.
+    fn tell_row(&self, view: &View, line: &mut Words, node: u32) {
+        let (scene, place) = (view.scene, node as usize);
+        line.text(b"  ");
+        line.byte(sign(view, node));
+        line.byte(b' ');
+        push_left(line, name(view.ring, node), self.names);
+        push_spaces(line, 2);
+        let wide = push_at_once(view, line, node);
+        push_spaces(line, self.at_once.saturating_sub(wide).saturating_add(2));
+        push_count(line, at(scene.loads.gives.as_slice(), place));
+        push_spaces(line, 2);
+        push_count(line, at(scene.loads.takes.as_slice(), place));
+        if view.progress.is_some() {
+            return push_three(view, line, node);
+        }
+        push_two(view, line, node)
+    }
+
+    // The line of a node, all of it; the second text is that of one line.
+    fn push_row(&self, view: &View, out: &mut Words, line: &mut Words, node: u32) {
+        let loads = &view.scene.loads;
+        self.tell_row(view, line, node);
+        let before = at(loads.before.as_slice(), node as usize);
+        self.push_bar(line, before, at(loads.after.as_slice(), node as usize));
+        push_trimmed(out, line.as_slice());
+        line.clear();
+    }
+
+    // A bar of what the node owns: `=` for what it keeps, `-` for what it gives and `+` for what it takes.
+    fn push_bar(&self, line: &mut Words, before: u32, after: u32) {
+        let room = WIDTH.saturating_sub(line.len()).min(BAR);
+        let scale = small(room).min(self.top);
+        let start = parts_of(before, self.top, scale) as usize;
+        let end = parts_of(after, self.top, scale) as usize;
+        push_times(line, b'=', start.min(end));
+        push_times(line, b'+', end.saturating_sub(start));
+        push_times(line, b'-', start.saturating_sub(end))
+    }
+
+    // The head, and a line for each row.
+    fn push_all(&self, view: &View, out: &mut Words, line: &mut Words) {
+        push_spaces(out, 4);
+        push_left(out, b"node", self.names);
+        push_spaces(out, 2);
+        push_left(out, b"never more than", self.at_once);
+        out.text(if view.progress.is_some() {
+            b"  gives  takes  begun    now    end\n"
+        } else {
+            b"  gives  takes   slots\n"
+        });
+        for node in self.rows.as_slice() {
+            self.push_row(view, out, line, *node);
+        }
+        self.push_hidden(out, view.scene)
+    }
+
+    // The line of those without a row.
+    fn push_hidden(&self, out: &mut Words, scene: &Scene) {
+        if self.hidden.is_empty() {
+            return;
+        }
+        let (mut gives, mut takes) = (0u32, 0u32);
+        for node in self.hidden.as_slice() {
+            gives = gives.saturating_add(at(scene.loads.gives.as_slice(), *node as usize));
+            takes = takes.saturating_add(at(scene.loads.takes.as_slice(), *node as usize));
+        }
+        push_spaces(out, 4);
+        push_many(
+            out,
+            small(self.hidden.len()),
+            b"node more: gives ",
+            b"nodes more: give ",
+        );
+        out.number(gives);
+        out.text(b", take ");
+        out.number(takes);
+        out.text(b" slots (--all)\n");
+    }
+}
+
+// The slots that the node owns before the first step and after the last.
+fn push_two(view: &View, line: &mut Words, node: u32) {
+    let (loads, place) = (&view.scene.loads, node as usize);
+    push_spaces(line, 3);
+    push_number_right(line, at(loads.before.as_slice(), place), 4);
+    line.text(b" -> ");
+    if view.scene.leaves.as_slice().contains(&node) {
+        return line.text(b"gone ");
+    }
+    push_number_left(line, at(loads.after.as_slice(), place), 4);
+    line.byte(b' ');
+}
+
+// The slots that the node owns before the first step, after the last entry of the history, and after the last step.
+fn push_three(view: &View, line: &mut Words, node: u32) {
+    let (loads, place) = (&view.scene.loads, node as usize);
+    push_spaces(line, 2);
+    push_number_right(line, at(loads.before.as_slice(), place), 5);
+    push_spaces(line, 2);
+    push_number_right(line, at(view.present.owned.as_slice(), place), 5);
+    push_spaces(line, 2);
+    if view.scene.leaves.as_slice().contains(&node) {
+        push_right(line, b"gone", 5);
+    } else {
+        push_number_right(line, at(loads.after.as_slice(), place), 5);
+    }
+    push_spaces(line, 2)
+}
+
+// Adds how many transfers the node never has more of at once, or a point, and tells how many bytes that takes.
+fn push_at_once(view: &View, line: &mut Words, node: u32) -> usize {
+    let begin = line.len();
+    if let Some(Node { allowance, .. }) = view.ring.nodes().get(node as usize) {
+        view.scene.loads.push_at_once(line, *allowance, node);
+    }
+    if line.len() == begin {
+        line.byte(b'.');
+    }
+    line.len().saturating_sub(begin)
+}
+
+fn sign(view: &View, node: u32) -> u8 {
+    match kind(view, node) {
+        0 => b'x',
+        1 => b'-',
+        2 => b'+',
+        _ => b'~',
+    }
+}
+
+// A number, or a point for none.
+fn push_count(line: &mut Words, count: u32) {
+    if count == 0 {
+        return push_right(line, b".", 5);
+    }
+    push_number_right(line, count, 5)
+}
+
+// The line of the members that do nothing.
+fn push_idle(view: &View, out: &mut Words) -> Result<(), Refusal> {
+    let mut idle = Vec::new(view.alloc);
+    for node in 0..small(view.ring.nodes().len()) {
+        let has_row = view.scene.takes_part(node) || view.present.is_down(node);
+        if view.present.is_member(node) && !has_row {
+            idle.push(node)?;
+        }
+    }
+    if idle.is_empty() {
+        return Ok(());
+    }
+    push_spaces(out, 4);
+    if idle.len() < 6 {
+        push_names(out, view.ring, idle.as_slice(), 6);
+    } else {
+        push_many(out, small(idle.len()), b"other member", b"other members");
+    }
+    out.text(b": no part\n");
+    Ok(())
+}
+
+/// The table: for each node that takes part or is down, how many transfers it never has more of at once, gives and takes, and how many slots it owns in the beginning, with a
+/// history now, and in the end.
+///
+/// The second text is that of one line.
+pub fn push_table(view: &View, out: &mut Words, line: &mut Words) -> Result<(), Refusal> {
+    let mut table = Table::of(view)?;
+    table.measure(view, line);
+    table.push_all(view, out, line);
+    push_idle(view, out)
+}

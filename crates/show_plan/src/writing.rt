@@ -1,0 +1,133 @@
+//! Words and numbers in lines of text.
+
+use helpers::Words;
+
+/// The widest line, in bytes.
+pub const WIDTH: usize = 100;
+
+/// So many spaces.
+pub fn push_spaces(out: &mut Words, count: usize) {
+    push_times(out, b' ', count)
+}
+
+/// The byte so many times.
+pub fn push_times(out: &mut Words, byte: u8, count: usize) {
+    for place in 0..count {
+        out.byte(byte);
+    }
+}
+
+/// The text, and spaces behind it up to the width.
+pub fn push_left(out: &mut Words, text: &[u8], width: usize) {
+    out.text(text);
+    push_spaces(out, width.saturating_sub(text.len()))
+}
+
+/// The text, and spaces in front of it up to the width.
+pub fn push_right(out: &mut Words, text: &[u8], width: usize) {
+    push_spaces(out, width.saturating_sub(text.len()));
+    out.text(text);
+}
+
+// How many digits the number has.
+fn count_digits(number: u32) -> usize {
+    let mut count = 1usize;
+    let mut rest = number / 10;
+    for turn in 0..9 {
+        if rest > 0 {
+            count = count.saturating_add(1);
+        }
+        rest /= 10;
+    }
+    count
+}
+
+/// The number, and spaces in front of it up to the width.
+pub fn push_number_right(out: &mut Words, number: u32, width: usize) {
+    push_spaces(out, width.saturating_sub(count_digits(number)));
+    out.number(number);
+}
+
+/// The number, and spaces behind it up to the width.
+pub fn push_number_left(out: &mut Words, number: u32, width: usize) {
+    out.number(number);
+    push_spaces(out, width.saturating_sub(count_digits(number)))
+}
+
+/// The number, and its tenths behind a point.
+pub fn push_tenths(out: &mut Words, tenths: u32) {
+    out.number(tenths / 10);
+    out.byte(b'.');
+    out.number(tenths % 10);
+}
+
+// Where the last space stands that has something in front of it and at most so many bytes, if there is one.
+fn last_space(line: &[u8], room: usize) -> Option<usize> {
+    let mut found = None;
+    let mut has_word = false;
+    let mut place = 0usize;
+    for byte in line {
+        if place > room {
+            return found;
+        }
+        if *byte != b' ' {
+            has_word = true;
+        } else if has_word {
+            found = Some(place);
+        }
+        place = place.saturating_add(1);
+    }
+    found
+}
+
+// A line, broken at spaces where it is too wide; what is broken off stands behind so many spaces.
+fn push_line(out: &mut Words, line: &[u8], indent: usize) {
+    let mut rest = line;
+    let mut room = WIDTH;
+    for turn in 0..line.len() {
+        if rest.len() <= room {
+            break;
+        }
+        let Some(space) = last_space(rest, room) else {
+            break;
+        };
+        let (front, behind) = cut_at(rest, space);
+        out.text(front);
+        out.byte(b'\n');
+        push_spaces(out, indent);
+        rest = behind;
+        room = WIDTH.saturating_sub(indent);
+    }
+    out.text(rest);
+    out.byte(b'\n');
+}
+
+/// Adds the line, broken at spaces where it is too wide, and empties it; what is broken off stands behind so many spaces.
+pub fn end_line(out: &mut Words, line: &mut Words, indent: usize) {
+    push_line(out, line.as_slice(), indent);
+    line.clear();
+}
+
+// What stands in front of the byte at the place, and what behind it.
+fn cut_at(line: &[u8], place: usize) -> (&[u8], &[u8]) {
+    if place < line.len() {
+        return (&line[..place], &line[place + 1..]);
+    }
+    (line, &[])
+}
+
+/// The line without the spaces at its end.
+pub fn push_trimmed(out: &mut Words, line: &[u8]) {
+    let mut width = 0usize;
+    let mut place = 0usize;
+    for byte in line {
+        place = place.saturating_add(1);
+        if *byte != b' ' {
+            width = place;
+        }
+    }
+    if width <= line.len() {
+        out.text(&line[..width]);
+    }
+    out.byte(b'\n');
+}

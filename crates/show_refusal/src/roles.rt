@@ -1,0 +1,59 @@
+//! How a node takes part in the copies of a plan.
+
+use crate::case::Case;
+use find_chains::Stays;
+use plan_text::{Source, Step};
+use ring_names::{NodeId, Refusal, Slot};
+
+/// How a node takes part in a copy: as the mirror that is given what is copied, or as an owner whose slot is read.
+#[derive(Clone, Copy, Debug, PartialEq, Eq)]
+pub enum Role {
+    Takes,
+    Gives,
+}
+
+// Whether the node owns one of the listed slots of the partition.
+fn is_read(stays: &Stays, node: NodeId, partition: u32, listed: &[u32]) -> bool {
+    for index in listed {
+        let index = *index;
+        if stays.owner(Slot { partition, index }) == Some(node.0) {
+            return true;
+        }
+    }
+    false
+}
+
+// How the node takes part in the step that comes next.
+fn role(stays: &Stays, node: NodeId, step: &Step) -> Option<Role> {
+    let Step::Copy(slot, source) = step else {
+        return None;
+    };
+    if stays.mirror(*slot) == Some(node.0) {
+        return Some(Role::Takes);
+    }
+    let gives = match source {
+        Source::Owner => stays.owner(*slot) == Some(node.0),
+        Source::Slots(from) => is_read(stays, node, slot.partition, from.as_slice()),
+    };
+    if gives { Some(Role::Gives) } else { None }
+}
+
+/// How the node takes part in each step of the plan, by number. Costs a walk over the plan.
+pub fn roles(case: Case, node: NodeId) -> Result<Vec<Option<Role>>, Refusal> {
+    let mut stays = Stays::of(case.alloc, case.ring)?;
+    let mut found = Vec::new(case.alloc);
+    for number in 0..case.plan.len() {
+        let step = case.plan.step(number);
+        found.push(role(&stays, node, step))?;
+        stays.act(step, number)?;
+    }
+    Ok(found)
+}
+
+/// The role in the step of that number, if the plan has it.
+pub fn role_at(roles: &[Option<Role>], number: u32) -> Option<Role> {
+    match roles.get(number as usize) {
+        Some(role) => *role,
+        None => None,
+    }
+}

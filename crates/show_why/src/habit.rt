@@ -1,0 +1,142 @@
+//! Ways of writing that no text may have, and that mostly many lines of one share.
+
+use crate::page::{Page, cut_line};
+use helpers::Words;
+
+/// A way of writing for which a line is refused.
+#[derive(Clone, Copy, Debug, PartialEq, Eq)]
+pub enum Habit {
+    /// The line ends of Windows.
+    CarriageReturn,
+    /// A line of nothing but blanks.
+    Empty,
+    Comment,
+    /// Blanks before the first field.
+    Indent,
+    /// Blanks after the last one.
+    Tail,
+    /// Letters of upper case.
+    Capitals,
+}
+
+/// Whether the byte is a space or a tab.
+pub fn is_blank(byte: u8) -> bool {
+    byte == b' ' || byte == b'\t'
+}
+
+// The bytes from the first that is no blank on.
+fn unindented(line: &[u8]) -> &[u8] {
+    match line.iter().position(|byte| !is_blank(*byte)) {
+        Some(first) if first <= line.len() => &line[first..],
+        _ => b"",
+    }
+}
+
+// The bytes up to the last that is no blank.
+fn without_tail(line: &[u8]) -> &[u8] {
+    match line.iter().rposition(|byte| !is_blank(*byte)) {
+        Some(last) if last < line.len() => &line[..last + 1],
+        _ => b"",
+    }
+}
+
+impl Habit {
+    /// Whether a line, given without its newline, has the habit.
+    pub fn is_in(self, line: &[u8]) -> bool {
+        match self {
+            Habit::CarriageReturn => line.contains(&b'\r'),
+            Habit::Empty => unindented(line).is_empty(),
+            Habit::Comment => matches!(unindented(line).first(), Some(b'#') | Some(b'/')),
+            Habit::Indent => matches!(line.first(), Some(b' ') | Some(b'\t')),
+            Habit::Tail => matches!(line.last(), Some(b' ') | Some(b'\t')),
+            Habit::Capitals => line.iter().any(|byte| byte.is_ascii_uppercase()),
+        }
+    }
+
+    /// What is said of a line that has the habit.
+    pub fn words(self) -> &'static [u8] {
+        match self {
+            Habit::CarriageReturn => b"it has a carriage return, as texts of Windows do",
+            Habit::Empty => b"an empty line",
+            Habit::Comment => b"a comment: texts have none",
+            Habit::Indent => b"it begins with a blank",
+            Habit::Tail => b"it ends in a blank",
+            Habit::Capitals => b"upper case: texts have lower-case letters alone",
+        }
+    }
+
+    /// A command that writes the text without the habit.
+    pub fn command(self) -> &'static [u8] {
+        match self {
+            Habit::CarriageReturn => b"tr -d '\\r' < FILE > MENDED",
+            Habit::Empty => b"grep -v '^[[:blank:]]*$' FILE > MENDED",
+            Habit::Comment => b"grep -v '^[[:blank:]]*[#/]' FILE > MENDED",
+            Habit::Indent => b"sed 's/^[[:blank:]]*//' FILE > MENDED",
+            Habit::Tail => b"sed 's/[[:blank:]]*$//' FILE > MENDED",
+            Habit::Capitals => b"tr A-Z a-z < FILE > MENDED",
+        }
+    }
+
+    /// How many lines of the page have the habit, and how many it has.
+    pub fn count(self, page: Page) -> (u32, u32) {
+        let (mut count, mut lines) = (0u32, 0u32);
+        let mut rest = page.bytes;
+        for turn in 0..page.bytes.len() {
+            if rest.is_empty() {
+                break;
+            }
+            let (line, others) = cut_line(rest);
+            lines = lines.saturating_add(1);
+            if self.is_in(bare(line).0) {
+                count = count.saturating_add(1);
+            }
+            rest = others;
+        }
+        (count, lines)
+    }
+
+    /// Adds the whole page without the habit, as the command writes it.
+    pub fn push_without(self, out: &mut Words, page: Page) {
+        let mut rest = page.bytes;
+        for turn in 0..page.bytes.len() {
+            if rest.is_empty() {
+                break;
+            }
+            let (line, others) = cut_line(rest);
+            self.push_line(out, line);
+            rest = others;
+        }
+    }
+
+    // Adds a line, which is given with its newline, without the habit.
+    fn push_line(self, out: &mut Words, line: &[u8]) {
+        let (text, end) = bare(line);
+        match self {
+            Habit::CarriageReturn => {
+                for piece in text.split(|byte| *byte == b'\r') {
+                    out.text(piece);
+                }
+            }
+            Habit::Empty | Habit::Comment if self.is_in(text) => return,
+            Habit::Empty | Habit::Comment => out.text(text),
+            Habit::Indent => out.text(unindented(text)),
+            Habit::Tail => out.text(without_tail(text)),
+            Habit::Capitals => push_lower(out, text),
+        }
+        out.text(end)
+    }
+}
+
+// A line without its newline, and the newline, where it has one.
+fn bare(line: &[u8]) -> (&[u8], &[u8]) {
+    match line.split_last() {
+        Some((b'\n', text)) => (text, b"\n"),
+        _ => (line, b""),
+    }
+}
+
+fn push_lower(out: &mut Words, text: &[u8]) {
+    for byte in text {
+        out.byte(byte.to_ascii_lowercase());
+    }
+}

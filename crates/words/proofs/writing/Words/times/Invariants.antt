@@ -1,6 +1,0 @@
-use Rattle.std.proofs.Math.ListN.{replicate}
-use Rattle.words.specs.Writing.{GoesOn}
-use Rattle.words.proofs.writing.Words.times.Given as goal
-
-abbrev pub invariant-turns : goal.invariant-turns
-invariant-turns l = GoesOn l.initial.self l.self (replicate l.turn l.byte)
