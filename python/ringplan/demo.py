@@ -1,0 +1,152 @@
+"""A store over seven real servers changes its ring under traffic, while two of them are killed and come back.
+
+    python3 -m ringplan.demo [--into FOLDER] [--break NAME]
+
+One node joins and one leaves. `ringplan` makes the plan and checks it, four workers go through it, clients put and get all the while, and in the end `ringplan replay`
+judges the history. The folder gets the bundles and a picture. With --break a store that is broken on purpose runs, and the judge says what it did wrong.
+"""
+
+from __future__ import annotations
+
+import argparse
+import pathlib
+import shutil
+import sys
+import tempfile
+import threading
+import time
+from collections.abc import Iterator
+from contextlib import contextmanager
+
+from ringplan import programs
+from ringplan.store.broken import EXECUTORS, STORES
+from ringplan.store.coordinator import Store
+from ringplan.store.executor import Executor
+from ringplan.store.nodes import SqliteNode
+from ringplan.store.traffic import Load, Run
+from ringplan.texts import read_plan, read_steps
+
+SPACE, SLOTS, MEMBERS = 16, 3, 6
+BAR = 30
+
+
+def ring() -> str:
+    """Six members, each with its part of 16 partitions of three slots, and one node more; and the change: that one joins, and n1 leaves."""
+    names = [f"n{number}" for number in range(MEMBERS + 1)]
+    lines = ["ring 1", f"space {SPACE}", f"quorum {SLOTS} 2 2"]
+    lines += [f"node {name} 2 {'in' if number < MEMBERS else 'out'}" for number, name in enumerate(names)]
+    lines += [f"slots {p} " + " ".join(names[(p + i) % MEMBERS] for i in range(SLOTS)) for p in range(SPACE)]
+    return "\n".join([*lines, "end", "change 1", f"join {names[-1]}", "leave n1", "end", ""])
+
+
+class Shown(Run):
+    """A run that shows how far it is, and in which two servers are killed, one after the other."""
+
+    def part(self) -> float:
+        return len(self.executor.done) / len(self.executor.steps)
+
+    def kill_servers(self) -> None:
+        draw = self.draw("faults")
+        for part in (0.25, 0.55):
+            while self.part() < part and not self.finished.wait(0.02):
+                pass
+            alive = [member for member in self.store.members if member.is_member and member.is_up]
+            if self.finished.is_set() or not alive:
+                return
+            member = draw.choice(alive)
+            member.node.kill()
+            self.kills += 1
+            self.say(f"killed {member.name} by signal 9")
+            self.finished.wait(self.load.outage)
+            member.node.start()
+            self.store.back(member)
+            self.say(f"{member.name} is back")
+
+    def line(self) -> str:
+        filled = int(BAR * self.part())
+        acknowledged = sum(put.is_acknowledged for put in self.store.puts)
+        down = [member.name for member in self.store.members if member.is_member and not member.is_up]
+        counts = f"{len(self.executor.done):3} of {len(self.executor.steps)} steps, {acknowledged} puts acknowledged, {len(self.store.gets)} gets"
+        return f"[{'#' * filled}{'.' * (BAR - filled)}] {counts}{', down: ' + ' '.join(down) if down else ''}"
+
+    def say(self, words: str) -> None:
+        print(f"{self.line()}   {words}", flush=True)
+
+    @contextmanager
+    def watched(self) -> Iterator[None]:
+        """Prints a line each second."""
+        over = threading.Event()
+
+        def watch() -> None:
+            while not over.wait(1):
+                print(self.line(), flush=True)
+
+        watcher = threading.Thread(target=watch)
+        watcher.start()
+        try:
+            yield
+        finally:
+            over.set()
+            watcher.join()
+
+
+def history_of(bundle: str, broken: str, folder: str) -> str:
+    """The lines of the history of one run."""
+    store = STORES.get(broken, Store)(read_plan(bundle)[0], lambda name: SqliteNode(folder, name, broken == "latest_timestamp_wins"))
+    executor = EXECUTORS.get(broken, Executor)(store, read_steps(programs.ask("steps", bundle).text))
+    shown = Shown(store, executor, Load(workers=4, clients=4, operations=200, pace=0.1, outage=1.0))
+    try:
+        with shown.watched():
+            shown.run()
+        shown.say("the plan has ended")
+        acknowledged = [put for put in store.puts if put.is_acknowledged]
+        least = SLOTS - store.read_quorum + 1
+        short = sum(sum(store.held(put)) < least for put in acknowledged)
+        print(f"{len(acknowledged) - short} of {len(acknowledged)} acknowledged puts are held by {least} slots or more, so each read finds them")
+    finally:
+        for member in store.members:
+            member.node.kill()
+    return "\n".join(store.history.lines()) + "\n"
+
+
+def demonstrate(into: pathlib.Path, broken: str) -> int:
+    """Runs the demonstration, and returns the exit status: 0 where the judge says yes."""
+    begun = time.monotonic()
+    into.mkdir(parents=True, exist_ok=True)
+    goal = programs.ask("goal", ring())
+    if goal.status:
+        print(goal.errors, file=sys.stderr)
+        return 1
+    print(f"the plan has {len(read_plan(goal.text)[1].steps)} steps; the checker says {programs.ask('check', goal.text).first()}")
+    (into / "planned.bundle").write_text(goal.text)
+    folder = tempfile.mkdtemp(prefix="ringplan-demo-")
+    try:
+        bundle = goal.text + history_of(goal.text, broken, folder)
+    finally:
+        shutil.rmtree(folder)
+    (into / "history.bundle").write_text(bundle)
+    judged = programs.ask("replay", bundle)
+    print(f"the judge says {judged.first()}")
+    if judged.status:
+        print(programs.ask("why", bundle).text)
+        return 1
+    (into / "picture.svg").write_text(programs.ask("draw", bundle).text)
+    print(f"{into}/picture.svg shows the plan, {into}/history.bundle is what was judged; {time.monotonic() - begun:.0f} s in all")
+    return 0
+
+
+def main() -> int:
+    parser = argparse.ArgumentParser(prog="python3 -m ringplan.demo", description=(__doc__ or "").split("\n")[0])
+    parser.add_argument("--into", type=pathlib.Path, default=pathlib.Path("demo"), metavar="FOLDER", help="where the bundles and the picture go")
+    parser.add_argument("--break", dest="broken", default="", choices=["latest_timestamp_wins", *STORES, *EXECUTORS], metavar="NAME", help="a store that is broken on purpose")
+    words = parser.parse_args()
+    sys.setswitchinterval(0.0005)
+    try:
+        return demonstrate(words.into, words.broken)
+    except programs.NoProgram as error:
+        print(error, file=sys.stderr)
+        return 2
+
+
+if __name__ == "__main__":
+    sys.exit(main())

@@ -1,0 +1,125 @@
+"""Makes a ring text of what a store prints of its own ring: `ringplan-import SOURCE [FILE]`.
+
+    describering   what `nodetool describering KEYSPACE` of Cassandra prints: ranges between tokens, each with its endpoints
+    tablets        rows of `system.tablets` of ScyllaDB as JSON, one a line or in a list: `last_token` and `replicas`, pairs of a host and a shard
+    csv            lines `partition,node,rack`, a line for each slot, in the order of its slots
+
+A node's name in the ring is its name in the source, in lower case and without the dashes of a UUID, with `.rack` after it where the source says the rack. A number of partitions that is no power of
+two is filled up by the first rows once more; such a partition has no keys. The samples by which this is tested are written by hand from the public documentation.
+"""
+
+from __future__ import annotations
+
+import argparse
+import csv
+import json
+import re
+import sys
+from collections.abc import Callable, Iterable, Iterator
+
+from ringplan.texts import NAME, Ring, RingNode
+
+
+class BadSource(Exception):
+    """A source that does not read, and where."""
+
+
+# The slots of each partition in order, each a node and perhaps its rack.
+Rows = list[list[tuple[str, str]]]
+
+RANGE = re.compile(r"TokenRange\(start_token:(-?\d+), end_token:(-?\d+), endpoints:\[([^\]]*)\]")
+DETAILS = re.compile(r"EndpointDetails\(host:([^,]+), datacenter:([^,]*), rack:([^)]*)\)")
+
+
+def describering(lines: Iterable[str]) -> Rows:
+    """Ranges in the order of their last tokens."""
+    found = list[tuple[int, list[tuple[str, str]]]]()
+    for number, line in enumerate(lines, 1):
+        if "TokenRange(" not in line:
+            continue
+        match = RANGE.search(line)
+        if match is None:
+            raise BadSource(f"line {number}: a range without tokens and endpoints")
+        racks = {host.strip(): rack for host, _, rack in DETAILS.findall(line)}
+        hosts = [host.strip() for host in match[3].split(",") if host.strip()]
+        found.append((int(match[2]), [(host, racks.get(host, "")) for host in hosts]))
+    return [row for _, row in sorted(found, key=lambda it: it[0])]
+
+
+def tablets(lines: Iterable[str]) -> Rows:
+    """Tablets in the order of their last tokens."""
+    text = "".join(lines)
+    try:
+        rows = json.loads(text) if text.lstrip().startswith("[") else [json.loads(line) for line in text.splitlines() if line.strip()]
+        found = [(int(row["last_token"]), [(str(host), "") for host, _ in row["replicas"]]) for row in rows]
+    except (ValueError, KeyError, TypeError) as error:
+        raise BadSource(f"no tablets: {error!r}") from error
+    return [row for _, row in sorted(found, key=lambda it: it[0])]
+
+
+def from_csv(lines: Iterable[str]) -> Rows:
+    """Partitions in ascending order."""
+    found = dict[int, list[tuple[str, str]]]()
+    for number, fields in enumerate(csv.reader(lines), 1):
+        if not fields or fields[0] == "partition":
+            continue
+        if len(fields) not in (2, 3) or not fields[0].strip().isdecimal():
+            raise BadSource(f"line {number}: a line is `partition,node,rack`")
+        found.setdefault(int(fields[0]), []).append((fields[1].strip(), fields[2].strip() if len(fields) == 3 else ""))
+    return [found[partition] for partition in sorted(found)]
+
+
+SOURCES: dict[str, Callable[[Iterable[str]], Rows]] = {"describering": describering, "tablets": tablets, "csv": from_csv}
+
+
+def name_of(node: str, rack: str) -> str:
+    """The node's name in the ring."""
+    name = node.lower()
+    if re.fullmatch(r"[0-9a-f]{8}(-[0-9a-f]{4}){3}-[0-9a-f]{12}", name):
+        name = name.replace("-", "")
+    name = name.lstrip("/") + (f".{rack.lower()}" if rack else "")
+    if not NAME.fullmatch(name):
+        raise BadSource(f"{node!r} has no name of at most 32 bytes of a-z0-9_.:- ({name!r})")
+    return name
+
+
+def ring_of(rows: Rows, quorum: tuple[int, int], allowance: int, joining: list[str]) -> Ring:
+    """The ring, filled up to a power of two."""
+    named = [tuple(name_of(*slot) for slot in row) for row in rows]
+    sizes = {len(row) for row in named}
+    if len(sizes) != 1:
+        raise BadSource("each range must have as many nodes as the others" if named else "there are no ranges")
+    whole = 1 << (len(named) - 1).bit_length()
+    nodes = sorted({node for row in named for node in row})
+    declared = [RingNode(node, (allowance,), True) for node in nodes] + [RingNode(node, (allowance,), False) for node in joining]
+    return Ring(1, (sizes.pop(), *quorum), tuple(declared), tuple(named[number % len(named)] for number in range(whole)))
+
+
+def lines_of(path: str) -> Iterator[str]:
+    if path == "-":
+        yield from sys.stdin
+        return
+    with open(path) as it:
+        yield from it
+
+
+def main() -> int:
+    parser = argparse.ArgumentParser(prog="ringplan-import", description=(__doc__ or "").split("\n")[0])
+    parser.add_argument("source", choices=SOURCES, help="what the file is")
+    parser.add_argument("file", nargs="?", default="-", help="the file; standard input without it")
+    parser.add_argument("--read", type=int, default=2, metavar="R", help="slots that answer a read")
+    parser.add_argument("--write", type=int, default=2, metavar="W", help="slots that take a write")
+    parser.add_argument("--allowance", type=int, default=2, metavar="K", help="transfers that each node may have open at once")
+    parser.add_argument("--join", action="append", default=[], metavar="NAME", help="a node that is declared out, so that a change can let it join")
+    words = parser.parse_args()
+    try:
+        ring = ring_of(SOURCES[words.source](lines_of(words.file)), (words.read, words.write), words.allowance, words.join)
+    except (BadSource, OSError) as error:
+        print(f"ringplan-import: {error}", file=sys.stderr)
+        return 2
+    print(*ring.lines(), sep="\n")
+    return 0
+
+
+if __name__ == "__main__":
+    sys.exit(main())
