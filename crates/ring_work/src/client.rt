@@ -10,7 +10,7 @@ use crate::done::Done;
 use crate::getting::{finish_get, start_get};
 use crate::noting::{go_on, no_limit, submit};
 use crate::putting::put_on;
-use crate::site::{LockedStore, Site, is_set, ring, set};
+use crate::site::{LockedStore, Site, is_set, set, wake};
 use plan_check::Gate;
 use plan_runs::{Event, Key, Seen};
 use ring_exec::RunLedger;
@@ -83,7 +83,7 @@ fn put_line<L: RunLedger, R: Wait, G: Gate>(
     let before = done.receipts.len();
     let refusal = put_on(site.store, &mut done.share, &mut done.receipts, &start);
     if left_hints(done.receipts.as_slice(), before) {
-        ring(&site.flags.bell);
+        wake(&site.flags.bell);
     }
     after(refusal)
 }

@@ -119,7 +119,7 @@ pub(crate) fn history_of<'a, L: RunLedger>(
 }
 
 /// What a refusal comes to where a drive breaks off.
-pub(crate) fn told(refusal: Refusal) -> Refusal
+pub(crate) fn fault_kind(refusal: Refusal) -> Refusal
     ensures fault { IsFault result }
     ensures spent { result ≡ TurnsSpent → refusal ≡ TurnsSpent }
     ensures memory { result ≡ OutOfMemory → refusal ≡ OutOfMemory }
@@ -132,7 +132,7 @@ pub(crate) fn told(refusal: Refusal) -> Refusal
 }
 
 /// A fault without a history.
-pub(crate) fn bare(alloc: Global, approved: &Approved, refusal: Refusal) -> Fault
+pub(crate) fn empty_fault(alloc: Global, approved: &Approved, refusal: Refusal) -> Fault
     ensures empty { result.history.items ≡ [] }
     ensures run { IsHistory approved.now.ring approved.now.plan result.history.items }
     ensures refusal { result.refusal ≡ refusal }
@@ -161,7 +161,7 @@ fn judge<'a, R: Wait, G: Gate>(
     ensures spent { IfSome result (λ e. e ≡ TurnsSpent → IsSpent stopped) }
 {
     if let Some(refusal) = stopped {
-        return Some(told(refusal));
+        return Some(fault_kind(refusal));
     }
     if !finished || !complete || outcome.receipts.len() != lists {
         return Some(Refusal::Disagree);
@@ -207,7 +207,7 @@ fn fault_of(outcome: Outcome, refusal: Refusal) -> Fault
 }
 
 // The lists behind those in front, and what was met, if it was, where their memory is refused.
-fn behind(
+fn append_lists(
     front: Vec<Listed<Receipt>>,
     lists: Vec<Listed<Receipt>>,
     met: Option<Refusal>,
@@ -226,7 +226,7 @@ fn behind(
 }
 
 // Room for the lists of so many threads behind those in front.
-fn roomy(front: Vec<Listed<Receipt>>, threads: usize) -> Result<Vec<Listed<Receipt>>, Refusal>
+fn with_room(front: Vec<Listed<Receipt>>, threads: usize) -> Result<Vec<Listed<Receipt>>, Refusal>
     ensures { IfOk result (λ v. v.items ≡ front.items) }
 {
     let mut front = front;
@@ -244,7 +244,7 @@ fn threads_of<'a, R: Wait, G: Gate>(job: &Job<'a, R, G>) -> usize
 }
 
 // What stands before the threads start: the board with its seats, and room for their lists.
-fn begun<'a, R: Wait, G: Gate>(
+fn prepare<'a, R: Wait, G: Gate>(
     job: &Job<'a, R, G>,
     entries: &[Entry],
     front: Vec<Listed<Receipt>>,
@@ -256,7 +256,7 @@ fn begun<'a, R: Wait, G: Gate>(
     ensures seats { IfOk result (λ r. (r.1.board ≡ r.0.id) × (r.2.board ≡ r.0.id)) }
     ensures front { IfOk result (λ r. r.3.items ≡ front.items) }
 {
-    let front = roomy(front, threads_of(job))?;
+    let front = with_room(front, threads_of(job))?;
     let steps = job.approved.plan().len();
     let (board, first, last) = board_of(job.alloc, steps, job.workers, entries)?;
     Ok((board, first, last, front))
@@ -291,7 +291,7 @@ fn run<'a, L: RunLedger + Send + Sync, R: Threads + Wait + Sync, G: Gate + Sync>
     ensures turned { IfOk result (λ r. MustTurn (G.must_refuse job.now.gate.now) job.now.scripts.now
         → IsTrue r.complete → ⊥) }
 {
-    let (board, first, last, front) = begun(job, entries, front)?;
+    let (board, first, last, front) = prepare(job, entries, front)?;
     let (first, left) = run_all(&*job, &*executor, &board, first, share)?;
     let Left {
         seats,
@@ -301,7 +301,7 @@ fn run<'a, L: RunLedger + Send + Sync, R: Threads + Wait + Sync, G: Gate + Sync>
         complete,
     } = left;
     let finish = finish_of(job.alloc, end_of(board, first, last, seats));
-    let (receipts, refusal) = behind(front, receipts, refusal);
+    let (receipts, refusal) = append_lists(front, receipts, refusal);
     let finish = finish_after(finish, refusal);
     Ok(Ran {
         shares,
@@ -313,7 +313,7 @@ fn run<'a, L: RunLedger + Send + Sync, R: Threads + Wait + Sync, G: Gate + Sync>
 }
 
 // The outcome of a drive that met this, where it is one of so many lists; else its history, and why it is none.
-fn judged<'a, R: Wait, G: Gate>(
+fn check_outcome<'a, R: Wait, G: Gate>(
     job: &Job<'a, R, G>,
     outcome: Outcome,
     lists: usize,
@@ -341,7 +341,7 @@ fn judged<'a, R: Wait, G: Gate>(
 }
 
 // What a drive of so many lists comes to whose threads have ended.
-fn ended<'a, L: RunLedger, R: Wait, G: Gate>(
+fn finish_drive<'a, L: RunLedger, R: Wait, G: Gate>(
     job: &Job<'a, R, G>,
     executor: Executor<'a, L>,
     ran: Ran<L>,
@@ -368,7 +368,11 @@ fn ended<'a, L: RunLedger, R: Wait, G: Gate>(
     } = ran;
     let ledgered = match executor.finish(shares) {
         Ok(ledgered) => ledgered,
-        Err(other) => return Err(bare(job.alloc, job.approved, told(worst(refusal, other)))),
+        Err(other) => return Err(empty_fault(
+            job.alloc,
+            job.approved,
+            fault_kind(worst(refusal, other)),
+        )),
     };
     let (history, finished) = history_of(job.approved, ledgered);
     match finish {
@@ -379,10 +383,10 @@ fn ended<'a, L: RunLedger, R: Wait, G: Gate>(
                 finishers,
                 board,
             };
-            judged(job, outcome, lists, finished, complete, refusal)
+            check_outcome(job, outcome, lists, finished, complete, refusal)
         }
         Err(other) => Err(Fault {
-            refusal: told(other),
+            refusal: fault_kind(other),
             history,
         }),
     }
@@ -416,10 +420,10 @@ pub(crate) fn drive_on<'a, L: RunLedger + Send + Sync, R: Threads + Wait + Sync,
 {
     let lists = front.len() + threads_of(job);
     match run(job, &executor, share, entries, front) {
-        Ok(ran) => ended(job, executor, ran, lists),
+        Ok(ran) => finish_drive(job, executor, ran, lists),
         Err(refusal) => {
             executor.give_up();
-            Err(bare(job.alloc, job.approved, told(no_limit(refusal))))
+            Err(empty_fault(job.alloc, job.approved, fault_kind(no_limit(refusal))))
         }
     }
 }
@@ -447,7 +451,7 @@ fn drive_as<'a, L: RunLedger + Send + Sync, R: Threads + Wait + Sync, G: Gate + 
 {
     match Executor::<L>::new(job.alloc, blank, job.approved) {
         Ok((executor, share)) => drive_on(job, executor, share, &[], Vec::new(job.alloc)),
-        Err(refusal) => Err(bare(job.alloc, job.approved, told(refusal))),
+        Err(refusal) => Err(empty_fault(job.alloc, job.approved, fault_kind(refusal))),
     }
 }
 

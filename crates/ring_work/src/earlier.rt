@@ -141,7 +141,7 @@ fn break_off<L: RunLedger, R: Wait>(
 }
 
 /// The receipts of the entries behind which the store is, and behind them those of the copies that they left open, each of which is broken off.
-pub(crate) fn continued<L: RunLedger, R: Wait>(
+pub(crate) fn earlier_list<L: RunLedger, R: Wait>(
     store: &LockedStore<L, R>,
     alloc: Global,
     share: &mut Share<L>,

@@ -4,7 +4,7 @@ ghost use Rattle.ring_work.specs.Driven.{IsSpent};
 
 use crate::done::Done;
 use crate::noting::{go_on, no_limit};
-use crate::site::{Site, is_set, rung, set};
+use crate::site::{Site, is_set, ring_count, set};
 use plan_check::Gate;
 use plan_runs::Event;
 use ring_exec::RunLedger;
@@ -36,7 +36,7 @@ fn walks<L: RunLedger, R: Wait, G: Gate>(
 ) -> Result<(), Refusal> {
     let rt = site.job.rt;
     let mut n = 0u32;
-    let mut heard = rung(&site.flags.bell);
+    let mut heard = ring_count(&site.flags.bell);
     let mut last = is_set(&site.flags.joined);
     for _ in rt.forever() {
         match site.store.executor.hint_at(rt, n) {
@@ -55,7 +55,7 @@ fn walks<L: RunLedger, R: Wait, G: Gate>(
                     thread::yield_now();
                 }
                 n = 0;
-                heard = rung(&site.flags.bell);
+                heard = ring_count(&site.flags.bell);
                 last = is_set(&site.flags.joined);
             }
         }

@@ -12,8 +12,8 @@ ghost use Rattle.ring_receipts.specs.Finishing.{list_at};
 ghost use Rattle.ring_work.specs.Driven.{IsHistory, IsFault, MayStop, MustTurn};
 ghost use Rattle.ring_work.specs.Resumed.{Continues, Resumed, IsStop, TellsFault};
 
-use crate::driving::{bare, drive_on, history_of, told};
-use crate::earlier::continued;
+use crate::driving::{drive_on, empty_fault, fault_kind, history_of};
+use crate::earlier::earlier_list;
 use crate::fault::Fault;
 use crate::noting::no_limit;
 use crate::site::{Job, LockedStore};
@@ -30,7 +30,7 @@ use std::sync::ledger::Blank;
 use std::thread::Threads;
 
 // The one list, alone.
-fn alone(alloc: Global, list: Listed<Receipt>) -> Result<Vec<Listed<Receipt>>, Refusal>
+fn one_list(alloc: Global, list: Listed<Receipt>) -> Result<Vec<Listed<Receipt>>, Refusal>
     ensures { IfOk result (λ v. v.items ≡ list ∷ []) }
 {
     let mut front = Vec::new(alloc);
@@ -56,12 +56,12 @@ fn front_of<'a, L: RunLedger, R: Wait, G: Gate>(
         executor,
     };
     let steps = job.approved.plan().len();
-    let list = continued(&store, job.alloc, share, steps, entries)?;
-    alone(job.alloc, list)
+    let list = earlier_list(&store, job.alloc, share, steps, entries)?;
+    one_list(job.alloc, list)
 }
 
 // The fault of a store that is given up before its threads, with the history that stands.
-fn broken_off<'a, L: RunLedger>(
+fn abort_drive<'a, L: RunLedger>(
     alloc: Global,
     executor: Executor<'a, L>,
     shares: Vec<Share<L>>,
@@ -74,13 +74,13 @@ fn broken_off<'a, L: RunLedger>(
     ensures refusal { IsFault result.refusal }
     ensures spent { result.refusal ≡ TurnsSpent → ⊥ }
 {
-    let refusal = told(no_limit(refusal));
+    let refusal = fault_kind(no_limit(refusal));
     match executor.finish(shares) {
         Ok(ledgered) => {
             let (history, _) = history_of(approved, ledgered);
             Fault { refusal, history }
         }
-        Err(_) => bare(alloc, approved, refusal),
+        Err(_) => empty_fault(alloc, approved, refusal),
     }
 }
 
@@ -114,20 +114,20 @@ fn resume_on<'a, L: RunLedger + Send + Sync, R: Threads + Wait + Sync, G: Gate +
         Ok(shares) => shares,
         Err(_) => {
             executor.give_up();
-            return Err(bare(job.alloc, job.approved, told(Refusal::OutOfMemory)));
+            return Err(empty_fault(job.alloc, job.approved, fault_kind(Refusal::OutOfMemory)));
         }
     };
     match front_of(job, &executor, &mut share, entries) {
         Ok(front) => drive_on(job, executor, share, entries, front),
         Err(refusal) => {
             shares.push_reserved(share);
-            Err(broken_off(job.alloc, executor, shares, job.approved, refusal))
+            Err(abort_drive(job.alloc, executor, shares, job.approved, refusal))
         }
     }
 }
 
 // Why a store is not restored, as a resume tells it.
-fn stopped(approved: &Approved, entries: &[Entry], refusal: Refusal) -> Refusal
+fn stop_refusal(approved: &Approved, entries: &[Entry], refusal: Refusal) -> Refusal
     requires full { (refusal ≡ HistoryFull) ↔ (1000000 < length entries.now) }
     requires few { length entries.now ≤ 1000000 }
     requires err { refusal ≢ HistoryFull → refusal ≢ OutOfMemory
@@ -175,7 +175,7 @@ fn resume_as<'a, L: RunLedger + Send + Sync, R: Threads + Wait + Sync, G: Gate +
     let (alloc, approved) = (job.alloc, job.approved);
     match Executor::<L>::restore(alloc, blank, approved, entries) {
         Ok((executor, share)) => resume_on(job, executor, share, entries),
-        Err(refusal) => Err(bare(alloc, approved, stopped(approved, entries, refusal))),
+        Err(refusal) => Err(empty_fault(alloc, approved, stop_refusal(approved, entries, refusal))),
     }
 }
 
@@ -215,7 +215,7 @@ pub fn resume<R: Threads + Wait + Sync, G: Gate + Sync>(
     ensures empty { IfErr result (λ f. (IsFault f.refusal → ⊥) → f.history.items ≡ []) }
 {
     if entries.len() > MAX_ENTRIES {
-        return Err(bare(alloc, approved, Refusal::HistoryFull));
+        return Err(empty_fault(alloc, approved, Refusal::HistoryFull));
     }
     let job = Job {
         rt,

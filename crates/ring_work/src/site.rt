@@ -67,12 +67,12 @@ pub(crate) fn set(flag: &AtomicBool) {
 }
 
 /// Wakes the thread of handoffs.
-pub(crate) fn ring(bell: &AtomicU64) {
+pub(crate) fn wake(bell: &AtomicU64) {
     bell.fetch_add(1, Ordering::SeqCst);
     bell.wake_all();
 }
 
 /// How often the bell was rung, in its last 32 bits.
-pub(crate) fn rung(bell: &AtomicU64) -> u32 {
+pub(crate) fn ring_count(bell: &AtomicU64) -> u32 {
     (bell.load(Ordering::SeqCst) & 0xffff_ffff) as u32
 }

@@ -9,7 +9,7 @@ use crate::client::serve;
 use crate::done::{Done, Sat};
 use crate::handing::hand_off;
 use crate::left::Left;
-use crate::site::{Flags, Job, LockedStore, Site, ring, set};
+use crate::site::{Flags, Job, LockedStore, Site, set, wake};
 use crate::worker::work;
 use plan_check::Gate;
 use plan_text::Plan;
@@ -333,7 +333,7 @@ fn run_in<'s, 'x, 'e, 'a, L: RunLedger + Send + Sync, R: Threads + Wait + Sync, 
     let left = join_workers(site, sitting, left);
     let left = join_clients(site, serving, left);
     set(&site.flags.joined);
-    ring(&site.flags.bell);
+    wake(&site.flags.bell);
     let mut left = join_handoffs(site.job.rt, handing, left);
     left.share(root);
     (first, left)

@@ -111,7 +111,7 @@ impl Walk {
     }
 
     // How many dependencies of the step are known finished, of the first ones.
-    fn passed(&self, step: u32) -> usize {
+    fn passed_count(&self, step: u32) -> usize {
         self.passed.get(step as usize).copied().unwrap_or(0) as usize
     }
 
@@ -178,7 +178,7 @@ fn is_next(board: &Board, seat: &mut Seat, walk: &mut Walk, step: u32, others: &
         return false;
     }
     let mut more = 0u32;
-    for other in others.get(walk.passed(step)..).unwrap_or(&[]) {
+    for other in others.get(walk.passed_count(step)..).unwrap_or(&[]) {
         if *other >= board.steps() || !is_finished(board, seat, walk, *other) {
             walk.pass(step, more);
             walk.wait(step, *other);

@@ -1,7 +1,7 @@
 use Rattle.std.proofs.Common.{◌≡◌, ◌<◌, ◌≤◌, vec_len}
 use Rattle.ring_receipts.specs.Finishing.{list_at}
 use Rattle.ring_work.specs.Driven.{IsSpent}
-use Rattle.ring_work.proofs.driving.behind.Given as goal
+use Rattle.ring_work.proofs.driving.append_lists.Given as goal
 
 abbrev pub invariant-loop-list : goal.invariant-loop-list
 invariant-loop-list l = record {

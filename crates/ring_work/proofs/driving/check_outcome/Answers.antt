@@ -1,7 +1,7 @@
 use Rattle.std.proofs.Common.{List, sym, ap, subst}
 use Rattle.plan_runs.specs.declared.event.Entry.{Entry}
 use Rattle.ring_work.specs.Driven.{IsHistory}
-use Rattle.ring_work.proofs.driving.judged.Goals as goal
+use Rattle.ring_work.proofs.driving.check_outcome.Goals as goal
 
 pub returns-in-Some-clause-history : goal.returns-in-Some-clause-history
 returns-in-Some-clause-history g c =

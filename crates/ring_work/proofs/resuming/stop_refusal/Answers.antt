@@ -4,7 +4,7 @@ use Rattle.ring_names.specs.declared.refusal.Refusal.{Refusal}
 use Rattle.ring_names.specs.declared.refusal.Refusal.TheVariants.{HistoryFull, OutOfMemory, TurnsSpent, Mismatch}
 use Rattle.plan_runs.specs.World.{opening_world}
 use Rattle.ring_exec.proofs.FirstFault.{fault_mismatch, fault_once}
-use Rattle.ring_work.proofs.resuming.stopped.Goals as goal
+use Rattle.ring_work.proofs.resuming.stop_refusal.Goals as goal
 
 turns_not_full : (e : Refusal) → e ≡ TurnsSpent → e ≢ HistoryFull
 turns_not_full e spent full = absurd cc
