@@ -1,5 +1,5 @@
 //! Certificates for plans that have none: the fewest chains that a plan's order allows each node, and the paths that the checker asks for. Whether the plan is
-//! accepted by such a certificate is for the checker to say.
+//! accepted by such a certificate is for the checker to say. `Stays` is the walk over the nodes of each slot by which also others look at a plan.
 #![tactic(auto)]
 
 mod excess;
@@ -17,3 +17,5 @@ mod stays;
 pub use excess::{Excess, overload};
 pub use finding::{Outcome, certificate};
 pub use order::Order;
+pub use sides::{Sides, sides_of};
+pub use stays::{Stay, Stays};

@@ -94,22 +94,20 @@ impl<'a> Needs<'a> {
         node: NodeId,
         number: u32,
     ) -> Result<(), Refusal> {
-        let mut next = self.stays.latest_at(place_of(slot));
+        let mut next = self.stays.latest_at(slot, node.0);
         for turn in 0..self.stays.len() {
             let Some(stay) = self.stay(paths, next) else {
                 break;
             };
-            if stay.node == node.0 {
-                need_some(paths, stay.left, number)?;
-            }
-            next = stay.slot_before;
+            need_some(paths, stay.left, number)?;
+            next = stay.same_before;
         }
         Ok(())
     }
 
     // The stay, where there is one and a look is left.
     fn stay(&self, paths: &mut Paths, place: Option<usize>) -> Option<Stay> {
-        let stay = self.stays.stay(place?)?;
+        let stay = self.stays.stay(place)?;
         if paths.look() { Some(stay) } else { None }
     }
 

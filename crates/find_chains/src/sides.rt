@@ -9,7 +9,7 @@ use std::alloc::Global;
 
 /// The copies of each side, ascending, each once.
 #[derive(Drop)]
-pub(crate) struct Sides {
+pub struct Sides {
     // by twice a node's number those that it takes, or all where it is joint; one place behind, those that read from a split node
     lists: Vec<Vec<u32>>,
     // by node, whether it has two numbers
@@ -18,7 +18,7 @@ pub(crate) struct Sides {
 
 impl Sides {
     /// Those of a plan of the ring. Costs one pass over the plan.
-    pub(crate) fn of(alloc: Global, ring: &Ring, plan: &Plan) -> Result<Sides, Refusal> {
+    pub fn of(alloc: Global, ring: &Ring, plan: &Plan) -> Result<Sides, Refusal> {
         let mut sides = Sides::empty(alloc, ring)?;
         let mut stays = Stays::of(alloc, ring)?;
         for number in 0..plan.len() {
@@ -99,7 +99,7 @@ impl Sides {
     }
 
     /// The copies of that side of the node.
-    pub(crate) fn copies(&self, of: NodeSide) -> &[u32] {
+    pub fn copies(&self, of: NodeSide) -> &[u32] {
         match self.lists.get(self.place(of.node.0, of.side)) {
             Some(list) => list.as_slice(),
             None => &[],
@@ -108,7 +108,7 @@ impl Sides {
 }
 
 /// The sides of the node of that number, each with the most transfers that it may have open at once: one where it has one number, and else two.
-pub(crate) fn sides_of(ring: &Ring, number: usize) -> [Option<(NodeSide, u32)>; 2] {
+pub fn sides_of(ring: &Ring, number: usize) -> [Option<(NodeSide, u32)>; 2] {
     let node = NodeId(small(number));
     match ring.nodes().get(number) {
         Some(declared) => match declared.allowance {

@@ -1,35 +1,40 @@
-//! Who serves each slot, and since when, on the way through a plan.
+//! Which nodes serve each slot, and from when to when, on the way through a plan.
 
-use crate::looks::Looks;
 use helpers::{at, place_of, set, small};
 use plan_text::Step;
 use ring_names::{NodeId, Refusal, Slot};
 use ring_table::Ring;
 use std::alloc::Global;
+use std::collections::BTreeMap;
 
-/// A stay of a node at a slot: from the start or a mirror on, up to the switch after which it no longer owns the slot, and the drop of what it has of it. Stays are kept
-/// in two lists, that of their slot and that of their node, the latest first.
+/// A stay of a node at a slot: from the start or a mirror on, up to the switch after which it no longer owns the slot, and the drop of what it has of it.
 #[derive(Clone, Copy, Debug)]
-pub(crate) struct Stay {
-    pub(crate) node: u32,
-    /// The switch by which it left, and the first drop of the node behind the begin.
-    pub(crate) left: Option<u32>,
-    pub(crate) dropped: Option<u32>,
-    /// The places of the stays before it at the slot and of the node.
-    pub(crate) slot_before: Option<usize>,
-    pub(crate) node_before: Option<usize>,
+pub struct Stay {
+    pub slot: Slot,
+    pub node: u32,
+    /// The mirror with which it began; none where the node owned the slot before the first step.
+    pub begun: Option<u32>,
+    /// The switch by which the node left.
+    pub left: Option<u32>,
+    /// The first drop of the node at the slot after the stay began.
+    pub dropped: Option<u32>,
+    /// The place of the node's stay at the slot before this one.
+    pub same_before: Option<usize>,
+    /// The place of the node's stay before this one, at any slot.
+    pub node_before: Option<usize>,
 }
 
-/// All stays so far.
+/// All stays so far, in the order in which they began: those of the ring's owners by slot, then one for each mirror. A step costs a look-up among the nodes that mirrored its slot.
 #[derive(Drop)]
-pub(crate) struct Stays {
+pub struct Stays {
     all: Vec<Stay>,
-    // by the place of a slot: 1 and the stays of its owner, of its mirror and the latest one; by node 1 and the latest one; 0 for none
+    // by the place of a slot: 1 and the stays of its first owner, of its owner and of its mirror; by node 1 and the latest one; 0 for none
+    firsts: Vec<u32>,
     owners: Vec<u32>,
     mirrors: Vec<u32>,
-    by_slot: Vec<u32>,
     by_node: Vec<u32>,
-    looks: Looks,
+    // the latest stay of each mirror; ordered, since plans choose how often a slot moves
+    latest: BTreeMap<(Slot, u32), usize>,
 }
 
 // The place that a number of 1 and it says.
@@ -42,15 +47,15 @@ fn place(number: u32) -> Option<usize> {
 
 impl Stays {
     /// Before the first step.
-    pub(crate) fn of(alloc: Global, ring: &Ring) -> Result<Stays, Refusal> {
+    pub fn of(alloc: Global, ring: &Ring) -> Result<Stays, Refusal> {
         let slots = (ring.q() as usize).saturating_mul(7);
         let mut stays = Stays {
             all: Vec::new(alloc),
+            firsts: vec![in alloc; 0u32; slots]?,
             owners: vec![in alloc; 0u32; slots]?,
             mirrors: vec![in alloc; 0u32; slots]?,
-            by_slot: vec![in alloc; 0u32; slots]?,
             by_node: vec![in alloc; 0u32; ring.nodes().len()]?,
-            looks: Looks::new(),
+            latest: BTreeMap::new(alloc),
         };
         stays.begin_all(ring)?;
         Ok(stays)
@@ -62,9 +67,10 @@ impl Stays {
         for row in ring.rows() {
             let mut index = 0u32;
             for node in row.as_slice() {
-                let slot = place_of(Slot { partition, index });
-                let number = self.begin(slot, *node)?;
-                set(self.owners.as_mut_slice(), slot, number);
+                let slot = Slot { partition, index };
+                let number = self.begin(slot, *node, None)?;
+                set(self.firsts.as_mut_slice(), place_of(slot), number);
+                set(self.owners.as_mut_slice(), place_of(slot), number);
                 index = index.saturating_add(1);
             }
             partition = partition.saturating_add(1);
@@ -72,34 +78,40 @@ impl Stays {
         Ok(())
     }
 
-    // A node begins to serve the slot of that place: 1 and the place of its stay.
-    fn begin(&mut self, slot: usize, node: NodeId) -> Result<u32, Refusal> {
+    // A node begins to serve the slot, from the start or with a mirror: 1 and the place of its stay.
+    fn begin(&mut self, slot: Slot, node: NodeId, begun: Option<u32>) -> Result<u32, Refusal> {
         let stay = Stay {
+            slot,
             node: node.0,
+            begun,
             left: None,
             dropped: None,
-            slot_before: place(at(self.by_slot.as_slice(), slot)),
-            node_before: place(at(self.by_node.as_slice(), node.0 as usize)),
+            same_before: self.latest_at(slot, node.0),
+            node_before: self.latest_of(node.0),
         };
         self.all.push(stay)?;
         let number = small(self.all.len());
-        set(self.by_slot.as_mut_slice(), slot, number);
         set(self.by_node.as_mut_slice(), node.0 as usize, number);
         Ok(number)
     }
 
     /// Lets the step of that number act.
-    pub(crate) fn act(&mut self, step: &Step, number: u32) -> Result<(), Refusal> {
+    pub fn act(&mut self, step: &Step, number: u32) -> Result<(), Refusal> {
         match step {
-            Step::Mirror(slot, node) => {
-                let slot = place_of(*slot);
-                let stay = self.begin(slot, *node)?;
-                set(self.mirrors.as_mut_slice(), slot, stay);
-            }
+            Step::Mirror(slot, node) => self.mirror_to(*slot, *node, number)?,
             Step::Switch(slot) => self.switch(place_of(*slot), number),
-            Step::Drop(slot, node) => self.drop_held(place_of(*slot), node.0, number),
+            Step::Drop(slot, node) => self.drop_held(*slot, node.0, number),
             Step::Copy(_, _) | Step::Join(_) | Step::Retire(_) => {}
         }
+        Ok(())
+    }
+
+    // The node becomes the mirror of the slot.
+    fn mirror_to(&mut self, slot: Slot, node: NodeId, number: u32) -> Result<(), Refusal> {
+        let place = self.all.len();
+        let stay = self.begin(slot, node, Some(number))?;
+        self.latest.insert((slot, node.0), place)?;
+        set(self.mirrors.as_mut_slice(), place_of(slot), stay);
         Ok(())
     }
 
@@ -120,64 +132,67 @@ impl Stays {
     }
 
     // The node drops what it has of the slot.
-    fn drop_held(&mut self, slot: usize, node: u32, number: u32) {
-        let mut next = self.latest_at(slot);
+    fn drop_held(&mut self, slot: Slot, node: u32, number: u32) {
+        let mut next = self.latest_at(slot, node);
         for turn in 0..self.all.len() {
             let Some(stay) = next else {
                 return;
             };
-            if !self.looks.spend(1) {
-                return;
-            }
-            next = self.drop_one(stay, node, number);
+            next = self.drop_one(stay, number);
         }
     }
 
-    // The same of one stay: the one before it at the slot. Where that was dropped, so were all of the node before it.
-    fn drop_one(&mut self, stay: usize, node: u32, number: u32) -> Option<usize> {
-        let found = self.all.get_mut(stay)?;
-        if found.node == node {
-            if found.dropped.is_some() {
-                return None;
-            }
-            found.dropped = Some(number);
+    // One stay is dropped. The one before it of the node at the slot, unless this one was dropped before: then so were all before it.
+    fn drop_one(&mut self, place: usize, number: u32) -> Option<usize> {
+        let stay = self.all.get_mut(place)?;
+        if stay.dropped.is_some() {
+            return None;
         }
-        found.slot_before
+        stay.dropped = Some(number);
+        stay.same_before
     }
 
     /// How many there are so far.
-    pub(crate) fn len(&self) -> usize {
+    pub fn len(&self) -> usize {
         self.all.len()
     }
 
-    /// The stay of that place.
-    pub(crate) fn stay(&self, place: usize) -> Option<Stay> {
-        self.all.get(place).copied()
+    /// The stay of that place, if there is one.
+    pub fn stay(&self, place: Option<usize>) -> Option<Stay> {
+        self.all.get(place?).copied()
     }
 
-    /// The latest stay at the slot of that place.
-    pub(crate) fn latest_at(&self, slot: usize) -> Option<usize> {
-        place(at(self.by_slot.as_slice(), slot))
+    /// The place of the latest stay of the node at the slot.
+    pub fn latest_at(&self, slot: Slot, node: u32) -> Option<usize> {
+        if let Some(place) = self.latest.get(&(slot, node)) {
+            return Some(*place);
+        }
+        let first = place(at(self.firsts.as_slice(), place_of(slot)));
+        if self.stay(first)?.node == node {
+            first
+        } else {
+            None
+        }
     }
 
-    /// The latest stay of the node.
-    pub(crate) fn latest_of(&self, node: u32) -> Option<usize> {
+    /// The place of the latest stay of the node.
+    pub fn latest_of(&self, node: u32) -> Option<usize> {
         place(at(self.by_node.as_slice(), node as usize))
     }
 
+    /// The place of the stay of the slot's mirror.
+    pub fn mirror_at(&self, slot: Slot) -> Option<usize> {
+        place(at(self.mirrors.as_slice(), place_of(slot)))
+    }
+
     /// Who owns the slot.
-    pub(crate) fn owner(&self, slot: Slot) -> Option<u32> {
-        self.node_of(at(self.owners.as_slice(), place_of(slot)))
+    pub fn owner(&self, slot: Slot) -> Option<u32> {
+        let place = place(at(self.owners.as_slice(), place_of(slot)));
+        Some(self.stay(place)?.node)
     }
 
     /// Who mirrors the slot.
-    pub(crate) fn mirror(&self, slot: Slot) -> Option<u32> {
-        self.node_of(at(self.mirrors.as_slice(), place_of(slot)))
-    }
-
-    // The node of the stay that a number of 1 and its place says.
-    fn node_of(&self, number: u32) -> Option<u32> {
-        let stay = self.stay(place(number)?)?;
-        Some(stay.node)
+    pub fn mirror(&self, slot: Slot) -> Option<u32> {
+        Some(self.stay(self.mirror_at(slot))?.node)
     }
 }
