@@ -3,7 +3,6 @@
 #![tactic(auto)]
 
 mod change;
-mod copies;
 mod domains;
 mod failing;
 mod loads;

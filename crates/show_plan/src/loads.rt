@@ -1,8 +1,7 @@
 //! What each node owns, gives, takes and may bear.
 
-use crate::copies::Copies;
 use crate::shown::AllShown;
-use find_chains::Order;
+use find_chains::{Order, Sides, sides_of};
 use helpers::{Words, at, raise};
 use plan_cert::Cert;
 use plan_moves::owned;
@@ -61,37 +60,33 @@ impl Loads {
     }
 
     /// Has the fewest transfers that the plan's order allows stand in the place of the certificate's chains, as far as they are found.
-    pub fn count_fewest(
-        &mut self,
-        alloc: Global,
-        ring: &Ring,
-        plan: &Plan,
-        shown: &AllShown,
-    ) -> Result<(), Refusal> {
+    pub fn count_fewest(&mut self, alloc: Global, ring: &Ring, plan: &Plan) -> Result<(), Refusal> {
         let mut order = Order::of(alloc, plan)?;
-        let copies = Copies::of(alloc, ring, shown)?;
+        let sides = Sides::of(alloc, ring, plan)?;
         for node in 0..ring.nodes().len() {
-            let taken = order.fewest(alloc, copies.taken(node))?;
-            let given = order.fewest(alloc, copies.given(node))?;
-            if copies.is_split(node) {
-                put(self.taking.as_mut_slice(), node, taken);
-                put(self.giving.as_mut_slice(), node, given);
-            } else {
-                put(self.joint.as_mut_slice(), node, taken);
+            for side in sides_of(ring, node) {
+                if let Some((of, _)) = side {
+                    let fewest = order.fewest(alloc, sides.copies(of))?;
+                    put(self.counts(of.side), node, fewest);
+                }
             }
         }
         Ok(())
     }
 
+    // The counts of transfers of that side.
+    fn counts(&mut self, side: Side) -> &mut [u32] {
+        match side {
+            Side::Both => self.joint.as_mut_slice(),
+            Side::Take => self.taking.as_mut_slice(),
+            Side::Give => self.giving.as_mut_slice(),
+        }
+    }
+
     fn count_chains(&mut self, cert: &Cert) {
         for place in 0..cert.chains.len() {
             let of = cert.chains.of(place);
-            let node = of.node.0 as usize;
-            match of.side {
-                Side::Both => raise(self.joint.as_mut_slice(), node),
-                Side::Take => raise(self.taking.as_mut_slice(), node),
-                Side::Give => raise(self.giving.as_mut_slice(), node),
-            }
+            raise(self.counts(of.side), of.node.0 as usize);
         }
     }
 

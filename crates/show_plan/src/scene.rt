@@ -2,7 +2,7 @@
 
 use crate::loads::Loads;
 use crate::shown::{AllShown, Shown};
-use helpers::{at, raise};
+use helpers::{at, place_of, raise};
 use plan_cert::Cert;
 use plan_check::Approved;
 use plan_moves::{last_owners, moves, rounds};
@@ -43,7 +43,7 @@ impl Scene {
         let moved_slots = moved_slots(alloc, ring, shown.moves.as_slice())?;
         let last_rows = last_owners(alloc, ring, plan)?;
         let mut loads = Loads::of(alloc, ring, cert, &shown, last_rows.as_slice())?;
-        loads.count_fewest(alloc, ring, plan, &shown)?;
+        loads.count_fewest(alloc, ring, plan)?;
         Ok(Scene {
             shown,
             rounds,
@@ -110,8 +110,7 @@ fn moved_slots(alloc: Global, ring: &Ring, moves: &[Shown]) -> Result<u32, Refus
     let mut marks = vec![in alloc; 0u32; (ring.q() as usize).saturating_mul(7)]?;
     let mut count = 0u32;
     for shown in moves {
-        let row = (shown.slot.partition as usize).saturating_mul(7);
-        let place = row.saturating_add(shown.slot.index as usize);
+        let place = place_of(shown.slot);
         if at(marks.as_slice(), place) == 0 {
             count = count.saturating_add(1);
         }

@@ -1,5 +1,6 @@
 //! The moves of a plan, with the steps that belong to them.
 
+use find_chains::Stays;
 use helpers::{at, row};
 use plan_moves::Move;
 use plan_text::{Plan, Source, Step};
@@ -44,75 +45,6 @@ struct Copied<'a> {
     is_listed: bool,
 }
 
-// Who owns each slot on the way through a plan, and which move is open for it.
-#[derive(Drop)]
-struct Way {
-    // by place, the owner's number
-    owners: Vec<u32>,
-    // by place, 1 and the number of the move, or 0
-    open: Vec<u32>,
-}
-
-// Where a slot is kept: a partition has at most 7.
-fn place_of(slot: Slot) -> usize {
-    (slot.partition as usize)
-        .saturating_mul(7)
-        .saturating_add(slot.index as usize)
-}
-
-impl Way {
-    fn new(alloc: Global, ring: &Ring) -> Result<Way, Refusal> {
-        let places = (ring.q() as usize).saturating_mul(7);
-        let mut owners = vec![in alloc; 0u32; places]?;
-        let mut partition = 0u32;
-        for row in ring.rows() {
-            let mut index = 0u32;
-            for node in row.as_slice() {
-                set(
-                    owners.as_mut_slice(),
-                    place_of(Slot { partition, index }),
-                    node.0,
-                );
-                index = index.saturating_add(1);
-            }
-            partition = partition.saturating_add(1);
-        }
-        let open = vec![in alloc; 0u32; places]?;
-        Ok(Way { owners, open })
-    }
-
-    fn owner(&self, slot: Slot) -> u32 {
-        at(self.owners.as_slice(), place_of(slot))
-    }
-
-    // Opens a move of the slot, by 1 and its number.
-    fn begin(&mut self, slot: Slot, number: u32) {
-        set(self.open.as_mut_slice(), place_of(slot), number);
-    }
-
-    // The number of the slot's open move.
-    fn open_move(&self, slot: Slot) -> Option<usize> {
-        let number = at(self.open.as_slice(), place_of(slot));
-        if number == 0 {
-            return None;
-        }
-        Some(number as usize - 1)
-    }
-
-    // The slot's move ends: the node owns it.
-    fn end(&mut self, slot: Slot, node: u32) {
-        set(self.owners.as_mut_slice(), place_of(slot), node);
-        set(self.open.as_mut_slice(), place_of(slot), 0);
-    }
-}
-
-// Writes the number at the place, if there is one.
-fn set(numbers: &mut [u32], place: usize, number: u32) {
-    if let Some(old) = numbers.get_mut(place) {
-        *old = number;
-    }
-}
-
 impl AllShown {
     /// The moves, with the steps of the plan that belong to them, and the rounds of those.
     pub fn of(
@@ -126,35 +58,32 @@ impl AllShown {
             moves: Vec::new(alloc),
             reads: Rows::new(alloc),
         };
-        let mut way = Way::new(alloc, ring)?;
+        let mut stays = Stays::of(alloc, ring)?;
+        let owners = stays.len();
         for number in 0..plan.len() {
-            match plan.step(number) {
-                Step::Mirror(slot, _) => all.begin(&mut way, moves, rounds, *slot)?,
+            let step = plan.step(number);
+            match step {
+                Step::Mirror(_, _) => all.begin(moves, rounds)?,
                 Step::Copy(slot, source) => {
-                    let reads = read_nodes(alloc, &way, *slot, source)?;
+                    let reads = read_nodes(alloc, &stays, *slot, source)?;
                     let copied = Copied {
                         number,
                         round: at(rounds, number as usize),
                         reads: reads.as_slice(),
                         is_listed: matches!(source, Source::Slots(_)),
                     };
-                    all.copy(&way, *slot, copied)?;
+                    all.copy(open_move(&stays, owners, *slot), copied)?;
                 }
-                Step::Switch(slot) => all.switch(&mut way, *slot, number),
+                Step::Switch(slot) => all.switch(open_move(&stays, owners, *slot), number),
                 Step::Drop(_, _) | Step::Join(_) | Step::Retire(_) => {}
             }
+            stays.act(step, number)?;
         }
         Ok(all)
     }
 
     // The next move begins.
-    fn begin(
-        &mut self,
-        way: &mut Way,
-        moves: &[Move],
-        rounds: &[u32],
-        slot: Slot,
-    ) -> Result<(), Refusal> {
+    fn begin(&mut self, moves: &[Move], rounds: &[u32]) -> Result<(), Refusal> {
         if let Some(found) = moves.get(self.moves.len()) {
             let opens = at(rounds, found.mirror as usize);
             self.moves.push(Shown {
@@ -169,14 +98,13 @@ impl AllShown {
                 reads: None,
                 is_listed: false,
             })?;
-            way.begin(slot, helpers::small(self.moves.len()));
         }
         Ok(())
     }
 
-    // The slot's open move has this copy.
-    fn copy(&mut self, way: &Way, slot: Slot, copied: Copied) -> Result<(), Refusal> {
-        let Some(place) = way.open_move(slot) else {
+    // The open move of that number, if there is one, has this copy.
+    fn copy(&mut self, open: Option<usize>, copied: Copied) -> Result<(), Refusal> {
+        let Some(place) = open else {
             return Ok(());
         };
         let row = self.reads.len();
@@ -190,14 +118,13 @@ impl AllShown {
         Ok(())
     }
 
-    // The slot's open move ends by this switch.
-    fn switch(&mut self, way: &mut Way, slot: Slot, number: u32) {
-        let Some(place) = way.open_move(slot) else {
+    // The open move of that number, if there is one, ends by this switch.
+    fn switch(&mut self, open: Option<usize>, number: u32) {
+        let Some(place) = open else {
             return;
         };
         if let Some(shown) = self.moves.get_mut(place) {
             shown.switch = Some(number);
-            way.end(slot, shown.to);
         }
     }
 
@@ -210,20 +137,34 @@ impl AllShown {
     }
 }
 
+// The number of the slot's open move. Each move begins with a mirror, whose stay comes after those of the ring's owners.
+fn open_move(stays: &Stays, owners: usize, slot: Slot) -> Option<usize> {
+    stays.mirror_at(slot)?.checked_sub(owners)
+}
+
+// Adds the owner of the slot, unless the nodes have it.
+fn push_owner(nodes: &mut Vec<u32>, stays: &Stays, slot: Slot) -> Result<(), Refusal> {
+    match stays.owner(slot) {
+        Some(node) if !nodes.as_slice().contains(&node) => nodes.push(node)?,
+        _ => {}
+    }
+    Ok(())
+}
+
 // The owners of the slots that a copy reads, each once.
-fn read_nodes(alloc: Global, way: &Way, slot: Slot, source: &Source) -> Result<Vec<u32>, Refusal> {
+fn read_nodes(
+    alloc: Global,
+    stays: &Stays,
+    slot: Slot,
+    source: &Source,
+) -> Result<Vec<u32>, Refusal> {
     let mut nodes = Vec::new(alloc);
     match source {
-        Source::Owner => nodes.push(way.owner(slot))?,
+        Source::Owner => push_owner(&mut nodes, stays, slot)?,
         Source::Slots(from) => {
             for index in from.as_slice() {
-                let node = way.owner(Slot {
-                    partition: slot.partition,
-                    index: *index,
-                });
-                if !nodes.as_slice().contains(&node) {
-                    nodes.push(node)?;
-                }
+                let (partition, index) = (slot.partition, *index);
+                push_owner(&mut nodes, stays, Slot { partition, index })?;
             }
         }
     }
