@@ -1,69 +1,58 @@
 //! Nodes that hold slots when they must not, and nodes that are no members.
 
 use crate::case::Case;
-use crate::time::Time;
+use find_chains::{Stay, Stays};
 use plan_text::Step;
 use ring_names::{NodeId, Refusal, Slot};
 use show_why::Said;
 
-// A node's time with a slot: the step with which it enters, none at the start, and the switch with which another takes its place.
-#[derive(Clone, Copy)]
-struct Stay {
-    slot: Slot,
-    from: Option<u32>,
-    to: Option<u32>,
+// The stays of all nodes by the plan's end.
+fn all_stays(case: Case) -> Result<Stays, Refusal> {
+    let mut stays = Stays::of(case.alloc, case.ring)?;
+    for number in 0..case.plan.len() {
+        stays.act(case.plan.step(number), number)?;
+    }
+    Ok(stays)
 }
 
-// The stay that lasts beyond the slot's last step.
-fn last_stay(time: Time, slot: Slot, node: NodeId, number: u32) -> Option<Stay> {
-    let (from, to) = (time.from, None);
-    if time.owner == node && begins(from, number) {
-        return Some(Stay { slot, from, to });
-    }
-    let (next, begun) = time.mirror?;
-    let from = Some(begun);
-    if next == node && begun < number {
-        return Some(Stay { slot, from, to });
-    }
-    None
-}
-
-// The first stay of the node with the slot that has begun before the step and is not over by then.
-fn stay_with(case: Case, node: NodeId, slot: Slot, number: u32) -> Option<Stay> {
-    if slot.partition >= case.ring.q() || slot.index >= case.ring.n() {
-        return None;
-    }
-    let mut time = Time::new(case.ring.owner(slot));
-    for other in case.plan.slot_steps(slot) {
-        let step = case.step(*other)?;
-        if let Step::Switch(_) = step {
-            let (from, to) = (time.from, Some(*other));
-            let is_in = time.owner == node && begins(from, number);
-            if is_in && !case.is_ordered(*other, number) {
-                return Some(Stay { slot, from, to });
-            }
-        }
-        time.act(step, *other);
-    }
-    last_stay(time, slot, node, number)
-}
-
-fn begins(from: Option<u32>, number: u32) -> bool {
-    match from {
-        Some(from) => from < number,
+// Whether the stay has begun before the step and is not over by then.
+fn lasts(case: Case, stay: Stay, number: u32) -> bool {
+    let has_begun = match stay.begun {
+        Some(begun) => begun < number,
         None => true,
+    };
+    let is_over = match stay.left {
+        Some(left) => case.is_ordered(left, number),
+        None => false,
+    };
+    has_begun && !is_over
+}
+
+// The first stay of the node at the slot that lasts at the step.
+fn stay_with(case: Case, stays: &Stays, node: NodeId, slot: Slot, number: u32) -> Option<Stay> {
+    let mut found = None;
+    let mut next = stays.latest_at(slot, node.0);
+    for turn in 0..stays.len() {
+        let Some(stay) = stays.stay(next) else {
+            break;
+        };
+        if lasts(case, stay, number) {
+            found = Some(stay);
+        }
+        next = stay.same_before;
     }
+    found
 }
 
 // The stay with another slot of the partition.
-fn other_stay(case: Case, node: NodeId, slot: Slot, number: u32) -> Option<Stay> {
+fn other_stay(case: Case, stays: &Stays, node: NodeId, slot: Slot, number: u32) -> Option<Stay> {
     for index in 0..case.ring.n() {
         if index != slot.index {
             let other = Slot {
                 partition: slot.partition,
                 index,
             };
-            if let Some(found) = stay_with(case, node, other, number) {
+            if let Some(found) = stay_with(case, stays, node, other, number) {
                 return Some(found);
             }
         }
@@ -72,9 +61,10 @@ fn other_stay(case: Case, node: NodeId, slot: Slot, number: u32) -> Option<Stay>
 }
 
 /// A mirror brings a node into a second slot of a partition.
-pub fn shared_in_plan(case: Case, said: &mut Said, number: u32) {
+pub fn shared_in_plan(case: Case, said: &mut Said, number: u32) -> Result<(), Refusal> {
     let Some(Step::Mirror(slot, node)) = case.step(number) else {
-        return said.title(b"a mirror brings a node into a second slot of a partition");
+        said.title(b"a mirror brings a node into a second slot of a partition");
+        return Ok(());
     };
     let name = case.name(node.0);
     said.title_with(
@@ -88,16 +78,18 @@ pub fn shared_in_plan(case: Case, said: &mut Said, number: u32) {
         &[name],
         &[number, slot.index],
     );
-    match other_stay(case, *node, *slot, number) {
+    let stays = all_stays(case)?;
+    match other_stay(case, &stays, *node, *slot, number) {
         Some(found) => tell_stay(case, said, name, found, number),
         None => {}
     }
+    Ok(())
 }
 
 // When the node entered the other slot.
 fn tell_entry(case: Case, said: &mut Said, name: &[u8], found: Stay) {
     let index = found.slot.index;
-    match found.from {
+    match found.begun {
         Some(begin) => {
             let line = case.step_line(begin);
             said.beside_with(line, b"step #: it enters slot #", &[], &[begin, index])
@@ -109,7 +101,7 @@ fn tell_entry(case: Case, said: &mut Said, name: &[u8], found: Stay) {
 // When it leaves that slot.
 fn tell_exit(case: Case, said: &mut Said, name: &[u8], found: Stay, number: u32) {
     let index = found.slot.index;
-    let Some(end) = found.to else {
+    let Some(end) = found.left else {
         let note = b"No step takes @ out of slot #: move that slot first, or mirror another node.";
         return said.note_with(note, &[name], &[index]);
     };
@@ -127,7 +119,7 @@ fn tell_stay(case: Case, said: &mut Said, name: &[u8], found: Stay, number: u32)
     tell_exit(case, said, name, found, number);
     let note = b"Two replicas of a key on one node would count twice in a quorum.";
     said.note(note);
-    match found.to {
+    match found.left {
         Some(end) if end < number => {
             said.mend_with(b"let it wait until @ has left", &[name], &[]);
             case.wait(said, number, end)
@@ -165,84 +157,42 @@ pub fn not_joined(case: Case, said: &mut Said, number: u32) {
     case.wait(said, number, join)
 }
 
-// A slot that a node comes to hold: the step with which it enters, none at the start.
-#[derive(Clone, Copy)]
-struct Entry {
-    slot: Slot,
-    from: Option<u32>,
-}
-
-// The drops of the node, by slot and then by number.
-fn drops_of(case: Case, node: NodeId) -> Result<Vec<(Slot, u32)>, Refusal> {
-    let mut drops = Vec::new(case.alloc);
-    for number in 0..case.plan.len() {
-        if let Step::Drop(slot, dropped) = case.plan.step(number) {
-            if *dropped == node {
-                drops.push((*slot, number))?;
-            }
-        }
-    }
-    drops.sort_unstable();
-    Ok(drops)
-}
-
-// The first of the drops that is of the entry's slot and comes after the entry.
-fn drop_after(drops: &[(Slot, u32)], entry: Entry) -> Option<u32> {
-    let first = match entry.from {
-        Some(from) => from.saturating_add(1),
-        None => 0,
-    };
-    let place = match drops.binary_search(&(entry.slot, first)) {
-        Ok(place) | Err(place) => place,
-    };
-    match drops.get(place) {
-        Some((slot, number)) if *slot == entry.slot => Some(*number),
-        _ => None,
-    }
-}
-
-// What a node holds when it retires: slots without a drop, and drops for which the retirement does not wait. All drops of the node are at hand.
+// What a node holds when it retires: slots without a drop, and drops for which the retirement does not wait.
 #[derive(Drop)]
 struct Left {
-    all: Vec<(Slot, u32)>,
     slots: Vec<Slot>,
     drops: Vec<u32>,
 }
 
 impl Left {
-    fn add(&mut self, case: Case, entry: Entry, number: u32) -> Result<(), Refusal> {
-        match drop_after(self.all.as_slice(), entry) {
+    fn add(&mut self, case: Case, stay: Stay, number: u32) -> Result<(), Refusal> {
+        match stay.dropped {
             Some(drop) if case.is_ordered(drop, number) => {}
             Some(drop) => self.drops.push(drop)?,
-            None => self.slots.push(entry.slot)?,
+            None => self.slots.push(stay.slot)?,
         }
         Ok(())
     }
 }
 
-// What the node has held by the plan's end without a drop in front of its retirement.
-fn find_left(case: Case, left: &mut Left, node: NodeId, number: u32) -> Result<(), Refusal> {
-    let mut partition = 0u32;
-    for row in case.ring.rows() {
-        let mut index = 0u32;
-        for owner in row.as_slice() {
-            let (slot, from) = (Slot { partition, index }, None);
-            if *owner == node {
-                left.add(case, Entry { slot, from }, number)?;
-            }
-            index = index.saturating_add(1);
-        }
-        partition = partition.saturating_add(1);
+// What the node has held by the plan's end without a drop before its retirement.
+fn find_left(case: Case, node: NodeId, number: u32) -> Result<Left, Refusal> {
+    let stays = all_stays(case)?;
+    let mut left = Left {
+        slots: Vec::new(case.alloc),
+        drops: Vec::new(case.alloc),
+    };
+    let mut next = stays.latest_of(node.0);
+    for turn in 0..stays.len() {
+        let Some(stay) = stays.stay(next) else {
+            break;
+        };
+        left.add(case, stay, number)?;
+        next = stay.node_before;
     }
-    for other in 0..case.plan.len() {
-        if let Step::Mirror(slot, mirror) = case.plan.step(other) {
-            let (slot, from) = (*slot, Some(other));
-            if *mirror == node {
-                left.add(case, Entry { slot, from }, number)?;
-            }
-        }
-    }
-    Ok(())
+    left.slots.as_mut_slice().reverse();
+    left.drops.as_mut_slice().reverse();
+    Ok(left)
 }
 
 // Says which slots a node holds without a drop, as far as a few lines can.
@@ -303,12 +253,7 @@ pub fn retired_in_use(case: Case, said: &mut Said, number: u32) -> Result<(), Re
         &[],
     );
     case.fault(said, number);
-    let mut left = Left {
-        all: drops_of(case, *node)?,
-        slots: Vec::new(case.alloc),
-        drops: Vec::new(case.alloc),
-    };
-    find_left(case, &mut left, *node, number)?;
+    let left = find_left(case, *node, number)?;
     tell_left(case, said, &left, number);
     Ok(())
 }

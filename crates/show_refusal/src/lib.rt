@@ -10,7 +10,6 @@ mod roles;
 mod sources;
 mod stages;
 mod telling;
-mod time;
 
 pub use certificates::Remedy;
 pub use telling::{Read, tell_plan};

@@ -45,7 +45,7 @@ pub fn tell_plan(
         Refusal::UnorderedSlot(step) => unordered_slot(case, said, *step),
         Refusal::BadSource(step) => bad_source(case, said, *step),
         Refusal::MovingSource(step) => moving_source(case, said, *step),
-        Refusal::SharedInPlan(step) => shared_in_plan(case, said, *step),
+        Refusal::SharedInPlan(step) => shared_in_plan(case, said, *step)?,
         Refusal::NotJoined(step) => not_joined(case, said, *step),
         Refusal::RetiredInUse(step) => retired_in_use(case, said, *step)?,
         Refusal::BadPath(fact) => bad_path(case, said, *fact),
