@@ -176,8 +176,7 @@ pub fn cut(
     rounds: &[u32],
     width: u32,
 ) -> Result<Vec<Plan>, Refusal> {
-    let mut groups = Groups::new(alloc, ring);
-    groups.fill(ring, plan)?;
+    let groups = Groups::of(alloc, ring, plan)?;
     let mut windows = Windows {
         plan,
         of_steps: groups.of_steps.as_slice(),

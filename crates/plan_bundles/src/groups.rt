@@ -1,151 +1,52 @@
-//! The steps that stay together: those that take a slot from one owner to the next, with the drop behind them.
+//! The steps that stay together: those that take a slot from one owner to the next, with the drop that follows them.
 
+use find_chains::Stays;
+use helpers::at;
 use plan_text::{Plan, Step};
-use ring_names::{NodeId, Refusal, Slot};
+use ring_names::Refusal;
 use ring_table::Ring;
 use std::alloc::Global;
-use std::collections::BTreeMap;
-
-// Who owns a slot, who mirrors it, and the group of the mirror.
-#[derive(Clone, Copy)]
-struct Serving {
-    owner: u32,
-    mirror: u32,
-    group: u32,
-}
-
-// A slot, by its place, and a node that has left it.
-#[derive(Clone, Copy, Debug, PartialEq, Eq, PartialOrd, Ord)]
-struct Left {
-    place: usize,
-    node: u32,
-}
 
 /// By step the number of its group, and how many groups there are.
 #[derive(Drop)]
 pub struct Groups {
     pub of_steps: Vec<u32>,
     pub count: u32,
-    slots: usize,
-    serving: Vec<Serving>,
-    // the group that took the slot from the node last; ordered, since plans choose how often a slot moves
-    left: BTreeMap<Left, u32>,
 }
 
 impl Groups {
-    /// No step is known yet.
-    pub fn new(alloc: Global, ring: &Ring) -> Groups {
-        Groups {
+    /// The groups of a plan's steps.
+    pub fn of(alloc: Global, ring: &Ring, plan: &Plan) -> Result<Groups, Refusal> {
+        let mut groups = Groups {
             of_steps: Vec::new(alloc),
             count: 0,
-            slots: ring.n() as usize,
-            serving: Vec::new(alloc),
-            left: BTreeMap::new(alloc),
-        }
-    }
-
-    /// The groups of a plan's steps.
-    pub fn fill(&mut self, ring: &Ring, plan: &Plan) -> Result<(), Refusal> {
-        for row in ring.rows() {
-            for owner in row.as_slice() {
-                self.serving.push(Serving {
-                    owner: owner.0,
-                    mirror: 0,
-                    group: 0,
-                })?;
-            }
-        }
+        };
+        let mut stays = Stays::of(alloc, ring)?;
         for number in 0..plan.len() {
-            let group = self.group(plan.step(number))?;
-            self.of_steps.push(group)?;
+            let step = plan.step(number);
+            let group = groups.group(leader(&stays, step));
+            groups.of_steps.push(group)?;
+            stays.act(step, number)?;
         }
-        Ok(())
+        Ok(groups)
     }
 
-    fn place(&self, slot: Slot) -> usize {
-        (slot.partition as usize)
-            .saturating_mul(self.slots)
-            .saturating_add(slot.index as usize)
-    }
-
-    fn serving(&self, slot: Slot) -> Serving {
-        match self.serving.get(self.place(slot)) {
-            Some(serving) => *serving,
-            None => Serving {
-                owner: 0,
-                mirror: 0,
-                group: 0,
-            },
+    // The group of a step that stays with this earlier one; a group more where there is none.
+    fn group(&mut self, leader: Option<u32>) -> u32 {
+        if let Some(step) = leader {
+            return at(self.of_steps.as_slice(), step as usize);
         }
-    }
-
-    fn serve(&mut self, slot: Slot, serving: Serving) {
-        let place = self.place(slot);
-        if let Some(old) = self.serving.get_mut(place) {
-            *old = serving;
-        }
-    }
-
-    // A group more.
-    fn next(&mut self) -> u32 {
         let group = self.count;
         self.count = self.count.saturating_add(1);
         group
     }
+}
 
-    // The group of the next step.
-    fn group(&mut self, step: &Step) -> Result<u32, Refusal> {
-        match step {
-            Step::Join(_) | Step::Retire(_) => Ok(self.next()),
-            Step::Mirror(slot, node) => Ok(self.mirror(*slot, *node)),
-            Step::Copy(slot, _) => Ok(self.serving(*slot).group),
-            Step::Switch(slot) => self.switch(*slot),
-            Step::Drop(slot, node) => Ok(self.group_left(*slot, *node)),
-        }
-    }
-
-    fn mirror(&mut self, slot: Slot, node: NodeId) -> u32 {
-        let group = self.next();
-        let owner = self.serving(slot).owner;
-        self.serve(
-            slot,
-            Serving {
-                owner,
-                mirror: node.0,
-                group,
-            },
-        );
-        group
-    }
-
-    fn switch(&mut self, slot: Slot) -> Result<u32, Refusal> {
-        let Serving {
-            owner,
-            mirror,
-            group,
-        } = self.serving(slot);
-        let place = self.place(slot);
-        self.left.insert(Left { place, node: owner }, group)?;
-        self.serve(
-            slot,
-            Serving {
-                owner: mirror,
-                mirror,
-                group,
-            },
-        );
-        Ok(group)
-    }
-
-    // The group that took the slot from the node last; a group of its own where none did.
-    fn group_left(&mut self, slot: Slot, node: NodeId) -> u32 {
-        let place = self.place(slot);
-        match self.left.get(&Left {
-            place,
-            node: node.0,
-        }) {
-            Some(group) => *group,
-            None => self.next(),
-        }
+// The earlier step with which the next one stays: a copy and a switch with their mirror, a drop with the switch by which its node left the slot.
+fn leader(stays: &Stays, step: &Step) -> Option<u32> {
+    match step {
+        Step::Copy(slot, _) | Step::Switch(slot) => stays.stay(stays.mirror_at(*slot))?.begun,
+        Step::Drop(slot, node) => stays.stay(stays.latest_at(*slot, node.0))?.left,
+        Step::Mirror(_, _) | Step::Join(_) | Step::Retire(_) => None,
     }
 }
