@@ -233,8 +233,8 @@ pub fn make(alloc: Global, job: Job, bytes: &[u8]) -> Result<Vec<u8>, Refusal>
     }
 }
 
-/// The same of bytes that are given up, for a program that ends behind it: the store of a play is left to the system.
-pub fn make_whole(alloc: Global, job: Job, bytes: Vec<u8>) -> Result<Vec<u8>, Refusal>
+/// The text that a job makes of a bundle whose bytes it may consume, or the refusal. It is for a program that ends after it: the store of a play is left to the system.
+pub fn answer_bytes(alloc: Global, job: Job, bytes: Vec<u8>) -> Result<Vec<u8>, Refusal>
     ensures { MakesIf job bytes.items (texts_of result) }
 {
     match job {
@@ -245,7 +245,7 @@ pub fn make_whole(alloc: Global, job: Job, bytes: Vec<u8>) -> Result<Vec<u8>, Re
 }
 
 /// The text that a check by workers makes of a bundle, or the refusal. Where it makes one, the plan keeps its promises.
-pub fn make_check_by<RT: Threads + Wait + Sync>(
+pub fn answer_check<RT: Threads + Wait + Sync>(
     rt: &RT,
     alloc: Global,
     workers: u32,

@@ -9,7 +9,7 @@ mod replaying;
 
 pub use answer::{Answer, answer_of, status_of};
 pub use bundle::{
-    check_bundle, check_bundle_by, make, make_check_by, make_whole, migrate_bundle, plan_bundle,
+    answer_bytes, answer_check, check_bundle, check_bundle_by, make, migrate_bundle, plan_bundle,
     play_bundle,
 };
 pub use input::{MAX_INPUT, read_all};

@@ -17,7 +17,7 @@ use crate::files::{open, save, say};
 use ring_names::Refusal;
 use ringplan_command::{CommandLine, Files as Named, Form, Request, parse};
 use ringplan_job::Making;
-use ringplan_jobs::{Job, answer_of, make_check_by, make_whole, read_all, write_all};
+use ringplan_jobs::{Job, answer_bytes, answer_check, answer_of, read_all, write_all};
 use ringplan_people::{Report, report_bundle, report_unread};
 use std::alloc::Global;
 use std::convert::AsStr;
@@ -112,7 +112,7 @@ fn run_request<RT: AllocGlobal + Eprint + Threads + Wait + Sync, R: Read + Drop,
     match request {
         Request::Do(job) => run_alone(alloc, job, input, output),
         Request::CheckBy(workers) => {
-            let found = make_of_by(rt, alloc, workers, input);
+            let found = answer_input_by(rt, alloc, workers, input);
             tell(alloc, found, output)
         }
         Request::Drive(workers, form) => {
@@ -177,7 +177,7 @@ pub fn run_alone<R: Read + Drop, W: Write>(
     ensures { (bytes : List ℕ) × Tells (R.remaining input.old) bytes
         × Shows (only job) bytes (W.contents output.old) (W.contents output.new) result }
 {
-    let found = make_of(alloc, job, input);
+    let found = answer_input(alloc, job, input);
     tell(alloc, found, output)
 }
 
@@ -206,15 +206,15 @@ fn tell<W: Write>(alloc: Global, found: Result<Vec<u8>, Refusal>, output: &mut W
 }
 
 // The text that a job makes of the whole input.
-fn make_of<R: Read + Drop>(alloc: Global, job: Job, input: &mut R) -> Result<Vec<u8>, Refusal>
+fn answer_input<R: Read + Drop>(alloc: Global, job: Job, input: &mut R) -> Result<Vec<u8>, Refusal>
     ensures { (bytes : List ℕ) × Tells (R.remaining input.old) bytes × Finds job bytes (texts_of result) }
 {
     let bytes = read_all(alloc, input)?;
-    make_whole(alloc, job, bytes)
+    answer_bytes(alloc, job, bytes)
 }
 
 // The text that a check by workers makes of the whole input.
-fn make_of_by<RT: Threads + Wait + Sync, R: Read + Drop>(
+fn answer_input_by<RT: Threads + Wait + Sync, R: Read + Drop>(
     rt: &RT,
     alloc: Global,
     workers: u32,
@@ -223,7 +223,7 @@ fn make_of_by<RT: Threads + Wait + Sync, R: Read + Drop>(
     ensures { (bytes : List ℕ) × Tells (R.remaining input.old) bytes × Finds Check bytes (texts_of result) }
 {
     let bytes = read_all(alloc, input)?;
-    make_check_by(rt, alloc, workers, bytes.as_slice())
+    answer_check(rt, alloc, workers, bytes.as_slice())
 }
 
 // The text that a drive makes of the whole input.

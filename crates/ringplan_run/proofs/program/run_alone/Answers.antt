@@ -6,4 +6,4 @@ use Rattle.ringplan_run.proofs.program.run_alone.Goals as goal
 
 pub returns : goal.returns
 returns g c =
-    ran_found (only c.args.job) c.args.job (g.R.Read.remaining c.args.input.now) _ _ (texts_of c.make_of-found.result) c.tell.result (inl refl) c.make_of-found.ensures c.tell.ensures
+    ran_found (only c.args.job) c.args.job (g.R.Read.remaining c.args.input.now) _ _ (texts_of c.answer_input-found.result) c.tell.result (inl refl) c.answer_input-found.ensures c.tell.ensures

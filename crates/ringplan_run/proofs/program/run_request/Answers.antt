@@ -15,7 +15,7 @@ returns-in-Do g c = λ asked h.
 pub returns-in-CheckBy : goal.returns-in-CheckBy
 returns-in-CheckBy g c = λ asked h.
     let asks = subst (λ (r : Request). Answers asked r) c.in-CheckBy.is h in
-    ran_by asked c.in-CheckBy.workers (g.R.Read.remaining c.args.input.now) _ _ (texts_of c.make_of_by-found.result) c.tell.result asks c.make_of_by-found.ensures c.tell.ensures
+    ran_by asked c.in-CheckBy.workers (g.R.Read.remaining c.args.input.now) _ _ (texts_of c.answer_input_by-found.result) c.tell.result asks c.answer_input_by-found.ensures c.tell.ensures
 
 pub drive_of-found-requires : goal.drive_of-found-requires
 drive_of-found-requires g c =
