@@ -11,7 +11,7 @@ pub(crate) const MORE: &str = "With --help: the formats, an example and the exit
 pub(crate) const FILE: &str = "The bundle; with `-` or without it standard input is read";
 
 pub(crate) const OUTPUT: &str =
-    "Writes to FILE in place of standard output: all of the text, or with another exit status than 0 nothing";
+    "Writes to FILE in place of standard output: all of the text, or with another exit status than 0 and 4 nothing";
 
 pub(crate) const GOAL: &str =
     "Prints a plan that leads to a goal ring, by racks, weights and dead nodes, with its certificate";
@@ -62,6 +62,13 @@ pub(crate) const CERT: &str =
 pub(crate) const MIGRATE: &str =
     "Prints the bundle with a ring of format 1 in format 2; checks nothing";
 
+pub(crate) const COMPLETIONS: &str =
+    "Prints a script by which a shell completes command lines of the program";
+
+pub(crate) const MANUAL: &str = "Prints the page of the manual, for man";
+
+pub(crate) const SHELL: &str = "The shell: bash, zsh or fish";
+
 pub(crate) const WORKERS: &str =
     "Checks the partitions by K threads, 1 to 64, and the paths by as many as there are processors; the answer is the same";
 
@@ -91,6 +98,9 @@ pub(crate) const RACKS_APART: &str =
 pub(crate) const EVEN: &str =
     "Says in words how far from even the goal ring is, in place of a plan";
 
+pub(crate) const EXIT_CODE: &str =
+    "Ends with status 4 where the plan that is printed has steps, and with 0 where it has none";
+
 pub(crate) const ROUNDS: &str = "How many rounds of copies a window has, 1 to 1000000";
 
 pub(crate) const ONLY: &str = "Prints the window of that number alone, counted from 1";
@@ -104,6 +114,9 @@ pub(crate) const NO_WEIGHT: &[u8; 127] =
 pub(crate) const NO_BYTE: &[u8; 102] =
     b"error: invalid value for '--racks-behind <C>': not one character\n\nFor more information, try '--help'.\n";
 
+pub(crate) const NO_SHELL: &[u8; 95] =
+    b"error: invalid value for '<SHELL>': not bash, zsh or fish\n\nFor more information, try '--help'.\n";
+
 pub(crate) const STREAMS: &str = "\
 Example: ringplan goal --racks-behind . examples/plan_grow.bundle
 
@@ -115,7 +128,8 @@ Exit status:
   0  it was printed, or yes
   1  the plan is refused, there is none, a drive broke off, or the history is no run of the plan
   2  a text or the command line is refused
-  3  out of memory, or an input or output failed";
+  3  out of memory, or an input or output failed
+  4  `goal --exit-code` printed a plan that has steps";
 
 pub(crate) const PLAN_STREAMS: &str = "\
 Example: ringplan plan examples/plan_replace.bundle
@@ -275,7 +289,7 @@ Standard output: the texts of the first ring, a plan that leads to the goal ring
 else what `why` prints. The slots of a partition are compared as sets. A dead node that shall leave keeps its line `in`: it cannot take part in its
 own retirement.
 
-Exit status: 0 printed, 1 no plan, 2 a text or the command line is refused, 3 memory, input or output";
+Exit status: 0 printed, with `--exit-code` 4 if the plan has steps, 1 no plan, 2 a text or the command line is refused, 3 memory, input or output";
 
 pub(crate) const WINDOWS_STREAMS: &str = "\
 Example: ringplan windows --rounds 1 examples/plan_replace.bundle
@@ -286,3 +300,20 @@ that end with `end`. Play or run the first, then the second; between them the ri
 whole ring, and all of them together at most 67,108,864 bytes: of a large ring with many rounds let a window have more of these.
 
 Exit status: 0 printed, 1 no plan, one that is refused, or no window of that number, 2 a text, the command line or so many bytes are refused, 3 memory, input or output";
+
+pub(crate) const COMPLETIONS_STREAMS: &str = "\
+Example: ringplan completions bash -o ~/.local/share/bash-completion/completions/ringplan
+
+Input: none.
+Standard output: the script. It completes commands, their options and the names of files. bash reads it by `source`, or finds it by itself in the
+folder of the example; zsh finds it as `_ringplan` in a folder of `fpath`, and fish as `~/.config/fish/completions/ringplan.fish`.
+
+Exit status: 0 printed, 2 the command line is refused, 3 memory or output";
+
+pub(crate) const MANUAL_STREAMS: &str = "\
+Example: ringplan man -o ~/.local/share/man/man1/ringplan.1
+
+Input: none.
+Standard output: the page in the language of man(7), with each command, its options and its formats. `man -l FILE` shows it.
+
+Exit status: 0 printed, 2 the command line is refused, 3 memory or output";

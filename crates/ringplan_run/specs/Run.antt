@@ -4,12 +4,13 @@ use Rattle.ring_names.specs.declared.refusal.Refusal.{Refusal}
 use Rattle.ring_names.specs.declared.refusal.Refusal.TheVariants.{TooLarge, OutOfMemory, ReadFailed}
 use Rattle.ring_names.specs.Refusals.{line_of}
 use Rattle.ringplan_jobs.specs.Answers.{output_of, status_of}
-use Rattle.ringplan_command.specs.Command.{Asked, Asks, AsksDrive, AsksWord, IsRefused, WantsHelp, word_of_making}
+use Rattle.ringplan_command.specs.Command.{Asked, Asks, AsksDrive, AsksGuide, AsksWord, IsRefused, WantsHelp, word_of_making}
 use Rattle.ringplan_command.specs.Files.{Names}
 use Rattle.ringplan_jobs.specs.Io.{Prints, max_input}
 use Rattle.ringplan_jobs.specs.Outcomes.{Outcome}
 use Rattle.ringplan_run.specs.Drives.{Drives}
 use Rattle.ringplan_command.specs.declared.form.Form.{Form}
+use Rattle.ringplan_command.specs.declared.word.Guide.{Guide}
 use Rattle.ringplan_job.specs.declared.job.Job.{Job}
 use Rattle.ringplan_job.specs.declared.making.Making.{Making}
 use Rattle.ringplan_people.specs.Made.{IsReport}
@@ -32,6 +33,7 @@ pub data Reports (making : Making) (bytes : List ℕ) (text : List ℕ) (status 
 -- the text and the status of a run, by what its command line asks and the bytes of its input
 pub data Says (asked : Asked) (bytes : List ℕ) (text : List ℕ) (status : ℕ) : Type 0 where
   help : WantsHelp asked.faults → status ≡ 0 → Says asked bytes text status
+  described : (guide : Guide) → AsksGuide asked guide → status ≡ 0 → Says asked bytes text status
   refused : IsRefused asked → status ≡ 2 → Says asked bytes text status
   answered : (job : Job) (r : Result (List ℕ) Refusal) → Asks asked job → Outcome job bytes r → text ≡ output_of r → status ≡ status_of r → Says asked bytes text status
   driven : (workers : ℕ) (form : Form) (r : Result (List ℕ) Refusal) → AsksDrive asked workers form → DriveOutcome workers form bytes r → text ≡ output_of r → status ≡ status_of r → Says asked bytes text status
@@ -48,10 +50,14 @@ Shows asked bytes old new result = (text : List ℕ) × (status : ℕ) × Says a
 abbrev pub ShowsReport : Making → List ℕ → Option (List ℕ) → Option (List ℕ) → ℕ → Type 0
 ShowsReport making bytes old new result = (text : List ℕ) × (status : ℕ) × Reports making bytes text status × Prints old new text status result
 
--- a text is printed; or where a file is named for it and the status is 0, that is written, and nothing printed
+-- a text with that status is written to the file that is named for it
+abbrev pub IsWritten : ℕ → Type 0
+IsWritten status = (status ≡ 0) ⊎ (status ≡ 4)
+
+-- a text is printed; or where a file is named for it and the status is 0 or 4, that is written, and nothing printed
 pub data Delivers (target : Option (List ℕ)) (old new : Option (List ℕ)) (text : List ℕ) (status result : ℕ) : Type 0 where
   printed : Prints old new text status result → Delivers target old new text status result
-  filed : IsSome target → new ≡ old → status ≡ 0 → (result ≡ 0) ⊎ (result ≡ 3) → Delivers target old new text status result
+  filed : IsSome target → new ≡ old → IsWritten status → (result ≡ status) ⊎ (result ≡ 3) → Delivers target old new text status result
 
 -- something is said, and printed or written to the target
 abbrev pub RunsTo : Asked → Option (List ℕ) → List ℕ → Option (List ℕ) → Option (List ℕ) → ℕ → Type 0
