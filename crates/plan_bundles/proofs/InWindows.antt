@@ -8,10 +8,10 @@ use Rattle.plan_bundles.specs.Windows.{IsWindow, AreWindows, no_window, one_more
 
 -- the ring behind a plan, where both are given in another way
 pub behind-same : (text : List ℕ) (ring ring2 : RingValue) (plan plan2 : List Planned) → ring2 ≡ ring → plan2 ≡ plan
-    → IsRingOf text (last_owners ring2 plan2) (members_after ring2 plan2 (length ring2.nodes)) → IsRingOf text (last_owners ring plan) (members_after ring plan (length ring.nodes))
+    → IsRingOf ring2 text (last_owners ring2 plan2) (members_after ring2 plan2 (length ring2.nodes)) → IsRingOf ring text (last_owners ring plan) (members_after ring plan (length ring.nodes))
 behind-same text ring ring2 plan plan2 e f h =
-    subst (λ (p : List Planned). IsRingOf text (last_owners ring p) (members_after ring p (length ring.nodes))) f
-    (subst (λ (r : RingValue). IsRingOf text (last_owners r plan2) (members_after r plan2 (length r.nodes))) e h)
+    subst (λ (p : List Planned). IsRingOf ring text (last_owners ring p) (members_after ring p (length ring.nodes))) f
+    (subst (λ (r : RingValue). IsRingOf r text (last_owners r plan2) (members_after r plan2 (length r.nodes))) e h)
 
 -- windows that begin where there are none yet
 pub windows-begin : (first next : List ℕ) (texts : List (List ℕ)) → texts ≡ [] → next ≡ first → AreWindows first texts next

@@ -1,5 +1,5 @@
 -- What leads from a ring to the ring that it shall become.
-use Rattle.std.specs.Prelude.{◌≡◌, ℕ, Bool, not, ◌&&◌, ◌||◌, ◌⊎◌, List, ◌++◌, Some, Ok, map, length}
+use Rattle.std.specs.Prelude.{◌≡◌, ℕ, Bool, not, ◌&&◌, ◌||◌, ◌⊎◌, List, [], ◌∷◌, ◌++◌, Some, Ok, map, length, if◌then◌else◌}
 use Rattle.ring_names.specs.declared.ids.NodeId.{NodeId}
 use Rattle.ring_names.specs.Lists.{has}
 use Rattle.ring_names.specs.Names.{place}
@@ -31,14 +31,23 @@ IsGoalReached bytes names text = (g : Goal) × (whole_text goal_at bytes ≡ Ok 
 abbrev pub is_changed_member : RingValue → Change → ℕ → Bool
 is_changed_member ring change x = (is_member ring.nodes (record { 0 = x }) || has x (numbers change.joins)) && not (has x (numbers change.leaves))
 
+-- these nodes, and after them each dead member that is none of them, once
+abbrev pub leaves_too : RingValue → List NodeId → List NodeId → List NodeId
+leaves_too ring [] leaves = leaves
+leaves_too ring (x ∷ dead) leaves = leaves_too ring dead (if is_member ring.nodes x && not (has x.0 (numbers leaves)) then leaves ++ x ∷ [] else leaves)
+
+-- the change in which each dead member leaves too
+abbrev pub with_dead : RingValue → List NodeId → Change → Change
+with_dead ring dead change = record { joins = change.joins; leaves = leaves_too ring dead change.leaves }
+
 -- the second ring has the members that the change makes of the first one's
 abbrev pub HasChangedMembers : RingValue → Change → RingValue → Type 0
 HasChangedMembers ring change wanted = map (λ x. x.is_member) wanted.nodes ≡ flags (is_changed_member ring change) (length ring.nodes)
 
--- the bytes lead from a ring to one with the members of its change, around the nodes of these names
+-- the bytes lead from a ring to one with the members of its change, in which each dead member leaves too, around the nodes of these names
 abbrev pub IsWishReached : List ℕ → List (List ℕ) → List ℕ → Type 0
 IsWishReached bytes names text = (w : Wanted) × (whole_text wanted_at bytes ≡ Ok w) × (wanted : RingValue) × (dead : List NodeId) × AreNamed w.ring names dead
-    × HasChangedMembers w.ring w.change wanted × LeadsFrom w.ring wanted dead text
+    × HasChangedMembers w.ring (with_dead w.ring dead w.change) wanted × LeadsFrom w.ring wanted dead text
 
 -- the bytes lead from a ring to another one: to the second of two rings, or to one with the members of a change
 abbrev pub IsLed : List ℕ → List (List ℕ) → List ℕ → Type 0

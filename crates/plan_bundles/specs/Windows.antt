@@ -23,16 +23,16 @@ pub record IsWindow (before text after : List ℕ) : Type 0 where
   pub text_is : text ≡ before ++ (plan_text ring plan ++ cert_text ring cert)
   pub certified : IsCertified ring plan cert
   pub keeps : KeepsPromises ring plan
-  pub leaves : IsRingOf after (last_owners ring plan) (members_after ring plan (length ring.nodes))
+  pub leaves : IsRingOf ring after (last_owners ring plan) (members_after ring plan (length ring.nodes))
 
 -- windows one behind the other, from one ring's text to another's
 pub data AreWindows (first : List ℕ) : List (List ℕ) → List ℕ → Type 0 where
   no_window : AreWindows first [] first
   one_more : (texts : List (List ℕ)) (before text after : List ℕ) → AreWindows first texts before → IsWindow before text after → AreWindows first (texts ++ text ∷ []) after
 
--- the windows lead from the ring's text to that of a ring with the owners that the plan leaves
+-- the windows lead from the ring's text to that of the ring that the plan leaves
 abbrev pub AreWindowsOf : RingValue → List Planned → List (List ℕ) → Type 0
-AreWindowsOf ring plan texts = (last : List ℕ) × AreWindows (ring_text ring) texts last × (end : RingValue) × IsRing end × (last ≡ ring_text end) × (end.owners ≡ last_owners ring plan)
+AreWindowsOf ring plan texts = (last : List ℕ) × AreWindows (ring_text ring) texts last × IsRingOf ring last (last_owners ring plan) (members_after ring plan (length ring.nodes))
 
 -- what is asked for of texts: the one of a number, counted from 1, or all, one behind the other
 abbrev pub IsAsked : List (List ℕ) → Option ℕ → List ℕ → Type 0

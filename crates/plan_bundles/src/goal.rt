@@ -1,8 +1,9 @@
 //! Bundles that lead from a ring to the ring that it shall become.
 
-ghost use Rattle.std.specs.Prelude.{◌≡◌, map, length, IfOk};
+ghost use Rattle.std.specs.Prelude.{◌≡◌, map, length, IfOk, OnOk};
 ghost use Rattle.plan_bundles.specs.Rings.{flags};
 ghost use Rattle.plan_bundles.specs.Goals.{AreNamed, HasChangedMembers, IsGoalReached, IsLed, IsWishReached, LeadsFrom, is_changed_member};
+ghost use Rattle.plan_bundles.specs.Goals.{leaves_too, with_dead as the_change_with_dead};
 
 use crate::rings::rewritten;
 use crate::sections::{Kind, kind_of};
@@ -73,6 +74,32 @@ fn is_member_of(ring: &Ring, change: &Change, node: NodeId) -> bool
         && !is_among(change.leaves.as_slice(), node)
 }
 
+// Adds each dead member that is none of the nodes yet.
+fn add_dead(ring: &Ring, dead: &[NodeId], leaves: &mut Vec<NodeId>) -> Result<(), Refusal>
+    ensures { OnOk result (leaves.new.items ≡ leaves_too ring.now dead.now leaves.old.items) }
+{
+    let Some((node, more)) = dead.split_first() else {
+        return Ok(());
+    };
+    if ring.is_member(*node) && !is_among(leaves.as_slice(), *node) {
+        leaves.push(*node)?;
+    }
+    add_dead(ring, more, leaves)
+}
+
+/// The change in which each dead member leaves too.
+pub fn with_dead(ring: &Ring, change: Change, dead: &[NodeId]) -> Result<Change, Refusal>
+    ensures { IfOk result (λ v. v ≡ the_change_with_dead ring.now dead.now change) }
+{
+    let Change { joins, leaves } = change;
+    let mut leaves = leaves.into_vec();
+    add_dead(ring, dead, &mut leaves)?;
+    Ok(Change {
+        joins,
+        leaves: Listed::from_vec(leaves),
+    })
+}
+
 // The ring with the members of the change and these owners.
 fn wanted_ring(
     alloc: Global,
@@ -84,13 +111,7 @@ fn wanted_ring(
 {
     let members = members_of(alloc, ring, change)?;
     let text = write_ring(alloc, ring)?;
-    let found = rewritten(
-        alloc,
-        ring.nodes(),
-        text.as_slice(),
-        rows,
-        members.as_slice(),
-    )?;
+    let found = rewritten(alloc, ring, text.as_slice(), rows, members.as_slice())?;
     read_ring(alloc, found.as_slice())
 }
 
@@ -172,7 +193,7 @@ fn wished_ring(
 }
 
 /// Of a bundle of a ring and a change the ring, a plan that leads from it to one with the members of the change, and its certificate, around the nodes that are
-/// named dead: by weight and with racks apart as the options say. Refused is the first fault of the texts, a name that the ring does not declare, as
+/// named dead, by weight and with racks apart as the options say. A dead member leaves, whether or not the change says so. Refused is the first fault of the texts, a name that the ring does not declare, as
 /// `UnknownNode(0)`, a change that leaves too few members, as `NoPlan`, and what `reach` refuses.
 pub fn wish_bundle(alloc: Global, bytes: &[u8], options: &Options) -> Result<Vec<u8>, Refusal>
     ensures reached { IfOk result (λ text.
@@ -180,13 +201,22 @@ pub fn wish_bundle(alloc: Global, bytes: &[u8], options: &Options) -> Result<Vec
 {
     let Wanted { ring, change } = read_wanted(alloc, bytes)?;
     let nodes = nodes_of(alloc, &ring, options.dead.as_slice())?;
+    let change = with_dead(&ring, change, nodes.as_slice())?;
     let wanted = wished_ring(alloc, &ring, &change, options)?;
     lead(alloc, Goal { ring, wanted }, nodes.as_slice())
 }
 
+// The ring of a bundle, and its change in which each dead member leaves too.
+fn read_change(alloc: Global, bytes: &[u8], options: &Options) -> Result<Wanted, Refusal> {
+    let Wanted { ring, change } = read_wanted(alloc, bytes)?;
+    let nodes = nodes_of(alloc, &ring, options.dead.as_slice())?;
+    let change = with_dead(&ring, change, nodes.as_slice())?;
+    Ok(Wanted { ring, change })
+}
+
 /// Says in words how far from even the ring is that is wished for, and what becomes of racks. Refused as `wish_bundle` is, but that no plan is made.
 pub fn wish_words(alloc: Global, bytes: &[u8], options: &Options) -> Result<Vec<u8>, Refusal> {
-    let Wanted { ring, change } = read_wanted(alloc, bytes)?;
+    let Wanted { ring, change } = read_change(alloc, bytes, options)?;
     let asked = asked_for(alloc, &ring, options)?;
     let wish = wish(&asked, &change);
     let placed = wished(alloc, &ring, &wish)?;
@@ -197,7 +227,7 @@ pub fn wish_words(alloc: Global, bytes: &[u8], options: &Options) -> Result<Vec<
 
 /// The ring of a change, and the ring that is wished for.
 pub fn wished_goal(alloc: Global, bytes: &[u8], options: &Options) -> Result<Goal, Refusal> {
-    let Wanted { ring, change } = read_wanted(alloc, bytes)?;
+    let Wanted { ring, change } = read_change(alloc, bytes, options)?;
     let wanted = wished_ring(alloc, &ring, &change, options)?;
     Ok(Goal { ring, wanted })
 }

@@ -1,10 +1,12 @@
 //! Rings with other owners and members, and the ring that a plan leaves.
 
-ghost use Rattle.std.specs.Prelude.{◌≡◌, IsTrue, IfOk, length, map};
+ghost use Rattle.std.specs.Prelude.{◌≡◌, IsTrue, IfOk, OnOk, length, map};
+ghost use Rattle.plan_goal.specs.Reached.{IsLike};
 ghost use Rattle.plan_moves.specs.Owners.{last_owners};
 ghost use Rattle.plan_bundles.specs.Rings.{IsRingOf, member_after, members_after};
 
 use plan_check::Approved;
+use plan_goal::is_like;
 use plan_moves::last_owners;
 use plan_text::Plan;
 use ring_names::{Listed, NodeId, Refusal};
@@ -135,34 +137,48 @@ fn are_members(nodes: &[Node], wanted: &[bool]) -> bool
     true
 }
 
-// The text, where it is that of a ring with these owners and members. Else that is `BadLine(0)`.
-fn held(
-    alloc: Global,
-    text: Vec<u8>,
-    rows: &[Listed<NodeId>],
-    members: &[bool],
-) -> Result<Vec<u8>, Refusal>
-    ensures { IfOk result (λ text. IsRingOf text.items rows.now members.now) }
+/// Whether the second ring has the first one's format and nodes, these owners, and these members.
+fn is_ring_of(like: &Ring, ring: &Ring, rows: &[Listed<NodeId>], members: &[bool]) -> bool
+    ensures owners { IsTrue result → ring.now.owners ≡ rows.now }
+    ensures members { IsTrue result → map (λ x. x.is_member) ring.now.nodes ≡ members.now }
+    ensures format { IsTrue result → ring.now.format ≡ like.now.format }
+    ensures alike { IsTrue result → IsLike like.now ring.now }
 {
-    let ring = read_ring(alloc, text.as_slice())?;
-    if are_rows(ring.rows(), rows) && are_members(ring.nodes(), members) {
-        return Ok(text);
-    }
-    Err(Refusal::BadLine(0))
+    ring.format() == like.format()
+        && is_like(like, ring)
+        && are_rows(ring.rows(), rows)
+        && are_members(ring.nodes(), members)
 }
 
-/// A ring's text with these owners and members in the place of its own.
+/// Asks whether the text is that of a ring with these owners and members, and else like that one. Where it is not, that is `NoPlan`.
+pub(crate) fn ask_ring(
+    alloc: Global,
+    like: &Ring,
+    text: &[u8],
+    rows: &[Listed<NodeId>],
+    members: &[bool],
+) -> Result<(), Refusal>
+    ensures { OnOk result (IsRingOf like.now text.now rows.now members.now) }
+{
+    let ring = read_ring(alloc, text)?;
+    if is_ring_of(like, &ring, rows, members) {
+        return Ok(());
+    }
+    Err(Refusal::NoPlan)
+}
+
+/// The ring's text with these owners and members in the place of its own.
 pub fn rewritten(
     alloc: Global,
-    nodes: &[Node],
+    ring: &Ring,
     text: &[u8],
     rows: &[Listed<NodeId>],
     members: &[bool],
 ) -> Result<Vec<u8>, Refusal>
-    ensures { IfOk result (λ text. IsRingOf text.items rows.now members.now) }
+    ensures { IfOk result (λ text. IsRingOf ring.now text.items rows.now members.now) }
 {
     let mut rewriting = Rewriting {
-        nodes,
+        nodes: ring.nodes(),
         rows,
         members,
         node: 0,
@@ -170,7 +186,8 @@ pub fn rewritten(
     };
     let mut out = Vec::new(alloc);
     rewriting.push(&mut out, text)?;
-    held(alloc, out, rows, members)
+    ask_ring(alloc, ring, out.as_slice(), rows, members)?;
+    Ok(out)
 }
 
 // Whether the node is a member once the plan is done.
@@ -180,8 +197,8 @@ fn is_member_after(ring: &Ring, plan: &Plan, node: NodeId) -> bool
     (ring.is_member(node) || plan.is_joined(node)) && !plan.is_retired(node)
 }
 
-// Whether each node is a member once the plan is done.
-fn members_after(alloc: Global, ring: &Ring, plan: &Plan) -> Result<Vec<bool>, Refusal>
+/// Whether each node is a member once the plan is done.
+pub(crate) fn members_left(alloc: Global, ring: &Ring, plan: &Plan) -> Result<Vec<bool>, Refusal>
     ensures { IfOk result (λ members. members.items ≡ members_after ring.now plan.now (length ring.now.nodes)) }
 {
     let mut members = Vec::new(alloc);
@@ -193,20 +210,14 @@ fn members_after(alloc: Global, ring: &Ring, plan: &Plan) -> Result<Vec<bool>, R
     Ok(members)
 }
 
-/// The text of the ring once the plan is done, made of the ring's own text: its slots' owners are those behind the plan's last step, and its members
-/// those that were or joined, and did not retire.
+/// The text of the ring once the plan is done, made of the ring's own text: its slots' owners are those after the plan's last step, and its members
+/// those that were or joined, and did not retire. All else stays.
 pub fn ring_after(alloc: Global, approved: &Approved, text: &[u8]) -> Result<Vec<u8>, Refusal>
-    ensures { IfOk result (λ text. IsRingOf text.items (last_owners approved.now.ring approved.now.plan)
+    ensures { IfOk result (λ text. IsRingOf approved.now.ring text.items (last_owners approved.now.ring approved.now.plan)
         (members_after approved.now.ring approved.now.plan (length approved.now.ring.nodes))) }
 {
     let (ring, plan) = (approved.ring(), approved.plan());
     let rows = last_owners(alloc, ring, plan)?;
-    let members = members_after(alloc, ring, plan)?;
-    rewritten(
-        alloc,
-        ring.nodes(),
-        text,
-        rows.as_slice(),
-        members.as_slice(),
-    )
+    let members = members_left(alloc, ring, plan)?;
+    rewritten(alloc, ring, text, rows.as_slice(), members.as_slice())
 }

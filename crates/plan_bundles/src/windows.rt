@@ -1,22 +1,19 @@
 //! A plan in windows, each a bundle of its own over the ring that the one before leaves.
 
-ghost use Rattle.std.specs.Prelude.{◌≡◌, map, IfOk, OnOk};
+ghost use Rattle.std.specs.Prelude.{◌≡◌, map, IfOk};
 ghost use Rattle.std.specs.List.{concat};
-ghost use Rattle.ring_table.specs.Value.{RingValue};
-ghost use Rattle.ring_table.specs.Valid.{IsRing};
-ghost use Rattle.ring_table.specs.Spelling.{ring_text};
 ghost use Rattle.plan_check.specs.Approval.{IsApproved};
 ghost use Rattle.plan_bundles.specs.Windows.{IsWindow, AreWindows, AreWindowsOf, IsAsked, AreAskedOf};
 
 use crate::cutting::cut;
-use crate::rings::{are_rows, ring_after};
+use crate::rings::{ask_ring, members_left, ring_after};
 use crate::room::Room;
 use find_chains::certificate;
 use find_rounds::write_texts;
 use plan_check::{Approved, check};
 use plan_moves::{last_owners, rounds};
 use plan_text::Plan;
-use ring_names::{Listed, NodeId, Refusal};
+use ring_names::Refusal;
 use ring_table::{read_ring, write_ring};
 use std::alloc::Global;
 
@@ -79,17 +76,6 @@ fn all_windows(
     Ok(Windows { texts, next })
 }
 
-// Asks whether the text is that of a ring with these owners. Else that is `NoPlan`.
-fn ends_so(alloc: Global, text: &[u8], rows: &[Listed<NodeId>]) -> Result<(), Refusal>
-    ensures { OnOk result ((end : RingValue) × IsRing end × (text.now ≡ ring_text end) × (end.owners ≡ rows.now)) }
-{
-    let ring = read_ring(alloc, text)?;
-    if are_rows(ring.rows(), rows) {
-        return Ok(());
-    }
-    Err(Refusal::NoPlan)
-}
-
 // The windows of an approved plan, each of so many rounds of copies.
 fn windows_of(alloc: Global, approved: &Approved, width: u32) -> Result<Vec<Vec<u8>>, Refusal>
     ensures windows { IfOk result (λ texts.
@@ -103,7 +89,14 @@ fn windows_of(alloc: Global, approved: &Approved, width: u32) -> Result<Vec<Vec<
     let room = Room::new(ring, first.as_slice(), plans.len());
     let windows = all_windows(alloc, first.as_slice(), plans, room)?;
     let rows = last_owners(alloc, ring, plan)?;
-    ends_so(alloc, windows.next.as_slice(), rows.as_slice())?;
+    let members = members_left(alloc, ring, plan)?;
+    ask_ring(
+        alloc,
+        ring,
+        windows.next.as_slice(),
+        rows.as_slice(),
+        members.as_slice(),
+    )?;
     Ok(windows.texts)
 }
 

@@ -7,6 +7,8 @@ use Rattle.ring_names.specs.declared.ids.Slot.{Slot}
 use Rattle.ring_names.specs.declared.refusal.Refusal.{Refusal}
 use Rattle.ring_names.specs.declared.refusal.Refusal.TheVariants.{NoPlan, OutOfMemory}
 use Rattle.ring_table.specs.Value.{RingValue, is_member}
+use Rattle.ring_table.specs.declared.allowance.Allowance.{Allowance}
+use Rattle.ring_table.specs.declared.node.Node.{Node}
 use Rattle.plan_text.specs.declared.step.Step.{Step}
 use Rattle.plan_text.specs.declared.step.Step.TheVariants.{Join, Mirror, Copy, Switch, Drop, Retire}
 use Rattle.plan_text.specs.declared.step.Planned.{Planned}
@@ -24,6 +26,19 @@ use Rattle.plan_moves.specs.Owners.{last_owners}
 use Rattle.plan_check.specs.Certified.{IsCertified}
 use Rattle.plan_check.specs.First.{first_refusal}
 use Rattle.plan_check.specs.Headline.{KeepsPromises}
+
+-- what a ring declares of a node, but for whether it is a member: its name and its allowance
+abbrev pub declared : Node → List ℕ × Allowance
+declared x = (x.name, x.allowance)
+
+-- the two rings have as many partitions, slots, quorums and losses, and declare the same nodes
+pub record IsLike (ring other : RingValue) : Type 0 where
+  pub q : other.q ≡ ring.q
+  pub n : other.n ≡ ring.n
+  pub r : other.r ≡ ring.r
+  pub w : other.w ≡ ring.w
+  pub loss : other.loss ≡ ring.loss
+  pub nodes : map declared other.nodes ≡ map declared ring.nodes
 
 -- each of the nodes is among the others
 abbrev pub are_among : List NodeId → List NodeId → Bool
@@ -78,9 +93,10 @@ spares_from ring plan dead n (x ∷ xs) = are_spared dead (touched (served_befor
 abbrev pub spares : RingValue → List Planned → List NodeId → Bool
 spares ring plan dead = spares_from ring plan dead 0 plan
 
--- the plan and the certificate are of the ring; once the plan is done each partition has the owners that it shall have, and the ring the members;
+-- the rings differ in owners and members alone, the plan and the certificate are of the first; once the plan is done each partition has the owners that it shall have, and the ring the members;
 -- and no step touches a dead node
 pub record Leads (ring wanted : RingValue) (dead : List NodeId) (plan : List Planned) (cert : Cert) : Type 0 where
+  pub alike : IsLike ring wanted
   pub plan_suits : PlanSuits ring plan
   pub cert_suits : CertSuits ring cert
   pub owners : are_alike (last_owners ring plan) wanted.owners ≡ true

@@ -1,9 +1,10 @@
 //! Where a plan shall lead.
 
+use crate::alike::{has_space, is_node};
 use crate::dead::Dead;
 use helpers::small;
 use ring_names::{NodeId, Refusal, Slot};
-use ring_table::{Allowance, Node, Ring};
+use ring_table::{Node, Ring};
 use std::alloc::Global;
 
 /// A ring, the ring that it shall become, and the nodes that are dead for good.
@@ -28,27 +29,10 @@ pub enum Unfit {
     Unread(u32),
 }
 
-fn is_allowance(one: Allowance, other: Allowance) -> bool {
+// Whether both are there, and have one name and one allowance.
+fn is_same(one: Option<&Node>, other: Option<&Node>) -> bool {
     match (one, other) {
-        (Allowance::Joint(one), Allowance::Joint(other)) => one == other,
-        (
-            Allowance::Split { take, give },
-            Allowance::Split {
-                take: other_take,
-                give: other_give,
-            },
-        ) => take == other_take && give == other_give,
-        (Allowance::Joint(_), Allowance::Split { .. })
-        | (Allowance::Split { .. }, Allowance::Joint(_)) => false,
-    }
-}
-
-fn is_node(one: Option<&Node>, other: Option<&Node>) -> bool {
-    match (one, other) {
-        (Some(one), Some(other)) => {
-            one.name.as_slice() == other.name.as_slice()
-                && is_allowance(one.allowance, other.allowance)
-        }
+        (Some(one), Some(other)) => is_node(one, other),
         _ => false,
     }
 }
@@ -57,19 +41,11 @@ fn is_node(one: Option<&Node>, other: Option<&Node>) -> bool {
 fn other_node(ring: &Ring, wanted: &Ring) -> Option<u32> {
     let (ours, theirs) = (ring.nodes(), wanted.nodes());
     for number in 0..ours.len().max(theirs.len()) {
-        if !is_node(ours.get(number), theirs.get(number)) {
+        if !is_same(ours.get(number), theirs.get(number)) {
             return Some(small(number));
         }
     }
     None
-}
-
-fn has_space(ring: &Ring, wanted: &Ring) -> bool {
-    ring.q() == wanted.q()
-        && ring.n() == wanted.n()
-        && ring.r() == wanted.r()
-        && ring.w() == wanted.w()
-        && ring.loss() == wanted.loss()
 }
 
 // Whether the row has the node.

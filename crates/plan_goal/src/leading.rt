@@ -7,6 +7,7 @@ ghost use Rattle.plan_moves.specs.Owners.{last_owners as the_last_owners};
 ghost use Rattle.plan_goal.specs.Reached.{are_among, is_alike, are_alike, member_after, member_wanted, HasMembers, Leads};
 
 use crate::aim::Aim;
+use crate::alike::is_like;
 use crate::sparing::{is_among, spares};
 use plan_cert::Cert;
 use plan_moves::last_owners;
@@ -79,12 +80,12 @@ fn has_owners(aim: &Aim, plan: &Plan) -> Result<bool, Refusal>
     Ok(are_alike(found.as_slice(), aim.wanted.rows()))
 }
 
-/// Whether the plan and the certificate are of the ring, and the plan leads where it shall and spares the dead.
+/// Whether the rings differ in owners and members alone, the plan and the certificate are of the first one, and the plan leads where it shall and spares the dead.
 pub fn leads(aim: &Aim, plan: &Plan, cert: &Cert) -> Result<bool, Refusal>
     ensures ok { IfOk result (λ b. IsTrue b → Leads aim.now.ring.now aim.now.wanted.now aim.now.dead.now plan.now cert.now) }
     ensures memory { IfErr result (λ e. e ≡ OutOfMemory) }
 {
-    if !plan.suits(aim.ring) || !cert.suits(aim.ring) {
+    if !is_like(aim.ring, aim.wanted) || !plan.suits(aim.ring) || !cert.suits(aim.ring) {
         return Ok(false);
     }
     let owners = has_owners(aim, plan)?;

@@ -3,6 +3,7 @@
 #![tactic(auto)]
 
 mod aim;
+mod alike;
 mod alone;
 mod dead;
 mod finding;
@@ -14,6 +15,7 @@ mod reading;
 mod sparing;
 
 pub use aim::{Aim, Unfit, why_unfit};
+pub use alike::is_like;
 pub use proposal::propose;
 pub use reaching::reach;
 pub use reading::{Goal, read_goal};

@@ -49,7 +49,7 @@ pub record IsRecorded (bytes : List ℕ) (ring : RingValue) (plan : List Planned
 abbrev pub HasHistory : List ℕ → Type 0
 HasHistory bytes = (p : Parts) × (whole_text replay_at bytes ≡ Ok p)
 
--- the text is that of a ring with the owners behind the last step of the bundle's plan, and with the members that were or joined, and did not retire
+-- the text is that of the bundle's ring, with the owners after the last step of its plan, and with the members that were or joined, and did not retire
 abbrev pub IsLeftBy : List ℕ → List ℕ → Type 0
 IsLeftBy bytes text = (ring : RingValue) × (plan : List Planned) × IsStudyOf bytes ring plan × IsApproved ring plan
-    × IsRingOf text (last_owners ring plan) (members_after ring plan (length ring.nodes))
+    × IsRingOf ring text (last_owners ring plan) (members_after ring plan (length ring.nodes))

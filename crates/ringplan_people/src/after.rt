@@ -169,18 +169,12 @@ fn ring_behind(
     let progress = Progress::of(alloc, plan, history)?;
     let rows = owners_behind(alloc, approved, &progress)?;
     let members = members_behind(alloc, ring, plan, &progress)?;
-    rewritten(
-        alloc,
-        ring.nodes(),
-        text,
-        rows.as_slice(),
-        members.as_slice(),
-    )
+    rewritten(alloc, ring, text, rows.as_slice(), members.as_slice())
 }
 
 // The text of the ring that an approved plan leaves.
 fn ring_left(alloc: Global, approved: &Approved, text: &[u8]) -> Result<Vec<u8>, Refusal>
-    ensures ring { IfOk result (λ text. IsRingOf text.items (last_owners approved.now.ring approved.now.plan)
+    ensures ring { IfOk result (λ text. IsRingOf approved.now.ring text.items (last_owners approved.now.ring approved.now.plan)
         (members_after approved.now.ring approved.now.plan (length approved.now.ring.nodes))) }
     ensures approved { IsApproved approved.now.ring approved.now.plan }
 {
