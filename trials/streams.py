@@ -56,6 +56,16 @@ def files(folder):
     owes("a file that is only there", run("plan", plan), contains(b"plan 1\n"), b"", 0)
 
 
+def dead():
+    """A member that is named dead leaves, whether or not the change says so."""
+    said = read("plan_replace")
+    unsaid = said.replace(b"leave b\n", b"")
+    plan = run("goal", "--dead", "b", given=said)[0]
+    owes("a dead member that leaves", run("goal", "--dead", "b", given=said), contains(b"copy 0 1 slots 0 2"), b"", 0)
+    owes("a dead member that stays", run("goal", "--dead", "b", given=unsaid), plan, b"ringplan: b is dead, so it leaves, though the change does not say so\n", 0)
+    owes("a dead member, twice", run("goal", "--dead", "b", "--dead", "b", given=unsaid), plan, contains(b"b is dead"), 0)
+
+
 def outputs(folder):
     plan = f"{EXAMPLES}/plan_replace.bundle"
     target = f"{folder}/out"
@@ -129,6 +139,7 @@ def terminal():
 with tempfile.TemporaryDirectory() as scratch:
     files(scratch)
     outputs(scratch)
+dead()
 streams()
 terminal()
 for fault in faults:

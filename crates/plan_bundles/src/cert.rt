@@ -68,7 +68,7 @@ fn found(alloc: Global, ring: &Ring, plan: &Plan) -> Result<Candidate, Refusal>
     Ok(Candidate { found, text })
 }
 
-// The same, where the checker accepts the plan by it.
+// The ring, the plan and the certificate that was found, where the checker accepts the plan by it.
 fn certified(alloc: Global, front: Front) -> Result<Vec<u8>, Refusal>
     requires { PlanSuits front.ring front.plan }
     ensures { IfOk result (λ text. IsCertifiedBy front.ring front.plan text.items) }
@@ -95,7 +95,7 @@ pub fn cert_bundle(alloc: Global, bytes: &[u8]) -> Result<Vec<u8>, Refusal>
     certified(alloc, front)
 }
 
-/// The same, but the checker is not asked: where there is no certificate, the best that was found.
+/// The ring and the plan with which the bytes begin, and the best certificate that was found. The checker is not asked.
 pub fn found_bundle(alloc: Global, bytes: &[u8]) -> Result<Vec<u8>, Refusal>
     ensures { IfOk result (λ text. IsClaimedText bytes.now text.items) }
 {

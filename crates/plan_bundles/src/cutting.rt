@@ -64,7 +64,7 @@ impl<'a> Windows<'a> {
         is_raised
     }
 
-    // The same until none is too soon; where that takes too long, there is one window.
+    // Passes until no step is too soon; where that takes too long, there is one window.
     fn settle(&mut self) {
         for _ in 0..PASSES {
             if !self.pass() {

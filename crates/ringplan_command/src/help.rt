@@ -87,7 +87,7 @@ pub(crate) const RACKS: &str =
     "Says how many partitions have two slots in one rack; a rack is what follows the last C of a node's name";
 
 pub(crate) const DEAD: &str =
-    "A node that is dead for good: its slots are read from others, and it does not drop and does not retire";
+    "A node that is dead for good: it leaves, its slots are read from others, and it neither drops nor retires";
 
 pub(crate) const WEIGHT: &str =
     "A node's name, `=` and how many parts of the slots it shall have, 1 to 1000; the others have 1";

@@ -3,9 +3,9 @@
 use crate::help::{ABOUT, STREAMS, VERSION};
 use crate::tree::command;
 use clap::error::ErrorKind;
+use helpers::Words;
 use std::alloc::{AllocError, Global};
 use std::convert::AsStr;
-use helpers::Words;
 
 // The line of help behind which the exit statuses stand.
 const STATUSES: &str = "Exit status:\n";

@@ -2,8 +2,8 @@
 
 use crate::tree::command;
 use clap::{Arg, Command};
-use std::alloc::{AllocError, Global};
 use helpers::Words;
+use std::alloc::{AllocError, Global};
 
 /// A shell that completes command lines.
 #[derive(Clone, Copy)]

@@ -64,7 +64,7 @@ pub fn check_bundle(alloc: Global, bytes: &[u8]) -> Result<(), Refusal>
     }
 }
 
-// The same answer for a bundle, by workers.
+// Whether the bundle's plan is accepted, asked by workers.
 fn check_plan_by<RT: Threads + Wait + Sync>(
     rt: &RT,
     alloc: Global,
@@ -85,7 +85,7 @@ fn check_plan_by<RT: Threads + Wait + Sync>(
     }
 }
 
-/// The same verdict as that of `check_bundle`, the headline with it, by that many workers, each with a share of the partitions; none is as one. May wait for them.
+/// The verdict of `check_bundle`, the headline with it, by that many workers, each with a share of the partitions; none is as one. May wait for them.
 pub fn check_bundle_by<RT: Threads + Wait + Sync>(
     rt: &RT,
     alloc: Global,

@@ -32,7 +32,7 @@ fn replay_approved(
     }
 }
 
-// The same of a bundle, where the checker accepts its plan.
+// What a replay of the bundle's history prints, where the checker accepts its plan.
 fn replay_checked(alloc: Global, bundle: ReplayBundle) -> Result<Vec<u8>, Refusal>
     requires { IsReplay bundle }
     ensures { ReplaysOfIf (parts_of bundle) (texts_of result) }
@@ -61,7 +61,7 @@ pub fn replay_bundle(alloc: Global, bytes: &[u8]) -> Result<Vec<u8>, Refusal>
     }
 }
 
-/// The same of bytes that are given up once they are read, so that the store takes their memory.
+/// What a replay prints of bytes that are given up once they are read, so that the store takes their memory.
 pub(crate) fn replay_whole(alloc: Global, bytes: Vec<u8>) -> Result<Vec<u8>, Refusal>
     ensures { MakesIf Replaying bytes.items (texts_of result) }
 {

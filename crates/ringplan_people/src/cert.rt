@@ -32,7 +32,7 @@ pub(crate) fn cert_of(alloc: Global, bytes: &[u8]) -> Result<Vec<u8>, Refusal>
     }
 }
 
-// The same of a bundle that may have a change: none where there is no plan, or a text is at fault.
+// A certificate for the plan of a bundle that may have a change: none where there is no plan, or a text is at fault.
 fn found_of(alloc: Global, bytes: &[u8]) -> Result<Option<Vec<u8>>, Refusal> {
     let found = match kind_of(bytes) {
         Kind::Change => match texts_of(alloc, bytes) {

@@ -1,9 +1,10 @@
 //! Why no plan leads to the ring that is wished for, in words.
 
 use crate::why::push_words_of;
+use change_text::{Wanted, read_wanted};
 use helpers::Words;
 use plan_bundles::{Kind, front, kind_of, nodes_of, wished_goal};
-use plan_goal::{Aim, Goal, Unfit, read_goal, why_unfit};
+use plan_goal::{Aim, Goal, Unfit, is_among, read_goal, why_unfit};
 use ring_names::{NodeId, Refusal};
 use ring_table::{Ring, read_ring};
 use ringplan_job::Options;
@@ -191,6 +192,29 @@ fn push_names(
         Err(Refusal::OutOfMemory) => Err(Refusal::OutOfMemory),
         Err(_) => Ok(()),
     }
+}
+
+/// Adds which of the nodes that are named dead leave though the change does not say so.
+pub fn push_dead_leavers(
+    alloc: Global,
+    out: &mut Words,
+    bytes: &[u8],
+    options: &Options,
+) -> Result<(), Refusal> {
+    if options.dead.is_empty() || kind_of(bytes) != Kind::Change {
+        return Ok(());
+    }
+    let Wanted { ring, change } = read_wanted(alloc, bytes)?;
+    for node in nodes_of(alloc, &ring, options.dead.as_slice())?.as_slice() {
+        if ring.is_member(*node) && !is_among(change.leaves.as_slice(), *node) {
+            out.fill(
+                b"ringplan: @ is dead, so it leaves, though the change does not say so\n",
+                &[name(&ring, node.0)],
+                &[],
+            );
+        }
+    }
+    Ok(())
 }
 
 /// Adds why no plan leads to the ring that is wished for.

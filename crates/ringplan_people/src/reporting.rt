@@ -10,7 +10,7 @@ ghost use Rattle.ringplan_people.specs.Why.{IsWhy};
 use crate::after::{after_bundle, push_open};
 use crate::bundle::whole_bundle;
 use crate::cert::{cert_of, push_why_none};
-use crate::goal_words::push_goal_words;
+use crate::goal_words::{push_dead_leavers, push_goal_words};
 use crate::show::{draw_bundle, show_bundle};
 use crate::steps::{moves_bundle, steps_bundle};
 use crate::why::{push_words_of, why_bundle};
@@ -55,14 +55,22 @@ fn has_no_steps(output: &[u8]) -> bool {
     output[front(output, 1)..].starts_with(b"plan 1\nend\n")
 }
 
-// What standard error says of what was made: that a plan which was asked for has no steps.
-fn note_of(making: &Making, output: &[u8]) -> &'static [u8] {
-    match making {
-        Making::Goal(_, _) if has_no_steps(output) => {
-            b"ringplan: the plan has no steps, as the ring is what it shall be\n"
-        }
-        _ => b"",
+// Adds what standard error says of what was made: which dead nodes leave though the change does not say so, and that a plan which was asked for has no steps.
+fn push_notes(
+    alloc: Global,
+    out: &mut Words,
+    making: &Making,
+    bytes: &[u8],
+    output: &[u8],
+) -> Result<(), Refusal> {
+    let Making::Goal(options, _) = making else {
+        return Ok(());
+    };
+    push_dead_leavers(alloc, out, bytes, options)?;
+    if has_no_steps(output) {
+        out.text(b"ringplan: the plan has no steps, as the ring is what it shall be\n");
     }
+    Ok(())
 }
 
 // The exit status at what was made.
@@ -81,10 +89,12 @@ fn made_status(making: &Making, output: &[u8]) -> u8
 }
 
 // The report of what was made.
-fn made(alloc: Global, making: &Making, output: Vec<u8>) -> Result<Report, Refusal>
+fn made(alloc: Global, making: &Making, bytes: &[u8], output: Vec<u8>) -> Result<Report, Refusal>
     ensures { IfOk result (λ r. (r.output.items ≡ output.items) × IsMadeWith making.now r.status) }
 {
-    let errors = Vec::from_slice(alloc, note_of(making, output.as_slice()))?;
+    let mut notes = Words::new(alloc);
+    push_notes(alloc, &mut notes, making, bytes, output.as_slice())?;
+    let errors = notes.end()?;
     let status = made_status(making, output.as_slice());
     Ok(Report {
         output,
@@ -134,7 +144,7 @@ fn report_made(alloc: Global, making: &Making, bytes: &[u8]) -> Result<Report, R
     ensures { IfOk result (λ r. IsReport making.now bytes.now r.output.items r.status) }
 {
     match make_of(alloc, making, bytes) {
-        Ok(output) => made(alloc, making, output),
+        Ok(output) => made(alloc, making, bytes, output),
         Err(refusal) => {
             let mut words = Words::new(alloc);
             push_said(alloc, &mut words, making, bytes, &refusal)?;

@@ -33,7 +33,7 @@ enum Outcome {
     Replayed,
     /// Another refusal.
     Next(Refusal),
-    /// The same.
+    /// The refusal that came before.
     Same,
 }
 

@@ -84,7 +84,7 @@ fn drive_approved<RT: Threads + Wait + Sync>(
     }
 }
 
-// The same of a bundle, where the checker accepts its plan.
+// What a drive of the bundle prints, where the checker accepts its plan.
 fn drive_checked<RT: Threads + Wait + Sync>(
     rt: &RT,
     alloc: Global,

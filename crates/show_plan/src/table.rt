@@ -72,7 +72,7 @@ fn ranked(view: &View, nodes: &[u32]) -> Result<Vec<(usize, u32, u32)>, Refusal>
     Ok(order)
 }
 
-// The same in turns: the first of each kind, then the second of each, and so on.
+// Rows in turns: the first of each kind, then the second of each, and so on.
 fn in_turns(
     alloc: Global,
     ranked: &[(usize, u32, u32)],

@@ -75,7 +75,7 @@ impl Said {
         self.title.text(words);
     }
 
-    /// The same by a template.
+    /// Sets the title by a template.
     pub fn title_with(&mut self, words: &[u8], names: &[&[u8]], numbers: &[u32]) {
         self.title.clear();
         self.title.fill(words, names, numbers);
@@ -102,7 +102,7 @@ impl Said {
         self.mark(place, true, begin)
     }
 
-    /// The same by a template.
+    /// Adds marked words at a place of a line, by a template, as what is at fault.
     pub fn fault_at_with(&mut self, place: Place, words: &[u8], names: &[&[u8]], numbers: &[u32]) {
         let begin = self.words.len();
         self.words.fill(words, names, numbers);
@@ -114,7 +114,7 @@ impl Said {
         self.fault_at(Place::whole(line), words)
     }
 
-    /// The same by a template.
+    /// Adds marked words of a whole line, by a template, as what is at fault.
     pub fn fault_with(&mut self, line: u32, words: &[u8], names: &[&[u8]], numbers: &[u32]) {
         self.fault_at_with(Place::whole(line), words, names, numbers)
     }
@@ -126,7 +126,7 @@ impl Said {
         self.mark(Place::whole(line), false, begin)
     }
 
-    /// The same by a template.
+    /// Adds marked words of a whole line, by a template, as what belongs to the fault.
     pub fn beside_with(&mut self, line: u32, words: &[u8], names: &[&[u8]], numbers: &[u32]) {
         let begin = self.words.len();
         self.words.fill(words, names, numbers);
@@ -140,7 +140,7 @@ impl Said {
         self.notes.byte(b'\n');
     }
 
-    /// The same by a template.
+    /// Adds a note on a line of its own, by a template.
     pub fn note_with(&mut self, words: &[u8], names: &[&[u8]], numbers: &[u32]) {
         self.notes.text(b"  ");
         self.notes.fill(words, names, numbers);
@@ -152,7 +152,7 @@ impl Said {
         self.notes.text(words);
     }
 
-    /// The same by a template.
+    /// Goes on with the last note, by a template.
     pub fn add_note_with(&mut self, words: &[u8], names: &[&[u8]], numbers: &[u32]) {
         self.notes.fill(words, names, numbers);
     }
@@ -168,7 +168,7 @@ impl Said {
         self.says.text(words);
     }
 
-    /// The same by a template.
+    /// Says what a mend does, by a template.
     pub fn mend_with(&mut self, words: &[u8], names: &[&[u8]], numbers: &[u32]) {
         self.says.clear();
         self.says.fill(words, names, numbers);
@@ -204,7 +204,7 @@ impl Said {
         self.end_change();
     }
 
-    /// The same by a template.
+    /// Adds a new line of a mend, by a template.
     pub fn add_with(&mut self, words: &[u8], names: &[&[u8]], numbers: &[u32]) {
         self.news.fill(words, names, numbers);
         self.end_change();

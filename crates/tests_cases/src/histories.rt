@@ -134,7 +134,7 @@ fn other(reply: &str) -> &'static str {
     if reply == "ok" { "put 0" } else { "ok" }
 }
 
-// The same but for the entry at the place: with another reply, or left out, or behind the next one, or once more at the end.
+// The history with the entry at the place changed: with another reply, left out, after the next one, or once more at the end.
 fn changed<'t>(
     alloc: Global,
     told: &[Told<'t>],

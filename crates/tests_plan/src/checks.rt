@@ -69,7 +69,7 @@ fn partition_by(alloc: Global, ring: &Ring, plan: &Plan, cert: &Cert) -> Result<
     check_partition(alloc, ring, plan, &facts, 0)
 }
 
-// The same by the certificate's text.
+// Asks for the clauses of a partition, by the certificate's text.
 fn partition(alloc: Global, ring: &Ring, plan: &Plan, cert: &[u8]) -> Result<(), Refusal>
     requires { Suits ring.now plan.now }
 {
@@ -179,7 +179,7 @@ fn nodes_by(alloc: Global, ring: &Ring, plan: &Plan, cert: &Cert) -> Result<(), 
     check_nodes(alloc, ring, plan, &facts, cert)
 }
 
-// The same by the certificate's text.
+// Asks for the clauses of all nodes, by the certificate's text.
 fn nodes(alloc: Global, ring: &Ring, plan: &Plan, cert: &[u8]) -> Result<(), Refusal>
     requires { Suits ring.now plan.now }
 {
@@ -217,7 +217,7 @@ fn moves_by(alloc: Global, ring: Ring, cert: &Cert) -> Result<u32, Refusal> {
     approved(alloc, ring, plan, cert)
 }
 
-// The same by the certificate's text.
+// Checks the moves, by the certificate's text.
 fn moves(alloc: Global, ring: Ring, cert: &[u8]) -> Result<u32, Refusal> {
     let cert = cert_from(alloc, &ring, cert)?;
     moves_by(alloc, ring, &cert)

@@ -146,7 +146,7 @@ fn plan_checked<RT: AllocGlobal + Abort>(
     accepted(rt, ring, plan, cert)
 }
 
-// The same by the certificate's text.
+// Checks a plan, by its text and the certificate's.
 fn texts_checked<RT: AllocGlobal + Abort>(
     rt: &RT,
     ring: Ring,
@@ -157,7 +157,7 @@ fn texts_checked<RT: AllocGlobal + Abort>(
     plan_checked(rt, ring, plan, &cert)
 }
 
-// The same of a plan and its certificate, one behind the other.
+// Checks a plan and its certificate in one text.
 fn proposal_checked<RT: AllocGlobal + Abort>(rt: &RT, text: &str) -> Result<(), Fail> {
     let Some((plan, _)) = text.split_once("cert 1\n") else {
         panic!(rt; "no certificate in {text}");

@@ -90,7 +90,7 @@ fn moves_by<RT: AllocGlobal + Threads + Wait + Sync>(
     approved(rt, workers, gate, (ring, plan), cert)
 }
 
-// The same by the certificate's text.
+// Checks the moves by workers, by the certificate's text.
 fn moves<RT: AllocGlobal + Threads + Wait + Sync>(
     rt: &RT,
     workers: u32,
@@ -145,7 +145,7 @@ fn ordered<RT: AllocGlobal + Threads + Sync>(
     Ok(facts.ordered(plan, 2, 5))
 }
 
-// The same by the certificate's text.
+// Whether workers give the order of the plan's steps, by the certificate's text.
 fn ordered_by_cert<RT: AllocGlobal + Threads + Sync>(
     rt: &RT,
     ring: &Ring,
@@ -155,7 +155,7 @@ fn ordered_by_cert<RT: AllocGlobal + Threads + Sync>(
     ordered(rt, plan, &cert)
 }
 
-// The same of the two moves.
+// Whether workers give the order of the steps of the two moves.
 fn moves_ordered<RT: AllocGlobal + Threads + Sync>(rt: &RT, ring: &Ring) -> Result<bool, Refusal> {
     let plan = two_moves(rt.alloc(), ring)?;
     ordered_by_cert(rt, ring, &plan)

@@ -47,7 +47,7 @@ fn told<RT: AllocGlobal + Files + Eprint + Threads + Wait + Sync + Abort>(
     shows(rt, output.bytes.as_slice(), text)
 }
 
-// The same of a command line of two words behind the program's name.
+// What a command line of two words after the program's name is answered.
 fn told_of<RT: AllocGlobal + Files + Eprint + Threads + Wait + Sync + Abort>(
     rt: &RT,
     first: &str,

@@ -1,7 +1,7 @@
 use Rattle.std.proofs.Common.{◌∙◌, sym}
 use Rattle.plan_bundles.specs.Rings.{member_after}
 use Rattle.plan_bundles.proofs.Members.{flags-none, flags-more}
-use Rattle.plan_bundles.proofs.rings.members_after.Goals as goal
+use Rattle.plan_bundles.proofs.rings.members_left.Goals as goal
 
 pub nodes-init : goal.nodes-init
 nodes-init c = c.new-members.ensures.items ∙ sym (flags-none (λ x. member_after c.args.ring.now c.args.plan.now (record { 0 = x })))
