@@ -251,7 +251,7 @@ pub fn too_many_chains(case: Case, said: &mut Said, node: u32, remedy: Remedy) {
     show_chains(case, said, node, Some(of.side));
     if remedy == Remedy::Certificate {
         return said.note(
-            b"The plan's order allows fewer: `ringplan cert < FILE > MENDED` finds them, and the checker then says yes.",
+            b"The plan's order allows fewer: `ringplan cert < FILE > MENDED` finds them; then the checker says yes.",
         );
     }
     if remedy == Remedy::Plan {

@@ -15,12 +15,14 @@ use Rattle.clap.specs.declared.parser.matches.ArgMatches.{ArgMatches}
 use Rattle.clap.proofs.OnLiterals.{clap_on_literals}
 use Rattle.ringplan_command.specs.Tree.{ringplan, word_of}
 use Rattle.ringplan_command.specs.Files.{IsJob, Names, files_named, files_of, no_files, text_named}
+use Rattle.ringplan_command.specs.declared.word.Guide.{Guide}
 use Rattle.ringplan_command.specs.declared.word.Word.{Word}
 use Rattle.ringplan_command.specs.declared.command.Request.{Request}
-use Rattle.ringplan_command.specs.declared.command.Request.TheVariants.{Do, CheckBy, Drive, Make, Help, Refused, Mistaken, OutOfMemory}
+use Rattle.ringplan_command.specs.declared.command.Request.TheVariants.{Do, CheckBy, Drive, Make, Describe, Help, Refused, Mistaken, OutOfMemory}
 use Rattle.ringplan_job.specs.declared.job.Job.{Job}
 use Rattle.ringplan_job.specs.declared.job.Job.TheVariants.{Check, Migrate, Plan, Play, Replay}
-use Rattle.ringplan_command.specs.Command.{Answers, Asked, HasNoNumber, IsMistaken, IsRefused, AsksWord, IsOfWord, IsTurnedAway, WantsHelp, asked, asked_by, asks_word, by_drive, by_workers, only, option_named, task_named, to_do, to_drive, to_make, word_of_making}
+use Rattle.ringplan_command.specs.Command.{Answers, Asked, HasNoNumber, IsMistaken, IsRefused, AsksGuide, AsksWord, IsOfGuide, IsOfWord, IsTurnedAway, TakesValues, WantsHelp}
+use Rattle.ringplan_command.specs.Command.{Task, asked, asked_by, asks_word, by_drive, by_workers, only, option_named, task_named, to_describe, to_do, to_drive, to_make, word_of_making}
 
 is_free : is_simple_and_free ringplan ≡ true
 unfolding clap_on_literals
@@ -139,7 +141,9 @@ none_helped kinds e (inr h) = let P : Kinds → Type 0 = IsAmong DisplayVersion 
 none_refused : (job : Job) (asked : Asked) → asked ≡ only job → IsRefused asked → ⊥
 none_refused job asked e (inl h) = none_mistaken _ (ap (λ x. x.faults) e) h
 none_refused job asked e (inr (inl (t, is, h))) = let none : Some t ≡ None = sym is ∙ ap (λ x. x.workers) e in absurd cc
-none_refused job asked e (inr (inr (w, is, values))) = let task : to_make w ≡ to_do job = ap (λ x. x.task) (sym is ∙ e) in absurd cc
+none_refused job asked e (inr (inr (task, is, values))) =
+    let same : task ≡ to_do job = ap (λ x. x.task) (sym is ∙ e) in
+    absurd (subst (λ (t : Task). TakesValues t) same values)
 
 -- a refused line answers whatever is refused
 pub turned_away : (asked : Asked) (r : Request) → IsRefused asked → IsTurnedAway r → Answers asked r
@@ -149,16 +153,18 @@ turned_away asked (Do _) h is = absurd is
 turned_away asked (CheckBy _) h is = absurd is
 turned_away asked (Drive _ _) h is = absurd is
 turned_away asked (Make _) h is = absurd is
+turned_away asked (Describe _) h is = absurd is
 turned_away asked (Help _) h is = absurd is
 turned_away asked OutOfMemory h is = absurd is
 
 -- what a command for people makes answers a line that asks for it, and so does its refusal
 pub of_word : {E : Type 0} (asked : Asked) (w : Word) (r : Result Request E) → AsksWord asked w → IfOk r (IsOfWord w) → IfOk r (Answers asked)
 of_word asked w (Ok (Make making)) e h = e ∙ ap (λ (v : Word). asks_word v) (sym h)
-of_word asked w (Ok (Mistaken text)) e h = inr (inr (w, e, h))
+of_word asked w (Ok (Mistaken text)) e h = inr (inr (to_make w, e, h))
 of_word asked w (Ok (Do _)) e h = absurd h
 of_word asked w (Ok (CheckBy _)) e h = absurd h
 of_word asked w (Ok (Drive _ _)) e h = absurd h
+of_word asked w (Ok (Describe _)) e h = absurd h
 of_word asked w (Ok (Help _)) e h = absurd h
 of_word asked w (Ok (Refused _)) e h = absurd h
 of_word asked w (Ok OutOfMemory) e h = absurd h
@@ -168,6 +174,23 @@ of_word asked w (Err x) e h = tt
 pub word_asked : (sub : Option (List ℕ × List Row)) (w : Word) → task_named sub ≡ to_make w → AsksWord (asked_by [] sub) w
 word_asked sub w is = rw is refl
 
+-- a text about the program answers a line that asks for it, and so does its refusal
+pub of_guide : {E : Type 0} (asked : Asked) (guide : Guide) (r : Result Request E) → AsksGuide asked guide → IfOk r (IsOfGuide guide) → IfOk r (Answers asked)
+of_guide asked guide (Ok (Describe text)) e h = (guide, e)
+of_guide asked guide (Ok (Mistaken text)) e h = inr (inr (to_describe guide, e, h))
+of_guide asked guide (Ok (Make _)) e h = absurd h
+of_guide asked guide (Ok (Do _)) e h = absurd h
+of_guide asked guide (Ok (CheckBy _)) e h = absurd h
+of_guide asked guide (Ok (Drive _ _)) e h = absurd h
+of_guide asked guide (Ok (Help _)) e h = absurd h
+of_guide asked guide (Ok (Refused _)) e h = absurd h
+of_guide asked guide (Ok OutOfMemory) e h = absurd h
+of_guide asked guide (Err x) e h = tt
+
+-- the words of a subcommand for a text about the program ask for that
+pub guide_asked : (sub : Option (List ℕ × List Row)) (guide : Guide) → task_named sub ≡ to_describe guide → AsksGuide (asked_by [] sub) guide
+guide_asked sub guide is = rw is refl
+
 -- a line that is turned away asks for no job
 pub no_job : (r : Request) → IsTurnedAway r → IsJob r → ⊥
 no_job (Refused text) is job = job
@@ -176,6 +199,7 @@ no_job (Do _) is job = is
 no_job (CheckBy _) is job = is
 no_job (Drive _ _) is job = is
 no_job (Make _) is job = is
+no_job (Describe _) is job = is
 no_job (Help _) is job = job
 no_job OutOfMemory is job = job
 
@@ -192,6 +216,7 @@ job_asked job asked (Drive k form) e h =
     let task : to_drive ≡ to_do job = ap (λ x. x.task) same in
     absurd cc
 job_asked job asked (Make making) e h = let task : to_make (word_of_making making) ≡ to_do job = ap (λ x. x.task) (sym h ∙ e) in absurd cc
+job_asked job asked (Describe text) e h = let task : to_describe h.0 ≡ to_do job = ap (λ x. x.task) (sym h.1 ∙ e) in absurd cc
 job_asked job asked (Help text) e h = absurd (none_helped _ (ap (λ x. x.faults) e) h)
 job_asked job asked (Refused text) e h = absurd (none_refused job asked e h)
 job_asked job asked (Mistaken text) e h = absurd (none_refused job asked e h)

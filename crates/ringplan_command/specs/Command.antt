@@ -8,7 +8,9 @@ use Rattle.clap.specs.declared.error.kind.ErrorKind.{ErrorKind}
 use Rattle.clap.specs.declared.error.kind.ErrorKind.TheVariants.{DisplayHelp, DisplayVersion}
 use Rattle.ringplan_command.specs.Tree.{drive_word, ringplan, word_of}
 use Rattle.ringplan_command.specs.declared.command.Request.{Request}
-use Rattle.ringplan_command.specs.declared.command.Request.TheVariants.{Do, CheckBy, Drive, Make, Help, Refused, Mistaken, OutOfMemory}
+use Rattle.ringplan_command.specs.declared.command.Request.TheVariants.{Do, CheckBy, Drive, Make, Describe, Help, Refused, Mistaken, OutOfMemory}
+use Rattle.ringplan_command.specs.declared.word.Guide.{Guide}
+use Rattle.ringplan_command.specs.declared.word.Guide.TheVariants.{Completions, Manual}
 use Rattle.ringplan_command.specs.declared.word.Word.{Word}
 use Rattle.ringplan_command.specs.declared.word.Word.TheVariants as people
 use Rattle.ringplan_job.specs.declared.making.Making.{Making}
@@ -34,11 +36,12 @@ word_of_making Bundle = people.Bundle
 word_of_making Cert = people.Cert
 word_of_making After = people.After
 
--- what is to be done: a job, a drive, or what a command for people makes
+-- what is to be done: a job, a drive, what a command for people makes, or a text about the program
 pub data Task : Type 0 where
   to_do : Job → Task
   to_drive : Task
   to_make : Word → Task
+  to_describe : Guide → Task
 
 -- what the words of a command line ask: how they fail, and where they do not, what is to be done, and the texts of the workers and of the form
 -- that are named
@@ -71,9 +74,14 @@ word_named subcommand = if is_word (codes "why") subcommand then Some people.Why
     else (if is_word (codes "draw") subcommand then Some people.Draw else (if is_word (codes "steps") subcommand then Some people.Steps
     else more_named subcommand)))
 
+-- the text about the program of a subcommand, by its name
+abbrev pub guide_named : Option (List ℕ × List Row) → Option Guide
+guide_named subcommand = if is_word (codes "completions") subcommand then Some Completions else (if is_word (codes "man") subcommand then Some Manual else None)
+
 -- what it asks to be done
 abbrev pub task_named : Option (List ℕ × List Row) → Task
-task_named subcommand = if is_word drive_word subcommand then to_drive else option_map_or to_make (word_named subcommand) (to_do (job_named subcommand))
+task_named subcommand = if is_word drive_word subcommand then to_drive
+    else option_map_or to_describe (guide_named subcommand) (option_map_or to_make (word_named subcommand) (to_do (job_named subcommand)))
 
 -- the text that the subcommand has for an option
 abbrev pub option_named : List ℕ → Option (List ℕ × List Row) → Option (List ℕ)
@@ -155,24 +163,33 @@ MeansWorkers workers Unnamed = workers ≡ None
 MeansWorkers workers (Many k) = (text : List ℕ) × (workers ≡ Some text) × IsWorkers text k
 MeansWorkers workers NoNumber = HasNoNumber workers
 
+-- just that, with no number of workers and no form
+abbrev pub asks_just : Task → Asked
+asks_just task = record { faults = []; task = task; workers = None; json = None }
+
 -- just what that command for people makes
 abbrev pub asks_word : Word → Asked
-asks_word w = record { faults = []; task = to_make w; workers = None; json = None }
+asks_word w = asks_just (to_make w)
 
 -- what is asked is just that
 abbrev pub AsksWord : Asked → Word → Type 0
 AsksWord asked w = asked ≡ asks_word w
 
--- the command for people has an option with a value that may be refused
-abbrev pub TakesValues : Word → Type 0
-TakesValues people.Show = ⊤
-TakesValues people.Draw = ⊤
-TakesValues people.Goal = ⊤
-TakesValues w = ⊥
+-- what is asked is just that text about the program
+abbrev pub AsksGuide : Asked → Guide → Type 0
+AsksGuide asked guide = asked ≡ asks_just (to_describe guide)
 
--- the line is refused: for its words, for its workers, or for the value of an option of a command for people
+-- the subcommand has an argument with a value that may be refused beside the words of the line
+abbrev pub TakesValues : Task → Type 0
+TakesValues (to_make people.Show) = ⊤
+TakesValues (to_make people.Draw) = ⊤
+TakesValues (to_make people.Goal) = ⊤
+TakesValues (to_describe Completions) = ⊤
+TakesValues task = ⊥
+
+-- the line is refused: for its words, for its workers, or for such a value
 abbrev pub IsRefused : Asked → Type 0
-IsRefused asked = IsMistaken asked.faults ⊎ (HasNoNumber asked.workers ⊎ ((w : Word) × AsksWord asked w × TakesValues w))
+IsRefused asked = IsMistaken asked.faults ⊎ (HasNoNumber asked.workers ⊎ ((task : Task) × (asked ≡ asks_just task) × TakesValues task))
 
 -- what a command line that asks so is taken for, memory aside
 abbrev pub Answers : Asked → Request → Type 0
@@ -180,6 +197,7 @@ Answers asked (Do job) = asked ≡ only job
 Answers asked (CheckBy workers) = AsksBy asked workers
 Answers asked (Drive workers form) = AsksDrive asked workers form
 Answers asked (Make making) = AsksWord asked (word_of_making making)
+Answers asked (Describe text) = (guide : Guide) × AsksGuide asked guide
 Answers asked (Help text) = WantsHelp asked.faults
 Answers asked (Refused text) = IsRefused asked
 Answers asked (Mistaken text) = IsRefused asked
@@ -194,5 +212,11 @@ IsTurnedAway _ = ⊥
 -- what that command for people makes, or a line that is refused for the value of one of its options
 abbrev pub IsOfWord : Word → Request → Type 0
 IsOfWord w (Make making) = word_of_making making ≡ w
-IsOfWord w (Mistaken text) = TakesValues w
+IsOfWord w (Mistaken text) = TakesValues (to_make w)
 IsOfWord w _ = ⊥
+
+-- a text about the program, or a line that is refused for the value of an argument of its subcommand
+abbrev pub IsOfGuide : Guide → Request → Type 0
+IsOfGuide guide (Describe text) = ⊤
+IsOfGuide guide (Mistaken text) = TakesValues (to_describe guide)
+IsOfGuide guide _ = ⊥

@@ -4,7 +4,7 @@ use Rattle.std.specs.Str.{bytes_eq}
 use Rattle.clap.specs.Words.{Row, first_of, subcommand_of}
 use Rattle.ringplan_command.specs.Tree.{ringplan}
 use Rattle.ringplan_command.specs.declared.command.Request.{Request}
-use Rattle.ringplan_command.specs.declared.command.Request.TheVariants.{Do, CheckBy, Drive, Make}
+use Rattle.ringplan_command.specs.declared.command.Request.TheVariants.{Do, CheckBy, Drive, Make, Describe}
 use Rattle.ringplan_command.specs.declared.files.Files.{Files}
 
 -- the names of files that are read and written, where they are no standard stream
@@ -36,10 +36,11 @@ files_of words = files_named (subcommand_of ringplan words)
 abbrev pub files_in : Files → Names
 files_in files = record { input = option_map string_bytes files.input; output = option_map string_bytes files.output }
 
--- a job is asked for
+-- a job is asked for, or a text about the program: what may name files
 abbrev pub IsJob : Request → Type 0
 IsJob (Do job) = ⊤
 IsJob (CheckBy workers) = ⊤
 IsJob (Drive workers form) = ⊤
 IsJob (Make making) = ⊤
+IsJob (Describe text) = ⊤
 IsJob _ = ⊥

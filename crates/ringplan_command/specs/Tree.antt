@@ -56,6 +56,17 @@ output_option = record (text_option (codes "output")) { short = Some 111 }
 abbrev pub job_app : List ℕ → App
 job_app word = with_rule (with_rule (new_app word) file_argument) output_option
 
+-- a subcommand that reads nothing, and may name a file that is written
+abbrev pub guide_app : List ℕ → App
+guide_app word = with_rule (new_app word) output_option
+
+-- the shell whose completions are asked for
+abbrev pub shell_argument : Rule
+shell_argument = record (new_rule (codes "shell")) { value_names = 1; required = true }
+
+abbrev pub completions_app : App
+completions_app = with_rule (guide_app (codes "completions")) shell_argument
+
 abbrev pub check_app : App
 check_app = with_rule (job_app (codes "check")) workers_option
 
@@ -86,10 +97,13 @@ top_app = let app = new_app (codes "ringplan") in record app { top = record app.
 abbrev pub with : App → App → App
 with app sub = with_subcommand app sub.top
 
--- the first seven subcommands, and then all
+-- the first seven subcommands, then those with a bundle, and then all
 abbrev pub first_commands : App
 first_commands = with (with (with (with (with (with (with top_app goal_app) show_app) draw_app) check_app) (job_app (codes "why"))) steps_app) windows_app
 
-abbrev pub ringplan : App
-ringplan = with (with (with (with (with (with (with (with first_commands drive_app) (job_app (codes "play"))) (job_app (codes "replay"))) (job_app (codes "after")))
+abbrev pub bundle_commands : App
+bundle_commands = with (with (with (with (with (with (with (with first_commands drive_app) (job_app (codes "play"))) (job_app (codes "replay"))) (job_app (codes "after")))
     (job_app (codes "bundle"))) (job_app (codes "cert"))) (job_app (codes "plan"))) (job_app (codes "migrate"))
+
+abbrev pub ringplan : App
+ringplan = with (with bundle_commands completions_app) (guide_app (codes "man"))

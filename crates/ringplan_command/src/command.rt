@@ -3,17 +3,18 @@
 ghost use Rattle.std.specs.Prelude.{◌≡◌, ◌⊎◌, ◌↔◌, ◌∷◌, [], IfOk, IsTrue, codes, drop, map};
 ghost use Rattle.clap.specs.Words.{found_of, one_text, subcommand_rows_of};
 ghost use Rattle.ringplan_command.specs.Command.{Answers, IsForm, MeansWorkers, asked, asked_by, job_named, task_named};
-ghost use Rattle.ringplan_command.specs.Command.{IsTurnedAway, to_do, to_drive, to_make};
+ghost use Rattle.ringplan_command.specs.Command.{IsTurnedAway, to_describe, to_do, to_drive, to_make};
 ghost use Rattle.ringplan_command.specs.Tree.{word_of};
 ghost use Rattle.ringplan_command.specs.Files.{IsJob, files_in, files_named, files_of, no_files};
 ghost use Rattle.ringplan_job.specs.declared.job.Job.{Job};
 
 use crate::files::Files;
 use crate::form::Form;
+use crate::guides::write_guide;
 use crate::help::NO_WORKERS;
 use crate::line::make_line;
 use crate::tree::command;
-use crate::word::{Word, is_for_people, people_word};
+use crate::word::{Guide, Word, guide_of, is_for_people, people_word};
 use clap::error::ErrorKind;
 use clap::{ArgMatches, Error};
 use ringplan_job::{Job, Making};
@@ -38,6 +39,8 @@ pub enum Request {
     Drive(u32, Form),
     /// To make something of a bundle for people.
     Make(Making),
+    /// To print this text about the program.
+    Describe(Vec<u8>),
     /// To be told how to use the program, or its version, by this text.
     Help(Vec<u8>),
     /// Nothing that there is, as this text says.
@@ -49,12 +52,13 @@ pub enum Request {
 }
 
 impl Request {
-    // Whether a job is asked for, which reads a bundle.
+    // Whether the line names files for it.
     fn is_job(&self) -> bool
         ensures { IsTrue result ↔ IsJob self.now }
     {
         match self {
-            Request::Do(_) | Request::CheckBy(_) | Request::Drive(_, _) | Request::Make(_) => true,
+            Request::Do(_) | Request::CheckBy(_) | Request::Drive(_, _) => true,
+            Request::Make(_) | Request::Describe(_) => true,
             Request::Help(_) | Request::Refused(_) | Request::Mistaken(_) | Request::OutOfMemory =>
                 false,
         }
@@ -138,6 +142,9 @@ fn request_of(alloc: Global, matches: &ArgMatches) -> Result<Request, AllocError
     if matches.subcommand_matches("drive").is_some() {
         return drive_line(alloc, matches);
     }
+    if let Some(guide) = guide_of(matches) {
+        return guide_line(alloc, matches, guide);
+    }
     if let Some(word) = people_word(matches) {
         return making_line(alloc, matches, word);
     }
@@ -187,6 +194,17 @@ fn making_line(alloc: Global, matches: &ArgMatches, word: Word) -> Result<Reques
         unreachable!()
     };
     make_line(alloc, options, word)
+}
+
+// What a line that asks for a text about the program asks for.
+fn guide_line(alloc: Global, matches: &ArgMatches, guide: Guide) -> Result<Request, AllocError>
+    requires { task_named (subcommand_rows_of matches.now) ≡ to_describe guide }
+    ensures { IfOk result (Answers (asked_by [] (subcommand_rows_of matches.now))) }
+{
+    let Some((_, options)) = matches.subcommand() else {
+        unreachable!()
+    };
+    write_guide(alloc, options, guide)
 }
 
 // What is said of workers: nothing, how many there are, or what is no number from 1 to 64.

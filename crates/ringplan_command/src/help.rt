@@ -62,6 +62,13 @@ pub(crate) const CERT: &str =
 pub(crate) const MIGRATE: &str =
     "Prints the bundle with a ring of format 1 in format 2; checks nothing";
 
+pub(crate) const COMPLETIONS: &str =
+    "Prints a script by which a shell completes command lines of the program";
+
+pub(crate) const MANUAL: &str = "Prints the page of the manual, for man";
+
+pub(crate) const SHELL: &str = "The shell: bash, zsh or fish";
+
 pub(crate) const WORKERS: &str =
     "Checks the partitions by K threads, 1 to 64, and the paths by as many as there are processors; the answer is the same";
 
@@ -103,6 +110,9 @@ pub(crate) const NO_WEIGHT: &[u8; 127] =
 
 pub(crate) const NO_BYTE: &[u8; 102] =
     b"error: invalid value for '--racks-behind <C>': not one character\n\nFor more information, try '--help'.\n";
+
+pub(crate) const NO_SHELL: &[u8; 95] =
+    b"error: invalid value for '<SHELL>': not bash, zsh or fish\n\nFor more information, try '--help'.\n";
 
 pub(crate) const STREAMS: &str = "\
 Example: ringplan goal --racks-behind . examples/plan_grow.bundle
@@ -286,3 +296,20 @@ that end with `end`. Play or run the first, then the second; between them the ri
 whole ring, and all of them together at most 67,108,864 bytes: of a large ring with many rounds let a window have more of these.
 
 Exit status: 0 printed, 1 no plan, one that is refused, or no window of that number, 2 a text, the command line or so many bytes are refused, 3 memory, input or output";
+
+pub(crate) const COMPLETIONS_STREAMS: &str = "\
+Example: ringplan completions bash -o ~/.local/share/bash-completion/completions/ringplan
+
+Input: none.
+Standard output: the script. It completes commands, their options and the names of files. bash reads it by `source`, or finds it by itself in the
+folder of the example; zsh finds it as `_ringplan` in a folder of `fpath`, and fish as `~/.config/fish/completions/ringplan.fish`.
+
+Exit status: 0 printed, 2 the command line is refused, 3 memory or output";
+
+pub(crate) const MANUAL_STREAMS: &str = "\
+Example: ringplan man -o ~/.local/share/man/man1/ringplan.1
+
+Input: none.
+Standard output: the page in the language of man(7), with each command, its options and its formats. `man -l FILE` shows it.
+
+Exit status: 0 printed, 2 the command line is refused, 3 memory or output";

@@ -4,13 +4,16 @@
 mod command;
 mod files;
 mod form;
+mod guides;
 mod help;
 mod line;
+mod manual;
 mod naming;
+mod shells;
 mod tree;
 mod word;
 
 pub use command::{CommandLine, Request, parse};
 pub use files::Files;
 pub use form::Form;
-pub use word::Word;
+pub use word::{Guide, Word};

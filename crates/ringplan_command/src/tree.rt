@@ -4,15 +4,16 @@ ghost use Rattle.std.specs.Prelude.{◌≡◌, false, IfOk};
 ghost use Rattle.clap.specs.Words.{App, rule_of, with_rule, with_subcommand};
 ghost use Rattle.ringplan_command.specs.Tree.{IsApp, cut_option, draw_app, drive_app, flag_option, goal_app, job_app, ringplan, show_app};
 ghost use Rattle.ringplan_command.specs.Tree.{check_app, file_argument, output_option, steps_app, text_option, top_app};
-ghost use Rattle.ringplan_command.specs.Tree.{windows_app, workers_option};
+ghost use Rattle.ringplan_command.specs.Tree.{completions_app, guide_app, shell_argument, windows_app, workers_option};
 
 use crate::help::{
     ABOUT, AFTER, AFTER_STREAMS, ALL, BUNDLE, BUNDLE_STREAMS, CERT, CERT_STREAMS, CHECK,
-    CHECK_STREAMS, DEAD, DRAW, DRAW_STREAMS, DRIVE, DRIVE_STREAMS, DRIVERS, EVEN, FILE, GOAL,
-    GOAL_STREAMS, JSON, MAP, MIGRATE, MIGRATE_STREAMS, MORE, MOVES, ONLY, OUTPUT, PLAN,
-    PLAN_STREAMS, PLAY, PLAY_STREAMS, RACK_COLUMNS, RACKS, RACKS_APART, REPLAY, REPLAY_STREAMS,
-    ROUNDS, SHOW, SHOW_STREAMS, STEPS, STEPS_STREAMS, STREAMS, VERSION, WEIGHT, WHY, WHY_STREAMS,
-    WINDOWS, WINDOWS_STREAMS, WORKERS,
+    CHECK_STREAMS, COMPLETIONS, COMPLETIONS_STREAMS, DEAD, DRAW, DRAW_STREAMS, DRIVE,
+    DRIVE_STREAMS, DRIVERS, EVEN, FILE, GOAL, GOAL_STREAMS, JSON, MANUAL, MANUAL_STREAMS, MAP,
+    MIGRATE, MIGRATE_STREAMS, MORE, MOVES, ONLY, OUTPUT, PLAN, PLAN_STREAMS, PLAY, PLAY_STREAMS,
+    RACK_COLUMNS, RACKS, RACKS_APART, REPLAY, REPLAY_STREAMS, ROUNDS, SHELL, SHOW, SHOW_STREAMS,
+    STEPS, STEPS_STREAMS, STREAMS, VERSION, WEIGHT, WHY, WHY_STREAMS, WINDOWS, WINDOWS_STREAMS,
+    WORKERS,
 };
 use clap::{Arg, ArgAction, Command, value_parser};
 use std::alloc::{AllocError, Global};
@@ -99,6 +100,35 @@ fn job<'a>(alloc: Global, word: &'a str, about: &'a str, streams: &'a str) -> Ma
         .after_help(MORE)
         .after_long_help(streams);
     with_arg(with_arg(Ok(command), file(alloc)), output(alloc))
+}
+
+// A subcommand that reads nothing, with what it does, and what it prints.
+fn guide<'a>(alloc: Global, word: &'a str, about: &'a str, streams: &'a str) -> Made<'a>
+    ensures { IfOk result (IsApp (guide_app word.entry.now)) }
+{
+    let command = Command::new(alloc, word)
+        .about(about)
+        .after_help(MORE)
+        .after_long_help(streams);
+    with_arg(Ok(command), output(alloc))
+}
+
+// The shell, by its name.
+fn shell<'a>(alloc: Global) -> Arg<'a>
+    ensures rule { rule_of result ≡ shell_argument }
+    ensures local { result.global ≡ false }
+{
+    Arg::new(alloc, "shell")
+        .value_name("SHELL")
+        .help(SHELL)
+        .required(true)
+}
+
+fn completions<'a>(alloc: Global) -> Made<'a>
+    ensures { IfOk result (IsApp completions_app) }
+{
+    let command = guide(alloc, "completions", COMPLETIONS, COMPLETIONS_STREAMS);
+    with_arg(command, shell(alloc))
 }
 
 fn check<'a>(alloc: Global) -> Made<'a>
@@ -188,5 +218,7 @@ pub(crate) fn command<'a>(alloc: Global) -> Result<Command<'a>, AllocError>
     let line = with(line, job(alloc, "bundle", BUNDLE, BUNDLE_STREAMS));
     let line = with(line, job(alloc, "cert", CERT, CERT_STREAMS));
     let line = with(line, job(alloc, "plan", PLAN, PLAN_STREAMS));
-    with(line, job(alloc, "migrate", MIGRATE, MIGRATE_STREAMS))
+    let line = with(line, job(alloc, "migrate", MIGRATE, MIGRATE_STREAMS));
+    let line = with(line, completions(alloc));
+    with(line, guide(alloc, "man", MANUAL, MANUAL_STREAMS))
 }

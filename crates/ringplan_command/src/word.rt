@@ -2,7 +2,7 @@
 
 ghost use Rattle.std.specs.Prelude.{◌≡◌};
 ghost use Rattle.clap.specs.Words.{subcommand_rows_of};
-ghost use Rattle.ringplan_command.specs.Command.{more_named, word_named};
+ghost use Rattle.ringplan_command.specs.Command.{guide_named, more_named, word_named};
 
 use clap::ArgMatches;
 
@@ -18,6 +18,28 @@ pub enum Word {
     Bundle,
     Cert,
     After,
+}
+
+/// A text about the program itself, which reads no bundle.
+#[derive(Clone, Copy, Debug, PartialEq, Eq)]
+pub enum Guide {
+    /// The script by which a shell completes command lines.
+    Completions,
+    /// The page of the manual.
+    Manual,
+}
+
+/// The text about the program that the subcommand asks for, if it asks for one.
+pub(crate) fn guide_of(matches: &ArgMatches) -> Option<Guide>
+    ensures { result ≡ guide_named (subcommand_rows_of matches.now) }
+{
+    if matches.subcommand_matches("completions").is_some() {
+        return Some(Guide::Completions);
+    }
+    match matches.subcommand_matches("man") {
+        Some(_) => Some(Guide::Manual),
+        None => None,
+    }
 }
 
 /// The command for people that the subcommand is, if it is one.
@@ -61,10 +83,12 @@ fn more_of(matches: &ArgMatches) -> Option<Word>
     }
 }
 
-/// Whether the word is that of a command for people.
+/// Whether the word is that of a command whose line is refused on standard error: one for people, or for a text about the program.
 pub(crate) fn is_for_people(word: &str) -> bool {
-    matches!(
-        word,
-        "why" | "show" | "draw" | "steps" | "goal" | "windows" | "bundle" | "cert" | "after"
-    )
+    let is_guide = matches!(word, "completions" | "man");
+    is_guide
+        || matches!(
+            word,
+            "why" | "show" | "draw" | "steps" | "goal" | "windows" | "bundle" | "cert" | "after"
+        )
 }

@@ -4,12 +4,13 @@ use Rattle.ring_names.specs.declared.refusal.Refusal.{Refusal}
 use Rattle.ring_names.specs.declared.refusal.Refusal.TheVariants.{TooLarge, OutOfMemory, ReadFailed}
 use Rattle.ring_names.specs.Refusals.{line_of}
 use Rattle.ringplan_jobs.specs.Answers.{output_of, status_of}
-use Rattle.ringplan_command.specs.Command.{Asked, Asks, AsksDrive, AsksWord, IsRefused, WantsHelp, word_of_making}
+use Rattle.ringplan_command.specs.Command.{Asked, Asks, AsksDrive, AsksGuide, AsksWord, IsRefused, WantsHelp, word_of_making}
 use Rattle.ringplan_command.specs.Files.{Names}
 use Rattle.ringplan_jobs.specs.Io.{Prints, max_input}
 use Rattle.ringplan_jobs.specs.Outcomes.{Outcome}
 use Rattle.ringplan_run.specs.Drives.{Drives}
 use Rattle.ringplan_command.specs.declared.form.Form.{Form}
+use Rattle.ringplan_command.specs.declared.word.Guide.{Guide}
 use Rattle.ringplan_job.specs.declared.job.Job.{Job}
 use Rattle.ringplan_job.specs.declared.making.Making.{Making}
 use Rattle.ringplan_people.specs.Made.{IsReport}
@@ -32,6 +33,7 @@ pub data Reports (making : Making) (bytes : List ℕ) (text : List ℕ) (status 
 -- the text and the status of a run, by what its command line asks and the bytes of its input
 pub data Says (asked : Asked) (bytes : List ℕ) (text : List ℕ) (status : ℕ) : Type 0 where
   help : WantsHelp asked.faults → status ≡ 0 → Says asked bytes text status
+  described : (guide : Guide) → AsksGuide asked guide → status ≡ 0 → Says asked bytes text status
   refused : IsRefused asked → status ≡ 2 → Says asked bytes text status
   answered : (job : Job) (r : Result (List ℕ) Refusal) → Asks asked job → Outcome job bytes r → text ≡ output_of r → status ≡ status_of r → Says asked bytes text status
   driven : (workers : ℕ) (form : Form) (r : Result (List ℕ) Refusal) → AsksDrive asked workers form → DriveOutcome workers form bytes r → text ≡ output_of r → status ≡ status_of r → Says asked bytes text status

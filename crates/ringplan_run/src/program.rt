@@ -120,6 +120,7 @@ fn run_request<RT: AllocGlobal + Eprint + Threads + Wait + Sync, R: Read + Drop,
             tell(alloc, found, output)
         }
         Request::Make(making) => run_making(rt, &making, input, output),
+        Request::Describe(text) => finish(output, text.as_slice(), 0),
         Request::Help(text) => finish(output, text.as_slice(), 0),
         Request::Refused(text) => finish(output, text.as_slice(), REFUSED),
         Request::Mistaken(text) => {

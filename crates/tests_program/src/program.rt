@@ -69,6 +69,7 @@ fn helps_printed(rt: HostRuntime) -> Result<(), Fail> {
     told_of(&rt, "play", "-h", 0, "With --help: the formats")?;
     told_of(&rt, "goal", "--help", 0, "goal ring")?;
     told_of(&rt, "--version", "-h", 0, "ringplan 1.0.0")?;
+    told_of(&rt, "completions", "-h", 0, "bash, zsh or fish")?;
     told_of(&rt, "help", "check", 0, "Exit status")
 }
 
@@ -112,6 +113,8 @@ fn people_told_on_standard_error(rt: HostRuntime) {
     silent(&rt, &["ringplan", "goal", "--weight", "b"], 2);
     silent(&rt, &["ringplan", "windows", "--rounds", "0"], 2);
     silent(&rt, &["ringplan", "show"], 2);
+    silent(&rt, &["ringplan", "completions", "tcsh"], 2);
+    silent(&rt, &["ringplan", "man", "page"], 2);
 }
 
 #[test]

@@ -2,7 +2,7 @@ use Rattle.std.proofs.Common.{rules, [], subst, refl}
 use Rattle.ringplan_jobs.specs.Answers.{texts_of}
 use Rattle.ringplan_command.specs.Command.{Answers}
 use Rattle.ringplan_command.specs.declared.command.Request.{Request}
-use Rattle.ringplan_run.specs.Run.{help, refused}
+use Rattle.ringplan_run.specs.Run.{described, help, refused}
 use Rattle.ringplan_run.proofs.Runs.{many_few, ran, ran_asked, ran_by, ran_driven, ran_out, ran_report, said}
 use Rattle.ringplan_run.proofs.Deliveries.{prints_nothing}
 use Rattle.ringplan_run.proofs.program.run_request.Goals as goal
@@ -32,11 +32,17 @@ returns-in-Make g c = λ asked h.
     let asks = subst (λ (r : Request). Answers asked r) c.in-Make.is h in
     ran_report asked c.in-Make.making (g.R.Read.remaining c.args.input.now) _ _ c.run_making.result asks c.run_making.ensures
 
+pub returns-in-Describe : goal.returns-in-Describe
+returns-in-Describe g c = λ asked h.
+    let told = g.R.Read.remaining c.args.input.now in
+    let asks = subst (λ (r : Request). Answers asked r) c.in-Describe.is h in
+    ran _ told _ _ c.in-Describe.text.items c.as_slice.result.now 0 c.finish.result (said _ told c.in-Describe.text.items 0 (λ bytes. described asks.0 asks.1 refl)) c.as_slice.ensures.value c.finish.ensures
+
 pub returns-in-Help : goal.returns-in-Help
 returns-in-Help g c = λ asked h.
     let told = g.R.Read.remaining c.args.input.now in
     let asks = subst (λ (r : Request). Answers asked r) c.in-Help.is h in
-    ran _ told _ _ c.in-Help.text.items c.as_slice.result.now 0 c.finish.result (said _ told c.in-Help.text.items 0 (λ bytes. help asks refl)) c.as_slice.ensures.value c.finish.ensures
+    ran _ told _ _ c.in-Help.text.items c.as_slice-in-Help.result.now 0 c.finish-in-Help.result (said _ told c.in-Help.text.items 0 (λ bytes. help asks refl)) c.as_slice-in-Help.ensures.value c.finish-in-Help.ensures
 
 pub returns-in-Refused : goal.returns-in-Refused
 returns-in-Refused g c = λ asked h.

@@ -1,0 +1,37 @@
+//! What a line that asks for a text about the program asks for.
+
+ghost use Rattle.std.specs.Prelude.{IfOk};
+ghost use Rattle.ringplan_command.specs.Command.{IsOfGuide};
+ghost use Rattle.ringplan_command.specs.declared.word.Guide.TheVariants.{Completions};
+
+use crate::command::Request;
+use crate::help::NO_SHELL;
+use crate::manual::manual;
+use crate::shells::{Shell, completions};
+use crate::word::Guide;
+use clap::ArgMatches;
+use std::alloc::{AllocError, Global};
+
+/// What a line that asks for that text, with these options, asks for.
+pub(crate) fn write_guide(
+    alloc: Global,
+    options: &ArgMatches,
+    guide: Guide,
+) -> Result<Request, AllocError>
+    ensures { IfOk result (IsOfGuide guide) }
+{
+    match guide {
+        Guide::Completions => completions_line(alloc, options),
+        Guide::Manual => Ok(Request::Describe(manual(alloc)?)),
+    }
+}
+
+// What a line with the word `completions` asks for.
+fn completions_line(alloc: Global, options: &ArgMatches) -> Result<Request, AllocError>
+    ensures { IfOk result (IsOfGuide Completions) }
+{
+    match options.get_str("shell").and_then(Shell::named) {
+        Some(shell) => Ok(Request::Describe(completions(alloc, shell)?)),
+        None => Ok(Request::Mistaken(Vec::from_slice(alloc, NO_SHELL)?)),
+    }
+}
