@@ -9,11 +9,11 @@ ghost use Rattle.ringplan_command.specs.Tree.{completions_app, guide_app, shell_
 use crate::help::{
     ABOUT, AFTER, AFTER_STREAMS, ALL, BUNDLE, BUNDLE_STREAMS, CERT, CERT_STREAMS, CHECK,
     CHECK_STREAMS, COMPLETIONS, COMPLETIONS_STREAMS, DEAD, DRAW, DRAW_STREAMS, DRIVE,
-    DRIVE_STREAMS, DRIVERS, EVEN, FILE, GOAL, GOAL_STREAMS, JSON, MANUAL, MANUAL_STREAMS, MAP,
-    MIGRATE, MIGRATE_STREAMS, MORE, MOVES, ONLY, OUTPUT, PLAN, PLAN_STREAMS, PLAY, PLAY_STREAMS,
-    RACK_COLUMNS, RACKS, RACKS_APART, REPLAY, REPLAY_STREAMS, ROUNDS, SHELL, SHOW, SHOW_STREAMS,
-    STEPS, STEPS_STREAMS, STREAMS, VERSION, WEIGHT, WHY, WHY_STREAMS, WINDOWS, WINDOWS_STREAMS,
-    WORKERS,
+    DRIVE_STREAMS, DRIVERS, EVEN, EXIT_CODE, FILE, GOAL, GOAL_STREAMS, JSON, MANUAL,
+    MANUAL_STREAMS, MAP, MIGRATE, MIGRATE_STREAMS, MORE, MOVES, ONLY, OUTPUT, PLAN, PLAN_STREAMS,
+    PLAY, PLAY_STREAMS, RACK_COLUMNS, RACKS, RACKS_APART, REPLAY, REPLAY_STREAMS, ROUNDS, SHELL,
+    SHOW, SHOW_STREAMS, STEPS, STEPS_STREAMS, STREAMS, VERSION, WEIGHT, WHY, WHY_STREAMS, WINDOWS,
+    WINDOWS_STREAMS, WORKERS,
 };
 use clap::{Arg, ArgAction, Command, value_parser};
 use std::alloc::{AllocError, Global};
@@ -185,7 +185,8 @@ fn goal<'a>(alloc: Global) -> Made<'a>
     let command = job(alloc, "goal", GOAL, GOAL_STREAMS);
     let command = with_arg(with_arg(command, dead), weight);
     let command = with_arg(command, option(alloc, "racks-behind", "C", RACKS_APART));
-    with_arg(command, flag(alloc, "even", EVEN))
+    let command = with_arg(command, flag(alloc, "even", EVEN));
+    with_arg(command, flag(alloc, "exit-code", EXIT_CODE))
 }
 
 // The program's own line, which wants a subcommand.
