@@ -24,7 +24,7 @@ fn is_read(stays: &Stays, node: NodeId, partition: u32, listed: &[u32]) -> bool 
 }
 
 // How the node takes part in the step that comes next.
-fn role(stays: &Stays, node: NodeId, step: &Step) -> Option<Role> {
+fn role_in(stays: &Stays, node: NodeId, step: &Step) -> Option<Role> {
     let Step::Copy(slot, source) = step else {
         return None;
     };
@@ -44,7 +44,7 @@ pub fn roles(case: Case, node: NodeId) -> Result<Vec<Option<Role>>, Refusal> {
     let mut found = Vec::new(case.alloc);
     for number in 0..case.plan.len() {
         let step = case.plan.step(number);
-        found.push(role(&stays, node, step))?;
+        found.push(role_in(&stays, node, step))?;
         stays.act(step, number)?;
     }
     Ok(found)
