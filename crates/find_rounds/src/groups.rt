@@ -15,25 +15,18 @@ pub struct Groups {
 }
 
 impl Groups {
-    /// No node is known yet.
-    pub fn new(alloc: Global) -> Groups {
-        Groups {
-            most: Vec::new(alloc),
-            barred: 0,
-        }
-    }
-
     /// The groups of a ring's nodes.
-    pub fn fill(&mut self, ring: &Ring) -> Result<(), Refusal> {
+    pub fn of(alloc: Global, ring: &Ring) -> Result<Groups, Refusal> {
+        let mut most = Vec::new(alloc);
         for node in ring.nodes() {
             let (give, take) = match node.allowance {
                 Allowance::Joint(both) => (both, 0),
                 Allowance::Split { take, give } => (give, take),
             };
-            self.most.push(give)?;
-            self.most.push(take)?;
+            most.push(give)?;
+            most.push(take)?;
         }
-        Ok(())
+        Ok(Groups { most, barred: 0 })
     }
 
     /// Lets no transfer read from the node or go to it.

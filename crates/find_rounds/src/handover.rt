@@ -52,8 +52,7 @@ fn next_new(nodes: &[NodeId], row: &[NodeId], from: usize) -> Option<(NodeId, us
 impl<'a> Handover<'a> {
     // The transfers that nodes bear at once; none goes to a dead one or reads from it.
     fn groups(&self) -> Result<Groups, Refusal> {
-        let mut groups = Groups::new(self.alloc);
-        groups.fill(self.ring)?;
+        let mut groups = Groups::of(self.alloc, self.ring)?;
         for node in self.dead {
             groups.bar(node.0);
         }
@@ -101,27 +100,21 @@ impl<'a> Handover<'a> {
         Ok(out)
     }
 
-    // The plan by these groups and this layout.
-    fn plan_by(&self, groups: &Groups, layout: &mut Layout) -> Result<(Plan, Cert), Refusal> {
-        layout.fill(self.ring)?;
-        let moves = self.moves(layout)?;
+    /// The plan after which the slots have these owners, and its certificate. Owners of a partition are compared as sets, so no slot moves that need not.
+    /// Refused as `NoPlan` where a slot of a dead node moves and fewer than R others can be read; and want of memory as `OutOfMemory`.
+    pub fn plan(&self) -> Result<(Plan, Cert), Refusal> {
+        let groups = self.groups()?;
+        let mut layout = Layout::of(self.alloc, self.ring)?;
+        let moves = self.moves(&mut layout)?;
         let task = Task {
             alloc: self.alloc,
-            layout: &*layout,
-            groups,
+            layout: &layout,
+            groups: &groups,
             moves: moves.as_slice(),
             reads: self.ring.r(),
         };
         let mut schedule = Schedule::new(self.alloc);
         schedule.fill(&task)?;
         write(&task, &schedule, &self.turnover)
-    }
-
-    /// The plan after which the slots have these owners, and its certificate. Owners of a partition are compared as sets, so no slot moves that need not.
-    /// Refused as `NoPlan` where a slot of a dead node moves and fewer than R others can be read; and want of memory as `OutOfMemory`.
-    pub fn plan(&self) -> Result<(Plan, Cert), Refusal> {
-        let groups = self.groups()?;
-        let mut layout = Layout::new(self.alloc, self.ring);
-        self.plan_by(&groups, &mut layout)
     }
 }

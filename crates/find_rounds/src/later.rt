@@ -13,19 +13,12 @@ pub struct Later {
 }
 
 impl Later {
-    /// No group is known yet.
-    pub fn new(alloc: Global) -> Later {
-        Later {
-            last: Vec::new(alloc),
-            taken: Vec::new(alloc),
-        }
-    }
-
-    /// So many groups are free from the round on.
-    pub fn begin(&mut self, alloc: Global, groups: usize, round: u32) -> Result<(), Refusal> {
-        self.last = vec![in alloc; round; groups]?;
-        self.taken = vec![in alloc; 0u32; groups]?;
-        Ok(())
+    /// So many groups, which are free from the round on.
+    pub fn of(alloc: Global, groups: usize, round: u32) -> Result<Later, Refusal> {
+        Ok(Later {
+            last: vec![in alloc; round; groups]?,
+            taken: vec![in alloc; 0u32; groups]?,
+        })
     }
 
     // The first round from its last on in which the group is free.

@@ -17,25 +17,21 @@ pub struct Layout {
 }
 
 impl Layout {
-    /// No slot is known yet.
-    pub fn new(alloc: Global, ring: &Ring) -> Layout {
-        Layout {
-            partitions: ring.rows().len(),
-            slots: ring.n() as usize,
-            owners: Vec::new(alloc),
-            moving: Vec::new(alloc),
-        }
-    }
-
     /// The ring's owners; no slot moves yet.
-    pub fn fill(&mut self, ring: &Ring) -> Result<(), Refusal> {
+    pub fn of(alloc: Global, ring: &Ring) -> Result<Layout, Refusal> {
+        let mut owners = Vec::new(alloc);
         for row in ring.rows() {
             for owner in row.as_slice() {
-                self.owners.push(owner.0)?;
-                self.moving.push(0)?;
+                owners.push(owner.0)?;
             }
         }
-        Ok(())
+        let moving = vec![in alloc; 0u32; owners.len()]?;
+        Ok(Layout {
+            partitions: ring.rows().len(),
+            slots: ring.n() as usize,
+            owners,
+            moving,
+        })
     }
 
     /// The place of a slot among all.

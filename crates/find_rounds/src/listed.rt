@@ -94,7 +94,7 @@ impl Listing {
         self.slots.push(&self.row)
     }
 
-    // The same for each move. Answers whether no group has more copies than so many rounds allow.
+    // Lists slots for each move. Answers whether no group has more copies than so many rounds allow.
     fn list_all(&mut self, task: &Task, rounds: u32) -> Result<bool, Refusal> {
         let groups = task.groups;
         self.counts = counts(task.alloc, groups, task.moves)?;
@@ -134,7 +134,7 @@ impl Listing {
         Ok(true)
     }
 
-    // The same for each move. Answers whether there are as many slots, and no group has more copies than so many rounds allow.
+    // Lists slots for each copy whose owner is barred. Answers whether there are as many slots, and no group has more copies than so many rounds allow.
     fn list_all_around(&mut self, task: &Task, rounds: u32) -> Result<bool, Refusal> {
         self.counts = counts(task.alloc, task.groups, task.moves)?;
         for step in task.moves {
@@ -155,37 +155,33 @@ fn nothing_listed(task: &Task) -> Listing {
     }
 }
 
+// Which copies list slots: those whose owners have too much to give, or those whose owners are barred.
+#[derive(Clone, Copy)]
+enum Listed {
+    Loaded,
+    Barred,
+}
+
 // Sources by which so many rounds may be enough, if that is found.
-fn try_rounds(task: &Task, rounds: u32) -> Result<Option<Rows>, Refusal> {
+fn try_rounds(task: &Task, listed: Listed, rounds: u32) -> Result<Option<Rows>, Refusal> {
     let mut listing = nothing_listed(task);
-    if listing.list_all(task, rounds)? {
-        return Ok(Some(listing.slots));
-    }
-    Ok(None)
+    let is_enough = match listed {
+        Listed::Loaded => listing.list_all(task, rounds)?,
+        Listed::Barred => listing.list_all_around(task, rounds)?,
+    };
+    Ok(if is_enough { Some(listing.slots) } else { None })
 }
 
-// The same around groups that are barred.
-fn try_around(task: &Task, rounds: u32) -> Result<Option<Rows>, Refusal> {
-    let mut listing = nothing_listed(task);
-    if listing.list_all_around(task, rounds)? {
-        return Ok(Some(listing.slots));
-    }
-    Ok(None)
-}
-
-/// The slots, by index, that each copy lists whose owner is barred, so that the fewest rounds may be enough: of each partition R whose owners are not, those that
-/// stay first. None where a partition has not as many.
-pub fn around(task: &Task) -> Result<Option<Rows>, Refusal> {
-    // So many rounds are enough for all copies one behind the other.
-    let mut high = small(task.moves.len()).saturating_mul(8).saturating_add(1);
-    let mut low = 1u32;
+// Sources for the fewest rounds, at most so many, that are found to be enough. The limits meet after as many turns as a number has bits.
+fn search(task: &Task, listed: Listed, most: u32) -> Result<Option<Rows>, Refusal> {
+    let (mut low, mut high) = (1u32, most);
     let mut found = None;
     for _ in 0..32 {
         if low > high {
             break;
         }
         let middle = low.saturating_add(high.saturating_sub(low) / 2);
-        match try_around(task, middle)? {
+        match try_rounds(task, listed, middle)? {
             Some(better) => {
                 found = Some(better);
                 high = middle.saturating_sub(1);
@@ -194,6 +190,14 @@ pub fn around(task: &Task) -> Result<Option<Rows>, Refusal> {
         }
     }
     Ok(found)
+}
+
+/// The slots, by index, that each copy lists whose owner is barred, so that the fewest rounds may be enough: of each partition R whose owners are not, those that
+/// stay first. None where a partition has not as many.
+pub fn around(task: &Task) -> Result<Option<Rows>, Refusal> {
+    // So many rounds are enough for all copies one after the other.
+    let most = small(task.moves.len()).saturating_mul(8).saturating_add(1);
+    search(task, Listed::Barred, most)
 }
 
 /// The fewest rounds that allowances permit to copies from owners.
@@ -214,22 +218,5 @@ pub fn is_worth(rounds: u32, from_owners: u32) -> bool {
 pub fn sources(task: &Task) -> Result<Option<Rows>, Refusal> {
     let groups = task.groups;
     let from_owners = fewest(groups, &counts(task.alloc, groups, task.moves)?);
-    let mut found = None;
-    let mut low = 1u32;
-    let mut high = from_owners / 2;
-    // Half of the rounds from owners or fewer: the limits meet after as many turns as a number has bits.
-    for _ in 0..32 {
-        if low > high {
-            break;
-        }
-        let middle = low.saturating_add(high.saturating_sub(low) / 2);
-        match try_rounds(task, middle)? {
-            Some(better) => {
-                found = Some(better);
-                high = middle.saturating_sub(1);
-            }
-            None => low = middle.saturating_add(1),
-        }
-    }
-    Ok(found)
+    search(task, Listed::Loaded, from_owners / 2)
 }

@@ -19,8 +19,8 @@ fn by_place(task: &Task) -> Result<Vec<u32>, Refusal> {
     Ok(numbers)
 }
 
-/// By copy the moves of the slots that it lists: their copies come behind it.
-pub fn behind(task: &Task, listed: &Rows) -> Result<Rows, Refusal> {
+/// By copy the moves of the slots that it lists: their copies come after it.
+pub fn followers(task: &Task, listed: &Rows) -> Result<Rows, Refusal> {
     let (layout, numbers) = (task.layout, by_place(task)?);
     let mut behind = Rows::new(task.alloc);
     let mut copy = 0usize;
@@ -104,8 +104,7 @@ impl Phases {
 
 // Rounds in turn.
 fn in_turn(task: &Task, parties: &Rows) -> Result<Vec<u32>, Refusal> {
-    let mut later = Later::new(task.alloc);
-    later.begin(task.alloc, task.groups.len(), 0)?;
+    let mut later = Later::of(task.alloc, task.groups.len(), 0)?;
     let mut rounds = Vec::new(task.alloc);
     for copy in 0..parties.len() {
         rounds.push(later.round(task.groups, row(parties, copy)))?;

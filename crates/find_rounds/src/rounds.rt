@@ -5,7 +5,7 @@ use crate::groups::Groups;
 use crate::later::Later;
 use crate::listed::{around, fewest, is_worth, sources};
 use crate::moving::Move;
-use crate::phases::{behind, in_phases};
+use crate::phases::{followers, in_phases};
 use crate::task::Task;
 use crate::urgency::by_urgency;
 use helpers::{raise, row, small};
@@ -50,8 +50,7 @@ fn parties(task: &Task, step: &Move, listed: &[u32]) -> Result<Vec<u32>, Refusal
 fn seated(task: &Task, colours: &Colours, parties: &Rows) -> Result<Vec<u32>, Refusal> {
     let (alloc, groups) = (task.alloc, task.groups);
     let mut rounds = Vec::new(alloc);
-    let mut later = Later::new(alloc);
-    later.begin(alloc, groups.len(), small(colours.rounds))?;
+    let mut later = Later::of(alloc, groups.len(), small(colours.rounds))?;
     for copy in 0..task.moves.len() {
         rounds.push(match colours.round(copy) {
             Some(round) => small(round),
@@ -147,7 +146,7 @@ impl Schedule {
         };
         self.listed = listed;
         self.add_parties(task)?;
-        let behind = behind(task, &self.listed)?;
+        let behind = followers(task, &self.listed)?;
         self.rounds = in_phases(task, &self.parties, &behind)?;
         if behind.total() > 0 {
             self.try_urgency(task, &behind)?;
