@@ -17,5 +17,6 @@ mod stays;
 pub use excess::{Excess, overload};
 pub use finding::{Outcome, certificate};
 pub use order::Order;
+pub use runs::slot_of;
 pub use sides::{Sides, sides_of};
 pub use stays::{Stay, Stays};

@@ -27,7 +27,7 @@ impl Links {
     }
 
     /// 1 and the copy that follows this one, or 0.
-    pub(crate) fn behind(&self, copy: u32) -> u32 {
+    pub(crate) fn after(&self, copy: u32) -> u32 {
         at(self.followed.as_slice(), copy as usize)
     }
 
@@ -76,7 +76,7 @@ impl Links {
         let mut copy = first;
         for turn in 0..copies.len() {
             chain.push(at(copies, copy as usize))?;
-            let next = self.behind(copy);
+            let next = self.after(copy);
             if next == 0 {
                 break;
             }

@@ -95,7 +95,7 @@ impl Matching {
                     copy as usize,
                     asking.saturating_add(1),
                 );
-                let follower = self.links.behind(copy);
+                let follower = self.links.after(copy);
                 if follower == 0 {
                     return Ok(Some(copy));
                 }

@@ -34,8 +34,8 @@ fn awaited_of_slot(plan: &Plan, number: u32) -> Option<u32>
     }
 }
 
-// The slot of a step, if it has one.
-fn slot_of(step: &Step) -> Option<Slot> {
+/// The slot of a step, if it has one.
+pub fn slot_of(step: &Step) -> Option<Slot> {
     match step {
         Step::Mirror(slot, _) | Step::Copy(slot, _) | Step::Switch(slot) | Step::Drop(slot, _) =>
             Some(*slot),

@@ -1,6 +1,6 @@
 //! How a ring stands after the last entry of a history.
 
-use crate::progress::Progress;
+use crate::progress::{Progress, is_set};
 use crate::scene::Scene;
 use crate::shown::Shown;
 use plan_moves::owned;
@@ -109,14 +109,6 @@ impl Present {
     /// Whether the node is a member.
     pub fn is_member(&self, node: u32) -> bool {
         is_set(self.is_member.as_slice(), node)
-    }
-}
-
-// What is written at the node's place.
-fn is_set(marks: &[bool], node: u32) -> bool {
-    match marks.get(node as usize) {
-        Some(mark) => *mark,
-        None => false,
     }
 }
 

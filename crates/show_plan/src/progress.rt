@@ -73,17 +73,17 @@ impl Progress {
 
     /// Whether the step is done.
     pub fn is_done(&self, step: u32) -> bool {
-        is_put(self.done.as_slice(), step)
+        is_set(self.done.as_slice(), step)
     }
 
     /// Whether the step is an open copy.
     pub fn is_open(&self, step: u32) -> bool {
-        is_put(self.is_open.as_slice(), step)
+        is_set(self.is_open.as_slice(), step)
     }
 
     /// Whether the node is down.
     pub fn is_down(&self, node: u32) -> bool {
-        is_put(self.is_down.as_slice(), node)
+        is_set(self.is_down.as_slice(), node)
     }
 
     /// How many chunks of the copy are copied, of 16.
@@ -123,8 +123,8 @@ fn put(marks: &mut [bool], place: u32, mark: bool) {
     }
 }
 
-// What is written at the place.
-fn is_put(marks: &[bool], place: u32) -> bool {
+/// What is written at the place; false where there is no such place.
+pub fn is_set(marks: &[bool], place: u32) -> bool {
     match marks.get(place as usize) {
         Some(mark) => *mark,
         None => false,

@@ -38,8 +38,7 @@ impl Scene {
         let rounds = rounds(alloc, plan)?;
         let shown = AllShown::of(alloc, ring, plan, begun.as_slice(), rounds.as_slice())?;
         let widths = widths(alloc, shown.moves.as_slice())?;
-        let joins = joining(alloc, plan)?;
-        let leaves = retiring(alloc, plan)?;
+        let (joins, leaves) = changed_members(alloc, plan)?;
         let moved_slots = moved_slots(alloc, ring, shown.moves.as_slice())?;
         let last_rows = last_owners(alloc, ring, plan)?;
         let mut loads = Loads::of(alloc, ring, cert, &shown, last_rows.as_slice())?;
@@ -119,24 +118,15 @@ fn moved_slots(alloc: Global, ring: &Ring, moves: &[Shown]) -> Result<u32, Refus
     Ok(count)
 }
 
-// The nodes that join, in the order of the steps.
-fn joining(alloc: Global, plan: &Plan) -> Result<Vec<u32>, Refusal> {
-    let mut nodes = Vec::new(alloc);
+// The nodes that join, and those that retire, in the order of the steps.
+fn changed_members(alloc: Global, plan: &Plan) -> Result<(Vec<u32>, Vec<u32>), Refusal> {
+    let (mut joins, mut leaves) = (Vec::new(alloc), Vec::new(alloc));
     for number in 0..plan.len() {
-        if let Step::Join(node) = plan.step(number) {
-            nodes.push(node.0)?;
+        match plan.step(number) {
+            Step::Join(node) => joins.push(node.0)?,
+            Step::Retire(node) => leaves.push(node.0)?,
+            _ => {}
         }
     }
-    Ok(nodes)
-}
-
-// The nodes that retire, in the order of the steps.
-fn retiring(alloc: Global, plan: &Plan) -> Result<Vec<u32>, Refusal> {
-    let mut nodes = Vec::new(alloc);
-    for number in 0..plan.len() {
-        if let Step::Retire(node) = plan.step(number) {
-            nodes.push(node.0)?;
-        }
-    }
-    Ok(nodes)
+    Ok((joins, leaves))
 }

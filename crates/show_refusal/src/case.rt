@@ -1,6 +1,8 @@
 //! A bundle whose texts are in order, and whose plan is refused.
 
 use crate::ends::Ends;
+use find_chains::slot_of;
+use helpers::small;
 use plan_cert::Cert;
 use plan_stage::{Stage, stage_at};
 use plan_text::{Plan, Step};
@@ -18,21 +20,6 @@ pub struct Case<'a> {
     pub plan: &'a Plan,
     pub cert: &'a Cert,
     pub ends: &'a Ends,
-}
-
-/// A number of items as one of lines.
-pub fn small(count: usize) -> u32 {
-    u32::try_from(count).unwrap_or(u32::MAX)
-}
-
-/// The slot of a step, if it has one.
-pub fn slot_of(step: &Step) -> Option<Slot> {
-    match step {
-        Step::Mirror(slot, _) | Step::Copy(slot, _) | Step::Switch(slot) | Step::Drop(slot, _) => {
-            Some(*slot)
-        }
-        Step::Join(_) | Step::Retire(_) => None,
-    }
 }
 
 // The line without the steps that it waits for.

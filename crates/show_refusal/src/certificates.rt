@@ -1,7 +1,8 @@
 //! Certificates that do not show what they must.
 
-use crate::case::{Case, small};
+use crate::case::Case;
 use crate::roles::{Role, role_at, roles};
+use helpers::small;
 use ring_names::{NodeId, Refusal};
 use ring_table::{Allowance, NodeSide, Side};
 use show_why::{Said, field};

@@ -87,7 +87,7 @@ impl Habit {
             }
             let (line, others) = cut_line(rest);
             lines = lines.saturating_add(1);
-            if self.is_in(bare(line).0) {
+            if self.is_in(split_line(line).0) {
                 count = count.saturating_add(1);
             }
             rest = others;
@@ -110,7 +110,7 @@ impl Habit {
 
     // Adds a line, which is given with its newline, without the habit.
     fn push_line(self, out: &mut Words, line: &[u8]) {
-        let (text, end) = bare(line);
+        let (text, end) = split_line(line);
         match self {
             Habit::CarriageReturn => {
                 for piece in text.split(|byte| *byte == b'\r') {
@@ -128,7 +128,7 @@ impl Habit {
 }
 
 // A line without its newline, and the newline, where it has one.
-fn bare(line: &[u8]) -> (&[u8], &[u8]) {
+fn split_line(line: &[u8]) -> (&[u8], &[u8]) {
     match line.split_last() {
         Some((b'\n', text)) => (text, b"\n"),
         _ => (line, b""),
