@@ -2,6 +2,7 @@
 
 use crate::help::{ABOUT, STREAMS, VERSION};
 use crate::tree::command;
+use clap::Error;
 use clap::error::ErrorKind;
 use helpers::Words;
 use std::alloc::{AllocError, Global};
@@ -46,9 +47,17 @@ fn push_commands(alloc: Global, out: &mut Words) -> Result<(), AllocError> {
 // The help that a command line asks for.
 fn help_of<S: AsStr>(alloc: Global, words: &[S]) -> Result<String, AllocError> {
     match command(alloc)?.try_get_matches_from(words) {
-        Err(error) if error.kind() == ErrorKind::DisplayHelp => format!(in alloc; "{error}"),
-        _ => Err(AllocError),
+        Ok(_matches) => Err(AllocError),
+        Err(error) => text_of(alloc, &error),
     }
+}
+
+// The text of help. Any other error of such a line is a refusal of memory.
+fn text_of(alloc: Global, error: &Error) -> Result<String, AllocError> {
+    if error.kind() == ErrorKind::DisplayHelp {
+        return format!(in alloc; "{error}");
+    }
+    Err(AllocError)
 }
 
 // Adds the lines of a text of help. A line that is set in begins an entry of a list, or goes on with its words where it is set in by ten.
