@@ -13,7 +13,7 @@ ghost use Rattle.plan_bundles.specs.Certs.{front_at, front_reading, parts, IsCer
 use find_chains::{Excess, Outcome, certificate, overload};
 use find_rounds::write_texts;
 use helpers::Words;
-use plan_check::check;
+use plan_check::{Turned, check};
 use plan_text::{Plan, read_plan_section};
 use ring_names::{NodeId, Refusal};
 use ring_table::{Ring, Side, read_ring_section, write_ring};
@@ -77,10 +77,7 @@ fn certified(alloc: Global, front: Front) -> Result<Vec<u8>, Refusal>
     let Front { ring, plan } = front;
     match check(alloc, ring, plan, &found.cert) {
         Ok(_) => Ok(text),
-        Err(turned) => {
-            let refusal = turned.refusal;
-            Err(found.refusal(refusal))
-        }
+        Err(Turned { refusal, .. }) => Err(found.refusal(refusal)),
     }
 }
 

@@ -10,7 +10,7 @@ use crate::rings::{ask_ring, members_left, ring_after};
 use crate::room::Room;
 use find_chains::certificate;
 use find_rounds::write_texts;
-use plan_check::{Approved, check};
+use plan_check::{Approved, Turned, check};
 use plan_moves::{last_owners, rounds};
 use plan_text::Plan;
 use ring_names::Refusal;
@@ -40,10 +40,7 @@ fn window_over(alloc: Global, before: &[u8], plan: Plan) -> Result<Window, Refus
             let next = ring_after(alloc, &approved, before)?;
             Ok(Window { text, next })
         }
-        Err(turned) => {
-            let refusal = turned.refusal;
-            Err(refusal)
-        }
+        Err(Turned { refusal, .. }) => Err(refusal),
     }
 }
 

@@ -15,7 +15,7 @@ use crate::finding::find;
 use crate::leading::leads;
 use find_rounds::write_texts;
 use plan_cert::Cert;
-use plan_check::check;
+use plan_check::{Turned, check};
 use plan_text::Plan;
 use ring_names::{NodeId, Refusal};
 use ring_table::Ring;
@@ -90,10 +90,7 @@ fn checked(alloc: Global, ring: Ring, found: Found) -> Result<Vec<u8>, Refusal>
     let Found { plan, cert, text } = found;
     match check(alloc, ring, plan, &cert) {
         Ok(_) => Ok(text),
-        Err(turned) => {
-            let refusal = turned.refusal;
-            Err(refusal)
-        }
+        Err(Turned { refusal, .. }) => Err(refusal),
     }
 }
 

@@ -22,7 +22,7 @@ ghost use Rattle.ringplan_jobs.specs.Verdict.{shown, verdict};
 use crate::replaying::{replay_bundle, replay_whole};
 use change_text::read_wanted;
 use plan_cert::{Cert, write_cert};
-use plan_check::{OpenGate, check, check_parallel};
+use plan_check::{OpenGate, Turned, check, check_parallel};
 use plan_goal::propose;
 use plan_text::{Plan, write_plan};
 use ring_names::Refusal;
@@ -41,10 +41,7 @@ fn check_plan(alloc: Global, ring: Ring, plan: Plan, cert: &Cert) -> Result<(), 
 {
     match check(alloc, ring, plan, cert) {
         Ok(_) => Ok(()),
-        Err(turned) => {
-            let refusal = turned.refusal;
-            Err(refusal)
-        }
+        Err(Turned { refusal, .. }) => Err(refusal),
     }
 }
 
@@ -78,10 +75,7 @@ fn check_plan_by<RT: Threads + Wait + Sync>(
     let (ring, plan, cert) = (bundle.ring, bundle.plan, &bundle.cert);
     match check_parallel(rt, alloc, workers, &OpenGate, ring, plan, cert) {
         Ok(_) => Ok(()),
-        Err(turned) => {
-            let refusal = turned.refusal;
-            Err(refusal)
-        }
+        Err(Turned { refusal, .. }) => Err(refusal),
     }
 }
 
@@ -155,10 +149,7 @@ fn play_checked(alloc: Global, bundle: Bundle, ends: bool) -> Result<Vec<u8>, Re
 {
     match check(alloc, bundle.ring, bundle.plan, &bundle.cert) {
         Ok(approved) => play_whole(alloc, &approved, bundle.script, ends),
-        Err(turned) => {
-            let refusal = turned.refusal;
-            Err(refusal)
-        }
+        Err(Turned { refusal, .. }) => Err(refusal),
     }
 }
 

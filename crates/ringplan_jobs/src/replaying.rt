@@ -11,7 +11,7 @@ ghost use Rattle.ringplan_jobs.specs.Verdict.{MakesIf};
 ghost use Rattle.ringplan_job.specs.declared.job.Job.TheVariants.{Replay as Replaying};
 
 use history_text::{ReplayBundle, read_replay};
-use plan_check::{Approved, check};
+use plan_check::{Approved, Turned, check};
 use plan_runs::Entry;
 use ring_names::Refusal;
 use ring_script::replay_history;
@@ -39,10 +39,7 @@ fn replay_checked(alloc: Global, bundle: ReplayBundle) -> Result<Vec<u8>, Refusa
 {
     match check(alloc, bundle.ring, bundle.plan, &bundle.cert) {
         Ok(approved) => replay_approved(alloc, &approved, bundle.history.as_slice()),
-        Err(turned) => {
-            let refusal = turned.refusal;
-            Err(refusal)
-        }
+        Err(Turned { refusal, .. }) => Err(refusal),
     }
 }
 

@@ -14,7 +14,7 @@ mod store;
 use answer::push_same;
 use behind_a_lock::submitted_answers;
 use ledgered::{Played, ledgered_answers, restored};
-use plan_check::{Approved, check};
+use plan_check::{Approved, Turned, check};
 use plan_runs::{Entry, Event};
 use ring_names::Refusal;
 use ring_script::{Kind, read_bundle};
@@ -41,10 +41,7 @@ fn played<R: AllocGlobal + Wait>(rt: &R, bytes: &[u8]) -> Result<Vec<u8>, Refusa
     let bundle = read_bundle(alloc, Kind::Play, bytes)?;
     match check(alloc, bundle.ring, bundle.plan, &bundle.cert) {
         Ok(approved) => by_each(rt, &approved, bundle.script.events()),
-        Err(turned) => {
-            let refusal = turned.refusal;
-            Err(refusal)
-        }
+        Err(Turned { refusal, .. }) => Err(refusal),
     }
 }
 

@@ -5,7 +5,7 @@ ghost use Rattle.drive_text.specs.Drives.{IsDrive};
 
 use crate::came::{Came, drive_all};
 use drive_text::{DriveBundle, read_drive};
-use plan_check::{OpenGate, check};
+use plan_check::{OpenGate, Turned, check};
 use ring_names::Refusal;
 use std::process::Abort;
 use std::sync::Wait;
@@ -44,10 +44,7 @@ fn drive_parts<RT: AllocGlobal + Threads + Wait + Sync>(
 {
     match check(rt.alloc(), bundle.ring, bundle.plan, &bundle.cert) {
         Ok(approved) => drive_all(rt, &approved, bundle.scripts.as_slice(), workers, &OpenGate),
-        Err(turned) => {
-            let refusal = turned.refusal;
-            Err(refusal)
-        }
+        Err(Turned { refusal, .. }) => Err(refusal),
     }
 }
 
