@@ -90,7 +90,7 @@ fn choose(alloc: Global, ring: &Ring, seats: &mut Seats) -> Result<Counts, Refus
     let mended = seats.moved().saturating_sub(left);
     fill(alloc, seats)?;
     settle(alloc, seats)?;
-    spread_moves(alloc, seats)?;
+    spread_moves(alloc, ring.r(), seats)?;
     Ok(Counts {
         left,
         mended,

@@ -2,7 +2,7 @@
 
 use crate::pairs::{Half, Pairs};
 use find_flow::{Role, Seats};
-use helpers::{at, lower, raise, set};
+use helpers::{at, lower, raise, set, small};
 use ring_names::Refusal;
 use std::alloc::Global;
 
@@ -94,16 +94,19 @@ pub struct Crowds {
     pairs: Pairs,
     // by a count of joiners, how many partitions have so many
     levels: Vec<u32>,
+    // how many slots of a partition answer a read
+    reads: u32,
 }
 
 impl Crowds {
-    /// No partition is known yet.
-    pub fn new(alloc: Global) -> Crowds {
+    /// No partition is known yet, of a ring in which so many slots answer a read.
+    pub fn new(alloc: Global, reads: u32) -> Crowds {
         Crowds {
             joiners: Vec::new(alloc),
             moves: Vec::new(alloc),
             pairs: Pairs::new(alloc),
             levels: Vec::new(alloc),
+            reads,
         }
     }
 
@@ -162,8 +165,25 @@ impl Crowds {
         beyond_first(now.saturating_add(more)).saturating_sub(beyond_first(now))
     }
 
-    /// What it costs that two slots exchange their owners, where that is below the limit, no slot more moves, and the owner of the one may have the other.
-    /// That the owner of the other may have the one is known.
+    // How many copies have too few slots beside them that stay to read these in place of the owner, where so many slots of a partition move.
+    fn tied(&self, seats: &Seats, moves: i64) -> i64 {
+        let staying = i64::from(small(seats.slots)).saturating_sub(moves);
+        if staying < i64::from(self.reads) {
+            moves
+        } else {
+            0
+        }
+    }
+
+    // How many more copies are tied to their owners.
+    fn more_tied(&self, seats: &Seats, partition: usize, more: i64) -> i64 {
+        let now = i64::from(at(&self.moves, partition));
+        self.tied(seats, now.saturating_add(more))
+            .saturating_sub(self.tied(seats, now))
+    }
+
+    /// What it costs that two slots exchange their owners, where that is below the limit, no slot more moves, no more copies are tied to their owners, which
+    /// may give little at once, and the owner of the one may have the other. That the owner of the other may have the one is known.
     pub fn cost(&self, seats: &Seats, one: usize, other: usize, limit: Cost) -> Option<Cost> {
         let (first, second) = (half_of(seats, one, other), half_of(seats, other, one));
         let more = joiners_more(seats, first);
@@ -178,8 +198,11 @@ impl Crowds {
         let moves = self
             .moves_cost(first.partition, here)
             .saturating_add(self.moves_cost(second.partition, there));
+        let tied = self
+            .more_tied(seats, first.partition, here)
+            .saturating_add(self.more_tied(seats, second.partition, there));
         let is_dear = joiners == limit.joiners && moves > limit.moves;
-        if is_dear || here.saturating_add(there) > 0 {
+        if is_dear || tied > 0 || here.saturating_add(there) > 0 {
             return None;
         }
         let shares = self

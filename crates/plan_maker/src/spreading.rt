@@ -144,12 +144,12 @@ impl Spread {
 /// share partitions more evenly. No slot more moves, each node keeps its load, and no partition has more pairs of slots in one rack.
 ///
 /// The result is good, and not always the best: joiners take some 32 looks for each slot of the ring, and the rest at most 16.
-pub fn spread_moves(alloc: Global, seats: &mut Seats) -> Result<(), Refusal> {
+pub fn spread_moves(alloc: Global, reads: u32, seats: &mut Seats) -> Result<(), Refusal> {
     if seats.moved() == 0 {
         return Ok(());
     }
     let mut spread = Spread {
-        crowds: Crowds::new(alloc),
+        crowds: Crowds::new(alloc, reads),
         candidates: Candidates::new(alloc),
         looks: 0,
     };
