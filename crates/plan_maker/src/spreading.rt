@@ -141,7 +141,8 @@ impl Spread {
 }
 
 /// Spreads slots that move by exchanges of two owners. Partitions get fewer joiners beyond the first, then fewer slots that move beyond the first; then nodes
-/// share partitions more evenly. No slot more moves, each node keeps its load, and no partition has more pairs of slots in one rack.
+/// share partitions more evenly. No slot more moves, each node keeps its load, no partition has more pairs of slots in one rack, and no copy more
+/// has fewer than `reads` slots beside it that stay.
 ///
 /// The result is good, and not always the best: joiners take some 32 looks for each slot of the ring, and the rest at most 16.
 pub fn spread_moves(alloc: Global, reads: u32, seats: &mut Seats) -> Result<(), Refusal> {
