@@ -80,6 +80,11 @@ def outputs(folder):
         faults.append("/dev/null is no device any more")
     owes("a full device", run("goal", "-o", "/dev/full", plan), b"", contains(b"No space left on device"), 3)
     owes("a dash", run("goal", "-o", "-", plan), whole, b"", 0)
+    owes("an output with an exit code", run("goal", "--exit-code", "-o", target, plan), b"", b"", 4)
+    with open(target, "rb") as it:
+        if it.read() != whole:
+            faults.append("an exit code: another text")
+    owes("a full device with an exit code", run("goal", "--exit-code", "-o", "/dev/full", plan), b"", contains(b"No space left on device"), 3)
     left = [name for name in os.listdir(folder) if name.endswith(".part")]
     if left:
         faults.append(f"parts are left: {left}")
@@ -97,6 +102,10 @@ def streams():
     owes("a wrong number of rounds", run("windows", "--rounds", "0"), b"", contains(b"1..=1000000"), 2)
     ring = read("plan_replace").split(b"change 1\n")[0]
     owes("a goal that is reached", run("goal", given=ring + b"change 1\nend\n"), ring + b"plan 1\nend\ncert 1\nend\n", contains(b"the plan has no steps"), 0)
+    for given, status in ((ring + b"change 1\nend\n", 0), (read("plan_replace"), 4), (refused, 2)):
+        plain = run("goal", given=given)
+        owes(f"a goal with its exit code, {status}", run("goal", "--exit-code", given=given), plain[0], plain[1], status)
+    owes("how even a goal is", run("goal", "--even", "--exit-code", given=read("plan_replace")), contains(b"slots"), b"", 0)
     owes("no command", run(), contains(b"Usage"), b"", 2)
     logic = subprocess.run(["rt", "version"], stdout=subprocess.PIPE).stdout.decode().split()[-1]
     for word in ("--version", "-V"):

@@ -85,9 +85,12 @@ steps_app = with_rule (job_app (codes "steps")) (flag_option (codes "moves"))
 abbrev pub windows_app : App
 windows_app = with_rule (with_rule (job_app (codes "windows")) (record (cut_option (codes "rounds")) { required = true })) (cut_option (codes "only"))
 
+-- a goal, with what it must know of nodes; and with what it prints
+abbrev pub nodes_app : App
+nodes_app = with_rule (with_rule (with_rule (job_app (codes "goal")) (list_option (codes "dead"))) (list_option (codes "weight"))) (text_option (codes "racks-behind"))
+
 abbrev pub goal_app : App
-goal_app = with_rule (with_rule (with_rule (with_rule (job_app (codes "goal")) (list_option (codes "dead"))) (list_option (codes "weight")))
-    (text_option (codes "racks-behind"))) (flag_option (codes "even"))
+goal_app = with_rule (with_rule nodes_app (flag_option (codes "even"))) (flag_option (codes "exit-code"))
 
 -- the program's name, which wants a subcommand, and its version
 abbrev pub top_app : App

@@ -11,7 +11,7 @@ pub(crate) const MORE: &str = "With --help: the formats, an example and the exit
 pub(crate) const FILE: &str = "The bundle; with `-` or without it standard input is read";
 
 pub(crate) const OUTPUT: &str =
-    "Writes to FILE in place of standard output: all of the text, or with another exit status than 0 nothing";
+    "Writes to FILE in place of standard output: all of the text, or with another exit status than 0 and 4 nothing";
 
 pub(crate) const GOAL: &str =
     "Prints a plan that leads to a goal ring, by racks, weights and dead nodes, with its certificate";
@@ -98,6 +98,9 @@ pub(crate) const RACKS_APART: &str =
 pub(crate) const EVEN: &str =
     "Says in words how far from even the goal ring is, in place of a plan";
 
+pub(crate) const EXIT_CODE: &str =
+    "Ends with status 4 where the plan that is printed has steps, and with 0 where it has none";
+
 pub(crate) const ROUNDS: &str = "How many rounds of copies a window has, 1 to 1000000";
 
 pub(crate) const ONLY: &str = "Prints the window of that number alone, counted from 1";
@@ -125,7 +128,8 @@ Exit status:
   0  it was printed, or yes
   1  the plan is refused, there is none, a drive broke off, or the history is no run of the plan
   2  a text or the command line is refused
-  3  out of memory, or an input or output failed";
+  3  out of memory, or an input or output failed
+  4  `goal --exit-code` printed a plan that has steps";
 
 pub(crate) const PLAN_STREAMS: &str = "\
 Example: ringplan plan examples/plan_replace.bundle
@@ -285,7 +289,7 @@ Standard output: the texts of the first ring, a plan that leads to the goal ring
 else what `why` prints. The slots of a partition are compared as sets. A dead node that shall leave keeps its line `in`: it cannot take part in its
 own retirement.
 
-Exit status: 0 printed, 1 no plan, 2 a text or the command line is refused, 3 memory, input or output";
+Exit status: 0 printed, with `--exit-code` 4 if the plan has steps, 1 no plan, 2 a text or the command line is refused, 3 memory, input or output";
 
 pub(crate) const WINDOWS_STREAMS: &str = "\
 Example: ringplan windows --rounds 1 examples/plan_replace.bundle

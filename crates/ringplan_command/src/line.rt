@@ -8,7 +8,7 @@ use crate::help::{NO_BYTE, NO_WEIGHT};
 use crate::naming::{add_dead, add_weights};
 use crate::word::Word;
 use clap::ArgMatches;
-use ringplan_job::{Cut, DrawWish, Making, Options, Picture, Shape, Wish};
+use ringplan_job::{Cut, DrawWish, Exit, Making, Options, Picture, Shape, Wish};
 use std::alloc::{AllocError, Global};
 
 /// What a line with that command and these options asks for.
@@ -106,17 +106,25 @@ fn goal_line(alloc: Global, matches: &ArgMatches) -> Result<Request, AllocError>
         Some(racks_behind) => options.racks_behind = racks_behind,
         None => return mistaken(alloc, NO_BYTE),
     }
-    Ok(Request::Make(goal_of(options, matches.get_flag("even"))))
+    Ok(Request::Make(goal_of(options, matches)))
 }
 
 // A plan that leads to the goal ring, or how even that is.
-fn goal_of(options: Options, is_even: bool) -> Making
+fn goal_of(options: Options, matches: &ArgMatches) -> Making
     ensures { word_of_making result ≡ Word.Goal }
 {
-    if is_even {
+    if matches.get_flag("even") {
         return Making::Even(options);
     }
-    Making::Goal(options)
+    Making::Goal(options, exit_of(matches))
+}
+
+// What the line asks the exit status to say.
+fn exit_of(matches: &ArgMatches) -> Exit {
+    if matches.get_flag("exit-code") {
+        return Exit::Steps;
+    }
+    Exit::Printed
 }
 
 // The byte in front of racks, if they are asked for. None where what is given for it is no one byte.

@@ -4,16 +4,16 @@ ghost use Rattle.std.specs.Prelude.{◌≡◌, false, IfOk};
 ghost use Rattle.clap.specs.Words.{App, rule_of, with_rule, with_subcommand};
 ghost use Rattle.ringplan_command.specs.Tree.{IsApp, cut_option, draw_app, drive_app, flag_option, goal_app, job_app, ringplan, show_app};
 ghost use Rattle.ringplan_command.specs.Tree.{check_app, file_argument, output_option, steps_app, text_option, top_app};
-ghost use Rattle.ringplan_command.specs.Tree.{completions_app, guide_app, shell_argument, windows_app, workers_option};
+ghost use Rattle.ringplan_command.specs.Tree.{completions_app, guide_app, nodes_app, shell_argument, windows_app, workers_option};
 
 use crate::help::{
     ABOUT, AFTER, AFTER_STREAMS, ALL, BUNDLE, BUNDLE_STREAMS, CERT, CERT_STREAMS, CHECK,
     CHECK_STREAMS, COMPLETIONS, COMPLETIONS_STREAMS, DEAD, DRAW, DRAW_STREAMS, DRIVE,
-    DRIVE_STREAMS, DRIVERS, EVEN, FILE, GOAL, GOAL_STREAMS, JSON, MANUAL, MANUAL_STREAMS, MAP,
-    MIGRATE, MIGRATE_STREAMS, MORE, MOVES, ONLY, OUTPUT, PLAN, PLAN_STREAMS, PLAY, PLAY_STREAMS,
-    RACK_COLUMNS, RACKS, RACKS_APART, REPLAY, REPLAY_STREAMS, ROUNDS, SHELL, SHOW, SHOW_STREAMS,
-    STEPS, STEPS_STREAMS, STREAMS, VERSION, WEIGHT, WHY, WHY_STREAMS, WINDOWS, WINDOWS_STREAMS,
-    WORKERS,
+    DRIVE_STREAMS, DRIVERS, EVEN, EXIT_CODE, FILE, GOAL, GOAL_STREAMS, JSON, MANUAL,
+    MANUAL_STREAMS, MAP, MIGRATE, MIGRATE_STREAMS, MORE, MOVES, ONLY, OUTPUT, PLAN, PLAN_STREAMS,
+    PLAY, PLAY_STREAMS, RACK_COLUMNS, RACKS, RACKS_APART, REPLAY, REPLAY_STREAMS, ROUNDS, SHELL,
+    SHOW, SHOW_STREAMS, STEPS, STEPS_STREAMS, STREAMS, VERSION, WEIGHT, WHY, WHY_STREAMS, WINDOWS,
+    WINDOWS_STREAMS, WORKERS,
 };
 use clap::{Arg, ArgAction, Command, value_parser};
 use std::alloc::{AllocError, Global};
@@ -177,15 +177,23 @@ fn windows<'a>(alloc: Global) -> Made<'a>
     with_arg(command, number(alloc, "only", "W", ONLY))
 }
 
-fn goal<'a>(alloc: Global) -> Made<'a>
-    ensures { IfOk result (IsApp goal_app) }
+// A goal, with what it must know of nodes.
+fn goal_of_nodes<'a>(alloc: Global) -> Made<'a>
+    ensures { IfOk result (IsApp nodes_app) }
 {
     let dead = option(alloc, "dead", "NODE", DEAD).action(ArgAction::Append);
     let weight = option(alloc, "weight", "NODE=K", WEIGHT).action(ArgAction::Append);
     let command = job(alloc, "goal", GOAL, GOAL_STREAMS);
     let command = with_arg(with_arg(command, dead), weight);
-    let command = with_arg(command, option(alloc, "racks-behind", "C", RACKS_APART));
-    with_arg(command, flag(alloc, "even", EVEN))
+    with_arg(command, option(alloc, "racks-behind", "C", RACKS_APART))
+}
+
+fn goal<'a>(alloc: Global) -> Made<'a>
+    ensures { IfOk result (IsApp goal_app) }
+{
+    let command = goal_of_nodes(alloc);
+    let command = with_arg(command, flag(alloc, "even", EVEN));
+    with_arg(command, flag(alloc, "exit-code", EXIT_CODE))
 }
 
 // The program's own line, which wants a subcommand.

@@ -45,6 +45,15 @@ pub struct Cut {
     pub only: Option<u32>,
 }
 
+/// What the exit status says of a plan that is printed.
+#[derive(Clone, Copy, Debug, PartialEq, Eq)]
+pub enum Exit {
+    /// That there is one: 0.
+    Printed,
+    /// Whether it has steps: 4 where it has some, and else 0.
+    Steps,
+}
+
 /// What can be made of a bundle.
 #[derive(Debug, Drop)]
 pub enum Making {
@@ -67,7 +76,7 @@ pub enum Making {
     /// The plan in parts, or one of these.
     Windows(Cut),
     /// A plan that leads to the ring that is wished for.
-    Goal(Options),
+    Goal(Options, Exit),
     /// In words how far from even that ring is.
     Even(Options),
 }

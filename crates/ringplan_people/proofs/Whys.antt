@@ -1,6 +1,7 @@
 -- What a yes says, and a status.
-use Rattle.std.proofs.Common.{◌≡◌, ◌≢◌, ℕ, arith, Bool, true, false, List, Ok, Err, refl, sym, ◌∙◌, if◌then◌else◌}
-use Rattle.ringplan_jobs.specs.Answers.{refused_status}
+use Rattle.std.proofs.Common.{◌≡◌, ◌≢◌, ◌≤◌, ℕ, arith, Bool, true, false, List, Result, Ok, Err, refl, sym, ◌∙◌, subst, if◌then◌else◌}
+use Rattle.ring_names.specs.declared.refusal.Refusal.{Refusal}
+use Rattle.ringplan_jobs.specs.Answers.{refused_status, status_of}
 use Rattle.ringplan_people.specs.Studies.{HasApproved, of_plan}
 use Rattle.ringplan_people.specs.Why.{AnswersCheck, HasKept}
 
@@ -23,3 +24,17 @@ yes_of_study bytes (ring, plan, of, approved) = (ring, plan, of, approved.keeps)
 -- a refusal has another status than 0
 pub refused_status_is : (n : ℕ) → refused_status n ≢ 0
 refused_status_is n e = not_zero _ _ e
+
+few : (a b : Bool) → (if a then 2 else (if b then 3 else 1)) ≤ 3
+few true b = omega arith
+few false true = omega arith
+few false false = omega arith
+
+-- what was found has a status up to 3
+status_few : (r : Result (List ℕ) Refusal) → status_of r ≤ 3
+status_few (Ok text) = omega arith
+status_few (Err e) = few _ _
+
+-- and so has a check, with words behind its line
+pub few_of_check : (bytes text : List ℕ) (status : ℕ) → AnswersCheck bytes text status → status ≤ 3
+few_of_check bytes text status (found, makes, begins) = subst (λ (s : ℕ). s ≤ 3) (sym begins.2) (status_few found)

@@ -1,5 +1,5 @@
 -- What is made of a bundle.
-use Rattle.std.specs.Prelude.{◌≡◌, ◌≢◌, ◌⊎◌, ℕ, List, [], ◌++◌, Ok, map, ⊤}
+use Rattle.std.specs.Prelude.{◌≡◌, ◌≢◌, ◌≤◌, ◌⊎◌, ℕ, List, [], ◌++◌, Ok, map, ⊤}
 use Rattle.ring_names.specs.declared.refusal.Refusal.{Refusal}
 use Rattle.ring_names.specs.Refusals.{line_of, number_of}
 use Rattle.texts.specs.Left.{whole_text}
@@ -14,7 +14,9 @@ use Rattle.plan_lines.specs.Lines.{steps_text}
 use Rattle.plan_lines.specs.MoveLines.{moves_text}
 use Rattle.ringplan_jobs.specs.Answers.{refused_status}
 use Rattle.ringplan_jobs.specs.Verdict.{TextsKeepPromises}
+use Rattle.ringplan_job.specs.declared.making.Exit.TheVariants as exit
 use Rattle.ringplan_job.specs.declared.making.Making.{Making}
+use Rattle.ringplan_job.specs.declared.options.Options.{Options}
 use Rattle.ringplan_job.specs.declared.making.Making.TheVariants.{Why, Bundle, Cert, After, Show, Draw, Steps, Moves, Windows, Goal, Even}
 use Rattle.plan_bundles.specs.Certs.{IsCertifiedText}
 use Rattle.plan_bundles.specs.Goals.{IsLed}
@@ -45,15 +47,19 @@ IsMade (Draw wish) bytes text = HasApproved bytes
 IsMade Steps bytes text = OfPlan (λ ring plan. text ≡ steps_text ring plan) bytes
 IsMade Moves bytes text = OfPlan (λ ring plan. text ≡ moves_text ring plan) bytes
 IsMade (Windows cut) bytes text = OfPlan (λ ring plan. AreAskedOf ring plan cut.only text) bytes
-IsMade (Goal options) bytes text = IsLed bytes (map (λ name. name.items) options.dead.items) text
+IsMade (Goal options status) bytes text = IsLed bytes (map (λ name. name.items) options.dead.items) text
 IsMade (Even options) bytes text = ⊤
 IsMade Why bytes text = ⊥
 
+-- the status at what was made: 0, or 4 where a goal asks it to say whether the plan has steps
+abbrev pub IsMadeWith : Making → ℕ → Type 0
+IsMadeWith making status = (status ≡ 0) ⊎ ((status ≡ 4) × ((options : Options) × (making ≡ Goal options exit.Steps)))
+
 -- what is printed of the bytes, and the status: why they are refused, or what a yes says; else what is made of them, or nothing where they are refused
 pub data IsReport (making : Making) (bytes : List ℕ) (text : List ℕ) (status : ℕ) : Type 0 where
-  told : making ≡ Why → IsWhy bytes text status → IsReport making bytes text status
-  made : IsMade making bytes text → status ≡ 0 → IsReport making bytes text status
-  refused : making ≢ Why → text ≡ [] → status ≢ 0 → IsReport making bytes text status
+  told : making ≡ Why → IsWhy bytes text status → status ≤ 3 → IsReport making bytes text status
+  made : IsMade making bytes text → IsMadeWith making status → IsReport making bytes text status
+  refused : making ≢ Why → text ≡ [] → status ≢ 0 → status ≤ 3 → IsReport making bytes text status
 
 -- nothing is printed, and on standard error the refusal's line and some words, with the status of the refusal
 abbrev pub IsRefusal : Refusal → List ℕ → List ℕ → ℕ → Type 0

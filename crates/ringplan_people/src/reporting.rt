@@ -1,10 +1,10 @@
 //! What is printed of a bundle for people: on standard output what is made of it, or on standard error why nothing is.
 
-ghost use Rattle.std.specs.Prelude.{◌≡◌, ◌≢◌, ◌⊎◌, ◌++◌, ℕ, List, [], IfOk};
+ghost use Rattle.std.specs.Prelude.{◌≡◌, ◌≢◌, ◌≤◌, ◌⊎◌, ◌++◌, ℕ, List, [], IfOk};
 ghost use Rattle.ring_names.specs.Refusals.{line_of, number_of};
 ghost use Rattle.ringplan_jobs.specs.Answers.{refused_status};
 ghost use Rattle.ringplan_job.specs.declared.making.Making.TheVariants.{Why};
-ghost use Rattle.ringplan_people.specs.Made.{IsMade, IsRefusal, IsReport};
+ghost use Rattle.ringplan_people.specs.Made.{IsMade, IsMadeWith, IsRefusal, IsReport};
 ghost use Rattle.ringplan_people.specs.Why.{IsWhy};
 
 use crate::after::{after_bundle, push_open};
@@ -17,7 +17,7 @@ use crate::why::{push_words_of, why_bundle};
 use crate::windows::{push_windows_words, windows_bundle};
 use plan_bundles::{front, led_bundle, wish_words};
 use ring_names::Refusal;
-use ringplan_job::Making;
+use ringplan_job::{Exit, Making};
 use ringplan_jobs::{Answer, answer_of};
 use std::alloc::Global;
 use words::Words;
@@ -45,30 +45,51 @@ fn make_of(alloc: Global, making: &Making, bytes: &[u8]) -> Result<Vec<u8>, Refu
         Making::Steps => steps_bundle(alloc, bytes),
         Making::Moves => moves_bundle(alloc, bytes),
         Making::Windows(cut) => windows_bundle(alloc, bytes, *cut),
-        Making::Goal(options) => led_bundle(alloc, bytes, options),
+        Making::Goal(options, _) => led_bundle(alloc, bytes, options),
         Making::Even(options) => wish_words(alloc, bytes, options),
     }
+}
+
+// Whether the ring's text has a plan without steps after it.
+fn has_no_steps(output: &[u8]) -> bool {
+    output[front(output, 1)..].starts_with(b"plan 1\nend\n")
 }
 
 // What standard error says of what was made: that a plan which was asked for has no steps.
 fn note_of(making: &Making, output: &[u8]) -> &'static [u8] {
     match making {
-        Making::Goal(_) if output[front(output, 1)..].starts_with(b"plan 1\nend\n") => {
+        Making::Goal(_, _) if has_no_steps(output) => {
             b"ringplan: the plan has no steps, as the ring is what it shall be\n"
         }
         _ => b"",
     }
 }
 
+// The exit status at what was made.
+fn made_status(making: &Making, output: &[u8]) -> u8
+    ensures { IsMadeWith making.now result }
+{
+    match making {
+        Making::Goal(_, Exit::Steps) => {
+            if has_no_steps(output) {
+                return 0;
+            }
+            4
+        }
+        _ => 0,
+    }
+}
+
 // The report of what was made.
 fn made(alloc: Global, making: &Making, output: Vec<u8>) -> Result<Report, Refusal>
-    ensures { IfOk result (λ r. (r.output.items ≡ output.items) × (r.status ≡ 0)) }
+    ensures { IfOk result (λ r. (r.output.items ≡ output.items) × IsMadeWith making.now r.status) }
 {
     let errors = Vec::from_slice(alloc, note_of(making, output.as_slice()))?;
+    let status = made_status(making, output.as_slice());
     Ok(Report {
         output,
         errors,
-        status: 0,
+        status,
     })
 }
 
@@ -100,7 +121,7 @@ fn push_said(
         (Making::Cert, _) => push_why_none(alloc, out, bytes, refusal),
         (Making::After, Refusal::WrongStage(step)) => push_open(alloc, out, bytes, *step),
         (Making::Windows(_), _) => push_windows_words(alloc, out, bytes, refusal),
-        (Making::Goal(options) | Making::Even(options), _) => {
+        (Making::Goal(options, _) | Making::Even(options), _) => {
             push_goal_words(alloc, out, bytes, options, refusal)
         }
         _ => push_words_of(alloc, out, bytes, refusal),
@@ -124,7 +145,8 @@ fn report_made(alloc: Global, making: &Making, bytes: &[u8]) -> Result<Report, R
 
 // The report of why a bundle is refused, or of what a yes says.
 fn report_why(alloc: Global, bytes: &[u8]) -> Result<Report, Refusal>
-    ensures { IfOk result (λ r. IsWhy bytes.now r.output.items r.status) }
+    ensures why { IfOk result (λ r. IsWhy bytes.now r.output.items r.status) }
+    ensures few { IfOk result (λ r. r.status ≤ 3) }
 {
     let Answer { output, status } = why_bundle(alloc, bytes)?;
     Ok(Report {
@@ -134,8 +156,8 @@ fn report_why(alloc: Global, bytes: &[u8]) -> Result<Report, Refusal>
     })
 }
 
-/// What is printed of a bundle, where `making` is asked for. On standard output stands what is made of the bundle, and the status is 0; or it is
-/// empty, and on standard error stand the refusal's line and why. `why` prints both on standard output. The only refusal is `OutOfMemory`.
+/// What is printed of a bundle, where `making` is asked for. On standard output stands what is made of the bundle, and the status is 0, or 4 for a plan
+/// with steps where a goal asks so; or it is empty, and on standard error stand the refusal's line and why. `why` prints both on standard output. The only refusal is `OutOfMemory`.
 pub fn report_bundle(alloc: Global, making: &Making, bytes: &[u8]) -> Result<Report, Refusal>
     ensures { IfOk result (λ r. IsReport making.now bytes.now r.output.items r.status) }
 {

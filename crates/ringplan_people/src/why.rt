@@ -1,6 +1,6 @@
 //! Why a bundle is refused.
 
-ghost use Rattle.std.specs.Prelude.{◌≡◌, ◌≢◌, Ok, IfOk, IfNone, IsTrue};
+ghost use Rattle.std.specs.Prelude.{◌≡◌, ◌≢◌, ◌≤◌, Ok, IfOk, IfNone, IsTrue};
 ghost use Rattle.texts.specs.Left.{whole_text};
 ghost use Rattle.ring_script.specs.Bundles.{bundle_at};
 ghost use Rattle.ring_script.specs.declared.bundle.Bundle.{Bundle as TheBundle};
@@ -316,7 +316,8 @@ fn push_more(alloc: Global, out: &mut Words, bytes: &[u8]) -> Result<Option<Refu
 
 // Why a bundle with a change or a history is accepted or refused.
 fn why_more(alloc: Global, bytes: &[u8]) -> Result<Answer, Refusal>
-    ensures { IfOk result (λ a. a.status ≡ 0 → HasApproved bytes.now) }
+    ensures yes { IfOk result (λ a. a.status ≡ 0 → HasApproved bytes.now) }
+    ensures few { IfOk result (λ a. a.status ≤ 3) }
 {
     let mut words = Words::new(alloc);
     let found = match push_more(alloc, &mut words, bytes)? {
@@ -334,6 +335,7 @@ fn why_more(alloc: Global, bytes: &[u8]) -> Result<Answer, Refusal>
 pub fn why_bundle(alloc: Global, bytes: &[u8]) -> Result<Answer, Refusal>
     // Status 0 comes only where the plan keeps its promises; of a ring, a plan and a certificate line and status are those of a check.
     ensures why { IfOk result (λ a. IsWhy bytes.now a.output.items a.status) }
+    ensures few { IfOk result (λ a. a.status ≤ 3) }
 {
     if is_plan(alloc, bytes)? {
         return why_plan(alloc, bytes);

@@ -15,7 +15,7 @@ use Rattle.ringplan_command.specs.Command.{Asked, asked, only}
 use Rattle.ringplan_command.specs.Files.{Names, files_in, files_of, no_files}
 use Rattle.ringplan_command.specs.Tree.{word_of}
 use Rattle.ringplan_command.proofs.Commands.{asked_alone, no_files_alone}
-use Rattle.ringplan_run.specs.Run.{Delivers, Reports, Runs, RunsTo, Shows, failed, filed, printed, told_by, too_large}
+use Rattle.ringplan_run.specs.Run.{Delivers, IsWritten, Reports, Runs, RunsTo, Shows, failed, filed, printed, told_by, too_large}
 
 -- nothing is printed, with any status
 pub prints_nothing : (old : Option (List ℕ)) (status : ℕ) → Prints old old [] status status
@@ -41,12 +41,16 @@ handed_on asked bytes shown old new status result (text, wanted, says, inr ((fro
 pub delivers : (asked : Asked) (target : Option (List ℕ)) (bytes : List ℕ) (old new : Option (List ℕ)) (result : ℕ) → Shows asked bytes old new result → RunsTo asked target bytes old new result
 delivers asked target bytes old new result (text, status, says, prints) = (text, status, says, printed prints)
 
--- what was said with status 0 to a list of bytes is written to a file
-pub saved : (asked : Asked) (target : Option (List ℕ)) (bytes shown : List ℕ) (old : Option (List ℕ)) (status result : ℕ) → IsSome target → status ≡ 0
-    → Shows asked bytes (Some []) (Some shown) status → (result ≡ 0) ⊎ (result ≡ 3) → RunsTo asked target bytes old old result
-saved asked target bytes shown old status result some zero (text, wanted, says, inl (appends, is)) (inl e) = (text, wanted, says, filed some refl (sym is ∙ zero) (inl e))
-saved asked target bytes shown old status result some zero (text, wanted, says, inl (appends, is)) (inr e) = (text, wanted, says, filed some refl (sym is ∙ zero) (inr e))
-saved asked target bytes shown old status result some zero (text, wanted, says, inr (part, three)) h = let bad : 0 ≡ 3 = sym zero ∙ three in absurd cc
+not_written : (status : ℕ) → IsWritten status → status ≡ 3 → ⊥
+not_written status (inl zero) three = let bad : 0 ≡ 3 = sym zero ∙ three in absurd cc
+not_written status (inr four) three = let bad : 4 ≡ 3 = sym four ∙ three in absurd cc
+
+-- what was said with such a status to a list of bytes is written to a file
+pub saved : (asked : Asked) (target : Option (List ℕ)) (bytes shown : List ℕ) (old : Option (List ℕ)) (status result : ℕ) → IsSome target → IsWritten status
+    → Shows asked bytes (Some []) (Some shown) status → (result ≡ status) ⊎ (result ≡ 3) → RunsTo asked target bytes old old result
+saved asked target bytes shown old status result some written (text, wanted, says, inl (appends, is)) h =
+    (text, wanted, says, filed some refl (subst (λ (s : ℕ). IsWritten s) is written) (subst (λ (s : ℕ). (result ≡ s) ⊎ (result ≡ 3)) is h))
+saved asked target bytes shown old status result some written (text, wanted, says, inr (part, three)) h = absurd (not_written status written three)
 
 -- where no file is written, all is printed
 only_printed : (target : Option (List ℕ)) (old new : Option (List ℕ)) (text : List ℕ) (status result : ℕ) → Delivers None old new text status result → Delivers target old new text status result

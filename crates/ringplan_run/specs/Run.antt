@@ -50,10 +50,14 @@ Shows asked bytes old new result = (text : List ℕ) × (status : ℕ) × Says a
 abbrev pub ShowsReport : Making → List ℕ → Option (List ℕ) → Option (List ℕ) → ℕ → Type 0
 ShowsReport making bytes old new result = (text : List ℕ) × (status : ℕ) × Reports making bytes text status × Prints old new text status result
 
--- a text is printed; or where a file is named for it and the status is 0, that is written, and nothing printed
+-- a text with that status is written to the file that is named for it
+abbrev pub IsWritten : ℕ → Type 0
+IsWritten status = (status ≡ 0) ⊎ (status ≡ 4)
+
+-- a text is printed; or where a file is named for it and the status is 0 or 4, that is written, and nothing printed
 pub data Delivers (target : Option (List ℕ)) (old new : Option (List ℕ)) (text : List ℕ) (status result : ℕ) : Type 0 where
   printed : Prints old new text status result → Delivers target old new text status result
-  filed : IsSome target → new ≡ old → status ≡ 0 → (result ≡ 0) ⊎ (result ≡ 3) → Delivers target old new text status result
+  filed : IsSome target → new ≡ old → IsWritten status → (result ≡ status) ⊎ (result ≡ 3) → Delivers target old new text status result
 
 -- something is said, and printed or written to the target
 abbrev pub RunsTo : Asked → Option (List ℕ) → List ℕ → Option (List ℕ) → Option (List ℕ) → ℕ → Type 0

@@ -70,12 +70,18 @@ fn replace<RT: Files + AllocGlobal>(rt: &RT, name: &str, text: &[u8]) -> io::Res
     fs::rename(rt, beside.as_str(), name)
 }
 
-/// Writes the text to the file, all of it or nothing, and gives the exit status: 0, or 3 where that fails, which is said on standard error.
-pub(crate) fn save<RT: Files + Eprint + AllocGlobal>(rt: &RT, name: &str, text: &[u8]) -> u8
-    ensures { (result ≡ 0) ⊎ (result ≡ 3) }
+/// Writes the text to the file, all of it or nothing, and gives the exit status: that of the text, or 3 where the write fails, which is said on standard
+/// error.
+pub(crate) fn save<RT: Files + Eprint + AllocGlobal>(
+    rt: &RT,
+    name: &str,
+    text: &[u8],
+    status: u8,
+) -> u8
+    ensures { (result ≡ status) ⊎ (result ≡ 3) }
 {
     match replace(rt, name, text) {
-        Ok(()) => 0,
+        Ok(()) => status,
         Err(error) => {
             let _ = eprint!(rt; "ringplan: {name}: {error}\n");
             3

@@ -1,6 +1,6 @@
 //! The program, over any input and any output.
 
-ghost use Rattle.std.specs.Prelude.{◌≡◌, ◌<◌, ◌≤◌, ◌∷◌, ℕ, List, [], IfOk, drop, map, option_map, string_bytes};
+ghost use Rattle.std.specs.Prelude.{◌≡◌, ◌<◌, ◌≤◌, ◌∷◌, true, ℕ, List, [], IfOk, drop, map, option_map, string_bytes};
 ghost use Rattle.ring_names.specs.Refusals.{line_of};
 ghost use Rattle.ringplan_jobs.specs.Answers.{texts_of};
 ghost use Rattle.ringplan_command.specs.Command.{Answers, Asked, asked, only};
@@ -8,7 +8,7 @@ ghost use Rattle.ringplan_command.specs.Files.{files_of, no_files};
 ghost use Rattle.ringplan_command.specs.Tree.{word_of};
 ghost use Rattle.ringplan_jobs.specs.Io.{Prints, Tells};
 ghost use Rattle.ringplan_jobs.specs.Outcomes.{Finds};
-ghost use Rattle.ringplan_run.specs.Run.{FindsDrive, PrintsFound, Reports, Runs, RunsTo, Shows, ShowsReport, told_by};
+ghost use Rattle.ringplan_run.specs.Run.{FindsDrive, IsWritten, PrintsFound, Reports, Runs, RunsTo, Shows, ShowsReport, told_by};
 ghost use Rattle.ringplan_job.specs.declared.job.Job.{Job};
 ghost use Rattle.ringplan_job.specs.declared.job.Job.TheVariants.{Check};
 
@@ -39,12 +39,15 @@ const FAILED: u8 = 3;
 // The exit status where the command line is refused.
 const REFUSED: u8 = 2;
 
+// The exit status of a plan with steps, where the command line asks for it.
+const STEPS: u8 = 4;
+
 /// Runs a command line, whose first word is the program's name, and returns the exit status: 0 for what was printed, for yes and for help, 1 for a plan
 /// that is refused or that there is none of, for a drive that broke off and for a history that is no run, 2 for a text or a command line that is
-/// refused, and 3 where memory, an input or an output failed. `plan`, `check`, `play`, `drive`, `replay` and `migrate` print their refusals on the output,
+/// refused, 3 where memory, an input or an output failed, and 4 for a plan with steps where `goal --exit-code` asks for that. `plan`, `check`, `play`, `drive`, `replay` and `migrate` print their refusals on the output,
 /// the other commands on standard error.
 ///
-/// Where the line names a file, that is read in place of the input; where it names one with `-o`, what would be printed with status 0 is written there. It
+/// Where the line names a file, that is read in place of the input; where it names one with `-o`, what would be printed with status 0 or 4 is written there. It
 /// waits for the threads that `drive` and `check --workers` ask for; every other line that names a job is done by `run_alone`.
 pub fn run<
     RT: AllocGlobal + Files + Eprint + Threads + Wait + Sync,
@@ -90,11 +93,18 @@ fn run_to<RT: AllocGlobal + Files + Eprint + Threads + Wait + Sync, R: Read + Dr
     };
     let mut text = Vec::new(rt.alloc());
     let status = run_request(rt, request, input, &mut text);
-    if status == 0 {
-        save(rt, name.as_str(), text.as_slice())
+    if is_written(status) {
+        save(rt, name.as_str(), text.as_slice(), status)
     } else {
         finish(output, text.as_slice(), status)
     }
+}
+
+// Whether a text with this status is written to the file that is named for it.
+fn is_written(status: u8) -> bool
+    ensures { result ≡ true → IsWritten status }
+{
+    status == 0 || status == STEPS
 }
 
 // Does what is asked for with the whole input, and prints what comes of it.

@@ -175,3 +175,29 @@ fn each_write_fails(rt: HostRuntime) {
     ends_fail(&rt, "drive", DRIVE);
     ends_fail(&rt, "migrate", CHECK);
 }
+
+// A ring of one node, and a change that changes nothing.
+const REST: &[u8] = b"ring 1\nspace 1\nquorum 1 1 1\nnode a 1 in\nslots 0 a\nend\nchange 1\nend\n";
+
+// A goal that tells by its status whether its plan has steps ends with that one.
+fn goal_ends<RT: AllocGlobal + Files + Eprint + Threads + Wait + Sync + Abort>(
+    rt: &RT,
+    bundle: &[u8],
+    status: u8,
+) {
+    let mut input = MemoryReader {
+        rest: bundle,
+        step: MANY,
+        calls: MANY,
+    };
+    let mut output = MemoryWriter::new(rt.alloc(), MANY, MANY);
+    let words = ["ringplan", "goal", "--exit-code"];
+    let ended = run(rt, &words, &mut input, &mut output);
+    assert_eq!(rt; ended, status);
+}
+
+#[test]
+fn steps_told_by_the_status(rt: HostRuntime) {
+    goal_ends(&rt, PLAN, 4);
+    goal_ends(&rt, REST, 0);
+}

@@ -115,6 +115,7 @@ fn people_told_on_standard_error(rt: HostRuntime) {
     silent(&rt, &["ringplan", "show"], 2);
     silent(&rt, &["ringplan", "completions", "tcsh"], 2);
     silent(&rt, &["ringplan", "man", "page"], 2);
+    silent(&rt, &["ringplan", "show", "--exit-code"], 2);
 }
 
 #[test]
