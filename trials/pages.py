@@ -19,13 +19,17 @@ EMBEDDING = "EMBEDDING.md"
 def commands(page: str) -> list[tuple[str, list[str]]]:
     """Each command of a page, with the lines that it prints."""
     found: list[tuple[str, list[str]]] = []
-    inside = False
+    inside, blank = False, 0
     for line in page.splitlines():
         if line.startswith("    $ "):
             found.append((line[6:], []))
-            inside = True
+            inside, blank = True, 0
         elif inside and line.startswith("    "):
-            found[-1][1].append(line[4:].rstrip())
+            found[-1][1].extend([""] * blank + [line[4:].rstrip()])
+            blank = 0
+        elif inside and not line:
+            # A blank line is one of the output where more of it follows.
+            blank += 1
         else:
             inside = False
     return found
