@@ -36,9 +36,9 @@ def case(number):
     return n, member, bears, rows, joins, leaves, weights, racks
 
 
-def asked(number):
+def asked(change):
     """The names of the nodes, the options and the bundle."""
-    n, member, bears, rows, joins, leaves, weights, racks = case(number)
+    n, member, bears, rows, joins, leaves, weights, racks = change
     names = ["n%d.%s" % (v, "k%d" % racks[v] if v < len(racks) else "own%d" % v) for v in range(len(member))]
     lines = ["ring 2", "space %d" % len(rows), "quorum %d 1 %d" % (n, n)]
     lines += ["node %s %s %s" % (names[v], bears[v], "in" if member[v] else "out") for v in range(len(member))]
@@ -48,15 +48,15 @@ def asked(number):
     return names, ["--racks-behind", ".", *options], "\n".join(lines) + "\n"
 
 
-def answered(number):
-    """The owners by number behind the plan, and None where there is none."""
-    names, options, text = asked(number)
+def answered(change):
+    """The owners by number after the plan, and None where there is none."""
+    names, options, text = asked(change)
     ran = subprocess.run([RUN, "goal", *options], input=text.encode(), capture_output=True, timeout=60)
     out = (ran.stdout + (ran.stderr if ran.returncode else b"")).decode()
     if out.startswith("no 28\n") and ran.returncode == 1:
         return None
     if ran.returncode:
-        raise SystemExit("case %d: %s" % (number, out.splitlines()[:2]))
+        raise SystemExit("%s: %s" % (" ".join(options), out.splitlines()[:2]))
     rows, mirrors = [[names.index(word) for word in line.split()[2:]] for line in text.splitlines() if line.startswith("slots")], {}
     for line in out.split("end\n")[1].splitlines():
         fields = line.split()
@@ -70,8 +70,8 @@ def answered(number):
 class Known:
     """What the rules say of a case: who is a member in the end, with which weight, rack and part."""
 
-    def __init__(self, number):
-        self.n, member, _, self.rows, joins, leaves, weights, racks = case(number)
+    def __init__(self, change):
+        self.n, member, _, self.rows, joins, leaves, weights, racks = change
         count = len(member)
         self.after = [v for v in range(count) if (member[v] or v in joins) and v not in leaves]
         self.has_plan = not leaves or len(self.after) >= self.n
@@ -90,6 +90,10 @@ class Known:
         load = [sum(v in row for row in rows) for v in range(len(self.rack))]
         pairs = sum(self.rack[a] == self.rack[b] for row in rows for k, a in enumerate(row) for b in row[:k])
         moves = sum(v not in old for row, old in zip(rows, self.rows) for v in row)
+        return self.price(load, pairs, moves)
+
+    def price(self, load, pairs, moves):
+        """The cost of owners with these loads, pairs of slots in one rack and moves, and the sum of the squares."""
         met = sum(min(load[v], self.part[v]) for v in self.after)
         squares = sum(load[v] ** 2 * self.unit // self.weight[v] for v in self.after)
         return pairs * self.pair - met * self.lack + moves * self.move + squares, squares
@@ -135,9 +139,8 @@ def least(known):
     return total
 
 
-def judge(number, answer):
+def judge(known, answer):
     """What is wrong with an answer, if something is, and how far from even it is."""
-    known = Known(number)
     if not known.has_plan or answer is None:
         return None if not known.has_plan and answer is None else "refused wrongly or not at all", 1
     rows = answer
@@ -153,7 +156,7 @@ def judge(number, answer):
 def main(count):
     faults, ratios = 0, []
     for number in range(count):
-        fault, ratio = judge(number, answered(number))
+        fault, ratio = judge(Known(case(number)), answered(case(number)))
         ratios.append(ratio)
         if fault:
             faults += 1

@@ -14,6 +14,7 @@ mod search;
 mod seats;
 mod wish;
 
+pub use grouped::Grouped;
 pub use members::{Members, Role};
 pub use mending::{balance_all, raise_all};
 pub use racks::Racks;

@@ -3,7 +3,7 @@
 use crate::copies::Copies;
 use crate::grouped::Grouped;
 use crate::members::{Members, Role};
-use numbers::{NONE, at, lower, raise, set, small};
+use numbers::{NONE, at, lower, raise, set, small, swap};
 use ring_names::Refusal;
 use ring_table::Ring;
 use std::alloc::Global;
@@ -15,6 +15,8 @@ pub struct Seats<'a> {
     /// How many partitions there are, and how many slots each of them has.
     pub partitions: usize,
     pub slots: usize,
+    /// How many slots of a partition answer a read.
+    pub reads: u32,
     // by place, the owner before
     first: Vec<u32>,
     // by place, the owner that is wished for, or nobody
@@ -33,6 +35,7 @@ impl<'a> Seats<'a> {
             members,
             partitions: ring.rows().len(),
             slots: ring.n() as usize,
+            reads: ring.r(),
             first: Vec::new(alloc),
             now: Vec::new(alloc),
             owned: Grouped::new(alloc),
@@ -140,8 +143,8 @@ impl<'a> Seats<'a> {
 
     /// Whether the node owns a slot of the partition now or did before.
     pub fn knows(&self, partition: usize, node: u32) -> bool {
-        for index in 0..self.slots {
-            let place = self.place(partition, index);
+        let start = self.place(partition, 0);
+        for place in start..start.saturating_add(self.slots) {
             if self.now(place) == node || self.first(place) == node {
                 return true;
             }
@@ -160,8 +163,9 @@ impl<'a> Seats<'a> {
     /// How many slots of the partition are in the rack now.
     pub fn count(&self, partition: usize, rack: usize) -> u32 {
         let mut count = 0u32;
-        for index in 0..self.slots {
-            if self.rack_at(self.place(partition, index)) == Some(rack) {
+        let start = self.place(partition, 0);
+        for place in start..start.saturating_add(self.slots) {
+            if self.rack_at(place) == Some(rack) {
                 count = count.saturating_add(1);
             }
         }
@@ -213,20 +217,20 @@ impl<'a> Seats<'a> {
         }
     }
 
-    // The place at which the node owns a slot of the partition now.
-    fn place_now(&self, partition: usize, node: u32) -> Option<usize> {
+    /// The place at which the node owns a slot of the partition now.
+    pub fn place_now(&self, partition: usize, node: u32) -> Option<usize> {
         let (start, slots) = (self.place(partition, 0), self.slots);
         found(&self.now, start, slots, node)
     }
 
-    // The place at which it owned one before.
-    fn place_before(&self, partition: usize, node: u32) -> Option<usize> {
+    /// The place at which the node owned a slot of the partition before.
+    pub fn place_before(&self, partition: usize, node: u32) -> Option<usize> {
         let (start, slots) = (self.place(partition, 0), self.slots);
         found(&self.first, start, slots, node)
     }
 
-    // Whether the node could own the slot in the place of another.
-    fn may_have(&self, place: usize, node: u32) -> bool {
+    /// Whether the node could own the slot in the place of another.
+    pub fn may_have(&self, place: usize, node: u32) -> bool {
         let rack = self.members.racks.of(node);
         self.place_now(self.partition(place), node).is_none() && self.suits(place, rack)
     }
@@ -256,6 +260,28 @@ impl<'a> Seats<'a> {
         }
         self.replace(place, to);
         true
+    }
+
+    /// Exchanges the owners of two slots. Each node keeps its load, but may own a slot at another index than before.
+    pub fn exchange(&mut self, one: usize, other: usize) {
+        swap(&mut self.now, one, other);
+    }
+
+    // Puts each owner of the partition that owned a slot of it before at the index that it had.
+    fn align(&mut self, partition: usize) {
+        for index in 0..self.slots {
+            let place = self.place(partition, index);
+            if let Some(other) = self.place_now(partition, self.first(place)) {
+                self.exchange(place, other);
+            }
+        }
+    }
+
+    /// Puts each owner at the index that it had before in its partition, if it had one.
+    pub fn align_all(&mut self) {
+        for partition in 0..self.partitions {
+            self.align(partition);
+        }
     }
 
     /// How many slots the node owns now.

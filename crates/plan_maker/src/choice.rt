@@ -3,6 +3,7 @@
 use crate::filling::fill;
 use crate::giving::give;
 use crate::outcome::Wished;
+use crate::spreading::spread_moves;
 use crate::thinning::thin;
 use find_flow::{Members, Role, Search, Seats, Wish, balance_all, raise_all};
 use ring_names::{Listed, NodeId, Refusal};
@@ -89,6 +90,7 @@ fn choose(alloc: Global, ring: &Ring, seats: &mut Seats) -> Result<Counts, Refus
     let mended = seats.moved().saturating_sub(left);
     fill(alloc, seats)?;
     settle(alloc, seats)?;
+    spread_moves(alloc, seats)?;
     Ok(Counts {
         left,
         mended,
@@ -108,6 +110,9 @@ fn wished_of(alloc: Global, ring: &Ring, members: &Members) -> Result<Wished, Re
 /// of a node is that of its weight among all members in the end, rounded down, and at most one slot of each partition; as few slots move as can be; and
 /// the slots are spread as evenly by weight as these moves allow: the sum over the members of the square of a member's slots by its weight is the least. The
 /// balance, and rare slots of parts, stay behind the best where the search for them would take too long.
+///
+/// Then few partitions have two slots or more on nodes that join, few have two slots that move, and nodes share partitions evenly. That is good, and not always
+/// the best.
 ///
 /// Refused is a wish that no ring fulfils, as `NoPlan`: a join of a member, a leave of another than a member, and leaves that leave fewer members than a
 /// partition has slots; and want of memory as `OutOfMemory`. The same input gives the same owners.

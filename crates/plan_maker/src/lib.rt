@@ -3,12 +3,16 @@
 //! slots as that and the change need, takes the most even of such choices, and lets as many transfers run at once as allowances permit.
 #![tactic(auto)]
 
+mod candidates;
 mod choice;
+mod crowds;
 mod filling;
 mod giving;
 mod maker;
 mod outcome;
+mod pairs;
 mod ranks;
+mod spreading;
 mod takers;
 mod thinning;
 mod tidings;

@@ -1,0 +1,234 @@
+//! What partitions bear of a change, and what an exchange of two owners does to that.
+
+use crate::pairs::{Half, Pairs};
+use find_flow::{Role, Seats};
+use numbers::{at, lower, raise, set, small};
+use ring_names::Refusal;
+use std::alloc::Global;
+
+/// What an exchange costs, the most important first; less than 0 where it gains.
+#[derive(Clone, Copy, PartialEq, Eq, PartialOrd, Ord, Drop)]
+pub struct Cost {
+    // 64 for each node that joins beyond the first of a partition, and 1 for each pair of such nodes: two partitions have at most 42 pairs
+    joiners: i64,
+    // slots that move beyond the first of a partition
+    moves: i64,
+    // squares of how many partitions two nodes share
+    shares: i64,
+}
+
+/// Above the cost of each exchange that leaves fewer joiners beyond the first of a partition, or else fewer pairs of joiners.
+pub const FEWER_JOINERS: Cost = Cost {
+    joiners: -1,
+    moves: 100,
+    shares: 0,
+};
+
+/// Above the cost of each exchange that gains.
+pub const ANY_GAIN: Cost = Cost {
+    joiners: 0,
+    moves: 0,
+    shares: 0,
+};
+
+fn beyond_first(count: i64) -> i64 {
+    count.saturating_sub(1).max(0)
+}
+
+// What so many joiners of one partition cost.
+fn crowding(joiners: i64) -> i64 {
+    let pairs = joiners.saturating_mul(joiners.saturating_sub(1)) / 2;
+    beyond_first(joiners)
+        .saturating_mul(64)
+        .saturating_add(pairs)
+}
+
+fn joins(seats: &Seats, node: u32) -> i64 {
+    if seats.members.role(node) == Role::Joins {
+        1
+    } else {
+        0
+    }
+}
+
+// 1 where the node owned no slot of the partition before, else 0.
+fn enters(seats: &Seats, partition: usize, node: u32) -> i64 {
+    match seats.place_before(partition, node) {
+        Some(_) => 0,
+        None => 1,
+    }
+}
+
+// How many joiners more the half's partition has.
+fn joiners_more(seats: &Seats, half: Half) -> i64 {
+    joins(seats, half.new).saturating_sub(joins(seats, half.old))
+}
+
+// How many slots more of the half's partition move.
+fn moves_more(seats: &Seats, half: Half) -> i64 {
+    let before = enters(seats, half.partition, half.old);
+    enters(seats, half.partition, half.new).saturating_sub(before)
+}
+
+// How many copies have too few slots beside them that stay to read these in place of the owner, where so many slots of a partition move.
+fn tied_copies(seats: &Seats, moves: i64) -> i64 {
+    let staying = i64::from(small(seats.slots)).saturating_sub(moves);
+    if staying < i64::from(seats.reads) {
+        moves
+    } else {
+        0
+    }
+}
+
+// The slot at the one place gets the owner of that at the other.
+fn half_of(seats: &Seats, one: usize, other: usize) -> Half {
+    Half {
+        partition: seats.partition(one),
+        place: one,
+        old: seats.now(one),
+        new: seats.now(other),
+    }
+}
+
+// The count at the place is another.
+fn change(counts: &mut [u32], place: usize, more: i64) {
+    let count = i64::from(at(counts, place)).saturating_add(more);
+    set(counts, place, u32::try_from(count).unwrap_or(0));
+}
+
+/// By partition, how many joiners own slots of it, and how many of its slots move; and how many partitions two nodes share.
+#[derive(Drop)]
+pub struct Crowds {
+    joiners: Vec<u32>,
+    moves: Vec<u32>,
+    pairs: Pairs,
+    // by a count of joiners, how many partitions have so many
+    levels: Vec<u32>,
+}
+
+impl Crowds {
+    /// No partition is known yet.
+    pub fn new(alloc: Global) -> Crowds {
+        Crowds {
+            joiners: Vec::new(alloc),
+            moves: Vec::new(alloc),
+            pairs: Pairs::new(alloc),
+            levels: Vec::new(alloc),
+        }
+    }
+
+    /// Counts what all partitions bear.
+    pub fn fill(&mut self, alloc: Global, seats: &Seats) -> Result<(), Refusal> {
+        self.joiners = vec![in alloc; 0u32; seats.partitions]?;
+        self.moves = vec![in alloc; 0u32; seats.partitions]?;
+        for place in 0..seats.total() {
+            self.add(seats, place);
+        }
+        self.levels = vec![in alloc; 0u32; seats.slots.saturating_add(1)]?;
+        for joiners in self.joiners.iter() {
+            raise(&mut self.levels, *joiners as usize);
+        }
+        self.pairs.fill(alloc, seats)
+    }
+
+    fn add(&mut self, seats: &Seats, place: usize) {
+        let (partition, node) = (seats.partition(place), seats.now(place));
+        change(&mut self.joiners, partition, joins(seats, node));
+        change(&mut self.moves, partition, enters(seats, partition, node));
+    }
+
+    // How many joiners own slots of the partition.
+    fn joiners(&self, partition: usize) -> u32 {
+        at(&self.joiners, partition)
+    }
+
+    /// Whether another partition has at least two joiners fewer.
+    pub fn can_relieve(&self, partition: usize) -> bool {
+        let end = self.joiners(partition).saturating_sub(1) as usize;
+        for level in 0..end {
+            if at(&self.levels, level) > 0 {
+                return true;
+            }
+        }
+        false
+    }
+
+    /// How many slots move.
+    pub fn all_moves(&self) -> u32 {
+        let mut all = 0u32;
+        for moves in self.moves.iter() {
+            all = all.saturating_add(*moves);
+        }
+        all
+    }
+
+    fn joiners_cost(&self, partition: usize, more: i64) -> i64 {
+        let now = i64::from(self.joiners(partition));
+        crowding(now.saturating_add(more)).saturating_sub(crowding(now))
+    }
+
+    fn moves_cost(&self, partition: usize, more: i64) -> i64 {
+        let now = i64::from(at(&self.moves, partition));
+        beyond_first(now.saturating_add(more)).saturating_sub(beyond_first(now))
+    }
+
+    // How many more copies are tied to their owners.
+    fn more_tied(&self, seats: &Seats, partition: usize, more: i64) -> i64 {
+        let now = i64::from(at(&self.moves, partition));
+        tied_copies(seats, now.saturating_add(more)).saturating_sub(tied_copies(seats, now))
+    }
+
+    /// What it costs that two slots exchange their owners, where that is below the limit, no slot more moves, no more copies are tied to their owners, which
+    /// may give little at once, and the owner of the one may have the other. That the owner of the other may have the one is known.
+    pub fn cost(&self, seats: &Seats, one: usize, other: usize, limit: Cost) -> Option<Cost> {
+        let (first, second) = (half_of(seats, one, other), half_of(seats, other, one));
+        let more = joiners_more(seats, first);
+        let joiners = self.joiners_cost(first.partition, more).saturating_add(self.joiners_cost(
+            second.partition,
+            0i64.saturating_sub(more),
+        ));
+        if joiners > limit.joiners || !seats.may_have(other, first.old) {
+            return None;
+        }
+        let (here, there) = (moves_more(seats, first), moves_more(seats, second));
+        let moves = self
+            .moves_cost(first.partition, here)
+            .saturating_add(self.moves_cost(second.partition, there));
+        let tied = self
+            .more_tied(seats, first.partition, here)
+            .saturating_add(self.more_tied(seats, second.partition, there));
+        let is_dear = joiners == limit.joiners && moves > limit.moves;
+        if is_dear || tied > 0 || here.saturating_add(there) > 0 {
+            return None;
+        }
+        let shares = self
+            .pairs
+            .growth(seats, first)
+            .saturating_add(self.pairs.growth(seats, second));
+        let cost = Cost {
+            joiners,
+            moves,
+            shares,
+        };
+        if cost < limit { Some(cost) } else { None }
+    }
+
+    // Counts what becomes of the half's partition.
+    fn count(&mut self, seats: &Seats, half: Half) {
+        let before = self.joiners(half.partition);
+        change(&mut self.joiners, half.partition, joiners_more(seats, half));
+        let after = self.joiners(half.partition);
+        lower(&mut self.levels, before as usize);
+        raise(&mut self.levels, after as usize);
+        change(&mut self.moves, half.partition, moves_more(seats, half));
+        self.pairs.replace(seats, half);
+    }
+
+    /// Exchanges the owners of two slots.
+    pub fn exchange(&mut self, seats: &mut Seats, one: usize, other: usize) {
+        let (first, second) = (half_of(seats, one, other), half_of(seats, other, one));
+        self.count(seats, first);
+        self.count(seats, second);
+        seats.exchange(one, other);
+    }
+}

@@ -1,0 +1,95 @@
+//! Counts of the partitions that two nodes share.
+
+use find_flow::Seats;
+use numbers::{at, lower, raise};
+use ring_names::Refusal;
+use std::alloc::Global;
+
+/// One half of an exchange of owners: a slot, its owner, and the node that gets it.
+#[derive(Clone, Copy)]
+pub struct Half {
+    pub partition: usize,
+    pub place: usize,
+    pub old: u32,
+    pub new: u32,
+}
+
+/// For each two nodes, how many partitions have slots of both: at most 2 MB, for 1,024 nodes.
+#[derive(Drop)]
+pub struct Pairs {
+    // by the node of greater number, its counts with all nodes of smaller number
+    counts: Vec<u32>,
+}
+
+// How many pairs so many nodes have.
+fn pairs_of(nodes: usize) -> usize {
+    nodes.saturating_mul(nodes.saturating_sub(1)) / 2
+}
+
+// Where the count of the two nodes is.
+fn place_of(one: u32, other: u32) -> usize {
+    let (low, high) = if one < other {
+        (one, other)
+    } else {
+        (other, one)
+    };
+    pairs_of(high as usize).saturating_add(low as usize)
+}
+
+impl Pairs {
+    /// No node is known yet.
+    pub fn new(alloc: Global) -> Pairs {
+        Pairs {
+            counts: Vec::new(alloc),
+        }
+    }
+
+    /// Counts the pairs of all partitions.
+    pub fn fill(&mut self, alloc: Global, seats: &Seats) -> Result<(), Refusal> {
+        let pairs = pairs_of(seats.members.count() as usize);
+        self.counts = vec![in alloc; 0u32; pairs]?;
+        for place in 0..seats.total() {
+            self.add(seats, place);
+        }
+        Ok(())
+    }
+
+    // Counts the slot's owner with the owners at smaller indices.
+    fn add(&mut self, seats: &Seats, place: usize) {
+        let node = seats.now(place);
+        for other in seats.place(seats.partition(place), 0)..place {
+            raise(&mut self.counts, place_of(node, seats.now(other)));
+        }
+    }
+
+    fn count(&self, one: u32, other: u32) -> i64 {
+        i64::from(at(&self.counts, place_of(one, other)))
+    }
+
+    /// How much the sum of the squares grows by that half of an exchange alone.
+    pub fn growth(&self, seats: &Seats, half: Half) -> i64 {
+        let start = seats.place(half.partition, 0);
+        let mut growth = 0i64;
+        for place in start..start.saturating_add(seats.slots) {
+            if place != half.place {
+                let mate = seats.now(place);
+                let more = self.count(half.new, mate).saturating_add(1);
+                let steps = more.saturating_sub(self.count(half.old, mate));
+                growth = growth.saturating_add(steps.saturating_mul(2));
+            }
+        }
+        growth
+    }
+
+    /// Counts the new owner of the slot in place of the old one.
+    pub fn replace(&mut self, seats: &Seats, half: Half) {
+        let start = seats.place(half.partition, 0);
+        for place in start..start.saturating_add(seats.slots) {
+            if place != half.place {
+                let mate = seats.now(place);
+                lower(&mut self.counts, place_of(half.old, mate));
+                raise(&mut self.counts, place_of(half.new, mate));
+            }
+        }
+    }
+}

@@ -1,0 +1,157 @@
+//! Spreads slots that move over the partitions, by exchanges of the owners of two slots.
+//!
+//! The owner of a slot that moves leaves the partition. In its place comes an owner that the partition had before, or one that got the other slot by a move
+//! too. No node's load changes, so parts and balance stay. Longer exchanges help few rings and take most of all looks.
+
+use crate::candidates::Candidates;
+use crate::crowds::{ANY_GAIN, Cost, Crowds, FEWER_JOINERS};
+use find_flow::{Role, Seats};
+use numbers::{quotient, small};
+use ring_names::Refusal;
+use std::alloc::Global;
+
+// The most looks for one exchange.
+const LOOKS: u32 = 128;
+
+// The most exchanges that are compared for one.
+const COMPARED: u32 = 16;
+
+// What partitions bear, and where to look for exchanges.
+#[derive(Drop)]
+struct Spread {
+    crowds: Crowds,
+    candidates: Candidates,
+    // how many looks are left to those that join
+    looks: u32,
+}
+
+impl Spread {
+    fn fill(&mut self, alloc: Global, seats: &Seats) -> Result<(), Refusal> {
+        self.looks = small(seats.total()).saturating_mul(32);
+        self.crowds.fill(alloc, seats)?;
+        self.candidates.fill(alloc, seats)
+    }
+
+    // What the exchange of that turn costs, with the other slot, where it is possible and below the limit.
+    fn look(
+        &mut self,
+        seats: &Seats,
+        place: usize,
+        limit: Cost,
+        turn: u32,
+    ) -> Option<(Cost, usize)> {
+        let other = self.candidates.next(seats, place, turn)?;
+        self.looks = self.looks.saturating_sub(1);
+        let cost = self.crowds.cost(seats, place, other, limit)?;
+        Some((cost, other))
+    }
+
+    // The slot with which the one at the place best exchanges its owner, by so many looks at most.
+    fn best(
+        &mut self,
+        seats: &Seats,
+        place: usize,
+        limit: Cost,
+        looks: u32,
+    ) -> Result<Option<usize>, Refusal> {
+        self.candidates.begin(seats, place)?;
+        let (mut least, mut found, mut compared) = (limit, None, 0u32);
+        for turn in 0..looks {
+            if compared >= COMPARED {
+                break;
+            }
+            if let Some((cost, other)) = self.look(seats, place, limit, turn) {
+                compared = compared.saturating_add(1);
+                if cost < least {
+                    least = cost;
+                    found = Some(other);
+                }
+            }
+        }
+        Ok(found)
+    }
+
+    // Exchanges the owner of the slot as well as it goes below the limit. Answers whether that was possible.
+    fn exchange(
+        &mut self,
+        seats: &mut Seats,
+        place: usize,
+        limit: Cost,
+        looks: u32,
+    ) -> Result<bool, Refusal> {
+        let Some(other) = self.best(seats, place, limit, looks)? else {
+            return Ok(false);
+        };
+        self.candidates.exchange(place, other);
+        self.crowds.exchange(seats, place, other);
+        Ok(true)
+    }
+
+    // Lets one that joins leave the partition. Answers whether that was possible.
+    fn relieve(&mut self, seats: &mut Seats, partition: usize) -> Result<bool, Refusal> {
+        for index in 0..seats.slots {
+            let place = seats.place(partition, index);
+            if seats.members.role(seats.now(place)) == Role::Joins
+                && self.exchange(seats, place, FEWER_JOINERS, LOOKS)?
+            {
+                return Ok(true);
+            }
+        }
+        Ok(false)
+    }
+
+    // Lets those that join leave the partition while another has two of them fewer, as far as looks allow.
+    fn thin(&mut self, seats: &mut Seats, partition: usize) -> Result<(), Refusal> {
+        for _ in 0..seats.slots {
+            let is_done = self.looks == 0 || !self.crowds.can_relieve(partition);
+            if is_done || !self.relieve(seats, partition)? {
+                break;
+            }
+        }
+        Ok(())
+    }
+
+    fn thin_all(&mut self, seats: &mut Seats) -> Result<(), Refusal> {
+        for partition in 0..seats.partitions {
+            self.thin(seats, partition)?;
+        }
+        Ok(())
+    }
+
+    // Exchanges the owner of each slot that moves once, where that gains.
+    fn even_all(&mut self, seats: &mut Seats) -> Result<(), Refusal> {
+        let all = small(seats.total()).saturating_mul(8);
+        let looks = quotient(all, self.crowds.all_moves()).max(8).min(LOOKS);
+        for place in 0..seats.total() {
+            let before = seats.place_before(seats.partition(place), seats.now(place));
+            if before.is_none() {
+                self.exchange(seats, place, ANY_GAIN, looks)?;
+            }
+        }
+        Ok(())
+    }
+
+    fn run(&mut self, alloc: Global, seats: &mut Seats) -> Result<(), Refusal> {
+        self.fill(alloc, seats)?;
+        self.thin_all(seats)?;
+        self.even_all(seats)?;
+        seats.align_all();
+        Ok(())
+    }
+}
+
+/// Spreads slots that move by exchanges of two owners. Partitions get fewer joiners beyond the first, then fewer slots that move beyond the first; then nodes
+/// share partitions more evenly. No slot more moves, each node keeps its load, and no partition has more pairs of slots in one rack.
+///
+/// The result is good, and not always the best: joiners take some 32 looks for each slot of the ring, and the rest at most 16.
+pub fn spread_moves(alloc: Global, seats: &mut Seats) -> Result<(), Refusal> {
+    if seats.moved() == 0 {
+        return Ok(());
+    }
+    let mut spread = Spread {
+        crowds: Crowds::new(alloc),
+        candidates: Candidates::new(alloc),
+        looks: 0,
+    };
+    spread.run(alloc, seats)
+}
