@@ -5,12 +5,14 @@ rings of up to 8 partitions, and one in five of 16 to 256.
 A plan is wrong where another one has fewer pairs of slots in one rack, lacks fewer slots of joiners' parts, moves fewer, or is more even: on small rings a minimum
 cost flow says so, on others a negative cycle in what the flow leaves free. On small rings a search through all rows, partition by partition, finds the fewest
 joiners beyond the first of a partition of all plans that are as good in these. A plan is wrong too where it has two more, and the trial where more than one of 20 has one more."""
+import os
 import random
+import subprocess
 import sys
 from collections import Counter
-from itertools import combinations
+from itertools import combinations, product
 
-from wishes import Known, answered, judge
+from wishes import RUN, TOP, Known, answered, asked, judge
 
 STATES = 30000  # at most so many of one search
 
@@ -30,14 +32,11 @@ def middle(pick):
     """A ring of 16 to 256 partitions, 2 to 5 slots and up to 23 nodes, with slots apart by racks mostly."""
     q, n = pick.choice([16, 32, 64, 256]), pick.choice([2, 3, 3, 3, 5])
     members, fresh, racks = pick.randint(n + 3, n + 14), pick.randint(1, 4), pick.choice([n, n + 2, 64])
-    rows = []
-    for p in range(q):
-        row = []
-        for i in range(n):
-            free = [v for v in range(members) if v not in row]
-            free = [v for v in free if v % racks not in [u % racks for u in row]] or free
-            row.append(free[(p * (n + 1) + i) % len(free)])
-        rows.append(row)
+    rows = [[] for _ in range(q)]
+    for p, i in product(range(q), range(n)):
+        free = [v for v in range(members) if v not in rows[p]]
+        free = [v for v in free if v % racks not in [u % racks for u in rows[p]]] or free
+        rows[p].append(free[(p * (n + 1) + i) % len(free)])
     return change(pick, n, rows, members, fresh, [v % racks for v in range(members + fresh)], 0.3)
 
 
@@ -71,13 +70,11 @@ def fewest(known, rows, joins):
                 if over + m - least <= spare:
                     new = tuple(k + (v in c) for v, k in enumerate(load))
                     if sum(new[v] ** 2 * known.unit // known.weight[v] for v in order) <= squares:
-                        key = new, over + m - least
-                        after[key] = min(after.get(key, d + more), d + more)
+                        after[new, over + m - least] = min(after.get((new, over + m - least), d + more), d + more)
         states = after
         if len(states) > STATES:
             return None
-    low = min(pairs.values()) * len(rows)
-    return min(d for (load, over), d in states.items() if known.price(load, low, moves - spare + over)[0] <= most)
+    return min(d for (load, over), d in states.items() if known.price(load, min(pairs.values()) * len(rows), moves - spare + over)[0] <= most)
 
 
 def is_beaten(known, rows):
@@ -104,6 +101,20 @@ def is_beaten(known, rows):
     return True
 
 
+def named():
+    """What is wrong with the plans of two rings of 64 partitions that grow, by the words of `show`."""
+    rows = [[((p // 4**i + p) % 4) * 3 + (p + i) % 3 for i in range(3)] for p in range(64)]
+    three = asked((3, [v < 12 for v in range(15)], ["2"] * 15, rows, [12, 13, 14], [], [], [v % 3 for v in range(15)]))[2]
+    with open(os.path.join(TOP, "crates", "tests_cases", "data", "ring64_grow.bundle")) as it:
+        two = it.read()
+    for text, moves, rounds in ((three, 36, 6), (two, 26, 4)):
+        plan = subprocess.run([RUN, "goal", "--racks-behind", "."], input=text.encode(), capture_output=True, timeout=60).stdout
+        words = subprocess.run([RUN, "show"], input=plan, capture_output=True, timeout=60).stdout.decode()
+        for part in ("  moves     %d of " % moves, "  rounds    %d of " % rounds, "  joiners   no partition has more than one slot on them\n"):
+            if part not in words:
+                yield "show of %d moves does not say %r" % (moves, part)
+
+
 def fault_of(known, rows, is_small):
     """What is wrong with the owners besides how joiners are spread, if something is."""
     if not is_small:
@@ -113,23 +124,23 @@ def fault_of(known, rows, is_small):
 
 
 def main(count):
-    faults, sums, over = 0, [0, 0], Counter()
+    wrong = list(named())
+    faults, sums, over = len(wrong), [0, 0], Counter()
     for number in range(count):
         pick, is_small = random.Random(number), number % 5 != 4
         one = small(pick) if is_small else middle(pick)
         known, rows = Known(one), answered(one)
         fault = fault_of(known, rows, is_small)
-        if not fault:
-            sums[is_small] += beyond(rows, one[4])
+        sums[is_small] += 0 if fault else beyond(rows, one[4])
         if is_small and not fault:
             best = fewest(known, rows, one[4])
             more = None if best is None else beyond(rows, one[4]) - best
             over[more] += 1
-            if more is not None and more > 1:
-                fault = "%d joiners beyond the first more than must be" % more
+            fault = "%d joiners beyond the first more than must be" % more if more and more > 1 else None
         if fault:
             faults += 1
             print("case %d: %s" % (number, fault))
+    print(*wrong, sep="\n", end="\n" * bool(wrong))
     print("%d changes: %d faults; joiners beyond the first: %d on small rings, %d on others; as few as can be on %d small rings, one more on %d, not known on %d"
           % (count, faults, sums[1], sums[0], over[0], over[1], over[None]))
     return 1 if faults or over[1] * 20 > over[0] + over[1] else 0

@@ -54,21 +54,32 @@ pub fn kept_by_one(
     Ok(kept(ring, rows, present).saturating_sub(most))
 }
 
-/// How many pairs of nodes that are up own slots of one partition.
-pub fn pairs(
+/// How many partitions pairs of nodes that are up share.
+#[derive(Clone, Copy)]
+pub struct Shared {
+    /// The most of any pair.
+    pub most: u32,
+    /// Those of all pairs together.
+    pub sum: u32,
+}
+
+/// Counts the partitions that each pair of nodes that are up shares.
+pub fn count_shared(
     alloc: Global,
     ring: &Ring,
     rows: &[Listed<NodeId>],
     present: &Present,
-) -> Result<u32, Refusal> {
-    let nodes = ring.nodes().len();
-    let mut marks = vec![in alloc; false; nodes.saturating_mul(nodes)]?;
-    let mut count = 0u32;
+) -> Result<Shared, Refusal> {
+    let pairs = all_pairs(small(ring.nodes().len()));
+    let mut counts = vec![in alloc; 0u32; pairs as usize]?;
+    let mut shared = Shared { most: 0, sum: 0 };
     for row in rows {
         let up = up_of(alloc, row.as_slice(), present)?;
-        count = count.saturating_add(new_pairs(marks.as_mut_slice(), nodes, up.as_slice()));
+        let most = count_pairs(counts.as_mut_slice(), up.as_slice());
+        shared.most = shared.most.max(most);
+        shared.sum = shared.sum.saturating_add(all_pairs(small(up.len())));
     }
-    Ok(count)
+    Ok(shared)
 }
 
 // Those of the owners that are up.
@@ -82,38 +93,51 @@ fn up_of(alloc: Global, row: &[NodeId], present: &Present) -> Result<Vec<u32>, R
     Ok(up)
 }
 
-// How many pairs of the row were not marked, which it marks.
-fn new_pairs(marks: &mut [bool], nodes: usize, row: &[u32]) -> u32 {
-    let mut count = 0u32;
+// Counts the pairs of the row. Answers the greatest of their counts.
+fn count_pairs(counts: &mut [u32], row: &[u32]) -> u32 {
+    let mut most = 0u32;
     for first in 0..row.len() {
         for second in first + 1..row.len() {
-            let (one, other) = (row[first] as usize, row[second] as usize);
-            let place = one
-                .min(other)
-                .saturating_mul(nodes)
-                .saturating_add(one.max(other));
-            if is_first(marks, place) {
-                count = count.saturating_add(1);
-            }
+            let (one, other) = (row[first], row[second]);
+            let place = all_pairs(one.max(other)).saturating_add(one.min(other)) as usize;
+            raise(counts, place);
+            most = most.max(at(counts, place));
         }
     }
-    count
-}
-
-// Whether the place was not marked, which it is now.
-fn is_first(marks: &mut [bool], place: usize) -> bool {
-    match marks.get_mut(place) {
-        Some(mark) => {
-            let is_new = !*mark;
-            *mark = true;
-            is_new
-        }
-        None => false,
-    }
+    most
 }
 
 /// How many pairs so many nodes have.
 pub fn all_pairs(nodes: u32) -> u32 {
     let all = u64::from(nodes).saturating_mul(u64::from(nodes.saturating_sub(1))) / 2;
     u32::try_from(all).unwrap_or(u32::MAX)
+}
+
+// How many of the owners the marks name.
+fn count_marked(marks: &[u32], row: &[NodeId]) -> u32 {
+    let mut count = 0u32;
+    for node in row {
+        count = count.saturating_add(at(marks, node.0 as usize));
+    }
+    count
+}
+
+/// How many partitions have two slots or more on the nodes.
+pub fn count_crowded(
+    alloc: Global,
+    ring: &Ring,
+    rows: &[Listed<NodeId>],
+    nodes: &[u32],
+) -> Result<u32, Refusal> {
+    let mut marks = vec![in alloc; 0u32; ring.nodes().len()]?;
+    for node in nodes {
+        raise(marks.as_mut_slice(), *node as usize);
+    }
+    let mut count = 0u32;
+    for row in rows {
+        if count_marked(marks.as_slice(), row.as_slice()) > 1 {
+            count = count.saturating_add(1);
+        }
+    }
+    Ok(count)
 }

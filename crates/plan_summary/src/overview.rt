@@ -1,7 +1,7 @@
 //! The summary of a plan, in words.
 
 use crate::domains::sharing;
-use crate::failing::{all_pairs, kept, kept_by_one, pairs};
+use crate::failing::{all_pairs, count_crowded, count_shared, kept, kept_by_one};
 use crate::rounds::push_rounds;
 use crate::running::push_progress;
 use crate::span::Span;
@@ -180,6 +180,21 @@ fn tell_racks(view: &View, line: &mut Words, behind: u8) {
     }
 }
 
+// In how many partitions those that join have two slots or more.
+fn tell_joiners(view: &View, line: &mut Words) -> Result<(), Refusal> {
+    let rows = view.scene.last_rows.as_slice();
+    let joins = view.scene.joins.as_slice();
+    let crowded = count_crowded(view.alloc, view.ring, rows, joins)?;
+    line.text(b"  joiners   ");
+    if crowded == 0 {
+        line.text(b"no partition has more than one slot on them");
+        return Ok(());
+    }
+    push_many(line, crowded, b"partition has", b"partitions have");
+    line.text(b" two slots or more on them");
+    Ok(())
+}
+
 // Who is down, and how many partitions answer all the same.
 fn tell_down(view: &View, line: &mut Words) {
     let (ring, present) = (view.ring, view.present);
@@ -228,21 +243,19 @@ fn tell_one_fails(view: &View, line: &mut Words) -> Result<(), Refusal> {
 
 fn tell_two_fail(view: &View, line: &mut Words) -> Result<(), Refusal> {
     let (ring, present) = (view.ring, view.present);
-    let now = pairs(view.alloc, ring, present.rows.as_slice(), present)?;
-    let then = pairs(view.alloc, ring, view.scene.last_rows.as_slice(), present)?;
+    let now = count_shared(view.alloc, ring, present.rows.as_slice(), present)?;
+    let then = count_shared(view.alloc, ring, view.scene.last_rows.as_slice(), present)?;
     push_failing(view, line, b"  if two fail    ");
-    line.number(now);
-    line.text(b" of ");
-    push_many(
-        line,
-        all_pairs(count_up(view, false)),
-        b"pair of members",
-        b"pairs of members",
-    );
-    line.text(b" share a partition now, ");
-    line.number(then);
-    line.text(b" of ");
-    line.number(all_pairs(count_up(view, true)));
+    line.text(b"at most ");
+    push_many(line, now.most, b"partition loses", b"partitions lose");
+    line.text(b" two slots now, ");
+    let pairs = all_pairs(count_up(view, false));
+    push_tenths(line, parts_of(now.sum, pairs, 10));
+    line.text(b" on average; ");
+    line.number(then.most);
+    line.text(b" and ");
+    let pairs = all_pairs(count_up(view, true));
+    push_tenths(line, parts_of(then.sum, pairs, 10));
     line.text(b" in the end");
     Ok(())
 }
@@ -300,6 +313,10 @@ fn push_overview(view: &View, out: &mut Words, line: &mut Words) -> Result<(), R
     end_line(out, line, INDENT);
     if let Some(behind) = view.racks_behind {
         tell_racks(view, line, behind);
+        end_line(out, line, INDENT);
+    }
+    if !view.scene.joins.is_empty() {
+        tell_joiners(view, line)?;
         end_line(out, line, INDENT);
     }
     push_failures(view, out, line)?;

@@ -1,7 +1,7 @@
 //! A ring alone, in words.
 
 use crate::domains::sharing;
-use crate::failing::{all_pairs, kept_by_one, pairs};
+use crate::failing::{all_pairs, count_shared, kept_by_one};
 use crate::span::Span;
 use crate::writing::{end_line, push_left, push_number_right, push_spaces, push_tenths};
 use plan_scene::{Present, at, parts_of, push_many, push_quorum, rack, small};
@@ -78,16 +78,13 @@ fn tell_one_fails(rest: &Rest, line: &mut Words) -> Result<(), Refusal> {
 
 fn tell_two_fail(rest: &Rest, line: &mut Words) -> Result<(), Refusal> {
     let rows = rest.present.rows.as_slice();
-    line.text(b"  if two fail    ");
-    line.number(pairs(rest.alloc, rest.ring, rows, rest.present)?);
-    line.text(b" of ");
-    push_many(
-        line,
-        all_pairs(count_members(rest)),
-        b"pair of members shares",
-        b"pairs of members share",
-    );
-    line.text(b" a partition");
+    let shared = count_shared(rest.alloc, rest.ring, rows, rest.present)?;
+    line.text(b"  if two fail    at most ");
+    push_many(line, shared.most, b"partition loses", b"partitions lose");
+    line.text(b" two slots, ");
+    let pairs = all_pairs(count_members(rest));
+    push_tenths(line, parts_of(shared.sum, pairs, 10));
+    line.text(b" on average");
     Ok(())
 }
 
