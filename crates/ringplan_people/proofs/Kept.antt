@@ -1,5 +1,12 @@
 -- What holds of what a call gives.
+use Rattle.std.proofs.Common.{◌≡◌, ◌⊎◌, ℕ, inl, inr, ap, ◌∙◌}
 use Rattle.std.specs.Prelude.{Result, Ok, Err, OnOk, IfOk}
+use Rattle.ringplan_job.specs.declared.making.Exit.{Exit}
+use Rattle.ringplan_job.specs.declared.making.Exit.TheVariants as exits
+use Rattle.ringplan_job.specs.declared.making.Making.{Making}
+use Rattle.ringplan_job.specs.declared.making.Making.TheVariants.{Goal}
+use Rattle.ringplan_job.specs.declared.options.Options.{Options}
+use Rattle.ringplan_people.specs.Made.{IsMadeWith}
 
 -- a fact holds where there is a value
 pub kept : {T E P : Type 0} (r : Result T E) → P → OnOk r P
@@ -10,3 +17,8 @@ kept (Err e) p = tt
 pub both : {T E : Type 0} (P Q : T → Type 0) (r : Result T E) → IfOk r P → IfOk r Q → IfOk r (λ x. P x × Q x)
 both P Q (Ok x) p q = (p, q)
 both P Q (Err e) p q = tt
+
+-- the status at a goal
+pub at_goal : (making : Making) (options : Options) (exit : Exit) (status : ℕ) → making ≡ Goal options exit → (status ≡ 0) ⊎ ((status ≡ 4) × (exit ≡ exits.Steps)) → IsMadeWith making status
+at_goal making options exit status is (inl zero) = inl zero
+at_goal making options exit status is (inr (four, steps)) = inr (four, (options, is ∙ ap (λ (e : Exit). Goal options e) steps))

@@ -14,7 +14,6 @@ use Rattle.plan_lines.specs.Lines.{steps_text}
 use Rattle.plan_lines.specs.MoveLines.{moves_text}
 use Rattle.ringplan_jobs.specs.Answers.{refused_status}
 use Rattle.ringplan_jobs.specs.Verdict.{TextsKeepPromises}
-use Rattle.ringplan_job.specs.declared.making.Exit.{Exit}
 use Rattle.ringplan_job.specs.declared.making.Exit.TheVariants as exit
 use Rattle.ringplan_job.specs.declared.making.Making.{Making}
 use Rattle.ringplan_job.specs.declared.options.Options.{Options}

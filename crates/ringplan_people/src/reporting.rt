@@ -73,17 +73,27 @@ fn push_notes(
     Ok(())
 }
 
-// The exit status at what was made.
-fn made_status(making: &Making, output: &[u8]) -> u8
-    ensures { IsMadeWith making.now result }
+// The exit status at a goal: 4 where it asks whether the plan has steps, and the plan has.
+fn goal_status(exit: Exit, output: &[u8]) -> u8
+    ensures { (result ≡ 0) ⊎ ((result ≡ 4) × (exit ≡ Exit.Steps)) }
 {
-    match making {
-        Making::Goal(_, Exit::Steps) => {
+    match exit {
+        Exit::Steps => {
             if has_no_steps(output) {
                 return 0;
             }
             4
         }
+        Exit::Printed => 0,
+    }
+}
+
+// The exit status at what was made.
+fn made_status(making: &Making, output: &[u8]) -> u8
+    ensures { IsMadeWith making.now result }
+{
+    match making {
+        Making::Goal(_, exit) => goal_status(*exit, output),
         _ => 0,
     }
 }
