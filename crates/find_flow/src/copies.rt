@@ -90,7 +90,7 @@ impl Copies {
         self.crowd(self.taker(node))
     }
 
-    /// The same once one copy more reads from it.
+    /// How much of its allowance the node uses once one copy more reads from it, in parts of 64.
     pub fn giving(&self, node: u32) -> u32 {
         self.crowd(self.giver(node))
     }

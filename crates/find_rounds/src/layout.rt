@@ -39,7 +39,7 @@ impl Layout {
         partition.saturating_mul(self.slots).saturating_add(index)
     }
 
-    /// The same of a slot.
+    /// The place among all slots of this one.
     pub fn place_of(&self, slot: Slot) -> usize {
         self.place(slot.partition as usize, slot.index as usize)
     }

@@ -33,7 +33,7 @@ pub fn check_copies(
     check_others(alloc, chains, numbers, others, of)
 }
 
-// The same test, by a look-up of each copy among the steps of the chains.
+// Tests copies by a look-up of each among the steps of the chains.
 fn check_others(
     alloc: Global,
     chains: &Chains,

@@ -58,7 +58,7 @@ fn is_bad_path(plan: &Plan, paths: &Rows, number: usize) -> bool
     !verify_fact(plan, paths.row(number))
 }
 
-// The same number as `first_bad_path` gives, found by threads.
+// The number of the first path that is none, found by threads.
 fn first_bad_path_by_threads(rt: &(impl Threads + Sync), plan: &Plan, paths: &Rows) -> Option<u32>
     ensures { first_bad plan.now 0 paths.now ≡ option_map (λ n. BadPath n) result }
 {
@@ -117,7 +117,7 @@ impl Facts {
         }
     }
 
-    /// The same, each path by one of as many threads as there are processors; no answer tells how many these were. Every path is looked at.
+    /// Verifies paths as `verify` does, by as many threads as there are processors. No answer tells how many these were. Every path is looked at.
     pub fn verify_parallel(
         rt: &(impl Threads + Sync),
         alloc: Global,
@@ -158,7 +158,7 @@ impl Facts {
         self.tells(plan, a, b)
     }
 
-    // The same of facts whose plan is not known.
+    // Whether the facts tell that `a` comes before `b`. Nothing is known of the plan that they are of.
     pub(crate) fn tells(&self, plan: &Plan, a: u32, b: u32) -> bool
         ensures { result ≡ is_ordered plan.now self.now a b }
     {

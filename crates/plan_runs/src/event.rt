@@ -111,7 +111,7 @@ pub struct Entry {
 }
 
 impl Event {
-    /// The same event once more. Only a put and the start of a get take memory.
+    /// A copy of the event. Only a put and the start of a get take memory.
     pub fn try_copy(&self, alloc: Global) -> Result<Event, AllocError>
         ensures { IfOk result (λ event. event ≡ self.now) }
     {

@@ -45,7 +45,7 @@ impl Key {
         self.bytes.as_slice()
     }
 
-    /// The same key once more.
+    /// A copy of the key.
     pub fn try_copy(&self, alloc: Global) -> Result<Key, AllocError>
         ensures { IfOk result (λ key. key ≡ self.now) }
     {
@@ -109,7 +109,7 @@ impl Seen {
         self.gets.as_slice()
     }
 
-    /// The same gets once more.
+    /// A copy of the list of gets.
     pub fn try_copy(&self, alloc: Global) -> Result<Seen, AllocError>
         ensures { IfOk result (λ seen. seen ≡ self.now) }
     {

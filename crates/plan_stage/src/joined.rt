@@ -23,7 +23,7 @@ pub fn has_joined(ring: &Ring, plan: &Plan, facts: &Facts, step: u32, node: Node
     has_joined_by(&context, step, node)
 }
 
-/// The same, in a context.
+/// Whether the node is a member at the start, or joins before the step, by the ring, plan and facts of a context.
 pub fn has_joined_by(context: &Context, step: u32, node: NodeId) -> bool
     ensures { result ≡ has_joined context.now.ring.now context.now.plan.now (order context.now) step node }
 {

@@ -125,7 +125,7 @@ impl Block {
         Block::full(alloc, Full::of(entries.as_slice()))
     }
 
-    /// The same block once more. Takes no memory.
+    /// A copy of the block. Takes no memory.
     pub fn try_copy(&self) -> Result<Block, AllocError>
         ensures { IfOk result (λ b. b ≡ self.now) }
     {

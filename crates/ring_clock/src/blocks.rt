@@ -33,7 +33,7 @@ impl Blocks {
         }
     }
 
-    /// The same blocks once more. Takes no memory.
+    /// A copy of the blocks. Takes no memory.
     pub fn try_copy(&self) -> Result<Blocks, AllocError>
         ensures { IfOk result (λ a. listed a ≡ listed self.now) }
     {

@@ -186,7 +186,7 @@ impl Clock {
         })
     }
 
-    /// The same clock once more, which shares the entries. Takes no memory; refused only where 2^64 clocks would share them.
+    /// A copy of the clock, which shares the entries. Takes no memory. Refused only where 2^64 clocks would share them.
     pub fn try_copy(&self) -> Result<Clock, Refusal>
         ensures same { IfOk result (λ c. c ≡ self.now) }
         ensures memory { IfErr result (λ e. e ≡ OutOfMemory) }

@@ -58,7 +58,7 @@ impl Full {
         }
     }
 
-    // The same counters once more.
+    // A copy of the counters.
     fn copy(&self) -> Full
         ensures { result ≡ self.now }
     {

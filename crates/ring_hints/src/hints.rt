@@ -239,7 +239,7 @@ impl Hints {
         }
     }
 
-    /// The same hints once more.
+    /// A copy of the hints.
     pub fn try_copy(&self) -> Result<Hints, Refusal>
         ensures space { IfOk result (λ a. partitions a ≡ partitions self.now) }
         ensures same { IfOk result (AreSameHints self.now) }

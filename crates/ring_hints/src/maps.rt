@@ -265,7 +265,7 @@ impl Maps {
         self.pairs.slot_of(keeper)
     }
 
-    // The same hints once more.
+    // A copy of the hints.
     pub(crate) fn try_copy(&self) -> Result<Maps, Refusal>
         ensures space { IfOk result (λ a. partitions a ≡ partitions self.now) }
         ensures same { IfOk result (AreSameHints self.now) }

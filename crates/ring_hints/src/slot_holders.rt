@@ -95,7 +95,7 @@ impl SlotHolders {
         }
     }
 
-    /// The same once more.
+    /// A copy of all slots' holders.
     pub(crate) fn try_copy(&self) -> Result<SlotHolders, Refusal>
         ensures same { IfOk result (λ a. (s : Slot) (k : List ℕ) (x : ℕ) → holds_for a s k x ≡ holds_for self.now s k x) }
         ensures memory { IfErr result (λ e. e ≡ OutOfMemory) }

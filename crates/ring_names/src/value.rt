@@ -64,7 +64,7 @@ impl Value {
         }
     }
 
-    /// The same value once more, which shares the bytes. Takes no memory; refused only where 2^64 values would share them.
+    /// A copy of the value, which shares the bytes. Takes no memory. Refused only where 2^64 values would share them.
     pub fn try_copy(&self) -> Result<Value, AllocError>
         ensures { IfOk result (λ value. value ≡ self.now) }
     {

@@ -87,7 +87,7 @@ fn behind_put_line<'a>(
     }
 }
 
-// The same of a get's line. The get is noted.
+// What is left of the list after the block of a get's line, if there is one. The get is noted.
 fn behind_get_line<'a>(
     alloc: Global,
     asked: &mut Vec<Asked>,
@@ -111,7 +111,7 @@ fn behind_get_line<'a>(
     Ok(Some(rest))
 }
 
-// The same of the line of a node that goes down or comes up: there is always one.
+// What is left of the list after the block of the line of a node that goes down or comes up. There is always one.
 fn behind_node_line<'a>(line: &Event, list: &'a [Receipt]) -> &'a [Receipt]
     requires { turns_a_node line.now ≡ true }
     ensures { (asked : List TheAsked) → Leaves asked line.now list.now result.now asked }

@@ -20,7 +20,7 @@ use texts::Lines;
 pub enum Kind {
     /// A ring, a plan of it and the plan's certificate.
     Check,
-    /// The same, and a script.
+    /// A ring, a plan of it, the plan's certificate, and a script.
     Play,
 }
 

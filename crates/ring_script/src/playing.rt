@@ -68,7 +68,7 @@ fn give_back(events: &mut Vec<Event>, place: u32)
     }
 }
 
-// The same of an event that is given up.
+// Plays an event that is given up.
 fn play_given(world: &mut World, out: &mut Vec<u8>, place: u32, event: Event) -> Result<(), Refusal>
     requires { HasNumber world.old event }
     ensures ok { OnOk result (Happens world.old event world.new out.old.items place out.new.items) }
@@ -77,7 +77,7 @@ fn play_given(world: &mut World, out: &mut Vec<u8>, place: u32, event: Event) ->
     play_event(world, out, place, &event)
 }
 
-// The same of events of which the last comes first. Each is let go once it happened.
+// Plays events of which the last comes first. Each is let go once it happened.
 fn play_from_end(
     world: &mut World,
     out: &mut Vec<u8>,
@@ -186,7 +186,7 @@ pub fn play(alloc: Global, approved: &Approved, script: &Script) -> Result<Vec<u
     played(alloc, approved.ring(), &mut world, script.events())
 }
 
-/// The same of a script that is given up: each event's memory is free once it happened, so that the store takes it. Where the program `ends` behind
+/// Plays a script that is given up: each event's memory is free once it happened, so that the store takes it. Where the program `ends` after
 /// it, the store's memory is left to the system: to let go what a million events have left, one by one, takes a fifth of its time.
 pub fn play_whole(
     alloc: Global,

@@ -246,7 +246,7 @@ impl NodeStore {
         self.slots.remove(&slot);
     }
 
-    /// The same store once more: every key of every slot reads the same.
+    /// A copy of the store: every key of every slot reads the same.
     pub fn try_copy(&self) -> Result<NodeStore, Refusal>
         ensures space { IfOk result (λ a. partitions a ≡ partitions self.now) }
         ensures same { IfOk result (λ a. (s : Slot) (k : List ℕ) → versions_at a s k ≡ versions_at self.now s k) }

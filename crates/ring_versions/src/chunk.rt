@@ -46,7 +46,7 @@ impl Chunk {
         Ok(Chunk { group, shared })
     }
 
-    /// The same chunk once more. Takes no memory.
+    /// A copy of the chunk. Takes no memory.
     pub fn try_copy(&self) -> Result<Chunk, Refusal>
         ensures ok { IfOk result (λ c. c ≡ self.now) }
         ensures memory { IfErr result (λ e. e ≡ OutOfMemory) }

@@ -58,7 +58,7 @@ impl Found {
         self.versions.puts()
     }
 
-    // The same versions once more, with their join. Takes no memory.
+    // A copy of the versions, with their join. Takes no memory.
     fn try_copy(&self) -> Result<Found, Refusal>
         ensures same { IfOk result (λ f. f ≡ self.now) }
         ensures memory { IfErr result (λ e. e ≡ OutOfMemory) }

@@ -44,7 +44,7 @@ fn fresh_of_list(
     Ok(out)
 }
 
-// The same of any versions, where some are in chunks.
+// Copies of the versions that those held do not cover, where some are in chunks.
 fn fresh_of_any(alloc: Global, versions: Held, held: Held) -> Result<Vec<Version>, Refusal>
     requires { IsApart (looked_at versions) }
     ensures ok { IfOk result (λ out. IsFresh (looked_at held.entry) (looked_at versions.entry) out.items) }

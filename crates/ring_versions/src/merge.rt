@@ -36,7 +36,7 @@ fn merged_with_few(
     Versions::of_list(alloc, fresh)
 }
 
-// The same where many are held: chunks of which all versions stay are shared.
+// The merge of the fresh versions with many that are held: chunks of which all versions stay are shared.
 fn merged_with_many(
     alloc: Global,
     held: &Whole,

@@ -114,7 +114,7 @@ impl Part {
         })
     }
 
-    /// The same part once more, with room for one version more. Costs its versions, and looks into none of their clocks.
+    /// A copy of the part, with room for one version more. Costs its versions, and looks into none of their clocks.
     pub fn try_copy(&self, alloc: Global) -> Result<Part, Refusal>
         ensures ok { IfOk result (λ p. p ≡ self.now) }
         ensures memory { IfErr result (λ e. e ≡ OutOfMemory) }

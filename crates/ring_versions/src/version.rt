@@ -15,7 +15,7 @@ pub struct Version {
 }
 
 impl Version {
-    /// The same version once more, which shares the clock's entries and the value's bytes. Takes no memory.
+    /// A copy of the version, which shares the clock's entries and the value's bytes. Takes no memory.
     #[inline(always)]
     pub fn try_copy(&self) -> Result<Version, Refusal>
         ensures same { IfOk result (λ v. v ≡ self.now) }

@@ -265,7 +265,7 @@ impl Versions {
         }
     }
 
-    /// The same set once more, which shares the versions. Takes no memory; refused only where 2^64 sets would share them.
+    /// A copy of the set, which shares the versions. Takes no memory. Refused only where 2^64 sets would share them.
     pub fn try_copy(&self) -> Result<Versions, Refusal>
         ensures same { IfOk result (λ s. s ≡ self.now) }
         ensures apart { IsApart self.now }

@@ -19,7 +19,7 @@ pub(crate) struct Done<L: RunLedger> {
     pub complete: bool,
 }
 
-/// The same of the worker of that number, with its seat at the board.
+/// What the worker of a number did, with its seat at the board.
 #[derive(Drop)]
 pub(crate) struct Sat<L: RunLedger> {
     pub done: Done<L>,

@@ -16,7 +16,7 @@ use ring_receipts::Receipt;
 use std::alloc::{AllocError, Global};
 use std::sync::Wait;
 
-// The same numbers, in memory of their own.
+// A copy of the numbers, in memory of its own.
 fn numbers(alloc: Global, given: &Listed<u32>) -> Result<Listed<u32>, AllocError>
     ensures { IfOk result (λ list. list ≡ given.now) }
 {
@@ -24,7 +24,7 @@ fn numbers(alloc: Global, given: &Listed<u32>) -> Result<Listed<u32>, AllocError
     Ok(Listed::from_vec(numbers))
 }
 
-// The same reply, in memory of its own.
+// A copy of the reply, in memory of its own.
 fn copy_of(alloc: Global, reply: &Reply) -> Result<Reply, AllocError>
     ensures { IfOk result (λ r. r ≡ reply.now) }
 {

@@ -143,7 +143,7 @@ fn stop_refusal(approved: &Approved, entries: &[Entry], refusal: Refusal) -> Ref
     refusal
 }
 
-// The same from the entries alone, by this ledger.
+// A resume from the entries alone, by this ledger.
 fn resume_as<'a, L: RunLedger + Send + Sync, R: Threads + Wait + Sync, G: Gate + Sync>(
     job: &Job<'a, R, G>,
     blank: Blank,

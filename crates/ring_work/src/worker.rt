@@ -309,7 +309,7 @@ fn claim_from<L: RunLedger, R: Wait, G: Gate>(
     None
 }
 
-// The same of all steps, once round from the one behind the last that was claimed.
+// Claims a step that is next, of all steps, once round from the one after the last that was claimed.
 fn claim_next<L: RunLedger, R: Wait, G: Gate>(
     site: &Site<L, R, G>,
     seat: &mut Seat,
@@ -385,7 +385,7 @@ fn turns<L: RunLedger, R: Wait, G: Gate>(
     Ok(())
 }
 
-// The same, from no knowledge of steps on.
+// Works until nothing is left, and knows of no step at first.
 fn work_on<L: RunLedger, R: Wait, G: Gate>(
     site: &Site<L, R, G>,
     sat: &mut Sat<L>,

@@ -40,7 +40,7 @@ fn judge_line<'a>(
     Ok(said)
 }
 
-// The same, where the line may be said, and that it can be the next event.
+// The event of a line, where the line may be said, and that it can be the next event.
 fn event_line<'a>(
     may: bool,
     ring: &Ring,

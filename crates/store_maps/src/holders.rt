@@ -36,7 +36,7 @@ impl Holders {
         }
     }
 
-    /// The same nodes once more.
+    /// A copy of the nodes.
     pub fn try_copy(&self) -> Result<Holders, Refusal>
         ensures same { IfOk result (λ a. (k : List ℕ) → holders_at a k ≡ holders_at self.now k) }
         ensures memory { IfErr result (λ e. e ≡ OutOfMemory) }

@@ -203,7 +203,7 @@ impl KeyMap {
         self.own.put(key, brought)
     }
 
-    /// The same map once more: every key reads the same, and has a place where it has one here. Costs a copy of each key that was changed
+    /// A copy of the map: every key reads the same, and has a place where it has one here. Costs a copy of each key that was changed
     /// since the map was shared, of each key if it never was.
     pub fn try_copy(&self) -> Result<KeyMap, Refusal>
         ensures same { IfOk result (λ m. (k : List ℕ) → held m k ≡ held self.now k) }

@@ -52,7 +52,7 @@ impl KeyTree {
         Ok(keys)
     }
 
-    /// The same tree once more.
+    /// A copy of the tree.
     pub fn try_copy(&self) -> Result<KeyTree, Refusal>
         ensures same { IfOk result (λ t. (k : List ℕ) → tree_entry t k ≡ tree_entry self.now k) }
         ensures memory { IfErr result (λ e. e ≡ OutOfMemory) }

@@ -242,7 +242,7 @@ impl SlotMap {
         true
     }
 
-    /// The same maps once more: every key reads the same.
+    /// A copy of the maps: every key reads the same.
     pub fn try_copy(&self, alloc: Global) -> Result<SlotMap, Refusal>
         ensures space { IfOk result (λ a. space_of a ≡ space_of self.now) }
         ensures same { IfOk result (λ a. (k : List ℕ) → held_for a k ≡ held_for self.now k) }

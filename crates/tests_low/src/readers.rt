@@ -161,7 +161,7 @@ fn sizes(alloc: Global, ring: &Ring, text: &[u8]) -> Result<(usize, usize), Refu
     Ok((cert.facts.len(), cert.chains.len()))
 }
 
-// The same of so many equal lines.
+// The numbers of facts and chains of a certificate of so many equal lines, or the refusal.
 fn sizes_of(
     alloc: Global,
     ring: &Ring,

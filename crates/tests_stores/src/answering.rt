@@ -88,13 +88,13 @@ fn certified(alloc: Global, ring: Ring, plan: Plan, cert: &[u8]) -> Result<Appro
     approved_of(check(alloc, ring, plan, &cert))
 }
 
-// The same of a plan's text.
+// The plan of a text, where its certificate shows that it is sound.
 fn planned(alloc: Global, ring: Ring, plan: &[u8], cert: &[u8]) -> Result<Approved, Refusal> {
     let plan = read_plan(alloc, &ring, plan)?;
     certified(alloc, ring, plan, cert)
 }
 
-/// The same of texts alone.
+/// The plan of these texts, where its certificate shows that it is sound.
 pub fn approved(alloc: Global, texts: &Texts) -> Result<Approved, Refusal> {
     let ring = read_ring(alloc, texts.ring)?;
     planned(alloc, ring, texts.plan, texts.cert)
@@ -179,7 +179,7 @@ fn script_answered<RT: AllocGlobal + Abort>(
     events_answered(rt, world, script.events(), lines)
 }
 
-/// The same of a script's lines.
+/// The events of a script's text are answered by these lines.
 pub fn answered<RT: AllocGlobal + Abort>(
     rt: &RT,
     approved: &Approved,

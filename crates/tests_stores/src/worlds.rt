@@ -45,7 +45,7 @@ fn told_from_start<RT: AllocGlobal + Abort>(
     scene.tell(story)
 }
 
-// The same of texts.
+// The story is told of the plan of these texts.
 fn told<RT: AllocGlobal + Abort>(rt: &RT, story: Story, texts: &Texts) -> Result<(), Fail> {
     let approved = approved(rt.alloc(), texts)?;
     told_from_start(rt, story, &approved)
@@ -241,7 +241,7 @@ fn is_first_owner<RT: Abort>(rt: &RT, owner: NodeId) {
     assert_eq!(rt; owner, NodeId(1));
 }
 
-// The same of a store at its start.
+// The owner of a slot of a store at its start is the ring's.
 fn owner_at_the_start<RT: AllocGlobal + Abort>(rt: &RT, approved: &Approved) -> Result<(), Fail> {
     assert!(rt; approved.ring().q() == 4);
     assert!(rt; approved.ring().n() == 3);

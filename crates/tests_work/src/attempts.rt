@@ -55,7 +55,7 @@ fn put_and_get<'a, L: RunLedger, R: AllocGlobal + Wait>(
     Ok((came(alloc, put, b"ok")?, came(alloc, get, b"reply 0")?))
 }
 
-// The same where these nodes go down in front of it.
+// A put of the key, and then a get, after these nodes went down.
 fn put_and_get_without<'a, L: RunLedger, R: AllocGlobal + Wait>(
     rt: &R,
     executor: &Executor<'a, L>,
@@ -68,7 +68,7 @@ fn put_and_get_without<'a, L: RunLedger, R: AllocGlobal + Wait>(
     put_and_get(rt, executor, share)
 }
 
-// The same at a store of its own.
+// A put of the key, and then a get, at a store of its own of which these nodes went down.
 fn without<L: RunLedger, R: AllocGlobal + Wait>(
     rt: &R,
     blank: Blank,

@@ -64,7 +64,7 @@ fn are_answered(alloc: Global, world: &mut World, history: &[Entry]) -> Result<b
     Ok(true)
 }
 
-// The same from the first event on.
+// Whether the plan from its start answers the history so.
 fn replays(alloc: Global, approved: &Approved, history: &[Entry]) -> Result<bool, Refusal> {
     let mut world = World::start(alloc, approved)?;
     are_answered(alloc, &mut world, history)
@@ -105,7 +105,7 @@ pub fn drive_all<RT: AllocGlobal + Threads + Wait + Sync, G: Gate + Sync>(
     }
 }
 
-/// The same with one script.
+/// A drive of the plan with one client; its refusal, where it breaks off.
 pub fn drive_one<RT: AllocGlobal + Threads + Wait + Sync, G: Gate + Sync>(
     rt: &RT,
     approved: &Approved,

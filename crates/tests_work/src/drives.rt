@@ -43,7 +43,7 @@ fn drive_texts<RT: AllocGlobal + Threads + Wait + Sync, G: Gate + Sync>(
     drive_one(rt, &approved, &script, workers, gate)
 }
 
-// The same where it breaks off.
+// A drive of these texts that breaks off.
 fn broken_texts<RT: AllocGlobal + Threads + Wait + Sync, G: Gate + Sync>(
     rt: &RT,
     texts: Texts,

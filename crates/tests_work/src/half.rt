@@ -48,7 +48,7 @@ fn drive_parts<RT: AllocGlobal + Threads + Wait + Sync>(
     }
 }
 
-// The same of its text.
+// The drive of a bundle's text.
 fn drive_text<RT: AllocGlobal + Threads + Wait + Sync>(
     rt: &RT,
     text: &[u8],

@@ -16,7 +16,7 @@ use std::alloc::Global;
 pub const RING: &[u8] =
     b"ring 1\nspace 4\nquorum 3 2 2\nnode a 4 in\nnode b 4 in\nnode c 4 in\nnode d 4 out\nslots 0 a b c\nslots 1 a b c\nslots 2 a b c\nslots 3 a b c\nend\n";
 
-/// The same with d a member.
+/// Four partitions of three slots; d is a member.
 pub const FOUR: &[u8] =
     b"ring 1\nspace 4\nquorum 3 2 2\nnode a 4 in\nnode b 4 in\nnode c 4 in\nnode d 4 in\nslots 0 a b c\nslots 1 a b c\nslots 2 a b c\nslots 3 a b c\nend\n";
 

@@ -82,7 +82,7 @@ fn judged(
     agrees(alloc, approved, slice::from_ref(script), 1, &outcome)
 }
 
-// The same over the ring, by its plan of one step and a script of no line.
+// Judges a run over the ring, by its plan of one step and a script of no line.
 fn judge(
     alloc: Global,
     work: Option<Given>,

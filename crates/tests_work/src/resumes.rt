@@ -95,7 +95,7 @@ fn resumed<RT: AllocGlobal + Threads + Wait + Sync, G: Gate + Sync>(
     }
 }
 
-// The same of the plan that moves a slot.
+// A resume of the plan that moves a slot.
 fn resumed_from<RT: AllocGlobal + Threads + Wait + Sync, G: Gate + Sync>(
     rt: &RT,
     entries: &[Entry],

@@ -61,7 +61,7 @@ fn drive_behind<RT: AllocGlobal + Threads + Wait + Sync>(
     }
 }
 
-// The same of the texts.
+// Whether the last step of a drive of the texts is done after the handoff.
 fn waits<RT: AllocGlobal + Threads + Wait + Sync>(rt: &RT) -> Result<bool, Refusal> {
     let ring = ring(rt.alloc(), FOUR)?;
     let script = script(rt.alloc(), &ring, SCRIPT)?;

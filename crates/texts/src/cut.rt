@@ -20,7 +20,7 @@ pub fn cut(bytes: &[u8], separator: u8) -> (&[u8], Option<&[u8]>)
     }
 }
 
-// The same, for a separator that is near: a walk over the bytes, four at a time, which is faster than a search over few of them.
+// Cuts at a separator that is near: a walk over the bytes, four at a time, which is faster than a search over few of them.
 #[inline(always)]
 pub fn cut_near(bytes: &[u8], separator: u8) -> (&[u8], Option<&[u8]>)
     ensures { MatchOption result.1

@@ -36,7 +36,7 @@ impl<'a> Model for NumberRow<'a> {
 }
 
 impl<'a> Cursor<'a> {
-    // The same parts.
+    // A cursor of its own at the same place.
     pub(crate) fn again(&self) -> Cursor<'a>
         ensures { result ≡ self.now }
     {
@@ -101,7 +101,7 @@ impl<'a> NumberRow<'a> {
         }
     }
 
-    /// The same numbers.
+    /// A row of its own of the same numbers.
     pub fn again(&self) -> NumberRow<'a>
         ensures { result ≡ self.now }
     {
