@@ -1,5 +1,6 @@
 -- What `clap` makes of the program's command lines.
-use Rattle.std.proofs.Common.{◌≡◌, ◌≢◌, ◌⊎◌, ℕ, [], ◌∷◌, List, Result, Ok, Err, Option, Some, None, IfOk, true, codes, option_map, refl, sym, ap, ◌∙◌, subst, drop, inl, inr}
+use Rattle.std.proofs.Common.{◌≡◌, ◌≢◌, ◌⊎◌, ℕ, [], ◌∷◌, List, Result, Ok, Err, Option, Some, None, IfOk, true, false, codes, option_map, refl, sym, ap, ◌∙◌, subst, drop, inl, inr}
+use Rattle.std.specs.Str.{bytes_eq}
 use Rattle.std.specs.Str.Parse.{ParsesUnsigned}
 use Rattle.std.specs.Global.{Vec}
 use Rattle.clap.specs.Words.{App, FailsBy, IsAmong, Kinds, Row, TriesOne, fault_of, is_simple, is_simple_and_free, built, first_of, one_of, subcommand_of, subcommand_rows_of, HasMatchesOf}
@@ -13,16 +14,19 @@ use Rattle.clap.specs.declared.error.kind.ErrorKind.TheVariants.{DisplayHelp, Di
 use Rattle.clap.specs.declared.error.kind.ErrorKind.TheVariants as kind
 use Rattle.clap.specs.declared.parser.matches.ArgMatches.{ArgMatches}
 use Rattle.clap.proofs.OnLiterals.{clap_on_literals}
+use Rattle.ring_names.proofs.AtBytes.{same_bytes}
 use Rattle.ringplan_command.specs.Tree.{ringplan, word_of}
 use Rattle.ringplan_command.specs.Files.{IsJob, Names, files_named, files_of, no_files, text_named}
 use Rattle.ringplan_command.specs.declared.word.Guide.{Guide}
 use Rattle.ringplan_command.specs.declared.word.Word.{Word}
+use Rattle.ringplan_command.specs.declared.command.Format.{Format}
+use Rattle.ringplan_command.specs.declared.command.Format.TheVariants as form
 use Rattle.ringplan_command.specs.declared.command.Request.{Request}
-use Rattle.ringplan_command.specs.declared.command.Request.TheVariants.{Do, CheckBy, Drive, Make, Describe, Help, Refused, Mistaken, OutOfMemory}
+use Rattle.ringplan_command.specs.declared.command.Request.TheVariants.{Do, CheckBy, State, StateBy, Drive, Make, Describe, Help, Refused, Mistaken, OutOfMemory}
 use Rattle.ringplan_job.specs.declared.job.Job.{Job}
 use Rattle.ringplan_job.specs.declared.job.Job.TheVariants.{Check, Migrate, Plan, Play, Replay}
-use Rattle.ringplan_command.specs.Command.{Answers, Asked, HasNoNumber, IsMistaken, IsRefused, AsksGuide, AsksWord, IsOfGuide, IsOfWord, IsTurnedAway, TakesValues, WantsHelp}
-use Rattle.ringplan_command.specs.Command.{Task, asked, asked_by, asks_word, by_drive, by_workers, only, option_named, task_named, to_describe, to_do, to_drive, to_make, word_of_making}
+use Rattle.ringplan_command.specs.Command.{Answers, Asked, HasNoFormat, HasNoNumber, IsMistaken, IsRefused, AsksGuide, AsksWord, IsInFormat, IsOfGuide, IsOfWord, IsTurnedAway, MeansFormat, TakesValues, WantsHelp}
+use Rattle.ringplan_command.specs.Command.{Task, asked, asked_by, asks_word, but_text, by_drive, by_workers, format_named, in_json, only, option_named, json_named, task_named, to_describe, to_do, to_drive, to_make, word_of_making}
 
 is_free : is_simple_and_free ringplan ≡ true
 unfolding clap_on_literals
@@ -57,11 +61,6 @@ parsed app words r e h = let P : App → Type 0 = λ a. is_simple_and_free a ≡
 pub entered_by : (app : App) (words : List (List ℕ)) (m : ArgMatches) → app ≡ ringplan → HasMatchesOf app words m → subcommand_rows_of m ≡ subcommand_of ringplan words
 entered_by app words m e h = (let P : App → Type 0 = λ a. HasMatchesOf a words m in subst P e h is_plain).1
 
--- a refused line answers whatever is refused
-pub refused_line : {E : Type 0} → (asked : Asked) (r : Result Request E) → IsRefused asked → IfOk r (λ line. (text : Vec ℕ) × (line ≡ Refused text)) → IfOk r (Answers asked)
-refused_line asked (Ok line) is (text, e) = rw e is
-refused_line asked (Err e) is h = tt
-
 -- what answers a line with no fault and the subcommand that was entered answers the words
 pub answers_words : {T E : Type 0} (request_in : T → Request) (words : List (List ℕ)) (m : ArgMatches) (r : Result T E) → fault_of ringplan words ≡ []
     → subcommand_rows_of m ≡ subcommand_of ringplan words → IfOk r (λ x. Answers (asked_by [] (subcommand_rows_of m)) (request_in x)) → IfOk r (λ x. Answers (asked words) (request_in x))
@@ -87,12 +86,32 @@ text_there None rows id e = absurd cc
 text_there (Some x) rows id e = let same : rows ≡ x.1 = cc in rw same refl
 
 -- one without the option names none
-pub none_given : (sub : Option (List ℕ × List Row)) → task_named sub ≡ to_do Check → option_named (codes "workers") sub ≡ None → asked_by [] sub ≡ only Check
-none_given sub is none = rw (is, none) refl
+pub none_given : (sub : Option (List ℕ × List Row)) → task_named sub ≡ to_do Check → option_named (codes "workers") sub ≡ None → format_named sub ≡ None → asked_by [] sub ≡ only Check
+none_given sub is none text = rw (is, none, text) refl
+
+pub none_stated : (sub : Option (List ℕ × List Row)) → task_named sub ≡ to_do Check → option_named (codes "workers") sub ≡ None → format_named sub ≡ Some (codes "json")
+    → asked_by [] sub ≡ in_json (only Check)
+none_stated sub is none json = rw (is, none, json) refl
 
 -- one with the option names its text
-pub some_given : (sub : Option (List ℕ × List Row)) (text : List ℕ) → task_named sub ≡ to_do Check → option_named (codes "workers") sub ≡ Some text → asked_by [] sub ≡ by_workers text
-some_given sub text is some = rw (is, some) refl
+pub some_given : (sub : Option (List ℕ × List Row)) (text : List ℕ) → task_named sub ≡ to_do Check → option_named (codes "workers") sub ≡ Some text → format_named sub ≡ None
+    → asked_by [] sub ≡ by_workers text
+some_given sub text is some none = rw (is, some, none) refl
+
+pub some_stated : (sub : Option (List ℕ × List Row)) (text : List ℕ) → task_named sub ≡ to_do Check → option_named (codes "workers") sub ≡ Some text → format_named sub ≡ Some (codes "json")
+    → asked_by [] sub ≡ in_json (by_workers text)
+some_stated sub text is some json = rw (is, some, json) refl
+
+-- a replay names nothing but the form of its answer
+pub replay_given : (sub : Option (List ℕ × List Row)) → task_named sub ≡ to_do Replay → format_named sub ≡ None → asked_by [] sub ≡ only Replay
+replay_given sub is none = rw (is, none) refl
+
+pub replay_stated : (sub : Option (List ℕ × List Row)) → task_named sub ≡ to_do Replay → format_named sub ≡ Some (codes "json") → asked_by [] sub ≡ in_json (only Replay)
+replay_stated sub is json = rw (is, json) refl
+
+-- one whose form is none that there is is refused
+pub bad_form : (sub : Option (List ℕ × List Row)) (job : Job) (text : List ℕ) → task_named sub ≡ to_do job → json_named (to_do job) sub ≡ Some text → text ≢ codes "json" → IsRefused (asked_by [] sub)
+bad_form sub job text is some other = inr (inr (inl (text, ap (λ (t : Task). json_named t sub) is ∙ some, other, λ drive. let bad : to_do job ≡ to_drive = sym is ∙ drive in absurd cc)))
 
 -- a drive names what it names
 pub drive_given : (sub : Option (List ℕ × List Row)) → task_named sub ≡ to_drive → asked_by [] sub ≡ by_drive (option_named (codes "workers") sub) (option_named (codes "json") sub)
@@ -141,7 +160,8 @@ none_helped kinds e (inr h) = let P : Kinds → Type 0 = IsAmong DisplayVersion 
 none_refused : (job : Job) (asked : Asked) → asked ≡ only job → IsRefused asked → ⊥
 none_refused job asked e (inl h) = none_mistaken _ (ap (λ x. x.faults) e) h
 none_refused job asked e (inr (inl (t, is, h))) = let none : Some t ≡ None = sym is ∙ ap (λ x. x.workers) e in absurd cc
-none_refused job asked e (inr (inr (task, is, values))) =
+none_refused job asked e (inr (inr (inl (text, is, other, task)))) = let none : Some text ≡ None = sym is ∙ ap (λ x. x.json) e in absurd cc
+none_refused job asked e (inr (inr (inr (task, is, values)))) =
     let same : task ≡ to_do job = ap (λ x. x.task) (sym is ∙ e) in
     absurd (subst (λ (t : Task). TakesValues t) same values)
 
@@ -151,18 +171,46 @@ turned_away asked (Refused text) h is = h
 turned_away asked (Mistaken text) h is = h
 turned_away asked (Do _) h is = absurd is
 turned_away asked (CheckBy _) h is = absurd is
+turned_away asked (State _) h is = absurd is
+turned_away asked (StateBy _) h is = absurd is
 turned_away asked (Drive _ _) h is = absurd is
 turned_away asked (Make _) h is = absurd is
 turned_away asked (Describe _) h is = absurd is
 turned_away asked (Help _) h is = absurd is
 turned_away asked OutOfMemory h is = absurd is
 
+pub refused_line : {E : Type 0} → (asked : Asked) (r : Result Request E) → IsRefused asked → IfOk r IsTurnedAway → IfOk r (Answers asked)
+refused_line asked (Ok line) is h = turned_away asked line is h
+refused_line asked (Err e) is h = tt
+
+-- ---- the form of an answer
+
+-- the form that is named is that of the subcommand that was entered
+pub format_there : (sub : Option (List ℕ × List Row)) (rows : List Row) → Some rows ≡ option_map (λ p. p.1) sub → format_named sub ≡ but_text (first_of (codes "format") rows)
+format_there None rows e = absurd cc
+format_there (Some x) rows e = let same : rows ≡ x.1 = cc in rw same refl
+
+-- texts that differ are not the same
+pub texts_differ : (a b : List ℕ) → bytes_eq a b ≡ false → a ≢ b
+texts_differ a b differs e = let bad : bytes_eq b b ≡ false = subst (λ (x : List ℕ). bytes_eq x b ≡ false) e differs in let worse : true ≡ false = sym (same_bytes b) ∙ bad in absurd cc
+
+-- what is asked for in a form that was read answers the line
+pub formed : {E : Type 0} (asked : Asked) (json : Option (List ℕ)) (format : Format) (plain stated : Request) (r : Result Request E) → MeansFormat json format
+    → (json ≡ None → Answers asked plain) → (json ≡ Some (codes "json") → Answers asked stated) → ((text : List ℕ) → json ≡ Some text → text ≢ codes "json" → IsRefused asked)
+    → IfOk r (IsInFormat format plain stated) → IfOk r (Answers asked)
+formed asked json form.Text plain stated (Ok line) means none some bad is = rw is (none means)
+formed asked json form.Json plain stated (Ok line) means none some bad is = rw is (some means)
+formed asked json form.Unknown plain stated (Ok line) (text, named, other) none some bad is = turned_away asked line (bad text named other) is
+formed asked json format plain stated (Err e) means none some bad is = tt
+
 -- what a command for people makes answers a line that asks for it, and so does its refusal
 pub of_word : {E : Type 0} (asked : Asked) (w : Word) (r : Result Request E) → AsksWord asked w → IfOk r (IsOfWord w) → IfOk r (Answers asked)
 of_word asked w (Ok (Make making)) e h = e ∙ ap (λ (v : Word). asks_word v) (sym h)
-of_word asked w (Ok (Mistaken text)) e h = inr (inr (to_make w, e, h))
+of_word asked w (Ok (Mistaken text)) e h = inr (inr (inr (to_make w, e, h)))
 of_word asked w (Ok (Do _)) e h = absurd h
 of_word asked w (Ok (CheckBy _)) e h = absurd h
+of_word asked w (Ok (State _)) e h = absurd h
+of_word asked w (Ok (StateBy _)) e h = absurd h
 of_word asked w (Ok (Drive _ _)) e h = absurd h
 of_word asked w (Ok (Describe _)) e h = absurd h
 of_word asked w (Ok (Help _)) e h = absurd h
@@ -177,10 +225,12 @@ word_asked sub w is = rw is refl
 -- a text about the program answers a line that asks for it, and so does its refusal
 pub of_guide : {E : Type 0} (asked : Asked) (guide : Guide) (r : Result Request E) → AsksGuide asked guide → IfOk r (IsOfGuide guide) → IfOk r (Answers asked)
 of_guide asked guide (Ok (Describe text)) e h = (guide, e)
-of_guide asked guide (Ok (Mistaken text)) e h = inr (inr (to_describe guide, e, h))
+of_guide asked guide (Ok (Mistaken text)) e h = inr (inr (inr (to_describe guide, e, h)))
 of_guide asked guide (Ok (Make _)) e h = absurd h
 of_guide asked guide (Ok (Do _)) e h = absurd h
 of_guide asked guide (Ok (CheckBy _)) e h = absurd h
+of_guide asked guide (Ok (State _)) e h = absurd h
+of_guide asked guide (Ok (StateBy _)) e h = absurd h
 of_guide asked guide (Ok (Drive _ _)) e h = absurd h
 of_guide asked guide (Ok (Help _)) e h = absurd h
 of_guide asked guide (Ok (Refused _)) e h = absurd h
@@ -197,6 +247,8 @@ no_job (Refused text) is job = job
 no_job (Mistaken text) is job = job
 no_job (Do _) is job = is
 no_job (CheckBy _) is job = is
+no_job (State _) is job = is
+no_job (StateBy _) is job = is
 no_job (Drive _ _) is job = is
 no_job (Make _) is job = is
 no_job (Describe _) is job = is
@@ -211,6 +263,8 @@ job_asked job asked (Do other) e h =
     let jobs : other ≡ job = cc in
     inl (ap Do jobs)
 job_asked job asked (CheckBy k) e (text, is, h) = let same : by_workers text ≡ only job = sym is ∙ e in let none : Some text ≡ None = ap (λ x. x.workers) same in absurd cc
+job_asked job asked (State other) e h = let none : Some (codes "json") ≡ None = ap (λ x. x.json) (sym h ∙ e) in absurd cc
+job_asked job asked (StateBy k) e (text, is, h) = let none : Some (codes "json") ≡ None = ap (λ x. x.json) (sym is ∙ e) in absurd cc
 job_asked job asked (Drive k form) e h =
     let same : by_drive h.0 h.1 ≡ only job = sym h.2 ∙ e in
     let task : to_drive ≡ to_do job = ap (λ x. x.task) same in

@@ -3,12 +3,12 @@ use Rattle.std.specs.Prelude.{◌≡◌, ◌≢◌, ◌⊎◌, ℕ, ◌≤◌, B
 use Rattle.std.specs.Option.{option_map_or}
 use Rattle.std.specs.Str.{bytes_eq}
 use Rattle.std.specs.Str.Parse.{IsNumeral, digits_value, without_leading_plus}
-use Rattle.clap.specs.Words.{IsAmong, Kinds, Row, fault_of, one_of, subcommand_of}
+use Rattle.clap.specs.Words.{IsAmong, Kinds, Row, fault_of, first_of, one_of, subcommand_of}
 use Rattle.clap.specs.declared.error.kind.ErrorKind.{ErrorKind}
 use Rattle.clap.specs.declared.error.kind.ErrorKind.TheVariants.{DisplayHelp, DisplayVersion}
 use Rattle.ringplan_command.specs.Tree.{drive_word, ringplan, word_of}
 use Rattle.ringplan_command.specs.declared.command.Request.{Request}
-use Rattle.ringplan_command.specs.declared.command.Request.TheVariants.{Do, CheckBy, Drive, Make, Describe, Help, Refused, Mistaken, OutOfMemory}
+use Rattle.ringplan_command.specs.declared.command.Request.TheVariants.{Do, CheckBy, State, StateBy, Drive, Make, Describe, Help, Refused, Mistaken, OutOfMemory}
 use Rattle.ringplan_command.specs.declared.word.Guide.{Guide}
 use Rattle.ringplan_command.specs.declared.word.Guide.TheVariants.{Completions, Manual}
 use Rattle.ringplan_command.specs.declared.word.Word.{Word}
@@ -17,6 +17,8 @@ use Rattle.ringplan_job.specs.declared.making.Making.{Making}
 use Rattle.ringplan_job.specs.declared.making.Making.TheVariants.{Why, Bundle, Cert, After, Show, Draw, Steps, Moves, Windows, Goal, Even}
 use Rattle.ringplan_command.specs.declared.command.Workers.{Workers}
 use Rattle.ringplan_command.specs.declared.command.Workers.TheVariants.{Unnamed, Many, NoNumber}
+use Rattle.ringplan_command.specs.declared.command.Format.{Format}
+use Rattle.ringplan_command.specs.declared.command.Format.TheVariants as format
 use Rattle.ringplan_command.specs.declared.form.Form.{Form}
 use Rattle.ringplan_command.specs.declared.form.Form.TheVariants.{History, Report}
 use Rattle.ringplan_job.specs.declared.job.Job.{Job}
@@ -93,8 +95,18 @@ workers_named (to_do Check) subcommand = option_named (codes "workers") subcomma
 workers_named to_drive subcommand = option_named (codes "workers") subcommand
 workers_named task subcommand = None
 
--- the text of the form; but for `drive`, no subcommand names one
+-- the text of a form of answers, but for `text`, which is also the form where none is named
+abbrev pub but_text : Option (List ℕ) → Option (List ℕ)
+but_text None = None
+but_text (Some text) = if bytes_eq text (codes "text") then None else Some text
+
+abbrev pub format_named : Option (List ℕ × List Row) → Option (List ℕ)
+format_named subcommand = but_text (option_and_then (λ x. first_of (codes "format") x.1) subcommand)
+
+-- the text of the form; but for `drive`, `check` and `replay`, no subcommand names one
 abbrev pub json_named : Task → Option (List ℕ × List Row) → Option (List ℕ)
+json_named (to_do Check) subcommand = format_named subcommand
+json_named (to_do Replay) subcommand = format_named subcommand
 json_named to_drive subcommand = option_named (codes "json") subcommand
 json_named task subcommand = None
 
@@ -115,6 +127,10 @@ only job = record { faults = []; task = to_do job; workers = None; json = None }
 abbrev pub by_workers : List ℕ → Asked
 by_workers text = record { faults = []; task = to_do Check; workers = Some text; json = None }
 
+-- what is asked, with an answer as JSON
+abbrev pub in_json : Asked → Asked
+in_json asked = record asked { json = Some (codes "json") }
+
 -- a drive, with those texts of workers and form, if they are named
 abbrev pub by_drive : Option (List ℕ) → Option (List ℕ) → Asked
 by_drive workers json = record { faults = []; task = to_drive; workers = workers; json = json }
@@ -130,6 +146,14 @@ AsksBy asked k = (text : List ℕ) × (asked ≡ by_workers text) × IsWorkers t
 -- what is asked is that job; a check may be by workers
 abbrev pub Asks : Asked → Job → Type 0
 Asks asked job = (asked ≡ only job) ⊎ ((job ≡ Check) × ((k : ℕ) × AsksBy asked k))
+
+-- what is asked is a check by k workers, with an answer as JSON
+abbrev pub AsksJsonBy : Asked → ℕ → Type 0
+AsksJsonBy asked k = (text : List ℕ) × (asked ≡ in_json (by_workers text)) × IsWorkers text k
+
+-- what is asked is that job with an answer as JSON; a check may be by workers
+abbrev pub AsksJson : Asked → Job → Type 0
+AsksJson asked job = (asked ≡ in_json (only job)) ⊎ ((job ≡ Check) × ((k : ℕ) × AsksJsonBy asked k))
 
 -- so many workers are meant: one where none are named
 abbrev pub IsMany : Option (List ℕ) → ℕ → Type 0
@@ -156,6 +180,16 @@ IsMistaken kinds = (k : ErrorKind) × (k ≢ DisplayHelp) × (k ≢ DisplayVersi
 -- workers are named, and not by a number from 1 to 64
 abbrev pub HasNoNumber : Option (List ℕ) → Type 0
 HasNoNumber workers = (text : List ℕ) × (workers ≡ Some text) × ((k : ℕ) → IsWorkers text k → ⊥)
+
+-- a form of answers is named that there is not; that of a drive is another one
+abbrev pub HasNoFormat : Asked → Type 0
+HasNoFormat asked = (text : List ℕ) × (asked.json ≡ Some text) × (text ≢ codes "json") × (asked.task ≢ to_drive)
+
+-- what was read of the text of the form of answers
+abbrev pub MeansFormat : Option (List ℕ) → Format → Type 0
+MeansFormat json format.Text = json ≡ None
+MeansFormat json format.Json = json ≡ Some (codes "json")
+MeansFormat json format.Unknown = (text : List ℕ) × (json ≡ Some text) × (text ≢ codes "json")
 
 -- what was read of the text of the workers
 abbrev pub MeansWorkers : Option (List ℕ) → Workers → Type 0
@@ -187,14 +221,16 @@ TakesValues (to_make people.Goal) = ⊤
 TakesValues (to_describe Completions) = ⊤
 TakesValues task = ⊥
 
--- the line is refused: for its words, for its workers, or for such a value
+-- the line is refused: for its words, for its workers, for the form of its answer, or for such a value
 abbrev pub IsRefused : Asked → Type 0
-IsRefused asked = IsMistaken asked.faults ⊎ (HasNoNumber asked.workers ⊎ ((task : Task) × (asked ≡ asks_just task) × TakesValues task))
+IsRefused asked = IsMistaken asked.faults ⊎ (HasNoNumber asked.workers ⊎ (HasNoFormat asked ⊎ ((task : Task) × (asked ≡ asks_just task) × TakesValues task)))
 
 -- what a command line that asks so is taken for, memory aside
 abbrev pub Answers : Asked → Request → Type 0
 Answers asked (Do job) = asked ≡ only job
 Answers asked (CheckBy workers) = AsksBy asked workers
+Answers asked (State job) = asked ≡ in_json (only job)
+Answers asked (StateBy workers) = AsksJsonBy asked workers
 Answers asked (Drive workers form) = AsksDrive asked workers form
 Answers asked (Make making) = AsksWord asked (word_of_making making)
 Answers asked (Describe text) = (guide : Guide) × AsksGuide asked guide
@@ -208,6 +244,12 @@ abbrev pub IsTurnedAway : Request → Type 0
 IsTurnedAway (Refused text) = ⊤
 IsTurnedAway (Mistaken text) = ⊤
 IsTurnedAway _ = ⊥
+
+-- what is asked for in that form, of what asks for text and what asks for JSON
+abbrev pub IsInFormat : Format → Request → Request → Request → Type 0
+IsInFormat format.Text plain stated line = line ≡ plain
+IsInFormat format.Json plain stated line = line ≡ stated
+IsInFormat format.Unknown plain stated line = IsTurnedAway line
 
 -- what that command for people makes, or a line that is refused for the value of one of its options
 abbrev pub IsOfWord : Word → Request → Type 0

@@ -68,7 +68,10 @@ abbrev pub completions_app : App
 completions_app = with_rule (guide_app (codes "completions")) shell_argument
 
 abbrev pub check_app : App
-check_app = with_rule (job_app (codes "check")) workers_option
+check_app = with_rule (with_rule (job_app (codes "check")) workers_option) (text_option (codes "format"))
+
+abbrev pub replay_app : App
+replay_app = with_rule (job_app (codes "replay")) (text_option (codes "format"))
 
 abbrev pub drive_app : App
 drive_app = with_rule (with_rule (job_app drive_word) workers_option) (flag_option (codes "json"))
@@ -105,7 +108,7 @@ abbrev pub first_commands : App
 first_commands = with (with (with (with (with (with (with top_app goal_app) show_app) draw_app) check_app) (job_app (codes "why"))) steps_app) windows_app
 
 abbrev pub bundle_commands : App
-bundle_commands = with (with (with (with (with (with (with (with first_commands drive_app) (job_app (codes "play"))) (job_app (codes "replay"))) (job_app (codes "after")))
+bundle_commands = with (with (with (with (with (with (with (with first_commands drive_app) (job_app (codes "play"))) replay_app) (job_app (codes "after")))
     (job_app (codes "bundle"))) (job_app (codes "cert"))) (job_app (codes "plan"))) (job_app (codes "migrate"))
 
 abbrev pub ringplan : App

@@ -1,9 +1,9 @@
 //! The command line.
 
 ghost use Rattle.std.specs.Prelude.{◌≡◌, ◌⊎◌, ◌↔◌, ◌∷◌, [], IfOk, IsTrue, codes, drop, map};
-ghost use Rattle.clap.specs.Words.{found_of, one_text, subcommand_rows_of};
-ghost use Rattle.ringplan_command.specs.Command.{Answers, IsForm, MeansWorkers, asked, asked_by, job_named, task_named};
-ghost use Rattle.ringplan_command.specs.Command.{IsTurnedAway, to_describe, to_do, to_drive, to_make};
+ghost use Rattle.clap.specs.Words.{first_value, found_of, one_text, subcommand_rows_of};
+ghost use Rattle.ringplan_command.specs.Command.{Answers, IsForm, IsInFormat, MeansWorkers, asked, asked_by, job_named, task_named};
+ghost use Rattle.ringplan_command.specs.Command.{IsTurnedAway, MeansFormat, but_text, to_describe, to_do, to_drive, to_make};
 ghost use Rattle.ringplan_command.specs.Tree.{word_of};
 ghost use Rattle.ringplan_command.specs.Files.{IsJob, files_in, files_named, files_of, no_files};
 ghost use Rattle.ringplan_job.specs.declared.job.Job.{Job};
@@ -11,7 +11,7 @@ ghost use Rattle.ringplan_job.specs.declared.job.Job.{Job};
 use crate::files::Files;
 use crate::form::Form;
 use crate::guides::write_guide;
-use crate::help::NO_WORKERS;
+use crate::help::{NO_FORMAT, NO_WORKERS};
 use crate::line::make_line;
 use crate::tree::command;
 use crate::word::{Guide, Word, guide_of, is_for_people, people_word};
@@ -35,6 +35,10 @@ pub enum Request {
     Do(Job),
     /// To check a bundle by that many workers, 1 to 64.
     CheckBy(u32),
+    /// To do something with a bundle, and to print the answer as JSON.
+    State(Job),
+    /// To check a bundle by that many workers, 1 to 64, and to print the answer as JSON.
+    StateBy(u32),
     /// To run a bundle's plan by that many workers, 1 to 64, with a client for each script, and to print its outcome in that form.
     Drive(u32, Form),
     /// To make something of a bundle for people.
@@ -58,6 +62,7 @@ impl Request {
     {
         match self {
             Request::Do(_) | Request::CheckBy(_) | Request::Drive(_, _) => true,
+            Request::State(_) | Request::StateBy(_) => true,
             Request::Make(_) | Request::Describe(_) => true,
             Request::Help(_) | Request::Refused(_) | Request::Mistaken(_) | Request::OutOfMemory =>
                 false,
@@ -150,6 +155,7 @@ fn request_of(alloc: Global, matches: &ArgMatches) -> Result<Request, AllocError
     }
     match job_of(matches) {
         Job::Check => check_line(alloc, matches),
+        Job::Replay => replay_line(alloc, matches),
         job => Ok(Request::Do(job)),
     }
 }
@@ -162,11 +168,39 @@ fn check_line(alloc: Global, matches: &ArgMatches) -> Result<Request, AllocError
     let Some((_, options)) = matches.subcommand() else {
         return Ok(Request::Do(Job::Check));
     };
+    let format = format_of(options);
     match workers_of(options) {
-        Workers::Unnamed => Ok(Request::Do(Job::Check)),
-        Workers::Many(workers) => Ok(Request::CheckBy(workers)),
-        Workers::NoNumber => no_number(alloc),
+        Workers::Unnamed => in_format(
+            alloc,
+            format,
+            Request::Do(Job::Check),
+            Request::State(Job::Check),
+        ),
+        Workers::Many(workers) => in_format(
+            alloc,
+            format,
+            Request::CheckBy(workers),
+            Request::StateBy(workers),
+        ),
+        Workers::NoNumber => refused_line(alloc, NO_WORKERS),
     }
+}
+
+// What a line that asks for a replay asks for, by the form of the answer that it names.
+fn replay_line(alloc: Global, matches: &ArgMatches) -> Result<Request, AllocError>
+    requires { task_named (subcommand_rows_of matches.now) ≡ to_do Job.Replay }
+    ensures { IfOk result (Answers (asked_by [] (subcommand_rows_of matches.now))) }
+{
+    let Some((_, options)) = matches.subcommand() else {
+        unreachable!()
+    };
+    let format = format_of(options);
+    in_format(
+        alloc,
+        format,
+        Request::Do(Job::Replay),
+        Request::State(Job::Replay),
+    )
 }
 
 // What a line that asks for a drive asks for, by the workers and the form that it names.
@@ -181,7 +215,7 @@ fn drive_line(alloc: Global, matches: &ArgMatches) -> Result<Request, AllocError
     match workers_of(options) {
         Workers::Unnamed => Ok(Request::Drive(1, form)),
         Workers::Many(workers) => Ok(Request::Drive(workers, form)),
-        Workers::NoNumber => no_number(alloc),
+        Workers::NoNumber => refused_line(alloc, NO_WORKERS),
     }
 }
 
@@ -234,6 +268,48 @@ fn workers_of(options: &ArgMatches) -> Workers
     }
 }
 
+// What is said of the form of an answer: text, which is also what no word names, JSON, or none that there is.
+#[derive(Clone, Copy)]
+enum Format {
+    Text,
+    Json,
+    Unknown,
+}
+
+// The form of an answer that is named.
+fn format_of(options: &ArgMatches) -> Format
+    ensures { MeansFormat (but_text (first_value (found_of options.now) (codes "format"))) result }
+{
+    match options.get_str("format") {
+        None => Format::Text,
+        Some(text) => {
+            if text == "text" {
+                return Format::Text;
+            }
+            if text == "json" {
+                return Format::Json;
+            }
+            Format::Unknown
+        }
+    }
+}
+
+// What is asked for with an answer in that form, of what asks for text and what asks for JSON.
+fn in_format(
+    alloc: Global,
+    format: Format,
+    plain: Request,
+    stated: Request,
+) -> Result<Request, AllocError>
+    ensures { IfOk result (IsInFormat format plain stated) }
+{
+    match format {
+        Format::Text => Ok(plain),
+        Format::Json => Ok(stated),
+        Format::Unknown => refused_line(alloc, NO_FORMAT),
+    }
+}
+
 // The form that is named.
 fn form_of(options: &ArgMatches) -> Form
     ensures { IsForm (one_text (found_of options.now) (codes "json")) result }
@@ -244,11 +320,11 @@ fn form_of(options: &ArgMatches) -> Form
     }
 }
 
-// A line whose workers are no number from 1 to 64.
-fn no_number(alloc: Global) -> Result<Request, AllocError>
-    ensures { IfOk result (λ line. (text : _) × (line ≡ Request.Refused text)) }
+// A line that is refused in these words.
+fn refused_line(alloc: Global, words: &[u8]) -> Result<Request, AllocError>
+    ensures { IfOk result IsTurnedAway }
 {
-    let text = Vec::from_slice(alloc, NO_WORKERS)?;
+    let text = Vec::from_slice(alloc, words)?;
     Ok(Request::Refused(text))
 }
 

@@ -69,6 +69,9 @@ pub(crate) const MANUAL: &str = "Prints the page of the manual, for man";
 
 pub(crate) const SHELL: &str = "The shell: bash, zsh or fish";
 
+pub(crate) const FORMAT: &str =
+    "Prints the answer as text or as json, one object; without it as text";
+
 pub(crate) const WORKERS: &str =
     "Checks the partitions by K threads, 1 to 64, and the paths by as many as there are processors; the answer is the same";
 
@@ -113,6 +116,9 @@ pub(crate) const NO_WEIGHT: &[u8; 127] =
 
 pub(crate) const NO_BYTE: &[u8; 102] =
     b"error: invalid value for '--racks-behind <C>': not one character\n\nFor more information, try '--help'.\n";
+
+pub(crate) const NO_FORMAT: &[u8; 100] =
+    b"error: invalid value for '--format <FORMAT>': not text or json\n\nFor more information, try '--help'.\n";
 
 pub(crate) const NO_SHELL: &[u8; 95] =
     b"error: invalid value for '<SHELL>': not bash, zsh or fish\n\nFor more information, try '--help'.\n";
@@ -166,6 +172,7 @@ Example: ringplan check examples/move_one_slot.bundle
 
 Input: the texts of a ring, a plan and its certificate.
 Standard output: `yes`, or one line of `no`, the refusal's number and its values. `ringplan why` says the same in words.
+With `--format json` an object in one line instead: `answer`, and of a no `name`, `number` and `values`.
 
 Exit status:
   0  yes
@@ -180,6 +187,7 @@ Input: the texts of a ring, a plan, its certificate and a history: `history 1`, 
 Standard output: where the history is a run of the plan with these replies, `yes`, the owners of each partition's slots after the last entry, and
 `end`. Else `no 70`, the place of the first entry, counted from 0, that cannot have happened so, and the number by which its event would be refused,
 or 0 where it would be answered otherwise. Where the plan or a text is refused, one line of `no`.
+With `--format json` an object in one line instead: `answer`, and of a no `name`, `number` and `values`.
 
 Exit status:
   0  the history is a run of the plan

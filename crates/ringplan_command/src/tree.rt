@@ -4,12 +4,12 @@ ghost use Rattle.std.specs.Prelude.{◌≡◌, false, IfOk};
 ghost use Rattle.clap.specs.Words.{App, rule_of, with_rule, with_subcommand};
 ghost use Rattle.ringplan_command.specs.Tree.{IsApp, cut_option, draw_app, drive_app, flag_option, goal_app, job_app, ringplan, show_app};
 ghost use Rattle.ringplan_command.specs.Tree.{check_app, file_argument, output_option, steps_app, text_option, top_app};
-ghost use Rattle.ringplan_command.specs.Tree.{completions_app, guide_app, nodes_app, shell_argument, windows_app, workers_option};
+ghost use Rattle.ringplan_command.specs.Tree.{completions_app, guide_app, nodes_app, replay_app, shell_argument, windows_app, workers_option};
 
 use crate::help::{
     ABOUT, AFTER, AFTER_STREAMS, ALL, BUNDLE, BUNDLE_STREAMS, CERT, CERT_STREAMS, CHECK,
     CHECK_STREAMS, COMPLETIONS, COMPLETIONS_STREAMS, DEAD, DRAW, DRAW_STREAMS, DRIVE,
-    DRIVE_STREAMS, DRIVERS, EVEN, EXIT_CODE, FILE, GOAL, GOAL_STREAMS, JSON, MANUAL,
+    DRIVE_STREAMS, DRIVERS, EVEN, EXIT_CODE, FILE, FORMAT, GOAL, GOAL_STREAMS, JSON, MANUAL,
     MANUAL_STREAMS, MAP, MIGRATE, MIGRATE_STREAMS, MORE, MOVES, ONLY, OUTPUT, PLAN, PLAN_STREAMS,
     PLAY, PLAY_STREAMS, RACK_COLUMNS, RACKS, RACKS_APART, REPLAY, REPLAY_STREAMS, ROUNDS, SHELL,
     SHOW, SHOW_STREAMS, STEPS, STEPS_STREAMS, STREAMS, VERSION, WEIGHT, WHY, WHY_STREAMS, WINDOWS,
@@ -135,7 +135,15 @@ fn check<'a>(alloc: Global) -> Made<'a>
     ensures { IfOk result (IsApp check_app) }
 {
     let command = job(alloc, "check", CHECK, CHECK_STREAMS);
-    with_arg(command, workers(alloc, WORKERS))
+    let command = with_arg(command, workers(alloc, WORKERS));
+    with_arg(command, option(alloc, "format", "FORMAT", FORMAT))
+}
+
+fn replay<'a>(alloc: Global) -> Made<'a>
+    ensures { IfOk result (IsApp replay_app) }
+{
+    let command = job(alloc, "replay", REPLAY, REPLAY_STREAMS);
+    with_arg(command, option(alloc, "format", "FORMAT", FORMAT))
 }
 
 fn drive<'a>(alloc: Global) -> Made<'a>
@@ -221,7 +229,7 @@ pub(crate) fn command<'a>(alloc: Global) -> Result<Command<'a>, AllocError>
     let line = with(line, windows(alloc));
     let line = with(line, drive(alloc));
     let line = with(line, job(alloc, "play", PLAY, PLAY_STREAMS));
-    let line = with(line, job(alloc, "replay", REPLAY, REPLAY_STREAMS));
+    let line = with(line, replay(alloc));
     let line = with(line, job(alloc, "after", AFTER, AFTER_STREAMS));
     let line = with(line, job(alloc, "bundle", BUNDLE, BUNDLE_STREAMS));
     let line = with(line, job(alloc, "cert", CERT, CERT_STREAMS));

@@ -1,3 +1,4 @@
+pub mod Judged
+pub mod Plain
 pub mod Streams
 pub mod Verdicts
-pub mod Judged

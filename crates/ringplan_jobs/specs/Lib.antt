@@ -3,3 +3,4 @@ pub mod Verdict
 pub mod Answers
 pub mod Replays
 pub mod Outcomes
+pub mod Stated

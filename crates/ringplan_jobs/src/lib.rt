@@ -6,6 +6,7 @@ mod bundle;
 mod input;
 mod output;
 mod replaying;
+mod stating;
 
 pub use answer::{Answer, answer_of, status_of};
 pub use bundle::{
@@ -17,3 +18,4 @@ pub use output::write_all;
 pub use replaying::replay_bundle;
 pub use ring_script::{Kind, read_bundle};
 pub use ringplan_job::Job;
+pub use stating::stated_of;

@@ -1,5 +1,5 @@
 -- How the parts of a run make up its end.
-use Rattle.std.proofs.Common.{◌≡◌, inl, inr, ℕ, ◌<◌, ◌≤◌, arith, List, [], ◌∷◌, ◌++◌, Option, Some, None, Result, Ok, Err, codes, refl, sym, ◌∙◌, subst}
+use Rattle.std.proofs.Common.{◌≡◌, ◌≢◌, inl, inr, ℕ, ◌<◌, ◌≤◌, arith, List, [], ◌∷◌, ◌++◌, Option, Some, None, Result, Ok, Err, codes, refl, sym, ◌∙◌, subst}
 use Rattle.std.specs.Fmt.{digits}
 use Rattle.ring_names.specs.declared.refusal.Refusal.{Refusal}
 use Rattle.ring_names.specs.declared.refusal.Refusal.TheVariants.{OutOfMemory, ReadFailed}
@@ -8,10 +8,11 @@ use Rattle.ringplan_command.specs.declared.form.Form.{Form}
 use Rattle.ringplan_job.specs.declared.job.Job.{Job}
 use Rattle.ringplan_job.specs.declared.job.Job.TheVariants.{Check}
 use Rattle.ringplan_jobs.specs.Answers.{output_of, status_of}
-use Rattle.ringplan_command.specs.Command.{Asked, Asks, AsksBy, AsksDrive, AsksWord, IsMany, only, word_of_making}
+use Rattle.ringplan_command.specs.Command.{Asked, Asks, AsksBy, AsksDrive, AsksJson, AsksWord, IsMany, only, word_of_making}
 use Rattle.ringplan_jobs.specs.Io.{Prints, Tells}
 use Rattle.ringplan_jobs.specs.Outcomes.{Finds}
-use Rattle.ringplan_run.specs.Run.{FindsDrive, PrintsFound, Says, Shows, ShowsReport, answered, driven, unread, undriven, reported, out_of_memory}
+use Rattle.ringplan_jobs.specs.Stated.{json_of}
+use Rattle.ringplan_run.specs.Run.{FindsDrive, PrintsFound, PrintsStated, Says, Shows, ShowsReport, answered, driven, stated, unread, unstated, undriven, reported, out_of_memory}
 use Rattle.ringplan_job.specs.declared.making.Making.{Making}
 
 pub no_memory_line : line_of OutOfMemory ≡ codes "no 60" ++ 10 ∷ []
@@ -103,3 +104,27 @@ ran_driven asked workers form told old new found result e h (inr prints) = ran_o
 pub many_few : (o : Option (List ℕ)) (k : ℕ) → IsMany o k → (0 < k) × (k ≤ 64)
 many_few None k is = (omega arith, omega arith)
 many_few (Some text) k is = (let low = is.2 in omega arith, is.3)
+
+-- ---- answers as JSON
+
+says_stated : (asked : Asked) (job : Job) (bytes : List ℕ) (found : Result (List ℕ) Refusal) → AsksJson asked job → Finds job bytes found → found ≢ Err OutOfMemory
+    → Says asked bytes (json_of found) (status_of found)
+says_stated asked job bytes (Ok x) e h other = stated job (Ok x) e h refl refl
+says_stated asked job bytes (Err OutOfMemory) e h other = absurd (other refl)
+says_stated asked job bytes (Err ReadFailed) e h other = unstated job e refl refl
+says_stated asked job bytes (Err r) e h other =
+    let is = h (λ same. absurd cc) (λ same. absurd cc) in
+    stated job (Err r) e is refl refl
+
+-- what a job found is printed as JSON
+pub ran_stated : (asked : Asked) (job : Job) (told old new : Option (List ℕ)) (found : Result (List ℕ) Refusal) (result : ℕ) → AsksJson asked job
+    → (bytes : List ℕ) × Tells told bytes × Finds job bytes found → PrintsStated old new found result → Ran asked told old new result
+ran_stated asked job told old new found result e (bytes, tells, h) (inl (other, prints)) =
+    (bytes, tells, (json_of found, status_of found, says_stated asked job bytes found e h other, prints))
+ran_stated asked job told old new found result e h (inr prints) = ran_out asked told old new result prints
+
+-- what was found is printed so, where its answer is
+pub prints_stated : (old new : Option (List ℕ)) (found : Result (List ℕ) Refusal) (text shown : List ℕ) (status result : ℕ) → found ≢ Err OutOfMemory → shown ≡ text → text ≡ json_of found
+    → status ≡ status_of found → Prints old new shown status result → PrintsStated old new found result
+prints_stated old new found text shown status result other same e f prints =
+    inl (other, subst (λ (l : List ℕ). Prints old new l (status_of found) result) (same ∙ e) (subst (λ (s : ℕ). Prints old new shown s result) f prints))

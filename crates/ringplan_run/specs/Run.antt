@@ -4,10 +4,11 @@ use Rattle.ring_names.specs.declared.refusal.Refusal.{Refusal}
 use Rattle.ring_names.specs.declared.refusal.Refusal.TheVariants.{TooLarge, OutOfMemory, ReadFailed}
 use Rattle.ring_names.specs.Refusals.{line_of}
 use Rattle.ringplan_jobs.specs.Answers.{output_of, status_of}
-use Rattle.ringplan_command.specs.Command.{Asked, Asks, AsksDrive, AsksGuide, AsksWord, IsRefused, WantsHelp, word_of_making}
+use Rattle.ringplan_command.specs.Command.{Asked, Asks, AsksDrive, AsksGuide, AsksJson, AsksWord, IsRefused, WantsHelp, word_of_making}
 use Rattle.ringplan_command.specs.Files.{Names}
 use Rattle.ringplan_jobs.specs.Io.{Prints, max_input}
 use Rattle.ringplan_jobs.specs.Outcomes.{Outcome}
+use Rattle.ringplan_jobs.specs.Stated.{json_of}
 use Rattle.ringplan_run.specs.Drives.{Drives}
 use Rattle.ringplan_command.specs.declared.form.Form.{Form}
 use Rattle.ringplan_command.specs.declared.word.Guide.{Guide}
@@ -36,6 +37,8 @@ pub data Says (asked : Asked) (bytes : List ℕ) (text : List ℕ) (status : ℕ
   described : (guide : Guide) → AsksGuide asked guide → status ≡ 0 → Says asked bytes text status
   refused : IsRefused asked → status ≡ 2 → Says asked bytes text status
   answered : (job : Job) (r : Result (List ℕ) Refusal) → Asks asked job → Outcome job bytes r → text ≡ output_of r → status ≡ status_of r → Says asked bytes text status
+  stated : (job : Job) (r : Result (List ℕ) Refusal) → AsksJson asked job → Outcome job bytes r → text ≡ json_of r → status ≡ status_of r → Says asked bytes text status
+  unstated : (job : Job) → AsksJson asked job → text ≡ json_of (Err ReadFailed) → status ≡ 3 → Says asked bytes text status
   driven : (workers : ℕ) (form : Form) (r : Result (List ℕ) Refusal) → AsksDrive asked workers form → DriveOutcome workers form bytes r → text ≡ output_of r → status ≡ status_of r → Says asked bytes text status
   unread : (job : Job) → Asks asked job → text ≡ line_of ReadFailed → status ≡ 3 → Says asked bytes text status
   undriven : (workers : ℕ) (form : Form) → AsksDrive asked workers form → text ≡ line_of ReadFailed → status ≡ 3 → Says asked bytes text status
@@ -78,3 +81,7 @@ told_by files told = if is_some files.input then None else told
 -- what was found is printed with its status, or that memory was refused is
 abbrev pub PrintsFound : Option (List ℕ) → Option (List ℕ) → Result (List ℕ) Refusal → ℕ → Type 0
 PrintsFound old new found result = Prints old new (output_of found) (status_of found) result ⊎ Prints old new (line_of OutOfMemory) 3 result
+
+-- the same as JSON; that memory was refused is always said by a line
+abbrev pub PrintsStated : Option (List ℕ) → Option (List ℕ) → Result (List ℕ) Refusal → ℕ → Type 0
+PrintsStated old new found result = ((found ≢ Err OutOfMemory) × Prints old new (json_of found) (status_of found) result) ⊎ Prints old new (line_of OutOfMemory) 3 result

@@ -1,6 +1,6 @@
 //! The program, over any input and any output.
 
-ghost use Rattle.std.specs.Prelude.{◌≡◌, ◌<◌, ◌≤◌, ◌∷◌, true, ℕ, List, [], IfOk, drop, map, option_map, string_bytes};
+ghost use Rattle.std.specs.Prelude.{◌≡◌, ◌≢◌, ◌<◌, ◌≤◌, ◌∷◌, true, false, Err, ℕ, List, [], IfOk, drop, map, option_map, string_bytes};
 ghost use Rattle.ring_names.specs.Refusals.{line_of};
 ghost use Rattle.ringplan_jobs.specs.Answers.{texts_of};
 ghost use Rattle.ringplan_command.specs.Command.{Answers, Asked, asked, only};
@@ -8,7 +8,7 @@ ghost use Rattle.ringplan_command.specs.Files.{files_of, no_files};
 ghost use Rattle.ringplan_command.specs.Tree.{word_of};
 ghost use Rattle.ringplan_jobs.specs.Io.{Prints, Tells};
 ghost use Rattle.ringplan_jobs.specs.Outcomes.{Finds};
-ghost use Rattle.ringplan_run.specs.Run.{FindsDrive, IsWritten, PrintsFound, Reports, Runs, RunsTo, Shows, ShowsReport, told_by};
+ghost use Rattle.ringplan_run.specs.Run.{FindsDrive, IsWritten, PrintsFound, PrintsStated, Reports, Runs, RunsTo, Shows, ShowsReport, told_by};
 ghost use Rattle.ringplan_job.specs.declared.job.Job.{Job};
 ghost use Rattle.ringplan_job.specs.declared.job.Job.TheVariants.{Check};
 
@@ -17,7 +17,7 @@ use crate::files::{open, save, say};
 use ring_names::Refusal;
 use ringplan_command::{CommandLine, Files as Named, Form, Request, parse};
 use ringplan_job::Making;
-use ringplan_jobs::{Job, answer_bytes, answer_check, answer_of, read_all, write_all};
+use ringplan_jobs::{Job, answer_bytes, answer_check, answer_of, read_all, stated_of, write_all};
 use ringplan_people::{Report, report_bundle, report_unread};
 use std::alloc::Global;
 use std::convert::AsStr;
@@ -125,6 +125,14 @@ fn run_request<RT: AllocGlobal + Eprint + Threads + Wait + Sync, R: Read + Drop,
             let found = answer_input_by(rt, alloc, workers, input);
             tell(alloc, found, output)
         }
+        Request::State(job) => {
+            let found = answer_input(alloc, job, input);
+            state(alloc, found, output)
+        }
+        Request::StateBy(workers) => {
+            let found = answer_input_by(rt, alloc, workers, input);
+            state(alloc, found, output)
+        }
         Request::Drive(workers, form) => {
             let found = drive_of(rt, alloc, workers, form, input);
             tell(alloc, found, output)
@@ -211,6 +219,29 @@ fn tell<W: Write>(alloc: Global, found: Result<Vec<u8>, Refusal>, output: &mut W
     ensures { PrintsFound (W.contents output.old) (W.contents output.new) (texts_of found) result }
 {
     match answer_of(alloc, found) {
+        Ok(answer) => finish(output, answer.output.as_slice(), answer.status),
+        Err(_) => end_without_memory(output),
+    }
+}
+
+// Whether memory was refused.
+fn lacks_memory(found: &Result<Vec<u8>, Refusal>) -> bool
+    ensures { result ≡ false → texts_of found.now ≢ Err Refusal.OutOfMemory }
+{
+    match found {
+        Ok(_) => false,
+        Err(refusal) => *refusal == Refusal::OutOfMemory,
+    }
+}
+
+// Prints what was found as JSON, and returns the exit status of that.
+fn state<W: Write>(alloc: Global, found: Result<Vec<u8>, Refusal>, output: &mut W) -> u8
+    ensures { PrintsStated (W.contents output.old) (W.contents output.new) (texts_of found) result }
+{
+    if lacks_memory(&found) {
+        return end_without_memory(output);
+    }
+    match stated_of(alloc, &found) {
         Ok(answer) => finish(output, answer.output.as_slice(), answer.status),
         Err(_) => end_without_memory(output),
     }

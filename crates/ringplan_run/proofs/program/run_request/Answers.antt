@@ -1,9 +1,10 @@
-use Rattle.std.proofs.Common.{rules, [], subst, refl}
+use Rattle.std.proofs.Common.{rules, [], subst, refl, inl, inr}
+use Rattle.ringplan_job.specs.declared.job.Job.TheVariants.{Check}
 use Rattle.ringplan_jobs.specs.Answers.{texts_of}
 use Rattle.ringplan_command.specs.Command.{Answers}
 use Rattle.ringplan_command.specs.declared.command.Request.{Request}
 use Rattle.ringplan_run.specs.Run.{described, help, refused}
-use Rattle.ringplan_run.proofs.Runs.{many_few, ran, ran_asked, ran_by, ran_driven, ran_out, ran_report, said}
+use Rattle.ringplan_run.proofs.Runs.{many_few, ran, ran_asked, ran_by, ran_driven, ran_out, ran_report, ran_stated, said}
 use Rattle.ringplan_run.proofs.Deliveries.{prints_nothing}
 use Rattle.ringplan_run.proofs.program.run_request.Goals as goal
 
@@ -16,6 +17,17 @@ pub returns-in-CheckBy : goal.returns-in-CheckBy
 returns-in-CheckBy g c = λ asked h.
     let asks = subst (λ (r : Request). Answers asked r) c.in-CheckBy.is h in
     ran_by asked c.in-CheckBy.workers (g.R.Read.remaining c.args.input.now) _ _ (texts_of c.answer_input_by-found.result) c.tell.result asks c.answer_input_by-found.ensures c.tell.ensures
+
+pub returns-in-State : goal.returns-in-State
+returns-in-State g c = λ asked h.
+    let asks = subst (λ (r : Request). Answers asked r) c.in-State.is h in
+    ran_stated asked c.in-State.job (g.R.Read.remaining c.args.input.now) _ _ (texts_of c.answer_input-found.result) c.state.result (inl asks) c.answer_input-found.ensures c.state.ensures
+
+pub returns-in-StateBy : goal.returns-in-StateBy
+returns-in-StateBy g c = λ asked h.
+    let asks = subst (λ (r : Request). Answers asked r) c.in-StateBy.is h in
+    ran_stated asked Check (g.R.Read.remaining c.args.input.now) _ _ (texts_of c.answer_input_by-found-in-StateBy.result) c.state-in-StateBy.result (inr (refl, (c.in-StateBy.workers, asks)))
+    c.answer_input_by-found-in-StateBy.ensures c.state-in-StateBy.ensures
 
 pub drive_of-found-requires : goal.drive_of-found-requires
 drive_of-found-requires g c =

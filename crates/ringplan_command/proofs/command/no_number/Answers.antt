@@ -1,5 +1,0 @@
-use Rattle.std.proofs.Common.{refl}
-use Rattle.ringplan_command.proofs.command.no_number.Goals as goal
-
-pub returns : goal.returns
-returns c = (c.in_ok-text.text, refl)
