@@ -1,7 +1,7 @@
 #!/usr/bin/env python3
 """Tries what the program reads and writes, from outside: files that are named, standard input, output and error, and a terminal. It wants the program as it
 is built."""
-import os, pty, subprocess, sys, tempfile
+import json, os, pty, re, subprocess, sys, tempfile
 
 top = os.path.dirname(os.path.dirname(os.path.abspath(__file__)))
 RUN = f"{top}/crates/ringplan/out/ringplan"
@@ -125,6 +125,32 @@ def streams():
         faults.append("-h is no shorter than --help")
 
 
+def formats():
+    """An answer as JSON says what its line says, by the names of docs/REFUSALS.md."""
+    with open(f"{top}/docs/REFUSALS.md", encoding="utf-8") as it:
+        names = {int(number): name for number, name in re.findall(r"^\| (\d+) \| (\w+) \|", it.read(), re.MULTILINE)}
+    with open(f"{top}/crates/tests_cases/args") as it:
+        words = it.read().split()
+    kinds = {word: words.index(word) for word in ("migrate", "play", "plan", "drive", "report", "race", "replay", "why")}
+    after = min(place for place in kinds.values() if place > kinds["replay"])
+    for word, cases in (("check", words[: min(kinds.values())]), ("replay", words[kinds["replay"] + 1: after])):
+        for case in cases:
+            given = f"{top}/crates/tests_cases/data/{case}.bundle"
+            text, errors, status = run(word, given)
+            number, *values = [int(field) for field in text.split(b"\n")[0].split()[1:]] or [0]
+            owed = {"answer": "no", "name": names[number], "number": number, "values": values} if number else {"answer": "yes"}
+            line = json.dumps(owed, separators=(",", ":")).encode() + b"\n"
+            owes(f"{word} of {case} as JSON", run(word, "--format", "json", given), line, errors, status)
+            owes(f"{word} of {case} as text", run(word, "--format=text", given), text, errors, status)
+            if word == "check":
+                owes(f"{case} as JSON by workers", run(word, "--workers", "3", "--format", "json", given), line, errors, status)
+    for words in (["check"], ["replay"], ["check", "--workers", "2"]):
+        wrong = b"error: invalid value for '--format <FORMAT>': not text or json\n\nFor more information, try '--help'.\n"
+        for form in ("xml", "JSON", ""):
+            owes(f"{words} in no form", run(*words, "--format", form), wrong, b"", 2)
+    owes("a form of plan", run("plan", "--format", "json"), contains(b"unexpected argument"), b"", 2)
+
+
 def terminal():
     """At a terminal with nothing to read the program says that it waits."""
     ours, theirs = pty.openpty()
@@ -141,6 +167,7 @@ with tempfile.TemporaryDirectory() as scratch:
     outputs(scratch)
 dead()
 streams()
+formats()
 terminal()
 for fault in faults:
     print(fault)
