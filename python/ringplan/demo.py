@@ -1,6 +1,6 @@
 """A store over seven real servers changes its ring under traffic, while two of them are killed and come back.
 
-    python3 -m ringplan.demo [--into FOLDER] [--break NAME]
+    python3 -m ringplan.demo [--into FOLDER] [--servers sqlite|redis|postgres] [--break NAME]
 
 One node joins and one leaves. `ringplan` makes the plan and checks it, four workers go through it, clients put and get all the while, and in the end `ringplan replay`
 judges the history. The folder gets the bundles and a picture. With --break a store that is broken on purpose runs, and the judge says what it did wrong.
@@ -17,12 +17,13 @@ import threading
 import time
 from collections.abc import Iterator
 from contextlib import contextmanager
+from typing import Any
 
 from ringplan import programs
 from ringplan.store.broken import EXECUTORS, STORES
 from ringplan.store.coordinator import Store
 from ringplan.store.executor import Executor
-from ringplan.store.nodes import SqliteNode
+from ringplan.store.nodes import KINDS, ServerNode, choose
 from ringplan.store.traffic import Load, Run
 from ringplan.texts import read_plan, read_steps
 
@@ -90,9 +91,9 @@ class Shown(Run):
             watcher.join()
 
 
-def history_of(bundle: str, broken: str, folder: str) -> str:
+def history_of(bundle: str, broken: str, folder: str, node: type[ServerNode[Any]]) -> str:
     """The lines of the history of one run."""
-    store = STORES.get(broken, Store)(read_plan(bundle)[0], lambda name: SqliteNode(folder, name, broken == "latest_timestamp_wins"))
+    store = STORES.get(broken, Store)(read_plan(bundle)[0], lambda name: node(folder, name, broken == "latest_timestamp_wins"))
     executor = EXECUTORS.get(broken, Executor)(store, read_steps(programs.ask("steps", bundle).text))
     shown = Shown(store, executor, Load(workers=4, clients=4, operations=200, pace=0.1, outage=1.0))
     try:
@@ -109,9 +110,9 @@ def history_of(bundle: str, broken: str, folder: str) -> str:
     return "\n".join(store.history.lines()) + "\n"
 
 
-def demonstrate(into: pathlib.Path, broken: str) -> int:
+def demonstrate(into: pathlib.Path, broken: str, servers: str = KINDS[0]) -> int:
     """Runs the demonstration, and returns the exit status: 0 where the judge says yes."""
-    begun = time.monotonic()
+    begun, node = time.monotonic(), choose(servers)
     into.mkdir(parents=True, exist_ok=True)
     goal = programs.ask("goal", ring())
     if goal.status:
@@ -121,7 +122,7 @@ def demonstrate(into: pathlib.Path, broken: str) -> int:
     (into / "planned.bundle").write_text(goal.text)
     folder = tempfile.mkdtemp(prefix="ringplan-demo-")
     try:
-        bundle = goal.text + history_of(goal.text, broken, folder)
+        bundle = goal.text + history_of(goal.text, broken, folder, node)
     finally:
         shutil.rmtree(folder)
     (into / "history.bundle").write_text(bundle)
@@ -139,10 +140,11 @@ def main() -> int:
     parser = argparse.ArgumentParser(prog="python3 -m ringplan.demo", description=(__doc__ or "").split("\n")[0])
     parser.add_argument("--into", type=pathlib.Path, default=pathlib.Path("demo"), metavar="FOLDER", help="where the bundles and the picture go")
     parser.add_argument("--break", dest="broken", default="", choices=["latest_timestamp_wins", *STORES, *EXECUTORS], metavar="NAME", help="a store that is broken on purpose")
+    parser.add_argument("--servers", choices=KINDS, default=KINDS[0], help="the database server of each node")
     words = parser.parse_args()
     sys.setswitchinterval(0.0005)
     try:
-        return demonstrate(words.into, words.broken)
+        return demonstrate(words.into, words.broken, words.servers)
     except programs.NoProgram as error:
         print(error, file=sys.stderr)
         return 2

@@ -1,6 +1,6 @@
 """Runs a plan on a reference store under traffic and faults, and writes the bundle with its history.
 
-    python3 -m ringplan.store BUNDLE STEPS OUT [--seed S] [--break NAME] ..
+    python3 -m ringplan.store BUNDLE STEPS OUT [--servers sqlite|redis|postgres] [--seed S] [--break NAME] ..
 """
 
 from __future__ import annotations
@@ -14,19 +14,21 @@ import sys
 import tempfile
 from typing import Any
 
+from ringplan.programs import NoProgram
 from ringplan.store.broken import EXECUTORS, STORES
 from ringplan.store.coordinator import Store
 from ringplan.store.executor import Executor
-from ringplan.store.nodes import SqliteNode
+from ringplan.store.nodes import KINDS, choose
 from ringplan.store.traffic import Load, Run
 from ringplan.texts import read_plan, read_steps
 
 
-def run(bundle: str, steps: str, load: Load, broken: str = "", dead: tuple[str, ...] = ()) -> tuple[str, dict[str, Any]]:
+def run(bundle: str, steps: str, load: Load, broken: str = "", dead: tuple[str, ...] = (), servers: str = KINDS[0]) -> tuple[str, dict[str, Any]]:
     """The bundle with the history of one run, and what there is to count of it."""
     ring, _ = read_plan(bundle)
+    node = choose(servers)
     folder = tempfile.mkdtemp(prefix="ringplan-store-")
-    store = STORES.get(broken, Store)(ring, lambda name: SqliteNode(folder, name, broken == "latest_timestamp_wins"))
+    store = STORES.get(broken, Store)(ring, lambda name: node(folder, name, broken == "latest_timestamp_wins"))
     executor = EXECUTORS.get(broken, Executor)(store, read_steps(steps), load.deaths)
     if broken == "empty_and_not_told":
         load = dataclasses.replace(load, wipes=True)
@@ -51,6 +53,7 @@ def main() -> None:
     parser.add_argument("steps", help="the lines of `ringplan steps` of that bundle")
     parser.add_argument("out", help="the bundle with the history, for `ringplan replay`")
     parser.add_argument("--break", dest="broken", default="", choices=["", "latest_timestamp_wins", "empty_and_not_told", *STORES, *EXECUTORS], metavar="NAME")
+    parser.add_argument("--servers", choices=KINDS, default=KINDS[0], help="the database server of each node")
     parser.add_argument("--dead", nargs="*", default=[], metavar="NODE", help="servers that are killed for good before the plan begins")
     for field in dataclasses.fields(Load):
         kind = type(field.default)
@@ -63,7 +66,10 @@ def main() -> None:
     bundle, steps, out = (pathlib.Path(path) for path in (words.bundle, words.steps, words.out))
     # Threads change often, so that more orders of events are met.
     sys.setswitchinterval(0.0005)
-    text, counts = run(bundle.read_text(), steps.read_text(), load, words.broken, tuple(words.dead))
+    try:
+        text, counts = run(bundle.read_text(), steps.read_text(), load, words.broken, tuple(words.dead), words.servers)
+    except NoProgram as error:
+        parser.exit(2, f"{error}\n")
     out.write_text(text)
     print(json.dumps(counts))
 

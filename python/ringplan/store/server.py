@@ -3,8 +3,7 @@
     python3 -m ringplan.store.server FILE SOCKET [latest]
 
 A request is a line of JSON, `[call, ...]`, and so is its answer. Four calls are all that a node offers: `fetch(area, key)`, `scan(area)`, `merge(area,
-contents)` and `clear(areas)`. A merge is one transaction: versions are merged where they are stored, so two writers of a key lose nothing. The server ends once
-its standard input does, so it does not outlive the store.
+contents)` and `clear(areas)`. A merge is one transaction: versions are merged where they are stored, so two writers of a key lose nothing.
 """
 
 from __future__ import annotations
@@ -85,14 +84,8 @@ class Server(socketserver.ThreadingMixIn, socketserver.UnixStreamServer):
         super().__init__(path, Requests)
 
 
-def end_with_input() -> None:
-    sys.stdin.read()
-    os._exit(0)
-
-
 def main() -> None:
     file, path = sys.argv[1:3]
-    threading.Thread(target=end_with_input, daemon=True).start()
     server = Server(f"{path}.new", Database(file, latest if "latest" in sys.argv[3:] else merged))
     # The socket is there once it answers.
     os.rename(f"{path}.new", path)
