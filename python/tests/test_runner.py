@@ -2,22 +2,29 @@
 
 from __future__ import annotations
 
+import concurrent.futures
 import contextlib
+import functools
+import itertools
 import json
 import os
 import pathlib
 import random
+import shutil
 import signal
+import socket
 import subprocess
 import sys
 import time
-from collections.abc import Iterator
+from collections import Counter
+from collections.abc import Callable, Iterator, Sequence
 
 import pytest
 
 from ringplan import programs, texts
-from ringplan.run import runner
-from ringplan.run.board import Name, Note, Status, Stop, Tries, names_of
+from ringplan.run import etcd, gateway, runner
+from ringplan.run.board import Board, Claim, ClaimEnded, Name, Note, Status, Stop, Tries, names_of
+from ringplan.run.etcd import EtcdBoard
 from ringplan.run.hooks import Hooks
 from ringplan.run.sqlite import SqliteBoard
 
@@ -49,11 +56,42 @@ sys.exit(status)
 """
 
 
-class Bench:
-    """A folder with a bundle, hooks, their log and a board."""
+class Server:
+    """An etcd process on loopback, over a folder of its own."""
 
     def __init__(self, folder: pathlib.Path) -> None:
-        self.folder, self.board = folder, folder / "board"
+        if shutil.which("etcd") is None:
+            pytest.skip("etcd is not installed")
+        self.folder = folder
+        with socket.socket() as one, socket.socket() as two:
+            one.bind(("127.0.0.1", 0))
+            two.bind(("127.0.0.1", 0))
+            self.port, peer = one.getsockname()[1], f"http://127.0.0.1:{two.getsockname()[1]}"
+        client = f"http://127.0.0.1:{self.port}"
+        peers = ["--listen-peer-urls", peer, "--initial-advertise-peer-urls", peer, "--initial-cluster", f"default={peer}"]
+        self.words = ["etcd", "--data-dir", str(folder / "data"), "--listen-client-urls", client, "--advertise-client-urls", client, *peers]
+        self.start()
+
+    def start(self) -> None:
+        with open(self.folder / "etcd.log", "ab") as log:
+            self.process = subprocess.Popen(self.words, stdout=log, stderr=log)
+        client = gateway.Etcd("127.0.0.1", self.port)
+        client.patience = 30.0
+        client.read_each("ready")
+
+    def kill(self) -> None:
+        self.process.kill()
+        self.process.wait()
+
+    def address(self, name: str) -> str:
+        return f"etcd://127.0.0.1:{self.port}/{name}"
+
+
+class Bench:
+    """A folder with a bundle, hooks and their log; a board; and the lease of runners, where the board has leases."""
+
+    def __init__(self, folder: pathlib.Path, board: str) -> None:
+        self.folder, self.board, self.lease = folder, board, "3"
         self.bundle = folder / "bundle"
         self.bundle.write_text(REPLACE)
         self.hooks(0.0)
@@ -70,12 +108,14 @@ class Bench:
 
     def command(self, *words: str) -> list[str]:
         if words[0] == "apply":
-            words = ("apply", str(self.bundle), "--do", str(self.folder / "hooks"), "--pause", "0.05", *words[1:])
-        return [sys.executable, "-m", "ringplan.run", *words, "--board", str(self.board)]
+            words = ("apply", str(self.bundle), "--do", str(self.folder / "hooks"), "--pause", "0.05", "--lease", self.lease, *words[1:])
+        return [sys.executable, "-m", "ringplan.run", *words, "--board", self.board]
 
-    def start(self, *words: str) -> subprocess.Popen[str]:
-        place = {**os.environ, "PYTHONPATH": str(TOP / "python")}
-        return subprocess.Popen(self.command(*words), stdout=subprocess.PIPE, stderr=subprocess.PIPE, text=True, env=place)
+    def start(self, *words: str, machine: str = "machine") -> subprocess.Popen[str]:
+        """Starts a command. Runners of two machines do not see the locks of each other's hooks."""
+        place, folder = {**os.environ, "PYTHONPATH": str(TOP / "python")}, self.folder / machine
+        folder.mkdir(exist_ok=True)
+        return subprocess.Popen(self.command(*words), stdout=subprocess.PIPE, stderr=subprocess.PIPE, text=True, env=place, cwd=folder)
 
     def run(self, *words: str) -> tuple[int, str, str]:
         process = self.start(*words)
@@ -97,15 +137,65 @@ class Bench:
             time.sleep(0.02)
 
 
+@pytest.fixture(scope="module")
+def server(tmp_path_factory: pytest.TempPathFactory) -> Iterator[Server]:
+    it = Server(tmp_path_factory.mktemp("etcd"))
+    yield it
+    it.kill()
+
+
 @pytest.fixture
-def bench(tmp_path: pathlib.Path) -> Iterator[Bench]:
+def address(request: pytest.FixtureRequest, tmp_path: pathlib.Path) -> str:
+    """A board that is not there yet: a file, or a name in etcd."""
+    if getattr(request, "param", "file") == "file":
+        return str(tmp_path / "board")
+    server: Server = request.getfixturevalue("server")
+    return server.address(tmp_path.name)
+
+
+@pytest.fixture
+def bench(address: str, tmp_path: pathlib.Path) -> Bench:
     try:
         programs.find()
     except programs.NoProgram as error:
         pytest.skip(str(error))
-    yield Bench(tmp_path)
+    return Bench(tmp_path, address)
 
 
+def open_board(address: str) -> Board:
+    if address.startswith("etcd:"):
+        return EtcdBoard(address, is_new=True, lease=30)
+    return SqliteBoard(address, is_new=True)
+
+
+def at_random(seed: int) -> Callable[[], str]:
+    """A third of all requests to etcd have no answer, and half of these have happened."""
+    draw = random.Random(seed)
+    return lambda: draw.choice(["before", "after", "", "", "", ""])
+
+
+def lose_answers(monkeypatch: pytest.MonkeyPatch, choose: Callable[[], str]) -> Counter[str]:
+    """Lets requests to etcd have no answer: `before` they happen, or `after` it. Counts them."""
+    ask, lost = gateway.Etcd.ask, Counter[str]()
+
+    def lossy(self: gateway.Etcd, path: str, body: gateway.Json, timeout: float = 5.0) -> gateway.Json:
+        what = choose() if self.patience else ""
+        reply = {} if what == "before" else ask(self, path, body, timeout)
+        if what:
+            lost[what] += 1
+            raise ConnectionResetError("an answer is lost")
+        return reply
+
+    monkeypatch.setattr(gateway.Etcd, "ask", lossy)
+    monkeypatch.setattr(gateway, "PAUSE", 0.001)
+    return lost
+
+
+over_both = pytest.mark.parametrize("address", ["file", "etcd"], indirect=True)
+over_etcd = pytest.mark.parametrize("address", ["etcd"], indirect=True)
+
+
+@over_both
 def test_a_plan_is_done_in_its_order(bench: Bench) -> None:
     code, out, _ = bench.run("apply", "--workers", "3")
     steps = texts.read_steps(programs.ask("steps", REPLACE).text)
@@ -123,6 +213,7 @@ def test_a_plan_is_done_in_its_order(bench: Bench) -> None:
     assert bench.run("apply")[0] == Status.DONE
 
 
+@over_both
 def test_a_runner_that_is_killed_goes_on(bench: Bench) -> None:
     draw = random.Random(1)
     bench.hooks(0.15)
@@ -139,18 +230,20 @@ def test_a_runner_that_is_killed_goes_on(bench: Bench) -> None:
     assert bench.run("judge")[0] == 0
 
 
+@over_both
 def test_a_step_waits_for_the_hook_of_a_runner_that_was_killed(bench: Bench) -> None:
     bench.hooks(1.0, "join")
     process = bench.start("apply")
     bench.wait_for("begin", 0)
     process.kill()
     process.communicate()
-    assert "a runner that ended was doing it" in bench.run("status")[1]
+    assert ("a runner that ended was doing it" if "etcd:" not in bench.board else "worker 0 of ") in bench.run("status")[1]
     assert bench.run("apply")[0] == Status.DONE
     assert bench.steps("twice") == []
     assert [line.get("again") for word, line in bench.log() if word == "begin" and line["step"] == 0] == [None, True]
 
 
+@over_both
 def test_a_failing_hook_holds_back_what_waits_for_it_alone(bench: Bench) -> None:
     steps = texts.read_steps(programs.ask("steps", REPLACE).text)
     held = {3}
@@ -170,6 +263,7 @@ def test_a_failing_hook_holds_back_what_waits_for_it_alone(bench: Bench) -> None
     assert bench.run("apply")[0] == Status.DONE
 
 
+@over_both
 def test_a_step_that_cannot_be_done_now_is_not_given_up(bench: Bench) -> None:
     bench.answer(2, 75)
     process = bench.start("apply", "--give-up", "1", "--workers", "2")
@@ -180,6 +274,7 @@ def test_a_step_that_cannot_be_done_now_is_not_given_up(bench: Bench) -> None:
     assert "open 2 = ok\nabort 2 = ok\n" in history.replace("do 5 = ok\n", "")
 
 
+@over_both
 def test_a_pausing_step_is_tried_again_on_demand(bench: Bench) -> None:
     bench.answer(0, 1)
     process = bench.start("apply", "--pause", "600", "--longest-pause", "600")
@@ -191,6 +286,7 @@ def test_a_pausing_step_is_tried_again_on_demand(bench: Bench) -> None:
     assert process.wait(timeout=30) == Status.DONE
 
 
+@over_both
 def test_the_first_signal_lets_hooks_end(bench: Bench) -> None:
     bench.hooks(0.5, "join")
     process = bench.start("apply")
@@ -201,6 +297,7 @@ def test_the_first_signal_lets_hooks_end(bench: Bench) -> None:
     assert bench.run("history")[1] == "history 1\ndo 0 = ok\nend\n"
 
 
+@over_both
 def test_the_second_signal_ends_hooks(bench: Bench) -> None:
     bench.hooks(60.0, "copy")
     process = bench.start("apply")
@@ -215,6 +312,7 @@ def test_the_second_signal_ends_hooks(bench: Bench) -> None:
     assert bench.run("apply")[0] == Status.DONE
 
 
+@over_both
 def test_chunks_can_be_given_one_by_one(bench: Bench) -> None:
     (bench.folder / "hooks/copy").rename(bench.folder / "hooks/chunk")
     assert bench.run("apply")[0] == Status.DONE
@@ -232,6 +330,7 @@ def test_a_second_runner_is_refused(bench: Bench) -> None:
     process.communicate()
 
 
+@over_both
 def test_another_plan_and_a_changed_bundle_are_refused(bench: Bench) -> None:
     assert bench.run("apply")[0] == Status.DONE
     bench.bundle.write_text(REPLACE.replace("node a 4 in", "node a 5 in"))
@@ -242,6 +341,7 @@ def test_another_plan_and_a_changed_bundle_are_refused(bench: Bench) -> None:
     assert (code, err) == (Status.OTHER_PLAN, f"ringplan-run: the board {bench.board} is of another plan\n")
 
 
+@over_both
 def test_faults_have_their_statuses(bench: Bench) -> None:
     assert bench.run("status")[::2] == (Status.FAULT, f"ringplan-run: there is no board {bench.board}\n")
     (bench.folder / "hooks/drop").unlink()
@@ -252,10 +352,19 @@ def test_faults_have_their_statuses(bench: Bench) -> None:
     assert err.startswith("ringplan-run: the plan is refused:\nno 21 2\n")
     bench.bundle.write_text((TOP / "examples/replay_a_move.bundle").read_text())
     assert bench.run("apply")[0] == Status.FAULT
-    bench.board.write_text("no board")
+
+
+def test_what_is_no_board_is_a_fault(bench: Bench) -> None:
+    pathlib.Path(bench.board).write_text("no board")
     assert bench.run("status")[0] == Status.FAULT
+    for address in ("etcd://localhost/plan", "etcd://localhost:0/plan", "etcd://localhost:2379/", "etcd://localhost:2379/a/b", "etcd:localhost:2379/a"):
+        bench.board = address
+        for words in (["status"], ["apply"]):
+            code, _, err = bench.run(*words)
+            assert (code, err[:80]) == (Status.FAULT, f"ringplan-run: {address} is no address etcd://HOST:PORT/NAME; the name has letters"[:80])
 
 
+@over_both
 def test_a_no_of_the_judge_stops_the_runner(bench: Bench, monkeypatch: pytest.MonkeyPatch) -> None:
     judge = bench.folder / "judge"
     judge.write_text(f'#!/bin/sh\n[ "$1" = replay ] || exec {programs.find()} "$@"\ncat > /dev/null\necho no 70 0 40\nexit 1\n')
@@ -266,16 +375,62 @@ def test_a_no_of_the_judge_stops_the_runner(bench: Bench, monkeypatch: pytest.Mo
     assert bench.run("judge")[:2] == (1, "no 70 0 40\n")
 
 
-def test_a_board_keeps_claims_apart(tmp_path: pathlib.Path) -> None:
+@over_both
+def test_a_board_keeps_claims_apart(address: str) -> None:
+    see_claims_apart(open_board(address))
+
+
+@over_etcd
+@pytest.mark.parametrize("what", ["before", "after"])
+def test_a_board_keeps_claims_apart_whichever_answer_is_lost(address: str, what: str, monkeypatch: pytest.MonkeyPatch) -> None:
+    for number in itertools.count():
+        rest = itertools.chain(itertools.repeat("", number), [what], itertools.repeat(""))
+        with monkeypatch.context() as patch:
+            lost = lose_answers(patch, rest.__next__)
+            see_claims_apart(open_board(f"{address}-{number}"))
+        if not lost:
+            break
+    assert number > 20
+
+
+@over_etcd
+def test_of_two_runners_that_change_a_board_at_once_one_looks_again(address: str, monkeypatch: pytest.MonkeyPatch) -> None:
+    names = [Name("join", -1, -1, node, 0) for node in "de"]
+    boards = [EtcdBoard(address, is_new=True, lease=30) for _ in range(2)]
+    for board in boards:
+        board.begin(REPLACE, names)
+    transact = gateway.Etcd.transact
+    between: list[Callable[[], object]] = []
+
+    def late(self: gateway.Etcd, compares: Sequence[gateway.Json], changes: Sequence[gateway.Json], reads: Sequence[gateway.Json] = ()) -> object:
+        if self is boards[0].etcd and changes and between:
+            between.pop()()
+        return transact(self, compares, changes, reads)
+
+    monkeypatch.setattr(gateway.Etcd, "transact", late)
+    other = list[Claim | float]()
+    between.append(lambda: other.append(boards[1].claim("w", names)))
+    assert boards[0].claim("w", names[:1]) == float("inf")
+    one, (two,) = boards[0].claim("w", names), other
+    assert not isinstance(one, float) and not isinstance(two, float)
+    assert (one.name, two.name) == (names[1], names[0])
+    between.append(functools.partial(boards[1].note, two, [Note("do")], is_done=True))
+    boards[0].note(one, [Note("do")], is_done=True)
+    assert list(boards[0].entries()) == ["do 0 = ok", "do 1 = ok"]
+    for board in boards:
+        board.end()
+
+
+def see_claims_apart(board: Board) -> None:
     steps = [texts.StepLine(0, "copy", (), 0, 1, to="d", sources=("b",)), texts.StepLine(1, "copy", (), 0, 1, to="d", sources=("c",))]
     first, second = names_of(steps)
     assert (first, second) == (Name("copy", 0, 1, "d", 0), Name("copy", 0, 1, "d", 1))
-    board = SqliteBoard(str(tmp_path / "board"), is_new=True)
     board.begin(REPLACE, [first, second])
     one = board.claim("w1", [first, second])
     two = board.claim("w2", [first, second])
     assert not isinstance(one, float) and not isinstance(two, float)
-    assert (one.name, one.is_again, two.name) == (first, False, second)
+    assert (one.name, two.name) == (first, second)
+    assert not one.is_again and board.renew(one)
     assert board.claim("w3", [first, second]) == float("inf")
     board.note(one, [Note("open"), Note("chunk", 3)])
     board.give_back(one, Tries(1, 0, time.time() + 60))
@@ -292,8 +447,19 @@ def test_a_board_keeps_claims_apart(tmp_path: pathlib.Path) -> None:
     with contextlib.suppress(Stop):
         board.retry(0)
         pytest.fail("a step that is done is not tried again")
+    with pytest.raises(Stop, match="there is no step 2"):
+        board.retry(2)
+    board.end()
 
 
+@over_etcd
+def test_a_no_on_the_way_is_seen_where_answers_are_lost(bench: Bench, monkeypatch: pytest.MonkeyPatch) -> None:
+    lost = lose_answers(monkeypatch, at_random(1))
+    test_a_no_on_the_way_lets_no_further_step_begin(bench, monkeypatch)
+    assert lost["before"] > 9 and lost["after"] > 9
+
+
+@over_both
 def test_a_no_on_the_way_lets_no_further_step_begin(bench: Bench, monkeypatch: pytest.MonkeyPatch) -> None:
     judge = bench.folder / "judge"
     others = f'[ "$1" = replay ] || exec {programs.find()} "$@"'
@@ -302,7 +468,7 @@ def test_a_no_on_the_way_lets_no_further_step_begin(bench: Bench, monkeypatch: p
     monkeypatch.setenv("ringplan", str(judge))
     monkeypatch.setattr(runner, "JUDGED", 20)
     steps = texts.read_steps(programs.ask("steps", REPLACE).text)
-    board = SqliteBoard(str(bench.board), is_new=True)
+    board = open_board(bench.board)
     board.begin(REPLACE, names_of(steps))
     with pytest.raises(Stop, match="the judge says no 70 50 40") as stop:
         runner.Runner(board, Hooks(str(bench.folder / "hooks"), str(bench.folder / "locks")), steps, runner.Options()).run()
@@ -310,3 +476,138 @@ def test_a_no_on_the_way_lets_no_further_step_begin(bench: Bench, monkeypatch: p
     # Of the entries before a copy and after it: 2 + 18, then 3 + 18, then 3 + 18.
     assert (bench.folder / "judged").read_text().split() == ["20", "41", "62"]
     assert len(bench.steps("end")) == 11
+    board.end()
+
+
+@over_etcd
+@pytest.mark.parametrize("seed", range(3))
+def test_two_runners_share_a_plan_and_one_is_killed(bench: Bench, seed: int) -> None:
+    draw = random.Random(seed)
+    bench.hooks(0.3)
+    both = [bench.start("apply", machine=machine) for machine in ("one", "two")]
+    bench.wait_for("begin", draw.randrange(18))
+    time.sleep(0.3 * draw.random())
+    killed = both.pop(draw.randrange(2))
+    killed.kill()
+    outs = [process.communicate(timeout=60) for process in (killed, *both)]
+    assert both[0].returncode == Status.DONE, outs
+    assert outs[1][0].splitlines()[-1] == "18 of 18 steps are done, and the judge says yes"
+    assert bench.steps("twice") == []
+    assert set(bench.steps("end")) == set(range(18))
+    done = [line.split()[1] for out, _ in outs for line in out.splitlines() if line.startswith("done ")]
+    # The runner that was killed may have noted a step, and not have printed it.
+    assert len(done) == len(set(done)) >= 17
+    assert bench.run("judge")[0] == 0
+
+
+@over_etcd
+def test_two_runners_end_a_plan_together(bench: Bench) -> None:
+    bench.hooks(0.3)
+    both = [bench.start("apply", machine=machine) for machine in ("one", "two")]
+    outs = [process.communicate(timeout=60)[0] for process in both]
+    assert [process.returncode for process in both] == [Status.DONE, Status.DONE]
+    assert all("done " in out and out.endswith("18 of 18 steps are done, and the judge says yes\n") for out in outs), outs
+    assert sorted(map(str, bench.steps("begin"))) == sorted(map(str, range(18)))
+    assert bench.run("status")[1] == "18 of 18 steps are done; no runner works with the board\n"
+
+
+@over_etcd
+@pytest.mark.parametrize("seed", range(3))
+def test_two_runners_do_each_step_once_where_answers_are_lost(bench: Bench, seed: int, monkeypatch: pytest.MonkeyPatch) -> None:
+    steps = texts.read_steps(programs.ask("steps", REPLACE).text)
+    lost = lose_answers(monkeypatch, at_random(seed))
+    # Bounds so low that each is reached.
+    for bound, value in (("PIECE", 100), ("LOOKED", 1), ("PAGE", 7)):
+        monkeypatch.setattr(etcd, bound, value)
+    runners = []
+    for machine in ("one", "two"):
+        board = open_board(bench.board)
+        board.begin(REPLACE, names_of(steps))
+        runners.append(runner.Runner(board, Hooks(str(bench.folder / "hooks"), str(bench.folder / machine)), steps, runner.Options(workers=2)))
+    with concurrent.futures.ThreadPoolExecutor() as pool:
+        assert [*pool.map(runner.Runner.run, runners)] == [Status.DONE, Status.DONE]
+    assert sorted(map(str, bench.steps("begin"))) == sorted(map(str, range(18)))
+    assert Counter(line.split()[0] for line in board.entries()) == Counter(do=14, open=4, chunk=64, close=4)
+    assert lost["before"] > 9 and lost["after"] > 9
+    for one in runners:
+        one.board.end()
+
+
+@pytest.fixture
+def own_server(tmp_path: pathlib.Path) -> Iterator[Server]:
+    it = Server(tmp_path)
+    yield it
+    it.kill()
+
+
+def test_an_etcd_that_is_killed_and_comes_back_loses_nothing(own_server: Server, tmp_path: pathlib.Path) -> None:
+    bench = Bench(tmp_path, own_server.address("plan"))
+    bench.hooks(0.3)
+    bench.lease = "30"
+    process = bench.start("apply", "--workers", "2")
+    for step in (2, 8):
+        bench.wait_for("begin", step)
+        own_server.kill()
+        time.sleep(1.0)
+        own_server.start()
+    _, err = process.communicate(timeout=60)
+    assert process.returncode == Status.DONE, err
+    assert sorted(map(str, bench.steps("begin"))) == sorted(map(str, range(18)))
+    assert bench.run("judge")[0] == 0
+
+
+def test_a_runner_that_cannot_renew_its_lease_ends_its_hooks(own_server: Server, tmp_path: pathlib.Path) -> None:
+    bench = Bench(tmp_path, own_server.address("plan"))
+    bench.hooks(60.0, "join")
+    process = bench.start("apply")
+    bench.wait_for("begin", 0)
+    own_server.process.send_signal(signal.SIGSTOP)
+    hook = subprocess.run(["pgrep", "-P", str(process.pid)], capture_output=True, text=True).stdout.strip()
+    begun = time.monotonic()
+    while hook in subprocess.run(["pgrep", "-P", str(process.pid)], capture_output=True, text=True).stdout.split():
+        assert time.monotonic() < begun + float(bench.lease)
+        time.sleep(0.02)
+    (bench.folder / "running-0").rmdir()
+    bench.hooks(0.0, "join")
+    own_server.process.send_signal(signal.SIGCONT)
+    _, err = process.communicate(timeout=60)
+    assert process.returncode == Status.DONE, err
+    assert [line.get("again") for word, line in bench.log() if word == "begin" and line["step"] == 0] == [None, True]
+
+
+def test_an_etcd_that_does_not_come_back_is_told(own_server: Server, tmp_path: pathlib.Path) -> None:
+    board = EtcdBoard(own_server.address("plan"), is_new=True, lease=2)
+    name = Name("join", -1, -1, "d", 0)
+    board.begin(REPLACE, [name])
+    claim = board.claim("w", [name])
+    assert not isinstance(claim, float) and board.renew(claim)
+    own_server.kill()
+    board.etcd.patience = 0.5
+    with pytest.raises(Stop, match="does not answer") as stop:
+        board.note(claim, [Note("do")], is_done=True)
+    assert stop.value.status == Status.FAULT
+    time.sleep(1.5)
+    assert not board.renew(claim)
+
+
+@over_etcd
+def test_a_claim_whose_lease_ended_notes_nothing(address: str) -> None:
+    name = Name("join", -1, -1, "d", 0)
+    boards = [EtcdBoard(address, is_new=True, lease=2) for _ in range(2)]
+    for board in boards:
+        board.begin(REPLACE, [name])
+    old = boards[0].claim("w", [name])
+    assert not isinstance(old, float)
+    assert boards[1].claim("w", [name]) == float("inf")
+    # The first runner's lease is no longer renewed.
+    boards[0].over.set()
+    until = time.monotonic() + 20
+    while isinstance(new := boards[1].claim("w", [name]), float):
+        assert time.monotonic() < until
+        time.sleep(0.1)
+    assert new.is_again and boards[1].renew(new) and not boards[0].renew(old)
+    with pytest.raises(ClaimEnded):
+        boards[0].note(old, [Note("do")], is_done=True)
+    boards[1].note(new, [Note("do")], is_done=True)
+    assert list(boards[0].entries()) == ["do 0 = ok"]
+    boards[1].end()

@@ -1,7 +1,7 @@
 """The command line of the runner.
 
-    ringplan-run apply BUNDLE --do FOLDER [--board FILE] [--workers K] [--give-up N]
-    ringplan-run status | history | judge | retry STEP  [--board FILE]
+    ringplan-run apply BUNDLE --do FOLDER [--board FILE|etcd://HOST:PORT/NAME] [--lease SECONDS] [--workers K] [--give-up N]
+    ringplan-run status | history | judge | retry STEP  [--board FILE|etcd://HOST:PORT/NAME]
 """
 
 from __future__ import annotations
@@ -15,7 +15,8 @@ import time
 from types import FrameType
 
 from ringplan import programs, texts
-from ringplan.run.board import State, Status, Stop, names_of
+from ringplan.run.board import Board, State, Status, Stop, names_of
+from ringplan.run.etcd import EtcdBoard
 from ringplan.run.hooks import Hooks
 from ringplan.run.runner import Options, Runner, judge
 from ringplan.run.sqlite import SqliteBoard
@@ -42,14 +43,22 @@ def read_steps(bundle: str) -> list[texts.StepLine]:
     return texts.read_steps(answer.text)
 
 
+def open_board(words: argparse.Namespace, is_new: bool = False) -> Board:
+    """The board of the command line."""
+    if words.board.startswith("etcd:"):
+        return EtcdBoard(words.board, is_new, words.lease if is_new else 0)
+    return SqliteBoard(words.board, is_new)
+
+
 def apply(words: argparse.Namespace) -> Status:
     bundle = read_bundle(words.bundle)
     programs.find()
     steps = read_steps(bundle)
-    hooks = Hooks(words.do, f"{words.board}.hooks")
-    hooks.demand(sorted({step.do for step in steps}))
-    board = SqliteBoard(words.board, is_new=True)
+    kinds = sorted({step.do for step in steps})
+    Hooks(words.do, "").demand(kinds)
+    board = open_board(words, is_new=True)
     board.begin(bundle, names_of(steps))
+    hooks = Hooks(words.do, board.locks)
     runner = Runner(board, hooks, steps, Options(words.workers, words.give_up, words.pause, words.longest_pause))
 
     signals = itertools.count()
@@ -61,7 +70,10 @@ def apply(words: argparse.Namespace) -> Status:
 
     signal.signal(signal.SIGINT, on_signal)
     signal.signal(signal.SIGTERM, on_signal)
-    status = runner.run()
+    try:
+        status = runner.run()
+    finally:
+        board.end()
     print(f"{len(runner.done)} of {len(steps)} steps are done, and the judge says yes")
     return status
 
@@ -77,7 +89,7 @@ def told(state: State, is_held: bool) -> str:
 
 
 def status(words: argparse.Namespace) -> Status:
-    board = SqliteBoard(words.board)
+    board = open_board(words)
     states, is_held = list(board.states()), board.is_held()
     print(f"{sum(state.is_done for state in states)} of {len(states)} steps are done; {'a' if is_held else 'no'} runner works with the board")
     for state in states:
@@ -88,19 +100,19 @@ def status(words: argparse.Namespace) -> Status:
 
 def history(words: argparse.Namespace) -> Status:
     print("history 1")
-    for line in SqliteBoard(words.board).entries():
+    for line in open_board(words).entries():
         print(line)
     print("end")
     return Status.DONE
 
 
 def retry(words: argparse.Namespace) -> Status:
-    SqliteBoard(words.board).retry(words.step)
+    open_board(words).retry(words.step)
     return Status.DONE
 
 
 def see_judge(words: argparse.Namespace) -> Status:
-    answer = judge(SqliteBoard(words.board))
+    answer = judge(open_board(words))
     print(answer.text, end="")
     return Status.DONE if answer.first() == "yes" else Status.REFUSED
 
@@ -124,12 +136,13 @@ def command_line() -> argparse.ArgumentParser:
     for name, (call, what) in calls.items():
         command = commands.add_parser(name, help=what, description=what)
         command.set_defaults(call=call)
-        command.add_argument("--board", default="ringplan.board", metavar="FILE", help="where the run is remembered (default: %(default)s)")
+        command.add_argument("--board", default="ringplan.board", metavar="BOARD", help="a file, or etcd://HOST:PORT/NAME (default: %(default)s)")
         if name == "retry":
             command.add_argument("step", type=int, help="the step's number")
         if name == "apply":
             command.add_argument("bundle", help="a ring, a plan and its certificate")
             command.add_argument("--do", required=True, metavar="FOLDER", help="the folder of the hooks")
+            command.add_argument("--lease", type=count, default=60, metavar="SECONDS", help="how long etcd waits for a dead runner (default: %(default)s)")
             command.add_argument("--workers", type=count, default=1, metavar="K", help="how many steps may be done at once (default: %(default)s)")
             command.add_argument("--give-up", type=count, metavar="N", help="gives a step up that failed so often (default: never)")
             command.add_argument("--pause", type=float, default=1.0, metavar="SECONDS", help="the pause before a second try; it doubles (default: %(default)s)")

@@ -41,6 +41,13 @@ class Stop(Exception):
         self.status = status
 
 
+class ClaimEnded(Stop):
+    """A claim that is no longer its worker's. Nothing is noted by it; another worker may do the step."""
+
+    def __init__(self, name: Name) -> None:
+        super().__init__(Status.OTHER_RUNNER, f"the claim of {name} has ended")
+
+
 class Name(NamedTuple):
     """A step by what it does. Its number may change when a plan is changed half way; its name stays."""
 
@@ -79,6 +86,10 @@ class Note(NamedTuple):
     word: str
     chunk: int | None = None
 
+    def line(self, number: int) -> str:
+        """The entry, for the number that the step has."""
+        return f"{self.word} {number} = ok" if self.chunk is None else f"{self.word} {number} {self.chunk} = ok"
+
 
 @dataclass(frozen=True)
 class Tries:
@@ -116,25 +127,59 @@ class State:
     is_done: bool
 
 
+def plan_of(bundle: str) -> str:
+    """The plan's text in a bundle."""
+    begin = bundle.index("plan 1\n")
+    return bundle[begin : bundle.index("\nend\n", begin)]
+
+
+def demand_same(board: str, known: str, bundle: str) -> None:
+    """A `Stop` where the bundle that a board knows is not the runner's."""
+    if plan_of(known) != plan_of(bundle):
+        raise Stop(Status.OTHER_PLAN, f"the board {board} is of another plan")
+    if known != bundle:
+        raise Stop(Status.CHANGED_BUNDLE, f"the board {board} is of this plan, with another ring or certificate")
+
+
+def demand_left(number: int, is_done: bool | None) -> None:
+    """A `Stop` where a step is done, or is not there: then `is_done` is None."""
+    if is_done is None or is_done:
+        raise Stop(Status.FAULT, f"there is no step {number}" if is_done is None else f"step {number} is done")
+
+
 class Board(Protocol):
     """The memory of a runner. Each call is one transaction: after a crash it has happened or not."""
 
+    # A folder of this machine for the locks of hooks that run.
+    locks: str
+
     def begin(self, bundle: str, names: Sequence[Name]) -> None:
-        """Makes the board this plan's, for one runner. Claims of a runner that died end. A board of another plan, or with another runner, is a `Stop`."""
+        """Makes the board this plan's. Claims of a runner that died end. A board of another plan is a `Stop`.
+
+        On a board for one runner at a time, another runner is a `Stop` too."""
 
     def claim(self, worker: str, candidates: Iterable[Name]) -> Claim | float:
         """Claims the first of the candidates that nobody has, that is not given up and whose pause is over.
 
         Where there is none, returns when the first of their pauses ends, in seconds since 1970; infinity where none pauses."""
 
+    def renew(self, claim: Claim) -> bool:
+        """Whether the claim is the worker's for some time more. If not, another worker may soon claim the step, so its hook must end now."""
+
     def note(self, claim: Claim, notes: Iterable[Note], is_done: bool = False) -> None:
-        """Adds entries to the history, in order. A step that is done is nobody's any more."""
+        """Adds entries to the history, in order. A step that is done is nobody's any more. A claim that has ended is a `ClaimEnded`."""
 
     def give_back(self, claim: Claim, tries: Tries) -> None:
-        """Ends a claim of a step that is not done."""
+        """Ends a claim of a step that is not done. A claim that has ended is a `ClaimEnded`."""
 
     def retry(self, number: int) -> None:
         """Forgets in how many tries the step failed. A step that is not there, or done, is a `Stop`."""
+
+    def is_held(self) -> bool:
+        """Whether a runner works with the board."""
+
+    def end(self) -> None:
+        """Ends the runner's work with the board. None of its hooks runs any more."""
 
     def states(self) -> Iterator[State]:
         """All steps, in the order of their numbers."""

@@ -16,19 +16,21 @@ import subprocess
 import sys
 import tempfile
 import threading
-from collections.abc import Iterable, Iterator
+from collections.abc import Callable, Iterable, Iterator
 
 from ringplan.run.board import Name, Status, Stop
 
 NOT_NOW = 75
 GRACE = 5.0
+# How often a claim is looked at while its hook runs, in seconds.
+BEAT = 0.25
 
 
 class Outcome(enum.Enum):
     DONE = "done"
     NOT_NOW = "not now"
     FAILED = "failed"
-    # The runner ended the hook.
+    # The runner ended the hook, or did not start it.
     ENDED = "ended by a signal"
 
 
@@ -73,13 +75,26 @@ class Hooks:
         with contextlib.suppress(FileNotFoundError):
             os.unlink(os.path.join(self.locks, name.file()))
 
-    def run(self, kind: str, members: dict[str, object], handle: int) -> Outcome:
-        """Runs a hook to its end. Its input is whole before it starts, so that it reads all or nothing of it, whatever becomes of the runner."""
+    def follow(self, process: subprocess.Popen[bytes], renew: Callable[[], bool]) -> tuple[int, bool]:
+        """Waits for a hook. Kills it, with its group, once the claim of its step ends. Returns its status, and whether it was killed."""
+        is_killed = False
+        while True:
+            with contextlib.suppress(subprocess.TimeoutExpired):
+                return process.wait(BEAT), is_killed
+            if not is_killed and not renew():
+                is_killed = True
+                with contextlib.suppress(ProcessLookupError):
+                    os.killpg(process.pid, signal.SIGKILL)
+
+    def run(self, kind: str, members: dict[str, object], handle: int, renew: Callable[[], bool]) -> Outcome:
+        """Runs a hook to its end, while `renew` says that its step is still the worker's.
+
+        Its input is whole before it starts, so that it reads all or nothing of it, whatever becomes of the runner."""
         with tempfile.TemporaryFile() as file:
             file.write(json.dumps(members, separators=(",", ":"), sort_keys=True).encode() + b"\n")
             file.seek(0)
             with self.lock:
-                if self.is_ending:
+                if self.is_ending or not renew():
                     return Outcome.ENDED
                 try:
                     process = subprocess.Popen([self.path(kind)], stdin=file, stdout=2, pass_fds=(handle,), start_new_session=True)
@@ -87,12 +102,12 @@ class Hooks:
                     print(f"{self.path(kind)} cannot be run: {error.strerror}", file=sys.stderr, flush=True)
                     return Outcome.FAILED
                 self.running.add(process)
-        status = process.wait()
+        status, is_killed = self.follow(process, renew)
         with self.lock:
             self.running.discard(process)
         if status == 0:
             return Outcome.DONE
-        if self.is_ending:
+        if self.is_ending or is_killed:
             return Outcome.ENDED
         return Outcome.NOT_NOW if status == NOT_NOW else Outcome.FAILED
 

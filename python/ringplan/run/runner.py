@@ -10,7 +10,7 @@ from collections.abc import Sequence
 from dataclasses import dataclass, replace
 
 from ringplan import programs
-from ringplan.run.board import CHUNKS, Board, Claim, Name, Note, Status, Stop, Tries, names_of
+from ringplan.run.board import CHUNKS, Board, Claim, ClaimEnded, Name, Note, Status, Stop, Tries, names_of
 from ringplan.run.hooks import Hooks, Outcome
 from ringplan.texts import StepLine
 
@@ -18,6 +18,8 @@ from ringplan.texts import StepLine
 JUDGED = 1000
 # How long a worker with nothing to do waits before it looks again, in seconds.
 LOOK = 0.5
+# How long a worker that finds steps goes on before it looks what other runners have done, in seconds.
+LEARN = 5.0
 
 
 @dataclass(frozen=True)
@@ -45,7 +47,7 @@ class Runner:
         self.numbers = {name: number for number, name in enumerate(self.names)}
         self.lock = threading.RLock()
         self.changed = threading.Condition(self.lock)
-        self.is_stopping, self.busy = False, 0
+        self.is_stopping, self.busy, self.learnt = False, 0, -math.inf
         self.fault: Stop | None = None
         self.said: dict[Name, str] = {}
         self.entries, self.judged = sum(1 for _ in board.entries()), 0
@@ -104,7 +106,7 @@ class Runner:
         """Runs a hook of the step, or of a chunk of it."""
         members = self.steps[self.numbers[claim.name]].members()
         members |= {"again": True} if claim.is_again else {}
-        return self.hooks.run(kind, members if chunk is None else {**members, "chunk": chunk}, handle)
+        return self.hooks.run(kind, members if chunk is None else {**members, "chunk": chunk}, handle, lambda: self.board.renew(claim))
 
     def give_chunks(self, claim: Claim, handle: int, chunks: Sequence[int]) -> Outcome:
         """Gives chunks by one hook each, as far as that goes."""
@@ -152,18 +154,34 @@ class Runner:
         self.say(claim, f"{outcome.value}, {failures} failures, {after}")
 
     # Workers.
+    def learn(self) -> float:
+        """Marks what other runners of the board have done. Returns when to look for a step again, and infinity where none ever can be done."""
+        self.learnt = now = time.time()
+        soonest, ready = math.inf, frozenset(self.ready)
+        for state in self.board.states():
+            if state.is_done and state.number not in self.done:
+                self.mark(state.number)
+                soonest = now
+            elif state.worker:
+                soonest = min(soonest, now + LOOK)
+            elif state.number in ready and not state.is_done and not state.tries.is_given_up:
+                soonest = min(soonest, state.tries.until)
+        return soonest
+
     def take(self, worker: str) -> Claim | float:
         """Claims the least step that can be done now, once the judge has read the history. Else returns when one can be, and infinity where none ever can."""
         if self.entries - self.judged >= JUDGED:
             self.see_judge()
         if self.is_stopping:
             return math.inf
+        if time.time() > self.learnt + LEARN:
+            self.learn()
         claim = self.board.claim(worker, (self.names[number] for number in sorted(self.ready)))
         if isinstance(claim, Claim):
             self.busy += 1
-        elif self.busy:
-            return time.time() + LOOK
-        return claim
+            return claim
+        soon = time.time() + LOOK if self.busy else math.inf
+        return soon if self.busy and time.time() < self.learnt + LOOK else min(soon, self.learn())
 
     def wait(self, worker: str) -> Claim | None:
         """Waits for a step that can be done, and claims it. None where none ever can be, or where the runner stops."""
@@ -184,6 +202,8 @@ class Runner:
             while (claim := self.wait(worker)) is not None:
                 try:
                     self.do(claim)
+                except ClaimEnded as fault:
+                    self.say(claim, str(fault))
                 finally:
                     self.release()
         except Stop as fault:

@@ -12,7 +12,7 @@ import time
 from collections.abc import Iterable, Iterator, Sequence
 from typing import Any
 
-from ringplan.run.board import Claim, Name, Note, State, Status, Stop, Tries
+from ringplan.run.board import Claim, ClaimEnded, Name, Note, State, Status, Stop, Tries, demand_left, demand_same
 
 SCHEMA = """
 create table if not exists plan (bundle text not null);
@@ -28,17 +28,11 @@ create index if not exists entries_of_step on entries (step);
 NAMED = "kind=? and partition=? and slot=? and node=? and turn=?"
 
 
-def plan_of(bundle: str) -> str:
-    """The plan's text in a bundle."""
-    begin = bundle.index("plan 1\n")
-    return bundle[begin : bundle.index("\nend\n", begin)]
-
-
 class SqliteBoard:
     """A board in a file. Beside it stands a lock, `FILE.lock`, that the system frees when the runner dies."""
 
     def __init__(self, path: str, is_new: bool = False) -> None:
-        self.path, self.lock, self.held = path, threading.Lock(), -1
+        self.path, self.lock, self.held, self.locks = path, threading.Lock(), -1, f"{path}.hooks"
         if not is_new and not os.path.exists(path):
             raise Stop(Status.FAULT, f"there is no board {path}")
         try:
@@ -79,7 +73,6 @@ class SqliteBoard:
         raise Stop(Status.OTHER_RUNNER, f"another runner works with the board {self.path}")
 
     def is_held(self) -> bool:
-        """Whether a runner works with the board."""
         try:
             handle = os.open(f"{self.path}.lock", os.O_RDWR)
         except FileNotFoundError:
@@ -92,6 +85,11 @@ class SqliteBoard:
         finally:
             os.close(handle)
 
+    def end(self) -> None:
+        if self.held >= 0:
+            os.close(self.held)
+            self.held = -1
+
     def begin(self, bundle: str, names: Sequence[Name]) -> None:
         self.hold()
         with self.change() as it:
@@ -100,10 +98,8 @@ class SqliteBoard:
                 it.execute("insert into plan values (?)", (bundle,))
                 columns = "number, kind, partition, slot, node, turn"
                 it.executemany(f"insert into steps ({columns}) values (?, ?, ?, ?, ?, ?)", [(number, *name) for number, name in enumerate(names)])
-            elif known[0] != bundle:
-                if plan_of(known[0]) != plan_of(bundle):
-                    raise Stop(Status.OTHER_PLAN, f"the board {self.path} is of another plan")
-                raise Stop(Status.CHANGED_BUNDLE, f"the board {self.path} is of this plan, with another ring or certificate")
+            else:
+                demand_same(self.path, known[0], bundle)
             it.execute("update steps set worker=''")
 
     def claim(self, worker: str, candidates: Iterable[Name]) -> Claim | float:
@@ -122,11 +118,15 @@ class SqliteBoard:
         return soonest
 
     def own(self, it: sqlite3.Connection, claim: Claim) -> int:
-        """The step's place in its table. A claim that has ended is a `Stop`."""
+        """The step's place in its table. A claim that has ended is a `ClaimEnded`."""
         row = it.execute(f"select id from steps where {NAMED} and worker=? and not is_done", (*claim.name, claim.worker)).fetchone()
         if row is None:
-            raise Stop(Status.OTHER_RUNNER, f"the claim of {claim.name} has ended")
+            raise ClaimEnded(claim.name)
         return int(row[0])
+
+    def renew(self, claim: Claim) -> bool:
+        """A claim in a file ends with its runner alone."""
+        return True
 
     def note(self, claim: Claim, notes: Iterable[Note], is_done: bool = False) -> None:
         with self.change() as it:
@@ -146,8 +146,7 @@ class SqliteBoard:
     def retry(self, number: int) -> None:
         with self.change() as it:
             row = it.execute("select is_done from steps where number=?", (number,)).fetchone()
-            if row is None or row[0]:
-                raise Stop(Status.FAULT, f"step {number} is done" if row else f"there is no step {number}")
+            demand_left(number, bool(row[0]) if row else None)
             it.execute("update steps set failures=0, waits=0, until=0, is_given_up=0 where number=?", (number,))
 
     def states(self) -> Iterator[State]:
@@ -163,4 +162,4 @@ class SqliteBoard:
 
     def entries(self) -> Iterator[str]:
         for word, number, chunk in self.rows("select word, number, chunk from entries join steps on steps.id = entries.step order by place"):
-            yield f"{word} {number} = ok" if chunk is None else f"{word} {number} {chunk} = ok"
+            yield Note(word, chunk).line(number)
