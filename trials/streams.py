@@ -128,7 +128,9 @@ def streams():
 def formats():
     """An answer as JSON says what its line says, by the names of docs/REFUSALS.md."""
     with open(f"{top}/docs/REFUSALS.md", encoding="utf-8") as it:
-        names = {int(number): name for number, name in re.findall(r"^\| (\d+) \| (\w+) \|", it.read(), re.MULTILINE)}
+        rows = re.findall(r"^\| (\d+) \| (\w+) \| ([^|]+) \|", it.read(), re.MULTILINE)
+    # 70 is of a history with two values, and of a drive with none.
+    names = {(int(number), values == "none"): name for number, name, values in rows}
     with open(f"{top}/crates/tests_cases/args") as it:
         words = it.read().split()
     kinds = {word: words.index(word) for word in ("migrate", "play", "plan", "drive", "report", "race", "replay", "why")}
@@ -138,7 +140,7 @@ def formats():
             given = f"{top}/crates/tests_cases/data/{case}.bundle"
             text, errors, status = run(word, given)
             number, *values = [int(field) for field in text.split(b"\n")[0].split()[1:]] or [0]
-            owed = {"answer": "no", "name": names[number], "number": number, "values": values} if number else {"answer": "yes"}
+            owed = {"answer": "no", "name": names[number, not values], "number": number, "values": values} if number else {"answer": "yes"}
             line = json.dumps(owed, separators=(",", ":")).encode() + b"\n"
             owes(f"{word} of {case} as JSON", run(word, "--format", "json", given), line, errors, status)
             owes(f"{word} of {case} as text", run(word, "--format=text", given), text, errors, status)
