@@ -245,7 +245,7 @@ IsTurnedAway (Refused text) = ⊤
 IsTurnedAway (Mistaken text) = ⊤
 IsTurnedAway _ = ⊥
 
--- what is asked for in that form, of what asks for text and what asks for JSON
+-- of a request for text and one for JSON, the line is the one that the form names; for no form it is refused
 abbrev pub IsInFormat : Format → Request → Request → Request → Type 0
 IsInFormat format.Text plain stated line = line ≡ plain
 IsInFormat format.Json plain stated line = line ≡ stated

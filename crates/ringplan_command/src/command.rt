@@ -294,7 +294,7 @@ fn format_of(options: &ArgMatches) -> Format
     }
 }
 
-// What is asked for with an answer in that form, of what asks for text and what asks for JSON.
+// Of a request for text and one for JSON, the one that the form names. A form that there is not is refused.
 fn in_format(
     alloc: Global,
     format: Format,
