@@ -1,6 +1,6 @@
 //! The words of an event, which keep their limits by their types.
 
-ghost use Rattle.std.specs.Prelude.{◌≡◌, IfOk, IfSome, is_some};
+ghost use Rattle.std.specs.Prelude.{◌≡◌, IfOk, IfSome, is_some, true};
 ghost use Rattle.std.specs.List.{list_all};
 ghost use Rattle.texts.specs.Numbers.{ascending};
 ghost use Rattle.plan_runs.specs.Words.{is_key, is_seen};
@@ -103,8 +103,10 @@ impl Seen {
         None
     }
 
+    /// The numbers of the gets, ascending, at most 16.
     pub fn as_slice(&self) -> &[u32]
-        ensures { result.now ≡ self.now }
+        ensures value { result.now ≡ self.now }
+        ensures valid { is_seen result.now ≡ true }
     {
         self.gets.as_slice()
     }

@@ -178,8 +178,8 @@ impl Refusal {
         Ok(())
     }
 
-    // The values that the line has, in order.
-    fn values(&self) -> (Option<u32>, Option<u32>)
+    /// The values that the refusal's line has, in order.
+    pub fn values(&self) -> (Option<u32>, Option<u32>)
         ensures { option_to_list result.0 ++ option_to_list result.1 ≡ values_of self.now }
     {
         match self {

@@ -64,35 +64,13 @@ fn name_of(refusal: &Refusal) -> &'static str
 fn values_of(alloc: Global, refusal: &Refusal) -> Result<Vec<Value>, AllocError>
     ensures { IfOk result (λ v. map view v.items ≡ map number_data (values_of refusal.now)) }
 {
+    let (first, second) = refusal.values();
     let mut out = Vec::new(alloc);
-    match refusal {
-        Refusal::CoverMissing(first, second) | Refusal::Mismatch(first, second) => {
-            out.push(Value::from(*first))?;
-            out.push(Value::from(*second))?;
-        }
-        Refusal::BadLine(value)
-        | Refusal::TooLarge(value)
-        | Refusal::UnknownNode(value)
-        | Refusal::Repeated(value)
-        | Refusal::QuorumTooSmall(value)
-        | Refusal::SharedNode(value)
-        | Refusal::NotMember(value)
-        | Refusal::LaterDependency(value)
-        | Refusal::WrongStage(value)
-        | Refusal::UnorderedSlot(value)
-        | Refusal::BadSource(value)
-        | Refusal::MovingSource(value)
-        | Refusal::SharedInPlan(value)
-        | Refusal::NotJoined(value)
-        | Refusal::RetiredInUse(value)
-        | Refusal::BadPath(value)
-        | Refusal::ChainBroken(value)
-        | Refusal::TooManyChains(value)
-        | Refusal::NodeDown(value)
-        | Refusal::StaleTickets(value)
-        | Refusal::TooFewSlots(value)
-        | Refusal::ChunksLeft(value) => out.push(Value::from(*value))?,
-        _ => {}
+    if let Some(value) = first {
+        out.push(Value::from(value))?;
+    }
+    if let Some(value) = second {
+        out.push(Value::from(value))?;
     }
     Ok(out)
 }
