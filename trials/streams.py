@@ -153,6 +153,122 @@ def formats():
     owes("a form of plan", run("plan", "--format", "json"), contains(b"unexpected argument"), b"", 2)
 
 
+def cases_of(word):
+    """The bundles of the cases of a command, as they stand in the words of tests_cases."""
+    with open(f"{top}/crates/tests_cases/args") as it:
+        words = it.read().split()
+    start = words.index(word) + 1
+    bundles = {name[: -len(".bundle")] for name in os.listdir(f"{top}/crates/tests_cases/data") if name.endswith(".bundle")}
+    end = next((at for at in range(start, len(words)) if words[at] not in bundles), len(words))
+    return [f"{top}/crates/tests_cases/data/{case}.bundle" for case in words[start:end]]
+
+
+def said_as_json(what, found, line):
+    """The object that was printed, where it begins with what a check's object of that line has."""
+    number, *values = [int(field) for field in line.split()[1:]] or [0]
+    try:
+        stated = json.loads(found)
+    except ValueError:
+        faults.append(f"{what}: no object: {found[:80]!r}")
+        return {}
+    if not number and stated.get("answer") != "yes" or number and [stated.get(key) for key in ("answer", "number", "values")] != ["no", number, values]:
+        faults.append(f"{what}: {found[:80]!r} of {line!r}")
+    if found != json.dumps(stated, separators=(",", ":"), sort_keys=True, ensure_ascii=False).encode() + b"\n":
+        faults.append(f"{what}: not one compact line with its members by name")
+    return stated
+
+
+def mended(text, mend):
+    """A bundle in which lines have others in their place."""
+    new = {change["line"]: change["text"] for change in mend["lines"]}
+    return "".join(new.get(at + 1, line) for at, line in enumerate(text.decode(errors="surrogateescape").splitlines(keepends=True))).encode(errors="surrogateescape")
+
+
+def statements():
+    """What `why`, `show` and `goal` state as JSON, beside their words."""
+    for given in cases_of("why"):
+        text, errors, status = run("why", given)
+        found = run("why", "--format", "json", given)
+        owes(f"why of {given} as JSON", found, lambda it: it.endswith(b"\n"), errors, status)
+        line, _, words = text.partition(b"\n")
+        stated = said_as_json(f"why of {given}", found[0], line)
+        if stated.get("words", "").encode() != words:
+            faults.append(f"why of {given}: other words as JSON")
+        shown = {int(n) for n in re.findall(rb"^ *(\d+) \| .*\n *\| *\^", words, re.MULTILINE)}
+        if not shown <= set(stated.get("lines", [])):
+            faults.append(f"why of {given}: lines {stated.get('lines')} in place of {shown}")
+        mend = stated.get("mend")
+        if (mend is None) != (b"  mend: " not in words):
+            faults.append(f"why of {given}: a mend in one of both")
+        if mend and mend["lines"]:
+            with open(given, "rb") as it:
+                answer = run("why", given=mended(it.read(), mend))[0].split(b"\n")[0].decode()
+            if answer != {"accepted": "yes", "planned": "yes", "replayed": "yes"}.get(mend["then"], mend["then"]):
+                faults.append(f"why of {given}: after its mend {answer}, not {mend['then']}")
+    for given in cases_of("show"):
+        text, errors, status = run("show", "--all", given)
+        found = run("show", "--format=json", given)
+        owes(f"show of {given} as JSON", found, lambda it: it.endswith(b"\n"), b"", status)
+        stated = said_as_json(f"show of {given}", found[0], errors.split(b"\n")[0] if status else b"yes")
+        total = re.search(rb"Plan: (\d+) to join, (\d+) to leave, (\d+) slots? to move in (\d+) rounds?", text)
+        if total and [int(n) for n in total.groups()] != [len(stated["joins"]), len(stated["leaves"]), stated["moves"], stated["rounds"]]:
+            if b"moves of" not in text:
+                faults.append(f"show of {given}: {total.group().decode()} is not what the object has")
+        if not status and "begin" in stated["nodes"][0]:
+            owned = [sum(node[key] for node in stated["nodes"]) for key in ("begin", "slots", "end")]
+            if len(set(owned)) != 1:
+                faults.append(f"show of {given}: nodes own {owned} slots")
+    for name in ("plan_grow", "plan_replace", "plan_drain", "copy_out_of_order", "plan_too_few_members_left"):
+        given = f"{top}/crates/tests_cases/data/{name}.bundle"
+        text, errors, status = run("goal", "--exit-code", given)
+        found = run("goal", "--exit-code", "--format", "json", given)
+        owes(f"goal of {name} as JSON", found, lambda it: it.endswith(b"\n"), b"", status)
+        stated = said_as_json(f"goal of {name}", found[0], errors.split(b"\n")[0] if status not in (0, 4) else b"yes")
+        if stated.get("bundle", "").encode() != text or status == 4 and stated["steps"] != text.count(b"\n", 0, text.index(b"cert 1")) - text.count(b"\n", 0, text.index(b"plan 1")) - 2:
+            faults.append(f"goal of {name}: another bundle or count of steps as JSON")
+        if status not in (0, 4) and stated["words"].encode() != errors.partition(b"\n")[2]:
+            faults.append(f"goal of {name}: other words as JSON")
+    owes("how even a goal is, as JSON", run("goal", "--even", "--format", "json"), b"", contains(b"'--even' is in words"), 2)
+    for word in ("why", "show", "goal"):
+        owes(f"{word} in no form", run(word, "--format", "xml"), b"", contains(b"not text or json"), 2)
+
+
+def at_terminal(*words, **environment):
+    """What the words print on a terminal."""
+    ours, theirs = pty.openpty()
+    known = {key: value for key, value in os.environ.items() if key != "NO_COLOR"} | environment
+    with subprocess.Popen([RUN, *words], stdout=theirs, stderr=subprocess.PIPE, env=known) as ran:
+        os.close(theirs)
+        found = b""
+        try:
+            while part := os.read(ours, 65536):
+                found += part
+        except OSError:  # the terminal has no writer any more
+            pass
+        ran.wait(timeout=60)
+    os.close(ours)
+    return found.replace(b"\r\n", b"\n")
+
+
+def colors():
+    """Words in colours are the same words."""
+    for word, name in (("why", "copy_out_of_order"), ("why", "move_one_slot"), ("show", "plan_replace"), ("show", "down64")):
+        given = f"{top}/crates/tests_cases/data/{name}.bundle"
+        plain, errors, status = run(word, given)
+        owes(f"{word} of {name} without colours", run(word, "--color", "never", given), plain, errors, status)
+        painted = run(word, "--color", "always", given)
+        owes(f"{word} of {name} in colours", painted, lambda it: b"\x1b[" in it and re.sub(rb"\x1b\[\d*m", b"", it) == plain, errors, status)
+        for what, found, owed in (
+            ("a terminal", at_terminal(word, given), painted[0]),
+            ("a terminal without colours", at_terminal(word, given, NO_COLOR="1"), plain),
+            ("an empty NO_COLOR", at_terminal(word, given, NO_COLOR=""), painted[0]),
+            ("a terminal, never", at_terminal(word, "--color", "never", given), plain),
+        ):
+            owes(f"{word} of {name} at {what}", (found, b"", 0), owed, b"", 0)
+    owes("a wrong word of colours", run("why", "--color", "blue"), b"", contains(b"not auto, always or never"), 2)
+    owes("colours of a check", run("check", "--color", "never"), contains(b"unexpected argument"), b"", 2)
+
+
 def terminal():
     """At a terminal with nothing to read the program says that it waits."""
     ours, theirs = pty.openpty()
@@ -170,6 +286,8 @@ with tempfile.TemporaryDirectory() as scratch:
 dead()
 streams()
 formats()
+statements()
+colors()
 terminal()
 for fault in faults:
     print(fault)

@@ -1,8 +1,9 @@
 //! Plans, checks, shows, runs and judges changes of the members of a replicated store.
 #![tactic(auto)]
 
-use ringplan_run::{end_without_memory, end_without_words, run};
+use ringplan_run::{Screen, end_without_memory, end_without_words, run};
 use std::env;
+use std::env::{Env, FillError};
 use std::io::{ErrorKind, IsTerminal, Read, Result as IoResult};
 use std::process::ExitCode;
 
@@ -13,11 +14,31 @@ fn main(rt: HostRuntime) -> ExitCode {
         is_new: true,
     };
     let status = match words(&rt) {
-        Ok(words) => run(&rt, words.as_slice(), &mut input, &mut output),
+        Ok(words) => run(
+            &rt,
+            screen(&rt),
+            words.as_slice(),
+            &mut input,
+            &mut output,
+        ),
         Err(ErrorKind::InvalidData) => end_without_words(&mut output),
         Err(_) => end_without_memory(&mut output),
     };
     ExitCode::from(status)
+}
+
+// Standard output has colours where it is a terminal and the environment has no NO_COLOR, or an empty one (no-color.org).
+fn screen(rt: &HostRuntime) -> Screen {
+    let mut first = [0u8; 1];
+    let is_forbidden = match rt.var("NO_COLOR", &mut first) {
+        Ok(count) => count > 0,
+        Err(FillError::TooLong) => true,
+        Err(FillError::NotPresent) => false,
+    };
+    if is_forbidden || !rt.stdout().is_terminal() {
+        return Screen::Plain;
+    }
+    Screen::Colored
 }
 
 // The words of the command line. They may be no text, and memory may be refused.

@@ -14,7 +14,9 @@ use Rattle.ringplan_command.specs.declared.word.Guide.TheVariants.{Completions, 
 use Rattle.ringplan_command.specs.declared.word.Word.{Word}
 use Rattle.ringplan_command.specs.declared.word.Word.TheVariants as people
 use Rattle.ringplan_job.specs.declared.making.Making.{Making}
-use Rattle.ringplan_job.specs.declared.making.Making.TheVariants.{Why, Bundle, Cert, After, Show, Draw, Steps, Moves, Windows, Goal, Even}
+use Rattle.ringplan_job.specs.declared.making.Making.TheVariants.{Why, Bundle, Cert, After, Show, Draw, Steps, Moves, Windows, Goal, Even, State as StateMaking}
+use Rattle.ringplan_job.specs.declared.making.Statement.{Statement}
+use Rattle.ringplan_job.specs.declared.making.Statement.TheVariants as stated
 use Rattle.ringplan_command.specs.declared.command.Workers.{Workers}
 use Rattle.ringplan_command.specs.declared.command.Workers.TheVariants.{Unnamed, Many, NoNumber}
 use Rattle.ringplan_command.specs.declared.command.Format.{Format}
@@ -24,9 +26,16 @@ use Rattle.ringplan_command.specs.declared.form.Form.TheVariants.{History, Repor
 use Rattle.ringplan_job.specs.declared.job.Job.{Job}
 use Rattle.ringplan_job.specs.declared.job.Job.TheVariants.{Check, Migrate, Plan, Play, Replay}
 
+-- the command for people by which a statement is asked for
+abbrev pub word_of_statement : Statement → Word
+word_of_statement stated.Why = people.Why
+word_of_statement (stated.Show behind) = people.Show
+word_of_statement (stated.Goal options exit) = people.Goal
+
 -- the command for people by which a making is asked for
 abbrev pub word_of_making : Making → Word
-word_of_making Why = people.Why
+word_of_making (Why color) = people.Why
+word_of_making (StateMaking statement) = word_of_statement statement
 word_of_making (Show wish) = people.Show
 word_of_making (Draw wish) = people.Draw
 word_of_making Steps = people.Steps
@@ -215,6 +224,7 @@ AsksGuide asked guide = asked ≡ asks_just (to_describe guide)
 
 -- the subcommand has an argument with a value that may be refused beside the words of the line
 abbrev pub TakesValues : Task → Type 0
+TakesValues (to_make people.Why) = ⊤
 TakesValues (to_make people.Show) = ⊤
 TakesValues (to_make people.Draw) = ⊤
 TakesValues (to_make people.Goal) = ⊤

@@ -76,8 +76,15 @@ replay_app = with_rule (job_app (codes "replay")) (text_option (codes "format"))
 abbrev pub drive_app : App
 drive_app = with_rule (with_rule (job_app drive_word) workers_option) (flag_option (codes "json"))
 
+-- a subcommand with words for people, which may be in colours or JSON
+abbrev pub words_app : List ℕ → App
+words_app word = with_rule (with_rule (job_app word) (text_option (codes "format"))) (text_option (codes "color"))
+
+abbrev pub why_app : App
+why_app = words_app (codes "why")
+
 abbrev pub show_app : App
-show_app = with_rule (with_rule (job_app (codes "show")) (flag_option (codes "all"))) (text_option (codes "racks-behind"))
+show_app = with_rule (with_rule (words_app (codes "show")) (flag_option (codes "all"))) (text_option (codes "racks-behind"))
 
 abbrev pub draw_app : App
 draw_app = with_rule (with_rule (job_app (codes "draw")) (flag_option (codes "map"))) (text_option (codes "racks-behind"))
@@ -93,7 +100,7 @@ abbrev pub nodes_app : App
 nodes_app = with_rule (with_rule (with_rule (job_app (codes "goal")) (list_option (codes "dead"))) (list_option (codes "weight"))) (text_option (codes "racks-behind"))
 
 abbrev pub goal_app : App
-goal_app = with_rule (with_rule nodes_app (flag_option (codes "even"))) (flag_option (codes "exit-code"))
+goal_app = with_rule (with_rule (with_rule nodes_app (flag_option (codes "even"))) (flag_option (codes "exit-code"))) (text_option (codes "format"))
 
 -- the program's name, which wants a subcommand, and its version
 abbrev pub top_app : App
@@ -105,7 +112,7 @@ with app sub = with_subcommand app sub.top
 
 -- the first seven subcommands, then those with a bundle, and then all
 abbrev pub first_commands : App
-first_commands = with (with (with (with (with (with (with top_app goal_app) show_app) draw_app) check_app) (job_app (codes "why"))) steps_app) windows_app
+first_commands = with (with (with (with (with (with (with top_app goal_app) show_app) draw_app) check_app) why_app) steps_app) windows_app
 
 abbrev pub bundle_commands : App
 bundle_commands = with (with (with (with (with (with (with (with first_commands drive_app) (job_app (codes "play"))) replay_app) (job_app (codes "after")))

@@ -2,7 +2,7 @@
 
 ghost use Rattle.std.specs.Prelude.{◌≡◌, ◌⊎◌, ◌↔◌, ◌∷◌, [], IfOk, IsTrue, codes, drop, map};
 ghost use Rattle.clap.specs.Words.{first_value, found_of, one_text, subcommand_rows_of};
-ghost use Rattle.ringplan_command.specs.Command.{Answers, IsForm, IsInFormat, MeansWorkers, asked, asked_by, job_named, task_named};
+ghost use Rattle.ringplan_command.specs.Command.{Answers, Asked, word_of_making, IsForm, IsInFormat, MeansWorkers, asked, asked_by, job_named, task_named};
 ghost use Rattle.ringplan_command.specs.Command.{IsTurnedAway, MeansFormat, but_text, to_describe, to_do, to_drive, to_make};
 ghost use Rattle.ringplan_command.specs.Tree.{word_of};
 ghost use Rattle.ringplan_command.specs.Files.{IsJob, files_in, files_named, files_of, no_files};
@@ -17,7 +17,7 @@ use crate::tree::command;
 use crate::word::{Guide, Word, guide_of, is_for_people, people_word};
 use clap::error::ErrorKind;
 use clap::{ArgMatches, Error};
-use ringplan_job::{Job, Making};
+use ringplan_job::{Job, Making, Screen};
 use std::alloc::{AllocError, Global};
 use std::convert::AsStr;
 
@@ -55,7 +55,28 @@ pub enum Request {
     OutOfMemory,
 }
 
+// The making with words that have colours always or never, as they have on that screen.
+fn painted(making: Making, screen: Screen) -> Making
+    ensures { word_of_making result ≡ word_of_making making }
+{
+    match making {
+        Making::Why(color) => Making::Why(color.on(screen)),
+        Making::Show(wish) => Making::Show(wish.on(screen)),
+        other => other,
+    }
+}
+
 impl Request {
+    /// The request, with words that have colours always or never, as they have on that screen.
+    pub fn on(self, screen: Screen) -> Request
+        ensures { (asked : Asked) → Answers asked self → Answers asked result }
+    {
+        match self {
+            Request::Make(making) => Request::Make(painted(making, screen)),
+            other => other,
+        }
+    }
+
     // Whether the line names files for it.
     fn is_job(&self) -> bool
         ensures { IsTrue result ↔ IsJob self.now }
@@ -268,16 +289,16 @@ fn workers_of(options: &ArgMatches) -> Workers
     }
 }
 
-// What is said of the form of an answer: text, which is also what no word names, JSON, or none that there is.
+/// What is said of the form of an answer: text, which is also what no word names, JSON, or none that there is.
 #[derive(Clone, Copy)]
-enum Format {
+pub(crate) enum Format {
     Text,
     Json,
     Unknown,
 }
 
-// The form of an answer that is named.
-fn format_of(options: &ArgMatches) -> Format
+/// The form of an answer that is named.
+pub(crate) fn format_of(options: &ArgMatches) -> Format
     ensures { MeansFormat (but_text (first_value (found_of options.now) (codes "format"))) result }
 {
     match options.get_str("format") {

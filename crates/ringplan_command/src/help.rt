@@ -72,6 +72,9 @@ pub(crate) const SHELL: &str = "The shell: bash, zsh or fish";
 pub(crate) const FORMAT: &str =
     "Prints the answer as text or as json, one object; without it as text";
 
+pub(crate) const COLOR: &str =
+    "Colours the words: auto, at a terminal where NO_COLOR is not set, always or never; without it auto";
+
 pub(crate) const WORKERS: &str =
     "Checks the partitions by K threads, 1 to 64, and the paths by as many as there are processors; the answer is the same";
 
@@ -119,6 +122,12 @@ pub(crate) const NO_BYTE: &[u8; 102] =
 
 pub(crate) const NO_FORMAT: &[u8; 100] =
     b"error: invalid value for '--format <FORMAT>': not text or json\n\nFor more information, try '--help'.\n";
+
+pub(crate) const NO_COLOR: &[u8; 106] =
+    b"error: invalid value for '--color <WHEN>': not auto, always or never\n\nFor more information, try '--help'.\n";
+
+pub(crate) const NO_EVEN: &[u8; 78] =
+    b"error: '--even' is in words, not in json\n\nFor more information, try '--help'.\n";
 
 pub(crate) const NO_SHELL: &[u8; 95] =
     b"error: invalid value for '<SHELL>': not bash, zsh or fish\n\nFor more information, try '--help'.\n";

@@ -3,12 +3,12 @@
 ghost use Rattle.std.specs.Prelude.{◌≡◌, IfOk};
 ghost use Rattle.ringplan_command.specs.Command.{IsOfWord, word_of_making};
 
-use crate::command::Request;
-use crate::help::{NO_BYTE, NO_WEIGHT};
+use crate::command::{Format, Request, format_of};
+use crate::help::{NO_BYTE, NO_COLOR, NO_EVEN, NO_FORMAT, NO_WEIGHT};
 use crate::naming::{add_dead, add_weights};
 use crate::word::Word;
 use clap::ArgMatches;
-use ringplan_job::{Cut, DrawWish, Exit, Making, Options, Picture, Shape, Wish};
+use ringplan_job::{Color, Cut, DrawWish, Exit, Making, Options, Picture, Shape, Statement, Wish};
 use std::alloc::{AllocError, Global};
 
 /// What a line with that command and these options asks for.
@@ -20,7 +20,7 @@ pub(crate) fn make_line(
     ensures { IfOk result (IsOfWord word) }
 {
     match word {
-        Word::Why => Ok(Request::Make(Making::Why)),
+        Word::Why => why_line(alloc, options),
         Word::Cert => Ok(Request::Make(Making::Cert)),
         Word::After => Ok(Request::Make(Making::After)),
         Word::Bundle => Ok(Request::Make(Making::Bundle)),
@@ -49,6 +49,41 @@ fn lines_of(options: &ArgMatches) -> Making
     Making::Steps
 }
 
+// When words have colours. None where what is named for it is none of the three words.
+fn color_of(options: &ArgMatches) -> Option<Color> {
+    match options.get_str("color") {
+        None => Some(Color::Auto),
+        Some(text) => color_named(text),
+    }
+}
+
+fn color_named(text: &str) -> Option<Color> {
+    if text == "auto" {
+        return Some(Color::Auto);
+    }
+    if text == "always" {
+        return Some(Color::Always);
+    }
+    if text == "never" {
+        return Some(Color::Never);
+    }
+    None
+}
+
+// What a line with the word `why` asks for.
+fn why_line(alloc: Global, options: &ArgMatches) -> Result<Request, AllocError>
+    ensures { IfOk result (IsOfWord Word.Why) }
+{
+    let Some(color) = color_of(options) else {
+        return mistaken(alloc, NO_COLOR);
+    };
+    match format_of(options) {
+        Format::Text => Ok(Request::Make(Making::Why(color))),
+        Format::Json => Ok(Request::Make(Making::State(Statement::Why))),
+        Format::Unknown => mistaken(alloc, NO_FORMAT),
+    }
+}
+
 // What a line with the word `show` asks for.
 fn show_line(alloc: Global, options: &ArgMatches) -> Result<Request, AllocError>
     ensures { IfOk result (IsOfWord Word.Show) }
@@ -56,15 +91,26 @@ fn show_line(alloc: Global, options: &ArgMatches) -> Result<Request, AllocError>
     let Some(racks_behind) = rack_byte(options) else {
         return mistaken(alloc, NO_BYTE);
     };
-    let shape = if options.get_flag("all") {
-        Shape::Whole
-    } else {
-        Shape::Short
+    let Some(color) = color_of(options) else {
+        return mistaken(alloc, NO_COLOR);
     };
-    Ok(Request::Make(Making::Show(Wish {
-        shape,
-        racks_behind,
-    })))
+    match format_of(options) {
+        Format::Text => Ok(Request::Make(Making::Show(Wish {
+            shape: shape_of(options),
+            racks_behind,
+            color,
+        }))),
+        Format::Json => Ok(Request::Make(Making::State(Statement::Show(racks_behind)))),
+        Format::Unknown => mistaken(alloc, NO_FORMAT),
+    }
+}
+
+// How much a summary is to show.
+fn shape_of(options: &ArgMatches) -> Shape {
+    if options.get_flag("all") {
+        return Shape::Whole;
+    }
+    Shape::Short
 }
 
 // What a line with the word `draw` asks for.
@@ -106,7 +152,21 @@ fn goal_line(alloc: Global, matches: &ArgMatches) -> Result<Request, AllocError>
         Some(racks_behind) => options.racks_behind = racks_behind,
         None => return mistaken(alloc, NO_BYTE),
     }
-    Ok(Request::Make(goal_of(options, matches)))
+    match format_of(matches) {
+        Format::Text => Ok(Request::Make(goal_of(options, matches))),
+        Format::Json => goal_stated(alloc, options, matches),
+        Format::Unknown => mistaken(alloc, NO_FORMAT),
+    }
+}
+
+// What a line with the word `goal` asks for in JSON.
+fn goal_stated(alloc: Global, options: Options, matches: &ArgMatches) -> Result<Request, AllocError>
+    ensures { IfOk result (IsOfWord Word.Goal) }
+{
+    if matches.get_flag("even") {
+        return mistaken(alloc, NO_EVEN);
+    }
+    Ok(Request::Make(Making::State(Statement::Goal(options, exit_of(matches)))))
 }
 
 // A plan that leads to the goal ring, or how even that is.

@@ -4,11 +4,11 @@ ghost use Rattle.std.specs.Prelude.{◌≡◌, false, IfOk};
 ghost use Rattle.clap.specs.Words.{App, rule_of, with_rule, with_subcommand};
 ghost use Rattle.ringplan_command.specs.Tree.{IsApp, cut_option, draw_app, drive_app, flag_option, goal_app, job_app, ringplan, show_app};
 ghost use Rattle.ringplan_command.specs.Tree.{check_app, file_argument, output_option, steps_app, text_option, top_app};
-ghost use Rattle.ringplan_command.specs.Tree.{completions_app, guide_app, nodes_app, replay_app, shell_argument, windows_app, workers_option};
+ghost use Rattle.ringplan_command.specs.Tree.{completions_app, guide_app, nodes_app, replay_app, shell_argument, why_app, windows_app, words_app, workers_option};
 
 use crate::help::{
     ABOUT, AFTER, AFTER_STREAMS, ALL, BUNDLE, BUNDLE_STREAMS, CERT, CERT_STREAMS, CHECK,
-    CHECK_STREAMS, COMPLETIONS, COMPLETIONS_STREAMS, DEAD, DRAW, DRAW_STREAMS, DRIVE,
+    CHECK_STREAMS, COLOR, COMPLETIONS, COMPLETIONS_STREAMS, DEAD, DRAW, DRAW_STREAMS, DRIVE,
     DRIVE_STREAMS, DRIVERS, EVEN, EXIT_CODE, FILE, FORMAT, GOAL, GOAL_STREAMS, JSON, MANUAL,
     MANUAL_STREAMS, MAP, MIGRATE, MIGRATE_STREAMS, MORE, MOVES, ONLY, OUTPUT, PLAN, PLAN_STREAMS,
     PLAY, PLAY_STREAMS, RACK_COLUMNS, RACKS, RACKS_APART, REPLAY, REPLAY_STREAMS, ROUNDS, SHELL,
@@ -154,10 +154,25 @@ fn drive<'a>(alloc: Global) -> Made<'a>
     with_arg(command, flag(alloc, "json", JSON))
 }
 
+// A subcommand with words for people, which may be in colours or JSON.
+fn words<'a>(alloc: Global, word: &'a str, about: &'a str, streams: &'a str) -> Made<'a>
+    ensures { IfOk result (IsApp (words_app word.entry.now)) }
+{
+    let command = job(alloc, word, about, streams);
+    let command = with_arg(command, option(alloc, "format", "FORMAT", FORMAT));
+    with_arg(command, option(alloc, "color", "WHEN", COLOR))
+}
+
+fn why<'a>(alloc: Global) -> Made<'a>
+    ensures { IfOk result (IsApp why_app) }
+{
+    words(alloc, "why", WHY, WHY_STREAMS)
+}
+
 fn show<'a>(alloc: Global) -> Made<'a>
     ensures { IfOk result (IsApp show_app) }
 {
-    let command = job(alloc, "show", SHOW, SHOW_STREAMS);
+    let command = words(alloc, "show", SHOW, SHOW_STREAMS);
     let command = with_arg(command, flag(alloc, "all", ALL));
     with_arg(command, option(alloc, "racks-behind", "C", RACKS))
 }
@@ -201,7 +216,8 @@ fn goal<'a>(alloc: Global) -> Made<'a>
 {
     let command = goal_of_nodes(alloc);
     let command = with_arg(command, flag(alloc, "even", EVEN));
-    with_arg(command, flag(alloc, "exit-code", EXIT_CODE))
+    let command = with_arg(command, flag(alloc, "exit-code", EXIT_CODE));
+    with_arg(command, option(alloc, "format", "FORMAT", FORMAT))
 }
 
 // The program's own line, which wants a subcommand.
@@ -224,7 +240,7 @@ pub(crate) fn command<'a>(alloc: Global) -> Result<Command<'a>, AllocError>
     let line = with(line, show(alloc));
     let line = with(line, draw(alloc));
     let line = with(line, check(alloc));
-    let line = with(line, job(alloc, "why", WHY, WHY_STREAMS));
+    let line = with(line, why(alloc));
     let line = with(line, steps(alloc));
     let line = with(line, windows(alloc));
     let line = with(line, drive(alloc));

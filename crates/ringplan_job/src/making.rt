@@ -2,6 +2,36 @@
 
 use crate::options::Options;
 
+/// Where a text for people goes.
+#[derive(Clone, Copy, Debug, PartialEq, Eq)]
+pub enum Screen {
+    /// To a terminal whose user wants colours.
+    Colored,
+    /// To anything else.
+    Plain,
+}
+
+/// Whether a text for people has colours.
+#[derive(Clone, Copy, Debug, PartialEq, Eq)]
+pub enum Color {
+    /// Where the screen has them; nowhere where no screen is known.
+    Auto,
+    /// Wherever it goes.
+    Always,
+    /// Nowhere.
+    Never,
+}
+
+impl Color {
+    /// What that is on this screen: always or never.
+    pub fn on(&self, screen: Screen) -> Color {
+        match (self, screen) {
+            (Color::Always, _) | (Color::Auto, Screen::Colored) => Color::Always,
+            (Color::Never, _) | (Color::Auto, Screen::Plain) => Color::Never,
+        }
+    }
+}
+
 /// How much a summary shows.
 #[derive(Clone, Copy, Debug)]
 pub enum Shape {
@@ -15,8 +45,19 @@ pub enum Shape {
 #[derive(Clone, Copy, Debug)]
 pub struct Wish {
     pub shape: Shape,
-    /// The byte behind which a node's name names its rack, where racks are asked for.
+    /// The byte after which a node's name names its rack, where racks are asked for.
     pub racks_behind: Option<u8>,
+    pub color: Color,
+}
+
+impl Wish {
+    /// The wish, with the colours that it has on that screen.
+    pub fn on(&self, screen: Screen) -> Wish {
+        Wish {
+            color: self.color.on(screen),
+            ..*self
+        }
+    }
 }
 
 /// Which picture is wanted.
@@ -32,7 +73,7 @@ pub enum Picture {
 #[derive(Clone, Copy, Debug)]
 pub struct DrawWish {
     pub picture: Picture,
-    /// The byte behind which a node's name names its rack, where a map is to be grouped by rack.
+    /// The byte after which a node's name names its rack, where a map is to be grouped by rack.
     pub racks_behind: Option<u8>,
 }
 
@@ -54,11 +95,23 @@ pub enum Exit {
     Steps,
 }
 
+/// What is stated of a bundle as one object of JSON.
+#[derive(Debug, Drop)]
+pub enum Statement {
+    /// Why it is refused, or what a yes says.
+    Why,
+    /// What the plan does to each node, and how far a history has come; of a ring alone, its nodes. A node's rack too, where the byte is named
+    /// after which a name names it.
+    Show(Option<u8>),
+    /// A plan that leads to the ring that is wished for, and how much it moves.
+    Goal(Options, Exit),
+}
+
 /// What can be made of a bundle.
 #[derive(Debug, Drop)]
 pub enum Making {
     /// Why it is refused, or what a yes says.
-    Why,
+    Why(Color),
     /// Ring, plan and certificate in one text.
     Bundle,
     /// Ring, plan and a certificate that is found, whether or not the bundle has one.
@@ -79,4 +132,6 @@ pub enum Making {
     Goal(Options, Exit),
     /// In words how far from even that ring is.
     Even(Options),
+    /// An object of JSON.
+    State(Statement),
 }

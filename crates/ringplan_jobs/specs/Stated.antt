@@ -1,6 +1,6 @@
 -- The answer that the program gives as JSON.
 use Rattle.std.specs.Prelude.{ℕ, List, [], ◌∷◌, ◌++◌, map, Result, Ok, Err, codes}
-use Rattle.serde_json.specs.Data.{Data, number, unsigned, string, array, object, member, no_members}
+use Rattle.serde_json.specs.Data.{Data, Members, number, unsigned, string, array, object, member, no_members}
 use Rattle.serde_json.specs.View.{items_of}
 use Rattle.serde_json.specs.Written.{compact_text}
 use Rattle.ring_names.specs.declared.refusal.Refusal.{Refusal}
@@ -57,10 +57,14 @@ name_of TurnsSpent = codes "TurnsSpent"
 abbrev pub number_data : ℕ → Data
 number_data n = number (unsigned n)
 
--- `no`, with the refusal's name, number and values
+-- the members of the object of a refusal: `no`, and the refusal's name, number and values
+abbrev pub refusal_members : Refusal → Members
+refusal_members e = member (codes "answer") (string (codes "no")) (member (codes "name") (string (name_of e))
+    (member (codes "number") (number_data (number_of e)) (member (codes "values") (array (items_of (map number_data (values_of e)))) no_members)))
+
+-- the object of a refusal
 abbrev pub no_object : Refusal → Data
-no_object e = object (member (codes "answer") (string (codes "no")) (member (codes "name") (string (name_of e))
-    (member (codes "number") (number_data (number_of e)) (member (codes "values") (array (items_of (map number_data (values_of e)))) no_members))))
+no_object e = object (refusal_members e)
 
 -- `yes`, or `no`
 abbrev pub answer_value : Result (List ℕ) Refusal → Data

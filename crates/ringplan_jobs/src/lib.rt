@@ -18,4 +18,4 @@ pub use output::write_all;
 pub use replaying::replay_bundle;
 pub use ring_script::{Kind, read_bundle};
 pub use ringplan_job::Job;
-pub use stating::stated_of;
+pub use stating::{refusal_members, stated_of};

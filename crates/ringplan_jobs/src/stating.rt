@@ -6,7 +6,7 @@ ghost use Rattle.serde_json.specs.View.{members_view, view};
 ghost use Rattle.serde_json.specs.Written.{compact_text, has_float};
 ghost use Rattle.ring_names.specs.Refusals.{values_of};
 ghost use Rattle.ringplan_jobs.specs.Answers.{status_of, texts_of};
-ghost use Rattle.ringplan_jobs.specs.Stated.{answer_value, json_of, name_of, no_object, number_data};
+ghost use Rattle.ringplan_jobs.specs.Stated.{answer_value, json_of, name_of, no_object, number_data, refusal_members};
 
 use crate::answer::{Answer, status_of};
 use ring_names::Refusal;
@@ -97,9 +97,9 @@ fn yes_object(alloc: Global) -> Result<Value, AllocError>
     Ok(Value::Object(map))
 }
 
-// The object of a refusal.
-fn no_object(alloc: Global, refusal: &Refusal) -> Result<Value, AllocError>
-    ensures { IfOk result (λ v. view v ≡ no_object refusal.now) }
+/// The members of the object of a refusal: `answer`, which is `no`, and the refusal's name, number and values.
+pub fn refusal_members(alloc: Global, refusal: &Refusal) -> Result<Map<String, Value>, AllocError>
+    ensures { IfOk result (λ map. members_view map.entries ≡ refusal_members refusal.now) }
 {
     let values = values_of(alloc, refusal)?;
     let mut map = Map::new(alloc);
@@ -107,7 +107,14 @@ fn no_object(alloc: Global, refusal: &Refusal) -> Result<Value, AllocError>
     put_text(&mut map, alloc, "name", name_of(refusal))?;
     put(&mut map, alloc, "number", Value::from(refusal.number()))?;
     put(&mut map, alloc, "values", Value::Array(values))?;
-    Ok(Value::Object(map))
+    Ok(map)
+}
+
+// The object of a refusal.
+fn no_object(alloc: Global, refusal: &Refusal) -> Result<Value, AllocError>
+    ensures { IfOk result (λ v. view v ≡ no_object refusal.now) }
+{
+    Ok(Value::Object(refusal_members(alloc, refusal)?))
 }
 
 // The object of an answer.

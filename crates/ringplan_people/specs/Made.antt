@@ -17,12 +17,15 @@ use Rattle.ringplan_jobs.specs.Verdict.{TextsKeepPromises}
 use Rattle.ringplan_job.specs.declared.making.Exit.TheVariants as exit
 use Rattle.ringplan_job.specs.declared.making.Making.{Making}
 use Rattle.ringplan_job.specs.declared.options.Options.{Options}
-use Rattle.ringplan_job.specs.declared.making.Making.TheVariants.{Why, Bundle, Cert, After, Show, Draw, Steps, Moves, Windows, Goal, Even}
+use Rattle.ringplan_job.specs.declared.making.Making.TheVariants.{Why, Bundle, Cert, After, Show, Draw, Steps, Moves, Windows, Goal, Even, State}
+use Rattle.ringplan_job.specs.declared.making.Color.{Color}
+use Rattle.ringplan_job.specs.declared.making.Statement.{Statement}
+use Rattle.ringplan_job.specs.declared.making.Statement.TheVariants as stated
 use Rattle.plan_bundles.specs.Certs.{IsCertifiedText}
 use Rattle.plan_bundles.specs.Goals.{IsLed}
 use Rattle.plan_bundles.specs.Windows.{AreAskedOf}
 use Rattle.ringplan_people.specs.Studies.{IsStudyOf, HasApproved, IsShown, HasHistory, IsLeftBy}
-use Rattle.ringplan_people.specs.Why.{IsWhy}
+use Rattle.ringplan_people.specs.Why.{HasKept, IsWhy}
 
 -- the text is a first part of the bytes; or it is that of the bytes' ring, of a plan that makes their change, and of its certificate
 pub data IsBundleOf (bytes text : List ℕ) : Type 0 where
@@ -49,7 +52,22 @@ IsMade Moves bytes text = OfPlan (λ ring plan. text ≡ moves_text ring plan) b
 IsMade (Windows cut) bytes text = OfPlan (λ ring plan. AreAskedOf ring plan cut.only text) bytes
 IsMade (Goal options status) bytes text = IsLed bytes (map (λ name. name.items) options.dead.items) text
 IsMade (Even options) bytes text = ⊤
-IsMade Why bytes text = ⊥
+IsMade (Why color) bytes text = ⊥
+IsMade (State statement) bytes text = ⊥
+
+-- what is made prints its refusals on standard error
+abbrev pub IsTold : Making → Type 0
+IsTold (Why color) = ⊥
+IsTold (State statement) = ⊥
+IsTold making = ⊤
+
+-- the status of a statement: why, 0 comes only where the bundle's plan keeps its promises; of a plan or a ring that is shown, only where it is what is shown; of a
+-- goal, 0 and 4 only where a plan leads there, and 4 only where it asks whether the plan has steps
+abbrev pub IsStated : Statement → List ℕ → ℕ → Type 0
+IsStated stated.Why bytes status = (status ≡ 0 → HasKept bytes) × (status ≤ 3)
+IsStated (stated.Show behind) bytes status = (status ≡ 0 → IsShown bytes) × (status ≤ 3)
+IsStated (stated.Goal options how) bytes status = (((status ≡ 0) ⊎ ((status ≡ 4) × (how ≡ exit.Steps))) × ((text : List ℕ) × IsLed bytes (map (λ name. name.items) options.dead.items) text))
+    ⊎ ((status ≢ 0) × (status ≤ 3))
 
 -- the status at what was made: 0, or 4 where a goal asks it to say whether the plan has steps
 abbrev pub IsMadeWith : Making → ℕ → Type 0
@@ -57,9 +75,10 @@ IsMadeWith making status = (status ≡ 0) ⊎ ((status ≡ 4) × ((options : Opt
 
 -- what is printed of the bytes, and the status: why they are refused, or what a yes says; else what is made of them, or nothing where they are refused
 pub data IsReport (making : Making) (bytes : List ℕ) (text : List ℕ) (status : ℕ) : Type 0 where
-  told : making ≡ Why → IsWhy bytes text status → status ≤ 3 → IsReport making bytes text status
+  told : (color : Color) → making ≡ Why color → IsWhy bytes text status → status ≤ 3 → IsReport making bytes text status
+  stated : (statement : Statement) → making ≡ State statement → IsStated statement bytes status → IsReport making bytes text status
   made : IsMade making bytes text → IsMadeWith making status → IsReport making bytes text status
-  refused : making ≢ Why → text ≡ [] → status ≢ 0 → status ≤ 3 → IsReport making bytes text status
+  refused : IsTold making → text ≡ [] → status ≢ 0 → status ≤ 3 → IsReport making bytes text status
 
 -- nothing is printed, and on standard error the refusal's line and some words, with the status of the refusal
 abbrev pub IsRefusal : Refusal → List ℕ → List ℕ → ℕ → Type 0

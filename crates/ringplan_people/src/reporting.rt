@@ -3,8 +3,7 @@
 ghost use Rattle.std.specs.Prelude.{◌≡◌, ◌≢◌, ◌≤◌, ◌⊎◌, ◌++◌, ℕ, List, [], IfOk};
 ghost use Rattle.ring_names.specs.Refusals.{line_of, number_of};
 ghost use Rattle.ringplan_jobs.specs.Answers.{refused_status};
-ghost use Rattle.ringplan_job.specs.declared.making.Making.TheVariants.{Why};
-ghost use Rattle.ringplan_people.specs.Made.{IsMade, IsMadeWith, IsRefusal, IsReport};
+ghost use Rattle.ringplan_people.specs.Made.{IsMade, IsMadeWith, IsRefusal, IsReport, IsStated, IsTold};
 ghost use Rattle.ringplan_people.specs.Why.{IsWhy};
 
 use crate::after::{after_bundle, push_open};
@@ -12,13 +11,14 @@ use crate::bundle::whole_bundle;
 use crate::cert::{cert_of, push_why_none};
 use crate::goal_words::{push_dead_leavers, push_goal_words};
 use crate::show::{draw_bundle, show_bundle};
+use crate::stating::state_bundle;
 use crate::steps::{moves_bundle, steps_bundle};
 use crate::why::{push_words_of, why_bundle};
 use crate::windows::{push_windows_words, windows_bundle};
 use helpers::Words;
 use plan_bundles::{front, led_bundle, wish_words};
 use ring_names::Refusal;
-use ringplan_job::{Exit, Making};
+use ringplan_job::{Color, Exit, Making, Statement};
 use ringplan_jobs::{Answer, answer_of};
 use std::alloc::Global;
 
@@ -32,11 +32,11 @@ pub struct Report {
 
 // What is made of the bundle.
 fn make_of(alloc: Global, making: &Making, bytes: &[u8]) -> Result<Vec<u8>, Refusal>
-    requires { making.now ≢ Why }
+    requires { IsTold making.now }
     ensures { IfOk result (λ text. IsMade making.now bytes.now text.items) }
 {
     match making {
-        Making::Why => unreachable!(),
+        Making::Why(_) | Making::State(_) => unreachable!(),
         Making::Bundle => whole_bundle(alloc, bytes),
         Making::Cert => cert_of(alloc, bytes),
         Making::After => after_bundle(alloc, bytes),
@@ -73,8 +73,8 @@ fn push_notes(
     Ok(())
 }
 
-// The exit status at a goal: 4 where it asks whether the plan has steps, and the plan has.
-fn goal_status(exit: Exit, output: &[u8]) -> u8
+/// The exit status at a goal: 4 where it asks whether the plan has steps, and the plan has.
+pub(crate) fn goal_status(exit: Exit, output: &[u8]) -> u8
     ensures { (result ≡ 0) ⊎ ((result ≡ 4) × (exit ≡ Exit.Steps)) }
 {
     match exit {
@@ -128,8 +128,8 @@ fn refused_with(alloc: Global, refusal: Refusal, words: Words) -> Result<Report,
     })
 }
 
-// Adds why it was refused.
-fn push_said(
+/// Adds why it was refused.
+pub(crate) fn push_said(
     alloc: Global,
     out: &mut Words,
     making: &Making,
@@ -150,7 +150,7 @@ fn push_said(
 
 // The report of what is made of the bundle, or of why nothing is.
 fn report_made(alloc: Global, making: &Making, bytes: &[u8]) -> Result<Report, Refusal>
-    requires { making.now ≢ Why }
+    requires { IsTold making.now }
     ensures { IfOk result (λ r. IsReport making.now bytes.now r.output.items r.status) }
 {
     match make_of(alloc, making, bytes) {
@@ -163,26 +163,45 @@ fn report_made(alloc: Global, making: &Making, bytes: &[u8]) -> Result<Report, R
     }
 }
 
-// The report of why a bundle is refused, or of what a yes says.
-fn report_why(alloc: Global, bytes: &[u8]) -> Result<Report, Refusal>
-    ensures why { IfOk result (λ r. IsWhy bytes.now r.output.items r.status) }
-    ensures few { IfOk result (λ r. r.status ≤ 3) }
+// The report of an answer, with nothing on standard error.
+fn silent(alloc: Global, answer: Answer) -> Report
+    ensures output { result.output.items ≡ answer.output.items }
+    ensures status { result.status ≡ answer.status }
 {
-    let Answer { output, status } = why_bundle(alloc, bytes)?;
-    Ok(Report {
+    let Answer { output, status } = answer;
+    Report {
         output,
         errors: Vec::new(alloc),
         status,
-    })
+    }
+}
+
+// The report of why a bundle is refused, or of what a yes says.
+fn report_why(alloc: Global, color: Color, bytes: &[u8]) -> Result<Report, Refusal>
+    ensures why { IfOk result (λ r. IsWhy bytes.now r.output.items r.status) }
+    ensures few { IfOk result (λ r. r.status ≤ 3) }
+{
+    let answer = why_bundle(alloc, bytes, color)?;
+    Ok(silent(alloc, answer))
+}
+
+// The report of a statement.
+fn report_stated(alloc: Global, statement: &Statement, bytes: &[u8]) -> Result<Report, Refusal>
+    ensures { IfOk result (λ r. IsStated statement.now bytes.now r.status) }
+{
+    let answer = state_bundle(alloc, statement, bytes)?;
+    Ok(silent(alloc, answer))
 }
 
 /// What is printed of a bundle, where `making` is asked for. On standard output stands what is made of the bundle, and the status is 0, or 4 for a plan
-/// with steps where a goal asks so; or it is empty, and on standard error stand the refusal's line and why. `why` prints both on standard output. The only refusal is `OutOfMemory`.
+/// with steps where a goal asks so; or it is empty, and on standard error stand the refusal's line and why. `why` and a statement print both on standard output.
+/// The only refusal is `OutOfMemory`.
 pub fn report_bundle(alloc: Global, making: &Making, bytes: &[u8]) -> Result<Report, Refusal>
     ensures { IfOk result (λ r. IsReport making.now bytes.now r.output.items r.status) }
 {
     match making {
-        Making::Why => report_why(alloc, bytes),
+        Making::Why(color) => report_why(alloc, *color, bytes),
+        Making::State(statement) => report_stated(alloc, statement, bytes),
         _ => report_made(alloc, making, bytes),
     }
 }

@@ -3,6 +3,7 @@
 ghost use Rattle.std.specs.Prelude.{OnOk};
 ghost use Rattle.ringplan_people.specs.Studies.{HasApproved, IsShown};
 
+use crate::painting::painted;
 use crate::study::{Study, studied};
 use plan_bundles::front;
 use ring_names::Refusal;
@@ -12,15 +13,16 @@ use show_picture::{Sheet, map_picture, picture};
 use show_plan::{Present, Progress, Scene, Shape, View, ring_summary, summary};
 use std::alloc::Global;
 
-// What is shown of a bundle's plan, and how far its history has come, where there is one.
+/// What is shown of a bundle's plan, and how far its history has come, where there is one.
 #[derive(Drop)]
-struct Shown {
-    scene: Scene,
-    progress: Option<Progress>,
-    present: Present,
+pub(crate) struct Shown {
+    pub scene: Scene,
+    pub progress: Option<Progress>,
+    pub present: Present,
 }
 
-fn shown_by(alloc: Global, found: &Study) -> Result<Shown, Refusal> {
+/// What is shown of a plan.
+pub(crate) fn shown_by(alloc: Global, found: &Study) -> Result<Shown, Refusal> {
     let (ring, plan) = (found.approved.ring(), found.approved.plan());
     let progress = match &found.history {
         Some(history) => Some(Progress::of(alloc, plan, history.as_slice())?),
@@ -51,10 +53,8 @@ fn show_ring(alloc: Global, bytes: &[u8], wish: Wish) -> Result<Vec<u8>, Refusal
     ring_summary(alloc, &ring, wish.racks_behind)
 }
 
-/// The summary of a bundle's plan, where the checker accepts it; with a history its progress. Of a ring and nothing more it is that of the ring. Refused is what
-/// `studied` refuses, or the ring's reader.
-pub fn show_bundle(alloc: Global, bytes: &[u8], wish: Wish) -> Result<Vec<u8>, Refusal>
-    // It comes only where the checker accepted the bundle's plan, or the bytes are a ring's text.
+// The summary of a bundle without colours.
+fn show_plain(alloc: Global, bytes: &[u8], wish: Wish) -> Result<Vec<u8>, Refusal>
     ensures shown { OnOk result (IsShown bytes.now) }
 {
     // Nothing stands after the first line `end`.
@@ -62,6 +62,16 @@ pub fn show_bundle(alloc: Global, bytes: &[u8], wish: Wish) -> Result<Vec<u8>, R
         return show_ring(alloc, bytes, wish);
     }
     show_plan(alloc, bytes, wish)
+}
+
+/// The summary of a bundle's plan, where the checker accepts it; with a history its progress. Of a ring and nothing more it is that of the ring. Refused is what
+/// `studied` refuses, or the ring's reader. It may have colours.
+pub fn show_bundle(alloc: Global, bytes: &[u8], wish: Wish) -> Result<Vec<u8>, Refusal>
+    // It comes only where the checker accepted the bundle's plan, or the bytes are a ring's text.
+    ensures shown { OnOk result (IsShown bytes.now) }
+{
+    let text = show_plain(alloc, bytes, wish)?;
+    painted(alloc, text, wish.color)
 }
 
 // The summary of a bundle's plan.

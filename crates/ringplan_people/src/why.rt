@@ -10,11 +10,13 @@ ghost use Rattle.ringplan_people.specs.Studies.{HasApproved};
 ghost use Rattle.ringplan_people.specs.Why.{AnswersCheck, IsWhy};
 
 use crate::history_words::{tell_history, unless_memory};
+use crate::painting::painted;
 use crate::study::{Study, studied};
 use change_text::{Wanted, read_wanted};
 use helpers::Words;
 use plan_bundles::{Kind, cert_bundle, front, kind_of};
 use ring_names::Refusal;
+use ringplan_job::Color;
 use ringplan_jobs::{
     Answer, Job, Kind as Sections, answer_of, check_bundle, make, plan_bundle, read_bundle,
 };
@@ -22,9 +24,9 @@ use show_refusal::{Read, Remedy, tell_plan};
 use show_why::{Page, Said, tell_text};
 use std::alloc::Global;
 
-// What comes of a mended bundle.
+/// What comes of a mended bundle.
 #[derive(Clone, Copy, PartialEq, Eq)]
-enum Outcome {
+pub(crate) enum Outcome {
     /// The checker says yes.
     Accepted,
     /// There is a plan for its change.
@@ -33,7 +35,7 @@ enum Outcome {
     Replayed,
     /// Another refusal.
     Next(Refusal),
-    /// The refusal that came before.
+    /// The refusal that came before; or there is no mend.
     Same,
 }
 
@@ -72,22 +74,22 @@ fn next(refusal: Refusal, was: &Refusal) -> Result<Outcome, Refusal>
     })
 }
 
-// Adds the mend, with what comes of the mended bundle, unless that is refused as before.
+// Adds the mend, with what comes of the mended bundle, unless that is refused as before. Returns what comes of it.
 fn push_mend(
     alloc: Global,
     out: &mut Words,
     bytes: &[u8],
     said: &Said,
     was: &Refusal,
-) -> Result<(), Refusal> {
+) -> Result<Outcome, Refusal> {
     let mut mended = Words::new(alloc);
     said.mended(&mut mended, Page { bytes });
     let outcome = asked(alloc, mended.end()?.as_slice(), was)?;
-    if outcome == Outcome::Same {
-        return Ok(());
+    if outcome != Outcome::Same {
+        said.push_mend(out);
+        push_outcome(alloc, out, outcome)?;
     }
-    said.push_mend(out);
-    push_outcome(alloc, out, outcome)
+    Ok(outcome)
 }
 
 fn push_outcome(alloc: Global, out: &mut Words, outcome: Outcome) -> Result<(), Refusal> {
@@ -211,22 +213,23 @@ fn tell_few(said: &mut Said, members: u32, slots: u32) {
     said.note(b"Let fewer nodes leave, or more join.")
 }
 
-// Adds why a bundle is refused so, in words: nothing where there is no more to say than its line.
-fn push_why(
+/// Adds why a bundle is refused so, in words: nothing where there is no more to say than its line. `said` keeps what is said, and returned is what comes of its
+/// mend.
+pub(crate) fn push_why(
     alloc: Global,
     out: &mut Words,
     said: &mut Said,
     bytes: &[u8],
     refusal: &Refusal,
-) -> Result<(), Refusal> {
+) -> Result<Outcome, Refusal> {
     if !tell_text(alloc, said, bytes, refusal)? {
         tell_read(alloc, said, bytes, refusal)?;
     }
     said.push(out, Page { bytes });
     if said.has_mend() {
-        push_mend(alloc, out, bytes, said, refusal)?;
+        return push_mend(alloc, out, bytes, said, refusal);
     }
-    Ok(())
+    Ok(Outcome::Same)
 }
 
 /// Adds why a bundle is refused so, in words: nothing where there is no more to say than its line.
@@ -237,11 +240,12 @@ pub fn push_words_of(
     refusal: &Refusal,
 ) -> Result<(), Refusal> {
     let mut said = Said::new(alloc);
-    push_why(alloc, out, &mut said, bytes, refusal)
+    let _ = push_why(alloc, out, &mut said, bytes, refusal)?;
+    Ok(())
 }
 
-// Adds what a yes says of a plan.
-fn push_accepted(out: &mut Words, found: &Study) {
+/// Adds what a yes says of a plan.
+pub(crate) fn push_accepted(out: &mut Words, found: &Study) {
     let (ring, plan) = (found.approved.ring(), found.approved.plan());
     let begin: &[u8] = if plan.len() == 1 {
         b"accepted: # step. In every run of the plan, in any order that it allows:\n  any # slots of a partition include one that has each acknowledged put, or a successor"
@@ -280,7 +284,7 @@ fn is_plan(alloc: Global, bytes: &[u8]) -> Result<bool, Refusal>
 }
 
 // Why a ring, a plan and its certificate are accepted or refused.
-fn why_plan(alloc: Global, bytes: &[u8]) -> Result<Answer, Refusal>
+fn why_plan(alloc: Global, bytes: &[u8], color: Color) -> Result<Answer, Refusal>
     ensures { IfOk result (λ a. AnswersCheck bytes.now a.output.items a.status) }
 {
     let found = make(alloc, Job::Check, bytes);
@@ -289,7 +293,7 @@ fn why_plan(alloc: Global, bytes: &[u8]) -> Result<Answer, Refusal>
         Ok(_) => push_yes(alloc, &mut words, bytes)?,
         Err(refusal) => push_words_of(alloc, &mut words, bytes, refusal)?,
     }
-    let words = words.end()?;
+    let words = painted(alloc, words.end()?, color)?;
     let mut answer = answer_of(alloc, found)?;
     answer.output.extend_from_slice(words.as_slice())?;
     Ok(answer)
@@ -315,7 +319,7 @@ fn push_more(alloc: Global, out: &mut Words, bytes: &[u8]) -> Result<Option<Refu
 }
 
 // Why a bundle with a change or a history is accepted or refused.
-fn why_more(alloc: Global, bytes: &[u8]) -> Result<Answer, Refusal>
+fn why_more(alloc: Global, bytes: &[u8], color: Color) -> Result<Answer, Refusal>
     ensures yes { IfOk result (λ a. a.status ≡ 0 → HasApproved bytes.now) }
     ensures few { IfOk result (λ a. a.status ≤ 3) }
 {
@@ -324,7 +328,7 @@ fn why_more(alloc: Global, bytes: &[u8]) -> Result<Answer, Refusal>
         Some(refusal) => Err(refusal),
         None => Ok(Vec::from_slice(alloc, b"yes\n")?),
     };
-    let words = words.end()?;
+    let words = painted(alloc, words.end()?, color)?;
     let mut answer = answer_of(alloc, found)?;
     answer.output.extend_from_slice(words.as_slice())?;
     Ok(answer)
@@ -332,16 +336,17 @@ fn why_more(alloc: Global, bytes: &[u8]) -> Result<Answer, Refusal>
 
 /// What the checker says of a bundle, and why: its line, and then words with the lines concerned and a mend, where there is one. Of a bundle with a change the
 /// planner's refusal or the yes to its plan, of one with a history also whether that is a run. The status is that of the line.
-pub fn why_bundle(alloc: Global, bytes: &[u8]) -> Result<Answer, Refusal>
+/// The words may have colours; the line has none.
+pub fn why_bundle(alloc: Global, bytes: &[u8], color: Color) -> Result<Answer, Refusal>
     // Status 0 comes only where the plan keeps its promises; of a ring, a plan and a certificate line and status are those of a check.
     ensures why { IfOk result (λ a. IsWhy bytes.now a.output.items a.status) }
     ensures few { IfOk result (λ a. a.status ≤ 3) }
 {
     if is_plan(alloc, bytes)? {
-        return why_plan(alloc, bytes);
+        return why_plan(alloc, bytes, color);
     }
     match kind_of(bytes) {
-        Kind::Plan => why_plan(alloc, bytes),
-        Kind::Change | Kind::History => why_more(alloc, bytes),
+        Kind::Plan => why_plan(alloc, bytes, color),
+        Kind::Change | Kind::History => why_more(alloc, bytes, color),
     }
 }

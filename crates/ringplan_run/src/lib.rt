@@ -8,3 +8,4 @@ mod program;
 
 pub use driving::drive_bundle;
 pub use program::{end_without_memory, end_without_words, run, run_alone};
+pub use ringplan_job::Screen;

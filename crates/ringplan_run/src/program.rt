@@ -16,7 +16,7 @@ use crate::driving::drive_bundle;
 use crate::files::{open, save, say};
 use ring_names::Refusal;
 use ringplan_command::{CommandLine, Files as Named, Form, Request, parse};
-use ringplan_job::Making;
+use ringplan_job::{Making, Screen};
 use ringplan_jobs::{Job, answer_bytes, answer_check, answer_of, read_all, stated_of, write_all};
 use ringplan_people::{Report, report_bundle, report_unread};
 use std::alloc::Global;
@@ -47,14 +47,14 @@ const STEPS: u8 = 4;
 /// refused, 3 where memory, an input or an output failed, and 4 for a plan with steps where `goal --exit-code` asks for that. `plan`, `check`, `play`, `drive`, `replay` and `migrate` print their refusals on the output,
 /// the other commands on standard error.
 ///
-/// Where the line names a file, that is read in place of the input; where it names one with `-o`, what would be printed with status 0 or 4 is written there. It
+/// Words for people have colours where the screen has them, or the line says so. Where the line names a file, that is read in place of the input; where it names one with `-o`, what would be printed with status 0 or 4 is written there. It
 /// waits for the threads that `drive` and `check --workers` ask for; every other line that names a job is done by `run_alone`.
 pub fn run<
     RT: AllocGlobal + Files + Eprint + Threads + Wait + Sync,
     S: AsStr,
     R: Read + Drop,
     W: Write,
->(rt: &RT, words: &[S], input: &mut R, output: &mut W) -> u8
+>(rt: &RT, screen: Screen, words: &[S], input: &mut R, output: &mut W) -> u8
     ensures line { (bytes : List ℕ) × Tells (told_by (files_of (map S.text words.now)) (R.remaining input.old)) bytes
         × Runs (asked (map S.text words.now)) (files_of (map S.text words.now)) bytes (W.contents output.old) (W.contents output.new) result }
     // `check` alone asks for the check, and `migrate` alone for the migration.
@@ -67,12 +67,21 @@ pub fn run<
         input: source,
         output: target,
     } = files;
+    let request = request.on(seen_on(screen, &target));
     match source {
         None => run_to(rt, request, target, input, output),
         Some(name) => match open(rt, name.as_str()) {
             Ok(mut file) => run_to(rt, request, target, &mut file, output),
             Err(status) => status,
         },
+    }
+}
+
+// Where a text goes: to the screen, unless a file is named for it.
+fn seen_on(screen: Screen, target: &Option<String>) -> Screen {
+    match target {
+        None => screen,
+        Some(_) => Screen::Plain,
     }
 }
 

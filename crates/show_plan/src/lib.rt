@@ -5,6 +5,7 @@
 mod change;
 mod domains;
 mod failing;
+mod kept;
 mod loads;
 mod names;
 mod overview;

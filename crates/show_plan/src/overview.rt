@@ -213,6 +213,29 @@ fn tell_down(view: &View, line: &mut Words) {
     line.text(b" reads and writes");
 }
 
+// Which nodes that are down keep hints, and for how many slots.
+fn tell_hints(view: &View, out: &mut Words, line: &mut Words) -> Result<(), Refusal> {
+    let Some(progress) = view.progress else {
+        return Ok(());
+    };
+    let down = view.present.down.as_slice();
+    let (count, keepers) = progress.kept.of_nodes(view.alloc, down)?;
+    if count == 0 {
+        return Ok(());
+    }
+    line.text(b"  hints     ");
+    push_many(line, count, b"slot waits", b"slots wait");
+    line.text(b" for hints that ");
+    push_names(line, view.ring, keepers.as_slice(), 6);
+    line.text(if keepers.len() == 1 {
+        b" keeps until it is up"
+    } else {
+        b" keep until they are up"
+    });
+    end_line(out, line, INDENT);
+    Ok(())
+}
+
 // `if one fails`, and beside whom.
 fn push_failing(view: &View, line: &mut Words, words: &[u8]) {
     line.text(words);
@@ -298,6 +321,7 @@ fn push_overview(view: &View, out: &mut Words, line: &mut Words) -> Result<(), R
     if !view.present.down.is_empty() {
         tell_down(view, line);
         end_line(out, line, INDENT);
+        tell_hints(view, out, line)?;
     }
     tell_moves(view, line);
     end_line(out, line, INDENT);

@@ -1,5 +1,6 @@
 //! How far a run of a plan has come.
 
+use crate::kept::Kept;
 use plan_runs::{Entry, Event};
 use plan_text::Plan;
 use ring_names::Refusal;
@@ -23,6 +24,8 @@ pub struct Progress {
     is_open: Vec<bool>,
     // by node, as far as one was ever down
     is_down: Vec<bool>,
+    /// The hints that nodes keep.
+    pub kept: Kept,
 }
 
 impl Progress {
@@ -34,9 +37,11 @@ impl Progress {
             chunks: vec![in alloc; 0u32; steps]?,
             is_open: vec![in alloc; false; steps]?,
             is_down: Vec::new(alloc),
+            kept: Kept::new(alloc),
         };
         for entry in history {
             progress.note(&entry.event)?;
+            progress.kept.note(alloc, entry)?;
         }
         Ok(progress)
     }

@@ -18,6 +18,6 @@ mod said;
 mod spacing;
 mod telling;
 
-pub use page::{Page, Place, Span, field, place_of, span_of};
+pub use page::{Page, Place, Span, cut_line, field, place_of, span_of};
 pub use said::Said;
 pub use telling::tell_text;

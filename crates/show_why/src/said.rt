@@ -3,7 +3,7 @@
 use crate::habit::Habit;
 use crate::page::{Page, Place, cut_line};
 use helpers::Words;
-use std::alloc::Global;
+use std::alloc::{AllocError, Global};
 
 // A line that is shown, and what is said of a part of it.
 #[derive(Clone, Copy)]
@@ -183,6 +183,30 @@ impl Said {
     /// Whether there is a mend.
     pub fn has_mend(&self) -> bool {
         !self.changes.is_empty() || self.habit.is_some()
+    }
+
+    /// The numbers of the lines at fault, ascending.
+    pub fn faults(&self, alloc: Global) -> Result<Vec<u32>, AllocError> {
+        let mut lines = Vec::new(alloc);
+        for mark in self.marks.as_slice() {
+            if mark.is_fault && !lines.as_slice().contains(&mark.place.line) {
+                lines.push(mark.place.line)?;
+            }
+        }
+        lines.sort_unstable();
+        Ok(lines)
+    }
+
+    /// A change of the mend, by its place: the number of a line, and the lines that stand in its place.
+    pub fn change(&self, place: usize) -> Option<(u32, &[u8])> {
+        let change = self.changes.get(place)?;
+        let new = cut_out(self.news.as_slice(), change.begin, change.end);
+        Some((change.line, new))
+    }
+
+    /// How many lines the mend changes.
+    pub fn changes(&self) -> usize {
+        self.changes.len()
     }
 
     /// Begins what the mended text has in the place of the line. Where nothing is added, the line goes.

@@ -13,7 +13,7 @@ mod people;
 use crate::histories::{is_replayed, others};
 use crate::people::{show_report, words_of};
 use ringplan_jobs::{check_bundle, plan_bundle, play_bundle, replay_bundle};
-use ringplan_run::run;
+use ringplan_run::{Screen, run};
 use std::alloc::Global;
 use std::fs::File;
 use std::rt::Runtime;
@@ -95,7 +95,7 @@ fn said<RT: Runtime + AllocGlobal + Threads + Wait + Sync>(
 ) -> io::Result<Answer> {
     let mut bundle = File::open(rt, path)?;
     let mut bytes = Vec::new(rt.alloc());
-    let status = run(rt, words, &mut bundle, &mut bytes);
+    let status = run(rt, Screen::Plain, words, &mut bundle, &mut bytes);
     Ok(Answer { bytes, status })
 }
 

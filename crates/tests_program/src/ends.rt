@@ -1,7 +1,7 @@
 //! Runs of each subcommand whose input or output fails at some call, or takes no more.
 
 use crate::memory::{MemoryReader, MemoryWriter};
-use ringplan_run::run;
+use ringplan_run::{Screen, run};
 use std::process::Abort;
 use std::rt::Files;
 use std::sync::Wait;
@@ -38,7 +38,7 @@ fn reads_of<RT: AllocGlobal + Files + Eprint + Threads + Wait + Sync + Abort>(
         calls: MANY,
     };
     let mut output = MemoryWriter::new(rt.alloc(), MANY, MANY);
-    let ended = run(rt, &["ringplan", word], &mut input, &mut output);
+    let ended = run(rt, Screen::Plain, &["ringplan", word], &mut input, &mut output);
     assert_eq!(rt; ended, 0);
     MANY.saturating_sub(input.calls)
 }
@@ -64,7 +64,7 @@ fn reads_fail<RT: AllocGlobal + Files + Eprint + Threads + Wait + Sync + Abort>(
             calls,
         };
         let mut output = MemoryWriter::new(rt.alloc(), MANY, MANY);
-        let ended = run(rt, &["ringplan", word], &mut input, &mut output);
+        let ended = run(rt, Screen::Plain, &["ringplan", word], &mut input, &mut output);
         failed(rt, ended, output.bytes.as_slice(), b"no 61\n");
     }
 }
@@ -91,7 +91,7 @@ fn written<RT: AllocGlobal + Files + Eprint + Threads + Wait + Sync + Abort>(
         step: MANY,
         calls: MANY,
     };
-    run(rt, &["ringplan", word], &mut input, output)
+    run(rt, Screen::Plain, &["ringplan", word], &mut input, output)
 }
 
 // What the whole output is, where a write takes a byte, and that the last call is no write.
@@ -192,7 +192,7 @@ fn goal_ends<RT: AllocGlobal + Files + Eprint + Threads + Wait + Sync + Abort>(
     };
     let mut output = MemoryWriter::new(rt.alloc(), MANY, MANY);
     let words = ["ringplan", "goal", "--exit-code"];
-    let ended = run(rt, &words, &mut input, &mut output);
+    let ended = run(rt, Screen::Plain, &words, &mut input, &mut output);
     assert_eq!(rt; ended, status);
 }
 

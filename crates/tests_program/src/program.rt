@@ -3,7 +3,7 @@
 ghost use Rattle.std.specs.Prelude.{◌<◌};
 
 use crate::memory::{Endless, InterruptedReader, InterruptedWriter, MemoryReader, MemoryWriter};
-use ringplan_run::{end_without_words, run};
+use ringplan_run::{Screen, end_without_words, run};
 use std::process::Abort;
 use std::rt::Files;
 use std::str;
@@ -43,7 +43,7 @@ fn told<RT: AllocGlobal + Files + Eprint + Threads + Wait + Sync + Abort>(
     text: &str,
 ) -> Result<(), Fail> {
     let mut output = MemoryWriter::new(rt.alloc(), 4096, 2);
-    ends(rt, run(rt, words, &mut Endless, &mut output), status);
+    ends(rt, run(rt, Screen::Plain, words, &mut Endless, &mut output), status);
     shows(rt, output.bytes.as_slice(), text)
 }
 
@@ -103,7 +103,7 @@ fn silent<RT: AllocGlobal + Files + Eprint + Threads + Wait + Sync + Abort>(
     status: u8,
 ) {
     let mut output = MemoryWriter::new(rt.alloc(), 4096, 2);
-    let ended = run(rt, words, &mut Endless, &mut output);
+    let ended = run(rt, Screen::Plain, words, &mut Endless, &mut output);
     ends_with(rt, ended, status, output.bytes.as_slice(), b"");
 }
 
@@ -183,7 +183,7 @@ fn answered<RT: AllocGlobal + Files + Eprint + Threads + Wait + Sync + Abort>(rt
         calls: 4096,
     };
     let mut output = MemoryWriter::new(rt.alloc(), step, 64);
-    let ended = run(rt, CHECK.as_slice(), &mut input, &mut output);
+    let ended = run(rt, Screen::Plain, CHECK.as_slice(), &mut input, &mut output);
     ends_with(rt, ended, 0, output.bytes.as_slice(), b"yes\n");
 }
 
@@ -207,7 +207,7 @@ fn interrupted_reads_and_writes(rt: HostRuntime) {
         inner: MemoryWriter::new(rt.alloc(), 1, 64),
         was_told: false,
     };
-    let ended = run(&rt, CHECK.as_slice(), &mut input, &mut output);
+    let ended = run(&rt, Screen::Plain, CHECK.as_slice(), &mut input, &mut output);
     ends_with(&rt, ended, 0, output.inner.bytes.as_slice(), b"yes\n");
 }
 
@@ -220,7 +220,7 @@ fn is_called_once<RT: Abort>(rt: &RT, calls: usize) {
 fn a_write_that_takes_nothing(rt: HostRuntime) {
     let mut output = MemoryWriter::new(rt.alloc(), 0, 9);
     let words = ["ringplan"];
-    let ended = run(&rt, words.as_slice(), &mut Endless, &mut output);
+    let ended = run(&rt, Screen::Plain, words.as_slice(), &mut Endless, &mut output);
     ends_with(&rt, ended, 3, output.bytes.as_slice(), b"");
     is_called_once(&rt, output.calls);
 }
@@ -228,6 +228,6 @@ fn a_write_that_takes_nothing(rt: HostRuntime) {
 #[test]
 fn an_input_without_end(rt: HostRuntime) {
     let mut output = MemoryWriter::new(rt.alloc(), 9, 9);
-    let ended = run(&rt, CHECK.as_slice(), &mut Endless, &mut output);
+    let ended = run(&rt, Screen::Plain, CHECK.as_slice(), &mut Endless, &mut output);
     ends_with(&rt, ended, 2, output.bytes.as_slice(), b"no 2 0\n");
 }

@@ -1,0 +1,72 @@
+//! Objects of JSON that are made member by member.
+
+ghost use Rattle.std.specs.Prelude.{◌≡◌, IfOk};
+
+use ring_names::Refusal;
+use ringplan_jobs::Answer;
+use serde_json::{Map, Value, put};
+use std::alloc::Global;
+
+/// An object that is made member by member. A line shows its members by name.
+#[derive(Drop)]
+pub(crate) struct Object {
+    alloc: Global,
+    members: Map<String, Value>,
+}
+
+/// The text as a value; bytes that are no UTF-8 are left out.
+pub(crate) fn text_value(alloc: Global, text: &[u8]) -> Result<Value, Refusal> {
+    let mut string = String::new(alloc);
+    for chunk in text.utf8_chunks() {
+        string.push_str(chunk.valid())?;
+    }
+    Ok(Value::String(string))
+}
+
+impl Object {
+    /// An object without members.
+    pub fn new(alloc: Global) -> Object {
+        Object {
+            alloc,
+            members: Map::new(alloc),
+        }
+    }
+
+    /// An object that has these members so far.
+    pub fn with(alloc: Global, members: Map<String, Value>) -> Object {
+        Object { alloc, members }
+    }
+
+    /// Puts a member.
+    pub fn put(&mut self, name: &str, value: Value) -> Result<(), Refusal> {
+        Ok(put(&mut self.members, self.alloc, name, value)?)
+    }
+
+    /// Puts a number.
+    pub fn number(&mut self, name: &str, number: u32) -> Result<(), Refusal> {
+        self.put(name, Value::from(number))
+    }
+
+    /// Puts a text; bytes that are no UTF-8 are left out.
+    pub fn text(&mut self, name: &str, text: &[u8]) -> Result<(), Refusal> {
+        let value = text_value(self.alloc, text)?;
+        self.put(name, value)
+    }
+
+    /// The object as a value.
+    pub fn value(self) -> Value {
+        let Object { members, .. } = self;
+        Value::Object(members)
+    }
+
+    /// The answer that is the object as one line, with that status.
+    pub fn answer(self, status: u8) -> Result<Answer, Refusal>
+        ensures { IfOk result (λ answer. answer.status ≡ status) }
+    {
+        let alloc = self.alloc;
+        let value = self.value();
+        let mut output = value.to_vec(alloc)?;
+        output.push(b'\n')?;
+        Ok(Answer { output, status })
+    }
+}

@@ -1,0 +1,311 @@
+//! What is stated of a bundle: one object of JSON.
+
+ghost use Rattle.std.specs.Prelude.{◌≡◌, ◌≢◌, ◌≤◌, ◌⊎◌, map, IfOk};
+ghost use Rattle.plan_bundles.specs.Goals.{IsLed};
+ghost use Rattle.ringplan_people.specs.Made.{IsStated};
+ghost use Rattle.ringplan_people.specs.Studies.{HasApproved, IsShown};
+ghost use Rattle.ringplan_people.specs.Why.{HasKept};
+
+use crate::goal_words::push_goal_words;
+use crate::history_words::unless_memory;
+use crate::object::{Object, text_value};
+use crate::reporting::goal_status;
+use crate::show::{Shown, shown_by};
+use crate::study::{Study, studied};
+use crate::why::{Outcome, push_accepted, push_why};
+use helpers::{Words, at, small};
+use plan_bundles::{front, led_bundle};
+use ring_names::Refusal;
+use ring_table::{Ring, read_ring};
+use ringplan_job::{Exit, Options, Statement};
+use ringplan_jobs::{Answer, refusal_members, status_of};
+use serde_json::Value;
+use show_plan::{Present, Scene, name, rack};
+use show_why::Said;
+use std::alloc::Global;
+
+// What comes of a mended bundle, in one word or as the line of a refusal.
+fn outcome_value(alloc: Global, outcome: Outcome) -> Result<Value, Refusal> {
+    let word: &[u8] = match outcome {
+        Outcome::Accepted => b"accepted",
+        Outcome::Planned => b"planned",
+        Outcome::Replayed => b"replayed",
+        Outcome::Same => b"",
+        Outcome::Next(refusal) => {
+            let mut line = Vec::new(alloc);
+            refusal.write_line(&mut line)?;
+            line.pop();
+            return text_value(alloc, line.as_slice());
+        }
+    };
+    text_value(alloc, word)
+}
+
+// The mend: the lines that change, what stands in their place, and what comes of it.
+fn mend_value(alloc: Global, said: &Said, outcome: Outcome) -> Result<Value, Refusal> {
+    let mut lines = Vec::new(alloc);
+    for place in 0..said.changes() {
+        if let Some((line, new)) = said.change(place) {
+            let mut change = Object::new(alloc);
+            change.number("line", line)?;
+            change.text("text", new)?;
+            lines.push(change.value())?;
+        }
+    }
+    let mut mend = Object::new(alloc);
+    mend.put("lines", Value::Array(lines))?;
+    mend.put("then", outcome_value(alloc, outcome)?)?;
+    Ok(mend.value())
+}
+
+// The numbers as a value.
+fn numbers_value(alloc: Global, numbers: &[u32]) -> Result<Value, Refusal> {
+    let mut values = Vec::new(alloc);
+    for number in numbers {
+        values.push(Value::from(*number))?;
+    }
+    Ok(Value::Array(values))
+}
+
+// The names of nodes as a value.
+fn names_value(alloc: Global, ring: &Ring, nodes: &[u32]) -> Result<Value, Refusal> {
+    let mut values = Vec::new(alloc);
+    for node in nodes {
+        values.push(text_value(alloc, name(ring, *node))?)?;
+    }
+    Ok(Value::Array(values))
+}
+
+// The object of a refusal, with these words.
+fn refused_object(alloc: Global, refusal: &Refusal, words: Words) -> Result<Object, Refusal> {
+    let words = words.end()?;
+    let mut object = Object::with(alloc, refusal_members(alloc, refusal)?);
+    object.text("words", words.as_slice())?;
+    Ok(object)
+}
+
+// The answer that is the object of a refusal.
+fn refused_answer(object: Object, refusal: &Refusal) -> Result<Answer, Refusal>
+    ensures { IfOk result (λ answer. (answer.status ≢ 0) × (answer.status ≤ 3)) }
+{
+    object.answer(status_of(refusal))
+}
+
+// What is stated of a bundle that is refused: the refusal, the words of `why`, the lines at fault, and a mend where there is one.
+fn state_refusal(alloc: Global, bytes: &[u8], refusal: &Refusal) -> Result<Answer, Refusal>
+    ensures { IfOk result (λ answer. (answer.status ≢ 0) × (answer.status ≤ 3)) }
+{
+    unless_memory(*refusal)?;
+    let mut words = Words::new(alloc);
+    let mut said = Said::new(alloc);
+    let outcome = push_why(alloc, &mut words, &mut said, bytes, refusal)?;
+    let mut object = refused_object(alloc, refusal, words)?;
+    let lines = said.faults(alloc)?;
+    object.put("lines", numbers_value(alloc, lines.as_slice())?)?;
+    if outcome != Outcome::Same {
+        object.put("mend", mend_value(alloc, &said, outcome)?)?;
+    }
+    refused_answer(object, refusal)
+}
+
+// What a yes says of a plan.
+fn state_accepted(alloc: Global, found: &Study) -> Result<Answer, Refusal>
+    ensures { IfOk result (λ answer. answer.status ≡ 0) }
+{
+    let mut words = Words::new(alloc);
+    push_accepted(&mut words, found);
+    let words = words.end()?;
+    let mut object = Object::new(alloc);
+    object.text("answer", b"yes")?;
+    object.number("steps", found.approved.plan().len())?;
+    object.text("words", words.as_slice())?;
+    object.answer(0)
+}
+
+// Why a bundle is refused, or what a yes says.
+fn state_why(alloc: Global, bytes: &[u8]) -> Result<Answer, Refusal>
+    ensures yes { IfOk result (λ answer. answer.status ≡ 0 → HasApproved bytes.now) }
+    ensures few { IfOk result (λ answer. answer.status ≤ 3) }
+{
+    match studied(alloc, bytes) {
+        Ok(found) => {
+            // The plan is approved, which the prover knows once it is read.
+            let _ = found.approved.plan();
+            state_accepted(alloc, &found)
+        }
+        Err(refusal) => state_refusal(alloc, bytes, &refusal),
+    }
+}
+
+// The object of a node: its name, its rack where racks are asked for, and whether it is a member.
+fn node_object(
+    alloc: Global,
+    ring: &Ring,
+    present: &Present,
+    node: u32,
+    racks_behind: Option<u8>,
+) -> Result<Object, Refusal> {
+    let mut object = Object::new(alloc);
+    object.text("name", name(ring, node))?;
+    if let Some(behind) = racks_behind {
+        object.text("rack", rack(name(ring, node), behind))?;
+    }
+    object.put("is_member", Value::from(present.is_member(node)))?;
+    object.number("slots", at(present.owned.as_slice(), node as usize))?;
+    Ok(object)
+}
+
+// The nodes of a ring alone.
+fn ring_object(alloc: Global, ring: &Ring, racks_behind: Option<u8>) -> Result<Object, Refusal> {
+    let present = Present::at_rest(alloc, ring)?;
+    let mut nodes = Vec::new(alloc);
+    for node in 0..small(ring.nodes().len()) {
+        nodes.push(node_object(alloc, ring, &present, node, racks_behind)?.value())?;
+    }
+    let mut object = Object::new(alloc);
+    object.text("answer", b"yes")?;
+    object.put("nodes", Value::Array(nodes))?;
+    Ok(object)
+}
+
+// The nodes of a ring with a plan: what each owns, gives and takes, and whether it is down.
+fn nodes_value(
+    alloc: Global,
+    ring: &Ring,
+    shown: &Shown,
+    racks_behind: Option<u8>,
+) -> Result<Value, Refusal> {
+    let loads = &shown.scene.loads;
+    let mut nodes = Vec::new(alloc);
+    for node in 0..small(ring.nodes().len()) {
+        let mut object = node_object(alloc, ring, &shown.present, node, racks_behind)?;
+        object.put("is_down", Value::from(shown.present.is_down(node)))?;
+        object.number("begin", at(loads.before.as_slice(), node as usize))?;
+        object.number("end", at(loads.after.as_slice(), node as usize))?;
+        object.number("gives", at(loads.gives.as_slice(), node as usize))?;
+        object.number("takes", at(loads.takes.as_slice(), node as usize))?;
+        nodes.push(object.value())?;
+    }
+    Ok(Value::Array(nodes))
+}
+
+// Puts what a plan does: who joins and leaves, and how much moves in how many rounds.
+fn put_change(
+    object: &mut Object,
+    alloc: Global,
+    ring: &Ring,
+    scene: &Scene,
+) -> Result<(), Refusal> {
+    object.put("joins", names_value(alloc, ring, scene.joins.as_slice())?)?;
+    object.put("leaves", names_value(alloc, ring, scene.leaves.as_slice())?)?;
+    object.number("moves", scene.move_count())?;
+    object.number("rounds", scene.round_count())
+}
+
+// What a plan does to each node, and how far a history has come.
+fn plan_object(alloc: Global, found: &Study, racks_behind: Option<u8>) -> Result<Object, Refusal> {
+    let shown = shown_by(alloc, found)?;
+    let (ring, plan) = (found.approved.ring(), found.approved.plan());
+    let mut object = Object::new(alloc);
+    object.text("answer", b"yes")?;
+    object.number("steps", plan.len())?;
+    put_change(&mut object, alloc, ring, &shown.scene)?;
+    object.put("nodes", nodes_value(alloc, ring, &shown, racks_behind)?)?;
+    if let Some(progress) = &shown.progress {
+        object.number("steps_done", progress.count())?;
+    }
+    Ok(object)
+}
+
+// A ring alone.
+fn state_ring(alloc: Global, bytes: &[u8], racks_behind: Option<u8>) -> Result<Answer, Refusal>
+    ensures yes { IfOk result (λ answer. answer.status ≡ 0 → IsShown bytes.now) }
+    ensures few { IfOk result (λ answer. answer.status ≤ 3) }
+{
+    match read_ring(alloc, bytes) {
+        Ok(ring) => ring_object(alloc, &ring, racks_behind)?.answer(0),
+        Err(refusal) => state_refusal(alloc, bytes, &refusal),
+    }
+}
+
+// The plan of a bundle.
+fn state_plan(alloc: Global, bytes: &[u8], racks_behind: Option<u8>) -> Result<Answer, Refusal>
+    ensures yes { IfOk result (λ answer. answer.status ≡ 0 → IsShown bytes.now) }
+    ensures few { IfOk result (λ answer. answer.status ≤ 3) }
+{
+    match studied(alloc, bytes) {
+        Ok(found) => {
+            // The plan is approved, which the prover knows once it is read.
+            let _ = found.approved.plan();
+            plan_object(alloc, &found, racks_behind)?.answer(0)
+        }
+        Err(refusal) => state_refusal(alloc, bytes, &refusal),
+    }
+}
+
+// What is shown of a bundle, as `show` takes it.
+fn state_shown(alloc: Global, bytes: &[u8], racks_behind: Option<u8>) -> Result<Answer, Refusal>
+    ensures yes { IfOk result (λ answer. answer.status ≡ 0 → IsShown bytes.now) }
+    ensures few { IfOk result (λ answer. answer.status ≤ 3) }
+{
+    // Nothing stands after the first line `end`.
+    if front(bytes, 1) == bytes.len() {
+        return state_ring(alloc, bytes, racks_behind);
+    }
+    state_plan(alloc, bytes, racks_behind)
+}
+
+// The bundle of a plan that leads to the goal ring, and how much it moves.
+fn led_object(alloc: Global, text: &[u8]) -> Result<Object, Refusal> {
+    let found = studied(alloc, text)?;
+    let (ring, plan) = (found.approved.ring(), found.approved.plan());
+    let scene = Scene::of(alloc, &found.approved, &found.cert)?;
+    let mut object = Object::new(alloc);
+    object.text("answer", b"yes")?;
+    object.text("bundle", text)?;
+    object.number("steps", plan.len())?;
+    put_change(&mut object, alloc, ring, &scene)?;
+    Ok(object)
+}
+
+// Why no plan leads to the goal ring.
+fn state_unled(
+    alloc: Global,
+    bytes: &[u8],
+    options: &Options,
+    refusal: &Refusal,
+) -> Result<Answer, Refusal>
+    ensures { IfOk result (λ answer. (answer.status ≢ 0) × (answer.status ≤ 3)) }
+{
+    unless_memory(*refusal)?;
+    let mut words = Words::new(alloc);
+    push_goal_words(alloc, &mut words, bytes, options, refusal)?;
+    let object = refused_object(alloc, refusal, words)?;
+    refused_answer(object, refusal)
+}
+
+// A plan that leads to the goal ring.
+fn state_goal(alloc: Global, bytes: &[u8], options: &Options, exit: Exit) -> Result<Answer, Refusal>
+    ensures { IfOk result (λ answer. (((answer.status ≡ 0) ⊎ ((answer.status ≡ 4) × (exit ≡ Exit.Steps)))
+        × ((text : _) × IsLed bytes.now (map (λ name. name.items) options.now.dead.items) text)) ⊎ ((answer.status ≢ 0) × (answer.status ≤ 3))) }
+{
+    match led_bundle(alloc, bytes, options) {
+        Ok(text) => {
+            let object = led_object(alloc, text.as_slice())?;
+            object.answer(goal_status(exit, text.as_slice()))
+        }
+        Err(refusal) => state_unled(alloc, bytes, options, &refusal),
+    }
+}
+
+/// What is stated of a bundle, as an object of JSON in one line, and the exit status: that of `why`, of `show` and of `goal`. A refusal is stated by the members
+/// of a check's answer and by `words`; `why` and `show` add the lines at fault and a mend. The only refusal is `OutOfMemory`.
+pub fn state_bundle(alloc: Global, statement: &Statement, bytes: &[u8]) -> Result<Answer, Refusal>
+    ensures { IfOk result (λ answer. IsStated statement.now bytes.now answer.status) }
+{
+    match statement {
+        Statement::Why => state_why(alloc, bytes),
+        Statement::Show(racks_behind) => state_shown(alloc, bytes, *racks_behind),
+        Statement::Goal(options, exit) => state_goal(alloc, bytes, options, *exit),
+    }
+}

@@ -1,0 +1,73 @@
+//! The hints that stand-ins keep after a history.
+
+use plan_runs::{Entry, Event, Reply};
+use ring_names::{NodeId, Refusal, Slot};
+use std::alloc::Global;
+use std::collections::BTreeSet;
+
+// A stand-in by its number, and the partition and the index of a slot for which it keeps hints.
+type Hint = (u32, u32, u32);
+
+/// Which nodes keep hints for which slots.
+#[derive(Drop)]
+pub struct Kept {
+    hints: BTreeSet<Hint>,
+}
+
+fn hint_of(node: NodeId, slot: Slot) -> Hint {
+    (node.0, slot.partition, slot.index)
+}
+
+impl Kept {
+    /// Nobody keeps any.
+    pub fn new(alloc: Global) -> Kept {
+        Kept {
+            hints: BTreeSet::new(alloc),
+        }
+    }
+
+    /// Takes an entry more.
+    pub fn note(&mut self, alloc: Global, entry: &Entry) -> Result<(), Refusal> {
+        match &entry.event {
+            Event::Hint(_, _, node) => {
+                if let Reply::Ticket(slot, _) = &entry.reply {
+                    self.hints.insert(hint_of(*node, *slot))?;
+                }
+            }
+            Event::Handoff(node, slot) => {
+                self.hints.remove(&hint_of(*node, *slot));
+            }
+            Event::Lose(node) => self.lose(alloc, *node)?,
+            // No other is about hints.
+            _ => {}
+        }
+        Ok(())
+    }
+
+    // The node loses what it keeps. A ring allows few losses.
+    fn lose(&mut self, alloc: Global, node: NodeId) -> Result<(), Refusal> {
+        let mut left = BTreeSet::new(alloc);
+        for hint in self.hints.iter() {
+            if hint.0 != node.0 {
+                left.insert(*hint)?;
+            }
+        }
+        self.hints = left;
+        Ok(())
+    }
+
+    /// How many slots each of the nodes keeps hints for, summed, and those of the nodes that keep some.
+    pub fn of_nodes(&self, alloc: Global, nodes: &[u32]) -> Result<(u32, Vec<u32>), Refusal> {
+        let mut count = 0u32;
+        let mut keepers = Vec::new(alloc);
+        for hint in self.hints.iter() {
+            if nodes.binary_search(&hint.0).is_ok() {
+                count = count.saturating_add(1);
+                if keepers.last() != Some(&hint.0) {
+                    keepers.push(hint.0)?;
+                }
+            }
+        }
+        Ok((count, keepers))
+    }
+}
