@@ -20,6 +20,7 @@ fn racked(racks: &[u32]) -> Wish<'_> {
         leaves: &[],
         weights: &[],
         racks,
+        sizes: None,
     }
 }
 
