@@ -47,7 +47,7 @@ IsMade (Draw wish) bytes text = HasApproved bytes
 IsMade Steps bytes text = OfPlan (λ ring plan. text ≡ steps_text ring plan) bytes
 IsMade Moves bytes text = OfPlan (λ ring plan. text ≡ moves_text ring plan) bytes
 IsMade (Windows cut) bytes text = OfPlan (λ ring plan. AreAskedOf ring plan cut.only text) bytes
-IsMade (Goal options status) bytes text = IsLed bytes (map (λ name. name.items) options.dead.items) text
+IsMade (Goal options status) bytes text = IsLed bytes options text
 IsMade (Even options) bytes text = ⊤
 IsMade Why bytes text = ⊥
 
