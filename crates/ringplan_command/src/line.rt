@@ -4,6 +4,7 @@ ghost use Rattle.std.specs.Prelude.{◌≡◌, IfOk};
 ghost use Rattle.ringplan_command.specs.Command.{IsOfWord, word_of_making};
 
 use crate::command::Request;
+use crate::files::named;
 use crate::help::{NO_BYTE, NO_WEIGHT};
 use crate::naming::{add_dead, add_weights};
 use crate::word::Word;
@@ -106,6 +107,7 @@ fn goal_line(alloc: Global, matches: &ArgMatches) -> Result<Request, AllocError>
         Some(racks_behind) => options.racks_behind = racks_behind,
         None => return mistaken(alloc, NO_BYTE),
     }
+    options.sizes_file = named(alloc, matches, "sizes")?;
     Ok(Request::Make(goal_of(options, matches)))
 }
 
