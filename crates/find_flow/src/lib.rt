@@ -12,6 +12,7 @@ mod offers;
 mod racks;
 mod search;
 mod seats;
+mod volumes;
 mod wish;
 
 pub use grouped::Grouped;
@@ -20,4 +21,5 @@ pub use mending::{balance_all, raise_all};
 pub use racks::Racks;
 pub use search::Search;
 pub use seats::Seats;
+pub use volumes::Volumes;
 pub use wish::Wish;

@@ -3,6 +3,7 @@
 use crate::copies::Copies;
 use crate::grouped::Grouped;
 use crate::members::{Members, Role};
+use crate::volumes::Volumes;
 use helpers::{NONE, at, lower, raise, set, small, swap};
 use ring_names::Refusal;
 use ring_table::Ring;
@@ -24,6 +25,8 @@ pub struct Seats<'a> {
     // how many slots each node owns now
     load: Vec<u32>,
     copies: Copies,
+    /// The sizes of the partitions, where they have some.
+    pub volumes: Volumes,
 }
 
 impl<'a> Seats<'a> {
@@ -38,7 +41,14 @@ impl<'a> Seats<'a> {
             owned: Grouped::new(alloc),
             load: Vec::new(alloc),
             copies: Copies::new(alloc),
+            volumes: Volumes::new(alloc),
         }
+    }
+
+    /// Partitions have sizes.
+    pub fn measure(&mut self, alloc: Global, sizes: &[u32]) -> Result<(), Refusal> {
+        let nodes = self.members.count() as usize;
+        self.volumes.fill(alloc, sizes, self.partitions, nodes)
     }
 
     /// Each slot has its owner, but for those of nodes that leave: they have nobody.
@@ -52,6 +62,7 @@ impl<'a> Seats<'a> {
         self.load = vec![in alloc; 0u32; self.members.count() as usize]?;
         self.copies.fill(ring)?;
         self.own(alloc)?;
+        self.volumes.aim(self.members, self.slots);
         for place in 0..self.total() {
             if self.members.role(self.first(place)) == Role::Leaves {
                 self.vacate(place);
@@ -71,6 +82,8 @@ impl<'a> Seats<'a> {
         for place in 0..self.first.len() {
             let owner = at(&self.first, place) as usize;
             self.owned.put(owner, small(place));
+            let partition = self.partition(place);
+            self.volumes.add(partition, owner);
         }
         Ok(())
     }
@@ -120,6 +133,8 @@ impl<'a> Seats<'a> {
         let node = self.now(place);
         set(&mut self.now, place, NONE);
         lower(&mut self.load, node as usize);
+        let partition = self.partition(place);
+        self.volumes.remove(partition, node as usize);
         if node == self.first(place) {
             self.copies.give(node);
         } else {
@@ -131,6 +146,8 @@ impl<'a> Seats<'a> {
     pub fn fill(&mut self, place: usize, node: u32) {
         set(&mut self.now, place, node);
         raise(&mut self.load, node as usize);
+        let partition = self.partition(place);
+        self.volumes.add(partition, node as usize);
         if node == self.first(place) {
             self.copies.keep(node);
         } else {
@@ -229,7 +246,19 @@ impl<'a> Seats<'a> {
     /// Whether the node could own the slot in the place of another.
     pub fn may_have(&self, place: usize, node: u32) -> bool {
         let rack = self.members.racks.of(node);
-        self.place_now(self.partition(place), node).is_none() && self.suits(place, rack)
+        self.place_now(self.partition(place), node).is_none()
+            && self.suits(place, rack)
+            && self.may_enter(place, node)
+    }
+
+    // Whether the node may be the slot's new owner. Where partitions have sizes a slot of a member that stays goes to one that joins, and that of a partition
+    // without keys to nobody.
+    fn may_enter(&self, place: usize, node: u32) -> bool {
+        let partition = self.partition(place);
+        !self.volumes.are_asked()
+            || self.members.role(self.first(place)) == Role::Leaves
+            || self.place_before(partition, node).is_some()
+            || (self.members.role(node) == Role::Joins && self.volumes.size(partition) > 0)
     }
 
     // The node owns the slot in the place of another. Where it owned a slot of the partition before, it has that one again.

@@ -1,4 +1,5 @@
 -- What is proved of rings behind plans, and of certificates.
 pub mod Members
 pub mod Fronts
+pub mod FirstNumbers
 pub mod InWindows

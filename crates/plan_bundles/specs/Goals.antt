@@ -1,5 +1,5 @@
 -- What leads from a ring to the ring that it shall become.
-use Rattle.std.specs.Prelude.{◌≡◌, ℕ, Bool, not, ◌&&◌, ◌||◌, ◌⊎◌, List, [], ◌∷◌, ◌++◌, Some, Ok, map, length, if◌then◌else◌}
+use Rattle.std.specs.Prelude.{◌≡◌, ℕ, Bool, not, ◌&&◌, ◌||◌, ◌⊎◌, List, [], ◌∷◌, ◌++◌, Some, Ok, IfSome, map, length, replicate, if◌then◌else◌}
 use Rattle.ring_names.specs.declared.ids.NodeId.{NodeId}
 use Rattle.ring_names.specs.Lists.{has}
 use Rattle.ring_names.specs.Names.{place}
@@ -13,7 +13,10 @@ use Rattle.plan_text.specs.Changes.{numbers}
 use Rattle.plan_goal.specs.declared.reading.Goal.{Goal}
 use Rattle.plan_goal.specs.Goals.{goal_at}
 use Rattle.plan_goal.specs.Reached.{IsReached}
+use Rattle.size_text.specs.declared.size.PartitionSize.{PartitionSize}
+use Rattle.ringplan_job.specs.declared.options.Options.{Options}
 use Rattle.plan_bundles.specs.Rings.{flags}
+use Rattle.plan_bundles.specs.Sized.{IsSized, sizes_by, weights_by}
 
 -- the bytes are the text of the ring, and behind it those of a plan that leads to the wanted one and of its certificate
 abbrev pub LeadsFrom : RingValue → RingValue → List NodeId → List ℕ → Type 0
@@ -44,11 +47,22 @@ with_dead ring dead change = record { joins = change.joins; leaves = leaves_too 
 abbrev pub HasChangedMembers : RingValue → Change → RingValue → Type 0
 HasChangedMembers ring change wanted = map (λ x. x.is_member) wanted.nodes ≡ flags (is_changed_member ring change) (length ring.nodes)
 
--- the bytes lead from a ring to one with the members of its change, in which each dead member leaves too, around the nodes of these names
-abbrev pub IsWishReached : List ℕ → List (List ℕ) → List ℕ → Type 0
-IsWishReached bytes names text = (w : Wanted) × (whole_text wanted_at bytes ≡ Ok w) × (wanted : RingValue) × (dead : List NodeId) × AreNamed w.ring names dead
-    × HasChangedMembers w.ring (with_dead w.ring dead w.change) wanted × LeadsFrom w.ring wanted dead text
+-- each slot of a ring may have its owner in the wanted one by these sizes, where nodes of these names have these weights
+abbrev pub IsSizedBy : RingValue → Change → List PartitionSize → List (List ℕ) → List ℕ → RingValue → Type 0
+IsSizedBy ring change sizes weighed weights wanted = (nodes : List NodeId) × AreNamed ring weighed nodes
+    × IsSized ring change.joins change.leaves (sizes_by (replicate ring.q 1) sizes) (weights_by (replicate (length ring.nodes) 1) nodes weights) wanted
+
+-- where options have sizes, each slot may have its owner by them
+abbrev pub IsSizedAsAsked : Options → RingValue → Change → RingValue → Type 0
+IsSizedAsAsked options ring change wanted = IfSome options.sizes (λ sizes. IsSizedBy ring change sizes.items (map (λ name. name.items) options.weighed.items) options.weights.items wanted)
+
+-- the bytes lead from a ring to one with the members of its change, in which each dead member leaves too, around the nodes that are named dead, and by sizes where
+-- there are some
+abbrev pub IsWishReached : List ℕ → Options → List ℕ → Type 0
+IsWishReached bytes options text = (w : Wanted) × (whole_text wanted_at bytes ≡ Ok w) × (wanted : RingValue) × (dead : List NodeId)
+    × AreNamed w.ring (map (λ name. name.items) options.dead.items) dead × HasChangedMembers w.ring (with_dead w.ring dead w.change) wanted
+    × IsSizedAsAsked options w.ring (with_dead w.ring dead w.change) wanted × LeadsFrom w.ring wanted dead text
 
 -- the bytes lead from a ring to another one: to the second of two rings, or to one with the members of a change
-abbrev pub IsLed : List ℕ → List (List ℕ) → List ℕ → Type 0
-IsLed bytes names text = IsGoalReached bytes names text ⊎ IsWishReached bytes names text
+abbrev pub IsLed : List ℕ → Options → List ℕ → Type 0
+IsLed bytes options text = IsGoalReached bytes (map (λ name. name.items) options.dead.items) text ⊎ IsWishReached bytes options text

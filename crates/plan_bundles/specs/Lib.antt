@@ -1,5 +1,6 @@
 -- What is made of rings and plans.
 pub mod Rings
+pub mod Sized
 pub mod Goals
 pub mod Certs
 pub mod Windows

@@ -2,11 +2,12 @@
 
 ghost use Rattle.std.specs.Prelude.{◌≡◌, map, length, IfOk, OnOk};
 ghost use Rattle.plan_bundles.specs.Rings.{flags};
-ghost use Rattle.plan_bundles.specs.Goals.{AreNamed, HasChangedMembers, IsGoalReached, IsLed, IsWishReached, LeadsFrom, is_changed_member};
+ghost use Rattle.plan_bundles.specs.Goals.{AreNamed, HasChangedMembers, IsGoalReached, IsLed, IsSizedAsAsked, IsSizedBy, IsWishReached, LeadsFrom, is_changed_member};
 ghost use Rattle.plan_bundles.specs.Goals.{leaves_too, with_dead as the_change_with_dead};
 
 use crate::rings::rewritten;
 use crate::sections::{Kind, kind_of};
+use crate::sized::{are_kept, sizes_of, weights_of};
 use change_text::{Change, Wanted, read_wanted};
 use helpers::Words;
 use plan_goal::{Goal, is_among, reach, read_goal};
@@ -15,6 +16,7 @@ use ring_names::{Listed, Names, NodeId, Refusal};
 use ring_table::{Ring, read_ring, write_ring};
 use ringplan_job::Options;
 use show_plan::rack;
+use size_text::PartitionSize;
 use std::alloc::Global;
 
 /// The nodes of these names, in their order. A name that the ring does not declare is `UnknownNode(0)`.
@@ -117,16 +119,17 @@ fn wanted_ring(
 
 // Of each node the parts of the slots that it shall have.
 fn weights(alloc: Global, ring: &Ring, options: &Options) -> Result<Vec<u32>, Refusal> {
-    let mut weights = vec![in alloc; 1u32; ring.nodes().len()]?;
     let nodes = nodes_of(alloc, ring, options.weighed.as_slice())?;
-    for place in 0..nodes.len() {
-        if let (Some(node), Some(weight)) = (nodes.get(place), options.weights.get(place)) {
-            if let Some(old) = weights.get_mut(node.0 as usize) {
-                *old = *weight;
-            }
-        }
+    let count = ring.nodes().len();
+    weights_of(alloc, count, nodes.as_slice(), options.weights.as_slice())
+}
+
+// Of each partition its size, where sizes are asked for.
+fn sizes(alloc: Global, ring: &Ring, options: &Options) -> Result<Option<Vec<u32>>, Refusal> {
+    match &options.sizes {
+        Some(sizes) => Ok(Some(sizes_of(alloc, ring.q(), sizes.as_slice())?)),
+        None => Ok(None),
     }
-    Ok(weights)
 }
 
 // Of each node the number of its rack, where racks are asked for.
@@ -149,12 +152,14 @@ fn racks(alloc: Global, ring: &Ring, behind: Option<u8>) -> Result<Vec<u32>, Ref
 struct Asked {
     weights: Vec<u32>,
     racks: Vec<u32>,
+    sizes: Option<Vec<u32>>,
 }
 
 fn asked_for(alloc: Global, ring: &Ring, options: &Options) -> Result<Asked, Refusal> {
     Ok(Asked {
         weights: weights(alloc, ring, options)?,
         racks: racks(alloc, ring, options.racks_behind)?,
+        sizes: sizes(alloc, ring, options)?,
     })
 }
 
@@ -165,6 +170,10 @@ fn wish<'a>(asked: &'a Asked, change: &'a Change) -> Wish<'a> {
         leaves: change.leaves.as_slice(),
         weights: asked.weights.as_slice(),
         racks: asked.racks.as_slice(),
+        sizes: match &asked.sizes {
+            Some(sizes) => Some(sizes.as_slice()),
+            None => None,
+        },
     }
 }
 
@@ -192,17 +201,76 @@ fn wished_ring(
     wanted_ring(alloc, ring, change, placed.rows.as_slice())
 }
 
+// Asks whether each slot may have its owner in the wanted ring by the sizes. Where it may not, that is `NoPlan`.
+fn ask_sized(
+    alloc: Global,
+    ring: &Ring,
+    change: &Change,
+    sizes: &[PartitionSize],
+    weighed: &[Vec<u8>],
+    weights: &[u32],
+    wanted: &Ring,
+) -> Result<(), Refusal>
+    ensures { OnOk result (IsSizedBy ring.now change.now sizes.now (map (λ name. name.items) weighed.now) weights.now wanted.now) }
+{
+    let sizes = sizes_of(alloc, ring.q(), sizes)?;
+    let nodes = nodes_of(alloc, ring, weighed)?;
+    let weights = weights_of(alloc, ring.nodes().len(), nodes.as_slice(), weights)?;
+    let (joins, leaves) = (change.joins.as_slice(), change.leaves.as_slice());
+    let is_kept = are_kept(
+        alloc,
+        ring,
+        joins,
+        leaves,
+        sizes.as_slice(),
+        weights.as_slice(),
+        wanted,
+    )?;
+    if is_kept {
+        return Ok(());
+    }
+    Err(Refusal::NoPlan)
+}
+
+// The same, where the options have sizes.
+fn ask_by_options(
+    alloc: Global,
+    ring: &Ring,
+    change: &Change,
+    options: &Options,
+    wanted: &Ring,
+) -> Result<(), Refusal>
+    ensures { OnOk result (IsSizedAsAsked options.now ring.now change.now wanted.now) }
+{
+    let Some(sizes) = &options.sizes else {
+        return Ok(());
+    };
+    let (weighed, weights) = (options.weighed.as_slice(), options.weights.as_slice());
+    ask_sized(
+        alloc,
+        ring,
+        change,
+        sizes.as_slice(),
+        weighed,
+        weights,
+        wanted,
+    )
+}
+
 /// Of a bundle of a ring and a change the ring, a plan that leads from it to one with the members of the change, and its certificate, around the nodes that are
-/// named dead, by weight and with racks apart as the options say. A dead member leaves, whether or not the change says so. Refused is the first fault of the texts, a name that the ring does not declare, as
-/// `UnknownNode(0)`, a change that leaves too few members, as `NoPlan`, and what `reach` refuses.
+/// named dead, by weight and with racks apart as the options say. A dead member leaves, whether or not the change says so. Where the options have sizes, a slot has a
+/// new owner only if it was a leaver's, or if it has keys and goes to a node that joins and stores no more than its share. Refused is the first fault of the texts, a name
+/// that the ring does not declare, as `UnknownNode(0)`, a partition that it does not have, as `TooLarge` with its line among the sizes, a change that leaves too few members, as
+/// `NoPlan`, and what `reach` refuses.
 pub fn wish_bundle(alloc: Global, bytes: &[u8], options: &Options) -> Result<Vec<u8>, Refusal>
     ensures reached { IfOk result (λ text.
-        IsWishReached bytes.now (map (λ name. name.items) options.now.dead.items) text.items) }
+        IsWishReached bytes.now options.now text.items) }
 {
     let Wanted { ring, change } = read_wanted(alloc, bytes)?;
     let nodes = nodes_of(alloc, &ring, options.dead.as_slice())?;
     let change = with_dead(&ring, change, nodes.as_slice())?;
     let wanted = wished_ring(alloc, &ring, &change, options)?;
+    ask_by_options(alloc, &ring, &change, options, &wanted)?;
     lead(alloc, Goal { ring, wanted }, nodes.as_slice())
 }
 
@@ -232,13 +300,14 @@ pub fn wished_goal(alloc: Global, bytes: &[u8], options: &Options) -> Result<Goa
     Ok(Goal { ring, wanted })
 }
 
-/// What leads to the ring that is wished for: `goal_bundle` of two rings, and `wish_bundle` of a ring and a change.
+/// What leads to the ring that is wished for: `goal_bundle` of two rings, and `wish_bundle` of a ring and a change. By sizes there is nothing to choose of two
+/// rings: they are refused as a change that is none.
 pub fn led_bundle(alloc: Global, bytes: &[u8], options: &Options) -> Result<Vec<u8>, Refusal>
     ensures led { IfOk result (λ text.
-        IsLed bytes.now (map (λ name. name.items) options.now.dead.items) text.items) }
+        IsLed bytes.now options.now text.items) }
 {
-    match kind_of(bytes) {
-        Kind::Change => wish_bundle(alloc, bytes, options),
-        Kind::Plan | Kind::History => goal_bundle(alloc, bytes, options.dead.as_slice()),
+    match (kind_of(bytes), &options.sizes) {
+        (Kind::Plan | Kind::History, None) => goal_bundle(alloc, bytes, options.dead.as_slice()),
+        _ => wish_bundle(alloc, bytes, options),
     }
 }

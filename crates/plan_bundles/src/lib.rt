@@ -8,6 +8,7 @@ mod groups;
 mod rings;
 mod room;
 mod sections;
+mod sized;
 mod windows;
 
 pub use cert::{cert_bundle, found_bundle, push_excess};

@@ -3,6 +3,7 @@
 use crate::filling::fill;
 use crate::giving::give;
 use crate::outcome::Wished;
+use crate::sizing::take_by_size;
 use crate::spreading::spread_moves;
 use crate::thinning::thin;
 use find_flow::{Members, Role, Search, Seats, Wish, balance_all, raise_all};
@@ -81,15 +82,26 @@ fn settle(alloc: Global, seats: &mut Seats) -> Result<(), Refusal> {
     balance_all(alloc, seats, &mut search)
 }
 
+// Lets members take slots, by the sizes of the partitions where these are asked for, and else by how many they are. Answers how many slots more move for racks.
+fn take(alloc: Global, seats: &mut Seats) -> Result<u32, Refusal> {
+    if seats.volumes.are_asked() {
+        take_by_size(alloc, seats)?;
+        return Ok(0);
+    }
+    let left = seats.moved();
+    thin(seats);
+    let mended = seats.moved().saturating_sub(left);
+    fill(alloc, seats)?;
+    settle(alloc, seats)?;
+    Ok(mended)
+}
+
 // The owners that are wished for, and what is counted on the way.
 fn choose(alloc: Global, ring: &Ring, seats: &mut Seats) -> Result<Counts, Refusal> {
     seats.begin(alloc, ring)?;
     let left = seats.moved();
     let shared_before = seats.shared_before();
-    thin(seats);
-    let mended = seats.moved().saturating_sub(left);
-    fill(alloc, seats)?;
-    settle(alloc, seats)?;
+    let mended = take(alloc, seats)?;
     spread_moves(alloc, ring.r(), seats)?;
     Ok(Counts {
         left,
@@ -98,8 +110,16 @@ fn choose(alloc: Global, ring: &Ring, seats: &mut Seats) -> Result<Counts, Refus
     })
 }
 
-fn wished_of(alloc: Global, ring: &Ring, members: &Members) -> Result<Wished, Refusal> {
+fn wished_of(
+    alloc: Global,
+    ring: &Ring,
+    members: &Members,
+    sizes: Option<&[u32]>,
+) -> Result<Wished, Refusal> {
     let mut seats = Seats::new(alloc, ring, members);
+    if let Some(sizes) = sizes {
+        seats.measure(alloc, sizes)?;
+    }
     let counts = choose(alloc, ring, &mut seats)?;
     told(alloc, &seats, counts)
 }
@@ -114,10 +134,13 @@ fn wished_of(alloc: Global, ring: &Ring, members: &Members) -> Result<Wished, Re
 /// Then few partitions have two slots or more on nodes that join, few have two slots that move, and nodes share partitions evenly. That is good, and not always
 /// the best.
 ///
+/// Where partitions have sizes, those that join take slots until they have their shares of what is stored, and no slot moves for racks alone. That is good, and
+/// not always the best: see `take_by_size`.
+///
 /// Refused is a wish that no ring fulfils, as `NoPlan`: a join of a member, a leave of another than a member, and leaves that leave fewer members than a
 /// partition has slots; and want of memory as `OutOfMemory`. The same input gives the same owners.
 pub fn wished(alloc: Global, ring: &Ring, wish: &Wish) -> Result<Wished, Refusal> {
     let mut members = Members::new(alloc);
     members.begin(alloc, ring, wish)?;
-    wished_of(alloc, ring, &members)
+    wished_of(alloc, ring, &members, wish.sizes)
 }

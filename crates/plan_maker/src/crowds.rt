@@ -182,10 +182,13 @@ impl Crowds {
             .saturating_sub(self.tied(seats, now))
     }
 
-    /// What it costs that two slots exchange their owners, where that is below the limit, no slot more moves, no more copies are tied to their owners, which
+    /// What it costs that two slots exchange their owners, where that is below the limit, both partitions have one size, no slot more moves, no more copies are tied to their owners, which
     /// may give little at once, and the owner of the one may have the other. That the owner of the other may have the one is known.
     pub fn cost(&self, seats: &Seats, one: usize, other: usize, limit: Cost) -> Option<Cost> {
         let (first, second) = (half_of(seats, one, other), half_of(seats, other, one));
+        if seats.volumes.size(first.partition) != seats.volumes.size(second.partition) {
+            return None;
+        }
         let more = joiners_more(seats, first);
         let joiners = self.joiners_cost(first.partition, more).saturating_add(self.joiners_cost(
             second.partition,

@@ -7,8 +7,12 @@ use helpers::NONE;
 use ring_names::Refusal;
 use std::alloc::Global;
 
-// Lets members take the slots of the partition that nobody owns. Refused as `NoPlan` where there is no member for one.
-fn fill_partition(seats: &mut Seats, takers: &mut Takers, partition: usize) -> Result<(), Refusal> {
+/// Lets members take the slots of the partition that nobody owns. Refused as `NoPlan` where there is no member for one.
+pub(crate) fn fill_partition(
+    seats: &mut Seats,
+    takers: &mut Takers,
+    partition: usize,
+) -> Result<(), Refusal> {
     for index in 0..seats.slots {
         let place = seats.place(partition, index);
         if seats.now(place) == NONE {

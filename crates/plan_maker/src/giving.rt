@@ -9,13 +9,13 @@ use std::alloc::Global;
 use std::cmp::Reverse;
 use std::collections::BinaryHeap;
 
-// How soon a member gives: the greatest first. Those with many slots for their weights come first, then those with much allowance left and of small
-// number.
+/// How soon a member gives: the greatest first. Those with many slots for their weights come first, then those with much allowance left and of small
+/// number.
 #[derive(Clone, Copy, PartialEq, Eq, PartialOrd, Ord, Drop)]
-struct Giver {
-    price: u64,
-    crowd: Reverse<u32>,
-    node: Reverse<u32>,
+pub(crate) struct Giver {
+    pub(crate) price: u64,
+    pub(crate) crowd: Reverse<u32>,
+    pub(crate) node: Reverse<u32>,
 }
 
 fn ranked(seats: &Seats, node: u32) -> Giver {

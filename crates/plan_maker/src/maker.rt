@@ -35,6 +35,7 @@ pub fn make<'a>(
         leaves,
         weights: &[],
         racks: &[],
+        sizes: None,
     };
     let wished = wished(alloc, ring, &wish)?;
     let (joins, retires) = (numbered(alloc, joins)?, numbered(alloc, leaves)?);

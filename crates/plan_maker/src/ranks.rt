@@ -1,6 +1,6 @@
 //! The order in which members take slots.
 
-use find_flow::Seats;
+use find_flow::{Role, Seats};
 use helpers::{NONE, small};
 use ring_names::Refusal;
 use std::alloc::Global;
@@ -47,7 +47,18 @@ pub enum Who {
     All,
     /// Those that join and have not their part.
     Wanting,
+    /// All members, by what they lack for their weights of what they shall store.
+    Emptiest,
+    /// All members, by how few slots they have for their weights.
+    Fewest,
+    /// Those that join and lack some of what they shall store: first the one that lacks most.
+    Lacking,
+    /// Those that stay, by how much more than they shall they store for their weights.
+    Fullest,
 }
+
+// The greatest price of a member.
+const DEAREST: u64 = 18_446_744_073_709_551_614;
 
 /// A tree over all nodes in the order of their racks: at each knot the one below it that comes first.
 #[derive(Drop)]
@@ -111,14 +122,34 @@ impl Ranks {
         self.write(place, first);
     }
 
+    // Whether the member takes part.
+    fn takes_part(&self, seats: &Seats, node: u32) -> bool {
+        match self.who {
+            Who::All | Who::Emptiest | Who::Fewest => seats.members.is_after(node),
+            Who::Wanting => seats.members.is_after(node) && seats.wants(node),
+            Who::Lacking => seats.members.role(node) == Role::Joins && seats.volumes.lack(node) > 0,
+            Who::Fullest => seats.members.role(node) == Role::Stays,
+        }
+    }
+
+    fn price(&self, seats: &Seats, node: u32) -> u64 {
+        let weight = seats.members.weight(node);
+        match self.who {
+            Who::All | Who::Wanting | Who::Fewest => seats.take_price(node),
+            Who::Emptiest => seats.volumes.fullness(node, weight),
+            Who::Lacking => DEAREST.saturating_sub(seats.volumes.lack(node)),
+            Who::Fullest => DEAREST.saturating_sub(seats.volumes.fullness(node, weight)),
+        }
+    }
+
     fn rank(&self, seats: &Seats, node: u32) -> Rank {
-        let wants = seats.wants(node);
-        if !seats.members.is_after(node) || (self.who == Who::Wanting && !wants) {
+        if !self.takes_part(seats, node) {
             return NOBODY;
         }
+        let by_parts = self.who == Who::All || self.who == Who::Wanting;
         Rank {
-            is_sated: !wants,
-            price: seats.take_price(node),
+            is_sated: by_parts && !seats.wants(node),
+            price: self.price(seats, node),
             crowd: seats.taking(node),
             node,
         }
@@ -126,8 +157,14 @@ impl Ranks {
 
     /// The node's rank is another.
     pub fn renew(&mut self, seats: &Seats, node: u32) {
+        let rank = self.rank(seats, node);
+        self.put(seats, node, rank);
+    }
+
+    // The node has that rank.
+    fn put(&mut self, seats: &Seats, node: u32, rank: Rank) {
         let mut place = self.leaf(seats, node);
-        self.write(place, self.rank(seats, node));
+        self.write(place, rank);
         for _ in 0..16 {
             place /= 2;
             self.join(place);
@@ -155,6 +192,27 @@ impl Ranks {
             right /= 2;
         }
         first
+    }
+
+    /// Finds the first of all, so many at most, in their order.
+    pub fn lead(&mut self, seats: &Seats, count: u32, found: &mut Vec<u32>) -> Result<(), Refusal> {
+        found.clear();
+        for _ in 0..count {
+            let Some(node) = self.at(1).node() else {
+                break;
+            };
+            found.push(node)?;
+            self.put(seats, node, NOBODY);
+        }
+        for node in found.iter() {
+            self.renew(seats, *node);
+        }
+        Ok(())
+    }
+
+    /// The first of all, if there is one.
+    pub fn head(&self) -> Option<u32> {
+        self.at(1).node()
     }
 
     /// Whether no member takes part.

@@ -28,6 +28,11 @@ impl Takers {
         self.ranks.fill(alloc, seats)
     }
 
+    /// The member that comes first of all, if one is left.
+    pub fn head(&self) -> Option<u32> {
+        self.ranks.head()
+    }
+
     /// Whether no member is left.
     pub fn is_empty(&self) -> bool {
         self.ranks.is_empty()
@@ -84,6 +89,31 @@ impl Takers {
         self.blocked.clear();
         self.block_owners(seats, partition)?;
         self.block_racks(seats, partition)?;
+        Ok(self.first())
+    }
+
+    /// The member that comes first of those that may take a slot of the partition which somebody of that rack gave: no two slots more are in one rack.
+    pub fn heir(
+        &mut self,
+        seats: &Seats,
+        partition: usize,
+        rack: usize,
+    ) -> Result<Option<u32>, Refusal> {
+        self.blocked.clear();
+        self.block_owners(seats, partition)?;
+        let most = seats.count(partition, rack);
+        for index in 0..seats.slots {
+            if let Some(other) = seats.rack_at(seats.place(partition, index)) {
+                if seats.count(partition, other) > most {
+                    self.blocked.push(seats.members.racks.span(other))?;
+                }
+            }
+        }
+        Ok(self.first())
+    }
+
+    // The member that comes first of those that are not blocked.
+    fn first(&mut self) -> Option<u32> {
         self.blocked.sort_unstable();
         let mut first = NOBODY;
         let mut from = 0u32;
@@ -92,6 +122,6 @@ impl Takers {
             from = from.max(*end);
         }
         first = sooner(first, self.ranks.first(from, self.ranks.len()));
-        Ok(first.node())
+        first.node()
     }
 }

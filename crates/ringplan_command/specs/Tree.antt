@@ -97,7 +97,8 @@ windows_app = with_rule (with_rule (job_app (codes "windows")) (record (cut_opti
 
 -- a goal, with what it must know of nodes; and with what it prints
 abbrev pub nodes_app : App
-nodes_app = with_rule (with_rule (with_rule (job_app (codes "goal")) (list_option (codes "dead"))) (list_option (codes "weight"))) (text_option (codes "racks-behind"))
+nodes_app = with_rule (with_rule (with_rule (with_rule (job_app (codes "goal")) (list_option (codes "dead"))) (list_option (codes "weight"))) (text_option (codes "racks-behind")))
+    (text_option (codes "sizes"))
 
 abbrev pub goal_app : App
 goal_app = with_rule (with_rule (with_rule nodes_app (flag_option (codes "even"))) (flag_option (codes "exit-code"))) (text_option (codes "format"))

@@ -40,8 +40,12 @@ impl Files {
     }
 }
 
-// The text of an argument; `-` stands for a standard stream, as no text does.
-fn named(alloc: Global, options: &ArgMatches, word: &str) -> Result<Option<String>, AllocError>
+/// The text of an argument; `-` stands for a standard stream, as no text does.
+pub(crate) fn named(
+    alloc: Global,
+    options: &ArgMatches,
+    word: &str,
+) -> Result<Option<String>, AllocError>
     ensures { IfOk result (λ o. option_map string_bytes o ≡ but_dash (first_value (found_of options.now) word.now)) }
 {
     let Some(text) = options.get_str(word) else {

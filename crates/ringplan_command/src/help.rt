@@ -101,6 +101,9 @@ pub(crate) const WEIGHT: &str =
 pub(crate) const RACKS_APART: &str =
     "Keeps the slots of a partition in different racks as far as possible; a rack is what follows the last C of a node's name";
 
+pub(crate) const SIZES: &str =
+    "Makes the goal ring even by sizes: lines of a partition and a number, ascending; the others have 1, and 0 is a partition without keys";
+
 pub(crate) const EVEN: &str =
     "Says in words how far from even the goal ring is, in place of a plan";
 
@@ -302,6 +305,7 @@ Example: ringplan goal --dead b examples/goal_around_a_dead_node.bundle -o plan.
 
 Input: the text of a ring, and then that of the goal ring, with the same nodes, partitions and quorums; or that of a change, and then the goal ring
 is made: no slot moves without need, and what moves goes where it keeps racks apart and slots even by weight.
+With `--sizes` a slot moves if it is a leaver's, or if it goes to a node that joins and stores no more than its share.
 Standard output: the texts of the first ring, a plan that leads to the goal ring, and its certificate, which `ringplan check` accepts. Standard error:
 else what `why` prints. The slots of a partition are compared as sets. A dead node that shall leave keeps its line `in`: it cannot take part in its
 own retirement.

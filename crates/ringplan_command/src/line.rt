@@ -4,6 +4,7 @@ ghost use Rattle.std.specs.Prelude.{◌≡◌, IfOk};
 ghost use Rattle.ringplan_command.specs.Command.{IsOfWord, word_of_making};
 
 use crate::command::{Format, Request, format_of};
+use crate::files::named;
 use crate::help::{NO_BYTE, NO_COLOR, NO_EVEN, NO_FORMAT, NO_WEIGHT};
 use crate::naming::{add_dead, add_weights};
 use crate::word::Word;
@@ -152,6 +153,7 @@ fn goal_line(alloc: Global, matches: &ArgMatches) -> Result<Request, AllocError>
         Some(racks_behind) => options.racks_behind = racks_behind,
         None => return mistaken(alloc, NO_BYTE),
     }
+    options.sizes_file = named(alloc, matches, "sizes")?;
     match format_of(matches) {
         Format::Text => Ok(Request::Make(goal_of(options, matches))),
         Format::Json => goal_stated(alloc, options, matches),

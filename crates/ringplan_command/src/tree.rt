@@ -12,8 +12,8 @@ use crate::help::{
     DRIVE_STREAMS, DRIVERS, EVEN, EXIT_CODE, FILE, FORMAT, GOAL, GOAL_STREAMS, JSON, MANUAL,
     MANUAL_STREAMS, MAP, MIGRATE, MIGRATE_STREAMS, MORE, MOVES, ONLY, OUTPUT, PLAN, PLAN_STREAMS,
     PLAY, PLAY_STREAMS, RACK_COLUMNS, RACKS, RACKS_APART, REPLAY, REPLAY_STREAMS, ROUNDS, SHELL,
-    SHOW, SHOW_STREAMS, STEPS, STEPS_STREAMS, STREAMS, VERSION, WEIGHT, WHY, WHY_STREAMS, WINDOWS,
-    WINDOWS_STREAMS, WORKERS,
+    SHOW, SHOW_STREAMS, SIZES, STEPS, STEPS_STREAMS, STREAMS, VERSION, WEIGHT, WHY, WHY_STREAMS,
+    WINDOWS, WINDOWS_STREAMS, WORKERS,
 };
 use clap::{Arg, ArgAction, Command, value_parser};
 use std::alloc::{AllocError, Global};
@@ -208,7 +208,8 @@ fn goal_of_nodes<'a>(alloc: Global) -> Made<'a>
     let weight = option(alloc, "weight", "NODE=K", WEIGHT).action(ArgAction::Append);
     let command = job(alloc, "goal", GOAL, GOAL_STREAMS);
     let command = with_arg(with_arg(command, dead), weight);
-    with_arg(command, option(alloc, "racks-behind", "C", RACKS_APART))
+    let command = with_arg(command, option(alloc, "racks-behind", "C", RACKS_APART));
+    with_arg(command, option(alloc, "sizes", "FILE", SIZES))
 }
 
 fn goal<'a>(alloc: Global) -> Made<'a>

@@ -1,8 +1,9 @@
 //! What is wished of nodes.
 
+use size_text::PartitionSize;
 use std::alloc::Global;
 
-/// By name, who is dead for good, and how many parts of the slots some shall have; and the byte behind which a name names its rack.
+/// By name, who is dead for good, and how many parts of the slots some shall have; the byte behind which a name names its rack; and the sizes of partitions.
 #[derive(Debug, Drop)]
 pub struct Options {
     pub dead: Vec<Vec<u8>>,
@@ -10,6 +11,10 @@ pub struct Options {
     /// By place among those that are weighed, 1 to 1,000.
     pub weights: Vec<u32>,
     pub racks_behind: Option<u8>,
+    /// Ascending by partition, where the ring shall be even by sizes.
+    pub sizes: Option<Vec<PartitionSize>>,
+    /// The file that has the sizes, before it is read.
+    pub sizes_file: Option<String>,
 }
 
 impl Options {
@@ -20,6 +25,8 @@ impl Options {
             weighed: Vec::new(alloc),
             weights: Vec::new(alloc),
             racks_behind: None,
+            sizes: None,
+            sizes_file: None,
         }
     }
 }

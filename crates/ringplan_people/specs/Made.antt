@@ -50,7 +50,7 @@ IsMade (Draw wish) bytes text = HasApproved bytes
 IsMade Steps bytes text = OfPlan (λ ring plan. text ≡ steps_text ring plan) bytes
 IsMade Moves bytes text = OfPlan (λ ring plan. text ≡ moves_text ring plan) bytes
 IsMade (Windows cut) bytes text = OfPlan (λ ring plan. AreAskedOf ring plan cut.only text) bytes
-IsMade (Goal options status) bytes text = IsLed bytes (map (λ name. name.items) options.dead.items) text
+IsMade (Goal options status) bytes text = IsLed bytes options text
 IsMade (Even options) bytes text = ⊤
 IsMade (Why color) bytes text = ⊥
 IsMade (State statement) bytes text = ⊥
@@ -66,7 +66,7 @@ IsTold making = ⊤
 abbrev pub IsStated : Statement → List ℕ → ℕ → Type 0
 IsStated stated.Why bytes status = (status ≡ 0 → HasKept bytes) × (status ≤ 3)
 IsStated (stated.Show behind) bytes status = (status ≡ 0 → IsShown bytes) × (status ≤ 3)
-IsStated (stated.Goal options how) bytes status = (((status ≡ 0) ⊎ ((status ≡ 4) × (how ≡ exit.Steps))) × ((text : List ℕ) × IsLed bytes (map (λ name. name.items) options.dead.items) text))
+IsStated (stated.Goal options how) bytes status = (((status ≡ 0) ⊎ ((status ≡ 4) × (how ≡ exit.Steps))) × ((text : List ℕ) × IsLed bytes options text))
     ⊎ ((status ≢ 0) × (status ≤ 3))
 
 -- the status at what was made: 0, or 4 where a goal asks it to say whether the plan has steps

@@ -194,6 +194,45 @@ fn push_names(
     }
 }
 
+// Says which partition of the sizes the ring does not have. Answers whether there is one.
+fn push_unlisted(out: &mut Words, ring: &Ring, options: &Options) -> bool {
+    let Some(sizes) = &options.sizes else {
+        return false;
+    };
+    let mut line = 0u32;
+    for size in sizes.iter() {
+        line = line.saturating_add(1);
+        if size.partition >= ring.q() {
+            out.fill(
+                b"refused: line # of the sizes names partition #, and the ring has # partitions\n",
+                &[],
+                &[line, size.partition, ring.q()],
+            );
+            return true;
+        }
+    }
+    false
+}
+
+// Says what is wrong with the sizes, or with a text.
+fn push_limit(
+    alloc: Global,
+    out: &mut Words,
+    bytes: &[u8],
+    options: &Options,
+    refusal: &Refusal,
+) -> Result<(), Refusal> {
+    let is_said = match read_wanted(alloc, bytes) {
+        Ok(wanted) => push_unlisted(out, &wanted.ring, options),
+        Err(Refusal::OutOfMemory) => return Err(Refusal::OutOfMemory),
+        Err(_) => false,
+    };
+    if is_said {
+        return Ok(());
+    }
+    push_fault(alloc, out, bytes, refusal)
+}
+
 /// Adds which of the nodes that are named dead leave though the change does not say so.
 pub fn push_dead_leavers(
     alloc: Global,
@@ -228,6 +267,7 @@ pub fn push_goal_words(
     match refusal {
         Refusal::NoPlan => push_by_goal(alloc, out, bytes, options, refusal),
         Refusal::UnknownNode(0) => push_names(alloc, out, bytes, options),
+        Refusal::TooLarge(_) => push_limit(alloc, out, bytes, options, refusal),
         _ => push_fault(alloc, out, bytes, refusal),
     }
 }

@@ -1,6 +1,6 @@
 //! What is stated of a bundle: one object of JSON.
 
-ghost use Rattle.std.specs.Prelude.{◌≡◌, ◌≢◌, ◌≤◌, ◌⊎◌, map, IfOk};
+ghost use Rattle.std.specs.Prelude.{◌≡◌, ◌≢◌, ◌≤◌, ◌⊎◌, IfOk};
 ghost use Rattle.plan_bundles.specs.Goals.{IsLed};
 ghost use Rattle.ringplan_people.specs.Made.{IsStated};
 ghost use Rattle.ringplan_people.specs.Studies.{HasApproved, IsShown};
@@ -287,7 +287,7 @@ fn state_unled(
 // A plan that leads to the goal ring.
 fn state_goal(alloc: Global, bytes: &[u8], options: &Options, exit: Exit) -> Result<Answer, Refusal>
     ensures { IfOk result (λ answer. (((answer.status ≡ 0) ⊎ ((answer.status ≡ 4) × (exit ≡ Exit.Steps)))
-        × ((text : _) × IsLed bytes.now (map (λ name. name.items) options.now.dead.items) text)) ⊎ ((answer.status ≢ 0) × (answer.status ≤ 3))) }
+        × ((text : _) × IsLed bytes.now options.now text)) ⊎ ((answer.status ≢ 0) × (answer.status ≤ 3))) }
 {
     match led_bundle(alloc, bytes, options) {
         Ok(text) => {

@@ -5,6 +5,7 @@
 mod driving;
 mod files;
 mod program;
+mod sizes;
 
 pub use driving::drive_bundle;
 pub use program::{end_without_memory, end_without_words, run, run_alone};

@@ -3,17 +3,19 @@
 ghost use Rattle.std.specs.Prelude.{◌≡◌, ◌≢◌, ◌<◌, ◌≤◌, ◌∷◌, true, false, Err, ℕ, List, [], IfOk, drop, map, option_map, string_bytes};
 ghost use Rattle.ring_names.specs.Refusals.{line_of};
 ghost use Rattle.ringplan_jobs.specs.Answers.{texts_of};
-ghost use Rattle.ringplan_command.specs.Command.{Answers, Asked, asked, only};
+ghost use Rattle.ringplan_command.specs.Command.{Answers, Asked, asked, only, word_of_making};
 ghost use Rattle.ringplan_command.specs.Files.{files_of, no_files};
 ghost use Rattle.ringplan_command.specs.Tree.{word_of};
 ghost use Rattle.ringplan_jobs.specs.Io.{Prints, Tells};
 ghost use Rattle.ringplan_jobs.specs.Outcomes.{Finds};
 ghost use Rattle.ringplan_run.specs.Run.{FindsDrive, IsWritten, PrintsFound, PrintsStated, Reports, Runs, RunsTo, Shows, ShowsReport, told_by};
 ghost use Rattle.ringplan_job.specs.declared.job.Job.{Job};
+ghost use Rattle.ringplan_job.specs.declared.making.Making.{Making};
 ghost use Rattle.ringplan_job.specs.declared.job.Job.TheVariants.{Check};
 
 use crate::driving::drive_bundle;
 use crate::files::{open, save, say};
+use crate::sizes::with_sizes;
 use ring_names::Refusal;
 use ringplan_command::{CommandLine, Files as Named, Form, Request, parse};
 use ringplan_job::{Making, Screen};
@@ -117,7 +119,7 @@ fn is_written(status: u8) -> bool
 }
 
 // Does what is asked for with the whole input, and prints what comes of it.
-fn run_request<RT: AllocGlobal + Eprint + Threads + Wait + Sync, R: Read + Drop, W: Write>(
+fn run_request<RT: AllocGlobal + Files + Eprint + Threads + Wait + Sync, R: Read + Drop, W: Write>(
     rt: &RT,
     request: Request,
     input: &mut R,
@@ -146,7 +148,7 @@ fn run_request<RT: AllocGlobal + Eprint + Threads + Wait + Sync, R: Read + Drop,
             let found = drive_of(rt, alloc, workers, form, input);
             tell(alloc, found, output)
         }
-        Request::Make(making) => run_making(rt, &making, input, output),
+        Request::Make(making) => run_making(rt, making, input, output),
         Request::Describe(text) => finish(output, text.as_slice(), 0),
         Request::Help(text) => finish(output, text.as_slice(), 0),
         Request::Refused(text) => finish(output, text.as_slice(), REFUSED),
@@ -158,8 +160,24 @@ fn run_request<RT: AllocGlobal + Eprint + Threads + Wait + Sync, R: Read + Drop,
     }
 }
 
+// Reads the sizes that are named, and does what is asked for with the whole input for people.
+fn run_making<RT: AllocGlobal + Files + Eprint, R: Read + Drop, W: Write>(
+    rt: &RT,
+    making: Making,
+    input: &mut R,
+    output: &mut W,
+) -> u8
+    ensures { (made : Making) × (word_of_making made ≡ word_of_making making) × (bytes : List ℕ) × Tells (R.remaining input.old) bytes
+        × ShowsReport made bytes (W.contents output.old) (W.contents output.new) result }
+{
+    match with_sizes(rt, making) {
+        Ok(made) => print_report(rt, &made, input, output),
+        Err(status) => status,
+    }
+}
+
 // Prints what is made of the whole input for people, on standard error why nothing is, and returns the exit status.
-fn run_making<RT: AllocGlobal + Eprint, R: Read + Drop, W: Write>(
+fn print_report<RT: AllocGlobal + Eprint, R: Read + Drop, W: Write>(
     rt: &RT,
     making: &Making,
     input: &mut R,

@@ -20,6 +20,7 @@ fn racked(racks: &[u32]) -> Wish<'_> {
         leaves: &[],
         weights: &[],
         racks,
+        sizes: None,
     }
 }
 
@@ -117,6 +118,21 @@ fn two_for_two(rt: HostRuntime) -> Result<(), Fail> {
         ..racked(&RACKS)
     };
     comes_to(&rt, &wish, (32, 0), (16, 16))
+}
+
+// Half of the partitions have no keys: two that join take six slots each of the others, as their shares are 96 by 14. Their racks alone give.
+#[test]
+fn two_join_by_size(rt: HostRuntime) -> Result<(), Fail> {
+    let mut sizes = [0u32; 64];
+    for partition in 0..32usize {
+        sizes[partition] = 1;
+    }
+    let wish = Wish {
+        joins: &[NodeId(12), NodeId(13)],
+        sizes: Some(&sizes),
+        ..racked(&RACKS)
+    };
+    comes_to(&rt, &wish, (12, 0), (6, 16))
 }
 
 // In two racks each partition has two slots in one of them; where it has three, one moves.

@@ -4,7 +4,7 @@ use Rattle.ring_names.specs.Names.{place}
 use Rattle.ring_names.specs.declared.ids.NodeId.{NodeId}
 use Rattle.ring_table.specs.Value.{names_of}
 use Rattle.change_text.specs.declared.change.Change.{Change}
-use Rattle.plan_bundles.specs.Goals.{HasChangedMembers, with_dead}
+use Rattle.plan_bundles.specs.Goals.{HasChangedMembers, IsSizedAsAsked, with_dead}
 use Rattle.plan_bundles.proofs.goal.wish_bundle.Goals as goal
 
 pub returns : goal.returns
@@ -16,4 +16,6 @@ returns c =
     let same : c.as_slice-2.result.now ≡ c.as_slice-3.result.now = c.as_slice-2.ensures.value ∙ sym c.as_slice-3.ensures.value in
     let changed = subst (λ (change : Change). HasChangedMembers w.ring change wanted) c.in_ok-change.ensures c.in_ok-wanted.ensures in
     let around = subst (λ (dead : List NodeId). HasChangedMembers w.ring (with_dead w.ring dead w.change) wanted) same changed in
-    record { reached = IfOk-weaker c.lead.result _ _ (λ text is. (w, c.in_ok-ring.ensures.read, wanted, c.as_slice-3.result.now, named, around, is)) c.lead.ensures }
+    let by-change = subst (λ (change : Change). IsSizedAsAsked c.args.options.now w.ring change wanted) c.in_ok-change.ensures c.in_ok-ask_by_options.ensures in
+    let sized = subst (λ (dead : List NodeId). IsSizedAsAsked c.args.options.now w.ring (with_dead w.ring dead w.change) wanted) same by-change in
+    record { reached = IfOk-weaker c.lead.result _ _ (λ text is. (w, c.in_ok-ring.ensures.read, wanted, c.as_slice-3.result.now, named, around, sized, is)) c.lead.ensures }

@@ -1,7 +1,8 @@
-use Rattle.std.proofs.Common.{rules, [], subst, refl, inl, inr}
+use Rattle.std.proofs.Common.{rules, [], subst, refl, sym, inl, inr}
 use Rattle.ringplan_job.specs.declared.job.Job.TheVariants.{Check}
 use Rattle.ringplan_jobs.specs.Answers.{texts_of}
-use Rattle.ringplan_command.specs.Command.{Answers}
+use Rattle.ringplan_command.specs.Command.{Answers, AsksWord}
+use Rattle.ringplan_command.specs.declared.word.Word.{Word}
 use Rattle.ringplan_command.specs.declared.command.Request.{Request}
 use Rattle.ringplan_run.specs.Run.{described, help, refused}
 use Rattle.ringplan_run.proofs.Runs.{many_few, ran, ran_asked, ran_by, ran_driven, ran_out, ran_report, ran_stated, said}
@@ -42,7 +43,8 @@ returns-in-Drive g c = λ asked h.
 pub returns-in-Make : goal.returns-in-Make
 returns-in-Make g c = λ asked h.
     let asks = subst (λ (r : Request). Answers asked r) c.in-Make.is h in
-    ran_report asked c.in-Make.making (g.R.Read.remaining c.args.input.now) _ _ c.run_making.result asks c.run_making.ensures
+    let made = c.run_making.ensures in
+    ran_report asked made.0 (g.R.Read.remaining c.args.input.now) _ _ c.run_making.result (subst (λ (w : Word). AsksWord asked w) (sym made.1) asks) (made.2, made.3, made.4)
 
 pub returns-in-Describe : goal.returns-in-Describe
 returns-in-Describe g c = λ asked h.

@@ -1,0 +1,230 @@
+//! Sizes of partitions, and what the slots of each node store together.
+
+use crate::members::{Members, Role};
+use helpers::{at, set_word, word};
+use ring_names::Refusal;
+use std::alloc::Global;
+
+// Loads and aims are counted in parts of that many of one unit of a size: shares are seldom whole, and all sizes with a weight of 1,000 stay below 2^63 parts.
+const PARTS: u64 = 64;
+
+// Above all differences of two loads by weight.
+const MIDDLE: i64 = 4_611_686_018_427_387_904;
+
+/// What each node stores, and what it shall store. Where no sizes are asked for, all of it is empty.
+#[derive(Drop)]
+pub struct Volumes {
+    are_asked: bool,
+    // by partition
+    sizes: Vec<u32>,
+    // by node, in parts
+    loads: Vec<u64>,
+    aims: Vec<u64>,
+}
+
+fn signed(parts: u64) -> i64 {
+    i64::try_from(parts).unwrap_or(MIDDLE)
+}
+
+// The quotient, and 0 where the divisor is 0.
+fn share(whole: u64, weight: u32, weights: u32) -> u64 {
+    let all = whole.saturating_mul(u64::from(weight));
+    match all.checked_div(u64::from(weights)) {
+        Some(share) => share,
+        None => 0,
+    }
+}
+
+// Which members stay, what they store before, and whether leavers leave more than joiners take.
+#[derive(Clone, Copy)]
+struct Level<'a> {
+    members: &'a Members,
+    is_rising: bool,
+    // in parts by weight
+    level: u64,
+}
+
+impl<'a> Level<'a> {
+    // What the node shall store at that level.
+    fn aim(&self, load: u64, node: u32) -> u64 {
+        let level = self
+            .level
+            .saturating_mul(u64::from(self.members.weight(node)));
+        if self.is_rising {
+            return load.max(level);
+        }
+        load.min(level)
+    }
+
+    // What all that stay shall store.
+    fn sum(&self, loads: &[u64]) -> u64 {
+        let mut sum = 0u64;
+        for node in 0..self.members.count() {
+            if self.members.role(node) == Role::Stays {
+                sum = sum.saturating_add(self.aim(word(loads, node as usize), node));
+            }
+        }
+        sum
+    }
+
+    // The least level at which those that stay store so much.
+    fn rise(&mut self, loads: &[u64], wanted: u64) {
+        let mut step = 1u64 << 56;
+        for _ in 0..57 {
+            let mut lower = *self;
+            lower.level = self.level.saturating_add(step);
+            if lower.sum(loads) < wanted {
+                *self = lower;
+            }
+            step /= 2;
+        }
+        self.level = self.level.saturating_add(1);
+    }
+}
+
+impl Volumes {
+    /// No sizes are asked for.
+    pub fn new(alloc: Global) -> Volumes {
+        Volumes {
+            are_asked: false,
+            sizes: Vec::new(alloc),
+            loads: Vec::new(alloc),
+            aims: Vec::new(alloc),
+        }
+    }
+
+    /// Sizes of so many partitions, of which so many nodes own nothing yet.
+    pub fn fill(
+        &mut self,
+        alloc: Global,
+        sizes: &[u32],
+        partitions: usize,
+        nodes: usize,
+    ) -> Result<(), Refusal> {
+        self.are_asked = true;
+        for partition in 0..partitions {
+            self.sizes.push(match sizes.get(partition) {
+                Some(size) => *size,
+                None => 1,
+            })?;
+        }
+        self.loads = vec![in alloc; 0u64; nodes]?;
+        self.aims = vec![in alloc; 0u64; nodes]?;
+        Ok(())
+    }
+
+    /// Whether sizes are asked for.
+    pub fn are_asked(&self) -> bool {
+        self.are_asked
+    }
+
+    /// The size of the partition.
+    pub fn size(&self, partition: usize) -> u32 {
+        at(&self.sizes, partition)
+    }
+
+    /// The size of the partition, in parts.
+    pub fn parts(&self, partition: usize) -> u64 {
+        u64::from(self.size(partition)).saturating_mul(PARTS)
+    }
+
+    /// The greatest size, in parts.
+    pub fn most(&self) -> u64 {
+        let mut most = 0u32;
+        for size in self.sizes.iter() {
+            most = most.max(*size);
+        }
+        u64::from(most).saturating_mul(PARTS)
+    }
+
+    /// The node owns a slot more of the partition.
+    pub fn add(&mut self, partition: usize, node: usize) {
+        let load = word(&self.loads, node).saturating_add(self.parts(partition));
+        set_word(&mut self.loads, node, load);
+    }
+
+    /// The node owns a slot fewer of the partition.
+    pub fn remove(&mut self, partition: usize, node: usize) {
+        let load = word(&self.loads, node).saturating_sub(self.parts(partition));
+        set_word(&mut self.loads, node, load);
+    }
+
+    // What one slot of each partition stores.
+    fn all(&self) -> u64 {
+        let mut all = 0u64;
+        for partition in 0..self.sizes.len() {
+            all = all.saturating_add(self.parts(partition));
+        }
+        all
+    }
+
+    /// Sets what each member shall store, from what it stores before. Those that join shall have their shares, and at most one slot of each partition. For those
+    /// that stay there is a level by weight: what they have above it is what joiners lack, or what they lack to it is what leavers leave besides.
+    pub fn aim(&mut self, members: &Members, slots: usize) {
+        if !self.are_asked {
+            return;
+        }
+        let one = self.all();
+        let total = one.saturating_mul(slots as u64);
+        let (mut left, mut kept) = (total, 0u64);
+        for node in 0..members.count() {
+            let place = node as usize;
+            if members.role(node) == Role::Joins {
+                let aim = share(total, members.weight(node), members.weight).min(one);
+                set_word(&mut self.aims, place, aim);
+                left = left.saturating_sub(aim);
+            } else if members.role(node) == Role::Stays {
+                kept = kept.saturating_add(word(&self.loads, place));
+            }
+        }
+        let mut level = Level {
+            members,
+            is_rising: kept <= left,
+            level: 0,
+        };
+        level.rise(&self.loads, left);
+        self.aim_at(level);
+    }
+
+    // Those that stay shall store what the level says.
+    fn aim_at(&mut self, level: Level) {
+        for node in 0..level.members.count() {
+            if level.members.role(node) == Role::Stays {
+                let load = word(&self.loads, node as usize);
+                set_word(&mut self.aims, node as usize, level.aim(load, node));
+            }
+        }
+    }
+
+    /// How much more than it shall the node stores, in parts.
+    pub fn over(&self, node: u32) -> i64 {
+        let (load, aim) = (
+            word(&self.loads, node as usize),
+            word(&self.aims, node as usize),
+        );
+        signed(load).saturating_sub(signed(aim))
+    }
+
+    /// How much the node lacks, in parts; 0 where it has what it shall have.
+    pub fn lack(&self, node: u32) -> u64 {
+        word(&self.aims, node as usize).saturating_sub(word(&self.loads, node as usize))
+    }
+
+    /// How much more than it shall a node of that weight stores for its weight: the least lacks most.
+    pub fn fullness(&self, node: u32, weight: u32) -> u64 {
+        let over = self.over(node).saturating_mul(64);
+        let by = match over.checked_div(i64::from(weight)) {
+            Some(by) => by,
+            None => 0,
+        };
+        u64::try_from(by.saturating_add(MIDDLE)).unwrap_or(0)
+    }
+
+    /// How much a node of that weight stores for its weight.
+    pub fn load_by(&self, node: u32, weight: u32) -> u64 {
+        match word(&self.loads, node as usize).checked_div(u64::from(weight)) {
+            Some(by) => by,
+            None => 0,
+        }
+    }
+}

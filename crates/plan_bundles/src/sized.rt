@@ -1,0 +1,370 @@
+//! Whether a ring keeps what is promised where partitions have sizes.
+
+ghost use Rattle.std.specs.Prelude.{◌≡◌, ◌*◌, ◌&&◌, nat_le, true, length, slice_index, replicate, IfOk, IfSome, OnOk, IsTrue};
+ghost use Rattle.plan_bundles.specs.Sized.{IsSized, all_stored, all_weights, is_flagged, is_taker, loads_below, may_go, may_row, may_rows, row_at, sizes_by, sum_below, takes, weight_in, weights_by, with_row, with_size, with_slot, with_weight};
+ghost use Rattle.plan_bundles.specs.Rings.{flags};
+ghost use Rattle.ring_names.specs.Lists.{has};
+ghost use Rattle.plan_text.specs.Changes.{numbers};
+
+use plan_goal::is_among;
+use ring_names::{Listed, NodeId, Refusal};
+use ring_table::Ring;
+use size_text::PartitionSize;
+use std::alloc::Global;
+
+// The number at the place, and 0 where there is none.
+fn number_at(numbers: &[u32], place: usize) -> u32
+    ensures { result ≡ slice_index numbers.now place }
+{
+    match numbers.get(place) {
+        Some(number) => *number,
+        None => 0,
+    }
+}
+
+// The load at the place, and 0 where there is none.
+fn load_at(loads: &[u64], place: usize) -> u64
+    ensures { result ≡ slice_index loads.now place }
+{
+    match loads.get(place) {
+        Some(load) => *load,
+        None => 0,
+    }
+}
+
+// Whether there is a flag at the place, and it is set.
+fn is_flagged(flags: &[bool], place: usize) -> bool
+    ensures { result ≡ is_flagged flags.now place }
+{
+    match flags.get(place) {
+        Some(flag) => *flag,
+        None => false,
+    }
+}
+
+// The owners of the partition's slots.
+fn row_at(rows: &[Listed<NodeId>], partition: usize) -> &[NodeId]
+    ensures { result.now ≡ row_at rows.now partition }
+{
+    match rows.get(partition) {
+        Some(row) => row.as_slice(),
+        None => &[],
+    }
+}
+
+// Adds a slot of that size to what the node stores.
+fn add_slot(loads: &mut Vec<u64>, size: u32, node: NodeId) -> Result<(), Refusal>
+    ensures { OnOk result (loads.new.items ≡ with_slot size loads.old.items node) }
+{
+    let place = node.0 as usize;
+    if place < loads.len() {
+        match loads[place].checked_add(u64::from(size)) {
+            Some(load) => loads[place] = load,
+            None => return Err(Refusal::NoPlan),
+        }
+    }
+    Ok(())
+}
+
+// Adds a partition's slots to what their owners store.
+fn add_row(loads: &mut Vec<u64>, size: u32, row: &[NodeId]) -> Result<(), Refusal>
+    ensures { OnOk result (loads.new.items ≡ with_row size loads.old.items row.now) }
+{
+    let Some((node, more)) = row.split_first() else {
+        return Ok(());
+    };
+    add_slot(loads, size, *node)?;
+    add_row(loads, size, more)
+}
+
+// What each of so many nodes stores.
+#[tactic(auto, using(crate::proofs::FirstNumbers::loads_none, crate::proofs::FirstNumbers::loads_more))]
+fn loads_of(
+    alloc: Global,
+    sizes: &[u32],
+    rows: &[Listed<NodeId>],
+    nodes: usize,
+) -> Result<Vec<u64>, Refusal>
+    ensures { IfOk result (λ loads. loads.items ≡ loads_below sizes.now rows.now nodes (length rows.now)) }
+{
+    let mut loads = vec![in alloc; 0u64; nodes]?;
+    'rows: for partition in 0..rows.len() {
+        let size = number_at(sizes, partition);
+        add_row(&mut loads, size, row_at(rows, partition))?;
+    }
+    Ok(loads)
+}
+
+// The sum of the first numbers.
+#[tactic(auto, using(crate::proofs::FirstNumbers::sum_none, crate::proofs::FirstNumbers::sum_more))]
+fn sum_of(numbers: &[u32], count: usize) -> Option<u64>
+    ensures { IfSome result (λ sum. sum ≡ sum_below (slice_index numbers.now) count) }
+{
+    let mut sum = 0u64;
+    'numbers: for place in 0..count {
+        sum = sum.checked_add(u64::from(number_at(numbers, place)))?;
+    }
+    Some(sum)
+}
+
+// The node's weight among the members, and 0 where it is none of them.
+fn weight_in(weights: &[u32], ring: &Ring, node: u32) -> u32
+    ensures { result ≡ weight_in weights.now ring.now node }
+{
+    if ring.is_member(NodeId(node)) {
+        number_at(weights, node as usize)
+    } else {
+        0
+    }
+}
+
+// The weights of all members together.
+#[tactic(auto, using(crate::proofs::FirstNumbers::sum_none, crate::proofs::FirstNumbers::sum_more))]
+fn all_weights(weights: &[u32], ring: &Ring) -> Option<u64>
+    ensures { IfSome result (λ sum. sum ≡ all_weights weights.now ring.now) }
+{
+    let mut sum = 0u64;
+    // A ring has few nodes.
+    let count = ring.nodes().len() as u32;
+    'nodes: for node in 0..count {
+        sum = sum.checked_add(u64::from(weight_in(weights, ring, node)))?;
+    }
+    Some(sum)
+}
+
+// What all slots of the ring store together.
+fn all_stored(sizes: &[u32], ring: &Ring) -> Option<u64>
+    ensures { IfSome result (λ sum. sum ≡ all_stored sizes.now ring.now) }
+{
+    let one = sum_of(sizes, ring.q() as usize)?;
+    u64::from(ring.n()).checked_mul(one)
+}
+
+// Whether the first product is no more than the second.
+fn is_at_most(one: u64, by: u64, other: u64, times: u32) -> Option<bool>
+    ensures { IfSome result (λ is. is ≡ nat_le (one * by) (other * times)) }
+{
+    let first = u128::from(one).checked_mul(u128::from(by))?;
+    let second = u128::from(other).checked_mul(u128::from(times))?;
+    Some(first <= second)
+}
+
+// Whether the node joins, and stores no more than its share.
+fn takes(
+    joins: &[NodeId],
+    loads: &[u64],
+    stored: u64,
+    weights: &[u32],
+    all: u64,
+    node: u32,
+) -> Result<bool, Refusal>
+    ensures { IfOk result (λ is. is ≡ takes joins.now loads.now stored weights.now all node) }
+{
+    let load = load_at(loads, node as usize);
+    let weight = number_at(weights, node as usize);
+    match is_at_most(load, all, stored, weight) {
+        Some(is_fair) => Ok(is_among(joins, NodeId(node)) && is_fair),
+        None => Err(Refusal::NoPlan),
+    }
+}
+
+// Whether each of so many nodes does.
+fn flags_of(
+    alloc: Global,
+    joins: &[NodeId],
+    loads: &[u64],
+    stored: u64,
+    weights: &[u32],
+    all: u64,
+    nodes: u32,
+) -> Result<Vec<bool>, Refusal>
+    ensures { IfOk result (λ v. v.items ≡ flags (takes joins.now loads.now stored weights.now all) nodes) }
+{
+    let mut takers = Vec::new(alloc);
+    'nodes: for node in 0..nodes {
+        let is_taker = takes(joins, loads, stored, weights, all, node)?;
+        takers.push(is_taker)?;
+    }
+    Ok(takers)
+}
+
+// Whether each node of the ring joins, and stores no more than its share.
+fn takers_of(
+    alloc: Global,
+    joins: &[NodeId],
+    sizes: &[u32],
+    weights: &[u32],
+    ring: &Ring,
+) -> Result<Vec<bool>, Refusal>
+    ensures { IfOk result (λ v. v.items ≡ flags (is_taker joins.now sizes.now weights.now ring.now) (length ring.now.nodes)) }
+{
+    let loads = loads_of(alloc, sizes, ring.rows(), ring.nodes().len())?;
+    let (Some(stored), Some(all)) = (all_stored(sizes, ring), all_weights(weights, ring)) else {
+        return Err(Refusal::NoPlan);
+    };
+    // A ring has few nodes.
+    let count = ring.nodes().len() as u32;
+    flags_of(alloc, joins, loads.as_slice(), stored, weights, all, count)
+}
+
+// Whether each node of the ring leaves.
+fn leavers_of(alloc: Global, leaves: &[NodeId], ring: &Ring) -> Result<Vec<bool>, Refusal>
+    ensures { IfOk result (λ v. v.items ≡ flags (λ x. has x (numbers leaves.now)) (length ring.now.nodes)) }
+{
+    let mut leavers = Vec::new(alloc);
+    // A ring has few nodes.
+    let count = ring.nodes().len() as u32;
+    'nodes: for node in 0..count {
+        leavers.push(is_among(leaves, NodeId(node)))?;
+    }
+    Ok(leavers)
+}
+
+// Whether a slot of a partition of that size may go from one owner to the other.
+fn may_go(leavers: &[bool], takers: &[bool], size: u32, old: NodeId, new: NodeId) -> bool
+    ensures { result ≡ may_go leavers.now takers.now size old new }
+{
+    old.0 == new.0
+        || is_flagged(leavers, old.0 as usize)
+        || (size > 0 && is_flagged(takers, new.0 as usize))
+}
+
+// Whether each slot of a partition may.
+fn may_row(
+    leavers: &[bool],
+    takers: &[bool],
+    size: u32,
+    before: &[NodeId],
+    after: &[NodeId],
+) -> bool
+    ensures { result ≡ may_row leavers.now takers.now size before.now after.now }
+{
+    let Some((old, others)) = before.split_first() else {
+        return after.is_empty();
+    };
+    let Some((new, more)) = after.split_first() else {
+        return false;
+    };
+    may_go(leavers, takers, size, *old, *new) && may_row(leavers, takers, size, others, more)
+}
+
+// Whether each slot may.
+#[tactic(auto, using(crate::proofs::FirstNumbers::holds_none, crate::proofs::FirstNumbers::holds_more))]
+fn may_rows(
+    leavers: &[bool],
+    takers: &[bool],
+    sizes: &[u32],
+    before: &[Listed<NodeId>],
+    after: &[Listed<NodeId>],
+) -> bool
+    ensures { IsTrue result → may_rows leavers.now takers.now sizes.now before.now after.now ≡ true }
+{
+    'rows: for partition in 0..before.len() {
+        let size = number_at(sizes, partition);
+        let (old, new) = (row_at(before, partition), row_at(after, partition));
+        if !may_row(leavers, takers, size, old, new) {
+            return false;
+        }
+    }
+    true
+}
+
+/// Whether the wanted ring keeps what is promised.
+pub fn are_kept(
+    alloc: Global,
+    ring: &Ring,
+    joins: &[NodeId],
+    leaves: &[NodeId],
+    sizes: &[u32],
+    weights: &[u32],
+    wanted: &Ring,
+) -> Result<bool, Refusal>
+    ensures { IfOk result (λ is. IsTrue is → IsSized ring.now joins.now leaves.now sizes.now weights.now wanted.now) }
+{
+    let takers = takers_of(alloc, joins, sizes, weights, wanted)?;
+    let leavers = leavers_of(alloc, leaves, ring)?;
+    Ok(may_rows(
+        leavers.as_slice(),
+        takers.as_slice(),
+        sizes,
+        ring.rows(),
+        wanted.rows(),
+    ))
+}
+
+// Puts the size at the place of its partition. A partition that there is not is refused with the line.
+fn put_size(all: &mut Vec<u32>, size: PartitionSize, line: u32) -> Result<(), Refusal>
+    ensures { OnOk result (all.new.items ≡ with_size all.old.items size) }
+{
+    let place = size.partition as usize;
+    if place < all.len() {
+        all[place] = size.size;
+        return Ok(());
+    }
+    Err(Refusal::TooLarge(line))
+}
+
+// Puts each size at the place of its partition; the first is of that line.
+fn put_sizes(all: &mut Vec<u32>, sizes: &[PartitionSize], line: u32) -> Result<(), Refusal>
+    ensures { OnOk result (all.new.items ≡ sizes_by all.old.items sizes.now) }
+{
+    let Some((size, more)) = sizes.split_first() else {
+        return Ok(());
+    };
+    put_size(all, *size, line)?;
+    put_sizes(all, more, line.saturating_add(1))
+}
+
+/// The sizes of so many partitions: 1, but for those that are listed. A partition that there is not is `TooLarge`, with the line on which it is listed.
+pub fn sizes_of(
+    alloc: Global,
+    partitions: u32,
+    sizes: &[PartitionSize],
+) -> Result<Vec<u32>, Refusal>
+    ensures { IfOk result (λ all. all.items ≡ sizes_by (replicate partitions 1) sizes.now) }
+{
+    // So many ascend to a partition that there is not.
+    if sizes.len() > partitions as usize {
+        return Err(Refusal::TooLarge(partitions.saturating_add(1)));
+    }
+    let mut all = vec![in alloc; 1u32; partitions as usize]?;
+    put_sizes(&mut all, sizes, 1)?;
+    Ok(all)
+}
+
+// Puts the weight at the place of its node.
+fn put_weight(all: &mut Vec<u32>, node: NodeId, weight: u32)
+    ensures { all.new.items ≡ with_weight all.old.items node weight }
+{
+    let place = node.0 as usize;
+    if place < all.len() {
+        all[place] = weight;
+    }
+}
+
+// Puts each weight at the place of its node.
+fn put_weights(all: &mut Vec<u32>, nodes: &[NodeId], weights: &[u32])
+    ensures { all.new.items ≡ weights_by all.old.items nodes.now weights.now }
+{
+    if let (Some((node, nodes)), Some((weight, weights))) = (
+        nodes.split_first(),
+        weights.split_first(),
+    ) {
+        put_weight(all, *node, *weight);
+        put_weights(all, nodes, weights);
+    }
+}
+
+/// The weights of so many nodes: 1, but for those of these nodes.
+pub fn weights_of(
+    alloc: Global,
+    count: usize,
+    nodes: &[NodeId],
+    weights: &[u32],
+) -> Result<Vec<u32>, Refusal>
+    ensures { IfOk result (λ all. all.items ≡ weights_by (replicate count 1) nodes.now weights.now) }
+{
+    let mut all = vec![in alloc; 1u32; count]?;
+    put_weights(&mut all, nodes, weights);
+    Ok(all)
+}

@@ -1,0 +1,73 @@
+//! The sizes of partitions that a file has.
+
+ghost use Rattle.std.specs.Prelude.{◌≡◌, ◌≢◌, ◌⊎◌, IfErr, IfOk};
+ghost use Rattle.ringplan_command.specs.Command.{word_of_making};
+ghost use Rattle.ringplan_job.specs.declared.making.Making.TheVariants.{Why};
+
+use crate::files::open;
+use ring_names::Refusal;
+use ringplan_job::{Making, Options};
+use ringplan_jobs::read_all;
+use size_text::{PartitionSize, read_sizes};
+use std::alloc::Global;
+use std::io::Read;
+use std::rt::Files;
+
+// The sizes that a text has.
+fn sizes_of<R: Read + Drop>(alloc: Global, input: &mut R) -> Result<Vec<PartitionSize>, Refusal> {
+    let bytes = read_all(alloc, input)?;
+    read_sizes(alloc, bytes.as_slice())
+}
+
+// The exit status where sizes are refused.
+fn status_of(refusal: Refusal) -> u8
+    ensures { (result ≡ 2) ⊎ (result ≡ 3) }
+{
+    match refusal {
+        Refusal::OutOfMemory | Refusal::ReadFailed => 3,
+        _ => 2,
+    }
+}
+
+// The sizes that a file has.
+fn sizes_in<RT: AllocGlobal + Files + Eprint>(rt: &RT, name: &str) -> Result<Vec<PartitionSize>, u8>
+    ensures { IfErr result (λ status. (status ≡ 2) ⊎ (status ≡ 3)) }
+{
+    let mut file = open(rt, name)?;
+    match sizes_of(rt.alloc(), &mut file) {
+        Ok(sizes) => Ok(sizes),
+        Err(refusal) => {
+            let _ = eprint!(rt; "{refusal} in {name}\n");
+            Err(status_of(refusal))
+        }
+    }
+}
+
+// The options with the sizes of the file that they name, if they name one.
+fn read_options<RT: AllocGlobal + Files + Eprint>(rt: &RT, options: Options) -> Result<Options, u8>
+    ensures { IfErr result (λ status. (status ≡ 2) ⊎ (status ≡ 3)) }
+{
+    let mut options = options;
+    let sizes = match &options.sizes_file {
+        Some(name) => Some(sizes_in(rt, name.as_str())?),
+        None => None,
+    };
+    options.sizes = sizes;
+    Ok(options)
+}
+
+/// What is to be made, with the sizes of the file that it names, if it names one. Where that cannot be read, or has a fault, it says so on standard error, and
+/// gives the exit status.
+pub(crate) fn with_sizes<RT: AllocGlobal + Files + Eprint>(
+    rt: &RT,
+    making: Making,
+) -> Result<Making, u8>
+    ensures same { IfOk result (λ made. word_of_making made ≡ word_of_making making) }
+    ensures status { IfErr result (λ status. ((status ≡ 2) ⊎ (status ≡ 3)) × (making ≢ Why)) }
+{
+    match making {
+        Making::Goal(options, exit) => Ok(Making::Goal(read_options(rt, options)?, exit)),
+        Making::Even(options) => Ok(Making::Even(read_options(rt, options)?)),
+        other => Ok(other),
+    }
+}

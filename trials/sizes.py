@@ -1,0 +1,190 @@
+#!/usr/bin/env python3
+"""How even by sizes the rings are that `ringplan goal --sizes` makes. It wants the program as it is built. `trials/sizes.py` tries 40 random changes, and with `--all` 500: of 8 to 128
+partitions, whose sizes are all 1, or 0 for a quarter, or 50 to 150, or log-normal, or as 1/k; and 192 ranges that are filled up to 256 by rows without keys.
+
+A ring is wrong where a slot has a new owner that is no leaver's and does not go, with keys, to a joiner that stores no more than its share; where a partition has more pairs of slots in
+one rack than before; and where the checker refuses the plan. The trial is wrong where more than one change of 500 has a joiner farther from its share than the largest size."""
+import os
+import random
+import subprocess
+import sys
+import tempfile
+from collections import Counter
+from dataclasses import dataclass
+from itertools import combinations
+
+from wishes import RUN
+
+KINDS = ["ones", "keyless", "even", "wide", "zipf"]
+
+
+@dataclass
+class Case:
+    """A ring, a change of it, and the sizes of its partitions."""
+
+    names: list[str]
+    members: set[str]
+    rows: list[list[str]]
+    joins: list[str]
+    leaves: list[str]
+    sizes: list[int]
+    weights: dict[str, int]
+
+    def after(self) -> list[str]:
+        """Who is a member in the end."""
+        return [v for v in self.names if v in self.members and v not in self.leaves] + self.joins
+
+    def share(self, node: str) -> float:
+        """The node's part by weight of all that is stored, with at most one slot of each partition."""
+        whole = sum(self.weights.get(v, 1) for v in self.after())
+        return min(sum(self.sizes) * len(self.rows[0]) * self.weights.get(node, 1) / whole, sum(self.sizes))
+
+    def bundle(self) -> str:
+        n = len(self.rows[0])
+        lines = ["ring 2", "space %d" % len(self.rows), "quorum %d %d %d" % (n, n // 2 + 1, n // 2 + 1)]
+        lines += ["node %s 2 %s" % (v, "in" if v in self.members else "out") for v in self.names]
+        lines += ["slots %d %s" % (p, " ".join(row)) for p, row in enumerate(self.rows)] + ["end", "change 1"]
+        return "\n".join(lines + ["join " + v for v in self.joins] + ["leave " + v for v in self.leaves] + ["end", ""])
+
+
+def rack(node: str) -> str:
+    return node.split(".")[1]
+
+
+def sizes_of(kind: str, count: int, pick: random.Random) -> list[int]:
+    if kind == "ones":
+        return [1] * count
+    if kind == "keyless":
+        return [int(p < count * 3 // 4) for p in range(count)]
+    if kind == "even":
+        return [pick.randrange(50, 151) for _ in range(count)]
+    if kind == "wide":
+        return [int(100 * pick.lognormvariate(0, 1)) + 1 for _ in range(count)]
+    return [10000 // (p + 1) for p in range(count)]
+
+
+def drawn(number: int) -> Case:
+    """The random change of that number."""
+    pick = random.Random(number)
+    q, n, racks = pick.choice([8, 16, 32, 64, 128]), pick.choice([2, 3, 3, 5]), pick.choice([0, 0, 3, 5])
+    racks = max(racks, n) if racks else 0
+    count, fresh = pick.randrange(max(n, racks) + 2, 18), pick.randrange(1, 4)
+    names = ["n%02d.r%d" % (v, v % racks if racks else v) for v in range(count + fresh)]
+    members, load = names[:count], Counter[str]()
+    rows: list[list[str]] = []
+    for _ in range(q):
+        row: list[str] = []
+        for _ in range(n):
+            free = [v for v in members if v not in row and rack(v) not in map(rack, row)]
+            row.append(pick.choice(free) if pick.random() < 0.3 else min(free, key=lambda v: (load[v], pick.random())))
+            load[row[-1]] += 1
+        rows.append(row)
+    leaves = pick.sample(members, pick.choice([0, 0, 1]) if count > n + 1 else 0)
+    weights = {v: pick.randrange(1, 4) for v in names} if pick.random() < 0.3 else {}
+    return Case(names, set(members), rows, names[count:], leaves, sizes_of(KINDS[number % 5], q, pick), weights)
+
+
+def run(words: list[str], text: str) -> str:
+    ran = subprocess.run([RUN, *words], input=text, capture_output=True, text=True, timeout=120)
+    if ran.returncode:
+        raise SystemExit("%s: %s" % (" ".join(words), (ran.stdout + ran.stderr)[:300]))
+    return ran.stdout
+
+
+def planned(case: Case) -> list[list[str]]:
+    """The owners after the plan by sizes, which the checker accepts."""
+    weights = [word for v, weight in case.weights.items() for word in ("--weight", "%s=%d" % (v, weight))]
+    with tempfile.NamedTemporaryFile("w", suffix=".sizes") as file:
+        file.writelines("%d %d\n" % (p, size) for p, size in enumerate(case.sizes) if size != 1)
+        file.flush()
+        plan = run(["goal", "--racks-behind", ".", "--sizes", file.name, *weights], case.bundle())
+    if run(["check"], plan) != "yes\n":
+        raise SystemExit("the checker refuses a plan by sizes")
+    return [line.split()[2:] for line in run(["after"], plan).splitlines() if line.startswith("slots")]
+
+
+def loads_of(case: Case, rows: list[list[str]]) -> Counter[str]:
+    loads = Counter[str]()
+    for size, row in zip(case.sizes, rows):
+        for v in row:
+            loads[v] += size
+    return loads
+
+
+def pairs(row: list[str]) -> int:
+    return sum(rack(a) == rack(b) for a, b in combinations(row, 2))
+
+
+def fault(case: Case, rows: list[list[str]]) -> str:
+    """What is wrong with the owners, if something is."""
+    loads, after = loads_of(case, rows), case.after()
+    total, whole = sum(case.sizes) * len(case.rows[0]), sum(case.weights.get(v, 1) for v in after)
+    for p, (old, new) in enumerate(zip(case.rows, rows)):
+        if len(set(new)) < len(new) or not set(new) <= set(after):
+            return "partition %d has an owner twice, or one that is no member" % p
+        if case.sizes[p] and pairs(new) > pairs(old):
+            return "partition %d has more slots in one rack" % p
+        for x, y in zip(old, new):
+            is_fair = y in case.joins and case.sizes[p] > 0 and loads[y] * whole <= total * case.weights.get(y, 1)
+            if x != y and x not in case.leaves and not is_fair:
+                return "a slot of partition %d goes from %s to %s" % (p, x, y)
+    return ""
+
+
+def distance(case: Case, rows: list[list[str]]) -> float:
+    """How far the worst joiner is from its share, in largest sizes."""
+    loads = loads_of(case, rows)
+    return max(abs(loads[v] - case.share(v)) for v in case.joins) / max(case.sizes)
+
+
+def table() -> Case:
+    """192 ranges of 12 nodes with 16 tokens in three racks, filled up to 256 by rows without keys; three nodes join."""
+    pick = random.Random(3)
+    names = ["n%02d.r%d" % (v + 1, v % 3 + 1) for v in range(15)]
+    tokens = [v for v in names[:12] for _ in range(16)]
+    pick.shuffle(tokens)
+    rows: list[list[str]] = []
+    for t in range(192):
+        row: list[str] = []
+        for step in range(192):
+            v = tokens[(t + step) % 192]
+            if len(row) < 3 and rack(v) not in map(rack, row):
+                row.append(v)
+        rows.append(row)
+    return Case(names, set(names[:12]), rows + [rows[0]] * 64, names[12:], [], [1] * 192 + [0] * 64, {})
+
+
+def tell_table() -> bool:
+    case = table()
+    rows = planned(case)
+    before, after = loads_of(case, case.rows), loads_of(case, rows)
+    print("192 ranges filled up to 256, ranges before and after: " + ", ".join("%s %d %d" % (v[:3], before[v], after[v]) for v in case.names))
+    wrong = fault(case, rows)
+    if not wrong and distance(case, rows) > 1:
+        wrong = "a joiner is farther than one range from its share"
+    if not wrong and any(sum(v in case.joins for v in row) > 1 for row in rows):
+        wrong = "a partition has two joiners"
+    print(wrong or "each joiner has its share, and no row without keys moves")
+    return not wrong
+
+
+def main() -> int:
+    count = 500 if "--all" in sys.argv else 40
+    good, far, worst = tell_table(), 0, 0.0
+    for number in range(count):
+        case = drawn(number)
+        rows = planned(case)
+        wrong = fault(case, rows)
+        if wrong:
+            print("change %d (%s): %s" % (number, KINDS[number % 5], wrong))
+            good = False
+        far += distance(case, rows) > 1
+        worst = max(worst, distance(case, rows))
+    print("%d random changes: %d with a joiner farther than the largest size from its share, the worst %.2f" % (count, far, worst))
+    return 0 if good and far <= 1 else 1
+
+
+if __name__ == "__main__":
+    if not os.path.exists(RUN):
+        raise SystemExit("the program is not built: %s" % RUN)
+    sys.exit(main())
