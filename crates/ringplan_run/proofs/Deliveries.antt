@@ -1,5 +1,5 @@
 -- What is printed, or written to a file.
-use Rattle.std.proofs.Common.{◌≡◌, ◌≢◌, ◌⊎◌, arith, inl, inr, ℕ, List, [], ◌∷◌, ◌++◌, Option, Some, None, Err, drop, refl, sym, ap, ◌∙◌, subst}
+use Rattle.std.proofs.Common.{◌≡◌, ◌⊎◌, arith, inl, inr, ℕ, List, [], ◌∷◌, ◌++◌, Option, Some, None, Err, drop, refl, sym, ap, ◌∙◌, subst}
 use Rattle.std.proofs.lemmas.List.{append_assoc, append-nil}
 use Rattle.std.specs.Prelude.{IsSome, String, option_map, string_bytes}
 use Rattle.std.specs.Global.{Global}
@@ -9,15 +9,16 @@ use Rattle.ring_names.specs.declared.refusal.Refusal.TheVariants.{TooLarge, OutO
 use Rattle.ring_names.specs.Refusals.{number_of}
 use Rattle.ringplan_job.specs.declared.job.Job.{Job}
 use Rattle.ringplan_job.specs.declared.making.Making.{Making}
-use Rattle.ringplan_job.specs.declared.making.Making.TheVariants.{Why}
+use Rattle.ringplan_job.specs.declared.making.Making.TheVariants.{Even, Goal, State}
+use Rattle.ringplan_job.specs.declared.making.Statement.TheVariants as statements
 use Rattle.ringplan_jobs.specs.Answers.{refused_status}
 use Rattle.ringplan_jobs.specs.Io.{Prints, AppendsPart, Reads, Tells}
 use Rattle.ringplan_command.specs.Command.{Asked, asked, only}
 use Rattle.ringplan_command.specs.Files.{Names, files_in, files_of, no_files}
 use Rattle.ringplan_command.specs.Tree.{word_of}
 use Rattle.ringplan_command.proofs.Commands.{asked_alone, no_files_alone}
-use Rattle.ringplan_people.specs.Made.{refused as none}
-use Rattle.ringplan_run.specs.Run.{Delivers, IsWritten, Reports, Runs, RunsTo, Shows, failed, filed, printed, read, told_by, too_large}
+use Rattle.ringplan_people.specs.Made.{refused as none, stated as of_statement}
+use Rattle.ringplan_run.specs.Run.{Delivers, IsWritten, NamesSizes, Reports, Runs, RunsTo, Shows, failed, filed, printed, read, told_by, too_large}
 
 -- nothing is printed, with any status
 pub prints_nothing : (old : Option (List ℕ)) (status : ℕ) → Prints old old [] status status
@@ -118,9 +119,12 @@ reports_unread making bytes text status OutOfMemory reads t s = failed t s
 reports_unread making bytes text status e reads t s = absurd reads
 
 -- nothing is made, whatever the bytes
-pub reports_none : (making : Making) (bytes : List ℕ) (status : ℕ) → making ≢ Why → (status ≡ 2) ⊎ (status ≡ 3) → Reports making bytes [] status
-reports_none making bytes status other (inl two) = read (none other refl (λ zero. let bad : 2 ≡ 0 = sym two ∙ zero in absurd cc) (omega arith))
-reports_none making bytes status other (inr three) = failed refl three
+pub reports_none : (making : Making) (bytes : List ℕ) (status : ℕ) → NamesSizes making → (status ≡ 2) ⊎ (status ≡ 3) → Reports making bytes [] status
+reports_none making bytes status names (inr three) = failed refl three
+reports_none (Goal options exit) bytes status names (inl two) = read (none tt refl (λ zero. let bad : 2 ≡ 0 = sym two ∙ zero in absurd cc) (omega arith))
+reports_none (Even options) bytes status names (inl two) = read (none tt refl (λ zero. let bad : 2 ≡ 0 = sym two ∙ zero in absurd cc) (omega arith))
+reports_none (State (statements.Goal options exit)) bytes status names (inl two) =
+    read (of_statement (statements.Goal options exit) refl (inr ((λ zero. let bad : 2 ≡ 0 = sym two ∙ zero in absurd cc), omega arith)))
 
 -- whatever the reader tells, some bytes are what it tells
 pub told_bytes : (told : Option (List ℕ)) → (bytes : List ℕ) × Tells told bytes

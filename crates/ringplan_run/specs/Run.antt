@@ -1,5 +1,5 @@
 -- How a run of the program ends.
-use Rattle.std.specs.Prelude.{◌≡◌, ◌≢◌, ◌⊎◌, ℕ, ◌<◌, ◌≤◌, List, [], Option, None, IsSome, is_some, Result, Ok, Err, length, if◌then◌else◌}
+use Rattle.std.specs.Prelude.{◌≡◌, ◌≢◌, ◌⊎◌, ⊤, ℕ, ◌<◌, ◌≤◌, List, [], Option, None, IsSome, is_some, Result, Ok, Err, length, if◌then◌else◌}
 use Rattle.ring_names.specs.declared.refusal.Refusal.{Refusal}
 use Rattle.ring_names.specs.declared.refusal.Refusal.TheVariants.{TooLarge, OutOfMemory, ReadFailed}
 use Rattle.ring_names.specs.Refusals.{line_of}
@@ -14,6 +14,9 @@ use Rattle.ringplan_command.specs.declared.form.Form.{Form}
 use Rattle.ringplan_command.specs.declared.word.Guide.{Guide}
 use Rattle.ringplan_job.specs.declared.job.Job.{Job}
 use Rattle.ringplan_job.specs.declared.making.Making.{Making}
+use Rattle.ringplan_job.specs.declared.making.Making.TheVariants.{Even, Goal, State}
+use Rattle.ringplan_job.specs.declared.making.Statement.{Statement}
+use Rattle.ringplan_job.specs.declared.making.Statement.TheVariants as statements
 use Rattle.ringplan_people.specs.Made.{IsReport}
 
 -- what comes of an input to a drive by so many workers, printed in that form: what the drive makes of it, and of more than the most that may come that it is too large
@@ -24,6 +27,17 @@ DriveOutcome workers form bytes r = ((length bytes ≤ max_input) × Drives work
 abbrev pub FindsDrive : ℕ → Form → List ℕ → Result (List ℕ) Refusal → Type 0
 FindsDrive workers form bytes (Ok text) = DriveOutcome workers form bytes (Ok text)
 FindsDrive workers form bytes (Err e) = e ≢ OutOfMemory → e ≢ ReadFailed → DriveOutcome workers form bytes (Err e)
+
+-- a statement, or what is made for people, may name a file of sizes
+abbrev pub AreNamedBy : Statement → Type 0
+AreNamedBy (statements.Goal options exit) = ⊤
+AreNamedBy statement = ⊥
+
+abbrev pub NamesSizes : Making → Type 0
+NamesSizes (Goal options exit) = ⊤
+NamesSizes (Even options) = ⊤
+NamesSizes (State statement) = AreNamedBy statement
+NamesSizes making = ⊥
 
 -- what is printed for people, and the status: a report of the bytes, or nothing where there are too many of them, or where memory or a read failed
 pub data Reports (making : Making) (bytes : List ℕ) (text : List ℕ) (status : ℕ) : Type 0 where

@@ -1,12 +1,12 @@
 //! The sizes of partitions that a file has.
 
-ghost use Rattle.std.specs.Prelude.{◌≡◌, ◌≢◌, ◌⊎◌, IfErr, IfOk};
-ghost use Rattle.ringplan_command.specs.Command.{word_of_making};
-ghost use Rattle.ringplan_job.specs.declared.making.Making.TheVariants.{Why};
+ghost use Rattle.std.specs.Prelude.{◌≡◌, ◌⊎◌, IfErr, IfOk};
+ghost use Rattle.ringplan_command.specs.Command.{word_of_making, word_of_statement};
+ghost use Rattle.ringplan_run.specs.Run.{AreNamedBy, NamesSizes};
 
 use crate::files::open;
 use ring_names::Refusal;
-use ringplan_job::{Making, Options};
+use ringplan_job::{Making, Options, Statement};
 use ringplan_jobs::read_all;
 use size_text::{PartitionSize, read_sizes};
 use std::alloc::Global;
@@ -56,6 +56,20 @@ fn read_options<RT: AllocGlobal + Files + Eprint>(rt: &RT, options: Options) -> 
     Ok(options)
 }
 
+// The statement, with the sizes of the file that it names, if it names one.
+fn stated_with_sizes<RT: AllocGlobal + Files + Eprint>(
+    rt: &RT,
+    statement: Statement,
+) -> Result<Statement, u8>
+    ensures same { IfOk result (λ made. word_of_statement made ≡ word_of_statement statement) }
+    ensures status { IfErr result (λ status. ((status ≡ 2) ⊎ (status ≡ 3)) × AreNamedBy statement) }
+{
+    match statement {
+        Statement::Goal(options, exit) => Ok(Statement::Goal(read_options(rt, options)?, exit)),
+        other => Ok(other),
+    }
+}
+
 /// What is to be made, with the sizes of the file that it names, if it names one. Where that cannot be read, or has a fault, it says so on standard error, and
 /// gives the exit status.
 pub(crate) fn with_sizes<RT: AllocGlobal + Files + Eprint>(
@@ -63,11 +77,12 @@ pub(crate) fn with_sizes<RT: AllocGlobal + Files + Eprint>(
     making: Making,
 ) -> Result<Making, u8>
     ensures same { IfOk result (λ made. word_of_making made ≡ word_of_making making) }
-    ensures status { IfErr result (λ status. ((status ≡ 2) ⊎ (status ≡ 3)) × (making ≢ Why)) }
+    ensures status { IfErr result (λ status. ((status ≡ 2) ⊎ (status ≡ 3)) × NamesSizes making) }
 {
     match making {
         Making::Goal(options, exit) => Ok(Making::Goal(read_options(rt, options)?, exit)),
         Making::Even(options) => Ok(Making::Even(read_options(rt, options)?)),
+        Making::State(statement) => Ok(Making::State(stated_with_sizes(rt, statement)?)),
         other => Ok(other),
     }
 }
