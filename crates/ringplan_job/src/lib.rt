@@ -6,5 +6,5 @@ mod making;
 mod options;
 
 pub use job::Job;
-pub use making::{Cut, DrawWish, Exit, Making, Picture, Shape, Wish};
+pub use making::{Back, Cut, DrawWish, Exit, Making, Picture, Shape, Wish};
 pub use options::Options;

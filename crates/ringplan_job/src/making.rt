@@ -54,6 +54,15 @@ pub enum Exit {
     Steps,
 }
 
+/// Whether a plan around dead nodes may take back mirrors that have begun.
+#[derive(Clone, Copy, Debug, PartialEq, Eq)]
+pub enum Back {
+    /// They stay.
+    Never,
+    /// Those that no copy can fill any more are taken back.
+    Allowed,
+}
+
 /// What can be made of a bundle.
 #[derive(Debug, Drop)]
 pub enum Making {
@@ -79,4 +88,6 @@ pub enum Making {
     Goal(Options, Exit),
     /// In words how far from even that ring is.
     Even(Options),
+    /// Another plan around nodes that died in the middle of a change, with the history that goes on by it.
+    Around(Options, Back),
 }
