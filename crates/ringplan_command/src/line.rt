@@ -8,7 +8,7 @@ use crate::help::{NO_BYTE, NO_WEIGHT};
 use crate::naming::{add_dead, add_weights};
 use crate::word::Word;
 use clap::ArgMatches;
-use ringplan_job::{Cut, DrawWish, Exit, Making, Options, Picture, Shape, Wish};
+use ringplan_job::{Back, Cut, DrawWish, Exit, Making, Options, Picture, Shape, Wish};
 use std::alloc::{AllocError, Global};
 
 /// What a line with that command and these options asks for.
@@ -29,6 +29,7 @@ pub(crate) fn make_line(
         Word::Show => show_line(alloc, options),
         Word::Draw => draw_line(alloc, options),
         Word::Goal => goal_line(alloc, options),
+        Word::Around => around_line(alloc, options),
     }
 }
 
@@ -107,6 +108,23 @@ fn goal_line(alloc: Global, matches: &ArgMatches) -> Result<Request, AllocError>
         None => return mistaken(alloc, NO_BYTE),
     }
     Ok(Request::Make(goal_of(options, matches)))
+}
+
+// What a line with the word `around` asks for. A dead node is named.
+fn around_line(alloc: Global, matches: &ArgMatches) -> Result<Request, AllocError>
+    ensures { IfOk result (IsOfWord Word.Around) }
+{
+    let mut options = Options::new(alloc);
+    add_dead(&mut options, alloc, matches)?;
+    Ok(Request::Make(Making::Around(options, back_of(matches))))
+}
+
+// Whether the line lets mirrors be taken back.
+fn back_of(matches: &ArgMatches) -> Back {
+    if matches.get_flag("back") {
+        return Back::Allowed;
+    }
+    Back::Never
 }
 
 // A plan that leads to the goal ring, or how even that is.
