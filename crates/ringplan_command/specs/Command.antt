@@ -14,7 +14,7 @@ use Rattle.ringplan_command.specs.declared.word.Guide.TheVariants.{Completions, 
 use Rattle.ringplan_command.specs.declared.word.Word.{Word}
 use Rattle.ringplan_command.specs.declared.word.Word.TheVariants as people
 use Rattle.ringplan_job.specs.declared.making.Making.{Making}
-use Rattle.ringplan_job.specs.declared.making.Making.TheVariants.{Why, Bundle, Cert, After, Show, Draw, Steps, Moves, Windows, Goal, Even, State as StateMaking}
+use Rattle.ringplan_job.specs.declared.making.Making.TheVariants.{Why, Bundle, Cert, After, Show, Draw, Steps, Moves, Windows, Goal, Even, Around, State as StateMaking}
 use Rattle.ringplan_job.specs.declared.making.Statement.{Statement}
 use Rattle.ringplan_job.specs.declared.making.Statement.TheVariants as stated
 use Rattle.ringplan_command.specs.declared.command.Workers.{Workers}
@@ -42,6 +42,7 @@ word_of_making Steps = people.Steps
 word_of_making Moves = people.Steps
 word_of_making (Goal options exit) = people.Goal
 word_of_making (Even options) = people.Goal
+word_of_making (Around options back) = people.Around
 word_of_making (Windows cut) = people.Windows
 word_of_making Bundle = people.Bundle
 word_of_making Cert = people.Cert
@@ -78,7 +79,7 @@ job_named subcommand = if is_named Play subcommand then Play else (if is_named P
 abbrev pub more_named : Option (List ℕ × List Row) → Option Word
 more_named subcommand = if is_word (codes "goal") subcommand then Some people.Goal else (if is_word (codes "windows") subcommand then Some people.Windows
     else (if is_word (codes "bundle") subcommand then Some people.Bundle else (if is_word (codes "cert") subcommand then Some people.Cert
-    else (if is_word (codes "after") subcommand then Some people.After else None))))
+    else (if is_word (codes "after") subcommand then Some people.After else (if is_word (codes "around") subcommand then Some people.Around else None)))))
 
 abbrev pub word_named : Option (List ℕ × List Row) → Option Word
 word_named subcommand = if is_word (codes "why") subcommand then Some people.Why else (if is_word (codes "show") subcommand then Some people.Show

@@ -103,6 +103,9 @@ nodes_app = with_rule (with_rule (with_rule (with_rule (job_app (codes "goal")) 
 abbrev pub goal_app : App
 goal_app = with_rule (with_rule (with_rule nodes_app (flag_option (codes "even"))) (flag_option (codes "exit-code"))) (text_option (codes "format"))
 
+abbrev pub around_app : App
+around_app = with_rule (with_rule (job_app (codes "around")) (record (list_option (codes "dead")) { required = true })) (flag_option (codes "back"))
+
 -- the program's name, which wants a subcommand, and its version
 abbrev pub top_app : App
 top_app = let app = new_app (codes "ringplan") in record app { top = record app.top { subcommand_required = true; has_version = true } }
@@ -111,9 +114,9 @@ top_app = let app = new_app (codes "ringplan") in record app { top = record app.
 abbrev pub with : App → App → App
 with app sub = with_subcommand app sub.top
 
--- the first seven subcommands, then those with a bundle, and then all
+-- the first eight subcommands, then those with a bundle, and then all
 abbrev pub first_commands : App
-first_commands = with (with (with (with (with (with (with top_app goal_app) show_app) draw_app) check_app) why_app) steps_app) windows_app
+first_commands = with (with (with (with (with (with (with (with top_app goal_app) around_app) show_app) draw_app) check_app) why_app) steps_app) windows_app
 
 abbrev pub bundle_commands : App
 bundle_commands = with (with (with (with (with (with (with (with first_commands drive_app) (job_app (codes "play"))) replay_app) (job_app (codes "after")))

@@ -16,6 +16,9 @@ pub(crate) const OUTPUT: &str =
 pub(crate) const GOAL: &str =
     "Prints a plan that leads to a goal ring, by racks, weights and dead nodes, with its certificate";
 
+pub(crate) const AROUND: &str =
+    "Prints another plan around nodes that died in the middle of a change, with the history that goes on by it";
+
 pub(crate) const SHOW: &str =
     "Prints a summary of the plan, and with a history how far it has come";
 
@@ -94,6 +97,12 @@ pub(crate) const RACKS: &str =
 
 pub(crate) const DEAD: &str =
     "A node that is dead for good: it leaves, its slots are read from others, and it neither drops nor retires";
+
+pub(crate) const GONE: &str =
+    "A node that is dead from here on: no step that is to come asks anything of it; at least one is named";
+
+pub(crate) const BACK: &str =
+    "Takes mirrors back that no copy can fill any more: the store must let go of them, as docs/STORES.md says";
 
 pub(crate) const WEIGHT: &str =
     "A node's name, `=` and how many parts of the slots it shall have, 1 to 1000; the others have 1";
@@ -311,6 +320,17 @@ else what `why` prints. The slots of a partition are compared as sets. A dead no
 own retirement.
 
 Exit status: 0 printed, with `--exit-code` 4 if the plan has steps, 1 no plan, 2 a text or the command line is refused, 3 memory, input or output";
+
+pub(crate) const AROUND_STREAMS: &str = "\
+Example: ringplan around --dead b begun.bundle -o on.bundle
+
+Input: a ring, a plan, its certificate and a history, which is a run of the plan that stopped or goes on.
+Standard output: the ring, another plan, its certificate and the history by that plan: `check` accepts the plan, and `replay` the history. Steps that
+are done are in both plans, with other numbers: a program that does the plan hands out no step while it changes bundles, and finds what it holds of a
+step by the step's kind, partition, slot and node. Standard error: what becomes of slots that do not go where they were to go; or else why there is no
+such plan.
+
+Exit status: 0 printed, 1 no plan, or one that is refused, or no run of it, 2 a text or the command line is refused, 3 memory, input or output";
 
 pub(crate) const WINDOWS_STREAMS: &str = "\
 Example: ringplan windows --rounds 1 examples/plan_replace.bundle

@@ -9,7 +9,9 @@ use crate::help::{NO_BYTE, NO_COLOR, NO_EVEN, NO_FORMAT, NO_WEIGHT};
 use crate::naming::{add_dead, add_weights};
 use crate::word::Word;
 use clap::ArgMatches;
-use ringplan_job::{Color, Cut, DrawWish, Exit, Making, Options, Picture, Shape, Statement, Wish};
+use ringplan_job::{
+    Back, Color, Cut, DrawWish, Exit, Making, Options, Picture, Shape, Statement, Wish,
+};
 use std::alloc::{AllocError, Global};
 
 /// What a line with that command and these options asks for.
@@ -30,6 +32,7 @@ pub(crate) fn make_line(
         Word::Show => show_line(alloc, options),
         Word::Draw => draw_line(alloc, options),
         Word::Goal => goal_line(alloc, options),
+        Word::Around => around_line(alloc, options),
     }
 }
 
@@ -169,6 +172,23 @@ fn goal_stated(alloc: Global, options: Options, matches: &ArgMatches) -> Result<
         return mistaken(alloc, NO_EVEN);
     }
     Ok(Request::Make(Making::State(Statement::Goal(options, exit_of(matches)))))
+}
+
+// What a line with the word `around` asks for. A dead node is named.
+fn around_line(alloc: Global, matches: &ArgMatches) -> Result<Request, AllocError>
+    ensures { IfOk result (IsOfWord Word.Around) }
+{
+    let mut options = Options::new(alloc);
+    add_dead(&mut options, alloc, matches)?;
+    Ok(Request::Make(Making::Around(options, back_of(matches))))
+}
+
+// Whether the line lets mirrors be taken back.
+fn back_of(matches: &ArgMatches) -> Back {
+    if matches.get_flag("back") {
+        return Back::Allowed;
+    }
+    Back::Never
 }
 
 // A plan that leads to the goal ring, or how even that is.

@@ -3,17 +3,17 @@
 ghost use Rattle.std.specs.Prelude.{◌≡◌, false, IfOk};
 ghost use Rattle.clap.specs.Words.{App, rule_of, with_rule, with_subcommand};
 ghost use Rattle.ringplan_command.specs.Tree.{IsApp, cut_option, draw_app, drive_app, flag_option, goal_app, job_app, ringplan, show_app};
-ghost use Rattle.ringplan_command.specs.Tree.{check_app, file_argument, output_option, steps_app, text_option, top_app};
+ghost use Rattle.ringplan_command.specs.Tree.{around_app, check_app, file_argument, output_option, steps_app, text_option, top_app};
 ghost use Rattle.ringplan_command.specs.Tree.{completions_app, guide_app, nodes_app, replay_app, shell_argument, why_app, windows_app, words_app, workers_option};
 
 use crate::help::{
-    ABOUT, AFTER, AFTER_STREAMS, ALL, BUNDLE, BUNDLE_STREAMS, CERT, CERT_STREAMS, CHECK,
-    CHECK_STREAMS, COLOR, COMPLETIONS, COMPLETIONS_STREAMS, DEAD, DRAW, DRAW_STREAMS, DRIVE,
-    DRIVE_STREAMS, DRIVERS, EVEN, EXIT_CODE, FILE, FORMAT, GOAL, GOAL_STREAMS, JSON, MANUAL,
-    MANUAL_STREAMS, MAP, MIGRATE, MIGRATE_STREAMS, MORE, MOVES, ONLY, OUTPUT, PLAN, PLAN_STREAMS,
-    PLAY, PLAY_STREAMS, RACK_COLUMNS, RACKS, RACKS_APART, REPLAY, REPLAY_STREAMS, ROUNDS, SHELL,
-    SHOW, SHOW_STREAMS, SIZES, STEPS, STEPS_STREAMS, STREAMS, VERSION, WEIGHT, WHY, WHY_STREAMS,
-    WINDOWS, WINDOWS_STREAMS, WORKERS,
+    ABOUT, AFTER, AFTER_STREAMS, ALL, AROUND, AROUND_STREAMS, BACK, BUNDLE, BUNDLE_STREAMS, CERT,
+    CERT_STREAMS, CHECK, CHECK_STREAMS, COLOR, COMPLETIONS, COMPLETIONS_STREAMS, DEAD, DRAW,
+    DRAW_STREAMS, DRIVE, DRIVE_STREAMS, DRIVERS, EVEN, EXIT_CODE, FILE, FORMAT, GOAL, GOAL_STREAMS,
+    GONE, JSON, MANUAL, MANUAL_STREAMS, MAP, MIGRATE, MIGRATE_STREAMS, MORE, MOVES, ONLY, OUTPUT,
+    PLAN, PLAN_STREAMS, PLAY, PLAY_STREAMS, RACK_COLUMNS, RACKS, RACKS_APART, REPLAY,
+    REPLAY_STREAMS, ROUNDS, SHELL, SHOW, SHOW_STREAMS, SIZES, STEPS, STEPS_STREAMS, STREAMS,
+    VERSION, WEIGHT, WHY, WHY_STREAMS, WINDOWS, WINDOWS_STREAMS, WORKERS,
 };
 use clap::{Arg, ArgAction, Command, value_parser};
 use std::alloc::{AllocError, Global};
@@ -221,6 +221,15 @@ fn goal<'a>(alloc: Global) -> Made<'a>
     with_arg(command, option(alloc, "format", "FORMAT", FORMAT))
 }
 
+fn around<'a>(alloc: Global) -> Made<'a>
+    ensures { IfOk result (IsApp around_app) }
+{
+    let dead = option(alloc, "dead", "NODE", GONE).action(ArgAction::Append);
+    let command = job(alloc, "around", AROUND, AROUND_STREAMS);
+    let command = with_arg(command, dead.required(true));
+    with_arg(command, flag(alloc, "back", BACK))
+}
+
 // The program's own line, which wants a subcommand.
 fn top<'a>(alloc: Global) -> Made<'a>
     ensures { IfOk result (IsApp top_app) }
@@ -238,6 +247,7 @@ pub(crate) fn command<'a>(alloc: Global) -> Result<Command<'a>, AllocError>
     ensures { IfOk result (IsApp ringplan) }
 {
     let line = with(top(alloc), goal(alloc));
+    let line = with(line, around(alloc));
     let line = with(line, show(alloc));
     let line = with(line, draw(alloc));
     let line = with(line, check(alloc));

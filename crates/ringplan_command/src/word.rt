@@ -18,6 +18,7 @@ pub enum Word {
     Bundle,
     Cert,
     After,
+    Around,
 }
 
 /// A text about the program itself, which reads no bundle.
@@ -77,8 +78,11 @@ fn more_of(matches: &ArgMatches) -> Option<Word>
     if matches.subcommand_matches("cert").is_some() {
         return Some(Word::Cert);
     }
-    match matches.subcommand_matches("after") {
-        Some(_) => Some(Word::After),
+    if matches.subcommand_matches("after").is_some() {
+        return Some(Word::After);
+    }
+    match matches.subcommand_matches("around") {
+        Some(_) => Some(Word::Around),
         None => None,
     }
 }
@@ -89,6 +93,15 @@ pub(crate) fn is_for_people(word: &str) -> bool {
     is_guide
         || matches!(
             word,
-            "why" | "show" | "draw" | "steps" | "goal" | "windows" | "bundle" | "cert" | "after"
+            "why"
+                | "show"
+                | "draw"
+                | "steps"
+                | "goal"
+                | "around"
+                | "windows"
+                | "bundle"
+                | "cert"
+                | "after"
         )
 }

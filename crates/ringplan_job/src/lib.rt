@@ -6,5 +6,7 @@ mod making;
 mod options;
 
 pub use job::Job;
-pub use making::{Color, Cut, DrawWish, Exit, Making, Picture, Screen, Shape, Statement, Wish};
+pub use making::{
+    Back, Color, Cut, DrawWish, Exit, Making, Picture, Screen, Shape, Statement, Wish,
+};
 pub use options::Options;

@@ -107,6 +107,15 @@ pub enum Statement {
     Goal(Options, Exit),
 }
 
+/// Whether a plan around dead nodes may take back mirrors that have begun.
+#[derive(Clone, Copy, Debug, PartialEq, Eq)]
+pub enum Back {
+    /// They stay.
+    Never,
+    /// Those that no copy can fill any more are taken back.
+    Allowed,
+}
+
 /// What can be made of a bundle.
 #[derive(Debug, Drop)]
 pub enum Making {
@@ -132,6 +141,8 @@ pub enum Making {
     Goal(Options, Exit),
     /// In words how far from even that ring is.
     Even(Options),
+    /// Another plan around nodes that died in the middle of a change, with the history that goes on by it.
+    Around(Options, Back),
     /// An object of JSON.
     State(Statement),
 }

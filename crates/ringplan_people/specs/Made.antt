@@ -17,13 +17,14 @@ use Rattle.ringplan_jobs.specs.Verdict.{TextsKeepPromises}
 use Rattle.ringplan_job.specs.declared.making.Exit.TheVariants as exit
 use Rattle.ringplan_job.specs.declared.making.Making.{Making}
 use Rattle.ringplan_job.specs.declared.options.Options.{Options}
-use Rattle.ringplan_job.specs.declared.making.Making.TheVariants.{Why, Bundle, Cert, After, Show, Draw, Steps, Moves, Windows, Goal, Even, State}
+use Rattle.ringplan_job.specs.declared.making.Making.TheVariants.{Why, Bundle, Cert, After, Show, Draw, Steps, Moves, Windows, Goal, Even, Around, State}
 use Rattle.ringplan_job.specs.declared.making.Color.{Color}
 use Rattle.ringplan_job.specs.declared.making.Statement.{Statement}
 use Rattle.ringplan_job.specs.declared.making.Statement.TheVariants as stated
 use Rattle.plan_bundles.specs.Certs.{IsCertifiedText}
 use Rattle.plan_bundles.specs.Goals.{IsLed}
 use Rattle.plan_bundles.specs.Windows.{AreAskedOf}
+use Rattle.plan_around.specs.Around.{IsAround}
 use Rattle.ringplan_people.specs.Studies.{IsStudyOf, HasApproved, IsShown, HasHistory, IsLeftBy}
 use Rattle.ringplan_people.specs.Why.{HasKept, IsWhy}
 
@@ -52,6 +53,7 @@ IsMade Moves bytes text = OfPlan (λ ring plan. text ≡ moves_text ring plan) b
 IsMade (Windows cut) bytes text = OfPlan (λ ring plan. AreAskedOf ring plan cut.only text) bytes
 IsMade (Goal options status) bytes text = IsLed bytes options text
 IsMade (Even options) bytes text = ⊤
+IsMade (Around options back) bytes text = IsAround bytes (map (λ name. name.items) options.dead.items) back text
 IsMade (Why color) bytes text = ⊥
 IsMade (State statement) bytes text = ⊥
 

@@ -91,6 +91,15 @@ impl Owners {
         }
     }
 
+    // A step acts.
+    fn act(&mut self, plan: &Plan, step: &Step, number: u32) {
+        match step {
+            Step::Mirror(slot, _) => self.mirror(*slot, number),
+            Step::Switch(slot) => self.switch(plan, *slot),
+            Step::Copy(_, _) | Step::Drop(_, _) | Step::Join(_) | Step::Retire(_) => {}
+        }
+    }
+
     // The first step that set a mirror which no step has switched.
     fn first_open(&self) -> Option<u32> {
         let mut first = None;
@@ -145,11 +154,7 @@ fn owners_behind(
     let mut owners = Owners::of(alloc, approved.ring())?;
     for number in 0..plan.len() {
         if progress.is_done(number) {
-            match plan.step(number) {
-                Step::Mirror(slot, _) => owners.mirror(*slot, number),
-                Step::Switch(slot) => owners.switch(plan, *slot),
-                Step::Copy(_, _) | Step::Drop(_, _) | Step::Join(_) | Step::Retire(_) => {}
-            }
+            owners.act(plan, plan.step(number), number);
         }
     }
     match owners.first_open() {
@@ -172,20 +177,31 @@ fn ring_behind(
     rewritten(alloc, ring, text, rows.as_slice(), members.as_slice())
 }
 
-// The text of the ring that an approved plan leaves.
+// The first step of the plan that sets a mirror which no step switches.
+fn left_open(alloc: Global, ring: &Ring, plan: &Plan) -> Result<Option<u32>, Refusal> {
+    let mut owners = Owners::of(alloc, ring)?;
+    for number in 0..plan.len() {
+        owners.act(plan, plan.step(number), number);
+    }
+    Ok(owners.first_open())
+}
+
+// The text of the ring that an approved plan leaves. Where it leaves a slot with a mirror, that is `WrongStage` at the step that sets it.
 fn ring_left(alloc: Global, approved: &Approved, text: &[u8]) -> Result<Vec<u8>, Refusal>
     ensures ring { IfOk result (λ text. IsRingOf approved.now.ring text.items (last_owners approved.now.ring approved.now.plan)
         (members_after approved.now.ring approved.now.plan (length approved.now.ring.nodes))) }
     ensures approved { IsApproved approved.now.ring approved.now.plan }
 {
     // The plan is approved, which the prover knows once it is read.
-    let _ = approved.plan();
-    ring_after(alloc, approved, text)
+    match left_open(alloc, approved.ring(), approved.plan())? {
+        Some(number) => Err(Refusal::WrongStage(number)),
+        None => ring_after(alloc, approved, text),
+    }
 }
 
 /// The text of the ring that the plan of a bundle leaves, or what a history has done of it: the same nodes, with the owners and the members behind
-/// the steps that are done. A move that a history has begun and not switched is `WrongStage` at the step that set the mirror, since no ring can say it. Else refused
-/// is what `studied` refuses.
+/// the steps that are done. A move that a history, or else the plan, begins and does not switch is `WrongStage` at the step that sets the mirror, since no ring can say
+/// it. Else refused is what `studied` refuses.
 pub fn after_bundle(alloc: Global, bytes: &[u8]) -> Result<Vec<u8>, Refusal>
     // Where the bundle has no history, it is that of the ring that its plan leaves, and the checker accepted the plan.
     ensures after { IfOk result (λ text. HasHistory bytes.now ⊎ IsLeftBy bytes.now text.items) }
@@ -198,7 +214,8 @@ pub fn after_bundle(alloc: Global, bytes: &[u8]) -> Result<Vec<u8>, Refusal>
     }
 }
 
-/// Adds why `after_bundle` refuses a bundle with `WrongStage` at the step: which steps must come first where a history has begun a move, else what is wrong with the plan.
+/// Adds why `after_bundle` refuses a bundle with `WrongStage` at the step: which steps must come first where a history has begun a move, that the plan leaves a mirror,
+/// or what is wrong with the plan.
 pub fn push_open(alloc: Global, out: &mut Words, bytes: &[u8], step: u32) -> Result<(), Refusal> {
     let is_told = match studied(alloc, bytes) {
         Ok(found) => push_open_of(alloc, out, &found, step)?,
@@ -213,8 +230,16 @@ pub fn push_open(alloc: Global, out: &mut Words, bytes: &[u8], step: u32) -> Res
 
 fn push_open_of(alloc: Global, out: &mut Words, found: &Study, step: u32) -> Result<bool, Refusal> {
     let plan = found.approved.plan();
-    let (Some(history), Some(slot)) = (&found.history, slot_of(plan, step)) else {
+    let Some(slot) = slot_of(plan, step) else {
         return Ok(false);
+    };
+    let Some(history) = &found.history else {
+        out.fill(
+            b"refused: step # sets a mirror that no step switches, and a ring cannot say that\n",
+            &[],
+            &[step],
+        );
+        return Ok(true);
     };
     let progress = Progress::of(alloc, plan, history.as_slice())?;
     push_left(out, plan, &progress, slot, step);

@@ -177,8 +177,8 @@ fn push_by_goal(
     }
 }
 
-// Says which name of the command line is unknown.
-fn push_names(
+/// Says which name of the command line is unknown.
+pub(crate) fn push_names(
     alloc: Global,
     out: &mut Words,
     bytes: &[u8],

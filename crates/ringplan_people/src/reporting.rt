@@ -9,16 +9,17 @@ ghost use Rattle.ringplan_people.specs.Why.{IsWhy};
 use crate::after::{after_bundle, push_open};
 use crate::bundle::whole_bundle;
 use crate::cert::{cert_of, push_why_none};
-use crate::goal_words::{push_dead_leavers, push_goal_words};
+use crate::goal_words::{push_dead_leavers, push_goal_words, push_names};
 use crate::show::{draw_bundle, show_bundle};
 use crate::stating::state_bundle;
 use crate::steps::{moves_bundle, steps_bundle};
 use crate::why::{push_words_of, why_bundle};
 use crate::windows::{push_windows_words, windows_bundle};
 use helpers::Words;
+use plan_around::{around_bundle, push_around_words};
 use plan_bundles::{front, led_bundle, wish_words};
 use ring_names::Refusal;
-use ringplan_job::{Color, Exit, Making, Statement};
+use ringplan_job::{Color, Exit, Making, Options, Statement};
 use ringplan_jobs::{Answer, answer_of};
 use std::alloc::Global;
 
@@ -47,6 +48,9 @@ fn make_of(alloc: Global, making: &Making, bytes: &[u8]) -> Result<Vec<u8>, Refu
         Making::Windows(cut) => windows_bundle(alloc, bytes, *cut),
         Making::Goal(options, _) => led_bundle(alloc, bytes, options),
         Making::Even(options) => wish_words(alloc, bytes, options),
+        Making::Around(options, back) => {
+            around_bundle(alloc, bytes, options.dead.as_slice(), *back)
+        }
     }
 }
 
@@ -55,7 +59,22 @@ fn has_no_steps(output: &[u8]) -> bool {
     output[front(output, 1)..].starts_with(b"plan 1\nend\n")
 }
 
-// Adds what standard error says of what was made: which dead nodes leave though the change does not say so, and that a plan which was asked for has no steps.
+// Adds what standard error says of a goal: which dead nodes leave though the change does not say so, and that a plan which was asked for has no steps.
+fn push_goal_notes(
+    alloc: Global,
+    out: &mut Words,
+    options: &Options,
+    bytes: &[u8],
+    output: &[u8],
+) -> Result<(), Refusal> {
+    push_dead_leavers(alloc, out, bytes, options)?;
+    if has_no_steps(output) {
+        out.text(b"ringplan: the plan has no steps, as the ring is what it shall be\n");
+    }
+    Ok(())
+}
+
+// Adds what standard error says of what was made.
 fn push_notes(
     alloc: Global,
     out: &mut Words,
@@ -63,14 +82,13 @@ fn push_notes(
     bytes: &[u8],
     output: &[u8],
 ) -> Result<(), Refusal> {
-    let Making::Goal(options, _) = making else {
-        return Ok(());
-    };
-    push_dead_leavers(alloc, out, bytes, options)?;
-    if has_no_steps(output) {
-        out.text(b"ringplan: the plan has no steps, as the ring is what it shall be\n");
+    match making {
+        Making::Goal(options, _) => push_goal_notes(alloc, out, options, bytes, output),
+        Making::Around(options, back) => {
+            push_around_words(alloc, out, bytes, options.dead.as_slice(), *back)
+        }
+        _ => Ok(()),
     }
-    Ok(())
 }
 
 /// The exit status at a goal: 4 where it asks whether the plan has steps, and the plan has.
@@ -143,6 +161,13 @@ pub(crate) fn push_said(
         (Making::Windows(_), _) => push_windows_words(alloc, out, bytes, refusal),
         (Making::Goal(options, _) | Making::Even(options), _) => {
             push_goal_words(alloc, out, bytes, options, refusal)
+        }
+        (Making::Around(options, _), Refusal::UnknownNode(0)) => {
+            push_names(alloc, out, bytes, options)
+        }
+        (Making::Around(_, _), Refusal::NoPlan) => {
+            out.text(b"refused: no plan was found by which the history goes on\n");
+            Ok(())
         }
         _ => push_words_of(alloc, out, bytes, refusal),
     }

@@ -1,0 +1,209 @@
+//! The search as a whole, and what it works on.
+
+use crate::entries::Begun;
+use crate::hints::Hints;
+use crate::linking::link;
+use crate::moving::Moves;
+use crate::needs::Needs;
+use crate::settling::settle;
+use crate::sources::Listing;
+use crate::writing::{Written, write};
+use helpers::Words;
+use plan_cert::Cert;
+use plan_runs::Entry;
+use plan_text::Plan;
+use ring_names::{NodeId, Refusal};
+use ring_table::Ring;
+use ringplan_job::Back;
+use show_plan::Progress;
+use std::alloc::Global;
+use std::collections::BTreeMap;
+
+/// A plan that has begun, and the nodes that are dead from here on.
+#[derive(Clone, Copy)]
+pub struct Task<'a> {
+    pub alloc: Global,
+    pub ring: &'a Ring,
+    pub plan: &'a Plan,
+    /// The plan's certificate, whose chains say which copies share an allowance.
+    pub cert: &'a Cert,
+    /// A run of the plan.
+    pub history: &'a [Entry],
+    pub dead: &'a [NodeId],
+    pub back: Back,
+}
+
+/// Another plan, and what became of the steps of the old one.
+#[derive(Drop)]
+pub struct Around {
+    pub plan: Plan,
+    /// By step of the new plan, its number in the old one.
+    pub olds: Vec<u32>,
+    /// By step of the old plan, the number that its entries get. None for a step whose entries go, and for one that has not begun.
+    pub numbers: Vec<Option<u32>>,
+    /// Whether the new plan is the old one.
+    pub is_same: bool,
+    /// What becomes of slots and nodes, line by line.
+    pub words: Vec<u8>,
+}
+
+/// What the search has found so far.
+#[derive(Drop)]
+pub(crate) struct Search<'a> {
+    pub(crate) task: Task<'a>,
+    pub(crate) progress: Progress,
+    pub(crate) moves: Moves,
+    pub(crate) hints: Hints,
+    /// By node, whether it is dead.
+    pub(crate) dead: Vec<bool>,
+    /// By step, whether it has begun.
+    pub(crate) begun: Vec<bool>,
+    /// By step, whether it is left out.
+    pub(crate) gone: Vec<bool>,
+    /// By step, whether it is a copy that begins anew.
+    pub(crate) fresh: Vec<bool>,
+    /// By step, whether it is a mirror that is taken back.
+    pub(crate) taken: Vec<bool>,
+    /// What steps wait for besides what the plan says.
+    pub(crate) more: Needs,
+    /// What copies list in place of what the plan says, by copy.
+    pub(crate) listings: BTreeMap<u32, Listing>,
+    /// By node, how many copies were given to it to be read from, and how many slots it owns in the end.
+    pub(crate) load: Vec<u32>,
+    pub(crate) owned: Vec<u32>,
+    /// By node, 1 and the last partition in which it was seen to be busy; and 1 and the last partition that was looked at for that.
+    pub(crate) busy: Vec<u32>,
+    pub(crate) looked_at: u32,
+    /// Moves whose copies need other sources, by place.
+    pub(crate) later: Vec<usize>,
+    pub(crate) is_changed: bool,
+    pub(crate) words: Words,
+}
+
+/// What is marked at the place; false where there is no such place.
+pub(crate) fn is_set(marks: &[bool], place: u32) -> bool {
+    match marks.get(place as usize) {
+        Some(mark) => *mark,
+        None => false,
+    }
+}
+
+/// Marks the place, if there is one.
+pub(crate) fn mark(marks: &mut [bool], place: u32) {
+    if let Some(old) = marks.get_mut(place as usize) {
+        *old = true;
+    }
+}
+
+// By node, whether it is dead.
+fn flags(task: &Task) -> Result<Vec<bool>, Refusal> {
+    let mut dead = vec![in task.alloc; false; task.ring.nodes().len()]?;
+    for node in task.dead {
+        mark(dead.as_mut_slice(), node.0);
+    }
+    Ok(dead)
+}
+
+impl<'a> Search<'a> {
+    // Before anything is decided.
+    fn of(task: Task<'a>) -> Result<Search<'a>, Refusal> {
+        let (alloc, steps, nodes) = (
+            task.alloc,
+            task.plan.len() as usize,
+            task.ring.nodes().len(),
+        );
+        let found = Begun::of(&task)?;
+        let Begun { begun, hints } = found;
+        Ok(Search {
+            task,
+            progress: Progress::of(alloc, task.plan, task.history)?,
+            moves: Moves::of(alloc, task.ring, task.plan)?,
+            hints: Hints::of(alloc, task.ring, hints)?,
+            dead: flags(&task)?,
+            begun,
+            gone: vec![in alloc; false; steps]?,
+            fresh: vec![in alloc; false; steps]?,
+            taken: vec![in alloc; false; steps]?,
+            more: Needs::of(alloc, steps)?,
+            listings: BTreeMap::new(alloc),
+            load: vec![in alloc; 0u32; nodes]?,
+            owned: vec![in alloc; 0u32; nodes]?,
+            busy: vec![in alloc; 0u32; nodes]?,
+            looked_at: 0,
+            later: Vec::new(alloc),
+            is_changed: false,
+            words: Words::new(alloc),
+        })
+    }
+
+    /// Whether the node is dead.
+    pub(crate) fn is_dead(&self, node: u32) -> bool {
+        is_set(self.dead.as_slice(), node)
+    }
+
+    /// Whether the step is done, and not taken back.
+    pub(crate) fn is_done(&self, step: u32) -> bool {
+        self.progress.is_done(step) && !is_set(self.taken.as_slice(), step)
+    }
+
+    /// Whether there is such a step, and it is done.
+    pub(crate) fn has_done(&self, step: Option<u32>) -> bool {
+        match step {
+            Some(step) => self.is_done(step),
+            None => false,
+        }
+    }
+
+    /// Whether the step stays in the history: it is done, or a copy that has begun and goes on.
+    pub(crate) fn is_fixed(&self, step: u32) -> bool {
+        self.is_done(step)
+            || (is_set(self.begun.as_slice(), step)
+                && !is_set(self.fresh.as_slice(), step)
+                && !is_set(self.taken.as_slice(), step))
+    }
+
+    /// Whether the step is left out.
+    pub(crate) fn is_gone(&self, step: u32) -> bool {
+        is_set(self.gone.as_slice(), step)
+    }
+
+    /// The step, if there is one that is not left out.
+    pub(crate) fn kept(&self, step: Option<u32>) -> Option<u32> {
+        let step = step?;
+        if self.is_gone(step) { None } else { Some(step) }
+    }
+
+    /// Leaves the step out, if there is one.
+    pub(crate) fn remove(&mut self, step: Option<u32>) {
+        if let Some(step) = step {
+            mark(self.gone.as_mut_slice(), step);
+            self.is_changed = true;
+        }
+    }
+}
+
+/// Another plan around the dead, of which the history without what is taken back or begins anew is a run, if one is found; else `NoPlan`. Want of memory is
+/// `OutOfMemory`. Where nothing that is to come asks anything of the dead, it is the old plan. Costs about a pass over the plan and one over the history, and sorting.
+pub fn find_around(task: Task) -> Result<Around, Refusal> {
+    let mut search = Search::of(task)?;
+    settle(&mut search)?;
+    let needs = link(&mut search)?;
+    let written = write(&search, needs)?;
+    let Written {
+        plan,
+        olds,
+        numbers,
+    } = written;
+    let Search {
+        is_changed,
+        words,
+        ..
+    } = search;
+    Ok(Around {
+        plan,
+        olds,
+        numbers,
+        is_same: !is_changed,
+        words: words.end()?,
+    })
+}

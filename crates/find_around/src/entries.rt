@@ -1,0 +1,49 @@
+//! What a history has begun, and the hints that nodes keep after it.
+
+use crate::around::{Task, mark};
+use plan_runs::{Entry, Event, Reply};
+use ring_names::{Refusal, Slot};
+use std::collections::BTreeSet;
+
+/// By step whether it has begun, and the hints that are kept, by slot.
+#[derive(Drop)]
+pub(crate) struct Begun {
+    pub(crate) begun: Vec<bool>,
+    pub(crate) hints: BTreeSet<(Slot, u32)>,
+}
+
+impl Begun {
+    /// What the task's history has begun.
+    pub(crate) fn of(task: &Task) -> Result<Begun, Refusal> {
+        let mut found = Begun {
+            begun: vec![in task.alloc; false; task.plan.len() as usize]?,
+            hints: BTreeSet::new(task.alloc),
+        };
+        for entry in task.history {
+            found.note(entry)?;
+        }
+        Ok(found)
+    }
+
+    // An entry more.
+    fn note(&mut self, entry: &Entry) -> Result<(), Refusal> {
+        match &entry.event {
+            Event::Do(step) | Event::OpenCopy(step) => mark(self.begun.as_mut_slice(), *step),
+            Event::Hint(_, _, node) => {
+                if let Reply::Ticket(slot, _) = &entry.reply {
+                    self.hints.insert((*slot, node.0))?;
+                }
+            }
+            Event::Handoff(node, slot) => {
+                let _ = self.hints.remove(&(*slot, node.0));
+            }
+            Event::Lose(node) => {
+                let lost = node.0;
+                self.hints.retain(|hint| hint.1 != lost);
+            }
+            // No other begins a step, or changes who keeps a hint.
+            _ => {}
+        }
+        Ok(())
+    }
+}

@@ -1,0 +1,60 @@
+//! The hints that nodes keep, by partition.
+
+use helpers::{at, set, small};
+use ring_names::{Refusal, Slot};
+use ring_table::Ring;
+use std::alloc::Global;
+use std::collections::BTreeSet;
+
+/// Which nodes keep hints for which slots.
+#[derive(Drop)]
+pub(crate) struct Hints {
+    // ascending
+    all: Vec<(Slot, u32)>,
+    // by partition, where its hints begin, and then how many there are
+    firsts: Vec<u32>,
+}
+
+impl Hints {
+    /// These hints.
+    pub(crate) fn of(
+        alloc: Global,
+        ring: &Ring,
+        kept: BTreeSet<(Slot, u32)>,
+    ) -> Result<Hints, Refusal> {
+        let partitions = ring.q() as usize;
+        let mut hints = Hints {
+            all: Vec::new(alloc),
+            firsts: vec![in alloc; 0u32; partitions.saturating_add(1)]?,
+        };
+        for hint in kept.iter() {
+            hints.all.push(*hint)?;
+            let behind = (hint.0.partition as usize).saturating_add(1);
+            set(hints.firsts.as_mut_slice(), behind, small(hints.all.len()));
+        }
+        let mut count = 0u32;
+        for place in 0..partitions.saturating_add(1) {
+            count = count.max(at(hints.firsts.as_slice(), place));
+            set(hints.firsts.as_mut_slice(), place, count);
+        }
+        Ok(hints)
+    }
+
+    /// All of them.
+    pub(crate) fn all(&self) -> &[(Slot, u32)] {
+        self.all.as_slice()
+    }
+
+    /// Those of a partition's slots.
+    pub(crate) fn of_partition(&self, partition: u32) -> &[(Slot, u32)] {
+        let from = at(self.firsts.as_slice(), partition as usize) as usize;
+        let to = at(
+            self.firsts.as_slice(),
+            (partition as usize).saturating_add(1),
+        ) as usize;
+        if from <= to && to <= self.all.len() {
+            return &self.all[from..to];
+        }
+        &[]
+    }
+}

@@ -1,0 +1,393 @@
+//! What each step of the new plan waits for: what it waited for, its slot's step before it, and by the allowances a copy in which its nodes take part.
+
+use crate::around::{Search, is_set};
+use crate::moving::Move;
+use crate::needs::Needs;
+use crate::owners::Way;
+use crate::sources::Listing;
+use helpers::{at, raise, set, small};
+use plan_text::{Source, Step};
+use ring_names::{NodeId, Refusal, Slot};
+use ring_table::{Allowance, Side};
+use std::alloc::Global;
+
+// The most looks at steps that are left out.
+const LOOKS: u32 = 100_000_000;
+
+// The copies of each group of transfers, of which a node has one or two, that no other waits for yet.
+#[derive(Drop)]
+struct Tails {
+    // by group; at most as many as may be open
+    copies: Vec<Vec<u32>>,
+    // by step, 1 and its place in the order in which steps are linked, and how many copies come before its end
+    places: Vec<u32>,
+    depths: Vec<u32>,
+}
+
+// The groups of a copy: at most 8 nodes take part.
+#[derive(Drop)]
+struct Parties {
+    groups: Vec<usize>,
+}
+
+/// What each step that is left waits for.
+pub(crate) fn link(search: &mut Search) -> Result<Needs, Refusal> {
+    let mut needs = Needs::of(search.task.alloc, search.task.plan.len() as usize)?;
+    search.keep_needs(&mut needs)?;
+    if search.is_changed {
+        search.follow_slots(&mut needs)?;
+        search.retire_last(&mut needs)?;
+        search.link_copies(&mut needs)?;
+    }
+    Ok(needs)
+}
+
+impl Search<'_> {
+    // Each step waits for what it waited for; in place of steps that are left out, for what these waited for.
+    fn keep_needs(&self, needs: &mut Needs) -> Result<(), Refusal> {
+        let count = self.task.plan.len();
+        let mut seen = vec![in self.task.alloc; 0u32; count as usize]?;
+        let mut left = LOOKS;
+        for step in 0..count {
+            if !self.is_gone(step) {
+                left = self.keep_of(needs, seen.as_mut_slice(), step, left)?;
+            }
+        }
+        Ok(())
+    }
+
+    // Likewise for one step. Answers how many looks are left.
+    fn keep_of(
+        &self,
+        needs: &mut Needs,
+        seen: &mut [u32],
+        step: u32,
+        looks: u32,
+    ) -> Result<u32, Refusal> {
+        let stamp = step.saturating_add(1);
+        let is_fixed = self.is_fixed(step);
+        let mut stack = Vec::new(self.task.alloc);
+        self.push_waits(&mut stack, step)?;
+        let mut left = looks;
+        for turn in 0..looks {
+            let Some(other) = stack.pop() else {
+                return Ok(left);
+            };
+            left = left.saturating_sub(1);
+            if at(seen, other as usize) != stamp {
+                set(seen, other as usize, stamp);
+                if !self.is_gone(other) {
+                    if !is_fixed || !is_set(self.taken.as_slice(), other) {
+                        needs.add(step, other)?;
+                    }
+                } else if !is_fixed {
+                    self.push_waits(&mut stack, other)?;
+                }
+            }
+        }
+        Err(Refusal::NoPlan)
+    }
+
+    // Adds what the step waits for directly.
+    fn push_waits(&self, stack: &mut Vec<u32>, step: u32) -> Result<(), Refusal> {
+        if step < self.task.plan.len() {
+            stack.extend_from_slice(self.task.plan.deps(step))?;
+        }
+        stack.extend_from_slice(self.more.row(step))?;
+        Ok(())
+    }
+
+    // Each step of a slot that is to come waits for the slot's step before it.
+    fn follow_slots(&self, needs: &mut Needs) -> Result<(), Refusal> {
+        for partition in 0..self.task.ring.q() {
+            for index in 0..self.task.ring.n() {
+                self.follow_slot(needs, Slot { partition, index })?;
+            }
+        }
+        Ok(())
+    }
+
+    fn follow_slot(&self, needs: &mut Needs, slot: Slot) -> Result<(), Refusal> {
+        let mut last = None;
+        let mut next = self.moves.first(slot);
+        for turn in 0..self.moves.len() {
+            let Some(it) = self.moves.at(next) else {
+                break;
+            };
+            for step in [it.mirror, it.copy, it.switch] {
+                if let Some(step) = self.kept(step) {
+                    if let Some(last) = last {
+                        if !self.is_fixed(step) {
+                            needs.add(step, last)?;
+                        }
+                    }
+                    last = Some(step);
+                }
+            }
+            next = it.next;
+        }
+        Ok(())
+    }
+
+    // A retirement waits for all drops of its node.
+    fn retire_last(&self, needs: &mut Needs) -> Result<(), Refusal> {
+        for place in 0..self.moves.len() {
+            if let Some(it) = self.moves.at(Some(place)) {
+                let retire = self.task.plan.retirement_of(NodeId(it.source));
+                if let (Some(drop), Some(retire)) = (self.kept(it.drop), self.kept(retire)) {
+                    if !self.is_done(retire) {
+                        needs.add(retire, drop)?;
+                    }
+                }
+            }
+        }
+        Ok(())
+    }
+
+    // The steps in the order in which they are linked: those that are done, copies that have begun, and the rest.
+    fn line_up(&self) -> Result<Vec<u32>, Refusal> {
+        let mut order = Vec::new(self.task.alloc);
+        for turn in 0..3u32 {
+            for step in 0..self.task.plan.len() {
+                let rank = if self.is_done(step) {
+                    0
+                } else if self.is_fixed(step) {
+                    1
+                } else {
+                    2
+                };
+                if rank == turn && !self.is_gone(step) {
+                    order.push(step)?;
+                }
+            }
+        }
+        Ok(order)
+    }
+
+    // Puts each copy that has not begun after one that ends a chain, for each node that takes part in it and has as many chains as it may have copies open.
+    fn link_copies(&self, needs: &mut Needs) -> Result<(), Refusal> {
+        let order = self.line_up()?;
+        let mut tails = Tails::of(self.task.alloc, self, order.as_slice())?;
+        for step in order.iter() {
+            if let Some(it) = self.copied_by(*step) {
+                if !self.is_fixed(*step) {
+                    self.link_copy(needs, &mut tails, &it, *step)?;
+                }
+            }
+            tails.sink(needs, *step, self.copied_by(*step).is_some());
+        }
+        Ok(())
+    }
+
+    // The move whose copy the step is, if it is left.
+    fn copied_by(&self, step: u32) -> Option<Move> {
+        let it = self.moves.at(self.moves.of_step(step))?;
+        if self.kept(it.copy) == Some(step) {
+            Some(it)
+        } else {
+            None
+        }
+    }
+
+    // Puts the copy after others.
+    fn link_copy(
+        &self,
+        needs: &mut Needs,
+        tails: &mut Tails,
+        it: &Move,
+        copy: u32,
+    ) -> Result<(), Refusal> {
+        let parties = self.parties(it, copy)?;
+        for group in parties.groups.iter() {
+            let most = self.most(*group);
+            if let Some(tail) = tails.follow(*group, copy, most)? {
+                needs.add(copy, tail)?;
+                if let Some(mirror) = self.kept(it.mirror) {
+                    if !self.is_done(mirror) && tails.is_before(tail, mirror) {
+                        needs.add(mirror, tail)?;
+                    }
+                }
+            }
+        }
+        Ok(())
+    }
+
+    // The group of a side of the node.
+    fn group(&self, node: u32, side: Side) -> usize {
+        let place = (node as usize).saturating_mul(2);
+        if self.is_split(node) && side == Side::Give {
+            return place.saturating_add(1);
+        }
+        place
+    }
+
+    fn is_split(&self, node: u32) -> bool {
+        match self.task.ring.nodes().get(node as usize) {
+            Some(declared) => matches!(declared.allowance, Allowance::Split { .. }),
+            None => false,
+        }
+    }
+
+    // How many copies of the group may be open.
+    fn most(&self, group: usize) -> u32 {
+        match self.task.ring.nodes().get(group / 2) {
+            Some(declared) => match declared.allowance {
+                Allowance::Joint(most) => most,
+                Allowance::Split { take, give } => { if group % 2 == 0 { take } else { give } }
+            },
+            None => 0,
+        }
+    }
+
+    // The groups of the nodes that take part in the copy, each once.
+    fn parties(&self, it: &Move, copy: u32) -> Result<Parties, Refusal> {
+        let mut groups = Vec::new(self.task.alloc);
+        groups.push(self.group(it.target, Side::Take))?;
+        match self.listings.get(&copy) {
+            Some(listing) => self.push_listed(&mut groups, it, copy, listing)?,
+            None => self.push_sources(&mut groups, it, copy)?,
+        }
+        Ok(Parties { groups })
+    }
+
+    // Adds the groups from which a copy with other sources reads.
+    fn push_listed(
+        &self,
+        groups: &mut Vec<usize>,
+        it: &Move,
+        copy: u32,
+        listing: &Listing,
+    ) -> Result<(), Refusal> {
+        let partition = it.slot.partition;
+        for index in 0..7u32 {
+            if let Some(Some(way)) = listing.ways.get(index as usize) {
+                let line = match way {
+                    Way::InLine => copy,
+                    Way::First => 0,
+                };
+                let owner = self.owner_at(Slot { partition, index }, line);
+                self.push_giver(groups, owner)?;
+            }
+        }
+        Ok(())
+    }
+
+    // Adds the groups from which a copy reads by the plan that was.
+    fn push_sources(&self, groups: &mut Vec<usize>, it: &Move, copy: u32) -> Result<(), Refusal> {
+        if copy >= self.task.plan.len() {
+            return Ok(());
+        }
+        let Step::Copy(_, Source::Slots(from)) = self.task.plan.step(copy) else {
+            return self.push_giver(groups, it.source);
+        };
+        let partition = it.slot.partition;
+        for index in from.as_slice() {
+            let index = *index;
+            let owner = self.owner_at(Slot { partition, index }, copy);
+            self.push_giver(groups, owner)?;
+        }
+        Ok(())
+    }
+
+    // Adds the group by which the node gives, unless it is there.
+    fn push_giver(&self, groups: &mut Vec<usize>, node: u32) -> Result<(), Refusal> {
+        let group = self.group(node, Side::Give);
+        if !groups.contains(&group) {
+            groups.push(group)?;
+        }
+        Ok(())
+    }
+
+    // The last of a chain's copies that has begun and is left.
+    fn last_begun(&self, steps: &[u32]) -> Option<u32> {
+        let mut last = None;
+        for step in steps {
+            if self.is_fixed(*step) && !self.is_gone(*step) && self.copied_by(*step).is_some() {
+                last = Some(*step);
+            }
+        }
+        last
+    }
+}
+
+impl Tails {
+    // The ends of the certificate's chains, as far as these have begun.
+    fn of(alloc: Global, search: &Search, order: &[u32]) -> Result<Tails, Refusal> {
+        let steps = search.task.plan.len() as usize;
+        let mut tails = Tails {
+            copies: Vec::new(alloc),
+            places: vec![in alloc; 0u32; steps]?,
+            depths: vec![in alloc; 0u32; steps]?,
+        };
+        for node in 0..search.task.ring.nodes().len() {
+            tails.copies.push(Vec::new(alloc))?;
+            tails.copies.push(Vec::new(alloc))?;
+        }
+        for place in 0..order.len() {
+            let step = at(order, place);
+            set(
+                tails.places.as_mut_slice(),
+                step as usize,
+                small(place).saturating_add(1),
+            );
+        }
+        let chains = &search.task.cert.chains;
+        for place in 0..chains.len() {
+            let of = chains.of(place);
+            if let Some(last) = search.last_begun(chains.steps(place)) {
+                let group = search.group(of.node.0, of.side);
+                if let Some(list) = tails.copies.get_mut(group) {
+                    list.push(last)?;
+                }
+            }
+        }
+        Ok(tails)
+    }
+
+    // Lets the copy end a chain of the group: a new one where it may have one more, else the one with fewest copies. That one's end is the answer.
+    fn follow(&mut self, group: usize, copy: u32, most: u32) -> Result<Option<u32>, Refusal> {
+        let depths = self.depths.as_slice();
+        let Some(list) = self.copies.get_mut(group) else {
+            return Ok(None);
+        };
+        if list.len() < most as usize {
+            list.push(copy)?;
+            return Ok(None);
+        }
+        let place = shallowest(depths, list.as_slice());
+        let tail = at(list.as_slice(), place);
+        set(list.as_mut_slice(), place, copy);
+        Ok(Some(tail))
+    }
+
+    // Whether the step is linked before the other.
+    fn is_before(&self, step: u32, other: u32) -> bool {
+        at(self.places.as_slice(), step as usize) < at(self.places.as_slice(), other as usize)
+    }
+
+    // Counts the copies that come before the step's end, one after the other.
+    fn sink(&mut self, needs: &Needs, step: u32, is_copy: bool) {
+        let mut depth = 0u32;
+        for other in needs.row(step) {
+            depth = depth.max(at(self.depths.as_slice(), *other as usize));
+        }
+        set(self.depths.as_mut_slice(), step as usize, depth);
+        if is_copy {
+            raise(self.depths.as_mut_slice(), step as usize);
+        }
+    }
+}
+
+// The place of the copy with the least depth.
+fn shallowest(depths: &[u32], copies: &[u32]) -> usize {
+    let mut best = 0usize;
+    let mut least = u32::MAX;
+    for place in 0..copies.len() {
+        let depth = at(depths, at(copies, place) as usize);
+        if depth < least {
+            least = depth;
+            best = place;
+        }
+    }
+    best
+}

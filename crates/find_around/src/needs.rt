@@ -1,0 +1,46 @@
+//! What steps wait for, by step.
+
+use ring_names::Refusal;
+use std::alloc::Global;
+
+/// For each step a list of the steps that it waits for.
+#[derive(Drop)]
+pub(crate) struct Needs {
+    lists: Vec<Vec<u32>>,
+    // how many there are together
+    count: usize,
+}
+
+// The most that a plan may have, and as many again that may go.
+const MOST: usize = 1_048_576;
+
+impl Needs {
+    /// No step waits for any.
+    pub(crate) fn of(alloc: Global, steps: usize) -> Result<Needs, Refusal> {
+        let mut lists = Vec::new(alloc);
+        for step in 0..steps {
+            lists.push(Vec::new(alloc))?;
+        }
+        Ok(Needs { lists, count: 0 })
+    }
+
+    /// The step waits for the other too. `NoPlan` where that is more than any plan says.
+    pub(crate) fn add(&mut self, step: u32, other: u32) -> Result<(), Refusal> {
+        if self.count >= MOST {
+            return Err(Refusal::NoPlan);
+        }
+        if let Some(list) = self.lists.get_mut(step as usize) {
+            list.push(other)?;
+            self.count = self.count.saturating_add(1);
+        }
+        Ok(())
+    }
+
+    /// What the step waits for, in the order in which it was said.
+    pub(crate) fn row(&self, step: u32) -> &[u32] {
+        match self.lists.get(step as usize) {
+            Some(list) => list.as_slice(),
+            None => &[],
+        }
+    }
+}

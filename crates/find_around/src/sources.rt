@@ -1,0 +1,152 @@
+//! Other sources for a copy: slots that can be read, in place of a dead owner.
+
+use crate::around::{Search, mark};
+use crate::moving::Move;
+use crate::owners::Way;
+use helpers::{at, raise};
+use plan_text::{Source, Step};
+use ring_names::{Refusal, Slot};
+use ring_table::Allowance;
+
+/// What a copy lists: by index up to 7 slots, and how it stands to the switches of each.
+#[derive(Clone, Copy, Debug)]
+pub(crate) struct Listing {
+    pub(crate) ways: [Option<Way>; 7],
+}
+
+// A slot that can be listed; those to be taken first come first.
+#[derive(Clone, Copy, Debug, PartialEq, Eq, PartialOrd, Ord)]
+struct Candidate {
+    // how many of its switches are to come
+    switches: u32,
+    // how many copies read from its owner already, in parts of what the owner can give at once
+    load: u64,
+    index: u32,
+    owner: u32,
+    is_first: bool,
+}
+
+impl Search<'_> {
+    // How many copies read from the node, in parts of what it can give at once.
+    fn load_of(&self, node: u32) -> u64 {
+        let gives = match self.task.ring.nodes().get(node as usize) {
+            Some(declared) => match declared.allowance {
+                Allowance::Joint(most) => most,
+                Allowance::Split { take: _, give } => give,
+            },
+            None => 1,
+        };
+        let load = u64::from(at(self.load.as_slice(), node as usize)).saturating_mul(1_000_000);
+        match load.checked_div(u64::from(gives)) {
+            Some(part) => part,
+            None => load,
+        }
+    }
+
+    // The slot of that index as a source of a copy on that line, if it can be read.
+    fn candidate(&self, slot: Slot, line: u32) -> Option<Candidate> {
+        let (way, owner) = self.readable(slot, line)?;
+        Some(Candidate {
+            switches: self.switches_left(slot),
+            load: self.load_of(owner),
+            index: slot.index,
+            owner,
+            is_first: way == Way::First,
+        })
+    }
+
+    // The slots of the move's partition that its copy may list, the best first.
+    fn candidates(&self, it: &Move, copy: u32) -> Result<Vec<Candidate>, Refusal> {
+        let mut found = Vec::new(self.task.alloc);
+        let partition = it.slot.partition;
+        for index in 0..self.task.ring.n() {
+            if index != it.slot.index {
+                if let Some(candidate) = self.candidate(Slot { partition, index }, copy) {
+                    found.push(candidate)?;
+                }
+            }
+        }
+        found.sort_unstable();
+        Ok(found)
+    }
+
+    // Puts the copy and the switches of a slot that it lists in order.
+    fn order(&mut self, slot: Slot, copy: u32, way: Way) -> Result<(), Refusal> {
+        let mut next = self.moves.first(slot);
+        for turn in 0..self.moves.len() {
+            let Some(it) = self.moves.at(next) else {
+                break;
+            };
+            if let Some(switch) = self.kept(it.switch) {
+                let is_before = self.is_done(switch) || (way == Way::InLine && switch < copy);
+                if is_before {
+                    self.more.add(copy, switch)?;
+                } else {
+                    self.more.add(switch, copy)?;
+                }
+            }
+            next = it.next;
+        }
+        Ok(())
+    }
+
+    // The copy lists the slot.
+    fn list(
+        &mut self,
+        listing: &mut Listing,
+        partition: u32,
+        copy: u32,
+        one: Candidate,
+    ) -> Result<(), Refusal> {
+        let way = if one.is_first {
+            Way::First
+        } else {
+            Way::InLine
+        };
+        let index = one.index;
+        raise(self.load.as_mut_slice(), one.owner as usize);
+        self.order(Slot { partition, index }, copy, way)?;
+        if let Some(old) = listing.ways.get_mut(index as usize) {
+            *old = Some(way);
+        }
+        Ok(())
+    }
+
+    /// Gives the copy R other slots to read. Answers whether there are as many.
+    pub(crate) fn relist(&mut self, it: &Move, copy: u32) -> Result<bool, Refusal> {
+        let found = self.candidates(it, copy)?;
+        let reads = self.task.ring.r() as usize;
+        if found.len() < reads {
+            return Ok(false);
+        }
+        let mut listing = Listing { ways: [None; 7] };
+        for one in found.iter().take(reads) {
+            self.list(&mut listing, it.slot.partition, copy, *one)?;
+        }
+        self.listings.insert(copy, listing)?;
+        mark(self.fresh.as_mut_slice(), copy);
+        self.is_changed = true;
+        Ok(true)
+    }
+
+    /// Whether the move's copy lists a slot that cannot be read.
+    pub(crate) fn reads_dead(&self, it: &Move) -> bool {
+        let Some(copy) = it.copy else {
+            return false;
+        };
+        if copy >= self.task.plan.len() {
+            return false;
+        }
+        let Step::Copy(_, Source::Slots(from)) = self.task.plan.step(copy) else {
+            return false;
+        };
+        let partition = it.slot.partition;
+        for index in from.as_slice() {
+            let index = *index;
+            if self.readable(Slot { partition, index }, copy).is_none() {
+                return true;
+            }
+        }
+        false
+    }
+}

@@ -1,0 +1,120 @@
+//! Another node for a slot whose target is dead.
+
+use crate::around::Search;
+use crate::moving::{Move, first_owner};
+use helpers::{at, raise, set, small};
+use ring_names::{NodeId, Slot};
+use show_plan::{name, rack};
+
+// The byte that a rack's name follows.
+const RACK: u8 = b'.';
+
+impl Search<'_> {
+    // Marks the nodes that serve a slot of the partition at any time, or keep a hint for one. Costs a look at each of its moves, once.
+    fn mark_busy(&mut self, partition: u32) {
+        let stamp = partition.saturating_add(1);
+        if self.looked_at == stamp {
+            return;
+        }
+        self.looked_at = stamp;
+        for index in 0..self.task.ring.n() {
+            let slot = Slot { partition, index };
+            let owner = first_owner(self.task.ring, slot);
+            set(self.busy.as_mut_slice(), owner as usize, stamp);
+            let mut next = self.moves.first(slot);
+            for turn in 0..self.moves.len() {
+                let Some(it) = self.moves.at(next) else {
+                    break;
+                };
+                set(self.busy.as_mut_slice(), it.target as usize, stamp);
+                next = it.next;
+            }
+        }
+        for hint in self.hints.of_partition(partition) {
+            set(self.busy.as_mut_slice(), hint.1 as usize, stamp);
+        }
+    }
+
+    // Whether the node may take a slot of the partition: it lives, is a member or joins, does not retire, and is not busy there.
+    fn may_take(&self, partition: u32, node: u32) -> bool {
+        let plan = self.task.plan;
+        let id = NodeId(node);
+        let is_member = self.task.ring.is_member(id) || self.kept(plan.join_of(id)).is_some();
+        is_member
+            && plan.retirement_of(id).is_none()
+            && !self.is_dead(node)
+            && at(self.busy.as_slice(), node as usize) != partition.saturating_add(1)
+    }
+
+    // Whether the two nodes are in one rack.
+    fn are_kin(&self, node: u32, other: u32) -> bool {
+        let ring = self.task.ring;
+        rack(name(ring, node), RACK) == rack(name(ring, other), RACK)
+    }
+
+    // How many of the partition's other slots are in the node's rack in the end.
+    fn count_kin(&self, node: u32, owners: &[u32]) -> u32 {
+        let mut count = 0u32;
+        for owner in owners {
+            if self.are_kin(node, *owner) {
+                count = count.saturating_add(1);
+            }
+        }
+        count
+    }
+
+    // The owners of the partition's other slots in the end.
+    fn others(&self, it: &Move) -> [u32; 7] {
+        let mut owners = [u32::MAX; 7];
+        let partition = it.slot.partition;
+        for index in 0..self.task.ring.n() {
+            if index != it.slot.index {
+                let owner = self.last_owner(Slot { partition, index });
+                set(&mut owners, index as usize, owner);
+            }
+        }
+        owners
+    }
+
+    /// Another target for the move, with fewest slots: in another rack than the partition's other slots, if there is one.
+    pub(crate) fn other_target(&mut self, it: &Move) -> Option<u32> {
+        self.mark_busy(it.slot.partition);
+        let has_racks = name(self.task.ring, it.target).contains(&RACK);
+        let owners = if has_racks {
+            self.others(it)
+        } else {
+            [u32::MAX; 7]
+        };
+        let mut best = None;
+        let mut least = (u32::MAX, u32::MAX);
+        for node in 0..small(self.task.ring.nodes().len()) {
+            if self.may_take(it.slot.partition, node) {
+                let kin = if has_racks {
+                    self.count_kin(node, &owners)
+                } else {
+                    0
+                };
+                let cost = (kin, at(self.owned.as_slice(), node as usize));
+                if best.is_none() || cost < least {
+                    best = Some(node);
+                    least = cost;
+                }
+            }
+        }
+        if let Some(node) = best {
+            let stamp = it.slot.partition.saturating_add(1);
+            set(self.busy.as_mut_slice(), node as usize, stamp);
+        }
+        best
+    }
+
+    /// The node owns one slot more in the end.
+    pub(crate) fn own(&mut self, node: u32) {
+        raise(self.owned.as_mut_slice(), node as usize);
+    }
+
+    /// Whether the node shall leave: it retires in the plan that was, or it is dead.
+    pub(crate) fn leaves(&self, node: u32) -> bool {
+        self.is_dead(node) || self.task.plan.retirement_of(NodeId(node)).is_some()
+    }
+}

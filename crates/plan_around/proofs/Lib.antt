@@ -1,0 +1,4 @@
+-- What is proved of plans around the dead.
+pub mod Refusing
+pub mod Again
+pub mod Asking

@@ -1,0 +1,33 @@
+use Rattle.std.proofs.Common.{◌∙◌, arith}
+use Rattle.plan_text.specs.Valid.{step_suits}
+use Rattle.plan_cover.specs.Looking.Serving.{serving_at}
+use Rattle.plan_cover.proofs.Served.{serving-first, step-passes, present-next}
+use Rattle.ring_core.specs.World.{Meets}
+use Rattle.plan_around.proofs.Asking.{apart-more}
+use Rattle.plan_around.proofs.apart.are_apart.Goals as goal
+
+pub loop-number-init : goal.loop-number-init
+loop-number-init c = record {
+  told = λ w m k l. absurd (omega arith);
+  present = λ s. c.in_ok-present.ensures.ok s ∙ serving-first c.args.ring.now c.args.plan.now s;
+  room = c.in_ok-present.ensures.room;
+}
+
+pub is_step_apart-requires : goal.is_step_apart-requires
+is_step_apart-requires c = step-passes (step_suits c.args.ring.now) c.args.plan.now c.loop-number.number c.step-step.result.now c.step-step.ensures.value c.requires.steps
+
+pub act-requires-clause-suits : goal.act-requires-clause-suits
+act-requires-clause-suits c = step-passes (step_suits c.args.ring.now) c.args.plan.now c.loop-number.number c.step-step.result.now c.step-step.ensures.value c.requires.steps
+
+pub loop-number-preserved : goal.loop-number-preserved
+loop-number-preserved c =
+    let ring = c.args.ring.now in
+    let plan = c.args.plan.now in
+    let n = c.loop-number.number in
+    let t = c.step-step.result.now in
+    let serve = serving_at ring c.loop-number.present in
+    record {
+      told = apart-more ring plan c.args.dead.now (Meets c.args.store.now) n t serve c.step-step.ensures.value c.loop-number.invariant.present (c.is_step_apart.ensures c.if-not-is_step_apart.false) c.loop-number.invariant.told;
+      present = λ s. present-next ring plan s n t (serve s) (serving_at ring c.act.new.self s) c.step-step.ensures.value (c.loop-number.invariant.present s) (c.act.ensures.serving s);
+      room = c.act.ensures.room;
+    }

@@ -1,0 +1,11 @@
+use Rattle.std.proofs.Common.{◌∙◌, List, Some, map, sym, ap}
+use Rattle.std.proofs.lemmas.Result.{IfOk-weaker}
+use Rattle.ring_names.specs.declared.ids.NodeId.{NodeId}
+use Rattle.history_text.specs.Replays.{parts_of}
+use Rattle.plan_around.proofs.around.around_bundle.Goals as goal
+
+pub returns : goal.returns
+returns c =
+    let read = c.in_ok-read.read in
+    let named = c.in_ok-nodes.ensures ∙ ap (λ (xs : List NodeId). map (λ x. Some x.0) xs) (sym c.as_slice.ensures.value) in
+    record { around = IfOk-weaker c.around_read.result _ _ (λ v is. record { parts = parts_of read; read = c.in_ok-read.ensures.read; dead = c.as_slice.result.now; named = named; around = is }) c.around_read.ensures }

@@ -1,0 +1,18 @@
+use Rattle.std.proofs.Common.{List, subst}
+use Rattle.ring_table.specs.Value.{RingValue}
+use Rattle.plan_text.specs.declared.step.Planned.{Planned}
+use Rattle.plan_runs.specs.declared.event.Entry.{Entry}
+use Rattle.plan_around.specs.Around.{GoesAround}
+use Rattle.plan_around.proofs.around.around_read.Goals as goal
+
+pub returns-in-Ok : goal.returns-in-Ok
+returns-in-Ok c =
+    let read = c.args.read in
+    let dead = c.args.dead.now in
+    let back = c.args.back in
+    let text = c.in-Ok.text.items in
+    let old = c.in_ok-approved.approved.plan in
+    let entries = c.as_slice-entries.result.now in
+    subst (λ (h : List Entry). GoesAround back read.ring dead read.writers read.plan h text) c.as_slice-entries.ensures.value
+    (subst (λ (p : List Planned). GoesAround back read.ring dead read.writers p entries text) c.in_ok-approved.ensures.same.1
+    (subst (λ (r : RingValue). GoesAround back r dead read.writers old entries text) c.in_ok-other.ensures c.in-Ok.ensures))

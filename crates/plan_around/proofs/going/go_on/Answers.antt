@@ -1,0 +1,29 @@
+use Rattle.std.proofs.Common.{List, ap, subst, ◌∙◌}
+use Rattle.std.proofs.lemmas.Result.{IfOk-weaker}
+use Rattle.ring_table.specs.Value.{RingValue}
+use Rattle.ring_table.specs.Spelling.{ring_text}
+use Rattle.plan_text.specs.Spelling.{plan_text}
+use Rattle.plan_text.specs.declared.step.Planned.{Planned}
+use Rattle.plan_cert.specs.Spelling.{cert_text}
+use Rattle.history_text.specs.Spelling.{history_text}
+use Rattle.plan_around.specs.Around.{RunsApart}
+use Rattle.plan_around.proofs.Again.{four}
+use Rattle.plan_around.proofs.going.go_on.Goals as goal
+
+pub returns : goal.returns
+returns c =
+    let ring = c.args.ring in
+    let plan = c.args.plan in
+    let it = c.args.it.now in
+    let approved = c.in_ok-approved.approved in
+    let same = c.in_ok-approved.ensures.same in
+    let run = subst (λ (r : RingValue). RunsApart r plan it.dead.now it.history.now) same.0 (subst (λ (p : List Planned). RunsApart approved.ring p it.dead.now it.history.now) same.1 c.in_ok-history.ensures.run) in
+    let more = c.as_slice.ensures.value ∙ c.in_ok-history.ensures.text ∙ ap (λ (r : RingValue). history_text r it.writers.now it.history.now) same.0 in
+    IfOk-weaker c.followed.result _ _
+    (λ v is. record {
+      certified = c.in_ok-approved.ensures.certified;
+      keeps = c.in_ok-approved.ensures.keeps;
+      run = run;
+      text = four (ring_text ring) (plan_text ring plan) (cert_text ring it.cert.now) (history_text ring it.writers.now it.history.now) v.items c.in_ok-text.text.items c.as_slice.result.now c.in_ok-text.ensures more is;
+    })
+    c.followed.ensures

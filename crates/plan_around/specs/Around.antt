@@ -1,0 +1,49 @@
+-- A plan around the dead, and the history that goes on by it.
+use Rattle.std.specs.Prelude.{◌≡◌, ℕ, List, ◌++◌, Ok}
+use Rattle.ring_names.specs.declared.ids.NodeId.{NodeId}
+use Rattle.texts.specs.Left.{whole_text}
+use Rattle.ring_table.specs.Value.{RingValue}
+use Rattle.ring_table.specs.Spelling.{ring_text}
+use Rattle.plan_text.specs.declared.step.Planned.{Planned}
+use Rattle.plan_text.specs.Spelling.{plan_text}
+use Rattle.plan_cert.specs.declared.cert.Cert.{Cert}
+use Rattle.plan_cert.specs.Spelling.{cert_text}
+use Rattle.plan_runs.specs.declared.event.Entry.{Entry}
+use Rattle.plan_runs.specs.Runs.{IsRun}
+use Rattle.plan_runs.specs.World.{World}
+use Rattle.plan_check.specs.Certified.{IsCertified}
+use Rattle.plan_check.specs.Headline.{KeepsPromises}
+use Rattle.history_text.specs.Replays.{Parts, replay_at}
+use Rattle.history_text.specs.Spelling.{history_text}
+use Rattle.ringplan_job.specs.declared.making.Back.{Back}
+use Rattle.plan_past.specs.Past.{IsSamePast}
+use Rattle.plan_bundles.specs.Goals.{AreNamed}
+use Rattle.plan_around.specs.Apart.{AreApart}
+
+-- the history is a run of the plan, and in the world to which it leads no step that is to come asks anything of the dead
+abbrev pub RunsApart : RingValue → List Planned → List NodeId → List Entry → Type 0
+RunsApart ring plan dead history = ∥ ((w : World) × IsRun ring plan history w × AreApart ring plan dead w) ∥₁
+
+-- the checker accepts the plan by the certificate, so that it keeps its promises; the history is a run of it that leads to where the dead are asked for nothing more; and this is the text of
+-- the ring, the plan, the certificate and the history, whose writers have these names
+pub record GoesOn (ring : RingValue) (dead : List NodeId) (writers : List (List ℕ)) (plan : List Planned) (cert : Cert) (history : List Entry) (bytes : List ℕ) : Type 0 where
+  pub certified : IsCertified ring plan cert
+  pub keeps : KeepsPromises ring plan
+  pub run : RunsApart ring plan dead history
+  pub text : bytes ≡ ring_text ring ++ (plan_text ring plan ++ (cert_text ring cert ++ history_text ring writers history))
+
+-- the text goes on so by some plan, from a history of the old one, with the same past
+pub record GoesAround (back : Back) (ring : RingValue) (dead : List NodeId) (writers : List (List ℕ)) (old : List Planned) (earlier : List Entry) (text : List ℕ) : Type 0 where
+  pub plan : List Planned
+  pub cert : Cert
+  pub history : List Entry
+  pub past : IsSamePast back old plan earlier history
+  pub goes_on : GoesOn ring dead writers plan cert history text
+
+-- the bytes are the texts of a ring, a plan, a certificate and a history, and the text goes on from there around the nodes of these names
+pub record IsAround (bytes : List ℕ) (names : List (List ℕ)) (back : Back) (text : List ℕ) : Type 0 where
+  pub parts : Parts
+  pub read : whole_text replay_at bytes ≡ Ok parts
+  pub dead : List NodeId
+  pub named : AreNamed parts.0 names dead
+  pub around : GoesAround back parts.0 dead parts.1.1.1.1 parts.1.0 parts.1.1.1.0 text

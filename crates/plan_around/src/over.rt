@@ -1,0 +1,83 @@
+//! Whether a step asks nothing of anybody any more.
+
+ghost use Rattle.std.specs.Prelude.{◌≡◌, ◌||◌, true, IsTrue};
+ghost use Rattle.ring_names.specs.declared.refusal.Refusal.TheVariants.{AlreadyDone, NotOpen};
+ghost use Rattle.plan_runs.specs.World.{World as TheWorld};
+ghost use Rattle.ring_core.specs.World.{Meets, Refuses};
+ghost use Rattle.plan_around.specs.Apart.{is_whole};
+
+use plan_runs::Event;
+use plan_text::Step;
+use ring_core::World;
+use ring_names::Refusal;
+
+// Whether it is refused since it is so already.
+fn is_already(refusal: &Refusal) -> bool
+    ensures { IsTrue result → refusal.now ≡ AlreadyDone }
+{
+    matches!(refusal, Refusal::AlreadyDone)
+}
+
+// Whether it is refused since the copy is not open.
+fn is_not_open(refusal: &Refusal) -> bool
+    ensures { IsTrue result → refusal.now ≡ NotOpen }
+{
+    matches!(refusal, Refusal::NotOpen)
+}
+
+// Whether the store refuses the event since it is so already.
+fn has_happened(store: &World, event: &Event) -> bool
+    ensures { IsTrue result → Refuses store.now event.now AlreadyDone }
+{
+    match store.allows(event) {
+        Ok(()) => false,
+        Err(refusal) => is_already(&refusal),
+    }
+}
+
+// Whether the store refuses the event since its copy is not open.
+fn is_closed_to(store: &World, event: &Event) -> bool
+    ensures { IsTrue result → Refuses store.now event.now NotOpen }
+{
+    match store.allows(event) {
+        Ok(()) => false,
+        Err(refusal) => is_not_open(&refusal),
+    }
+}
+
+// Whether the copy is open, and all its chunks are marked.
+fn is_whole(store: &World, number: u32) -> bool
+    ensures { IsTrue result → (w : TheWorld) → Meets store.now w → is_whole w number ≡ true }
+{
+    match store.allows(&Event::CloseCopy(number)) {
+        Ok(()) => true,
+        Err(_) => false,
+    }
+}
+
+// Whether the copy is done.
+fn is_copied(store: &World, number: u32) -> bool
+    ensures { IsTrue result → (w : TheWorld) → Meets store.now w → w.done number ≡ true }
+{
+    let is_begun = has_happened(store, &Event::OpenCopy(number));
+    let is_shut = is_closed_to(store, &Event::AbortCopy(number));
+    is_begun && is_shut
+}
+
+// Whether the step, which is no copy, is done.
+fn is_done(store: &World, number: u32) -> bool
+    ensures { IsTrue result → (w : TheWorld) → Meets store.now w → w.done number ≡ true }
+{
+    has_happened(store, &Event::Do(number))
+}
+
+/// Whether the step is done, or a copy that is open with all its chunks marked.
+pub(crate) fn is_over(store: &World, step: &Step, number: u32) -> bool
+    ensures { IsTrue result → (w : TheWorld) → Meets store.now w → (w.done number || is_whole w number) ≡ true }
+{
+    match step {
+        Step::Copy(_, _) => is_whole(store, number) || is_copied(store, number),
+        Step::Join(_) | Step::Mirror(_, _) | Step::Switch(_) | Step::Drop(_, _) | Step::Retire(_) =>
+            { is_done(store, number) }
+    }
+}

@@ -1,0 +1,2 @@
+-- What is proved of histories that are told by another plan.
+pub mod Numbered

@@ -1,0 +1,43 @@
+//! What the steps of a plan are called in another one.
+
+ghost use Rattle.std.specs.Prelude.{◌≡◌};
+ghost use Rattle.plan_past.specs.Past.{number_in, allows, mirror_in};
+
+use plan_text::{Plan, Step};
+use ring_names::{NodeId, Slot};
+use ringplan_job::Back;
+
+/// Whether mirrors may be taken back.
+pub(crate) fn allows(back: Back) -> bool
+    ensures { result ≡ allows back }
+{
+    match back {
+        Back::Never => false,
+        Back::Allowed => true,
+    }
+}
+
+/// The step's number in the other plan, if it has one.
+pub(crate) fn number_in(numbers: &[Option<u32>], step: u32) -> Option<u32>
+    ensures { result ≡ number_in numbers.now step }
+{
+    match numbers.get(step as usize) {
+        Some(number) => *number,
+        None => None,
+    }
+}
+
+/// The slot and the node of a step that sets a mirror.
+pub(crate) fn mirror_in(plan: &Plan, step: u32) -> Option<(Slot, NodeId)>
+    ensures { result ≡ mirror_in plan.now step }
+{
+    if step >= plan.len() {
+        return None;
+    }
+    match plan.step(step) {
+        Step::Mirror(slot, node) => Some((*slot, *node)),
+        Step::Join(_) | Step::Copy(_, _) | Step::Switch(_) | Step::Drop(_, _) | Step::Retire(_) => {
+            None
+        }
+    }
+}
