@@ -37,12 +37,12 @@ put w2 b x33 seen 0 = put 2
 write 2 1 = ticket 2 1 0
 ";
 
-// One more entry each, after which the history is a run, or is none.
+// An entry more each, or two, after which the history is a run, or is none.
 const GOES_ON: [&str; 5] = [
     "write 2 2 = ticket 2 2 0\n",
     "get c = get 2\n",
     "put w1 e x = put 3\n",
-    "read 1 1 = found 0\n",
+    "get a = get 2\nread 2 1 = found 0\n",
     "down a = ok\n",
 ];
 
@@ -53,8 +53,8 @@ const ENDS: [&str; 11] = [
     "put w1 c x seen 1 = put 3\n",
     "put w1 c x = put 4\n",
     "get c = get 3\n",
-    "read 1 1 = found 1\n",
-    "read 1 1 = found 0 1\n",
+    "get a = get 2\nread 2 1 = found 1\n",
+    "get a = get 2\nread 2 1 = found 0 1\n",
     "endget 1 = reply 0\n",
     "handoff d 9 0 = ok\n",
     "handoff d 0 2 = ok\n",
