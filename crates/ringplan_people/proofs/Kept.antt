@@ -22,3 +22,13 @@ both P Q (Err e) p q = tt
 pub at_goal : (making : Making) (options : Options) (exit : Exit) (status : ℕ) → making ≡ Goal options exit → (status ≡ 0) ⊎ ((status ≡ 4) × (exit ≡ exits.Steps)) → IsMadeWith making status
 at_goal making options exit status is (inl zero) = inl zero
 at_goal making options exit status is (inr (four, steps)) = inr (four, (options, is ∙ ap (λ (e : Exit). Goal options e) steps))
+
+-- a fact of every value
+pub of_all : {T E : Type 0} {P : T → Type 0} (r : Result T E) → ((x : T) → P x) → IfOk r P
+of_all (Ok x) f = f x
+of_all (Err e) f = tt
+
+-- a fact that follows from another one
+pub weaker : {T E : Type 0} {P Q : T → Type 0} (r : Result T E) → IfOk r P → ((x : T) → P x → Q x) → IfOk r Q
+weaker (Ok x) p f = f x p
+weaker (Err e) p f = tt

@@ -20,7 +20,7 @@ use Rattle.ringplan_job.specs.declared.options.Options.{Options}
 use Rattle.ringplan_job.specs.declared.making.Making.TheVariants.{Why, Bundle, Cert, After, Show, Draw, Steps, Moves, Windows, Goal, Even, Around, State}
 use Rattle.ringplan_job.specs.declared.making.Color.{Color}
 use Rattle.ringplan_job.specs.declared.making.Statement.{Statement}
-use Rattle.ringplan_job.specs.declared.making.Statement.TheVariants as stated
+use Rattle.ringplan_job.specs.declared.making.Statement.TheVariants as statements
 use Rattle.plan_bundles.specs.Certs.{IsCertifiedText}
 use Rattle.plan_bundles.specs.Goals.{IsLed}
 use Rattle.plan_bundles.specs.Windows.{AreAskedOf}
@@ -66,9 +66,9 @@ IsTold making = ⊤
 -- the status of a statement: why, 0 comes only where the bundle's plan keeps its promises; of a plan or a ring that is shown, only where it is what is shown; of a
 -- goal, 0 and 4 only where a plan leads there, and 4 only where it asks whether the plan has steps
 abbrev pub IsStated : Statement → List ℕ → ℕ → Type 0
-IsStated stated.Why bytes status = (status ≡ 0 → HasKept bytes) × (status ≤ 3)
-IsStated (stated.Show behind) bytes status = (status ≡ 0 → IsShown bytes) × (status ≤ 3)
-IsStated (stated.Goal options how) bytes status = (((status ≡ 0) ⊎ ((status ≡ 4) × (how ≡ exit.Steps))) × ((text : List ℕ) × IsLed bytes options text))
+IsStated statements.Why bytes status = (status ≡ 0 → HasKept bytes) × (status ≤ 3)
+IsStated (statements.Show behind) bytes status = (status ≡ 0 → IsShown bytes) × (status ≤ 3)
+IsStated (statements.Goal options how) bytes status = (((status ≡ 0) ⊎ ((status ≡ 4) × (how ≡ exit.Steps))) × ((text : List ℕ) × IsLed bytes options text))
     ⊎ ((status ≢ 0) × (status ≤ 3))
 
 -- the status at what was made: 0, or 4 where a goal asks it to say whether the plan has steps
