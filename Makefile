@@ -83,7 +83,4 @@ dist: deb
 	cd $(DIST) && sha256sum $(notdir $(TARBALL) $(DEB)) > SHA256SUMS
 
 test:
-	packaging/wants.sh
 	.ci/run
-	cd python && pytest-3 -q && mypy --strict
-	packaging/test.py

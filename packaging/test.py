@@ -1,7 +1,7 @@
 #!/usr/bin/env python3
 """Makes the packages, installs the deb into a root of its own by dpkg, and uses what was installed: the program, the completions, the page of the manual, the C
 library and the Python package. Then `make install` and `make uninstall`. It wants the program as it is built, and `LIBRARY` in the environment or
-crates/ringplan_c/out/libringplan_c.a; without these the packages are made without the C library."""
+crates/ringplan_c/out/libringplan_c.a; without these the packages are made without the C library. With --skip-none a part that cannot be tried is a fault."""
 import hashlib
 import os
 import pathlib
@@ -21,6 +21,13 @@ PACKAGES = "usr/lib/python3/dist-packages"
 PLAIN = {"PATH": "/usr/sbin:/usr/bin:/sbin:/bin", "LC_ALL": "C.UTF-8", "HOME": "/nonexistent"}
 faults: list[str] = []
 tried = 0
+
+
+def skip(what: str) -> None:
+    """A part that cannot be tried."""
+    print(f"packages: {what}")
+    if "--skip-none" in sys.argv:
+        faults.append(what)
 
 
 def owes(what: str, is_met: bool, found: object = "") -> None:
@@ -125,7 +132,7 @@ def try_shells(usr: pathlib.Path) -> None:
     }
     for shell, (folder, name, call, wanted) in asked.items():
         if not shutil.which(shell):
-            print(f"packages: {shell} is not tried, as it is not installed")
+            skip(f"{shell} is not tried, as it is not installed")
             continue
         does(shell, shell, "-n", usr / "share" / folder / name)
         shown = does(shell, shell, *call, usr / "share" / folder, env={"HOME": usr.parent}).splitlines()
@@ -218,7 +225,7 @@ def main() -> int:
         print("packages: the program is not built; `make` builds it")
         return 1
     if not LIBRARY:
-        print("packages: the C library is not tried, as crates/ringplan_c/out/libringplan_c.a is not built")
+        skip("the C library is not tried, as crates/ringplan_c/out/libringplan_c.a is not built")
     with tempfile.TemporaryDirectory() as folder:
         try:
             try_all(pathlib.Path(folder).resolve())
