@@ -87,6 +87,8 @@ def case_of(seed: int, servers: str) -> Case:
     load = Load(seed, draw.randrange(3, 6), draw.randrange(30, 80), draw.randrange(40, 120), draw.randrange(2, 5), limit=120.0, loses=kind == "losses")
     load.faults, load.outage, load.pace, load.handoffs = draw.uniform(0.2, 0.6), draw.uniform(0.1, 0.5), draw.uniform(0.01, 0.05), draw.choice((0.1, 0.5))
     chosen, hooks = servers or KINDS[seed // 2 % 3], ("", "copy", "", "chunk")[seed % 4]
+    if not hooks:
+        load.faults, load.pace = load.faults / 2, 4 * load.pace
     what = f"{kind}, {members + joiners} servers of {chosen}, {space} partitions, by {'ringplan-run' if hooks else 'threads'}"
     return Case(what, ring, load, tuple(left if kind == "dead" else ()), chosen, hooks)
 
@@ -110,7 +112,7 @@ class ByRunner(Executor):
     """A plan that `ringplan-run` goes through by hooks, which ask the store. The runner is killed by signal 9, and every other time its hooks too, and is started again."""
 
     def prepare(self, folder: pathlib.Path, bundle: str, hooks: str, workers: int) -> None:
-        self.folder, self.workers, self.killed, self.problem = folder, workers, 0, ""
+        self.folder, self.workers, self.killed, self.problem, self.draw = folder, workers, 0, "", random.Random(bundle)
         (folder / "hooks").mkdir()
         (folder / "plan.bundle").write_text(bundle)
         for kind in ("join", "mirror", hooks, "switch", "drop", "retire"):
@@ -137,7 +139,7 @@ class ByRunner(Executor):
                 return NOT_NOW
             self.taken.add(step.step)
         try:
-            call = partial(self.chunk, step, line["chunk"]) if "chunk" in line else partial(self.do, step, random.Random(step.step))
+            call = partial(self.chunk, step, line["chunk"]) if "chunk" in line else partial(self.do, step, self.draw)
             return 0 if self.store.attempt(call) else NOT_NOW
         except Died:
             self.died += 1
@@ -241,7 +243,7 @@ def right(seed: int, servers: str) -> dict[str, Any]:
     words = [sys.executable, __file__, "--one", str(seed), "--servers", servers]
     try:
         ran = subprocess.run(words, capture_output=True, text=True, timeout=300)
-        result: dict[str, Any] = json.loads(ran.stdout) if not ran.returncode else {"faults": [ran.stderr[-600:]]}
+        result: dict[str, Any] = json.loads(ran.stdout) if not ran.returncode else {"faults": [ran.stderr.strip()[-300:]]}
     except subprocess.TimeoutExpired:
         result = {"faults": ["it does not end"]}
     print(f"right {seed}: {json.dumps(result)}", flush=True)
@@ -317,7 +319,7 @@ def main() -> int:
     parser = argparse.ArgumentParser(prog="trials/store.py", description="Runs the reference store, and has its histories judged.")
     parser.add_argument("count", nargs="?", type=int, default=4, help="how many right runs (default: %(default)s)")
     parser.add_argument("--first", type=int, default=1, metavar="SEED", help="the seed of the first")
-    parser.add_argument("--servers", choices=KINDS, default="", help="the servers of all runs; else right runs have each kind in turn, and broken ones the first")
+    parser.add_argument("--servers", choices=["", *KINDS], default="", help="the servers of all runs; else right runs have each kind in turn, and broken ones the first")
     parser.add_argument("--jobs", type=int, default=os.cpu_count(), help="how many runs at once (default: %(default)s)")
     parser.add_argument("--break", dest="broken", nargs="*", choices=list(BROKEN), metavar="NAME", help="broken stores alone")
     parser.add_argument("--one", type=int, metavar="SEED", help="one right run, in this process")
