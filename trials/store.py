@@ -79,12 +79,12 @@ def case_of(seed: int, servers: str) -> Case:
     draw, kind = random.Random(f"case {seed}"), ("join", "replace", "leave", "dead", "losses", "many")[seed % 6]
     joiners = {"join": draw.randrange(1, 3), "leave": 0, "many": 3}.get(kind, 1)
     leavers = {"join": 0, "losses": 0, "many": draw.randrange(1, 3)}.get(kind, 1)
-    members, space = draw.randrange(max(5, 4 + leavers), 13 - joiners), draw.choice((16, 32, 64))
+    members, space = draw.randrange(max(5, 4 + leavers), 13 - joiners), 16 if seed % 4 == 3 else draw.choice((16, 32, 64))
     left = draw.sample([f"n{number}" for number in range(members)], leavers)
     change = [f"join n{members + number}" for number in range(joiners)] + [f"leave {node}" for node in left]
     quorum, form = ("3 2 3 1", 3) if kind == "losses" else ("3 2 2", 1)
     ring = ring_text(f"case {seed}", members, joiners, space, change, draw.randrange(2, 5), quorum, form)
-    load = Load(seed, draw.randrange(3, 6), draw.randrange(30, 80), draw.randrange(40, 120), draw.randrange(2, 5), limit=120.0, loses=kind == "losses")
+    load = Load(seed, draw.randrange(3, 6), draw.randrange(30, 80), draw.randrange(40, 120), draw.randrange(2, 5), limit=200.0, loses=kind == "losses")
     load.faults, load.outage, load.pace, load.handoffs = draw.uniform(0.2, 0.6), draw.uniform(0.1, 0.5), draw.uniform(0.01, 0.05), draw.choice((0.1, 0.5))
     chosen, hooks = servers or KINDS[seed // 2 % 3], ("", "copy", "", "chunk")[seed % 4]
     if not hooks:
