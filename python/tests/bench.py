@@ -10,6 +10,7 @@ import socket
 import subprocess
 import sys
 import time
+from collections.abc import Sequence
 
 import pytest
 
@@ -75,10 +76,10 @@ class Server:
 
 
 class Bench:
-    """A folder with a bundle, hooks and their log; a board; and the lease of runners, where the board has leases."""
+    """A folder with a bundle, hooks and their log; a board; the lease of runners, where the board has leases; and the words before each command."""
 
-    def __init__(self, folder: pathlib.Path, board: str) -> None:
-        self.folder, self.board, self.lease = folder, board, "3"
+    def __init__(self, folder: pathlib.Path, board: str, prefix: Sequence[str] = ()) -> None:
+        self.folder, self.board, self.lease, self.prefix = folder, board, "3", prefix
         self.bundle = folder / "bundle"
         self.bundle.write_text(REPLACE)
         self.hooks(0.0)
@@ -96,7 +97,7 @@ class Bench:
     def command(self, *words: str) -> list[str]:
         if words[0] == "apply":
             words = ("apply", str(self.bundle), "--do", str(self.folder / "hooks"), "--pause", "0.05", "--lease", self.lease, *words[1:])
-        return [sys.executable, "-m", "ringplan.run", *words, "--board", self.board]
+        return [*self.prefix, sys.executable, "-m", "ringplan.run", *words, "--board", self.board]
 
     def start(self, *words: str, machine: str = "machine") -> subprocess.Popen[str]:
         """Starts a command. Runners of two machines do not see the locks of each other's hooks."""
