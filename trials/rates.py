@@ -2,7 +2,7 @@
 """Measures the reference store and the runner: trials/rates.py [--servers KIND] [--space COUNT]. It needs the built program, and for the last figure `etcd`.
 
 It prints the events a second of a store over five servers, with five clients and no faults; and what the runner adds to a step, with a board in a file and with one in etcd: the time of `apply` with
-one worker and hooks that do nothing, without its start and its judge, less the time of these hooks alone."""
+one worker and hooks that do nothing, without its start and its judge, less the time of these hooks alone; and what the disk takes of that."""
 import argparse
 import contextlib
 import json
@@ -75,6 +75,16 @@ def hook_time(hook: pathlib.Path, count: int) -> float:
     return (time.perf_counter() - begun) / count
 
 
+def sync_time(folder: pathlib.Path, count: int = 200) -> float:
+    """Seconds in which a file that grows reaches the disk."""
+    with open(folder / "synced", "wb", buffering=0) as file:
+        begun = time.perf_counter()
+        for _ in range(count):
+            file.write(bytes(4096))
+            os.fsync(file.fileno())
+        return (time.perf_counter() - begun) / count
+
+
 class Unjudged(Runner):
     """A runner without a judge, whose time is the program's."""
 
@@ -113,6 +123,7 @@ def main() -> None:
         see_runner(folder, "a file", SqliteBoard(str(folder / "board"), is_new=True), bundle, hook)
         with etcd_of(folder) as address:
             see_runner(folder, "etcd", EtcdBoard(address, is_new=True), bundle, hook)
+        print(f"a write that waits for the disk: {1000 * sync_time(folder):.2f} ms; a step waits for one with a board in a file")
 
 
 if __name__ == "__main__":
