@@ -40,14 +40,16 @@ try:
 except FileNotFoundError:
     status = 0
 log("end" if status == 0 else "fail")
+if status:
+    print(line["do"], step, "is not done")
 sys.exit(status)
 """
 
 
 class Server:
-    """An etcd process on loopback, over a folder of its own."""
+    """An etcd process on loopback, over a folder of its own, with options of its own."""
 
-    def __init__(self, folder: pathlib.Path) -> None:
+    def __init__(self, folder: pathlib.Path, *options: str) -> None:
         if shutil.which("etcd") is None:
             pytest.skip("etcd is not installed")
         self.folder = folder
@@ -57,7 +59,7 @@ class Server:
             self.port, peer = one.getsockname()[1], f"http://127.0.0.1:{two.getsockname()[1]}"
         client = f"http://127.0.0.1:{self.port}"
         peers = ["--listen-peer-urls", peer, "--initial-advertise-peer-urls", peer, "--initial-cluster", f"default={peer}"]
-        self.words = ["etcd", "--data-dir", str(folder / "data"), "--listen-client-urls", client, "--advertise-client-urls", client, *peers]
+        self.words = ["etcd", "--data-dir", str(folder / "data"), "--listen-client-urls", client, "--advertise-client-urls", client, *peers, *options]
         self.start()
 
     def start(self) -> None:

@@ -1,4 +1,4 @@
-"""A full disk: the runner says so and loses nothing, and goes on once there is room. It takes root, for a small file system."""
+"""A full disk, and an etcd without room: the runner says so and loses nothing, and goes on once there is room. A small file system takes root."""
 
 from __future__ import annotations
 
@@ -8,9 +8,10 @@ import subprocess
 from collections.abc import Iterator
 
 import pytest
-from bench import Bench
+from bench import Bench, Server
 
 from ringplan import programs
+from ringplan.run import gateway
 from ringplan.run.board import Status
 
 
@@ -67,3 +68,28 @@ def test_a_disk_that_becomes_full(disk: pathlib.Path, tmp_path: pathlib.Path, le
     assert bench.run("judge")[1].startswith("yes\n")
     again = {line["step"] for word, line in bench.log() if word == "begin" and line.get("again")}
     assert len(bench.steps("begin")) <= 18 + len(again)
+
+
+def test_an_etcd_without_room(tmp_path: pathlib.Path) -> None:
+    try:
+        programs.find()
+    except programs.NoProgram as error:
+        pytest.skip(str(error))
+    server = Server(tmp_path, "--quota-backend-bytes", "36000")
+    try:
+        bench = Bench(tmp_path, server.address("plan"))
+        code, _, err = bench.run("apply")
+        assert (code, err) == (Status.FAULT, "ringplan-run: etcd refuses a request: etcdserver: mvcc: database space exceeded\n")
+        assert 0 < len(bench.steps("end")) < 18
+        assert bench.run("judge")[1].startswith("yes\n")
+        server.kill()
+        server.words[-1] = "100000000"
+        server.start()
+        client = gateway.Etcd("127.0.0.1", server.port)
+        (alarm,) = client.ask("/v3/maintenance/alarm", {"action": "GET"})["alarms"]
+        client.ask("/v3/maintenance/alarm", {"action": "DEACTIVATE", **alarm})
+        assert bench.run("apply")[0] == Status.DONE
+        assert set(bench.steps("end")) == set(range(18)) and bench.steps("twice") == []
+        assert bench.run("judge")[1].startswith("yes\n")
+    finally:
+        server.kill()
