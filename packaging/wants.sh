@@ -2,7 +2,7 @@
 # Installs the Debian packages that the tests use, where one is missing and the caller is root. For another caller it names them, and fails.
 set -eu
 wanted='chromium dpkg-dev etcd-server fish gcc groff-base iproute2 man-db mypy pkg-config postgresql procps
-    python3-psycopg2 python3-pytest python3-pytest-xdist python3-redis python3-typeshed redis-server zsh'
+    python3-psycopg2 python3-pytest python3-pytest-xdist python3-redis python3-rich python3-typeshed redis-server zsh'
 missing=
 for package in $wanted; do
     dpkg-query -W -f '${Status}\n' "$package" 2> /dev/null | grep -q ' installed$' || missing="$missing $package"

@@ -7,8 +7,11 @@ import contextlib
 import functools
 import itertools
 import json
+import os
 import pathlib
+import pty
 import random
+import re
 import signal
 import subprocess
 import time
@@ -99,6 +102,26 @@ def test_a_plan_is_done_in_its_order(bench: Bench) -> None:
     assert bench.run("judge")[:2] == (0, programs.ask("replay", REPLACE + bench.run("history")[1]).text)
     assert bench.run("status")[1] == f"{len(steps)} of {len(steps)} steps are done; no runner works with the board\n"
     assert bench.run("apply")[0] == Status.DONE
+
+
+def test_a_terminal_gets_a_bar(bench: Bench) -> None:
+    pytest.importorskip("rich")
+    bench.hooks(0.05)
+    for is_both in (False, True):
+        mine, its = pty.openpty()
+        place = {**os.environ, "PYTHONPATH": str(TOP / "python"), "TERM": "xterm", "COLUMNS": "100"}
+        process = subprocess.Popen(bench.command("apply"), stdout=its if is_both else subprocess.PIPE, stderr=its, env=place, cwd=bench.folder)
+        os.close(its)
+        shown = b""
+        with contextlib.suppress(OSError):
+            while data := os.read(mine, 1 << 16):
+                shown += data
+        os.close(mine)
+        out = shown if is_both else process.communicate()[0]
+        assert process.wait(timeout=30) == Status.DONE
+        assert "\u2501".encode() in shown and b"18/18" in shown and b"18 of 18 steps are done, and the judge says yes" in out
+        assert is_both or re.search(b"[1-9]/18", shown) and out.count(b"done ") == 18
+        bench.board += "2"
 
 
 @over_both

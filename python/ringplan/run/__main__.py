@@ -14,6 +14,7 @@ import sys
 from types import FrameType
 
 from ringplan import programs, texts
+from ringplan.run.bar import shown
 from ringplan.run.board import Board, Status, Stop, names_of
 from ringplan.run.etcd import EtcdBoard
 from ringplan.run.hooks import Hooks
@@ -73,7 +74,8 @@ def apply(words: argparse.Namespace) -> Status:
     try:
         if words.serve is not None:
             print(f"the page is at {Page(board, words.serve).address}", file=sys.stderr, flush=True)
-        status = runner.run()
+        with shown(runner):
+            status = runner.run()
     finally:
         board.end()
     print(f"{len(runner.done)} of {len(steps)} steps are done, and the judge says yes")
