@@ -271,7 +271,7 @@ BROKEN = {
     "read_without_hints": "grow",
     "read_too_few": "grow",
     "last_slot_alone": "grow",
-    "handoff_to_owner_alone": "grow --pace 0.1",
+    "handoff_to_owner_alone": "grow --pace 0.1 --faults 0.2",
     "hint_for_a_node": "grow --handoffs 0.6 --faults 0.1 --pace 0.1",
     "hint_lost": "grow --handoffs 0.2 --faults 0.1",
     "retire_with_hints": "replace --handoffs 3 --faults 0.1",
