@@ -5,6 +5,7 @@ from __future__ import annotations
 import concurrent.futures
 import pathlib
 import subprocess
+from collections.abc import Callable
 
 import pytest
 
@@ -14,7 +15,7 @@ from ringplan.library import Answer, NoLibrary, Refused, Status
 TOP = pathlib.Path(__file__).parents[2]
 EXAMPLES = sorted((TOP / "examples").glob("*.bundle"))
 CALLS = {"check": library.check, "plan": library.plan, "play": library.play, "replay": library.replay, "migrate": library.migrate}
-OTHERS = {
+OTHERS: dict[str, tuple[Callable[..., Answer], list[list[str]]]] = {
     "goal": (library.goal, [[], ["--dead", "b"], ["--weight", "c=2", "--even"], ["--exit-code"], ["--none"]]),
     "why": (library.why, [[]]),
     "show": (library.show, [[], ["--all"], ["--racks-behind", "."]]),
@@ -61,7 +62,7 @@ def test_other_commands_are_the_program(command: str) -> None:
     for path in EXAMPLES[::8]:
         for options in choices:
             status, text, errors = wanted(command, path.read_bytes(), *options)
-            assert call(path.read_bytes(), *options) == Answer(Status(status), text, errors)  # type: ignore[operator]
+            assert call(path.read_bytes(), *options) == Answer(Status(status), text, errors)
 
 
 def test_a_refusal_is_an_exception_where_that_is_asked_for() -> None:
