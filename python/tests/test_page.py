@@ -159,10 +159,14 @@ def test_the_page_has_the_picture_of_draw_and_nothing_from_outside(bench: Bench)
     process = bench.start("apply", "--serve", "0", "--pause", "60")
     address = address_of(process)
     bench.wait_for("fail", 2)
-    while "<td>2<td>copy 0 1 d<td>1 failures" not in (text := reply(address, "/now")[2]):
+    while "2 copy 0 1 d: 1 failures" not in bench.run("status")[1]:
         time.sleep(0.05)
     picture = programs.ask("draw", bench.bundle.read_text() + bench.run("history")[1]).text
-    assert picture in text and "2 of 18 steps are done" in text
+    until = time.monotonic() + 30
+    while "<td>2<td>copy 0 1 d<td>1 failures" not in (text := reply(address, "/now")[2]) or picture not in text:
+        assert time.monotonic() < until, text
+        time.sleep(0.05)
+    assert "2 of 18 steps are done" in text
     status, headers, whole = reply(address)
     assert status == 200 and headers["Content-Security-Policy"].startswith("default-src 'none'") and whole.startswith("<!DOCTYPE html>")
     # No link and no address but that of SVG's names.

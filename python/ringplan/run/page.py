@@ -76,18 +76,23 @@ def begun(states: list[State]) -> list[State]:
 
 
 class Picture:
-    """What the page shows. A picture is drawn once for each history, by one thread at a time."""
+    """What the page shows. A picture is drawn by one thread at a time, and so seldom that drawing takes at most a tenth of the time."""
 
     def __init__(self, board: Board) -> None:
-        self.board, self.lock, self.entries, self.svg = board, threading.Lock(), "", ""
+        self.board, self.lock, self.until, self.entries, self.svg = board, threading.Lock(), 0.0, "", ""
 
     def draw(self) -> str:
         with self.lock:
+            begun = time.monotonic()
+            if begun < self.until:
+                return self.svg
             entries = "".join(f"{line}\n" for line in self.board.entries())
             if not self.svg or entries != self.entries:
                 answer = programs.ask("draw", f"{self.board.bundle()}history 1\n{entries}end\n")
                 self.svg = answer.text if answer.status == 0 else f"<pre>{html.escape(answer.errors)}</pre>"
                 self.entries = entries
+            now = time.monotonic()
+            self.until = now + 9 * (now - begun)
             return self.svg
 
     def now(self) -> str:
