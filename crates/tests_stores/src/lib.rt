@@ -7,6 +7,8 @@ mod answering;
 #[cfg(test)]
 mod histories;
 #[cfg(test)]
+mod parts;
+#[cfg(test)]
 mod replays;
 #[cfg(test)]
 mod scripts;

@@ -12,13 +12,13 @@ returns-in-Some c w m =
     let a = c.args.parts.now in
     let number = c.in-Some.number in
     let is = ap (λ (bs : List ℕ). place a.keys.keys bs) (sym c.as_slice.ensures) ∙ sym c.in-Some.ensures in
-    c.seen_refusal.ensures ∙ ap (λ (gs : List ℕ). first_failing (seen_guards_kept a.gets number gs)) c.as_slice-named.ensures
+    c.seen_refusal.ensures ∙ ap (λ (gs : List ℕ). first_failing (seen_guards_kept a.gets number gs)) c.as_slice-named.ensures.value
     ∙ known_key (ring_of a) (plan_of a) (kept_of a) w m c.args.writer c.args.key.now c.args.value.now c.args.seen.now number is
 
 pub returns-in-None : goal.returns-in-None
 returns-in-None c w m =
     let a = c.args.parts.now in
-    let none = none_listed c.as_slice-named.result.now c.args.seen.now c.is_empty.result c.as_slice-named.ensures c.is_empty.ensures c.if-is_empty.true in
+    let none = none_listed c.as_slice-named.result.now c.args.seen.now c.is_empty.result c.as_slice-named.ensures.value c.is_empty.ensures c.if-is_empty.true in
     none_named (ring_of a) (plan_of a) (kept_of a) w m c.args.writer c.args.key.now c.args.value.now c.args.seen.now none
 
 pub returns-in-None-2 : goal.returns-in-None-2
@@ -26,4 +26,4 @@ returns-in-None-2 c w m =
     let a = c.args.parts.now in
     let absent = ap (λ (bs : List ℕ). place a.keys.keys bs) (sym c.as_slice.ensures) ∙ sym c.in-None.ensures in
     some_named (ring_of a) (plan_of a) (kept_of a) w m c.args.writer c.args.key.now c.args.value.now c.args.seen.now absent
-    (some_listed c.as_slice-named.result.now c.args.seen.now c.is_empty.result c.as_slice-named.ensures c.is_empty.ensures c.if-is_empty.false)
+    (some_listed c.as_slice-named.result.now c.args.seen.now c.is_empty.result c.as_slice-named.ensures.value c.is_empty.ensures c.if-is_empty.false)

@@ -49,7 +49,7 @@ returns-clause-ok c w m =
     let n = c.in_ok-key_number.key_number in
     let named = named_still a c.number_of.new.keys c.as_slice.result.now c.requires.sound (c.in_ok-key_number.ensures).keys (c.in_ok-key_number.ensures).lies w m in
     let number = (c.in_ok-key_number.ensures).number ∙ ap (λ (bs : List ℕ). Some bs) c.as_slice.ensures in
-    let made = subst (λ (gs : List ℕ). IsNewPut a.puts a.gets (last_of a.lasts) n writer.0 c.args.value.now gs put) c.as_slice-2.ensures (c.in_ok-put.ensures).ok in
+    let made = subst (λ (gs : List ℕ). IsNewPut a.puts a.gets (last_of a.lasts) n writer.0 c.args.value.now gs put) c.as_slice-2.ensures.value (c.in_ok-put.ensures).ok in
     let s = put_on (ring_of a) (plan_of a) (record (kept_of a) { keys = keys }) w writer c.args.key.now c.args.value.now seen put n last named (sym (c.requires.passes w m)) number made (c.in_ok-number.ensures).lasts in (
       s.0,
       s.1 ∙ ap (λ (z : ℕ). Ok (s.0, reply.Put z)) (sym (c.in_ok-number.ensures).number),
