@@ -28,7 +28,10 @@ TO = $(DESTDIR)$(PREFIX)
 
 MODULES := $(shell cd python && find ringplan -name '*.py' -o -name py.typed)
 TEXTS := README.md $(shell find docs -type f ! -name '*.py' ! -name '*.pyc') $(wildcard c/*.c c/*.go c/*.py examples/*.bundle) c/jobs.h
-OURS := lib/python3/dist-packages/ringplan share/doc/ringplan
+PACKAGES := lib/python3/dist-packages
+# What says to Python's tools that the package is installed, and which commands it has.
+INFO := $(PACKAGES)/ringplan-$(VERSION).dist-info
+OURS := $(PACKAGES)/ringplan $(INFO) share/doc/ringplan
 FILES := bin/ringplan bin/ringplan-run bin/ringplan-import share/man/man1/ringplan.1 \
     share/bash-completion/completions/ringplan $(ZSH)/_ringplan share/fish/vendor_completions.d/ringplan.fish \
     lib/libringplan.so lib/libringplan.so.$(CALLS) lib/pkgconfig/ringplan.pc include/ringplan.h
@@ -59,7 +62,9 @@ install: all
 	sed 's|@PYTHON@|$(PYTHON)|; s|@MODULE@|ringplan.importing|' packaging/script.py.in > $(TO)/bin/ringplan-import
 	chmod 755 $(TO)/bin/ringplan-run $(TO)/bin/ringplan-import
 	chmod 644 $(addprefix $(TO)/,$(filter share/%,$(FILES)))
+	packaging/info.py $(VERSION) $(TO)/$(PACKAGES)
 	for it in $(TEXTS); do $(INSTALL) -D -m 644 $$it $(TO)/share/doc/ringplan/$$it || exit; done
+	$(INSTALL) -m 644 packaging/copyright $(TO)/share/doc/ringplan
 ifdef LIBRARY
 	$(INSTALL) -m 644 $(SHARED) $(TO)/lib
 	ln -sf $(notdir $(SHARED)) $(TO)/lib/libringplan.so
@@ -83,7 +88,4 @@ dist: deb
 	cd $(DIST) && sha256sum $(notdir $(TARBALL) $(DEB)) > SHA256SUMS
 
 test:
-	packaging/wants.sh
 	.ci/run
-	cd python && pytest-3 -q && mypy --strict
-	packaging/test.py

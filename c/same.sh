@@ -57,6 +57,8 @@ build_by llvm & by_llvm=$!
 build_by rattle & by_rattle=$!
 wait $by_llvm
 wait $by_rattle
+# The packages take it from where `rt lib` would leave it.
+install -D -m 644 "$scratch/llvm/libringplan_c.a" "$top/crates/ringplan_c/out/libringplan_c.a"
 
 # answers WAY WANTED COMMAND WORD..: counts whether the command answers the bundle with that status and with the bytes that the program wrote.
 declare -A same all

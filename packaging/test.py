@@ -1,7 +1,7 @@
 #!/usr/bin/env python3
 """Makes the packages, installs the deb into a root of its own by dpkg, and uses what was installed: the program, the completions, the page of the manual, the C
 library and the Python package. Then `make install` and `make uninstall`. It wants the program as it is built, and `LIBRARY` in the environment or
-crates/ringplan_c/out/libringplan_c.a; without these the packages are made without the C library."""
+crates/ringplan_c/out/libringplan_c.a; without these the packages are made without the C library. With --skip-none a part that cannot be tried is a fault."""
 import hashlib
 import os
 import pathlib
@@ -21,6 +21,13 @@ PACKAGES = "usr/lib/python3/dist-packages"
 PLAIN = {"PATH": "/usr/sbin:/usr/bin:/sbin:/bin", "LC_ALL": "C.UTF-8", "HOME": "/nonexistent"}
 faults: list[str] = []
 tried = 0
+
+
+def skip(what: str) -> None:
+    """A part that cannot be tried."""
+    print(f"packages: {what}")
+    if "--skip-none" in sys.argv:
+        faults.append(what)
 
 
 def owes(what: str, is_met: bool, found: object = "") -> None:
@@ -125,7 +132,7 @@ def try_shells(usr: pathlib.Path) -> None:
     }
     for shell, (folder, name, call, wanted) in asked.items():
         if not shutil.which(shell):
-            print(f"packages: {shell} is not tried, as it is not installed")
+            skip(f"{shell} is not tried, as it is not installed")
             continue
         does(shell, shell, "-n", usr / "share" / folder / name)
         shown = does(shell, shell, *call, usr / "share" / folder, env={"HOME": usr.parent}).splitlines()
@@ -160,11 +167,37 @@ def try_library(usr: pathlib.Path, scratch: pathlib.Path) -> None:
         owes(f"{job} of {name} from Python", (from_python.returncode, from_python.stdout) == (wanted.returncode, wanted.stdout), from_python)
 
 
+METADATA = """
+import base64, hashlib, importlib.metadata
+it = importlib.metadata.distribution("ringplan")
+print(it.version, *sorted(f"{one.name}={one.value}" for one in it.entry_points))
+for one in it.files:
+    data = one.locate().read_bytes()
+    digest = base64.urlsafe_b64encode(hashlib.sha256(data).digest()).rstrip(b"=").decode()
+    if one.hash and (one.hash.value, one.size) != (digest, len(data)):
+        print(one)
+print(len(it.files))
+from ringplan import library
+print(library.load(None) is not None)
+"""
+
+
+def try_metadata(usr: pathlib.Path, scratch: pathlib.Path) -> None:
+    """What Python's tools know of the package: its version, its commands and its files. It finds the C library beside it."""
+    version = run(PROGRAM, "--version").stdout.split()[1]
+    found = does("the metadata", "/usr/bin/python3", "-c", METADATA, into=scratch, env={"PYTHONPATH": usr.parent / PACKAGES}).splitlines()
+    files = [it for it in files_of(usr.parent / PACKAGES) if "__pycache__" not in it]
+    commands = "ringplan-import=ringplan.importing:main ringplan-run=ringplan.run.__main__:main"
+    owes("the metadata", found == [f"{version} {commands}", str(len(files)), str(bool(LIBRARY))], found)
+    owes("the copyright", "\nLicense: " in (usr / "share/doc/ringplan/copyright").read_text(), "no licence")
+
+
 def try_python(usr: pathlib.Path, scratch: pathlib.Path) -> None:
     """The package finds the installed program by the search path; its commands find it beside them."""
     code = "import ringplan, ringplan.run, ringplan.store; from ringplan import programs; print(ringplan.__file__, programs.find())"
     found = does("the import", "/usr/bin/python3", "-c", code, into=scratch, env={"PATH": f"{usr}/bin:{PLAIN['PATH']}", "PYTHONPATH": usr.parent / PACKAGES})
     owes("what is imported", found.split() == [f"{usr.parent}/{PACKAGES}/ringplan/__init__.py", f"{usr}/bin/ringplan"], found)
+    try_metadata(usr, scratch)
     for name in ("ringplan-import", "ringplan-run"):
         found = does(f"{name} --help", usr / "bin" / name, "--help", into=scratch)
         owes(f"{name} --help", found.startswith(f"usage: {name} "), found)
@@ -218,7 +251,7 @@ def main() -> int:
         print("packages: the program is not built; `make` builds it")
         return 1
     if not LIBRARY:
-        print("packages: the C library is not tried, as crates/ringplan_c/out/libringplan_c.a is not built")
+        skip("the C library is not tried, as crates/ringplan_c/out/libringplan_c.a is not built")
     with tempfile.TemporaryDirectory() as folder:
         try:
             try_all(pathlib.Path(folder).resolve())

@@ -1,40 +1,263 @@
 #!/usr/bin/env python3
 """Runs the reference store of python/ringplan/store under traffic and faults, and has its histories judged by `ringplan replay`.
 
-It needs the built programs. `trials/store.py COUNT` does COUNT right runs, else 4, and all broken stores. `trials/store.py NAME..` does the broken stores of these
-names alone.
+    trials/store.py [COUNT] [--first SEED] [--servers KIND] [--jobs J]    COUNT right runs, else 4, and then each broken store
+    trials/store.py --break [NAME..] [--servers KIND] [--jobs J]          these broken stores alone, or all of them
 
-Right runs: nodes join, leave and are replaced, also around a dead node and with lost stores. Servers are killed by signal 9, and workers die in the middle of
-copies. The judge must say yes, all steps must be done, and the servers must hold each acknowledged put at more slots than a read may miss.
-Broken stores: each must be refused within three seeds. A seed does not fix a run, since threads run freely; most are refused at the first."""
-import dataclasses, json, os, random, subprocess, sys, tempfile
+Right runs: a seed gives 5 to 12 servers, 16 to 64 partitions, and a change: nodes join, leave or are replaced, also around a dead node and with lost stores. Servers are killed by signal 9. Workers
+of every other run are threads that die in the middle of copies; in the others `ringplan-run` goes through the plan by hooks, and is killed by signal 9 and started again. Owed: the judge says yes to
+the store's history and to the runner's; all steps are done; the judge's `slots` lines are the store's owners; each acknowledged put is held at more slots than a read may miss, and a get replies it
+or a successor. Broken stores: the judge must refuse each within three seeds. A seed does not fix a run, since threads run freely. It needs the built program, and for COUNT from 3 on redis and
+PostgreSQL."""
+import argparse
+import concurrent.futures
+import dataclasses
+import json
+import os
+import pathlib
+import random
+import shutil
+import socketserver
+import subprocess
+import sys
+import tempfile
+import threading
+import time
+from collections import Counter
+from collections.abc import Callable
+from functools import partial
+from typing import Any, NamedTuple
 
-top = os.path.dirname(os.path.dirname(os.path.abspath(__file__)))
-sys.path.insert(0, f"{top}/python")
+TOP = pathlib.Path(__file__).resolve().parent.parent
+sys.path.insert(0, str(TOP / "python"))
 from ringplan import programs, texts
+from ringplan.store.coordinator import Store
+from ringplan.store.executor import Died, Executor
+from ringplan.store.nodes import KINDS, choose
+from ringplan.store.traffic import Load, Run
+from ringplan.store.versions import is_at_most
+
+ENVIRONMENT = {**os.environ, "PYTHONPATH": str(TOP / "python")}
+NOT_NOW = 75
+# Asks the store for a step, and ends with the status that it answers.
+HOOK = """#!/usr/bin/python3 -ISE
+import socket, sys
+link = socket.socket(socket.AF_UNIX)
+link.connect({path!r})
+link.sendall(sys.stdin.buffer.read())
+sys.exit(int(link.makefile().readline() or 1))
+"""
 
 
-def ring(name, members, joiners, space, change, allowance=2, quorum="3 2 2", form=1):
+def ring_text(name: str, members: int, joiners: int, space: int, change: list[str], allowance: int = 2, quorum: str = "3 2 2", form: int = 1) -> str:
     """A ring with even owners, and a change of it."""
-    draw, n = random.Random(name), int(quorum.split()[0])
-    names = [f"n{k}" for k in range(members + joiners)]
-    load = dict.fromkeys(names[:members], 0)
+    draw, slots = random.Random(name), int(quorum.split()[0])
+    names = [f"n{number}" for number in range(members + joiners)]
+    owned = dict.fromkeys(names[:members], 0)
     lines = [f"ring {form}", f"space {space}", f"quorum {quorum}"]
-    lines += [f"node {x} {allowance} {'in' if k < members else 'out'}" for k, x in enumerate(names)]
-    for p in range(space):
-        row = sorted(load, key=lambda x: (load[x], draw.random()))[:n]
-        load.update((x, load[x] + 1) for x in row)
+    lines += [f"node {node} {allowance} {'in' if number < members else 'out'}" for number, node in enumerate(names)]
+    for partition in range(space):
+        row = sorted(owned, key=lambda node: (owned[node], draw.random()))[:slots]
+        owned.update((node, owned[node] + 1) for node in row)
         draw.shuffle(row)
-        lines.append(f"slots {p} " + " ".join(row))
+        lines.append(f"slots {partition} " + " ".join(row))
     return "\n".join([*lines, "end", "change 1", *change, "end"]) + "\n"
 
 
+class Case(NamedTuple):
+    """A right run: its ring with a change, the load, the nodes that are dead for good, the kind of servers, and the hooks by which the runner does copies; empty where threads do the plan."""
+
+    what: str
+    ring: str
+    load: Load
+    dead: tuple[str, ...]
+    servers: str
+    hooks: str
+
+
+def case_of(seed: int, servers: str) -> Case:
+    draw, kind = random.Random(f"case {seed}"), ("join", "replace", "leave", "dead", "losses", "many")[seed % 6]
+    joiners = {"join": draw.randrange(1, 3), "leave": 0, "many": 3}.get(kind, 1)
+    leavers = {"join": 0, "losses": 0, "many": draw.randrange(1, 3)}.get(kind, 1)
+    members, space = draw.randrange(max(5, 4 + leavers), 13 - joiners), 16 if seed % 4 == 3 else draw.choice((16, 32, 64))
+    left = draw.sample([f"n{number}" for number in range(members)], leavers)
+    change = [f"join n{members + number}" for number in range(joiners)] + [f"leave {node}" for node in left]
+    quorum, form = ("3 2 3 1", 3) if kind == "losses" else ("3 2 2", 1)
+    ring = ring_text(f"case {seed}", members, joiners, space, change, draw.randrange(2, 5), quorum, form)
+    load = Load(seed, draw.randrange(3, 6), draw.randrange(30, 80), draw.randrange(40, 120), draw.randrange(2, 5), limit=200.0, loses=kind == "losses")
+    load.faults, load.outage, load.pace, load.handoffs = draw.uniform(0.2, 0.6), draw.uniform(0.1, 0.5), draw.uniform(0.01, 0.05), draw.choice((0.1, 0.5))
+    chosen, hooks = servers or KINDS[seed // 2 % 3], ("", "copy", "", "chunk")[seed % 4]
+    if hooks:
+        # A copy by hooks takes longer, and must find its nodes up.
+        load.faults *= 2
+    else:
+        load.faults, load.pace = load.faults / 2, 4 * load.pace
+    what = f"{kind}, {members + joiners} servers of {chosen}, {space} partitions, by {'ringplan-run' if hooks else 'threads'}"
+    return Case(what, ring, load, tuple(left if kind == "dead" else ()), chosen, hooks)
+
+
+class Desk(socketserver.ThreadingMixIn, socketserver.UnixStreamServer):
+    """Does a step for each hook that asks."""
+
+    daemon_threads = True
+    request_queue_size = 64
+
+    def __init__(self, path: str, do: Callable[[dict[str, Any]], int]) -> None:
+        class Request(socketserver.StreamRequestHandler):
+            def handle(self) -> None:
+                if line := self.rfile.readline():
+                    self.wfile.write(b"%d\n" % do(json.loads(line)))
+
+        super().__init__(path, Request)
+
+
+class ByRunner(Executor):
+    """A plan that `ringplan-run` goes through by hooks, which ask the store. The runner is killed by signal 9, and every other time its hooks too, and is started again."""
+
+    def prepare(self, folder: pathlib.Path, bundle: str, hooks: str, workers: int) -> None:
+        self.folder, self.workers, self.killed, self.problem, self.draw = folder, workers, 0, "", random.Random(bundle)
+        (folder / "hooks").mkdir()
+        (folder / "plan.bundle").write_text(bundle)
+        for kind in ("join", "mirror", hooks, "switch", "drop", "retire"):
+            path = folder / "hooks" / kind
+            path.write_text(HOOK.format(path=str(folder / "desk")))
+            path.chmod(0o755)
+
+    def chunk(self, step: texts.StepLine, number: int) -> None:
+        """Gives one chunk. The first opens the copy, and the last closes it."""
+        if step.step not in self.opened:
+            self.open(step)
+        if number not in self.marks[step.step]:
+            self.copy_chunk(step, number)
+        if self.is_whole(step):
+            self.opened.remove(step.step)
+            self.finish(step, "close")
+
+    def serve(self, line: dict[str, Any]) -> int:
+        step = self.steps[line["step"]]
+        with self.lock:
+            if step.step in self.done:
+                return 0
+            if step.step in self.taken:
+                return NOT_NOW
+            self.taken.add(step.step)
+        try:
+            call = partial(self.chunk, step, line["chunk"]) if "chunk" in line else partial(self.do, step, self.draw)
+            return 0 if self.store.attempt(call) else NOT_NOW
+        except Died:
+            self.died += 1
+            return 1
+        finally:
+            with self.lock:
+                self.taken.discard(step.step)
+
+    def command(self, *words: str) -> list[str]:
+        return [sys.executable, "-m", "ringplan.run", *words, "--board", str(self.folder / "board")]
+
+    def kill(self, process: "subprocess.Popen[bytes]", with_hooks: bool) -> None:
+        hooks = pathlib.Path(f"/proc/{process.pid}/task/{process.pid}/children").read_text().split() if with_hooks else []
+        process.kill()
+        for hook in hooks:
+            subprocess.run(["kill", "-9", hook], stderr=subprocess.DEVNULL)
+        process.wait()
+        self.killed += 1
+
+    def work(self, draw: random.Random, until: float, pace: float = 0.0) -> None:
+        words = self.command("apply", str(self.folder / "plan.bundle"), "--do", str(self.folder / "hooks"))
+        words += ["--workers", str(self.workers), "--pause", "0.05", "--longest-pause", "0.4"]
+        with Desk(str(self.folder / "desk"), self.serve) as desk, open(self.folder / "said", "ab") as said:
+            threading.Thread(target=desk.serve_forever, daemon=True).start()
+            left = draw.randrange(1, 5)
+            while True:
+                process = subprocess.Popen(words, stdout=said, stderr=said, env=ENVIRONMENT)
+                try:
+                    status = process.wait(draw.uniform(0.4, 1.5) if left else until - time.time())
+                    break
+                except subprocess.TimeoutExpired:
+                    self.kill(process, left % 2 == 0)
+                    left -= 1
+                    if time.time() > until:
+                        status = -9
+                        break
+            desk.shutdown()
+        judged = subprocess.run(self.command("judge"), stdout=subprocess.PIPE, env=ENVIRONMENT).stdout.decode().split("\n")[0]
+        if status or judged != "yes":
+            self.problem = f"the runner ended with {status}, its judge says {judged}: {(self.folder / 'said').read_text()[-300:]}"
+
+
+def read_back(store: Store, draw: random.Random) -> int:
+    """How many acknowledged puts no get replies, themselves or by a successor."""
+    lost = 0
+    for key in sorted({put.key for put in store.puts}):
+        get = store.get(key, draw)
+        for put in store.puts:
+            if put.key == key and put.is_acknowledged and not any(is_at_most(put.clock, version.clock) for version in (get.reply if get else [])):
+                lost += 1
+    return lost
+
+
+def faults_of(store: Store, executor: Executor, bundle: str) -> list[str]:
+    """What is wrong with a run that has ended."""
+    judged = programs.ask("replay", bundle + "\n".join(store.history.lines()) + "\n")
+    owners = [f"slots {partition} " + " ".join(slot.owner.name for slot in it.slots) for partition, it in enumerate(store.partitions)]
+    short = sum(put.is_acknowledged and sum(store.held(put)) < store.slots - store.read_quorum + 1 for put in store.puts)
+    found = {
+        f"the judge says {judged.first()}": judged.first() != "yes",
+        "the store's owners are not the judge's": judged.text.splitlines()[1:] != [*owners, "end"],
+        f"{len(executor.done)} of {len(executor.steps)} steps are done": not executor.is_done(),
+        f"{short} acknowledged puts are at too few slots": bool(short),
+        getattr(executor, "problem", ""): bool(getattr(executor, "problem", "")),
+    }
+    return [fault for fault, is_one in found.items() if is_one]
+
+
+def run_right(seed: int, servers: str) -> dict[str, Any]:
+    """One right run, in this process: what there is to count of it, and its faults."""
+    case = case_of(seed, servers)
+    goal = programs.ask("goal", case.ring, *(word for node in case.dead for word in ("--dead", node)))
+    if goal.status:
+        return {"what": case.what, "faults": [goal.errors]}
+    folder, node = pathlib.Path(tempfile.mkdtemp(prefix="ringplan-trial-")), choose(case.servers)
+    folder.chmod(0o755)
+    steps = texts.read_steps(programs.ask("steps", goal.text).text)
+    store = Store(texts.read_plan(goal.text)[0], lambda name: node(str(folder), name))
+    executor, load = Executor(store, steps, case.load.deaths), case.load
+    if case.hooks:
+        executor = ByRunner(store, steps, case.load.deaths)
+        (folder / "runner").mkdir()
+        executor.prepare(folder / "runner", goal.text, case.hooks, case.load.workers)
+        load = dataclasses.replace(load, workers=1)
+    one = Run(store, executor, load, case.dead)
+    try:
+        took = one.run()
+        lost = read_back(store, random.Random(seed))
+        faults = faults_of(store, executor, goal.text) + ([f"{lost} acknowledged puts are lost"] if lost else [])
+    finally:
+        for member in store.members:
+            member.node.kill()
+        shutil.rmtree(folder)
+    acknowledged = sum(put.is_acknowledged for put in store.puts)
+    counts = {"entries": len(store.history.entries()), "acknowledged": acknowledged, "gets": len(store.gets), "steps": len(executor.done), "servers killed": one.kills, "in doubt": store.in_doubt}
+    return {"what": case.what, **counts, "workers died": executor.died, "runners killed": getattr(executor, "killed", 0), "seconds": round(took, 1), "faults": faults}
+
+
+def right(seed: int, servers: str) -> dict[str, Any]:
+    """One right run, in a process of its own."""
+    words = [sys.executable, __file__, "--one", str(seed), "--servers", servers]
+    try:
+        ran = subprocess.run(words, capture_output=True, text=True, timeout=400)
+        result: dict[str, Any] = json.loads(ran.stdout) if not ran.returncode else {"faults": [ran.stderr.strip()[-300:]]}
+    except subprocess.TimeoutExpired:
+        result = {"faults": ["it does not end"]}
+    print(f"right {seed}: {json.dumps(result)}", flush=True)
+    return result
+
+
 RINGS = {
-    "grow": ring("grow", 5, 2, 16, ["join n5", "join n6"]),
-    "replace": ring("replace", 6, 1, 32, ["join n6", "leave n1"], 3),
-    "losses": ring("losses", 6, 2, 16, ["join n6", "join n7"], quorum="3 2 3 1", form=3),
-    "dead": ring("dead", 7, 1, 32, ["join n7", "leave n2"]),
-    "large": ring("large", 9, 3, 64, ["join n9", "join n10", "join n11", "leave n0", "leave n4"]),
+    "grow": ring_text("grow", 5, 2, 16, ["join n5", "join n6"]),
+    "replace": ring_text("replace", 6, 1, 32, ["join n6", "leave n1"], 3),
+    "losses": ring_text("losses", 6, 2, 16, ["join n6", "join n7"], quorum="3 2 3 1", form=3),
+    "dead": ring_text("dead", 7, 1, 32, ["join n7", "leave n2"]),
 }
 
 # The ring and the load by which each broken store is shown.
@@ -48,10 +271,10 @@ BROKEN = {
     "keeper_serves": "grow --faults 0.2",
     "keeper_of_two": "grow --faults 0.1 --outage 1 --handoffs 1",
     "read_mirror": "grow",
-    "read_without_hints": "grow",
+    "read_without_hints": "grow --faults 0.1 --outage 0.5 --handoffs 0.5",
     "read_too_few": "grow",
     "last_slot_alone": "grow",
-    "handoff_to_owner_alone": "grow --pace 0.1",
+    "handoff_to_owner_alone": "grow --pace 0.1 --faults 0.2",
     "hint_for_a_node": "grow --handoffs 0.6 --faults 0.1 --pace 0.1",
     "hint_lost": "grow --handoffs 0.2 --faults 0.1",
     "retire_with_hints": "replace --handoffs 3 --faults 0.1",
@@ -67,60 +290,59 @@ BROKEN = {
     "half_written_forgotten": "grow --faults 0 --pace 0.1",
     "copy_without_hints": "dead --dead n2 --handoffs 1 --faults 0.05 --outage 1 --pace 0.1",
 }
-RIGHT = ["grow", "replace --handoffs 0.5", "losses --loses", "dead --dead n2", "grow --faults 0.1 --outage 0.3 --pace 0.2", "large"]
 
 
-def steps_of(bundle):
-    """The lines of steps. What slots a copy lists is the plan's to say, also where the lines do not."""
-    lines, plan = texts.read_steps(programs.ask("steps", bundle).text), texts.read_plan(bundle)[1]
-    return "".join(dataclasses.replace(line, slots=step.slots).line() + "\n" for line, step in zip(lines, plan.steps))
-
-
-def run(folder, words, seed, broken=""):
-    """What one run counts, the first line of the judge, and the entry that it names."""
-    name, *options = words.split()
-    bundle = programs.ask("goal", RINGS[name], *(["--dead", "n2"] if "--dead" in options else [])).text
-    for file, text in (("bundle", bundle), ("steps", steps_of(bundle))):
-        with open(f"{folder}/{file}", "w") as it:
-            it.write(text)
-    command = [sys.executable, "-m", "ringplan.store", *(f"{folder}/{file}" for file in ("bundle", "steps", "out")), "--seed", str(seed), *options]
-    command += ["--break", broken, "--limit", "15", "--clients", "3"] if broken else []
-    ran = subprocess.run(command, stdout=subprocess.PIPE, timeout=180, env={**os.environ, "PYTHONPATH": f"{top}/python"})
+def wrong_once(folder: str, name: str, seed: int, servers: str) -> str:
+    """The judge's first line for one run of a broken store, and the entry that it names."""
+    ring, *options = BROKEN[name].split()
+    bundle = programs.ask("goal", RINGS[ring], *(["--dead", "n2"] if "--dead" in options else [])).text
+    files = [os.path.join(folder, file) for file in ("bundle", "steps", "out")]
+    for path, text in zip(files, (bundle, programs.ask("steps", bundle).text)):
+        pathlib.Path(path).write_text(text)
+    words = [sys.executable, "-m", "ringplan.store", *files, "--seed", str(seed), *options, "--break", name, "--limit", "60", "--clients", "3", *(["--servers", servers] if servers else [])]
+    ran = subprocess.run(words, capture_output=True, timeout=180, env=ENVIRONMENT)
     if ran.returncode:
-        return None, f"status {ran.returncode}", ""
-    with open(f"{folder}/out") as it:
-        text = it.read()
+        return f"status {ran.returncode}: {ran.stderr.decode()[-300:]}"
+    text = pathlib.Path(files[2]).read_text()
     answer = programs.ask("replay", text).first()
-    entry = text.split("history 1\n")[1].split("\n")[int(answer.split()[2])] if answer.startswith("no 70") else ""
-    return json.loads(ran.stdout), answer, entry
+    return answer + (" " + text.split("history 1\n")[1].split("\n")[int(answer.split()[2])] if answer.startswith("no 70") else "")
 
 
-def right(folder, count):
-    for seed in range(1, count + 1):
-        words = RIGHT[(seed - 1) % len(RIGHT)]
-        counts, answer, entry = run(folder, words, seed)
-        is_right = counts is not None and answer == "yes" and counts["steps"] == counts["of"] and not counts["held at too few slots"]
-        print(f"right {seed}, {words}: {answer} {entry} {json.dumps(counts)}", flush=True)
-        if not is_right:
-            faults.append(f"right run {seed}")
+def wrong(name: str, servers: str) -> dict[str, Any]:
+    """Runs a broken store until it is refused, by at most three seeds."""
+    said = list[str]()
+    while len(said) < 3 and not (said and said[-1].startswith("no 70")):
+        with tempfile.TemporaryDirectory() as folder:
+            said.append(wrong_once(folder, name, len(said) + 1, servers))
+    print(f"{name}, seed {len(said)}: {said[-1]}", flush=True)
+    return {"faults": [] if said[-1].startswith("no 70") else [f"{name} is not refused"]}
 
 
-def wrong(folder, names):
-    for name in names:
-        for seed in (1, 2, 3):
-            counts, answer, entry = run(folder, BROKEN[name], seed, name)
-            if answer.startswith("no 70"):
-                break
-        print(f"{name}, seed {seed}: {answer} {entry}", flush=True)
-        if not answer.startswith("no 70"):
-            faults.append(name)
+def main() -> int:
+    parser = argparse.ArgumentParser(prog="trials/store.py", description="Runs the reference store, and has its histories judged.")
+    parser.add_argument("count", nargs="?", type=int, default=4, help="how many right runs (default: %(default)s)")
+    parser.add_argument("--first", type=int, default=1, metavar="SEED", help="the seed of the first")
+    parser.add_argument("--servers", choices=["", *KINDS], default="", help="the servers of all runs; else right runs have each kind in turn, and broken ones the first")
+    parser.add_argument("--jobs", type=int, default=os.cpu_count(), help="how many runs at once (default: %(default)s)")
+    parser.add_argument("--break", dest="broken", nargs="*", choices=list(BROKEN), metavar="NAME", help="broken stores alone")
+    parser.add_argument("--one", type=int, metavar="SEED", help="one right run, in this process")
+    words = parser.parse_args()
+    if words.one is not None:
+        os.environ.update(ENVIRONMENT)
+        # Threads change often, so that more orders of events are met.
+        sys.setswitchinterval(0.0005)
+        print(json.dumps(run_right(words.one, words.servers)))
+        return 0
+    seeds = range(words.first, words.first + words.count) if words.broken is None else range(0)
+    with concurrent.futures.ThreadPoolExecutor(words.jobs) as pool:
+        runs = [pool.submit(right, seed, words.servers) for seed in seeds]
+        others = [pool.submit(wrong, name, words.servers) for name in words.broken or BROKEN]
+        results = [one.result() for one in runs]
+        faults = [fault for one in results + [one.result() for one in others] for fault in one["faults"]]
+    totals = sum((Counter({name: count for name, count in one.items() if name not in ("what", "faults")}) for one in results), Counter[str]())
+    print(f"{len(results)} right runs: {json.dumps(totals)}", *faults, f"{len(others)} broken stores; {len(faults)} faults", sep="\n")
+    return int(bool(faults))
 
 
-faults = []
-with tempfile.TemporaryDirectory() as folder:
-    names = [word for word in sys.argv[1:] if word in BROKEN]
-    if not names:
-        right(folder, int(sys.argv[1]) if sys.argv[1:] else 4)
-    wrong(folder, names or BROKEN)
-print(f"{len(faults)} faults {' '.join(faults)}")
-sys.exit(bool(faults))
+if __name__ == "__main__":
+    sys.exit(main())

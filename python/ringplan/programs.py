@@ -40,13 +40,19 @@ def find() -> str:
     return path
 
 
-def ask(command: str, text: str, *options: str) -> Answer:
-    """Runs a command on a text. A program that is not there, or that was killed, is `NoProgram`. A signal from the terminal does not reach it."""
+def run(command: str, data: bytes, *options: str) -> subprocess.CompletedProcess[bytes]:
+    """Runs a command on bytes. A program that is not there, or that was killed, is `NoProgram`. A signal from the terminal does not reach it."""
     path = find()
     try:
-        ran = subprocess.run([path, command, *options], input=text.encode(), capture_output=True, start_new_session=True)
+        ran = subprocess.run([path, command, *options], input=data, capture_output=True, start_new_session=True)
     except OSError as error:
         raise NoProgram(f"{path} cannot be run: {error.strerror}") from error
     if ran.returncode < 0:
         raise NoProgram(f"{path} {command} was ended by signal {-ran.returncode}")
+    return ran
+
+
+def ask(command: str, text: str, *options: str) -> Answer:
+    """Runs a command on a text."""
+    ran = run(command, text.encode(), *options)
     return Answer(ran.stdout.decode(), ran.stderr.decode(), ran.returncode)

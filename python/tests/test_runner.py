@@ -9,17 +9,17 @@ import itertools
 import json
 import os
 import pathlib
+import pty
 import random
-import shutil
+import re
 import signal
-import socket
 import subprocess
-import sys
 import time
 from collections import Counter
 from collections.abc import Callable, Iterator, Sequence
 
 import pytest
+from bench import REPLACE, TOP, Bench, Server
 
 from ringplan import programs, texts
 from ringplan.run import etcd, gateway, runner
@@ -27,115 +27,6 @@ from ringplan.run.board import Board, Claim, ClaimEnded, Name, Note, Status, Sto
 from ringplan.run.etcd import EtcdBoard
 from ringplan.run.hooks import Hooks
 from ringplan.run.sqlite import SqliteBoard
-
-TOP = pathlib.Path(__file__).parents[2]
-REPLACE = (TOP / "examples/planned_replace.bundle").read_text()
-KINDS = ("join", "mirror", "copy", "switch", "drop", "retire")
-# A hook: one line for each begin and end of a step in the file `log`; `twice` where another hook of the step runs; `fail` names steps that fail.
-HOOK = """#!{python}
-import json, os, sys, time
-line = json.load(sys.stdin)
-step, pause = line["step"], {pause}
-def log(word):
-    with open("{folder}/log", "a") as file:
-        file.write(word + " " + json.dumps(line) + "\\n")
-try:
-    os.mkdir(f"{folder}/running-{{step}}")
-except FileExistsError:
-    log("twice")
-log("begin")
-time.sleep(pause)
-os.rmdir(f"{folder}/running-{{step}}")
-try:
-    with open(f"{folder}/answer-{{step}}") as file:
-        status = int(file.read())
-except FileNotFoundError:
-    status = 0
-log("end" if status == 0 else "fail")
-sys.exit(status)
-"""
-
-
-class Server:
-    """An etcd process on loopback, over a folder of its own."""
-
-    def __init__(self, folder: pathlib.Path) -> None:
-        if shutil.which("etcd") is None:
-            pytest.skip("etcd is not installed")
-        self.folder = folder
-        with socket.socket() as one, socket.socket() as two:
-            one.bind(("127.0.0.1", 0))
-            two.bind(("127.0.0.1", 0))
-            self.port, peer = one.getsockname()[1], f"http://127.0.0.1:{two.getsockname()[1]}"
-        client = f"http://127.0.0.1:{self.port}"
-        peers = ["--listen-peer-urls", peer, "--initial-advertise-peer-urls", peer, "--initial-cluster", f"default={peer}"]
-        self.words = ["etcd", "--data-dir", str(folder / "data"), "--listen-client-urls", client, "--advertise-client-urls", client, *peers]
-        self.start()
-
-    def start(self) -> None:
-        with open(self.folder / "etcd.log", "ab") as log:
-            self.process = subprocess.Popen(self.words, stdout=log, stderr=log)
-        client = gateway.Etcd("127.0.0.1", self.port)
-        client.patience = 30.0
-        client.read_each("ready")
-
-    def kill(self) -> None:
-        self.process.kill()
-        self.process.wait()
-
-    def address(self, name: str) -> str:
-        return f"etcd://127.0.0.1:{self.port}/{name}"
-
-
-class Bench:
-    """A folder with a bundle, hooks and their log; a board; and the lease of runners, where the board has leases."""
-
-    def __init__(self, folder: pathlib.Path, board: str) -> None:
-        self.folder, self.board, self.lease = folder, board, "3"
-        self.bundle = folder / "bundle"
-        self.bundle.write_text(REPLACE)
-        self.hooks(0.0)
-
-    def hooks(self, pause: float, *kinds: str) -> None:
-        (self.folder / "hooks").mkdir(exist_ok=True)
-        for kind in kinds or KINDS:
-            path = self.folder / "hooks" / kind
-            path.write_text(HOOK.format(python=sys.executable, folder=self.folder, pause=pause))
-            path.chmod(0o755)
-
-    def answer(self, step: int, status: int) -> None:
-        (self.folder / f"answer-{step}").write_text(str(status))
-
-    def command(self, *words: str) -> list[str]:
-        if words[0] == "apply":
-            words = ("apply", str(self.bundle), "--do", str(self.folder / "hooks"), "--pause", "0.05", "--lease", self.lease, *words[1:])
-        return [sys.executable, "-m", "ringplan.run", *words, "--board", self.board]
-
-    def start(self, *words: str, machine: str = "machine") -> subprocess.Popen[str]:
-        """Starts a command. Runners of two machines do not see the locks of each other's hooks."""
-        place, folder = {**os.environ, "PYTHONPATH": str(TOP / "python")}, self.folder / machine
-        folder.mkdir(exist_ok=True)
-        return subprocess.Popen(self.command(*words), stdout=subprocess.PIPE, stderr=subprocess.PIPE, text=True, env=place, cwd=folder)
-
-    def run(self, *words: str) -> tuple[int, str, str]:
-        process = self.start(*words)
-        out, err = process.communicate(timeout=60)
-        return process.returncode, out, err
-
-    def log(self) -> list[tuple[str, dict[str, object]]]:
-        path = self.folder / "log"
-        lines = path.read_text().splitlines() if path.exists() else []
-        return [(line.split(" ", 1)[0], json.loads(line.split(" ", 1)[1])) for line in lines]
-
-    def steps(self, word: str) -> list[object]:
-        return [line["step"] for found, line in self.log() if found == word]
-
-    def wait_for(self, word: str, step: int) -> None:
-        until = time.monotonic() + 20
-        while step not in self.steps(word):
-            assert time.monotonic() < until, self.log()
-            time.sleep(0.02)
-
 
 @pytest.fixture(scope="module")
 def server(tmp_path_factory: pytest.TempPathFactory) -> Iterator[Server]:
@@ -213,6 +104,26 @@ def test_a_plan_is_done_in_its_order(bench: Bench) -> None:
     assert bench.run("apply")[0] == Status.DONE
 
 
+def test_a_terminal_gets_a_bar(bench: Bench) -> None:
+    pytest.importorskip("rich")
+    bench.hooks(0.05)
+    for is_both in (False, True):
+        mine, its = pty.openpty()
+        place = {**os.environ, "PYTHONPATH": str(TOP / "python"), "TERM": "xterm", "COLUMNS": "100"}
+        process = subprocess.Popen(bench.command("apply"), stdout=its if is_both else subprocess.PIPE, stderr=its, env=place, cwd=bench.folder)
+        os.close(its)
+        shown = b""
+        with contextlib.suppress(OSError):
+            while data := os.read(mine, 1 << 16):
+                shown += data
+        os.close(mine)
+        out = shown if is_both else process.communicate()[0]
+        assert process.wait(timeout=30) == Status.DONE
+        assert "\u2501".encode() in shown and b"18/18" in shown and b"18 of 18 steps are done, and the judge says yes" in out
+        assert is_both or re.search(b"[1-9]/18", shown) and out.count(b"done ") == 18
+        bench.board += "2"
+
+
 @over_both
 def test_a_runner_that_is_killed_goes_on(bench: Bench) -> None:
     draw = random.Random(1)
@@ -254,7 +165,7 @@ def test_a_failing_hook_holds_back_what_waits_for_it_alone(bench: Bench) -> None
     assert code == Status.GIVEN_UP
     assert bench.steps("fail") == [3, 3, 3]
     assert sorted(map(str, bench.steps("end"))) == sorted(str(step.step) for step in steps if step.step not in held)
-    assert "switch 0 1: failed, 3 failures, given up" in err
+    assert err.count("switch 3 is not done\n") == 3 and "switch 0 1: failed, 3 failures, given up" in err
     assert "3 switch 0 1: given up after 3 failures" in bench.run("status")[1]
     assert out.splitlines()[-1].endswith("the judge says yes")
     bench.answer(3, 0)

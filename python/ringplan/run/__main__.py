@@ -1,6 +1,6 @@
 """The command line of the runner.
 
-    ringplan-run apply BUNDLE --do FOLDER [--board FILE|etcd://HOST:PORT/NAME] [--lease SECONDS] [--workers K] [--give-up N]
+    ringplan-run apply BUNDLE --do FOLDER [--board FILE|etcd://HOST:PORT/NAME] [--lease SECONDS] [--workers K] [--give-up N] [--serve PORT]
     ringplan-run status | history | judge | retry STEP  [--board FILE|etcd://HOST:PORT/NAME]
 """
 
@@ -11,13 +11,14 @@ import itertools
 import os
 import signal
 import sys
-import time
 from types import FrameType
 
 from ringplan import programs, texts
-from ringplan.run.board import Board, State, Status, Stop, names_of
+from ringplan.run.bar import shown
+from ringplan.run.board import Board, Status, Stop, names_of
 from ringplan.run.etcd import EtcdBoard
 from ringplan.run.hooks import Hooks
+from ringplan.run.page import Page, begun, told
 from ringplan.run.runner import Options, Runner, judge
 from ringplan.run.sqlite import SqliteBoard
 
@@ -71,30 +72,22 @@ def apply(words: argparse.Namespace) -> Status:
     signal.signal(signal.SIGINT, on_signal)
     signal.signal(signal.SIGTERM, on_signal)
     try:
-        status = runner.run()
+        if words.serve is not None:
+            print(f"the page is at {Page(board, words.serve).address}", file=sys.stderr, flush=True)
+        with shown(runner):
+            status = runner.run()
     finally:
         board.end()
     print(f"{len(runner.done)} of {len(steps)} steps are done, and the judge says yes")
     return status
 
 
-def told(state: State, is_held: bool) -> str:
-    """What there is to say of a step that was begun and is not done."""
-    tries = state.tries
-    if tries.is_given_up:
-        return f"given up after {tries.failures} failures"
-    if state.worker:
-        return f"{state.worker} does it" if is_held else "a runner that ended was doing it"
-    return f"{tries.failures} failures, {tries.waits} times not now, again in {max(0.0, tries.until - time.time()):.0f} s"
-
-
 def status(words: argparse.Namespace) -> Status:
     board = open_board(words)
     states, is_held = list(board.states()), board.is_held()
     print(f"{sum(state.is_done for state in states)} of {len(states)} steps are done; {'a' if is_held else 'no'} runner works with the board")
-    for state in states:
-        if not state.is_done and (state.worker or state.tries.failures or state.tries.waits):
-            print(state.number, f"{state.name}:", told(state, is_held))
+    for state in begun(states):
+        print(state.number, f"{state.name}:", told(state, is_held))
     return Status.DONE
 
 
@@ -147,6 +140,7 @@ def command_line() -> argparse.ArgumentParser:
             command.add_argument("--give-up", type=count, metavar="N", help="gives a step up that failed so often (default: never)")
             command.add_argument("--pause", type=float, default=1.0, metavar="SECONDS", help="the pause before a second try; it doubles (default: %(default)s)")
             command.add_argument("--longest-pause", type=float, default=300.0, metavar="SECONDS", help="the longest pause (default: %(default)s)")
+            command.add_argument("--serve", type=int, metavar="PORT", help="shows a page at this port of 127.0.0.1; 0 takes a free one")
     return parser
 
 

@@ -11,6 +11,7 @@ import enum
 import fcntl
 import json
 import os
+import select
 import signal
 import subprocess
 import sys
@@ -78,13 +79,18 @@ class Hooks:
     def follow(self, process: subprocess.Popen[bytes], renew: Callable[[], bool]) -> tuple[int, bool]:
         """Waits for a hook. Kills it, with its group, once the claim of its step ends. Returns its status, and whether it was killed."""
         is_killed = False
-        while True:
-            with contextlib.suppress(subprocess.TimeoutExpired):
-                return process.wait(BEAT), is_killed
-            if not is_killed and not renew():
-                is_killed = True
-                with contextlib.suppress(ProcessLookupError):
-                    os.killpg(process.pid, signal.SIGKILL)
+        # `wait` with a timeout would sleep up to 50 ms too long.
+        ended, handle = select.poll(), os.pidfd_open(process.pid)
+        try:
+            ended.register(handle, select.POLLIN)
+            while not ended.poll(1000 * BEAT):
+                if not is_killed and not renew():
+                    is_killed = True
+                    with contextlib.suppress(ProcessLookupError):
+                        os.killpg(process.pid, signal.SIGKILL)
+        finally:
+            os.close(handle)
+        return process.wait(), is_killed
 
     def run(self, kind: str, members: dict[str, object], handle: int, renew: Callable[[], bool]) -> Outcome:
         """Runs a hook to its end, while `renew` says that its step is still the worker's.

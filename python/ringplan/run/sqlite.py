@@ -29,7 +29,10 @@ NAMED = "kind=? and partition=? and slot=? and node=? and turn=?"
 
 
 class SqliteBoard:
-    """A board in a file. Beside it stands a lock, `FILE.lock`, that the system frees when the runner dies."""
+    """A board in a file. Beside it stands a lock, `FILE.lock`, that the system frees when the runner dies.
+
+    A claim waits for the disk, and with it all that was noted before. A note does not: if the machine itself crashes, steps that were noted after the last claim
+    are done again, and their hooks are told so. No hook of a step that waits for them has begun then."""
 
     def __init__(self, path: str, is_new: bool = False) -> None:
         self.path, self.lock, self.held, self.locks = path, threading.Lock(), -1, f"{path}.hooks"
@@ -38,7 +41,6 @@ class SqliteBoard:
         try:
             self.connection = sqlite3.connect(path, timeout=30, isolation_level=None, check_same_thread=False)
             self.connection.execute("pragma journal_mode=wal")
-            self.connection.execute("pragma synchronous=full")
             if is_new:
                 self.connection.executescript(SCHEMA)
             self.connection.execute("select bundle from plan, steps, entries limit 0")
@@ -46,20 +48,32 @@ class SqliteBoard:
             raise Stop(Status.FAULT, f"{path} is no board: {error}") from error
 
     @contextlib.contextmanager
-    def change(self) -> Iterator[sqlite3.Connection]:
-        """One transaction."""
+    def reaching(self) -> Iterator[sqlite3.Connection]:
+        """The file, for one thread. What SQLite refuses, as on a full disk, is a `Stop`."""
         with self.lock:
-            self.connection.execute("begin immediate")
             try:
                 yield self.connection
+            except sqlite3.Error as error:
+                raise Stop(Status.FAULT, f"the board {self.path} cannot be read or written: {error}") from error
+
+    @contextlib.contextmanager
+    def change(self, is_synced: bool = True) -> Iterator[sqlite3.Connection]:
+        """One transaction, which waits for the disk or leaves that to the next one."""
+        with self.reaching() as it:
+            it.execute(f"pragma synchronous={'full' if is_synced else 'normal'}")
+            it.execute("begin immediate")
+            try:
+                yield it
+                it.execute("commit")
             except BaseException:
-                self.connection.execute("rollback")
+                # SQLite may have rolled it back already.
+                if it.in_transaction:
+                    it.execute("rollback")
                 raise
-            self.connection.execute("commit")
 
     def rows(self, query: str, *values: Any) -> list[tuple[Any, ...]]:
-        with self.lock:
-            return self.connection.execute(query, values).fetchall()
+        with self.reaching() as it:
+            return it.execute(query, values).fetchall()
 
     def hold(self) -> None:
         """Takes the lock beside the file, until the process ends."""
@@ -87,6 +101,9 @@ class SqliteBoard:
 
     def end(self) -> None:
         if self.held >= 0:
+            with contextlib.suppress(sqlite3.Error), self.lock:
+                self.connection.execute("pragma synchronous=full")
+                self.connection.execute("pragma wal_checkpoint")
             os.close(self.held)
             self.held = -1
 
@@ -129,7 +146,7 @@ class SqliteBoard:
         return True
 
     def note(self, claim: Claim, notes: Iterable[Note], is_done: bool = False) -> None:
-        with self.change() as it:
+        with self.change(is_synced=False) as it:
             step = self.own(it, claim)
             for word, chunk in notes:
                 it.execute("insert into entries (step, word, chunk) values (?, ?, ?)", (step, word, chunk))

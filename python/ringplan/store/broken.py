@@ -23,6 +23,14 @@ def later(seconds: float, call: Callable[[], object]) -> None:
     timer.start()
 
 
+def die_now(store: Store, member: Member | None) -> None:
+    """Kills a server that is up, which is told, and brings it back after a while."""
+    if member is not None and member.is_up:
+        member.node.kill()
+        store.suspect(member)
+        later(0.2, member.node.start)
+
+
 class NoMirror(Store):
     """Writes skip the mirror."""
     def writers(self, slot: Slot) -> list[Member]:
@@ -96,8 +104,14 @@ class LastSlotAlone(Store):
 
 
 class HandoffToOwnerAlone(Store):
-    """A handoff skips the mirror."""
+    """A handoff skips the mirror, and does not need it up. It dies just then. Most handoffs wait for a mirror."""
+    def handoff(self, slot: Slot, keeper: Member) -> None:
+        if slot.mirror is not None or random.random() < 0.1:
+            super().handoff(slot, keeper)
+
     def receivers(self, slot: Slot, keeper: Member) -> list[Member]:
+        if slot.mirror not in (None, keeper):
+            die_now(self, slot.mirror)
         return [slot.owner]
 
 
@@ -217,10 +231,7 @@ class CopyWithoutHints(Executor):
     """A copy from listed slots leaves out what stand-ins keep for them, and does not need them up. Each of them dies just then."""
     def hint_keepers(self, step: StepLine, chunk: int) -> list[tuple[Slot, Member]]:
         for _, keeper in super().hint_keepers(step, chunk):
-            if keeper.is_up:
-                keeper.node.kill()
-                self.store.suspect(keeper)
-                later(0.2, keeper.node.start)
+            die_now(self.store, keeper)
         return []
 
 

@@ -52,7 +52,11 @@ class RedisNode(ServerNode["redis.Redis[bytes]"]):
         return subprocess.Popen([*words, "--appendonly", "yes", "--appendfsync", "no", "--save", ""], start_new_session=True)
 
     def connect(self) -> redis.Redis[bytes]:
-        link = redis.Redis(unix_socket_path=self.path, socket_timeout=10, single_connection_client=True)
+        try:
+            link = redis.Redis(unix_socket_path=self.path, socket_timeout=10, single_connection_client=True)
+        except AttributeError as error:
+            # The client wants to name the host of a connection that broke as it was made, and a Unix socket has none.
+            raise redis.ConnectionError(self.path) from error
         # It refuses while the server still reads its file.
         link.ping()
         return link

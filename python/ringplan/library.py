@@ -1,0 +1,184 @@
+"""ringplan's commands as functions: the bytes of a bundle in, what the program prints and its exit status out.
+
+    >>> from ringplan import library
+    >>> library.check(open("examples/move_one_slot.bundle", "rb").read())
+    Answer(status=<Status.DONE: 0>, text=b'yes\\n', errors='')
+
+`check`, `plan`, `play`, `replay` and `migrate` are calls of the C library in this process, where it is there: the file that the environment's RINGPLAN_LIBRARY names, else what the tree has built or
+`make install` has installed. Else, and for all other commands, the program `ringplan` runs. Both give the same bytes. Calls may run in any number of threads: ctypes lets go of the interpreter's
+lock while one runs. A refusal is an `Answer` too; `Answer.demand` makes an exception of it.
+"""
+
+from __future__ import annotations
+
+import ctypes
+import enum
+import functools
+import os
+import pathlib
+from collections.abc import Sequence
+from typing import NamedTuple
+
+from ringplan import programs
+
+# The version of the C library's calls, and the name of its file.
+VERSION = 1
+FILE = f"libringplan.so.{VERSION}"
+# Room for every refusal, and for every answer to a check.
+LINE = 32
+MORE_ROOM = 4
+
+
+class NoLibrary(Exception):
+    """A C library that is named and cannot be used."""
+
+
+class Status(enum.IntEnum):
+    """The exit status of the program."""
+
+    # It is printed, or yes.
+    DONE = 0
+    # The plan is refused, there is none, or the history is no run of it.
+    PLAN_REFUSED = 1
+    # A text is refused, or the command line.
+    TEXT_REFUSED = 2
+    # Memory ran out, or an input or output failed.
+    OUT_OF_MEMORY = 3
+    # `goal` with --exit-code: the plan has steps.
+    HAS_STEPS = 4
+
+
+class Refused(Exception):
+    """An answer that is a refusal. Its text is the refusal's line, or the words of the program."""
+
+    def __init__(self, answer: Answer) -> None:
+        super().__init__((answer.text.decode(errors="replace") if answer.text else answer.errors).strip())
+        self.answer = answer
+
+
+class Answer(NamedTuple):
+    """What the program prints on standard output and on standard error, and its exit status. The C library has no words for standard error."""
+
+    status: Status
+    text: bytes
+    errors: str = ""
+
+    def demand(self) -> bytes:
+        """The text. A refusal is a `Refused`."""
+        if self.status not in (Status.DONE, Status.HAS_STEPS):
+            raise Refused(self)
+        return self.text
+
+
+def places() -> list[pathlib.Path]:
+    """Where the C library may be: in the tree, or where `make install` puts it beside the package."""
+    here = pathlib.Path(__file__).resolve().parents
+    return [programs.TOP / "crates/ringplan_c/out" / FILE, *([here[3] / FILE] if here[2].name == "python3" else [])]
+
+
+@functools.cache
+def load(named: str | None) -> ctypes.CDLL | None:
+    """The C library that is named; None for the empty name, and where none is named and there is none."""
+    there = [str(place) for place in places() if place.exists()] if named is None else [named]
+    if not there or not there[0]:
+        return None
+    try:
+        found = ctypes.CDLL(there[0])
+        found.ringplan_version.restype, found.ringplan_version.argtypes = ctypes.c_uint32, []
+        version = found.ringplan_version()
+    except (OSError, AttributeError) as error:
+        raise NoLibrary(f"{there[0]} is no library of ringplan: {error}") from error
+    if version != VERSION:
+        raise NoLibrary(f"{there[0]} has version {version} of the calls, and not {VERSION}")
+    return found
+
+
+def by_library(library: ctypes.CDLL, command: str, bundle: bytes) -> Answer:
+    call = getattr(library, f"ringplan_{command}")
+    call.restype = ctypes.c_uint8
+    call.argtypes = [ctypes.c_char_p, ctypes.c_size_t, ctypes.c_char_p, ctypes.c_size_t, ctypes.POINTER(ctypes.c_size_t)]
+    length, room = ctypes.c_size_t(), LINE
+    while True:
+        output = ctypes.create_string_buffer(room)
+        status = call(bundle, len(bundle), output, room, ctypes.byref(length))
+        if status != MORE_ROOM:
+            return Answer(Status(status), output.raw[: length.value])
+        room = length.value
+
+
+def by_program(command: str, bundle: bytes, options: Sequence[str] = ()) -> Answer:
+    ran = programs.run(command, bundle, *options)
+    return Answer(Status(ran.returncode), ran.stdout, ran.stderr.decode(errors="replace"))
+
+
+def call_or_run(command: str, bundle: bytes) -> Answer:
+    # Bytes alone: nobody can write them while the call runs.
+    if not isinstance(bundle, bytes):
+        raise TypeError(f"a bundle is bytes, and not {type(bundle).__name__}")
+    library = load(os.environ.get("RINGPLAN_LIBRARY"))
+    return by_program(command, bundle) if library is None else by_library(library, command, bundle)
+
+
+def check(bundle: bytes) -> Answer:
+    """Of a ring, a plan and its certificate: `yes`, and then the plan keeps its promises, or the first refusal."""
+    return call_or_run("check", bundle)
+
+
+def plan(bundle: bytes) -> Answer:
+    """Of a ring and a change: a plan that the checker accepts and its certificate, or a refusal."""
+    return call_or_run("plan", bundle)
+
+
+def play(bundle: bytes) -> Answer:
+    """Of a ring, a plan, its certificate and a script: what each event is answered and the owners at the end, or a refusal."""
+    return call_or_run("play", bundle)
+
+
+def replay(bundle: bytes) -> Answer:
+    """Of a ring, a plan, its certificate and a history: `yes` and the owners at the end, or the first fault."""
+    return call_or_run("replay", bundle)
+
+
+def migrate(bundle: bytes) -> Answer:
+    """Of a ring, a plan and its certificate: the same in the ring's next format, with nothing checked, or a refusal."""
+    return call_or_run("migrate", bundle)
+
+
+def goal(bundle: bytes, *options: str) -> Answer:
+    """Of a ring and a change or a goal ring: the ring, a plan and its certificate. Options as `--dead`, `b` or `--weight`, `c=2`."""
+    return by_program("goal", bundle, options)
+
+
+def why(bundle: bytes) -> Answer:
+    """Why a bundle is refused, in words, with lines that may mend it."""
+    return by_program("why", bundle)
+
+
+def show(bundle: bytes, *options: str) -> Answer:
+    """What the plan does, and with a history how far it has come. Options: `--all`, `--racks-behind`."""
+    return by_program("show", bundle, options)
+
+
+def draw(bundle: bytes, *options: str) -> Answer:
+    """A picture of the plan as SVG. Options: `--map`, `--racks-behind`."""
+    return by_program("draw", bundle, options)
+
+
+def steps(bundle: bytes, *options: str) -> Answer:
+    """The plan's steps as lines of JSON, which `ringplan.texts.read_steps` reads. Option: `--moves`."""
+    return by_program("steps", bundle, options)
+
+
+def cert(bundle: bytes) -> Answer:
+    """Ring and plan with a certificate that is found, whether or not the bundle has one."""
+    return by_program("cert", bundle)
+
+
+def windows(bundle: bytes, *options: str) -> Answer:
+    """The plan cut into bundles that are done one after the other. Options: `--rounds`, `--only`."""
+    return by_program("windows", bundle, options)
+
+
+def after(bundle: bytes) -> Answer:
+    """The ring that the plan leaves, or what a history has done of it."""
+    return by_program("after", bundle)

@@ -1,0 +1,39 @@
+"""A bar at a terminal that shows how far a plan is, where the package `rich` is installed."""
+
+from __future__ import annotations
+
+import contextlib
+import sys
+import threading
+from collections.abc import Iterator
+
+from ringplan.run.runner import Runner
+
+
+@contextlib.contextmanager
+def shown(runner: Runner) -> Iterator[None]:
+    """Shows the bar while the block runs. Lines that are printed meanwhile come above it."""
+    try:
+        from rich import console, progress
+    except ModuleNotFoundError:
+        yield
+        return
+    if not sys.stderr.isatty():
+        yield
+        return
+    columns = (progress.BarColumn(), progress.MofNCompleteColumn(), progress.TextColumn("steps"), progress.TimeElapsedColumn())
+    with progress.Progress(*columns, console=console.Console(stderr=True), redirect_stdout=sys.stdout.isatty()) as bar:
+        task, over = bar.add_task("", total=len(runner.steps), completed=len(runner.done)), threading.Event()
+
+        def follow() -> None:
+            while not over.wait(0.2):
+                bar.update(task, completed=len(runner.done))
+
+        watcher = threading.Thread(target=follow)
+        watcher.start()
+        try:
+            yield
+        finally:
+            over.set()
+            watcher.join()
+            bar.update(task, completed=len(runner.done))

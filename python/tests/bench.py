@@ -1,0 +1,127 @@
+"""What tests of the runner share: hooks that write down what they do, a board, and an etcd."""
+
+from __future__ import annotations
+
+import json
+import os
+import pathlib
+import shutil
+import socket
+import subprocess
+import sys
+import time
+from collections.abc import Sequence
+
+import pytest
+
+from ringplan.run import gateway
+
+TOP = pathlib.Path(__file__).parents[2]
+REPLACE = (TOP / "examples/planned_replace.bundle").read_text()
+KINDS = ("join", "mirror", "copy", "switch", "drop", "retire")
+# A hook: one line for each begin and end of a step in the file `log`; `twice` where another hook of the step runs; `fail` names steps that fail.
+HOOK = """#!{python}
+import json, os, sys, time
+line = json.load(sys.stdin)
+step, pause = line["step"], {pause}
+def log(word):
+    with open("{folder}/log", "a") as file:
+        file.write(word + " " + json.dumps(line) + "\\n")
+try:
+    os.mkdir(f"{folder}/running-{{step}}")
+except FileExistsError:
+    log("twice")
+log("begin")
+time.sleep(pause)
+os.rmdir(f"{folder}/running-{{step}}")
+try:
+    with open(f"{folder}/answer-{{step}}") as file:
+        status = int(file.read())
+except FileNotFoundError:
+    status = 0
+log("end" if status == 0 else "fail")
+if status:
+    print(line["do"], step, "is not done")
+sys.exit(status)
+"""
+
+
+class Server:
+    """An etcd process on loopback, over a folder of its own, with options of its own."""
+
+    def __init__(self, folder: pathlib.Path, *options: str) -> None:
+        if shutil.which("etcd") is None:
+            pytest.skip("etcd is not installed")
+        self.folder = folder
+        with socket.socket() as one, socket.socket() as two:
+            one.bind(("127.0.0.1", 0))
+            two.bind(("127.0.0.1", 0))
+            self.port, peer = one.getsockname()[1], f"http://127.0.0.1:{two.getsockname()[1]}"
+        client = f"http://127.0.0.1:{self.port}"
+        peers = ["--listen-peer-urls", peer, "--initial-advertise-peer-urls", peer, "--initial-cluster", f"default={peer}"]
+        self.words = ["etcd", "--data-dir", str(folder / "data"), "--listen-client-urls", client, "--advertise-client-urls", client, *peers, *options]
+        self.start()
+
+    def start(self) -> None:
+        with open(self.folder / "etcd.log", "ab") as log:
+            self.process = subprocess.Popen(self.words, stdout=log, stderr=log)
+        client = gateway.Etcd("127.0.0.1", self.port)
+        client.patience = 30.0
+        client.read_each("ready")
+
+    def kill(self) -> None:
+        self.process.kill()
+        self.process.wait()
+
+    def address(self, name: str) -> str:
+        return f"etcd://127.0.0.1:{self.port}/{name}"
+
+
+class Bench:
+    """A folder with a bundle, hooks and their log; a board; the lease of runners, where the board has leases; and the words before each command."""
+
+    def __init__(self, folder: pathlib.Path, board: str, prefix: Sequence[str] = ()) -> None:
+        self.folder, self.board, self.lease, self.prefix = folder, board, "3", prefix
+        self.bundle = folder / "bundle"
+        self.bundle.write_text(REPLACE)
+        self.hooks(0.0)
+
+    def hooks(self, pause: float, *kinds: str) -> None:
+        (self.folder / "hooks").mkdir(exist_ok=True)
+        for kind in kinds or KINDS:
+            path = self.folder / "hooks" / kind
+            path.write_text(HOOK.format(python=sys.executable, folder=self.folder, pause=pause))
+            path.chmod(0o755)
+
+    def answer(self, step: int, status: int) -> None:
+        (self.folder / f"answer-{step}").write_text(str(status))
+
+    def command(self, *words: str) -> list[str]:
+        if words[0] == "apply":
+            words = ("apply", str(self.bundle), "--do", str(self.folder / "hooks"), "--pause", "0.05", "--lease", self.lease, *words[1:])
+        return [*self.prefix, sys.executable, "-m", "ringplan.run", *words, "--board", self.board]
+
+    def start(self, *words: str, machine: str = "machine") -> subprocess.Popen[str]:
+        """Starts a command. Runners of two machines do not see the locks of each other's hooks."""
+        place, folder = {**os.environ, "PYTHONPATH": str(TOP / "python")}, self.folder / machine
+        folder.mkdir(exist_ok=True)
+        return subprocess.Popen(self.command(*words), stdout=subprocess.PIPE, stderr=subprocess.PIPE, text=True, env=place, cwd=folder)
+
+    def run(self, *words: str) -> tuple[int, str, str]:
+        process = self.start(*words)
+        out, err = process.communicate(timeout=60)
+        return process.returncode, out, err
+
+    def log(self) -> list[tuple[str, dict[str, object]]]:
+        path = self.folder / "log"
+        lines = path.read_text().splitlines() if path.exists() else []
+        return [(line.split(" ", 1)[0], json.loads(line.split(" ", 1)[1])) for line in lines]
+
+    def steps(self, word: str) -> list[object]:
+        return [line["step"] for found, line in self.log() if found == word]
+
+    def wait_for(self, word: str, step: int) -> None:
+        until = time.monotonic() + 20
+        while step not in self.steps(word):
+            assert time.monotonic() < until, self.log()
+            time.sleep(0.02)

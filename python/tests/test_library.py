@@ -1,0 +1,96 @@
+"""The commands as functions: by the C library and by the program, byte for byte beside the program itself."""
+
+from __future__ import annotations
+
+import concurrent.futures
+import pathlib
+import subprocess
+from collections.abc import Callable
+
+import pytest
+
+from ringplan import library, programs, texts
+from ringplan.library import Answer, NoLibrary, Refused, Status
+
+TOP = pathlib.Path(__file__).parents[2]
+EXAMPLES = sorted((TOP / "examples").glob("*.bundle"))
+CALLS = {"check": library.check, "plan": library.plan, "play": library.play, "replay": library.replay, "migrate": library.migrate}
+OTHERS: dict[str, tuple[Callable[..., Answer], list[list[str]]]] = {
+    "goal": (library.goal, [[], ["--dead", "b"], ["--weight", "c=2", "--even"], ["--exit-code"], ["--none"]]),
+    "why": (library.why, [[]]),
+    "show": (library.show, [[], ["--all"], ["--racks-behind", "."]]),
+    "draw": (library.draw, [[], ["--map"]]),
+    "steps": (library.steps, [[], ["--moves"]]),
+    "cert": (library.cert, [[]]),
+    "windows": (library.windows, [[], ["--rounds", "1"]]),
+    "after": (library.after, [[]]),
+}
+
+
+@pytest.fixture(params=["library", "program"], autouse=True)
+def way(request: pytest.FixtureRequest, monkeypatch: pytest.MonkeyPatch) -> str:
+    """Whether the calls go through the C library, or all through the program."""
+    try:
+        programs.find()
+    except programs.NoProgram as error:
+        pytest.skip(str(error))
+    if request.param == "program":
+        monkeypatch.setenv("RINGPLAN_LIBRARY", "")
+    elif library.load(None) is None:
+        pytest.skip("the C library is not built: `make` builds it")
+    return str(request.param)
+
+
+def wanted(command: str, bundle: bytes, *options: str) -> tuple[int, bytes, str]:
+    ran = subprocess.run([programs.find(), command, *options], input=bundle, capture_output=True)
+    return ran.returncode, ran.stdout, ran.stderr.decode()
+
+
+@pytest.mark.parametrize("command", CALLS)
+def test_calls_answer_as_the_program_does(command: str, way: str) -> None:
+    hostile = [b"", b"\0\xff\n" * 9, b"ring 1\n" * 1000]
+    examples = EXAMPLES if way == "library" else EXAMPLES[::6]
+    for bundle in [path.read_bytes() for path in examples] + hostile:
+        status, text, errors = wanted(command, bundle)
+        assert CALLS[command](bundle) == Answer(Status(status), text, errors if way == "program" else ""), (command, bundle)
+
+
+@pytest.mark.parametrize("command", OTHERS)
+@pytest.mark.parametrize("way", ["program"], indirect=True)
+def test_other_commands_are_the_program(command: str) -> None:
+    call, choices = OTHERS[command]
+    for path in EXAMPLES[::8]:
+        for options in choices:
+            status, text, errors = wanted(command, path.read_bytes(), *options)
+            assert call(path.read_bytes(), *options) == Answer(Status(status), text, errors)
+
+
+def test_a_refusal_is_an_exception_where_that_is_asked_for() -> None:
+    refused = (TOP / "examples/copy_out_of_order.bundle").read_bytes()
+    answer = library.check(refused)
+    assert (answer.status, answer.text) == (Status.PLAN_REFUSED, b"no 22 2\n")
+    with pytest.raises(Refused, match="^no 22 2$") as fault:
+        answer.demand()
+    assert fault.value.answer == answer
+    with pytest.raises(Refused, match="^no 22 2\n"):
+        library.steps(refused).demand()
+    planned = library.goal((TOP / "examples/plan_replace.bundle").read_bytes(), "--exit-code")
+    assert planned.status is Status.HAS_STEPS and library.check(planned.demand()).demand() == b"yes\n"
+    assert len(texts.read_steps(library.steps(planned.text).demand().decode())) == 18
+
+
+def test_threads_may_call_at_once() -> None:
+    bundles = [path.read_bytes() for path in EXAMPLES[::4]] * 3
+    with concurrent.futures.ThreadPoolExecutor(8) as pool:
+        assert list(pool.map(library.check, bundles)) == [library.check(bundle) for bundle in bundles]
+
+
+def test_what_is_no_bundle_or_no_library_is_told(monkeypatch: pytest.MonkeyPatch, tmp_path: pathlib.Path) -> None:
+    with pytest.raises(TypeError, match="a bundle is bytes, and not str"):
+        library.check("ring 1\n")  # type: ignore[arg-type]
+    monkeypatch.setenv("RINGPLAN_LIBRARY", str(tmp_path / "none"))
+    with pytest.raises(NoLibrary, match="none is no library of ringplan"):
+        library.check(b"")
+    monkeypatch.setenv("RINGPLAN_LIBRARY", "libc.so.6")
+    with pytest.raises(NoLibrary, match="libc.so.6 is no library of ringplan"):
+        library.check(b"")
