@@ -3,7 +3,7 @@ use Rattle.ringplan_run.proofs.Deliveries.{prints_nothing, reports_none, told_by
 use Rattle.ringplan_run.proofs.program.run_making.Goals as goal
 
 pub returns-in-Ok : goal.returns-in-Ok
-returns-in-Ok g c = (c.in-Ok.made, c.in-Ok.ensures.same, c.print_report.ensures)
+returns-in-Ok g c = (c.in-Ok.made, c.in-Ok.ensures.same, c.print_report.ensures.0, c.print_report.ensures.1, c.print_report.ensures.2)
 
 pub returns-in-Err : goal.returns-in-Err
 returns-in-Err g c =
