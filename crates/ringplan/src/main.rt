@@ -14,13 +14,7 @@ fn main(rt: HostRuntime) -> ExitCode {
         is_new: true,
     };
     let status = match words(&rt) {
-        Ok(words) => run(
-            &rt,
-            screen(&rt),
-            words.as_slice(),
-            &mut input,
-            &mut output,
-        ),
+        Ok(words) => run(&rt, screen(&rt), words.as_slice(), &mut input, &mut output),
         Err(ErrorKind::InvalidData) => end_without_words(&mut output),
         Err(_) => end_without_memory(&mut output),
     };

@@ -38,7 +38,13 @@ fn reads_of<RT: AllocGlobal + Files + Eprint + Threads + Wait + Sync + Abort>(
         calls: MANY,
     };
     let mut output = MemoryWriter::new(rt.alloc(), MANY, MANY);
-    let ended = run(rt, Screen::Plain, &["ringplan", word], &mut input, &mut output);
+    let ended = run(
+        rt,
+        Screen::Plain,
+        &["ringplan", word],
+        &mut input,
+        &mut output,
+    );
     assert_eq!(rt; ended, 0);
     MANY.saturating_sub(input.calls)
 }
@@ -64,7 +70,13 @@ fn reads_fail<RT: AllocGlobal + Files + Eprint + Threads + Wait + Sync + Abort>(
             calls,
         };
         let mut output = MemoryWriter::new(rt.alloc(), MANY, MANY);
-        let ended = run(rt, Screen::Plain, &["ringplan", word], &mut input, &mut output);
+        let ended = run(
+            rt,
+            Screen::Plain,
+            &["ringplan", word],
+            &mut input,
+            &mut output,
+        );
         failed(rt, ended, output.bytes.as_slice(), b"no 61\n");
     }
 }

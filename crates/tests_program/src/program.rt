@@ -43,7 +43,11 @@ fn told<RT: AllocGlobal + Files + Eprint + Threads + Wait + Sync + Abort>(
     text: &str,
 ) -> Result<(), Fail> {
     let mut output = MemoryWriter::new(rt.alloc(), 4096, 2);
-    ends(rt, run(rt, Screen::Plain, words, &mut Endless, &mut output), status);
+    ends(
+        rt,
+        run(rt, Screen::Plain, words, &mut Endless, &mut output),
+        status,
+    );
     shows(rt, output.bytes.as_slice(), text)
 }
 
@@ -207,7 +211,13 @@ fn interrupted_reads_and_writes(rt: HostRuntime) {
         inner: MemoryWriter::new(rt.alloc(), 1, 64),
         was_told: false,
     };
-    let ended = run(&rt, Screen::Plain, CHECK.as_slice(), &mut input, &mut output);
+    let ended = run(
+        &rt,
+        Screen::Plain,
+        CHECK.as_slice(),
+        &mut input,
+        &mut output,
+    );
     ends_with(&rt, ended, 0, output.inner.bytes.as_slice(), b"yes\n");
 }
 
@@ -220,7 +230,13 @@ fn is_called_once<RT: Abort>(rt: &RT, calls: usize) {
 fn a_write_that_takes_nothing(rt: HostRuntime) {
     let mut output = MemoryWriter::new(rt.alloc(), 0, 9);
     let words = ["ringplan"];
-    let ended = run(&rt, Screen::Plain, words.as_slice(), &mut Endless, &mut output);
+    let ended = run(
+        &rt,
+        Screen::Plain,
+        words.as_slice(),
+        &mut Endless,
+        &mut output,
+    );
     ends_with(&rt, ended, 3, output.bytes.as_slice(), b"");
     is_called_once(&rt, output.calls);
 }
@@ -228,6 +244,12 @@ fn a_write_that_takes_nothing(rt: HostRuntime) {
 #[test]
 fn an_input_without_end(rt: HostRuntime) {
     let mut output = MemoryWriter::new(rt.alloc(), 9, 9);
-    let ended = run(&rt, Screen::Plain, CHECK.as_slice(), &mut Endless, &mut output);
+    let ended = run(
+        &rt,
+        Screen::Plain,
+        CHECK.as_slice(),
+        &mut Endless,
+        &mut output,
+    );
     ends_with(&rt, ended, 2, output.bytes.as_slice(), b"no 2 0\n");
 }
