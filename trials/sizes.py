@@ -137,6 +137,12 @@ def distance(case: Case, rows: list[list[str]]) -> float:
     return max(abs(loads[v] - case.share(v)) for v in case.joins) / max(case.sizes)
 
 
+def is_forced(case: Case) -> bool:
+    """Whether racks decide a joiner's load: there are as many as slots, and a leaver's slots stay in its rack."""
+    has_few = len(set(map(rack, case.names))) == len(case.rows[0])
+    return has_few and any(rack(v) in map(rack, case.joins) for v in case.leaves)
+
+
 def table() -> Case:
     """192 ranges of 12 nodes with 16 tokens in three racks, filled up to 256 by rows without keys; three nodes join."""
     pick = random.Random(3)
@@ -170,7 +176,7 @@ def tell_table() -> bool:
 
 def main() -> int:
     count = 500 if "--all" in sys.argv else 40
-    good, far, worst = tell_table(), 0, 0.0
+    good, forced, far, worst = tell_table(), 0, 0, 0.0
     for number in range(count):
         case = drawn(number)
         rows = planned(case)
@@ -178,9 +184,12 @@ def main() -> int:
         if wrong:
             print("change %d (%s): %s" % (number, KINDS[number % 5], wrong))
             good = False
+        if is_forced(case):
+            forced += 1
+            continue
         far += distance(case, rows) > 1
         worst = max(worst, distance(case, rows))
-    print("%d random changes: %d with a joiner farther than the largest size from its share, the worst %.2f" % (count, far, worst))
+    print("%d random changes: %d with a joiner farther than the largest size from its share, the worst %.2f; %d not counted, whose racks decide" % (count, far, worst, forced))
     return 0 if good and far <= 1 else 1
 
 
