@@ -15,7 +15,7 @@ from pathlib import Path
 
 TOP = Path(__file__).resolve().parent.parent
 NOTED = TOP / "edits" / "refused.txt"
-EDITS = 48
+EDITS = 16
 
 
 def sum_of(crate: str) -> str:
