@@ -44,6 +44,8 @@ PICTURES = {
     "swap64": read("crates/tests_cases/data/ring64_swap.bundle"),
     "progress64": read("crates/tests_cases/data/progress64.bundle"),
     "down64": read("crates/tests_cases/data/down64.bundle"),
+    "died": read("examples/growth_with_a_dead_source.bundle"),
+    "around": read("examples/growth_around_a_dead_source.bundle"),
     "map64": read("crates/tests_cases/data/ring64_grow.bundle"),
     "large": large(),
     "rounds": rounds(1000),
