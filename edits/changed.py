@@ -7,7 +7,7 @@
     edits/changed.py record     notes in edits/refused.txt that the edits that are laid were refused: after a gate that passed
 
 A crate has changed where the sum of its sources, definitions, proofs and edits is another one than edits/refused.txt has. At most EDITS are laid at once,
-since an edit costs some 25 processor seconds; the crates that are left out are named, and stay due."""
+since an edit costs some 50 processor seconds with the check of its crate; the crates that are left out are named, and stay due."""
 import hashlib
 import shutil
 import sys
@@ -15,7 +15,7 @@ from pathlib import Path
 
 TOP = Path(__file__).resolve().parent.parent
 NOTED = TOP / "edits" / "refused.txt"
-EDITS = 16
+EDITS = 8
 
 
 def sum_of(crate: str) -> str:
