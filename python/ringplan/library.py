@@ -149,6 +149,11 @@ def goal(bundle: bytes, *options: str) -> Answer:
     return by_program("goal", bundle, options)
 
 
+def around(bundle: bytes, *options: str) -> Answer:
+    """Another plan around nodes that died in the middle of a change, and the history that goes on by it. Options: `--dead`, `b`, and `--back`."""
+    return by_program("around", bundle, options)
+
+
 def why(bundle: bytes) -> Answer:
     """Why a bundle is refused, in words, with lines that may mend it."""
     return by_program("why", bundle)

@@ -17,6 +17,7 @@ EXAMPLES = sorted((TOP / "examples").glob("*.bundle"))
 CALLS = {"check": library.check, "plan": library.plan, "play": library.play, "replay": library.replay, "migrate": library.migrate}
 OTHERS: dict[str, tuple[Callable[..., Answer], list[list[str]]]] = {
     "goal": (library.goal, [[], ["--dead", "b"], ["--weight", "c=2", "--even"], ["--exit-code"], ["--none"]]),
+    "around": (library.around, [["--dead", "b"], ["--dead", "c", "--back"], []]),
     "why": (library.why, [[]]),
     "show": (library.show, [[], ["--all"], ["--racks-behind", "."]]),
     "draw": (library.draw, [[], ["--map"]]),

@@ -173,7 +173,8 @@ def test_the_page_has_the_picture_of_draw_and_nothing_from_outside(bench: Bench)
     assert set(re.findall(r"\w+://[^\"' ]*", whole)) == {"http://www.w3.org/2000/svg"}
     for path, method, host, wanted in (("/", "GET", "example.org", 404), ("/now", "GET", "example.org:80", 404), ("/other", "GET", "", 404), ("/", "POST", "", 501)):
         assert reply(address, path, method, host)[0] == wanted
-    assert reply(address, host=f"localhost:{address.split(':')[2][:-1]}")[0] == 200
+    for host in (f"localhost:{address.split(':')[2][:-1]}", "127.0.0.1"):
+        assert reply(address, host=host)[0] == 200
     process.send_signal(signal.SIGINT)
     assert process.wait(timeout=30) == Status.STOPPED
     with socket.create_server(("127.0.0.1", 0)) as taken:

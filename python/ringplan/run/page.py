@@ -114,7 +114,7 @@ class Page(http.server.ThreadingHTTPServer):
 
         class Request(http.server.BaseHTTPRequestHandler):
             def do_GET(self) -> None:
-                host = self.headers.get("Host", "").rpartition(":")[0]
+                host = self.headers.get("Host", "").partition(":")[0]  # a port of 80 is not named
                 if host not in ("127.0.0.1", "localhost") or self.path not in answers:
                     self.send_error(404)
                     return
