@@ -7,7 +7,7 @@ use Rattle.std.proofs.lemmas.Bool.{and_parts, or_right, or_cases}
 use Rattle.plan_text.specs.declared.step.Planned.{Planned}
 use Rattle.plan_order.specs.Before.{Before}
 use Rattle.plan_order.proofs.Reaching.{join}
-use Rattle.plan_runs.specs.World.{passing_below, copy_at}
+use Rattle.plan_runs.specs.World.{World, passing_below, copy_at}
 use Rattle.plan_check.specs.Safe.{takes_part_now, TransfersAreFew}
 use Rattle.plan_cover.specs.Clauses.{in_some}
 use Rattle.plan_check.specs.Sound.{IsChain, AreChains, Covers, is_party_of}
@@ -97,15 +97,13 @@ no_more plan test apart (c ∷ cs) xs are d t h = elim (in_chain c xs) [
 
 -- ---- the law
 
-pub few_always : (ring : RingValue) (plan : List Planned) → Known ring plan → Always ring plan (TransfersAreFew ring plan)
-few_always ring plan k run w is x side a al =
+-- in a world that is reached, wherever the run began
+pub transfers_are_few : (ring : RingValue) (plan : List Planned) → Known ring plan → (w : World) → Reached ring plan w → TransfersAreFew ring plan w
+transfers_are_few ring plan k w r x side a al =
     let rest = no_more plan test apart (k.chains x side) (passing_below (length plan) test) covers.linked (none_twice (passing_below (length plan) test) (passing_ascend 0 (length plan) test)) (λ n e. (below_is (length plan) test n e).1) (λ n e. covered n (below_is (length plan) test n e).1) in
     let few = covers.few in
     omega arith
   where
-    r : Reached ring plan w
-    r = reached ring plan run w is
-
     covers : Covers (Before plan) a (is_party_of ring plan x side) (k.chains x side)
     covers = k.meets.covers x side a al
 
@@ -127,3 +125,6 @@ few_always ring plan k run w is x side a al =
 
     covered : (n : ℕ) → test n ≡ true → in_some n (k.chains x side) ≡ true
     covered n e = covers.covered n (party ring plan k w n x side r.closed (r.copies.ready n (open_one n e)) (r.copies.unfinished n (open_one n e)) (and_parts (w.is_open n) (part n) e).1)
+
+pub few_always : (ring : RingValue) (plan : List Planned) → Known ring plan → Always ring plan (TransfersAreFew ring plan)
+few_always ring plan k run w is = transfers_are_few ring plan k w (reached ring plan run w is)

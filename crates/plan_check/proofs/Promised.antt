@@ -59,7 +59,7 @@ unfolding effect
 effect_watched ring plan w key v h of acked = new_watched ring plan w (record { key = key; found = λ i. None; reply = None }) v (λ i. refl) h of acked
 
 -- as it was answered
-start_watched : (ring : RingValue) (plan : List Planned) (w u : World) (key : List ℕ) (g v : ℕ) → Holding ring plan u
+pub start_watched : (ring : RingValue) (plan : List Planned) (w u : World) (key : List ℕ) (g v : ℕ) → Holding ring plan u
     → answer ring plan w (StartGet key) ≡ Ok (u, reply.Get g) → is_of_key w key v ≡ true → is_acked w v ≡ true → Watched ring plan u v g
 start_watched ring plan w u key g v h l of acked =
     let a = answered ring plan w u (StartGet key) (reply.Get g) l in
@@ -123,7 +123,7 @@ unfolding guards
 read_enough ring plan w g m = leb-true ring.r (slots_read ring w g) m.1.1.0
 
 -- so the reply of its end has it
-end_answers : (ring : RingValue) (plan : List Planned) → Known ring plan → (w u : World) (v g : ℕ) (found : List ℕ) → Inv ring plan w
+pub end_answers : (ring : RingValue) (plan : List Planned) → Known ring plan → (w u : World) (v g : ℕ) (found : List ℕ) → Inv ring plan w
     → Watched ring plan w v g → answer ring plan w (EndGet g) ≡ Ok (u, reply.Answer found) → IsAnswered u v found
 end_answers ring plan k w u v g found i c l =
     let a = answered ring plan w u (EndGet g) (reply.Answer found) l in

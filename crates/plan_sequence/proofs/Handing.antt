@@ -15,11 +15,12 @@ use Rattle.plan_runs.specs.Guards.{is_current}
 use Rattle.plan_runs.specs.Reached.{Reached, IsPutOf, IsPutForGet, IsGetForPut}
 use Rattle.plan_runs.proofs.Changed.{read_at}
 use Rattle.plan_runs.proofs.Groups.{InGroup}
-use Rattle.plan_runs.proofs.Lasting.{Extends}
+use Rattle.plan_runs.proofs.Lasting.{Extends, names_ended, succeeds_stays}
 use Rattle.plan_runs.proofs.Places.{partition_within}
-use Rattle.plan_check.specs.Firm.{Holding, IsFirm, IsFirmEnough}
+use Rattle.plan_check.specs.Firm.{FirmSlots, Holding, IsFirm, IsFirmEnough}
 use Rattle.plan_check.proofs.Apart.{count_zero}
 use Rattle.plan_check.proofs.Entering.{Apart, Inv}
+use Rattle.plan_check.proofs.Fresh.{SeesPut, Watched}
 use Rattle.plan_check.proofs.Mirrored.{Known}
 use Rattle.plan_check.proofs.Standing.{held_exists, successor_stays}
 use Rattle.plan_sequence.specs.Sequence.{HasNumbers, HasOwners, handed_on, without_tickets}
@@ -142,17 +143,17 @@ firm_still ring next plan more k w t o r v i l f =
     slot : Slot
     slot = put_slot ring w v i
 
+slots_firm : (ring next : RingValue) (plan more : List Planned) → Known ring plan → (w : World) → HasNumbers ring next → HasOwners ring plan w next → Reached ring plan w → (v : ℕ) (slots : List ℕ)
+    → FirmSlots ring plan w v slots → FirmSlots next more (handed_on w) v slots
+slots_firm ring next plan more k w t o r v slots firm = record {
+  different = firm.different;
+  within = rw t.n firm.within;
+  firm = λ i h. firm_still ring next plan more k w t o r v i (ltb-true i ring.n (list_all-met (λ (j : ℕ). nat_lt j ring.n) slots firm.within i h)) (firm.firm i h);
+}
+
 firm_enough : (ring next : RingValue) (plan more : List Planned) → Known ring plan → (w : World) → HasNumbers ring next → HasOwners ring plan w next → Reached ring plan w → (v : ℕ)
     → IsFirmEnough ring plan w v → IsFirmEnough next more (handed_on w) v
-firm_enough ring next plan more k w t o r v (slots, firm, many) = (
-  slots,
-  record {
-    different = firm.different;
-    within = rw t.n firm.within;
-    firm = λ i h. firm_still ring next plan more k w t o r v i (ltb-true i ring.n (list_all-met (λ (j : ℕ). nat_lt j ring.n) slots firm.within i h)) (firm.firm i h);
-  },
-  (let e = t.w in omega arith),
-)
+firm_enough ring next plan more k w t o r v (slots, firm, many) = (slots, slots_firm ring next plan more k w t o r v slots firm, (let e = t.w in omega arith))
 
 pub handed_holding : (ring next : RingValue) (plan more : List Planned) → Known ring plan → (w : World) → HasNumbers ring next → HasOwners ring plan w next → Inv ring plan w → Holding ring plan w
     → Holding next more (handed_on w)
@@ -160,3 +161,21 @@ handed_holding ring next plan more k w t o i h = record {
   tickets = λ v j l e. absurd (let f : is_current next more (handed_on w) v j ≡ false = rw (no_ticket w.puts v j, is_current) refl in cc);
   acked = λ v e. firm_enough ring next plan more k w t o i.reached v (h.acked v (sym (same_acked w v) ∙ e));
 }
+
+-- a get goes on to be watched
+pub handed_watched : (ring next : RingValue) (plan more : List Planned) → Known ring plan → (w : World) → HasNumbers ring next → HasOwners ring plan w next → Reached ring plan w → (v g : ℕ)
+    → Watched ring plan w v g → Watched next more (handed_on w) v g
+handed_watched ring next plan more k w t o r v g c = record {
+  exists = c.exists;
+  key = c.key ∙ sym (same_key w v);
+  acked = same_acked w v ∙ c.acked;
+  slots = c.slots;
+  firm = slots_firm ring next plan more k w t o r v c.slots c.firm;
+  enough = (let e = t.w in let many = c.enough in omega arith);
+  read = λ i h vs e. still vs (c.read i h vs e);
+}
+  where
+    still : (vs : List ℕ) → SeesPut w v vs → SeesPut (handed_on w) v vs
+    still vs f =
+        let l : f.0 < length w.puts = f.2 in
+        (f.0, f.1, (let e = as_many w.puts in omega arith), succeeds_stays w (handed_on w) (handed_extends w) (names_ended ring plan w r) f.0 v l f.3)

@@ -3,6 +3,8 @@ use Rattle.std.proofs.Common.{◌≡◌, ◌∙◌, ℕ, true, List, [], ◌∷�
 use Rattle.ring_table.specs.Value.{RingValue}
 use Rattle.plan_text.specs.declared.step.Planned.{Planned}
 use Rattle.plan_runs.specs.declared.event.Entry.{Entry}
+use Rattle.plan_runs.specs.declared.event.Event.TheVariants.{StartGet}
+use Rattle.plan_runs.specs.declared.event.Reply.TheVariants as reply
 use Rattle.plan_runs.specs.Guards.{guards}
 use Rattle.plan_runs.specs.Runs.{Leads}
 use Rattle.plan_runs.specs.World.{World, is_acked, opening_world}
@@ -11,12 +13,16 @@ use Rattle.plan_runs.proofs.Groups.{in_group}
 use Rattle.plan_runs.proofs.Lasting.{event_extends}
 use Rattle.plan_runs.proofs.Passed.{all_met}
 use Rattle.plan_check.specs.Firm.{Holding}
+use Rattle.plan_check.specs.Safe.{Safe}
 use Rattle.plan_check.proofs.Apart.{run_inv, start_inv}
 use Rattle.plan_check.proofs.Entering.{Inv}
-use Rattle.plan_check.proofs.Holdings.{meets_reads, run_holding, start_holding}
+use Rattle.plan_check.proofs.Few.{transfers_are_few}
+use Rattle.plan_check.proofs.Fresh.{Watched, watched_through}
+use Rattle.plan_check.proofs.Holdings.{meets_reads, next_holding, next_inv, run_holding, start_holding}
 use Rattle.plan_check.proofs.Mirrored.{Known, known}
-use Rattle.plan_sequence.specs.Sequence.{InTurn, IsSoundPlan, KeepsPuts, first, handed_on, later}
-use Rattle.plan_sequence.proofs.Handing.{handed_holding, handed_inv, same_acked}
+use Rattle.plan_check.proofs.Promised.{end_answers, start_watched}
+use Rattle.plan_sequence.specs.Sequence.{GetsSeePuts, GoesOn, HasNumbers, HasOwners, InTurn, IsSoundPlan, handed_on, later, within}
+use Rattle.plan_sequence.proofs.Handing.{handed_holding, handed_inv, handed_watched, same_acked}
 
 -- what is known of a ring, its plan and a world
 record Knows (ring : RingValue) (plan : List Planned) (w : World) : Type 0 where
@@ -28,25 +34,73 @@ known_plan : (ring : RingValue) (plan : List Planned) → IsSoundPlan ring plan 
 known_plan ring plan s = known ring plan s.is_ring s.is_plan s.sound
 
 -- through a run
-knows_after : (ring : RingValue) (plan : List Planned) → Known ring plan → (run : List Entry) (w u : World) → Inv ring plan w → Holding ring plan w → Leads ring plan w run u
-    → Knows ring plan u
-knows_after ring plan k run w u i h l = record { known_of = k; inv = run_inv ring plan k run w u i l; holding = run_holding ring plan k run w u i h l }
+knows_after : (ring : RingValue) (plan : List Planned) (run : List Entry) (w u : World) → Knows ring plan w → Leads ring plan w run u → Knows ring plan u
+knows_after ring plan run w u b l =
+    record { known_of = b.known_of; inv = run_inv ring plan b.known_of run w u b.inv l; holding = run_holding ring plan b.known_of run w u b.inv b.holding l }
+
+-- where another plan takes over
+knows_handed : (ring next : RingValue) (plan more : List Planned) (w : World) → Knows ring plan w → IsSoundPlan next more → HasNumbers ring next → HasOwners ring plan w next
+    → Knows next more (handed_on w)
+knows_handed ring next plan more w b s t o = record {
+  known_of = known_plan next more s;
+  inv = handed_inv ring next plan more w t o b.inv;
+  holding = handed_holding ring next plan more b.known_of w t o b.inv b.holding;
+}
+
+-- and through many
+knows_on : (ring : RingValue) (plan : List Planned) (w : World) → Knows ring plan w → (last : RingValue) (its : List Planned) (u : World) → GoesOn ring plan w last its u → Knows last its u
+knows_on ring plan w b last its u (within run _ l) = knows_after ring plan run w u b l
+knows_on ring plan w b next more u (later last _ its _ run v _ before s t o l) =
+    knows_after next more run (handed_on v) u (knows_handed last next its more v (knows_on ring plan w b last its v before) s t o) l
 
 knows : (ring : RingValue) (plan : List Planned) (w : World) → InTurn ring plan w → Knows ring plan w
-knows ring plan w (first _ _ run _ s r) =
-    let k = known_plan ring plan s in
-    knows_after ring plan k run (opening_world ring) w (start_inv ring plan s.is_ring) (start_holding ring plan) r
-knows next more u (later ring _ plan _ run w _ before s t o l) =
-    let b = knows ring plan w before in
-    knows_after next more (known_plan next more s) run (handed_on w) u (handed_inv ring next plan more w t o b.inv) (handed_holding ring next plan more b.known_of w t o b.inv b.holding) l
+knows ring plan w t =
+    let b : Knows t.first t.its (opening_world t.first) =
+    record { known_of = known_plan t.first t.its t.sound; inv = start_inv t.first t.its t.sound.is_ring; holding = start_holding t.first t.its } in
+    knows_on t.first t.its (opening_world t.first) b ring plan w t.goes_on
 
--- the law
-pub puts_kept : (ring : RingValue) (plan : List Planned) (w : World) → InTurn ring plan w → KeepsPuts ring plan w
-puts_kept ring plan w t =
-    let b = knows ring plan w t in (
-      λ v a. meets_reads ring plan b.known_of w b.inv.reached b.holding v a,
-      λ p i j x l m n ne g h. b.inv.apart p i j x l m n ne (in_group ring plan w (record { partition = p; index = i }) x g) (in_group ring plan w (record { partition = p; index = j }) x h),
-    )
+-- the store is safe
+pub stays_safe : (ring : RingValue) (plan : List Planned) (w : World) → InTurn ring plan w → Safe ring plan w
+stays_safe ring plan w t =
+    let b = knows ring plan w t in
+    record {
+      held = λ v a. meets_reads ring plan b.known_of w b.inv.reached b.holding v a;
+      apart = λ p i j x l m n ne g h. b.inv.apart p i j x l m n ne (in_group ring plan w (record { partition = p; index = i }) x g) (in_group ring plan w (record { partition = p; index = j }) x h);
+      few = transfers_are_few ring plan b.known_of w b.inv.reached;
+    }
+
+-- ---- a get that is under way
+
+-- through a run
+watched_after : (ring : RingValue) (plan : List Planned) (run : List Entry) (w u : World) (v g : ℕ) → Knows ring plan w → Watched ring plan w v g → Leads ring plan w run u → Watched ring plan u v g
+watched_after ring plan run w u v g b c l = (watched_through ring plan b.known_of run w u b.inv b.holding v g c l).1
+
+-- and through many
+watched_on : (ring : RingValue) (plan : List Planned) (w : World) (v g : ℕ) → Knows ring plan w → Watched ring plan w v g → (last : RingValue) (its : List Planned) (u : World) → GoesOn ring plan w last its u
+    → Watched last its u v g
+watched_on ring plan w v g b c last its u (within run _ l) = watched_after ring plan run w u v g b c l
+watched_on ring plan w v g b c next more u (later last _ its _ run x _ before s t o l) =
+    let d = knows_on ring plan w b last its x before in
+    watched_after next more run (handed_on x) u v g (knows_handed last next its more x d s t o)
+    (handed_watched last next its more d.known_of x t o d.inv.reached v g (watched_on ring plan w v g b c last its x before)) l
+
+pub gets_see : (ring : RingValue) (plan : List Planned) (start : World) → InTurn ring plan start → GetsSeePuts ring plan start
+gets_see ring plan start t key g begun first last its mid w found on ended v of acked = end_answers last its m.known_of mid w v g found m.inv c ended
+  where
+    b : Knows ring plan start
+    b = knows ring plan start t
+
+    entry : Entry
+    entry = record { event = StartGet key; reply = reply.Get g }
+
+    n : Knows ring plan begun
+    n = record { known_of = b.known_of; inv = next_inv ring plan b.known_of entry start begun first b.inv; holding = next_holding ring plan b.known_of entry start begun first b.inv b.holding }
+
+    m : Knows last its mid
+    m = knows_on ring plan begun n last its mid on
+
+    c : Watched last its mid v g
+    c = watched_on ring plan begun v g n (start_watched ring plan start begun key g v n.holding first of acked) last its mid on
 
 -- ---- what is acknowledged stays so
 

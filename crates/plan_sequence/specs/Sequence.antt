@@ -1,13 +1,17 @@
 -- Plans that are followed one after the other over one store.
-use Rattle.std.specs.Prelude.{◌≡◌, ℕ, ◌<◌, true, false, List, None, Some, length, map}
+use Rattle.std.specs.Prelude.{◌≡◌, ℕ, ◌<◌, true, false, List, None, Some, Ok, length, map}
 use Rattle.ring_table.specs.Value.{RingValue, owner_of}
 use Rattle.ring_table.specs.Valid.{IsRing}
 use Rattle.plan_text.specs.declared.step.Planned.{Planned}
 use Rattle.plan_text.specs.Valid.{IsPlan}
 use Rattle.plan_runs.specs.declared.event.Entry.{Entry}
-use Rattle.plan_runs.specs.Runs.{IsRun, Leads}
-use Rattle.plan_runs.specs.World.{PutRecord, World, is_acked, slot_at, stage_now}
-use Rattle.plan_check.specs.Safe.{GroupsAreApart, MeetsEveryRead}
+use Rattle.plan_runs.specs.declared.event.Event.TheVariants.{StartGet, EndGet}
+use Rattle.plan_runs.specs.declared.event.Reply.TheVariants as reply
+use Rattle.plan_runs.specs.declared.words.Key.{Key}
+use Rattle.plan_runs.specs.Answers.{answer}
+use Rattle.plan_runs.specs.Runs.{Leads}
+use Rattle.plan_runs.specs.World.{PutRecord, World, is_acked, is_of_key, opening_world, slot_at, stage_now}
+use Rattle.plan_check.specs.Headline.{IsAnswered}
 use Rattle.plan_check.specs.Sound.{Sound}
 
 -- the put without its tickets
@@ -48,13 +52,22 @@ pub record IsSoundPlan (ring : RingValue) (plan : List Planned) : Type 0 where
   pub is_plan : IsPlan plan
   pub sound : Sound ring plan
 
--- the worlds of a store that goes through sound plans one after the other, with the ring and the plan that are under way: a run of the first one leads there, or a
--- run of a later one, which began with what the one before handed on
-pub data InTurn : RingValue → List Planned → World → Type 0 where
-  first : (ring : RingValue) (plan : List Planned) (run : List Entry) (w : World) → IsSoundPlan ring plan → IsRun ring plan run w → InTurn ring plan w
-  later : (ring next : RingValue) (plan more : List Planned) (run : List Entry) (w u : World) → InTurn ring plan w → IsSoundPlan next more → HasNumbers ring next → HasOwners ring plan w next
-      → Leads next more (handed_on w) run u → InTurn next more u
+-- a store goes on from a world: a run of the plan that is under way leads to another world; or, sound plans later, a run of the last of them, which began with what
+-- the one before handed on
+pub data GoesOn (ring : RingValue) (plan : List Planned) (w : World) : RingValue → List Planned → World → Type 0 where
+  within : (run : List Entry) (u : World) → Leads ring plan w run u → GoesOn ring plan w ring plan u
+  later : (last next : RingValue) (its more : List Planned) (run : List Entry) (v u : World) → GoesOn ring plan w last its v → IsSoundPlan next more → HasNumbers last next
+      → HasOwners last its v next → Leads next more (handed_on v) run u → GoesOn ring plan w next more u
 
--- each acknowledged put is held where every read meets it, and no two slots of a partition share a node
-abbrev pub KeepsPuts : RingValue → List Planned → World → Type 0
-KeepsPuts ring plan w = ((v : ℕ) → is_acked w v ≡ true → MeetsEveryRead ring plan w v) × GroupsAreApart ring plan w
+-- the worlds of a store that goes through sound plans one after the other, with the ring and the plan that are under way
+pub record InTurn (ring : RingValue) (plan : List Planned) (w : World) : Type 0 where
+  pub first : RingValue
+  pub its : List Planned
+  pub sound : IsSoundPlan first its
+  pub goes_on : GoesOn first its (opening_world first) ring plan w
+
+-- a get sees each put of its key that was acknowledged before it started, also where plans took turns while it was under way
+abbrev pub GetsSeePuts : RingValue → List Planned → World → Type 0
+GetsSeePuts ring plan start = (key : Key) (g : ℕ) (begun : World) → answer ring plan start (StartGet key) ≡ Ok (begun, reply.Get g)
+    → (last : RingValue) (its : List Planned) (mid w : World) (found : List ℕ) → GoesOn ring plan begun last its mid → answer last its mid (EndGet g) ≡ Ok (w, reply.Answer found)
+    → (v : ℕ) → is_of_key start key v ≡ true → is_acked start v ≡ true → IsAnswered w v found

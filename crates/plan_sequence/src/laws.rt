@@ -6,14 +6,17 @@ ghost use Rattle.plan_text.specs.declared.step.Planned.{Planned};
 ghost use Rattle.plan_runs.specs.declared.event.Entry.{Entry};
 ghost use Rattle.plan_runs.specs.Runs.{Leads};
 ghost use Rattle.plan_runs.specs.World.{World, is_acked};
-ghost use Rattle.plan_sequence.specs.Sequence.{HasOwners, InTurn, IsDone, KeepsPuts, handed_on};
+ghost use Rattle.plan_check.specs.Safe.{Safe};
+ghost use Rattle.plan_sequence.specs.Sequence.{GetsSeePuts, HasOwners, InTurn, IsDone, handed_on};
 ghost use Rattle.plan_moves.specs.Owners.{last_owners};
 
-/// A store that goes through sound plans one after the other keeps what was acknowledged: at every moment any R slots of a partition include one whose owner or
-/// hint keeper holds each acknowledged put or a causal successor, whichever of the plans was under way when it was acknowledged, and no two slots of a partition
-/// share a node. A put that was acknowledged under one plan stays so under the next.
-pub fn plans_in_turn_keep_puts()
-    ensures held { (ring : RingValue) (plan : List Planned) (w : World) → InTurn ring plan w → KeepsPuts ring plan w }
+/// A store that goes through sound plans one after the other keeps the promises of one plan, whichever of the plans was under way when a put was acknowledged.
+/// At every moment any R slots of a partition include one whose owner or hint keeper holds each acknowledged put or a causal successor, no two slots of a
+/// partition share a node, and no node has more transfers open than its allowance. The reply of each get has, for each put of its key that was acknowledged
+/// before the get started, that put or a causal successor, also if the get started under an earlier plan. What was acknowledged stays so.
+pub fn plans_in_turn_keep_promises()
+    ensures safe { (ring : RingValue) (plan : List Planned) (w : World) → InTurn ring plan w → Safe ring plan w }
+    ensures fresh { (ring : RingValue) (plan : List Planned) (start : World) → InTurn ring plan start → GetsSeePuts ring plan start }
     ensures acked { (ring : RingValue) (plan : List Planned) (w u : World) (run : List Entry) → Leads ring plan (handed_on w) run u
         → (v : ℕ) → is_acked w v ≡ true → is_acked u v ≡ true }
     // Once a plan is done, the ring that it leaves has the owners of the moment.

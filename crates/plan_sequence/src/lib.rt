@@ -1,6 +1,6 @@
-//! Plans one after the other over one store: what is acknowledged under one of them is held under the next.
+//! Plans one after the other over one store: what each of them promises is kept across all.
 #![tactic(auto)]
 
 mod laws;
 
-pub use laws::plans_in_turn_keep_puts;
+pub use laws::plans_in_turn_keep_promises;
