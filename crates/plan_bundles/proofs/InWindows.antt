@@ -1,4 +1,4 @@
--- Rings that are given in another way, and windows one behind the other.
+-- Rings that are given in another way, and windows one after the other.
 use Rattle.std.proofs.Common.{◌≡◌, ℕ, List, [], ◌∷◌, ◌++◌, length, sym, subst}
 use Rattle.ring_table.specs.Value.{RingValue}
 use Rattle.plan_text.specs.declared.step.Planned.{Planned}
@@ -14,9 +14,14 @@ behind-same text ring ring2 plan plan2 e f h =
     (subst (λ (r : RingValue). IsRingOf r text (last_owners r plan2) (members_after r plan2 (length r.nodes))) e h)
 
 -- windows that begin where there are none yet
-pub windows-begin : (first next : List ℕ) (texts : List (List ℕ)) → texts ≡ [] → next ≡ first → AreWindows first texts next
-windows-begin first next texts e f = subst (λ (ts : List (List ℕ)). AreWindows first ts next) (sym e) (subst (λ (n : List ℕ). AreWindows first [] n) (sym f) no_window)
+pub windows-begin : (first next : List ℕ) (texts : List (List ℕ)) (plans : List (List Planned)) → texts ≡ [] → plans ≡ [] → next ≡ first → AreWindows first texts plans next
+windows-begin first next texts plans e f g =
+    subst (λ (ts : List (List ℕ)). AreWindows first ts plans next) (sym e) (subst (λ (ps : List (List Planned)). AreWindows first [] ps next) (sym f)
+    (subst (λ (n : List ℕ). AreWindows first [] [] n) (sym g) no_window))
 
--- and one more behind them
-pub windows-go-on : (first before text after : List ℕ) (texts new : List (List ℕ)) → AreWindows first texts before → IsWindow before text after → new ≡ texts ++ text ∷ [] → AreWindows first new after
-windows-go-on first before text after texts new w h e = subst (λ (ts : List (List ℕ)). AreWindows first ts after) (sym e) (one_more texts before text after w h)
+-- and one more after them
+pub windows-go-on : (first before text after : List ℕ) (plan : List Planned) (texts new : List (List ℕ)) (plans more : List (List Planned)) → AreWindows first texts plans before
+    → IsWindow before text plan after → new ≡ texts ++ text ∷ [] → more ≡ plans ++ plan ∷ [] → AreWindows first new more after
+windows-go-on first before text after plan texts new plans more w h e f =
+    subst (λ (ts : List (List ℕ)). AreWindows first ts more after) (sym e)
+    (subst (λ (ps : List (List Planned)). AreWindows first (texts ++ text ∷ []) ps after) (sym f) (one_more texts plans before text plan after w h))

@@ -2,4 +2,5 @@
 pub mod Members
 pub mod Fronts
 pub mod FirstNumbers
+pub mod InCuts
 pub mod InWindows

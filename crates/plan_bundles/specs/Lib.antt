@@ -4,3 +4,4 @@ pub mod Sized
 pub mod Goals
 pub mod Certs
 pub mod Windows
+pub mod Cuts

@@ -1,4 +1,4 @@
--- Windows of a plan: bundles that are done one behind the other.
+-- Windows of a plan: bundles that are done one after the other.
 use Rattle.std.specs.Prelude.{◌≡◌, ℕ, ◌-◌, List, [], ◌∷◌, ◌++◌, Option, Some, None, length, slice_get}
 use Rattle.std.specs.List.{concat}
 use Rattle.ring_table.specs.Value.{RingValue}
@@ -11,12 +11,12 @@ use Rattle.plan_cert.specs.Spelling.{cert_text}
 use Rattle.plan_moves.specs.Owners.{last_owners}
 use Rattle.plan_check.specs.Certified.{IsCertified}
 use Rattle.plan_check.specs.Headline.{KeepsPromises}
+use Rattle.plan_bundles.specs.Cuts.{IsCut}
 use Rattle.plan_bundles.specs.Rings.{IsRingOf, members_after}
 
--- a window over a ring's text: that text, a plan that keeps its promises, and its certificate; and the text of the ring that the plan leaves
-pub record IsWindow (before text after : List ℕ) : Type 0 where
+-- a window over a ring's text: that text, this plan, which keeps its promises, and its certificate; and the text of the ring that the plan leaves
+pub record IsWindow (before text : List ℕ) (plan : List Planned) (after : List ℕ) : Type 0 where
   pub ring : RingValue
-  pub plan : List Planned
   pub cert : Cert
   pub is_ring : IsRing ring
   pub begins : before ≡ ring_text ring
@@ -25,16 +25,18 @@ pub record IsWindow (before text after : List ℕ) : Type 0 where
   pub keeps : KeepsPromises ring plan
   pub leaves : IsRingOf ring after (last_owners ring plan) (members_after ring plan (length ring.nodes))
 
--- windows one behind the other, from one ring's text to another's
-pub data AreWindows (first : List ℕ) : List (List ℕ) → List ℕ → Type 0 where
-  no_window : AreWindows first [] first
-  one_more : (texts : List (List ℕ)) (before text after : List ℕ) → AreWindows first texts before → IsWindow before text after → AreWindows first (texts ++ text ∷ []) after
+-- windows one after the other, by their texts and their plans, from one ring's text to another's
+pub data AreWindows (first : List ℕ) : List (List ℕ) → List (List Planned) → List ℕ → Type 0 where
+  no_window : AreWindows first [] [] first
+  one_more : (texts : List (List ℕ)) (plans : List (List Planned)) (before text : List ℕ) (plan : List Planned) (after : List ℕ) → AreWindows first texts plans before → IsWindow before text plan after
+      → AreWindows first (texts ++ text ∷ []) (plans ++ plan ∷ []) after
 
--- the windows lead from the ring's text to that of the ring that the plan leaves
+-- the windows' plans are the plan, cut; they lead from the ring's text to that of the ring that the plan leaves
 abbrev pub AreWindowsOf : RingValue → List Planned → List (List ℕ) → Type 0
-AreWindowsOf ring plan texts = (last : List ℕ) × AreWindows (ring_text ring) texts last × IsRingOf ring last (last_owners ring plan) (members_after ring plan (length ring.nodes))
+AreWindowsOf ring plan texts = (plans : List (List Planned)) × (last : List ℕ) × AreWindows (ring_text ring) texts plans last × IsCut plan plans
+    × IsRingOf ring last (last_owners ring plan) (members_after ring plan (length ring.nodes))
 
--- what is asked for of texts: the one of a number, counted from 1, or all, one behind the other
+-- what is asked for of texts: the one of a number, counted from 1, or all, one after the other
 abbrev pub IsAsked : List (List ℕ) → Option ℕ → List ℕ → Type 0
 IsAsked texts (Some number) text = slice_get texts (number - 1) ≡ Some text
 IsAsked texts None text = text ≡ concat texts

@@ -1,6 +1,7 @@
 //! Plans that are done one behind the other.
 
 use crate::groups::Groups;
+use crate::pieces::{Pieces, Place, waits_in};
 use find_rounds::add;
 use helpers::{at, set, small};
 use plan_text::{Plan, Source, Step};
@@ -106,65 +107,57 @@ fn again(alloc: Global, step: &Step) -> Result<Step, Refusal> {
 #[derive(Drop)]
 struct Cutting {
     alloc: Global,
-    plans: Vec<Plan>,
-    // by step its number in its window
-    numbers: Vec<u32>,
+    pieces: Pieces,
 }
 
 impl Cutting {
-    // What the step waits for in its own window, by its numbers there.
-    fn after(
-        &self,
-        windows: &Windows,
-        dependencies: &[u32],
-        window: u32,
-    ) -> Result<Vec<u32>, Refusal> {
-        let mut after = Vec::new(self.alloc);
-        for dependency in dependencies {
-            if windows.of_step(*dependency) == window {
-                after.push(at(&self.numbers, *dependency as usize))?;
-            }
-        }
-        Ok(after)
-    }
-
     // Adds a step to its window.
     fn add(
         &mut self,
-        windows: &Windows,
         step: &Step,
         dependencies: &[u32],
+        number: u32,
         window: u32,
     ) -> Result<(), Refusal> {
-        let after = self.after(windows, dependencies, window)?;
+        let after = waits_in(
+            self.alloc,
+            self.pieces.places.as_slice(),
+            window,
+            dependencies,
+        )?;
         let step = again(self.alloc, step)?;
-        if let Some(plan) = self.plans.get_mut(window as usize) {
-            self.numbers.push(add(plan, step, &after)?)?;
-        }
+        let (Some(plan), Some(steps)) = (
+            self.pieces.plans.get_mut(window as usize),
+            self.pieces.steps.get_mut(window as usize),
+        ) else {
+            return Err(Refusal::NoPlan);
+        };
+        let place = Place {
+            window,
+            number: add(plan, step, &after)?,
+        };
+        steps.push(number)?;
+        self.pieces.places.push(place)?;
         Ok(())
     }
 }
 
 // The plans of the windows.
-fn plans(alloc: Global, windows: &Windows) -> Result<Vec<Plan>, Refusal> {
+fn pieces(alloc: Global, windows: &Windows) -> Result<Pieces, Refusal> {
     let mut cutting = Cutting {
         alloc,
-        plans: Vec::new(alloc),
-        numbers: Vec::new(alloc),
+        pieces: Pieces::new(alloc),
     };
     for _ in 0..windows.count() {
-        cutting.plans.push(Plan::new(alloc))?;
+        cutting.pieces.plans.push(Plan::new(alloc))?;
+        cutting.pieces.steps.push(Vec::new(alloc))?;
     }
     let plan = windows.plan;
     for number in 0..plan.len() {
-        cutting.add(
-            windows,
-            plan.step(number),
-            plan.deps(number),
-            windows.of_step(number),
-        )?;
+        let window = windows.of_step(number);
+        cutting.add(plan.step(number), plan.deps(number), number, window)?;
     }
-    Ok(cutting.plans)
+    Ok(cutting.pieces)
 }
 
 /// The plan's steps in windows of so many rounds of copies, by the round of each step: a plan for each window, in which a step waits for what it waits for in that window; what is done in
@@ -175,7 +168,7 @@ pub fn cut(
     plan: &Plan,
     rounds: &[u32],
     width: u32,
-) -> Result<Vec<Plan>, Refusal> {
+) -> Result<Pieces, Refusal> {
     let groups = Groups::of(alloc, ring, plan)?;
     let mut windows = Windows {
         plan,
@@ -184,5 +177,5 @@ pub fn cut(
     };
     windows.begin(rounds, width);
     windows.settle();
-    plans(alloc, &windows)
+    pieces(alloc, &windows)
 }

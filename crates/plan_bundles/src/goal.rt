@@ -5,6 +5,7 @@ ghost use Rattle.plan_bundles.specs.Rings.{flags};
 ghost use Rattle.plan_bundles.specs.Goals.{AreNamed, HasChangedMembers, IsGoalReached, IsLed, IsSizedAsAsked, IsSizedBy, IsWishReached, LeadsFrom, is_changed_member};
 ghost use Rattle.plan_bundles.specs.Goals.{leaves_too, with_dead as the_change_with_dead};
 
+use crate::evenness::push_even_by_sizes;
 use crate::rings::rewritten;
 use crate::sections::{Kind, kind_of};
 use crate::sized::{are_kept, sizes_of, weights_of};
@@ -232,7 +233,7 @@ fn ask_sized(
     Err(Refusal::NoPlan)
 }
 
-// The same, where the options have sizes.
+// Asks that by the sizes of the options. Without sizes there is nothing to ask.
 fn ask_by_options(
     alloc: Global,
     ring: &Ring,
@@ -282,7 +283,7 @@ fn read_change(alloc: Global, bytes: &[u8], options: &Options) -> Result<Wanted,
     Ok(Wanted { ring, change })
 }
 
-/// Says in words how far from even the ring is that is wished for, and what becomes of racks. Refused as `wish_bundle` is, but that no plan is made.
+/// Says in words how far from even the ring is that is wished for, also by sizes where these are asked for, and what becomes of racks. Refused as `wish_bundle` is, but that no plan is made.
 pub fn wish_words(alloc: Global, bytes: &[u8], options: &Options) -> Result<Vec<u8>, Refusal> {
     let Wanted { ring, change } = read_change(alloc, bytes, options)?;
     let asked = asked_for(alloc, &ring, options)?;
@@ -290,6 +291,9 @@ pub fn wish_words(alloc: Global, bytes: &[u8], options: &Options) -> Result<Vec<
     let placed = wished(alloc, &ring, &wish)?;
     let mut words = Words::new(alloc);
     push_words(&mut words, &ring, &wish, &placed);
+    if let Some(sizes) = &asked.sizes {
+        push_even_by_sizes(alloc, &mut words, &ring, &placed, sizes.as_slice())?;
+    }
     Ok(words.end()?)
 }
 

@@ -3,8 +3,10 @@
 
 mod cert;
 mod cutting;
+mod evenness;
 mod goal;
 mod groups;
+mod pieces;
 mod rings;
 mod room;
 mod sections;
@@ -16,4 +18,5 @@ pub use goal::{goal_bundle, led_bundle, nodes_of, wish_bundle, wish_words, wishe
 pub use rings::{rewritten, ring_after};
 pub use room::MAX_WINDOWS;
 pub use sections::{Kind, front, kind_of};
+pub use sized::sizes_of;
 pub use windows::cut_plan;

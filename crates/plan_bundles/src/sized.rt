@@ -77,9 +77,9 @@ fn add_row(loads: &mut Vec<u64>, size: u32, row: &[NodeId]) -> Result<(), Refusa
     add_row(loads, size, more)
 }
 
-// What each of so many nodes stores.
+/// What each of so many nodes stores.
 #[tactic(auto, using(crate::proofs::FirstNumbers::loads_none, crate::proofs::FirstNumbers::loads_more))]
-fn loads_of(
+pub(crate) fn loads_of(
     alloc: Global,
     sizes: &[u32],
     rows: &[Listed<NodeId>],
@@ -315,7 +315,8 @@ fn put_sizes(all: &mut Vec<u32>, sizes: &[PartitionSize], line: u32) -> Result<(
     put_sizes(all, more, line.saturating_add(1))
 }
 
-/// The sizes of so many partitions: 1, but for those that are listed. A partition that there is not is `TooLarge`, with the line on which it is listed.
+/// The sizes of so many partitions: 1, but for those that are listed. A partition that there is not is `TooLarge`, with the first line on which one is listed.
+/// Listed sizes ascend by partition, so at most one line more than there are partitions is looked at.
 pub fn sizes_of(
     alloc: Global,
     partitions: u32,
@@ -323,10 +324,6 @@ pub fn sizes_of(
 ) -> Result<Vec<u32>, Refusal>
     ensures { IfOk result (λ all. all.items ≡ sizes_by (replicate partitions 1) sizes.now) }
 {
-    // So many ascend to a partition that there is not.
-    if sizes.len() > partitions as usize {
-        return Err(Refusal::TooLarge(partitions.saturating_add(1)));
-    }
     let mut all = vec![in alloc; 1u32; partitions as usize]?;
     put_sizes(&mut all, sizes, 1)?;
     Ok(all)

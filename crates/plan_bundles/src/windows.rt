@@ -1,4 +1,4 @@
-//! A plan in windows, each a bundle of its own over the ring that the one before leaves.
+//! A plan in windows, each a bundle of its own over the ring that the one before it leaves.
 
 ghost use Rattle.std.specs.Prelude.{◌≡◌, map, IfOk};
 ghost use Rattle.std.specs.List.{concat};
@@ -6,6 +6,7 @@ ghost use Rattle.plan_check.specs.Approval.{IsApproved};
 ghost use Rattle.plan_bundles.specs.Windows.{IsWindow, AreWindows, AreWindowsOf, IsAsked, AreAskedOf};
 
 use crate::cutting::cut;
+use crate::pieces::is_cut;
 use crate::rings::{ask_ring, members_left, ring_after};
 use crate::room::Room;
 use find_chains::certificate;
@@ -26,7 +27,7 @@ struct Window {
 
 // The window of a plan over the ring of that text.
 fn window_over(alloc: Global, before: &[u8], plan: Plan) -> Result<Window, Refusal>
-    ensures { IfOk result (λ w. IsWindow before.now w.text.items w.next.items) }
+    ensures { IfOk result (λ w. IsWindow before.now w.text.items plan w.next.items) }
 {
     let ring = read_ring(alloc, before)?;
     if !plan.suits(&ring) {
@@ -44,7 +45,7 @@ fn window_over(alloc: Global, before: &[u8], plan: Plan) -> Result<Window, Refus
     }
 }
 
-// Windows one behind the other, and the text of the ring that they leave.
+// Windows one after the other, and the text of the ring that they leave.
 #[derive(Drop)]
 struct Windows {
     texts: Vec<Vec<u8>>,
@@ -58,7 +59,7 @@ fn all_windows(
     plans: Vec<Plan>,
     mut room: Room,
 ) -> Result<Windows, Refusal>
-    ensures { IfOk result (λ w. AreWindows first.now (map (λ t. t.items) w.texts.items) w.next.items) }
+    ensures { IfOk result (λ w. AreWindows first.now (map (λ t. t.items) w.texts.items) plans.items w.next.items) }
 {
     let mut texts = Vec::new(alloc);
     let mut next = Vec::from_slice(alloc, first)?;
@@ -82,9 +83,12 @@ fn windows_of(alloc: Global, approved: &Approved, width: u32) -> Result<Vec<Vec<
     let (ring, plan) = (approved.ring(), approved.plan());
     let first = write_ring(alloc, ring)?;
     let rounds = rounds(alloc, plan)?;
-    let plans = cut(alloc, ring, plan, rounds.as_slice(), width)?;
-    let room = Room::new(ring, first.as_slice(), plans.len());
-    let windows = all_windows(alloc, first.as_slice(), plans, room)?;
+    let pieces = cut(alloc, ring, plan, rounds.as_slice(), width)?;
+    if !is_cut(alloc, plan, &pieces)? {
+        return Err(Refusal::NoPlan);
+    }
+    let room = Room::new(ring, first.as_slice(), pieces.plans.len());
+    let windows = all_windows(alloc, first.as_slice(), pieces.plans, room)?;
     let rows = last_owners(alloc, ring, plan)?;
     let members = members_left(alloc, ring, plan)?;
     ask_ring(
@@ -97,7 +101,7 @@ fn windows_of(alloc: Global, approved: &Approved, width: u32) -> Result<Vec<Vec<
     Ok(windows.texts)
 }
 
-// The texts one behind the other.
+// The texts one after the other.
 fn joined(alloc: Global, texts: &[Vec<u8>]) -> Result<Vec<u8>, Refusal>
     ensures { IfOk result (λ v. v.items ≡ concat (map (λ t. t.items) texts.now)) }
 {

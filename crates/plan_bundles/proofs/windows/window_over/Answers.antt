@@ -8,7 +8,6 @@ returns-in-Ok c =
     let same = c.in-Ok.ensures.same in
     record {
       ring = ring;
-      plan = c.args.plan;
       cert = c.in_ok-found.found.cert;
       is_ring = c.in_ok-ring.ensures.found.0;
       begins = c.in_ok-ring.ensures.found.1;
