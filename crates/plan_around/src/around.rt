@@ -124,11 +124,12 @@ fn text_around(it: &Begun, ring: Ring, found: Around, history: &[Entry]) -> Resu
     text_by(it, ring, plan, &outcome.cert, history)
 }
 
-// The bundle that goes on from there.
-fn go_around(it: &Begun, ring: Ring) -> Result<Vec<u8>, Refusal>
+// The bundle that goes on from there. Adds what becomes of slots and nodes.
+fn go_around(it: &Begun, ring: Ring, words: &mut Words) -> Result<Vec<u8>, Refusal>
     ensures { IfOk result (λ v. GoesAround it.now.back ring it.now.dead.now it.now.writers.now it.now.approved.now.plan it.now.history.now v.items) }
 {
     let found = find(it)?;
+    words.text(found.words.as_slice());
     let history = past(it, &found)?;
     text_around(it, ring, found, history.as_slice())
 }
@@ -139,6 +140,7 @@ fn around_read(
     read: ReplayBundle,
     dead: &[NodeId],
     back: Back,
+    words: &mut Words,
 ) -> Result<Vec<u8>, Refusal>
     requires { IsReplay read }
     ensures { IfOk result (λ v. GoesAround back read.ring dead.now read.writers read.plan read.history.items v.items) }
@@ -163,14 +165,15 @@ fn around_read(
         dead,
         back,
     };
-    match go_around(&begun, other) {
+    match go_around(&begun, other, words) {
         Ok(text) => Ok(text),
         Err(refusal) => Err(cause(refusal)),
     }
 }
 
 /// The bundle that goes on where one stopped, around the nodes of these names, which are dead from here on: its ring, another plan, a certificate, and the history
-/// by that plan. An executor goes on with it: what it holds of a step it finds by the step's kind, partition, slot and node.
+/// by that plan. An executor goes on with it: what it holds of a step it finds by the step's kind, partition, slot and node. Adds line by line to `words` what
+/// becomes of slots and nodes that do not go where they were to go; where there is no such bundle, what is added says nothing.
 ///
 /// Refused is the first fault of the texts; a name that the ring does not declare, as `UnknownNode(0)`; a plan that the checker refuses; a history that is no run of
 /// it; and as `NoPlan` where no plan is found by which it goes on. Costs about what `check` and `replay` cost of both bundles.
@@ -179,33 +182,11 @@ pub fn around_bundle(
     bytes: &[u8],
     dead: &[Vec<u8>],
     back: Back,
+    words: &mut Words,
 ) -> Result<Vec<u8>, Refusal>
     ensures around { IfOk result (λ v. IsAround bytes.now (map (λ name. name.items) dead.now) back v.items) }
 {
     let read = read_replay(alloc, bytes)?;
     let nodes = nodes_of(alloc, &read.ring, dead)?;
-    around_read(alloc, read, nodes.as_slice(), back)
-}
-
-/// Adds line by line what becomes of slots and nodes that do not go where they were to go, by the bundle that `around_bundle` makes of these.
-pub fn push_around_words(
-    alloc: Global,
-    out: &mut Words,
-    bytes: &[u8],
-    dead: &[Vec<u8>],
-    back: Back,
-) -> Result<(), Refusal> {
-    let read = read_replay(alloc, bytes)?;
-    let nodes = nodes_of(alloc, &read.ring, dead)?;
-    let found = find_around(Task {
-        alloc,
-        ring: &read.ring,
-        plan: &read.plan,
-        cert: &read.cert,
-        history: read.history.as_slice(),
-        dead: nodes.as_slice(),
-        back,
-    })?;
-    out.text(found.words.as_slice());
-    Ok(())
+    around_read(alloc, read, nodes.as_slice(), back, words)
 }

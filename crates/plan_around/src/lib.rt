@@ -6,4 +6,4 @@ mod around;
 mod going;
 mod over;
 
-pub use around::{around_bundle, push_around_words};
+pub use around::around_bundle;

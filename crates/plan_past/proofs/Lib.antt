@@ -1,2 +1,4 @@
 -- What is proved of histories that are told by another plan.
 pub mod Numbered
+pub mod Summing
+pub mod Telling

@@ -7,6 +7,8 @@ mod names;
 mod past;
 mod renaming;
 mod same;
+mod sums;
 
 pub use lowering::Lowered;
 pub use past::{SamePast, same_past};
+pub use same::have_same;

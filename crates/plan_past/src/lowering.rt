@@ -1,9 +1,12 @@
 //! Slots whose mirrors were taken back: their generations are lower from there on.
 
-ghost use Rattle.std.specs.Prelude.{◌≡◌, IfOk, map};
+ghost use Rattle.std.specs.Prelude.{◌≡◌, ◌+◌, [], IfOk, OnOk, map};
+ghost use Rattle.ring_names.specs.declared.ids.Slot.{Slot as TheSlot};
 ghost use Rattle.plan_past.specs.Past.{lowered, lowered_after, raised, with_taken};
+ghost use Rattle.plan_past.specs.Sums.{IsSummed, count_of, sum_in};
 
 use crate::names::{mirror_in, number_in};
+use crate::sums::Sums;
 use plan_runs::Event;
 use plan_text::Plan;
 use ring_names::{NodeId, Refusal, Slot};
@@ -22,17 +25,30 @@ pub struct Lowered {
 // The most mirrors that can be taken back.
 const MOST: usize = 1_024;
 
-/// The generation of the slot without the mirrors that were taken back.
-pub(crate) fn without_taken(less: &[Lowered], slot: Slot, generation: u32) -> u32
-    ensures { result ≡ lowered less.now slot generation }
+/// The mirrors that were taken back so far, in their order, and by slot how much its generation is lower.
+#[derive(Drop)]
+pub(crate) struct Taken {
+    pub(crate) all: Vec<Lowered>,
+    pub(crate) sums: Sums,
+}
+
+/// No mirror was taken back.
+pub(crate) fn none_taken(alloc: Global) -> Taken
+    ensures none { result.all.items ≡ [] }
+    ensures summed { IsSummed result }
 {
-    let Some((first, more)) = less.split_first() else {
-        return generation;
-    };
-    if slot.partition == first.slot.partition && slot.index == first.slot.index {
-        return without_taken(more, slot, generation.saturating_sub(first.by));
+    Taken {
+        all: Vec::new(alloc),
+        sums: Sums::new(alloc),
     }
-    without_taken(more, slot, generation)
+}
+
+/// The generation of the slot without the mirrors that were taken back.
+pub(crate) fn without_taken(taken: &Taken, slot: Slot, generation: u32) -> u32
+    requires { IsSummed taken.now }
+    ensures { result ≡ lowered taken.now.all.items slot generation }
+{
+    generation.saturating_sub(taken.sums.get(slot))
 }
 
 // One more where the node is that one. `NoPlan` where there is no such number.
@@ -53,8 +69,21 @@ fn raised(one: &Lowered, node: NodeId) -> Result<Lowered, Refusal>
     })
 }
 
-// The node lost its store.
-fn raise_all(alloc: Global, less: &[Lowered], node: NodeId) -> Result<Vec<Lowered>, Refusal>
+// One more for the slot of each mirror at that node.
+fn raise_sums(sums: &mut Sums, less: &[Lowered], node: NodeId) -> Result<(), Refusal>
+    ensures { OnOk result ((s : TheSlot) → sum_in sums.new s ≡ sum_in sums.old s + count_of node less.now s) }
+{
+    let Some((first, more)) = less.split_first() else {
+        return Ok(());
+    };
+    if node.0 == first.node.0 {
+        sums.raise(first.slot)?;
+    }
+    raise_sums(sums, more, node)
+}
+
+// Each mirror, one more where its node is that one.
+fn raise_each(alloc: Global, less: &[Lowered], node: NodeId) -> Result<Vec<Lowered>, Refusal>
     ensures { IfOk result (λ v. v.items ≡ map (raised node) less.now) }
 {
     let mut more = Vec::new(alloc);
@@ -64,36 +93,54 @@ fn raise_all(alloc: Global, less: &[Lowered], node: NodeId) -> Result<Vec<Lowere
     Ok(more)
 }
 
-// The slots and the one of a mirror that is taken back, if the step is one. `NoPlan` where there are too many.
-fn with_taken(less: Vec<Lowered>, plan: &Plan, step: u32) -> Result<Vec<Lowered>, Refusal>
-    ensures { IfOk result (λ v. v.items ≡ with_taken less.items plan.now step) }
+// The node lost its store.
+fn raise_all(alloc: Global, taken: Taken, node: NodeId) -> Result<Taken, Refusal>
+    requires { IsSummed taken }
+    ensures all { IfOk result (λ v. v.all.items ≡ map (raised node) taken.all.items) }
+    ensures summed { IfOk result IsSummed }
 {
-    let mut less = less;
-    if let Some((slot, node)) = mirror_in(plan, step) {
-        if less.len() >= MOST {
-            return Err(Refusal::NoPlan);
-        }
-        less.push(Lowered { slot, node, by: 1 })?;
+    let Taken { all, mut sums } = taken;
+    raise_sums(&mut sums, all.as_slice(), node)?;
+    let all = raise_each(alloc, all.as_slice(), node)?;
+    Ok(Taken { all, sums })
+}
+
+// The mirrors and the one that is taken back, if the step is one. `NoPlan` where there are too many.
+fn with_taken(taken: Taken, plan: &Plan, step: u32) -> Result<Taken, Refusal>
+    requires { IsSummed taken }
+    ensures all { IfOk result (λ v. v.all.items ≡ with_taken taken.all.items plan.now step) }
+    ensures summed { IfOk result IsSummed }
+{
+    let Some((slot, node)) = mirror_in(plan, step) else {
+        return Ok(taken);
+    };
+    let Taken { mut all, mut sums } = taken;
+    if all.len() >= MOST {
+        return Err(Refusal::NoPlan);
     }
-    Ok(less)
+    all.push(Lowered { slot, node, by: 1 })?;
+    sums.raise(slot)?;
+    Ok(Taken { all, sums })
 }
 
 /// Which slots are lower after the event, and by how much.
 pub(crate) fn lowered_after(
     alloc: Global,
-    less: Vec<Lowered>,
+    taken: Taken,
     plan: &Plan,
     numbers: &[Option<u32>],
     event: &Event,
-) -> Result<Vec<Lowered>, Refusal>
-    ensures { IfOk result (λ v. v.items ≡ lowered_after plan.now numbers.now less.items event.now) }
+) -> Result<Taken, Refusal>
+    requires { IsSummed taken }
+    ensures all { IfOk result (λ v. v.all.items ≡ lowered_after plan.now numbers.now taken.all.items event.now) }
+    ensures summed { IfOk result IsSummed }
 {
     match event {
         Event::Do(step) => match number_in(numbers, *step) {
-            Some(_) => Ok(less),
-            None => with_taken(less, plan, *step),
+            Some(_) => Ok(taken),
+            None => with_taken(taken, plan, *step),
         },
-        Event::Lose(node) => raise_all(alloc, less.as_slice(), *node),
-        _ => Ok(less),
+        Event::Lose(node) => raise_all(alloc, taken, *node),
+        _ => Ok(taken),
     }
 }

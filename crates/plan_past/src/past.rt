@@ -4,7 +4,7 @@ ghost use Rattle.std.specs.Prelude.{◌≡◌, [], IfOk};
 ghost use Rattle.std.specs.List.{list_all};
 ghost use Rattle.plan_past.specs.Past.{may_go, past, IsSamePast};
 
-use crate::lowering::lowered_after;
+use crate::lowering::{lowered_after, none_taken};
 use crate::names::{allows, mirror_in, number_in};
 use crate::renaming::told;
 use crate::same::keep_all;
@@ -58,13 +58,13 @@ fn past(
     ensures { IfOk result (λ v. v.items ≡ past old.now numbers.now [] history.now) }
 {
     let mut out = Vec::new(alloc);
-    let mut less = Vec::new(alloc);
+    let mut taken = none_taken(alloc);
     let mut rest = history;
     'entries: while let Some((first, later)) = rest.split_first() {
-        if let Some(entry) = told(alloc, numbers, less.as_slice(), first)? {
+        if let Some(entry) = told(alloc, numbers, &taken, first)? {
             out.push(entry)?;
         }
-        less = lowered_after(alloc, less, old, numbers, &first.event)?;
+        taken = lowered_after(alloc, taken, old, numbers, &first.event)?;
         rest = later;
     }
     Ok(out)

@@ -2,8 +2,9 @@
 
 ghost use Rattle.std.specs.Prelude.{◌≡◌, true, IfOk, option_to_list};
 ghost use Rattle.plan_past.specs.Past.{is_of_step, renamed, lowered_reply, told};
+ghost use Rattle.plan_past.specs.Sums.{IsSummed};
 
-use crate::lowering::{Lowered, without_taken};
+use crate::lowering::{Taken, without_taken};
 use crate::names::number_in;
 use plan_runs::{Entry, Event, Reply};
 use ring_names::{Listed, Refusal};
@@ -51,7 +52,7 @@ fn renamed(alloc: Global, numbers: &[Option<u32>], event: &Event) -> Result<Opti
     Ok(Some(same))
 }
 
-// The same puts.
+// Copies a list of puts.
 fn same_puts(alloc: Global, puts: &Listed<u32>) -> Result<Listed<u32>, Refusal>
     ensures { IfOk result (λ v. v ≡ puts.now) }
 {
@@ -60,14 +61,15 @@ fn same_puts(alloc: Global, puts: &Listed<u32>) -> Result<Listed<u32>, Refusal>
 }
 
 // The reply, with the generation that its slot has without the mirrors that were taken back.
-fn lowered_reply(alloc: Global, less: &[Lowered], reply: &Reply) -> Result<Reply, Refusal>
-    ensures { IfOk result (λ v. v ≡ lowered_reply less.now reply.now) }
+fn lowered_reply(alloc: Global, taken: &Taken, reply: &Reply) -> Result<Reply, Refusal>
+    requires { IsSummed taken.now }
+    ensures { IfOk result (λ v. v ≡ lowered_reply taken.now.all.items reply.now) }
 {
     match reply {
         Reply::Plain => Ok(Reply::Plain),
         Reply::Put(number) => Ok(Reply::Put(*number)),
         Reply::Ticket(slot, generation) => {
-            Ok(Reply::Ticket(*slot, without_taken(less, *slot, *generation)))
+            Ok(Reply::Ticket(*slot, without_taken(taken, *slot, *generation)))
         }
         Reply::Get(number) => Ok(Reply::Get(*number)),
         Reply::Found(puts) => Ok(Reply::Found(same_puts(alloc, puts)?)),
@@ -79,14 +81,15 @@ fn lowered_reply(alloc: Global, less: &[Lowered], reply: &Reply) -> Result<Reply
 pub(crate) fn told(
     alloc: Global,
     numbers: &[Option<u32>],
-    less: &[Lowered],
+    taken: &Taken,
     entry: &Entry,
 ) -> Result<Option<Entry>, Refusal>
-    ensures { IfOk result (λ v. option_to_list v ≡ told numbers.now less.now entry.now) }
+    requires { IsSummed taken.now }
+    ensures { IfOk result (λ v. option_to_list v ≡ told numbers.now taken.now.all.items entry.now) }
 {
     let Some(event) = renamed(alloc, numbers, &entry.event)? else {
         return Ok(None);
     };
-    let reply = lowered_reply(alloc, less, &entry.reply)?;
+    let reply = lowered_reply(alloc, taken, &entry.reply)?;
     Ok(Some(Entry { event, reply }))
 }

@@ -38,8 +38,8 @@ fn is_step(a: &Step, b: &Step) -> bool
     }
 }
 
-// Whether the two plans have one step by these numbers.
-fn have_same(old: &Plan, new: &Plan, step: u32, number: u32) -> bool
+/// Whether the two plans have one step by these numbers: of one kind, with equal slots, sources and nodes. A number that is no step's is `false`.
+pub fn have_same(old: &Plan, new: &Plan, step: u32, number: u32) -> bool
     ensures { IsTrue result → AreSame old.now new.now step number }
 {
     if step >= old.len() || number >= new.len() {
