@@ -2,10 +2,15 @@
 """How even by sizes the rings are that `ringplan goal --sizes` makes. It wants the program as it is built. `trials/sizes.py` tries 40 random changes, and with `--all` 500: of 8 to 128
 partitions, whose sizes are all 1, or 0 for a quarter, or 50 to 150, or log-normal, or as 1/k; and 192 ranges that are filled up to 256 by rows without keys.
 
+Of 200 of the plans, or all of fewer, `show --sizes` is compared with a count of its own: what moves in all, by node and by round, the most that copies have of which each waits for the one
+before, and the second in which the plan ends at the earliest.
+
 A ring is wrong where a slot has a new owner that is no leaver's and does not go, with keys, to a joiner that stores no more than its share; where a partition has more pairs of slots in
 one rack than before; and where the checker refuses the plan. The trial is wrong where more than one change of 500 has a joiner farther from its share than the largest size."""
+import json
 import os
 import random
+import re
 import subprocess
 import sys
 import tempfile
@@ -15,6 +20,8 @@ from itertools import combinations
 
 from wishes import RUN
 
+# How many plans are shown at most.
+SHOWN = 200
 KINDS = ["ones", "keyless", "even", "wide", "zipf"]
 
 
@@ -91,16 +98,95 @@ def run(words: list[str], text: str) -> str:
     return ran.stdout
 
 
-def planned(case: Case) -> list[list[str]]:
-    """The owners after the plan by sizes, which the checker accepts."""
-    weights = [word for v, weight in case.weights.items() for word in ("--weight", "%s=%d" % (v, weight))]
+def by_sizes(case: Case, words: list[str], text: str) -> str:
+    """What a command prints that is given the sizes."""
     with tempfile.NamedTemporaryFile("w", suffix=".sizes") as file:
         file.writelines("%d %d\n" % (p, size) for p, size in enumerate(case.sizes) if size != 1)
         file.flush()
-        plan = run(["goal", "--racks-behind", ".", "--sizes", file.name, *weights], case.bundle())
+        return run([*words, "--sizes", file.name], text)
+
+
+def weights(case: Case) -> list[str]:
+    return [word for v, weight in case.weights.items() for word in ("--weight", "%s=%d" % (v, weight))]
+
+
+def planned(case: Case) -> tuple[str, list[list[str]]]:
+    """The plan by sizes, which the checker accepts, and the owners after it."""
+    plan = by_sizes(case, ["goal", "--racks-behind", ".", *weights(case)], case.bundle())
     if run(["check"], plan) != "yes\n":
         raise SystemExit("the checker refuses a plan by sizes")
-    return [line.split()[2:] for line in run(["after"], plan).splitlines() if line.startswith("slots")]
+    return plan, [line.split()[2:] for line in run(["after"], plan).splitlines() if line.startswith("slots")]
+
+
+@dataclass
+class Moved:
+    """What a plan moves, in sizes."""
+
+    whole: int
+    gives: Counter[str]
+    takes: Counter[str]
+    rounds: list[int]
+    longest: int
+
+
+def moved(case: Case, plan: str) -> Moved:
+    """What the plan moves, counted step by step."""
+    owner = {(p, i): v for p, row in enumerate(case.rows) for i, v in enumerate(row)}
+    mirror: dict[tuple[int, int], str] = {}
+    it = Moved(0, Counter(), Counter(), [], 0)
+    rounds: list[int] = []
+    sums: list[int] = []
+    for line in plan.split("plan 1\n")[1].split("end\n")[0].splitlines():
+        fields, waits = line.split(" after ")[0].split(), [int(k) for k in line.split(" after ")[1:] for k in k.split()]
+        rounds.append(max((rounds[k] for k in waits), default=0))
+        sums.append(max((sums[k] for k in waits), default=0))
+        if fields[0] not in ("mirror", "copy", "switch"):
+            continue
+        slot = int(fields[1]), int(fields[2])
+        size = case.sizes[slot[0]]
+        if fields[0] == "mirror":
+            mirror[slot] = fields[3]
+            it.whole += size
+            it.takes[fields[3]] += size
+        elif fields[0] == "switch":
+            owner[slot] = mirror.pop(slot)
+        else:
+            rounds[-1] += 1
+            sums[-1] += size
+            it.rounds += [0] * (rounds[-1] - len(it.rounds))
+            it.rounds[rounds[-1] - 1] += size
+            for v in {owner[slot[0], int(i)] for i in fields[4:]} if fields[3] == "slots" else {owner[slot]}:
+                it.gives[v] += size
+    it.longest = max(sums, default=0)
+    return it
+
+
+def shown_wrong(case: Case, plan: str, rate: int) -> str:
+    """What `show --sizes` says otherwise than the count, if something is."""
+    it = moved(case, plan)
+    words = ["--all", "--rate", str(rate)]
+    found = json.loads(by_sizes(case, ["show", "--format", "json", *words], plan))
+    end = -(-it.longest // rate)
+    owed = {"moves_size": it.whole, "rounds_size": it.rounds, "longest_size": it.longest, "earliest_end": end}
+    if {key: found[key] for key in owed} != owed:
+        return "show states %s in place of %s" % ({key: found[key] for key in owed}, owed)
+    for node in found["nodes"]:
+        if (node["gives_size"], node["takes_size"]) != (it.gives[node["name"]], it.takes[node["name"]]):
+            return "show states %s" % node
+    text = by_sizes(case, ["show", *words], plan)
+    line = "sizes %d in all; copies that wait for one another have up to %d, so at %d a second the plan ends in second %d at the earliest" % (it.whole, it.longest, rate, end)
+    if line not in re.sub(r"\s+", " ", text):
+        return "show says otherwise than: " + line
+    rows = {fields[1]: fields[at - 3 : at - 1] for fields in map(str.split, text.splitlines()) if "->" in fields for at in [fields.index("->")]}
+    for v, sizes in rows.items():
+        if [int(size.replace(".", "0")) for size in sizes] != [it.gives[v], it.takes[v]]:
+            return "show says that %s gives and takes %s" % (v, sizes)
+    if {v for v in case.names if it.gives[v] or it.takes[v]} - set(rows):
+        return "show leaves out a node that gives or takes"
+    lines = [size for size in re.findall(r"^ +\d+  +\d+ +(\d+|\.)   \S", text, re.MULTILINE)]
+    if [int(size.replace(".", "0")) for size in lines] != it.rounds:
+        return "show says that rounds move %s" % lines
+    return ""
 
 
 def loads_of(case: Case, rows: list[list[str]]) -> Counter[str]:
@@ -164,7 +250,7 @@ def table() -> Case:
 
 def tell_table() -> bool:
     case = table()
-    rows = planned(case)
+    _, rows = planned(case)
     before, after = loads_of(case, case.rows), loads_of(case, rows)
     print("192 ranges filled up to 256, ranges before and after: " + ", ".join("%s %d %d" % (v[:3], before[v], after[v]) for v in case.names))
     wrong = fault(case, rows)
@@ -181,8 +267,10 @@ def main() -> int:
     good, forced, far, worst = tell_table(), 0, 0, 0.0
     for number in range(count):
         case = drawn(number)
-        rows = planned(case)
+        plan, rows = planned(case)
         wrong = fault(case, rows)
+        if number < SHOWN and not wrong:
+            wrong = shown_wrong(case, plan, random.Random(number).choice([1, 7, 100, 4294967295]))
         if wrong:
             print("change %d (%s): %s" % (number, KINDS[number % 5], wrong))
             good = False
@@ -191,6 +279,7 @@ def main() -> int:
             continue
         far += distance(case, rows) > 1
         worst = max(worst, distance(case, rows))
+    print("%d plans shown" % min(count, SHOWN))
     print("%d random changes: %d with a joiner farther than the largest size from its share, the worst %.2f; %d not counted, whose racks decide" % (count, far, worst, forced))
     return 0 if good and far <= 1 else 1
 

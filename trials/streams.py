@@ -66,6 +66,52 @@ def dead():
     owes("a dead member, twice", run("goal", "--dead", "b", "--dead", "b", given=unsaid), plan, contains(b"b is dead"), 0)
 
 
+def sizes(folder):
+    """What a file of sizes is refused for, and where."""
+    given, plan = read("plan_replace"), f"{folder}/sizes"
+    words = b"refused: line 3 of the sizes names partition 7, and the ring has 4 partitions\n"
+    for text, errors in (
+        (b"0 5\n2 0\n", b""),
+        (b"", b""),
+        (b"0 5\n1 5\n7 5\n", b"no 2 3\n" + words),
+        (b"0 5\n1 5\n7 5\n8 5\n9 5\n", b"no 2 3\n" + words),
+        (b"0 5\n1", f"no 1 2 in {plan}\n".encode()),
+        (b"0 5\n1 x\n", f"no 1 2 in {plan}\n".encode()),
+        (b"0 4294967296\n", f"no 2 1 in {plan}\n".encode()),
+        (b"1 5\n0 5\n", f"no 4 2 in {plan}\n".encode()),
+    ):
+        with open(plan, "wb") as it:
+            it.write(text)
+        owes(f"goal by sizes {text!r}", run("goal", "--sizes", plan, given=given), lambda it: bool(it) == (not errors), errors, 2 if errors else 0)
+        for word in ("show", "show --format json"):
+            found = run(*word.split(), "--sizes", plan, given=given)
+            if "json" in word and errors.endswith(words):
+                stated = said_as_json(f"{word} by sizes {text!r}", found[0], errors.split(b"\n")[0])
+                owes(f"{word} by sizes {text!r}", (stated.get("words", "").encode(), *found[1:]), words, b"", 2)
+            else:
+                owes(f"{word} by sizes {text!r}", found, lambda it: bool(it) == (not errors), errors, 2 if errors else 0)
+    ring = given.split(b"change 1\n")[0]
+    owes("a ring alone by sizes", run("show", "--sizes", plan, given=ring), b"", f"no 4 2 in {plan}\n".encode(), 2)
+    with open(plan, "wb") as it:
+        it.write(b"1 5\n7 5\n")
+    owes("a ring alone by a size too many", run("show", "--sizes", plan, given=ring), b"", b"no 2 2\n" + words.replace(b"3", b"2", 1), 2)
+    owes("a ring alone by a size too many, as JSON", run("show", "--format", "json", "--sizes", plan, given=ring), contains(b"line 2 of the sizes"), b"", 2)
+    owes("a fault before the sizes", run("show", "--sizes", plan, given=read("copy_out_of_order")), b"", contains(b"no 2"), 1)
+    with open(plan, "wb") as it:
+        it.write(b"1 5\n")
+    owes("a ring alone by good sizes", run("show", "--sizes", plan, given=ring), run("show", given=ring)[0], b"", 0)
+    owes("a rate", run("show", "--sizes", plan, "--rate", "2", given=given), lambda it: b"at 2 a second the plan ends in second" in b" ".join(it.split()), b"", 0)
+    for form in ("text", "json"):
+        owes("a rate without sizes", run("show", "--rate", "2", "--format", form), b"", contains(b"'--rate <N>' wants '--sizes <FILE>'"), 2)
+    for rate in ("0", "4294967296", "x", ""):
+        owes(f"a rate of {rate}", run("show", "--sizes", plan, "--rate", rate), b"", contains(b"--rate <N>"), 2)
+    for word in ("draw", "windows --rounds 1", "bundle"):
+        owes(f"{word} by sizes", run(*word.split(), "--sizes", plan), b"", contains(b"unexpected argument"), 2)
+    owes("how even a goal is by sizes", run("goal", "--even", "--sizes", plan, given=given), contains(b"      sizes     a share of what is stored is"), b"", 0)
+    owes("how even a goal is without sizes", run("goal", "--even", given=given), lambda it: b"sizes" not in it, b"", 0)
+    owes("goal by no sizes", run("goal", "--sizes", f"{folder}/none", given=given), b"", contains(b"No such file or directory"), 3)
+
+
 def outputs(folder):
     plan = f"{EXAMPLES}/plan_replace.bundle"
     target = f"{folder}/out"
@@ -283,6 +329,7 @@ def terminal():
 with tempfile.TemporaryDirectory() as scratch:
     files(scratch)
     outputs(scratch)
+    sizes(scratch)
 dead()
 streams()
 formats()

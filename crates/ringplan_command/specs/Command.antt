@@ -29,7 +29,7 @@ use Rattle.ringplan_job.specs.declared.job.Job.TheVariants.{Check, Migrate, Plan
 -- the command for people by which a statement is asked for
 abbrev pub word_of_statement : Statement → Word
 word_of_statement stated.Why = people.Why
-word_of_statement (stated.Show behind) = people.Show
+word_of_statement (stated.Show wish) = people.Show
 word_of_statement (stated.Goal options exit) = people.Goal
 
 -- the command for people by which a making is asked for

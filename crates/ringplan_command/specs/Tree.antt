@@ -44,6 +44,10 @@ workers_option = record (text_option (codes "workers")) { parser = Some (parser.
 abbrev pub cut_option : List ℕ → Rule
 cut_option word = record (text_option word) { parser = Some (parser.Signed (pos 1) (pos 1000000)) }
 
+-- `--rate N`, with N from 1 to 4,294,967,295
+abbrev pub rate_option : Rule
+rate_option = record (text_option (codes "rate")) { parser = Some (parser.Signed (pos 1) (pos 4294967295)) }
+
 -- the file that is read
 abbrev pub file_argument : Rule
 file_argument = record (new_rule (codes "file")) { value_names = 1 }
@@ -84,7 +88,8 @@ abbrev pub why_app : App
 why_app = words_app (codes "why")
 
 abbrev pub show_app : App
-show_app = with_rule (with_rule (words_app (codes "show")) (flag_option (codes "all"))) (text_option (codes "racks-behind"))
+show_app = with_rule (with_rule (with_rule (with_rule (words_app (codes "show")) (flag_option (codes "all"))) (text_option (codes "racks-behind")))
+    (text_option (codes "sizes"))) rate_option
 
 abbrev pub draw_app : App
 draw_app = with_rule (with_rule (job_app (codes "draw")) (flag_option (codes "map"))) (text_option (codes "racks-behind"))

@@ -95,6 +95,12 @@ pub(crate) const ALL: &str =
 pub(crate) const RACKS: &str =
     "Says how many partitions have two slots in one rack; a rack is what follows the last C of a node's name";
 
+pub(crate) const MOVED_SIZES: &str =
+    "Says how much moves by sizes: lines of a partition and a number, ascending; the others have 1, and 0 is a partition without keys";
+
+pub(crate) const RATE: &str =
+    "Says when the plan can end at the earliest, where one transfer copies N of a size in a second, 1 to 4294967295";
+
 pub(crate) const DEAD: &str =
     "A node that is dead for good: it leaves, its slots are read from others, and it neither drops nor retires";
 
@@ -140,6 +146,9 @@ pub(crate) const NO_COLOR: &[u8; 106] =
 
 pub(crate) const NO_EVEN: &[u8; 78] =
     b"error: '--even' is in words, not in json\n\nFor more information, try '--help'.\n";
+
+pub(crate) const NO_RATE: &[u8; 80] =
+    b"error: '--rate <N>' wants '--sizes <FILE>'\n\nFor more information, try '--help'.\n";
 
 pub(crate) const NO_SHELL: &[u8; 95] =
     b"error: invalid value for '<SHELL>': not bash, zsh or fish\n\nFor more information, try '--help'.\n";
@@ -283,6 +292,8 @@ Example: ringplan show --racks-behind . examples/plan_grow.bundle
 Input: a bundle: a ring with a change, or with a plan and its certificate, and perhaps a history.
 Standard output: who joins and leaves, what moves in how many rounds, what becomes of balance, racks and failures, the nodes that take part, and the
 copies of each round; with a history who is down, and what is done, open and next. Of a ring alone each node with its slots, allowance and state.
+With `--sizes` how much moves in all, by node and by round, and the most that copies which wait for one another have. With `--rate` also the second
+in which the plan ends at the earliest.
 Partitions, slots, steps and rounds are numbers; `5.1` is slot 1 of partition 5.
 
 Exit status: 0 printed, 1 no plan, one that is refused, or a history that is no run, 2 a text or the command line is refused, 3 memory, input or output";

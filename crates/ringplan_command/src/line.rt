@@ -5,7 +5,7 @@ ghost use Rattle.ringplan_command.specs.Command.{IsOfWord, word_of_making};
 
 use crate::command::{Format, Request, format_of};
 use crate::files::named;
-use crate::help::{NO_BYTE, NO_COLOR, NO_EVEN, NO_FORMAT, NO_WEIGHT};
+use crate::help::{NO_BYTE, NO_COLOR, NO_EVEN, NO_FORMAT, NO_RATE, NO_WEIGHT};
 use crate::naming::{add_dead, add_weights};
 use crate::word::Word;
 use clap::ArgMatches;
@@ -89,22 +89,31 @@ fn why_line(alloc: Global, options: &ArgMatches) -> Result<Request, AllocError>
 }
 
 // What a line with the word `show` asks for.
-fn show_line(alloc: Global, options: &ArgMatches) -> Result<Request, AllocError>
+fn show_line(alloc: Global, matches: &ArgMatches) -> Result<Request, AllocError>
     ensures { IfOk result (IsOfWord Word.Show) }
 {
-    let Some(racks_behind) = rack_byte(options) else {
+    let Some(racks_behind) = rack_byte(matches) else {
         return mistaken(alloc, NO_BYTE);
     };
-    let Some(color) = color_of(options) else {
+    let Some(color) = color_of(matches) else {
         return mistaken(alloc, NO_COLOR);
     };
-    match format_of(options) {
-        Format::Text => Ok(Request::Make(Making::Show(Wish {
-            shape: shape_of(options),
-            racks_behind,
-            color,
-        }))),
-        Format::Json => Ok(Request::Make(Making::State(Statement::Show(racks_behind)))),
+    let mut options = Options::new(alloc);
+    options.racks_behind = racks_behind;
+    options.sizes_file = named(alloc, matches, "sizes")?;
+    let rate = matches.get_one::<u32>("rate");
+    if rate.is_some() && options.sizes_file.is_none() {
+        return mistaken(alloc, NO_RATE);
+    }
+    let wish = Wish {
+        shape: shape_of(matches),
+        color,
+        options,
+        rate,
+    };
+    match format_of(matches) {
+        Format::Text => Ok(Request::Make(Making::Show(wish))),
+        Format::Json => Ok(Request::Make(Making::State(Statement::Show(wish)))),
         Format::Unknown => mistaken(alloc, NO_FORMAT),
     }
 }

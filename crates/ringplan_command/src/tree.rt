@@ -3,17 +3,17 @@
 ghost use Rattle.std.specs.Prelude.{◌≡◌, false, IfOk};
 ghost use Rattle.clap.specs.Words.{App, rule_of, with_rule, with_subcommand};
 ghost use Rattle.ringplan_command.specs.Tree.{IsApp, cut_option, draw_app, drive_app, flag_option, goal_app, job_app, ringplan, show_app};
-ghost use Rattle.ringplan_command.specs.Tree.{around_app, check_app, file_argument, output_option, steps_app, text_option, top_app};
+ghost use Rattle.ringplan_command.specs.Tree.{around_app, check_app, file_argument, output_option, rate_option, steps_app, text_option, top_app};
 ghost use Rattle.ringplan_command.specs.Tree.{completions_app, guide_app, nodes_app, replay_app, shell_argument, why_app, windows_app, words_app, workers_option};
 
 use crate::help::{
     ABOUT, AFTER, AFTER_STREAMS, ALL, AROUND, AROUND_STREAMS, BACK, BUNDLE, BUNDLE_STREAMS, CERT,
     CERT_STREAMS, CHECK, CHECK_STREAMS, COLOR, COMPLETIONS, COMPLETIONS_STREAMS, DEAD, DRAW,
     DRAW_STREAMS, DRIVE, DRIVE_STREAMS, DRIVERS, EVEN, EXIT_CODE, FILE, FORMAT, GOAL, GOAL_STREAMS,
-    GONE, JSON, MANUAL, MANUAL_STREAMS, MAP, MIGRATE, MIGRATE_STREAMS, MORE, MOVES, ONLY, OUTPUT,
-    PLAN, PLAN_STREAMS, PLAY, PLAY_STREAMS, RACK_COLUMNS, RACKS, RACKS_APART, REPLAY,
-    REPLAY_STREAMS, ROUNDS, SHELL, SHOW, SHOW_STREAMS, SIZES, STEPS, STEPS_STREAMS, STREAMS,
-    VERSION, WEIGHT, WHY, WHY_STREAMS, WINDOWS, WINDOWS_STREAMS, WORKERS,
+    GONE, JSON, MANUAL, MANUAL_STREAMS, MAP, MIGRATE, MIGRATE_STREAMS, MORE, MOVED_SIZES, MOVES,
+    ONLY, OUTPUT, PLAN, PLAN_STREAMS, PLAY, PLAY_STREAMS, RACK_COLUMNS, RACKS, RACKS_APART, RATE,
+    REPLAY, REPLAY_STREAMS, ROUNDS, SHELL, SHOW, SHOW_STREAMS, SIZES, STEPS, STEPS_STREAMS,
+    STREAMS, VERSION, WEIGHT, WHY, WHY_STREAMS, WINDOWS, WINDOWS_STREAMS, WORKERS,
 };
 use clap::{Arg, ArgAction, Command, value_parser};
 use std::alloc::{AllocError, Global};
@@ -65,6 +65,14 @@ fn workers<'a>(alloc: Global, help: &'a str) -> Arg<'a>
     ensures local { result.global ≡ false }
 {
     option(alloc, "workers", "K", help).value_parser(value_parser!(u32).range(1..=64))
+}
+
+// `--rate N`, with N from 1 to 4,294,967,295.
+fn rate<'a>(alloc: Global) -> Arg<'a>
+    ensures rule { rule_of result ≡ rate_option }
+    ensures local { result.global ≡ false }
+{
+    option(alloc, "rate", "N", RATE).value_parser(value_parser!(u32).range(1..=4_294_967_295))
 }
 
 // An option of `windows`, with a number from 1 to 1,000,000.
@@ -174,7 +182,9 @@ fn show<'a>(alloc: Global) -> Made<'a>
 {
     let command = words(alloc, "show", SHOW, SHOW_STREAMS);
     let command = with_arg(command, flag(alloc, "all", ALL));
-    with_arg(command, option(alloc, "racks-behind", "C", RACKS))
+    let command = with_arg(command, option(alloc, "racks-behind", "C", RACKS));
+    let command = with_arg(command, option(alloc, "sizes", "FILE", MOVED_SIZES));
+    with_arg(command, rate(alloc))
 }
 
 fn draw<'a>(alloc: Global) -> Made<'a>

@@ -42,20 +42,30 @@ pub enum Shape {
 }
 
 /// What a summary is to show.
-#[derive(Clone, Copy, Debug)]
+#[derive(Debug, Drop)]
 pub struct Wish {
     pub shape: Shape,
-    /// The byte after which a node's name names its rack, where racks are asked for.
-    pub racks_behind: Option<u8>,
     pub color: Color,
+    /// By which byte nodes have racks, and the sizes of partitions; no node is named.
+    pub options: Options,
+    /// How much one transfer copies in a second, in the unit of the sizes: from 1 on, and there only with sizes.
+    pub rate: Option<u32>,
 }
 
 impl Wish {
     /// The wish, with the colours that it has on that screen.
-    pub fn on(&self, screen: Screen) -> Wish {
+    pub fn on(self, screen: Screen) -> Wish {
+        let Wish {
+            shape,
+            color,
+            options,
+            rate,
+        } = self;
         Wish {
-            color: self.color.on(screen),
-            ..*self
+            shape,
+            color: color.on(screen),
+            options,
+            rate,
         }
     }
 }
@@ -100,9 +110,8 @@ pub enum Exit {
 pub enum Statement {
     /// Why it is refused, or what a yes says.
     Why,
-    /// What the plan does to each node, and how far a history has come; of a ring alone, its nodes. A node's rack too, where the byte is named
-    /// after which a name names it.
-    Show(Option<u8>),
+    /// What the plan does to each node, and how far a history has come; of a ring alone, its nodes. Whatever the shape and the colours, it is all.
+    Show(Wish),
     /// A plan that leads to the ring that is wished for, and how much it moves.
     Goal(Options, Exit),
 }

@@ -67,7 +67,7 @@ IsTold making = ⊤
 -- goal, 0 and 4 only where a plan leads there, and 4 only where it asks whether the plan has steps
 abbrev pub IsStated : Statement → List ℕ → ℕ → Type 0
 IsStated statements.Why bytes status = (status ≡ 0 → HasKept bytes) × (status ≤ 3)
-IsStated (statements.Show behind) bytes status = (status ≡ 0 → IsShown bytes) × (status ≤ 3)
+IsStated (statements.Show wish) bytes status = (status ≡ 0 → IsShown bytes) × (status ≤ 3)
 IsStated (statements.Goal options how) bytes status = (((status ≡ 0) ⊎ ((status ≡ 4) × (how ≡ exit.Steps))) × ((text : List ℕ) × IsLed bytes options text))
     ⊎ ((status ≢ 0) × (status ≤ 3))
 

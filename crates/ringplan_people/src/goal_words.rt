@@ -1,5 +1,6 @@
 //! Why no plan leads to the ring that is wished for, in words.
 
+use crate::show::show_bundle;
 use crate::why::push_words_of;
 use change_text::{Wanted, read_wanted};
 use helpers::Words;
@@ -7,7 +8,7 @@ use plan_bundles::{Kind, front, kind_of, nodes_of, wished_goal};
 use plan_goal::{Aim, Goal, Unfit, is_among, read_goal, why_unfit};
 use ring_names::{NodeId, Refusal};
 use ring_table::{Ring, read_ring};
-use ringplan_job::Options;
+use ringplan_job::{Color, Options, Shape, Wish};
 use show_why::{Page, Said, tell_text};
 use std::alloc::Global;
 
@@ -194,8 +195,8 @@ pub(crate) fn push_names(
     }
 }
 
-// Says which partition of the sizes the ring does not have. Answers whether there is one.
-fn push_unlisted(out: &mut Words, ring: &Ring, options: &Options) -> bool {
+/// Says which partition of the sizes the ring does not have. Answers whether there is one.
+pub(crate) fn push_unlisted(out: &mut Words, ring: &Ring, options: &Options) -> bool {
     let Some(sizes) = &options.sizes else {
         return false;
     };
@@ -231,6 +232,31 @@ fn push_limit(
         return Ok(());
     }
     push_fault(alloc, out, bytes, refusal)
+}
+
+/// Says what is wrong with the sizes of a bundle that is shown, or with its texts.
+pub(crate) fn push_shown_limit(
+    alloc: Global,
+    out: &mut Words,
+    bytes: &[u8],
+    options: &Options,
+    refusal: &Refusal,
+) -> Result<(), Refusal> {
+    let plain = Wish {
+        shape: Shape::Short,
+        color: Color::Never,
+        options: Options::new(alloc),
+        rate: None,
+    };
+    match show_bundle(alloc, bytes, &plain) {
+        Ok(_) => {
+            let ring = read_ring(alloc, &bytes[..front(bytes, 1)])?;
+            let _ = push_unlisted(out, &ring, options);
+            Ok(())
+        }
+        Err(Refusal::OutOfMemory) => Err(Refusal::OutOfMemory),
+        Err(_) => push_words_of(alloc, out, bytes, refusal),
+    }
 }
 
 /// Adds which of the nodes that are named dead leave though the change does not say so.

@@ -47,6 +47,11 @@ impl Object {
         self.put(name, Value::from(number))
     }
 
+    /// Puts a number of up to 64 bits.
+    pub fn long(&mut self, name: &str, number: u64) -> Result<(), Refusal> {
+        self.put(name, Value::from(number))
+    }
+
     /// Puts a text; bytes that are no UTF-8 are left out.
     pub fn text(&mut self, name: &str, text: &[u8]) -> Result<(), Refusal> {
         let value = text_value(self.alloc, text)?;

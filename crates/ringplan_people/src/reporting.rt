@@ -9,14 +9,14 @@ ghost use Rattle.ringplan_people.specs.Why.{IsWhy};
 use crate::after::{after_bundle, push_open};
 use crate::bundle::whole_bundle;
 use crate::cert::{cert_of, push_why_none};
-use crate::goal_words::{push_dead_leavers, push_goal_words, push_names};
+use crate::goal_words::{push_dead_leavers, push_goal_words, push_names, push_shown_limit};
 use crate::show::{draw_bundle, show_bundle};
 use crate::stating::state_bundle;
 use crate::steps::{moves_bundle, steps_bundle};
 use crate::why::{push_words_of, why_bundle};
 use crate::windows::{push_windows_words, windows_bundle};
 use helpers::Words;
-use plan_around::{around_bundle, push_around_words};
+use plan_around::around_bundle;
 use plan_bundles::{front, led_bundle, wish_words};
 use ring_names::Refusal;
 use ringplan_job::{Color, Exit, Making, Options, Statement};
@@ -31,8 +31,13 @@ pub struct Report {
     pub status: u8,
 }
 
-// What is made of the bundle.
-fn make_of(alloc: Global, making: &Making, bytes: &[u8]) -> Result<Vec<u8>, Refusal>
+// What is made of the bundle. Adds what standard error says of a bundle around dead nodes.
+fn make_of(
+    alloc: Global,
+    making: &Making,
+    bytes: &[u8],
+    notes: &mut Words,
+) -> Result<Vec<u8>, Refusal>
     requires { IsTold making.now }
     ensures { IfOk result (λ text. IsMade making.now bytes.now text.items) }
 {
@@ -41,7 +46,7 @@ fn make_of(alloc: Global, making: &Making, bytes: &[u8]) -> Result<Vec<u8>, Refu
         Making::Bundle => whole_bundle(alloc, bytes),
         Making::Cert => cert_of(alloc, bytes),
         Making::After => after_bundle(alloc, bytes),
-        Making::Show(wish) => show_bundle(alloc, bytes, *wish),
+        Making::Show(wish) => show_bundle(alloc, bytes, wish),
         Making::Draw(wish) => draw_bundle(alloc, bytes, *wish),
         Making::Steps => steps_bundle(alloc, bytes),
         Making::Moves => moves_bundle(alloc, bytes),
@@ -49,7 +54,7 @@ fn make_of(alloc: Global, making: &Making, bytes: &[u8]) -> Result<Vec<u8>, Refu
         Making::Goal(options, _) => led_bundle(alloc, bytes, options),
         Making::Even(options) => wish_words(alloc, bytes, options),
         Making::Around(options, back) => {
-            around_bundle(alloc, bytes, options.dead.as_slice(), *back)
+            around_bundle(alloc, bytes, options.dead.as_slice(), *back, notes)
         }
     }
 }
@@ -84,9 +89,6 @@ fn push_notes(
 ) -> Result<(), Refusal> {
     match making {
         Making::Goal(options, _) => push_goal_notes(alloc, out, options, bytes, output),
-        Making::Around(options, back) => {
-            push_around_words(alloc, out, bytes, options.dead.as_slice(), *back)
-        }
         _ => Ok(()),
     }
 }
@@ -116,11 +118,17 @@ fn made_status(making: &Making, output: &[u8]) -> u8
     }
 }
 
-// The report of what was made.
-fn made(alloc: Global, making: &Making, bytes: &[u8], output: Vec<u8>) -> Result<Report, Refusal>
+// The report of what was made, with these notes.
+fn made(
+    alloc: Global,
+    making: &Making,
+    bytes: &[u8],
+    output: Vec<u8>,
+    notes: Words,
+) -> Result<Report, Refusal>
     ensures { IfOk result (λ r. (r.output.items ≡ output.items) × IsMadeWith making.now r.status) }
 {
-    let mut notes = Words::new(alloc);
+    let mut notes = notes;
     push_notes(alloc, &mut notes, making, bytes, output.as_slice())?;
     let errors = notes.end()?;
     let status = made_status(making, output.as_slice());
@@ -162,6 +170,9 @@ pub(crate) fn push_said(
         (Making::Goal(options, _) | Making::Even(options), _) => {
             push_goal_words(alloc, out, bytes, options, refusal)
         }
+        (Making::Show(wish), Refusal::TooLarge(_)) => {
+            push_shown_limit(alloc, out, bytes, &wish.options, refusal)
+        }
         (Making::Around(options, _), Refusal::UnknownNode(0)) => {
             push_names(alloc, out, bytes, options)
         }
@@ -178,8 +189,9 @@ fn report_made(alloc: Global, making: &Making, bytes: &[u8]) -> Result<Report, R
     requires { IsTold making.now }
     ensures { IfOk result (λ r. IsReport making.now bytes.now r.output.items r.status) }
 {
-    match make_of(alloc, making, bytes) {
-        Ok(output) => made(alloc, making, bytes, output),
+    let mut notes = Words::new(alloc);
+    match make_of(alloc, making, bytes, &mut notes) {
+        Ok(output) => made(alloc, making, bytes, output, notes),
         Err(refusal) => {
             let mut words = Words::new(alloc);
             push_said(alloc, &mut words, making, bytes, &refusal)?;

@@ -6,21 +6,21 @@ ghost use Rattle.ringplan_people.specs.Made.{IsStated};
 ghost use Rattle.ringplan_people.specs.Studies.{HasApproved, IsShown};
 ghost use Rattle.ringplan_people.specs.Why.{HasKept};
 
-use crate::goal_words::push_goal_words;
+use crate::goal_words::{push_goal_words, push_unlisted};
 use crate::history_words::unless_memory;
 use crate::object::{Object, text_value};
 use crate::reporting::goal_status;
-use crate::show::{Shown, shown_by};
+use crate::show::{Shown, ask_sizes, shown_by, volumes_of};
 use crate::study::{Study, studied};
 use crate::why::{Outcome, push_accepted, push_why};
-use helpers::{Words, at, small};
+use helpers::{Words, at, small, word};
 use plan_bundles::{front, led_bundle};
 use ring_names::Refusal;
 use ring_table::{Ring, read_ring};
-use ringplan_job::{Exit, Options, Statement};
+use ringplan_job::{Exit, Options, Statement, Wish};
 use ringplan_jobs::{Answer, refusal_members, status_of};
 use serde_json::Value;
-use show_plan::{Present, Scene, name, rack};
+use show_plan::{Present, Scene, Volumes, name, rack};
 use show_why::Said;
 use std::alloc::Global;
 
@@ -173,12 +173,17 @@ fn nodes_value(
     alloc: Global,
     ring: &Ring,
     shown: &Shown,
+    volumes: Option<&Volumes>,
     racks_behind: Option<u8>,
 ) -> Result<Value, Refusal> {
     let loads = &shown.scene.loads;
     let mut nodes = Vec::new(alloc);
     for node in 0..small(ring.nodes().len()) {
         let mut object = node_object(alloc, ring, &shown.present, node, racks_behind)?;
+        if let Some(volumes) = volumes {
+            object.long("gives_size", word(volumes.gives.as_slice(), node as usize))?;
+            object.long("takes_size", word(volumes.takes.as_slice(), node as usize))?;
+        }
         object.put("is_down", Value::from(shown.present.is_down(node)))?;
         object.number("begin", at(loads.before.as_slice(), node as usize))?;
         object.number("end", at(loads.after.as_slice(), node as usize))?;
@@ -202,34 +207,96 @@ fn put_change(
     object.number("rounds", scene.round_count())
 }
 
+// Puts how much a plan moves, and when it ends at the earliest.
+fn put_volumes(
+    object: &mut Object,
+    alloc: Global,
+    volumes: &Volumes,
+    rate: Option<u32>,
+) -> Result<(), Refusal> {
+    let mut rounds = Vec::new(alloc);
+    for size in volumes.rounds.as_slice() {
+        rounds.push(Value::from(*size))?;
+    }
+    object.long("moves_size", volumes.moved)?;
+    object.put("rounds_size", Value::Array(rounds))?;
+    object.long("longest_size", volumes.longest)?;
+    if let Some(rate) = rate {
+        object.long("earliest_end", volumes.earliest_end(rate))?;
+    }
+    Ok(())
+}
+
 // What a plan does to each node, and how far a history has come.
-fn plan_object(alloc: Global, found: &Study, racks_behind: Option<u8>) -> Result<Object, Refusal> {
-    let shown = shown_by(alloc, found)?;
+fn plan_object(
+    alloc: Global,
+    found: &Study,
+    shown: &Shown,
+    volumes: Option<&Volumes>,
+    wish: &Wish,
+) -> Result<Object, Refusal> {
     let (ring, plan) = (found.approved.ring(), found.approved.plan());
     let mut object = Object::new(alloc);
     object.text("answer", b"yes")?;
     object.number("steps", plan.len())?;
     put_change(&mut object, alloc, ring, &shown.scene)?;
-    object.put("nodes", nodes_value(alloc, ring, &shown, racks_behind)?)?;
+    let racks_behind = wish.options.racks_behind;
+    object.put(
+        "nodes",
+        nodes_value(alloc, ring, shown, volumes, racks_behind)?,
+    )?;
+    if let Some(volumes) = volumes {
+        put_volumes(&mut object, alloc, volumes, wish.rate)?;
+    }
     if let Some(progress) = &shown.progress {
         object.number("steps_done", progress.count())?;
     }
     Ok(object)
 }
 
-// A ring alone.
-fn state_ring(alloc: Global, bytes: &[u8], racks_behind: Option<u8>) -> Result<Answer, Refusal>
+// The object of a partition of the sizes that the ring does not have.
+fn state_unlisted(
+    alloc: Global,
+    ring: &Ring,
+    options: &Options,
+    refusal: &Refusal,
+) -> Result<Answer, Refusal>
+    ensures { IfOk result (λ answer. (answer.status ≢ 0) × (answer.status ≤ 3)) }
+{
+    unless_memory(*refusal)?;
+    let mut words = Words::new(alloc);
+    let _ = push_unlisted(&mut words, ring, options);
+    let object = refused_object(alloc, refusal, words)?;
+    refused_answer(object, refusal)
+}
+
+// A ring alone, of which nothing moves.
+fn state_ring(alloc: Global, bytes: &[u8], wish: &Wish) -> Result<Answer, Refusal>
     ensures yes { IfOk result (λ answer. answer.status ≡ 0 → IsShown bytes.now) }
     ensures few { IfOk result (λ answer. answer.status ≤ 3) }
 {
     match read_ring(alloc, bytes) {
-        Ok(ring) => ring_object(alloc, &ring, racks_behind)?.answer(0),
+        Ok(ring) => match ask_sizes(alloc, &ring, &wish.options) {
+            Ok(()) => ring_object(alloc, &ring, wish.options.racks_behind)?.answer(0),
+            Err(refusal) => state_unlisted(alloc, &ring, &wish.options, &refusal),
+        },
         Err(refusal) => state_refusal(alloc, bytes, &refusal),
     }
 }
 
+// A plan that the checker accepted.
+fn state_studied(alloc: Global, found: &Study, wish: &Wish) -> Result<Answer, Refusal>
+    ensures { IfOk result (λ answer. answer.status ≤ 3) }
+{
+    let shown = shown_by(alloc, found)?;
+    match volumes_of(alloc, found, &shown.scene, &wish.options) {
+        Ok(volumes) => plan_object(alloc, found, &shown, volumes.as_ref(), wish)?.answer(0),
+        Err(refusal) => { state_unlisted(alloc, found.approved.ring(), &wish.options, &refusal) }
+    }
+}
+
 // The plan of a bundle.
-fn state_plan(alloc: Global, bytes: &[u8], racks_behind: Option<u8>) -> Result<Answer, Refusal>
+fn state_plan(alloc: Global, bytes: &[u8], wish: &Wish) -> Result<Answer, Refusal>
     ensures yes { IfOk result (λ answer. answer.status ≡ 0 → IsShown bytes.now) }
     ensures few { IfOk result (λ answer. answer.status ≤ 3) }
 {
@@ -237,22 +304,22 @@ fn state_plan(alloc: Global, bytes: &[u8], racks_behind: Option<u8>) -> Result<A
         Ok(found) => {
             // The plan is approved, which the prover knows once it is read.
             let _ = found.approved.plan();
-            plan_object(alloc, &found, racks_behind)?.answer(0)
+            state_studied(alloc, &found, wish)
         }
         Err(refusal) => state_refusal(alloc, bytes, &refusal),
     }
 }
 
 // What is shown of a bundle, as `show` takes it.
-fn state_shown(alloc: Global, bytes: &[u8], racks_behind: Option<u8>) -> Result<Answer, Refusal>
+fn state_shown(alloc: Global, bytes: &[u8], wish: &Wish) -> Result<Answer, Refusal>
     ensures yes { IfOk result (λ answer. answer.status ≡ 0 → IsShown bytes.now) }
     ensures few { IfOk result (λ answer. answer.status ≤ 3) }
 {
     // Nothing stands after the first line `end`.
     if front(bytes, 1) == bytes.len() {
-        return state_ring(alloc, bytes, racks_behind);
+        return state_ring(alloc, bytes, wish);
     }
-    state_plan(alloc, bytes, racks_behind)
+    state_plan(alloc, bytes, wish)
 }
 
 // The bundle of a plan that leads to the goal ring, and how much it moves.
@@ -305,7 +372,7 @@ pub fn state_bundle(alloc: Global, statement: &Statement, bytes: &[u8]) -> Resul
 {
     match statement {
         Statement::Why => state_why(alloc, bytes),
-        Statement::Show(racks_behind) => state_shown(alloc, bytes, *racks_behind),
+        Statement::Show(wish) => state_shown(alloc, bytes, wish),
         Statement::Goal(options, exit) => state_goal(alloc, bytes, options, *exit),
     }
 }

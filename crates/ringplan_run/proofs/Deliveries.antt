@@ -123,18 +123,19 @@ pub reports_none : (making : Making) (bytes : List ℕ) (status : ℕ) → Names
 reports_none making bytes status names (inr three) = failed refl three
 reports_none (Goal options exit) bytes status names (inl two) = read (none tt refl (λ zero. let bad : 2 ≡ 0 = sym two ∙ zero in absurd cc) (omega arith))
 reports_none (Even options) bytes status names (inl two) = read (none tt refl (λ zero. let bad : 2 ≡ 0 = sym two ∙ zero in absurd cc) (omega arith))
+reports_none (Show wish) bytes status names (inl two) = read (none tt refl (λ zero. let bad : 2 ≡ 0 = sym two ∙ zero in absurd cc) (omega arith))
 reports_none (Why color) bytes status names (inl two) = absurd names
 reports_none Bundle bytes status names (inl two) = absurd names
 reports_none Cert bytes status names (inl two) = absurd names
 reports_none After bytes status names (inl two) = absurd names
-reports_none (Show wish) bytes status names (inl two) = absurd names
 reports_none (Draw wish) bytes status names (inl two) = absurd names
 reports_none Steps bytes status names (inl two) = absurd names
 reports_none Moves bytes status names (inl two) = absurd names
 reports_none (Windows cut) bytes status names (inl two) = absurd names
 reports_none (Around options back) bytes status names (inl two) = absurd names
 reports_none (State statements.Why) bytes status names (inl two) = absurd names
-reports_none (State (statements.Show racks)) bytes status names (inl two) = absurd names
+reports_none (State (statements.Show wish)) bytes status names (inl two) =
+    read (of_statement (statements.Show wish) refl ((λ zero. let bad : 2 ≡ 0 = sym two ∙ zero in absurd cc), omega arith))
 reports_none (State (statements.Goal options exit)) bytes status names (inl two) =
     read (of_statement (statements.Goal options exit) refl (inr ((λ zero. let bad : 2 ≡ 0 = sym two ∙ zero in absurd cc), omega arith)))
 

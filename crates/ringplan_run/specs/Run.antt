@@ -14,7 +14,7 @@ use Rattle.ringplan_command.specs.declared.form.Form.{Form}
 use Rattle.ringplan_command.specs.declared.word.Guide.{Guide}
 use Rattle.ringplan_job.specs.declared.job.Job.{Job}
 use Rattle.ringplan_job.specs.declared.making.Making.{Making}
-use Rattle.ringplan_job.specs.declared.making.Making.TheVariants.{Even, Goal, State}
+use Rattle.ringplan_job.specs.declared.making.Making.TheVariants.{Even, Goal, Show, State}
 use Rattle.ringplan_job.specs.declared.making.Statement.{Statement}
 use Rattle.ringplan_job.specs.declared.making.Statement.TheVariants as statements
 use Rattle.ringplan_people.specs.Made.{IsReport}
@@ -31,11 +31,13 @@ FindsDrive workers form bytes (Err e) = e ≢ OutOfMemory → e ≢ ReadFailed �
 -- a statement, or what is made for people, may name a file of sizes
 abbrev pub AreNamedBy : Statement → Type 0
 AreNamedBy (statements.Goal options exit) = ⊤
+AreNamedBy (statements.Show wish) = ⊤
 AreNamedBy statement = ⊥
 
 abbrev pub NamesSizes : Making → Type 0
 NamesSizes (Goal options exit) = ⊤
 NamesSizes (Even options) = ⊤
+NamesSizes (Show wish) = ⊤
 NamesSizes (State statement) = AreNamedBy statement
 NamesSizes making = ⊥
 

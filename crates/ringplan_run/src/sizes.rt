@@ -6,7 +6,7 @@ ghost use Rattle.ringplan_run.specs.Run.{AreNamedBy, NamesSizes};
 
 use crate::files::open;
 use ring_names::Refusal;
-use ringplan_job::{Making, Options, Statement};
+use ringplan_job::{Making, Options, Statement, Wish};
 use ringplan_jobs::read_all;
 use size_text::{PartitionSize, read_sizes};
 use std::alloc::Global;
@@ -56,6 +56,25 @@ fn read_options<RT: AllocGlobal + Files + Eprint>(rt: &RT, options: Options) -> 
     Ok(options)
 }
 
+// What is to be shown, with the sizes of the file that it names, if it names one.
+fn wish_with_sizes<RT: AllocGlobal + Files + Eprint>(rt: &RT, wish: Wish) -> Result<Wish, u8>
+    ensures { IfErr result (λ status. (status ≡ 2) ⊎ (status ≡ 3)) }
+{
+    let Wish {
+        shape,
+        color,
+        options,
+        rate,
+    } = wish;
+    let options = read_options(rt, options)?;
+    Ok(Wish {
+        shape,
+        color,
+        options,
+        rate,
+    })
+}
+
 // The statement, with the sizes of the file that it names, if it names one.
 fn stated_with_sizes<RT: AllocGlobal + Files + Eprint>(
     rt: &RT,
@@ -66,6 +85,7 @@ fn stated_with_sizes<RT: AllocGlobal + Files + Eprint>(
 {
     match statement {
         Statement::Goal(options, exit) => Ok(Statement::Goal(read_options(rt, options)?, exit)),
+        Statement::Show(wish) => Ok(Statement::Show(wish_with_sizes(rt, wish)?)),
         other => Ok(other),
     }
 }
@@ -81,6 +101,7 @@ pub(crate) fn with_sizes<RT: AllocGlobal + Files + Eprint>(
 {
     match making {
         Making::Goal(options, exit) => Ok(Making::Goal(read_options(rt, options)?, exit)),
+        Making::Show(wish) => Ok(Making::Show(wish_with_sizes(rt, wish)?)),
         Making::Even(options) => Ok(Making::Even(read_options(rt, options)?)),
         Making::State(statement) => Ok(Making::State(stated_with_sizes(rt, statement)?)),
         other => Ok(other),

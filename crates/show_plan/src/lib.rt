@@ -19,14 +19,17 @@ mod scene;
 mod shown;
 mod span;
 mod table;
+mod volumes;
 mod writing;
 
 pub use change::{fewest_moves, push_change, push_moves};
 pub use loads::Loads;
 pub use names::{name, push_many, push_names, push_quorum, rack};
-pub use overview::{Shape, View, summary};
+pub use overview::{Shape, Sized, View, summary};
 pub use present::Present;
 pub use progress::Progress;
 pub use ring::ring_summary;
 pub use scene::Scene;
 pub use shown::{AllShown, Shown};
+pub use volumes::Volumes;
+pub use writing::push_long;

@@ -11,7 +11,8 @@ use crate::running::push_progress;
 use crate::scene::Scene;
 use crate::span::Span;
 use crate::table::push_table;
-use crate::writing::{end_line, push_tenths};
+use crate::volumes::Volumes;
+use crate::writing::{end_line, push_long, push_tenths};
 use helpers::{Words, at, parts_of, small};
 use plan_text::Plan;
 use ring_names::Refusal;
@@ -27,6 +28,14 @@ pub enum Shape {
     Whole,
 }
 
+/// How much the plan moves, where partitions have sizes.
+#[derive(Clone, Copy)]
+pub struct Sized<'a> {
+    pub volumes: &'a Volumes,
+    /// How much one transfer copies in a second, from 1 on, where it is known.
+    pub rate: Option<u32>,
+}
+
 /// What a summary is made of.
 #[derive(Clone, Copy)]
 pub struct View<'a> {
@@ -39,6 +48,8 @@ pub struct View<'a> {
     /// How far the history has come, where there is one.
     pub progress: Option<&'a Progress>,
     pub shape: Shape,
+    /// How much moves, where sizes are asked for.
+    pub sized: Option<Sized<'a>>,
     /// The byte behind which a node's name names its rack, where racks are asked for.
     pub racks_behind: Option<u8>,
 }
@@ -92,6 +103,21 @@ fn tell_round_count(view: &View, line: &mut Words) {
     line.number(view.scene.round_count());
     line.text(b" of copies behind one another; the widest has ");
     line.number(view.scene.widest());
+}
+
+// How much moves, and how long that takes at least.
+fn tell_sizes(line: &mut Words, sized: Sized) {
+    line.text(b"  sizes     ");
+    push_long(line, sized.volumes.moved);
+    line.text(b" in all; copies that wait for one another have up to ");
+    push_long(line, sized.volumes.longest);
+    if let Some(rate) = sized.rate {
+        line.text(b", so at ");
+        line.number(rate);
+        line.text(b" a second the plan ends in second ");
+        push_long(line, sized.volumes.earliest_end(rate));
+        line.text(b" at the earliest");
+    }
 }
 
 // How many mirrors open rounds before their copies.
@@ -327,6 +353,10 @@ fn push_overview(view: &View, out: &mut Words, line: &mut Words) -> Result<(), R
     end_line(out, line, INDENT);
     tell_round_count(view, line);
     end_line(out, line, INDENT);
+    if let Some(sized) = view.sized {
+        tell_sizes(line, sized);
+        end_line(out, line, INDENT);
+    }
     tell_writes(view, line);
     end_line(out, line, INDENT);
     let listed = count_listed(view);
@@ -373,7 +403,7 @@ fn push_summary(view: &View, out: &mut Words, line: &mut Words) -> Result<(), Re
 }
 
 /// The summary of a plan: who joins and leaves, what moves in how many rounds, what it does to balance, racks and failures, the table of nodes, the
-/// rounds, and where there is a history how far it has come. Lines have at most 100 bytes. Its only refusal is `OutOfMemory`.
+/// rounds, and where there is a history how far it has come. Lines have at most 100 bytes, but for rows of nodes with long names or large sizes. Its only refusal is `OutOfMemory`.
 pub fn summary(view: &View) -> Result<Vec<u8>, Refusal> {
     let mut out = Words::new(view.alloc);
     let mut line = Words::new(view.alloc);

@@ -1,10 +1,10 @@
 //! The rounds of copies.
 
 use crate::names::{name, push_many};
-use crate::overview::{Shape, View};
+use crate::overview::{Shape, Sized, View};
 use crate::pieces::Flow;
 use crate::shown::Shown;
-use crate::writing::{push_number_right, push_spaces};
+use crate::writing::{push_long_right, push_number_right, push_right, push_spaces};
 use helpers::{Words, at, small};
 use ring_names::Refusal;
 use std::alloc::Global;
@@ -17,8 +17,16 @@ const SHOWN: u32 = 10;
 // How many pairs of nodes, and slots of a pair, a short list has in a round.
 const ENTRIES: usize = 6;
 
-// How far the copies of a round are indented.
+// How far the copies of a round are indented, where rounds have no sizes.
 const INDENT: usize = 18;
+
+// How wide the column of a round's size is, with the spaces before it; 0 where rounds have none.
+fn size_column(view: &View) -> usize {
+    match view.sized {
+        Some(Sized { volumes, .. }) => volumes.rounds_width.saturating_add(2),
+        None => 0,
+    }
+}
 
 // A move among those that are listed: by round, then by whom it reads and to whom it goes. Copies that read listed slots stand by themselves.
 #[derive(Clone, Copy, PartialEq, Eq, PartialOrd, Ord)]
@@ -171,6 +179,14 @@ fn push_round(view: &View, out: &mut Words, round: &[Placed], word: &mut Words) 
     push_number_right(out, first.round, 5);
     push_spaces(out, 2);
     push_number_right(out, small(round.len()), 6);
+    if let Some(Sized { volumes, .. }) = view.sized {
+        let place = (first.round as usize).saturating_sub(1);
+        push_long_right(
+            out,
+            helpers::word(volumes.rounds.as_slice(), place),
+            size_column(view),
+        );
+    }
     push_spaces(out, 3);
     let most = match view.shape {
         Shape::Short if entries(round) > ENTRIES => ENTRIES - 1,
@@ -182,7 +198,7 @@ fn push_round(view: &View, out: &mut Words, round: &[Placed], word: &mut Words) 
 
 // The first so many entries of a round, and how many copies the others have.
 fn push_entries(view: &View, out: &mut Words, round: &[Placed], most: usize, word: &mut Words) {
-    let mut flow = Flow::new(INDENT);
+    let mut flow = Flow::new(INDENT.saturating_add(size_column(view)));
     let mut rest = round;
     for turn in 0..most {
         if rest.is_empty() {
@@ -230,7 +246,11 @@ fn push_in_order(view: &View, out: &mut Words, word: &mut Words, order: &[Placed
 
 /// The rounds, with the copies of each. The second text is that of one word; it is empty before and behind.
 pub fn push_rounds(view: &View, out: &mut Words, word: &mut Words) -> Result<(), Refusal> {
-    out.text(b"  round  copies   from > to: partition.slot\n");
+    out.text(b"  round  copies");
+    if view.sized.is_some() {
+        push_right(out, b"size", size_column(view));
+    }
+    out.text(b"   from > to: partition.slot\n");
     let order = in_order(view.alloc, view.scene.shown.moves.as_slice())?;
     push_in_order(view, out, word, order.as_slice());
     word.clear();

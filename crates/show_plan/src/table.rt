@@ -1,13 +1,14 @@
 //! The table of the nodes that take part or are down.
 
 use crate::names::{name, push_many, push_names};
-use crate::overview::{Shape, View};
+use crate::overview::{Shape, Sized, View};
 use crate::scene::Scene;
+use crate::volumes::Volumes;
 use crate::writing::{
-    WIDTH, push_left, push_number_left, push_number_right, push_right, push_spaces, push_times,
-    push_trimmed,
+    WIDTH, push_left, push_long, push_long_right, push_number_left, push_number_right, push_right,
+    push_spaces, push_times, push_trimmed, width_of,
 };
-use helpers::{Words, at, parts_of, small};
+use helpers::{Words, at, parts_of, small, word};
 use ring_names::Refusal;
 use ring_table::Node;
 use std::alloc::Global;
@@ -27,6 +28,8 @@ struct Table {
     hidden: Vec<u32>,
     names: usize,
     at_once: usize,
+    // of a size that a node of a row gives or takes
+    sizes: usize,
     // the most slots that a node of a row owns before or behind the plan
     top: u32,
 }
@@ -135,6 +138,13 @@ impl Table {
             hidden,
             names: 4,
             at_once: 15,
+            sizes: match view.sized {
+                Some(Sized { volumes, .. }) => width_of(
+                    volumes.gives.as_slice(),
+                    width_of(volumes.takes.as_slice(), 10),
+                ),
+                None => 0,
+            },
             top: 1,
         })
     }
@@ -165,6 +175,12 @@ impl Table {
         push_count(line, at(scene.loads.gives.as_slice(), place));
         push_spaces(line, 2);
         push_count(line, at(scene.loads.takes.as_slice(), place));
+        if let Some(Sized { volumes, .. }) = view.sized {
+            push_spaces(line, 2);
+            push_long_right(line, word(volumes.gives.as_slice(), place), self.sizes);
+            push_spaces(line, 2);
+            push_long_right(line, word(volumes.takes.as_slice(), place), self.sizes);
+        }
         if view.progress.is_some() {
             return push_three(view, line, node);
         }
@@ -198,26 +214,34 @@ impl Table {
         push_left(out, b"node", self.names);
         push_spaces(out, 2);
         push_left(out, b"never more than", self.at_once);
+        out.text(b"  gives  takes");
+        if view.sized.is_some() {
+            push_spaces(out, 2);
+            push_right(out, b"gives size", self.sizes);
+            push_spaces(out, 2);
+            push_right(out, b"takes size", self.sizes);
+        }
         out.text(if view.progress.is_some() {
-            b"  gives  takes  begun    now    end\n"
+            b"  begun    now    end\n"
         } else {
-            b"  gives  takes   slots\n"
+            b"   slots\n"
         });
         for node in self.rows.as_slice() {
             self.push_row(view, out, line, *node);
         }
-        self.push_hidden(out, view.scene)
+        self.push_hidden(view, out)
     }
 
     // The line of those without a row.
-    fn push_hidden(&self, out: &mut Words, scene: &Scene) {
+    fn push_hidden(&self, view: &View, out: &mut Words) {
         if self.hidden.is_empty() {
             return;
         }
+        let loads = &view.scene.loads;
         let (mut gives, mut takes) = (0u32, 0u32);
         for node in self.hidden.as_slice() {
-            gives = gives.saturating_add(at(scene.loads.gives.as_slice(), *node as usize));
-            takes = takes.saturating_add(at(scene.loads.takes.as_slice(), *node as usize));
+            gives = gives.saturating_add(at(loads.gives.as_slice(), *node as usize));
+            takes = takes.saturating_add(at(loads.takes.as_slice(), *node as usize));
         }
         push_spaces(out, 4);
         push_many(
@@ -229,7 +253,24 @@ impl Table {
         out.number(gives);
         out.text(b", take ");
         out.number(takes);
-        out.text(b" slots (--all)\n");
+        out.text(b" slots");
+        if let Some(Sized { volumes, .. }) = view.sized {
+            self.push_hidden_sizes(out, volumes);
+        }
+        out.text(b" (--all)\n");
+    }
+
+    // The sizes of those without a row.
+    fn push_hidden_sizes(&self, out: &mut Words, volumes: &Volumes) {
+        let (mut gives, mut takes) = (0u64, 0u64);
+        for node in self.hidden.as_slice() {
+            gives = gives.saturating_add(word(volumes.gives.as_slice(), *node as usize));
+            takes = takes.saturating_add(word(volumes.takes.as_slice(), *node as usize));
+        }
+        out.text(b", sizes ");
+        push_long(out, gives);
+        out.text(b" and ");
+        push_long(out, takes);
     }
 }
 

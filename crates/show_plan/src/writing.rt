@@ -5,6 +5,9 @@ use helpers::Words;
 /// The widest line, in bytes.
 pub const WIDTH: usize = 100;
 
+// How many digits the lower part of a long number has.
+const LOW_DIGITS: usize = 9;
+
 /// So many spaces.
 pub fn push_spaces(out: &mut Words, count: usize) {
     push_times(out, b' ', count)
@@ -52,6 +55,50 @@ pub fn push_number_right(out: &mut Words, number: u32, width: usize) {
 pub fn push_number_left(out: &mut Words, number: u32, width: usize) {
     out.number(number);
     push_spaces(out, width.saturating_sub(count_digits(number)))
+}
+
+// How many digits the number has.
+fn count_long_digits(number: u64) -> usize {
+    let (high, low) = halves(number);
+    if high == 0 {
+        return count_digits(low);
+    }
+    count_digits(high).saturating_add(LOW_DIGITS)
+}
+
+// The number without its last nine digits, and these.
+fn halves(number: u64) -> (u32, u32) {
+    let high = u32::try_from(number / 1_000_000_000).unwrap_or(u32::MAX);
+    let low = u32::try_from(number % 1_000_000_000).unwrap_or(0);
+    (high, low)
+}
+
+/// The number, which is less than 4,294,967,295 times 1,000,000,000.
+pub fn push_long(out: &mut Words, number: u64) {
+    let (high, low) = halves(number);
+    if high > 0 {
+        out.number(high);
+        push_times(out, b'0', LOW_DIGITS.saturating_sub(count_digits(low)));
+    }
+    out.number(low);
+}
+
+/// The number, or a point for none, and spaces before it up to the width.
+pub fn push_long_right(out: &mut Words, number: u64, width: usize) {
+    if number == 0 {
+        return push_right(out, b".", width);
+    }
+    push_spaces(out, width.saturating_sub(count_long_digits(number)));
+    push_long(out, number);
+}
+
+/// The width of a column of these numbers, and of so many bytes at least.
+pub fn width_of(numbers: &[u64], least: usize) -> usize {
+    let mut width = least;
+    for number in numbers {
+        width = width.max(count_long_digits(*number));
+    }
+    width
 }
 
 /// The number, and its tenths behind a point.

@@ -1,0 +1,100 @@
+//! How much a plan moves, where partitions have sizes.
+
+use crate::scene::Scene;
+use crate::shown::Shown;
+use crate::writing::width_of;
+use helpers::{at, set_word, word};
+use plan_text::{Plan, Step};
+use ring_names::Refusal;
+use ring_table::Ring;
+use std::alloc::Global;
+
+/// How much a plan moves by the sizes of partitions, in their unit.
+#[derive(Drop)]
+pub struct Volumes {
+    /// What all moves move together.
+    pub moved: u64,
+    /// By node, what copies read from it. A copy of listed slots reads the whole partition from each.
+    pub gives: Vec<u64>,
+    /// By node, what copies write to it.
+    pub takes: Vec<u64>,
+    /// By round, from 1 on, what its copies move.
+    pub rounds: Vec<u64>,
+    /// How wide a column of what rounds move is.
+    pub rounds_width: usize,
+    /// The most that copies have of which each waits for the one before.
+    ///
+    /// No execution ends before one transfer could copy so much. No allowance makes a better bound: the copies of a node lie on as many chains as it bears
+    /// transfers, and on a chain each copy waits for the one before.
+    pub longest: u64,
+}
+
+impl Volumes {
+    /// What the plan of the scene moves, by partitions of these sizes. Its only refusal is `OutOfMemory`.
+    pub fn of(
+        alloc: Global,
+        ring: &Ring,
+        plan: &Plan,
+        scene: &Scene,
+        sizes: &[u32],
+    ) -> Result<Volumes, Refusal> {
+        let nodes = ring.nodes().len();
+        let mut volumes = Volumes {
+            moved: 0,
+            gives: vec![in alloc; 0u64; nodes]?,
+            takes: vec![in alloc; 0u64; nodes]?,
+            rounds: vec![in alloc; 0u64; scene.widths.len()]?,
+            rounds_width: 0,
+            longest: longest(alloc, plan, sizes)?,
+        };
+        for shown in scene.shown.moves.as_slice() {
+            let size = u64::from(at(sizes, shown.slot.partition as usize));
+            volumes.count(scene, shown, size);
+        }
+        volumes.rounds_width = width_of(volumes.rounds.as_slice(), 4);
+        Ok(volumes)
+    }
+
+    // Counts a move of that size.
+    fn count(&mut self, scene: &Scene, shown: &Shown, size: u64) {
+        self.moved = self.moved.saturating_add(size);
+        add(self.takes.as_mut_slice(), shown.to as usize, size);
+        for node in scene.shown.read_by(shown) {
+            add(self.gives.as_mut_slice(), *node as usize, size);
+        }
+        if shown.round > 0 {
+            add(self.rounds.as_mut_slice(), shown.round as usize - 1, size);
+        }
+    }
+
+    /// The second in which the plan ends at the earliest, counted from 1, where one transfer copies so much in a second, from 1 on.
+    pub fn earliest_end(&self, rate: u32) -> u64 {
+        let rate = u64::from(rate);
+        let up = self.longest.saturating_add(rate.saturating_sub(1));
+        up.checked_div(rate).unwrap_or(0)
+    }
+}
+
+// Adds the size at the place.
+fn add(words: &mut [u64], place: usize, size: u64) {
+    let sum = word(words, place).saturating_add(size);
+    set_word(words, place, sum);
+}
+
+// The greatest sum of sizes of copies on a path of dependencies.
+fn longest(alloc: Global, plan: &Plan, sizes: &[u32]) -> Result<u64, Refusal> {
+    let mut ends: Vec<u64> = Vec::new(alloc);
+    let mut most = 0u64;
+    for number in 0..plan.len() {
+        let mut sum = 0u64;
+        for before in plan.deps(number) {
+            sum = sum.max(word(ends.as_slice(), *before as usize));
+        }
+        if let Step::Copy(slot, _) = plan.step(number) {
+            sum = sum.saturating_add(u64::from(at(sizes, slot.partition as usize)));
+        }
+        ends.push(sum)?;
+        most = most.max(sum);
+    }
+    Ok(most)
+}
