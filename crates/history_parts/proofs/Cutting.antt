@@ -23,11 +23,11 @@ one_step ring is_in ps gs x xs = by (entry_in ring is_in ps gs x)
     by (Some y) = refl
     by None = refl
 
-puts_grow : (ring : RingValue) (is_in : ℕ → Bool) (ps : List Bool) (e : Event) → length (puts_after ring is_in ps e) ≤ length ps + 1
+pub puts_grow : (ring : RingValue) (is_in : ℕ → Bool) (ps : List Bool) (e : Event) → length (puts_after ring is_in ps e) ≤ length ps + 1
 puts_grow ring is_in ps (StartPut writer key value seen) = (let l = length-append ps (is_key_in ring is_in key ∷ []) in omega arith)
 puts_grow ring is_in ps e = omega arith
 
-gets_grow : (ring : RingValue) (is_in : ℕ → Bool) (gs : List Bool) (e : Event) → length (gets_after ring is_in gs e) ≤ length gs + 1
+pub gets_grow : (ring : RingValue) (is_in : ℕ → Bool) (gs : List Bool) (e : Event) → length (gets_after ring is_in gs e) ≤ length gs + 1
 gets_grow ring is_in gs (StartGet key) = (let l = length-append gs (is_key_in ring is_in key ∷ []) in omega arith)
 gets_grow ring is_in gs e = omega arith
 

@@ -1,15 +1,17 @@
-//! Histories that are cut into their partitions: the parts are runs exactly where the whole is one.
+//! Histories that are cut into their partitions: the parts are runs exactly where the whole is one, and are judged as the whole is.
 
-use crate::answering::{STAND_IN, approved};
+use crate::answering::{MOVE, STAND_IN, approved};
+use history_judge::judge;
 use history_parts::part;
 use history_text::read_history;
 use plan_check::Approved;
 use plan_runs::Entry;
 use ring_core::replay;
-use ring_names::{Names, Refusal};
+use ring_names::{Listed, Names, NodeId, Refusal};
 use std::alloc::Global;
 use std::process::Abort;
 use std::test::Fail;
+use std::thread::Threads;
 
 // Puts of keys of partitions 0 and 2, of which one is hinted and handed off, and gets of both; a put knows a get of its key.
 const RUN: &str = "\
@@ -60,6 +62,30 @@ const ENDS: [&str; 11] = [
     "handoff d 0 2 = ok\n",
 ];
 
+// A hint of partition 0 at node d, which is to mirror a slot of it.
+const HINTED: &str = "\
+put w1 a x31 = put 0
+put w1 b x32 = put 1
+do 0 = ok
+down a = ok
+hint 0 0 d = ticket 0 0 0
+write 1 1 = ticket 2 1 0
+";
+
+// An entry more each, or some. In the first the part of partition 0 is refused the step, and in the others the reply is wrong.
+const STEPS: [&str; 10] = [
+    "do 1 = put 2\n",
+    "do 1 = ok\n",
+    "do 0 = ok\n",
+    "do 9 = ok\n",
+    "open 2 = ok\n",
+    "ack 0 = ok\nack 9 = ok\n",
+    "write 1 2 = ticket 2 2 1\nack 9 = ok\n",
+    "up a = ok\nhandoff d 0 0 = ok\ndo 1 = ok\n",
+    "up a = ok\nhandoff d 0 0 = ok\ndo 1 = ok\nopen 2 = ok\nchunk 2 0 = ok\nclose 2 = ok\n",
+    "up a = ok\nhandoff d 0 0 = ok\ndo 1 = ok\nopen 2 = ok\ndown b = ok\nchunk 2 0 = get 0\n",
+];
+
 // Whether the entries are a run.
 fn is_run<RT: AllocGlobal + Abort>(
     rt: &RT,
@@ -94,9 +120,14 @@ fn are_runs<RT: AllocGlobal + Abort>(
 }
 
 // The entries of these lines.
-fn entries_of(alloc: Global, approved: &Approved, more: &str) -> Result<Vec<Entry>, Refusal> {
+fn entries_of(
+    alloc: Global,
+    approved: &Approved,
+    first: &str,
+    more: &str,
+) -> Result<Vec<Entry>, Refusal> {
     let mut names = Names::new(alloc);
-    let text = format!(in alloc; "history 1\n{RUN}{more}end\n")?;
+    let text = format!(in alloc; "history 1\n{first}{more}end\n")?;
     read_history(alloc, approved.ring(), &mut names, text.as_bytes())
 }
 
@@ -107,7 +138,7 @@ fn decided<RT: AllocGlobal + Abort>(
     more: &str,
     wanted: bool,
 ) -> Result<(), Fail> {
-    let entries = entries_of(rt.alloc(), approved, more)?;
+    let entries = entries_of(rt.alloc(), approved, RUN, more)?;
     let whole = is_run(rt, approved, entries.as_slice())?;
     let parts = are_runs(rt, approved, entries.as_slice())?;
     assert_eq!(rt; (whole, parts), (wanted, wanted));
@@ -129,4 +160,77 @@ fn all_decided<RT: AllocGlobal + Abort>(rt: &RT, approved: &Approved) -> Result<
 fn parts_decide(rt: HostRuntime) -> Result<(), Fail> {
     let approved = approved(rt.alloc(), &STAND_IN)?;
     all_decided(&rt, &approved)
+}
+
+// What a replay of the whole answers.
+fn replayed<RT: AllocGlobal + Abort>(
+    rt: &RT,
+    approved: &Approved,
+    entries: &[Entry],
+) -> Result<Vec<Listed<NodeId>>, Refusal> {
+    assert!(rt; entries.len() <= 1000);
+    match replay(rt.alloc(), approved, entries) {
+        Ok(world) => world.table(),
+        Err(refusal) => Err(refusal),
+    }
+}
+
+// Both have the same owners, or are refused alike.
+fn are_alike<RT: Abort>(
+    rt: &RT,
+    found: &Result<Vec<Listed<NodeId>>, Refusal>,
+    wanted: &Result<Vec<Listed<NodeId>>, Refusal>,
+) {
+    match (found, wanted) {
+        (Ok(found), Ok(wanted)) => {
+            assert_eq!(rt; found.len(), wanted.len());
+            for (row, other) in found.iter().zip(wanted.iter()) {
+                assert_eq!(rt; row.as_slice(), other.as_slice());
+            }
+        }
+        (Err(found), Err(wanted)) => assert_eq!(rt; found, wanted),
+        (_, _) => assert!(rt; false),
+    }
+}
+
+// The parts are judged as the whole is replayed, however many there are.
+fn judged<RT: AllocGlobal + Threads + Sync + Abort>(
+    rt: &RT,
+    approved: &Approved,
+    first: &str,
+    more: &str,
+) -> Result<(), Fail> {
+    let entries = entries_of(rt.alloc(), approved, first, more)?;
+    let wanted = replayed(rt, approved, entries.as_slice());
+    assert!(rt; entries.len() <= 1000);
+    for parts in [0, 1, 2, 3, 64] {
+        let found = judge(rt, rt.alloc(), approved, parts, entries.as_slice());
+        are_alike(rt, &found, &wanted);
+    }
+    Ok(())
+}
+
+fn all_judged<RT: AllocGlobal + Threads + Sync + Abort>(
+    rt: &RT,
+    approved: &Approved,
+    first: &str,
+    more: &[&str],
+) -> Result<(), Fail> {
+    for more in more {
+        judged(rt, approved, first, more)?;
+    }
+    Ok(())
+}
+
+#[test]
+fn parts_are_judged_as_the_whole(rt: HostRuntime) -> Result<(), Fail> {
+    let approved = approved(rt.alloc(), &STAND_IN)?;
+    all_judged(&rt, &approved, RUN, &GOES_ON)?;
+    all_judged(&rt, &approved, RUN, &ENDS)
+}
+
+#[test]
+fn the_greatest_number_is_the_wholes(rt: HostRuntime) -> Result<(), Fail> {
+    let approved = approved(rt.alloc(), &MOVE)?;
+    all_judged(&rt, &approved, HINTED, &STEPS)
 }

@@ -1,0 +1,5 @@
+pub mod Fronts
+pub mod Telling
+pub mod Deciding
+pub mod Gathering
+pub mod Placing
