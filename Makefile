@@ -87,12 +87,5 @@ dist: deb
 	git archive --prefix=ringplan-$(VERSION)/ -o $(TARBALL) HEAD
 	cd $(DIST) && sha256sum $(notdir $(TARBALL) $(DEB)) > SHA256SUMS
 
-# By Debian's Python, with nothing skipped: after the gate the packages, which link the C library for the next part; types and tests of the Python package; and the
-# histories of the reference store.
-test: export PYTHONDONTWRITEBYTECODE = 1
 test:
-	packaging/wants.sh
 	.ci/run
-	PATH="/usr/bin:$$PATH" packaging/test.py --skip-none
-	cd python && PATH="/usr/bin:$$PATH" && mypy --strict && pytest-3 -q -n auto --skip-none
-	PATH="/usr/bin:$$PATH" trials/store.py 20

@@ -95,7 +95,7 @@ class Unjudged(Runner):
 def see_runner(folder: pathlib.Path, kind: str, board: Board, bundle: str, hook: pathlib.Path) -> None:
     steps = texts.read_steps(programs.ask("steps", bundle).text)
     board.begin(bundle, names_of(steps))
-    runner = Unjudged(board, Hooks(str(hook.parent), str(folder / f"{kind}.hooks")), steps, Options())
+    runner = Unjudged(board, Hooks(str(hook.parent), str(folder / f"{kind}.hooks")), Options())
     with open(os.devnull, "w") as nowhere, contextlib.redirect_stdout(nowhere):
         begun = time.perf_counter()
         runner.run()

@@ -95,7 +95,7 @@ def history_of(bundle: str, broken: str, folder: str, node: type[ServerNode[Any]
     """The lines of the history of one run."""
     store = STORES.get(broken, Store)(read_plan(bundle)[0], lambda name: node(folder, name, broken == "latest_timestamp_wins"))
     executor = EXECUTORS.get(broken, Executor)(store, read_steps(programs.ask("steps", bundle).text))
-    shown = Shown(store, executor, Load(workers=4, clients=4, operations=200, pace=0.1, outage=1.0))
+    shown = Shown(store, executor, Load(workers=4, clients=4, operations=200, pace=0.1, outage=1.0, limit=600.0))
     try:
         with shown.watched():
             shown.run()

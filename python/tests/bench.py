@@ -2,9 +2,11 @@
 
 from __future__ import annotations
 
+import contextlib
 import json
 import os
 import pathlib
+import random
 import shutil
 import socket
 import subprocess
@@ -19,21 +21,27 @@ from ringplan.run import gateway
 TOP = pathlib.Path(__file__).parents[2]
 REPLACE = (TOP / "examples/planned_replace.bundle").read_text()
 KINDS = ("join", "mirror", "copy", "switch", "drop", "retire")
-# A hook: one line for each begin and end of a step in the file `log`; `twice` where another hook of the step runs; `fail` names steps that fail.
+GROW = (TOP / "examples/planned_grow.bundle").read_text()
+# How long a test waits for what must come, in seconds: long enough for a slow machine that does much else.
+LONG = 240.0
+# A hook: one line for each begin and end of a step in the file `log`; `twice` where another hook of the step runs; `fail` names steps that fail. It goes on once
+# there is no file `hold` with its number.
 HOOK = """#!{python}
-import json, os, sys, time
+import fcntl, json, os, sys, time
 line = json.load(sys.stdin)
 step, pause = line["step"], {pause}
 def log(word):
     with open("{folder}/log", "a") as file:
         file.write(word + " " + json.dumps(line) + "\\n")
+running = open("{folder}/running-" + "-".join(str(line.get(name)) for name in ("do", "partition", "slot", "node", "to")), "w")
 try:
-    os.mkdir(f"{folder}/running-{{step}}")
-except FileExistsError:
+    fcntl.flock(running, fcntl.LOCK_EX | fcntl.LOCK_NB)
+except BlockingIOError:
     log("twice")
 log("begin")
 time.sleep(pause)
-os.rmdir(f"{folder}/running-{{step}}")
+while os.path.exists(f"{folder}/hold-{{step}}"):
+    time.sleep(0.02)
 try:
     with open(f"{folder}/answer-{{step}}") as file:
         status = int(file.read())
@@ -46,6 +54,14 @@ sys.exit(status)
 """
 
 
+def free_port() -> int:
+    """A port of loopback that nobody has, below those that the system gives to connections: while an etcd is down, one of these might take its place."""
+    while True:
+        with socket.socket() as one, contextlib.suppress(OSError):
+            one.bind(("127.0.0.1", random.randrange(10000, 32000)))
+            return int(one.getsockname()[1])
+
+
 class Server:
     """An etcd process on loopback, over a folder of its own, with options of its own."""
 
@@ -53,10 +69,7 @@ class Server:
         if shutil.which("etcd") is None:
             pytest.skip("etcd is not installed")
         self.folder = folder
-        with socket.socket() as one, socket.socket() as two:
-            one.bind(("127.0.0.1", 0))
-            two.bind(("127.0.0.1", 0))
-            self.port, peer = one.getsockname()[1], f"http://127.0.0.1:{two.getsockname()[1]}"
+        self.port, peer = free_port(), f"http://127.0.0.1:{free_port()}"
         client = f"http://127.0.0.1:{self.port}"
         peers = ["--listen-peer-urls", peer, "--initial-advertise-peer-urls", peer, "--initial-cluster", f"default={peer}"]
         self.words = ["etcd", "--data-dir", str(folder / "data"), "--listen-client-urls", client, "--advertise-client-urls", client, *peers, *options]
@@ -66,7 +79,7 @@ class Server:
         with open(self.folder / "etcd.log", "ab") as log:
             self.process = subprocess.Popen(self.words, stdout=log, stderr=log)
         client = gateway.Etcd("127.0.0.1", self.port)
-        client.patience = 30.0
+        client.patience = LONG
         client.read_each("ready")
 
     def kill(self) -> None:
@@ -81,7 +94,7 @@ class Bench:
     """A folder with a bundle, hooks and their log; a board; the lease of runners, where the board has leases; and the words before each command."""
 
     def __init__(self, folder: pathlib.Path, board: str, prefix: Sequence[str] = ()) -> None:
-        self.folder, self.board, self.lease, self.prefix = folder, board, "3", prefix
+        self.folder, self.board, self.lease, self.prefix = folder, board, "10", prefix
         self.bundle = folder / "bundle"
         self.bundle.write_text(REPLACE)
         self.hooks(0.0)
@@ -96,9 +109,18 @@ class Bench:
     def answer(self, step: int, status: int) -> None:
         (self.folder / f"answer-{step}").write_text(str(status))
 
+    def hold(self, *steps: int) -> None:
+        """Lets the hooks of these steps run until `let_go`."""
+        for step in steps:
+            (self.folder / f"hold-{step}").touch()
+
+    def let_go(self, step: int) -> None:
+        (self.folder / f"hold-{step}").unlink()
+
     def command(self, *words: str) -> list[str]:
         if words[0] == "apply":
             words = ("apply", str(self.bundle), "--do", str(self.folder / "hooks"), "--pause", "0.05", "--lease", self.lease, *words[1:])
+        words = (*words, "--lease", self.lease) if words[0] == "around" else words
         return [*self.prefix, sys.executable, "-m", "ringplan.run", *words, "--board", self.board]
 
     def start(self, *words: str, machine: str = "machine") -> subprocess.Popen[str]:
@@ -109,7 +131,7 @@ class Bench:
 
     def run(self, *words: str) -> tuple[int, str, str]:
         process = self.start(*words)
-        out, err = process.communicate(timeout=60)
+        out, err = process.communicate(timeout=LONG)
         return process.returncode, out, err
 
     def log(self) -> list[tuple[str, dict[str, object]]]:
@@ -120,8 +142,8 @@ class Bench:
     def steps(self, word: str) -> list[object]:
         return [line["step"] for found, line in self.log() if found == word]
 
-    def wait_for(self, word: str, step: int) -> None:
-        until = time.monotonic() + 20
-        while step not in self.steps(word):
+    def wait_for(self, word: str, step: int, count: int = 1) -> None:
+        until = time.monotonic() + LONG
+        while self.steps(word).count(step) < count:
             assert time.monotonic() < until, self.log()
             time.sleep(0.02)

@@ -8,7 +8,7 @@ import subprocess
 from collections.abc import Iterator
 
 import pytest
-from bench import Bench, Server
+from bench import LONG, Bench, Server
 
 from ringplan import programs
 from ringplan.run import gateway
@@ -51,11 +51,12 @@ def test_a_disk_that_is_full_from_the_start(disk: pathlib.Path, tmp_path: pathli
 @pytest.mark.parametrize("left", [4096, 16384, 65536])
 def test_a_disk_that_becomes_full(disk: pathlib.Path, tmp_path: pathlib.Path, left: int) -> None:
     bench = Bench(tmp_path, str(disk / "board"))
-    bench.hooks(0.3, "join")
+    bench.hold(0)
     process = bench.start("apply", "--workers", "2")
     bench.wait_for("begin", 0)
     fill(disk, left)
-    _, err = process.communicate(timeout=60)
+    bench.let_go(0)
+    _, err = process.communicate(timeout=LONG)
     assert process.returncode == Status.FAULT and err.startswith("ringplan-run: ") and len(err.splitlines()) == 1, err
     assert "full" in err or "No space left" in err
     # What hooks have done, but for those of the two workers that could not note it, is known.

@@ -16,7 +16,9 @@ from collections.abc import Iterator
 from typing import Any
 
 import pytest
-from bench import Bench
+from bench import LONG, Bench
+
+from test_runner import wait_until
 
 from ringplan import programs
 from ringplan.run.board import Status
@@ -59,7 +61,8 @@ class Browser:
             if found.get("method") == "Network.requestWillBeSent":
                 self.asked.append(found["params"]["request"]["url"])
             if found.get("id") == self.count:
-                assert "result" in found, found
+                if "result" not in found:
+                    raise LookupError(found)
                 result: dict[str, Any] = found["result"]
                 return result
 
@@ -72,15 +75,19 @@ class Browser:
 
     def wait(self, expression: str) -> Any:
         """The first value of the expression that is true."""
-        until = time.monotonic() + 30
+        until = time.monotonic() + LONG
         while not (value := self.see(expression)):
             assert time.monotonic() < until, (expression, self.see("document.documentElement.outerHTML"))
             time.sleep(0.05)
         return value
 
     def source(self) -> str:
-        root = self.ask("DOM.getDocument")["root"]["nodeId"]
-        return str(self.ask("DOM.getOuterHTML", nodeId=root)["outerHTML"])
+        """The page's text; the empty text where the page is loaded anew meanwhile."""
+        try:
+            root = self.ask("DOM.getDocument")["root"]["nodeId"]
+            return str(self.ask("DOM.getOuterHTML", nodeId=root)["outerHTML"])
+        except LookupError:
+            return ""
 
     def end(self) -> None:
         os.killpg(self.process.pid, signal.SIGKILL)
@@ -116,29 +123,30 @@ def address_of(process: "subprocess.Popen[str]") -> str:
 
 
 def test_the_page_follows_a_runner(bench: Bench, browser: Browser) -> None:
-    bench.hooks(0.5)
+    bench.hold(0, 1)
     process = bench.start("apply", "--serve", "0")
     address = address_of(process)
     browser.ask("Page.navigate", url=address)
     browser.wait("document.readyState === 'complete' && document.querySelector('main svg') !== null && (window.mark = 1)")
-    heading = str(browser.wait("document.querySelector('h1').textContent"))
-    assert re.fullmatch(r"\d+ of 18 steps are done", heading)
-    browser.wait("document.querySelectorAll('main table tr').length > 1")
-    assert "worker 0 does it" in str(browser.wait("document.querySelector('main table').textContent"))
+    assert browser.wait("document.querySelector('h1').textContent") == "0 of 18 steps are done"
+    browser.wait("document.querySelector('main table')?.textContent.includes('worker 0 does it')")
     # The text changes while the page stays: its mark is still there.
-    browser.wait(f"document.querySelector('h1').textContent !== {json.dumps(heading)}")
+    bench.let_go(0)
+    browser.wait("document.querySelector('h1').textContent === '1 of 18 steps are done'")
     assert browser.see("window.mark") == 1
     assert browser.see("document.getElementById('gone').hidden") is True
     # Without scripts the page is plain, and shows the same.
     browser.ask("Emulation.setScriptExecutionDisabled", value=True)
     browser.ask("Page.reload")
-    time.sleep(1.0)
-    source = browser.source()
-    assert "<svg" in source and "steps are done</h1>" in source and "worker 0 does it" in source
+    until = time.monotonic() + LONG
+    while not all(words in (source := browser.source()) for words in ("<svg", "1 of 18 steps are done</h1>", "worker 0 does it")):
+        assert time.monotonic() < until, source
+        time.sleep(0.1)
     browser.ask("Emulation.setScriptExecutionDisabled", value=False)
     browser.ask("Page.navigate", url=address)
     browser.wait("document.querySelector('main svg') !== null")
-    assert process.communicate(timeout=60)[0].endswith("18 of 18 steps are done, and the judge says yes\n")
+    bench.let_go(1)
+    assert process.communicate(timeout=LONG)[0].endswith("18 of 18 steps are done, and the judge says yes\n")
     browser.wait("!document.getElementById('gone').hidden")
     asked = {url for url in browser.asked if url != "about:blank"}
     assert {address, f"{address}now"} <= asked <= {address, f"{address}now", f"{address}favicon.ico"}
@@ -146,7 +154,7 @@ def test_the_page_follows_a_runner(bench: Bench, browser: Browser) -> None:
 
 def reply(address: str, path: str = "/", method: str = "GET", host: str = "") -> tuple[int, dict[str, str], str]:
     place = address.split("/")[2]
-    connection = http.client.HTTPConnection(place, timeout=30)
+    connection = http.client.HTTPConnection(place, timeout=LONG)
     connection.request(method, path, headers={"Host": host or place})
     answer = connection.getresponse()
     text = answer.read().decode()
@@ -156,13 +164,12 @@ def reply(address: str, path: str = "/", method: str = "GET", host: str = "") ->
 
 def test_the_page_has_the_picture_of_draw_and_nothing_from_outside(bench: Bench) -> None:
     bench.answer(2, 1)
-    process = bench.start("apply", "--serve", "0", "--pause", "60")
+    process = bench.start("apply", "--serve", "0", "--pause", "6000", "--longest-pause", "6000")
     address = address_of(process)
     bench.wait_for("fail", 2)
-    while "2 copy 0 1 d: 1 failures" not in bench.run("status")[1]:
-        time.sleep(0.05)
+    wait_until(lambda: "2 copy 0 1 d: 1 failures" in bench.run("status")[1])
     picture = programs.ask("draw", bench.bundle.read_text() + bench.run("history")[1]).text
-    until = time.monotonic() + 30
+    until = time.monotonic() + LONG
     while "<td>2<td>copy 0 1 d<td>1 failures" not in (text := reply(address, "/now")[2]) or picture not in text:
         assert time.monotonic() < until, text
         time.sleep(0.05)
@@ -176,7 +183,7 @@ def test_the_page_has_the_picture_of_draw_and_nothing_from_outside(bench: Bench)
     for host in (f"localhost:{address.split(':')[2][:-1]}", "127.0.0.1"):
         assert reply(address, host=host)[0] == 200
     process.send_signal(signal.SIGINT)
-    assert process.wait(timeout=30) == Status.STOPPED
+    assert process.wait(timeout=LONG) == Status.STOPPED
     with socket.create_server(("127.0.0.1", 0)) as taken:
         for port in (taken.getsockname()[1], 65536):
             code, _, err = bench.run("apply", "--serve", str(port))

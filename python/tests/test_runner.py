@@ -19,7 +19,7 @@ from collections import Counter
 from collections.abc import Callable, Iterator, Sequence
 
 import pytest
-from bench import REPLACE, TOP, Bench, Server
+from bench import LONG, REPLACE, TOP, Bench, Server
 
 from ringplan import programs, texts
 from ringplan.run import etcd, gateway, runner
@@ -57,6 +57,20 @@ def open_board(address: str) -> Board:
     if address.startswith("etcd:"):
         return EtcdBoard(address, is_new=True, lease=30)
     return SqliteBoard(address, is_new=True)
+
+
+def claim_of(board: Board, worker: str, names: Sequence[Name]) -> Claim | float:
+    """Claims by the plan that the board has."""
+    claim = board.claim(worker, board.record().edition, names)
+    assert claim is not None
+    return claim
+
+
+def wait_until(is_so: Callable[[], bool]) -> None:
+    until = time.monotonic() + LONG
+    while not is_so():
+        assert time.monotonic() < until
+        time.sleep(0.05)
 
 
 def at_random(seed: int) -> Callable[[], str]:
@@ -118,7 +132,7 @@ def test_a_terminal_gets_a_bar(bench: Bench) -> None:
                 shown += data
         os.close(mine)
         out = shown if is_both else process.communicate()[0]
-        assert process.wait(timeout=30) == Status.DONE
+        assert process.wait(timeout=LONG) == Status.DONE
         assert "\u2501".encode() in shown and b"18/18" in shown and b"18 of 18 steps are done, and the judge says yes" in out
         assert is_both or re.search(b"[1-9]/18", shown) and out.count(b"done ") == 18
         bench.board += "2"
@@ -143,13 +157,17 @@ def test_a_runner_that_is_killed_goes_on(bench: Bench) -> None:
 
 @over_both
 def test_a_step_waits_for_the_hook_of_a_runner_that_was_killed(bench: Bench) -> None:
-    bench.hooks(1.0, "join")
+    bench.hold(0)
     process = bench.start("apply")
     bench.wait_for("begin", 0)
     process.kill()
-    process.communicate()
+    process.wait()
     assert ("a runner that ended was doing it" if "etcd:" not in bench.board else "worker 0 of ") in bench.run("status")[1]
-    assert bench.run("apply")[0] == Status.DONE
+    process = bench.start("apply")
+    assert process.stderr is not None and process.stderr.readline() == "0 join d: a hook that outlived its runner still does it\n"
+    bench.let_go(0)
+    process.communicate(timeout=LONG)
+    assert process.returncode == Status.DONE
     assert bench.steps("twice") == []
     assert [line.get("again") for word, line in bench.log() if word == "begin" and line["step"] == 0] == [None, True]
 
@@ -180,7 +198,7 @@ def test_a_step_that_cannot_be_done_now_is_not_given_up(bench: Bench) -> None:
     process = bench.start("apply", "--give-up", "1", "--workers", "2")
     bench.wait_for("fail", 2)
     bench.answer(2, 0)
-    assert process.wait(timeout=30) == Status.DONE
+    assert process.wait(timeout=LONG) == Status.DONE
     history = bench.run("history")[1]
     assert "open 2 = ok\nabort 2 = ok\n" in history.replace("do 5 = ok\n", "")
 
@@ -191,19 +209,21 @@ def test_a_pausing_step_is_tried_again_on_demand(bench: Bench) -> None:
     process = bench.start("apply", "--pause", "600", "--longest-pause", "600")
     bench.wait_for("fail", 0)
     bench.answer(0, 0)
-    while "0 join d: 1 failures, 0 times not now" not in bench.run("status")[1]:
-        time.sleep(0.05)
+    wait_until(lambda: "0 join d: 1 failures, 0 times not now" in bench.run("status")[1])
     assert bench.run("retry", "0")[0] == 0
-    assert process.wait(timeout=30) == Status.DONE
+    assert process.wait(timeout=LONG) == Status.DONE
 
 
 @over_both
 def test_the_first_signal_lets_hooks_end(bench: Bench) -> None:
-    bench.hooks(0.5, "join")
+    bench.hold(0)
     process = bench.start("apply")
     bench.wait_for("begin", 0)
     process.send_signal(signal.SIGTERM)
-    assert process.wait(timeout=30) == Status.STOPPED
+    # The hook runs on meanwhile.
+    time.sleep(1.0)
+    bench.let_go(0)
+    assert process.wait(timeout=LONG) == Status.STOPPED
     assert bench.steps("end") == [0]
     assert bench.run("history")[1] == "history 1\ndo 0 = ok\nend\n"
 
@@ -213,12 +233,11 @@ def test_the_second_signal_ends_hooks(bench: Bench) -> None:
     bench.hooks(60.0, "copy")
     process = bench.start("apply")
     bench.wait_for("begin", 2)
+    # Two of one kind might arrive as one.
     process.send_signal(signal.SIGINT)
-    time.sleep(0.1)
-    process.send_signal(signal.SIGINT)
-    assert process.wait(timeout=30) == Status.STOPPED
+    process.send_signal(signal.SIGTERM)
+    assert process.wait(timeout=LONG) == Status.STOPPED
     assert bench.run("history")[1].endswith("open 2 = ok\nabort 2 = ok\nend\n")
-    (bench.folder / "running-2").rmdir()
     bench.hooks(0.0, "copy")
     assert bench.run("apply")[0] == Status.DONE
 
@@ -231,13 +250,14 @@ def test_chunks_can_be_given_one_by_one(bench: Bench) -> None:
 
 
 def test_a_second_runner_is_refused(bench: Bench) -> None:
-    bench.hooks(2.0, "join")
+    bench.hold(0)
     process = bench.start("apply")
     bench.wait_for("begin", 0)
     code, _, err = bench.run("apply")
     assert (code, err) == (Status.OTHER_RUNNER, f"ringplan-run: another runner works with the board {bench.board}\n")
     assert "a runner works with the board" in bench.run("status")[1]
     process.kill()
+    bench.let_go(0)
     process.communicate()
 
 
@@ -320,14 +340,14 @@ def test_of_two_runners_that_change_a_board_at_once_one_looks_again(address: str
 
     monkeypatch.setattr(gateway.Etcd, "transact", late)
     other = list[Claim | float]()
-    between.append(lambda: other.append(boards[1].claim("w", names)))
-    assert boards[0].claim("w", names[:1]) == float("inf")
-    one, (two,) = boards[0].claim("w", names), other
+    between.append(lambda: other.append(claim_of(boards[1], "w", names)))
+    assert claim_of(boards[0], "w", names[:1]) == float("inf")
+    one, (two,) = claim_of(boards[0], "w", names), other
     assert not isinstance(one, float) and not isinstance(two, float)
     assert (one.name, two.name) == (names[1], names[0])
     between.append(functools.partial(boards[1].note, two, [Note("do")], is_done=True))
     boards[0].note(one, [Note("do")], is_done=True)
-    assert list(boards[0].entries()) == ["do 0 = ok", "do 1 = ok"]
+    assert boards[0].record().entries == ["do 0 = ok", "do 1 = ok"]
     for board in boards:
         board.end()
 
@@ -337,24 +357,24 @@ def see_claims_apart(board: Board) -> None:
     first, second = names_of(steps)
     assert (first, second) == (Name("copy", 0, 1, "d", 0), Name("copy", 0, 1, "d", 1))
     board.begin(REPLACE, [first, second])
-    one = board.claim("w1", [first, second])
-    two = board.claim("w2", [first, second])
+    one = claim_of(board, "w1", [first, second])
+    two = claim_of(board, "w2", [first, second])
     assert not isinstance(one, float) and not isinstance(two, float)
     assert (one.name, two.name) == (first, second)
     assert not one.is_again and board.renew(one)
-    assert board.claim("w3", [first, second]) == float("inf")
+    assert claim_of(board, "w3", [first, second]) == float("inf")
     board.note(one, [Note("open"), Note("chunk", 3)])
-    board.give_back(one, Tries(1, 0, time.time() + 60))
+    board.give_back(one, Tries(1, 0, time.time() + 600))
     with pytest.raises(Stop):
         board.note(one, [Note("close")], is_done=True)
-    soonest = board.claim("w3", [first, second])
-    assert isinstance(soonest, float) and 50 < soonest - time.time() < 61
+    soonest = claim_of(board, "w3", [first, second])
+    assert isinstance(soonest, float) and 300 < soonest - time.time() < 601
     board.retry(0)
-    again = board.claim("w3", [first, second])
+    again = claim_of(board, "w3", [first, second])
     assert not isinstance(again, float)
     assert (again.is_again, again.is_open, again.marks, again.tries) == (True, True, frozenset({3}), Tries())
     board.note(again, [Note("close")], is_done=True)
-    assert list(board.entries()) == ["open 0 = ok", "chunk 0 3 = ok", "close 0 = ok"]
+    assert board.record().entries == ["open 0 = ok", "chunk 0 3 = ok", "close 0 = ok"]
     with contextlib.suppress(Stop):
         board.retry(0)
         pytest.fail("a step that is done is not tried again")
@@ -382,7 +402,7 @@ def test_a_no_on_the_way_lets_no_further_step_begin(bench: Bench, monkeypatch: p
     board = open_board(bench.board)
     board.begin(REPLACE, names_of(steps))
     with pytest.raises(Stop, match="the judge says no 70 50 40") as stop:
-        runner.Runner(board, Hooks(str(bench.folder / "hooks"), str(bench.folder / "locks")), steps, runner.Options()).run()
+        runner.Runner(board, Hooks(str(bench.folder / "hooks"), str(bench.folder / "locks")), runner.Options()).run()
     assert stop.value.status == Status.REFUSED
     # Of the entries before a copy and after it: 2 + 18, then 3 + 18, then 3 + 18.
     assert (bench.folder / "judged").read_text().split() == ["20", "41", "62"]
@@ -400,7 +420,7 @@ def test_two_runners_share_a_plan_and_one_is_killed(bench: Bench, seed: int) -> 
     time.sleep(0.3 * draw.random())
     killed = both.pop(draw.randrange(2))
     killed.kill()
-    outs = [process.communicate(timeout=60) for process in (killed, *both)]
+    outs = [process.communicate(timeout=LONG) for process in (killed, *both)]
     assert both[0].returncode == Status.DONE, outs
     assert outs[1][0].splitlines()[-1] == "18 of 18 steps are done, and the judge says yes"
     assert bench.steps("twice") == []
@@ -414,10 +434,11 @@ def test_two_runners_share_a_plan_and_one_is_killed(bench: Bench, seed: int) -> 
 @over_etcd
 def test_two_runners_end_a_plan_together(bench: Bench) -> None:
     bench.hooks(0.3)
+    bench.lease = "60"
     both = [bench.start("apply", machine=machine) for machine in ("one", "two")]
-    outs = [process.communicate(timeout=60)[0] for process in both]
+    outs = [process.communicate(timeout=LONG)[0] for process in both]
     assert [process.returncode for process in both] == [Status.DONE, Status.DONE]
-    assert all("done " in out and out.endswith("18 of 18 steps are done, and the judge says yes\n") for out in outs), outs
+    assert all(out.endswith("18 of 18 steps are done, and the judge says yes\n") for out in outs), outs
     assert sorted(map(str, bench.steps("begin"))) == sorted(map(str, range(18)))
     assert bench.run("status")[1] == "18 of 18 steps are done; no runner works with the board\n"
 
@@ -434,11 +455,11 @@ def test_two_runners_do_each_step_once_where_answers_are_lost(bench: Bench, seed
     for machine in ("one", "two"):
         board = open_board(bench.board)
         board.begin(REPLACE, names_of(steps))
-        runners.append(runner.Runner(board, Hooks(str(bench.folder / "hooks"), str(bench.folder / machine)), steps, runner.Options(workers=2)))
+        runners.append(runner.Runner(board, Hooks(str(bench.folder / "hooks"), str(bench.folder / machine)), runner.Options(workers=2)))
     with concurrent.futures.ThreadPoolExecutor() as pool:
         assert [*pool.map(runner.Runner.run, runners)] == [Status.DONE, Status.DONE]
     assert sorted(map(str, bench.steps("begin"))) == sorted(map(str, range(18)))
-    assert Counter(line.split()[0] for line in board.entries()) == Counter(do=14, open=4, chunk=64, close=4)
+    assert Counter(line.split()[0] for line in board.record().entries) == Counter(do=14, open=4, chunk=64, close=4)
     assert lost["before"] > 9 and lost["after"] > 9
     for one in runners:
         one.board.end()
@@ -454,14 +475,14 @@ def own_server(tmp_path: pathlib.Path) -> Iterator[Server]:
 def test_an_etcd_that_is_killed_and_comes_back_loses_nothing(own_server: Server, tmp_path: pathlib.Path) -> None:
     bench = Bench(tmp_path, own_server.address("plan"))
     bench.hooks(0.3)
-    bench.lease = "30"
+    bench.lease = "100"
     process = bench.start("apply", "--workers", "2")
     for step in (2, 8):
         bench.wait_for("begin", step)
         own_server.kill()
         time.sleep(1.0)
         own_server.start()
-    _, err = process.communicate(timeout=60)
+    _, err = process.communicate(timeout=LONG)
     assert process.returncode == Status.DONE, err
     assert sorted(map(str, bench.steps("begin"))) == sorted(map(str, range(18)))
     assert bench.run("judge")[0] == 0
@@ -469,7 +490,8 @@ def test_an_etcd_that_is_killed_and_comes_back_loses_nothing(own_server: Server,
 
 def test_a_runner_that_cannot_renew_its_lease_ends_its_hooks(own_server: Server, tmp_path: pathlib.Path) -> None:
     bench = Bench(tmp_path, own_server.address("plan"))
-    bench.hooks(60.0, "join")
+    bench.hooks(1000.0, "join")
+    bench.lease = "20"
     process = bench.start("apply")
     bench.wait_for("begin", 0)
     own_server.process.send_signal(signal.SIGSTOP)
@@ -478,47 +500,46 @@ def test_a_runner_that_cannot_renew_its_lease_ends_its_hooks(own_server: Server,
     while hook in subprocess.run(["pgrep", "-P", str(process.pid)], capture_output=True, text=True).stdout.split():
         assert time.monotonic() < begun + float(bench.lease)
         time.sleep(0.02)
-    (bench.folder / "running-0").rmdir()
     bench.hooks(0.0, "join")
     own_server.process.send_signal(signal.SIGCONT)
-    _, err = process.communicate(timeout=60)
+    _, err = process.communicate(timeout=LONG)
     assert process.returncode == Status.DONE, err
     assert [line.get("again") for word, line in bench.log() if word == "begin" and line["step"] == 0] == [None, True]
 
 
 def test_an_etcd_that_does_not_come_back_is_told(own_server: Server, tmp_path: pathlib.Path) -> None:
-    board = EtcdBoard(own_server.address("plan"), is_new=True, lease=2)
+    board = EtcdBoard(own_server.address("plan"), is_new=True, lease=12)
     name = Name("join", -1, -1, "d", 0)
     board.begin(REPLACE, [name])
-    claim = board.claim("w", [name])
+    claim = claim_of(board, "w", [name])
     assert not isinstance(claim, float) and board.renew(claim)
     own_server.kill()
     board.etcd.patience = 0.5
     with pytest.raises(Stop, match="does not answer") as stop:
         board.note(claim, [Note("do")], is_done=True)
     assert stop.value.status == Status.FAULT
-    time.sleep(1.5)
-    assert not board.renew(claim)
+    renew = functools.partial(board.renew, claim)
+    wait_until(lambda: not renew())
 
 
 @over_etcd
 def test_a_claim_whose_lease_ended_notes_nothing(address: str) -> None:
     name = Name("join", -1, -1, "d", 0)
-    boards = [EtcdBoard(address, is_new=True, lease=2) for _ in range(2)]
+    boards = [EtcdBoard(address, is_new=True, lease=10) for _ in range(2)]
     for board in boards:
         board.begin(REPLACE, [name])
-    old = boards[0].claim("w", [name])
+    old = claim_of(boards[0], "w", [name])
     assert not isinstance(old, float)
-    assert boards[1].claim("w", [name]) == float("inf")
+    assert claim_of(boards[1], "w", [name]) == float("inf")
     # The first runner's lease is no longer renewed.
     boards[0].over.set()
-    until = time.monotonic() + 20
-    while isinstance(new := boards[1].claim("w", [name]), float):
+    until = time.monotonic() + LONG
+    while isinstance(new := claim_of(boards[1], "w", [name]), float):
         assert time.monotonic() < until
         time.sleep(0.1)
     assert new.is_again and boards[1].renew(new) and not boards[0].renew(old)
     with pytest.raises(ClaimEnded):
         boards[0].note(old, [Note("do")], is_done=True)
     boards[1].note(new, [Note("do")], is_done=True)
-    assert list(boards[0].entries()) == ["do 0 = ok"]
+    assert boards[0].record().entries == ["do 0 = ok"]
     boards[1].end()

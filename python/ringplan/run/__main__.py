@@ -1,6 +1,7 @@
 """The command line of the runner.
 
     ringplan-run apply BUNDLE --do FOLDER [--board FILE|etcd://HOST:PORT/NAME] [--lease SECONDS] [--workers K] [--give-up N] [--serve PORT]
+    ringplan-run around --dead NODE.. [--back]  [--board FILE|etcd://HOST:PORT/NAME] [--lease SECONDS]
     ringplan-run status | history | judge | retry STEP  [--board FILE|etcd://HOST:PORT/NAME]
 """
 
@@ -11,15 +12,16 @@ import itertools
 import os
 import signal
 import sys
+import time
 from types import FrameType
 
 from ringplan import programs, texts
 from ringplan.run.bar import shown
-from ringplan.run.board import Board, Status, Stop, names_of
+from ringplan.run.board import Board, Change, Name, State, Status, Stop, names_of
 from ringplan.run.etcd import EtcdBoard
 from ringplan.run.hooks import Hooks
 from ringplan.run.page import Page, begun, told
-from ringplan.run.runner import Options, Runner, judge
+from ringplan.run.runner import LOOK, Options, Runner, judge, read_steps
 from ringplan.run.sqlite import SqliteBoard
 
 
@@ -36,18 +38,10 @@ def read_bundle(path: str) -> str:
     return bundle
 
 
-def read_steps(bundle: str) -> list[texts.StepLine]:
-    """The lines of steps of an approved plan. A plan that is refused is a `Stop`."""
-    answer = programs.ask("steps", bundle)
-    if answer.status:
-        raise Stop(Status.REFUSED, f"the plan is refused:\n{answer.errors}".rstrip())
-    return texts.read_steps(answer.text)
-
-
 def open_board(words: argparse.Namespace, is_new: bool = False) -> Board:
     """The board of the command line."""
     if words.board.startswith("etcd:"):
-        return EtcdBoard(words.board, is_new, words.lease if is_new else 0)
+        return EtcdBoard(words.board, is_new, getattr(words, "lease", 0))
     return SqliteBoard(words.board, is_new)
 
 
@@ -60,7 +54,7 @@ def apply(words: argparse.Namespace) -> Status:
     board = open_board(words, is_new=True)
     board.begin(bundle, names_of(steps))
     hooks = Hooks(words.do, board.locks)
-    runner = Runner(board, hooks, steps, Options(words.workers, words.give_up, words.pause, words.longest_pause))
+    runner = Runner(board, hooks, Options(words.workers, words.give_up, words.pause, words.longest_pause))
 
     signals = itertools.count()
 
@@ -78,13 +72,53 @@ def apply(words: argparse.Namespace) -> Status:
             status = runner.run()
     finally:
         board.end()
-    print(f"{len(runner.done)} of {len(steps)} steps are done, and the judge says yes")
+    print(f"{len(runner.done)} of {len(runner.steps)} steps are done, and the judge says yes")
     return status
+
+
+def around(words: argparse.Namespace) -> Status:
+    programs.find()
+    board, options = open_board(words), [word for node in words.dead for word in ("--dead", node)] + ["--back"] * words.back
+    with board.pausing():
+        wait_for_steps(board)
+        is_swapped = False
+        while not is_swapped:
+            known = board.record()
+            answer = programs.ask("around", known.text(), *options)
+            if answer.status:
+                raise Stop(Status.REFUSED if answer.status == 1 else Status.FAULT, f"the board is as it was:\n{answer.text}{answer.errors}".rstrip())
+            *bundle, history = texts.read_texts(answer.text)
+            if not isinstance(history, texts.History):
+                raise Stop(Status.FAULT, "`ringplan around` printed no history")
+            names = names_of(read_steps(text := texts.write_texts(bundle)))
+            left = [state for state in board.states()[1] if state.is_begun and not state.is_done and state.name not in names]
+            is_swapped = board.swap(known, Change.of(text, names, history.entries))
+    print(answer.errors, end="", file=sys.stderr)
+    for state in left:
+        print(f"{state.name}: its hook has begun, and no step of the new plan does this", file=sys.stderr)
+    states = board.states()[1]
+    print(f"{sum(state.is_done for state in states)} of {len(states)} steps of the new plan are done")
+    return Status.DONE
+
+
+def wait_for_steps(board: Board) -> None:
+    """Waits until nobody does a step but copies. A plan that takes the place of another must know whether such a step is done."""
+    hooks, said = Hooks("", board.locks), set[Name]()
+    while busy := [state for state in board.states()[1] if not state.is_done and state.name.kind != "copy" and is_busy(board, hooks, state)]:
+        for state in busy:
+            if state.name not in said:
+                print(f"waits until {state.number} {state.name} is done, or failed", file=sys.stderr, flush=True)
+        said.update(state.name for state in busy)
+        time.sleep(LOOK)
+
+
+def is_busy(board: Board, hooks: Hooks, state: State) -> bool:
+    return bool(state.worker) and board.is_held() or hooks.is_running(state.name)
 
 
 def status(words: argparse.Namespace) -> Status:
     board = open_board(words)
-    states, is_held = list(board.states()), board.is_held()
+    (_, states), is_held = board.states(), board.is_held()
     print(f"{sum(state.is_done for state in states)} of {len(states)} steps are done; {'a' if is_held else 'no'} runner works with the board")
     for state in begun(states):
         print(state.number, f"{state.name}:", told(state, is_held))
@@ -93,7 +127,7 @@ def status(words: argparse.Namespace) -> Status:
 
 def history(words: argparse.Namespace) -> Status:
     print("history 1")
-    for line in open_board(words).entries():
+    for line in open_board(words).record().entries:
         print(line)
     print("end")
     return Status.DONE
@@ -125,6 +159,7 @@ def command_line() -> argparse.ArgumentParser:
         "history": (history, "prints the history so far"),
         "retry": (retry, "has a step tried again that was given up, or that pauses"),
         "judge": (see_judge, "has the history so far judged"),
+        "around": (around, "puts another plan in the place of the board's, around nodes that died"),
     }
     for name, (call, what) in calls.items():
         command = commands.add_parser(name, help=what, description=what)
@@ -132,10 +167,14 @@ def command_line() -> argparse.ArgumentParser:
         command.add_argument("--board", default="ringplan.board", metavar="BOARD", help="a file, or etcd://HOST:PORT/NAME (default: %(default)s)")
         if name == "retry":
             command.add_argument("step", type=int, help="the step's number")
+        if name in ("apply", "around"):
+            command.add_argument("--lease", type=count, default=60, metavar="SECONDS", help="how long etcd waits for a dead runner (default: %(default)s)")
+        if name == "around":
+            command.add_argument("--dead", action="append", required=True, metavar="NODE", help="a node that is dead for good; give each of them")
+            command.add_argument("--back", action="store_true", help="takes mirrors back that cannot be filled")
         if name == "apply":
             command.add_argument("bundle", help="a ring, a plan and its certificate")
             command.add_argument("--do", required=True, metavar="FOLDER", help="the folder of the hooks")
-            command.add_argument("--lease", type=count, default=60, metavar="SECONDS", help="how long etcd waits for a dead runner (default: %(default)s)")
             command.add_argument("--workers", type=count, default=1, metavar="K", help="how many steps may be done at once (default: %(default)s)")
             command.add_argument("--give-up", type=count, metavar="N", help="gives a step up that failed so often (default: never)")
             command.add_argument("--pause", type=float, default=1.0, metavar="SECONDS", help="the pause before a second try; it doubles (default: %(default)s)")

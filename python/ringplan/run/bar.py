@@ -27,7 +27,7 @@ def shown(runner: Runner) -> Iterator[None]:
 
         def follow() -> None:
             while not over.wait(0.2):
-                bar.update(task, completed=len(runner.done))
+                bar.update(task, total=len(runner.steps), completed=len(runner.done))
 
         watcher = threading.Thread(target=follow)
         watcher.start()
@@ -36,4 +36,4 @@ def shown(runner: Runner) -> Iterator[None]:
         finally:
             over.set()
             watcher.join()
-            bar.update(task, completed=len(runner.done))
+            bar.update(task, total=len(runner.steps), completed=len(runner.done))

@@ -4,11 +4,12 @@ from __future__ import annotations
 
 import enum
 from collections import Counter
-from collections.abc import Iterable, Iterator, Sequence
+from collections.abc import Iterable, Sequence
+from contextlib import AbstractContextManager
 from dataclasses import dataclass
 from typing import NamedTuple, Protocol
 
-from ringplan.texts import StepLine
+from ringplan.texts import Entry, StepLine
 
 CHUNKS = 16
 
@@ -17,7 +18,7 @@ class Status(enum.IntEnum):
     """How a command ends."""
 
     DONE = 0
-    # The plan is refused, or the judge says no.
+    # The plan is refused, no other one is found, or the judge says no.
     REFUSED = 1
     # The command line, a file or a program is at fault.
     FAULT = 2
@@ -91,6 +92,53 @@ class Note(NamedTuple):
         return f"{self.word} {number} = ok" if self.chunk is None else f"{self.word} {number} {self.chunk} = ok"
 
 
+class Progress(NamedTuple):
+    """How far a step is by its entries in the history: of a copy whether it is open, and its chunks."""
+
+    is_done: bool = False
+    is_open: bool = False
+    marks: frozenset[int] = frozenset()
+
+    def after(self, note: Note) -> Progress:
+        """How far the step is after one entry more."""
+        marks = self.marks if note.chunk is None else self.marks | {note.chunk}
+        return Progress(note.word in ("do", "close"), note.word in ("open", "chunk"), marks)
+
+
+class Record(NamedTuple):
+    """A board's bundle, and the lines of its history between the first and the last, at one moment."""
+
+    # Another one for each plan that the board has had.
+    edition: str
+    bundle: str
+    entries: list[str]
+
+    def text(self) -> str:
+        """The bundle with its history."""
+        return self.bundle + "".join(f"{line}\n" for line in ("history 1", *self.entries, "end"))
+
+
+@dataclass(frozen=True)
+class Change:
+    """Another plan for a board, and the history that goes on by it."""
+
+    bundle: str
+    names: list[Name]
+    notes: list[tuple[Name, Note]]
+
+    @staticmethod
+    def of(bundle: str, names: list[Name], entries: Iterable[Entry]) -> Change:
+        words = (entry.event for entry in entries)
+        return Change(bundle, names, [(names[int(number)], Note(word, *map(int, chunk))) for word, number, *chunk in words])
+
+    def progress(self) -> dict[Name, Progress]:
+        """How far each step is that has an entry."""
+        found = dict[Name, Progress]()
+        for name, note in self.notes:
+            found[name] = found.get(name, Progress()).after(note)
+        return found
+
+
 @dataclass(frozen=True)
 class Tries:
     """How a step was tried in vain: how often its hook failed, how often it said `not now`, and when it may be tried again, in seconds since 1970."""
@@ -124,6 +172,7 @@ class State:
     name: Name
     worker: str
     tries: Tries
+    is_begun: bool
     is_done: bool
 
 
@@ -154,14 +203,15 @@ class Board(Protocol):
     locks: str
 
     def begin(self, bundle: str, names: Sequence[Name]) -> None:
-        """Makes the board this plan's. Claims of a runner that died end. A board of another plan is a `Stop`.
+        """Makes the board this plan's. Claims of a runner that died end. A board of another plan is a `Stop`; one that had this plan before a `swap` is not.
 
         On a board for one runner at a time, another runner is a `Stop` too."""
 
-    def claim(self, worker: str, candidates: Iterable[Name]) -> Claim | float:
+    def claim(self, worker: str, edition: str, candidates: Iterable[Name]) -> Claim | float | None:
         """Claims the first of the candidates that nobody has, that is not given up and whose pause is over.
 
-        Where there is none, returns when the first of their pauses ends, in seconds since 1970; infinity where none pauses."""
+        Where there is none, returns when the first of their pauses ends, in seconds since 1970; infinity where none pauses. None where no step is handed out:
+        the board pauses, or has another edition of the plan."""
 
     def renew(self, claim: Claim) -> bool:
         """Whether the claim is the worker's for some time more. If not, another worker may soon claim the step, so its hook must end now."""
@@ -181,11 +231,16 @@ class Board(Protocol):
     def end(self) -> None:
         """Ends the runner's work with the board. None of its hooks runs any more."""
 
-    def states(self) -> Iterator[State]:
-        """All steps, in the order of their numbers."""
+    def states(self) -> tuple[str, list[State]]:
+        """The edition of the plan, and all its steps in the order of their numbers."""
 
-    def bundle(self) -> str:
-        """The bundle of the board's plan."""
+    def record(self) -> Record:
+        """The bundle and the history. Its lines have the numbers that the steps have now."""
 
-    def entries(self) -> Iterator[str]:
-        """The lines of the history between its first and its last, with the numbers that the steps have now."""
+    def pausing(self) -> AbstractContextManager[None]:
+        """Lets no runner claim a step while the block runs and this process lives. Two such blocks at once are a `Stop`."""
+
+    def swap(self, known: Record, change: Change) -> bool:
+        """Puts another plan in the place of the known one, within `pausing`. False where the history has grown since it was known, and then nothing is changed.
+
+        Who holds a copy that the new history has open goes on with it. All other claims end. No step has failed by the new plan."""

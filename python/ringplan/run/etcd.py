@@ -1,15 +1,19 @@
 """A board in etcd, for runners on several machines.
 
-The keys of a board begin with its name. `plan` names the pieces of the bundle. A step has a `claim` while a worker does it, a `step` once it was begun, and its
-`tries`. A `note` has the entries of one call, and a token of its own. The key `next` counts the notes; the counter is a note's place in the history.
+The keys of a board begin with its name. `plan` names the pieces of the bundle, and the edition. A step has a `claim` while a worker does it, a `step` once it was
+begun, and its `tries`. A `note` has the entries of one call, and a token of its own. The key `next` counts the notes; the counter is a note's place in the history.
+`step`, `tries`, `note` and `next` have the edition in their keys, so one change of `plan` puts a plan and a history in the place of others, however long they are.
 """
 
 from __future__ import annotations
 
 import contextlib
+import functools
+import hashlib
 import itertools
 import json
 import math
+import operator
 import os
 import re
 import socket
@@ -17,10 +21,10 @@ import threading
 import time
 import uuid
 import zlib
-from collections.abc import Iterable, Iterator, Sequence
+from collections.abc import Callable, Iterable, Iterator, Sequence
 from dataclasses import dataclass
 
-from ringplan.run.board import Claim, ClaimEnded, Name, Note, State, Status, Stop, Tries, demand_left, demand_same
+from ringplan.run.board import Change, Claim, ClaimEnded, Name, Note, Progress, Record, State, Status, Stop, Tries, demand_left, demand_same
 from ringplan.run.gateway import NO_ANSWER, NOT_FOUND, Etcd, Json, Refused, Value, delete, get, is_changed, is_created, put
 
 ADDRESS = re.compile(r"etcd://(?:\[([0-9a-fA-F:]+)\]|([A-Za-z0-9._-]+)):([0-9]{1,5})/([A-Za-z0-9._-]+)")
@@ -28,8 +32,12 @@ ADDRESS = re.compile(r"etcd://(?:\[([0-9a-fA-F:]+)\]|([A-Za-z0-9._-]+)):([0-9]{1
 PATIENCE = 60.0
 # The part of a lease after which a runner that cannot renew it ends its hooks.
 SAFE = 0.75
+# How often a runner looks whether claims of its own have ended, in seconds.
+LOOK = 1.0
 # Steps looked at in one transaction: each is three reads, and etcd takes 128 operations.
 LOOKED = 40
+# Changes written in one transaction.
+WRITTEN = 100
 # Bytes of one piece of the bundle: etcd takes 1.5 MiB in a request.
 PIECE = 500_000
 # Notes read in one request.
@@ -38,11 +46,46 @@ PAGE = 2000
 
 @dataclass
 class Held:
-    """A claim of this runner: its revision and lease, and the step as it was noted last."""
+    """A claim of this runner: its revision and lease, the plan under which it holds, the step as it was noted last, and whether another plan has ended the claim."""
 
     revision: int
     lease: int
+    edition: str
     step: Json
+    is_ended: bool = False
+
+
+@dataclass(frozen=True)
+class Plan:
+    """A plan as a board has it: its edition, the revision at which the board got it, and the digests of the bundles whose place it took."""
+
+    board: str
+    edition: str
+    changed: int
+    bundle: str
+    names: list[Name]
+    former: list[str]
+
+    def key(self, kind: str, rest: str | Name = "") -> str:
+        """A key of this edition."""
+        return f"{self.board}/{kind}/{self.edition}/{rest.file() if isinstance(rest, Name) else rest}"
+
+
+def all_of(first: str, limit: int = 0, start: str = "") -> Json:
+    """Reads the keys below one that ends with a slash, or so many of them from one on."""
+    return get(start or first, f"{first[:-1]}0", limit)
+
+
+def digest(bundle: str) -> str:
+    return hashlib.sha256(bundle.encode()).hexdigest()
+
+
+def step_of(progress: Progress) -> Json:
+    return {**progress._asdict(), "marks": sorted(progress.marks)}
+
+
+def progress_of(step: Json) -> Progress:
+    return Progress(step["is_done"], step["is_open"], frozenset(step["marks"]))
 
 
 class EtcdBoard:
@@ -57,71 +100,96 @@ class EtcdBoard:
             raise Stop(Status.FAULT, f"{address} is no address etcd://HOST:PORT/NAME; the name has letters, digits, '.', '_' and '-'")
         self.address, self.name, self.locks, self.ttl = address, parts[4], f"{parts[4]}.hooks", lease
         self.etcd, self.lock, self.over = Etcd(parts[1] or parts[2], int(parts[3])), threading.Lock(), threading.Event()
+        self.loading = threading.Lock()
         self.lease, self.until, self.held = 0, -math.inf, dict[tuple[Name, str], Held]()
         self.who = f"{socket.gethostname()}:{os.getpid()}"
-        self.plan = self.load()
+        # The key that is there while the lease lasts; and of `pausing` the revision at which it came.
+        self.present, self.paused = self.key("runner", self.who), 0
+        self.plan: Plan | None = None
+        self.load()
         self.etcd.patience = PATIENCE
         if self.plan is None and not is_new:
             raise Stop(Status.FAULT, f"there is no board {address}")
 
     def key(self, kind: str, rest: str | Name = "") -> str:
+        """A key that outlives a change of the plan."""
         return f"{self.name}/{kind}/{rest.file() if isinstance(rest, Name) else rest}"
 
-    def all(self, kind: str, limit: int = 0, start: str = "") -> Json:
-        """Reads the keys of a kind, or so many of them from one on."""
-        return get(start or self.key(kind), f"{self.name}/{kind}0", limit)
+    def load(self) -> None:
+        """Reads the plan that the board has now."""
+        with self.loading:
+            value = self.etcd.read_each(self.key("plan"))[0]
+            plan = value.members()
+            if plan and (self.plan is None or self.plan.changed != value.changed):
+                pieces = [self.etcd.read_each(self.key("piece", piece))[0].data for piece in plan["pieces"]]
+                bundle, names = json.loads(zlib.decompress(b"".join(pieces)))
+                self.plan = Plan(self.name, plan["edition"], value.changed, bundle, [Name(*name) for name in names], plan["former"])
 
-    def load(self) -> tuple[str, list[Name]] | None:
-        """The bundle and the steps' names. None before the board has a plan."""
-        plan = self.etcd.read_each(self.key("plan"))[0].members()
-        if not plan:
-            return None
-        pieces = [self.etcd.read_each(self.key("piece", piece))[0].data for piece in plan["pieces"]]
-        bundle, names = json.loads(zlib.decompress(b"".join(pieces)))
-        return bundle, [Name(*name) for name in names]
+    def write_plan(self, bundle: str, names: Sequence[Name], former: Sequence[str], changes: Callable[[Plan], Iterable[Json]], compares: Sequence[Json]) -> bool:
+        """Writes a plan, with changes of its own, in pieces that nobody reads before the key `plan` names them. Whether the board has that plan now."""
+        known, data = self.plan, zlib.compress(json.dumps([bundle, names]).encode())
+        plan = Plan(self.name, uuid.uuid4().hex, 0, bundle, list(names), list(former))
+        pieces = {f"{plan.edition},{start}": data[start : start + PIECE] for start in range(0, len(data), PIECE)}
+        for piece, part in pieces.items():
+            self.etcd.transact([], [put(self.key("piece", piece), part)])
+        left = iter(changes(plan))
+        while some := list(itertools.islice(left, WRITTEN)):
+            self.etcd.transact([], some)
+        # Of two that write a plan at the same moment the first one has written it.
+        is_known = is_changed(self.key("plan"), known.changed if known else 0)
+        value = {"edition": plan.edition, "pieces": list(pieces), "former": plan.former}
+        self.etcd.transact([is_known, *compares], [put(self.key("plan"), value)])
+        self.load()
+        return self.plan is not None and self.plan.edition == plan.edition
 
     def begin(self, bundle: str, names: Sequence[Name]) -> None:
         if self.plan is None:
-            data, token = zlib.compress(json.dumps([bundle, names]).encode()), uuid.uuid4().hex
-            pieces = {f"{token},{start}": data[start : start + PIECE] for start in range(0, len(data), PIECE)}
-            for piece, part in pieces.items():
-                self.etcd.transact([], [put(self.key("piece", piece), part)])
-            # Another runner may have begun at the same moment: the plan of the first one stays.
-            self.etcd.transact([is_created(self.key("plan"), 0)], [put(self.key("plan"), {"pieces": list(pieces)})])
-            self.plan = self.load()
-        demand_same(self.address, self.bundle(), bundle)
+            self.write_plan(bundle, names, [], lambda _: [], [])
+        if digest(bundle) not in self.known().former:
+            demand_same(self.address, self.known().bundle, bundle)
         self.leased()
         threading.Thread(target=self.keep, daemon=True).start()
 
+    def known(self) -> Plan:
+        """The plan as it was read last."""
+        if self.plan is None:
+            raise Stop(Status.FAULT, f"the board {self.address} has no plan yet")
+        return self.plan
+
     # The lease.
-    def leased(self) -> int:
+    def leased(self, compares: Sequence[Json] = ()) -> int:
         """This runner's lease; a new one where that has ended."""
         with self.lock:
             if time.monotonic() >= self.until:
                 sent = time.monotonic()
                 reply = self.etcd.call("/v3/lease/grant", {"TTL": self.ttl})
                 self.lease, self.until = int(reply["ID"]), sent + SAFE * int(reply["TTL"])
-                self.etcd.transact([], [put(self.key("runner", self.who), {}, self.lease)])
+                self.etcd.transact(compares, [put(self.present, {"lease": self.lease}, self.lease)])
             return self.lease
 
     def keep(self) -> None:
-        """Renews the lease until the runner ends."""
-        while not self.over.wait(self.ttl / 5):
+        """Renews the lease, and looks which claims another plan has ended, until the runner ends."""
+        once = Etcd(self.etcd.host, self.etcd.port)
+        while not self.over.wait(min(LOOK, self.ttl / 5)):
             sent, lease = time.monotonic(), self.lease
             # An error in the stream of answers has no `result`.
             with contextlib.suppress(*NO_ANSWER, Stop, LookupError):
-                left = int(self.etcd.ask("/v3/lease/keepalive", {"ID": lease}, self.ttl / 5)["result"].get("TTL", 0))
+                left = int(once.ask("/v3/lease/keepalive", {"ID": lease}, self.ttl / 5)["result"].get("TTL", 0))
                 with self.lock:
                     if lease == self.lease:
                         self.until = sent + SAFE * left if left else -math.inf
+                if once.read_each(self.key("plan"))[0].changed != self.known().changed:
+                    self.load()
+                for (name, _), held in list(self.held.items()):
+                    self.see(name, held)
 
     def renew(self, claim: Claim) -> bool:
-        """Whether the claim's lease has time left. A thread renews it; by the runner's own clock it ends before etcd ends it."""
+        """Whether the claim's lease has time left, and no new plan has ended it. A thread looks; by the runner's own clock a lease ends before etcd ends it."""
         held = self.held.get((claim.name, claim.worker))
-        return held is not None and held.lease == self.lease and time.monotonic() < self.until
+        return held is not None and not held.is_ended and held.lease == self.lease and time.monotonic() < self.until
 
     def is_held(self) -> bool:
-        return bool(self.etcd.read(self.all("runner", 1))[0])
+        return bool(self.etcd.read(all_of(self.key("runner"), 1))[0])
 
     def end(self) -> None:
         self.over.set()
@@ -129,107 +197,193 @@ class EtcdBoard:
             self.etcd.ask("/v3/lease/revoke", {"ID": self.lease})
 
     # Claims.
-    def claim(self, worker: str, candidates: Iterable[Name]) -> Claim | float:
-        soonest, left = math.inf, iter(candidates)
-        while names := list(itertools.islice(left, LOOKED)):
-            found = self.etcd.read_each(*(self.key(kind, name) for name in names for kind in ("claim", "step", "tries")))
+    def claim(self, worker: str, edition: str, candidates: Iterable[Name]) -> Claim | float | None:
+        soonest, left, is_over, plan = math.inf, iter(candidates), False, self.known()
+        while not is_over:
+            names = list(itertools.islice(left, LOOKED))
+            is_over = len(names) < LOOKED
+            keys = [(self.key("claim", name), plan.key("step", name), plan.key("tries", name)) for name in names]
+            pause, changed, *found = self.etcd.read_each(*self.bars(), *itertools.chain(*keys))
+            if changed.changed != plan.changed:
+                self.load()
+                return None
+            if pause.created or plan.edition != edition:
+                return None
             for number, name in enumerate(names):
-                claim = self.take(worker, name, *found[3 * number : 3 * number + 3])
-                if isinstance(claim, Claim):
+                claim = self.take(worker, plan, name, *found[3 * number : 3 * number + 3])
+                if not isinstance(claim, float):
                     return claim
                 soonest = min(soonest, claim)
         return soonest
 
-    def take(self, worker: str, name: Name, claim: Value, step: Value, tries: Value) -> Claim | float:
-        """Claims a step as it was found. Else returns when its pause ends."""
-        known, tried = step.members(), tries.tries()
-        is_free = not (claim.created or known.get("is_done") or tried.is_given_up)
+    def bars(self) -> tuple[str, str]:
+        """The keys that keep a step from being claimed: the one of `pausing`, and the plan's."""
+        return self.key("pause"), self.key("plan")
+
+    def take(self, worker: str, plan: Plan, name: Name, claim: Value, step: Value, tries: Value) -> Claim | float | None:
+        """Claims a step as it was found. Else returns when its pause ends. None where no step is handed out."""
+        known, tried = step.members() or step_of(Progress()), tries.tries()
+        is_free = not (claim.created or known["is_done"] or tried.is_given_up)
         if not is_free or tried.until > time.time():
             return tried.until if is_free else math.inf
-        lease, here, token = self.leased(), self.key("claim", name), uuid.uuid4().hex
-        known = known or {"is_done": False, "is_open": False, "marks": []}
-        compares = [is_created(here, 0), is_changed(self.key("step", name), step.changed), is_changed(self.key("tries", name), tries.changed)]
+        lease, here, mine, token = self.leased(), self.key("claim", name), plan.key("step", name), uuid.uuid4().hex
+        compares = [is_created(here, 0), is_changed(mine, step.changed), is_changed(plan.key("tries", name), tries.changed)]
+        compares += [is_created(self.key("pause"), 0), is_changed(self.key("plan"), plan.changed)]
         value = {"worker": f"{worker} of {self.who}", "token": token}
         try:
-            revision, found = self.etcd.transact(compares, [put(here, value, lease), put(self.key("step", name), known)], [get(here)])
+            revision, found = self.etcd.transact(compares, [put(here, value, lease), put(mine, known)], [*map(get, (here, *self.bars()))])
         except Refused as refused:
             if refused.code != NOT_FOUND:
                 raise
             self.until = -math.inf
             return time.time()
-        if not revision and (not found[0] or found[0][0].members()["token"] != token):
-            return math.inf
-        self.held[name, worker] = Held(revision or found[0][0].created, lease, known)
+        if not revision:
+            there, pause, changed = (values[0] if values else Value() for values in found)
+            if there.members().get("token") != token:
+                return None if pause.created or changed.changed != plan.changed else math.inf
+            revision = there.created
+        self.held[name, worker] = Held(revision, lease, plan.edition, known)
         return Claim(name, worker, bool(step.created), known["is_open"], frozenset(known["marks"]), tried)
 
-    def own(self, claim: Claim) -> Held:
-        held = self.held.get((claim.name, claim.worker))
-        if held is None:
-            raise ClaimEnded(claim.name)
-        return held
+    def see(self, name: Name, held: Held) -> None:
+        """Ends a claim for which the board has another plan by now, but for a copy that the new history has open."""
+        plan = self.known()
+        if held.edition != plan.edition:
+            held.is_ended = not self.etcd.read_each(plan.key("step", name))[0].members().get("is_open", False)
+            held.edition = plan.edition
 
-    def note(self, claim: Claim, notes: Iterable[Note], is_done: bool = False) -> None:
-        held, notes, mine, counter = self.own(claim), list(notes), self.key("claim", claim.name), self.key("next")
-        words = [note.word for note in notes if note.word in ("open", "close", "abort")]
-        marks = sorted({*held.step["marks"], *(note.chunk for note in notes if note.chunk is not None)})
-        step = {"is_done": is_done, "is_open": words[-1] == "open" if words else held.step["is_open"], "marks": marks}
-        value = {"token": uuid.uuid4().hex, "step": claim.name, "notes": notes}
-        changes = [put(self.key("step", claim.name), step), *([delete(mine)] if is_done else [])]
-        last = self.etcd.read_each(counter)[0]
+    def own(self, claim: Claim) -> Held:
+        """The claim as it is held. One that has ended is let go, for others to claim the step, and is a `ClaimEnded`."""
+        held = self.held.get((claim.name, claim.worker))
+        if held is not None:
+            self.see(claim.name, held)
+            if not held.is_ended:
+                return held
+            del self.held[claim.name, claim.worker]
+            mine = self.key("claim", claim.name)
+            self.etcd.transact([is_created(mine, held.revision)], [delete(mine)])
+        raise ClaimEnded(claim.name)
+
+    def change(self, claim: Claim, token: str, makes: Callable[[Plan, int], tuple[str, list[Json]]]) -> None:
+        """Changes what the board has of a claimed step, once, however often an answer is lost.
+
+        `makes` has the key that gets the token, and the changes, under a plan with so many notes."""
+        mine, plan = self.key("claim", claim.name), self.known()
+        held, last = self.own(claim), self.etcd.read_each(plan.key("next"))[0]
         while True:
-            place = int(last.data or b"0")
-            here = self.key("note", f"{place:012d}")
-            compares, entry = [is_created(mine, held.revision), is_changed(counter, last.changed)], [put(here, value), put(counter, b"%d" % (place + 1))]
-            revision, found = self.etcd.transact(compares, entry + changes, [get(here), get(counter), get(mine)])
-            if revision or found[0] and found[0][0].members()["token"] == value["token"]:
-                break
-            if not found[2] or found[2][0].created != held.revision:
+            here, changes = makes(plan, int(last.data or b"0"))
+            compares = [is_created(mine, held.revision), is_changed(plan.key("next"), last.changed), is_changed(self.key("plan"), plan.changed)]
+            revision, found = self.etcd.transact(compares, changes, [*map(get, (here, mine, self.key("plan"), plan.key("next")))])
+            if revision:
+                return
+            there, owner, changed, last = (values[0] if values else Value() for values in found)
+            if there.members().get("token") == token:
+                return
+            if owner.created != held.revision:
                 del self.held[claim.name, claim.worker]
                 raise ClaimEnded(claim.name)
-            last = found[1][0]
+            if changed.changed != plan.changed:
+                self.load()
+                plan = self.known()
+                held, last = self.own(claim), self.etcd.read_each(plan.key("next"))[0]
+
+    def note(self, claim: Claim, notes: Iterable[Note], is_done: bool = False) -> None:
+        held, notes, token = self.own(claim), list(notes), uuid.uuid4().hex
+        step = step_of(functools.reduce(Progress.after, notes, progress_of(held.step)))
+        ends = [delete(self.key("claim", claim.name))] if is_done else []
+
+        def makes(plan: Plan, place: int) -> tuple[str, list[Json]]:
+            here, value = plan.key("note", f"{place:012d}"), {"token": token, "step": claim.name, "notes": notes}
+            return here, [put(here, value), put(plan.key("next"), b"%d" % (place + 1)), put(plan.key("step", claim.name), step), *ends]
+
+        self.change(claim, token, makes)
         held.step = step
         if is_done:
             del self.held[claim.name, claim.worker]
 
     def give_back(self, claim: Claim, tries: Tries) -> None:
-        held, here, mine = self.own(claim), self.key("tries", claim.name), self.key("claim", claim.name)
+        token = uuid.uuid4().hex
+
+        def makes(plan: Plan, place: int) -> tuple[str, list[Json]]:
+            here = plan.key("tries", claim.name)
+            return here, [put(here, {**vars(tries), "token": token}), delete(self.key("claim", claim.name))]
+
+        self.change(claim, token, makes)
         del self.held[claim.name, claim.worker]
-        value = {**vars(tries), "token": uuid.uuid4().hex}
-        changes = [put(here, value), delete(mine)]
-        revision, found = self.etcd.transact([is_created(mine, held.revision)], changes, [get(here)])
-        if not revision and (not found[0] or found[0][0].members().get("token") != value["token"]):
-            raise ClaimEnded(claim.name)
 
     # What is known of the steps.
     def retry(self, number: int) -> None:
-        if number not in range(len(self.names())):
-            demand_left(number, None)
-        name, revision = self.names()[number], 0
+        revision = 0
         while not revision:
-            step = self.etcd.read_each(self.key("step", name))[0]
+            self.load()
+            plan = self.known()
+            if number not in range(len(plan.names)):
+                demand_left(number, None)
+            mine, here = plan.key("step", plan.names[number]), plan.key("tries", plan.names[number])
+            step = self.etcd.read_each(mine)[0]
             demand_left(number, step.members().get("is_done", False))
-            revision = self.etcd.transact([is_changed(self.key("step", name), step.changed)], [put(self.key("tries", name), vars(Tries()))])[0]
+            revision = self.etcd.transact([is_changed(mine, step.changed), is_changed(self.key("plan"), plan.changed)], [put(here, vars(Tries()))])[0]
 
-    def states(self) -> Iterator[State]:
-        found = self.etcd.read(*map(self.all, ("claim", "step", "tries")))
-        claims, steps, tries = ({value.key.split("/", 2)[2]: value for value in values} for values in found)
-        for number, name in enumerate(self.names()):
+    def states(self) -> tuple[str, list[State]]:
+        self.load()
+        plan = self.known()
+        found = self.etcd.read(*map(all_of, (self.key("claim"), plan.key("step"), plan.key("tries"))))
+        claims, steps, tries = ({value.key.rsplit("/", 1)[1]: value for value in values} for values in found)
+        states = list[State]()
+        for number, name in enumerate(plan.names):
             claim, step, tried = (values.get(name.file(), Value()) for values in (claims, steps, tries))
-            yield State(number, name, claim.members().get("worker", ""), tried.tries(), step.members().get("is_done", False))
+            states.append(State(number, name, claim.members().get("worker", ""), tried.tries(), bool(step.created), step.members().get("is_done", False)))
+        return plan.edition, states
 
-    def names(self) -> list[Name]:
-        return self.plan[1] if self.plan else []
-
-    def bundle(self) -> str:
-        if self.plan is None:
-            raise Stop(Status.FAULT, f"the board {self.address} has no plan yet")
-        return self.plan[0]
-
-    def entries(self) -> Iterator[str]:
-        numbers, start = {name: number for number, name in enumerate(self.names())}, ""
-        while values := self.etcd.read(self.all("note", PAGE, start))[0]:
+    def notes(self, plan: Plan) -> Iterator[tuple[Name, Note]]:
+        start = ""
+        while values := self.etcd.read(all_of(plan.key("note"), PAGE, start))[0]:
             for value in values:
                 members = value.members()
                 for word, chunk in members["notes"]:
-                    yield Note(word, chunk).line(numbers[Name(*members["step"])])
+                    yield Name(*members["step"]), Note(word, chunk)
             start = values[-1].key + "\0"
+
+    def record(self) -> Record:
+        self.load()
+        plan = self.known()
+        numbers = {name: number for number, name in enumerate(plan.names)}
+        return Record(plan.edition, plan.bundle, [note.line(numbers[name]) for name, note in self.notes(plan)])
+
+    # Another plan.
+    @contextlib.contextmanager
+    def pausing(self) -> Iterator[None]:
+        self.present = self.key("pause")
+        lease = self.leased([is_created(self.present, 0)])
+        found = self.etcd.read_each(self.present)[0]
+        if found.members().get("lease") != lease:
+            raise Stop(Status.OTHER_RUNNER, f"another `around` works with the board {self.address}")
+        self.paused = found.created
+        threading.Thread(target=self.keep, daemon=True).start()
+        try:
+            yield
+        finally:
+            with contextlib.suppress(Stop):
+                self.etcd.transact([is_created(self.present, self.paused)], [delete(self.present)])
+            self.end()
+
+    def swap(self, known: Record, change: Change) -> bool:
+        plan = self.known()
+        counter = self.etcd.read_each(plan.key("next"))[0]
+        if self.record() != known:
+            return False
+        begun = {value.key.rsplit("/", 1)[1] for value in self.etcd.read(all_of(plan.key("step")))[0]}
+
+        def changes(new: Plan) -> Iterator[Json]:
+            """What the new edition begins with."""
+            progress, place = change.progress(), 0
+            for name in new.names:
+                if name in progress or name.file() in begun:
+                    yield put(new.key("step", name), step_of(progress.get(name, Progress())))
+            for name, some in itertools.groupby(change.notes, key=operator.itemgetter(0)):
+                yield put(new.key("note", f"{place:012d}"), {"token": "", "step": name, "notes": [note for _, note in some]})
+                place += 1
+            yield put(new.key("next"), b"%d" % place)
+
+        compares = [is_changed(plan.key("next"), counter.changed), is_created(self.key("pause"), self.paused)]
+        return self.write_plan(change.bundle, change.names, [*plan.former, digest(plan.bundle)], changes, compares)

@@ -15,7 +15,6 @@ import select
 import signal
 import subprocess
 import sys
-import tempfile
 import threading
 from collections.abc import Callable, Iterable, Iterator
 
@@ -71,6 +70,17 @@ class Hooks:
             return False
         return True
 
+    def is_running(self, name: Name) -> bool:
+        """Whether a hook of the step runs on this machine, also one that outlived its runner."""
+        try:
+            handle = os.open(os.path.join(self.locks, name.file()), os.O_RDWR)
+        except FileNotFoundError:
+            return False
+        try:
+            return not self.take(handle)
+        finally:
+            os.close(handle)
+
     def forget(self, name: Name) -> None:
         """Removes the lock of a step that is done."""
         with contextlib.suppress(FileNotFoundError):
@@ -96,7 +106,7 @@ class Hooks:
         """Runs a hook to its end, while `renew` says that its step is still the worker's.
 
         Its input is whole before it starts, so that it reads all or nothing of it, whatever becomes of the runner."""
-        with tempfile.TemporaryFile() as file:
+        with os.fdopen(os.memfd_create(kind), "w+b") as file:
             file.write(json.dumps(members, separators=(",", ":"), sort_keys=True).encode() + b"\n")
             file.seek(0)
             with self.lock:

@@ -79,25 +79,25 @@ class Picture:
     """What the page shows. A picture is drawn by one thread at a time, and so seldom that drawing takes at most a tenth of the time."""
 
     def __init__(self, board: Board) -> None:
-        self.board, self.lock, self.until, self.entries, self.svg = board, threading.Lock(), 0.0, "", ""
+        self.board, self.lock, self.until, self.text, self.svg = board, threading.Lock(), 0.0, "", ""
 
     def draw(self) -> str:
         with self.lock:
             begun = time.monotonic()
             if begun < self.until:
                 return self.svg
-            entries = "".join(f"{line}\n" for line in self.board.entries())
-            if not self.svg or entries != self.entries:
-                answer = programs.ask("draw", f"{self.board.bundle()}history 1\n{entries}end\n")
+            text = self.board.record().text()
+            if text != self.text:
+                answer = programs.ask("draw", text)
                 self.svg = answer.text if answer.status == 0 else f"<pre>{html.escape(answer.errors)}</pre>"
-                self.entries = entries
+                self.text = text
             now = time.monotonic()
             self.until = now + 9 * (now - begun)
             return self.svg
 
     def now(self) -> str:
         """The part of the page that changes."""
-        states, picture = list(self.board.states()), self.draw()
+        (_, states), picture = self.board.states(), self.draw()
         rows = "".join(f"<tr><td>{state.number}<td>{html.escape(str(state.name))}<td>{html.escape(told(state, True))}" for state in begun(states))
         table = f"<table><tr><th>step<th><th>{rows}</table>" if rows else "<p>No step runs."
         return f"<h1>{sum(state.is_done for state in states)} of {len(states)} steps are done</h1>\n{table}\n{picture}"

@@ -9,7 +9,7 @@ import time
 from collections.abc import Sequence
 from dataclasses import dataclass, replace
 
-from ringplan import programs
+from ringplan import programs, texts
 from ringplan.run.board import CHUNKS, Board, Claim, ClaimEnded, Name, Note, Status, Stop, Tries, names_of
 from ringplan.run.hooks import Hooks, Outcome
 from ringplan.texts import StepLine
@@ -34,23 +34,39 @@ class Options:
 
 def judge(board: Board) -> programs.Answer:
     """What `replay` says of the board's history."""
-    entries = "".join(f"{line}\n" for line in board.entries())
-    return programs.ask("replay", f"{board.bundle()}history 1\n{entries}end\n")
+    return programs.ask("replay", board.record().text())
+
+
+def read_steps(bundle: str) -> list[StepLine]:
+    """The lines of steps of an approved plan. A plan that is refused is a `Stop`."""
+    answer = programs.ask("steps", bundle)
+    if answer.status:
+        raise Stop(Status.REFUSED, f"the plan is refused:\n{answer.errors}".rstrip())
+    return texts.read_steps(answer.text)
 
 
 class Runner:
     """The workers of one run, and what they know of the plan. The board knows all of it after a crash."""
 
-    def __init__(self, board: Board, hooks: Hooks, steps: Sequence[StepLine], options: Options) -> None:
-        self.board, self.hooks, self.steps, self.options = board, hooks, steps, options
-        self.names = names_of(steps)
-        self.numbers = {name: number for number, name in enumerate(self.names)}
+    def __init__(self, board: Board, hooks: Hooks, options: Options) -> None:
+        self.board, self.hooks, self.options = board, hooks, options
         self.lock = threading.RLock()
         self.changed = threading.Condition(self.lock)
         self.is_stopping, self.busy, self.learnt = False, 0, -math.inf
         self.fault: Stop | None = None
         self.said: dict[Name, str] = {}
-        self.entries, self.judged = sum(1 for _ in board.entries()), 0
+        self.entries = self.judged = 0
+        self.load()
+
+    def load(self) -> None:
+        """Reads the plan that the board has now, and which of its steps are done."""
+        edition, record = "", self.board.record()
+        while edition != record.edition:
+            steps, (edition, states) = read_steps(record.bundle), self.board.states()
+            record = record if edition == record.edition else self.board.record()
+        self.edition, self.steps, self.names, self.entries = edition, steps, names_of(steps), len(record.entries)
+        self.judged = min(self.judged, self.entries)
+        self.numbers = {name: number for number, name in enumerate(self.names)}
         # Of each step how many of its dependencies are not done, and the steps that wait for it.
         self.left = [len(step.after) for step in steps]
         self.waiting: list[list[int]] = [[] for _ in steps]
@@ -58,12 +74,14 @@ class Runner:
             for number in step.after:
                 self.waiting[number].append(step.step)
         self.done, self.ready = set[int](), {number for number, left in enumerate(self.left) if not left}
-        for state in board.states():
+        for state in states:
             if state.is_done:
                 self.mark(state.number)
 
     def mark(self, number: int) -> None:
-        """Counts a step as done."""
+        """Counts a step as done, once."""
+        if number in self.done:
+            return
         self.done.add(number)
         self.ready.discard(number)
         for other in self.waiting[number]:
@@ -73,7 +91,7 @@ class Runner:
 
     def say(self, claim: Claim, what: str) -> None:
         """Tells the operator of a step, once in a row."""
-        line = f"{self.numbers[claim.name]} {claim.name}: {what}"
+        line = f"{self.numbers.get(claim.name, '-')} {claim.name}: {what}"
         with self.lock:
             if self.said.get(claim.name) != line:
                 self.said[claim.name] = line
@@ -97,6 +115,8 @@ class Runner:
             self.board.note(claim, notes, is_done)
             self.entries += len(notes)
             if is_done:
+                if claim.name not in self.numbers:
+                    self.load()
                 self.mark(self.numbers[claim.name])
                 self.hooks.forget(claim.name)
                 print("done", self.numbers[claim.name], claim.name, flush=True)
@@ -104,7 +124,10 @@ class Runner:
     # Steps.
     def call(self, kind: str, claim: Claim, handle: int, chunk: int | None = None) -> Outcome:
         """Runs a hook of the step, or of a chunk of it."""
-        members = self.steps[self.numbers[claim.name]].members()
+        with self.lock:
+            if claim.name not in self.numbers:
+                return Outcome.ENDED
+            members = self.steps[self.numbers[claim.name]].members()
         members |= {"again": True} if claim.is_again else {}
         return self.hooks.run(kind, members if chunk is None else {**members, "chunk": chunk}, handle, lambda: self.board.renew(claim))
 
@@ -158,7 +181,12 @@ class Runner:
         """Marks what other runners of the board have done. Returns when to look for a step again, and infinity where none ever can be done."""
         self.learnt = now = time.time()
         soonest, ready = math.inf, frozenset(self.ready)
-        for state in self.board.states():
+        edition, states = self.board.states()
+        if edition != self.edition:
+            self.load()
+            print(f"the board has another plan: {len(self.done)} of {len(self.steps)} steps are done", flush=True)
+            return now
+        for state in states:
             if state.is_done and state.number not in self.done:
                 self.mark(state.number)
                 soonest = now
@@ -176,10 +204,13 @@ class Runner:
             return math.inf
         if time.time() > self.learnt + LEARN:
             self.learn()
-        claim = self.board.claim(worker, (self.names[number] for number in sorted(self.ready)))
+        claim = self.board.claim(worker, self.edition, (self.names[number] for number in sorted(self.ready)))
         if isinstance(claim, Claim):
             self.busy += 1
             return claim
+        if claim is None:
+            self.learn()
+            return time.time() + LOOK / 5
         soon = time.time() + LOOK if self.busy else math.inf
         return soon if self.busy and time.time() < self.learnt + LOOK else min(soon, self.learn())
 
@@ -217,7 +248,9 @@ class Runner:
         for thread in threads:
             thread.start()
         for thread in threads:
-            thread.join()
+            # A signal that comes as a wait begins does not end it: its handler runs once the wait is over.
+            while thread.is_alive():
+                thread.join(LOOK)
         if self.fault is not None:
             raise self.fault
         self.see_judge()

@@ -12,8 +12,9 @@ import time
 from collections.abc import Iterable, Iterator, Sequence
 from typing import Any
 
-from ringplan.run.board import Claim, ClaimEnded, Name, Note, State, Status, Stop, Tries, demand_left, demand_same
+from ringplan.run.board import Change, Claim, ClaimEnded, Name, Note, Progress, Record, State, Status, Stop, Tries, demand_left, demand_same
 
+# Of the rows of `plan` the last one counts; the others are plans that it took the place of.
 SCHEMA = """
 create table if not exists plan (bundle text not null);
 create table if not exists steps (
@@ -29,7 +30,7 @@ NAMED = "kind=? and partition=? and slot=? and node=? and turn=?"
 
 
 class SqliteBoard:
-    """A board in a file. Beside it stands a lock, `FILE.lock`, that the system frees when the runner dies.
+    """A board in a file. Beside it stand locks that the system frees when a process dies: `FILE.lock` is the runner's, and `FILE.pause` lets none claim a step.
 
     A claim waits for the disk, and with it all that was noted before. A note does not: if the machine itself crashes, steps that were noted after the last claim
     are done again, and their hooks are told so. No hook of a step that waits for them has begun then."""
@@ -75,20 +76,21 @@ class SqliteBoard:
         with self.reaching() as it:
             return it.execute(query, values).fetchall()
 
-    def hold(self) -> None:
-        """Takes the lock beside the file, until the process ends."""
-        self.held = os.open(f"{self.path}.lock", os.O_RDWR | os.O_CREAT, 0o666)
+    def take(self, ending: str, holder: str) -> int:
+        """Takes the lock beside the file that has this ending. It lasts until it is closed, or the process ends."""
+        handle = os.open(f"{self.path}.{ending}", os.O_RDWR | os.O_CREAT, 0o666)
         # Who asks whether the lock is held holds it for a moment.
         for _ in range(20):
             with contextlib.suppress(BlockingIOError):
-                fcntl.flock(self.held, fcntl.LOCK_EX | fcntl.LOCK_NB)
-                return
+                fcntl.flock(handle, fcntl.LOCK_EX | fcntl.LOCK_NB)
+                return handle
             time.sleep(0.02)
-        raise Stop(Status.OTHER_RUNNER, f"another runner works with the board {self.path}")
+        os.close(handle)
+        raise Stop(Status.OTHER_RUNNER, f"another {holder} works with the board {self.path}")
 
-    def is_held(self) -> bool:
+    def is_taken(self, ending: str) -> bool:
         try:
-            handle = os.open(f"{self.path}.lock", os.O_RDWR)
+            handle = os.open(f"{self.path}.{ending}", os.O_RDWR)
         except FileNotFoundError:
             return False
         try:
@@ -99,6 +101,9 @@ class SqliteBoard:
         finally:
             os.close(handle)
 
+    def is_held(self) -> bool:
+        return self.is_taken("lock")
+
     def end(self) -> None:
         if self.held >= 0:
             with contextlib.suppress(sqlite3.Error), self.lock:
@@ -108,21 +113,26 @@ class SqliteBoard:
             self.held = -1
 
     def begin(self, bundle: str, names: Sequence[Name]) -> None:
-        self.hold()
+        self.held = self.take("lock", "runner")
         with self.change() as it:
-            known = it.execute("select bundle from plan").fetchone()
-            if known is None:
+            known = [row[0] for row in it.execute("select bundle from plan order by rowid desc")]
+            if not known:
                 it.execute("insert into plan values (?)", (bundle,))
                 columns = "number, kind, partition, slot, node, turn"
                 it.executemany(f"insert into steps ({columns}) values (?, ?, ?, ?, ?, ?)", [(number, *name) for number, name in enumerate(names)])
-            else:
+            elif bundle not in known:
                 demand_same(self.path, known[0], bundle)
             it.execute("update steps set worker=''")
 
-    def claim(self, worker: str, candidates: Iterable[Name]) -> Claim | float:
+    def edition(self, it: sqlite3.Connection) -> str:
+        return str(it.execute("select max(rowid) from plan").fetchone()[0])
+
+    def claim(self, worker: str, edition: str, candidates: Iterable[Name]) -> Claim | float | None:
         query = f"select id, is_begun, is_open, failures, waits, until from steps where {NAMED} and worker='' and not is_done and not is_given_up"
         soonest, now = math.inf, time.time()
         with self.change() as it:
+            if self.is_taken("pause") or self.edition(it) != edition:
+                return None
             for name in candidates:
                 row = it.execute(query, name).fetchone()
                 if row is None or row[-1] > now:
@@ -142,8 +152,8 @@ class SqliteBoard:
         return int(row[0])
 
     def renew(self, claim: Claim) -> bool:
-        """A claim in a file ends with its runner alone."""
-        return True
+        """A claim in a file ends with its runner, or with the plan."""
+        return bool(self.rows(f"select 1 from steps where {NAMED} and worker=?", *claim.name, claim.worker))
 
     def note(self, claim: Claim, notes: Iterable[Note], is_done: bool = False) -> None:
         with self.change(is_synced=False) as it:
@@ -166,17 +176,56 @@ class SqliteBoard:
             demand_left(number, bool(row[0]) if row else None)
             it.execute("update steps set failures=0, waits=0, until=0, is_given_up=0 where number=?", (number,))
 
-    def states(self) -> Iterator[State]:
-        query = "select number, kind, partition, slot, node, turn, worker, failures, waits, until, is_given_up, is_done from steps order by number"
-        for row in self.rows(query):
-            yield State(row[0], Name(*row[1:6]), row[6], Tries(row[7], row[8], row[9], bool(row[10])), bool(row[11]))
+    @contextlib.contextmanager
+    def moment(self) -> Iterator[sqlite3.Connection]:
+        """Reads of one moment."""
+        with self.reaching() as it:
+            it.execute("begin")
+            try:
+                yield it
+            finally:
+                it.execute("rollback")
 
-    def bundle(self) -> str:
-        rows = self.rows("select bundle from plan")
-        if not rows:
-            raise Stop(Status.FAULT, f"the board {self.path} has no plan yet")
-        return str(rows[0][0])
+    def states(self) -> tuple[str, list[State]]:
+        columns = "number, kind, partition, slot, node, turn, worker, failures, waits, until, is_given_up, is_begun, is_done"
+        with self.moment() as it:
+            rows = it.execute(f"select {columns} from steps order by number")
+            return self.edition(it), [State(row[0], Name(*row[1:6]), row[6], Tries(row[7], row[8], row[9], bool(row[10])), *map(bool, row[11:])) for row in rows]
 
-    def entries(self) -> Iterator[str]:
-        for word, number, chunk in self.rows("select word, number, chunk from entries join steps on steps.id = entries.step order by place"):
-            yield Note(word, chunk).line(number)
+    def record(self) -> Record:
+        with self.moment() as it:
+            found = it.execute("select rowid, bundle from plan order by rowid desc").fetchone()
+            if found is None:
+                raise Stop(Status.FAULT, f"the board {self.path} has no plan yet")
+            rows = it.execute("select word, number, chunk from entries join steps on steps.id = entries.step order by place")
+            return Record(str(found[0]), found[1], [Note(word, chunk).line(number) for word, number, chunk in rows])
+
+    @contextlib.contextmanager
+    def pausing(self) -> Iterator[None]:
+        handle = self.take("pause", "`around`")
+        try:
+            # Who looked at the lock before has claimed its step once this ends.
+            with self.change():
+                pass
+            yield
+        finally:
+            os.close(handle)
+
+    def swap(self, known: Record, change: Change) -> bool:
+        progress, columns = change.progress(), "kind, partition, slot, node, turn, worker, is_begun"
+        with self.change() as it:
+            (count,) = it.execute("select count(*) from entries").fetchone()
+            if (self.edition(it), count) != (known.edition, len(known.entries)):
+                return False
+            old = {Name(*row[:5]): row[5:] for row in it.execute(f"select {columns} from steps")}
+            it.execute("delete from entries")
+            it.execute("delete from steps")
+            it.execute("insert into plan values (?)", (change.bundle,))
+            for number, name in enumerate(change.names):
+                worker, is_begun = old.get(name, ("", 0))
+                is_done, is_open, _ = progress.get(name, Progress())
+                row = (number, number, is_done, is_open, *name, worker if is_open else "", is_begun)
+                it.execute(f"insert into steps (id, number, is_done, is_open, {columns}) values ({','.join('?' * len(row))})", row)
+            numbers = {name: number for number, name in enumerate(change.names)}
+            it.executemany("insert into entries (step, word, chunk) values (?, ?, ?)", [(numbers[name], *note) for name, note in change.notes])
+        return True

@@ -24,6 +24,8 @@ from ringplan.programs import NoProgram
 from ringplan.store.versions import Contents, Version
 
 KINDS = ("sqlite", "redis", "postgres")
+# How long a server that lives may take to answer, and to start, in seconds.
+PATIENCE, STARTS = 60, 300
 Link = TypeVar("Link")
 Answer = TypeVar("Answer")
 
@@ -85,7 +87,7 @@ class ServerNode(Node, abc.ABC, Generic[Link]):
         # The guard's input ends when this process does, however it dies. Then the server ends too.
         self.guard = subprocess.Popen(["/bin/sh", "-c", "read line; kill $0 2>&-", str(self.process.pid)], stdin=subprocess.PIPE, start_new_session=True)
         self.life += 1
-        until = time.monotonic() + 60
+        until = time.monotonic() + STARTS
         while True:
             try:
                 return self.ask(lambda _: None)
@@ -127,7 +129,7 @@ class Connection:
 
     def __init__(self, path: str) -> None:
         self.socket = socket.socket(socket.AF_UNIX)
-        self.socket.settimeout(10)
+        self.socket.settimeout(PATIENCE)
         self.socket.connect(path)
         self.file = self.socket.makefile("rb")
 

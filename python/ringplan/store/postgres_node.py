@@ -18,7 +18,7 @@ from typing import Any
 import psycopg2
 from psycopg2.extensions import connection
 
-from ringplan.store.nodes import ServerNode, versions_of
+from ringplan.store.nodes import PATIENCE, ServerNode, versions_of
 from ringplan.store.versions import Contents, Version, latest, merged
 
 TABLE = b"create table versions (area text, key text, list text, primary key (area, key))\n"
@@ -63,11 +63,14 @@ class PostgresNode(ServerNode[connection]):
                 subprocess.run(["ipcrm", "-m", it.read().split("\n")[6].split()[1]], check=False)
 
     def connect(self) -> connection:
-        return psycopg2.connect(host=self.folder, user="postgres", dbname="postgres", connect_timeout=10, options="-c statement_timeout=10s")
+        link = psycopg2.connect(host=self.folder, user="postgres", dbname="postgres", connect_timeout=PATIENCE, options=f"-c statement_timeout={PATIENCE}s")
+        # A statement alone is a transaction, in one request.
+        link.autocommit = True
+        return link
 
     def rows(self, statement: str, *values: Any) -> list[tuple[str, ...]]:
         def call(link: connection) -> list[tuple[str, ...]]:
-            with link, link.cursor() as at:
+            with link.cursor() as at:
                 at.execute(statement, values)
                 return at.fetchall() if at.description else []
 
@@ -81,11 +84,14 @@ class PostgresNode(ServerNode[connection]):
 
     def merge(self, area: str, contents: Contents) -> None:
         def call(link: connection) -> None:
-            with link, link.cursor() as at:
+            # One request a key, and one more: each has what is to be done before it.
+            with link.cursor() as at:
+                before, values = "begin; ", tuple[str, ...]()
                 for key, new in sorted(contents.items()):
-                    at.execute(LOCK, (area, key))
+                    at.execute(before + LOCK, (*values, area, key))
                     kept = (latest if self.latest_wins else merged)(versions_of(at.fetchall()[0][0]), new)
-                    at.execute("update versions set list=%s where area=%s and key=%s", (json.dumps(kept), area, key))
+                    before, values = "update versions set list=%s where area=%s and key=%s; ", (json.dumps(kept), area, key)
+                at.execute(before + "commit", values)
 
         self.ask(call)
 

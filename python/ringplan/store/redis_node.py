@@ -13,7 +13,7 @@ from operator import methodcaller
 
 import redis
 
-from ringplan.store.nodes import ServerNode, versions_of
+from ringplan.store.nodes import PATIENCE, ServerNode, versions_of
 from ringplan.store.versions import Contents, Version
 
 # `merged` and `latest` of `versions.py`, one new version at a time. Counts stay whole below 10^14.
@@ -53,7 +53,7 @@ class RedisNode(ServerNode["redis.Redis[bytes]"]):
 
     def connect(self) -> redis.Redis[bytes]:
         try:
-            link = redis.Redis(unix_socket_path=self.path, socket_timeout=10, single_connection_client=True)
+            link = redis.Redis(unix_socket_path=self.path, socket_timeout=PATIENCE, single_connection_client=True)
         except AttributeError as error:
             # The client wants to name the host of a connection that broke as it was made, and a Unix socket has none.
             raise redis.ConnectionError(self.path) from error

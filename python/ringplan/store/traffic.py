@@ -13,6 +13,7 @@ from functools import partial
 from ringplan.store.coordinator import Store
 from ringplan.store.executor import Executor
 from ringplan.store.history import Get
+from ringplan.store.members import Member
 from ringplan.store.nodes import Gone
 
 
@@ -41,6 +42,8 @@ class Run:
     def __init__(self, store: Store, executor: Executor, load: Load, dead: tuple[str, ...] = ()) -> None:
         self.store, self.executor, self.load, self.dead = store, executor, load, dead
         self.finished, self.kills = threading.Event(), 0
+        # Held while a server is dead that comes back.
+        self.killing = threading.Lock()
         self.until = time.time() + load.limit
 
     def draw(self, who: str) -> random.Random:
@@ -64,20 +67,22 @@ class Run:
         """Kills a random server by signal 9, and brings it back after a while."""
         draw = self.draw("faults")
         while self.load.faults and not self.finished.wait(draw.expovariate(1 / self.load.faults)):
-            alive = [member for member in self.store.members if member.is_member and member.is_up]
-            if not alive:
-                continue
-            member = draw.choice(alive)
-            member.node.kill()
-            self.kills += 1
-            self.finished.wait(draw.random() * self.load.outage)
-            if self.load.loses and self.store.may_lose(member) and draw.random() < 0.5:
-                member.node.wipe()
-                self.store.lose(member)
-            elif self.load.wipes and draw.random() < 0.5:
-                member.node.wipe()
-            member.node.start()
-            self.store.back(member)
+            with self.killing:
+                alive = [member for member in self.store.members if member.is_member and member.is_up]
+                if alive:
+                    self.kill_for_a_while(draw.choice(alive), draw)
+
+    def kill_for_a_while(self, member: Member, draw: random.Random) -> None:
+        member.node.kill()
+        self.kills += 1
+        self.finished.wait(draw.random() * self.load.outage)
+        if self.load.loses and self.store.may_lose(member) and draw.random() < 0.5:
+            member.node.wipe()
+            self.store.lose(member)
+        elif self.load.wipes and draw.random() < 0.5:
+            member.node.wipe()
+        member.node.start()
+        self.store.back(member)
 
     def heal(self) -> None:
         """Asks the members that are down, and takes back those that answer. A thread that notices a crash late marks a server that is back already."""
