@@ -275,7 +275,7 @@ def faults_of(store: Store, executor: Executor, bundle: str) -> list[str]:
     """What is wrong with a run that has ended."""
     judged = programs.ask("replay", bundle + "\n".join(store.history.lines()) + "\n")
     owners = [f"slots {partition} " + " ".join(slot.owner.name for slot in it.slots) for partition, it in enumerate(store.partitions)]
-    short = sum(put.is_acknowledged and sum(store.held(put)) < store.slots - store.read_quorum + 1 for put in store.puts)
+    short = store.short()
     found = {
         f"the judge says {judged.first()}": judged.first() != "yes",
         "the store's owners are not the judge's": judged.text.splitlines()[1:] != [*owners, "end"],

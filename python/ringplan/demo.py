@@ -100,10 +100,8 @@ def history_of(bundle: str, broken: str, folder: str, node: type[ServerNode[Any]
         with shown.watched():
             shown.run()
         shown.say("the plan has ended")
-        acknowledged = [put for put in store.puts if put.is_acknowledged]
-        least = SLOTS - store.read_quorum + 1
-        short = sum(sum(store.held(put)) < least for put in acknowledged)
-        print(f"{len(acknowledged) - short} of {len(acknowledged)} acknowledged puts are held by {least} slots or more, so each read finds them")
+        count, least = sum(put.is_acknowledged for put in store.puts), SLOTS - store.read_quorum + 1
+        print(f"{count - store.short()} of {count} acknowledged puts are held by {least} slots or more, so each read finds them")
     finally:
         for member in store.members:
             member.node.kill()

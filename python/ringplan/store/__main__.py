@@ -36,7 +36,7 @@ def run(bundle: str, steps: str, load: Load, broken: str = "", dead: tuple[str, 
     try:
         took = one.run()
         acknowledged = [put for put in store.puts if put.is_acknowledged]
-        short = sum(sum(store.held(put)) < store.slots - store.read_quorum + 1 for put in acknowledged)
+        short = store.short()
     finally:
         for member in store.members:
             member.node.kill()

@@ -313,7 +313,13 @@ class Store:
         """Of each slot of an acknowledged put, whether its owner's server or a keeper's has it or a successor."""
         chunk = self.place(put.key)[1]
         for slot in self.slots_of(put.key):
-            versions = [] if slot.owner in self.dead else slot.owner.node.fetch(slot.area(chunk), put.key)
+            versions = slot.owner.node.fetch(slot.area(chunk), put.key)
             for keeper in self.keepers(slot, put.key):
                 versions = versions + keeper.node.fetch(slot.hints(), put.key)
             yield any(is_at_most(put.clock, version.clock) for version in versions)
+
+    def short(self) -> int:
+        """How many acknowledged puts are at so few slots that a get may miss them. The disks of servers that are dead for good count: these run once more for it."""
+        for member in self.dead:
+            member.node.start()
+        return sum(put.is_acknowledged and sum(self.held(put)) < self.slots - self.read_quorum + 1 for put in self.puts)
