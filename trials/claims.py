@@ -1,6 +1,6 @@
 #!/usr/bin/env python3
-"""Looks up what docs/DEFINITIONS.md claims: each call of its last table is a public function with a contract, each clause that the row names stands in the contract of
-one of its calls, and each call has one of them. Ends with 0 only where all are there."""
+"""Looks up what pages claim. Each call of the last table of docs/DEFINITIONS.md is a public function with a contract, each clause that the row names stands in the contract of
+one of its calls, and each call has one of them. Each method that docs/STORES.md names is one of the reference store. Ends with 0 only where all are there."""
 import pathlib
 import re
 import sys
@@ -31,9 +31,18 @@ def faults(row: str) -> list[str]:
     return missing
 
 
+def unmet() -> list[str]:
+    """What is wrong with the last column of the table of what a store owes."""
+    duties = (TOP / "docs/STORES.md").read_text().split("| A store must ")[1].split("\n\n")[0].splitlines()[2:]
+    store = "".join(path.read_text() for path in sorted((TOP / "python/ringplan/store").glob("*.py")))
+    named = {row: re.findall(r"`(?:\w+\.)?(\w+)`", row.split("|")[-2]) for row in duties}
+    lacking = [name for names in named.values() for name in names if not re.search(r"\bdef %s\(" % name, store)]
+    return [f"the store has no {name}" for name in lacking] + [f"no method is named: {row}" for row, names in named.items() if not names]
+
+
 def main() -> int:
     rows = [line for line in (TOP / "docs/DEFINITIONS.md").read_text().splitlines() if re.match(r"\| `\w+::\w+`", line)]
-    missing = [fault for row in rows for fault in faults(row)]
+    missing = [fault for row in rows for fault in faults(row)] + unmet()
     print(*missing, f"{len(rows)} rows, {len(missing)} faults", sep="\n")
     return 1 if missing or not rows else 0
 
