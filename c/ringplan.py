@@ -1,10 +1,10 @@
-"""ringplan's jobs in this process, by its C library: bytes of a bundle in, what the program prints and its exit status out.
+"""ringplan's commands in this process, by its C library: bytes of a bundle in, what the program prints and its exit status out.
 
     >>> import ringplan
     >>> ringplan.check(open("examples/move_one_slot.bundle", "rb").read())
     Answer(status=<Status.DONE: 0>, text=b'yes\\n')
 
-As a program it does as `ringplan JOB` does: python3 ringplan.py check < bundle.
+As a program it does as `ringplan COMMAND OPTION..` does: python3 ringplan.py show --all < bundle. No option may name a file.
 
 The library is `libringplan.so` beside this file, or the file that the environment's RINGPLAN_LIBRARY names. Calls may run in any
 number of threads: ctypes lets go of the interpreter's lock while one runs.
@@ -15,7 +15,7 @@ import enum
 import os
 import pathlib
 import sys
-from typing import Callable, NamedTuple
+from typing import NamedTuple
 
 
 class Status(enum.IntEnum):
@@ -25,14 +25,16 @@ class Status(enum.IntEnum):
     PLAN_REFUSED = 1
     TEXT_REFUSED = 2
     OUT_OF_MEMORY = 3
-    MORE_ROOM = 4
+    # Only of `goal --exit-code`: the plan has steps.
+    HAS_STEPS = 4
 
 
 class Answer(NamedTuple):
-    """What the program would print, and its exit status. The status is never MORE_ROOM."""
+    """What the program would print on standard output, its exit status, and what it would print on standard error."""
 
     status: Status
     text: bytes
+    errors: bytes = b""
 
 
 # The version of the calls that this file knows.
@@ -48,66 +50,65 @@ if _library.ringplan_version() != VERSION:
     raise ImportError(f"libringplan.so has version {_library.ringplan_version()} of the calls, and not {VERSION}")
 
 
-def _job(name: str) -> Callable[[bytes], Answer]:
-    """Returns the job of that name as a function over bytes."""
-    call = getattr(_library, f"ringplan_{name}")
+# The commands without options, and those for people, with them.
+JOBS = ("check", "plan", "play", "migrate", "replay")
+PEOPLE = ("goal", "around", "show", "draw", "why", "steps", "windows", "after", "bundle", "cert")
+
+
+def answer(command: str, bundle: bytes, *options: str) -> Answer:
+    """Returns what `ringplan COMMAND OPTION..` would print of the bundle."""
+    # (only bytes, which nobody can write while the call runs)
+    if not isinstance(bundle, bytes):
+        raise TypeError(f"a bundle is bytes, and not {type(bundle).__name__}")
+    call = getattr(_library, f"ringplan_{command}")
     call.restype = ctypes.c_uint8
-    call.argtypes = [ctypes.c_char_p, ctypes.c_size_t, ctypes.c_char_p, ctypes.c_size_t, ctypes.POINTER(ctypes.c_size_t)]
-
-    def answer_to(bundle: bytes) -> Answer:
-        # (only bytes, which nobody can write while the call runs)
-        if not isinstance(bundle, bytes):
-            raise TypeError(f"a bundle is bytes, and not {type(bundle).__name__}")
-        length, room = ctypes.c_size_t(), LINE
-        while True:
-            output = ctypes.create_string_buffer(room)
-            status = Status(call(bundle, len(bundle), output, room, ctypes.byref(length)))
-            if status is not Status.MORE_ROOM:
-                return Answer(status, output.raw[: length.value])
-            room = length.value
-
-    return answer_to
-
-
-_check, _plan, _play, _migrate, _replay = map(_job, ("check", "plan", "play", "migrate", "replay"))
+    length, errors, size = ctypes.c_size_t(), ctypes.c_size_t(), ctypes.c_size_t
+    words = b"".join(os.fsencode(option) + b"\0" for option in options)
+    front, behind = ([words, size(len(words))], [ctypes.byref(errors)]) if command in PEOPLE else ([], [])
+    room = LINE
+    while True:
+        output = ctypes.create_string_buffer(room)
+        status = call(*front, bundle, size(len(bundle)), output, size(room), ctypes.byref(length), *behind)
+        if length.value <= room:
+            said, end = output.raw[: length.value], length.value - errors.value
+            return Answer(Status(status), said[:end], said[end:])
+        room = length.value
 
 
 def check(bundle: bytes) -> Answer:
     """Of a ring, a plan and its certificate: `yes`, and then the plan keeps its promises, or the first refusal."""
-    return _check(bundle)
+    return answer("check", bundle)
 
 
 def plan(bundle: bytes) -> Answer:
     """Of a ring and a change: a plan that the checker accepts and its certificate, or a refusal."""
-    return _plan(bundle)
+    return answer("plan", bundle)
 
 
 def play(bundle: bytes) -> Answer:
     """Of a ring, a plan, its certificate and a script: what each event is answered and the owners at the end, or a refusal."""
-    return _play(bundle)
+    return answer("play", bundle)
 
 
 def migrate(bundle: bytes) -> Answer:
     """Of a ring, a plan and its certificate: the same in the ring's next format, with nothing checked, or a refusal."""
-    return _migrate(bundle)
+    return answer("migrate", bundle)
 
 
 def replay(bundle: bytes) -> Answer:
     """Of a ring, a plan, its certificate and a history: `yes` and the owners at the end, or the first fault."""
-    return _replay(bundle)
-
-
-JOBS = {"check": check, "plan": plan, "play": play, "migrate": migrate, "replay": replay}
+    return answer("replay", bundle)
 
 
 def main(words: list[str]) -> int:
-    """Does the job that the one word names with standard input, prints the answer and returns the exit status."""
-    if len(words) != 1 or words[0] not in JOBS:
-        print(f"ringplan.py {'|'.join(JOBS)} < bundle", file=sys.stderr)
+    """Does what the words ask for with standard input, prints the answer and returns the exit status."""
+    if words[:1] not in [[command] for command in JOBS + PEOPLE] or (words[0] in JOBS and len(words) > 1):
+        print(f"ringplan.py {'|'.join(JOBS)} < bundle\nringplan.py {'|'.join(PEOPLE)} OPTION.. < bundle", file=sys.stderr)
         return 64
-    answer = JOBS[words[0]](sys.stdin.buffer.read())
-    sys.stdout.buffer.write(answer.text)
-    return int(answer.status)
+    said = answer(words[0], sys.stdin.buffer.read(), *words[1:])
+    sys.stdout.buffer.write(said.text)
+    sys.stderr.buffer.write(said.errors)
+    return int(said.status)
 
 
 if __name__ == "__main__":

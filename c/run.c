@@ -1,25 +1,27 @@
-/* run JOB < bundle: prints and ends as the program `ringplan JOB` does, by the library. For comparing the two. */
+/* run COMMAND OPTION.. < bundle: prints and ends as the program `ringplan COMMAND OPTION..` does, by the library. For comparing the two. */
 #include "jobs.h"
 
 int main(int count, char **words) {
-    ringplan_call *call = count == 2 ? call_of(words[1]) : NULL;
-    if (!call) {
-        fputs("run check|plan|play|migrate|replay < bundle\n", stderr);
+    struct command command = count >= 2 ? command_of(words[1], count - 2, words + 2) : (struct command){0};
+    if (!command.call && !command.call_with_options) {
+        fputs("run check|plan|play|migrate|replay < bundle\nrun goal|around|show|draw|why|steps|windows|after|bundle|cert OPTION.. < bundle\n", stderr);
         return 64;
     }
-    size_t input_length, length, room = RINGPLAN_LINE;
+    size_t input_length, length, errors, room = RINGPLAN_LINE;
     uint8_t *input = read_whole(stdin, &input_length);
     uint8_t *output = malloc(room);
     if (!output) return 64;
-    uint8_t status = call(input, input_length, output, room, &length);
-    if (status == RINGPLAN_MORE_ROOM) {
+    uint8_t status = answer(&command, input, input_length, output, room, &length, &errors);
+    if (length > room) {
         room = length;
         output = realloc(output, room);
         if (!output) return 64;
-        status = call(input, input_length, output, room, &length);
+        status = answer(&command, input, input_length, output, room, &length, &errors);
     }
-    if (fwrite(output, 1, length, stdout) != length || fflush(stdout)) return 64;
+    if (fwrite(output, 1, length - errors, stdout) != length - errors || fflush(stdout)) return 64;
+    if (fwrite(output + length - errors, 1, errors, stderr) != errors) return 64;
     free(output);
     free(input);
+    free(command.options);
     return status;
 }

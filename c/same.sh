@@ -1,7 +1,8 @@
 #!/usr/bin/env bash
-# Compares the C library with the program: of every case and every example each of the five jobs must print the same bytes and end with the
-# same status, by the library as LLVM builds it and as Rattle's own compiler does, from C, and of the examples from Python too. Prints how many
-# of how many do, and ends with 0 only where all do. Where there is no C compiler it says so and ends with 0.
+# Compares the C library with the program: each command must print the same bytes on standard output and on standard error and end with the
+# same status, by the library as LLVM builds it and as Rattle's own compiler does, from C, and of the examples from Python too. The five jobs
+# are compared on every case and every example, the commands for people on the examples and every sixth case. Prints how many of how many
+# answers are the same, and ends with 0 only where all are. Where there is no C compiler it says so and ends with 0.
 #
 # It may stand behind `rt ci`, which leaves each library of the repository as crates/NAME/out/rlib/NAME.rlib and the program as
 # crates/ringplan/out/ringplan, and of a static library nothing. So the static library is proved here once more, over those, and built twice,
@@ -29,14 +30,16 @@ quietly() {
     }
 }
 
-[ -d "$top/crates/ringplan_jobs/out/rlib/ringplan_jobs.rlib" ] || (cd "$top/crates/ringplan_jobs" && quietly rt lib)
+for name in ringplan_command ringplan_people; do
+    [ -d "$top/crates/$name/out/rlib/$name.rlib" ] || (cd "$top/crates/$name" && quietly rt lib)
+done
 [ -x "$program" ] || (cd "$top/crates/ringplan" && quietly rt run -- help)
 
 # The proof, and what each compiler makes of it.
 kit=$(dirname "$(dirname "$(readlink -f "$(command -v rt)")")")
 words=(--crate-name ringplan_c --crate-type staticlib --links ringplan_c= --antt-project "$kit/rattle/logic/antt-project.json")
-words+=(--extern "std=$kit/rlibs/std.rlib" -L "dependency=$kit/rlibs")
-for name in ringplan_job ringplan_jobs ring_names; do
+words+=(--extern "std=$kit/rlibs/std.rlib" --extern "clap=$kit/rlibs/clap.rlib" -L "dependency=$kit/rlibs")
+for name in ringplan_command ringplan_people ringplan_job ringplan_jobs ring_names; do
     words+=(--extern "$name=$top/crates/$name/out/rlib/$name.rlib")
 done
 for folder in "$top"/crates/*/out/rlib; do
@@ -60,17 +63,32 @@ wait $by_rattle
 # The packages take it from where `rt lib` would leave it.
 install -D -m 644 "$scratch/llvm/libringplan_c.a" "$top/crates/ringplan_c/out/libringplan_c.a"
 
-# answers WAY WANTED COMMAND WORD..: counts whether the command answers the bundle with that status and with the bytes that the program wrote.
+# answers WAY WANTED PROGRAM WORD..: counts whether the program answers the bundle with that status and with the bytes that ringplan wrote.
 declare -A same all
 answers() {
     local way=$1 wanted=$2 ended=0
     shift 2
-    "$@" < "$bundle" > "$scratch/found" || ended=$?
+    "$@" < "$bundle" > "$scratch/found" 2> "$scratch/found.errors" || ended=$?
     all[$way]=$((${all[$way]:-0} + 1))
-    if [ $ended = "$wanted" ] && cmp -s "$scratch/wanted" "$scratch/found"; then
+    if [ $ended = "$wanted" ] && cmp -s "$scratch/wanted" "$scratch/found" && cmp -s "$scratch/wanted.errors" "$scratch/found.errors"; then
         same[$way]=$((${same[$way]:-0} + 1))
     else
-        echo "$way: ${*: -1} of ${bundle#"$top"/} is answered otherwise, with status $ended and not $wanted"
+        echo "$way: ${*:2} of ${bundle#"$top"/} is answered otherwise, with status $ended and not $wanted"
+    fi
+}
+
+# compare COMMAND OPTION..: asks each way, and from C alone where the bundle is no example.
+compare() {
+    local status=0
+    "$program" "$@" < "$bundle" > "$scratch/wanted" 2> "$scratch/wanted.errors" || status=$?
+    answers "C, built by LLVM" $status "$scratch/llvm/run" "$@"
+    answers "C, built by Rattle's own compiler" $status "$scratch/rattle/run" "$@"
+    [[ $bundle = "$top"/examples/* ]] || return 0
+    if command -v python3 > /dev/null; then
+        answers "Python, built by LLVM" $status python3 "$here/ringplan.py" "$@"
+    fi
+    if [ -n "$by_go" ] && [[ " $jobs " = *" $1 "* ]]; then
+        answers "Go, built by LLVM" $status "$by_go" "$@"
     fi
 }
 
@@ -81,20 +99,39 @@ if command -v go > /dev/null; then
     (cd "$scratch/llvm" && GOCACHE=$scratch/cache GO111MODULE=off quietly go build -o embed embed.go)
     by_go=$scratch/llvm/embed
 fi
+jobs="check plan play migrate replay"
+SECONDS=0 number=0
 for bundle in "$top"/crates/tests_cases/data/*.bundle "$top"/examples/*.bundle; do
-    for job in check plan play migrate replay; do
-        status=0
-        "$program" $job < "$bundle" > "$scratch/wanted" || status=$?
-        answers "C, built by LLVM" $status "$scratch/llvm/run" $job
-        answers "C, built by Rattle's own compiler" $status "$scratch/rattle/run" $job
-        if [[ $bundle = "$top"/examples/* ]] && command -v python3 > /dev/null; then
-            answers "Python, built by LLVM" $status python3 "$here/ringplan.py" $job
-        fi
-        if [[ $bundle = "$top"/examples/* ]] && [ -n "$by_go" ]; then
-            answers "Go, built by LLVM" $status "$by_go" $job
-        fi
+    for job in $jobs; do
+        compare $job
     done
+    number=$((number + 1))
+    [[ $bundle = "$top"/examples/* || $((number % 6)) = 0 ]] || continue
+    node=$(sed -n '/^node /{s/^node \([^ ]*\).*/\1/p;q}' "$bundle")
+    node=${node:-n}
+    compare goal
+    compare goal --dead "$node" --exit-code
+    compare goal --weight "$node=2" --racks-behind . --even
+    compare goal --exit-code --format json
+    compare goal --none
+    compare around --dead "$node" --back
+    compare show --color always --all
+    compare show --format json --racks-behind .
+    compare draw
+    compare draw --map
+    compare why --color always
+    compare why --format json
+    compare steps
+    compare steps --moves
+    compare windows --rounds 2
+    compare windows --rounds 1 --only 1
+    compare windows
+    compare after
+    compare bundle
+    compare cert
+    compare cert --help
 done
+echo "compared in $SECONDS seconds"
 differing=0
 for way in "${!all[@]}"; do
     echo "$way: ${same[$way]:-0} of ${all[$way]} answers are the program's"

@@ -1,4 +1,4 @@
-/* stack JOB BUNDLE: how many bytes of stack a call uses, by a thread whose stack was filled before with one byte. */
+/* stack COMMAND BUNDLE OPTION..: how many bytes of stack a call uses, by a thread whose stack was filled before with one byte. */
 #define _GNU_SOURCE
 #include "jobs.h"
 #include <pthread.h>
@@ -6,16 +6,16 @@
 
 enum { SIZE = 8 << 20, FILL = 0xa5 };
 
-static ringplan_call *call;
+static struct command command;
 static uint8_t *input;
-static size_t input_length, length;
+static size_t input_length, length, errors;
 
 static void *nothing(void *given) {
     return given;
 }
 
 static void *one_call(void *given) {
-    call(input, input_length, NULL, 0, &length);
+    answer(&command, input, input_length, NULL, 0, &length, &errors);
     return given;
 }
 
@@ -35,8 +35,8 @@ static size_t stack_of(void *(*body)(void *)) {
 }
 
 int main(int count, char **words) {
-    call = count == 3 ? call_of(words[1]) : NULL;
-    FILE *file = call ? fopen(words[2], "rb") : NULL;
+    if (count >= 3) command = command_of(words[1], count - 3, words + 3);
+    FILE *file = command.call || command.call_with_options ? fopen(words[2], "rb") : NULL;
     if (!file) return 64;
     input = read_whole(file, &input_length);
     size_t empty = stack_of(nothing);

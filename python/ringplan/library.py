@@ -4,9 +4,9 @@
     >>> library.check(open("examples/move_one_slot.bundle", "rb").read())
     Answer(status=<Status.DONE: 0>, text=b'yes\\n', errors='')
 
-`check`, `plan`, `play`, `replay` and `migrate` are calls of the C library in this process, where it is there: the file that the environment's RINGPLAN_LIBRARY names, else what the tree has built or
-`make install` has installed. Else, and for all other commands, the program `ringplan` runs. Both give the same bytes. Calls may run in any number of threads: ctypes lets go of the interpreter's
-lock while one runs. A refusal is an `Answer` too; `Answer.demand` makes an exception of it.
+Each is a call of the C library in this process, where it is there: the file that the environment's RINGPLAN_LIBRARY names, else what the tree has built or `make install` has installed. Else, and
+where an option names a file, the program `ringplan` runs. Both give the same bytes. Calls may run in any number of threads: ctypes lets go of the interpreter's lock while one runs. A refusal is an
+`Answer` too; `Answer.demand` makes an exception of it.
 """
 
 from __future__ import annotations
@@ -24,9 +24,12 @@ from ringplan import programs
 # The version of the C library's calls, and the name of its file.
 VERSION = 1
 FILE = f"libringplan.so.{VERSION}"
-# Room for every refusal, and for every answer to a check.
+# The calls that take no options.
+JOBS = ("check", "plan", "play", "replay", "migrate")
+# Room for every refusal of these, and for every answer to a check.
 LINE = 32
-MORE_ROOM = 4
+# How the other calls refuse options that name a file.
+NO_FILES = "error: a call reads and writes no files\n\nFor more information, try '--help'.\n"
 
 
 class NoLibrary(Exception):
@@ -57,7 +60,7 @@ class Refused(Exception):
 
 
 class Answer(NamedTuple):
-    """What the program prints on standard output and on standard error, and its exit status. The C library has no words for standard error."""
+    """What the program prints on standard output and on standard error, and its exit status."""
 
     status: Status
     text: bytes
@@ -93,16 +96,23 @@ def load(named: str | None) -> ctypes.CDLL | None:
     return found
 
 
-def by_library(library: ctypes.CDLL, command: str, bundle: bytes) -> Answer:
+def by_library(library: ctypes.CDLL, command: str, bundle: bytes, options: Sequence[str] = ()) -> Answer:
     call = getattr(library, f"ringplan_{command}")
-    call.restype = ctypes.c_uint8
-    call.argtypes = [ctypes.c_char_p, ctypes.c_size_t, ctypes.c_char_p, ctypes.c_size_t, ctypes.POINTER(ctypes.c_size_t)]
-    length, room = ctypes.c_size_t(), LINE
+    call.restype, call.argtypes = ctypes.c_uint8, None
+    length, errors, size = ctypes.c_size_t(), ctypes.c_size_t(), ctypes.c_size_t
+    given: list[object] = [bundle, size(len(bundle))]
+    room = LINE
+    if command not in JOBS:
+        words = b"".join(os.fsencode(option) + b"\0" for option in options)
+        given = [words, size(len(words)), *given]
+        room = max(1 << 16, 4 * len(bundle))
+    told = [ctypes.byref(length)] if command in JOBS else [ctypes.byref(length), ctypes.byref(errors)]
     while True:
         output = ctypes.create_string_buffer(room)
-        status = call(bundle, len(bundle), output, room, ctypes.byref(length))
-        if status != MORE_ROOM:
-            return Answer(Status(status), output.raw[: length.value])
+        status = call(*given, output, size(room), *told)
+        if length.value <= room:
+            said, end = output.raw[: length.value], length.value - errors.value
+            return Answer(Status(status), said[:end], said[end:].decode(errors="replace"))
         room = length.value
 
 
@@ -111,12 +121,19 @@ def by_program(command: str, bundle: bytes, options: Sequence[str] = ()) -> Answ
     return Answer(Status(ran.returncode), ran.stdout, ran.stderr.decode(errors="replace"))
 
 
-def call_or_run(command: str, bundle: bytes) -> Answer:
+def call_or_run(command: str, bundle: bytes, options: Sequence[str] = ()) -> Answer:
     # Bytes alone: nobody can write them while the call runs.
     if not isinstance(bundle, bytes):
         raise TypeError(f"a bundle is bytes, and not {type(bundle).__name__}")
+    if any("\0" in option for option in options):
+        raise ValueError("an option has a NUL")
     library = load(os.environ.get("RINGPLAN_LIBRARY"))
-    return by_program(command, bundle) if library is None else by_library(library, command, bundle)
+    # A library of the same version may be older, and have fewer calls.
+    if library is not None and hasattr(library, f"ringplan_{command}"):
+        answer = by_library(library, command, bundle, options)
+        if answer.errors != NO_FILES:
+            return answer
+    return by_program(command, bundle, options)
 
 
 def check(bundle: bytes) -> Answer:
@@ -146,44 +163,49 @@ def migrate(bundle: bytes) -> Answer:
 
 def goal(bundle: bytes, *options: str) -> Answer:
     """Of a ring and a change or a goal ring: the ring, a plan and its certificate. Options as `--dead`, `b` or `--weight`, `c=2`."""
-    return by_program("goal", bundle, options)
+    return call_or_run("goal", bundle, options)
 
 
 def around(bundle: bytes, *options: str) -> Answer:
     """Another plan around nodes that died in the middle of a change, and the history that goes on by it. Options: `--dead`, `b`, and `--back`."""
-    return by_program("around", bundle, options)
+    return call_or_run("around", bundle, options)
 
 
-def why(bundle: bytes) -> Answer:
-    """Why a bundle is refused, in words, with lines that may mend it."""
-    return by_program("why", bundle)
+def why(bundle: bytes, *options: str) -> Answer:
+    """Why a bundle is refused, in words, with lines that may mend it. Options: `--color`, `--format`."""
+    return call_or_run("why", bundle, options)
 
 
 def show(bundle: bytes, *options: str) -> Answer:
     """What the plan does, and with a history how far it has come. Options: `--all`, `--racks-behind`."""
-    return by_program("show", bundle, options)
+    return call_or_run("show", bundle, options)
 
 
 def draw(bundle: bytes, *options: str) -> Answer:
     """A picture of the plan as SVG. Options: `--map`, `--racks-behind`."""
-    return by_program("draw", bundle, options)
+    return call_or_run("draw", bundle, options)
 
 
 def steps(bundle: bytes, *options: str) -> Answer:
     """The plan's steps as lines of JSON, which `ringplan.texts.read_steps` reads. Option: `--moves`."""
-    return by_program("steps", bundle, options)
+    return call_or_run("steps", bundle, options)
 
 
-def cert(bundle: bytes) -> Answer:
+def cert(bundle: bytes, *options: str) -> Answer:
     """Ring and plan with a certificate that is found, whether or not the bundle has one."""
-    return by_program("cert", bundle)
+    return call_or_run("cert", bundle, options)
 
 
 def windows(bundle: bytes, *options: str) -> Answer:
     """The plan cut into bundles that are done one after the other. Options: `--rounds`, `--only`."""
-    return by_program("windows", bundle, options)
+    return call_or_run("windows", bundle, options)
 
 
-def after(bundle: bytes) -> Answer:
+def after(bundle: bytes, *options: str) -> Answer:
     """The ring that the plan leaves, or what a history has done of it."""
-    return by_program("after", bundle)
+    return call_or_run("after", bundle, options)
+
+
+def bundle(bundle: bytes, *options: str) -> Answer:
+    """Ring, plan and certificate in one text, of a ring with a change too."""
+    return call_or_run("bundle", bundle, options)

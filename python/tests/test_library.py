@@ -18,13 +18,14 @@ CALLS = {"check": library.check, "plan": library.plan, "play": library.play, "re
 OTHERS: dict[str, tuple[Callable[..., Answer], list[list[str]]]] = {
     "goal": (library.goal, [[], ["--dead", "b"], ["--weight", "c=2", "--even"], ["--exit-code"], ["--none"]]),
     "around": (library.around, [["--dead", "b"], ["--dead", "c", "--back"], []]),
-    "why": (library.why, [[]]),
-    "show": (library.show, [[], ["--all"], ["--racks-behind", "."]]),
+    "why": (library.why, [[], ["--color", "always"], ["--format", "json"]]),
+    "show": (library.show, [[], ["--all"], ["--racks-behind", "."], ["--format", "json"], ["--help"]]),
     "draw": (library.draw, [[], ["--map"]]),
     "steps": (library.steps, [[], ["--moves"]]),
     "cert": (library.cert, [[]]),
     "windows": (library.windows, [[], ["--rounds", "1"]]),
     "after": (library.after, [[]]),
+    "bundle": (library.bundle, [[]]),
 }
 
 
@@ -57,13 +58,21 @@ def test_calls_answer_as_the_program_does(command: str, way: str) -> None:
 
 
 @pytest.mark.parametrize("command", OTHERS)
-@pytest.mark.parametrize("way", ["program"], indirect=True)
-def test_other_commands_are_the_program(command: str) -> None:
+def test_commands_with_options_answer_as_the_program_does(command: str, way: str) -> None:
     call, choices = OTHERS[command]
-    for path in EXAMPLES[::8]:
+    for path in EXAMPLES if way == "library" else EXAMPLES[::8]:
         for options in choices:
             status, text, errors = wanted(command, path.read_bytes(), *options)
-            assert call(path.read_bytes(), *options) == Answer(Status(status), text, errors)
+            assert call(path.read_bytes(), *options) == Answer(Status(status), text, errors), (path, options)
+
+
+def test_options_may_name_files(tmp_path: pathlib.Path) -> None:
+    bundle, target = (TOP / "examples/plan_replace.bundle").read_bytes(), tmp_path / "planned"
+    assert library.goal(bundle, "-o", str(target)) == Answer(Status.DONE, b"")
+    assert target.read_bytes() == library.goal(bundle).demand()
+    assert library.bundle(b"", str(target)) == library.bundle(target.read_bytes())
+    with pytest.raises(ValueError, match="an option has a NUL"):
+        library.goal(bundle, "--dead", "a\0b")
 
 
 def test_a_refusal_is_an_exception_where_that_is_asked_for() -> None:

@@ -10,11 +10,11 @@ use ring_names::Refusal;
 use ringplan_jobs::{Job, MAX_INPUT, answer_of, make};
 use std::alloc::Global;
 
-// The line of a refusal for want of memory, which itself needs none.
-const NO_MEMORY: &[u8; 6] = b"no 60\n";
+/// The line of a refusal for want of memory, which itself needs none.
+pub(crate) const NO_MEMORY: &[u8; 6] = b"no 60\n";
 
-// The status where memory failed.
-const FAILED: u8 = 3;
+/// The status where memory failed.
+pub(crate) const FAILED: u8 = 3;
 
 // What comes of an input. One of more bytes than the program reads is refused as the program refuses it.
 fn outcome(alloc: Global, job: Job, input: &[u8]) -> Result<Vec<u8>, Refusal>

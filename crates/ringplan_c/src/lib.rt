@@ -2,11 +2,18 @@
 #![tactic(auto)]
 
 mod calls;
+mod line;
+mod people;
 mod room;
+mod speaking;
 
 pub use calls::{
     ringplan_check, ringplan_migrate, ringplan_plan, ringplan_play, ringplan_replay,
     ringplan_version,
+};
+pub use people::{
+    ringplan_after, ringplan_around, ringplan_bundle, ringplan_cert, ringplan_draw, ringplan_goal,
+    ringplan_show, ringplan_steps, ringplan_why, ringplan_windows,
 };
 
 #[cfg(test)]

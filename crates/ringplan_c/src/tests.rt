@@ -1,9 +1,11 @@
-//! Each call once with room, and what a room that is too small, no room, an empty input and a refused bundle are answered.
+//! Each call once with room, and what a room that is too small, no room, an empty input, a refused bundle and refused options are answered.
 
 use crate::{
-    ringplan_check, ringplan_migrate, ringplan_plan, ringplan_play, ringplan_replay,
-    ringplan_version,
+    ringplan_after, ringplan_around, ringplan_bundle, ringplan_cert, ringplan_check, ringplan_draw,
+    ringplan_goal, ringplan_migrate, ringplan_plan, ringplan_play, ringplan_replay, ringplan_show,
+    ringplan_steps, ringplan_version, ringplan_why, ringplan_windows,
 };
+use ringplan_command::Word;
 use ringplan_jobs::Job;
 use std::alloc::Global;
 use std::process::Abort;
@@ -106,4 +108,173 @@ fn refuses_texts(rt: HostRuntime) {
 fn leaves_a_room_that_is_too_small(rt: HostRuntime) {
     ends(&rt, Job::Check, BUNDLE, &mut [b' '; 3], (4, 4, "   "));
     ends(&rt, Job::Check, BUNDLE, &mut [], (4, 4, ""));
+}
+
+// The call of the command.
+fn speak(
+    alloc: Global,
+    word: Word,
+    options: &str,
+    input: &str,
+    room: &mut [u8],
+    length: &mut usize,
+    errors: &mut usize,
+) -> u8 {
+    let (options, input) = (options.as_bytes(), input.as_bytes());
+    match word {
+        Word::Goal => ringplan_goal(alloc, options, input, room, length, errors),
+        Word::Around => ringplan_around(alloc, options, input, room, length, errors),
+        Word::Show => ringplan_show(alloc, options, input, room, length, errors),
+        Word::Draw => ringplan_draw(alloc, options, input, room, length, errors),
+        Word::Why => ringplan_why(alloc, options, input, room, length, errors),
+        Word::Steps => ringplan_steps(alloc, options, input, room, length, errors),
+        Word::Windows => ringplan_windows(alloc, options, input, room, length, errors),
+        Word::After => ringplan_after(alloc, options, input, room, length, errors),
+        Word::Bundle => ringplan_bundle(alloc, options, input, room, length, errors),
+        Word::Cert => ringplan_cert(alloc, options, input, room, length, errors),
+    }
+}
+
+// How it ends with this room, how long the text of standard error is, and the room behind it.
+fn says<RT: AllocGlobal + Abort>(
+    rt: &RT,
+    word: Word,
+    options: &str,
+    input: &str,
+    room: &mut [u8],
+    wanted: (u8, usize, &str),
+) {
+    let (mut length, mut errors) = (0, 0);
+    let status = speak(
+        rt.alloc(),
+        word,
+        options,
+        input,
+        room,
+        &mut length,
+        &mut errors,
+    );
+    assert_eq!(rt;
+        (status, length, errors),
+        (wanted.0, wanted.2.len(), wanted.1)
+    );
+    assert_eq!(rt; &*room, wanted.2.as_bytes());
+}
+
+#[test]
+fn speaks_of_texts(rt: HostRuntime) {
+    let ring = behind_ring!("");
+    let planned = behind_ring!(
+        "plan 1\nend\ncert 1\nend\nringplan: the plan has no steps, as the ring is what it shall be\n"
+    );
+    let (exit, dead, rounds) = ("--exit-code", "--dead\0a\0", "--rounds\0001\0");
+    says(
+        &rt,
+        Word::Goal,
+        exit,
+        CHANGE,
+        &mut [0; 141],
+        (0, 65, planned),
+    );
+    says(
+        &rt,
+        Word::Around,
+        dead,
+        HISTORY,
+        &mut [0; 111],
+        (0, 0, HISTORY),
+    );
+    says(
+        &rt,
+        Word::Windows,
+        rounds,
+        BUNDLE,
+        &mut [0; 76],
+        (0, 0, BUNDLE),
+    );
+    says(&rt, Word::After, "", BUNDLE, &mut [0; 54], (0, 0, ring));
+    says(&rt, Word::Bundle, "", BUNDLE, &mut [0; 76], (0, 0, BUNDLE));
+    says(&rt, Word::Cert, "", BUNDLE, &mut [0; 76], (0, 0, BUNDLE));
+    says(&rt, Word::Steps, "--moves", BUNDLE, &mut [], (0, 0, ""));
+}
+
+#[test]
+fn speaks_of_words(rt: HostRuntime) {
+    let shown = concat!(
+        "{\"answer\":\"yes\",\"joins\":[],\"leaves\":[],\"moves\":0,\"nodes\":[{\"begin\":1,\"end\":1,\"gives\":0,",
+        "\"is_down\":false,\"is_member\":true,\"name\":\"a\",\"slots\":1,\"takes\":0}],\"rounds\":0,\"steps\":0}\n"
+    );
+    let none =
+        "no 1 1\nrefused: the input is empty\n  A bundle begins with a ring, whose first line is `ring 1`, `ring 2` or `ring 3`.\n";
+    let json = "--format\0json\0";
+    says(&rt, Word::Show, json, BUNDLE, &mut [0; 175], (0, 0, shown));
+    says(&rt, Word::Why, "", "", &mut [0; 118], (2, 0, none));
+    says(&rt, Word::After, "", "", &mut [0; 118], (2, 118, none));
+    let (mut length, mut errors) = (0, 9);
+    let mut room = [0; 2381];
+    let status = speak(
+        rt.alloc(),
+        Word::Draw,
+        "",
+        BUNDLE,
+        &mut room,
+        &mut length,
+        &mut errors,
+    );
+    assert_eq!(rt; (status, length, errors), (0, 2381, 0));
+    assert!(rt; room.starts_with(b"<svg ") && room.ends_with(b"</svg>\n"));
+}
+
+#[test]
+fn refuses_options(rt: HostRuntime) {
+    let files = "error: a call reads and writes no files\n\nFor more information, try '--help'.\n";
+    let color =
+        "error: invalid value for '--color <WHEN>': not auto, always or never\n\nFor more information, try '--help'.\n";
+    let (output, sizes) = ("-o\0plan", "--format\0json\0--sizes\0sizes");
+    says(
+        &rt,
+        Word::Goal,
+        output,
+        CHANGE,
+        &mut [0; 77],
+        (2, 77, files),
+    );
+    says(&rt, Word::Goal, sizes, CHANGE, &mut [0; 77], (2, 77, files));
+    says(&rt, Word::Show, sizes, CHANGE, &mut [0; 77], (2, 77, files));
+    says(
+        &rt,
+        Word::Cert,
+        "bundle",
+        BUNDLE,
+        &mut [0; 77],
+        (2, 77, files),
+    );
+    says(
+        &rt,
+        Word::Why,
+        "--color\0no",
+        BUNDLE,
+        &mut [0; 106],
+        (2, 106, color),
+    );
+    let (mut length, mut errors) = (0, 0);
+    let status = ringplan_why(rt.alloc(), b"\xff", b"", &mut [], &mut length, &mut errors);
+    assert_eq!(rt; (status, length, errors), (4, 123, 123));
+}
+
+#[test]
+fn leaves_a_room_that_is_too_small_for_both(rt: HostRuntime) {
+    let (mut length, mut errors) = (0, 0);
+    let mut room = [b' '; 140];
+    let status = speak(
+        rt.alloc(),
+        Word::Goal,
+        "",
+        CHANGE,
+        &mut room,
+        &mut length,
+        &mut errors,
+    );
+    assert_eq!(rt; (status, length, errors), (4, 141, 65));
+    assert!(rt; room.iter().all(|byte| *byte == b' '));
 }

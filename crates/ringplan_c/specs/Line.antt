@@ -1,0 +1,50 @@
+-- The command line that a call stands for.
+use Rattle.std.specs.Prelude.{◌==◌, ℕ, List, [], ◌∷◌, Option, None, codes, if◌then◌else◌, length, String}
+use Rattle.std.specs.Global.{Global}
+use Rattle.std.specs.List.{slice_split}
+use Rattle.ringplan_command.specs.declared.word.Word.{Word}
+use Rattle.ringplan_command.specs.declared.word.Word.TheVariants as people
+use Rattle.ringplan_job.specs.declared.making.Making.{Making}
+use Rattle.ringplan_job.specs.declared.making.Making.TheVariants.{Even, Goal, Show, State}
+use Rattle.ringplan_job.specs.declared.making.Statement.{Statement}
+use Rattle.ringplan_job.specs.declared.making.Statement.TheVariants as stated
+
+-- the word of a command for people
+abbrev pub name_of : Word → List ℕ
+name_of people.Why = codes "why"
+name_of people.Show = codes "show"
+name_of people.Draw = codes "draw"
+name_of people.Steps = codes "steps"
+name_of people.Goal = codes "goal"
+name_of people.Windows = codes "windows"
+name_of people.Bundle = codes "bundle"
+name_of people.Cert = codes "cert"
+name_of people.After = codes "after"
+name_of people.Around = codes "around"
+
+-- the parts but for the last one where that is empty
+abbrev pub but_empty_last : List (List ℕ) → List (List ℕ)
+but_empty_last [] = []
+but_empty_last (x ∷ []) = if length x == 0 then [] else x ∷ []
+but_empty_last (x ∷ y ∷ more) = x ∷ but_empty_last (y ∷ more)
+
+-- the words of options: each is followed by the byte 0, which the last may lack
+abbrev pub words_in : List ℕ → List (List ℕ)
+words_in options = but_empty_last (slice_split (λ b. b == 0) options)
+
+-- the words of the command line: the program's name, the command's, and the options
+abbrev pub line_of : Word → List ℕ → List (List ℕ)
+line_of word options = codes "ringplan" ∷ name_of word ∷ words_in options
+
+-- the file of sizes that is named for a statement, or for what is made
+abbrev pub sizes_stated : Statement → Option (String Global)
+sizes_stated (stated.Goal options exit) = options.sizes_file
+sizes_stated (stated.Show wish) = wish.options.sizes_file
+sizes_stated stated.Why = None
+
+abbrev pub sizes_named : Making → Option (String Global)
+sizes_named (Goal options exit) = options.sizes_file
+sizes_named (Even options) = options.sizes_file
+sizes_named (Show wish) = wish.options.sizes_file
+sizes_named (State statement) = sizes_stated statement
+sizes_named making = None

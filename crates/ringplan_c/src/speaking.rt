@@ -1,0 +1,154 @@
+//! What a call for people gives: what the program prints on standard output, and after it what the program prints on standard error.
+
+ghost use Rattle.std.specs.Prelude.{◌≡◌, ◌++◌, List, ℕ, IfOk};
+ghost use Rattle.ringplan_c.specs.Speaking.{IsSaid, IsTurnedAway, Reports, Says, Speaks};
+ghost use Rattle.ringplan_command.specs.Files.{files_in};
+
+use crate::calls::{FAILED, NO_MEMORY};
+use crate::line::{names_sizes, write_line};
+use crate::room::fill;
+use ring_names::Refusal;
+use ringplan_command::{CommandLine, Files, Request, Word, parse};
+use ringplan_job::Making;
+use ringplan_jobs::MAX_INPUT;
+use ringplan_people::{Report, report_bundle, report_unread};
+use std::alloc::{AllocError, Global};
+
+// What is said of options that are no text, as by the program.
+const NO_WORDS: &[u8; 123] =
+    b"error: invalid UTF-8 was detected in one or more arguments\n\nUsage: ringplan <COMMAND>\n\nFor more information, try '--help'.\n";
+
+// What is said of options that name a file.
+const NO_FILES: &[u8; 77] =
+    b"error: a call reads and writes no files\n\nFor more information, try '--help'.\n";
+
+// The status where the options are refused.
+const REFUSED: u8 = 2;
+
+// The report of options that are refused in these words.
+fn turned_away(alloc: Global, words: &[u8]) -> Result<Report, Refusal>
+    ensures { IfOk result (λ r. IsTurnedAway r.output.items r.status) }
+{
+    let errors = Vec::from_slice(alloc, words)?;
+    Ok(Report {
+        output: Vec::new(alloc),
+        errors,
+        status: REFUSED,
+    })
+}
+
+// The report of what is made of the input. Named files are refused. So is an input of more bytes than the program reads, as the program refuses it.
+fn report_making(
+    alloc: Global,
+    making: &Making,
+    files: &Files,
+    input: &[u8],
+) -> Result<Report, Refusal>
+    ensures { IfOk result (λ r. Reports (files_in files.now) making.now input.now r.output.items r.status) }
+{
+    if files.input.is_some() || files.output.is_some() || names_sizes(making) {
+        return turned_away(alloc, NO_FILES);
+    }
+    if input.len() > MAX_INPUT {
+        return report_unread(alloc, Refusal::TooLarge(0));
+    }
+    report_bundle(alloc, making, input)
+}
+
+// The report of a text of help.
+fn report_help(alloc: Global, text: Vec<u8>) -> Report
+    ensures { result.status ≡ 0 }
+{
+    Report {
+        output: text,
+        errors: Vec::new(alloc),
+        status: 0,
+    }
+}
+
+// The report of what the command line asks for.
+fn report_line(alloc: Global, word: Word, options: &str, input: &[u8]) -> Result<Report, Refusal>
+    ensures { IfOk result (λ r. Says word options.now input.now r.output.items r.status) }
+{
+    let words = write_line(alloc, word, options)?;
+    let CommandLine { request, files } = parse(alloc, words.as_slice());
+    match request {
+        Request::Make(making) => report_making(alloc, &making, &files, input),
+        Request::Help(text) => Ok(report_help(alloc, text)),
+        Request::Refused(text) | Request::Mistaken(text) => turned_away(alloc, text.as_slice()),
+        Request::OutOfMemory => Err(Refusal::OutOfMemory),
+        _ => unreachable!(),
+    }
+}
+
+// The report of a call.
+fn report_call(alloc: Global, word: Word, options: &[u8], input: &[u8]) -> Result<Report, Refusal>
+    ensures { IfOk result (λ r. Says word options.now input.now r.output.items r.status) }
+{
+    match str::from_utf8(options) {
+        Ok(options) => report_line(alloc, word, options, input),
+        Err(_) => turned_away(alloc, NO_WORDS),
+    }
+}
+
+// Adds the bytes that are text: the program prints no others on standard error.
+fn push_text(out: &mut Vec<u8>, bytes: &[u8]) -> Result<(), AllocError>
+    ensures { IfOk result (λ x. (more : List ℕ) × (out.new.items ≡ out.old.items ++ more)) }
+{
+    for chunk in bytes.utf8_chunks() {
+        out.extend_from_slice(chunk.valid().as_bytes())?;
+    }
+    Ok(())
+}
+
+// Both texts of a call as one, and the length of the second.
+#[derive(Drop)]
+struct Said {
+    both: Vec<u8>,
+    errors: usize,
+    status: u8,
+}
+
+// What a call says, as far as memory suffices.
+fn answer(alloc: Global, word: Word, options: &[u8], input: &[u8]) -> Result<Said, Refusal>
+    ensures { IfOk result (λ s. IsSaid word options.now input.now s.both.items s.errors s.status) }
+{
+    let Report {
+        output,
+        errors,
+        status,
+    } = report_call(alloc, word, options, input)?;
+    let mut both = output;
+    let length = both.len();
+    push_text(&mut both, errors.as_slice())?;
+    let errors = both.len() - length;
+    Ok(Said {
+        both,
+        errors,
+        status,
+    })
+}
+
+/// The answer to a command for people, in the caller's room. Returns the status, or 4 where the room is too small for both texts.
+pub(crate) fn speak(
+    alloc: Global,
+    word: Word,
+    options: &[u8],
+    input: &[u8],
+    output: &mut [u8],
+    length: &mut usize,
+    errors: &mut usize,
+) -> u8
+    ensures { Speaks word options.now input.now output.old output.new length.new errors.new result }
+{
+    match answer(alloc, word, options, input) {
+        Ok(said) => {
+            *errors = said.errors;
+            fill(said.both.as_slice(), said.status, output, length)
+        }
+        Err(_) => {
+            *errors = 0;
+            fill(NO_MEMORY, FAILED, output, length)
+        }
+    }
+}
