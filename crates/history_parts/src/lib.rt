@@ -1,10 +1,12 @@
 //! The parts of a history by its partitions: a history is a run where its parts are.
 #![tactic(auto)]
 
+mod choice;
 mod cut;
 mod laws;
 mod marks;
 
+pub use choice::Choice;
 pub use cut::{Cut, part};
 pub use laws::{parts_decide, parts_end, parts_follow};
 pub use marks::Marks;
