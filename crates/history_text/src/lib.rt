@@ -11,5 +11,7 @@ mod writing;
 
 pub use bundle::{ReplayBundle, read_replay};
 pub use known::are_known;
+pub use lines::{entry_line, keep_entry};
 pub use reading::{read_history, read_history_section};
-pub use writing::write_history;
+pub use said::{SaidReply, SmallRow};
+pub use writing::{push_entry, write_history};

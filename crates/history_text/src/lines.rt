@@ -77,6 +77,24 @@ pub fn entry_line<'a>(
     judge_line(ring, names, history, fields)
 }
 
+/// The entry of a line that was judged, in memory of its own. A new writer is added behind those known. Its only refusal is `OutOfMemory`; then the
+/// writer may have been added.
+pub fn keep_entry(
+    alloc: Global,
+    names: &mut Names,
+    said: (SaidEvent, SaidReply),
+) -> Result<Entry, Refusal>
+    requires { Fits names.old said.0 }
+    ensures ok { IfOk result (λ entry. entry ≡ entry_of names.old (said_of said.entry)) }
+    ensures names { OnOk result (names.new ≡ names_after names.old said.entry.0) }
+    ensures memory { IfErr result (λ e. e ≡ OutOfMemory) }
+{
+    let (event, reply) = said;
+    let reply = reply.to_reply(alloc)?;
+    let event = keep_event(alloc, names, event)?;
+    Ok(Entry { event, reply })
+}
+
 /// Adds the entry of a line that was judged behind the entries of the history and the writers known.
 pub fn add(
     alloc: Global,
@@ -90,9 +108,7 @@ pub fn add(
     ensures grows { OnOk result (length history.new.items ≡ length history.old.items + 1) }
     ensures memory { IfErr result (λ e. e ≡ OutOfMemory) }
 {
-    let (event, reply) = said;
-    let reply = reply.to_reply(alloc)?;
-    let event = keep_event(alloc, names, event)?;
-    history.push(Entry { event, reply })?;
+    let entry = keep_entry(alloc, names, said)?;
+    history.push(entry)?;
     Ok(())
 }

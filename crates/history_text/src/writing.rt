@@ -14,8 +14,8 @@ use ring_table::Ring;
 use script_text::push_event;
 use std::alloc::{AllocError, Global};
 
-// The line of an entry.
-fn push_entry(
+/// Adds the line of an entry.
+pub fn push_entry(
     out: &mut Vec<u8>,
     ring: &Ring,
     writers: &Names,
