@@ -1,0 +1,60 @@
+-- What reads in turn do to the bytes that are told.
+use Rattle.std.proofs.Common.{◌≡◌, ℕ, zero, suc, ◌+◌, ◌≤◌, true, false, List, [], ◌∷◌, ◌++◌, length, take, Option, refl, sym, ap, ◌∙◌, subst, arith, append-nil, length-append}
+use Rattle.std.specs.Io.KnownBytes.{Consumes}
+use Rattle.std.proofs.KnownBytes.{Consumes-trans}
+use Rattle.history_stream.specs.declared.input.Head.{Head}
+use Rattle.history_stream.specs.Input.{max_input, Takes, IsNext, IsHead}
+
+take_length : (n : ℕ) (xs : List ℕ) → n ≤ length xs → length (take n xs) ≡ n
+take_length zero [] le = refl
+take_length zero (x ∷ xs) le = refl
+take_length (suc n) [] le = absurd (omega arith)
+take_length (suc n) (x ∷ xs) le = ap suc (take_length n xs (omega arith))
+
+-- the chunk was cut to what was read
+pub cut_short : (old new : Option (List ℕ)) (chunk items : List ℕ) (n most : ℕ) → Takes old new chunk n → length chunk ≡ most → items ≡ take n chunk → IsNext old new most items
+cut_short old new chunk items n most t long is =
+    let len = take_length n chunk t.within in
+    let same : length items ≡ n = ap (λ (l : List ℕ). length l) is ∙ len in
+    let within = t.within in
+    record { bytes = subst (Consumes old new) (sym is) t.bytes; end = λ z. t.end (omega arith); few = omega arith }
+
+nothing_is : (xs : List ℕ) → length xs ≡ 0 → xs ≡ []
+nothing_is [] e = refl
+nothing_is (x ∷ xs) e = absurd (omega arith)
+
+-- the input ended
+pub ended : (a b c : Option (List ℕ)) (most : ℕ) (front more : List ℕ) (head : Head) → Consumes a b front → length front ≤ max_input → IsNext b c most more → length more ≡ 0
+    → head.bytes.items ≡ front → head.is_whole ≡ true → IsHead a c head
+ended a b c most front more head told few next none is whole =
+    let same : head.bytes.items ≡ front ++ more = is ∙ sym (append-nil front) ∙ ap (λ (l : List ℕ). front ++ l) (sym (nothing_is more none)) in
+    let short = ap (λ (l : List ℕ). length l) is in
+    record {
+      bytes = subst (Consumes a c) (sym same) (Consumes-trans a b c front more told next.bytes);
+      few = omega arith;
+      whole = λ _. next.end none;
+      long = λ f. (let bad : true ≡ false = sym whole ∙ f in absurd cc);
+    }
+
+-- as much was read as may be
+pub full : (a b : Option (List ℕ)) (front : List ℕ) (head : Head) → Consumes a b front → length front ≤ max_input → max_input ≤ length front → head.bytes.items ≡ front → head.is_whole ≡ false → IsHead a b head
+full a b front head told few many is part =
+    let short = ap (λ (l : List ℕ). length l) is in
+    record {
+      bytes = subst (Consumes a b) (sym is) told;
+      few = omega arith;
+      whole = λ t. (let bad : true ≡ false = sym t ∙ part in absurd cc);
+      long = λ _. omega arith;
+    }
+
+-- one read more
+pub further : (a b c : Option (List ℕ)) (most : ℕ) (front more now : List ℕ) → Consumes a b front → length front ≤ max_input → IsNext b c most more → length front + most ≤ max_input → now ≡ front ++ more
+    → (length now ≤ max_input) × Consumes a c now
+further a b c most front more now told few next room is =
+    let size = ap (λ (l : List ℕ). length l) is ∙ length-append front more in
+    let short = next.few in
+    (omega arith, subst (Consumes a c) (sym is) (Consumes-trans a b c front more told next.bytes))
+
+-- nothing more came
+pub same_end : (whole more : List ℕ) → length more ≡ 0 → whole ++ more ≡ whole
+same_end whole more e = ap (λ (z : List ℕ). whole ++ z) (nothing_is more e) ∙ append-nil whole

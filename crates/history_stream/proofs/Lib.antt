@@ -1,0 +1,9 @@
+pub mod Splits
+pub mod Inputs
+pub mod Fronts
+pub mod Rooms
+pub mod Readings
+pub mod Resumes
+pub mod Takings
+pub mod Pieces
+pub mod Wholes

@@ -1,0 +1,251 @@
+-- A bundle is read and cut from its front to its end.
+use Rattle.std.proofs.Common.{◌≡◌, ◌⊎◌, ℕ, ◌+◌, ◌<◌, ◌≤◌, Bool, true, false, List, [], ◌∷◌, ◌++◌, length, drop, Option, Some, None, Result, Ok, Err, IsErr, IsErrAnd, refl, sym, ap, subst, ◌∙◌, append_assoc, append-nil, arith, inl, inr}
+use Rattle.std.proofs.Math.Path.{fun_ext}
+use Rattle.std.specs.Prelude.{◌≢◌, ◌||◌, nat_le, codes}
+use Rattle.std.specs.List.{flat_map}
+use Rattle.std.specs.Io.KnownBytes.{Consumes}
+use Rattle.std.proofs.lemmas.Bool.{cases_lt, le-leb}
+use Rattle.ring_names.proofs.Logic.{or_true}
+use Rattle.ring_names.specs.declared.refusal.Refusal.{Refusal}
+use Rattle.ring_names.specs.declared.refusal.Refusal.TheVariants.{OutOfMemory, TooLarge}
+use Rattle.texts.specs.Parts.{lines_of}
+use Rattle.texts.specs.Left.{◌>>=◌}
+use Rattle.texts.proofs.Items.{bind_ok, ok_is}
+use Rattle.ring_table.specs.Value.{RingValue, names_of}
+use Rattle.ring_table.specs.Valid.{IsRing}
+use Rattle.plan_runs.specs.declared.event.Entry.{Entry}
+use Rattle.script_text.specs.Valid.{AreWriters}
+use Rattle.history_text.specs.Said.{SaidEntry}
+use Rattle.history_text.specs.Spelling.{entry_line}
+use Rattle.history_parts.specs.declared.choice.Choice.{Choice}
+use Rattle.history_parts.specs.Choices.{is_chosen}
+use Rattle.history_parts.specs.Cuts.{first_cut}
+use Rattle.history_parts.specs.Parts.{all_gets, all_puts, is_marked, or_none, part_after, part_of}
+use Rattle.history_stream.specs.declared.cutting.Part.{Part}
+use Rattle.history_stream.specs.declared.cutting.NoPart.{NoPart}
+use Rattle.history_stream.specs.declared.cutting.NoPart.TheVariants.{Refused, Large}
+use Rattle.history_stream.specs.declared.front.Front.{Front}
+use Rattle.history_stream.specs.declared.input.Head.{Head}
+use Rattle.history_stream.specs.declared.reader.Reader.{Reader}
+use Rattle.history_stream.specs.declared.reader.Stage.TheVariants.{First}
+use Rattle.history_stream.specs.declared.room.PartText.{PartText}
+use Rattle.history_stream.specs.Input.{Tells, IsHead, IsOutside}
+use Rattle.history_stream.specs.Front.{FrontValue, front_at, front_text, IsFront}
+use Rattle.history_stream.specs.Reading.{entries_behind, long_reading, resume_at, writers_behind}
+use Rattle.history_stream.specs.Room.{Holds}
+use Rattle.history_stream.specs.State.{IsReading, Stops, started}
+use Rattle.history_stream.proofs.Pieces.{told_all, told_any, told_rest}
+use Rattle.history_stream.specs.Cutting.{HasLong, HasNoFront, ReadsAll, CutsRest, CutsAll, IsNoFront, IsPartOf, IsStart, chosen, part_text, begun_text, IsCut, IsCutOf}
+
+-- ---- the partitions that are marked are those that are chosen
+
+module _ (ring : RingValue) (choice : Choice) (marks : List Bool) (same : (p : ℕ) → p < ring.q → is_marked marks p ≡ is_chosen choice p) where
+  pub chosen_same : or_none ring (is_marked marks) ≡ or_none ring (is_chosen choice)
+  chosen_same = fun_ext (λ p. by p (cases_lt p ring.q))
+    where
+      by : (p : ℕ) → (p < ring.q) ⊎ (ring.q ≤ p) → or_none ring (is_marked marks) p ≡ or_none ring (is_chosen choice) p
+      by p (inl l) = ap (λ b. b || nat_le ring.q p) (same p l)
+      by p (inr l) = rw (le-leb ring.q p l) (or_true (is_marked marks p) ∙ sym (or_true (is_chosen choice p)))
+
+  pub part_same : (es : List Entry) → part_of ring (is_marked marks) es ≡ part_of ring (is_chosen choice) es
+  part_same es = ap (λ t. part_after ring t [] [] es) chosen_same
+
+  pub started_same : (es : List Entry) → started ring (is_marked marks) es ≡ started ring (is_chosen choice) es
+  started_same es = ap (λ t. length (all_puts ring t [] es) + length (all_gets ring t [] es)) chosen_same
+
+-- ---- at the start
+
+no_writers : AreWriters []
+no_writers = record { few = omega arith; names = refl; different = λ n name e. absurd cc }
+
+pub starts : (ring : RingValue) (marks : List Bool) (text : List ℕ) (r : Reader) → IsRing ring → r.ring.now ≡ ring → r.writers ≡ [] → r.cut ≡ first_cut ring marks → Holds r.part text 0 → IsReading ring marks text [] r
+starts ring marks text r valid ring_is writers cut held = record {
+  valid = valid;
+  ring_is = ring_is;
+  writers_are = writers;
+  names = subst AreWriters (sym writers) no_writers;
+  cut_is = cut;
+  part_is = λ more. subst (λ (t : List ℕ). Holds r.part t 0) (sym (append-nil text)) held;
+}
+
+-- ---- behind the front
+
+module _ (choice : Choice) (front : Front) (marks : List Bool) (same : (p : ℕ) → p < front.ring.q → is_marked marks p ≡ is_chosen choice p) (text : List ℕ) (old new : Reader)
+    (start : IsReading front.ring marks text [] old) (text_is : text ≡ front.text.items ++ codes "history 1\n") (stage : old.stage ≡ First) (line : old.line ≡ front.line) (bytes : List ℕ) where
+  abbrev read : Result (List SaidEntry) Refusal
+  read = resume_at front.ring First [] (record { line = front.line; lines = lines_of bytes })
+
+  first_is : resume_at front.ring old.stage [] (record { line = old.line; lines = lines_of bytes }) ≡ read
+  first_is = (λ i. resume_at front.ring (stage i) [] (record { line = line i; lines = lines_of bytes }))
+
+  pub rest_ok : (u : Unit {0}) → ReadsAll old new bytes (Ok u) → CutsRest choice front bytes (Ok new.part)
+  rest_ok u all =
+      let a = all front.ring marks text [] start in
+      let es = entries_behind [] a.0 in
+      let line_of : List (List ℕ) → Entry → List ℕ = λ ns. entry_line (names_of front.ring) ns in
+      let held = a.1.part_is [] in
+      let names : new.writers ++ [] ≡ writers_behind [] a.0 = append-nil new.writers ∙ a.1.writers_are in
+      let parts = part_same front.ring choice marks same es in
+      let now : Holds new.part (text ++ flat_map (entry_line (names_of front.ring) (writers_behind [] a.0)) (part_of front.ring (is_chosen choice) es)) (length (part_of front.ring (is_chosen choice) es)) =
+      subst (λ (l : List Entry). Holds new.part (text ++ flat_map (entry_line (names_of front.ring) (writers_behind [] a.0)) l) (length l)) parts
+      (subst (λ (ns : List (List ℕ)). Holds new.part (text ++ flat_map (entry_line (names_of front.ring) ns) (part_of front.ring (is_marked marks) es)) (length (part_of front.ring (is_marked marks) es))) names held) in
+      let body = flat_map (entry_line (names_of front.ring) (writers_behind [] a.0)) (part_of front.ring (is_chosen choice) es) in
+      let whole : text ++ body ≡ front.text.items ++ (codes "history 1\n" ++ body) = ap (λ (t : List ℕ). t ++ body) text_is ∙ append_assoc front.text.items (codes "history 1\n") body in
+      (a.0, sym first_is ∙ a.2, subst (λ (t : List ℕ). Holds new.part t (length (part_of front.ring (is_chosen choice) es))) whole now)
+
+  pub rest_err : (e : Refusal) → ReadsAll old new bytes (Err e) → CutsRest choice front bytes (Err e)
+  rest_err e all = λ ne nr. by (all ne nr front.ring marks text [] start)
+    where
+      by : Stops front.ring marks (resume_at front.ring old.stage [] (record { line = old.line; lines = lines_of bytes })) e ⊎ ((k : ℕ) × (e ≡ TooLarge k) × HasLong bytes)
+          → (read ≡ Err e) ⊎ ((k : ℕ) × (e ≡ TooLarge k) × (HasLong bytes ⊎ ((said : List SaidEntry) → read ≡ Ok said → 4294967295 ≤ started front.ring (is_chosen choice) (entries_behind [] said))))
+      by (inl (inl f)) = inl (sym first_is ∙ f)
+      by (inl (inr f)) = inr (f.0, f.1, inr (λ said h. subst (λ (n : ℕ). 4294967295 ≤ n) (started_same front.ring choice marks same (entries_behind [] said)) (f.2 said (first_is ∙ h))))
+      by (inr f) = inr (f.0, f.1, inl f.2)
+
+-- ---- from the first byte
+
+drop_front : (xs ys : List ℕ) → drop (length xs) (xs ++ ys) ≡ ys
+drop_front [] ys = refl
+drop_front (x ∷ xs) ys = drop_front xs ys
+
+more_long : (front bytes : List ℕ) → HasLong bytes → HasLong (front ++ bytes)
+more_long front bytes h = record {
+  before = front ++ h.before;
+  run = h.run;
+  behind = h.behind;
+  whole = ap (λ (z : List ℕ). front ++ z) h.whole ∙ sym (append_assoc front h.before (h.run ++ h.behind));
+  is_run = h.is_run;
+  long = h.long;
+}
+
+module _ (head : List ℕ) (front : Front) (value : FrontValue) (rest more : List ℕ) (is : IsFront head front value rest) where
+  -- reading goes on behind the front
+  reads_on : long_reading head (head ++ more) ≡ (resume_at front.ring First [] (record { line = front.line; lines = lines_of (rest ++ more) }) >>= λ said. Ok (value, said))
+  unfolding long_reading
+  reads_on =
+      let behind : drop (length (front_text value)) (head ++ more) ≡ rest ++ more =
+      ap (λ (t : List ℕ). drop (length t) (head ++ more)) (sym is.text_is) ∙ ap (λ (t : List ℕ). drop (length front.text.items) t) (ap (λ (t : List ℕ). t ++ more) is.whole ∙ append_assoc front.text.items rest more) ∙ drop_front front.text.items (rest ++ more) in
+      ap (λ r. r >>= λ x. resume_at x.0.0 First [] (record { line = x.1.line; lines = lines_of (drop (length (front_text x.0)) (head ++ more)) }) >>= λ said. Ok (x.0, said)) is.read
+      ∙ (λ i. resume_at (sym is.ring_is i) First [] (record { line = front.line; lines = lines_of (behind i) }) >>= λ said. Ok (value, said))
+
+  pub all_ok : (choice : Choice) (part : PartText) → CutsRest choice front (rest ++ more) (Ok part)
+      → (v : FrontValue) × (said : List SaidEntry) × (long_reading head (head ++ more) ≡ Ok (v, said)) × Holds part (begun_text choice v said) (length (chosen choice v said))
+  all_ok choice part c =
+      let ring_now : RingValue → Type 0 = λ r. Holds part (front.text.items ++ (codes "history 1\n" ++ flat_map (entry_line (names_of r) (writers_behind [] c.0)) (part_of r (is_chosen choice) (entries_behind [] c.0)))) (length (part_of r (is_chosen choice) (entries_behind [] c.0))) in
+      let held = subst ring_now is.ring_is c.2 in (
+        value,
+        c.0,
+        reads_on ∙ ap (λ (r : Result (List SaidEntry) Refusal). r >>= λ said. Ok (value, said)) c.1,
+        subst (λ (t : List ℕ). Holds part (t ++ (codes "history 1\n" ++ flat_map (entry_line (names_of value.0) (writers_behind [] c.0)) (chosen choice value c.0))) (length (chosen choice value c.0))) is.text_is held,
+      )
+
+  abbrev rest_read : Result (List SaidEntry) Refusal
+  rest_read = resume_at front.ring First [] (record { line = front.line; lines = lines_of (rest ++ more) })
+
+  pub all_err : (choice : Choice) (e : Refusal) → (rest_read ≡ Err e) ⊎ ((k : ℕ) × (e ≡ TooLarge k) × (HasLong (rest ++ more) ⊎ ((said : List SaidEntry) → rest_read ≡ Ok said → 4294967295 ≤ started front.ring (is_chosen choice) (entries_behind [] said))))
+      → IsCutOf choice head (head ++ more) (Err (Refused e))
+  all_err choice e c = by c
+    where
+      many : ((said : List SaidEntry) → rest_read ≡ Ok said → 4294967295 ≤ started front.ring (is_chosen choice) (entries_behind [] said))
+          → (v : FrontValue) (said : List SaidEntry) → long_reading head (head ++ more) ≡ Ok (v, said) → 4294967295 ≤ started v.0 (is_chosen choice) (entries_behind [] said)
+      many few v said h =
+          let b = bind_ok rest_read (λ s. Ok (value, s)) (v, said) (sym reads_on ∙ h) in
+          let both : (value, b.0) ≡ (v, said) = ok_is _ _ b.2 in
+          let ring : front.ring ≡ v.0 = is.ring_is ∙ ap (λ (p : FrontValue × List SaidEntry). p.0.0) both in
+          let same : b.0 ≡ said = ap (λ (p : FrontValue × List SaidEntry). p.1) both in
+          subst (λ (r : RingValue). 4294967295 ≤ started r (is_chosen choice) (entries_behind [] said)) ring
+          (subst (λ (s : List SaidEntry). 4294967295 ≤ started front.ring (is_chosen choice) (entries_behind [] s)) same (few b.0 b.1))
+
+      by : (rest_read ≡ Err e) ⊎ ((k : ℕ) × (e ≡ TooLarge k) × (HasLong (rest ++ more) ⊎ ((said : List SaidEntry) → rest_read ≡ Ok said → 4294967295 ≤ started front.ring (is_chosen choice) (entries_behind [] said))))
+          → IsCutOf choice head (head ++ more) (Err (Refused e))
+      by (inl f) = inl (reads_on ∙ ap (λ (r : Result (List SaidEntry) Refusal). r >>= λ said. Ok (value, said)) f)
+      by (inr (k, large, inl long)) = inr (k, large, inl (subst HasLong (sym (ap (λ (z : List ℕ). z ++ more) is.whole ∙ append_assoc front.text.items rest more)) (more_long front.text.items (rest ++ more) long)))
+      by (inr (k, large, inr few)) = inr (k, large, inr (many few))
+
+-- ---- the last line
+
+last_line : (choice : Choice) (v : FrontValue) (said : List SaidEntry) → begun_text choice v said ++ codes "end\n" ≡ part_text choice v said
+last_line choice v said =
+    let body = flat_map (entry_line (names_of v.0) (writers_behind [] said)) (chosen choice v said) in
+    append_assoc (front_text v) (codes "history 1\n" ++ body) (codes "end\n") ∙ ap (λ (t : List ℕ). front_text v ++ t) (append_assoc (codes "history 1\n") body (codes "end\n"))
+
+pub cut_ok : (choice : Choice) (bytes : List ℕ) (part : PartText) (r : Result Part NoPart) → CutsAll choice bytes (Ok part) → ((t : List ℕ) (n : ℕ) → Holds part t n → IsPartOf (t ++ codes "end\n") n r) → IsCut choice bytes r
+cut_ok choice bytes part r c made = by r (subst (λ (t : List ℕ). IsPartOf t (length (chosen choice c.2.0 c.2.1)) r) (last_line choice c.2.0 c.2.1) (made (begun_text choice c.2.0 c.2.1) (length (chosen choice c.2.0 c.2.1)) c.2.3))
+  where
+    by : (x : Result Part NoPart) → IsPartOf (part_text choice c.2.0 c.2.1) (length (chosen choice c.2.0 c.2.1)) x → IsCut choice bytes x
+    by (Ok p) h = (c.0, c.1, (c.2.0, c.2.1, c.2.2, h))
+    by (Err (Large n m)) h = (c.0, c.1, (c.2.0, c.2.1, c.2.2, h))
+    by (Err (Refused e)) h = λ ne nr. absurd (ne h)
+
+pub cut_err : (choice : Choice) (bytes : List ℕ) (e : Refusal) → CutsAll choice bytes (Err e) → IsCut choice bytes (Err (Refused e))
+cut_err choice bytes e c = c
+
+-- ---- as the code has them
+
+pub no_memory : (choice : Choice) (front : Front) (first : List ℕ) (a : Option (List ℕ)) (r : Result PartText Refusal) → IsErr r × IsErrAnd r (λ e. e ≡ OutOfMemory) → (more : List ℕ) × Tells a more × CutsRest choice front (first ++ more) r
+no_memory choice front first a (Ok p) (bad, is) = absurd cc
+no_memory choice front first a (Err e) (bad, is) = (let t = told_any a in (t.0, t.1, λ ne nr. absurd (ne is)))
+
+pub handed_rest : (choice : Choice) (front : Front) (bytes : List ℕ) (r : Result PartText Refusal) (e : Refusal) → IsErrAnd r (λ x. x ≡ e) → CutsRest choice front bytes (Err e) → CutsRest choice front bytes r
+handed_rest choice front bytes (Ok p) e is c = absurd is
+handed_rest choice front bytes (Err x) e is c = subst (λ (z : Refusal). CutsRest choice front bytes (Err z)) (sym is) c
+
+abbrev pub CutsInput : Choice → Option (List ℕ) → Result PartText Refusal → Type 0
+CutsInput choice a r = (bytes : List ℕ) × Tells a bytes × CutsAll choice bytes r
+
+pub outside_all : (choice : Choice) (a : Option (List ℕ)) (r : Result PartText Refusal) (e : Refusal) → IsErrAnd r (λ x. x ≡ e) → IsOutside e → CutsInput choice a r
+outside_all choice a (Ok p) e is out = absurd is
+outside_all choice a (Err x) e is (inl m) = (let t = told_any a in (t.0, t.1, λ ne nr. absurd (ne (is ∙ m))))
+outside_all choice a (Err x) e is (inr m) = (let t = told_any a in (t.0, t.1, λ ne nr. absurd (nr (is ∙ m))))
+
+pub no_memory_all : (choice : Choice) (a : Option (List ℕ)) (r : Result PartText Refusal) → IsErr r × IsErrAnd r (λ e. e ≡ OutOfMemory) → CutsInput choice a r
+no_memory_all choice a (Ok p) (bad, is) = absurd cc
+no_memory_all choice a (Err e) (bad, is) = (let t = told_any a in (t.0, t.1, λ ne nr. absurd (ne is)))
+
+-- ---- an input
+
+tells_both : (a b : Option (List ℕ)) (front more : List ℕ) → Consumes a b front → Tells b more → Tells a (front ++ more)
+tells_both None b front more p q = tt
+tells_both (Some x) None front more p q = absurd p
+tells_both (Some x) (Some y) front more p q = p ∙ ap (λ (z : List ℕ). front ++ z) q
+
+-- the history behind its front
+pub whole_input : (choice : Choice) (a b : Option (List ℕ)) (head : Head) (front : Front) (value : FrontValue) (rest first more : List ℕ) (r : Result PartText Refusal) → IsHead a b head → IsFront head.bytes.items front value rest
+    → first ≡ rest → Tells b more → CutsRest choice front (first ++ more) r → CutsInput choice a r
+whole_input choice a b head front value rest first more r h is same t c =
+    (head.bytes.items ++ more, tells_both a b head.bytes.items more h.bytes t, by r (subst (λ (z : List ℕ). CutsRest choice front (z ++ more) r) same c))
+  where
+    start : IsStart head.bytes.items (head.bytes.items ++ more)
+    start = record { rest = more; whole = refl; front = inr (_, is.read) }
+
+    by : (z : Result PartText Refusal) → CutsRest choice front (rest ++ more) z → CutsAll choice (head.bytes.items ++ more) z
+    by (Ok part) d = (head.bytes.items, start, all_ok head.bytes.items front value rest more is choice part d)
+    by (Err e) d = λ ne nr. inl (head.bytes.items, start, all_err head.bytes.items front value rest more is choice e (d ne nr))
+
+no_reading : (head bytes : List ℕ) (e : Refusal) → front_at (record { line = 1; lines = lines_of head }) ≡ Err e → long_reading head bytes ≡ Err e
+unfolding long_reading
+no_reading head bytes e f = rw f refl
+
+-- there is no front
+pub no_front : (choice : Choice) (a b : Option (List ℕ)) (head : Head) (r : Result PartText Refusal) (e : Refusal) → IsErrAnd r (λ x. x ≡ e) → IsHead a b head → (e ≢ OutOfMemory → IsNoFront head e) → CutsInput choice a r
+no_front choice a b head (Ok p) e is h f = absurd is
+no_front choice a b head (Err x) e is h f = by head.is_whole refl
+  where
+    all : List ℕ
+    all = head.bytes.items
+
+    by : (w : Bool) → head.is_whole ≡ w → CutsInput choice a (Err x)
+    by true w = (head.bytes.items, told_all a b head.bytes.items h.bytes (h.whole w), λ ne nr. found (f (λ m. ne (is ∙ m))))
+      where
+        found : IsNoFront head e → ((s : List ℕ) × IsStart s head.bytes.items × IsCutOf choice s head.bytes.items (Err (Refused x))) ⊎ ((x ≡ TooLarge 0) × HasNoFront head.bytes.items)
+        found (inl g) = inl (head.bytes.items, record { rest = []; whole = sym (append-nil head.bytes.items); front = inl refl }, inl (no_reading head.bytes.items head.bytes.items x (g.1 ∙ ap (λ (z : Refusal). Err z) (sym is))))
+        found (inr g) = (let bad : true ≡ false = sym w ∙ g.1 in absurd cc)
+    by false w = (let t = told_rest a b head.bytes.items h.bytes in (head.bytes.items ++ t.0, t.1, λ ne nr. found t.0 (f (λ m. ne (is ∙ m)))))
+      where
+        found : (rest : List ℕ) → IsNoFront head e → ((s : List ℕ) × IsStart s (head.bytes.items ++ rest) × IsCutOf choice s (head.bytes.items ++ rest) (Err (Refused x))) ⊎ ((x ≡ TooLarge 0) × HasNoFront (head.bytes.items ++ rest))
+        found rest (inl g) = (let bad : true ≡ false = sym g.0 ∙ w in absurd cc)
+        found rest (inr g) = inr (is ∙ g.0, record { head = head.bytes.items; rest = rest; whole = refl; long = h.long w; fault = g.2.0; is = g.2.1 })
+
+-- what is behind the front of the first bytes
+pub behind_front : (head : List ℕ) (front : Front) (value : FrontValue) (rest : List ℕ) (n : ℕ) → IsFront head front value rest → n ≡ length front.text.items → drop n head ≡ rest
+behind_front head front value rest n is n_is = (λ i. drop (n_is i) (is.whole i)) ∙ drop_front front.text.items rest

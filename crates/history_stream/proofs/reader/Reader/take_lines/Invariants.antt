@@ -1,0 +1,13 @@
+use Rattle.std.proofs.Common.{◌-◌, ◌≤◌, length, drop}
+use Rattle.history_stream.specs.State.{Counted, Takes, lines_and}
+use Rattle.history_stream.proofs.reader.Reader.take_lines.Given as goal
+
+abbrev pub invariant-lines : goal.invariant-lines
+invariant-lines l = record {
+  counted : Counted l.self;
+  within : l.taken ≤ length l.fn.bytes;
+  takes : Takes l.fn.self l.self (lines_and l.fn.bytes) (lines_and (drop l.taken l.fn.bytes));
+}
+
+abbrev pub decreases-lines : goal.decreases-lines
+decreases-lines l = length l.fn.bytes - l.taken

@@ -1,0 +1,134 @@
+-- What cutting a bundle gives.
+use Rattle.std.specs.Prelude.{◌≡◌, ◌≢◌, ◌⊎◌, ℕ, ◌<◌, ◌≤◌, Bool, true, false, List, [], ◌++◌, length, min, codes, Result, Ok, Err}
+use Rattle.std.specs.List.{flat_map}
+use Rattle.ring_names.specs.declared.refusal.Refusal.{Refusal}
+use Rattle.ring_names.specs.declared.refusal.Refusal.TheVariants.{OutOfMemory, ReadFailed, TooLarge}
+use Rattle.texts.specs.Parts.{lines_of}
+use Rattle.texts.specs.Left.{Left}
+use Rattle.ring_table.specs.Value.{RingValue, names_of}
+use Rattle.plan_runs.specs.declared.event.Entry.{Entry}
+use Rattle.history_text.specs.Said.{SaidEntry}
+use Rattle.history_text.specs.Spelling.{entry_line, history_text}
+use Rattle.history_parts.specs.declared.choice.Choice.{Choice}
+use Rattle.history_parts.specs.Choices.{is_chosen}
+use Rattle.history_parts.specs.Parts.{part_of}
+use Rattle.history_stream.specs.declared.cutting.Part.{Part}
+use Rattle.history_stream.specs.declared.cutting.NoPart.{NoPart}
+use Rattle.history_stream.specs.declared.cutting.NoPart.TheVariants.{Refused, Large}
+use Rattle.history_stream.specs.declared.input.Head.{Head}
+use Rattle.history_stream.specs.declared.reader.Reader.{Reader}
+use Rattle.history_stream.specs.Input.{max_input}
+use Rattle.history_stream.specs.declared.front.Front.{Front}
+use Rattle.history_stream.specs.declared.reader.Stage.TheVariants.{First}
+use Rattle.history_stream.specs.declared.room.PartText.{PartText}
+use Rattle.history_stream.specs.Front.{FrontValue, front_at, front_text}
+use Rattle.history_stream.specs.Reading.{entries_behind, long_reading, resume_at, writers_behind}
+use Rattle.history_stream.specs.Room.{Holds, most}
+use Rattle.history_stream.specs.State.{IsReading, IsRun, Refuses, Stops, Takes, lines_and, started}
+
+-- the refusal that it is
+abbrev pub refusal_of : NoPart → Refusal
+refusal_of (Refused e) = e
+refusal_of (Large entries bytes) = TooLarge 0
+
+-- a run of bytes that is part of no shorter line than may be
+pub record HasLong (bytes : List ℕ) : Type 0 where
+  pub before : List ℕ
+  pub run : List ℕ
+  pub behind : List ℕ
+  pub whole : bytes ≡ before ++ (run ++ behind)
+  pub is_run : IsRun run
+  pub long : max_input < length run
+
+-- lines were read, and what is left has none that is ended
+pub record TakesSome (old new : Reader) (bytes left : List ℕ) : Type 0 where
+  pub done : List ℕ
+  pub whole : bytes ≡ done ++ left
+  pub run : IsRun left
+  pub takes : Takes old new (lines_and bytes) (lines_and left)
+
+-- lines were refused, or one is too long
+abbrev pub StopsSome : Reader → List ℕ → Refusal → Type 0
+StopsSome old bytes e = Refuses old (lines_and bytes) e ⊎ ((k : ℕ) × (e ≡ TooLarge k) × IsRun bytes × (max_input < length bytes))
+
+-- all lines were read to the end of the text, or refused
+abbrev pub ReadsAll : Reader → Reader → List ℕ → Result (Unit {0}) Refusal → Type 0
+ReadsAll old new bytes (Ok u) = (ring : RingValue) (marks : List Bool) (front : List ℕ) (said : List SaidEntry) → IsReading ring marks front said old
+    → (next : List SaidEntry) × IsReading ring marks front next new × (resume_at ring old.stage said (record { line = old.line; lines = lines_of bytes }) ≡ Ok next)
+ReadsAll old new bytes (Err e) = e ≢ OutOfMemory → e ≢ ReadFailed → (ring : RingValue) (marks : List Bool) (front : List ℕ) (said : List SaidEntry) → IsReading ring marks front said old
+    → Stops ring marks (resume_at ring old.stage said (record { line = old.line; lines = lines_of bytes })) e ⊎ ((k : ℕ) × (e ≡ TooLarge k) × HasLong bytes)
+
+-- the first bytes hold no front: they are all, or there are more
+abbrev pub IsNoFront : Head → Refusal → Type 0
+IsNoFront head e = ((head.is_whole ≡ true) × (front_at (record { line = 1; lines = lines_of head.bytes.items }) ≡ Err e))
+    ⊎ ((e ≡ TooLarge 0) × (head.is_whole ≡ false) × ((d : Refusal) × (front_at (record { line = 1; lines = lines_of head.bytes.items }) ≡ Err d)))
+
+-- a text with so many entries is returned, or is more than a replay takes
+abbrev pub IsPartOf : List ℕ → ℕ → Result Part NoPart → Type 0
+IsPartOf text n (Ok part) = (part.text.items ≡ text) × (part.entries ≡ n) × (length text ≤ max_input) × (n ≤ 1000000)
+IsPartOf text n (Err (Large entries bytes)) = (entries ≡ min n most) × (bytes ≡ min (length text) most) × ((max_input < length text) ⊎ (1000000 < n))
+IsPartOf text n (Err (Refused e)) = e ≡ OutOfMemory
+
+-- the first bytes of a text: all, or some that hold a front
+pub record IsStart (head bytes : List ℕ) : Type 0 where
+  pub rest : List ℕ
+  pub whole : bytes ≡ head ++ rest
+  pub front : (rest ≡ []) ⊎ ((x : FrontValue × Left) × (front_at (record { line = 1; lines = lines_of head }) ≡ Ok x))
+
+-- as many first bytes as may be hold no front
+pub record HasNoFront (bytes : List ℕ) : Type 0 where
+  pub head : List ℕ
+  pub rest : List ℕ
+  pub whole : bytes ≡ head ++ rest
+  pub long : length head ≡ max_input
+  pub fault : Refusal
+  pub is : front_at (record { line = 1; lines = lines_of head }) ≡ Err fault
+
+-- the entries of the part
+abbrev pub chosen : Choice → FrontValue → List SaidEntry → List Entry
+chosen choice front said = part_of front.0 (is_chosen choice) (entries_behind [] said)
+
+-- the bundle of the part, with the writers of the whole
+abbrev pub part_text : Choice → FrontValue → List SaidEntry → List ℕ
+part_text choice front said = front_text front ++ history_text front.0 (writers_behind [] said) (chosen choice front said)
+
+-- more than can be read: a line, or puts and gets
+abbrev pub IsTooMuch : Choice → List ℕ → List ℕ → Type 0
+IsTooMuch choice head bytes = HasLong bytes
+    ⊎ ((front : FrontValue) (said : List SaidEntry) → long_reading head bytes ≡ Ok (front, said) → 4294967295 ≤ started front.0 (is_chosen choice) (entries_behind [] said))
+
+-- the part of a history behind its front, up to its last line
+abbrev pub begun_text : Choice → FrontValue → List SaidEntry → List ℕ
+begun_text choice front said = front_text front
+    ++ (codes "history 1\n" ++ flat_map (entry_line (names_of front.0) (writers_behind [] said)) (chosen choice front said))
+
+-- the bytes are a bundle, and the bundle of its part is returned or is more than a replay takes; or they are none, and this is the first fault
+abbrev pub IsCutOf : Choice → List ℕ → List ℕ → Result Part NoPart → Type 0
+IsCutOf choice head bytes (Ok part) = (front : FrontValue) × (said : List SaidEntry) × (long_reading head bytes ≡ Ok (front, said))
+    × IsPartOf (part_text choice front said) (length (chosen choice front said)) (Ok part)
+IsCutOf choice head bytes (Err (Large entries size)) = (front : FrontValue) × (said : List SaidEntry) × (long_reading head bytes ≡ Ok (front, said))
+    × IsPartOf (part_text choice front said) (length (chosen choice front said)) (Err (Large entries size))
+IsCutOf choice head bytes (Err (Refused e)) = (long_reading head bytes ≡ Err e) ⊎ ((k : ℕ) × (e ≡ TooLarge k) × IsTooMuch choice head bytes)
+
+-- the same, unless memory ran out or reading failed
+abbrev pub IsCut : Choice → List ℕ → Result Part NoPart → Type 0
+IsCut choice bytes (Ok part) = (head : List ℕ) × IsStart head bytes × IsCutOf choice head bytes (Ok part)
+IsCut choice bytes (Err (Large entries size)) = (head : List ℕ) × IsStart head bytes × IsCutOf choice head bytes (Err (Large entries size))
+IsCut choice bytes (Err (Refused e)) = e ≢ OutOfMemory → e ≢ ReadFailed
+    → ((head : List ℕ) × IsStart head bytes × IsCutOf choice head bytes (Err (Refused e))) ⊎ ((e ≡ TooLarge 0) × HasNoFront bytes)
+
+-- the part so far of a history that was read behind its front, or why there is none
+abbrev pub CutsRest : Choice → Front → List ℕ → Result PartText Refusal → Type 0
+CutsRest choice front bytes (Ok part) = (said : List SaidEntry) × (resume_at front.ring First [] (record { line = front.line; lines = lines_of bytes }) ≡ Ok said)
+    × Holds part (front.text.items ++ (codes "history 1\n" ++ flat_map (entry_line (names_of front.ring) (writers_behind [] said)) (part_of front.ring (is_chosen choice) (entries_behind [] said))))
+    (length (part_of front.ring (is_chosen choice) (entries_behind [] said)))
+CutsRest choice front bytes (Err e) = e ≢ OutOfMemory → e ≢ ReadFailed → (resume_at front.ring First [] (record { line = front.line; lines = lines_of bytes }) ≡ Err e)
+    ⊎ ((k : ℕ) × (e ≡ TooLarge k) × (HasLong bytes
+    ⊎ ((said : List SaidEntry) → resume_at front.ring First [] (record { line = front.line; lines = lines_of bytes }) ≡ Ok said → 4294967295 ≤ started front.ring (is_chosen choice) (entries_behind [] said))))
+
+-- the same of a bundle
+abbrev pub CutsAll : Choice → List ℕ → Result PartText Refusal → Type 0
+CutsAll choice bytes (Ok part) = (head : List ℕ) × IsStart head bytes × ((front : FrontValue) × (said : List SaidEntry) × (long_reading head bytes ≡ Ok (front, said))
+    × Holds part (begun_text choice front said) (length (chosen choice front said)))
+CutsAll choice bytes (Err e) = e ≢ OutOfMemory → e ≢ ReadFailed
+    → ((head : List ℕ) × IsStart head bytes × IsCutOf choice head bytes (Err (Refused e))) ⊎ ((e ≡ TooLarge 0) × HasNoFront bytes)

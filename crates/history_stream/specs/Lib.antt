@@ -1,0 +1,6 @@
+pub mod Input
+pub mod Front
+pub mod Reading
+pub mod Room
+pub mod State
+pub mod Cutting

@@ -1,0 +1,102 @@
+-- A history of which some lines are read.
+use Rattle.std.specs.Prelude.{◌≡◌, ◌⊎◌, ◌==◌, ℕ, ◌+◌, ◌<◌, ◌≤◌, Bool, true, false, MatchOption, List, [], ◌∷◌, ◌++◌, length, Result, Ok, Err}
+use Rattle.std.specs.List.{AllByRecursion, flat_map}
+use Rattle.ring_names.specs.declared.refusal.Refusal.{Refusal}
+use Rattle.ring_names.specs.declared.refusal.Refusal.TheVariants.{TooLarge}
+use Rattle.texts.specs.Parts.{fields_of, lines_of}
+use Rattle.ring_table.specs.Value.{RingValue, names_of}
+use Rattle.ring_table.specs.Valid.{IsRing}
+use Rattle.plan_runs.specs.declared.event.Entry.{Entry}
+use Rattle.plan_runs.specs.declared.event.Event.{Event}
+use Rattle.plan_runs.specs.declared.event.Event.TheVariants.{StartPut, StartGet}
+use Rattle.script_text.specs.Valid.{AreWriters}
+use Rattle.history_text.specs.Said.{SaidEntry}
+use Rattle.history_text.specs.Reading.{said_at}
+use Rattle.history_text.specs.Spelling.{entry_line}
+use Rattle.history_parts.specs.Cuts.{after_event, entry_next}
+use Rattle.history_parts.specs.Parts.{all_gets, all_puts, is_marked, or_none, part_of}
+use Rattle.history_stream.specs.declared.reader.Reader.{Reader}
+use Rattle.history_stream.specs.Reading.{entries_behind, resume_at, writers_behind}
+use Rattle.history_stream.specs.Room.{Holds}
+
+-- whether a put or a get starts
+abbrev pub is_start : Event → Bool
+is_start (StartPut writer key value seen) = true
+is_start (StartGet key) = true
+is_start e = false
+
+-- how many puts and gets entries start
+abbrev pub started : RingValue → (ℕ → Bool) → List Entry → ℕ
+started ring is_in entries = length (all_puts ring (or_none ring is_in) [] entries) + length (all_gets ring (or_none ring is_in) [] entries)
+
+-- no byte is 0A
+abbrev pub IsRun : List ℕ → Type 0
+IsRun bytes = AllByRecursion (λ b. (b == 10) ≡ false) bytes
+
+-- puts and gets are counted, and there is room for one more
+pub record Counted (r : Reader) : Type 0 where
+  pub same : r.started ≡ length r.cut.puts + length r.cut.gets
+  pub few : r.started < 4294967295
+
+-- lines that say these entries are read, and their part is behind the front's text
+pub record IsReading (ring : RingValue) (marks : List Bool) (front : List ℕ) (said : List SaidEntry) (r : Reader) : Type 0 where
+  pub valid : IsRing ring
+  pub ring_is : r.ring.now ≡ ring
+  pub writers_are : r.writers ≡ writers_behind [] said
+  pub names : AreWriters r.writers
+  pub cut_is : r.cut ≡ record {
+    ring = ring;
+    partitions = marks;
+    puts = all_puts ring (or_none ring (is_marked marks)) [] (entries_behind [] said);
+    gets = all_gets ring (or_none ring (is_marked marks)) [] (entries_behind [] said);
+  }
+  -- as any later writers spell it too
+  pub part_is : (more : List (List ℕ)) → Holds r.part
+      (front ++ flat_map (entry_line (names_of ring) (r.writers ++ more)) (part_of ring (is_marked marks) (entries_behind [] said)))
+      (length (part_of ring (is_marked marks) (entries_behind [] said)))
+
+-- an entry was cut, and kept if it is of the part
+pub record Keeps (old new : Reader) (entry : Entry) : Type 0 where
+  pub cut_is : new.cut ≡ after_event old.cut entry.event
+  pub ring_same : new.ring.now ≡ old.ring.now
+  pub writers_same : new.writers ≡ old.writers
+  pub line_same : new.line ≡ old.line
+  pub stage_same : new.stage ≡ old.stage
+  pub started_same : new.started ≡ old.started
+  pub part_is : MatchOption (entry_next old.cut entry) (new.part ≡ old.part) (λ y. (t : List ℕ) (n : ℕ) → Holds old.part t n
+      → Holds new.part (t ++ entry_line (names_of old.ring.now) old.writers y) (n + 1))
+
+-- reading refuses a text so, or the text has too many puts and gets
+abbrev pub Stops : RingValue → List Bool → Result (List SaidEntry) Refusal → Refusal → Type 0
+Stops ring marks read e = (read ≡ Err e)
+    ⊎ ((k : ℕ) × (e ≡ TooLarge k) × ((said : List SaidEntry) → read ≡ Ok said → 4294967295 ≤ started ring (is_marked marks) (entries_behind [] said)))
+
+-- the line of an entry was read
+abbrev pub TakesEntry : Reader → Reader → ℕ → List (List ℕ) → Type 0
+TakesEntry old new k fields = (ring : RingValue) (marks : List Bool) (front : List ℕ) (said : List SaidEntry) → IsReading ring marks front said old
+    → (x : SaidEntry) × (said_at ring [] old.writers k fields ≡ Ok x) × IsReading ring marks front (said ++ x ∷ []) new
+
+-- it was refused: it is none, or the last of too many puts and gets
+abbrev pub RefusesEntry : Reader → ℕ → List (List ℕ) → Refusal → Type 0
+RefusesEntry old k fields e = (ring : RingValue) (marks : List Bool) (front : List ℕ) (said : List SaidEntry) → IsReading ring marks front said old
+    → (said_at ring [] old.writers k fields ≡ Err e)
+    ⊎ ((x : SaidEntry) × (said_at ring [] old.writers k fields ≡ Ok x) × (e ≡ TooLarge k) × (4294967295 ≤ started ring (is_marked marks) (entries_behind [] (said ++ x ∷ []))))
+
+-- lines were read, from a state to another: whatever text follows, reading goes on from there
+abbrev pub Takes : Reader → Reader → (List ℕ → List (List (List ℕ))) → (List ℕ → List (List (List ℕ))) → Type 0
+Takes old new whole rest = (ring : RingValue) (marks : List Bool) (front : List ℕ) (said : List SaidEntry) → IsReading ring marks front said old
+    → (next : List SaidEntry) × IsReading ring marks front next new
+    × ((more : List ℕ) → resume_at ring old.stage said (record { line = old.line; lines = whole more }) ≡ resume_at ring new.stage next (record { line = new.line; lines = rest more }))
+
+-- lines were refused, whatever text follows
+abbrev pub Refuses : Reader → (List ℕ → List (List (List ℕ))) → Refusal → Type 0
+Refuses old whole e = (ring : RingValue) (marks : List Bool) (front : List ℕ) (said : List SaidEntry) → IsReading ring marks front said old
+    → (more : List ℕ) → Stops ring marks (resume_at ring old.stage said (record { line = old.line; lines = whole more })) e
+
+-- a line in front of a text
+abbrev pub line_and : List ℕ → List ℕ → List (List (List ℕ))
+line_and line more = fields_of line ∷ lines_of more
+
+-- the lines of a text in two
+abbrev pub lines_and : List ℕ → List ℕ → List (List (List ℕ))
+lines_and front more = lines_of (front ++ more)

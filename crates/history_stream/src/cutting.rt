@@ -1,0 +1,214 @@
+//! Cutting a bundle while it is read.
+
+ghost use Rattle.std.specs.Prelude.{◌≡◌, ◌≢◌, ◌++◌, ℕ, List, codes, IfOk, IfErr, OnOk};
+ghost use Rattle.ring_names.specs.declared.refusal.Refusal.TheVariants.{OutOfMemory};
+ghost use Rattle.ring_table.specs.Valid.{IsRing};
+ghost use Rattle.history_parts.specs.Choices.{IsChoice};
+ghost use Rattle.history_stream.specs.Input.{Tells};
+ghost use Rattle.history_stream.specs.Front.{FrontValue, IsFront};
+ghost use Rattle.history_stream.specs.Room.{Holds};
+ghost use Rattle.history_stream.specs.State.{Counted, IsRun};
+ghost use Rattle.history_stream.specs.Cutting.{refusal_of, TakesSome, StopsSome, ReadsAll, CutsRest, CutsAll};
+ghost use Rattle.history_stream.specs.Cutting.{IsNoFront, IsPartOf, IsCut};
+
+use crate::front::{Front, read_front};
+use crate::input::{CHUNK, Head, MAX_INPUT, read_head, read_some};
+use crate::reader::{Reader, Stage};
+use crate::room::PartText;
+use history_parts::{Choice, Cut};
+use memchr::memchr;
+use ring_names::{Names, Refusal};
+use std::alloc::Global;
+use std::io::Read;
+
+/// The bundle of a part.
+#[derive(Drop)]
+pub struct Part {
+    /// Its text, at most `MAX_INPUT` bytes.
+    pub text: Vec<u8>,
+    /// How many entries its history has, at most 1,000,000.
+    pub entries: u32,
+}
+
+/// Why there is no bundle of a part.
+#[derive(Clone, Copy, Debug, PartialEq, Eq)]
+pub enum NoPart {
+    /// The input is refused, or reading or memory failed.
+    Refused(Refusal),
+    /// The input is a bundle, and its part would have so many entries, and its bundle so many bytes: more than a replay takes.
+    Large { entries: u64, bytes: u64 },
+}
+
+impl NoPart {
+    /// The refusal that this is; a part that is too large is `TooLarge(0)`.
+    pub fn refusal(&self) -> Refusal
+        ensures { result ≡ refusal_of self.now }
+    {
+        match self {
+            NoPart::Refused(refusal) => *refusal,
+            NoPart::Large { .. } => Refusal::TooLarge(0),
+        }
+    }
+}
+
+// Reads all lines that are ended, and leaves what is not.
+fn take_left(alloc: Global, reader: &mut Reader, left: &mut Vec<u8>) -> Result<(), Refusal>
+    requires { Counted reader.old }
+    ensures counted { OnOk result (Counted reader.new) }
+    ensures ok { OnOk result (TakesSome reader.old reader.new left.old.items left.new.items) }
+    ensures err { IfErr result (λ e. e ≢ OutOfMemory → StopsSome reader.old left.old.items e) }
+{
+    let taken = reader.take_lines(alloc, left.as_slice())?;
+    *left = Vec::from_slice(alloc, &left.as_slice()[taken..])?;
+    Ok(())
+}
+
+// Reads the lines that are ended in what is left and what follows it.
+fn take_some(
+    alloc: Global,
+    reader: &mut Reader,
+    left: &mut Vec<u8>,
+    more: &[u8],
+) -> Result<(), Refusal>
+    requires counted { Counted reader.old }
+    requires run { IsRun left.old.items }
+    ensures counted { OnOk result (Counted reader.new) }
+    ensures ok { OnOk result (TakesSome reader.old reader.new (left.old.items ++ more.now) left.new.items) }
+    ensures err { IfErr result (λ e. e ≢ OutOfMemory → StopsSome reader.old (left.old.items ++ more.now) e) }
+{
+    left.extend_from_slice(more)?;
+    match memchr(b'\n', more) {
+        Some(_) => take_left(alloc, reader, left),
+        None => {
+            if left.len() > MAX_INPUT {
+                return Err(Refusal::TooLarge(reader.line));
+            }
+            Ok(())
+        }
+    }
+}
+
+// Reads the input to its end, behind the bytes that were read. A line of more than `MAX_INPUT` bytes is `TooLarge`.
+fn read_history<R: Read + Drop>(
+    alloc: Global,
+    reader: &mut Reader,
+    first: Vec<u8>,
+    input: &mut R,
+) -> Result<(), Refusal>
+    requires { Counted reader.old }
+    ensures { (more : List ℕ) × Tells (R.remaining input.old) more × ReadsAll reader.old reader.new (first.items ++ more) result }
+{
+    let mut left = Vec::new(alloc);
+    take_some(alloc, reader, &mut left, first.as_slice())?;
+    drop(first);
+    'reads: for turn in 0..u64::MAX {
+        let more = read_some(alloc, input, CHUNK)?;
+        if more.is_empty() {
+            return reader.end(left.as_slice());
+        }
+        take_some(alloc, reader, &mut left, more.as_slice())?;
+    }
+    Err(Refusal::ReadFailed)
+}
+
+// Reads the front of an input.
+fn front_of(alloc: Global, head: &Head) -> Result<Front, Refusal>
+    ensures ok { IfOk result (λ front. (value : FrontValue) × (rest : List ℕ) × IsFront head.now.bytes.items front value rest) }
+    ensures err { IfErr result (λ e. e ≢ OutOfMemory → IsNoFront head.now e) }
+{
+    match read_front(alloc, head.bytes.as_slice()) {
+        Ok(front) => Ok(front),
+        Err(Refusal::OutOfMemory) => Err(Refusal::OutOfMemory),
+        Err(refusal) => Err(if head.is_whole {
+            refusal
+        } else {
+            Refusal::TooLarge(0)
+        }),
+    }
+}
+
+// Reads a history whose front was read, and cuts it.
+fn cut_history<R: Read + Drop>(
+    alloc: Global,
+    choice: Choice,
+    front: Front,
+    first: Vec<u8>,
+    input: &mut R,
+) -> Result<PartText, Refusal>
+    requires choice { IsChoice choice }
+    requires valid { IsRing front.ring }
+    ensures { (more : List ℕ) × Tells (R.remaining input.old) more × CutsRest choice front (first.items ++ more) result }
+{
+    let Front { ring, text, line } = front;
+    let marks = choice.marks(alloc, ring.q())?;
+    let mut part = PartText::of(text);
+    part.push_text(b"history 1\n")?;
+    let mut reader = Reader {
+        ring: &ring,
+        cut: Cut::new(alloc, &ring, marks.as_slice()),
+        writers: Names::new(alloc),
+        line,
+        stage: Stage::First,
+        started: 0,
+        part,
+    };
+    read_history(alloc, &mut reader, first, input)?;
+    Ok(reader.part)
+}
+
+// Reads a bundle, and cuts it.
+fn read_part<R: Read + Drop>(
+    alloc: Global,
+    choice: Choice,
+    input: &mut R,
+) -> Result<PartText, Refusal>
+    requires { IsChoice choice }
+    ensures { (bytes : List ℕ) × Tells (R.remaining input.old) bytes × CutsAll choice bytes result }
+{
+    let head = read_head(alloc, input)?;
+    let front = front_of(alloc, &head)?;
+    let first = Vec::from_slice(alloc, &head.bytes.as_slice()[front.text.len()..])?;
+    drop(head);
+    cut_history(alloc, choice, front, first, input)
+}
+
+// What there is at the end of a history.
+fn part_of(mut part: PartText) -> Result<Part, NoPart>
+    ensures { (t : List ℕ) (n : ℕ) → Holds part t n → IsPartOf (t ++ codes "end\n") n result }
+{
+    match part.push_text(b"end\n") {
+        Ok(()) => {
+            if part.is_small() {
+                Ok(Part {
+                    entries: part.entries as u32,
+                    text: part.text,
+                })
+            } else {
+                Err(NoPart::Large {
+                    entries: part.entries,
+                    bytes: part.bytes,
+                })
+            }
+        }
+        Err(_) => Err(NoPart::Refused(Refusal::OutOfMemory)),
+    }
+}
+
+/// Reads a bundle of a replay to its end, and cuts it to what the chosen partitions see: the bundle of the part, with its ring, plan and certificate, and
+/// with the writers as the whole numbers them. The history may have any number of entries; the front, a line and the part may have `MAX_INPUT` bytes.
+/// The first line at fault decides, as in `read_replay`. `TooLarge(0)` is a front that is at fault or not ended in the first `MAX_INPUT` bytes of a
+/// longer input; `TooLarge` of a line is also a longer line than that, and the put or get that is the 4,294,967,295th to start. Kept are the front, the part and eight bytes for
+/// each put and get.
+pub fn cut_stream<R: Read + Drop>(
+    alloc: Global,
+    choice: Choice,
+    input: &mut R,
+) -> Result<Part, NoPart>
+    requires { IsChoice choice }
+    ensures { (bytes : List ℕ) × Tells (R.remaining input.old) bytes × IsCut choice bytes result }
+{
+    match read_part(alloc, choice, input) {
+        Ok(part) => part_of(part),
+        Err(refusal) => Err(NoPart::Refused(refusal)),
+    }
+}

@@ -1,0 +1,80 @@
+//! Reading an input piece by piece.
+
+ghost use Rattle.std.specs.Prelude.{◌≡◌, ◌<◌, length, IfOk, IfErr};
+ghost use Rattle.ring_names.specs.declared.refusal.Refusal.TheVariants.{ReadFailed};
+ghost use Rattle.history_stream.specs.Input.{Takes, IsNext, IsHead, IsOutside};
+
+use ring_names::Refusal;
+use std::alloc::Global;
+use std::io::{ErrorKind, Read};
+
+/// The most bytes that the front of a bundle, a line of its history and a part may have: 64 MiB.
+pub const MAX_INPUT: usize = 67_108_864;
+
+/// How many bytes one read asks for.
+pub const CHUNK: usize = 65_536;
+
+// Reads some bytes to the start of the chunk, and returns their number: 0 only at the input's end. A read that a signal interrupted is tried again.
+fn read_chunk<R: Read + Drop>(input: &mut R, chunk: &mut [u8]) -> Result<usize, Refusal>
+    requires { 0 < length chunk.old }
+    ensures ok { IfOk result (λ n. Takes (R.remaining input.old) (R.remaining input.new) chunk.new n) }
+    ensures err { IfErr result (λ e. e ≡ ReadFailed) }
+{
+    'turns: for turn in 0..u64::MAX {
+        match input.read(chunk) {
+            Ok(count) => return Ok(count),
+            Err(error) => {
+                if error.kind() != ErrorKind::Interrupted {
+                    return Err(Refusal::ReadFailed);
+                }
+            }
+        }
+    }
+    Err(Refusal::ReadFailed)
+}
+
+/// The next bytes of an input, at most so many: none only at its end.
+pub fn read_some<R: Read + Drop>(
+    alloc: Global,
+    input: &mut R,
+    most: usize,
+) -> Result<Vec<u8>, Refusal>
+    requires { 0 < most }
+    ensures ok { IfOk result (λ bytes. IsNext (R.remaining input.old) (R.remaining input.new) most bytes.items) }
+    ensures err { IfErr result (λ e. IsOutside e) }
+{
+    let mut bytes = vec![in alloc; 0u8; most]?;
+    let count = read_chunk(input, bytes.as_mut_slice())?;
+    bytes.truncate(count);
+    Ok(bytes)
+}
+
+/// The first bytes of an input.
+#[derive(Drop)]
+pub struct Head {
+    pub bytes: Vec<u8>,
+    /// Whether these are all.
+    pub is_whole: bool,
+}
+
+/// Reads the first `MAX_INPUT` bytes, or fewer where the input ends before.
+pub fn read_head<R: Read + Drop>(alloc: Global, input: &mut R) -> Result<Head, Refusal>
+    ensures ok { IfOk result (λ head. IsHead (R.remaining input.old) (R.remaining input.new) head) }
+    ensures err { IfErr result (λ e. IsOutside e) }
+{
+    let mut bytes = Vec::new(alloc);
+    'reads: while bytes.len() < MAX_INPUT {
+        let more = read_some(alloc, input, CHUNK.min(MAX_INPUT - bytes.len()))?;
+        if more.is_empty() {
+            return Ok(Head {
+                bytes,
+                is_whole: true,
+            });
+        }
+        bytes.extend_from_slice(more.as_slice())?;
+    }
+    Ok(Head {
+        bytes,
+        is_whole: false,
+    })
+}

@@ -1,0 +1,11 @@
+//! The part of a bundle that some partitions see, cut while the bundle is read: its history may have any number of entries.
+#![tactic(auto)]
+
+mod cutting;
+mod front;
+mod input;
+mod reader;
+mod room;
+
+pub use cutting::{NoPart, Part, cut_stream};
+pub use input::MAX_INPUT;

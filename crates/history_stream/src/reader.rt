@@ -1,0 +1,209 @@
+//! A history that is read line by line, and cut.
+
+ghost use Rattle.std.specs.Prelude.{◌≡◌, ◌≢◌, ◌≤◌, ◌<◌, List, codes, length, drop, IfOk, IfErr, OnOk};
+ghost use Rattle.ring_names.specs.declared.refusal.Refusal.TheVariants.{OutOfMemory};
+ghost use Rattle.texts.specs.Parts.{lines_of};
+ghost use Rattle.texts.specs.Judging.{end_at, map_ok};
+ghost use Rattle.ring_table.specs.Value.{RingValue};
+ghost use Rattle.history_text.specs.Said.{SaidEntry};
+ghost use Rattle.history_stream.specs.Reading.{resume_at};
+ghost use Rattle.texts.specs.Left.{next_number};
+ghost use Rattle.texts.specs.Frames.{header_at};
+ghost use Rattle.history_stream.specs.declared.reader.Stage.TheVariants.{First, Entries, Over};
+ghost use Rattle.history_stream.specs.State.{is_start, Counted, IsRun, Keeps, TakesEntry, RefusesEntry, Takes, Refuses, line_and, lines_and};
+
+use crate::room::PartText;
+use history_parts::Cut;
+use history_text::{entry_line, keep_entry};
+use memchr::memchr;
+use plan_runs::{Entry, Event};
+use ring_names::{Names, Refusal};
+use ring_table::Ring;
+use std::alloc::Global;
+use texts::{Fields, both, finish};
+
+/// Which line comes next.
+#[derive(Clone, Copy, Debug, PartialEq, Eq)]
+pub enum Stage {
+    /// `history 1`.
+    First,
+    /// An entry, or `end`.
+    Entries,
+    /// None.
+    Over,
+}
+
+/// A history of which some lines are read, and its part so far. The entries are not kept.
+#[derive(Drop)]
+pub struct Reader<'a> {
+    pub ring: &'a Ring,
+    pub cut: Cut<'a>,
+    pub writers: Names,
+    /// The number of the next line.
+    pub line: u32,
+    pub stage: Stage,
+    /// How many puts and gets were started.
+    pub started: u32,
+    pub part: PartText,
+}
+
+// Reads the line `history 1`.
+#[tactic(auto, unfolding(texts::specs::Frames::header_at))]
+fn first_line(mut fields: Fields) -> Result<(), Refusal>
+    ensures { result ≡ header_at (codes "history") (codes "1") fields.entry.number fields.entry.fields }
+{
+    let word = fields.word(b"history");
+    let format = fields.word(b"1");
+    finish(both(word, format), fields)?;
+    Ok(())
+}
+
+// The number of the line behind line `line`.
+#[tactic(auto, unfolding(texts::specs::Left::next_number))]
+fn next_line(line: u32) -> u32
+    ensures { result ≡ next_number line }
+{
+    if line < u32::MAX { line + 1 } else { line }
+}
+
+// Whether a put or a get starts.
+fn is_start(event: &Event) -> bool
+    ensures { result ≡ is_start event.now }
+{
+    match event {
+        Event::StartPut(_, _, _, _) | Event::StartGet(_) => true,
+        _ => false,
+    }
+}
+
+impl<'a> Reader<'a> {
+    // Cuts an entry, and keeps it if it is of the part.
+    fn keep(&mut self, alloc: Global, entry: &Entry) -> Result<(), Refusal>
+        requires puts { length self.old.cut.puts < 4294967295 }
+        requires gets { length self.old.cut.gets < 4294967295 }
+        ensures ok { OnOk result (Keeps self.old self.new entry.now) }
+        ensures memory { IfErr result (λ e. e ≡ OutOfMemory) }
+    {
+        if let Some(kept) = self.cut.entry(alloc, entry)? {
+            self.part.push_entry(self.ring, &self.writers, &kept)?;
+        }
+        Ok(())
+    }
+
+    // Reads the line of an entry, given as its fields.
+    fn take_entry(&mut self, alloc: Global, fields: Fields) -> Result<(), Refusal>
+        requires { Counted self.old }
+        ensures counted { OnOk result (Counted self.new) }
+        ensures line { OnOk result (self.new.line ≡ self.old.line) }
+        ensures stage { OnOk result (self.new.stage ≡ self.old.stage) }
+        ensures ok { OnOk result (TakesEntry self.old self.new fields.entry.number fields.entry.fields) }
+        ensures err { IfErr result (λ e. e ≢ OutOfMemory → RefusesEntry self.old fields.entry.number fields.entry.fields e) }
+    {
+        let line = fields.line();
+        let said = entry_line(self.ring, &self.writers, &[], fields)?;
+        let entry = keep_entry(alloc, &mut self.writers, said)?;
+        if is_start(&entry.event) {
+            if self.started == u32::MAX - 1 {
+                return Err(Refusal::TooLarge(line));
+            }
+            self.started += 1;
+        }
+        self.keep(alloc, &entry)
+    }
+
+    // Reads the first line of the history.
+    fn take_first(&mut self, text: &[u8]) -> Result<(), Refusal>
+        requires counted { Counted self.old }
+        requires stage { self.old.stage ≡ First }
+        ensures counted { OnOk result (Counted self.new) }
+        ensures ok { OnOk result (Takes self.old self.new (line_and text.now) lines_of) }
+        ensures err { IfErr result (λ e. Refuses self.old (line_and text.now) e) }
+    {
+        first_line(Fields::of(self.line, text))?;
+        self.stage = Stage::Entries;
+        self.line = next_line(self.line);
+        Ok(())
+    }
+
+    // Reads the last line of the history, given behind its word.
+    fn take_end(&mut self, mut fields: Fields) -> Result<(), Refusal>
+        ensures ok { OnOk result (self.new ≡ record self.old { stage = Over; line = next_number self.old.line }) }
+        ensures end { result ≡ (end_at fields.entry.number fields.entry.fields).0 }
+    {
+        fields.ended()?;
+        self.stage = Stage::Over;
+        self.line = next_line(self.line);
+        Ok(())
+    }
+
+    // Reads an entry, or the last line of the history.
+    fn take_next(&mut self, alloc: Global, text: &[u8]) -> Result<(), Refusal>
+        requires counted { Counted self.old }
+        requires stage { self.old.stage ≡ Entries }
+        ensures counted { OnOk result (Counted self.new) }
+        ensures ok { OnOk result (Takes self.old self.new (line_and text.now) lines_of) }
+        ensures err { IfErr result (λ e. e ≢ OutOfMemory → Refuses self.old (line_and text.now) e) }
+    {
+        let mut fields = Fields::of(self.line, text);
+        if fields.takes(b"end") {
+            return self.take_end(fields);
+        }
+        self.take_entry(alloc, fields)?;
+        self.line = next_line(self.line);
+        Ok(())
+    }
+
+    // Reads a line, given without its last byte 0A.
+    fn take_line(&mut self, alloc: Global, text: &[u8]) -> Result<(), Refusal>
+        requires { Counted self.old }
+        ensures counted { OnOk result (Counted self.new) }
+        ensures ok { OnOk result (Takes self.old self.new (line_and text.now) lines_of) }
+        ensures err { IfErr result (λ e. e ≢ OutOfMemory → Refuses self.old (line_and text.now) e) }
+    {
+        match self.stage {
+            Stage::First => self.take_first(text),
+            Stage::Entries => self.take_next(alloc, text),
+            Stage::Over => Err(Refusal::BadLine(self.line)),
+        }
+    }
+
+    /// Reads all lines that are ended, and returns how many bytes they have.
+    pub fn take_lines(&mut self, alloc: Global, bytes: &[u8]) -> Result<usize, Refusal>
+        requires { Counted self.old }
+        ensures counted { OnOk result (Counted self.new) }
+        ensures within { IfOk result (λ taken. taken ≤ length bytes.now) }
+        ensures run { IfOk result (λ taken. IsRun (drop taken bytes.now)) }
+        ensures ok { IfOk result (λ taken. Takes self.old self.new (lines_and bytes.now) (lines_and (drop taken bytes.now))) }
+        ensures err { IfErr result (λ e. e ≢ OutOfMemory → Refuses self.old (lines_and bytes.now) e) }
+    {
+        let mut taken = 0;
+        'lines: loop {
+            match memchr(b'\n', &bytes[taken..]) {
+                None => return Ok(taken),
+                Some(at) => {
+                    self.take_line(alloc, &bytes[taken..taken + at])?;
+                    taken += at + 1;
+                }
+            }
+        }
+    }
+
+    /// Asks that the history is over, and nothing is left of its text. Else that is `BadLine`.
+    pub fn end(&self, left: &[u8]) -> Result<(), Refusal>
+        requires { IsRun left.now }
+        ensures { (ring : RingValue) (said : List SaidEntry) → map_ok (λ _. said) result
+            ≡ resume_at ring self.now.stage said (record { line = self.now.line; lines = lines_of left.now }) }
+    {
+        match self.stage {
+            Stage::Over => {
+                if left.is_empty() {
+                    Ok(())
+                } else {
+                    Err(Refusal::BadLine(self.line))
+                }
+            }
+            Stage::First => Err(Refusal::BadLine(self.line)),
+            Stage::Entries => Err(Refusal::BadLine(self.line)),
+        }
+    }
+}
