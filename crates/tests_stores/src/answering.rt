@@ -32,10 +32,10 @@ const SPARE: &[u8] =
 const SPLIT: &[u8] =
     b"ring 2\nspace 4\nquorum 3 2 2\nnode a 4 in\nnode b 1 2 in\nnode c 4 in\nnode d 4 out\nslots 0 a b c\nslots 1 a b c\nslots 2 a b c\nslots 3 a b c\nend\n";
 
-const MOVE_STEPS: &[u8] =
+pub const MOVE_STEPS: &[u8] =
     b"plan 1\njoin d\nmirror 0 1 d after 0\ncopy 0 1 owner after 1\nswitch 0 1 after 2\ndrop 0 1 b after 3\nend\n";
 
-const CHAINS: &[u8] = b"cert 1\nchain b 2\nchain d 2\nend\n";
+pub const CHAINS: &[u8] = b"cert 1\nchain b 2\nchain d 2\nend\n";
 
 const SPLIT_CHAINS: &[u8] = b"cert 2\ngive b 2\nchain d 2\nend\n";
 

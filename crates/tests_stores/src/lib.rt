@@ -13,4 +13,6 @@ mod replays;
 #[cfg(test)]
 mod scripts;
 #[cfg(test)]
+mod streams;
+#[cfg(test)]
 mod worlds;
