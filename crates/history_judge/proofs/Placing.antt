@@ -129,15 +129,18 @@ fault_within ring plan xs i c f = elim (cases_lt i (length xs)) [
       leads_without_fault ring plan (opening_world ring) u.0 0 xs (Mismatch i c) u.1 f)
 ]
 
-pub placed_fault : (ring : RingValue) (plan : List Planned) (is_in : ℕ → Bool) (history : List Entry) (i c : ℕ) (f : Fault) → IsFirstFault ring plan (opening_world ring) 0 (part_of ring is_in history) (Mismatch i c)
-    → IsPlace ring is_in history i f.place → f.code ≡ c → IsFound ring plan 1 (λ _. is_in) history (Some f)
-placed_fault ring plan is_in history i c f h p e = record {
+pub placed_fault : (ring : RingValue) (plan : List Planned) (parts : ℕ → ℕ → Bool) (n : ℕ) (history : List Entry) (i c : ℕ) (f : Fault) → IsFirstFault ring plan (opening_world ring) 0 (part_of ring (parts n) history) (Mismatch i c)
+    → IsPlace ring (parts n) history i f.place → f.code ≡ c → IsFound ring plan (λ j. j ≡ n) parts history (Some f)
+placed_fault ring plan parts n history i c f h p e = record {
   place = p.0;
-  before = λ j l. before;
-  some = (0, omega arith, subst (PartFails ring plan is_in history f.place) (sym e) fails);
-  greatest = λ j d l g. (let q = one_number ring plan history is_in f.place d c g fails in omega arith);
+  before = λ j same. subst (λ z. AreRun ring plan (part_of ring (parts z) (take f.place history))) (sym same) before;
+  some = (n, refl, subst (PartFails ring plan is_in history f.place) (sym e) fails);
+  greatest = λ j d same g. (let q = one_number ring plan history is_in f.place d c (subst (λ z. PartFails ring plan (parts z) history f.place d) same g) fails in omega arith);
 }
   where
+    is_in : ℕ → Bool
+    is_in = parts n
+
     k : ℕ
     k = f.place
 
@@ -208,12 +211,9 @@ told_fault ring plan items e i c is f = subst (λ z. IsFirstFault ring plan (ope
 
 -- ---- all shares
 
-module _ (ring : RingValue) (plan : List Planned) (history : List Entry) (n shares : ℕ) (found : Option Fault) (all : n ≡ shares) (some : 0 < shares) (told : IsFound ring plan n (is_share shares) history found) where
-  shares_told : IsFound ring plan shares (is_share shares) history found
-  shares_told = subst (λ m. IsFound ring plan m (is_share shares) history found) all told
-
+module _ (ring : RingValue) (plan : List Planned) (history : List Entry) (shares : ℕ) (found : Option Fault) (some : 0 < shares) (told : IsFound ring plan (λ j. j < shares) (is_share shares) history found) where
   pub all_run : found ≡ None → AreRun ring plan history
-  all_run is = whole_run ring plan history shares (is_share shares) some (shares_cover ring shares some) (subst (IsFound ring plan shares (is_share shares) history) is shares_told)
+  all_run is = whole_run ring plan history shares (is_share shares) some (shares_cover ring shares some) (subst (IsFound ring plan (λ j. j < shares) (is_share shares) history) is told)
 
   pub some_fails : (f : Fault) → found ≡ Some f → IsFirstFault ring plan (opening_world ring) 0 history (Mismatch f.place f.code)
-  some_fails f is = whole_fails ring plan history shares (is_share shares) some (shares_cover ring shares some) f.place f.code (subst (IsFound ring plan shares (is_share shares) history) is shares_told)
+  some_fails f is = whole_fails ring plan history shares (is_share shares) some (shares_cover ring shares some) f.place f.code (subst (IsFound ring plan (λ j. j < shares) (is_share shares) history) is told)

@@ -15,12 +15,16 @@ abbrev pub PartFails : RingValue → List Planned → (ℕ → Bool) → List En
 PartFails ring plan is_in entries k code =
     IsFirstFault ring plan (opening_world ring) 0 (part_of ring is_in (take (k + 1) entries)) (Mismatch (length (part_of ring is_in (take k entries))) code)
 
--- none of the m parts fails before entry k of the whole, some fail at it, and that is the greatest number with which one does
-pub record IsLeastFault (ring : RingValue) (plan : List Planned) (m : ℕ) (parts : ℕ → ℕ → Bool) (entries : List Entry) (k code : ℕ) : Type 0 where
+-- none of these parts fails before entry k of the whole, some fail at it, and that is the greatest number with which one does
+pub record IsLeastOf (ring : RingValue) (plan : List Planned) (these : ℕ → Type 0) (parts : ℕ → ℕ → Bool) (entries : List Entry) (k code : ℕ) : Type 0 where
   pub place : k < length entries
-  pub before : (j : ℕ) → j < m → AreRun ring plan (part_of ring (parts j) (take k entries))
-  pub some : (j : ℕ) × (j < m) × PartFails ring plan (parts j) entries k code
-  pub greatest : (j c : ℕ) → j < m → PartFails ring plan (parts j) entries k c → c ≤ code
+  pub before : (j : ℕ) → these j → AreRun ring plan (part_of ring (parts j) (take k entries))
+  pub some : (j : ℕ) × these j × PartFails ring plan (parts j) entries k code
+  pub greatest : (j c : ℕ) → these j → PartFails ring plan (parts j) entries k c → c ≤ code
+
+-- the least fault of the first m parts
+abbrev pub IsLeastFault : RingValue → List Planned → ℕ → (ℕ → ℕ → Bool) → List Entry → ℕ → ℕ → Type 0
+IsLeastFault ring plan m parts entries k code = IsLeastOf ring plan (λ j. j < m) parts entries k code
 
 -- the least fault of parts that cover the ring, with the greatest number at it, is the whole's first
 abbrev pub FaultsDecide : RingValue → List Planned → List Entry → Type 0

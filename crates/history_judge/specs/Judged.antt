@@ -9,20 +9,24 @@ use Rattle.plan_runs.specs.World.{World}
 use Rattle.ring_core.specs.Tables.{owners_now}
 use Rattle.history_parts.specs.Parts.{AreRun, part_of}
 use Rattle.history_judge.specs.declared.fault.Fault.{Fault}
-use Rattle.history_judge.specs.Faults.{IsLeastFault}
+use Rattle.history_judge.specs.Faults.{IsLeastOf}
 
 -- the partition is of that share of so many
 abbrev pub is_share : ℕ → ℕ → ℕ → Bool
 is_share shares share p = p % shares == share
 
+-- the share is of that worker of so many
+abbrev pub IsOwn : ℕ → ℕ → ℕ → ℕ → Type 0
+IsOwn shares workers worker share = (share < shares) × (share % workers ≡ worker)
+
 -- the entry of the whole that is entry i of the part
 abbrev pub IsPlace : RingValue → (ℕ → Bool) → List Entry → ℕ → ℕ → Type 0
 IsPlace ring is_in entries i k = (k < length entries) × (length (part_of ring is_in (take k entries)) ≡ i) × (length (part_of ring is_in (take (k + 1) entries)) ≡ i + 1)
 
--- the least fault of the m parts, if there is one, with the greatest number at it; else they are runs
-abbrev pub IsFound : RingValue → List Planned → ℕ → (ℕ → ℕ → Bool) → List Entry → Option Fault → Type 0
-IsFound ring plan m parts entries (Some f) = IsLeastFault ring plan m parts entries f.place f.code
-IsFound ring plan m parts entries None = (j : ℕ) → j < m → AreRun ring plan (part_of ring (parts j) entries)
+-- the least fault of these parts, if there is one, with the greatest number at it; else they are runs
+abbrev pub IsFound : RingValue → List Planned → (ℕ → Type 0) → (ℕ → ℕ → Bool) → List Entry → Option Fault → Type 0
+IsFound ring plan these parts entries (Some f) = IsLeastOf ring plan these parts entries f.place f.code
+IsFound ring plan these parts entries None = (j : ℕ) → these j → AreRun ring plan (part_of ring (parts j) entries)
 
 -- the first of two faults; of two at one entry that with the greater number
 abbrev pub first_fault : Option Fault → Option Fault → Option Fault

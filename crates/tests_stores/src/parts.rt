@@ -204,8 +204,10 @@ fn judged<RT: AllocGlobal + Threads + Sync + Abort>(
     let wanted = replayed(rt, approved, entries.as_slice());
     assert!(rt; entries.len() <= 1000);
     for parts in [0, 1, 2, 3, 64] {
-        let found = judge(rt, rt.alloc(), approved, parts, entries.as_slice());
-        are_alike(rt, &found, &wanted);
+        for workers in [0, 1, 2, 64] {
+            let found = judge(rt, rt.alloc(), approved, parts, workers, entries.as_slice());
+            are_alike(rt, &found, &wanted);
+        }
     }
     Ok(())
 }

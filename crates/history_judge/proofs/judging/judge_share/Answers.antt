@@ -21,7 +21,7 @@ returns-in-Ok-clause-found c =
     let marks = c.as_slice.ensures.value ∙ (c.in_ok-partitions.ensures ∙ ap (λ n. values_below n (is_share c.args.shares c.args.share)) c.q.ensures.value) in
     let part : c.as_slice-2.result.now ≡ part_of ring (is_share c.args.shares c.args.share) c.args.history.now =
     c.as_slice-2.ensures.value ∙ (c.in_ok-part.ensures.entries ∙ share_part ring c.ring-ring.result.now c.as_slice.result.now c.args.shares c.args.share c.ring-ring.ensures.value marks c.args.history.now) in
-    λ j l. subst (AreRun ring plan) part (some_run ring plan (opening_world ring) c.as_slice-2.result.now (Meets c.in-Ok.field-0) c.in-Ok.ensures.ok)
+    λ j same. subst (λ z. AreRun ring plan (part_of ring (is_share c.args.shares z) c.args.history.now)) (sym same) (subst (AreRun ring plan) part (some_run ring plan (opening_world ring) c.as_slice-2.result.now (Meets c.in-Ok.field-0) c.in-Ok.ensures.ok))
 
 pub index-requires : goal.index-requires
 index-requires c =
@@ -51,5 +51,5 @@ returns-in-Err-Mismatch-clause-found c =
     let there : place < length places = omega arith in
     let found : get_or places place 0 ≡ c.index.result.now = sym (c.index.ensures ∙ get_or_default_zero places place c.index.result.now there) in
     let at = share_place ring c.ring-ring.result.now c.as_slice.result.now c.args.shares c.args.share c.ring-ring.ensures.value marks history place (get_or places place 0) (c.in_ok-part.ensures.places place (omega arith)) in
-    placed_fault ring plan (is_share c.args.shares c.args.share) history place code (record { place = c.index.result.now; code = code }) (subst (λ z. IsFirstFault ring plan (opening_world ring) 0 z (Mismatch place code)) part fault)
+    placed_fault ring plan (is_share c.args.shares) c.args.share history place code (record { place = c.index.result.now; code = code }) (subst (λ z. IsFirstFault ring plan (opening_world ring) 0 z (Mismatch place code)) part fault)
     (subst (λ k. IsPlace ring (is_share c.args.shares c.args.share) history place k) found at) refl

@@ -1,6 +1,7 @@
 use Rattle.std.proofs.Common.{◌≡◌, ◌∙◌, [], ap, subst}
 use Rattle.std.proofs.Math.Logic.{∥∥₁_map}
 use Rattle.std.proofs.lemmas.Result.{IfOk-weaker}
+use Rattle.ring_table.specs.Value.{RingValue}
 use Rattle.plan_runs.specs.Runs.{IsRun}
 use Rattle.ring_core.specs.Tables.{owners_now}
 use Rattle.ring_core.specs.World.{plan_of}
@@ -25,3 +26,6 @@ returns-in-Ok-clause-judged c =
       now x.0 x.1 ∙ (ap (λ r. owners_now r (plan_of c.in-Ok.world) x.0) c.in-Ok.ensures.ring ∙ (ap (λ p. owners_now ring p x.0) c.in-Ok.ensures.plan
           ∙ ends_owned ring plan history (is_marked []) run.0 x.0 run.1 (subst (λ z. IsRun ring plan z x.0) steps x.2))),
     ))) c.table.ensures.now
+
+pub returns-in-Ok-clause-size : goal.returns-in-Ok-clause-size
+returns-in-Ok-clause-size c = IfOk-weaker c.table.result _ _ (λ rows size. size ∙ ap (λ (r : RingValue). r.q) c.in-Ok.ensures.ring) c.table.ensures.size
