@@ -1,21 +1,16 @@
 -- Where a fault of a bundle lies, by its parts.
-use Rattle.std.proofs.Common.{◌≡◌, ◌≢◌, ℕ, ◌≤◌, Bool, true, false, cond, List, [], Result, Ok, Err, IsErrAnd, IfErr, codes, refl, sym, ◌∙◌, arith}
+use Rattle.std.proofs.Common.{◌≡◌, ◌≢◌, ℕ, List, [], Result, Ok, Err, IsErrAnd, refl, arith}
 use Rattle.ring_names.specs.declared.refusal.Refusal.{Refusal}
-use Rattle.ring_names.specs.declared.refusal.Refusal.TheVariants.{BadLine, OutOfMemory}
-use Rattle.texts.specs.Left.{Left, Reads, lines_on, is_over, is_word, over_at, then_part}
-use Rattle.texts.specs.Frames.{end_line_at}
-use Rattle.texts.specs.Late.{NoFaultBefore, ReadsTo}
-use Rattle.texts.proofs.Lates.{Advances, advances-line, advances-then, advances-map, to-first, to-second, to-map, many-on, next-after}
-use Rattle.texts.proofs.FrameLaws.{header-at, end-at}
+use Rattle.ring_names.specs.declared.refusal.Refusal.TheVariants.{OutOfMemory}
+use Rattle.texts.specs.Left.{Left, Reads}
+use Rattle.texts.specs.Late.{ReadsTo}
+use Rattle.texts.proofs.Lates.{Advances, to-map}
 use Rattle.ring_table.specs.Value.{RingValue}
 use Rattle.ring_table.specs.Reading.{ring_at}
 use Rattle.plan_text.specs.declared.step.Planned.{Planned}
-use Rattle.plan_text.specs.Reading.{steps_at, plan_at}
-use Rattle.plan_text.proofs.PlanLates.{steps-on, steps-at}
+use Rattle.plan_text.specs.Reading.{plan_at}
 use Rattle.plan_cert.specs.declared.cert.Cert.{Cert}
-use Rattle.plan_cert.specs.Reading.{fact_at, chain_at, begins_chain, facts_at, chains_at, cert_at}
-use Rattle.plan_cert.specs.Spelling.{cert_format}
-use Rattle.plan_cert.proofs.CertLates.{fact-at, chain-at}
+use Rattle.plan_cert.specs.Reading.{cert_at}
 use Rattle.script_text.specs.declared.speaker.Speaker.TheVariants.{Anyone}
 use Rattle.script_text.proofs.ScriptLates.{section-on}
 use Rattle.ring_script.specs.declared.bundle.Bundle.{Bundle}

@@ -18,7 +18,7 @@ use Rattle.plan_runs.specs.World.{World as TheWorld, opening_world}
 use Rattle.ring_core.specs.declared.world.World.{World}
 use Rattle.ring_core.specs.Tables.{owners_now}
 use Rattle.ring_core.specs.World.{ring_of, plan_of, Meets}
-use Rattle.ring_script.specs.Play.{behind, said, event_line, world_after, event_lines, owners_text, play_text}
+use Rattle.ring_script.specs.Play.{behind, said, event_line, world_after, event_lines, owners_text, play_text, table_text}
 use Rattle.ring_script.specs.Steps.{Happens, Plays}
 
 plus-one : (k : ℕ) (d : Event) (es : List Event) → (k + 1) + length es ≡ k + length (d ∷ es)
@@ -72,20 +72,18 @@ plays_one start old new es e before out after p h = record {
     same : (w : TheWorld) → behind (there w) (answer (ring_of old) (plan_of old) (there w) e) ≡ world_after (ring_of start) (plan_of start) w (es ++ e ∷ [])
     same w = ap (λ (r : Result (TheWorld × Reply) Refusal). behind (there w) r) (answered w) ∙ sym (after_one (ring_of start) (plan_of start) w es e)
 
--- the lines of the owners, and `end` behind them
-pub ending_shown : (new : World) (ring : RingValue) (rows : List (List NodeId)) (b c d : List ℕ) → ring_of new ≡ ring
-    → ((w : TheWorld) → Meets new w → rows ≡ owners_now (ring_of new) (plan_of new) w) → c ≡ b ++ text_of (rows_lines (names_of ring) 0 rows) → d ≡ c ++ (codes "end" ++ 10 ∷ [])
-    → (w : TheWorld) → Meets new w → d ≡ b ++ owners_text ring (plan_of new) w
-ending_shown new ring rows b c d same table owners last w m =
+-- the lines of these owners, and `end` behind them
+pub table_shown : (ring : RingValue) (rows : List (List NodeId)) (b c d : List ℕ) → c ≡ b ++ text_of (rows_lines (names_of ring) 0 rows) → d ≡ c ++ (codes "end" ++ 10 ∷ []) → d ≡ b ++ table_text ring rows
+table_shown ring rows b c d owners last =
     last
     ∙ (ap (λ (l : List ℕ). l ++ (codes "end" ++ 10 ∷ [])) owners
-    ∙ (append_assoc b (text_of (rows_lines names 0 rows)) (codes "end" ++ 10 ∷ [])
-    ∙ (ap (λ (l : List ℕ). b ++ l) (sym (flat_map-append line_text (rows_lines names 0 rows) (end_fields ∷ [])))
-    ∙ (ap (λ (rs : List (List NodeId)). b ++ text_of (rows_lines names 0 rs ++ end_fields ∷ [])) (table w m)
-    ∙ ap (λ (r : RingValue). b ++ text_of (rows_lines names 0 (owners_now r (plan_of new) w) ++ end_fields ∷ [])) same))))
-  where
-    names : List (List ℕ)
-    names = names_of ring
+    ∙ (append_assoc b (text_of (rows_lines (names_of ring) 0 rows)) (codes "end" ++ 10 ∷ [])
+    ∙ ap (λ (l : List ℕ). b ++ l) (sym (flat_map-append line_text (rows_lines (names_of ring) 0 rows) (end_fields ∷ [])))))
+
+-- the owners that a store has are those in its world
+pub owners_met : (new : World) (ring : RingValue) (rows : List (List NodeId)) → ring_of new ≡ ring → ((w : TheWorld) → Meets new w → rows ≡ owners_now (ring_of new) (plan_of new) w)
+    → (w : TheWorld) → Meets new w → rows ≡ owners_now ring (plan_of new) w
+owners_met new ring rows same table w m = table w m ∙ ap (λ (r : RingValue). owners_now r (plan_of new) w) same
 
 -- `yes`, all events, and what stands behind them
 pub all_shown : (start new : World) (ring : RingValue) (es : List Event) (a b d : List ℕ) → ring_of start ≡ ring → Meets start (opening_world ring) → a ≡ codes "yes" ++ 10 ∷ [] → Plays start es new a b

@@ -3,6 +3,7 @@ use Rattle.std.specs.Prelude.{ℕ, ◌+◌, List, [], ◌∷◌, ◌++◌, codes
 use Rattle.std.specs.Fmt.{decimal}
 use Rattle.ring_names.specs.declared.refusal.Refusal.{Refusal}
 use Rattle.ring_names.specs.Refusals.{line_of}
+use Rattle.ring_names.specs.declared.ids.NodeId.{NodeId}
 use Rattle.texts.specs.Parts.{text_of}
 use Rattle.texts.specs.Frames.{end_fields}
 use Rattle.ring_table.specs.Value.{RingValue, names_of}
@@ -39,9 +40,13 @@ abbrev pub event_lines : RingValue → List Planned → World → ℕ → List E
 event_lines ring plan w k [] = []
 event_lines ring plan w k (e ∷ es) = event_line k (answer ring plan w e) ++ event_lines ring plan (behind w (answer ring plan w e)) (k + 1) es
 
--- the lines of the owners in a world, and `end`
+-- the lines of these owners, and `end`
+abbrev pub table_text : RingValue → List (List NodeId) → List ℕ
+table_text ring rows = text_of (rows_lines (names_of ring) 0 rows ++ end_fields ∷ [])
+
+-- those of the owners in a world
 abbrev pub owners_text : RingValue → List Planned → World → List ℕ
-owners_text ring plan w = text_of (rows_lines (names_of ring) 0 (owners_now ring plan w) ++ end_fields ∷ [])
+owners_text ring plan w = table_text ring (owners_now ring plan w)
 
 -- `yes`, the events' lines from the opening world on, and the owners behind them
 unfoldable pub play_text : RingValue → List Planned → List Event → List ℕ

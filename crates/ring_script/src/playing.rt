@@ -6,7 +6,7 @@ ghost use Rattle.texts.specs.Parts.{text_of};
 ghost use Rattle.ring_table.specs.Spelling.{rows_lines};
 ghost use Rattle.plan_runs.specs.World.{World as TheWorld, opening_world};
 ghost use Rattle.ring_core.specs.World.{ring_of, plan_of, Meets, put_count, get_count, HasNumber};
-ghost use Rattle.ring_script.specs.Play.{owners_text, play_text};
+ghost use Rattle.ring_script.specs.Play.{owners_text, play_text, table_text};
 ghost use Rattle.ring_script.specs.Steps.{Happens, Plays};
 
 use plan_check::Approved;
@@ -110,16 +110,29 @@ fn push_owners(out: &mut Vec<u8>, nodes: &[Node], rows: &[Listed<NodeId>]) -> Re
     Ok(())
 }
 
-/// The line of the owners of each partition now, and `end`.
-pub(crate) fn push_ending(world: &World, ring: &Ring, out: &mut Vec<u8>) -> Result<(), Refusal>
+/// Appends the line of owners of each partition, and `end`.
+pub(crate) fn push_table(
+    out: &mut Vec<u8>,
+    ring: &Ring,
+    rows: &[Listed<NodeId>],
+) -> Result<(), AllocError>
+    requires { length rows.now ≡ ring.now.q }
+    ensures { OnOk result (out.new.items ≡ out.old.items ++ table_text ring.now rows.now) }
+{
+    push_owners(out, ring.nodes(), rows)?;
+    out.extend_from_slice(b"end\n")?;
+    Ok(())
+}
+
+// The line of the owners of each partition now, and `end`.
+fn push_ending(world: &World, ring: &Ring, out: &mut Vec<u8>) -> Result<(), Refusal>
     requires { ring_of world.now ≡ ring.now }
     ensures ok { OnOk result ((w : TheWorld) → Meets world.now w
         → out.new.items ≡ out.old.items ++ owners_text ring.now (plan_of world.now) w) }
     ensures memory { IfErr result (λ e. e ≡ OutOfMemory) }
 {
     let rows = world.table()?;
-    push_owners(out, ring.nodes(), rows.as_slice())?;
-    out.extend_from_slice(b"end\n")?;
+    push_table(out, ring, rows.as_slice())?;
     Ok(())
 }
 

@@ -5,15 +5,26 @@ ghost use Rattle.ring_names.specs.declared.refusal.Refusal.TheVariants.{OutOfMem
 ghost use Rattle.plan_runs.specs.World.{World as TheWorld, opening_world};
 ghost use Rattle.ring_core.specs.World.{ring_of, plan_of, Meets};
 ghost use Rattle.ring_core.specs.Faults.{IsFirstFault};
-ghost use Rattle.ring_script.specs.Replay.{ending_text, IsReplayed};
+ghost use Rattle.ring_script.specs.Replay.{ending_text, rows_text, IsReplayed};
 
-use crate::playing::push_ending;
+use crate::playing::push_table;
 use plan_check::Approved;
 use plan_runs::Entry;
 use ring_core::{World, replay};
-use ring_names::Refusal;
+use ring_names::{Listed, NodeId, Refusal};
 use ring_table::Ring;
 use std::alloc::Global;
+
+/// What is printed of a history that is a run: `yes`, the line of owners of each partition, and `end`.
+pub fn write_owners(alloc: Global, ring: &Ring, rows: &[Listed<NodeId>]) -> Result<Vec<u8>, Refusal>
+    requires { length rows.now ≡ ring.now.q }
+    ensures text { IfOk result (λ v. v.items ≡ rows_text ring.now rows.now) }
+    ensures memory { IfErr result (λ e. e ≡ OutOfMemory) }
+{
+    let mut out = Vec::from_slice(alloc, b"yes\n")?;
+    push_table(&mut out, ring, rows)?;
+    Ok(out)
+}
 
 // `yes`, and the owners now.
 fn ending(alloc: Global, ring: &Ring, world: &World) -> Result<Vec<u8>, Refusal>
@@ -22,9 +33,8 @@ fn ending(alloc: Global, ring: &Ring, world: &World) -> Result<Vec<u8>, Refusal>
         (λ v. (w : TheWorld) → Meets world.now w → v.items ≡ ending_text ring.now (plan_of world.now) w) }
     ensures memory { IfErr result (λ e. e ≡ OutOfMemory) }
 {
-    let mut out = Vec::from_slice(alloc, b"yes\n")?;
-    push_ending(world, ring, &mut out)?;
-    Ok(out)
+    let rows = world.table()?;
+    write_owners(alloc, ring, rows.as_slice())
 }
 
 /// What a replay of the history prints, where it is a run of the plan with those replies: `yes`, the line of owners of each partition behind the last

@@ -1,9 +1,8 @@
-use Rattle.std.proofs.Common.{◌≡◌, ◌∙◌, ℕ, List, IfOk, ap, subst, sym}
+use Rattle.std.proofs.Common.{◌≡◌, ◌∙◌, ℕ, List, IfOk, ap, subst}
 use Rattle.ring_table.specs.Value.{RingValue}
 use Rattle.plan_text.specs.declared.step.Planned.{Planned}
-use Rattle.plan_runs.specs.World.{opening_world}
 use Rattle.plan_runs.specs.declared.event.Event.{Event}
-use Rattle.ring_core.specs.World.{Meets, plan_of}
+use Rattle.ring_core.specs.World.{plan_of}
 use Rattle.ring_script.specs.Play.{play_text}
 use Rattle.ring_script.proofs.playing.play.Goals as goal
 

@@ -1,9 +1,9 @@
-use Rattle.std.proofs.Common.{◌≡◌, ◌∙◌, ℕ, ◌+◌, ◌≤◌, List, [], ◌∷◌, ◌++◌, length, sym, ap, subst, arith, append_assoc, length-append}
+use Rattle.std.proofs.Common.{◌≡◌, ◌∙◌, ℕ, ◌≤◌, List, [], ◌∷◌, ◌++◌, length, sym, ap, subst, arith, append_assoc, length-append}
 use Rattle.std.specs.Prelude.{reverse}
 use Rattle.std.proofs.lemmas.List.{reverse-append, length-reverse}
 use Rattle.plan_runs.specs.declared.event.Event.{Event}
 use Rattle.ring_core.proofs.SoundAfterEvent.{has_number}
-use Rattle.ring_script.specs.Steps.{Happens, Plays}
+use Rattle.ring_script.specs.Steps.{Happens}
 use Rattle.ring_script.proofs.Played.{plays_one}
 use Rattle.ring_script.proofs.playing.play_from_end.Goals as goal
 
