@@ -1,9 +1,10 @@
-//! The jobs of the program over bytes: what comes of a bundle, with its exit status. No job here starts a thread but a check by workers.
+//! The jobs of the program over bytes: what comes of a bundle, with its exit status. No job here starts a thread but a check and a judge by workers.
 #![tactic(auto)]
 
 mod answer;
 mod bundle;
 mod input;
+mod judging;
 mod output;
 mod replaying;
 mod stating;
@@ -14,6 +15,7 @@ pub use bundle::{
     play_bundle,
 };
 pub use input::{MAX_INPUT, read_all};
+pub use judging::judge_bundle_by;
 pub use output::write_all;
 pub use replaying::replay_bundle;
 pub use ring_script::{Kind, read_bundle};
