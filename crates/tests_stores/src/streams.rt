@@ -235,32 +235,3 @@ fn a_read_may_fail(rt: HostRuntime) -> Result<(), Fail> {
     }
     Ok(())
 }
-
-// The part is the whole, which is longer than what is read at first.
-#[test]
-fn a_large_part_is_counted(rt: HostRuntime) -> Result<(), Fail> {
-    let mut line = Vec::from_slice(rt.alloc(), b"put w1 a x")?;
-    for digit in 0u32..2048 {
-        line.push(b'3')?;
-    }
-    line.extend_from_slice(b" = put 0\n")?;
-    let mut whole = bundle(rt.alloc(), b"history 1\n")?;
-    for turn in 0u32..32_500 {
-        whole.extend_from_slice(line.as_slice())?;
-    }
-    whole.extend_from_slice(b"end\n")?;
-    let wanted = NoPart::Large {
-        entries: 32_500,
-        bytes: whole.len() as u64,
-    };
-    match cut(
-        rt.alloc(),
-        Choice::Share { of: 4, part: 0 },
-        whole.as_slice(),
-        65_536,
-    ) {
-        Ok(_) => assert!(rt; false),
-        Err(found) => assert!(rt; found == wanted),
-    }
-    Ok(())
-}
