@@ -30,7 +30,7 @@ COMMANDS = {
     "drive": [["drive"]],
     "report": [["drive", "--json"]],
     "race": [["drive", "--workers", "3"]],
-    "replay": [["replay"]],
+    "replay": [["replay"], ["judge", "--parts", "3", "--workers", "2"]],
 }
 
 

@@ -192,7 +192,14 @@ def formats():
             owes(f"{word} of {case} as text", run(word, "--format=text", given), text, errors, status)
             if word == "check":
                 owes(f"{case} as JSON by workers", run(word, "--workers", "3", "--format", "json", given), line, errors, status)
-    for words in (["check"], ["replay"], ["check", "--workers", "2"]):
+            for parts, workers in ((1, 1), (3, 4), (4096, 64)) if word == "replay" else ():
+                shares = [f"--parts={parts}", f"--workers={workers}"]
+                owes(f"{case} judged in {parts} parts by {workers}", run("judge", *shares, given), text, errors, status)
+                owes(f"{case} judged in {parts} parts by {workers} as JSON", run("judge", *shares, "--format", "json", given), line, errors, status)
+    for option, numbers in (("--parts <K>", ("0", "4097", "x", "")), ("--workers <W>", ("0", "65", "x", ""))):
+        for number in numbers:
+            owes(f"judge by {option} of {number}", run("judge", option.split()[0], number), contains(f"'{option}'".encode()), b"", 2)
+    for words in (["check"], ["replay"], ["judge"], ["check", "--workers", "2"]):
         wrong = b"error: invalid value for '--format <FORMAT>': not text or json\n\nFor more information, try '--help'.\n"
         for form in ("xml", "JSON", ""):
             owes(f"{words} in no form", run(*words, "--format", form), wrong, b"", 2)

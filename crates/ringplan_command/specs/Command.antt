@@ -6,9 +6,9 @@ use Rattle.std.specs.Str.Parse.{IsNumeral, digits_value, without_leading_plus}
 use Rattle.clap.specs.Words.{IsAmong, Kinds, Row, fault_of, first_of, one_of, subcommand_of}
 use Rattle.clap.specs.declared.error.kind.ErrorKind.{ErrorKind}
 use Rattle.clap.specs.declared.error.kind.ErrorKind.TheVariants.{DisplayHelp, DisplayVersion}
-use Rattle.ringplan_command.specs.Tree.{drive_word, ringplan, word_of}
+use Rattle.ringplan_command.specs.Tree.{drive_word, judge_word, ringplan, word_of}
 use Rattle.ringplan_command.specs.declared.command.Request.{Request}
-use Rattle.ringplan_command.specs.declared.command.Request.TheVariants.{Do, CheckBy, State, StateBy, Drive, Make, Describe, Help, Refused, Mistaken, OutOfMemory}
+use Rattle.ringplan_command.specs.declared.command.Request.TheVariants.{Do, CheckBy, State, StateBy, Judge, StateJudge, Drive, Make, Describe, Help, Refused, Mistaken, OutOfMemory}
 use Rattle.ringplan_command.specs.declared.word.Guide.{Guide}
 use Rattle.ringplan_command.specs.declared.word.Guide.TheVariants.{Completions, Manual}
 use Rattle.ringplan_command.specs.declared.word.Word.{Word}
@@ -17,8 +17,9 @@ use Rattle.ringplan_job.specs.declared.making.Making.{Making}
 use Rattle.ringplan_job.specs.declared.making.Making.TheVariants.{Why, Bundle, Cert, After, Show, Draw, Steps, Moves, Windows, Goal, Even, Around, State as StateMaking}
 use Rattle.ringplan_job.specs.declared.making.Statement.{Statement}
 use Rattle.ringplan_job.specs.declared.making.Statement.TheVariants as stated
-use Rattle.ringplan_command.specs.declared.command.Workers.{Workers}
-use Rattle.ringplan_command.specs.declared.command.Workers.TheVariants.{Unnamed, Many, NoNumber}
+use Rattle.ringplan_command.specs.declared.counts.Count.{Count}
+use Rattle.ringplan_command.specs.declared.counts.Count.TheVariants.{Unnamed, Many, NoNumber}
+use Rattle.ringplan_command.specs.declared.counts.Shares.{Shares}
 use Rattle.ringplan_command.specs.declared.command.Format.{Format}
 use Rattle.ringplan_command.specs.declared.command.Format.TheVariants as format
 use Rattle.ringplan_command.specs.declared.form.Form.{Form}
@@ -48,19 +49,21 @@ word_of_making Bundle = people.Bundle
 word_of_making Cert = people.Cert
 word_of_making After = people.After
 
--- what is to be done: a job, a drive, what a command for people makes, or a text about the program
+-- what is to be done: a job, a judge, a drive, what a command for people makes, or a text about the program
 pub data Task : Type 0 where
   to_do : Job → Task
+  to_judge : Task
   to_drive : Task
   to_make : Word → Task
   to_describe : Guide → Task
 
--- what the words of a command line ask: how they fail, and where they do not, what is to be done, and the texts of the workers and of the form
--- that are named
+-- what the words of a command line ask: how they fail, and where they do not, what is to be done, and the texts of the workers, of the parts and of
+-- the form that are named
 pub record Asked : Type 0 where
   pub faults : Kinds
   pub task : Task
   pub workers : Option (List ℕ)
+  pub parts : Option (List ℕ)
   pub json : Option (List ℕ)
 
 -- the subcommand has that name
@@ -92,18 +95,24 @@ guide_named subcommand = if is_word (codes "completions") subcommand then Some C
 
 -- what it asks to be done
 abbrev pub task_named : Option (List ℕ × List Row) → Task
-task_named subcommand = if is_word drive_word subcommand then to_drive
-    else option_map_or to_describe (guide_named subcommand) (option_map_or to_make (word_named subcommand) (to_do (job_named subcommand)))
+task_named subcommand = if is_word drive_word subcommand then to_drive else (if is_word judge_word subcommand then to_judge
+    else option_map_or to_describe (guide_named subcommand) (option_map_or to_make (word_named subcommand) (to_do (job_named subcommand))))
 
 -- the text that the subcommand has for an option
 abbrev pub option_named : List ℕ → Option (List ℕ × List Row) → Option (List ℕ)
 option_named id subcommand = option_and_then (λ x. one_of id x.1) subcommand
 
--- the text of the workers; but for `check` and `drive`, no subcommand names them
+-- the text of the workers; but for `check`, `judge` and `drive`, no subcommand names them
 abbrev pub workers_named : Task → Option (List ℕ × List Row) → Option (List ℕ)
 workers_named (to_do Check) subcommand = option_named (codes "workers") subcommand
+workers_named to_judge subcommand = option_named (codes "workers") subcommand
 workers_named to_drive subcommand = option_named (codes "workers") subcommand
 workers_named task subcommand = None
+
+-- the text of the parts; but for `judge`, no subcommand names them
+abbrev pub parts_named : Task → Option (List ℕ × List Row) → Option (List ℕ)
+parts_named to_judge subcommand = option_named (codes "parts") subcommand
+parts_named task subcommand = None
 
 -- the text of a form of answers, but for `text`, which is also the form where none is named
 abbrev pub but_text : Option (List ℕ) → Option (List ℕ)
@@ -113,17 +122,18 @@ but_text (Some text) = if bytes_eq text (codes "text") then None else Some text
 abbrev pub format_named : Option (List ℕ × List Row) → Option (List ℕ)
 format_named subcommand = but_text (option_and_then (λ x. first_of (codes "format") x.1) subcommand)
 
--- the text of the form; but for `drive`, `check` and `replay`, no subcommand names one
+-- the text of the form; but for `drive`, `check`, `replay` and `judge`, no subcommand names one
 abbrev pub json_named : Task → Option (List ℕ × List Row) → Option (List ℕ)
 json_named (to_do Check) subcommand = format_named subcommand
 json_named (to_do Replay) subcommand = format_named subcommand
+json_named to_judge subcommand = format_named subcommand
 json_named to_drive subcommand = option_named (codes "json") subcommand
 json_named task subcommand = None
 
 -- what a line with these faults and this subcommand asks
 abbrev pub asked_by : Kinds → Option (List ℕ × List Row) → Asked
 asked_by faults subcommand = let task = task_named subcommand in
-    record { faults = faults; task = task; workers = workers_named task subcommand; json = json_named task subcommand }
+    record { faults = faults; task = task; workers = workers_named task subcommand; parts = parts_named task subcommand; json = json_named task subcommand }
 
 -- what these words ask
 abbrev pub asked : List (List ℕ) → Asked
@@ -131,44 +141,67 @@ asked words = asked_by (fault_of ringplan words) (subcommand_of ringplan words)
 
 -- just that job
 abbrev pub only : Job → Asked
-only job = record { faults = []; task = to_do job; workers = None; json = None }
+only job = record { faults = []; task = to_do job; workers = None; parts = None; json = None }
 
 -- a check by workers, of which the text tells how many
 abbrev pub by_workers : List ℕ → Asked
-by_workers text = record { faults = []; task = to_do Check; workers = Some text; json = None }
+by_workers text = record { faults = []; task = to_do Check; workers = Some text; parts = None; json = None }
 
 -- what is asked, with an answer as JSON
 abbrev pub in_json : Asked → Asked
 in_json asked = record asked { json = Some (codes "json") }
 
+-- a judge, with those texts of parts and workers, if they are named
+abbrev pub by_judge : Option (List ℕ) → Option (List ℕ) → Asked
+by_judge parts workers = record { faults = []; task = to_judge; workers = workers; parts = parts; json = None }
+
 -- a drive, with those texts of workers and form, if they are named
 abbrev pub by_drive : Option (List ℕ) → Option (List ℕ) → Asked
-by_drive workers json = record { faults = []; task = to_drive; workers = workers; json = json }
+by_drive workers json = record { faults = []; task = to_drive; workers = workers; parts = None; json = json }
 
--- the text is k in decimal digits, perhaps behind a plus, and k is from 1 to 64
+-- the text is k in decimal digits, perhaps behind a plus, and k is from 1 to so many
+abbrev pub IsNumberTo : ℕ → List ℕ → ℕ → Type 0
+IsNumberTo most text k = IsNumeral 10 (without_leading_plus text) × (digits_value 10 (without_leading_plus text) ≡ k) × (1 ≤ k) × (k ≤ most)
+
 abbrev pub IsWorkers : List ℕ → ℕ → Type 0
-IsWorkers text k = IsNumeral 10 (without_leading_plus text) × (digits_value 10 (without_leading_plus text) ≡ k) × (1 ≤ k) × (k ≤ 64)
+IsWorkers text k = IsNumberTo 64 text k
+
+-- the number that is named, from 1 to so many; where none is, that one
+abbrev pub IsCount : ℕ → ℕ → Option (List ℕ) → ℕ → Type 0
+IsCount most unnamed None k = k ≡ unnamed
+IsCount most unnamed (Some text) k = IsNumberTo most text k
+
+-- so many parts, at most 4,096, and workers, at most 64, are meant: one worker where none are named, and as many parts as workers
+abbrev pub AreShares : Option (List ℕ) → Option (List ℕ) → ℕ → ℕ → Type 0
+AreShares parts workers m k = IsCount 4096 k parts m × IsCount 64 1 workers k
+
+-- what is asked is a judge of m parts by k workers
+abbrev pub AsksJudge : Asked → ℕ → ℕ → Type 0
+AsksJudge asked m k = (parts workers : Option (List ℕ)) × (asked ≡ by_judge parts workers) × AreShares parts workers m k
+
+-- what is asked is that, with an answer as JSON
+abbrev pub AsksJsonJudge : Asked → ℕ → ℕ → Type 0
+AsksJsonJudge asked m k = (parts workers : Option (List ℕ)) × (asked ≡ in_json (by_judge parts workers)) × AreShares parts workers m k
 
 -- what is asked is a check by k workers
 abbrev pub AsksBy : Asked → ℕ → Type 0
 AsksBy asked k = (text : List ℕ) × (asked ≡ by_workers text) × IsWorkers text k
 
--- what is asked is that job; a check may be by workers
+-- what is asked is that job; a check may be by workers, and a replay by a judge
 abbrev pub Asks : Asked → Job → Type 0
-Asks asked job = (asked ≡ only job) ⊎ ((job ≡ Check) × ((k : ℕ) × AsksBy asked k))
+Asks asked job = (asked ≡ only job) ⊎ (((job ≡ Check) × ((k : ℕ) × AsksBy asked k)) ⊎ ((job ≡ Replay) × ((m k : ℕ) × AsksJudge asked m k)))
 
 -- what is asked is a check by k workers, with an answer as JSON
 abbrev pub AsksJsonBy : Asked → ℕ → Type 0
 AsksJsonBy asked k = (text : List ℕ) × (asked ≡ in_json (by_workers text)) × IsWorkers text k
 
--- what is asked is that job with an answer as JSON; a check may be by workers
+-- what is asked is that job with an answer as JSON; a check may be by workers, and a replay by a judge
 abbrev pub AsksJson : Asked → Job → Type 0
-AsksJson asked job = (asked ≡ in_json (only job)) ⊎ ((job ≡ Check) × ((k : ℕ) × AsksJsonBy asked k))
+AsksJson asked job = (asked ≡ in_json (only job)) ⊎ (((job ≡ Check) × ((k : ℕ) × AsksJsonBy asked k)) ⊎ ((job ≡ Replay) × ((m k : ℕ) × AsksJsonJudge asked m k)))
 
 -- so many workers are meant: one where none are named
 abbrev pub IsMany : Option (List ℕ) → ℕ → Type 0
-IsMany None k = k ≡ 1
-IsMany (Some text) k = IsWorkers text k
+IsMany workers k = IsCount 64 1 workers k
 
 -- the form is the one that is named: a report where `--json` stands, and else a history
 abbrev pub IsForm : Option (List ℕ) → Form → Type 0
@@ -187,9 +220,9 @@ WantsHelp kinds = IsAmong DisplayHelp kinds ⊎ IsAmong DisplayVersion kinds
 abbrev pub IsMistaken : Kinds → Type 0
 IsMistaken kinds = (k : ErrorKind) × (k ≢ DisplayHelp) × (k ≢ DisplayVersion) × IsAmong k kinds
 
--- workers are named, and not by a number from 1 to 64
-abbrev pub HasNoNumber : Option (List ℕ) → Type 0
-HasNoNumber workers = (text : List ℕ) × (workers ≡ Some text) × ((k : ℕ) → IsWorkers text k → ⊥)
+-- what is named is no number from 1 to so many
+abbrev pub HasNoNumber : ℕ → Option (List ℕ) → Type 0
+HasNoNumber most named = (text : List ℕ) × (named ≡ Some text) × ((k : ℕ) → IsNumberTo most text k → ⊥)
 
 -- a form of answers is named that there is not; that of a drive is another one
 abbrev pub HasNoFormat : Asked → Type 0
@@ -201,15 +234,20 @@ MeansFormat json format.Text = json ≡ None
 MeansFormat json format.Json = json ≡ Some (codes "json")
 MeansFormat json format.Unknown = (text : List ℕ) × (json ≡ Some text) × (text ≢ codes "json")
 
--- what was read of the text of the workers
-abbrev pub MeansWorkers : Option (List ℕ) → Workers → Type 0
-MeansWorkers workers Unnamed = workers ≡ None
-MeansWorkers workers (Many k) = (text : List ℕ) × (workers ≡ Some text) × IsWorkers text k
-MeansWorkers workers NoNumber = HasNoNumber workers
+-- what was read of the text of a number from 1 to so many
+abbrev pub MeansCount : ℕ → Option (List ℕ) → Count → Type 0
+MeansCount most named Unnamed = named ≡ None
+MeansCount most named (Many k) = (text : List ℕ) × (named ≡ Some text) × IsNumberTo most text k
+MeansCount most named NoNumber = HasNoNumber most named
+
+-- what was read of the texts of parts and workers
+abbrev pub MeansShares : Option (List ℕ) → Option (List ℕ) → Option Shares → Type 0
+MeansShares parts workers (Some shares) = AreShares parts workers shares.parts shares.workers
+MeansShares parts workers None = HasNoNumber 64 workers ⊎ HasNoNumber 4096 parts
 
 -- just that, with no number of workers and no form
 abbrev pub asks_just : Task → Asked
-asks_just task = record { faults = []; task = task; workers = None; json = None }
+asks_just task = record { faults = []; task = task; workers = None; parts = None; json = None }
 
 -- just what that command for people makes
 abbrev pub asks_word : Word → Asked
@@ -232,9 +270,9 @@ TakesValues (to_make people.Goal) = ⊤
 TakesValues (to_describe Completions) = ⊤
 TakesValues task = ⊥
 
--- the line is refused: for its words, for its workers, for the form of its answer, or for such a value
+-- the line is refused: for its words, for its workers or parts, for the form of its answer, or for such a value
 abbrev pub IsRefused : Asked → Type 0
-IsRefused asked = IsMistaken asked.faults ⊎ (HasNoNumber asked.workers ⊎ (HasNoFormat asked ⊎ ((task : Task) × (asked ≡ asks_just task) × TakesValues task)))
+IsRefused asked = IsMistaken asked.faults ⊎ (HasNoNumber 64 asked.workers ⊎ (HasNoNumber 4096 asked.parts ⊎ (HasNoFormat asked ⊎ ((task : Task) × (asked ≡ asks_just task) × TakesValues task))))
 
 -- what a command line that asks so is taken for, memory aside
 abbrev pub Answers : Asked → Request → Type 0
@@ -242,6 +280,8 @@ Answers asked (Do job) = asked ≡ only job
 Answers asked (CheckBy workers) = AsksBy asked workers
 Answers asked (State job) = asked ≡ in_json (only job)
 Answers asked (StateBy workers) = AsksJsonBy asked workers
+Answers asked (Judge shares) = AsksJudge asked shares.parts shares.workers
+Answers asked (StateJudge shares) = AsksJsonJudge asked shares.parts shares.workers
 Answers asked (Drive workers form) = AsksDrive asked workers form
 Answers asked (Make making) = AsksWord asked (word_of_making making)
 Answers asked (Describe text) = (guide : Guide) × AsksGuide asked guide

@@ -20,6 +20,10 @@ word_of Replay = codes "replay"
 abbrev pub drive_word : List ℕ
 drive_word = codes "drive"
 
+-- the word that asks for a judge
+abbrev pub judge_word : List ℕ
+judge_word = codes "judge"
+
 -- the command is read by these rules, none of which goes for its subcommands too
 abbrev pub IsApp : App → Command → Type 0
 IsApp app command = (app_of command ≡ app) × ((out-Command command).has_globals ≡ false)
@@ -36,7 +40,11 @@ text_option word = record (new_rule word) { long = Some word; value_names = 1 }
 abbrev pub list_option : List ℕ → Rule
 list_option word = record (text_option word) { action = Some Append }
 
--- `--workers K`, with K from 1 to 64
+-- `--parts K`, with K from 1 to 4,096
+abbrev pub parts_option : Rule
+parts_option = record (text_option (codes "parts")) { parser = Some (parser.Signed (pos 1) (pos 4096)) }
+
+-- `--workers`, with a number from 1 to 64
 abbrev pub workers_option : Rule
 workers_option = record (text_option (codes "workers")) { parser = Some (parser.Signed (pos 1) (pos 64)) }
 
@@ -76,6 +84,9 @@ check_app = with_rule (with_rule (job_app (codes "check")) workers_option) (text
 
 abbrev pub replay_app : App
 replay_app = with_rule (job_app (codes "replay")) (text_option (codes "format"))
+
+abbrev pub judge_app : App
+judge_app = with_rule (with_rule (with_rule (job_app judge_word) parts_option) workers_option) (text_option (codes "format"))
 
 abbrev pub drive_app : App
 drive_app = with_rule (with_rule (job_app drive_word) workers_option) (flag_option (codes "json"))
@@ -124,7 +135,7 @@ abbrev pub first_commands : App
 first_commands = with (with (with (with (with (with (with (with top_app goal_app) around_app) show_app) draw_app) check_app) why_app) steps_app) windows_app
 
 abbrev pub bundle_commands : App
-bundle_commands = with (with (with (with (with (with (with (with first_commands drive_app) (job_app (codes "play"))) replay_app) (job_app (codes "after")))
+bundle_commands = with (with (with (with (with (with (with (with (with first_commands drive_app) (job_app (codes "play"))) replay_app) judge_app) (job_app (codes "after")))
     (job_app (codes "bundle"))) (job_app (codes "cert"))) (job_app (codes "plan"))) (job_app (codes "migrate"))
 
 abbrev pub ringplan : App

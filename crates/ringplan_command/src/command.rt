@@ -2,16 +2,17 @@
 
 ghost use Rattle.std.specs.Prelude.{◌≡◌, ◌⊎◌, ◌↔◌, ◌∷◌, [], IfOk, IsTrue, codes, drop, map};
 ghost use Rattle.clap.specs.Words.{first_value, found_of, one_text, subcommand_rows_of};
-ghost use Rattle.ringplan_command.specs.Command.{Answers, Asked, word_of_making, IsForm, IsInFormat, MeansWorkers, asked, asked_by, job_named, task_named};
-ghost use Rattle.ringplan_command.specs.Command.{IsTurnedAway, MeansFormat, but_text, to_describe, to_do, to_drive, to_make};
+ghost use Rattle.ringplan_command.specs.Command.{Answers, Asked, word_of_making, IsForm, IsInFormat, asked, asked_by, job_named, task_named};
+ghost use Rattle.ringplan_command.specs.Command.{IsTurnedAway, MeansFormat, but_text, to_describe, to_do, to_drive, to_judge, to_make};
 ghost use Rattle.ringplan_command.specs.Tree.{word_of};
 ghost use Rattle.ringplan_command.specs.Files.{IsJob, files_in, files_named, files_of, no_files};
 ghost use Rattle.ringplan_job.specs.declared.job.Job.{Job};
 
+use crate::counts::{Count, MOST_WORKERS, Shares, count_of, shares_of};
 use crate::files::Files;
 use crate::form::Form;
 use crate::guides::write_guide;
-use crate::help::{NO_FORMAT, NO_WORKERS};
+use crate::help::{NO_FORMAT, NO_SHARES, NO_WORKERS};
 use crate::line::make_line;
 use crate::tree::command;
 use crate::word::{Guide, Word, guide_of, is_for_people, people_word};
@@ -39,6 +40,10 @@ pub enum Request {
     State(Job),
     /// To check a bundle by that many workers, 1 to 64, and to print the answer as JSON.
     StateBy(u32),
+    /// To judge a bundle's history part by part.
+    Judge(Shares),
+    /// To judge a bundle's history part by part, and to print the answer as JSON.
+    StateJudge(Shares),
     /// To run a bundle's plan by that many workers, 1 to 64, with a client for each script, and to print its outcome in that form.
     Drive(u32, Form),
     /// To make something of a bundle for people.
@@ -84,6 +89,7 @@ impl Request {
         match self {
             Request::Do(_) | Request::CheckBy(_) | Request::Drive(_, _) => true,
             Request::State(_) | Request::StateBy(_) => true,
+            Request::Judge(_) | Request::StateJudge(_) => true,
             Request::Make(_) | Request::Describe(_) => true,
             Request::Help(_) | Request::Refused(_) | Request::Mistaken(_) | Request::OutOfMemory =>
                 false,
@@ -168,6 +174,9 @@ fn request_of(alloc: Global, matches: &ArgMatches) -> Result<Request, AllocError
     if matches.subcommand_matches("drive").is_some() {
         return drive_line(alloc, matches);
     }
+    if matches.subcommand_matches("judge").is_some() {
+        return judge_line(alloc, matches);
+    }
     if let Some(guide) = guide_of(matches) {
         return guide_line(alloc, matches, guide);
     }
@@ -190,20 +199,20 @@ fn check_line(alloc: Global, matches: &ArgMatches) -> Result<Request, AllocError
         return Ok(Request::Do(Job::Check));
     };
     let format = format_of(options);
-    match workers_of(options) {
-        Workers::Unnamed => in_format(
+    match count_of(options, "workers", MOST_WORKERS) {
+        Count::Unnamed => in_format(
             alloc,
             format,
             Request::Do(Job::Check),
             Request::State(Job::Check),
         ),
-        Workers::Many(workers) => in_format(
+        Count::Many(workers) => in_format(
             alloc,
             format,
             Request::CheckBy(workers),
             Request::StateBy(workers),
         ),
-        Workers::NoNumber => refused_line(alloc, NO_WORKERS),
+        Count::NoNumber => refused_line(alloc, NO_WORKERS),
     }
 }
 
@@ -224,6 +233,26 @@ fn replay_line(alloc: Global, matches: &ArgMatches) -> Result<Request, AllocErro
     )
 }
 
+// What a line that asks for a judge asks for, by the parts, the workers and the form of the answer that it names.
+fn judge_line(alloc: Global, matches: &ArgMatches) -> Result<Request, AllocError>
+    requires { task_named (subcommand_rows_of matches.now) ≡ to_judge }
+    ensures { IfOk result (Answers (asked_by [] (subcommand_rows_of matches.now))) }
+{
+    let Some((_, options)) = matches.subcommand() else {
+        unreachable!()
+    };
+    let format = format_of(options);
+    match shares_of(options) {
+        Some(shares) => in_format(
+            alloc,
+            format,
+            Request::Judge(shares),
+            Request::StateJudge(shares),
+        ),
+        None => refused_line(alloc, NO_SHARES),
+    }
+}
+
 // What a line that asks for a drive asks for, by the workers and the form that it names.
 fn drive_line(alloc: Global, matches: &ArgMatches) -> Result<Request, AllocError>
     requires { task_named (subcommand_rows_of matches.now) ≡ to_drive }
@@ -233,10 +262,10 @@ fn drive_line(alloc: Global, matches: &ArgMatches) -> Result<Request, AllocError
         unreachable!()
     };
     let form = form_of(options);
-    match workers_of(options) {
-        Workers::Unnamed => Ok(Request::Drive(1, form)),
-        Workers::Many(workers) => Ok(Request::Drive(workers, form)),
-        Workers::NoNumber => refused_line(alloc, NO_WORKERS),
+    match count_of(options, "workers", MOST_WORKERS) {
+        Count::Unnamed => Ok(Request::Drive(1, form)),
+        Count::Many(workers) => Ok(Request::Drive(workers, form)),
+        Count::NoNumber => refused_line(alloc, NO_WORKERS),
     }
 }
 
@@ -260,33 +289,6 @@ fn guide_line(alloc: Global, matches: &ArgMatches, guide: Guide) -> Result<Reque
         unreachable!()
     };
     write_guide(alloc, options, guide)
-}
-
-// What is said of workers: nothing, how many there are, or what is no number from 1 to 64.
-#[derive(Clone, Copy)]
-enum Workers {
-    Unnamed,
-    Many(u32),
-    NoNumber,
-}
-
-// The workers that are named.
-fn workers_of(options: &ArgMatches) -> Workers
-    ensures { MeansWorkers (one_text (found_of options.now) (codes "workers")) result }
-{
-    match options.try_get_one::<u32>("workers") {
-        Ok(None) => Workers::Unnamed,
-        Ok(Some(workers)) => {
-            if workers < 1 {
-                return Workers::NoNumber;
-            }
-            if workers > 64 {
-                return Workers::NoNumber;
-            }
-            Workers::Many(workers)
-        }
-        Err(_) => Workers::NoNumber,
-    }
 }
 
 /// What is said of the form of an answer: text, which is also what no word names, JSON, or none that there is.

@@ -53,6 +53,15 @@ pub(crate) const DRIVE: &str =
 
 pub(crate) const REPLAY: &str = "Says whether a history is a run of the plan";
 
+pub(crate) const JUDGE: &str =
+    "Says what replay says of a history, which it judges part by part, by threads";
+
+pub(crate) const PARTS: &str =
+    "Judges in K parts, 1 to 4096: partition p is of part p modulo K; without it in as many as there are workers";
+
+pub(crate) const JUDGES: &str =
+    "Judges by W threads, 1 to 64, each of which has one part in memory at a time; without it by one";
+
 pub(crate) const PLAN: &str =
     "Prints a plan for a change, with its certificate, without regard to racks, weights and dead nodes";
 
@@ -132,6 +141,9 @@ pub(crate) const ONLY: &str = "Prints the window of that number alone, counted f
 pub(crate) const NO_WORKERS: &[u8; 105] =
     b"error: invalid value for '--workers <K>': not a number from 1 to 64\n\nFor more information, try '--help'.\n";
 
+pub(crate) const NO_SHARES: &[u8; 141] =
+    b"error: invalid value for '--parts <K>' or '--workers <W>': not a number from 1 to 4096, or from 1 to 64\n\nFor more information, try '--help'.\n";
+
 pub(crate) const NO_WEIGHT: &[u8; 127] =
     b"error: invalid value for '--weight <NODE=K>': not a name, '=' and a number from 1 to 1000\n\nFor more information, try '--help'.\n";
 
@@ -157,8 +169,8 @@ pub(crate) const STREAMS: &str = "\
 Example: ringplan goal --racks-behind . examples/plan_grow.bundle
 
 A bundle is the text of a ring, then one of these: a change; a plan and its certificate; these and then a script or a history.
-Standard output has what the command prints. `plan`, `check`, `play`, `drive`, `replay` and `migrate` print their refusals there too: one line
-of `no`, the refusal's number and its values. The other commands print refusals on standard error, with why.
+Standard output has what the command prints. `plan`, `check`, `play`, `drive`, `replay`, `judge` and `migrate` print their refusals there too:
+one line of `no`, the refusal's number and its values. The other commands print refusals on standard error, with why.
 
 Exit status:
   0  it was printed, or yes
@@ -217,6 +229,19 @@ Input: the texts of a ring, a plan, its certificate and a history: `history 1`, 
 Standard output: where the history is a run of the plan with these replies, `yes`, the owners of each partition's slots after the last entry, and
 `end`. Else `no 70`, the place of the first entry, counted from 0, that cannot have happened so, and the number by which its event would be refused,
 or 0 where it would be answered otherwise. Where the plan or a text is refused, one line of `no`.
+With `--format json` an object in one line instead: `answer`, and of a no `name`, `number` and `values`.
+
+Exit status:
+  0  the history is a run of the plan
+  1  the plan is refused, or the history is no run of it (`no 70`)
+  2  a text or the command line is refused
+  3  out of memory (at an entry too), or an input or output failed";
+
+pub(crate) const JUDGE_STREAMS: &str = "\
+Example: ringplan judge --parts 8 --workers 4 examples/replay_a_move.bundle
+
+Input: the texts of a ring, a plan, its certificate and a history, as for `replay`.
+Standard output: what `replay` prints, byte for byte. A part has all steps, and of the puts, gets and hints those of its partitions.
 With `--format json` an object in one line instead: `answer`, and of a no `name`, `number` and `values`.
 
 Exit status:

@@ -2,6 +2,7 @@
 #![tactic(auto)]
 
 mod command;
+mod counts;
 mod files;
 mod form;
 mod guides;
@@ -14,6 +15,7 @@ mod tree;
 mod word;
 
 pub use command::{CommandLine, Request, parse};
+pub use counts::Shares;
 pub use files::Files;
 pub use form::Form;
 pub use word::{Guide, Word};

@@ -4,16 +4,17 @@ ghost use Rattle.std.specs.Prelude.{◌≡◌, false, IfOk};
 ghost use Rattle.clap.specs.Words.{App, rule_of, with_rule, with_subcommand};
 ghost use Rattle.ringplan_command.specs.Tree.{IsApp, cut_option, draw_app, drive_app, flag_option, goal_app, job_app, ringplan, show_app};
 ghost use Rattle.ringplan_command.specs.Tree.{around_app, check_app, file_argument, output_option, rate_option, steps_app, text_option, top_app};
-ghost use Rattle.ringplan_command.specs.Tree.{completions_app, guide_app, nodes_app, replay_app, shell_argument, why_app, windows_app, words_app, workers_option};
+ghost use Rattle.ringplan_command.specs.Tree.{completions_app, guide_app, judge_app, nodes_app, parts_option, replay_app, shell_argument, why_app, windows_app, words_app, workers_option};
 
 use crate::help::{
     ABOUT, AFTER, AFTER_STREAMS, ALL, AROUND, AROUND_STREAMS, BACK, BUNDLE, BUNDLE_STREAMS, CERT,
     CERT_STREAMS, CHECK, CHECK_STREAMS, COLOR, COMPLETIONS, COMPLETIONS_STREAMS, DEAD, DRAW,
     DRAW_STREAMS, DRIVE, DRIVE_STREAMS, DRIVERS, EVEN, EXIT_CODE, FILE, FORMAT, GOAL, GOAL_STREAMS,
-    GONE, JSON, MANUAL, MANUAL_STREAMS, MAP, MIGRATE, MIGRATE_STREAMS, MORE, MOVED_SIZES, MOVES,
-    ONLY, OUTPUT, PLAN, PLAN_STREAMS, PLAY, PLAY_STREAMS, RACK_COLUMNS, RACKS, RACKS_APART, RATE,
-    REPLAY, REPLAY_STREAMS, ROUNDS, SHELL, SHOW, SHOW_STREAMS, SIZES, STEPS, STEPS_STREAMS,
-    STREAMS, VERSION, WEIGHT, WHY, WHY_STREAMS, WINDOWS, WINDOWS_STREAMS, WORKERS,
+    GONE, JSON, JUDGE, JUDGE_STREAMS, JUDGES, MANUAL, MANUAL_STREAMS, MAP, MIGRATE,
+    MIGRATE_STREAMS, MORE, MOVED_SIZES, MOVES, ONLY, OUTPUT, PARTS, PLAN, PLAN_STREAMS, PLAY,
+    PLAY_STREAMS, RACK_COLUMNS, RACKS, RACKS_APART, RATE, REPLAY, REPLAY_STREAMS, ROUNDS, SHELL,
+    SHOW, SHOW_STREAMS, SIZES, STEPS, STEPS_STREAMS, STREAMS, VERSION, WEIGHT, WHY, WHY_STREAMS,
+    WINDOWS, WINDOWS_STREAMS, WORKERS,
 };
 use clap::{Arg, ArgAction, Command, value_parser};
 use std::alloc::{AllocError, Global};
@@ -59,12 +60,20 @@ fn option<'a>(alloc: Global, word: &'a str, value: &'a str, help: &'a str) -> Ar
         .help(help)
 }
 
-// `--workers K`, with K from 1 to 64.
-fn workers<'a>(alloc: Global, help: &'a str) -> Arg<'a>
+// `--workers`, with a number from 1 to 64.
+fn workers<'a>(alloc: Global, value: &'a str, help: &'a str) -> Arg<'a>
     ensures rule { rule_of result ≡ workers_option }
     ensures local { result.global ≡ false }
 {
-    option(alloc, "workers", "K", help).value_parser(value_parser!(u32).range(1..=64))
+    option(alloc, "workers", value, help).value_parser(value_parser!(u32).range(1..=64))
+}
+
+// `--parts K`, with K from 1 to 4,096.
+fn parts<'a>(alloc: Global) -> Arg<'a>
+    ensures rule { rule_of result ≡ parts_option }
+    ensures local { result.global ≡ false }
+{
+    option(alloc, "parts", "K", PARTS).value_parser(value_parser!(u32).range(1..=4_096))
 }
 
 // `--rate N`, with N from 1 to 4,294,967,295.
@@ -143,7 +152,7 @@ fn check<'a>(alloc: Global) -> Made<'a>
     ensures { IfOk result (IsApp check_app) }
 {
     let command = job(alloc, "check", CHECK, CHECK_STREAMS);
-    let command = with_arg(command, workers(alloc, WORKERS));
+    let command = with_arg(command, workers(alloc, "K", WORKERS));
     with_arg(command, option(alloc, "format", "FORMAT", FORMAT))
 }
 
@@ -154,11 +163,20 @@ fn replay<'a>(alloc: Global) -> Made<'a>
     with_arg(command, option(alloc, "format", "FORMAT", FORMAT))
 }
 
+fn judge<'a>(alloc: Global) -> Made<'a>
+    ensures { IfOk result (IsApp judge_app) }
+{
+    let command = job(alloc, "judge", JUDGE, JUDGE_STREAMS);
+    let command = with_arg(command, parts(alloc));
+    let command = with_arg(command, workers(alloc, "W", JUDGES));
+    with_arg(command, option(alloc, "format", "FORMAT", FORMAT))
+}
+
 fn drive<'a>(alloc: Global) -> Made<'a>
     ensures { IfOk result (IsApp drive_app) }
 {
     let command = job(alloc, "drive", DRIVE, DRIVE_STREAMS);
-    let command = with_arg(command, workers(alloc, DRIVERS));
+    let command = with_arg(command, workers(alloc, "K", DRIVERS));
     with_arg(command, flag(alloc, "json", JSON))
 }
 
@@ -267,6 +285,7 @@ pub(crate) fn command<'a>(alloc: Global) -> Result<Command<'a>, AllocError>
     let line = with(line, drive(alloc));
     let line = with(line, job(alloc, "play", PLAY, PLAY_STREAMS));
     let line = with(line, replay(alloc));
+    let line = with(line, judge(alloc));
     let line = with(line, job(alloc, "after", AFTER, AFTER_STREAMS));
     let line = with(line, job(alloc, "bundle", BUNDLE, BUNDLE_STREAMS));
     let line = with(line, job(alloc, "cert", CERT, CERT_STREAMS));

@@ -1,11 +1,11 @@
 use Rattle.std.proofs.Common.{rules, [], subst, refl, sym, inl, inr}
-use Rattle.ringplan_job.specs.declared.job.Job.TheVariants.{Check}
+use Rattle.ringplan_job.specs.declared.job.Job.TheVariants.{Check, Replay}
 use Rattle.ringplan_jobs.specs.Answers.{texts_of}
 use Rattle.ringplan_command.specs.Command.{Answers, AsksWord}
 use Rattle.ringplan_command.specs.declared.word.Word.{Word}
 use Rattle.ringplan_command.specs.declared.command.Request.{Request}
 use Rattle.ringplan_run.specs.Run.{described, help, refused}
-use Rattle.ringplan_run.proofs.Runs.{many_few, ran, ran_asked, ran_by, ran_driven, ran_out, ran_report, ran_stated, said}
+use Rattle.ringplan_run.proofs.Runs.{many_few, ran, ran_asked, ran_by, ran_driven, ran_found, ran_out, ran_report, ran_stated, said}
 use Rattle.ringplan_run.proofs.Deliveries.{prints_nothing}
 use Rattle.ringplan_run.proofs.program.run_request.Goals as goal
 
@@ -27,8 +27,22 @@ returns-in-State g c = λ asked h.
 pub returns-in-StateBy : goal.returns-in-StateBy
 returns-in-StateBy g c = λ asked h.
     let asks = subst (λ (r : Request). Answers asked r) c.in-StateBy.is h in
-    ran_stated asked Check (g.R.Read.remaining c.args.input.now) _ _ (texts_of c.answer_input_by-found-in-StateBy.result) c.state-in-StateBy.result (inr (refl, (c.in-StateBy.workers, asks)))
+    ran_stated asked Check (g.R.Read.remaining c.args.input.now) _ _ (texts_of c.answer_input_by-found-in-StateBy.result) c.state-in-StateBy.result (inr (inl (refl, (c.in-StateBy.workers, asks))))
     c.answer_input_by-found-in-StateBy.ensures c.state-in-StateBy.ensures
+
+pub returns-in-Judge : goal.returns-in-Judge
+returns-in-Judge g c = λ asked h.
+    let asks = subst (λ (r : Request). Answers asked r) c.in-Judge.is h in
+    let shares = c.in-Judge.shares in
+    ran_found asked Replay (g.R.Read.remaining c.args.input.now) _ _ (texts_of c.judge_input-found.result) c.tell-in-Judge.result (inr (inr (refl, (shares.parts, shares.workers, asks))))
+    c.judge_input-found.ensures c.tell-in-Judge.ensures
+
+pub returns-in-StateJudge : goal.returns-in-StateJudge
+returns-in-StateJudge g c = λ asked h.
+    let asks = subst (λ (r : Request). Answers asked r) c.in-StateJudge.is h in
+    let shares = c.in-StateJudge.shares in
+    ran_stated asked Replay (g.R.Read.remaining c.args.input.now) _ _ (texts_of c.judge_input-found-in-StateJudge.result) c.state-in-StateJudge.result (inr (inr (refl, (shares.parts, shares.workers, asks))))
+    c.judge_input-found-in-StateJudge.ensures c.state-in-StateJudge.ensures
 
 pub drive_of-found-requires : goal.drive_of-found-requires
 drive_of-found-requires g c =
