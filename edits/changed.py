@@ -7,7 +7,7 @@
     edits/changed.py record     notes in edits/refused.txt that the edits that are laid were refused: after a gate that passed
 
 A crate has changed where the sum of its sources, definitions, proofs and edits is another one than edits/refused.txt has. At most EDITS are laid at once,
-since an edit costs some 50 processor seconds with the check of its crate; the crates that are left out are named, and stay due."""
+since an edit costs some 50 processor seconds with the check of its crate, but for a crate that has more; the crates that are left out are named, and stay due."""
 import hashlib
 import shutil
 import sys
@@ -55,7 +55,7 @@ def lay() -> None:
     """Lays the edits of the crates that are due, the least crates first, so that most crates fit."""
     count = 0
     for crate in sorted(due(), key=lambda crate: (len(edits(crate)), crate)):
-        if count + len(edits(crate)) > EDITS:
+        if count and count + len(edits(crate)) > EDITS:
             print(f"edits: {crate} is left for a later run")
             continue
         count += len(edits(crate))
