@@ -9,7 +9,7 @@ use Rattle.ringplan_c.specs.Speaking.{IsTurnedAway, Reports, Says, helped, refus
 use Rattle.ringplan_command.specs.Command.{Answers, Asked, IsRefused, WantsHelp, asked, asks_word, to_make, word_of_making}
 use Rattle.ringplan_command.specs.Files.{IsJob, Names, files_of, no_files}
 use Rattle.ringplan_command.specs.declared.command.Request.{Request}
-use Rattle.ringplan_command.specs.declared.command.Request.TheVariants.{Do, CheckBy, State, StateBy, Drive, Make, Describe, Help, Refused, Mistaken, OutOfMemory}
+use Rattle.ringplan_command.specs.declared.command.Request.TheVariants.{Do, CheckBy, State, StateBy, Judge, StateJudge, Drive, Make, Describe, Help, Refused, Mistaken, OutOfMemory}
 use Rattle.ringplan_command.specs.declared.word.Word.{Word}
 use Rattle.ringplan_job.specs.declared.making.Making.{Making}
 use Rattle.ringplan_people.proofs.Kept.{weaker}
@@ -21,6 +21,8 @@ IsForPeople (Do job) = ⊥
 IsForPeople (CheckBy workers) = ⊥
 IsForPeople (State job) = ⊥
 IsForPeople (StateBy workers) = ⊥
+IsForPeople (Judge shares) = ⊥
+IsForPeople (StateJudge shares) = ⊥
 IsForPeople (Drive workers form) = ⊥
 IsForPeople (Describe text) = ⊥
 IsForPeople request = ⊤
@@ -33,6 +35,8 @@ for_people word a (Do job) task h = let bad = sym (ap (λ (x : Asked). x.task) h
 for_people word a (CheckBy workers) task h = let bad = sym (ap (λ (x : Asked). x.task) h.1) ∙ task in absurd cc
 for_people word a (State job) task h = let bad = sym (ap (λ (x : Asked). x.task) h) ∙ task in absurd cc
 for_people word a (StateBy workers) task h = let bad = sym (ap (λ (x : Asked). x.task) h.1) ∙ task in absurd cc
+for_people word a (Judge shares) task h = let bad = sym (ap (λ (x : Asked). x.task) h.2) ∙ task in absurd cc
+for_people word a (StateJudge shares) task h = let bad = sym (ap (λ (x : Asked). x.task) h.2) ∙ task in absurd cc
 for_people word a (Drive workers form) task h = let bad = sym (ap (λ (x : Asked). x.task) h.2) ∙ task in absurd cc
 for_people word a (Describe text) task h = let bad = sym (ap (λ (x : Asked). x.task) h.1) ∙ task in absurd cc
 for_people word a (Make making) task h = tt
@@ -58,6 +62,8 @@ no_other (Do job) is make help refuse mistake memory = is
 no_other (CheckBy workers) is make help refuse mistake memory = is
 no_other (State job) is make help refuse mistake memory = is
 no_other (StateBy workers) is make help refuse mistake memory = is
+no_other (Judge shares) is make help refuse mistake memory = is
+no_other (StateJudge shares) is make help refuse mistake memory = is
 no_other (Drive workers form) is make help refuse mistake memory = is
 no_other (Describe text) is make help refuse mistake memory = is
 
