@@ -93,10 +93,10 @@ class Run:
                     self.store.back(member)
 
     def hand_off(self) -> None:
-        """Hands hints off until none is left after the traffic has ended."""
+        """Hands hints off until none is left after the traffic has ended. Those for the slots of dead servers stay."""
         while True:
             self.heal()
-            left = self.store.hints_left()
+            left = [(slot, keeper) for slot, keeper in self.store.hints_left() if not self.store.dead.intersection(slot.writers())]
             if self.finished.is_set() and (not left or time.time() > self.until):
                 return
             for slot, keeper in left:
