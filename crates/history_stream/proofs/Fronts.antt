@@ -38,7 +38,7 @@ front-read : (s t u w : Left) (ring : RingValue) (plan : List Planned) (cert : C
 unfolding front_at
 front-read s t u w ring plan cert a b c = rw (a, b, c) refl
 
--- the parts are a front, and the rest of the bytes is behind its text
+-- the parts are a front, and the rest of the bytes is after its text
 pub front-is : (bytes : List ℕ) (s t u w : Left) (ring : RingValue) (plan : List Planned) (cert : Cert) (front : Front) → s ≡ record { line = 1; lines = lines_of bytes }
     → ring_at s ≡ Ok (ring, t) → plan_at ring t ≡ Ok (plan, u) → cert_at ring u ≡ Ok (cert, w) → IsRing ring
     → front.ring ≡ ring → front.text.items ≡ front_text (ring, (plan, cert)) → front.line ≡ w.line → (value : FrontValue) × (rest : List ℕ) × IsFront bytes front value rest
@@ -65,6 +65,6 @@ front-is bytes s t u w ring plan cert front start a b c valid same text line =
       },
     )
 
--- the texts, written one behind the other
+-- the texts, written one after the other
 pub texts-on : (a b c s t o1 o2 o3 : List ℕ) → o1 ≡ a → s ≡ b → o2 ≡ o1 ++ s → t ≡ c → o3 ≡ o2 ++ t → o3 ≡ a ++ (b ++ c)
 texts-on a b c s t o1 o2 o3 e1 e2 e3 e4 e5 = rw (e5, e3, e1, e2, e4) (append_assoc a b c)

@@ -73,7 +73,7 @@ pub record So (old now : Reader) (whole left : List ℕ) : Type 0 where
 pub so_none : (r : Reader) → So r r [] []
 so_none r = record { done = []; split = refl; run = tt; takes = λ ring marks front said so. (said, so, λ more. refl) }
 
--- a text behind another
+-- a text after another
 assoc_lines : (xs ys zs : List ℕ) → lines_and xs (ys ++ zs) ≡ lines_and (xs ++ ys) zs
 assoc_lines xs ys zs = ap lines_of (sym (append_assoc xs ys zs))
 

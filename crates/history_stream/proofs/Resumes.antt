@@ -93,7 +93,7 @@ module _ (ring : RingValue) (said : List SaidEntry) (k : ℕ) (fields : List (Li
       last (Ok u) = refl
       last (Err e) = refl
 
-  -- a line behind the last
+  -- a line after the last
   pub over_bad : resume_at ring Over said (at k (fields ∷ lines_of more)) ≡ Err (BadLine k)
   over_bad = by fields (some_line more).0 (some_line more).1 (some_line more).2
     where
@@ -102,7 +102,7 @@ module _ (ring : RingValue) (said : List SaidEntry) (k : ℕ) (fields : List (Li
       by (f ∷ []) x xs e = rw e refl
       by (f ∷ g ∷ fs) x xs e = refl
 
--- the line `end`, given behind that word
+-- the line `end`, given after that word
 pub end_is : (k : ℕ) (rest : List (List ℕ)) (r : Result (Unit {0}) Refusal) → r ≡ (end_at k rest).0 → end_line_at k (codes "end" ∷ rest) ≡ r
 unfolding end_line_at both_of
 end_is k [] r e = sym e

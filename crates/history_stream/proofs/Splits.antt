@@ -13,7 +13,7 @@ is_end b = eqb b 10
 abbrev parts : List ℕ → List (List ℕ)
 parts text = slice_split is_end text
 
--- a text that begins with this part, and the text behind it
+-- a text that begins with this part, and the text after it
 record Behind (text p q : List ℕ) (qs : List (List ℕ)) : Type 0 where
   rest : List ℕ
   whole : text ≡ p ++ 10 ∷ rest
@@ -45,7 +45,7 @@ step : (text p q : List ℕ) (qs : List (List ℕ)) → parts text ≡ p ∷ q �
 step [] p q qs e = absurd cc
 step (b ∷ bs) p q qs e = step-by b bs p q qs (eqb b 10) refl e (λ x f. step bs x q qs f)
 
--- what is behind some lines of a text
+-- what is after some lines of a text
 pub record After (text : List ℕ) (ls : List (List (List ℕ))) (x : List (List ℕ)) (xs : List (List (List ℕ))) : Type 0 where
   pub rest : List ℕ
   pub whole : text ≡ text_of ls ++ rest

@@ -68,7 +68,7 @@ starts ring marks text r valid ring_is writers cut held = record {
   part_is = λ more. subst (λ (t : List ℕ). Holds r.part t 0) (sym (append-nil text)) held;
 }
 
--- ---- behind the front
+-- ---- after the front
 
 module _ (choice : Choice) (front : Front) (marks : List Bool) (same : (p : ℕ) → p < front.ring.q → is_marked marks p ≡ is_chosen choice p) (text : List ℕ) (old new : Reader)
     (start : IsReading front.ring marks text [] old) (text_is : text ≡ front.text.items ++ codes "history 1\n") (stage : old.stage ≡ First) (line : old.line ≡ front.line) (bytes : List ℕ) where
@@ -119,7 +119,7 @@ more_long front bytes h = record {
 }
 
 module _ (head : List ℕ) (front : Front) (value : FrontValue) (rest more : List ℕ) (is : IsFront head front value rest) where
-  -- reading goes on behind the front
+  -- reading goes on after the front
   reads_on : long_reading head (head ++ more) ≡ (resume_at front.ring First [] (record { line = front.line; lines = lines_of (rest ++ more) }) >>= λ said. Ok (value, said))
   unfolding long_reading
   reads_on =
@@ -209,7 +209,7 @@ tells_both None b front more p q = tt
 tells_both (Some x) None front more p q = absurd p
 tells_both (Some x) (Some y) front more p q = p ∙ ap (λ (z : List ℕ). front ++ z) q
 
--- the history behind its front
+-- the history after its front
 pub whole_input : (choice : Choice) (a b : Option (List ℕ)) (head : Head) (front : Front) (value : FrontValue) (rest first more : List ℕ) (r : Result PartText Refusal) → IsHead a b head → IsFront head.bytes.items front value rest
     → first ≡ rest → Tells b more → CutsRest choice front (first ++ more) r → CutsInput choice a r
 whole_input choice a b head front value rest first more r h is same t c =
@@ -246,6 +246,6 @@ no_front choice a b head (Err x) e is h f = by head.is_whole refl
         found rest (inl g) = (let bad : true ≡ false = sym g.0 ∙ w in absurd cc)
         found rest (inr g) = inr (is ∙ g.0, record { head = head.bytes.items; rest = rest; whole = refl; long = h.long w; fault = g.2.0; is = g.2.1 })
 
--- what is behind the front of the first bytes
+-- what is after the front of the first bytes
 pub behind_front : (head : List ℕ) (front : Front) (value : FrontValue) (rest : List ℕ) (n : ℕ) → IsFront head front value rest → n ≡ length front.text.items → drop n head ≡ rest
 behind_front head front value rest n is n_is = (λ i. drop (n_is i) (is.whole i)) ∙ drop_front front.text.items rest

@@ -97,7 +97,7 @@ abbrev pub IsTooMuch : Choice → List ℕ → List ℕ → Type 0
 IsTooMuch choice head bytes = HasLong bytes
     ⊎ ((front : FrontValue) (said : List SaidEntry) → long_reading head bytes ≡ Ok (front, said) → 4294967295 ≤ started front.0 (is_chosen choice) (entries_behind [] said))
 
--- the part of a history behind its front, up to its last line
+-- the part of a history after its front, up to its last line
 abbrev pub begun_text : Choice → FrontValue → List SaidEntry → List ℕ
 begun_text choice front said = front_text front
     ++ (codes "history 1\n" ++ flat_map (entry_line (names_of front.0) (writers_behind [] said)) (chosen choice front said))
@@ -117,7 +117,7 @@ IsCut choice bytes (Err (Large entries size)) = (head : List ℕ) × IsStart hea
 IsCut choice bytes (Err (Refused e)) = e ≢ OutOfMemory → e ≢ ReadFailed
     → ((head : List ℕ) × IsStart head bytes × IsCutOf choice head bytes (Err (Refused e))) ⊎ ((e ≡ TooLarge 0) × HasNoFront bytes)
 
--- the part so far of a history that was read behind its front, or why there is none
+-- the part so far of a history that was read after its front, or why there is none
 abbrev pub CutsRest : Choice → Front → List ℕ → Result PartText Refusal → Type 0
 CutsRest choice front bytes (Ok part) = (said : List SaidEntry) × (resume_at front.ring First [] (record { line = front.line; lines = lines_of bytes }) ≡ Ok said)
     × Holds part (front.text.items ++ (codes "history 1\n" ++ flat_map (entry_line (names_of front.ring) (writers_behind [] said)) (part_of front.ring (is_chosen choice) (entries_behind [] said))))

@@ -27,7 +27,7 @@ front_at = then_part ring_at (λ ring. then_part (plan_at ring) (λ _. cert_at r
 abbrev pub front_text : FrontValue → List ℕ
 front_text x = ring_text x.0 ++ (plan_text x.0 x.1.0 ++ cert_text x.0 x.1.1)
 
--- of a front the ring and the text were returned, with which the bytes begin, and the number of the line behind it
+-- of a front the ring and the text were returned, with which the bytes begin, and the number of the line after it
 pub record IsFront (bytes : List ℕ) (front : Front) (value : FrontValue) (rest : List ℕ) : Type 0 where
   pub valid : IsRing front.ring
   pub ring_is : front.ring ≡ value.0

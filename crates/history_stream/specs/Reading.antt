@@ -13,7 +13,7 @@ use Rattle.history_stream.specs.declared.reader.Stage.{Stage}
 use Rattle.history_stream.specs.declared.reader.Stage.TheVariants.{First, Entries, Over}
 use Rattle.history_stream.specs.Front.{FrontValue, front_at, front_text}
 
--- the writers known behind what lines say
+-- the writers known after what lines say
 abbrev pub writers_behind : List (List ℕ) → List SaidEntry → List (List ℕ)
 writers_behind names [] = names
 writers_behind names (x ∷ xs) = writers_behind (names_after names x.0) xs
@@ -23,7 +23,7 @@ abbrev pub entries_behind : List (List ℕ) → List SaidEntry → List Entry
 entries_behind names [] = []
 entries_behind names (x ∷ xs) = entry_of names x ∷ entries_behind (names_after names x.0) xs
 
--- the next entry of a history, behind any number of them
+-- the next entry of a history, after any number of them
 abbrev pub next_at : RingValue → List SaidEntry → ℕ → List (List ℕ) → Result SaidEntry Refusal
 next_at ring seen k fields = said_at ring [] (writers_behind [] seen) k fields
 
@@ -31,7 +31,7 @@ next_at ring seen k fields = said_at ring [] (writers_behind [] seen) k fields
 abbrev pub goes_on : List ℕ → Bool
 goes_on field = not (is_word (codes "end") field)
 
--- what is left of a history behind its first lines and entries, to the end of the text
+-- what is left of a history after its first lines and entries, to the end of the text
 unfoldable pub rest_at : RingValue → List SaidEntry → Left → Result (List SaidEntry) Refusal
 rest_at ring seen s = many_from goes_on (next_at ring) seen s.line s.lines >>= λ x. one_line end_line_at x.1 >>= λ y. over_at y.1 >>= λ _. Ok x.0
 

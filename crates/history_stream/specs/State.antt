@@ -38,7 +38,7 @@ pub record Counted (r : Reader) : Type 0 where
   pub same : r.started ≡ length r.cut.puts + length r.cut.gets
   pub few : r.started < 4294967295
 
--- lines that say these entries are read, and their part is behind the front's text
+-- lines that say these entries are read, and their part is after the front's text
 pub record IsReading (ring : RingValue) (marks : List Bool) (front : List ℕ) (said : List SaidEntry) (r : Reader) : Type 0 where
   pub valid : IsRing ring
   pub ring_is : r.ring.now ≡ ring

@@ -88,7 +88,7 @@ fn take_some(
     }
 }
 
-// Reads the input to its end, behind the bytes that were read. A line of more than `MAX_INPUT` bytes is `TooLarge`.
+// Reads the input to its end, after the bytes that were read. A line of more than `MAX_INPUT` bytes is `TooLarge`.
 fn read_history<R: Read + Drop>(
     alloc: Global,
     reader: &mut Reader,
@@ -197,8 +197,8 @@ fn part_of(mut part: PartText) -> Result<Part, NoPart>
 /// Reads a bundle of a replay to its end, and cuts it to what the chosen partitions see: the bundle of the part, with its ring, plan and certificate, and
 /// with the writers as the whole numbers them. The history may have any number of entries; the front, a line and the part may have `MAX_INPUT` bytes.
 /// The first line at fault decides, as in `read_replay`. `TooLarge(0)` is a front that is at fault or not ended in the first `MAX_INPUT` bytes of a
-/// longer input; `TooLarge` of a line is also a longer line than that, and the put or get that is the 4,294,967,295th to start. Kept are the front, the part and eight bytes for
-/// each put and get.
+/// longer input; `TooLarge` of a line is also a longer line than that, and the put or get that is the 4,294,967,295th to start. Kept are the front, the part, eight bytes for
+/// each put and get, and of what was read at most `MAX_INPUT` bytes, twice while they are split into lines.
 pub fn cut_stream<R: Read + Drop>(
     alloc: Global,
     choice: Choice,

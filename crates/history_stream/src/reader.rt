@@ -58,7 +58,7 @@ fn first_line(mut fields: Fields) -> Result<(), Refusal>
     Ok(())
 }
 
-// The number of the line behind line `line`.
+// The number of the line after line `line`.
 #[tactic(auto, unfolding(texts::specs::Left::next_number))]
 fn next_line(line: u32) -> u32
     ensures { result ≡ next_number line }
@@ -125,7 +125,7 @@ impl<'a> Reader<'a> {
         Ok(())
     }
 
-    // Reads the last line of the history, given behind its word.
+    // Reads the last line of the history, given after its word.
     fn take_end(&mut self, mut fields: Fields) -> Result<(), Refusal>
         ensures ok { OnOk result (self.new ≡ record self.old { stage = Over; line = next_number self.old.line }) }
         ensures end { result ≡ (end_at fields.entry.number fields.entry.fields).0 }

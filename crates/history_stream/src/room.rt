@@ -40,7 +40,7 @@ impl PartText {
         self.bytes <= MAX_INPUT as u64 && self.entries <= 1_000_000
     }
 
-    // Counts what was added behind so many bytes, and gives up the text where it is too much.
+    // Counts what was added after so many bytes, and gives up the text where it is too much.
     fn count(&mut self, before: usize)
         requires { before ≤ length self.old.text.items }
         ensures bytes { self.new.bytes ≡ min (self.old.bytes + (length self.old.text.items - before)) most }

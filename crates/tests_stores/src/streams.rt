@@ -81,7 +81,7 @@ ack 9 = ok
 end
 ";
 
-// The same as partition 0 sees it.
+// That history as partition 0 sees it.
 const OF_ZERO: &[u8] = b"\
 history 1
 put w1 a x31 = put 0
