@@ -1,11 +1,9 @@
 -- Nodes of which each differs from those in front of it are all different, and the other way round.
-use Rattle.std.proofs.Common.{◌≡◌, ℕ, true, false, ◌&&◌, ◌||◌, ◌==◌, List, [], ◌∷◌, ◌++◌, map, refl, sym, ap, ◌∙◌, append_assoc}
-use Rattle.std.proofs.lemmas.Bool.{or_parts, not-true, or_from}
+use Rattle.std.proofs.Common.{◌≡◌, ℕ, true, false, List, [], ◌∷◌, ◌++◌, map, refl, sym, ap, ◌∙◌, append_assoc}
 use Rattle.std.proofs.lemmas.List.{append-nil, map_push}
 use Rattle.ring_names.specs.Lists.{has, all_different}
 use Rattle.ring_names.specs.declared.ids.NodeId.{NodeId}
-use Rattle.ring_names.proofs.Logic.{eqb_turned, not_moved}
-use Rattle.ring_names.proofs.InLists.{has_push, different_push, different_more, different_apart}
+use Rattle.ring_names.proofs.InLists.{different_more, different_apart}
 use Rattle.texts.specs.Laws.{EachNext}
 
 -- the numbers of nodes

@@ -1,6 +1,6 @@
 pub mod Named
 pub mod Different
-pub mod ChangeLines
+pub mod ChangeForm
 pub mod ChangeLaws
 pub mod ChangeLates
 pub mod Wanting

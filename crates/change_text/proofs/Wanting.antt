@@ -1,10 +1,8 @@
 -- Where a fault of a ring and a change lies, by the two.
-use Rattle.std.proofs.Common.{◌≡◌, ◌≢◌, ℕ, ◌≤◌, Bool, true, false, cond, Result, Ok, Err, IsErrAnd, IfErr, sym, ◌∙◌, arith}
-use Rattle.ring_names.specs.declared.refusal.Refusal.{Refusal}
-use Rattle.ring_names.specs.declared.refusal.Refusal.TheVariants.{BadLine, OutOfMemory}
-use Rattle.texts.specs.Left.{Left, lines_on, is_over, over_at, then_part}
-use Rattle.texts.specs.Late.{NoFaultBefore, ReadsTo}
-use Rattle.texts.proofs.Lates.{to-first, to-second, to-map, next-after}
+use Rattle.std.proofs.Common.{◌≡◌, ℕ, Ok}
+use Rattle.texts.specs.Left.{Left, then_part}
+use Rattle.texts.specs.Late.{ReadsTo}
+use Rattle.texts.proofs.Lates.{to-first, to-second, to-map}
 use Rattle.ring_table.specs.Value.{RingValue}
 use Rattle.ring_table.specs.Reading.{ring_at}
 use Rattle.change_text.specs.Reading.{change_at}

@@ -1,6 +1,5 @@
 pub mod ChainLaws
-pub mod Places
 pub mod Written
-pub mod CertLines
+pub mod CertForm
 pub mod CertLaws
 pub mod CertLates

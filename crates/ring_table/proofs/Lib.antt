@@ -5,3 +5,4 @@ pub mod RowLaws
 pub mod NodesLaws
 pub mod RingLaws
 pub mod RingLates
+pub mod NodeForm

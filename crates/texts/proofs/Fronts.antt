@@ -10,21 +10,13 @@ use Rattle.texts.specs.Numbers.{numbers_of, beyond, are_small}
 use Rattle.texts.specs.Judging.{both_of, Item, ◌⊗◌, end_at, map_ok, map_item, whole, unless}
 use Rattle.texts.specs.Left.{◌>>=◌}
 use Rattle.texts.specs.Laws.{IsItem, IsLine}
+pub use Rattle.texts.specs.Laws.{IsFront, Last}
 use Rattle.texts.proofs.Items.{both_is, map_is, bind_ok, unless_is, unless_ok, Passes, end_is}
 use Rattle.texts.proofs.Decimals.{decimal-value, value-decimal}
 
 -- no number stands in front
 abbrev pub Free : List (List ℕ) → Type 0
 Free rest = (numbers_of rest ≡ []) × (beyond rest ≡ rest)
-
--- nothing is left
-abbrev pub Last : List (List ℕ) → Type 0
-Last rest = rest ≡ []
-
--- of the fields of a line the item takes the spelling of an allowed value from the front, where C holds of those behind it
-pub record IsFront {A : Type 0} (C : List (List ℕ) → Type 0) (item : Item A) (spell : A → List (List ℕ)) (P : A → Type 0) : Type 0 where
-  pub takes : (fields rest : List (List ℕ)) (v : A) → item fields ≡ (Ok v, rest) → (fields ≡ spell v ++ rest) × P v
-  pub gives : (v : A) (rest : List (List ℕ)) → P v → C rest → item (spell v ++ rest) ≡ (Ok v, rest)
 
 pub front-item : {A : Type 0} (C : List (List ℕ) → Type 0) (a : Item A) (s : A → List (List ℕ)) (P : A → Type 0) → IsItem a s P → IsFront C a s P
 front-item C a s P ia = record { takes = ia.takes; gives = λ v rest p free. ia.gives v rest p }

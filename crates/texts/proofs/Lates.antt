@@ -11,12 +11,9 @@ use Rattle.texts.specs.Judging.{both_of, Item, ◌⊗◌, field_at, word_at, lim
 use Rattle.texts.specs.Parts.{lines_of}
 use Rattle.texts.specs.Left.{Left, ◌>>=◌, next_number, lines_on, begins_so, first_line, next_line, is_nothing, over_at, one_line, then_part, many_from, map_part, whole_text}
 use Rattle.texts.specs.Late.{IsAt, NoFaultBefore, ReadsTo, Late}
+pub use Rattle.texts.specs.Late.{At, Judges, Advances}
 use Rattle.texts.proofs.Items.{ok_is}
 use Rattle.texts.proofs.Many.{many-step}
-
--- the fault of line k, if there is one
-abbrev pub At : {A : Type 0} → ℕ → Result A Refusal → Type 0
-At k r = IfErr r (λ e. IsAt k e)
 
 pub at-both : {A B : Type 0} (k : ℕ) (a : Result A Refusal) (b : Result B Refusal) → At k a → At k b → At k (both_of a b)
 unfolding both_of
@@ -49,10 +46,6 @@ AllAt k (t ∷ ts) = IsAt k t.1 × AllAt k ts
 pub at-unless : {A : Type 0} (k : ℕ) (ts : List (Bool × Refusal)) (x : A) → AllAt k ts → At k (unless ts x)
 at-unless k [] x p = tt
 at-unless k (t ∷ ts) x p = at-if k t.0 (Err t.1) (unless ts x) p.0 (at-unless k ts x p.1)
-
--- the faults of an item are of line k
-pub record Judges {A : Type 0} (k : ℕ) (item : Item A) : Type 0 where
-  pub at : (fields : List (List ℕ)) → At k (item fields).0
 
 pub judges-⊗ : {A B : Type 0} (k : ℕ) (a : Item A) (b : Item B) → Judges k a → Judges k b → Judges k (a ⊗ b)
 judges-⊗ k a b p q = record { at = λ fields. at-both k (a fields).0 (b (a fields).1).0 (p.at fields) (q.at (a fields).1) }
@@ -123,9 +116,6 @@ pub reads-less : {A : Type 0} (k m : ℕ) (r : Result (A × Left) Refusal) → k
 reads-less k m (Ok x) le p = omega arith
 reads-less k m (Err e) le p = (p.0, omega (arith, p.1), p.2)
 
-pub record Advances {A : Type 0} (read : Left → Result (A × Left) Refusal) : Type 0 where
-  pub on : (s : Left) → ReadsTo s.line (read s)
-
 pub advances-line : {A : Type 0} (read : ℕ → List (List ℕ) → Result A Refusal) → ((k : ℕ) (fields : List (List ℕ)) → At k (read k fields)) → Advances (one_line read)
 advances-line {A} read at = record { on = λ s. on s.line s.lines }
   where
@@ -166,6 +156,17 @@ to-map {A} {B} f read k s p = by (read s) p
 
 pub advances-map : {A B : Type 0} (f : A → B) (read : Left → Result (A × Left) Refusal) → Advances read → Advances (map_part f read)
 advances-map f read p = record { on = λ s. to-map f read s.line s (p.on s) }
+
+-- a place after the first of the parts of a value
+pub to-after : {A B E : Type 0} (f : A × B → E) (read : Left → Result (A × Left) Refusal) (again : A → Left → Result (B × Left) Refusal) (k : ℕ) (s t : Left) (x : A) → read s ≡ Ok (x, t) → ReadsTo k (again x t) → ReadsTo k (map_part f (then_part read again) s)
+to-after f read again k s t x e p = to-map f (then_part read again) k s (to-second read again k s t x e p)
+
+-- a part does not end before it begins, and what is after the line after it is after its first
+pub past : {A : Type 0} (read : Left → Result (A × Left) Refusal) → Advances read → (s t : Left) (v : A) → read s ≡ Ok (v, t) → s.line ≤ t.line
+past read on s t v e = (let here = on.on s in rw e at here)
+
+pub past-next : {A : Type 0} (read : Left → Result (A × Left) Refusal) → Advances read → (s t : Left) (v : A) → read s ≡ Ok (v, t) → (k : ℕ) → next_number t.line ≤ k → next_number s.line ≤ k
+past-next read on s t v e k le = (let more = next-monotone s.line t.line (past read on s t v e) in omega arith)
 
 -- ---- lines that begin alike
 

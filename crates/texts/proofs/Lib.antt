@@ -20,3 +20,5 @@ pub mod InFront
 pub mod Faults
 pub mod Halves
 pub mod Parts
+pub mod Forms
+pub mod Places

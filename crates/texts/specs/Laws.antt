@@ -10,6 +10,11 @@ pub record IsItem {A : Type 0} (item : Item A) (spell : A → List (List ℕ)) (
   pub takes : (fields rest : List (List ℕ)) (v : A) → item fields ≡ (Ok v, rest) → (fields ≡ spell v ++ rest) × P v
   pub gives : (v : A) (rest : List (List ℕ)) → P v → item (spell v ++ rest) ≡ (Ok v, rest)
 
+-- the same where C holds of the fields after it
+pub record IsFront {A : Type 0} (C : List (List ℕ) → Type 0) (item : Item A) (spell : A → List (List ℕ)) (P : A → Type 0) : Type 0 where
+  pub takes : (fields rest : List (List ℕ)) (v : A) → item fields ≡ (Ok v, rest) → (fields ≡ spell v ++ rest) × P v
+  pub gives : (v : A) (rest : List (List ℕ)) → P v → C rest → item (spell v ++ rest) ≡ (Ok v, rest)
+
 -- a line is read only if it is the spelling of an allowed value
 pub record IsLine {A : Type 0} (read : List (List ℕ) → Result A Refusal) (spell : A → List (List ℕ)) (P : A → Type 0) : Type 0 where
   pub takes : (fields : List (List ℕ)) (v : A) → read fields ≡ Ok v → (fields ≡ spell v) × P v
@@ -38,6 +43,14 @@ BeginsOther test line = begins_so test (line ∷ []) ≡ false
 -- any line may follow
 abbrev pub Any : List (List ℕ) → Type 0
 Any x = Unit {0}
+
+-- any fields may follow
+abbrev pub Always : List (List ℕ) → Type 0
+Always rest = Unit {0}
+
+-- no field may follow
+abbrev pub Last : List (List ℕ) → Type 0
+Last rest = rest ≡ []
 
 -- no byte is a space or 0A
 abbrev pub IsPlain : List ℕ → Type 0

@@ -10,3 +10,4 @@ pub mod KeptRow
 pub mod Late
 pub mod Frames
 pub mod Cuts
+pub mod Form

@@ -1,4 +1,4 @@
-use Rattle.change_text.proofs.ChangeLines.{join-small}
+use Rattle.change_text.proofs.ChangeLaws.{join-small}
 use Rattle.change_text.proofs.ChangeLates.{join-at}
 use Rattle.change_text.proofs.lines.join_line.Goals as goal
 

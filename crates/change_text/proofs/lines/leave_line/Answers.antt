@@ -1,4 +1,4 @@
-use Rattle.change_text.proofs.ChangeLines.{leave-small}
+use Rattle.change_text.proofs.ChangeLaws.{leave-small}
 use Rattle.change_text.proofs.ChangeLates.{leave-at}
 use Rattle.change_text.proofs.lines.leave_line.Goals as goal
 

@@ -1,7 +1,7 @@
 use Rattle.std.proofs.Common.{sym, ◌∙◌}
 use Rattle.plan_cert.specs.Valid.{is_chain}
 use Rattle.plan_cert.proofs.ChainLaws.{chain-at}
-use Rattle.plan_cert.proofs.Places.{all-more, all-but}
+use Rattle.texts.proofs.Places.{all-more, all-but}
 use Rattle.plan_cert.proofs.cert.are_chains.Goals as goal
 
 pub loop-place-preserved : goal.loop-place-preserved

@@ -1,6 +1,6 @@
 use Rattle.std.proofs.Common.{sym, ◌∙◌}
 use Rattle.plan_cert.specs.Valid.{is_fact}
-use Rattle.plan_cert.proofs.Places.{all-more, all-but}
+use Rattle.texts.proofs.Places.{all-more, all-but}
 use Rattle.plan_cert.proofs.cert.are_facts.Goals as goal
 
 pub loop-place-preserved : goal.loop-place-preserved

@@ -1,5 +1,4 @@
-use Rattle.plan_cert.proofs.CertLines.{fact-said}
-use Rattle.plan_cert.proofs.CertLates.{fact-at}
+use Rattle.plan_cert.proofs.CertLates.{fact-at, fact-said}
 use Rattle.plan_cert.proofs.lines.fact_line.Goals as goal
 
 pub returns-clause-small : goal.returns-clause-small

@@ -1,7 +1,7 @@
 use Rattle.ring_table.specs.Value.{names_of}
 use Rattle.plan_cert.specs.Spelling.{chain_fields}
 use Rattle.plan_cert.proofs.ChainLaws.{chain-at}
-use Rattle.plan_cert.proofs.Places.{lines-more}
+use Rattle.texts.proofs.Places.{lines-more}
 use Rattle.plan_cert.proofs.writing.push_chains.Goals as goal
 
 pub loop-place-preserved : goal.loop-place-preserved

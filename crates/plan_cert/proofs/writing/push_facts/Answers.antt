@@ -1,5 +1,5 @@
 use Rattle.plan_cert.specs.Spelling.{fact_fields}
-use Rattle.plan_cert.proofs.Places.{lines-more}
+use Rattle.texts.proofs.Places.{lines-more}
 use Rattle.plan_cert.proofs.writing.push_facts.Goals as goal
 
 pub loop-place-preserved : goal.loop-place-preserved

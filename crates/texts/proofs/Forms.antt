@@ -1,0 +1,316 @@
+-- Forms of fields, lines and sections, put together: each law is proved once here.
+use Rattle.std.proofs.Common.{◌≡◌, ℕ, ◌+◌, ◌-◌, ◌<◌, ◌≤◌, Bool, true, false, cond, List, [], ◌∷◌, ◌++◌, length, map, codes, Result, Ok, Err, refl, sym, ap, subst, ◌∙◌, arith, rules, append_assoc, length-append}
+use Rattle.std.specs.Prelude.{IfOk}
+use Rattle.std.specs.List.{AllByRecursion, list_all}
+use Rattle.std.specs.Fmt.{decimal}
+use Rattle.std.specs.Str.{bytes_eq}
+use Rattle.std.proofs.lemmas.Bool.{and_parts}
+use Rattle.std.proofs.lemmas.Slice.Eq.{bytes_eq-Decides}
+use Rattle.ring_names.specs.declared.refusal.Refusal.{Refusal}
+use Rattle.ring_names.specs.declared.refusal.Refusal.TheVariants.{BadLine}
+use Rattle.ring_names.proofs.Logic.{pair_is, pair_of}
+use Rattle.texts.specs.Numbers.{numbers_of, beyond, are_small}
+use Rattle.texts.specs.Judging.{Item, ◌⊗◌, field_at, word_at, need_at, map_ok, whole, unless}
+use Rattle.texts.specs.Parts.{text_of}
+use Rattle.texts.specs.Laws.{IsItem, SomeLeft, IsPlainLine, EachNext}
+use Rattle.texts.specs.Frames.{header_fields, end_fields, end_line_at}
+use Rattle.texts.specs.Left.{◌>>=◌, begins_so, many_from, then_part, map_part, whole_text}
+use Rattle.texts.proofs.Many.{many-part}
+use Rattle.texts.proofs.Items.{IsLine-map, IsLine-as, IsPart-line, IsPart-then, IsPart-map, IsItem-word, IsItem-field, IsItem-need, ok_is, bind_ok, unless_is, unless_ok, Passes}
+use Rattle.texts.proofs.Fronts.{Free, IsFront, front-item, front-⊗, front-whole, numbers-taken, numbers-given}
+use Rattle.texts.proofs.Lates.{advances-line, advances-then, advances-map, many-on, at-map, at-whole, at-if, at-bind, at-unless, AllAt, Judges, judges-⊗, judges-word, judges-field, judges-need}
+use Rattle.texts.proofs.FrameLaws.{Nothing, header-line, header-at, end-line, end-at}
+use Rattle.texts.proofs.Rows.{numbers-plain}
+use Rattle.texts.proofs.Texts.{appended}
+use Rattle.texts.proofs.Wholes.{whole-takes, whole-gives}
+-- and for those who write a format
+pub use Rattle.texts.specs.Form.{Form, LineForm, Section}
+pub use Rattle.texts.specs.Laws.{IsPart, IsPlain, Any, Always, Last, BeginsOther}
+pub use Rattle.texts.specs.Left.{Left, is_word, next_number, one_line}
+pub use Rattle.texts.specs.Frames.{header_at}
+pub use Rattle.texts.specs.Late.{ReadsTo}
+pub use Rattle.texts.proofs.Items.{some_lines}
+pub use Rattle.texts.proofs.Lates.{At, Advances, to-first, to-second, to-after, past, past-next}
+
+-- ---- fields
+
+-- an item of which all this is known
+abbrev pub of_item : {W A : Type 0} (item : ℕ → Item A) (spell : A → List (List ℕ)) (allowed : A → Type 0) → (W → (k : ℕ) → IsItem (item k) spell allowed) → ((k : ℕ) → Judges k (item k))
+    → (W → (v : A) → allowed v → AllByRecursion IsPlain (spell v)) → Form W Always A
+of_item item spell allowed exact judges plain = record {
+  item = item;
+  spell = spell;
+  allowed = allowed;
+  exact = λ w k. front-item Always (item k) spell allowed (exact w k);
+  judges = judges;
+  plain = plain;
+}
+
+-- this very word
+abbrev pub word : {W : Type 0} (w : List ℕ) → IsPlain w → Form W Always (Unit {0})
+word w p = of_item (λ k. word_at k w) (λ _. w ∷ []) (λ _. Unit {0}) (λ _ k. IsItem-word k w) (λ k. judges-word k w) (λ _ v q. (p, tt))
+
+-- one of two words is plain
+pub either-plain : (b : Bool) (x y : List ℕ) → IsPlain x → IsPlain y → IsPlain (cond b x y)
+either-plain true x y p q = p
+either-plain false x y p q = q
+
+-- room for what the line begins
+abbrev pub room : {W : Type 0} → Bool → Form W Always (Unit {0})
+room b = of_item (λ k. need_at k b) (λ _. []) (λ _. b ≡ true) (λ _ k. IsItem-need k b) (λ k. judges-need k b) (λ _ v q. tt)
+
+-- the value of the word
+abbrev pub judge_words : {A : Type 0} → List (List ℕ × A) → ℕ → List ℕ → Result A Refusal
+judge_words [] k field = Err (BadLine k)
+judge_words (w ∷ ws) k field = cond (bytes_eq field w.0) (Ok w.1) (judge_words ws k field)
+
+module _ {A : Type 0} (spell : A → List ℕ) where
+  -- each is a plain word, and that of its value
+  abbrev pub AreWords : List (List ℕ × A) → Type 0
+  AreWords ws = AllByRecursion (λ w. (spell w.1 ≡ w.0) × IsPlain w.0) ws
+
+  pub words-are : (ws : List (List ℕ × A)) → AreWords ws → (k : ℕ) (f : List ℕ) (v : A) → judge_words ws k f ≡ Ok v → (f ≡ spell v) × IsPlain f
+  words-are [] p k f v e = absurd cc
+  words-are (w ∷ ws) p k f v e = by (bytes_eq f w.0) refl e (words-are ws p.1 k f v)
+    where
+      by : (b : Bool) → bytes_eq f w.0 ≡ b → cond b (Ok w.1) (judge_words ws k f) ≡ Ok v → (judge_words ws k f ≡ Ok v → (f ≡ spell v) × IsPlain f) → (f ≡ spell v) × IsPlain f
+      by true h g later = (let is : f ≡ w.0 = (bytes_eq-Decides f w.0).0 h in (is ∙ sym p.0.0 ∙ ap spell (ok_is w.1 v g), subst IsPlain (sym is) p.0.1))
+      by false h g later = later g
+
+  pub words-at : (ws : List (List ℕ × A)) (k : ℕ) (f : List ℕ) → At k (judge_words ws k f)
+  words-at [] k f = refl
+  words-at (w ∷ ws) k f = at-if k (bytes_eq f w.0) (Ok w.1) (judge_words ws k f) tt (words-at ws k f)
+
+  -- one of some words
+  abbrev pub one_of : {W : Type 0} (ws : List (List ℕ × A)) → AreWords ws → ((k : ℕ) (v : A) → judge_words ws k (spell v) ≡ Ok v) → Form W Always A
+  one_of ws p given = of_item (λ k. field_at k (judge_words ws k)) (λ v. spell v ∷ []) (λ v. Unit {0})
+      (λ _ k. IsItem-field k (judge_words ws k) spell (λ v. Unit {0}) (λ f v e. ((words-are ws p k f v e).0, tt)) (λ v q. given k v)) (λ k. judges-field k (judge_words ws k) (words-at ws k))
+      (λ _ v q. ((words-are ws p 0 (spell v) v (given 0 v)).1, tt))
+
+-- one, and after it the other
+abbrev pub both : {W A B : Type 0} (D : List (List ℕ) → Type 0) → Form W Always A → Form W D B → Form W D (A × B)
+both D a b = record {
+  item = λ k. a.item k ⊗ b.item k;
+  spell = λ v. a.spell v.0 ++ b.spell v.1;
+  allowed = λ v. a.allowed v.0 × b.allowed v.1;
+  exact = λ w k. front-⊗ Always D (a.item k) (b.item k) a.spell b.spell a.allowed b.allowed (a.exact w k) (b.exact w k) (λ y rest d. tt);
+  judges = λ k. judges-⊗ k (a.item k) (b.item k) (a.judges k) (b.judges k);
+  plain = λ w v p. appended IsPlain (a.spell v.0) (b.spell v.1) (a.plain w v.0 p.0) (b.plain w v.1 p.1);
+}
+
+-- all numbers in front, unless one of the tests is so
+abbrev pub row_at : (ℕ → List ℕ → List (Bool × Refusal)) → ℕ → Item (List ℕ)
+row_at tests k fields = (unless (tests k (numbers_of fields)) (numbers_of fields), beyond fields)
+
+module _ (tests : ℕ → List ℕ → List (Bool × Refusal)) (same : (k m : ℕ) (xs : List ℕ) → Passes (tests k xs) → Passes (tests m xs)) (small : (xs : List ℕ) → Passes (tests 0 xs) → are_small xs ≡ true) where
+  pub row-front : (k : ℕ) → IsFront Last (row_at tests k) (map decimal) (λ xs. Passes (tests 0 xs))
+  row-front k = record { takes = take; gives = give }
+    where
+      take : (fields rest : List (List ℕ)) (v : List ℕ) → row_at tests k fields ≡ (Ok v, rest) → (fields ≡ map decimal v ++ rest) × Passes (tests 0 v)
+      take fields rest v e =
+          let h = pair_is (row_at tests k fields) (Ok v) rest e in
+          let a = unless_is (tests k (numbers_of fields)) (numbers_of fields) v h.0 in
+          let p = same k 0 (numbers_of fields) a.1 in
+          (numbers-taken fields (small (numbers_of fields) p) ∙ ap (λ (xs : List ℕ). map decimal xs ++ beyond fields) a.0 ∙ ap (λ (r : List (List ℕ)). map decimal v ++ r) h.1, subst (λ (xs : List ℕ). Passes (tests 0 xs)) a.0 p)
+
+      give : (v : List ℕ) (rest : List (List ℕ)) → Passes (tests 0 v) → Last rest → row_at tests k (map decimal v ++ rest) ≡ (Ok v, rest)
+      give v rest p last =
+          let free : Free rest = rw last (refl, refl) in
+          let n = numbers-given v rest (small v p) free in
+          rw (n.0, n.1) (ap (λ (r : Result (List ℕ) Refusal). (r, rest)) (unless_ok (tests k v) v (same 0 k v p)))
+
+  abbrev pub row : {W : Type 0} → ((k : ℕ) (xs : List ℕ) → AllAt k (tests k xs)) → Form W Last (List ℕ)
+  row at = record {
+    item = row_at tests;
+    spell = λ xs. map decimal xs;
+    allowed = λ xs. Passes (tests 0 xs);
+    exact = λ _ k. row-front k;
+    judges = λ k. record { at = λ fields. at-unless k (tests k (numbers_of fields)) (numbers_of fields) (at k (numbers_of fields)) };
+    plain = λ _ v p. numbers-plain v (small v p);
+  }
+
+-- the value made into another, unless one of the tests is so
+abbrev pub judged_at : {A B : Type 0} → (ℕ → Item A) → (ℕ → A → List (Bool × Refusal)) → (A → B) → ℕ → Item B
+judged_at a tests f k fields = ((a k fields).0 >>= (λ v. unless (tests k v) (f v)), (a k fields).1)
+
+module _ {W A B : Type 0} (C : List (List ℕ) → Type 0) (tests : ℕ → A → List (Bool × Refusal)) (same : (k m : ℕ) (x : A) → Passes (tests k x) → Passes (tests m x)) (f : A → B) (g : B → A)
+    (gf : (x : A) → g (f x) ≡ x) (fg : (y : B) → f (g y) ≡ y) (a : Form W C A) where
+  abbrev Allowed : B → Type 0
+  Allowed y = a.allowed (g y) × Passes (tests 0 (g y))
+
+  pub judged-front : W → (k : ℕ) → IsFront C (judged_at a.item tests f k) (λ y. a.spell (g y)) Allowed
+  judged-front w k = record { takes = take; gives = give }
+    where
+      take : (fields rest : List (List ℕ)) (v : B) → judged_at a.item tests f k fields ≡ (Ok v, rest) → (fields ≡ a.spell (g v) ++ rest) × Allowed v
+      take fields rest v e =
+          let h = pair_is (judged_at a.item tests f k fields) (Ok v) rest e in
+          let b = bind_ok (a.item k fields).0 (λ x. unless (tests k x) (f x)) v h.0 in
+          let u = unless_is (tests k b.0) (f b.0) v b.2 in
+          let i = (a.exact w k).takes fields rest b.0 (pair_of (a.item k fields) (Ok b.0) rest b.1 h.1) in
+          let G : A → Type 0 = λ x. (fields ≡ a.spell x ++ rest) × (a.allowed x × Passes (tests 0 x)) in
+          subst (λ (y : B). G (g y)) u.0 (subst G (sym (gf b.0)) (i.0, (i.1, same k 0 b.0 u.1)))
+
+      give : (v : B) (rest : List (List ℕ)) → Allowed v → C rest → judged_at a.item tests f k (a.spell (g v) ++ rest) ≡ (Ok v, rest)
+      give v rest p c =
+          let i = (a.exact w k).gives (g v) rest p.0 c in
+          rw i (ap (λ (r : Result B Refusal). (r, rest)) (unless_ok (tests k (g v)) (f (g v)) (same 0 k (g v) p.1) ∙ ap (λ (x : B). Ok x) (fg v)))
+
+  abbrev pub judged : ((k : ℕ) (x : A) → AllAt k (tests k x)) → Form W C B
+  judged at = record {
+    item = judged_at a.item tests f;
+    spell = λ y. a.spell (g y);
+    allowed = Allowed;
+    exact = judged-front;
+    judges = λ k. record { at = λ fields. at-bind k (a.item k fields).0 (λ v. unless (tests k v) (f v)) ((a.judges k).at fields) (λ x. at-unless k (tests k x) (f x) (at k x)) };
+    plain = λ w y p. a.plain w (g y) p.0;
+  }
+
+-- ---- lines
+
+-- a field is there
+abbrev pub has_field : List (List ℕ) → Bool
+has_field [] = false
+has_field (f ∷ fs) = true
+
+pub plain-line : (l : List (List ℕ)) → AllByRecursion IsPlain l → has_field l ≡ true → IsPlainLine l
+plain-line [] p e = absurd cc
+plain-line (f ∷ fs) p e = p
+
+-- a whole line of a form, its value made into another
+abbrev pub line : {W A B : Type 0} (C : List (List ℕ) → Type 0) → C [] → (f : A → B) (g : B → A) → ((x : A) → g (f x) ≡ x) → ((y : B) → f (g y) ≡ y) → (a : Form W C A) → ((v : A) → has_field (a.spell v) ≡ true) → LineForm W B
+line C nothing f g gf fg a some = record {
+  read = λ k fields. map_ok f (whole k (a.item k) fields);
+  spell = λ v. a.spell (g v);
+  allowed = λ v. a.allowed (g v);
+  exact = λ w k. IsLine-map (whole k (a.item k)) a.spell a.allowed f g gf fg (front-whole C k (a.item k) a.spell a.allowed nothing (a.exact w k));
+  at = λ k fields. at-map k f (whole k (a.item k) fields) (at-whole k (a.item k) (a.judges k) fields);
+  plain = λ w v p. plain-line (a.spell (g v)) (a.plain w (g v) p) (some (g v));
+}
+
+-- what was returned of a line is allowed
+pub line-allowed : {W A B : Type 0} (l : LineForm W A) → W → (f : B → A) (k : ℕ) (fields : List (List ℕ)) (r : Result B Refusal) → map_ok f r ≡ l.read k fields → IfOk r (λ v. l.allowed (f v))
+line-allowed l w f k fields (Ok v) e = ((l.exact w k).takes fields (f v) (sym e)).1
+line-allowed l w f k fields (Err d) e = tt
+
+-- ---- sections
+
+-- a line that must come
+abbrev pub one : {W A : Type 0} → LineForm W A → Section W Any A
+one l = record {
+  read = one_line l.read;
+  spell = λ v. l.spell v ∷ [];
+  allowed = l.allowed;
+  exact = λ w. IsPart-line l.read l.spell l.allowed (l.exact w);
+  advances = advances-line l.read l.at;
+  plain = λ w v p. (l.plain w v p, tt);
+}
+
+pub each-plain : {A : Type 0} (spell : A → List (List ℕ)) (P : List A → A → Type 0) → ((seen : List A) (v : A) → P seen v → IsPlainLine (spell v)) → (seen xs : List A) → EachNext P seen xs → AllByRecursion IsPlainLine (map spell xs)
+each-plain spell P plain seen [] next = tt
+each-plain spell P plain seen (x ∷ xs) next = (plain seen x next.0, each-plain spell P plain (seen ++ x ∷ []) xs next.1)
+
+-- lines as long as they begin so, each after those seen
+abbrev pub many : {W A : Type 0} (test : List ℕ → Bool) (spell : A → List (List ℕ)) (l : List A → LineForm W A) → ((seen : List A) (v : A) → (l seen).spell v ≡ spell v)
+    → (W → (seen : List A) (x : A) (more : List (List (List ℕ))) → (l seen).allowed x → begins_so test (spell x ∷ more) ≡ true) → Section W (BeginsOther test) (List A)
+many test spell l same begins = record {
+  read = λ s. many_from test (λ seen. (l seen).read) [] s.line s.lines;
+  spell = λ xs. map spell xs;
+  allowed = EachNext (λ seen. (l seen).allowed) [];
+  exact = λ w. many-part test (λ seen. (l seen).read) spell (λ seen. (l seen).allowed)
+      (λ seen k. IsLine-as ((l seen).read k) (l seen).spell spell (l seen).allowed (l seen).allowed (same seen) (λ v p. p) (λ v p. p) ((l seen).exact w k)) (begins w);
+  advances = record { on = λ s. many-on test (λ seen. (l seen).read) (λ seen. (l seen).at) [] s.line s.lines };
+  plain = λ w v p. each-plain spell (λ seen. (l seen).allowed) (λ seen x q. subst IsPlainLine (same seen x) ((l seen).plain w x q)) [] v p;
+}
+
+-- one section, and after it another, which may depend on it
+abbrev pub then : {W A B : Type 0} (C D : List (List ℕ) → Type 0) (a : Section W C A) (b : A → Section W D B)
+    → (W → (x : A) (y : B) (l : List (List ℕ)) (ls : List (List (List ℕ))) → a.allowed x → (b x).allowed y → D l → C (some_lines ((b x).spell y) l ls).0) → Section W D (A × B)
+then C D a b meet = record {
+  read = then_part a.read (λ x. (b x).read);
+  spell = λ v. a.spell v.0 ++ (b v.0).spell v.1;
+  allowed = λ v. a.allowed v.0 × (b v.0).allowed v.1;
+  exact = λ w. IsPart-then C D a.read (λ x. (b x).read) a.spell (λ x. (b x).spell) a.allowed (λ x. (b x).allowed) (a.exact w) (λ x p. (b x).exact w) (meet w);
+  advances = advances-then a.read (λ x. (b x).read) a.advances (λ x. (b x).advances);
+  plain = λ w v p. appended IsPlainLine (a.spell v.0) ((b v.0).spell v.1) (a.plain w v.0 p.0) ((b v.0).plain w v.1 p.1);
+}
+
+-- a section, its value made into another
+abbrev pub made : {W A B : Type 0} (C : List (List ℕ) → Type 0) (f : A → B) (g : B → A) → ((x : A) → g (f x) ≡ x) → ((y : B) → f (g y) ≡ y) → Section W C A → Section W C B
+made C f g gf fg a = record {
+  read = map_part f a.read;
+  spell = λ v. a.spell (g v);
+  allowed = λ v. a.allowed (g v);
+  exact = λ w. IsPart-map C a.read a.spell a.allowed f g gf fg (a.exact w);
+  advances = advances-map f a.read a.advances;
+  plain = λ w v p. a.plain w (g v) p;
+}
+
+-- the first and the last line of a section
+abbrev pub header : {W : Type 0} (w format : List ℕ) → IsPlain w → IsPlain format → Section W Any (Unit {0})
+header w format p q = one (record {
+  read = header_at w format;
+  spell = λ _. header_fields w format;
+  allowed = Nothing;
+  exact = λ _ k. header-line w format k;
+  at = header-at w format;
+  plain = λ _ v r. (p, (q, tt));
+})
+
+pub end-plain : IsPlain (codes "end")
+end-plain = (search rules)
+
+abbrev pub ending : {W : Type 0} → Section W Any (Unit {0})
+ending = one (record {
+  read = end_line_at;
+  spell = λ _. end_fields;
+  allowed = Nothing;
+  exact = λ _ k. end-line k;
+  at = end-at;
+  plain = λ _ v r. (end-plain, tt);
+})
+
+-- ---- what is read of sections
+
+-- a whole text is read only from its spelling, and from that it is
+pub text-found : {W A : Type 0} (f : Section W Any A) → W → (text : List ℕ) (v : A) → whole_text f.read text ≡ Ok v → f.allowed v × (text ≡ text_of (f.spell v))
+text-found f w text v e = whole-takes f.read f.spell f.allowed (f.exact w) text v e
+
+pub text-given : {W A : Type 0} (f : Section W Any A) → W → (text : List ℕ) (v : A) → f.allowed v → text ≡ text_of (f.spell v) → whole_text f.read text ≡ Ok v
+text-given f w text v p e = whole-gives f.read f.spell f.allowed (f.exact w) text v p (f.plain w v p) e
+
+-- what begins with a line that must come is read only where some line is
+pub some-first : {A B E : Type 0} (f : A × B → E) (read : ℕ → List (List ℕ) → Result A Refusal) (again : A → Left → Result (B × Left) Refusal) (s t : Left) (v : E) → map_part f (then_part (one_line read) again) s ≡ Ok (v, t) → SomeLeft s
+some-first f read again s t v e = by s.lines e
+  where
+    by : (lines : List (List (List ℕ))) → map_part f (then_part (one_line read) again) (record { line = s.line; lines = lines }) ≡ Ok (v, t) → (x : List (List ℕ)) × (xs : List (List (List ℕ))) × (lines ≡ x ∷ xs)
+    by [] h = absurd cc
+    by (x ∷ xs) h = (x, xs, refl)
+
+-- ---- lines that are each allowed after those seen
+
+module _ {A : Type 0} (P : List A → A → Type 0) where
+  -- what each passes they all pass
+  pub each-all : (test : A → Bool) → ((seen : List A) (x : A) → P seen x → test x ≡ true) → (seen xs : List A) → EachNext P seen xs → list_all test xs ≡ true
+  each-all test is seen [] next = refl
+  each-all test is seen (x ∷ xs) next = rw (is seen x next.0) (each-all test is (seen ++ x ∷ []) xs next.1)
+
+  -- and those that pass, where R holds of them all, are each allowed
+  pub all-each : (test : A → Bool) (R : List A → Type 0) → ((seen : List A) (x : A) (xs : List A) → test x ≡ true → R (seen ++ x ∷ xs) → P seen x) → (seen xs : List A) → list_all test xs ≡ true → R (seen ++ xs) → EachNext P seen xs
+  all-each test R is seen [] e r = tt
+  all-each test R is seen (x ∷ xs) e r =
+      let a = and_parts (test x) (list_all test xs) e in
+      (is seen x xs a.0 r, all-each test R is (seen ++ x ∷ []) xs a.1 (subst R (sym (append_assoc seen (x ∷ []) xs)) r))
+
+  -- lines for which there is room
+  pub each-few : (n : ℕ) → ((seen : List A) (x : A) → P seen x → length seen < n) → (seen xs : List A) (m : ℕ) → length seen + m ≡ n → EachNext P seen xs → length xs ≤ m
+  each-few n is seen [] m e next = omega arith
+  each-few n is seen (x ∷ xs) m e next = (let lt = is seen x next.0 in let grown = length-append seen (x ∷ []) in let few = each-few n is (seen ++ x ∷ []) xs (m - 1) (omega arith) next.1 in omega arith)
+
+  pub few-each : (n : ℕ) (one two : A → Bool) → ((seen : List A) (x : A) → length seen < n → one x ≡ true → two x ≡ true → P seen x) → (seen xs : List A) (m : ℕ) → length seen + m ≡ n
+      → length xs ≤ m → list_all one xs ≡ true → list_all two xs ≡ true → EachNext P seen xs
+  few-each n one two is seen [] m e few p q = tt
+  few-each n one two is seen (x ∷ xs) m e few p q =
+      let a = and_parts (one x) (list_all one xs) p in
+      let b = and_parts (two x) (list_all two xs) q in
+      let grown = length-append seen (x ∷ []) in
+      (is seen x (omega arith) a.0 b.0, few-each n one two is (seen ++ x ∷ []) xs (m - 1) (omega arith) (omega arith) a.1 b.1)
