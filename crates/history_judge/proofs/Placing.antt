@@ -16,26 +16,19 @@ use Rattle.ring_core.specs.Faults.{IsFirstFault}
 use Rattle.ring_core.specs.Tables.{values_below}
 use Rattle.ring_core.proofs.FirstFault.{leads_without_fault}
 use Rattle.ring_core.proofs.SlotOwners.{length_values}
-use Rattle.history_parts.specs.Parts.{AreRun, Cover, all_gets, all_puts, entry_in, gets_after, is_marked, or_none, part_after, part_of, puts_after, with_entry}
+use Rattle.history_parts.specs.declared.choice.Choice.TheVariants.{Share}
+use Rattle.history_parts.specs.Parts.{AreRun, Cover, IsPlace, all_gets, all_puts, entry_in, gets_after, is_marked, or_none, part_after, part_of, puts_after, with_entry}
 use Rattle.history_parts.specs.Cuts.{CutValue, after_event, entry_next}
-use Rattle.history_parts.proofs.Cutting.{gets_grow, in_two, puts_grow}
+use Rattle.history_parts.proofs.Cutting.{gets_grow, gets_more, in_two, part_more, part_same, puts_grow, puts_more}
 use Rattle.history_parts.proofs.Whole.{whole_run}
 use Rattle.history_judge.specs.declared.fault.Fault.{Fault}
 use Rattle.history_judge.specs.Faults.{PartFails}
-use Rattle.history_judge.specs.Judged.{IsFound, IsPlace, is_share}
+use Rattle.history_judge.specs.Judged.{IsFound, is_share}
 use Rattle.history_judge.proofs.Fronts.{before_fault, front_fault}
 use Rattle.history_judge.proofs.Deciding.{whole_fails}
 use Rattle.history_judge.proofs.Gathering.{one_number}
 
 -- ---- the cut after some entries
-
-puts_more : (ring : RingValue) (is_in : ℕ → Bool) (ps : List Bool) (xs : List Entry) (x : Entry) → all_puts ring is_in ps (xs ++ x ∷ []) ≡ puts_after ring is_in (all_puts ring is_in ps xs) x.event
-puts_more ring is_in ps [] x = refl
-puts_more ring is_in ps (y ∷ xs) x = puts_more ring is_in (puts_after ring is_in ps y.event) xs x
-
-gets_more : (ring : RingValue) (is_in : ℕ → Bool) (gs : List Bool) (xs : List Entry) (x : Entry) → all_gets ring is_in gs (xs ++ x ∷ []) ≡ gets_after ring is_in (all_gets ring is_in gs xs) x.event
-gets_more ring is_in gs [] x = refl
-gets_more ring is_in gs (y ∷ xs) x = gets_more ring is_in (gets_after ring is_in gs y.event) xs x
 
 few_puts : (ring : RingValue) (is_in : ℕ → Bool) (ps : List Bool) (xs : List Entry) → length (all_puts ring is_in ps xs) ≤ length ps + length xs
 few_puts ring is_in ps [] = omega arith
@@ -65,10 +58,6 @@ one_more ring marks xs x =
     let g = gets_more ring (or_none ring (is_marked marks)) [] xs x in
     λ i. record { ring = ring; partitions = marks; puts = p i; gets = g i }
 
-one_entry : (o : Option Entry) → with_entry o [] ≡ option_to_list o
-one_entry (Some x) = refl
-one_entry None = refl
-
 -- ---- the part so far
 
 pub record Placed (ring : RingValue) (marks : List Bool) (history : List Entry) (now : CutValue) (so_far : List Entry) (places : List ℕ) (k : ℕ) : Type 0 where
@@ -86,9 +75,8 @@ module _ (ring : RingValue) (marks : List Bool) (history : List Entry) (old new 
   cut_next = after ∙ (ap (λ c. after_event c x.event) placed.cut ∙ (sym (one_more ring marks (take k history) x) ∙ ap (cut_after ring marks) (sym taken)))
 
   part_next : part_of ring (is_marked marks) (take (k + 1) history) ≡ entries ++ option_to_list o
-  part_next = ap (part_of ring (is_marked marks)) taken ∙ (in_two ring (or_none ring (is_marked marks)) (take k history) (x ∷ []) [] []
-      ∙ (ap (λ z. part_of ring (is_marked marks) (take k history) ++ z) (one_entry (entry_next (cut_after ring marks (take k history)) x))
-      ∙ (ap (λ z. part_of ring (is_marked marks) (take k history) ++ option_to_list z) (sym (next ∙ ap (λ c. entry_next c x) placed.cut)) ∙ ap (λ z. z ++ option_to_list o) (sym placed.entries))))
+  part_next = ap (part_of ring (is_marked marks)) taken ∙ (part_more ring (is_marked marks) (take k history) x
+      ∙ (ap (λ z. part_of ring (is_marked marks) (take k history) ++ option_to_list z) (sym (next ∙ ap (λ c. entry_next c x) placed.cut)) ∙ ap (λ z. z ++ option_to_list o) (sym placed.entries)))
 
   pub passed : o ≡ None → (xs : List Entry) → xs ≡ entries → (ns : List ℕ) → ns ≡ places → Placed ring marks history new xs ns (k + 1)
   passed n xs e ns f = record {
@@ -165,20 +153,6 @@ placed_fault ring plan parts n history i c f h p e = record {
 
 -- ---- shares
 
-at_value : (n : ℕ) (f : ℕ → Bool) (p : ℕ) → p < n → get_or (values_below n f) p false ≡ f p
-at_value zero f p l = absurd (omega arith)
-at_value (suc n) f p l = below_more (λ q. get_or (values_below n f ++ f n ∷ []) q false ≡ f q) n
-    (λ q b. get_or_append_left (values_below n f) (f n ∷ []) false q (let e = length_values n f in omega arith) ∙ at_value n f q b)
-    (get_or_push (values_below n f) (f n) false n (length_values n f)) p (omega arith)
-
--- the part of the marked partitions is that of the share
-pub of_share : (ring : RingValue) (shares share : ℕ) (history : List Entry) → part_of ring (is_marked (values_below ring.q (is_share shares share))) history ≡ part_of ring (is_share shares share) history
-of_share ring shares share history = ap (λ t. part_after ring t [] [] history) (fun_ext (λ p. by p (cases_lt p ring.q)))
-  where
-    by : (p : ℕ) → (p < ring.q) ⊎ (ring.q ≤ p) → or_none ring (is_marked (values_below ring.q (is_share shares share))) p ≡ or_none ring (is_share shares share) p
-    by p (inl l) = ap (λ b. b || nat_le ring.q p) (at_value ring.q (is_share shares share) p l)
-    by p (inr l) = rw (le-leb ring.q p l) (or_true (is_marked (values_below ring.q (is_share shares share)) p) ∙ sym (or_true (is_share shares share p)))
-
 pub shares_cover : (ring : RingValue) (shares : ℕ) → 0 < shares → Cover ring shares (is_share shares)
 shares_cover ring shares some p l = (p % shares, omega arith, eq-eqb (p % shares) (p % shares) refl)
 
@@ -197,9 +171,9 @@ short_part ring is_in history items n e l = (let a = part_short ring (or_none ri
 
 -- ---- the part of a share, as it is cut
 
-module _ (ring by : RingValue) (marks : List Bool) (shares share : ℕ) (same_ring : by ≡ ring) (same_marks : marks ≡ values_below by.q (is_share shares share)) where
+module _ (ring by : RingValue) (marks : List Bool) (shares share : ℕ) (same_ring : by ≡ ring) (same_marks : (p : ℕ) → p < by.q → is_marked marks p ≡ is_share shares share p) where
   pub share_part : (xs : List Entry) → part_of by (is_marked marks) xs ≡ part_of ring (is_share shares share) xs
-  share_part xs = ap (λ z. part_of by (is_marked z) xs) same_marks ∙ (of_share by shares share xs ∙ ap (λ r. part_of r (is_share shares share) xs) same_ring)
+  share_part xs = part_same by (Share shares share) marks same_marks xs ∙ ap (λ r. part_of r (is_share shares share) xs) same_ring
 
   pub share_place : (history : List Entry) (i k : ℕ) → IsPlace by (is_marked marks) history i k → IsPlace ring (is_share shares share) history i k
   share_place history i k p = (p.0, sym (ap length (share_part (take k history))) ∙ p.1, sym (ap length (share_part (take (k + 1) history))) ∙ p.2)

@@ -1,5 +1,5 @@
 -- What a judge finds of a history by its parts.
-use Rattle.std.specs.Prelude.{◌≡◌, ◌==◌, ◌%◌, ◌<◌, ℕ, ◌+◌, Bool, nat_lt, nat_le, List, length, take, Option, Some, None, if◌then◌else◌}
+use Rattle.std.specs.Prelude.{◌≡◌, ◌%◌, ◌<◌, ℕ, Bool, nat_lt, nat_le, List, Option, Some, None, if◌then◌else◌}
 use Rattle.ring_names.specs.declared.ids.NodeId.{NodeId}
 use Rattle.ring_table.specs.Value.{RingValue}
 use Rattle.plan_text.specs.declared.step.Planned.{Planned}
@@ -7,21 +7,19 @@ use Rattle.plan_runs.specs.declared.event.Entry.{Entry}
 use Rattle.plan_runs.specs.Runs.{IsRun}
 use Rattle.plan_runs.specs.World.{World}
 use Rattle.ring_core.specs.Tables.{owners_now}
+use Rattle.history_parts.specs.declared.choice.Choice.TheVariants.{Share}
+use Rattle.history_parts.specs.Choices.{is_chosen}
 use Rattle.history_parts.specs.Parts.{AreRun, part_of}
 use Rattle.history_judge.specs.declared.fault.Fault.{Fault}
 use Rattle.history_judge.specs.Faults.{IsLeastOf}
 
 -- the partition is of that share of so many
 abbrev pub is_share : ℕ → ℕ → ℕ → Bool
-is_share shares share p = p % shares == share
+is_share shares share p = is_chosen (Share shares share) p
 
 -- the share is of that worker of so many
 abbrev pub IsOwn : ℕ → ℕ → ℕ → ℕ → Type 0
 IsOwn shares workers worker share = (share < shares) × (share % workers ≡ worker)
-
--- the entry of the whole that is entry i of the part
-abbrev pub IsPlace : RingValue → (ℕ → Bool) → List Entry → ℕ → ℕ → Type 0
-IsPlace ring is_in entries i k = (k < length entries) × (length (part_of ring is_in (take k entries)) ≡ i) × (length (part_of ring is_in (take (k + 1) entries)) ≡ i + 1)
 
 -- the least fault of these parts, if there is one, with the greatest number at it; else they are runs
 abbrev pub IsFound : RingValue → List Planned → (ℕ → Type 0) → (ℕ → ℕ → Bool) → List Entry → Option Fault → Type 0

@@ -5,14 +5,13 @@ ghost use Rattle.ring_names.specs.declared.refusal.Refusal.TheVariants.{OutOfMem
 ghost use Rattle.plan_runs.specs.Runs.{IsRun};
 ghost use Rattle.plan_runs.specs.World.{World as TheWorld, opening_world};
 ghost use Rattle.ring_core.specs.Faults.{IsFirstFault};
-ghost use Rattle.ring_core.specs.Tables.{values_below};
-ghost use Rattle.history_parts.specs.Parts.{AreRun, is_marked, part_of};
-ghost use Rattle.history_judge.specs.Judged.{is_share, IsPlace, IsFound, IsJudged, IsOwn};
+ghost use Rattle.history_parts.specs.Parts.{AreRun, IsPlace, is_marked, part_of};
+ghost use Rattle.history_judge.specs.Judged.{is_share, IsFound, IsJudged, IsOwn};
 ghost use Rattle.history_judge.specs.Outcomes.{IsOutcome};
 ghost use Rattle.history_judge.specs.declared.judging.Outcome.{Outcome as TheOutcome};
 
 use crate::fault::{Fault, first_of};
-use history_parts::{Cut, part};
+use history_parts::{Choice, Cut, part};
 use plan_check::Approved;
 use plan_runs::Entry;
 use ring_core::replay;
@@ -54,23 +53,6 @@ fn cut(
     Ok(Part { entries, places })
 }
 
-// The partitions of that share of so many, marked by number.
-fn partitions_of(
-    alloc: Global,
-    partitions: u32,
-    shares: u32,
-    share: u32,
-) -> Result<Vec<bool>, AllocError>
-    requires { 0 < shares }
-    ensures { IfOk result (λ marks. marks.items ≡ values_below partitions (is_share shares share)) }
-{
-    let mut marks = Vec::new(alloc);
-    for partition in 0..partitions {
-        marks.push(partition % shares == share)?;
-    }
-    Ok(marks)
-}
-
 // The first fault of that share of so many, if it has one.
 fn judge_share(
     alloc: Global,
@@ -85,7 +67,11 @@ fn judge_share(
     ensures memory { IfErr result (λ e. e ≡ OutOfMemory) }
 {
     let ring = approved.ring();
-    let partitions = partitions_of(alloc, ring.q(), shares, share)?;
+    let choice = Choice::Share {
+        of: shares,
+        part: share,
+    };
+    let partitions = choice.marks(alloc, ring.q())?;
     let part = cut(alloc, ring, partitions.as_slice(), history)?;
     match replay(alloc, approved, part.entries.as_slice()) {
         Ok(_) => Ok(None),

@@ -1,11 +1,16 @@
 -- A history cut entry by entry.
-use Rattle.std.proofs.Common.{◌≡◌, ◌∙◌, ℕ, zero, suc, ◌+◌, ◌<◌, ◌≤◌, Bool, List, [], ◌∷◌, ◌++◌, length, length-append, get_or, drop, refl, sym, ap, arith, append_assoc}
-use Rattle.std.specs.Prelude.{Option, Some, None, option_to_list}
+use Rattle.std.proofs.Common.{◌≡◌, ◌⊎◌, ◌∙◌, inl, inr, ℕ, zero, suc, ◌+◌, ◌<◌, ◌≤◌, Bool, List, [], ◌∷◌, ◌++◌, length, length-append, get_or, drop, refl, sym, ap, arith, append_assoc}
+use Rattle.std.proofs.Math.Path.{fun_ext}
+use Rattle.std.proofs.lemmas.Bool.{cases_lt, le-leb}
+use Rattle.std.specs.Prelude.{Option, Some, None, option_to_list, ◌||◌, nat_le}
+use Rattle.ring_names.proofs.Logic.{or_true}
 use Rattle.ring_table.specs.Value.{RingValue}
 use Rattle.plan_runs.specs.declared.event.Event.{Event}
 use Rattle.plan_runs.specs.declared.event.Event.TheVariants.{StartPut, StartGet}
 use Rattle.plan_runs.specs.declared.event.Entry.{Entry}
-use Rattle.history_parts.specs.Parts.{puts_after, gets_after, entry_in, with_entry, all_puts, all_gets, part_after, is_key_in, is_marked, or_none}
+use Rattle.history_parts.specs.declared.choice.Choice.{Choice}
+use Rattle.history_parts.specs.Choices.{is_chosen}
+use Rattle.history_parts.specs.Parts.{puts_after, gets_after, entry_in, with_entry, all_puts, all_gets, part_after, part_of, is_key_in, is_marked, or_none}
 use Rattle.history_parts.specs.Cuts.{CutValue, after_event, entry_next}
 
 -- what is cut so far, and what is still to come, are the part
@@ -89,3 +94,38 @@ in_two ring is_in (x ∷ xs) ys ps gs =
     let hs = gets_after ring is_in gs x.event in
     ap (with_entry (entry_in ring is_in ps gs x)) (in_two ring is_in xs ys qs hs)
     ∙ with_more (entry_in ring is_in ps gs x) (part_after ring is_in qs hs xs) (part_after ring is_in (all_puts ring is_in qs xs) (all_gets ring is_in hs xs) ys)
+
+-- ---- one entry more
+
+module _ (ring : RingValue) (is_in : ℕ → Bool) where
+  pub puts_more : (ps : List Bool) (xs : List Entry) (x : Entry) → all_puts ring is_in ps (xs ++ x ∷ []) ≡ puts_after ring is_in (all_puts ring is_in ps xs) x.event
+  puts_more ps [] x = refl
+  puts_more ps (y ∷ xs) x = puts_more (puts_after ring is_in ps y.event) xs x
+
+  pub gets_more : (gs : List Bool) (xs : List Entry) (x : Entry) → all_gets ring is_in gs (xs ++ x ∷ []) ≡ gets_after ring is_in (all_gets ring is_in gs xs) x.event
+  gets_more gs [] x = refl
+  gets_more gs (y ∷ xs) x = gets_more (gets_after ring is_in gs y.event) xs x
+
+one_entry : (o : Option Entry) → with_entry o [] ≡ option_to_list o
+one_entry (Some x) = refl
+one_entry None = refl
+
+-- the part grows by what the entry is in it
+pub part_more : (ring : RingValue) (is_in : ℕ → Bool) (xs : List Entry) (x : Entry)
+    → part_of ring is_in (xs ++ x ∷ []) ≡ part_of ring is_in xs ++ option_to_list (entry_in ring (or_none ring is_in) (all_puts ring (or_none ring is_in) [] xs) (all_gets ring (or_none ring is_in) [] xs) x)
+part_more ring is_in xs x =
+    in_two ring (or_none ring is_in) xs (x ∷ []) [] []
+    ∙ ap (λ (l : List Entry). part_of ring is_in xs ++ l) (one_entry (entry_in ring (or_none ring is_in) (all_puts ring (or_none ring is_in) [] xs) (all_gets ring (or_none ring is_in) [] xs) x))
+
+-- ---- the partitions that are marked are those that are chosen
+
+module _ (ring : RingValue) (choice : Choice) (marks : List Bool) (same : (p : ℕ) → p < ring.q → is_marked marks p ≡ is_chosen choice p) where
+  pub chosen_same : or_none ring (is_marked marks) ≡ or_none ring (is_chosen choice)
+  chosen_same = fun_ext (λ p. by p (cases_lt p ring.q))
+    where
+      by : (p : ℕ) → (p < ring.q) ⊎ (ring.q ≤ p) → or_none ring (is_marked marks) p ≡ or_none ring (is_chosen choice) p
+      by p (inl l) = ap (λ b. b || nat_le ring.q p) (same p l)
+      by p (inr l) = rw (le-leb ring.q p l) (or_true (is_marked marks p) ∙ sym (or_true (is_chosen choice p)))
+
+  pub part_same : (xs : List Entry) → part_of ring (is_marked marks) xs ≡ part_of ring (is_chosen choice) xs
+  part_same xs = ap (λ t. part_after ring t [] [] xs) chosen_same

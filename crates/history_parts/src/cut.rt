@@ -130,21 +130,16 @@ impl<'a> Cut<'a> {
         })
     }
 
-    // The event is seen: a put or get that it starts is marked.
-    fn note(&mut self, event: &Event) -> Result<(), AllocError>
+    // The event is seen: a put or get that it starts is marked, by whether it is of the part.
+    fn note(&mut self, event: &Event, is_mine: bool) -> Result<(), AllocError>
         requires puts { length self.now.puts < 4294967295 }
         requires gets { length self.now.gets < 4294967295 }
+        requires kept { is_mine ≡ is_kept self.now.ring (or_none self.now.ring (is_marked self.now.partitions)) self.now.puts self.now.gets event.now }
         ensures { OnOk result (self.new ≡ after_event self.old event.now) }
     {
         match event {
-            Event::StartPut(_, key, _, _) => {
-                let is_mine = self.is_key_in(key.as_slice());
-                self.puts.add(is_mine)
-            }
-            Event::StartGet(key) => {
-                let is_mine = self.is_key_in(key.as_slice());
-                self.gets.add(is_mine)
-            }
+            Event::StartPut(_, _, _, _) => self.puts.add(is_mine),
+            Event::StartGet(_) => self.gets.add(is_mine),
             _ => Ok(()),
         }
     }
@@ -156,12 +151,13 @@ impl<'a> Cut<'a> {
         ensures entry { IfOk result (λ cut. cut ≡ entry_next self.old entry.now) }
         ensures after { OnOk result (self.new ≡ after_event self.old entry.now.event) }
     {
-        if !self.is_kept(&entry.event) {
-            self.note(&entry.event)?;
+        let is_mine = self.is_kept(&entry.event);
+        if !is_mine {
+            self.note(&entry.event, is_mine)?;
             return Ok(None);
         }
         let event = self.event_in(alloc, &entry.event)?;
-        self.note(&entry.event)?;
+        self.note(&entry.event, is_mine)?;
         let reply = self.reply_in(alloc, &entry.reply)?;
         Ok(Some(Entry { event, reply }))
     }

@@ -3,7 +3,7 @@ use Rattle.std.proofs.Common.{◌≡◌, ℕ, zero, suc, ◌+◌, ◌≤◌, tru
 use Rattle.std.specs.Io.KnownBytes.{Consumes}
 use Rattle.std.proofs.KnownBytes.{Consumes-trans}
 use Rattle.history_stream.specs.declared.input.Head.{Head}
-use Rattle.history_stream.specs.Input.{max_input, Takes, IsNext, IsHead}
+use Rattle.history_stream.specs.Input.{Takes, IsNext, IsHead}
 
 take_length : (n : ℕ) (xs : List ℕ) → n ≤ length xs → length (take n xs) ≡ n
 take_length zero [] le = refl
@@ -24,9 +24,9 @@ nothing_is [] e = refl
 nothing_is (x ∷ xs) e = absurd (omega arith)
 
 -- the input ended
-pub ended : (a b c : Option (List ℕ)) (most : ℕ) (front more : List ℕ) (head : Head) → Consumes a b front → length front ≤ max_input → IsNext b c most more → length more ≡ 0
-    → head.bytes.items ≡ front → head.is_whole ≡ true → IsHead a c head
-ended a b c most front more head told few next none is whole =
+pub ended : (a b c : Option (List ℕ)) (most limit : ℕ) (front more : List ℕ) (head : Head) → Consumes a b front → length front ≤ limit → IsNext b c most more → length more ≡ 0
+    → head.bytes.items ≡ front → head.is_whole ≡ true → IsHead a c limit head
+ended a b c most limit front more head told few next none is whole =
     let same : head.bytes.items ≡ front ++ more = is ∙ sym (append-nil front) ∙ ap (λ (l : List ℕ). front ++ l) (sym (nothing_is more none)) in
     let short = ap (λ (l : List ℕ). length l) is in
     record {
@@ -37,8 +37,8 @@ ended a b c most front more head told few next none is whole =
     }
 
 -- as much was read as may be
-pub full : (a b : Option (List ℕ)) (front : List ℕ) (head : Head) → Consumes a b front → length front ≤ max_input → max_input ≤ length front → head.bytes.items ≡ front → head.is_whole ≡ false → IsHead a b head
-full a b front head told few many is part =
+pub full : (a b : Option (List ℕ)) (limit : ℕ) (front : List ℕ) (head : Head) → Consumes a b front → length front ≤ limit → limit ≤ length front → head.bytes.items ≡ front → head.is_whole ≡ false → IsHead a b limit head
+full a b limit front head told few many is part =
     let short = ap (λ (l : List ℕ). length l) is in
     record {
       bytes = subst (Consumes a b) (sym is) told;
@@ -48,9 +48,9 @@ full a b front head told few many is part =
     }
 
 -- one read more
-pub further : (a b c : Option (List ℕ)) (most : ℕ) (front more now : List ℕ) → Consumes a b front → length front ≤ max_input → IsNext b c most more → length front + most ≤ max_input → now ≡ front ++ more
-    → (length now ≤ max_input) × Consumes a c now
-further a b c most front more now told few next room is =
+pub further : (a b c : Option (List ℕ)) (most limit : ℕ) (front more now : List ℕ) → Consumes a b front → length front ≤ limit → IsNext b c most more → length front + most ≤ limit → now ≡ front ++ more
+    → (length now ≤ limit) × Consumes a c now
+further a b c most limit front more now told few next room is =
     let size = ap (λ (l : List ℕ). length l) is ∙ length-append front more in
     let short = next.few in
     (omega arith, subst (Consumes a c) (sym is) (Consumes-trans a b c front more told next.bytes))

@@ -1,5 +1,6 @@
 pub mod Splits
 pub mod Inputs
+pub mod Openings
 pub mod Fronts
 pub mod Rooms
 pub mod Readings

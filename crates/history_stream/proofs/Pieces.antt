@@ -19,7 +19,7 @@ use Rattle.history_stream.specs.declared.reader.Reader.{Reader}
 use Rattle.history_stream.specs.declared.reader.Stage.TheVariants.{First, Entries, Over}
 use Rattle.history_stream.specs.Input.{Tells, IsOutside, IsNext}
 use Rattle.history_stream.specs.Reading.{goes_on, rest_at, resume_at}
-use Rattle.history_stream.specs.State.{IsReading, IsRun, Stops, Takes, lines_and}
+use Rattle.history_stream.specs.State.{Begun, IsReading, IsRun, Stops, Takes, lines_and}
 use Rattle.history_stream.proofs.Inputs.{same_end}
 use Rattle.history_stream.specs.Cutting.{HasLong, TakesSome, StopsSome, ReadsAll}
 
@@ -96,7 +96,7 @@ so_more old mid new whole left more rest s t = record {
 
 -- what refuses a piece refuses the text, whatever follows
 pub so_stops : (old mid : Reader) (whole left more : List ℕ) (e : Refusal) → So old mid whole left → StopsSome mid (left ++ more) e → (rest : List ℕ)
-    → (ring : RingValue) (marks : List Bool) (front : List ℕ) (said : List SaidEntry) → IsReading ring marks front said old
+    → (ring : RingValue) (marks : List Bool) (front : Begun) (said : List SaidEntry) → IsReading ring marks front said old
     → Stops ring marks (resume_at ring old.stage said (at old.line (lines_of ((whole ++ more) ++ rest)))) e ⊎ ((k : ℕ) × (e ≡ TooLarge k) × HasLong ((whole ++ more) ++ rest))
 so_stops old mid whole left more e s (inl bad) rest ring marks front said so =
     let a = s.takes ring marks front said so in
@@ -180,7 +180,7 @@ pub at_end : (old now : Reader) (first whole left : List ℕ) (a b : Option (Lis
     → ((ring : RingValue) (said : List SaidEntry) → map_ok (λ _. said) r ≡ resume_at ring now.stage said (at now.line (lines_of left))) → Comes old now first a r
 at_end old now first whole left a b r s t end is = (t.got, told_all a b t.got t.told end, by r is)
   where
-    same : (ring : RingValue) (marks : List Bool) (front : List ℕ) (said : List SaidEntry) (so : IsReading ring marks front said old)
+    same : (ring : RingValue) (marks : List Bool) (front : Begun) (said : List SaidEntry) (so : IsReading ring marks front said old)
         → resume_at ring old.stage said (at old.line (lines_of (first ++ t.got))) ≡ resume_at ring now.stage (s.takes ring marks front said so).0 (at now.line (lines_of left))
     same ring marks front said so =
         ap (λ (z : List ℕ). resume_at ring old.stage said (at old.line (lines_of z))) (sym t.whole_is ∙ sym (append-nil whole))

@@ -1,6 +1,6 @@
 -- A history that is read grows by an entry.
 use Rattle.std.proofs.Common.{◌≡◌, ℕ, ◌+◌, ◌≤◌, Bool, true, false, cond, List, [], ◌∷◌, ◌++◌, length, length-append, Option, Some, None, Ok, Err, refl, sym, ap, subst, ◌∙◌, append_assoc, append-nil, arith}
-use Rattle.std.specs.Prelude.{MatchOption, OnOk, Result, option_to_list}
+use Rattle.std.specs.Prelude.{MatchOption, OnOk, Result, is_some, min, option_to_list}
 use Rattle.std.specs.List.{flat_map}
 use Rattle.std.proofs.lemmas.Grind.{flat_map-append}
 use Rattle.std.proofs.lemmas.List.Concat.{flat_map-cons}
@@ -24,14 +24,16 @@ use Rattle.history_text.specs.Said.{SaidEntry, entry_of}
 use Rattle.history_text.specs.Reading.{said_at}
 use Rattle.history_text.specs.Spelling.{entry_line}
 use Rattle.history_text.proofs.EntryLaws.{entry-said, IsSaidEntry}
-use Rattle.history_parts.specs.Parts.{puts_after, gets_after, event_in, reply_in, is_kept, entry_in, with_entry, all_puts, all_gets, part_of, or_none, is_marked}
+use Rattle.history_parts.specs.Parts.{puts_after, gets_after, event_in, reply_in, is_kept, entry_in, all_puts, all_gets, part_of, or_none, is_marked}
 use Rattle.history_parts.specs.Cuts.{CutValue, after_event, entry_next}
-use Rattle.history_parts.proofs.Cutting.{in_two}
+use Rattle.history_parts.proofs.Cutting.{gets_more, part_more, puts_more}
 use Rattle.history_stream.specs.declared.reader.Reader.{Reader}
 use Rattle.history_stream.specs.declared.room.PartText.{PartText}
 use Rattle.history_stream.specs.Reading.{entries_behind, writers_behind}
-use Rattle.history_stream.specs.Room.{Holds}
-use Rattle.history_stream.specs.State.{is_start, started, Counted, IsReading, Keeps}
+use Rattle.history_stream.specs.declared.place.Place.{Place}
+use Rattle.history_stream.specs.Place.{Finds, FindsMore}
+use Rattle.history_stream.specs.Room.{Holds, most}
+use Rattle.history_stream.specs.State.{Begun, is_start, started, Counted, IsReading, Keeps}
 
 -- ---- one entry more
 
@@ -44,28 +46,10 @@ entries_more names [] x = refl
 entries_more names (y ∷ ys) x = ap (λ (es : List Entry). entry_of names y ∷ es) (entries_more (names_after names y.0) ys x)
 
 module _ (ring : RingValue) (f : ℕ → Bool) where
-  puts_more : (ps : List Bool) (es : List Entry) (e : Entry) → all_puts ring f ps (es ++ e ∷ []) ≡ puts_after ring f (all_puts ring f ps es) e.event
-  puts_more ps [] e = refl
-  puts_more ps (y ∷ ys) e = puts_more (puts_after ring f ps y.event) ys e
-
-  gets_more : (gs : List Bool) (es : List Entry) (e : Entry) → all_gets ring f gs (es ++ e ∷ []) ≡ gets_after ring f (all_gets ring f gs es) e.event
-  gets_more gs [] e = refl
-  gets_more gs (y ∷ ys) e = gets_more (gets_after ring f gs y.event) ys e
-
   pub start_counts : (ps gs : List Bool) (e : Event) → length (puts_after ring f ps e) + length (gets_after ring f gs e) ≡ length ps + length gs + cond {A = ℕ} (is_start e) 1 0
   start_counts ps gs (StartPut w k v s) = omega (arith, length-append {A = Bool})
   start_counts ps gs (StartGet k) = omega (arith, length-append {A = Bool})
   start_counts ps gs e = omega arith
-
-alone : (o : Option Entry) → with_entry o [] ≡ option_to_list o
-alone (Some y) = refl
-alone None = refl
-
-part_more : (ring : RingValue) (f : ℕ → Bool) (es : List Entry) (e : Entry)
-    → part_of ring f (es ++ e ∷ []) ≡ part_of ring f es ++ option_to_list (entry_in ring (or_none ring f) (all_puts ring (or_none ring f) [] es) (all_gets ring (or_none ring f) [] es) e)
-part_more ring f es e =
-    in_two ring (or_none ring f) es (e ∷ []) [] []
-    ∙ ap (λ (l : List Entry). part_of ring f es ++ l) (alone (entry_in ring (or_none ring f) (all_puts ring (or_none ring f) [] es) (all_gets ring (or_none ring f) [] es) e))
 
 -- ---- whom an entry of the part names
 
@@ -125,9 +109,9 @@ module _ (nodes now more : List (List ℕ)) (a : ℕ) (front : List ℕ) (base :
 
 -- ---- the state after an entry
 
-module _ (ring : RingValue) (marks : List Bool) (front : List ℕ) (said : List SaidEntry) (old mid new : Reader) (x : SaidEntry) (entry : Entry) (k : ℕ) (fields : List (List ℕ))
+module _ (ring : RingValue) (marks : List Bool) (front : Begun) (said : List SaidEntry) (old mid new : Reader) (x : SaidEntry) (entry : Entry) (k : ℕ) (fields : List (List ℕ))
     (so : IsReading ring marks front said old) (read : said_at ring [] old.writers k fields ≡ Ok x) (entry_is : entry ≡ entry_of old.writers x)
-    (writers : mid.writers ≡ names_after old.writers x.0) (cut : mid.cut ≡ old.cut) (same : mid.ring.now ≡ old.ring.now) (part : mid.part ≡ old.part) (kept : Keeps mid new entry) where
+    (writers : mid.writers ≡ names_after old.writers x.0) (cut : mid.cut ≡ old.cut) (same : mid.ring.now ≡ old.ring.now) (part : mid.part ≡ old.part) (place : mid.place ≡ old.place) (kept : Keeps mid new entry) where
   abbrev is_in : ℕ → Bool
   is_in = is_marked marks
 
@@ -178,23 +162,36 @@ module _ (ring : RingValue) (marks : List Bool) (front : List ℕ) (said : List 
       kept_known ring (or_none ring is_in) ps gs (length (names_of ring)) (length new.writers) entry y h
       (subst (λ (ns : List (List ℕ)). IsKnown (length (names_of ring)) (length ns) entry.event) (sym now_is) event)
 
-  part_on : (more : List (List ℕ)) → Holds new.part (front ++ flat_map (entry_line (names_of ring) (new.writers ++ more)) (part_of ring is_in (entries_behind [] (said ++ x ∷ []))))
+  part_on : (more : List (List ℕ)) → Holds new.part (front.text ++ flat_map (entry_line (names_of ring) (new.writers ++ more)) (part_of ring is_in (entries_behind [] (said ++ x ∷ []))))
       (length (part_of ring is_in (entries_behind [] (said ++ x ∷ []))))
   part_on more =
       let g = names_grown old.writers x.0 in
       let names : old.writers ++ (g.0 ++ more) ≡ new.writers ++ more = sym (append_assoc old.writers g.0 more) ∙ ap (λ (ns : List (List ℕ)). ns ++ more) (sym (now_is ∙ g.1)) in
       let held = so.part_is (g.0 ++ more) in
-      let here : Holds mid.part (front ++ flat_map (entry_line (names_of ring) (new.writers ++ more)) (part_of ring is_in es)) (length (part_of ring is_in es)) =
-      subst (λ (p : PartText). Holds p (front ++ flat_map (entry_line (names_of ring) (new.writers ++ more)) (part_of ring is_in es)) (length (part_of ring is_in es))) (sym part)
-      (subst (λ (ns : List (List ℕ)). Holds old.part (front ++ flat_map (entry_line (names_of ring) ns) (part_of ring is_in es)) (length (part_of ring is_in es))) names held) in
+      let here : Holds mid.part (front.text ++ flat_map (entry_line (names_of ring) (new.writers ++ more)) (part_of ring is_in es)) (length (part_of ring is_in es)) =
+      subst (λ (p : PartText). Holds p (front.text ++ flat_map (entry_line (names_of ring) (new.writers ++ more)) (part_of ring is_in es)) (length (part_of ring is_in es))) (sym part)
+      (subst (λ (ns : List (List ℕ)). Holds old.part (front.text ++ flat_map (entry_line (names_of ring) ns) (part_of ring is_in es)) (length (part_of ring is_in es))) names held) in
       let ring_now : mid.ring.now ≡ ring = same ∙ so.ring_is in
       let pushed : MatchOption next (new.part ≡ mid.part) (λ y. (t : List ℕ) (n : ℕ) → Holds mid.part t n → Holds new.part (t ++ entry_line (names_of ring) new.writers y) (n + 1)) =
       subst (λ (o : Option Entry). MatchOption o (new.part ≡ mid.part) (λ y. (t : List ℕ) (n : ℕ) → Holds mid.part t n → Holds new.part (t ++ entry_line (names_of ring) new.writers y) (n + 1))) next_is
       (subst (λ (ns : List (List ℕ)). MatchOption (entry_next mid.cut entry) (new.part ≡ mid.part) (λ y. (t : List ℕ) (n : ℕ) → Holds mid.part t n → Holds new.part (t ++ entry_line (names_of ring) ns y) (n + 1))) (sym kept.writers_same)
       (subst (λ (r : RingValue). MatchOption (entry_next mid.cut entry) (new.part ≡ mid.part) (λ y. (t : List ℕ) (n : ℕ) → Holds mid.part t n → Holds new.part (t ++ entry_line (names_of r) mid.writers y) (n + 1))) ring_now kept.part_is)) in
       let parts : part_of ring is_in es ++ option_to_list next ≡ part_of ring is_in (entries_behind [] (said ++ x ∷ [])) = sym (part_more ring is_in es entry) ∙ ap (part_of ring is_in) (sym all) in
-      subst (λ (l : List Entry). Holds new.part (front ++ flat_map (entry_line (names_of ring) (new.writers ++ more)) l) (length l)) parts
-      (room_more (names_of ring) new.writers more (length (names_of ring)) front (part_of ring is_in es) mid.part new.part next known here pushed)
+      subst (λ (l : List Entry). Holds new.part (front.text ++ flat_map (entry_line (names_of ring) (new.writers ++ more)) l) (length l)) parts
+      (room_more (names_of ring) new.writers more (length (names_of ring)) front.text (part_of ring is_in es) mid.part new.part next known here pushed)
+
+  -- an entry of the part is one more
+  sized : (o : Option Entry) (part : List Entry) → length (part ++ option_to_list o) ≡ length part + cond {A = ℕ} (is_some o) 1 0
+  sized (Some y) part = length-append part (y ∷ [])
+  sized None part = length-append part []
+
+  place_on : Finds ring is_in (entries_behind [] (said ++ x ∷ [])) front.wanted new.place
+  place_on =
+      let had : mid.part.entries ≡ min (length (part_of ring is_in es)) most = ap (λ (p : PartText). p.entries) part ∙ (so.part_is []).entries in
+      let found : Finds ring is_in es front.wanted mid.place = subst (λ (p : Place). Finds ring is_in es front.wanted p) (sym place) so.place_is in
+      let more : FindsMore mid.place new.place (is_some next) mid.part.entries = subst (λ (o : Option Entry). FindsMore mid.place new.place (is_some o) mid.part.entries) next_is kept.place_is in
+      let size = ap (λ (l : List Entry). length l) (part_more ring is_in es entry) ∙ sized next (part_of ring is_in es) in
+      subst (λ (l : List Entry). Finds ring is_in l front.wanted new.place) (sym all) (more ring is_in es entry front.wanted found had size)
 
   pub reading_on : IsReading ring marks front (said ++ x ∷ []) new
   reading_on = record {
@@ -204,10 +201,11 @@ module _ (ring : RingValue) (marks : List Bool) (front : List ℕ) (said : List 
     names = subst AreWriters (sym now_is) (after-writers old.writers x.0 so.names law.said.writer);
     cut_is = cut_on;
     part_is = part_on;
+    place_is = place_on;
   }
 
 -- the last put or get for which there is no room
-pub last_start : (ring : RingValue) (marks : List Bool) (front : List ℕ) (said : List SaidEntry) (old : Reader) (x : SaidEntry) (entry : Entry) → IsReading ring marks front said old → Counted old
+pub last_start : (ring : RingValue) (marks : List Bool) (front : Begun) (said : List SaidEntry) (old : Reader) (x : SaidEntry) (entry : Entry) → IsReading ring marks front said old → Counted old
     → entry ≡ entry_of old.writers x → is_start entry.event ≡ true → old.started ≡ 4294967294 → 4294967295 ≤ started ring (is_marked marks) (entries_behind [] (said ++ x ∷ []))
 last_start ring marks front said old x entry so counted entry_is start full =
     let f = or_none ring (is_marked marks) in

@@ -15,11 +15,13 @@ use Rattle.script_text.specs.Valid.{AreWriters}
 use Rattle.history_text.specs.Said.{SaidEntry}
 use Rattle.history_text.specs.Reading.{said_at}
 use Rattle.history_parts.specs.Parts.{is_marked}
+use Rattle.history_stream.specs.declared.place.Place.{Place}
 use Rattle.history_stream.specs.declared.reader.Reader.{Reader}
 use Rattle.history_stream.specs.declared.reader.Stage.{Stage}
 use Rattle.history_stream.specs.declared.reader.Stage.TheVariants.{First, Entries, Over}
 use Rattle.history_stream.specs.Reading.{entries_behind, goes_on, resume_at}
-use Rattle.history_stream.specs.State.{IsReading, Stops, TakesEntry, RefusesEntry, Takes, Refuses, line_and, lines_and, started}
+use Rattle.history_stream.specs.Place.{Finds}
+use Rattle.history_stream.specs.State.{Begun, IsReading, Stops, TakesEntry, RefusesEntry, Takes, Refuses, line_and, lines_and, started}
 use Rattle.history_stream.proofs.Resumes.{entry_step, entry_bad, end_step, header_step, over_bad, spent}
 
 -- the same but for the next line
@@ -28,8 +30,9 @@ pub record Same (old new : Reader) : Type 0 where
   pub cut : new.cut ≡ old.cut
   pub writers : new.writers ≡ old.writers
   pub part : new.part ≡ old.part
+  pub place : new.place ≡ old.place
 
-moved : (ring : RingValue) (marks : List Bool) (front : List ℕ) (said : List SaidEntry) (old new : Reader) → Same old new → IsReading ring marks front said old → IsReading ring marks front said new
+moved : (ring : RingValue) (marks : List Bool) (front : Begun) (said : List SaidEntry) (old new : Reader) → Same old new → IsReading ring marks front said old → IsReading ring marks front said new
 moved ring marks front said old new same so = record {
   valid = so.valid;
   ring_is = same.ring ∙ so.ring_is;
@@ -37,6 +40,7 @@ moved ring marks front said old new same so = record {
   names = subst AreWriters (sym same.writers) so.names;
   cut_is = same.cut ∙ so.cut_is;
   part_is = rw (same.part, same.writers) so.part_is;
+  place_is = subst (λ (p : Place). Finds ring (is_marked marks) (entries_behind [] said) front.wanted p) (sym same.place) so.place_is;
 }
 
 abbrev at : ℕ → List (List (List ℕ)) → Left
@@ -88,7 +92,7 @@ module _ (old : Reader) (text : List ℕ) (e : Refusal) where
   pub refuses_entry : old.stage ≡ Entries → ((lines : List (List (List ℕ))) → begins_so goes_on (fields_of text ∷ lines) ≡ true) → RefusesEntry old old.line (fields_of text) e → Refuses old (line_and text) e
   refuses_entry was on bad = λ ring marks front said so more. by ring marks front said so more (bad ring marks front said so)
     where
-      by : (ring : RingValue) (marks : List Bool) (front : List ℕ) (said : List SaidEntry) (so : IsReading ring marks front said old) (more : List ℕ)
+      by : (ring : RingValue) (marks : List Bool) (front : Begun) (said : List SaidEntry) (so : IsReading ring marks front said old) (more : List ℕ)
           → (said_at ring [] old.writers old.line (fields_of text) ≡ Err e)
           ⊎ ((x : SaidEntry) × (said_at ring [] old.writers old.line (fields_of text) ≡ Ok x) × (e ≡ TooLarge old.line) × (4294967295 ≤ started ring (is_marked marks) (entries_behind [] (said ++ x ∷ []))))
           → Stops ring marks (resume_at ring old.stage said (at old.line (line_and text more))) e
@@ -156,7 +160,7 @@ module _ (old new : Reader) (text : List ℕ) (rest : List (List ℕ)) (was : ol
   pub end_ok : (r : Result (Unit {0}) Refusal) → end_line_at old.line (fields_of text) ≡ r → OnOk r (new ≡ record old { stage = Over; line = next_number old.line }) → OnOk r (Takes old new (line_and text) lines_of)
   end_ok (Ok u) e is =
       takes_end old new text (ap (λ (r : Reader). r.line) is) u was (ap (λ (r : Reader). r.stage) is)
-      (record { ring = ap (λ (r : Reader). r.ring.now) is; cut = ap (λ (r : Reader). r.cut) is; writers = ap (λ (r : Reader). r.writers) is; part = ap (λ (r : Reader). r.part) is }) (stops text rest first) e
+      (record { ring = ap (λ (r : Reader). r.ring.now) is; cut = ap (λ (r : Reader). r.cut) is; writers = ap (λ (r : Reader). r.writers) is; part = ap (λ (r : Reader). r.part) is; place = ap (λ (r : Reader). r.place) is }) (stops text rest first) e
   end_ok (Err x) e is = tt
 
   pub end_err : (r : Result (Unit {0}) Refusal) → end_line_at old.line (fields_of text) ≡ r → IfErr r (λ e. e ≢ OutOfMemory → Refuses old (line_and text) e)

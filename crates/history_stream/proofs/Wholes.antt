@@ -1,13 +1,10 @@
 -- A bundle is read and cut from its front to its end.
-use Rattle.std.proofs.Common.{◌≡◌, ◌⊎◌, ℕ, ◌+◌, ◌<◌, ◌≤◌, Bool, true, false, List, [], ◌∷◌, ◌++◌, length, drop, Option, Some, None, Result, Ok, Err, IsErr, IsErrAnd, refl, sym, ap, subst, ◌∙◌, append_assoc, append-nil, arith, inl, inr}
-use Rattle.std.proofs.Math.Path.{fun_ext}
-use Rattle.std.specs.Prelude.{◌≢◌, ◌||◌, nat_le, codes}
+use Rattle.std.proofs.Common.{◌≡◌, ◌⊎◌, ℕ, ◌+◌, ◌<◌, ◌≤◌, Bool, true, false, List, [], ◌∷◌, ◌++◌, length, take, drop, Option, Some, None, Result, Ok, Err, IfOk, IsErr, IsErrAnd, refl, sym, ap, subst, ◌∙◌, append_assoc, append-nil, arith, inl, inr}
+use Rattle.std.specs.Prelude.{◌≢◌, codes}
 use Rattle.std.specs.List.{flat_map}
 use Rattle.std.specs.Io.KnownBytes.{Consumes}
-use Rattle.std.proofs.lemmas.Bool.{cases_lt, le-leb}
-use Rattle.ring_names.proofs.Logic.{or_true}
 use Rattle.ring_names.specs.declared.refusal.Refusal.{Refusal}
-use Rattle.ring_names.specs.declared.refusal.Refusal.TheVariants.{OutOfMemory, TooLarge}
+use Rattle.ring_names.specs.declared.refusal.Refusal.TheVariants.{OutOfMemory, ReadFailed, TooLarge}
 use Rattle.texts.specs.Parts.{lines_of}
 use Rattle.texts.specs.Left.{◌>>=◌}
 use Rattle.texts.proofs.Items.{bind_ok, ok_is}
@@ -20,7 +17,8 @@ use Rattle.history_text.specs.Spelling.{entry_line}
 use Rattle.history_parts.specs.declared.choice.Choice.{Choice}
 use Rattle.history_parts.specs.Choices.{is_chosen}
 use Rattle.history_parts.specs.Cuts.{first_cut}
-use Rattle.history_parts.specs.Parts.{all_gets, all_puts, is_marked, or_none, part_after, part_of}
+use Rattle.history_parts.specs.Parts.{all_gets, all_puts, is_marked, part_of}
+use Rattle.history_parts.proofs.Cutting.{chosen_same, part_same}
 use Rattle.history_stream.specs.declared.cutting.Part.{Part}
 use Rattle.history_stream.specs.declared.cutting.NoPart.{NoPart}
 use Rattle.history_stream.specs.declared.cutting.NoPart.TheVariants.{Refused, Large}
@@ -28,73 +26,76 @@ use Rattle.history_stream.specs.declared.front.Front.{Front}
 use Rattle.history_stream.specs.declared.input.Head.{Head}
 use Rattle.history_stream.specs.declared.reader.Reader.{Reader}
 use Rattle.history_stream.specs.declared.reader.Stage.TheVariants.{First}
-use Rattle.history_stream.specs.declared.room.PartText.{PartText}
-use Rattle.history_stream.specs.Input.{Tells, IsHead, IsOutside}
+use Rattle.history_stream.specs.declared.cutting.Unended.{Unended}
+use Rattle.history_stream.specs.Input.{Tells, IsHead, max_input}
 use Rattle.history_stream.specs.Front.{FrontValue, front_at, front_text, IsFront}
 use Rattle.history_stream.specs.Reading.{entries_behind, long_reading, resume_at, writers_behind}
+use Rattle.history_stream.specs.Place.{Finds, IsPlaceOf}
 use Rattle.history_stream.specs.Room.{Holds}
-use Rattle.history_stream.specs.State.{IsReading, Stops, started}
+use Rattle.history_stream.specs.State.{Begun, IsReading, Stops, started}
 use Rattle.history_stream.proofs.Pieces.{told_all, told_any, told_rest}
-use Rattle.history_stream.specs.Cutting.{HasLong, HasNoFront, ReadsAll, CutsRest, CutsAll, IsNoFront, IsPartOf, IsStart, chosen, part_text, begun_text, IsCut, IsCutOf}
+use Rattle.history_stream.specs.Cutting.{HasLong, HasNoFront, ReadsAll, CutsRest, CutsAll, HasNone, IsNoFront, IsPartOf, IsStart, chosen, part_text, begun_text, IsCut, IsCutOf}
 
 -- ---- the partitions that are marked are those that are chosen
 
 module _ (ring : RingValue) (choice : Choice) (marks : List Bool) (same : (p : ℕ) → p < ring.q → is_marked marks p ≡ is_chosen choice p) where
-  pub chosen_same : or_none ring (is_marked marks) ≡ or_none ring (is_chosen choice)
-  chosen_same = fun_ext (λ p. by p (cases_lt p ring.q))
-    where
-      by : (p : ℕ) → (p < ring.q) ⊎ (ring.q ≤ p) → or_none ring (is_marked marks) p ≡ or_none ring (is_chosen choice) p
-      by p (inl l) = ap (λ b. b || nat_le ring.q p) (same p l)
-      by p (inr l) = rw (le-leb ring.q p l) (or_true (is_marked marks p) ∙ sym (or_true (is_chosen choice p)))
-
-  pub part_same : (es : List Entry) → part_of ring (is_marked marks) es ≡ part_of ring (is_chosen choice) es
-  part_same es = ap (λ t. part_after ring t [] [] es) chosen_same
-
   pub started_same : (es : List Entry) → started ring (is_marked marks) es ≡ started ring (is_chosen choice) es
-  started_same es = ap (λ t. length (all_puts ring t [] es) + length (all_gets ring t [] es)) chosen_same
+  started_same es = ap (λ t. length (all_puts ring t [] es) + length (all_gets ring t [] es)) (chosen_same ring choice marks same)
+
+  pub place_same : (es : List Entry) (n : ℕ) (o : Option ℕ) → IsPlaceOf ring (is_marked marks) es n o → IsPlaceOf ring (is_chosen choice) es n o
+  place_same es n None few = subst (λ (k : ℕ). k ≤ n) (ap (λ (l : List Entry). length l) (part_same ring choice marks same es)) few
+  place_same es n (Some k) (p, is, at) =
+      let of_front : (xs : List Entry) → length (part_of ring (is_chosen choice) xs) ≡ length (part_of ring (is_marked marks) xs) = λ xs. sym (ap (λ (l : List Entry). length l) (part_same ring choice marks same xs)) in
+      (p, is, (at.0, of_front (take p es) ∙ at.1, of_front (take (p + 1) es) ∙ at.2))
 
 -- ---- at the start
 
 no_writers : AreWriters []
 no_writers = record { few = omega arith; names = refl; different = λ n name e. absurd cc }
 
-pub starts : (ring : RingValue) (marks : List Bool) (text : List ℕ) (r : Reader) → IsRing ring → r.ring.now ≡ ring → r.writers ≡ [] → r.cut ≡ first_cut ring marks → Holds r.part text 0 → IsReading ring marks text [] r
-starts ring marks text r valid ring_is writers cut held = record {
+pub starts : (ring : RingValue) (marks : List Bool) (front : Begun) (r : Reader) → IsRing ring → r.ring.now ≡ ring → r.writers ≡ [] → r.cut ≡ first_cut ring marks → Holds r.part front.text 0 → Finds ring (is_marked marks) [] front.wanted r.place
+    → IsReading ring marks front [] r
+starts ring marks front r valid ring_is writers cut held found = record {
   valid = valid;
   ring_is = ring_is;
   writers_are = writers;
   names = subst AreWriters (sym writers) no_writers;
   cut_is = cut;
-  part_is = λ more. subst (λ (t : List ℕ). Holds r.part t 0) (sym (append-nil text)) held;
+  part_is = λ more. subst (λ (t : List ℕ). Holds r.part t 0) (sym (append-nil front.text)) held;
+  place_is = found;
 }
 
 -- ---- after the front
 
-module _ (choice : Choice) (front : Front) (marks : List Bool) (same : (p : ℕ) → p < front.ring.q → is_marked marks p ≡ is_chosen choice p) (text : List ℕ) (old new : Reader)
-    (start : IsReading front.ring marks text [] old) (text_is : text ≡ front.text.items ++ codes "history 1\n") (stage : old.stage ≡ First) (line : old.line ≡ front.line) (bytes : List ℕ) where
+module _ (choice : Choice) (front : Front) (marks : List Bool) (same : (p : ℕ) → p < front.ring.q → is_marked marks p ≡ is_chosen choice p) (wanted : ℕ) (text : List ℕ) (old new : Reader)
+    (start : IsReading front.ring marks (record { text = text; wanted = wanted }) [] old) (text_is : text ≡ front.text.items ++ codes "history 1\n") (stage : old.stage ≡ First) (line : old.line ≡ front.line) (bytes : List ℕ) where
   abbrev read : Result (List SaidEntry) Refusal
   read = resume_at front.ring First [] (record { line = front.line; lines = lines_of bytes })
 
   first_is : resume_at front.ring old.stage [] (record { line = old.line; lines = lines_of bytes }) ≡ read
   first_is = (λ i. resume_at front.ring (stage i) [] (record { line = line i; lines = lines_of bytes }))
 
-  pub rest_ok : (u : Unit {0}) → ReadsAll old new bytes (Ok u) → CutsRest choice front bytes (Ok new.part)
+  abbrev begun : Begun
+  begun = record { text = text; wanted = wanted }
+
+  pub rest_ok : (u : Unit {0}) → ReadsAll old new bytes (Ok u) → CutsRest choice wanted front bytes (Ok (record { text = new.part; place = new.place.found }))
   rest_ok u all =
-      let a = all front.ring marks text [] start in
+      let a = all front.ring marks begun [] start in
       let es = entries_behind [] a.0 in
       let line_of : List (List ℕ) → Entry → List ℕ = λ ns. entry_line (names_of front.ring) ns in
       let held = a.1.part_is [] in
       let names : new.writers ++ [] ≡ writers_behind [] a.0 = append-nil new.writers ∙ a.1.writers_are in
       let parts = part_same front.ring choice marks same es in
+      let place = place_same front.ring choice marks same es wanted new.place.found a.1.place_is.found in
       let now : Holds new.part (text ++ flat_map (entry_line (names_of front.ring) (writers_behind [] a.0)) (part_of front.ring (is_chosen choice) es)) (length (part_of front.ring (is_chosen choice) es)) =
       subst (λ (l : List Entry). Holds new.part (text ++ flat_map (entry_line (names_of front.ring) (writers_behind [] a.0)) l) (length l)) parts
       (subst (λ (ns : List (List ℕ)). Holds new.part (text ++ flat_map (entry_line (names_of front.ring) ns) (part_of front.ring (is_marked marks) es)) (length (part_of front.ring (is_marked marks) es))) names held) in
       let body = flat_map (entry_line (names_of front.ring) (writers_behind [] a.0)) (part_of front.ring (is_chosen choice) es) in
       let whole : text ++ body ≡ front.text.items ++ (codes "history 1\n" ++ body) = ap (λ (t : List ℕ). t ++ body) text_is ∙ append_assoc front.text.items (codes "history 1\n") body in
-      (a.0, sym first_is ∙ a.2, subst (λ (t : List ℕ). Holds new.part t (length (part_of front.ring (is_chosen choice) es))) whole now)
+      (a.0, sym first_is ∙ a.2, subst (λ (t : List ℕ). Holds new.part t (length (part_of front.ring (is_chosen choice) es))) whole now, place)
 
-  pub rest_err : (e : Refusal) → ReadsAll old new bytes (Err e) → CutsRest choice front bytes (Err e)
-  rest_err e all = λ ne nr. by (all ne nr front.ring marks text [] start)
+  pub rest_err : (e : Refusal) → ReadsAll old new bytes (Err e) → CutsRest choice wanted front bytes (Err e)
+  rest_err e all = λ ne nr. by (all ne nr front.ring marks begun [] start)
     where
       by : Stops front.ring marks (resume_at front.ring old.stage [] (record { line = old.line; lines = lines_of bytes })) e ⊎ ((k : ℕ) × (e ≡ TooLarge k) × HasLong bytes)
           → (read ≡ Err e) ⊎ ((k : ℕ) × (e ≡ TooLarge k) × (HasLong bytes ⊎ ((said : List SaidEntry) → read ≡ Ok said → 4294967295 ≤ started front.ring (is_chosen choice) (entries_behind [] said))))
@@ -128,23 +129,26 @@ module _ (head : List ℕ) (front : Front) (value : FrontValue) (rest more : Lis
       ap (λ r. r >>= λ x. resume_at x.0.0 First [] (record { line = x.1.line; lines = lines_of (drop (length (front_text x.0)) (head ++ more)) }) >>= λ said. Ok (x.0, said)) is.read
       ∙ (λ i. resume_at (sym is.ring_is i) First [] (record { line = front.line; lines = lines_of (behind i) }) >>= λ said. Ok (value, said))
 
-  pub all_ok : (choice : Choice) (part : PartText) → CutsRest choice front (rest ++ more) (Ok part)
-      → (v : FrontValue) × (said : List SaidEntry) × (long_reading head (head ++ more) ≡ Ok (v, said)) × Holds part (begun_text choice v said) (length (chosen choice v said))
-  all_ok choice part c =
-      let ring_now : RingValue → Type 0 = λ r. Holds part (front.text.items ++ (codes "history 1\n" ++ flat_map (entry_line (names_of r) (writers_behind [] c.0)) (part_of r (is_chosen choice) (entries_behind [] c.0)))) (length (part_of r (is_chosen choice) (entries_behind [] c.0))) in
-      let held = subst ring_now is.ring_is c.2 in (
+  pub all_ok : (choice : Choice) (wanted : ℕ) (part : Unended) → CutsRest choice wanted front (rest ++ more) (Ok part)
+      → (v : FrontValue) × (said : List SaidEntry) × (long_reading head (head ++ more) ≡ Ok (v, said)) × Holds part.text (begun_text choice v said) (length (chosen choice v said))
+      × IsPlaceOf v.0 (is_chosen choice) (entries_behind [] said) wanted part.place
+  all_ok choice wanted part c =
+      let ring_now : RingValue → Type 0 = λ r. Holds part.text (front.text.items ++ (codes "history 1\n" ++ flat_map (entry_line (names_of r) (writers_behind [] c.0)) (part_of r (is_chosen choice) (entries_behind [] c.0)))) (length (part_of r (is_chosen choice) (entries_behind [] c.0))) in
+      let held = subst ring_now is.ring_is c.2 in
+      let place = subst (λ (r : RingValue). IsPlaceOf r (is_chosen choice) (entries_behind [] c.0) wanted part.place) is.ring_is c.3 in (
         value,
         c.0,
         reads_on ∙ ap (λ (r : Result (List SaidEntry) Refusal). r >>= λ said. Ok (value, said)) c.1,
-        subst (λ (t : List ℕ). Holds part (t ++ (codes "history 1\n" ++ flat_map (entry_line (names_of value.0) (writers_behind [] c.0)) (chosen choice value c.0))) (length (chosen choice value c.0))) is.text_is held,
+        subst (λ (t : List ℕ). Holds part.text (t ++ (codes "history 1\n" ++ flat_map (entry_line (names_of value.0) (writers_behind [] c.0)) (chosen choice value c.0))) (length (chosen choice value c.0))) is.text_is held,
+        place,
       )
 
   abbrev rest_read : Result (List SaidEntry) Refusal
   rest_read = resume_at front.ring First [] (record { line = front.line; lines = lines_of (rest ++ more) })
 
-  pub all_err : (choice : Choice) (e : Refusal) → (rest_read ≡ Err e) ⊎ ((k : ℕ) × (e ≡ TooLarge k) × (HasLong (rest ++ more) ⊎ ((said : List SaidEntry) → rest_read ≡ Ok said → 4294967295 ≤ started front.ring (is_chosen choice) (entries_behind [] said))))
-      → IsCutOf choice head (head ++ more) (Err (Refused e))
-  all_err choice e c = by c
+  pub all_err : (choice : Choice) (wanted : ℕ) (e : Refusal) → (rest_read ≡ Err e) ⊎ ((k : ℕ) × (e ≡ TooLarge k) × (HasLong (rest ++ more) ⊎ ((said : List SaidEntry) → rest_read ≡ Ok said → 4294967295 ≤ started front.ring (is_chosen choice) (entries_behind [] said))))
+      → IsCutOf choice wanted head (head ++ more) (Err (Refused e))
+  all_err choice wanted e c = by c
     where
       many : ((said : List SaidEntry) → rest_read ≡ Ok said → 4294967295 ≤ started front.ring (is_chosen choice) (entries_behind [] said))
           → (v : FrontValue) (said : List SaidEntry) → long_reading head (head ++ more) ≡ Ok (v, said) → 4294967295 ≤ started v.0 (is_chosen choice) (entries_behind [] said)
@@ -157,7 +161,7 @@ module _ (head : List ℕ) (front : Front) (value : FrontValue) (rest more : Lis
           (subst (λ (s : List SaidEntry). 4294967295 ≤ started front.ring (is_chosen choice) (entries_behind [] s)) same (few b.0 b.1))
 
       by : (rest_read ≡ Err e) ⊎ ((k : ℕ) × (e ≡ TooLarge k) × (HasLong (rest ++ more) ⊎ ((said : List SaidEntry) → rest_read ≡ Ok said → 4294967295 ≤ started front.ring (is_chosen choice) (entries_behind [] said))))
-          → IsCutOf choice head (head ++ more) (Err (Refused e))
+          → IsCutOf choice wanted head (head ++ more) (Err (Refused e))
       by (inl f) = inl (reads_on ∙ ap (λ (r : Result (List SaidEntry) Refusal). r >>= λ said. Ok (value, said)) f)
       by (inr (k, large, inl long)) = inr (k, large, inl (subst HasLong (sym (ap (λ (z : List ℕ). z ++ more) is.whole ∙ append_assoc front.text.items rest more)) (more_long front.text.items (rest ++ more) long)))
       by (inr (k, large, inr few)) = inr (k, large, inr (many few))
@@ -169,38 +173,34 @@ last_line choice v said =
     let body = flat_map (entry_line (names_of v.0) (writers_behind [] said)) (chosen choice v said) in
     append_assoc (front_text v) (codes "history 1\n" ++ body) (codes "end\n") ∙ ap (λ (t : List ℕ). front_text v ++ t) (append_assoc (codes "history 1\n") body (codes "end\n"))
 
-pub cut_ok : (choice : Choice) (bytes : List ℕ) (part : PartText) (r : Result Part NoPart) → CutsAll choice bytes (Ok part) → ((t : List ℕ) (n : ℕ) → Holds part t n → IsPartOf (t ++ codes "end\n") n r) → IsCut choice bytes r
-cut_ok choice bytes part r c made = by r (subst (λ (t : List ℕ). IsPartOf t (length (chosen choice c.2.0 c.2.1)) r) (last_line choice c.2.0 c.2.1) (made (begun_text choice c.2.0 c.2.1) (length (chosen choice c.2.0 c.2.1)) c.2.3))
+pub cut_ok : (choice : Choice) (wanted : ℕ) (bytes : List ℕ) (part : Unended) (r : Result Part NoPart) → CutsAll choice wanted bytes (Ok part) → ((t : List ℕ) (n : ℕ) → Holds part.text t n → IsPartOf (t ++ codes "end\n") n r)
+    → IfOk r (λ p. p.place ≡ part.place) → IsCut choice wanted bytes r
+cut_ok choice wanted bytes part r c made place = by r place (subst (λ (t : List ℕ). IsPartOf t (length (chosen choice c.2.0 c.2.1)) r) (last_line choice c.2.0 c.2.1) (made (begun_text choice c.2.0 c.2.1) (length (chosen choice c.2.0 c.2.1)) c.2.3))
   where
-    by : (x : Result Part NoPart) → IsPartOf (part_text choice c.2.0 c.2.1) (length (chosen choice c.2.0 c.2.1)) x → IsCut choice bytes x
-    by (Ok p) h = (c.0, c.1, (c.2.0, c.2.1, c.2.2, h))
-    by (Err (Large n m)) h = (c.0, c.1, (c.2.0, c.2.1, c.2.2, h))
-    by (Err (Refused e)) h = λ ne nr. absurd (ne h)
+    by : (x : Result Part NoPart) → IfOk x (λ p. p.place ≡ part.place) → IsPartOf (part_text choice c.2.0 c.2.1) (length (chosen choice c.2.0 c.2.1)) x → IsCut choice wanted bytes x
+    by (Ok p) at h = (c.0, c.1, (c.2.0, c.2.1, c.2.2, h, subst (λ (o : Option ℕ). IsPlaceOf c.2.0.0 (is_chosen choice) (entries_behind [] c.2.1) wanted o) (sym at) c.2.4))
+    by (Err (Large n m)) at h = (c.0, c.1, (c.2.0, c.2.1, c.2.2, h))
+    by (Err (Refused e)) at h = λ ne nr. absurd (ne h)
 
-pub cut_err : (choice : Choice) (bytes : List ℕ) (e : Refusal) → CutsAll choice bytes (Err e) → IsCut choice bytes (Err (Refused e))
-cut_err choice bytes e c = c
+pub cut_err : (choice : Choice) (wanted : ℕ) (bytes : List ℕ) (e : Refusal) → CutsAll choice wanted bytes (Err e) → IsCut choice wanted bytes (Err (Refused e))
+cut_err choice wanted bytes e c = c
 
 -- ---- as the code has them
 
-pub no_memory : (choice : Choice) (front : Front) (first : List ℕ) (a : Option (List ℕ)) (r : Result PartText Refusal) → IsErr r × IsErrAnd r (λ e. e ≡ OutOfMemory) → (more : List ℕ) × Tells a more × CutsRest choice front (first ++ more) r
-no_memory choice front first a (Ok p) (bad, is) = absurd cc
-no_memory choice front first a (Err e) (bad, is) = (let t = told_any a in (t.0, t.1, λ ne nr. absurd (ne is)))
+pub no_memory : (choice : Choice) (wanted : ℕ) (front : Front) (first : List ℕ) (a : Option (List ℕ)) (r : Result Unended Refusal) → IsErr r × IsErrAnd r (λ e. e ≡ OutOfMemory) → (more : List ℕ) × Tells a more × CutsRest choice wanted front (first ++ more) r
+no_memory choice wanted front first a (Ok p) (bad, is) = absurd cc
+no_memory choice wanted front first a (Err e) (bad, is) = (let t = told_any a in (t.0, t.1, λ ne nr. absurd (ne is)))
 
-pub handed_rest : (choice : Choice) (front : Front) (bytes : List ℕ) (r : Result PartText Refusal) (e : Refusal) → IsErrAnd r (λ x. x ≡ e) → CutsRest choice front bytes (Err e) → CutsRest choice front bytes r
-handed_rest choice front bytes (Ok p) e is c = absurd is
-handed_rest choice front bytes (Err x) e is c = subst (λ (z : Refusal). CutsRest choice front bytes (Err z)) (sym is) c
+pub handed_rest : (choice : Choice) (wanted : ℕ) (front : Front) (bytes : List ℕ) (r : Result Unended Refusal) (e : Refusal) → IsErrAnd r (λ x. x ≡ e) → CutsRest choice wanted front bytes (Err e) → CutsRest choice wanted front bytes r
+handed_rest choice wanted front bytes (Ok p) e is c = absurd is
+handed_rest choice wanted front bytes (Err x) e is c = subst (λ (z : Refusal). CutsRest choice wanted front bytes (Err z)) (sym is) c
 
-abbrev pub CutsInput : Choice → Option (List ℕ) → Result PartText Refusal → Type 0
-CutsInput choice a r = (bytes : List ℕ) × Tells a bytes × CutsAll choice bytes r
+abbrev pub CutsInput : Choice → ℕ → Option (List ℕ) → Result Unended Refusal → Type 0
+CutsInput choice wanted a r = (bytes : List ℕ) × Tells a bytes × CutsAll choice wanted bytes r
 
-pub outside_all : (choice : Choice) (a : Option (List ℕ)) (r : Result PartText Refusal) (e : Refusal) → IsErrAnd r (λ x. x ≡ e) → IsOutside e → CutsInput choice a r
-outside_all choice a (Ok p) e is out = absurd is
-outside_all choice a (Err x) e is (inl m) = (let t = told_any a in (t.0, t.1, λ ne nr. absurd (ne (is ∙ m))))
-outside_all choice a (Err x) e is (inr m) = (let t = told_any a in (t.0, t.1, λ ne nr. absurd (nr (is ∙ m))))
-
-pub no_memory_all : (choice : Choice) (a : Option (List ℕ)) (r : Result PartText Refusal) → IsErr r × IsErrAnd r (λ e. e ≡ OutOfMemory) → CutsInput choice a r
-no_memory_all choice a (Ok p) (bad, is) = absurd cc
-no_memory_all choice a (Err e) (bad, is) = (let t = told_any a in (t.0, t.1, λ ne nr. absurd (ne is)))
+pub no_memory_all : (choice : Choice) (wanted : ℕ) (a : Option (List ℕ)) (r : Result Unended Refusal) → IsErr r × IsErrAnd r (λ e. e ≡ OutOfMemory) → CutsInput choice wanted a r
+no_memory_all choice wanted a (Ok p) (bad, is) = absurd cc
+no_memory_all choice wanted a (Err e) (bad, is) = (let t = told_any a in (t.0, t.1, λ ne nr. absurd (ne is)))
 
 -- ---- an input
 
@@ -210,41 +210,47 @@ tells_both (Some x) None front more p q = absurd p
 tells_both (Some x) (Some y) front more p q = p ∙ ap (λ (z : List ℕ). front ++ z) q
 
 -- the history after its front
-pub whole_input : (choice : Choice) (a b : Option (List ℕ)) (head : Head) (front : Front) (value : FrontValue) (rest first more : List ℕ) (r : Result PartText Refusal) → IsHead a b head → IsFront head.bytes.items front value rest
-    → first ≡ rest → Tells b more → CutsRest choice front (first ++ more) r → CutsInput choice a r
-whole_input choice a b head front value rest first more r h is same t c =
-    (head.bytes.items ++ more, tells_both a b head.bytes.items more h.bytes t, by r (subst (λ (z : List ℕ). CutsRest choice front (z ++ more) r) same c))
+pub whole_input : (choice : Choice) (wanted : ℕ) (a b : Option (List ℕ)) (head : Head) (front : Front) (value : FrontValue) (rest first more : List ℕ) (r : Result Unended Refusal) (most : ℕ) → IsHead a b most head → IsFront head.bytes.items front value rest
+    → first ≡ rest → Tells b more → CutsRest choice wanted front (first ++ more) r → CutsInput choice wanted a r
+whole_input choice wanted a b head front value rest first more r most h is same t c =
+    (head.bytes.items ++ more, tells_both a b head.bytes.items more h.bytes t, by r (subst (λ (z : List ℕ). CutsRest choice wanted front (z ++ more) r) same c))
   where
     start : IsStart head.bytes.items (head.bytes.items ++ more)
     start = record { rest = more; whole = refl; front = inr (_, is.read) }
 
-    by : (z : Result PartText Refusal) → CutsRest choice front (rest ++ more) z → CutsAll choice (head.bytes.items ++ more) z
-    by (Ok part) d = (head.bytes.items, start, all_ok head.bytes.items front value rest more is choice part d)
-    by (Err e) d = λ ne nr. inl (head.bytes.items, start, all_err head.bytes.items front value rest more is choice e (d ne nr))
+    by : (z : Result Unended Refusal) → CutsRest choice wanted front (rest ++ more) z → CutsAll choice wanted (head.bytes.items ++ more) z
+    by (Ok part) d = (head.bytes.items, start, all_ok head.bytes.items front value rest more is choice wanted part d)
+    by (Err e) d = λ ne nr. inl (head.bytes.items, start, all_err head.bytes.items front value rest more is choice wanted e (d ne nr))
 
 no_reading : (head bytes : List ℕ) (e : Refusal) → front_at (record { line = 1; lines = lines_of head }) ≡ Err e → long_reading head bytes ≡ Err e
 unfolding long_reading
 no_reading head bytes e f = rw f refl
 
 -- there is no front
-pub no_front : (choice : Choice) (a b : Option (List ℕ)) (head : Head) (r : Result PartText Refusal) (e : Refusal) → IsErrAnd r (λ x. x ≡ e) → IsHead a b head → (e ≢ OutOfMemory → IsNoFront head e) → CutsInput choice a r
-no_front choice a b head (Ok p) e is h f = absurd is
-no_front choice a b head (Err x) e is h f = by head.is_whole refl
-  where
-    all : List ℕ
-    all = head.bytes.items
+module _ (choice : Choice) (wanted : ℕ) (a b : Option (List ℕ)) where
+  none_read : (most : ℕ) (head : Head) (e : Refusal) → IsHead a b most head → IsNoFront head e → (head.is_whole ≡ false → most ≡ max_input) → CutsInput choice wanted a (Err e)
+  none_read most head e h f long = by head.is_whole refl
+    where
+      by : (w : Bool) → head.is_whole ≡ w → CutsInput choice wanted a (Err e)
+      by true w = (head.bytes.items, told_all a b head.bytes.items h.bytes (h.whole w), λ ne nr. found f)
+        where
+          found : IsNoFront head e → ((s : List ℕ) × IsStart s head.bytes.items × IsCutOf choice wanted s head.bytes.items (Err (Refused e))) ⊎ ((e ≡ TooLarge 0) × HasNoFront head.bytes.items)
+          found (inl g) = inl (head.bytes.items, record { rest = []; whole = sym (append-nil head.bytes.items); front = inl refl }, inl (no_reading head.bytes.items head.bytes.items e g.1))
+          found (inr g) = (let bad : true ≡ false = sym w ∙ g.1 in absurd cc)
+      by false w = (let t = told_rest a b head.bytes.items h.bytes in (head.bytes.items ++ t.0, t.1, λ ne nr. found t.0 f))
+        where
+          found : (rest : List ℕ) → IsNoFront head e → ((s : List ℕ) × IsStart s (head.bytes.items ++ rest) × IsCutOf choice wanted s (head.bytes.items ++ rest) (Err (Refused e))) ⊎ ((e ≡ TooLarge 0) × HasNoFront (head.bytes.items ++ rest))
+          found rest (inl g) = (let bad : true ≡ false = sym g.0 ∙ w in absurd cc)
+          found rest (inr g) = inr (g.0, record { head = head.bytes.items; rest = rest; whole = refl; long = h.long w ∙ long w; fault = g.2.0; is = g.2.1 })
 
-    by : (w : Bool) → head.is_whole ≡ w → CutsInput choice a (Err x)
-    by true w = (head.bytes.items, told_all a b head.bytes.items h.bytes (h.whole w), λ ne nr. found (f (λ m. ne (is ∙ m))))
-      where
-        found : IsNoFront head e → ((s : List ℕ) × IsStart s head.bytes.items × IsCutOf choice s head.bytes.items (Err (Refused x))) ⊎ ((x ≡ TooLarge 0) × HasNoFront head.bytes.items)
-        found (inl g) = inl (head.bytes.items, record { rest = []; whole = sym (append-nil head.bytes.items); front = inl refl }, inl (no_reading head.bytes.items head.bytes.items x (g.1 ∙ ap (λ (z : Refusal). Err z) (sym is))))
-        found (inr g) = (let bad : true ≡ false = sym w ∙ g.1 in absurd cc)
-    by false w = (let t = told_rest a b head.bytes.items h.bytes in (head.bytes.items ++ t.0, t.1, λ ne nr. found t.0 (f (λ m. ne (is ∙ m)))))
-      where
-        found : (rest : List ℕ) → IsNoFront head e → ((s : List ℕ) × IsStart s (head.bytes.items ++ rest) × IsCutOf choice s (head.bytes.items ++ rest) (Err (Refused x))) ⊎ ((x ≡ TooLarge 0) × HasNoFront (head.bytes.items ++ rest))
-        found rest (inl g) = (let bad : true ≡ false = sym g.0 ∙ w in absurd cc)
-        found rest (inr g) = inr (is ∙ g.0, record { head = head.bytes.items; rest = rest; whole = refl; long = h.long w; fault = g.2.0; is = g.2.1 })
+  by_kind : (e : Refusal) → (e ≢ OutOfMemory → e ≢ ReadFailed → HasNone a b e) → CutsInput choice wanted a (Err e)
+  by_kind OutOfMemory f = (let t = told_any a in (t.0, t.1, λ ne nr. absurd (ne refl)))
+  by_kind ReadFailed f = (let t = told_any a in (t.0, t.1, λ ne nr. absurd (nr refl)))
+  by_kind e f = (let n = f (λ same. absurd cc) (λ same. absurd cc) in none_read n.0 n.1 e n.2 n.3 n.4)
+
+  pub no_front : (r : Result Unended Refusal) (e : Refusal) → IsErrAnd r (λ x. x ≡ e) → (e ≢ OutOfMemory → e ≢ ReadFailed → HasNone a b e) → CutsInput choice wanted a r
+  no_front (Ok p) e is f = absurd is
+  no_front (Err x) e is f = subst (λ (z : Refusal). CutsInput choice wanted a (Err z)) (sym is) (by_kind e f)
 
 -- what is after the front of the first bytes
 pub behind_front : (head : List ℕ) (front : Front) (value : FrontValue) (rest : List ℕ) (n : ℕ) → IsFront head front value rest → n ≡ length front.text.items → drop n head ≡ rest

@@ -1,5 +1,5 @@
 -- What cutting a bundle gives.
-use Rattle.std.specs.Prelude.{◌≡◌, ◌≢◌, ◌⊎◌, ℕ, ◌<◌, ◌≤◌, Bool, true, false, List, [], ◌++◌, length, min, codes, Result, Ok, Err}
+use Rattle.std.specs.Prelude.{◌≡◌, ◌≢◌, ◌⊎◌, ℕ, ◌<◌, ◌≤◌, Bool, true, false, Option, List, [], ◌++◌, length, min, codes, Result, Ok, Err}
 use Rattle.std.specs.List.{flat_map}
 use Rattle.ring_names.specs.declared.refusal.Refusal.{Refusal}
 use Rattle.ring_names.specs.declared.refusal.Refusal.TheVariants.{OutOfMemory, ReadFailed, TooLarge}
@@ -17,14 +17,18 @@ use Rattle.history_stream.specs.declared.cutting.NoPart.{NoPart}
 use Rattle.history_stream.specs.declared.cutting.NoPart.TheVariants.{Refused, Large}
 use Rattle.history_stream.specs.declared.input.Head.{Head}
 use Rattle.history_stream.specs.declared.reader.Reader.{Reader}
-use Rattle.history_stream.specs.Input.{max_input}
+use Rattle.history_stream.specs.Input.{IsHead, max_input}
 use Rattle.history_stream.specs.declared.front.Front.{Front}
 use Rattle.history_stream.specs.declared.reader.Stage.TheVariants.{First}
-use Rattle.history_stream.specs.declared.room.PartText.{PartText}
-use Rattle.history_stream.specs.Front.{FrontValue, front_at, front_text}
+use Rattle.history_stream.specs.declared.cutting.Unended.{Unended}
+use Rattle.history_stream.specs.declared.opening.Opened.{Opened}
+use Rattle.history_stream.specs.declared.opening.Tried.{Tried}
+use Rattle.history_stream.specs.declared.opening.Tried.TheVariants.{Found, More}
+use Rattle.history_stream.specs.Front.{FrontValue, IsFront, front_at, front_text}
 use Rattle.history_stream.specs.Reading.{entries_behind, long_reading, resume_at, writers_behind}
+use Rattle.history_stream.specs.Place.{IsPlaceOf}
 use Rattle.history_stream.specs.Room.{Holds, most}
-use Rattle.history_stream.specs.State.{IsReading, IsRun, Refuses, Stops, Takes, lines_and, started}
+use Rattle.history_stream.specs.State.{Begun, IsReading, IsRun, Refuses, Stops, Takes, lines_and, started}
 
 -- the refusal that it is
 abbrev pub refusal_of : NoPart → Refusal
@@ -53,15 +57,28 @@ StopsSome old bytes e = Refuses old (lines_and bytes) e ⊎ ((k : ℕ) × (e ≡
 
 -- all lines were read to the end of the text, or refused
 abbrev pub ReadsAll : Reader → Reader → List ℕ → Result (Unit {0}) Refusal → Type 0
-ReadsAll old new bytes (Ok u) = (ring : RingValue) (marks : List Bool) (front : List ℕ) (said : List SaidEntry) → IsReading ring marks front said old
+ReadsAll old new bytes (Ok u) = (ring : RingValue) (marks : List Bool) (front : Begun) (said : List SaidEntry) → IsReading ring marks front said old
     → (next : List SaidEntry) × IsReading ring marks front next new × (resume_at ring old.stage said (record { line = old.line; lines = lines_of bytes }) ≡ Ok next)
-ReadsAll old new bytes (Err e) = e ≢ OutOfMemory → e ≢ ReadFailed → (ring : RingValue) (marks : List Bool) (front : List ℕ) (said : List SaidEntry) → IsReading ring marks front said old
+ReadsAll old new bytes (Err e) = e ≢ OutOfMemory → e ≢ ReadFailed → (ring : RingValue) (marks : List Bool) (front : Begun) (said : List SaidEntry) → IsReading ring marks front said old
     → Stops ring marks (resume_at ring old.stage said (record { line = old.line; lines = lines_of bytes })) e ⊎ ((k : ℕ) × (e ≡ TooLarge k) × HasLong bytes)
 
 -- the first bytes hold no front: they are all, or there are more
 abbrev pub IsNoFront : Head → Refusal → Type 0
 IsNoFront head e = ((head.is_whole ≡ true) × (front_at (record { line = 1; lines = lines_of head.bytes.items }) ≡ Err e))
     ⊎ ((e ≡ TooLarge 0) × (head.is_whole ≡ false) × ((d : Refusal) × (front_at (record { line = 1; lines = lines_of head.bytes.items }) ≡ Err d)))
+
+-- a front was found in the first bytes, or these have none
+abbrev pub IsTried : Head → Tried → Type 0
+IsTried head (Found opened) = (opened.head ≡ head) × (value : FrontValue) × (rest : List ℕ) × IsFront head.bytes.items opened.front value rest
+IsTried head (More bytes) = bytes.items ≡ head.bytes.items
+
+-- the first bytes and their front
+abbrev pub IsOpened : Option (List ℕ) → Option (List ℕ) → Opened → Type 0
+IsOpened old new opened = (most : ℕ) × IsHead old new most opened.head × (value : FrontValue) × (rest : List ℕ) × IsFront opened.head.bytes.items opened.front value rest
+
+-- the first bytes have no front, and more of them may not be read
+abbrev pub HasNone : Option (List ℕ) → Option (List ℕ) → Refusal → Type 0
+HasNone old new e = (most : ℕ) × (head : Head) × IsHead old new most head × IsNoFront head e × (head.is_whole ≡ false → most ≡ max_input)
 
 -- a text with so many entries is returned, or is more than a replay takes
 abbrev pub IsPartOf : List ℕ → ℕ → Result Part NoPart → Type 0
@@ -103,32 +120,35 @@ begun_text choice front said = front_text front
     ++ (codes "history 1\n" ++ flat_map (entry_line (names_of front.0) (writers_behind [] said)) (chosen choice front said))
 
 -- the bytes are a bundle, and the bundle of its part is returned or is more than a replay takes; or they are none, and this is the first fault
-abbrev pub IsCutOf : Choice → List ℕ → List ℕ → Result Part NoPart → Type 0
-IsCutOf choice head bytes (Ok part) = (front : FrontValue) × (said : List SaidEntry) × (long_reading head bytes ≡ Ok (front, said))
+abbrev pub IsCutOf : Choice → ℕ → List ℕ → List ℕ → Result Part NoPart → Type 0
+IsCutOf choice wanted head bytes (Ok part) = (front : FrontValue) × (said : List SaidEntry) × (long_reading head bytes ≡ Ok (front, said))
     × IsPartOf (part_text choice front said) (length (chosen choice front said)) (Ok part)
-IsCutOf choice head bytes (Err (Large entries size)) = (front : FrontValue) × (said : List SaidEntry) × (long_reading head bytes ≡ Ok (front, said))
+    × IsPlaceOf front.0 (is_chosen choice) (entries_behind [] said) wanted part.place
+IsCutOf choice wanted head bytes (Err (Large entries size)) = (front : FrontValue) × (said : List SaidEntry) × (long_reading head bytes ≡ Ok (front, said))
     × IsPartOf (part_text choice front said) (length (chosen choice front said)) (Err (Large entries size))
-IsCutOf choice head bytes (Err (Refused e)) = (long_reading head bytes ≡ Err e) ⊎ ((k : ℕ) × (e ≡ TooLarge k) × IsTooMuch choice head bytes)
+IsCutOf choice wanted head bytes (Err (Refused e)) = (long_reading head bytes ≡ Err e) ⊎ ((k : ℕ) × (e ≡ TooLarge k) × IsTooMuch choice head bytes)
 
 -- the same, unless memory ran out or reading failed
-abbrev pub IsCut : Choice → List ℕ → Result Part NoPart → Type 0
-IsCut choice bytes (Ok part) = (head : List ℕ) × IsStart head bytes × IsCutOf choice head bytes (Ok part)
-IsCut choice bytes (Err (Large entries size)) = (head : List ℕ) × IsStart head bytes × IsCutOf choice head bytes (Err (Large entries size))
-IsCut choice bytes (Err (Refused e)) = e ≢ OutOfMemory → e ≢ ReadFailed
-    → ((head : List ℕ) × IsStart head bytes × IsCutOf choice head bytes (Err (Refused e))) ⊎ ((e ≡ TooLarge 0) × HasNoFront bytes)
+abbrev pub IsCut : Choice → ℕ → List ℕ → Result Part NoPart → Type 0
+IsCut choice wanted bytes (Ok part) = (head : List ℕ) × IsStart head bytes × IsCutOf choice wanted head bytes (Ok part)
+IsCut choice wanted bytes (Err (Large entries size)) = (head : List ℕ) × IsStart head bytes × IsCutOf choice wanted head bytes (Err (Large entries size))
+IsCut choice wanted bytes (Err (Refused e)) = e ≢ OutOfMemory → e ≢ ReadFailed
+    → ((head : List ℕ) × IsStart head bytes × IsCutOf choice wanted head bytes (Err (Refused e))) ⊎ ((e ≡ TooLarge 0) × HasNoFront bytes)
 
 -- the part so far of a history that was read after its front, or why there is none
-abbrev pub CutsRest : Choice → Front → List ℕ → Result PartText Refusal → Type 0
-CutsRest choice front bytes (Ok part) = (said : List SaidEntry) × (resume_at front.ring First [] (record { line = front.line; lines = lines_of bytes }) ≡ Ok said)
-    × Holds part (front.text.items ++ (codes "history 1\n" ++ flat_map (entry_line (names_of front.ring) (writers_behind [] said)) (part_of front.ring (is_chosen choice) (entries_behind [] said))))
+abbrev pub CutsRest : Choice → ℕ → Front → List ℕ → Result Unended Refusal → Type 0
+CutsRest choice wanted front bytes (Ok part) = (said : List SaidEntry) × (resume_at front.ring First [] (record { line = front.line; lines = lines_of bytes }) ≡ Ok said)
+    × Holds part.text (front.text.items ++ (codes "history 1\n" ++ flat_map (entry_line (names_of front.ring) (writers_behind [] said)) (part_of front.ring (is_chosen choice) (entries_behind [] said))))
     (length (part_of front.ring (is_chosen choice) (entries_behind [] said)))
-CutsRest choice front bytes (Err e) = e ≢ OutOfMemory → e ≢ ReadFailed → (resume_at front.ring First [] (record { line = front.line; lines = lines_of bytes }) ≡ Err e)
+    × IsPlaceOf front.ring (is_chosen choice) (entries_behind [] said) wanted part.place
+CutsRest choice wanted front bytes (Err e) = e ≢ OutOfMemory → e ≢ ReadFailed → (resume_at front.ring First [] (record { line = front.line; lines = lines_of bytes }) ≡ Err e)
     ⊎ ((k : ℕ) × (e ≡ TooLarge k) × (HasLong bytes
     ⊎ ((said : List SaidEntry) → resume_at front.ring First [] (record { line = front.line; lines = lines_of bytes }) ≡ Ok said → 4294967295 ≤ started front.ring (is_chosen choice) (entries_behind [] said))))
 
 -- the same of a bundle
-abbrev pub CutsAll : Choice → List ℕ → Result PartText Refusal → Type 0
-CutsAll choice bytes (Ok part) = (head : List ℕ) × IsStart head bytes × ((front : FrontValue) × (said : List SaidEntry) × (long_reading head bytes ≡ Ok (front, said))
-    × Holds part (begun_text choice front said) (length (chosen choice front said)))
-CutsAll choice bytes (Err e) = e ≢ OutOfMemory → e ≢ ReadFailed
-    → ((head : List ℕ) × IsStart head bytes × IsCutOf choice head bytes (Err (Refused e))) ⊎ ((e ≡ TooLarge 0) × HasNoFront bytes)
+abbrev pub CutsAll : Choice → ℕ → List ℕ → Result Unended Refusal → Type 0
+CutsAll choice wanted bytes (Ok part) = (head : List ℕ) × IsStart head bytes × ((front : FrontValue) × (said : List SaidEntry) × (long_reading head bytes ≡ Ok (front, said))
+    × Holds part.text (begun_text choice front said) (length (chosen choice front said))
+    × IsPlaceOf front.0 (is_chosen choice) (entries_behind [] said) wanted part.place)
+CutsAll choice wanted bytes (Err e) = e ≢ OutOfMemory → e ≢ ReadFailed
+    → ((head : List ℕ) × IsStart head bytes × IsCutOf choice wanted head bytes (Err (Refused e))) ⊎ ((e ≡ TooLarge 0) × HasNoFront bytes)

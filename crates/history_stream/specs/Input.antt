@@ -29,9 +29,9 @@ pub record IsNext (old new : Option (List ℕ)) (most : ℕ) (bs : List ℕ) : T
   pub end : length bs ≡ 0 → IsAtEnd new
   pub few : length bs ≤ most
 
--- these are the first bytes: all, or as many as may be
-pub record IsHead (old new : Option (List ℕ)) (head : Head) : Type 0 where
+-- these are the first bytes: all, or so many
+pub record IsHead (old new : Option (List ℕ)) (most : ℕ) (head : Head) : Type 0 where
   pub bytes : Consumes old new head.bytes.items
-  pub few : length head.bytes.items ≤ max_input
+  pub few : length head.bytes.items ≤ most
   pub whole : head.is_whole ≡ true → IsAtEnd new
-  pub long : head.is_whole ≡ false → length head.bytes.items ≡ max_input
+  pub long : head.is_whole ≡ false → length head.bytes.items ≡ most

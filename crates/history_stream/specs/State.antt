@@ -1,5 +1,5 @@
 -- A history of which some lines are read.
-use Rattle.std.specs.Prelude.{◌≡◌, ◌⊎◌, ◌==◌, ℕ, ◌+◌, ◌<◌, ◌≤◌, Bool, true, false, MatchOption, List, [], ◌∷◌, ◌++◌, length, Result, Ok, Err}
+use Rattle.std.specs.Prelude.{◌≡◌, ◌⊎◌, ◌==◌, ℕ, ◌+◌, ◌<◌, ◌≤◌, Bool, true, false, MatchOption, is_some, List, [], ◌∷◌, ◌++◌, length, Result, Ok, Err}
 use Rattle.std.specs.List.{AllByRecursion, flat_map}
 use Rattle.ring_names.specs.declared.refusal.Refusal.{Refusal}
 use Rattle.ring_names.specs.declared.refusal.Refusal.TheVariants.{TooLarge}
@@ -17,6 +17,7 @@ use Rattle.history_parts.specs.Cuts.{after_event, entry_next}
 use Rattle.history_parts.specs.Parts.{all_gets, all_puts, is_marked, or_none, part_of}
 use Rattle.history_stream.specs.declared.reader.Reader.{Reader}
 use Rattle.history_stream.specs.Reading.{entries_behind, resume_at, writers_behind}
+use Rattle.history_stream.specs.Place.{Finds, FindsMore}
 use Rattle.history_stream.specs.Room.{Holds}
 
 -- whether a put or a get starts
@@ -38,8 +39,13 @@ pub record Counted (r : Reader) : Type 0 where
   pub same : r.started ≡ length r.cut.puts + length r.cut.gets
   pub few : r.started < 4294967295
 
+-- what a part begins with: the text of its front, and the entry whose place is wanted
+pub record Begun : Type 0 where
+  pub text : List ℕ
+  pub wanted : ℕ
+
 -- lines that say these entries are read, and their part is after the front's text
-pub record IsReading (ring : RingValue) (marks : List Bool) (front : List ℕ) (said : List SaidEntry) (r : Reader) : Type 0 where
+pub record IsReading (ring : RingValue) (marks : List Bool) (front : Begun) (said : List SaidEntry) (r : Reader) : Type 0 where
   pub valid : IsRing ring
   pub ring_is : r.ring.now ≡ ring
   pub writers_are : r.writers ≡ writers_behind [] said
@@ -52,8 +58,9 @@ pub record IsReading (ring : RingValue) (marks : List Bool) (front : List ℕ) (
   }
   -- as any later writers spell it too
   pub part_is : (more : List (List ℕ)) → Holds r.part
-      (front ++ flat_map (entry_line (names_of ring) (r.writers ++ more)) (part_of ring (is_marked marks) (entries_behind [] said)))
+      (front.text ++ flat_map (entry_line (names_of ring) (r.writers ++ more)) (part_of ring (is_marked marks) (entries_behind [] said)))
       (length (part_of ring (is_marked marks) (entries_behind [] said)))
+  pub place_is : Finds ring (is_marked marks) (entries_behind [] said) front.wanted r.place
 
 -- an entry was cut, and kept if it is of the part
 pub record Keeps (old new : Reader) (entry : Entry) : Type 0 where
@@ -65,6 +72,7 @@ pub record Keeps (old new : Reader) (entry : Entry) : Type 0 where
   pub started_same : new.started ≡ old.started
   pub part_is : MatchOption (entry_next old.cut entry) (new.part ≡ old.part) (λ y. (t : List ℕ) (n : ℕ) → Holds old.part t n
       → Holds new.part (t ++ entry_line (names_of old.ring.now) old.writers y) (n + 1))
+  pub place_is : FindsMore old.place new.place (is_some (entry_next old.cut entry)) old.part.entries
 
 -- reading refuses a text so, or the text has too many puts and gets
 abbrev pub Stops : RingValue → List Bool → Result (List SaidEntry) Refusal → Refusal → Type 0
@@ -73,24 +81,24 @@ Stops ring marks read e = (read ≡ Err e)
 
 -- the line of an entry was read
 abbrev pub TakesEntry : Reader → Reader → ℕ → List (List ℕ) → Type 0
-TakesEntry old new k fields = (ring : RingValue) (marks : List Bool) (front : List ℕ) (said : List SaidEntry) → IsReading ring marks front said old
+TakesEntry old new k fields = (ring : RingValue) (marks : List Bool) (front : Begun) (said : List SaidEntry) → IsReading ring marks front said old
     → (x : SaidEntry) × (said_at ring [] old.writers k fields ≡ Ok x) × IsReading ring marks front (said ++ x ∷ []) new
 
 -- it was refused: it is none, or the last of too many puts and gets
 abbrev pub RefusesEntry : Reader → ℕ → List (List ℕ) → Refusal → Type 0
-RefusesEntry old k fields e = (ring : RingValue) (marks : List Bool) (front : List ℕ) (said : List SaidEntry) → IsReading ring marks front said old
+RefusesEntry old k fields e = (ring : RingValue) (marks : List Bool) (front : Begun) (said : List SaidEntry) → IsReading ring marks front said old
     → (said_at ring [] old.writers k fields ≡ Err e)
     ⊎ ((x : SaidEntry) × (said_at ring [] old.writers k fields ≡ Ok x) × (e ≡ TooLarge k) × (4294967295 ≤ started ring (is_marked marks) (entries_behind [] (said ++ x ∷ []))))
 
 -- lines were read, from a state to another: whatever text follows, reading goes on from there
 abbrev pub Takes : Reader → Reader → (List ℕ → List (List (List ℕ))) → (List ℕ → List (List (List ℕ))) → Type 0
-Takes old new whole rest = (ring : RingValue) (marks : List Bool) (front : List ℕ) (said : List SaidEntry) → IsReading ring marks front said old
+Takes old new whole rest = (ring : RingValue) (marks : List Bool) (front : Begun) (said : List SaidEntry) → IsReading ring marks front said old
     → (next : List SaidEntry) × IsReading ring marks front next new
     × ((more : List ℕ) → resume_at ring old.stage said (record { line = old.line; lines = whole more }) ≡ resume_at ring new.stage next (record { line = new.line; lines = rest more }))
 
 -- lines were refused, whatever text follows
 abbrev pub Refuses : Reader → (List ℕ → List (List (List ℕ))) → Refusal → Type 0
-Refuses old whole e = (ring : RingValue) (marks : List Bool) (front : List ℕ) (said : List SaidEntry) → IsReading ring marks front said old
+Refuses old whole e = (ring : RingValue) (marks : List Bool) (front : Begun) (said : List SaidEntry) → IsReading ring marks front said old
     → (more : List ℕ) → Stops ring marks (resume_at ring old.stage said (record { line = old.line; lines = whole more })) e
 
 -- a line in front of a text

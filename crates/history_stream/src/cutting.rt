@@ -5,14 +5,15 @@ ghost use Rattle.ring_names.specs.declared.refusal.Refusal.TheVariants.{OutOfMem
 ghost use Rattle.ring_table.specs.Valid.{IsRing};
 ghost use Rattle.history_parts.specs.Choices.{IsChoice};
 ghost use Rattle.history_stream.specs.Input.{Tells};
-ghost use Rattle.history_stream.specs.Front.{FrontValue, IsFront};
 ghost use Rattle.history_stream.specs.Room.{Holds};
 ghost use Rattle.history_stream.specs.State.{Counted, IsRun};
 ghost use Rattle.history_stream.specs.Cutting.{refusal_of, TakesSome, StopsSome, ReadsAll, CutsRest, CutsAll};
-ghost use Rattle.history_stream.specs.Cutting.{IsNoFront, IsPartOf, IsCut};
+ghost use Rattle.history_stream.specs.Cutting.{IsPartOf, IsCut};
 
-use crate::front::{Front, read_front};
-use crate::input::{CHUNK, Head, MAX_INPUT, read_head, read_some};
+use crate::front::Front;
+use crate::input::{CHUNK, MAX_INPUT, read_some};
+use crate::opening::{Opened, open};
+use crate::place::Place;
 use crate::reader::{Reader, Stage};
 use crate::room::PartText;
 use history_parts::{Choice, Cut};
@@ -28,6 +29,8 @@ pub struct Part {
     pub text: Vec<u8>,
     /// How many entries its history has, at most 1,000,000.
     pub entries: u32,
+    /// The wanted entry, counted in the whole history from 0, if the part has it.
+    pub place: Option<u64>,
 }
 
 /// Why there is no bundle of a part.
@@ -111,33 +114,25 @@ fn read_history<R: Read + Drop>(
     Err(Refusal::ReadFailed)
 }
 
-// Reads the front of an input.
-fn front_of(alloc: Global, head: &Head) -> Result<Front, Refusal>
-    ensures ok { IfOk result (λ front. (value : FrontValue) × (rest : List ℕ) × IsFront head.now.bytes.items front value rest) }
-    ensures err { IfErr result (λ e. e ≢ OutOfMemory → IsNoFront head.now e) }
-{
-    match read_front(alloc, head.bytes.as_slice()) {
-        Ok(front) => Ok(front),
-        Err(Refusal::OutOfMemory) => Err(Refusal::OutOfMemory),
-        Err(refusal) => Err(if head.is_whole {
-            refusal
-        } else {
-            Refusal::TooLarge(0)
-        }),
-    }
+// A part up to its last line.
+#[derive(Drop)]
+struct Unended {
+    text: PartText,
+    place: Option<u64>,
 }
 
 // Reads a history whose front was read, and cuts it.
 fn cut_history<R: Read + Drop>(
     alloc: Global,
     choice: Choice,
+    wanted: u32,
     front: Front,
     first: Vec<u8>,
     input: &mut R,
-) -> Result<PartText, Refusal>
+) -> Result<Unended, Refusal>
     requires choice { IsChoice choice }
     requires valid { IsRing front.ring }
-    ensures { (more : List ℕ) × Tells (R.remaining input.old) more × CutsRest choice front (first.items ++ more) result }
+    ensures { (more : List ℕ) × Tells (R.remaining input.old) more × CutsRest choice wanted front (first.items ++ more) result }
 {
     let Front { ring, text, line } = front;
     let marks = choice.marks(alloc, ring.q())?;
@@ -151,37 +146,47 @@ fn cut_history<R: Read + Drop>(
         stage: Stage::First,
         started: 0,
         part,
+        place: Place::of(wanted),
     };
     read_history(alloc, &mut reader, first, input)?;
-    Ok(reader.part)
+    Ok(Unended {
+        text: reader.part,
+        place: reader.place.found,
+    })
 }
 
 // Reads a bundle, and cuts it.
 fn read_part<R: Read + Drop>(
     alloc: Global,
     choice: Choice,
+    wanted: u32,
     input: &mut R,
-) -> Result<PartText, Refusal>
+) -> Result<Unended, Refusal>
     requires { IsChoice choice }
-    ensures { (bytes : List ℕ) × Tells (R.remaining input.old) bytes × CutsAll choice bytes result }
+    ensures { (bytes : List ℕ) × Tells (R.remaining input.old) bytes × CutsAll choice wanted bytes result }
 {
-    let head = read_head(alloc, input)?;
-    let front = front_of(alloc, &head)?;
+    let Opened { head, front } = open(alloc, input)?;
     let first = Vec::from_slice(alloc, &head.bytes.as_slice()[front.text.len()..])?;
     drop(head);
-    cut_history(alloc, choice, front, first, input)
+    cut_history(alloc, choice, wanted, front, first, input)
 }
 
 // What there is at the end of a history.
-fn part_of(mut part: PartText) -> Result<Part, NoPart>
-    ensures { (t : List ℕ) (n : ℕ) → Holds part t n → IsPartOf (t ++ codes "end\n") n result }
+fn end_part(unended: Unended) -> Result<Part, NoPart>
+    ensures text { (t : List ℕ) (n : ℕ) → Holds unended.text t n → IsPartOf (t ++ codes "end\n") n result }
+    ensures place { IfOk result (λ part. part.place ≡ unended.place) }
 {
+    let Unended {
+        text: mut part,
+        place,
+    } = unended;
     match part.push_text(b"end\n") {
         Ok(()) => {
             if part.is_small() {
                 Ok(Part {
                     entries: part.entries as u32,
                     text: part.text,
+                    place,
                 })
             } else {
                 Err(NoPart::Large {
@@ -195,20 +200,21 @@ fn part_of(mut part: PartText) -> Result<Part, NoPart>
 }
 
 /// Reads a bundle of a replay to its end, and cuts it to what the chosen partitions see: the bundle of the part, with its ring, plan and certificate, and
-/// with the writers as the whole numbers them. The history may have any number of entries; the front, a line and the part may have `MAX_INPUT` bytes.
+/// with the writers as the whole numbers them, and the place in the whole of the part's entry `wanted`. The history may have any number of entries; the front, a line and the part may have `MAX_INPUT` bytes.
 /// The first line at fault decides, as in `read_replay`. `TooLarge(0)` is a front that is at fault or not ended in the first `MAX_INPUT` bytes of a
 /// longer input; `TooLarge` of a line is also a longer line than that, and the put or get that is the 4,294,967,295th to start. Kept are the front, the part, eight bytes for
-/// each put and get, and of what was read at most `MAX_INPUT` bytes, twice while they are split into lines.
+/// each put and get, and of what was read at most `MAX_INPUT` bytes, twice while they are split into lines: fewer where front and lines are short.
 pub fn cut_stream<R: Read + Drop>(
     alloc: Global,
     choice: Choice,
+    wanted: u32,
     input: &mut R,
 ) -> Result<Part, NoPart>
     requires { IsChoice choice }
-    ensures { (bytes : List ℕ) × Tells (R.remaining input.old) bytes × IsCut choice bytes result }
+    ensures { (bytes : List ℕ) × Tells (R.remaining input.old) bytes × IsCut choice wanted bytes result }
 {
-    match read_part(alloc, choice, input) {
-        Ok(part) => part_of(part),
+    match read_part(alloc, choice, wanted, input) {
+        Ok(part) => end_part(part),
         Err(refusal) => Err(NoPart::Refused(refusal)),
     }
 }

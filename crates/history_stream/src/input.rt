@@ -1,6 +1,7 @@
 //! Reading an input piece by piece.
 
-ghost use Rattle.std.specs.Prelude.{◌≡◌, ◌<◌, length, IfOk, IfErr};
+ghost use Rattle.std.specs.Prelude.{◌≡◌, ◌<◌, ◌≤◌, ℕ, List, Option, length, IfOk, IfErr};
+ghost use Rattle.std.specs.Io.KnownBytes.{Consumes};
 ghost use Rattle.ring_names.specs.declared.refusal.Refusal.TheVariants.{ReadFailed};
 ghost use Rattle.history_stream.specs.Input.{Takes, IsNext, IsHead, IsOutside};
 
@@ -10,6 +11,9 @@ use std::io::{ErrorKind, Read};
 
 /// The most bytes that the front of a bundle, a line of its history and a part may have: 64 MiB.
 pub const MAX_INPUT: usize = 67_108_864;
+
+/// The most entries that a part may have, as many as are judged at once.
+pub const MOST_ENTRIES: u64 = 1_000_000;
 
 /// How many bytes one read asks for.
 pub const CHUNK: usize = 65_536;
@@ -57,14 +61,20 @@ pub struct Head {
     pub is_whole: bool,
 }
 
-/// Reads the first `MAX_INPUT` bytes, or fewer where the input ends before.
-pub fn read_head<R: Read + Drop>(alloc: Global, input: &mut R) -> Result<Head, Refusal>
-    ensures ok { IfOk result (λ head. IsHead (R.remaining input.old) (R.remaining input.new) head) }
+/// Reads on, after these bytes, to the first `most` bytes of an input, or fewer where it ends before.
+pub fn read_head<R: Read + Drop>(
+    alloc: Global,
+    bytes: Vec<u8>,
+    input: &mut R,
+    most: usize,
+) -> Result<Head, Refusal>
+    requires { length bytes.items ≤ most }
+    ensures ok { (start : Option (List ℕ)) → Consumes start (R.remaining input.old) bytes.items → IfOk result (λ head. IsHead start (R.remaining input.new) most head) }
     ensures err { IfErr result (λ e. IsOutside e) }
 {
-    let mut bytes = Vec::new(alloc);
-    'reads: while bytes.len() < MAX_INPUT {
-        let more = read_some(alloc, input, CHUNK.min(MAX_INPUT - bytes.len()))?;
+    let mut bytes = bytes;
+    'reads: while bytes.len() < most {
+        let more = read_some(alloc, input, CHUNK.min(most - bytes.len()))?;
         if more.is_empty() {
             return Ok(Head {
                 bytes,

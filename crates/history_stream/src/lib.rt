@@ -4,8 +4,10 @@
 mod cutting;
 mod front;
 mod input;
+mod opening;
+mod place;
 mod reader;
 mod room;
 
 pub use cutting::{NoPart, Part, cut_stream};
-pub use input::MAX_INPUT;
+pub use input::{MAX_INPUT, MOST_ENTRIES};

@@ -12,6 +12,7 @@ ghost use Rattle.texts.specs.Frames.{header_at};
 ghost use Rattle.history_stream.specs.declared.reader.Stage.TheVariants.{First, Entries, Over};
 ghost use Rattle.history_stream.specs.State.{is_start, Counted, IsRun, Keeps, TakesEntry, RefusesEntry, Takes, Refuses, line_and, lines_and};
 
+use crate::place::Place;
 use crate::room::PartText;
 use history_parts::Cut;
 use history_text::{entry_line, keep_entry};
@@ -45,6 +46,7 @@ pub struct Reader<'a> {
     /// How many puts and gets were started.
     pub started: u32,
     pub part: PartText,
+    pub place: Place,
 }
 
 // Reads the line `history 1`.
@@ -84,7 +86,9 @@ impl<'a> Reader<'a> {
         ensures ok { OnOk result (Keeps self.old self.new entry.now) }
         ensures memory { IfErr result (λ e. e ≡ OutOfMemory) }
     {
-        if let Some(kept) = self.cut.entry(alloc, entry)? {
+        let kept = self.cut.entry(alloc, entry)?;
+        self.place.count(kept.is_some(), self.part.entries);
+        if let Some(kept) = kept {
             self.part.push_entry(self.ring, &self.writers, &kept)?;
         }
         Ok(())

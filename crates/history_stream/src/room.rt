@@ -6,7 +6,7 @@ ghost use Rattle.history_text.specs.Spelling.{entry_line};
 ghost use Rattle.history_stream.specs.Input.{max_input};
 ghost use Rattle.history_stream.specs.Room.{Holds, most};
 
-use crate::input::MAX_INPUT;
+use crate::input::{MAX_INPUT, MOST_ENTRIES};
 use history_text::push_entry;
 use plan_runs::Entry;
 use ring_names::Names;
@@ -37,7 +37,7 @@ impl PartText {
     pub fn is_small(&self) -> bool
         ensures { IsTrue result ↔ ((self.now.bytes ≤ max_input) × (self.now.entries ≤ 1000000)) }
     {
-        self.bytes <= MAX_INPUT as u64 && self.entries <= 1_000_000
+        self.bytes <= MAX_INPUT as u64 && self.entries <= MOST_ENTRIES
     }
 
     // Counts what was added after so many bytes, and gives up the text where it is too much.

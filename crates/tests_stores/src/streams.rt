@@ -55,6 +55,36 @@ impl<'a> Read for Fails<'a> {
     }
 }
 
+// Gives the front, the turn so many times, and the end.
+#[derive(Drop)]
+struct Turns<'a> {
+    front: &'a [u8],
+    turn: &'a [u8],
+    left: u32,
+    end: &'a [u8],
+    at: usize,
+}
+
+impl<'a> Read for Turns<'a> {
+    fn read(&mut self, buf: &mut [u8]) -> io::Result<usize> {
+        if self.at >= self.front.len() && self.left > 0 {
+            self.front = self.turn;
+            self.left -= 1;
+            self.at = 0;
+        }
+        if self.at >= self.front.len() {
+            self.front = self.end;
+            self.end = b"";
+            self.at = 0;
+        }
+        let rest = &self.front[self.at..];
+        let count = rest.len().min(buf.len());
+        buf[..count].copy_from_slice(&rest[..count]);
+        self.at += count;
+        Ok(count)
+    }
+}
+
 // A history over keys of partitions 0 and 2.
 const HISTORY: &[u8] = b"\
 history 1
@@ -114,7 +144,7 @@ fn cut(alloc: Global, choice: Choice, bytes: &[u8], step: usize) -> Result<Part,
     requires choice { IsChoice choice }
 {
     let mut input = Steps { rest: bytes, step };
-    cut_stream(alloc, choice, &mut input)
+    cut_stream(alloc, choice, 0, &mut input)
 }
 
 // The refusal of the bytes.
@@ -192,6 +222,68 @@ fn a_part_is_that_of_the_whole(rt: HostRuntime) -> Result<(), Fail> {
     Ok(())
 }
 
+// Entries of partition 0's part, by their places in the whole.
+#[test]
+fn entries_are_mapped_back(rt: HostRuntime) -> Result<(), Fail> {
+    let whole = bundle(rt.alloc(), HISTORY)?;
+    for (entry, wanted) in [
+        (0u32, Some(0u64)),
+        (1, Some(2)),
+        (3, Some(5)),
+        (7, Some(12)),
+        (11, Some(19)),
+        (12, None),
+    ] {
+        let mut input = Steps {
+            rest: whole.as_slice(),
+            step: 7,
+        };
+        match cut_stream(
+            rt.alloc(),
+            Choice::Share { of: 4, part: 0 },
+            entry,
+            &mut input,
+        ) {
+            Ok(part) => assert!(rt; part.place == wanted),
+            Err(_) => assert!(rt; false),
+        }
+    }
+    Ok(())
+}
+
+// 1,000,001 entries are no part, and one fewer are.
+#[test]
+fn a_part_has_a_million_entries_at_most(rt: HostRuntime) -> Result<(), Fail> {
+    let front = bundle(rt.alloc(), b"history 1\n")?;
+    for (left, wanted) in [(1_000_000u32, None), (1_000_001, Some(1_000_001u64))] {
+        let mut input = Turns {
+            front: front.as_slice(),
+            turn: b"up a = ok\n",
+            left,
+            end: b"end\n",
+            at: 0,
+        };
+        match cut_stream(
+            rt.alloc(),
+            Choice::Share { of: 4, part: 0 },
+            999_999,
+            &mut input,
+        ) {
+            Ok(part) => {
+                assert!(rt; wanted.is_none());
+                assert!(rt; part.entries == 1_000_000);
+                assert!(rt; part.place == Some(999_999));
+            }
+            Err(NoPart::Large { entries, bytes }) => {
+                assert!(rt; wanted == Some(entries));
+                assert!(rt; bytes == (front.len() as u64).saturating_add(10_000_014));
+            }
+            Err(_) => assert!(rt; false),
+        }
+    }
+    Ok(())
+}
+
 // The front has 23 lines, so `history 1` is line 24.
 #[test]
 fn faults_are_at_their_lines(rt: HostRuntime) -> Result<(), Fail> {
@@ -229,7 +321,7 @@ fn a_read_may_fail(rt: HostRuntime) -> Result<(), Fail> {
     let mut input = Fails {
         rest: whole.as_slice(),
     };
-    match cut_stream(rt.alloc(), Choice::Share { of: 4, part: 0 }, &mut input) {
+    match cut_stream(rt.alloc(), Choice::Share { of: 4, part: 0 }, 0, &mut input) {
         Ok(_) => assert!(rt; false),
         Err(found) => assert!(rt; found == NoPart::Refused(Refusal::ReadFailed)),
     }

@@ -1,12 +1,11 @@
-use Rattle.std.proofs.Common.{◌≡◌, ◌∙◌, ◌<◌, ap, arith, get_or, length, refl, sym, subst}
+use Rattle.std.proofs.Common.{◌≡◌, ◌∙◌, ◌<◌, ℕ, Bool, List, ap, arith, get_or, length, refl, sym, subst}
 use Rattle.std.proofs.lemmas.Grind.{get_or_default_zero}
 use Rattle.ring_names.specs.declared.refusal.Refusal.TheVariants.{Mismatch}
 use Rattle.plan_runs.specs.World.{opening_world}
 use Rattle.ring_core.specs.Faults.{IsFirstFault}
-use Rattle.ring_core.specs.Tables.{values_below}
 use Rattle.ring_core.specs.World.{Meets}
-use Rattle.history_parts.specs.Parts.{AreRun, is_marked, part_of}
-use Rattle.history_judge.specs.Judged.{IsPlace, is_share}
+use Rattle.history_parts.specs.Parts.{AreRun, IsPlace, is_marked, part_of}
+use Rattle.history_judge.specs.Judged.{is_share}
 use Rattle.history_judge.proofs.Placing.{fault_within, placed_fault, share_part, share_place, short_part, told_fault}
 use Rattle.history_judge.proofs.Telling.{some_run}
 use Rattle.history_judge.proofs.judging.judge_share.Goals as goal
@@ -18,7 +17,8 @@ pub returns-in-Ok-clause-found : goal.returns-in-Ok-clause-found
 returns-in-Ok-clause-found c =
     let ring = c.args.approved.now.ring in
     let plan = c.args.approved.now.plan in
-    let marks = c.as_slice.ensures.value ∙ (c.in_ok-partitions.ensures ∙ ap (λ n. values_below n (is_share c.args.shares c.args.share)) c.q.ensures.value) in
+    let marks : (p : ℕ) → p < c.ring-ring.result.now.q → is_marked c.as_slice.result.now p ≡ is_share c.args.shares c.args.share p =
+    λ p l. ap (λ (ms : List Bool). is_marked ms p) c.as_slice.ensures.value ∙ c.in_ok-partitions.ensures p (subst (λ (n : ℕ). p < n) (sym c.q.ensures.value) l) in
     let part : c.as_slice-2.result.now ≡ part_of ring (is_share c.args.shares c.args.share) c.args.history.now =
     c.as_slice-2.ensures.value ∙ (c.in_ok-part.ensures.entries ∙ share_part ring c.ring-ring.result.now c.as_slice.result.now c.args.shares c.args.share c.ring-ring.ensures.value marks c.args.history.now) in
     λ j same. subst (λ z. AreRun ring plan (part_of ring (is_share c.args.shares z) c.args.history.now)) (sym same) (subst (AreRun ring plan) part (some_run ring plan (opening_world ring) c.as_slice-2.result.now (Meets c.in-Ok.field-0) c.in-Ok.ensures.ok))
@@ -41,7 +41,8 @@ returns-in-Err-Mismatch-clause-found c =
     let places = c.in_ok-part.part.places.items in
     let place = c.in-Err-Mismatch.place in
     let code = c.in-Err-Mismatch.code in
-    let marks = c.as_slice.ensures.value ∙ (c.in_ok-partitions.ensures ∙ ap (λ n. values_below n (is_share c.args.shares c.args.share)) c.q.ensures.value) in
+    let marks : (p : ℕ) → p < c.ring-ring.result.now.q → is_marked c.as_slice.result.now p ≡ is_share c.args.shares c.args.share p =
+    λ p l. ap (λ (ms : List Bool). is_marked ms p) c.as_slice.ensures.value ∙ c.in_ok-partitions.ensures p (subst (λ (n : ℕ). p < n) (sym c.q.ensures.value) l) in
     let part : items ≡ part_of ring (is_share c.args.shares c.args.share) history =
     c.as_slice-2.ensures.value ∙ (c.in_ok-part.ensures.entries ∙ share_part ring c.ring-ring.result.now c.as_slice.result.now c.args.shares c.args.share c.ring-ring.ensures.value marks history) in
     let fault = told_fault ring plan items c.in-Err-Mismatch.field-0 place code c.in-Err-Mismatch.field-0-is c.in-Err-Mismatch.ensures.err in

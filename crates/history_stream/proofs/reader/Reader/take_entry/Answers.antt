@@ -23,12 +23,12 @@ returns-clause-ok c =
     let old = c.args.self.now in
     let mid = c.if-is_start.self in
     let x = said_of c.in_ok-said.said in
-    let facts : (mid.writers ≡ names_after old.writers x.0) × (mid.cut ≡ old.cut) × (mid.ring.now ≡ old.ring.now) × (mid.part ≡ old.part) = elim c.if-is_start.branch [
-      | then-is_start+else-self w ↦ (ap (λ (r : Reader). r.writers) w.self-is ∙ c.in_ok-entry.ensures.names, ap (λ (r : Reader). r.cut) w.self-is, ap (λ (r : Reader). r.ring.now) w.self-is, ap (λ (r : Reader). r.part) w.self-is)
-      | else-is_start w ↦ (ap (λ (r : Reader). r.writers) w.self-is ∙ c.in_ok-entry.ensures.names, ap (λ (r : Reader). r.cut) w.self-is, ap (λ (r : Reader). r.ring.now) w.self-is, ap (λ (r : Reader). r.part) w.self-is)
+    let facts : (mid.writers ≡ names_after old.writers x.0) × (mid.cut ≡ old.cut) × (mid.ring.now ≡ old.ring.now) × (mid.part ≡ old.part) × (mid.place ≡ old.place) = elim c.if-is_start.branch [
+      | then-is_start+else-self w ↦ (ap (λ (r : Reader). r.writers) w.self-is ∙ c.in_ok-entry.ensures.names, ap (λ (r : Reader). r.cut) w.self-is, ap (λ (r : Reader). r.ring.now) w.self-is, ap (λ (r : Reader). r.part) w.self-is, ap (λ (r : Reader). r.place) w.self-is)
+      | else-is_start w ↦ (ap (λ (r : Reader). r.writers) w.self-is ∙ c.in_ok-entry.ensures.names, ap (λ (r : Reader). r.cut) w.self-is, ap (λ (r : Reader). r.ring.now) w.self-is, ap (λ (r : Reader). r.part) w.self-is, ap (λ (r : Reader). r.place) w.self-is)
     ] in
     on_ok c.keep.result (Keeps mid c.keep.new.self c.in_ok-entry.entry) (TakesEntry old c.keep.new.self c.args.fields.number c.args.fields.fields) c.keep.ensures.ok
     (λ kept ring marks front said so. (
     let read = ap (λ (r : RingValue). said_at r [] old.writers c.args.fields.number c.args.fields.fields) (sym so.ring_is) ∙ sym c.in_ok-said.ensures.value in
-    (x, read, reading_on ring marks front said old mid c.keep.new.self x c.in_ok-entry.entry c.args.fields.number c.args.fields.fields so read c.in_ok-entry.ensures.ok facts.0 facts.1 facts.2 facts.3 kept)
+    (x, read, reading_on ring marks front said old mid c.keep.new.self x c.in_ok-entry.entry c.args.fields.number c.args.fields.fields so read c.in_ok-entry.ensures.ok facts.0 facts.1 facts.2 facts.3 facts.4 kept)
     ))

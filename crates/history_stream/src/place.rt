@@ -1,0 +1,39 @@
+//! The place in the whole of an entry of the part.
+
+ghost use Rattle.std.specs.Prelude.{ℕ, Bool, []};
+ghost use Rattle.ring_table.specs.Value.{RingValue};
+ghost use Rattle.history_stream.specs.Place.{Finds, FindsMore};
+
+/// Which entry of the whole is a wanted entry of the part.
+#[derive(Clone, Copy, Debug)]
+pub struct Place {
+    /// The wanted entry, counted in the part from 0.
+    pub wanted: u32,
+    /// How many entries of the whole were read.
+    pub seen: u64,
+    /// The wanted entry, counted in the whole from 0, if it was read.
+    pub found: Option<u64>,
+}
+
+impl Place {
+    /// Before the first entry.
+    pub fn of(wanted: u32) -> Place
+        ensures { (ring : RingValue) (is_in : ℕ → Bool) → Finds ring is_in [] wanted result }
+    {
+        Place {
+            wanted,
+            seen: 0,
+            found: None,
+        }
+    }
+
+    /// Counts an entry of the whole, before which that many were of the part.
+    pub fn count(&mut self, is_kept: bool, before: u64)
+        ensures { FindsMore self.old self.new is_kept before }
+    {
+        if is_kept && before == u64::from(self.wanted) && self.found.is_none() {
+            self.found = Some(self.seen);
+        }
+        self.seen = self.seen.saturating_add(1);
+    }
+}
