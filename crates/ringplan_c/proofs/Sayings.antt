@@ -9,7 +9,7 @@ use Rattle.ringplan_c.specs.Speaking.{IsTurnedAway, Reports, Says, helped, refus
 use Rattle.ringplan_command.specs.Command.{Answers, Asked, IsRefused, WantsHelp, asked, asks_word, to_make, word_of_making}
 use Rattle.ringplan_command.specs.Files.{IsJob, Names, files_of, no_files}
 use Rattle.ringplan_command.specs.declared.command.Request.{Request}
-use Rattle.ringplan_command.specs.declared.command.Request.TheVariants.{Do, CheckBy, State, StateBy, Judge, StateJudge, Drive, Make, Describe, Help, Refused, Mistaken, OutOfMemory}
+use Rattle.ringplan_command.specs.declared.command.Request.TheVariants.{Do, CheckBy, State, StateBy, Judge, StateJudge, Part, Drive, Make, Describe, Help, Refused, Mistaken, OutOfMemory}
 use Rattle.ringplan_command.specs.declared.word.Word.{Word}
 use Rattle.ringplan_job.specs.declared.making.Making.{Making}
 use Rattle.ringplan_people.proofs.Kept.{weaker}
@@ -23,6 +23,7 @@ IsForPeople (State job) = ⊥
 IsForPeople (StateBy workers) = ⊥
 IsForPeople (Judge shares) = ⊥
 IsForPeople (StateJudge shares) = ⊥
+IsForPeople (Part wish) = ⊥
 IsForPeople (Drive workers form) = ⊥
 IsForPeople (Describe text) = ⊥
 IsForPeople request = ⊤
@@ -37,6 +38,7 @@ for_people word a (State job) task h = let bad = sym (ap (λ (x : Asked). x.task
 for_people word a (StateBy workers) task h = let bad = sym (ap (λ (x : Asked). x.task) h.1) ∙ task in absurd cc
 for_people word a (Judge shares) task h = let bad = sym (ap (λ (x : Asked). x.task) h.2) ∙ task in absurd cc
 for_people word a (StateJudge shares) task h = let bad = sym (ap (λ (x : Asked). x.task) h.2) ∙ task in absurd cc
+for_people word a (Part wish) task h = let bad = sym (ap (λ (x : Asked). x.task) h.1) ∙ task in absurd cc
 for_people word a (Drive workers form) task h = let bad = sym (ap (λ (x : Asked). x.task) h.2) ∙ task in absurd cc
 for_people word a (Describe text) task h = let bad = sym (ap (λ (x : Asked). x.task) h.1) ∙ task in absurd cc
 for_people word a (Make making) task h = tt
@@ -64,6 +66,7 @@ no_other (State job) is make help refuse mistake memory = is
 no_other (StateBy workers) is make help refuse mistake memory = is
 no_other (Judge shares) is make help refuse mistake memory = is
 no_other (StateJudge shares) is make help refuse mistake memory = is
+no_other (Part wish) is make help refuse mistake memory = is
 no_other (Drive workers form) is make help refuse mistake memory = is
 no_other (Describe text) is make help refuse mistake memory = is
 

@@ -1,9 +1,9 @@
 -- What `clap` makes of the program's command lines.
-use Rattle.std.proofs.Common.{◌≡◌, ◌≢◌, ◌⊎◌, ℕ, [], ◌∷◌, List, Result, Ok, Err, Option, Some, None, IfOk, true, false, codes, option_map, refl, sym, ap, ◌∙◌, subst, drop, inl, inr}
+use Rattle.std.proofs.Common.{◌≡◌, ◌≢◌, ◌⊎◌, MatchOption, ℕ, [], ◌∷◌, List, Result, Ok, Err, Option, Some, None, IfOk, true, false, codes, option_map, refl, sym, ap, ◌∙◌, subst, drop, inl, inr}
 use Rattle.std.specs.Str.{bytes_eq}
 use Rattle.std.specs.Str.Parse.{ParsesUnsigned}
 use Rattle.std.specs.Global.{Vec}
-use Rattle.clap.specs.Words.{App, FailsBy, IsAmong, Kinds, Row, TriesOne, fault_of, is_simple, is_simple_and_free, built, first_of, one_of, subcommand_of, subcommand_rows_of, HasMatchesOf}
+use Rattle.clap.specs.Words.{App, FailsBy, IsAmong, Kinds, Row, TriesOne, fault_of, is_simple, is_simple_and_free, built, first_of, first_value, one_of, one_text, rows_of, subcommand_of, subcommand_rows_of, HasMatchesOf}
 use Rattle.clap.specs.Simple.{names_of, entered}
 use Rattle.clap.specs.Walk.{stop_after}
 use Rattle.clap.specs.Faults.{built_fault}
@@ -13,6 +13,8 @@ use Rattle.clap.specs.declared.error.kind.ErrorKind.{ErrorKind}
 use Rattle.clap.specs.declared.error.kind.ErrorKind.TheVariants.{DisplayHelp, DisplayVersion}
 use Rattle.clap.specs.declared.error.kind.ErrorKind.TheVariants as kind
 use Rattle.clap.specs.declared.parser.matches.ArgMatches.{ArgMatches}
+use Rattle.clap.specs.declared.parser.matches.Found.{Found}
+use Rattle.clap.proofs.WalkLemmas.{first_value-rows, one_text-rows}
 use Rattle.clap.proofs.OnLiterals.{clap_on_literals}
 use Rattle.ring_names.proofs.AtBytes.{same_bytes}
 use Rattle.ringplan_command.specs.Tree.{ringplan, word_of}
@@ -22,11 +24,15 @@ use Rattle.ringplan_command.specs.declared.word.Word.{Word}
 use Rattle.ringplan_command.specs.declared.command.Format.{Format}
 use Rattle.ringplan_command.specs.declared.command.Format.TheVariants as form
 use Rattle.ringplan_command.specs.declared.command.Request.{Request}
-use Rattle.ringplan_command.specs.declared.command.Request.TheVariants.{Do, CheckBy, State, StateBy, Judge, StateJudge, Drive, Make, Describe, Help, Refused, Mistaken, OutOfMemory}
+use Rattle.ringplan_command.specs.declared.command.Request.TheVariants.{Do, CheckBy, State, StateBy, Judge, StateJudge, Part, Drive, Make, Describe, Help, Refused, Mistaken, OutOfMemory}
 use Rattle.ringplan_job.specs.declared.job.Job.{Job}
 use Rattle.ringplan_job.specs.declared.job.Job.TheVariants.{Check, Migrate, Plan, Play, Replay}
-use Rattle.ringplan_command.specs.Command.{Answers, Asked, HasNoFormat, HasNoNumber, IsMistaken, IsRefused, AsksGuide, AsksWord, IsInFormat, IsOfGuide, IsOfWord, IsTurnedAway, MeansFormat, TakesValues, WantsHelp}
-use Rattle.ringplan_command.specs.Command.{Task, asked, asked_by, asks_word, but_text, by_drive, by_judge, by_workers, format_named, in_json, only, option_named, json_named, task_named, to_describe, to_do, to_drive, to_judge, to_make, word_of_making}
+use Rattle.ringplan_command.specs.Command.{Answers, Asked, HasNoFormat, IsMistaken, IsRefused, AsksGuide, AsksWord, IsInFormat, IsOfGuide, IsOfWord, IsTurnedAway, MeansFormat, TakesValues, WantsHelp}
+use Rattle.ringplan_command.specs.Command.{Task, asked, asked_by, asks_word, but_text, by_drive, by_judge, by_workers, format_named, in_json, only, option_named, part_texts, json_named, task_named, to_describe, to_do, to_drive, to_judge, to_make, to_part, word_of_making, asks_just}
+use Rattle.ringplan_command.specs.Parts.{IsShare, MeansChoice, PartTexts, texts_in}
+use Rattle.history_parts.specs.declared.choice.Choice.{Choice}
+use Rattle.history_parts.specs.declared.choice.Choice.TheVariants.{Range, Share}
+use Rattle.ringplan_command.specs.Numbers.{HasNoNumber}
 
 is_free : is_simple_and_free ringplan ≡ true
 unfolding clap_on_literals
@@ -187,6 +193,7 @@ turned_away asked (State _) h is = absurd is
 turned_away asked (StateBy _) h is = absurd is
 turned_away asked (Judge _) h is = absurd is
 turned_away asked (StateJudge _) h is = absurd is
+turned_away asked (Part _) h is = absurd is
 turned_away asked (Drive _ _) h is = absurd is
 turned_away asked (Make _) h is = absurd is
 turned_away asked (Describe _) h is = absurd is
@@ -227,6 +234,7 @@ of_word asked w (Ok (State _)) e h = absurd h
 of_word asked w (Ok (StateBy _)) e h = absurd h
 of_word asked w (Ok (Judge _)) e h = absurd h
 of_word asked w (Ok (StateJudge _)) e h = absurd h
+of_word asked w (Ok (Part _)) e h = absurd h
 of_word asked w (Ok (Drive _ _)) e h = absurd h
 of_word asked w (Ok (Describe _)) e h = absurd h
 of_word asked w (Ok (Help _)) e h = absurd h
@@ -249,6 +257,7 @@ of_guide asked guide (Ok (State _)) e h = absurd h
 of_guide asked guide (Ok (StateBy _)) e h = absurd h
 of_guide asked guide (Ok (Judge _)) e h = absurd h
 of_guide asked guide (Ok (StateJudge _)) e h = absurd h
+of_guide asked guide (Ok (Part _)) e h = absurd h
 of_guide asked guide (Ok (Drive _ _)) e h = absurd h
 of_guide asked guide (Ok (Help _)) e h = absurd h
 of_guide asked guide (Ok (Refused _)) e h = absurd h
@@ -258,6 +267,30 @@ of_guide asked guide (Err x) e h = tt
 -- the words of a subcommand for a text about the program ask for that
 pub guide_asked : (sub : Option (List ℕ × List Row)) (guide : Guide) → task_named sub ≡ to_describe guide → AsksGuide (asked_by [] sub) guide
 guide_asked sub guide is = rw is refl
+
+-- ---- parts
+
+-- a share is meant where no range is named, or none is
+pub share_means : (t : PartTexts) (o : Option Choice) → t.partitions ≡ None
+    → MatchOption o ((of part : ℕ) → IsShare t.of t.part of part → ⊥) (λ choice. (of : ℕ) × (part : ℕ) × (choice ≡ Share of part) × IsShare t.of t.part of part)
+    → MatchOption o ((choice : Choice) → MeansChoice t choice → ⊥) (λ choice. MeansChoice t choice)
+share_means t (Some x) none (of, part, is, share) = subst (λ (choice : Choice). MeansChoice t choice) (sym is) (share, none)
+share_means t None none bad = by
+  where
+    by : (choice : Choice) → MeansChoice t choice → ⊥
+    by (Share of part) means = bad of part means.0
+    by (Range first last) means = let worse : Some means.0 ≡ None = sym means.1 ∙ none in absurd cc
+
+-- what was found are the subcommand's texts
+pub texts_same : (sub : Option (List ℕ × List Row)) (found : Found) → Some (rows_of found) ≡ option_map (λ p. p.1) sub → texts_in found ≡ part_texts sub
+texts_same sub found rows =
+    let one : (id : List ℕ) → one_text found id ≡ option_named id sub = λ id. one_text-rows found id ∙ sym (named_there sub (rows_of found) id rows) in
+    let first : (id : List ℕ) → first_value found id ≡ text_named id sub = λ id. first_value-rows found id ∙ sym (text_there sub (rows_of found) id rows) in
+    λ i. record { of = one (codes "of") i; part = one (codes "part") i; partitions = first (codes "partitions") i; map = one (codes "map") i }
+
+-- the words of `part` ask for that
+pub part_asked : (sub : Option (List ℕ × List Row)) → task_named sub ≡ to_part (part_texts sub) → asked_by [] sub ≡ asks_just (to_part (part_texts sub))
+part_asked sub is = rw is refl
 
 -- a line that is turned away asks for no job
 pub no_job : (r : Request) → IsTurnedAway r → IsJob r → ⊥
@@ -269,6 +302,7 @@ no_job (State _) is job = is
 no_job (StateBy _) is job = is
 no_job (Judge _) is job = is
 no_job (StateJudge _) is job = is
+no_job (Part _) is job = is
 no_job (Drive _ _) is job = is
 no_job (Make _) is job = is
 no_job (Describe _) is job = is
@@ -287,6 +321,7 @@ job_asked job asked (State other) e h = let none : Some (codes "json") ≡ None 
 job_asked job asked (StateBy k) e (text, is, h) = let none : Some (codes "json") ≡ None = ap (λ x. x.json) (sym is ∙ e) in absurd cc
 job_asked job asked (Judge how) e (parts, workers, is, h) = let task : to_judge ≡ to_do job = ap (λ x. x.task) (sym is ∙ e) in absurd cc
 job_asked job asked (StateJudge how) e (parts, workers, is, h) = let task : to_judge ≡ to_do job = ap (λ x. x.task) (sym is ∙ e) in absurd cc
+job_asked job asked (Part wish) e (texts, is, h) = let task : to_part texts ≡ to_do job = ap (λ x. x.task) (sym is ∙ e) in absurd cc
 job_asked job asked (Drive k form) e h =
     let same : by_drive h.0 h.1 ≡ only job = sym h.2 ∙ e in
     let task : to_drive ≡ to_do job = ap (λ x. x.task) same in

@@ -2,13 +2,15 @@
 use Rattle.std.specs.Prelude.{◌≡◌, ◌≢◌, ◌⊎◌, ℕ, ◌≤◌, Bool, false, List, Option, Some, None, [], codes, ⊤, if◌then◌else◌, option_and_then}
 use Rattle.std.specs.Option.{option_map_or}
 use Rattle.std.specs.Str.{bytes_eq}
-use Rattle.std.specs.Str.Parse.{IsNumeral, digits_value, without_leading_plus}
 use Rattle.clap.specs.Words.{IsAmong, Kinds, Row, fault_of, first_of, one_of, subcommand_of}
 use Rattle.clap.specs.declared.error.kind.ErrorKind.{ErrorKind}
 use Rattle.clap.specs.declared.error.kind.ErrorKind.TheVariants.{DisplayHelp, DisplayVersion}
-use Rattle.ringplan_command.specs.Tree.{drive_word, judge_word, ringplan, word_of}
+use Rattle.ringplan_command.specs.Files.{text_named}
+use Rattle.ringplan_command.specs.Numbers.{HasNoNumber, IsNumberTo}
+use Rattle.ringplan_command.specs.Parts.{MeansPart, PartTexts}
+use Rattle.ringplan_command.specs.Tree.{drive_word, judge_word, part_word, ringplan, word_of}
 use Rattle.ringplan_command.specs.declared.command.Request.{Request}
-use Rattle.ringplan_command.specs.declared.command.Request.TheVariants.{Do, CheckBy, State, StateBy, Judge, StateJudge, Drive, Make, Describe, Help, Refused, Mistaken, OutOfMemory}
+use Rattle.ringplan_command.specs.declared.command.Request.TheVariants.{Do, CheckBy, State, StateBy, Judge, StateJudge, Part, Drive, Make, Describe, Help, Refused, Mistaken, OutOfMemory}
 use Rattle.ringplan_command.specs.declared.word.Guide.{Guide}
 use Rattle.ringplan_command.specs.declared.word.Guide.TheVariants.{Completions, Manual}
 use Rattle.ringplan_command.specs.declared.word.Word.{Word}
@@ -17,9 +19,8 @@ use Rattle.ringplan_job.specs.declared.making.Making.{Making}
 use Rattle.ringplan_job.specs.declared.making.Making.TheVariants.{Why, Bundle, Cert, After, Show, Draw, Steps, Moves, Windows, Goal, Even, Around, State as StateMaking}
 use Rattle.ringplan_job.specs.declared.making.Statement.{Statement}
 use Rattle.ringplan_job.specs.declared.making.Statement.TheVariants as stated
-use Rattle.ringplan_command.specs.declared.counts.Count.{Count}
-use Rattle.ringplan_command.specs.declared.counts.Count.TheVariants.{Unnamed, Many, NoNumber}
 use Rattle.ringplan_command.specs.declared.counts.Shares.{Shares}
+use Rattle.ringplan_command.specs.declared.parts.PartWish.{PartWish}
 use Rattle.ringplan_command.specs.declared.command.Format.{Format}
 use Rattle.ringplan_command.specs.declared.command.Format.TheVariants as format
 use Rattle.ringplan_command.specs.declared.form.Form.{Form}
@@ -49,10 +50,11 @@ word_of_making Bundle = people.Bundle
 word_of_making Cert = people.Cert
 word_of_making After = people.After
 
--- what is to be done: a job, a judge, a drive, what a command for people makes, or a text about the program
+-- what is to be done: a job, a judge, a part, a drive, what a command for people makes, or a text about the program
 pub data Task : Type 0 where
   to_do : Job → Task
   to_judge : Task
+  to_part : PartTexts → Task
   to_drive : Task
   to_make : Word → Task
   to_describe : Guide → Task
@@ -93,14 +95,23 @@ word_named subcommand = if is_word (codes "why") subcommand then Some people.Why
 abbrev pub guide_named : Option (List ℕ × List Row) → Option Guide
 guide_named subcommand = if is_word (codes "completions") subcommand then Some Completions else (if is_word (codes "man") subcommand then Some Manual else None)
 
--- what it asks to be done
-abbrev pub task_named : Option (List ℕ × List Row) → Task
-task_named subcommand = if is_word drive_word subcommand then to_drive else (if is_word judge_word subcommand then to_judge
-    else option_map_or to_describe (guide_named subcommand) (option_map_or to_make (word_named subcommand) (to_do (job_named subcommand))))
-
 -- the text that the subcommand has for an option
 abbrev pub option_named : List ℕ → Option (List ℕ × List Row) → Option (List ℕ)
 option_named id subcommand = option_and_then (λ x. one_of id x.1) subcommand
+
+-- the texts by which it says which part it asks for
+abbrev pub part_texts : Option (List ℕ × List Row) → PartTexts
+part_texts subcommand = record {
+  of = option_named (codes "of") subcommand;
+  part = option_named (codes "part") subcommand;
+  partitions = text_named (codes "partitions") subcommand;
+  map = option_named (codes "map") subcommand;
+}
+
+-- what it asks to be done
+abbrev pub task_named : Option (List ℕ × List Row) → Task
+task_named subcommand = if is_word drive_word subcommand then to_drive else (if is_word judge_word subcommand then to_judge else (if is_word part_word subcommand then to_part (part_texts subcommand)
+    else option_map_or to_describe (guide_named subcommand) (option_map_or to_make (word_named subcommand) (to_do (job_named subcommand)))))
 
 -- the text of the workers; but for `check`, `judge` and `drive`, no subcommand names them
 abbrev pub workers_named : Task → Option (List ℕ × List Row) → Option (List ℕ)
@@ -159,10 +170,6 @@ by_judge parts workers = record { faults = []; task = to_judge; workers = worker
 abbrev pub by_drive : Option (List ℕ) → Option (List ℕ) → Asked
 by_drive workers json = record { faults = []; task = to_drive; workers = workers; parts = None; json = json }
 
--- the text is k in decimal digits, perhaps behind a plus, and k is from 1 to so many
-abbrev pub IsNumberTo : ℕ → List ℕ → ℕ → Type 0
-IsNumberTo most text k = IsNumeral 10 (without_leading_plus text) × (digits_value 10 (without_leading_plus text) ≡ k) × (1 ≤ k) × (k ≤ most)
-
 abbrev pub IsWorkers : List ℕ → ℕ → Type 0
 IsWorkers text k = IsNumberTo 64 text k
 
@@ -220,10 +227,6 @@ WantsHelp kinds = IsAmong DisplayHelp kinds ⊎ IsAmong DisplayVersion kinds
 abbrev pub IsMistaken : Kinds → Type 0
 IsMistaken kinds = (k : ErrorKind) × (k ≢ DisplayHelp) × (k ≢ DisplayVersion) × IsAmong k kinds
 
--- what is named is no number from 1 to so many
-abbrev pub HasNoNumber : ℕ → Option (List ℕ) → Type 0
-HasNoNumber most named = (text : List ℕ) × (named ≡ Some text) × ((k : ℕ) → IsNumberTo most text k → ⊥)
-
 -- a form of answers is named that there is not; that of a drive is another one
 abbrev pub HasNoFormat : Asked → Type 0
 HasNoFormat asked = (text : List ℕ) × (asked.json ≡ Some text) × (text ≢ codes "json") × (asked.task ≢ to_drive)
@@ -233,12 +236,6 @@ abbrev pub MeansFormat : Option (List ℕ) → Format → Type 0
 MeansFormat json format.Text = json ≡ None
 MeansFormat json format.Json = json ≡ Some (codes "json")
 MeansFormat json format.Unknown = (text : List ℕ) × (json ≡ Some text) × (text ≢ codes "json")
-
--- what was read of the text of a number from 1 to so many
-abbrev pub MeansCount : ℕ → Option (List ℕ) → Count → Type 0
-MeansCount most named Unnamed = named ≡ None
-MeansCount most named (Many k) = (text : List ℕ) × (named ≡ Some text) × IsNumberTo most text k
-MeansCount most named NoNumber = HasNoNumber most named
 
 -- what was read of the texts of parts and workers
 abbrev pub MeansShares : Option (List ℕ) → Option (List ℕ) → Option Shares → Type 0
@@ -261,13 +258,18 @@ AsksWord asked w = asked ≡ asks_word w
 abbrev pub AsksGuide : Asked → Guide → Type 0
 AsksGuide asked guide = asked ≡ asks_just (to_describe guide)
 
--- the subcommand has an argument with a value that may be refused beside the words of the line
+-- what is asked is that part
+abbrev pub AsksPart : Asked → PartWish → Type 0
+AsksPart asked wish = (texts : PartTexts) × (asked ≡ asks_just (to_part texts)) × MeansPart texts wish
+
+-- the subcommand has an argument with a value that may be refused beside the words of the line; of a part its words mean none
 abbrev pub TakesValues : Task → Type 0
 TakesValues (to_make people.Why) = ⊤
 TakesValues (to_make people.Show) = ⊤
 TakesValues (to_make people.Draw) = ⊤
 TakesValues (to_make people.Goal) = ⊤
 TakesValues (to_describe Completions) = ⊤
+TakesValues (to_part texts) = (wish : PartWish) → MeansPart texts wish → ⊥
 TakesValues task = ⊥
 
 -- the line is refused: for its words, for its workers or parts, for the form of its answer, or for such a value
@@ -282,6 +284,7 @@ Answers asked (State job) = asked ≡ in_json (only job)
 Answers asked (StateBy workers) = AsksJsonBy asked workers
 Answers asked (Judge shares) = AsksJudge asked shares.parts shares.workers
 Answers asked (StateJudge shares) = AsksJsonJudge asked shares.parts shares.workers
+Answers asked (Part wish) = AsksPart asked wish
 Answers asked (Drive workers form) = AsksDrive asked workers form
 Answers asked (Make making) = AsksWord asked (word_of_making making)
 Answers asked (Describe text) = (guide : Guide) × AsksGuide asked guide

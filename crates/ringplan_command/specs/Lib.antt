@@ -1,3 +1,5 @@
 pub mod Command
 pub mod Files
 pub mod Tree
+pub mod Numbers
+pub mod Parts

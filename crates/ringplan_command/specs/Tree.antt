@@ -24,6 +24,10 @@ drive_word = codes "drive"
 abbrev pub judge_word : List ℕ
 judge_word = codes "judge"
 
+-- the word that asks for a part
+abbrev pub part_word : List ℕ
+part_word = codes "part"
+
 -- the command is read by these rules, none of which goes for its subcommands too
 abbrev pub IsApp : App → Command → Type 0
 IsApp app command = (app_of command ≡ app) × ((out-Command command).has_globals ≡ false)
@@ -40,21 +44,21 @@ text_option word = record (new_rule word) { long = Some word; value_names = 1 }
 abbrev pub list_option : List ℕ → Rule
 list_option word = record (text_option word) { action = Some Append }
 
--- `--parts K`, with K from 1 to 4,096
+-- an option with a number from the one to the other
+abbrev pub number_option : List ℕ → ℕ → ℕ → Rule
+number_option word least most = record (text_option word) { parser = Some (parser.Signed (pos least) (pos most)) }
+
 abbrev pub parts_option : Rule
-parts_option = record (text_option (codes "parts")) { parser = Some (parser.Signed (pos 1) (pos 4096)) }
+parts_option = number_option (codes "parts") 1 4096
 
--- `--workers`, with a number from 1 to 64
 abbrev pub workers_option : Rule
-workers_option = record (text_option (codes "workers")) { parser = Some (parser.Signed (pos 1) (pos 64)) }
+workers_option = number_option (codes "workers") 1 64
 
--- an option with a number from 1 to 1,000,000
 abbrev pub cut_option : List ℕ → Rule
-cut_option word = record (text_option word) { parser = Some (parser.Signed (pos 1) (pos 1000000)) }
+cut_option word = number_option word 1 1000000
 
--- `--rate N`, with N from 1 to 4,294,967,295
 abbrev pub rate_option : Rule
-rate_option = record (text_option (codes "rate")) { parser = Some (parser.Signed (pos 1) (pos 4294967295)) }
+rate_option = number_option (codes "rate") 1 4294967295
 
 -- the file that is read
 abbrev pub file_argument : Rule
@@ -87,6 +91,10 @@ replay_app = with_rule (job_app (codes "replay")) (text_option (codes "format"))
 
 abbrev pub judge_app : App
 judge_app = with_rule (with_rule (with_rule (job_app judge_word) parts_option) workers_option) (text_option (codes "format"))
+
+abbrev pub part_app : App
+part_app = with_rule (with_rule (with_rule (with_rule (job_app part_word) (number_option (codes "of") 1 4096)) (number_option (codes "part") 0 4095)) (text_option (codes "partitions")))
+    (number_option (codes "map") 0 999999)
 
 abbrev pub drive_app : App
 drive_app = with_rule (with_rule (job_app drive_word) workers_option) (flag_option (codes "json"))
@@ -135,7 +143,7 @@ abbrev pub first_commands : App
 first_commands = with (with (with (with (with (with (with (with top_app goal_app) around_app) show_app) draw_app) check_app) why_app) steps_app) windows_app
 
 abbrev pub bundle_commands : App
-bundle_commands = with (with (with (with (with (with (with (with (with first_commands drive_app) (job_app (codes "play"))) replay_app) judge_app) (job_app (codes "after")))
+bundle_commands = with (with (with (with (with (with (with (with (with (with first_commands drive_app) (job_app (codes "play"))) replay_app) judge_app) part_app) (job_app (codes "after")))
     (job_app (codes "bundle"))) (job_app (codes "cert"))) (job_app (codes "plan"))) (job_app (codes "migrate"))
 
 abbrev pub ringplan : App

@@ -3,7 +3,7 @@
 ghost use Rattle.std.specs.Prelude.{◌≡◌, ◌⊎◌, ◌↔◌, ◌∷◌, [], IfOk, IsTrue, codes, drop, map};
 ghost use Rattle.clap.specs.Words.{first_value, found_of, one_text, subcommand_rows_of};
 ghost use Rattle.ringplan_command.specs.Command.{Answers, Asked, word_of_making, IsForm, IsInFormat, asked, asked_by, job_named, task_named};
-ghost use Rattle.ringplan_command.specs.Command.{IsTurnedAway, MeansFormat, but_text, to_describe, to_do, to_drive, to_judge, to_make};
+ghost use Rattle.ringplan_command.specs.Command.{IsTurnedAway, MeansFormat, but_text, part_texts, to_describe, to_do, to_drive, to_judge, to_make, to_part};
 ghost use Rattle.ringplan_command.specs.Tree.{word_of};
 ghost use Rattle.ringplan_command.specs.Files.{IsJob, files_in, files_named, files_of, no_files};
 ghost use Rattle.ringplan_job.specs.declared.job.Job.{Job};
@@ -12,8 +12,9 @@ use crate::counts::{Count, MOST_WORKERS, Shares, count_of, shares_of};
 use crate::files::Files;
 use crate::form::Form;
 use crate::guides::write_guide;
-use crate::help::{NO_FORMAT, NO_SHARES, NO_WORKERS};
+use crate::help::{NO_FORMAT, NO_PART, NO_SHARES, NO_WORKERS};
 use crate::line::make_line;
+use crate::parts::{PartWish, part_of};
 use crate::tree::command;
 use crate::word::{Guide, Word, guide_of, is_for_people, people_word};
 use clap::error::ErrorKind;
@@ -44,6 +45,8 @@ pub enum Request {
     Judge(Shares),
     /// To judge a bundle's history part by part, and to print the answer as JSON.
     StateJudge(Shares),
+    /// To cut a bundle's history, of any length, to a part.
+    Part(PartWish),
     /// To run a bundle's plan by that many workers, 1 to 64, with a client for each script, and to print its outcome in that form.
     Drive(u32, Form),
     /// To make something of a bundle for people.
@@ -89,7 +92,7 @@ impl Request {
         match self {
             Request::Do(_) | Request::CheckBy(_) | Request::Drive(_, _) => true,
             Request::State(_) | Request::StateBy(_) => true,
-            Request::Judge(_) | Request::StateJudge(_) => true,
+            Request::Judge(_) | Request::StateJudge(_) | Request::Part(_) => true,
             Request::Make(_) | Request::Describe(_) => true,
             Request::Help(_) | Request::Refused(_) | Request::Mistaken(_) | Request::OutOfMemory =>
                 false,
@@ -177,6 +180,9 @@ fn request_of(alloc: Global, matches: &ArgMatches) -> Result<Request, AllocError
     if matches.subcommand_matches("judge").is_some() {
         return judge_line(alloc, matches);
     }
+    if matches.subcommand_matches("part").is_some() {
+        return part_line(alloc, matches);
+    }
     if let Some(guide) = guide_of(matches) {
         return guide_line(alloc, matches, guide);
     }
@@ -199,7 +205,7 @@ fn check_line(alloc: Global, matches: &ArgMatches) -> Result<Request, AllocError
         return Ok(Request::Do(Job::Check));
     };
     let format = format_of(options);
-    match count_of(options, "workers", MOST_WORKERS) {
+    match count_of(options, "workers", 1, MOST_WORKERS) {
         Count::Unnamed => in_format(
             alloc,
             format,
@@ -253,6 +259,23 @@ fn judge_line(alloc: Global, matches: &ArgMatches) -> Result<Request, AllocError
     }
 }
 
+// What a line that asks for a part asks for.
+fn part_line(alloc: Global, matches: &ArgMatches) -> Result<Request, AllocError>
+    requires { task_named (subcommand_rows_of matches.now) ≡ to_part (part_texts (subcommand_rows_of matches.now)) }
+    ensures { IfOk result (Answers (asked_by [] (subcommand_rows_of matches.now))) }
+{
+    let Some((_, options)) = matches.subcommand() else {
+        unreachable!()
+    };
+    match part_of(options) {
+        Some(wish) => Ok(Request::Part(wish)),
+        None => {
+            let text = Vec::from_slice(alloc, NO_PART)?;
+            Ok(Request::Mistaken(text))
+        }
+    }
+}
+
 // What a line that asks for a drive asks for, by the workers and the form that it names.
 fn drive_line(alloc: Global, matches: &ArgMatches) -> Result<Request, AllocError>
     requires { task_named (subcommand_rows_of matches.now) ≡ to_drive }
@@ -262,7 +285,7 @@ fn drive_line(alloc: Global, matches: &ArgMatches) -> Result<Request, AllocError
         unreachable!()
     };
     let form = form_of(options);
-    match count_of(options, "workers", MOST_WORKERS) {
+    match count_of(options, "workers", 1, MOST_WORKERS) {
         Count::Unnamed => Ok(Request::Drive(1, form)),
         Count::Many(workers) => Ok(Request::Drive(workers, form)),
         Count::NoNumber => refused_line(alloc, NO_WORKERS),

@@ -2,12 +2,13 @@
 
 ghost use Rattle.std.specs.Prelude.{codes};
 ghost use Rattle.clap.specs.Words.{found_of, one_text};
-ghost use Rattle.ringplan_command.specs.Command.{MeansCount, MeansShares};
+ghost use Rattle.ringplan_command.specs.Command.{MeansShares};
+ghost use Rattle.ringplan_command.specs.Numbers.{MeansCount};
 
 use clap::ArgMatches;
 
-// The most parts in which a history is judged.
-const MOST_PARTS: u32 = 4_096;
+/// The most parts of a history that there may be.
+pub(crate) const MOST_PARTS: u32 = 4_096;
 
 /// The most workers that there may be.
 pub(crate) const MOST_WORKERS: u32 = 64;
@@ -21,7 +22,7 @@ pub struct Shares {
     pub workers: u32,
 }
 
-/// What is said of a number: nothing, which it is, or what is none from 1 to the most that may be.
+/// What is said of a number: nothing, which it is, or what is none from the least to the most that may be.
 #[derive(Clone, Copy)]
 pub(crate) enum Count {
     Unnamed,
@@ -30,13 +31,13 @@ pub(crate) enum Count {
 }
 
 /// The number that is named so.
-pub(crate) fn count_of(options: &ArgMatches, word: &str, most: u32) -> Count
-    ensures { MeansCount most (one_text (found_of options.now) word.now) result }
+pub(crate) fn count_of(options: &ArgMatches, word: &str, least: u32, most: u32) -> Count
+    ensures { MeansCount least most (one_text (found_of options.now) word.now) result }
 {
     match options.try_get_one::<u32>(word) {
         Ok(None) => Count::Unnamed,
         Ok(Some(number)) => {
-            if number < 1 {
+            if number < least {
                 return Count::NoNumber;
             }
             if number > most {
@@ -52,12 +53,12 @@ pub(crate) fn count_of(options: &ArgMatches, word: &str, most: u32) -> Count
 pub(crate) fn shares_of(options: &ArgMatches) -> Option<Shares>
     ensures { MeansShares (one_text (found_of options.now) (codes "parts")) (one_text (found_of options.now) (codes "workers")) result }
 {
-    let workers = match count_of(options, "workers", MOST_WORKERS) {
+    let workers = match count_of(options, "workers", 1, MOST_WORKERS) {
         Count::Unnamed => 1,
         Count::Many(workers) => workers,
         Count::NoNumber => return None,
     };
-    match count_of(options, "parts", MOST_PARTS) {
+    match count_of(options, "parts", 1, MOST_PARTS) {
         Count::Unnamed => Some(Shares {
             parts: workers,
             workers,

@@ -62,6 +62,20 @@ pub(crate) const PARTS: &str =
 pub(crate) const JUDGES: &str =
     "Judges by W threads, 1 to 64, each of which has one part in memory at a time; without it by one";
 
+pub(crate) const PART: &str =
+    "Prints the bundle of what some partitions see of a history, which may have any number of entries";
+
+pub(crate) const OF: &str =
+    "Cuts for K parts, 1 to 4096, with --part: partition p is of part p modulo K";
+
+pub(crate) const PART_NUMBER: &str = "Prints part I of those, 0 to K-1";
+
+pub(crate) const PARTITIONS: &str =
+    "Prints what the partitions from A to B see, both counted, in place of --of and --part";
+
+pub(crate) const ENTRY: &str =
+    "Prints which entry of the whole history is entry N of the part, both counted from 0, in place of the part";
+
 pub(crate) const PLAN: &str =
     "Prints a plan for a change, with its certificate, without regard to racks, weights and dead nodes";
 
@@ -143,6 +157,9 @@ pub(crate) const NO_WORKERS: &[u8; 105] =
 
 pub(crate) const NO_SHARES: &[u8; 141] =
     b"error: invalid value for '--parts <K>' or '--workers <W>': not a number from 1 to 4096, or from 1 to 64\n\nFor more information, try '--help'.\n";
+
+pub(crate) const NO_PART: &[u8; 153] =
+    b"error: a part is named by '--of <K>' and '--part <I>' with I below K, or by '--partitions <A-B>' with A not above B\n\nFor more information, try '--help'.\n";
 
 pub(crate) const NO_WEIGHT: &[u8; 127] =
     b"error: invalid value for '--weight <NODE=K>': not a name, '=' and a number from 1 to 1000\n\nFor more information, try '--help'.\n";
@@ -249,6 +266,17 @@ Exit status:
   1  the plan is refused, or the history is no run of it (`no 70`)
   2  a text or the command line is refused
   3  out of memory (at an entry too), or an input or output failed";
+
+pub(crate) const PART_STREAMS: &str = "\
+Example: ringplan part --of 64 --part 7 history.bundle | ringplan replay
+
+Input: the texts of a ring, a plan, its certificate and a history of any length, read to its end before anything is printed.
+Standard output: the same ring, plan and certificate, and of the history all steps and what nodes do, and of the puts, gets, hints and handoffs
+those of the chosen partitions, with puts and gets numbered anew. A history is a run of the plan exactly if each of its parts is. With `--map` one
+number in place of that: the least of these for the faults of all parts is the fault of the whole. Standard error: why nothing is printed, such as a
+part of more than 1,000,000 entries or 67,108,864 bytes, with the number of parts that may do.
+
+Exit status: 0 printed, 2 a text or the command line is refused, or the part is too large or has no entry N, 3 memory, input or output";
 
 pub(crate) const MIGRATE_STREAMS: &str = "\
 Example: ringplan migrate examples/move_one_slot.bundle

@@ -1,20 +1,20 @@
 //! The commands and options that there are.
 
-ghost use Rattle.std.specs.Prelude.{◌≡◌, false, IfOk};
+ghost use Rattle.std.specs.Prelude.{◌≡◌, false, codes, IfOk};
 ghost use Rattle.clap.specs.Words.{App, rule_of, with_rule, with_subcommand};
 ghost use Rattle.ringplan_command.specs.Tree.{IsApp, cut_option, draw_app, drive_app, flag_option, goal_app, job_app, ringplan, show_app};
 ghost use Rattle.ringplan_command.specs.Tree.{around_app, check_app, file_argument, output_option, rate_option, steps_app, text_option, top_app};
-ghost use Rattle.ringplan_command.specs.Tree.{completions_app, guide_app, judge_app, nodes_app, parts_option, replay_app, shell_argument, why_app, windows_app, words_app, workers_option};
+ghost use Rattle.ringplan_command.specs.Tree.{completions_app, guide_app, judge_app, nodes_app, number_option, part_app, parts_option, replay_app, shell_argument, why_app, windows_app, words_app, workers_option};
 
 use crate::help::{
     ABOUT, AFTER, AFTER_STREAMS, ALL, AROUND, AROUND_STREAMS, BACK, BUNDLE, BUNDLE_STREAMS, CERT,
     CERT_STREAMS, CHECK, CHECK_STREAMS, COLOR, COMPLETIONS, COMPLETIONS_STREAMS, DEAD, DRAW,
-    DRAW_STREAMS, DRIVE, DRIVE_STREAMS, DRIVERS, EVEN, EXIT_CODE, FILE, FORMAT, GOAL, GOAL_STREAMS,
-    GONE, JSON, JUDGE, JUDGE_STREAMS, JUDGES, MANUAL, MANUAL_STREAMS, MAP, MIGRATE,
-    MIGRATE_STREAMS, MORE, MOVED_SIZES, MOVES, ONLY, OUTPUT, PARTS, PLAN, PLAN_STREAMS, PLAY,
-    PLAY_STREAMS, RACK_COLUMNS, RACKS, RACKS_APART, RATE, REPLAY, REPLAY_STREAMS, ROUNDS, SHELL,
-    SHOW, SHOW_STREAMS, SIZES, STEPS, STEPS_STREAMS, STREAMS, VERSION, WEIGHT, WHY, WHY_STREAMS,
-    WINDOWS, WINDOWS_STREAMS, WORKERS,
+    DRAW_STREAMS, DRIVE, DRIVE_STREAMS, DRIVERS, ENTRY, EVEN, EXIT_CODE, FILE, FORMAT, GOAL,
+    GOAL_STREAMS, GONE, JSON, JUDGE, JUDGE_STREAMS, JUDGES, MANUAL, MANUAL_STREAMS, MAP, MIGRATE,
+    MIGRATE_STREAMS, MORE, MOVED_SIZES, MOVES, OF, ONLY, OUTPUT, PART, PART_NUMBER, PART_STREAMS,
+    PARTITIONS, PARTS, PLAN, PLAN_STREAMS, PLAY, PLAY_STREAMS, RACK_COLUMNS, RACKS, RACKS_APART,
+    RATE, REPLAY, REPLAY_STREAMS, ROUNDS, SHELL, SHOW, SHOW_STREAMS, SIZES, STEPS, STEPS_STREAMS,
+    STREAMS, VERSION, WEIGHT, WHY, WHY_STREAMS, WINDOWS, WINDOWS_STREAMS, WORKERS,
 };
 use clap::{Arg, ArgAction, Command, value_parser};
 use std::alloc::{AllocError, Global};
@@ -74,6 +74,30 @@ fn parts<'a>(alloc: Global) -> Arg<'a>
     ensures local { result.global ≡ false }
 {
     option(alloc, "parts", "K", PARTS).value_parser(value_parser!(u32).range(1..=4_096))
+}
+
+// `--of K`, with K from 1 to 4,096.
+fn of<'a>(alloc: Global) -> Arg<'a>
+    ensures rule { rule_of result ≡ number_option (codes "of") 1 4096 }
+    ensures local { result.global ≡ false }
+{
+    option(alloc, "of", "K", OF).value_parser(value_parser!(u32).range(1..=4_096))
+}
+
+// `--part I`, with I from 0 to 4,095.
+fn part_number<'a>(alloc: Global) -> Arg<'a>
+    ensures rule { rule_of result ≡ number_option (codes "part") 0 4095 }
+    ensures local { result.global ≡ false }
+{
+    option(alloc, "part", "I", PART_NUMBER).value_parser(value_parser!(u32).range(0..=4_095))
+}
+
+// `--map N`, with N from 0 to 999,999.
+fn entry<'a>(alloc: Global) -> Arg<'a>
+    ensures rule { rule_of result ≡ number_option (codes "map") 0 999999 }
+    ensures local { result.global ≡ false }
+{
+    option(alloc, "map", "N", ENTRY).value_parser(value_parser!(u32).range(0..=999_999))
 }
 
 // `--rate N`, with N from 1 to 4,294,967,295.
@@ -170,6 +194,15 @@ fn judge<'a>(alloc: Global) -> Made<'a>
     let command = with_arg(command, parts(alloc));
     let command = with_arg(command, workers(alloc, "W", JUDGES));
     with_arg(command, option(alloc, "format", "FORMAT", FORMAT))
+}
+
+fn part<'a>(alloc: Global) -> Made<'a>
+    ensures { IfOk result (IsApp part_app) }
+{
+    let command = job(alloc, "part", PART, PART_STREAMS);
+    let command = with_arg(with_arg(command, of(alloc)), part_number(alloc));
+    let command = with_arg(command, option(alloc, "partitions", "A-B", PARTITIONS));
+    with_arg(command, entry(alloc))
 }
 
 fn drive<'a>(alloc: Global) -> Made<'a>
@@ -286,6 +319,7 @@ pub(crate) fn command<'a>(alloc: Global) -> Result<Command<'a>, AllocError>
     let line = with(line, job(alloc, "play", PLAY, PLAY_STREAMS));
     let line = with(line, replay(alloc));
     let line = with(line, judge(alloc));
+    let line = with(line, part(alloc));
     let line = with(line, job(alloc, "after", AFTER, AFTER_STREAMS));
     let line = with(line, job(alloc, "bundle", BUNDLE, BUNDLE_STREAMS));
     let line = with(line, job(alloc, "cert", CERT, CERT_STREAMS));

@@ -87,10 +87,10 @@ fn more_of(matches: &ArgMatches) -> Option<Word>
     }
 }
 
-/// Whether the word is that of a command whose line is refused on standard error: one for people, or for a text about the program.
+/// Whether the word is that of a command whose line is refused on standard error: one for people, `part`, or one for a text about the program.
 pub(crate) fn is_for_people(word: &str) -> bool {
-    let is_guide = matches!(word, "completions" | "man");
-    is_guide
+    let is_other = matches!(word, "part" | "completions" | "man");
+    is_other
         || matches!(
             word,
             "why"

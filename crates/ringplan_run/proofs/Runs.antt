@@ -1,18 +1,29 @@
 -- How the parts of a run make up its end.
-use Rattle.std.proofs.Common.{◌≡◌, ◌≢◌, inl, inr, ℕ, ◌<◌, ◌≤◌, arith, List, [], ◌∷◌, ◌++◌, Option, Some, None, Result, Ok, Err, codes, refl, sym, ◌∙◌, subst}
+use Rattle.std.specs.Option.{is_some, unwrap_or}
+use Rattle.std.proofs.Common.{◌≡◌, ◌≢◌, inl, inr, Bool, true, false, ℕ, ◌<◌, ◌≤◌, arith, List, [], ◌∷◌, ◌++◌, Option, Some, None, Result, Ok, Err, codes, refl, sym, ◌∙◌, subst}
 use Rattle.std.specs.Fmt.{digits}
 use Rattle.ring_names.specs.declared.refusal.Refusal.{Refusal}
 use Rattle.ring_names.specs.declared.refusal.Refusal.TheVariants.{OutOfMemory, ReadFailed}
-use Rattle.ring_names.specs.Refusals.{line_of}
+use Rattle.ring_names.specs.Refusals.{line_of, number_of}
 use Rattle.ringplan_command.specs.declared.form.Form.{Form}
 use Rattle.ringplan_job.specs.declared.job.Job.{Job}
 use Rattle.ringplan_job.specs.declared.job.Job.TheVariants.{Check}
-use Rattle.ringplan_jobs.specs.Answers.{output_of, status_of}
-use Rattle.ringplan_command.specs.Command.{Asked, Asks, AsksBy, AsksDrive, AsksJson, AsksWord, IsMany, only, word_of_making}
+use Rattle.ringplan_jobs.specs.Answers.{output_of, refused_status, status_of}
+use Rattle.history_parts.specs.declared.choice.Choice.{Choice}
+use Rattle.history_parts.specs.declared.choice.Choice.TheVariants.{Range, Share}
+use Rattle.history_parts.specs.Choices.{IsChoice}
+use Rattle.history_stream.specs.declared.cutting.Part.{Part}
+use Rattle.history_stream.specs.declared.cutting.NoPart.{NoPart}
+use Rattle.history_stream.specs.Cutting.{IsCut, refusal_of}
+use Rattle.ringplan_run.proofs.Deliveries.{prints_nothing}
+use Rattle.ringplan_command.specs.declared.parts.PartWish.{PartWish}
+use Rattle.ringplan_command.specs.Parts.{MeansChoice, PartTexts}
+use Rattle.ringplan_command.specs.Command.{Asked, Asks, AsksBy, AsksDrive, AsksJson, AsksPart, AsksWord, IsMany, only, word_of_making}
 use Rattle.ringplan_jobs.specs.Io.{Prints, Tells}
 use Rattle.ringplan_jobs.specs.Outcomes.{Finds}
 use Rattle.ringplan_jobs.specs.Stated.{json_of}
-use Rattle.ringplan_run.specs.Run.{FindsDrive, PrintsFound, PrintsStated, Says, Shows, ShowsReport, answered, driven, stated, unread, unstated, undriven, reported, out_of_memory}
+use Rattle.ringplan_run.specs.Part.{IsCutShown, IsWanted, ShowsCut, ShowsPart, cut, failed}
+use Rattle.ringplan_run.specs.Run.{FindsDrive, PrintsFound, PrintsStated, Says, Shows, ShowsReport, answered, driven, stated, unread, unstated, undriven, parted, reported, out_of_memory}
 use Rattle.ringplan_job.specs.declared.making.Making.{Making}
 
 pub no_memory_line : line_of OutOfMemory ≡ codes "no 60" ++ 10 ∷ []
@@ -128,3 +139,37 @@ pub prints_stated : (old new : Option (List ℕ)) (found : Result (List ℕ) Ref
     → status ≡ status_of found → Prints old new shown status result → PrintsStated old new found result
 prints_stated old new found text shown status result other same e f prints =
     inl (other, subst (λ (l : List ℕ). Prints old new l (status_of found) result) (same ∙ e) (subst (λ (s : ℕ). Prints old new shown s result) f prints))
+
+-- ---- parts
+
+means_choice : (t : PartTexts) (choice : Choice) → MeansChoice t choice → IsChoice choice
+means_choice t (Share of part) ((a, b, is_a, is_b, of_is, part_is, less), none) = omega arith
+means_choice t (Range first last) means = tt
+
+-- the choice of a part that is asked for is one
+pub asked_choice : (asked : Asked) (wish : PartWish) → AsksPart asked wish → IsChoice wish.choice
+asked_choice asked wish (t, e, means) = means_choice t wish.choice means.0
+
+-- nothing is printed of an entry that the part has not
+pub no_place : (entry : Option ℕ) (part : Part) → is_some entry ≡ true → part.place ≡ None → IsCutShown entry part [] 2
+no_place None part some none = (let bad : false ≡ true = some in absurd cc)
+no_place (Some n) part some none = rw none (refl, refl)
+
+-- what is printed of a part that was cut is that of a part of the bytes
+pub parts_shown : (wish : PartWish) (wanted : ℕ) (bytes : List ℕ) (part : Part) (old new : Option (List ℕ)) (result : ℕ) → IsWanted wish.entry wanted → IsCut wish.choice wanted bytes (Ok part)
+    → ShowsCut wish.entry part old new result → ShowsPart wish bytes old new result
+parts_shown wish wanted bytes part old new result w is (text, status, inl shown, prints) = (text, status, cut wanted (Ok part) w is shown, prints)
+parts_shown wish wanted bytes part old new result w is (text, status, inr (none, three), prints) = (text, status, failed none three, prints)
+
+-- nothing is printed where there is no part
+pub none_shown : (wish : PartWish) (wanted : ℕ) (bytes : List ℕ) (e : NoPart) (old : Option (List ℕ)) (status : ℕ) → IsWanted wish.entry wanted → IsCut wish.choice wanted bytes (Err e) → status ≡ refused_status (number_of (refusal_of e))
+    → ShowsPart wish bytes old old status
+none_shown wish wanted bytes e old status w is s = ([], status, cut wanted (Err e) w is (refl, s), prints_nothing old status)
+
+pub wanted_entry : (entry : Option ℕ) (wanted : ℕ) → wanted ≡ unwrap_or entry 0 → IsWanted entry wanted
+wanted_entry None wanted e = tt
+wanted_entry (Some n) wanted e = sym e
+
+-- a part is printed
+pub ran_part : (asked : Asked) (wish : PartWish) (told old new : Option (List ℕ)) (result : ℕ) → AsksPart asked wish → (bytes : List ℕ) × Tells told bytes × ShowsPart wish bytes old new result → Ran asked told old new result
+ran_part asked wish told old new result asks (bytes, tells, (text, status, parts, prints)) = (bytes, tells, (text, status, parted wish asks parts, prints))

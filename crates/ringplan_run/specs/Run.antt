@@ -4,13 +4,15 @@ use Rattle.ring_names.specs.declared.refusal.Refusal.{Refusal}
 use Rattle.ring_names.specs.declared.refusal.Refusal.TheVariants.{TooLarge, OutOfMemory, ReadFailed}
 use Rattle.ring_names.specs.Refusals.{line_of}
 use Rattle.ringplan_jobs.specs.Answers.{output_of, status_of}
-use Rattle.ringplan_command.specs.Command.{Asked, Asks, AsksDrive, AsksGuide, AsksJson, AsksWord, IsRefused, WantsHelp, word_of_making}
+use Rattle.ringplan_command.specs.Command.{Asked, Asks, AsksDrive, AsksGuide, AsksJson, AsksPart, AsksWord, IsRefused, WantsHelp, word_of_making}
 use Rattle.ringplan_command.specs.Files.{Names}
 use Rattle.ringplan_jobs.specs.Io.{Prints, max_input}
 use Rattle.ringplan_jobs.specs.Outcomes.{Outcome}
 use Rattle.ringplan_jobs.specs.Stated.{json_of}
 use Rattle.ringplan_run.specs.Drives.{Drives}
+use Rattle.ringplan_run.specs.Part.{Parts}
 use Rattle.ringplan_command.specs.declared.form.Form.{Form}
+use Rattle.ringplan_command.specs.declared.parts.PartWish.{PartWish}
 use Rattle.ringplan_command.specs.declared.word.Guide.{Guide}
 use Rattle.ringplan_job.specs.declared.job.Job.{Job}
 use Rattle.ringplan_job.specs.declared.making.Making.{Making}
@@ -58,6 +60,7 @@ pub data Says (asked : Asked) (bytes : List ℕ) (text : List ℕ) (status : ℕ
   driven : (workers : ℕ) (form : Form) (r : Result (List ℕ) Refusal) → AsksDrive asked workers form → DriveOutcome workers form bytes r → text ≡ output_of r → status ≡ status_of r → Says asked bytes text status
   unread : (job : Job) → Asks asked job → text ≡ line_of ReadFailed → status ≡ 3 → Says asked bytes text status
   undriven : (workers : ℕ) (form : Form) → AsksDrive asked workers form → text ≡ line_of ReadFailed → status ≡ 3 → Says asked bytes text status
+  parted : (wish : PartWish) → AsksPart asked wish → Parts wish bytes text status → Says asked bytes text status
   reported : (making : Making) → AsksWord asked (word_of_making making) → Reports making bytes text status → Says asked bytes text status
   out_of_memory : text ≡ line_of OutOfMemory → status ≡ 3 → Says asked bytes text status
 

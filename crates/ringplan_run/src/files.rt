@@ -8,6 +8,15 @@ use std::io::Write;
 use std::rt::Files;
 use std::{fs, io};
 
+/// How long a file may be that is read.
+#[derive(Clone, Copy, Debug, PartialEq, Eq)]
+pub(crate) enum Limit {
+    /// As long as an input that is read whole, `MAX_INPUT` bytes.
+    Whole,
+    /// As long as it is.
+    Endless,
+}
+
 /// Says on standard error what stands in the text; bytes that are no text are left out.
 pub(crate) fn say<RT: Eprint>(rt: &RT, text: &[u8]) {
     for chunk in text.utf8_chunks() {
@@ -15,13 +24,13 @@ pub(crate) fn say<RT: Eprint>(rt: &RT, text: &[u8]) {
     }
 }
 
-/// Opens a file to be read. Where that fails it says why on standard error, and gives the exit status: 2 where the file has more than
-/// `MAX_INPUT` bytes, and else 3.
-pub(crate) fn open<RT: Files + Eprint>(rt: &RT, name: &str) -> Result<RT::File, u8>
+/// Opens a file to be read. Where that fails it says why on standard error, and gives the exit status: 2 where the file is longer than
+/// the limit, and else 3.
+pub(crate) fn open<RT: Files + Eprint>(rt: &RT, name: &str, limit: Limit) -> Result<RT::File, u8>
     ensures { IfErr result (λ status. (status ≡ 2) ⊎ (status ≡ 3)) }
 {
     match fs::open(rt, name) {
-        Ok(file) => sized(rt, name, file),
+        Ok(file) => sized(rt, name, file, limit),
         Err(error) => {
             let _ = eprint!(rt; "ringplan: {name}: {error}\n");
             Err(3)
@@ -29,8 +38,13 @@ pub(crate) fn open<RT: Files + Eprint>(rt: &RT, name: &str) -> Result<RT::File, 
     }
 }
 
-// The file, where it is no directory and has at most `MAX_INPUT` bytes.
-fn sized<RT: Files + Eprint>(rt: &RT, name: &str, file: RT::File) -> Result<RT::File, u8>
+// The file, where it is no directory and within the limit.
+fn sized<RT: Files + Eprint>(
+    rt: &RT,
+    name: &str,
+    file: RT::File,
+    limit: Limit,
+) -> Result<RT::File, u8>
     ensures { IfErr result (λ status. (status ≡ 2) ⊎ (status ≡ 3)) }
 {
     let (is_folder, size) = match file.metadata() {
@@ -41,7 +55,7 @@ fn sized<RT: Files + Eprint>(rt: &RT, name: &str, file: RT::File) -> Result<RT::
         let _ = eprint!(rt; "ringplan: {name}: is a directory\n");
         return Err(3);
     }
-    if size > MAX_INPUT as u64 {
+    if limit == Limit::Whole && size > MAX_INPUT as u64 {
         let _ = eprint!(rt; "ringplan: {name}: has more than {MAX_INPUT} bytes\n");
         return Err(2);
     }

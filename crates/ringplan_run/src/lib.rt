@@ -4,6 +4,7 @@
 
 mod driving;
 mod files;
+mod parting;
 mod program;
 mod sizes;
 

@@ -14,7 +14,8 @@ ghost use Rattle.ringplan_job.specs.declared.making.Making.{Making};
 ghost use Rattle.ringplan_job.specs.declared.job.Job.TheVariants.{Check, Replay};
 
 use crate::driving::drive_bundle;
-use crate::files::{open, save, say};
+use crate::files::{Limit, open, save, say};
+use crate::parting::print_part;
 use crate::sizes::with_sizes;
 use ring_names::Refusal;
 use ringplan_command::{CommandLine, Files as Named, Form, Request, Shares, parse};
@@ -31,17 +32,17 @@ use std::sync::Wait;
 use std::thread::Threads;
 
 // The line of a refusal for want of memory, which itself needs none.
-const NO_MEMORY: &[u8; 6] = b"no 60\n";
+pub(crate) const NO_MEMORY: &[u8; 6] = b"no 60\n";
 
 // What is said of words that are no text.
 const NO_WORDS: &[u8; 123] =
     b"error: invalid UTF-8 was detected in one or more arguments\n\nUsage: ringplan <COMMAND>\n\nFor more information, try '--help'.\n";
 
 // The exit status where memory, the input or the output failed.
-const FAILED: u8 = 3;
+pub(crate) const FAILED: u8 = 3;
 
 // The exit status where the command line is refused.
-const REFUSED: u8 = 2;
+pub(crate) const REFUSED: u8 = 2;
 
 // The exit status of a plan with steps, where the command line asks for it.
 const STEPS: u8 = 4;
@@ -74,10 +75,18 @@ pub fn run<
     let request = request.on(seen_on(screen, &target));
     match source {
         None => run_to(rt, request, target, input, output),
-        Some(name) => match open(rt, name.as_str()) {
+        Some(name) => match open(rt, name.as_str(), limit_of(&request)) {
             Ok(mut file) => run_to(rt, request, target, &mut file, output),
             Err(status) => status,
         },
+    }
+}
+
+// How long a file may be that is read for the request.
+fn limit_of(request: &Request) -> Limit {
+    match request {
+        Request::Part(_) => Limit::Endless,
+        _ => Limit::Whole,
     }
 }
 
@@ -154,6 +163,7 @@ fn run_request<RT: AllocGlobal + Files + Eprint + Threads + Wait + Sync, R: Read
             let found = judge_input(rt, alloc, shares, input);
             state(alloc, found, output)
         }
+        Request::Part(wish) => print_part(rt, wish, input, output),
         Request::Drive(workers, form) => {
             let found = drive_of(rt, alloc, workers, form, input);
             tell(alloc, found, output)
@@ -334,7 +344,7 @@ fn drive_of<RT: Threads + Wait + Sync, R: Read + Drop>(
 }
 
 // Prints the text, and ends with the status, or with 3 where the output fails.
-fn finish<W: Write>(output: &mut W, text: &[u8], status: u8) -> u8
+pub(crate) fn finish<W: Write>(output: &mut W, text: &[u8], status: u8) -> u8
     ensures { Prints (W.contents output.old) (W.contents output.new) text.now status result }
 {
     match write_all(output, text) {

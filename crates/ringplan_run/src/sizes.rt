@@ -4,7 +4,7 @@ ghost use Rattle.std.specs.Prelude.{◌≡◌, ◌⊎◌, IfErr, IfOk};
 ghost use Rattle.ringplan_command.specs.Command.{word_of_making, word_of_statement};
 ghost use Rattle.ringplan_run.specs.Run.{AreNamedBy, NamesSizes};
 
-use crate::files::open;
+use crate::files::{Limit, open};
 use ring_names::Refusal;
 use ringplan_job::{Making, Options, Statement, Wish};
 use ringplan_jobs::read_all;
@@ -33,7 +33,7 @@ fn status_of(refusal: Refusal) -> u8
 fn sizes_in<RT: AllocGlobal + Files + Eprint>(rt: &RT, name: &str) -> Result<Vec<PartitionSize>, u8>
     ensures { IfErr result (λ status. (status ≡ 2) ⊎ (status ≡ 3)) }
 {
-    let mut file = open(rt, name)?;
+    let mut file = open(rt, name, Limit::Whole)?;
     match sizes_of(rt.alloc(), &mut file) {
         Ok(sizes) => Ok(sizes),
         Err(refusal) => {

@@ -4,7 +4,8 @@ use Rattle.clap.specs.Words.{first_value, found_of, one_text, rows_of, subcomman
 use Rattle.clap.proofs.WalkLemmas.{first_value-rows, one_text-rows}
 use Rattle.ringplan_job.specs.declared.job.Job.TheVariants.{Check}
 use Rattle.ringplan_command.specs.declared.command.Request.TheVariants.{Do, CheckBy, State, StateBy}
-use Rattle.ringplan_command.specs.Command.{HasNoNumber, MeansFormat, asked_by, but_text, format_named, option_named, to_do}
+use Rattle.ringplan_command.specs.Command.{MeansFormat, asked_by, but_text, format_named, option_named, to_do}
+use Rattle.ringplan_command.specs.Numbers.{HasNoNumber}
 use Rattle.ringplan_command.proofs.Commands.{bad_form, bad_given, format_there, formed, named_there, none_given, none_stated, refused_line, some_given, some_stated}
 use Rattle.ringplan_command.proofs.command.check_line.Goals as goal
 

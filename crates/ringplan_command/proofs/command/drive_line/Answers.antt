@@ -2,7 +2,8 @@ use Rattle.std.proofs.Common.{◌≡◌, ◌∙◌, sym, subst, codes, List, [],
 use Rattle.std.specs.Prelude.{Option}
 use Rattle.clap.specs.Words.{found_of, one_text, rows_of, subcommand_rows_of}
 use Rattle.clap.proofs.WalkLemmas.{one_text-rows}
-use Rattle.ringplan_command.specs.Command.{HasNoNumber, IsForm, IsMany, asked_by, option_named}
+use Rattle.ringplan_command.specs.Command.{IsForm, IsMany, asked_by, option_named}
+use Rattle.ringplan_command.specs.Numbers.{HasNoNumber}
 use Rattle.ringplan_command.proofs.Commands.{named_there, drive_given, bad_driven, refused_line}
 use Rattle.ringplan_command.proofs.command.drive_line.Goals as goal
 

@@ -3,7 +3,8 @@ use Rattle.std.specs.Prelude.{Option}
 use Rattle.clap.specs.Words.{first_value, found_of, one_text, rows_of, subcommand_rows_of}
 use Rattle.clap.proofs.WalkLemmas.{first_value-rows, one_text-rows}
 use Rattle.ringplan_command.specs.declared.command.Request.TheVariants.{Judge, StateJudge}
-use Rattle.ringplan_command.specs.Command.{AreShares, HasNoNumber, MeansFormat, asked_by, but_text, format_named, option_named, to_judge}
+use Rattle.ringplan_command.specs.Command.{AreShares, MeansFormat, asked_by, but_text, format_named, option_named, to_judge}
+use Rattle.ringplan_command.specs.Numbers.{HasNoNumber}
 use Rattle.ringplan_command.proofs.Commands.{bad_form, bad_judged, format_there, formed, judge_given, judge_stated, named_there, refused_line}
 use Rattle.ringplan_command.proofs.command.judge_line.Goals as goal
 

@@ -5,7 +5,7 @@ use Rattle.ringplan_command.specs.Command.{Answers, AsksWord}
 use Rattle.ringplan_command.specs.declared.word.Word.{Word}
 use Rattle.ringplan_command.specs.declared.command.Request.{Request}
 use Rattle.ringplan_run.specs.Run.{described, help, refused}
-use Rattle.ringplan_run.proofs.Runs.{many_few, ran, ran_asked, ran_by, ran_driven, ran_found, ran_out, ran_report, ran_stated, said}
+use Rattle.ringplan_run.proofs.Runs.{asked_choice, many_few, ran, ran_asked, ran_by, ran_driven, ran_found, ran_out, ran_part, ran_report, ran_stated, said}
 use Rattle.ringplan_run.proofs.Deliveries.{prints_nothing}
 use Rattle.ringplan_run.proofs.program.run_request.Goals as goal
 
@@ -43,6 +43,12 @@ returns-in-StateJudge g c = λ asked h.
     let shares = c.in-StateJudge.shares in
     ran_stated asked Replay (g.R.Read.remaining c.args.input.now) _ _ (texts_of c.judge_input-found-in-StateJudge.result) c.state-in-StateJudge.result (inr (inr (refl, (shares.parts, shares.workers, asks))))
     c.judge_input-found-in-StateJudge.ensures c.state-in-StateJudge.ensures
+
+pub print_part-requires : goal.print_part-requires
+print_part-requires g c = asked_choice c.requires.0 c.in-Part.wish (subst (λ (r : Request). Answers c.requires.0 r) c.in-Part.is c.requires.1)
+
+pub returns-in-Part : goal.returns-in-Part
+returns-in-Part g c = λ asked h. ran_part asked c.in-Part.wish (g.R.Read.remaining c.args.input.now) _ _ c.print_part.result (subst (λ (r : Request). Answers asked r) c.in-Part.is h) c.print_part.ensures
 
 pub drive_of-found-requires : goal.drive_of-found-requires
 drive_of-found-requires g c =

@@ -1,0 +1,96 @@
+//! What is printed of a part of a bundle's history.
+
+ghost use Rattle.std.specs.Prelude.{◌≡◌, ℕ, List};
+ghost use Rattle.history_parts.specs.Choices.{IsChoice};
+ghost use Rattle.ringplan_jobs.specs.Io.{Tells};
+ghost use Rattle.ringplan_run.specs.Part.{ShowsCut, ShowsPart};
+
+use crate::files::say;
+use crate::program::{FAILED, NO_MEMORY, REFUSED, finish};
+use history_parts::Choice;
+use history_stream::{MAX_INPUT, MOST_ENTRIES, NoPart, Part, cut_stream};
+use ring_names::Refusal;
+use ringplan_command::PartWish;
+use ringplan_jobs::status_of;
+use std::io::{Read, Write};
+
+// In how many times as many parts so many would be few enough: at least twice.
+fn times(many: u64, most: u64) -> u64 {
+    (many.saturating_sub(1) / most.max(1))
+        .saturating_add(1)
+        .max(2)
+}
+
+// Says why a part is too large, and in how many parts it may do.
+fn say_large<RT: Eprint>(rt: &RT, choice: Choice, entries: u64, bytes: u64) {
+    let _ = eprint!(rt;
+        "ringplan: the part has {entries} entries and {bytes} bytes, and {MOST_ENTRIES} and {MAX_INPUT} are judged at once: "
+    );
+    let more = times(entries, MOST_ENTRIES).max(times(bytes, MAX_INPUT as u64));
+    match choice {
+        Choice::Share { of, .. } => {
+            let of = u64::from(of).saturating_mul(more);
+            let _ = eprint!(rt; "--of {of} may do\n");
+        }
+        Choice::Range { .. } => {
+            let _ = eprint!(rt; "{more} times fewer partitions may do\n");
+        }
+    }
+}
+
+// Says why there is no part.
+fn say_none<RT: Eprint>(rt: &RT, choice: Choice, none: &NoPart) {
+    match none {
+        NoPart::Large { entries, bytes } => say_large(rt, choice, *entries, *bytes),
+        NoPart::Refused(Refusal::OutOfMemory) => say(rt, NO_MEMORY),
+        NoPart::Refused(refusal) => {
+            let _ = eprint!(rt; "{refusal}\n");
+        }
+    }
+}
+
+// Prints a part, or the place in the whole of one of its entries.
+fn print_cut<RT: AllocGlobal + Eprint, W: Write>(
+    rt: &RT,
+    entry: Option<u32>,
+    part: &Part,
+    output: &mut W,
+) -> u8
+    ensures { ShowsCut entry part.now (W.contents output.old) (W.contents output.new) result }
+{
+    if entry.is_none() {
+        return finish(output, part.text.as_slice(), 0);
+    }
+    let Some(place) = part.place else {
+        let entries = part.entries;
+        let _ = eprint!(rt; "ringplan: the part has {entries} entries\n");
+        return REFUSED;
+    };
+    match format!(in rt.alloc(); "{place}\n") {
+        Ok(line) => finish(output, line.as_bytes(), 0),
+        Err(_) => {
+            say(rt, NO_MEMORY);
+            FAILED
+        }
+    }
+}
+
+/// Reads a bundle to its end, and prints the part that is asked for, or the place of one of its entries. Says on standard error why nothing is printed.
+pub(crate) fn print_part<RT: AllocGlobal + Eprint, R: Read + Drop, W: Write>(
+    rt: &RT,
+    wish: PartWish,
+    input: &mut R,
+    output: &mut W,
+) -> u8
+    requires { IsChoice wish.choice }
+    ensures { (bytes : List ℕ) × Tells (R.remaining input.old) bytes × ShowsPart wish bytes (W.contents output.old) (W.contents output.new) result }
+{
+    let wanted = wish.entry.unwrap_or(0);
+    match cut_stream(rt.alloc(), wish.choice, wanted, input) {
+        Ok(part) => print_cut(rt, wish.entry, &part, output),
+        Err(none) => {
+            say_none(rt, wish.choice, &none);
+            status_of(&none.refusal())
+        }
+    }
+}
