@@ -13,13 +13,6 @@ pub(crate) struct Before<'a> {
     pub(crate) sets: Vec<u64>,
 }
 
-// What a search for a link comes to.
-#[derive(Clone, Copy, PartialEq, Eq)]
-enum Found {
-    Link,
-    Nothing,
-}
-
 /// A matching that is made greater by alternating paths.
 #[derive(Drop)]
 pub(crate) struct Matching {
@@ -47,12 +40,6 @@ impl Matching {
 
     /// Lets the copy follow one before it, if it can, where others may follow another than before.
     pub(crate) fn link(&mut self, before: &Before, copy: usize) -> Result<(), Refusal> {
-        let _ = self.search(before, copy)?;
-        Ok(())
-    }
-
-    // Looks for a copy that this one can follow.
-    fn search(&mut self, before: &Before, copy: usize) -> Result<Found, Refusal> {
         self.spent = 0;
         self.queue.clear();
         self.queue.push(small(copy))?;
@@ -68,11 +55,11 @@ impl Matching {
                 self.spent = self.spent.saturating_add(1);
                 if let Some(free) = self.ask(before, asking, number)? {
                     self.turn_over(free);
-                    return Ok(Found::Link);
+                    return Ok(());
                 }
             }
         }
-        Ok(Found::Nothing)
+        Ok(())
     }
 
     // Asks the copies of a word that come before the asking one and were not seen: the first that nobody follows, if there is one.
@@ -82,26 +69,20 @@ impl Matching {
             .saturating_add(number);
         let seen = word(self.seen.as_slice(), number);
         let new = word(before.sets.as_slice(), cell) & !seen;
-        if new == 0 {
-            return Ok(None);
-        }
         set_word(self.seen.as_mut_slice(), number, seen | new);
-        let mut bit = 1u64;
-        for place in 0..64usize {
-            if new & bit != 0 {
-                let copy = small(number.saturating_mul(64).saturating_add(place));
-                set(
-                    self.asked_by.as_mut_slice(),
-                    copy as usize,
-                    asking.saturating_add(1),
-                );
-                let follower = self.links.after(copy);
-                if follower == 0 {
-                    return Ok(Some(copy));
-                }
-                self.queue.push(follower.saturating_sub(1))?;
+        let mut left = new;
+        for turn in 0..64 {
+            if left == 0 {
+                break;
             }
-            bit = bit.wrapping_add(bit);
+            let copy = small(number.saturating_mul(64)).saturating_add(left.trailing_zeros());
+            left &= left.wrapping_sub(1);
+            set(&mut self.asked_by, copy as usize, asking.saturating_add(1));
+            let follower = self.links.after(copy);
+            if follower == 0 {
+                return Ok(Some(copy));
+            }
+            self.queue.push(follower.saturating_sub(1))?;
         }
         Ok(None)
     }

@@ -4,7 +4,7 @@ use crate::links::Links;
 use crate::looks::Looks;
 use crate::matching::{Before, Matching};
 use crate::runs::runs_of;
-use helpers::{at, set, set_word, small, word};
+use helpers::{at, parts, set, set_word, small, word};
 use plan_text::Plan;
 use ring_names::{Refusal, Rows};
 use std::alloc::Global;
@@ -20,10 +20,19 @@ pub struct Order<'a> {
     looks: Looks,
     // by step, which copies of a word come before it, or are it
     masks: Vec<u64>,
+    // by word of 64 steps, those whose dependencies are still to be followed
+    marks: Vec<u64>,
     // by step, 1 and its place among the copies where a chain ends with it, or 0
     lasts: Vec<u32>,
     // by step, the first step of its run
     runs: Vec<u32>,
+}
+
+// After which copy another is put: one for which it waits directly, or the last of its run.
+#[derive(Clone, Copy)]
+enum Rule {
+    Direct,
+    Run,
 }
 
 impl<'a> Order<'a> {
@@ -33,6 +42,7 @@ impl<'a> Order<'a> {
             plan,
             looks: Looks::new(),
             masks: vec![in alloc; 0u64; plan.len() as usize]?,
+            marks: vec![in alloc; 0u64; parts(plan.len(), 64) as usize]?,
             lasts: vec![in alloc; 0u32; plan.len() as usize]?,
             runs: runs_of(alloc, plan)?,
         })
@@ -42,10 +52,7 @@ impl<'a> Order<'a> {
     /// order of the plan's, and no more in any (Dilworth 1950). The copies ascend. None where the looks that are left are too few.
     pub fn fewest(&mut self, alloc: Global, copies: &[u32]) -> Result<Option<u32>, Refusal> {
         let links = self.links(alloc, copies, 1)?;
-        Ok(match links {
-            Some(links) => Some(links.count()),
-            None => None,
-        })
+        Ok(links.map(|links| links.count()))
     }
 
     /// Such chains: one for each run of a slot's copies where these are no more than `enough`; else as few as there can be, by a matching of copies with later ones
@@ -66,70 +73,57 @@ impl<'a> Order<'a> {
     /// Chains by a first fit along direct dependencies: a copy goes behind one that ends a chain, where it waits for that directly. They may be more than the fewest. Costs
     /// a look at each dependency of a copy.
     pub fn direct(&mut self, alloc: Global, copies: &[u32]) -> Result<Rows, Refusal> {
+        self.fit(alloc, copies, Rule::Direct)?.chains(alloc, copies)
+    }
+
+    // Puts each copy behind the one that ends a chain and that the rule names, and else at the begin of a chain.
+    fn fit(&mut self, alloc: Global, copies: &[u32], rule: Rule) -> Result<Links, Refusal> {
         let mut links = Links::of(alloc, copies.len())?;
         for place in 0..copies.len() {
-            self.fit(&mut links, copies, place);
-        }
-        for copy in copies {
-            set(self.lasts.as_mut_slice(), *copy as usize, 0);
-        }
-        links.chains(alloc, copies)
-    }
-
-    // Puts a copy behind one that it waits for, if that ends a chain, and else at the begin of a chain.
-    fn fit(&mut self, links: &mut Links, copies: &[u32], place: usize) {
-        let copy = at(copies, place);
-        let last = self.last_before(copy);
-        if last != 0 {
-            let first = last.saturating_sub(1);
-            links.join(first, small(place));
-            let ended = at(copies, first as usize);
-            set(self.lasts.as_mut_slice(), ended as usize, 0);
-        }
-        let number = small(place).saturating_add(1);
-        set(self.lasts.as_mut_slice(), copy as usize, number);
-    }
-
-    // 1 and the place of the first copy that ends a chain and that the step waits for, or 0.
-    fn last_before(&self, step: u32) -> u32 {
-        if step < self.plan.len() {
-            for dependency in self.plan.deps(step) {
-                let last = at(self.lasts.as_slice(), *dependency as usize);
-                if last != 0 {
-                    return last;
-                }
-            }
-        }
-        0
-    }
-
-    // Links each copy to the one before it in its run. Costs a look at each copy.
-    fn along_runs(&mut self, alloc: Global, copies: &[u32]) -> Result<Links, Refusal> {
-        let mut links = Links::of(alloc, copies.len())?;
-        for place in 0..copies.len() {
-            let run = self.run(at(copies, place));
-            let last = at(self.lasts.as_slice(), run);
+            let copy = at(copies, place);
+            let (old, new) = match rule {
+                Rule::Direct => (self.end_before(copy), copy),
+                Rule::Run => (self.run(copy), self.run(copy)),
+            };
+            let last = at(self.lasts.as_slice(), old as usize);
             if last != 0 {
                 links.join(last.saturating_sub(1), small(place));
             }
-            let number = small(place).saturating_add(1);
-            set(self.lasts.as_mut_slice(), run, number);
+            self.put_last(old, 0);
+            self.put_last(new, small(place).saturating_add(1));
         }
-        self.forget_runs(copies);
+        for copy in copies {
+            self.put_last(*copy, 0);
+            self.put_last(self.run(*copy), 0);
+        }
         Ok(links)
     }
 
-    // Forgets which copies end chains along runs.
-    fn forget_runs(&mut self, copies: &[u32]) {
-        for copy in copies {
-            let run = self.run(*copy);
-            set(self.lasts.as_mut_slice(), run, 0);
+    fn put_last(&mut self, step: u32, last: u32) {
+        set(self.lasts.as_mut_slice(), step as usize, last);
+    }
+
+    // The first step that ends a chain of those for which the copy waits directly; the copy where there is none.
+    fn end_before(&self, copy: u32) -> u32 {
+        for dependency in self.deps(copy) {
+            if at(self.lasts.as_slice(), *dependency as usize) != 0 {
+                return *dependency;
+            }
         }
+        copy
+    }
+
+    // What a step waits for directly.
+    fn deps(&self, step: u32) -> &'a [u32] {
+        if step >= self.plan.len() {
+            return &[];
+        }
+        self.plan.deps(step)
     }
 
     // The first step of the step's run.
-    fn run(&self, step: u32) -> usize {
-        at(self.runs.as_slice(), step as usize) as usize
+    fn run(&self, step: u32) -> u32 {
+        at(self.runs.as_slice(), step as usize)
     }
 
     // Links along runs where these make no more chains than `enough`; else as many links as can be, where the looks that are left suffice.
@@ -139,20 +133,10 @@ impl<'a> Order<'a> {
         copies: &[u32],
         enough: u32,
     ) -> Result<Option<Links>, Refusal> {
-        let links = self.along_runs(alloc, copies)?;
+        let links = self.fit(alloc, copies, Rule::Run)?;
         if links.count() <= enough {
             return Ok(Some(links));
         }
-        self.more_links(alloc, copies, links)
-    }
-
-    // As many links as can be, found from these links on.
-    fn more_links(
-        &mut self,
-        alloc: Global,
-        copies: &[u32],
-        links: Links,
-    ) -> Result<Option<Links>, Refusal> {
         let words = copies.len().saturating_add(63) / 64;
         if !self.can_pass(copies, words) {
             return Ok(None);
@@ -162,35 +146,66 @@ impl<'a> Order<'a> {
             words,
             sets: vec![in alloc; 0u64; copies.len().saturating_mul(words)]?,
         };
+        let steps = self.awaited_steps(alloc, copies)?;
         for word in 0..words {
-            self.pass(&mut before, word);
+            self.pass(&mut before, steps.as_slice(), word);
         }
         self.linked(alloc, &before, links)
     }
 
     // Takes the looks of a pass for each word, if they are left.
     fn can_pass(&mut self, copies: &[u32], words: usize) -> bool {
-        let (Some(first), Some(last)) = (copies.first(), copies.last()) else {
-            return true;
-        };
-        let span = u64::from(last.saturating_sub(*first)).saturating_add(u64::from(
-            self.plan.dependencies(),
-        ));
-        copies.len().saturating_mul(words) <= MOST_WORDS
-            && self
-                .looks
-                .spend(span.saturating_mul(u64::from(small(words))))
+        let last = copies.last().copied().unwrap_or(0);
+        let span = last
+            .saturating_sub(at(copies, 0))
+            .saturating_add(self.plan.dependencies());
+        let looks = u64::from(span).saturating_mul(u64::from(small(words)));
+        copies.len().saturating_mul(words) <= MOST_WORDS && self.looks.spend(looks)
     }
 
-    // Finds which copies of a word come before each copy, by one pass over the steps from the first copy to the last.
-    fn pass(&mut self, before: &mut Before, number: usize) {
-        let (Some(first), Some(last)) = (before.copies.first(), before.copies.last()) else {
-            return;
-        };
+    // The copies and the steps from the first copy on for which they wait, directly or not, the last first.
+    fn awaited_steps(&mut self, alloc: Global, copies: &[u32]) -> Result<Vec<u32>, Refusal> {
+        let mut steps = Vec::new(alloc);
+        let (first, last) = (at(copies, 0), copies.last().copied().unwrap_or(0));
+        self.mark(copies, first);
+        for word in (first as usize / 64..last as usize / 64 + 1).rev() {
+            for turn in 0..64 {
+                let Some(step) = self.take_last(word) else {
+                    break;
+                };
+                steps.push(step)?;
+                self.mark(self.deps(step), first);
+            }
+        }
+        Ok(steps)
+    }
+
+    // Marks those of the steps that do not come before the first.
+    fn mark(&mut self, steps: &[u32], first: u32) {
+        for step in steps {
+            if *step >= first {
+                let number = *step as usize / 64;
+                let marks = word(self.marks.as_slice(), number) | 1 << (*step % 64);
+                set_word(self.marks.as_mut_slice(), number, marks);
+            }
+        }
+    }
+
+    // The last step of a word that is marked, which is marked no longer.
+    fn take_last(&mut self, number: usize) -> Option<u32> {
+        let marks = word(self.marks.as_slice(), number);
+        let bit = 63u32.checked_sub(marks.leading_zeros())?;
+        set_word(self.marks.as_mut_slice(), number, marks & !(1 << bit));
+        Some(small(number).saturating_mul(64).saturating_add(bit))
+    }
+
+    // Finds which copies of a word come before each copy, by one pass over the awaited steps.
+    fn pass(&mut self, before: &mut Before, steps: &[u32], number: usize) {
+        let first = at(before.copies, 0);
         let (mut place, mut bit) = (0usize, 1u64);
-        for step in *first..last.saturating_add(1) {
-            let mut mask = self.earlier(step, *first);
-            if before.copies.get(place) == Some(&step) {
+        for step in steps.iter().rev() {
+            let mut mask = self.earlier(*step, first);
+            if before.copies.get(place) == Some(step) {
                 let cell = place.saturating_mul(before.words).saturating_add(number);
                 set_word(before.sets.as_mut_slice(), cell, mask);
                 if place / 64 == number {
@@ -199,18 +214,16 @@ impl<'a> Order<'a> {
                 }
                 place = place.saturating_add(1);
             }
-            set_word(self.masks.as_mut_slice(), step as usize, mask);
+            set_word(self.masks.as_mut_slice(), *step as usize, mask);
         }
     }
 
     // Which copies of the word come before the step.
     fn earlier(&self, step: u32, first: u32) -> u64 {
         let mut mask = 0u64;
-        if step < self.plan.len() {
-            for dependency in self.plan.deps(step) {
-                if *dependency >= first {
-                    mask |= word(self.masks.as_slice(), *dependency as usize);
-                }
+        for dependency in self.deps(step) {
+            if *dependency >= first {
+                mask |= word(self.masks.as_slice(), *dependency as usize);
             }
         }
         mask

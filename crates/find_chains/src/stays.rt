@@ -80,13 +80,18 @@ impl Stays {
 
     // A node begins to serve the slot, from the start or with a mirror: 1 and the place of its stay.
     fn begin(&mut self, slot: Slot, node: NodeId, begun: Option<u32>) -> Result<u32, Refusal> {
+        let mut same_before = self.first_at(slot, node.0);
+        if begun.is_some() {
+            let latest = self.latest.insert((slot, node.0), self.all.len())?;
+            same_before = latest.or(same_before);
+        }
         let stay = Stay {
             slot,
             node: node.0,
             begun,
             left: None,
             dropped: None,
-            same_before: self.latest_at(slot, node.0),
+            same_before,
             node_before: self.latest_of(node.0),
         };
         self.all.push(stay)?;
@@ -108,9 +113,7 @@ impl Stays {
 
     // The node becomes the mirror of the slot.
     fn mirror_to(&mut self, slot: Slot, node: NodeId, number: u32) -> Result<(), Refusal> {
-        let place = self.all.len();
         let stay = self.begin(slot, node, Some(number))?;
-        self.latest.insert((slot, node.0), place)?;
         set(self.mirrors.as_mut_slice(), place_of(slot), stay);
         Ok(())
     }
@@ -164,9 +167,12 @@ impl Stays {
 
     /// The place of the latest stay of the node at the slot.
     pub fn latest_at(&self, slot: Slot, node: u32) -> Option<usize> {
-        if let Some(place) = self.latest.get(&(slot, node)) {
-            return Some(*place);
-        }
+        let latest = self.latest.get(&(slot, node)).copied();
+        latest.or(self.first_at(slot, node))
+    }
+
+    // The place of the slot's first stay, where it is the node's.
+    fn first_at(&self, slot: Slot, node: u32) -> Option<usize> {
         let first = place(at(self.firsts.as_slice(), place_of(slot)));
         if self.stay(first)?.node == node {
             first
