@@ -32,7 +32,7 @@ PACKAGES := lib/python3/dist-packages
 # What says to Python's tools that the package is installed, and which commands it has.
 INFO := $(PACKAGES)/ringplan-$(VERSION).dist-info
 OURS := $(PACKAGES)/ringplan $(INFO) share/doc/ringplan
-FILES := bin/ringplan bin/ringplan-run bin/ringplan-import share/man/man1/ringplan.1 \
+FILES := bin/ringplan bin/ringplan-run bin/ringplan-import bin/ringplan-merge share/man/man1/ringplan.1 \
     share/bash-completion/completions/ringplan $(ZSH)/_ringplan share/fish/vendor_completions.d/ringplan.fish \
     lib/libringplan.so lib/libringplan.so.$(CALLS) lib/pkgconfig/ringplan.pc include/ringplan.h
 
@@ -60,7 +60,8 @@ install: all
 	for it in $(MODULES); do $(INSTALL) -D -m 644 python/$$it $(TO)/lib/python3/dist-packages/$$it || exit; done
 	sed 's|@PYTHON@|$(PYTHON)|; s|@MODULE@|ringplan.run.__main__|' packaging/script.py.in > $(TO)/bin/ringplan-run
 	sed 's|@PYTHON@|$(PYTHON)|; s|@MODULE@|ringplan.importing|' packaging/script.py.in > $(TO)/bin/ringplan-import
-	chmod 755 $(TO)/bin/ringplan-run $(TO)/bin/ringplan-import
+	sed 's|@PYTHON@|$(PYTHON)|; s|@MODULE@|ringplan.merging|' packaging/script.py.in > $(TO)/bin/ringplan-merge
+	chmod 755 $(TO)/bin/ringplan-run $(TO)/bin/ringplan-import $(TO)/bin/ringplan-merge
 	chmod 644 $(addprefix $(TO)/,$(filter share/%,$(FILES)))
 	packaging/info.py $(VERSION) $(TO)/$(PACKAGES)
 	for it in $(TEXTS); do $(INSTALL) -D -m 644 $$it $(TO)/share/doc/ringplan/$$it || exit; done

@@ -111,7 +111,7 @@ def main() -> int:
     parser.add_argument("--write", type=int, default=2, metavar="W", help="slots that take a write")
     parser.add_argument("--allowance", type=int, default=2, metavar="K", help="transfers that each node may have open at once")
     parser.add_argument("--join", action="append", default=[], metavar="NAME", help="a node that is declared out, so that a change can let it join")
-    words = parser.parse_args()
+    words = parser.parse_intermixed_args()
     try:
         ring = ring_of(SOURCES[words.source](lines_of(words.file)), (words.read, words.write), words.allowance, words.join)
     except (BadSource, OSError) as error:

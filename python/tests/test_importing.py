@@ -2,10 +2,13 @@
 
 from __future__ import annotations
 
+import pathlib
+import sys
+
 import pytest
 
 from ringplan import programs
-from ringplan.importing import BadSource, describering, from_csv, ring_of, tablets
+from ringplan.importing import BadSource, describering, from_csv, main, ring_of, tablets
 
 HOSTS = ["3b1f9e0a-2c4d-4e5f-8a6b-7c8d9e0f1a2b", "4b1f9e0a-2c4d-4e5f-8a6b-7c8d9e0f1a2b", "5b1f9e0a-2c4d-4e5f-8a6b-7c8d9e0f1a2b"]
 
@@ -58,6 +61,15 @@ def test_a_source_that_does_not_read(call: object, lines: list[str], words: str)
     assert callable(call)
     with pytest.raises(BadSource, match=words):
         ring_of(call(lines), (1, 1), 2, [])
+
+
+def test_a_file_may_come_after_options(tmp_path: pathlib.Path, monkeypatch: pytest.MonkeyPatch, capsys: pytest.CaptureFixture[str]) -> None:
+    table = tmp_path / "table.csv"
+    table.write_text("0,a\n0,b\n")
+    for words in (["csv", str(table), "--read", "1"], ["csv", "--read", "1", str(table)]):
+        monkeypatch.setattr(sys, "argv", ["ringplan-import", *words])
+        assert main() == 0
+        assert capsys.readouterr().out.splitlines()[2] == "quorum 2 1 2"
 
 
 def test_the_program_plans_a_change_of_an_imported_ring() -> None:

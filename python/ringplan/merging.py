@@ -1,0 +1,223 @@
+"""Merges the logs of a store's nodes or threads to one history: `ringplan-merge LOG..`.
+
+A log's line is `PLACE EVENT = REPLY`. PLACE is a decimal number. Within a log places never go back. Entries of equal places touch nothing in common; they come
+in the order of the logs on the command line. EVENT and REPLY are spelled as in a history, with any name where a history has the number of a put or a get: 1 to
+255 bytes without spaces and control bytes. The reply of `put` and of `get` gives the name. Names of puts and of gets are two tables.
+
+Puts and gets are numbered in the merged order, so no coordinator has to count those of the whole store. Whether the history is right is for `ringplan replay`.
+The logs are read as streams, and no entry is kept.
+"""
+
+from __future__ import annotations
+
+import argparse
+import contextlib
+import heapq
+import os
+import re
+import sys
+from array import array
+from collections.abc import Iterable, Iterator
+from dataclasses import dataclass, field
+from enum import IntEnum
+
+
+class Status(IntEnum):
+    BAD_LOG = 2
+    NO_FILE = 3
+
+
+class Stop(Exception):
+    """What is wrong with a file, and the status with which the command ends."""
+
+    def __init__(self, status: Status, what: str) -> None:
+        super().__init__(what)
+        self.status = status
+
+
+class BadLine(Exception):
+    """What is wrong with a line of a log."""
+
+
+# A place, the log's number, the line's number, and the line without its place.
+Placed = tuple[int, int, int, bytes]
+
+NUMBER, WORD = "(?:0|[1-9][0-9]*)", "[a-z0-9_.:-]"
+NODE, KEY, VALUE, NAME = WORD + "{1,32}", WORD + "{1,64}", "x(?:[0-9a-f]{2}){0,1024}", r"[^\x00-\x20\x7f]{1,255}"
+REPLY = f" = (?:(ok|ticket {NUMBER} {NUMBER} {NUMBER})|(found|reply)((?: {NAME})*))\n"
+PLACE = re.compile(b"0|[1-9][0-9]{0,254}")
+PUT = re.compile(f"(put {NODE} {KEY} {VALUE})(?: seen((?: {NAME})+))? = put ({NAME})\n".encode())
+GET = re.compile(f"(get {KEY}) = get ({NAME})\n".encode())
+# Events that name no put and no get, and those that name one, with what follows the name.
+PLAIN = {**dict.fromkeys(("do", "open", "close", "abort"), NUMBER), **dict.fromkeys(("down", "up", "lose"), NODE)}
+PLAIN |= {"chunk": f"{NUMBER} {NUMBER}", "handoff": f"{NODE} {NUMBER} {NUMBER}"}
+OF_A_PUT, OF_A_GET = {"write": f" {NUMBER}", "hint": f" {NUMBER} {NODE}", "ack": ""}, {"read": f" {NUMBER}", "endget": ""}
+OTHERS = {kind.encode(): re.compile(f"({kind} {fields})()(){REPLY}".encode()) for kind, fields in PLAIN.items()}
+OTHERS |= {kind.encode(): re.compile(f"({kind} )({NAME})({rest}){REPLY}".encode()) for kind, rest in (OF_A_PUT | OF_A_GET).items()}
+
+
+@dataclass(slots=True)
+class Counter:
+    """The names of one prefix whose digits count up: by the digits less `base` the name's number plus one, or 0 where there is no such name."""
+
+    base: int
+    filled: int = 0
+    numbers: array[int] = field(default_factory=lambda: array("I"))
+
+    def add(self, place: int, number: int) -> bool:
+        """Whether the name is kept here. A place takes 4 bytes, and a name in a dictionary more than 16 times as many."""
+        gap = place - len(self.numbers)
+        if place < 0 or place > 16 * self.filled + 64:
+            return False
+        if gap >= 0:
+            self.numbers.frombytes(bytes(self.numbers.itemsize * (gap + 1)))
+        self.numbers[place] = number + 1
+        self.filled += 1
+        return True
+
+
+class Names:
+    """The puts, or the gets, by name. A name that is a prefix with a counter's digits is kept in an array, any other in a dictionary."""
+
+    # An array has numbers below this one.
+    MOST = 2**32 - 1
+    # So many prefixes have an array. Of random names each would have its own.
+    PREFIXES = 65536
+
+    def __init__(self, kind: str) -> None:
+        self.kind, self.count, self.counters, self.others = kind, 0, dict[bytes, Counter](), dict[bytes, int]()
+
+    @staticmethod
+    def split(name: bytes) -> tuple[bytes, int]:
+        """A prefix, and the digits after it without leading zeros; -1 where there are none."""
+        digits = name[len(name.rstrip(b"0123456789")) :].lstrip(b"0")
+        return (name[: -len(digits)], int(digits)) if digits else (name, -1)
+
+    def find(self, name: bytes) -> int:
+        """The number of a name, or -1."""
+        prefix, digits = self.split(name)
+        counter = self.counters.get(prefix)
+        if counter is not None and 0 <= digits - counter.base < len(counter.numbers) and (found := counter.numbers[digits - counter.base]):
+            return found - 1
+        return self.others.get(name, -1)
+
+    def add(self, name: bytes) -> bytes:
+        """Gives a name the next number."""
+        if self.find(name) >= 0:
+            raise BadLine(f"a second {self.kind} {shown(name)}")
+        if self.count == self.MOST:
+            raise BadLine(f"more than {self.MOST} {self.kind}s")
+        prefix, digits = self.split(name)
+        if digits >= 0 and prefix not in self.counters and len(self.counters) < self.PREFIXES:
+            self.counters[prefix] = Counter(digits)
+        counter = self.counters.get(prefix)
+        if digits < 0 or counter is None or not counter.add(digits - counter.base, self.count):
+            self.others[name] = self.count
+        self.count += 1
+        return b"%d" % (self.count - 1)
+
+    def number(self, name: bytes) -> int:
+        found = self.find(name)
+        if found < 0:
+            raise BadLine(f"no {self.kind} {shown(name)} comes before it")
+        return found
+
+    def ascending(self, names: bytes) -> bytes:
+        """The numbers of a list of names, each name after a space."""
+        return b"".join(b" %d" % number for number in sorted(map(self.number, names.split(b" ")[1:])))
+
+
+def shown(name: bytes) -> str:
+    return name.decode(errors="backslashreplace")
+
+
+class Merger:
+    """The puts and gets of the merged order so far."""
+
+    def __init__(self) -> None:
+        self.puts, self.gets = Names("put"), Names("get")
+        self.tables = {**dict.fromkeys(map(str.encode, OF_A_PUT), self.puts), **dict.fromkeys(map(str.encode, OF_A_GET), self.gets)}
+
+    def entry(self, line: bytes) -> bytes:
+        """The history's line of an entry."""
+        kind = line[: line.find(b" ")]
+        if kind == b"put" and (match := PUT.fullmatch(line)):
+            event, seen, name = match.groups()
+            if seen and len(names := seen.split(b" ")) != len(set(names)):
+                raise BadLine("a get twice after `seen`")
+            known = b" seen" + self.gets.ascending(seen) if seen else b""
+            return b"%b%b = put %b\n" % (event, known, self.puts.add(name))
+        if kind == b"get" and (match := GET.fullmatch(line)):
+            return b"%b = get %b\n" % (match[1], self.gets.add(match[2]))
+        if (shape := OTHERS.get(kind)) and (match := shape.fullmatch(line)):
+            head, name, tail, reply, word, names = match.groups()
+            event = b"%b%d%b" % (head, self.tables[kind].number(name), tail) if name else head
+            return b"%b = %b\n" % (event, reply or word + self.puts.ascending(names))
+        raise BadLine("no entry")
+
+
+def read_log(number: int, path: str) -> Iterator[Placed]:
+    last = 0
+    try:
+        with open(0, "rb", closefd=False) if path == "-" else open(path, "rb") as file:
+            for at, line in enumerate(file, 1):
+                digits, _, entry = line.partition(b" ")
+                if not PLACE.fullmatch(digits):
+                    raise Stop(Status.BAD_LOG, f"{path}:{at}: no entry")
+                place = int(digits)
+                if place < last:
+                    raise Stop(Status.BAD_LOG, f"{path}:{at}: place {place} comes after place {last}")
+                last = place
+                yield place, number, at, entry
+    except OSError as error:
+        raise Stop(Status.NO_FILE, f"{path}: {error.strerror}") from error
+
+
+def merge(paths: list[str]) -> Iterator[bytes]:
+    """The lines of the history's text."""
+    merger = Merger()
+    yield b"history 1\n"
+    for _, number, at, line in heapq.merge(*(read_log(number, path) for number, path in enumerate(paths))):
+        try:
+            yield merger.entry(line)
+        except BadLine as fault:
+            raise Stop(Status.BAD_LOG, f"{paths[number]}:{at}: {fault}") from fault
+    yield b"end\n"
+
+
+def write(path: str, lines: Iterable[bytes]) -> None:
+    """Writes lines to a file: all of them, or where one cannot be had or written none. To a device or standard output they are written as they come."""
+    target, is_stream = os.path.realpath(path), path == "-" or os.path.exists(path) and not os.path.isfile(path)
+    part = f"{target}.{os.getpid()}.part"
+    try:
+        with open(1, "wb", closefd=False) if path == "-" else open(path if is_stream else part, "wb" if is_stream else "xb") as file:
+            file.writelines(lines)
+        if not is_stream:
+            os.replace(part, target)
+    except OSError as error:
+        raise Stop(Status.NO_FILE, f"{'standard output' if path == '-' else path}: {error.strerror}") from error
+    finally:
+        if not is_stream:
+            with contextlib.suppress(OSError):
+                os.unlink(part)
+
+
+def main() -> int:
+    parser = argparse.ArgumentParser(prog="ringplan-merge", description=(__doc__ or "").split("\n")[0])
+    lines = "lines `PLACE EVENT = REPLY`; a put or a get has a name of 1 to 255 bytes without spaces and control bytes; `-` is standard input"
+    written = "writes to FILE all of the history, or at a fault nothing; standard output may have lines already when a fault is found"
+    parser.add_argument("logs", nargs="+", metavar="LOG", help=lines)
+    parser.add_argument("-o", "--output", default="-", metavar="FILE", help=written)
+    words = parser.parse_intermixed_args()
+    if words.logs.count("-") > 1:
+        parser.error("standard input is one log")
+    try:
+        write(words.output, merge(words.logs))
+    except Stop as stop:
+        print(f"ringplan-merge: {stop}", file=sys.stderr)
+        return stop.status
+    return 0
+
+
+if __name__ == "__main__":
+    sys.exit(main())
