@@ -44,7 +44,8 @@ REFUSED = ["broken_fact", "more_chains_than_allowance", "retired_in_use", "copy_
 
 # Rings that are wished for, windows, and texts about the program.
 WISHED = [("goal_around_a_dead_node", "goal --dead b"), ("goal_around_a_dead_node", "goal --dead a --dead b"), ("plan_replace", "goal --dead b --weight a=2 --racks-behind ."), ("plan_replace", "goal --even"),
-    ("plan_replace", "windows --rounds 2"), ("plan_replace", "goal --exit-code"), ("plan_replace", "man"), ("copy_out_of_order", "check --format json"), ("replay_a_move", "replay --format json"), ("plan_replace", "completions zsh"), ("plan_replace", "steps --moves"), ("copy_out_of_order", "windows --rounds 1 --only 1")]
+    ("plan_replace", "windows --rounds 2"), ("plan_replace", "goal --exit-code"), ("plan_replace", "man"), ("copy_out_of_order", "check --format json"), ("replay_a_move", "replay --format json"), ("plan_replace", "completions zsh"), ("plan_replace", "steps --moves"), ("copy_out_of_order", "windows --rounds 1 --only 1"),
+    ("replay_an_early_ack", "part --of 4 --part 0"), ("replay_an_early_ack", "part --partitions 0-1 --map 3"), ("replay_an_early_ack", "part --of 4 --part 0 --map 99")]
 
 # Of these also a certificate, which is found for the one and not for the other.
 SOUGHT = ["no_certificate", "more_chains_than_allowance"]

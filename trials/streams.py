@@ -206,6 +206,46 @@ def formats():
     owes("a form of plan", run("plan", "--format", "json"), contains(b"unexpected argument"), b"", 2)
 
 
+def parts(folder):
+    """Where a part is printed, and why none is."""
+    given = f"{EXAMPLES}/replay_a_move.bundle"
+    share, text = ["part", "--of", "4", "--part", "1"], read("replay_a_move")
+    part = run(*share, given)[0]
+    owes("a part", run(*share, given=text), part, b"", 0)
+    owes("the whole", run("part", "--of", "1", "--part", "0", given), text, b"", 0)
+    owes("all partitions", run("part", "--partitions", "0-3", given), text, b"", 0)
+    owes("a part as a file", run(*share, given, "-o", f"{folder}/part"), b"", b"", 0)
+    with open(f"{folder}/part", "rb") as it:
+        owes("what the file has", (it.read(), b"", 0), part, b"", 0)
+    entries = part[part.index(b"history 1") :].count(b"\n") - 2
+    owes("the last entry of a part", run(*share, "--map", str(entries - 1), given), lambda it: re.fullmatch(rb"\d+\n", it) and int(it) >= entries - 1, b"", 0)
+    owes("no entry of a part", run(*share, "--map", str(entries), given), b"", f"ringplan: the part has {entries} entries\n".encode(), 2)
+    front = text[: text.index(b"history 1")]
+    owes("a part of no history", run(*share, given=front), b"", b"no 1 %d\n" % (front.count(b"\n") + 1), 2)
+    unnamed = contains(b"error: a part is named by")
+    for words in ([], ["--of", "4"], ["--part", "1"], ["--of", "4", "--part", "4"], ["--partitions", "2-1"], ["--partitions", "2"], ["--partitions", "-"], ["--partitions", "0-4294967296"],
+                  ["--of", "4", "--part", "1", "--partitions", "0-1"]):
+        owes(f"part {words}", run("part", *words), b"", unnamed, 2)
+    for option, numbers in (("--of <K>", ("0", "4097", "x")), ("--part <I>", ("4096", "x")), ("--map <N>", ("1000000", "x"))):
+        for number in numbers:
+            owes(f"part by {option} of {number}", run(*share, option.split()[0], number), b"", contains(f"'{option}'".encode()), 2)
+    # Histories above what is judged at once: of one partition's entries, and of a greater file.
+    downs = [b"down d = ok\n", b"up d = ok\n"] * 500_000
+    with open(f"{folder}/long", "wb") as it:
+        it.writelines([front, b"history 1\n", *downs, b"up a = ok\n", b"end\n"])
+    size = len(front) + 14 + sum(map(len, downs)) + 10
+    words = f"ringplan: the part has 1000001 entries and {size} bytes, and 1000000 and {MOST} are judged at once: "
+    owes("a part of too many entries", run(*share, f"{folder}/long"), b"", f"{words}--of 8 may do\n".encode(), 2)
+    owes("a range of too many entries", run("part", "--partitions", "0-1", f"{folder}/long"), b"", f"{words}2 times fewer partitions may do\n".encode(), 2)
+    others = [b"get k%d = get %d\n" % (number % 1000, number) for number in range(3_500_000)]
+    with open(f"{folder}/long", "wb") as it:
+        it.writelines([front, b"history 1\n", *others, b"end\n"])
+    owes("a history above the limit of a file", (b"", b"", os.path.getsize(f"{folder}/long") > MOST), b"", b"", 1)
+    found = run(*share, f"{folder}/long")
+    owes("its part", found, contains(b"\nhistory 1\nget k"), b"", 0)
+    owes("its part, judged", run("replay", given=found[0]), contains(b"yes\n"), b"", 0)
+
+
 def cases_of(word):
     """The bundles of the cases of a command, as they stand in the words of tests_cases."""
     with open(f"{top}/crates/tests_cases/args") as it:
@@ -337,6 +377,7 @@ with tempfile.TemporaryDirectory() as scratch:
     files(scratch)
     outputs(scratch)
     sizes(scratch)
+    parts(scratch)
 dead()
 streams()
 formats()
