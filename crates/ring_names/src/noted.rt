@@ -1,7 +1,7 @@
 //! A table of numbers, where that of some bytes is found by a sum of the bytes.
 
 ghost use Rattle.std.specs.Prelude.{◌≡◌, ℕ, List, Some, true, false, length, map, option_map, slice_get, IfSome, IfNone};
-ghost use Rattle.ring_names.specs.Noted.{IsNoted, noted_at, sum_of};
+ghost use Rattle.ring_names.specs.Noted.{IsNoted, first_place, noted_at, sum_of};
 
 /// What stands at a place of the table: a sum of some bytes, and one more than their number, or 0 where the place is free.
 #[derive(Clone, Copy)]
@@ -25,6 +25,16 @@ fn sum_of(bytes: &[u8]) -> u32
         sum = (sum + *byte as u64) * 16_777_619 % 4_294_967_296;
     }
     sum as u32
+}
+
+// The first place of a sum in a table of so many. A product and a shift take a fraction of a division's time.
+fn first_place(places: usize, sum: u32) -> usize
+    ensures { result ≡ first_place places sum }
+{
+    if places > u32::MAX as usize {
+        return 0;
+    }
+    (sum as u64 * places as u64 / 4_294_967_296) as usize
 }
 
 // The number that stands there, if that was noted of bytes with the sum.
@@ -87,7 +97,7 @@ pub fn find(table: &[Noted], list: &[Vec<u8>], bytes: &[u8]) -> Option<usize>
         return None;
     }
     let sum = sum_of(bytes);
-    let first = sum as usize % table.len();
+    let first = first_place(table.len(), sum);
     for near in 0..NEAR {
         if let Some(number) = found_at(table, first + near, sum, list, bytes) {
             return Some(number);
@@ -120,7 +130,7 @@ pub fn note(table: &mut [Noted], bytes: &[u8], number: usize) -> bool
         return false;
     }
     let sum = sum_of(bytes);
-    let first = sum as usize % table.len();
+    let first = first_place(table.len(), sum);
     let noted = Noted {
         sum,
         next: number as u32 + 1,

@@ -1,4 +1,4 @@
-use Rattle.std.proofs.Common.{◌≡◌, ◌+◌, ◌%◌, inl, inr, ℕ, Some, sym, subst, length, arith}
+use Rattle.std.proofs.Common.{◌≡◌, ◌+◌, inl, inr, ℕ, Some, subst, length, arith}
 use Rattle.ring_names.specs.Noted.{noted_at}
 use Rattle.ring_names.proofs.Finding.{below_next}
 use Rattle.ring_names.proofs.noted.find.Goals as goal
@@ -9,10 +9,10 @@ loop-near-init c = λ near n h at is. absurd (omega (arith, h))
 pub loop-near-preserved : goal.loop-near-preserved
 loop-near-preserved c = λ near n h at is. elim (below_next near c.loop-near.near h) [
   | inl less ↦ c.loop-near.invariant near n less at is
-  | inr same ↦ c.in_default.ensures.none n (subst (λ (x : ℕ). noted_at c.args.table.now (c.sum_of-sum.result % length c.args.table.now + x) c.sum_of-sum.result ≡ Some n) same at) is
+  | inr same ↦ c.in_default.ensures.none n (subst (λ (x : ℕ). noted_at c.args.table.now (c.first_place-first.result + x) c.sum_of-sum.result ≡ Some n) same at) is
 ]
 
 pub returns-clause-none : goal.returns-clause-none
 returns-clause-none c = λ n noted is.
-    let at = subst (λ (s : ℕ). noted_at c.args.table.now (s % length c.args.table.now + noted.0) s ≡ Some n) (sym c.sum_of-sum.ensures) noted.2 in
+    let at : noted_at c.args.table.now (c.first_place-first.result + noted.0) c.sum_of-sum.result ≡ Some n = rw (c.first_place-first.ensures, c.sum_of-sum.ensures) noted.2 in
     c.loop-near.invariant noted.0 n (omega (arith, noted.1, c.loop-near-test.false)) at is
