@@ -1,8 +1,7 @@
-pub mod NodeLines
-pub mod QuorumLines
 pub mod LineLaws
 pub mod RowLaws
 pub mod NodesLaws
+pub mod RingForm
 pub mod RingLaws
 pub mod RingLates
 pub mod NodeForm

@@ -6,10 +6,11 @@ use Rattle.ring_table.specs.Value.{RingValue, names_of}
 use Rattle.ring_table.specs.Valid.{IsRing}
 use Rattle.ring_table.specs.Spelling.{name_at}
 use Rattle.ring_table.specs.Reading.{declared_at}
-use Rattle.ring_table.proofs.NodesLaws.{item-node, names-of}
-use Rattle.ring_table.proofs.RingLaws.{name_at-plain}
-use Rattle.ring_table.proofs.RingLates.{judges-declared}
+use Rattle.ring_table.proofs.RowLaws.{name_at-plain}
+use Rattle.ring_table.proofs.NodesLaws.{item-node, names-of, judges-declared}
 
+-- the node that a field names
 abbrev pub node_form : (ring : RingValue) → Form (IsRing ring) Always NodeId
-node_form ring = of_item (declared_at ring) (λ x. name_at (names_of ring) x ∷ []) (λ x. x.0 < length (names_of ring)) (λ r k. item-node ring k (names-of ring r)) (judges-declared ring)
+node_form ring = of_item (declared_at ring) (λ x. name_at (names_of ring) x ∷ []) (λ x. x.0 < length (names_of ring))
+    (λ r k. item-node ring k (names-of ring r)) (judges-declared ring)
     (λ r v p. (name_at-plain (names_of ring) v (names-of ring r).each, tt))

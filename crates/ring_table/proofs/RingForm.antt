@@ -1,0 +1,464 @@
+-- A ring as one form: what is read, how it is spelled and what is allowed.
+use Rattle.std.proofs.Common.{◌≡◌, ℕ, zero, suc, ◌+◌, ◌<◌, ◌≤◌, ◌^◌, Bool, true, false, not, cond, nat_lt, nat_le, ◌==◌, ◌&&◌, List, [], ◌∷◌, ◌++◌, length, map, codes, Option, Some, None, Result, Ok, Err, refl, ap, subst, ◌∙◌, arith, rules, length-append}
+use Rattle.std.specs.Prelude.{is_some}
+use Rattle.std.specs.Fmt.{decimal}
+use Rattle.std.specs.List.{AllByRecursion, list_all}
+use Rattle.std.proofs.lemmas.Bool.{lt-ltb, ltb-true, le-ltb, le-leb, leb-true, eqb-true, and_parts, not-false}
+use Rattle.std.proofs.lemmas.Fmt.{decimal_digit}
+use Rattle.std.proofs.lemmas.Grind.{common_steps}
+use Rattle.std.proofs.lemmas.List.{map_push}
+use Rattle.ring_names.specs.Lists.{all_different, AllNew}
+use Rattle.ring_names.specs.Names.{place}
+use Rattle.ring_names.specs.Space.{is_space}
+use Rattle.ring_names.specs.declared.ids.NodeId.{NodeId}
+use Rattle.ring_names.specs.declared.refusal.Refusal.{Refusal}
+use Rattle.ring_names.specs.declared.refusal.Refusal.TheVariants.{BadLine, Repeated, QuorumTooSmall, SharedNode, NotMember}
+use Rattle.ring_names.proofs.Logic.{and_false, pair_of}
+use Rattle.texts.specs.Name.{is_name}
+use Rattle.texts.specs.Number.{decimal_value}
+use Rattle.texts.specs.Numbers.{first_value}
+use Rattle.texts.specs.Judging.{Item, ◌⊗◌, field_at, number_at, word_at, limited, map_item, whole, unless}
+use Rattle.texts.specs.Laws.{IsFront, IsPlainLine, SomeLeft, EachNext}
+use Rattle.texts.specs.Left.{◌>>=◌, then_part}
+use Rattle.texts.proofs.Items.{IsItem-field, IsItem-word, IsLine-as, IsLine-judged, IsPart-nil, IsPart-cons, IsPart-then, Passes, bind_ok, map_is, ok_is, unless_is}
+use Rattle.texts.proofs.Fronts.{front-⊗, front-map, front-whole}
+use Rattle.texts.proofs.Lates.{AllAt, Judges, at-bind, at-if, at-limited, at-unless, at-whole, either-at, judges-field, judges-map, judges-number, judges-word, judges-⊗, advances-line, advances-map, advances-then}
+use Rattle.texts.proofs.Decimals.{IsItem-number, decimal-value, value-decimal, limited_is}
+use Rattle.texts.proofs.Texts.{appended}
+use Rattle.texts.proofs.Wholes.{decimal-plain, name-plain}
+use Rattle.texts.proofs.Forms.{IsPart, IsPlain, Any, Always, BeginsOther, Left, ReadsTo, At, is_word, some_lines, Form, LineForm, Section, Advances, of_item, word, room, judge_words, AreWords, words-are, words-at, one_of, both, has_field, line, plain-line, one, many, then, made, ending}
+use Rattle.ring_table.specs.declared.allowance.Allowance.{Allowance}
+use Rattle.ring_table.specs.declared.allowance.Allowance.TheVariants.{Joint, Split}
+use Rattle.ring_table.specs.declared.head.Head.{Head}
+use Rattle.ring_table.specs.declared.head.Quorum.{Quorum}
+use Rattle.ring_table.specs.declared.node.Node.{Node}
+use Rattle.ring_table.specs.Value.{RingValue, is_member}
+use Rattle.ring_table.specs.Valid.{is_format, is_loss, is_quorum, IsMost, IsAllowance, IsNode, IsNew, IsRow}
+use Rattle.ring_table.specs.Spelling.{allowance_fields, membership, node_fields, name_at, row_fields, rows_lines}
+use Rattle.ring_table.specs.Reading.{judge_new, judge_most, above_zero, made as made_of, owners_at, row_at, rows_at, ring_of}
+use Rattle.ring_table.proofs.LineLaws.{space-le, quorum-parts}
+use Rattle.ring_table.proofs.RowLaws.{AreNames, IsItem-owners, judges-owners, names-plain, members-below}
+use Rattle.ring_table.proofs.NodesLaws.{each-name}
+
+-- the fields of a line
+abbrev pub Fields : Type 0
+Fields = List (List ℕ)
+
+-- ---- fields of any format
+
+module _ {W A : Type 0} where
+  -- a form from its parts
+  abbrev pub form_of : (C : Fields → Type 0) (item : ℕ → Item A) (spell : A → Fields) (P : A → Type 0) → (W → (k : ℕ) → IsFront C (item k) spell P)
+      → ((k : ℕ) → Judges k (item k)) → (W → (v : A) → P v → AllByRecursion IsPlain (spell v)) → Form W C A
+  form_of C item spell P exact judges plain = record {
+    item = item;
+    spell = spell;
+    allowed = P;
+    exact = exact;
+    judges = judges;
+    plain = plain;
+  }
+
+  -- a field, by its judge
+  abbrev pub field : (judge : ℕ → List ℕ → Result A Refusal) (spell : A → List ℕ) (P : A → Type 0)
+      → ((k : ℕ) (f : List ℕ) (v : A) → judge k f ≡ Ok v → (f ≡ spell v) × P v) → ((k : ℕ) (v : A) → P v → judge k (spell v) ≡ Ok v)
+      → ((k : ℕ) (f : List ℕ) → At k (judge k f)) → ((v : A) → P v → IsPlain (spell v)) → Form W Always A
+  field judge spell P taken given at plain = of_item (λ k. field_at k (judge k)) (λ v. spell v ∷ []) P
+      (λ _ k. IsItem-field k (judge k) spell P (taken k) (given k)) (λ k. judges-field k (judge k) (at k)) (λ _ v p. (plain v p, tt))
+
+-- a number up to a limit
+abbrev pub number : {W : Type 0} (limit : ℕ) → limit < 2 ^ 64 → Form W Always ℕ
+number limit wide = of_item (λ k. number_at k limit) (λ n. decimal n ∷ []) (λ n. n ≤ limit) (λ _ k. IsItem-number k limit wide) (λ k. judges-number k limit)
+    (λ _ v le. (decimal-plain v (omega arith), tt))
+
+-- a field that is left out where the test is true, its value then x
+abbrev pub unsaid : {W A : Type 0} (x : A) (a : Form W Always A) (P : Bool → A → Type 0) → P true x → ((v : A) → P true v → v ≡ x)
+    → ((v : A) → a.allowed v → P false v) → ((v : A) → P false v → a.allowed v) → Bool → Form W Always A
+unsaid x a P known is to from b = form_of Always (λ k fields. cond b (Ok x, fields) (a.item k fields)) (λ v. cond b [] (a.spell v)) (P b)
+    (λ w k. elim b as (λ c. IsFront Always (λ fields. cond c (Ok x, fields) (a.item k fields)) (λ v. cond c [] (a.spell v)) (P c)) [
+      | true ↦ record { takes = λ fs rest v e. (ap (λ q. q.1) e, subst (P true) (ok_is x v (ap (λ q. q.0) e)) known); gives = λ v rest p c. rw (is v p) refl }
+      | false ↦ let i = a.exact w k in record { takes = λ fs r v e. (let t = i.takes fs r v e in (t.0, to v t.1)); gives = λ v r p. i.gives v r (from v p) }
+    ])
+    (λ k. record { at = λ fields. either-at k b (Ok x, fields) (a.item k fields) tt ((a.judges k).at fields) })
+    (λ w v. elim b as (λ c. P c v → AllByRecursion IsPlain (cond c [] (a.spell v))) [ true ↦ λ p. tt | false ↦ λ p. a.plain w v (from v p) ])
+
+-- an optional item: read where the format has it and the fields begin so
+module _ {W A : Type 0} (may : Bool) (test : Fields → Bool) (a : Form W Always A)
+    (begins : (v : A) (rest : Fields) → a.allowed v → test (a.spell v ++ rest) ≡ true) where
+  -- what is read: the value where the fields begin so, else nothing
+  abbrev pub maybe_item : ℕ → Item (Option A)
+  maybe_item k fields = cond (may && test fields) (map_item Some (a.item k) fields) (Ok None, fields)
+
+  -- how it is spelled
+  abbrev pub maybe_fields : Option A → Fields
+  maybe_fields None = []
+  maybe_fields (Some v) = a.spell v
+
+  -- when it is allowed
+  abbrev pub IsMaybe : Option A → Type 0
+  IsMaybe None = Unit {0}
+  IsMaybe (Some v) = (may ≡ true) × a.allowed v
+
+  pub maybe-front : W → (k : ℕ) → IsFront (λ rest. test rest ≡ false) (maybe_item k) maybe_fields IsMaybe
+  maybe-front w k = record { takes = λ fields rest v e. take fields rest v (may && test fields) refl e; gives = give }
+    where
+      take : (fields rest : Fields) (v : Option A) (b : Bool) → (may && test fields) ≡ b → cond b (map_item Some (a.item k) fields) (Ok None, fields) ≡
+          (Ok v, rest) → (fields ≡ maybe_fields v ++ rest) × IsMaybe v
+      take fields rest v false h e = (let n : None ≡ v = ok_is None v (ap (λ q. q.0) e) in rw (← n) (ap (λ q. q.1) e, tt))
+      take fields rest v true h e =
+          let m = map_is Some (a.item k fields).0 v (ap (λ q. q.0) e) in
+          let t = (a.exact w k).takes fields rest m.0 (pair_of (a.item k fields) (Ok m.0) rest m.1 (ap (λ q. q.1) e)) in
+          rw (← m.2) (t.0, ((and_parts may (test fields) h).0, t.1))
+
+      give : (v : Option A) (rest : Fields) → IsMaybe v → test rest ≡ false → maybe_item k (maybe_fields v ++ rest) ≡ (Ok v, rest)
+      give None rest p c = rw (c, and_false may) refl
+      give (Some v) rest p c = rw (p.0, begins v rest p.1, (a.exact w k).gives v rest p.1 tt) refl
+
+  -- an optional item as a form
+  abbrev pub maybe : Form W (λ rest. test rest ≡ false) (Option A)
+  maybe = form_of (λ rest. test rest ≡ false) maybe_item maybe_fields IsMaybe maybe-front
+      (λ k. record { at = λ fs. either-at k (may && test fs) _ (Ok None, fs) ((judges-map k Some (a.item k) (a.judges k)).at fs) tt })
+      (λ w v. elim v as (λ o. IsMaybe o → AllByRecursion IsPlain (maybe_fields o)) [ None ↦ λ p. tt | Some x ↦ λ p. a.plain w x p.1 ])
+
+-- the value made into another
+abbrev pub formed : {W A B : Type 0} (C : Fields → Type 0) (f : A → B) (g : B → A) → ((x : A) → g (f x) ≡ x) → ((y : B) → f (g y) ≡ y) → Form W C A → Form W C B
+formed C f g gf fg a = form_of C (λ k. map_item f (a.item k)) (λ y. a.spell (g y)) (λ y. a.allowed (g y))
+    (λ w k. front-map C (a.item k) a.spell a.allowed f g gf fg (a.exact w k)) (λ k. judges-map k f (a.item k) (a.judges k)) (λ w y. a.plain w (g y))
+
+-- one, and after it another, where what may follow the first is known
+abbrev pub ended : {W A B : Type 0} (C D : Fields → Type 0) (a : Form W C A) (b : Form W D B) → ((y : B) (rest : Fields) → D rest → C (b.spell y ++ rest))
+    → Form W D (A × B)
+ended C D a b meet = form_of D (λ k. a.item k ⊗ b.item k) (λ v. a.spell v.0 ++ b.spell v.1) (λ v. a.allowed v.0 × b.allowed v.1)
+    (λ w k. front-⊗ C D (a.item k) (b.item k) a.spell b.spell a.allowed b.allowed (a.exact w k) (b.exact w k) meet)
+    (λ k. judges-⊗ k (a.item k) (b.item k) (a.judges k) (b.judges k))
+    (λ w v p. appended IsPlain (a.spell v.0) (b.spell v.1) (a.plain w v.0 p.0) (b.plain w v.1 p.1))
+
+-- ---- lines of any format
+
+-- a whole line of a form, unless one of the tests is so
+abbrev pub judged_line : {W A B : Type 0} (tests : ℕ → A → List (Bool × Refusal)) (f : A → B) (g : B → A) (P : B → Type 0) (a : Form W Always A)
+    → ((x : A) → g (f x) ≡ x) → ((y : B) → f (g y) ≡ y) → ((v : A) → has_field (a.spell v) ≡ true) → ((k : ℕ) (x : A) → AllAt k (tests k x))
+    → ((k : ℕ) (y : B) → a.allowed (g y) × Passes (tests k (g y)) → P y) → ((k : ℕ) (y : B) → P y → a.allowed (g y) × Passes (tests k (g y))) → LineForm W B
+judged_line tests f g P a gf fg some at to from = record {
+  read = λ k fields. whole k (a.item k) fields >>= λ x. unless (tests k x) (f x);
+  spell = λ y. a.spell (g y);
+  allowed = P;
+  exact = λ w k. IsLine-as _ (λ y. a.spell (g y)) (λ y. a.spell (g y)) (λ y. a.allowed (g y) × Passes (tests k (g y))) P (λ y. refl) (to k) (from k)
+      (IsLine-judged (whole k (a.item k)) a.spell a.allowed (tests k) f g gf fg (front-whole Always k (a.item k) a.spell a.allowed tt (a.exact w k)));
+  at = λ k fields. at-bind k (whole k (a.item k) fields) (λ x. unless (tests k x) (f x)) (at-whole k (a.item k) (a.judges k) fields)
+      (λ x. at-unless k (tests k x) (f x) (at k x));
+  plain = λ w y p. plain-line (a.spell (g y)) (a.plain w (g y) (from 0 y p).0) (some (g y));
+}
+
+-- ---- sections of any format
+
+-- a section with something in it, else the line after it is at fault
+module _ {W A : Type 0} (C : Fields → Type 0) (a : Section W C (List A)) where
+  -- reads the section, and refuses an empty list
+  abbrev pub some_read : Left → Result (List A × Left) Refusal
+  some_read s = a.read s >>= λ x. unless ((not (nat_lt 0 (length x.0)), BadLine x.1.line) ∷ []) x
+
+  -- an allowed list with something in it
+  abbrev pub IsSome : List A → Type 0
+  IsSome v = a.allowed v × (nat_lt 0 (length v) ≡ true)
+
+  pub some-part : W → IsPart C some_read a.spell IsSome
+  some-part w = record { takes = take; gives = give }
+    where
+      take : (s t : Left) (v : List A) → SomeLeft s → some_read s ≡ Ok (v, t) → (s.lines ≡ a.spell v ++ t.lines) × IsSome v × SomeLeft t
+      take s t v some e =
+          let b = bind_ok (a.read s) (λ x. unless ((not (nat_lt 0 (length x.0)), BadLine x.1.line) ∷ []) x) (v, t) e in
+          let u = unless_is ((not (nat_lt 0 (length b.0.0)), BadLine b.0.1.line) ∷ []) b.0 (v, t) b.2 in
+          let i = (a.exact w).takes s b.0.1 b.0.0 some b.1 in
+          subst (λ (x : List A × Left). (s.lines ≡ a.spell x.0 ++ x.1.lines) × IsSome x.0 × SomeLeft x.1) u.0
+          (i.0, (i.1, not-false (nat_lt 0 (length b.0.0)) u.1.0), i.2)
+
+      give : (k : ℕ) (v : List A) (x : Fields) (xs : List Fields) → IsSome v → C x
+          → (m : ℕ) × (some_read (record { line = k; lines = a.spell v ++ x ∷ xs }) ≡ Ok (v, record { line = m; lines = x ∷ xs }))
+      give k v x xs p c = (let i = (a.exact w).gives k v x xs p.0 c in (i.0, rw (i.1, p.1) refl))
+
+  -- a place in it is one of the whole
+  pub to-some : (k : ℕ) (s : Left) → ReadsTo k (a.read s) → ReadsTo k (some_read s)
+  to-some k s p = by (a.read s) p
+    where
+      by : (r : Result (List A × Left) Refusal) → ReadsTo k r → ReadsTo k (◌>>=◌ {B = List A × Left} r
+          (λ x. unless ((not (nat_lt 0 (length x.0)), BadLine x.1.line) ∷ []) x))
+      by (Ok x) q = elim (not (nat_lt 0 (length x.0))) as (λ b. ReadsTo k (cond {A = Result (List A × Left) Refusal} b (Err (BadLine x.1.line)) (Ok x)))
+          [ true ↦ (x.1.line, q, refl) | false ↦ q ]
+      by (Err e) q = q
+
+  -- one or more, as a section
+  abbrev pub at_least_one : Section W C (List A)
+  at_least_one = record {
+    read = some_read;
+    spell = a.spell;
+    allowed = IsSome;
+    exact = some-part;
+    advances = record { on = λ s. to-some s.line s (a.advances.on s) };
+    plain = λ w v p. a.plain w v p.0;
+  }
+
+-- one section, and after it another, which holds where V does of the first
+abbrev pub after : {W A B : Type 0} (V : A → Type 0) (C D : Fields → Type 0) (a : Section W C A) (b : (x : A) → Section (V x) D B)
+    → (W → (x : A) → a.allowed x → V x) → ((x : A) (y : B) (l : Fields) (ls : List Fields) → D l → C (some_lines ((b x).spell y) l ls).0) → Section W D (A × B)
+after V C D a b known meet = record {
+  read = then_part a.read (λ x. (b x).read);
+  spell = λ v. a.spell v.0 ++ (b v.0).spell v.1;
+  allowed = λ v. a.allowed v.0 × (b v.0).allowed v.1;
+  exact = λ w. IsPart-then C D a.read (λ x. (b x).read) a.spell (λ x. (b x).spell) a.allowed (λ x. (b x).allowed) (a.exact w) (λ x p. (b x).exact (known w x p))
+      (λ x y l ls p q d. meet x y l ls d);
+  advances = advances-then a.read (λ x. (b x).read) a.advances (λ x. (b x).advances);
+  plain = λ w v p. appended IsPlainLine (a.spell v.0) ((b v.0).spell v.1) (a.plain w v.0 p.0) ((b v.0).plain (known w v.0 p.0) v.1 p.1);
+}
+
+-- ---- the lines before the nodes
+
+pub words-plain : IsPlain (codes "ring") × IsPlain (codes "space") × IsPlain (codes "quorum") × IsPlain (codes "node") × IsPlain (codes "in")
+    × IsPlain (codes "out") × IsPlain (codes "slots") × IsPlain (codes "1") × IsPlain (codes "2") × IsPlain (codes "3")
+words-plain = (search rules)
+
+-- the words of the formats
+abbrev pub formats : List (List ℕ × ℕ)
+formats = (codes "1", 1) ∷ (codes "2", 2) ∷ (codes "3", 3) ∷ []
+
+pub formats-spelled : AreWords decimal formats
+formats-spelled =
+    let is = decimal_digit in
+    ((is 1 (omega arith), words-plain.7), ((is 2 (omega arith), words-plain.8), ((is 3 (omega arith), words-plain.9), tt)))
+
+pub format-is : (k : ℕ) (f : List ℕ) (v : ℕ) → judge_words formats k f ≡ Ok v → (f ≡ decimal v) × (is_format v ≡ true)
+format-is k f v e = ((words-are decimal formats formats-spelled k f v e).0, grind (arith, common_steps))
+
+pub format-ok : (k v : ℕ) → is_format v ≡ true → judge_words formats k (decimal v) ≡ Ok v
+format-ok k zero e = absurd cc
+format-ok k (suc zero) e = rw (decimal_digit 1 (omega arith)) refl
+format-ok k (suc (suc zero)) e = rw (decimal_digit 2 (omega arith)) refl
+format-ok k (suc (suc (suc zero))) e = rw (decimal_digit 3 (omega arith)) refl
+format-ok k (suc (suc (suc (suc v)))) e = absurd (grind (arith, common_steps))
+
+-- `ring <format>`
+abbrev pub format_line : {W : Type 0} → LineForm W ℕ
+format_line = line Always tt (λ x. x.1) (λ v. (tt {0}, v)) (λ x. refl) (λ y. refl) (both Always (word (codes "ring") words-plain.0)
+    (field (judge_words formats) decimal (λ f. is_format f ≡ true) format-is format-ok (words-at decimal formats)
+    (λ v p. (words-are decimal formats formats-spelled 0 (decimal v) v (format-ok 0 v p)).1))) (λ v. refl)
+
+-- `space <q>`
+abbrev pub space_line : {W : Type 0} → LineForm W ℕ
+space_line = judged_line (λ k x. (not (is_space x.1), BadLine k) ∷ []) (λ x. x.1) (λ q. (tt {0}, q)) (λ q. is_space q ≡ true)
+    (both Always (word (codes "space") words-plain.1) (number 4096 (omega arith)))
+    (λ x. refl) (λ y. refl) (λ v. refl) (λ k x. (refl, tt)) (λ k q p. not-false (is_space q) p.1.0) (λ k q e. ((tt, space-le q e), (ap not e, tt)))
+
+-- how many stores may be lost
+abbrev pub loss_form : {W : Type 0} → ℕ → Form W Always ℕ
+loss_form format = unsaid 0 (number 6 (omega arith)) (λ b f. cond b (f == 0) (nat_le f 6) ≡ true) refl (λ f e. eqb-true f 0 e) (λ f le. le-leb f 6 le)
+    (λ f e. leb-true f 6 e) (nat_lt format 3)
+
+-- `quorum <n> <r> <w>`, and the losses
+abbrev pub quorum_line : {W : Type 0} → ℕ → LineForm W Quorum
+quorum_line format = judged_line (λ k x. (not (is_quorum x.0.0.0.1 x.0.0.1 x.0.1 x.1), QuorumTooSmall k) ∷ [])
+    (λ x. record { n = x.0.0.0.1; r = x.0.0.1; w = x.0.1; loss = x.1 }) (λ y. ((((tt {0}, y.n), y.r), y.w), y.loss))
+    (λ y. (y.n ≤ 7) × ((is_loss format y.loss ≡ true) × (is_quorum y.n y.r y.w y.loss ≡ true)))
+    (let s = number 7 (omega arith) in both Always (both Always (both Always (both Always (word (codes "quorum") words-plain.2) s) s) s) (loss_form format))
+    (λ x. refl) (λ y. refl) (λ v. refl) (λ k x. (refl, tt)) (λ k y p. (p.0.0.0.0.1, (p.0.1, not-false (is_quorum y.n y.r y.w y.loss) p.1.0)))
+    (λ k y p. let parts = quorum-parts y.n y.r y.w y.loss p.1.1 in (((((tt, p.0), omega arith), omega arith), p.1.0), (ap not p.1.1, tt)))
+
+-- the lines of the format, the partitions and the quorum
+abbrev pub head_form : {W : Type 0} → Section W Any Head
+head_form = made Any (λ x. record { format = x.0; q = x.1.0; quorum = x.1.1 }) (λ h. (h.format, (h.q, h.quorum))) (λ x. refl) (λ y. refl)
+    (then Any Any (one format_line) (λ format. then Any Any (one space_line) (λ _. one (quorum_line format)) (λ w x y l ls p q d. tt)) (λ w x y l ls p q d. tt))
+
+-- ---- the nodes
+
+-- a name that none of these is
+abbrev pub IsUnused : List (List ℕ) → List ℕ → Type 0
+IsUnused names v = (is_name v ≡ true) × (place names v ≡ None)
+
+pub new-is : (k : ℕ) (names : List (List ℕ)) (f v : List ℕ) → judge_new k names f ≡ Ok v → (f ≡ v) × IsUnused names v
+new-is k names f v e = by (is_name f) (place names f) refl refl e
+  where
+    by : (b : Bool) (o : Option ℕ) → is_name f ≡ b → place names f ≡ o → cond b (cond (is_some o) (Err (Repeated k)) (Ok f)) (Err (BadLine k)) ≡ Ok v
+        → (f ≡ v) × IsUnused names v
+    by true None g h e = let same = ok_is f v e in (same, (rw (← same) g, rw (← same) h))
+    by true (Some n) g h e = absurd cc
+    by false o g h e = absurd cc
+
+-- a name that is new
+abbrev pub name_form : {W : Type 0} → List (List ℕ) → Form W Always (List ℕ)
+name_form names = field (λ k. judge_new k names) (λ v. v) (IsUnused names) (λ k f v e. new-is k names f v e) (λ k v p. rw (p.0, p.1) refl)
+    (λ k f. at-if k (is_name f) _ (Err (BadLine k)) (at-if k (is_some (place names f)) (Err (Repeated k)) (Ok f) refl tt) refl) (λ v p. name-plain v p.0)
+
+pub most-is : (k : ℕ) (f : List ℕ) (v : ℕ) → judge_most k f ≡ Ok v → (f ≡ decimal v) × IsMost v
+most-is k f v e =
+    let b = bind_ok (limited k 64 (decimal_value f)) (above_zero k) v e in
+    let l = limited_is k 64 b.0 (decimal_value f) b.1 in
+    let a = elim b.0 as (λ n. above_zero k n ≡ Ok v → (n ≡ v) × (1 ≤ n)) [ zero ↦ λ h. absurd cc | suc n ↦ λ h. (ok_is (suc n) v h, omega arith) ] b.2 in
+    (decimal-value f b.0 l.0 (omega (arith, l.1)) ∙ ap decimal a.0, (omega (arith, a.0, a.1), omega (arith, a.0, l.1)))
+
+pub most-ok : (k v : ℕ) → IsMost v → judge_most k (decimal v) ≡ Ok v
+most-ok k zero p = absurd (omega (arith, p.0))
+most-ok k (suc v) p = (let t : nat_lt 64 (suc v) ≡ false = le-ltb 64 (suc v) p.1 in rw (value-decimal (suc v) (omega (arith, p.1)), t) refl)
+
+-- a number of transfers
+abbrev pub most_form : {W : Type 0} → Form W Always ℕ
+most_form = field judge_most decimal IsMost most-is most-ok
+    (λ k f. at-bind k (limited k 64 (decimal_value f)) (above_zero k) (at-limited k 64 (decimal_value f)) (λ n. elim n as (λ m. At k (above_zero k m))
+    [ zero ↦ refl | suc m ↦ tt ])) (λ v p. decimal-plain v (omega (arith, p.1)))
+
+-- no number follows
+abbrev pub NoNumber : Fields → Type 0
+NoNumber rest = is_some (first_value rest) ≡ false
+
+-- one number, or two
+abbrev pub numbers_form : {W : Type 0} → ℕ → Form W NoNumber (ℕ × Option ℕ)
+numbers_form format = both NoNumber most_form (maybe (nat_le 2 format) (λ fields. is_some (first_value fields)) most_form
+    (λ v rest p. rw (value-decimal v (omega (arith, p.1))) refl))
+
+-- the numbers of an allowance
+abbrev pub parts_of : Allowance → ℕ × Option ℕ
+parts_of (Joint most) = (most, None)
+parts_of (Split take give) = (take, Some give)
+
+-- `<allowance>`, or `<take> <give>`
+abbrev pub allowance_form : {W : Type 0} → ℕ → Form W NoNumber Allowance
+allowance_form format = formed NoNumber (λ x. made_of x.0 x.1) parts_of
+    (λ x. elim x.1 as (λ o. parts_of (made_of x.0 o) ≡ (x.0, o)) [ None ↦ refl | Some n ↦ refl ])
+    (λ y. elim y as (λ z. made_of (parts_of z).0 (parts_of z).1 ≡ z) [ Joint most ↦ refl | Split take give ↦ refl ]) (numbers_form format)
+
+pub allowance-is : (format : ℕ) (x : Allowance) → ((allowance_form {W = Unit {0}} format).spell x ≡ allowance_fields x)
+    × ((allowance_form {W = Unit {0}} format).allowed x → IsAllowance format x) × (IsAllowance format x → (allowance_form {W = Unit {0}} format).allowed x)
+allowance-is format (Joint most) = (refl, λ p. p.0, λ p. (p, tt))
+allowance-is format (Split take give) = (refl, λ p. (leb-true 2 format p.1.0, (p.0, p.1.1)), λ p. (p.1.0, (le-leb 2 format p.0, p.1.1)))
+
+-- the words of memberships
+abbrev pub memberships : List (List ℕ × Bool)
+memberships = (codes "in", true) ∷ (codes "out", false) ∷ []
+
+-- `node <name> <allowance> in` or `.. out`, after the nodes seen
+abbrev pub node_line : {W : Type 0} → ℕ → List Node → LineForm W Node
+node_line format seen = line Always tt (λ x. record { name = x.0.0.1; allowance = x.0.1; is_member = x.1 })
+    (λ y. ((((tt {0}, tt {0}), y.name), y.allowance), y.is_member)) (λ x. refl) (λ y. refl)
+    (ended NoNumber Always (both NoNumber (both Always (both Always (room (nat_lt (length seen) 1024)) (word (codes "node") words-plain.3))
+    (name_form (map (λ y. y.name) seen))) (allowance_form format))
+    (one_of membership memberships ((refl, words-plain.4), ((refl, words-plain.5), tt)) (λ k v. elim v as (λ b. judge_words memberships k (membership b) ≡ Ok b)
+    [ true ↦ refl | false ↦ refl ])) (λ v rest d. elim v as (λ b. NoNumber (membership b ∷ rest)) [ true ↦ refl | false ↦ refl ])) (λ v. refl)
+
+pub line-is : (format : ℕ) (seen : List Node) (v : Node) → (node_line {W = Unit {0}} format seen).allowed v → IsNew format seen v
+line-is format seen v p =
+    let is = (allowance-is format v.allowance).1 p.0.1 in
+    record { room = ltb-true (length seen) 1024 p.0.0.0.0; name = p.0.0.1.1; node = record { name = p.0.0.1.0; allowance = is } }
+
+-- no node line
+abbrev pub IsOther : Fields → Type 0
+IsOther = BeginsOther (is_word (codes "node"))
+
+-- node lines
+abbrev pub lines_form : {W : Type 0} → ℕ → Section W IsOther (List Node)
+lines_form format = many (is_word (codes "node")) node_fields (node_line format) (λ seen v. ap
+    (λ (f : Fields). codes "node" ∷ v.name ∷ (f ++ membership v.is_member ∷ [])) (allowance-is format v.allowance).0) (λ w seen x more p. refl)
+
+-- one or more node lines
+abbrev pub nodes_form : {W : Type 0} → ℕ → Section W IsOther (List Node)
+nodes_form format = at_least_one IsOther (lines_form format)
+
+-- nodes that are each allowed after those seen
+abbrev pub AreNew : ℕ → List Node → List Node → Type 0
+AreNew format = EachNext (λ seen. (node_line {W = Unit {0}} format seen).allowed)
+
+pub new-parts : (format : ℕ) (seen xs : List Node) → AreNew format seen xs
+    → AllByRecursion (IsNode format) xs × AllNew (map (λ x. x.name) seen) (map (λ x. x.name) xs)
+new-parts format seen [] p = (tt, tt)
+new-parts format seen (x ∷ xs) p =
+    let new = line-is format seen x p.0 in
+    let rest = new-parts format (seen ++ x ∷ []) xs p.1 in
+    ((new.node, rest.0), (new.name, rw (← map_push (λ (y : Node). y.name) seen x) rest.1))
+
+pub parts-new : (format : ℕ) (seen xs : List Node) → length seen + length xs ≤ 1024 → AllByRecursion (IsNode format) xs
+    → AllNew (map (λ x. x.name) seen) (map (λ x. x.name) xs) → AreNew format seen xs
+parts-new format seen [] le each names = tt
+parts-new format seen (x ∷ xs) le each names =
+    let rest = parts-new format (seen ++ x ∷ []) xs (omega (arith, length-append seen (x ∷ []))) each.1 (rw (map_push (λ (y : Node). y.name) seen x) names.1) in
+    (((((lt-ltb (length seen) 1024 (omega arith), tt), (each.0.name, names.0)), (allowance-is format x.allowance).2 each.0.allowance), tt), rest)
+
+-- ---- the rows of owners
+
+module _ (nodes : List Node) (n : ℕ) where
+  -- the names of the nodes
+  abbrev pub names : List (List ℕ)
+  names = map (λ x. x.name) nodes
+
+  -- names can be told apart, and the c numbers from p on are small
+  abbrev pub RowsFit : ℕ → ℕ → Type 0
+  RowsFit p c = AreNames names × (p + c ≤ 4096)
+
+  -- the number of a partition
+  abbrev pub partition_form : (p : ℕ) → Form (RowsFit p 1) Always (Unit {0})
+  partition_form p = of_item (λ k. word_at k (decimal p)) (λ _. decimal p ∷ []) (λ _. Unit {0}) (λ _ k. IsItem-word k (decimal p))
+      (λ k. judges-word k (decimal p)) (λ w _ q. (decimal-plain p (omega (arith, w.1)), tt))
+
+  -- n owners
+  abbrev pub owners_form : (p : ℕ) → Form (RowsFit p 1) Always (List NodeId)
+  owners_form p = of_item (λ k. owners_at k names n) (λ xs. map (name_at names) xs) (λ xs. (length xs ≡ n) × AllByRecursion (λ x. x.0 < length names) xs)
+      (λ w k. IsItem-owners k names n w.0) (λ k. judges-owners k names n) (λ w v p. names-plain names v w.0.each)
+
+  -- `slots <p>` and the owners
+  abbrev pub row_line : (p : ℕ) → LineForm (RowsFit p 1) (List NodeId)
+  row_line p = judged_line (λ k x. (not (all_different (map (λ y. y.0) x.1)), SharedNode k) ∷ (not (list_all (is_member nodes) x.1), NotMember k) ∷ [])
+      (λ x. x.1) (λ xs. ((tt {0}, tt {0}), xs)) (IsRow n nodes)
+      (both Always (both Always (word (codes "slots") words-plain.6) (partition_form p)) (owners_form p)) (λ x. refl) (λ y. refl) (λ v. refl)
+      (λ k x. (refl, (refl, tt))) (λ k v q. record { slots = q.0.1.0; different = not-false _ q.1.0; members = not-false _ q.1.1.0 })
+      (λ k v q. (((tt, tt), (q.slots, members-below nodes v q.members)), (ap not q.different, (ap not q.members, tt))))
+
+  pub rows-part : (p c : ℕ) → RowsFit p c → IsPart Any (rows_at nodes n p c) (rows_lines names p)
+      (λ rows. (length rows ≡ c) × AllByRecursion (IsRow n nodes) rows)
+  unfolding rows_at row_at
+  rows-part p zero w = IsPart-nil (rows_at nodes n p 0) (rows_lines names) p (IsRow n nodes) refl (λ l. refl)
+  rows-part p (suc c) w = IsPart-cons (row_at nodes n p) (rows_at nodes n (p + 1) c) (row_fields names) (rows_lines names) p (IsRow n nodes) c (λ x xs. refl)
+      ((row_line p).exact (w.0, omega (arith, w.1))) (rows-part (p + 1) c (w.0, omega (arith, w.1)))
+
+  pub rows-on : (p c : ℕ) → Advances (rows_at nodes n p c)
+  unfolding rows_at row_at
+  rows-on p zero = record { on = λ s. omega arith }
+  rows-on p (suc c) = advances-map _ _ (advances-then _ _ (advances-line _ (row_line p).at) (λ _. rows-on (p + 1) c))
+
+  pub rows-plain : AreNames names → (p : ℕ) (rows : List (List NodeId)) → p + length rows ≤ 4096 → AllByRecursion (IsRow n nodes) rows
+      → AllByRecursion IsPlainLine (rows_lines names p rows)
+  rows-plain good p [] le is = tt
+  rows-plain good p (row ∷ rows) le is = ((row_line p).plain (good, omega arith) row is.0, rows-plain good (p + 1) rows (omega arith) is.1)
+
+  -- c rows from partition p on
+  abbrev pub rows_form : (p c : ℕ) → Section (RowsFit p c) Any (List (List NodeId))
+  rows_form p c = record {
+    read = rows_at nodes n p c;
+    spell = rows_lines names p;
+    allowed = λ rows. (length rows ≡ c) × AllByRecursion (IsRow n nodes) rows;
+    exact = rows-part p c;
+    advances = rows-on p c;
+    plain = λ w v q. rows-plain w.0 p v (omega (arith, w.1, q.0)) q.1;
+  }
+
+  -- q rows, and the end
+  abbrev pub tail_form : (q : ℕ) → Section (RowsFit 0 q) Any (List (List NodeId) × Unit {0})
+  tail_form q = then Any Any (rows_form 0 q) (λ _. ending) (λ w x y l ls p q d. tt)
+
+  pub no-node : (q : ℕ) (t : List (List NodeId) × Unit {0}) (x : Fields) (xs : List Fields) → IsOther (some_lines ((tail_form q).spell t) x xs).0
+  no-node q ([], e) x xs = refl
+  no-node q (row ∷ rows, e) x xs = refl
+
+-- ---- a ring
+
+-- nodes, rows and the end
+abbrev pub list_form : (head : Head) → Section (head.q ≤ 4096) Any (List Node × (List (List NodeId) × Unit {0}))
+list_form head = after (λ nodes. RowsFit nodes head.quorum.n 0 head.q) IsOther Any (nodes_form head.format) (λ nodes. tail_form nodes head.quorum.n head.q)
+    (λ w nodes p. let new = new-parts head.format [] nodes p.0 in (record { new = new.1; each = each-name head.format nodes new.0 }, omega arith))
+    (λ nodes t x xs d. no-node nodes head.quorum.n head.q t x xs)
+
+-- nodes and rows
+abbrev pub listed : List Node × (List (List NodeId) × Unit {0}) → List Node × List (List NodeId)
+listed x = (x.0, x.1.0)
+
+-- all lines of a ring
+abbrev pub ring_form : Section (Unit {0}) Any RingValue
+ring_form = made Any (λ x. ring_of x.0 x.1)
+    (λ v. (record { format = v.format; q = v.q; quorum = record { n = v.n; r = v.r; w = v.w; loss = v.loss } }, (v.nodes, v.owners))) (λ x. refl) (λ y. refl)
+    (after (λ h. h.q ≤ 4096) Any Any head_form (λ head. made Any listed (λ b. (b.0, (b.1, tt))) (λ x. refl) (λ y. refl) (list_form head))
+    (λ w h p. space-le h.q p.1.0) (λ x y l ls d. tt))
