@@ -1,6 +1,6 @@
 -- A plan makes a change where its steps name no other nodes, and each of the change's is named.
 use Rattle.std.proofs.Common.{◌≡◌, ℕ, Bool, true, false, ◌&&◌, List, [], ◌∷◌, refl, sym, ap, ◌∙◌}
-use Rattle.std.specs.List.{list_all, list_any}
+use Rattle.std.specs.List.{list_all, list_any, flat_map}
 use Rattle.std.specs.Prelude.{◌||◌, ◌==◌}
 use Rattle.std.proofs.lemmas.List.Concat.{flat_map-cons}
 use Rattle.std.proofs.lemmas.List.Folds.{list_all-append, list_all-map}
@@ -48,19 +48,17 @@ step_names-parts js ls (Switch s) a b = refl
 step_names-parts js ls (Drop s x) a b = refl
 step_names-parts js ls (Retire x) a b = one_leaves (has x.0 (numbers ls)) a b
 
-joined-more : (ys : List ℕ) (x : Planned) (xs : List Planned) → all_in ys (joined (x ∷ xs)) ≡ (all_in ys (joins x.step) && all_in ys (joined xs))
-joined-more ys x xs = ap (all_in ys) (flat_map-cons (λ (y : Planned). joins y.step) x xs) ∙ list_all-append (λ (y : ℕ). has y ys) (joins x.step) (joined xs)
-
-retired-more : (ys : List ℕ) (x : Planned) (xs : List Planned) → all_in ys (retired (x ∷ xs)) ≡ (all_in ys (retires x.step) && all_in ys (retired xs))
-retired-more ys x xs = ap (all_in ys) (flat_map-cons (λ (y : Planned). retires y.step) x xs) ∙ list_all-append (λ (y : ℕ). has y ys) (retires x.step) (retired xs)
+named-more : (named : Step → List ℕ) (ys : List ℕ) (x : Planned) (xs : List Planned)
+    → all_in ys (flat_map (λ y. named y.step) (x ∷ xs)) ≡ (all_in ys (named x.step) && all_in ys (flat_map (λ y. named y.step) xs))
+named-more named ys x xs = ap (all_in ys) (flat_map-cons (λ (y : Planned). named y.step) x xs) ∙ list_all-append (λ (y : ℕ). has y ys) (named x.step) _
 
 names-parts : (js ls : List NodeId) (plan : List Planned) → list_all (λ (x : Planned). step_names js ls x.step) plan ≡ (all_in (numbers js) (joined plan) && all_in (numbers ls) (retired plan))
 names-parts js ls [] = refl
 names-parts js ls (x ∷ xs) =
     ap (λ (b : Bool). step_names js ls x.step && b) (names-parts js ls xs)
     ∙ step_names-parts js ls x.step (all_in (numbers js) (joined xs)) (all_in (numbers ls) (retired xs))
-    ∙ sym (ap (λ (b : Bool). b && all_in (numbers ls) (retired (x ∷ xs))) (joined-more (numbers js) x xs)
-    ∙ ap (λ (b : Bool). (all_in (numbers js) (joins x.step) && all_in (numbers js) (joined xs)) && b) (retired-more (numbers ls) x xs))
+    ∙ sym (ap (λ (b : Bool). b && all_in (numbers ls) (retired (x ∷ xs))) (named-more joins (numbers js) x xs)
+    ∙ ap (λ (b : Bool). (all_in (numbers js) (joins x.step) && all_in (numbers js) (joined xs)) && b) (named-more retires (numbers ls) x xs))
 
 fulfils-parts : (plan : List Planned) (js ls : List NodeId) → ((all_in (joined plan) (numbers js) && all_in (retired plan) (numbers ls)) && list_all (λ (x : Planned). step_names js ls x.step) plan) ≡ fulfils plan js ls
 fulfils-parts plan js ls =

@@ -1,6 +1,7 @@
 -- The index of a plan with one more step.
 use Rattle.std.proofs.Common.{◌≡◌, ℕ, ◌+◌, ◌<◌, Bool, true, false, cond, List, [], ◌∷◌, ◌++◌, length, Option, Some, None, refl, sym, ap, ◌∙◌, subst, arith, add-zero, ◌⊎◌, inl, inr}
 use Rattle.std.specs.Prelude.{not, ◌&&◌, ◌||◌, ◌==◌, is_some, IfSome}
+use Rattle.std.specs.List.{flat_map}
 use Rattle.std.specs.Option.{option_or}
 use Rattle.std.proofs.lemmas.List.{append-nil}
 use Rattle.ring_names.specs.declared.ids.Slot.{Slot}
@@ -14,8 +15,8 @@ use Rattle.ring_names.proofs.InLists.{has_push, different_push}
 use Rattle.plan_text.specs.declared.index.NodeIndex.{NodeIndex}
 use Rattle.plan_text.specs.declared.index.Index.{Index}
 use Rattle.plan_text.specs.Held.{numbers_at, first_of, holds, HoldsNodes, HoldsSteps}
-use Rattle.plan_text.specs.Steps.{is_slot, is_on, steps_of, joins, retires, joined, retired, is_join_of, is_retire_of, first_step, join_of, retirement_of}
-use Rattle.plan_text.proofs.Pushed.{steps_of-push, joined-push, retired-push}
+use Rattle.plan_text.specs.Steps.{is_slot, is_on, steps_of, joins, retires, is_join_of, is_retire_of, first_step}
+use Rattle.plan_text.proofs.Pushed.{steps_of-push, named-push}
 
 -- ---- the first step that passes a test
 
@@ -50,34 +51,42 @@ first-push test plan x b is =
 first-same : (test : Step → Bool) (plan : List Planned) (x : Planned) → test x.step ≡ false → first_step test 0 plan ≡ first_step test 0 (plan ++ x ∷ [])
 first-same test plan x is = sym (first-push test plan x false is ∙ or_none (first_step test 0 plan) (length plan))
 
--- ---- the nodes of which some step speaks
+-- ---- the nodes that steps of a kind name, and the first step that names each
 
-HoldsNodes-none : (a : NodeIndex) (xs ys : List ℕ) (f g : ℕ → Option ℕ) → ys ≡ [] → ((y : ℕ) → f y ≡ g y) → HoldsNodes a xs f → HoldsNodes a (xs ++ ys) g
-HoldsNodes-none a xs ys f g e same h = rw (e, append-nil xs) (record {
-  nodes = h.nodes;
-  firsts = λ y. h.firsts y ∙ same y;
-  different = h.different;
-})
+module _ (named : Step → List ℕ) (names : ℕ → Step → Bool) where
+  -- the index is the plan's
+  abbrev Holds : NodeIndex → List Planned → Type 0
+  Holds a plan = HoldsNodes a (flat_map (λ x. named x.step) plan) (λ y. first_step (names y) 0 plan)
 
-HoldsNodes-push : (a b : NodeIndex) (xs ys : List ℕ) (f g : ℕ → Option ℕ) (x n : ℕ) → ys ≡ x ∷ [] → ((y : ℕ) → g y ≡ or_last (f y) (y == x) n) → ((y : ℕ) → first_of b y ≡ or_last (first_of a y) (y == x) n) → b.different ≡ (a.different && not (holds a x)) → HoldsNodes a xs f → HoldsNodes b (xs ++ ys) g
-HoldsNodes-push a b xs ys f g x n e last more fresh h = rw e (record {
-  nodes = λ y. ap (λ (o : Option ℕ). is_some o) (more y) ∙ some_or (first_of a y) (y == x) n ∙ ap (λ (t : Bool). (y == x) || t) (h.nodes y) ∙ sym (has_push xs x y);
-  firsts = λ y. more y ∙ ap (λ (o : Option ℕ). or_last o (y == x) n) (h.firsts y) ∙ sym (last y);
-  different = fresh ∙ rw (h.different, h.nodes x, different_push xs x) refl;
-})
+  -- the step names no node
+  abbrev pub NamesNone : Step → Type 0
+  NamesNone t = (named t ≡ []) × ((y : ℕ) → names y t ≡ false)
+
+  holds-none : (a : NodeIndex) (plan : List Planned) (x : Planned) → NamesNone x.step → Holds a plan → Holds a (plan ++ x ∷ [])
+  holds-none a plan x none h = rw (named-push named plan x, none.0, append-nil (flat_map (λ (z : Planned). named z.step) plan)) (record {
+    nodes = h.nodes;
+    firsts = λ y. h.firsts y ∙ first-same (names y) plan x (none.1 y);
+    different = h.different;
+  })
+
+  holds-one : (a b : NodeIndex) (plan : List Planned) (x : Planned) (n number : ℕ) → length plan ≡ number
+      → (named x.step ≡ n ∷ []) × ((y : ℕ) → names y x.step ≡ (y == n))
+      → ((y : ℕ) → first_of b y ≡ or_last (first_of a y) (y == n) number) → b.different ≡ (a.different && not (holds a n)) → Holds a plan
+      → Holds b (plan ++ x ∷ [])
+  holds-one a b plan x n number is one more fresh h =
+      let xs = flat_map (λ (z : Planned). named z.step) plan in
+      rw (named-push named plan x, one.0) (record {
+        nodes = λ y. ap (λ (o : Option ℕ). is_some o) (more y) ∙ some_or (first_of a y) (y == n) number ∙ ap (λ (t : Bool). (y == n) || t) (h.nodes y)
+            ∙ sym (has_push xs n y);
+        firsts = λ y. more y ∙ rw (h.firsts y, ← is) (sym (first-push (names y) plan x (y == n) (one.1 y)));
+        different = fresh ∙ rw (h.different, h.nodes n, different_push xs n) refl;
+      })
 
 -- ---- which nodes a step names
 
--- the step joins no node, and retires none
-abbrev pub JoinsNone : Step → Type 0
-JoinsNone t = (joins t ≡ []) × ((y : ℕ) → is_join_of y t ≡ false)
-
-abbrev pub RetiresNone : Step → Type 0
-RetiresNone t = (retires t ≡ []) × ((y : ℕ) → is_retire_of y t ≡ false)
-
 -- the step is one of the slot's
 abbrev pub OnSlot : Slot → Step → Type 0
-OnSlot slot t = ((s : Slot) → is_on s t ≡ is_slot s slot) × JoinsNone t × RetiresNone t
+OnSlot slot t = ((s : Slot) → is_on s t ≡ is_slot s slot) × NamesNone joins is_join_of t × NamesNone retires is_retire_of t
 
 pub on_slot : (slot : Slot) (t : Step) → ((x : NodeId) × (t ≡ Mirror slot x)) ⊎ (((f : Source) × (t ≡ Copy slot f)) ⊎ ((t ≡ Switch slot) ⊎ ((x : NodeId) × (t ≡ Drop slot x)))) → OnSlot slot t
 on_slot slot t (inl (x, e)) = subst (OnSlot slot) (sym e) (λ s. refl, (refl, λ y. refl), (refl, λ y. refl))
@@ -85,21 +94,13 @@ on_slot slot t (inr (inl (f, e))) = subst (OnSlot slot) (sym e) (λ s. refl, (re
 on_slot slot t (inr (inr (inl e))) = subst (OnSlot slot) (sym e) (λ s. refl, (refl, λ y. refl), (refl, λ y. refl))
 on_slot slot t (inr (inr (inr (x, e)))) = subst (OnSlot slot) (sym e) (λ s. refl, (refl, λ y. refl), (refl, λ y. refl))
 
-joins-none : (a : NodeIndex) (plan : List Planned) (x : Planned) → JoinsNone x.step → HoldsNodes a (joined plan) (join_of plan) → HoldsNodes a (joined (plan ++ x ∷ [])) (join_of (plan ++ x ∷ []))
-joins-none a plan x none h =
-    rw (joined-push plan x) (HoldsNodes-none a (joined plan) (joins x.step) (join_of plan) (join_of (plan ++ x ∷ [])) none.0 (λ y. first-same (is_join_of y) plan x (none.1 y)) h)
-
-retires-none : (a : NodeIndex) (plan : List Planned) (x : Planned) → RetiresNone x.step → HoldsNodes a (retired plan) (retirement_of plan) → HoldsNodes a (retired (plan ++ x ∷ [])) (retirement_of (plan ++ x ∷ []))
-retires-none a plan x none h =
-    rw (retired-push plan x) (HoldsNodes-none a (retired plan) (retires x.step) (retirement_of plan) (retirement_of (plan ++ x ∷ [])) none.0 (λ y. first-same (is_retire_of y) plan x (none.1 y)) h)
-
 -- ---- the index with one more step, which is the slot's, joins a node or retires one
 
 pub HoldsSteps-slot : (a : Index) (b : Lists Slot ℕ) (plan : List Planned) (x : Planned) (slot : Slot) (number : ℕ) → length plan ≡ number → OnSlot slot x.step → ((s : Slot) → numbers_at b s ≡ cond (is_slot s slot) (numbers_at a.slots s ++ number ∷ []) (numbers_at a.slots s)) → HoldsSteps a plan → HoldsSteps (record { slots = b; joins = a.joins; retirements = a.retirements }) (plan ++ x ∷ [])
 HoldsSteps-slot a b plan x slot number n on more h = record {
   slots = λ s. more s ∙ rw (h.slots s, ← on.0 s, ← n) (sym (steps_of-push plan x s));
-  joins = joins-none a.joins plan x on.1 h.joins;
-  retirements = retires-none a.retirements plan x on.2 h.retirements;
+  joins = holds-none joins is_join_of a.joins plan x on.1 h.joins;
+  retirements = holds-none retires is_retire_of a.retirements plan x on.2 h.retirements;
 }
 
 -- a step that is no slot's
@@ -107,18 +108,22 @@ off_slot : (a : Lists Slot ℕ) (plan : List Planned) (x : Planned) (t : Step) �
 off_slot a plan x t e off h s =
     h s ∙ sym (steps_of-push plan x s ∙ ap (λ (b : Bool). cond b (steps_of plan s ++ length plan ∷ []) (steps_of plan s)) (ap (is_on s) e ∙ off s))
 
-pub HoldsSteps-join : (a : Index) (b : NodeIndex) (plan : List Planned) (x : Planned) (y : NodeId) (number : ℕ) → length plan ≡ number → x.step ≡ Join y → ((z : ℕ) → first_of b z ≡ or_last (first_of a.joins z) (z == y.0) number) → b.different ≡ (a.joins.different && not (holds a.joins y.0)) → HoldsSteps a plan → HoldsSteps (record { slots = a.slots; joins = b; retirements = a.retirements }) (plan ++ x ∷ [])
+pub HoldsSteps-join : (a : Index) (b : NodeIndex) (plan : List Planned) (x : Planned) (y : NodeId) (number : ℕ) → length plan ≡ number → x.step ≡ Join y
+    → ((z : ℕ) → first_of b z ≡ or_last (first_of a.joins z) (z == y.0) number) → b.different ≡ (a.joins.different && not (holds a.joins y.0))
+    → HoldsSteps a plan → HoldsSteps (record { slots = a.slots; joins = b; retirements = a.retirements }) (plan ++ x ∷ [])
 HoldsSteps-join a b plan x y number n e more fresh h = record {
   slots = off_slot a.slots plan x (Join y) e (λ s. refl) h.slots;
-  joins = rw (joined-push plan x) (HoldsNodes-push a.joins b (joined plan) (joins x.step) (join_of plan) (join_of (plan ++ x ∷ [])) y.0 (length plan) (ap joins e) (λ z. first-push (is_join_of z) plan x (z == y.0) (ap (is_join_of z) e)) (λ z. more z ∙ ap (λ (k : ℕ). or_last (first_of a.joins z) (z == y.0) k) (sym n)) fresh h.joins);
-  retirements = retires-none a.retirements plan x (subst RetiresNone (sym e) (refl, λ z. refl)) h.retirements;
+  joins = holds-one joins is_join_of a.joins b plan x y.0 number n (rw e (refl, λ z. refl)) more fresh h.joins;
+  retirements = holds-none retires is_retire_of a.retirements plan x (rw e (refl, λ z. refl)) h.retirements;
 }
 
-pub HoldsSteps-retire : (a : Index) (b : NodeIndex) (plan : List Planned) (x : Planned) (y : NodeId) (number : ℕ) → length plan ≡ number → x.step ≡ Retire y → ((z : ℕ) → first_of b z ≡ or_last (first_of a.retirements z) (z == y.0) number) → b.different ≡ (a.retirements.different && not (holds a.retirements y.0)) → HoldsSteps a plan → HoldsSteps (record { slots = a.slots; joins = a.joins; retirements = b }) (plan ++ x ∷ [])
+pub HoldsSteps-retire : (a : Index) (b : NodeIndex) (plan : List Planned) (x : Planned) (y : NodeId) (number : ℕ) → length plan ≡ number → x.step ≡ Retire y
+    → ((z : ℕ) → first_of b z ≡ or_last (first_of a.retirements z) (z == y.0) number) → b.different ≡ (a.retirements.different && not (holds a.retirements y.0))
+    → HoldsSteps a plan → HoldsSteps (record { slots = a.slots; joins = a.joins; retirements = b }) (plan ++ x ∷ [])
 HoldsSteps-retire a b plan x y number n e more fresh h = record {
   slots = off_slot a.slots plan x (Retire y) e (λ s. refl) h.slots;
-  joins = joins-none a.joins plan x (subst JoinsNone (sym e) (refl, λ z. refl)) h.joins;
-  retirements = rw (retired-push plan x) (HoldsNodes-push a.retirements b (retired plan) (retires x.step) (retirement_of plan) (retirement_of (plan ++ x ∷ [])) y.0 (length plan) (ap retires e) (λ z. first-push (is_retire_of z) plan x (z == y.0) (ap (is_retire_of z) e)) (λ z. more z ∙ ap (λ (k : ℕ). or_last (first_of a.retirements z) (z == y.0) k) (sym n)) fresh h.retirements);
+  joins = holds-none joins is_join_of a.joins plan x (rw e (refl, λ z. refl)) h.joins;
+  retirements = holds-one retires is_retire_of a.retirements b plan x y.0 number n (rw e (refl, λ z. refl)) more fresh h.retirements;
 }
 
 -- what is found first is a step of the plan

@@ -2,12 +2,9 @@ pub mod Pushed
 pub mod Indexed
 pub mod KeptLaws
 pub mod Searched
-pub mod NextLaws
 pub mod Below
-pub mod StepLaws
+pub mod PlanForm
 pub mod PlanLaws
-pub mod SuitLaws
-pub mod TextLaws
 pub mod WriteLaws
 pub mod PlanLates
 pub mod ChangeLaws

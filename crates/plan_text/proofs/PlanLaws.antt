@@ -1,166 +1,193 @@
--- A plan is read only from its one text.
-use Rattle.std.proofs.Common.{◌≡◌, ℕ, ◌≤◌, Bool, true, false, cond, List, [], ◌∷◌, ◌++◌, length, map, codes, Result, Ok, refl, sym, ap, subst, ◌∙◌, arith, append_assoc}
+-- A plan is read only from its one text, and what is read of it is a plan that suits the ring.
+use Rattle.std.proofs.Common.{◌≡◌, ℕ, suc, ◌+◌, ◌-◌, ◌<◌, ◌≤◌, true, not, nat_lt, List, [], ◌∷◌, ◌++◌, length, codes, Result, Ok, Err, refl, sym, ap, ◌∙◌, arith, add-zero, length-append}
+use Rattle.std.specs.Prelude.{IfOk}
+use Rattle.std.specs.List.{list_all, flat_map}
+use Rattle.std.proofs.lemmas.Bool.{lt-ltb, ltb-true, le-leb, leb-true, ne_eqb, eqb-false, and_parts, or_parts, or_from, not-true, not-false}
+use Rattle.std.proofs.lemmas.Grind.{flat_map-append}
 use Rattle.std.proofs.lemmas.List.{append-nil}
-use Rattle.std.proofs.lemmas.List.Sums.{sum_by_push}
+use Rattle.std.proofs.lemmas.List.Concat.{flat_map-cons}
+use Rattle.std.proofs.lemmas.List.Folds.{list_all-append}
+use Rattle.std.proofs.lemmas.List.Sums.{sum_by-append}
+use Rattle.ring_names.specs.Lists.{has, all_different}
+use Rattle.ring_names.specs.declared.ids.NodeId.{NodeId}
 use Rattle.ring_names.specs.declared.refusal.Refusal.{Refusal}
-use Rattle.texts.specs.Left.{Left, ◌>>=◌, next_number, first_line, begins_with, one_line}
-use Rattle.texts.specs.Frames.{header_fields, header_at, end_fields, end_line_at}
-use Rattle.texts.proofs.FrameLaws.{Nothing, header-line, end-line}
-use Rattle.texts.specs.Laws.{IsLine, IsPart, SomeLeft, Any}
-use Rattle.texts.proofs.Items.{IsLine-map, IsLine-as, IsPart-line, IsPart-then, IsPart-map, IsPart-as, ok_is, bind_ok, first_is, some_lines}
-use Rattle.ring_table.specs.Value.{RingValue, names_of}
-use Rattle.ring_table.proofs.RowLaws.{AreNames}
+use Rattle.ring_names.proofs.InLists.{different_more, different_apart}
+use Rattle.texts.specs.Numbers.{ascending, are_small}
+use Rattle.texts.proofs.Forms.{IsPart, Any, Left, header_at, each-grows, all-each, text-found, text-given, some-first}
+use Rattle.ring_table.specs.Value.{RingValue, names_of, is_member}
+use Rattle.ring_table.specs.Valid.{IsRing}
+use Rattle.ring_table.proofs.NodesLaws.{nodes-length}
 use Rattle.plan_text.specs.declared.said.Said.{Said}
-use Rattle.plan_text.specs.declared.said.Said.TheVariants as said
-use Rattle.plan_text.specs.declared.said.SaidSource.{SaidSource}
-use Rattle.plan_text.specs.declared.said.SaidSource.TheVariants as said_source
 use Rattle.plan_text.specs.declared.step.Step.{Step}
-use Rattle.plan_text.specs.declared.step.Step.TheVariants as step
-use Rattle.plan_text.specs.declared.step.Source.{Source}
-use Rattle.plan_text.specs.declared.step.Source.TheVariants as source
+use Rattle.plan_text.specs.declared.step.Step.TheVariants.{Join, Mirror, Copy, Switch, Drop, Retire}
+use Rattle.plan_text.specs.declared.step.Source.TheVariants.{Owner, Slots}
 use Rattle.plan_text.specs.declared.step.Planned.{Planned}
-use Rattle.plan_text.specs.Said.{step_of, planned_of}
-use Rattle.plan_text.specs.Steps.{dependencies}
-use Rattle.plan_text.specs.Spelling.{kind_fields, after_fields, step_fields, plan_lines}
-use Rattle.plan_text.specs.Reading.{said_at, step_at, steps_from, steps_at, plan_at}
-use Rattle.plan_text.proofs.StepLaws.{IsStepLine, said-line}
+use Rattle.plan_text.specs.Said.{planned_of}
+use Rattle.plan_text.specs.Steps.{dependencies, joins, retires, joined, retired}
+use Rattle.plan_text.specs.Valid.{HasSources, IsPlanned, EachPlanned, IsPlan, is_ring_slot, is_declared, step_suits, Suits}
+use Rattle.plan_text.specs.Fits.{IsNext}
+use Rattle.plan_text.specs.Spelling.{plan_lines, plan_text}
+use Rattle.plan_text.specs.Reading.{said_at, steps_at, plan_at, plan_reading}
+use Rattle.plan_text.proofs.Pushed.{IsPlan-push, named-push}
+use Rattle.plan_text.proofs.Below.{below_all}
+use Rattle.plan_text.proofs.PlanForm.{StepFits, after_form, IsNextStep, said_line, plan_form}
 
--- ---- what a line must say for a step
+-- ---- what is known of a plan at each step
 
-abbrev pub said_source_of : Source → SaidSource
-said_source_of source.Owner = said_source.Owner
-said_source_of (source.Slots from) = said_source.Slots from
+each-at : (k : ℕ) (seen : List Planned) (y : Planned) (ys : List Planned) → EachPlanned k (seen ++ y ∷ ys) → IsPlanned (k + length seen) y
+each-at k [] y ys each = rw add-zero each.0
+each-at k (x ∷ seen) y ys each = (let e : k + length (x ∷ seen) ≡ (k + 1) + length seen = omega arith in rw e (each-at (k + 1) seen y ys each.1))
 
-abbrev pub said_of : Step → Said
-said_of (step.Join x) = said.Join x
-said_of (step.Mirror s x) = said.Mirror s x
-said_of (step.Copy s from) = said.Copy s (said_source_of from)
-said_of (step.Switch s) = said.Switch s
-said_of (step.Drop s x) = said.Drop s x
-said_of (step.Retire x) = said.Retire x
+named-parts : (named : Step → List ℕ) (seen : List Planned) (y : Planned) (ys : List Planned)
+    → flat_map (λ x. named x.step) (seen ++ y ∷ ys) ≡ flat_map (λ x. named x.step) seen ++ (named y.step ++ flat_map (λ x. named x.step) ys)
+named-parts named seen y ys = flat_map-append (λ (x : Planned). named x.step) seen (y ∷ ys)
+    ∙ ap (λ (r : List ℕ). flat_map (λ (x : Planned). named x.step) seen ++ r) (flat_map-cons (λ (x : Planned). named x.step) y ys)
 
-abbrev pub line_of : Planned → Said × List ℕ
-line_of x = (said_of x.step, x.after)
+no-more : (xs : List ℕ) → all_different xs ≡ true → all_different (xs ++ []) ≡ true
+no-more xs e = rw (append-nil xs) e
 
-step-said : (s : Step) → step_of (said_of s) ≡ s
-step-said (step.Join x) = refl
-step-said (step.Mirror s x) = refl
-step-said (step.Copy s source.Owner) = refl
-step-said (step.Copy s (source.Slots from)) = refl
-step-said (step.Switch s) = refl
-step-said (step.Drop s x) = refl
-step-said (step.Retire x) = refl
+module _ (ring : RingValue) where
+  -- ---- a slot, a node and a step
 
-said-step : (s : Said) → said_of (step_of s) ≡ s
-said-step (said.Join x) = refl
-said-step (said.Mirror s x) = refl
-said-step (said.Copy s said_source.Owner) = refl
-said-step (said.Copy s (said_source.Slots from)) = refl
-said-step (said.Switch s) = refl
-said-step (said.Drop s x) = refl
-said-step (said.Retire x) = refl
+  node-suits : (x : NodeId) → x.0 < length (names_of ring) → is_declared ring x ≡ true
+  node-suits x lt = lt-ltb x.0 (length ring.nodes) (rw nodes-length at lt)
 
-pub step-line : (ring : RingValue) (plan : List Planned) (k : ℕ) → ring.q ≤ 4096 → ring.n ≤ 7 → AreNames (names_of ring) → dependencies plan ≤ 524288 → IsLine (step_at ring plan k) (step_fields (names_of ring)) (λ p. IsStepLine ring plan (line_of p))
-step-line ring plan k q n good few =
-    let line = IsLine-map (said_at ring plan k) _ _ planned_of line_of (λ (a : Said × List ℕ). ap (λ (s : Said). (s, a.1)) (said-step a.0)) (λ (p : Planned). ap (λ (s : Step). record { step = s; after = p.after }) (step-said p.step)) (said-line ring plan k q n good few) in
-    IsLine-as (step_at ring plan k) _ _ _ _ (λ v. ap (λ (s : Step). kind_fields (names_of ring) s ++ after_fields v.after) (step-said v.step)) (λ v p. p) (λ v p. p) line
+  node-fits : (x : NodeId) → is_declared ring x ≡ true → x.0 < length (names_of ring)
+  node-fits x e = rw nodes-length (ltb-true x.0 (length ring.nodes) e)
 
--- ---- the steps of a plan
+  -- what a step that fits adds to a plan
+  step-more : (seen : List Planned) (s : Step) → StepFits ring seen s
+      → (step_suits ring s ≡ true) × HasSources s × (all_different (joined seen) ≡ true → all_different (joined seen ++ joins s) ≡ true)
+      × (all_different (retired seen) ≡ true → all_different (retired seen ++ retires s) ≡ true)
+  step-more seen (Join x) p =
+      let new = or_parts (is_member ring.nodes x) (has x.0 (joined seen)) p.1.0 in
+      (rw (node-suits x p.0, new.0) refl, tt, λ e. different_more (joined seen) x.0 e new.1, no-more (retired seen))
+  step-more seen (Mirror s x) p = (rw (p.0.0, p.0.1, node-suits x p.1) refl, tt, no-more (joined seen), no-more (retired seen))
+  step-more seen (Copy s Owner) p = (rw (p.0.0, p.0.1) refl, tt, no-more (joined seen), no-more (retired seen))
+  step-more seen (Copy s (Slots from)) p =
+      let some = eqb-false (length from) 0 p.1.0 in
+      let few = leb-true (length from) 7 (not-false _ p.1.1.0) in
+      (rw (p.0.0, p.0.1, not-false _ p.1.1.1.0) refl, (omega arith, few), no-more (joined seen), no-more (retired seen))
+  step-more seen (Switch s) p = (rw (p.0, p.1) refl, tt, no-more (joined seen), no-more (retired seen))
+  step-more seen (Drop s x) p = (rw (p.0.0, p.0.1, node-suits x p.1) refl, tt, no-more (joined seen), no-more (retired seen))
+  step-more seen (Retire x) p = (node-suits x p.0, tt, no-more (joined seen), λ e. different_more (retired seen) x.0 e p.1.0)
 
--- each step may stand behind those in front of it
-abbrev pub AreNext : RingValue → List Planned → List Planned → Type 0
-AreNext ring seen [] = Unit {0}
-AreNext ring seen (x ∷ xs) = IsStepLine ring seen (line_of x) × AreNext ring (seen ++ x ∷ []) xs
+  -- a step of a plan fits after those before it
+  step-fits : (seen : List Planned) (s : Step) (js rs : List ℕ) → step_suits ring s ≡ true → HasSources s
+      → all_different (joined seen ++ (joins s ++ js)) ≡ true → all_different (retired seen ++ (retires s ++ rs)) ≡ true → StepFits ring seen s
+  step-fits seen (Join x) js rs e h j r =
+      let b = and_parts (is_declared ring x) (not (is_member ring.nodes x)) e in
+      let new = or_from (is_member ring.nodes x) (has x.0 (joined seen)) (not-true _ b.1) (different_apart (joined seen) x.0 js j) in
+      (node-fits x b.0, (new, tt))
+  step-fits seen (Mirror s x) js rs e h j r = (let b = and_parts (is_ring_slot ring s) (is_declared ring x) e in (and_parts _ _ b.0, node-fits x b.1))
+  step-fits seen (Copy s Owner) js rs e h j r = (and_parts _ _ (and_parts (is_ring_slot ring s) true e).0, tt)
+  step-fits seen (Copy s (Slots from)) js rs e h j r =
+      let b = and_parts (is_ring_slot ring s) (list_all (λ i. nat_lt i ring.n) from) e in
+      (and_parts _ _ b.0, (ne_eqb (length from) 0 (λ z. let some = h.0 in absurd (omega arith)), (ap not (le-leb (length from) 7 h.1), (ap not b.1, tt))))
+  step-fits seen (Switch s) js rs e h j r = and_parts (nat_lt s.partition ring.q) (nat_lt s.index ring.n) e
+  step-fits seen (Drop s x) js rs e h j r = (let b = and_parts (is_ring_slot ring s) (is_declared ring x) e in (and_parts _ _ b.0, node-fits x b.1))
+  step-fits seen (Retire x) js rs e h j r = (node-fits x e, (different_apart (retired seen) x.0 rs r, tt))
 
--- a line that begins with `end`
-abbrev pub IsEnd : List (List ℕ) → Type 0
-IsEnd line = begins_with (codes "end") (line ∷ []) ≡ true
+  -- ---- what a step waits for
 
-end-any : (line : List (List ℕ)) (more : List (List (List ℕ))) → IsEnd line → begins_with (codes "end") (line ∷ more) ≡ true
-end-any [] more h = absurd cc
-end-any (f ∷ fs) more h = h
+  after-more : (seen : List Planned) (xs : List ℕ) → dependencies seen ≤ 524288 → (after_form ring seen).allowed xs
+      → (are_small xs ≡ true) × (ascending xs ≡ true) × (list_all (λ x. nat_lt x (length seen)) xs ≡ true) × (length xs ≤ 4096)
+      × (dependencies seen + length xs ≤ 524288)
+  after-more seen [] le p = (refl, refl, refl, omega arith, omega arith)
+  after-more seen (x ∷ xs) le p =
+      let few = leb-true (suc (length xs)) 4096 (not-false _ p.1.1.0) in
+      let room = leb-true (suc (length xs)) (524288 - dependencies seen) (not-false _ p.1.1.1.0) in
+      (not-false _ p.1.1.1.1.0, not-false _ p.1.0, not-false _ p.1.1.1.1.1.0, few, omega arith)
 
-not-end : (names : List (List ℕ)) (s : Step) (after : List (List ℕ)) (more : List (List (List ℕ))) → begins_with (codes "end") ((kind_fields names s ++ after) ∷ more) ≡ false
-not-end names (step.Join x) after more = refl
-not-end names (step.Mirror s x) after more = refl
-not-end names (step.Copy s from) after more = refl
-not-end names (step.Switch s) after more = refl
-not-end names (step.Drop s x) after more = refl
-not-end names (step.Retire x) after more = refl
+  after-fits : (seen : List Planned) (xs : List ℕ) → length seen ≤ 131072 → ascending xs ≡ true → list_all (λ x. nat_lt x (length seen)) xs ≡ true
+      → length xs ≤ 4096 → dependencies seen + length xs ≤ 524288 → (after_form ring seen).allowed xs
+  after-fits seen [] le up earlier few total = tt
+  after-fits seen (x ∷ xs) le up earlier few total = (
+    ne_eqb (suc (length xs)) 0 (omega arith),
+    (
+      ap not up,
+      (
+        ap not (le-leb (suc (length xs)) 4096 few),
+        (
+          ap not (le-leb (suc (length xs)) (524288 - dependencies seen) (omega arith)),
+          (ap not (below_all 4294967296 (length seen) (x ∷ xs) (omega arith) earlier), (ap not earlier, tt)),
+        ),
+      ),
+    ),
+  )
 
-record Found (ring : RingValue) (seen xs : List Planned) (lines : List (List (List ℕ))) (t : Left) : Type 0 where
-  pub steps : List Planned
-  pub all : xs ≡ seen ++ steps
-  pub parts : lines ≡ map (step_fields (names_of ring)) steps ++ t.lines
-  pub new : AreNext ring seen steps
-  pub some : SomeLeft t
+  -- ---- a step, and the plan with it
 
-abbrev Read : Type 0
-Read = Result (List Planned × Left) Refusal
+  next-is : (seen : List Planned) (x : Planned) → dependencies seen ≤ 524288 → IsNextStep ring seen x
+      → (are_small x.after ≡ true) × IsPlanned (length seen) x × (length seen < 131072) × (dependencies seen + length x.after ≤ 524288)
+  next-is seen x le p =
+      let a = after-more seen x.after le p.1 in
+      (a.0, record { ascending = a.1; earlier = a.2; few = a.3; sources = (step-more seen x.step p.0.1).1 }, ltb-true (length seen) 131072 p.0.0, a.4)
 
-module _ (ring : RingValue) (q : ring.q ≤ 4096) (n : ring.n ≤ 7) (good : AreNames (names_of ring)) where
-  more-few : (seen : List Planned) (x : Planned) → IsStepLine ring seen (line_of x) → dependencies (seen ++ x ∷ []) ≤ 524288
-  more-few seen x p = rw (sum_by_push (λ (y : Planned). length y.after) seen x) p.after.total
+  next-suits : (seen : List Planned) (x : Planned) → IsPlan seen × Suits ring seen → IsNextStep ring seen x
+      → IsPlan (seen ++ x ∷ []) × Suits ring (seen ++ x ∷ [])
+  next-suits seen x is p =
+      let n = next-is seen x is.0.dependencies p in
+      let more = step-more seen x.step p.0.1 in (
+        IsPlan-push seen x is.0 n.1 n.2 n.3,
+        record {
+          steps = rw (list_all-append (λ (y : Planned). step_suits ring y.step) seen (x ∷ []), is.1.steps, more.0) refl;
+          joins = rw (named-push joins seen x) (more.2 is.1.joins);
+          retirements = rw (named-push retires seen x) (more.3 is.1.retirements);
+        },
+      )
 
-  found-by : (b : Bool) (seen xs : List Planned) (k : ℕ) (line : List (List ℕ)) (more : List (List (List ℕ))) (t : Left) → dependencies seen ≤ 524288
-      → ((ys : List Planned) (u : Left) → dependencies ys ≤ 524288 → steps_from ring ys (next_number k) more ≡ Ok (xs, u) → (x : List (List ℕ)) × (zs : List (List (List ℕ))) × (more ≡ x ∷ zs) → Found ring ys xs more u)
-      → ◌≡◌ {A = Read} (cond b (Ok (seen, record { line = k; lines = line ∷ more })) (first_line k (line ∷ more) >>= λ _. step_at ring seen k line >>= λ x. steps_from ring (seen ++ x ∷ []) (next_number k) more)) (Ok (xs, t)) → Found ring seen xs (line ∷ more) t
-  found-by true seen xs k line more t few later e =
-      let G : List Planned × Left → Type 0 = λ w. Found ring seen w.0 (line ∷ more) w.1 in
-      let start : G (seen, record { line = k; lines = line ∷ more }) = record { steps = []; all = sym (append-nil seen); parts = refl; new = tt; some = (line, more, refl) } in
-      subst G (ok_is _ (xs, t) e) start
-  found-by false seen xs k line more t few later e =
-      let b = bind_ok (first_line k (line ∷ more)) (λ _. step_at ring seen k line >>= λ x. steps_from ring (seen ++ x ∷ []) (next_number k) more) (xs, t) e in
-      let c = bind_ok (step_at ring seen k line) (λ x. steps_from ring (seen ++ x ∷ []) (next_number k) more) (xs, t) b.2 in
-      let f = first_is k (line ∷ more) b.0.0 b.0.1 b.1 in
-      let law = (step-line ring seen k q n good few).takes line c.0 c.1 in
-      let some : (x : List (List ℕ)) × (zs : List (List (List ℕ))) × (more ≡ x ∷ zs) = (f.1.0, f.1.1, tail_is line b.0.0 more b.0.1.lines f.0 ∙ f.1.2) in
-      let rest = later (seen ++ c.0 ∷ []) t (more-few seen c.0 law.1) c.2 some in
-      record {
-        steps = c.0 ∷ rest.steps;
-        all = rest.all ∙ append_assoc seen (c.0 ∷ []) rest.steps;
-        parts = ap (λ (l : List (List ℕ)). l ∷ more) law.0 ∙ ap (λ (m : List (List (List ℕ))). step_fields (names_of ring) c.0 ∷ m) rest.parts;
-        new = (law.1, rest.new);
-        some = rest.some;
-      }
-    where
-      tail_is : (a b : List (List ℕ)) (xs ys : List (List (List ℕ))) → a ∷ xs ≡ b ∷ ys → xs ≡ ys
-      tail_is a b xs ys h = cc
+  next-fits : (seen : List Planned) (x : Planned) (xs : List Planned) → step_suits ring x.step ≡ true → IsPlan (seen ++ x ∷ xs) × Suits ring (seen ++ x ∷ xs)
+      → IsNextStep ring seen x
+  next-fits seen x xs e is =
+      let number : 0 + length seen ≡ length seen = omega arith in
+      let planned : IsPlanned (length seen) x = rw number at (each-at 0 seen x xs is.0.each) in
+      let room : length seen + suc (length xs) ≤ 131072 = rw length-append at is.0.steps in
+      let front = sum_by-append (λ (y : Planned). length y.after) seen (x ∷ xs) in
+      let back = sum_by-append (λ (y : Planned). length y.after) (x ∷ []) xs in
+      let total : dependencies seen + length x.after ≤ 524288 = omega (arith, is.0.dependencies, front, back) in (
+        (
+          lt-ltb (length seen) 131072 (omega arith),
+          step-fits seen x.step (joined xs) (retired xs) e planned.sources
+              (sym (ap all_different (named-parts joins seen x xs)) ∙ is.1.joins) (sym (ap all_different (named-parts retires seen x xs)) ∙ is.1.retirements),
+        ),
+        after-fits seen x.after (omega arith) planned.ascending planned.earlier planned.few total,
+      )
 
-  steps-found : (seen xs : List Planned) (k : ℕ) (lines : List (List (List ℕ))) (t : Left) → dependencies seen ≤ 524288 → (x : List (List ℕ)) × (zs : List (List (List ℕ))) × (lines ≡ x ∷ zs) → steps_from ring seen k lines ≡ Ok (xs, t) → Found ring seen xs lines t
-  steps-found seen xs k [] t few some e = absurd cc
-  steps-found seen xs k (line ∷ more) t few some e = found-by (begins_with (codes "end") (line ∷ more)) seen xs k line more t few (λ ys u f h s. steps-found ys xs (next_number k) more u f s h) e
+  -- what the form allows is a plan that suits the ring
+  parts-suit : (v : List Planned) → (plan_form ring).allowed v → IsPlan v × Suits ring v
+  parts-suit v p = each-grows (IsNextStep ring) (λ l. IsPlan l × Suits ring l) next-suits [] v
+      (record { each = tt; steps = omega arith; dependencies = omega arith }, record { steps = refl; joins = refl; retirements = refl }) p.1.0
 
-  first-ok : (k : ℕ) (l : List (List ℕ)) (rest : List (List (List ℕ))) (z : List (List ℕ)) (zs : List (List (List ℕ))) → rest ≡ z ∷ zs → first_line k (l ∷ rest) ≡ Ok (l, record { line = next_number k; lines = rest })
-  first-ok k l rest z zs e = rw e refl
+  suits-parts : (v : List Planned) → IsPlan v → Suits ring v → (plan_form ring).allowed v
+  suits-parts v is suits =
+      (tt, (all-each (IsNextStep ring) (λ x. step_suits ring x.step) (λ l. IsPlan l × Suits ring l) next-fits [] v suits.steps (is, suits), tt))
 
-  steps-given : (ys seen : List Planned) (k : ℕ) (x : List (List ℕ)) (xs : List (List (List ℕ))) → dependencies seen ≤ 524288 → AreNext ring seen ys → IsEnd x → (m : ℕ) × (steps_from ring seen k (map (step_fields (names_of ring)) ys ++ x ∷ xs) ≡ Ok (seen ++ ys, record { line = m; lines = x ∷ xs }))
-  steps-given [] seen k x xs few new end = (k, rw (end-any x xs end, append-nil seen) refl)
-  steps-given (y ∷ ys) seen k x xs few new end =
-      let rest = steps-given ys (seen ++ y ∷ []) (next_number k) x xs (more-few seen y new.0) new.1 end in
-      let line = (step-line ring seen k q n good few).gives y new.0 in
-      let sh = some_lines (map (step_fields (names_of ring)) ys) x xs in
-      let first = first-ok k (step_fields (names_of ring) y) (map (step_fields (names_of ring)) ys ++ x ∷ xs) sh.0 sh.1 sh.2 in
-      let other = not-end (names_of ring) y.step (after_fields y.after) (map (step_fields (names_of ring)) ys ++ x ∷ xs) in
-      (rest.0, rw (other, first, line) (rest.1 ∙ ap (λ (z : List Planned). Ok (z, record { line = rest.0; lines = x ∷ xs })) (append_assoc seen (y ∷ []) ys)))
+-- what was returned of a line can be the next step
+pub next-if : (ring : RingValue) → IsRing ring → (seen : List Planned) (k : ℕ) (fields : List (List ℕ)) (r : Result (Said × List ℕ) Refusal)
+    → dependencies seen ≤ 524288 → r ≡ said_at ring seen k fields → IfOk r (λ x. IsNext seen x)
+unfolding said_at
+next-if ring valid seen k fields (Ok x) few e =
+    let n = next-is ring seen (planned_of x) few (((said_line ring seen).exact valid k).takes fields x (sym e)).1 in
+    record { after = n.0; planned = n.1; room = n.2; few = n.3 }
+next-if ring valid seen k fields (Err f) few e = tt
 
-  pub steps-part : IsPart IsEnd (steps_at ring) (λ xs. map (step_fields (names_of ring)) xs) (AreNext ring [])
-  unfolding steps_at
-  steps-part = record { takes = take; gives = give }
-    where
-      take : (a z : Left) (v : List Planned) → SomeLeft a → steps_at ring a ≡ Ok (v, z) → (a.lines ≡ map (step_fields (names_of ring)) v ++ z.lines) × AreNext ring [] v × SomeLeft z
-      take a z v some e =
-          let f = steps-found [] v a.line a.lines z (omega arith) some e in
-          let all : v ≡ f.steps = f.all in
-          (rw all f.parts, rw all f.new, f.some)
+-- the definitions are the form, by computing
+pub plan-part : (ring : RingValue) → IsRing ring → IsPart Any (plan_at ring) (plan_lines ring) (plan_form ring).allowed
+unfolding plan_at steps_at
+plan-part ring valid = (plan_form ring).exact valid
 
-      give : (k : ℕ) (v : List Planned) (x : List (List ℕ)) (xs : List (List (List ℕ))) → AreNext ring [] v → IsEnd x → (m : ℕ) × (steps_at ring (record { line = k; lines = map (step_fields (names_of ring)) v ++ x ∷ xs }) ≡ Ok (v, record { line = m; lines = x ∷ xs }))
-      give k v x xs p end = steps-given v [] k x xs (omega arith) p end
+pub read-found : (ring : RingValue) (text : List ℕ) (v : List Planned) → IsRing ring → plan_reading ring text ≡ Ok v
+    → IsPlan v × Suits ring v × (text ≡ plan_text ring v)
+unfolding plan_at steps_at
+read-found ring text v r e = (let h = text-found (plan_form ring) r text v e in let p = parts-suit ring v h.0 in (p.0, p.1, h.1))
 
-  pub plan-part : IsPart Any (plan_at ring) (plan_lines ring) (AreNext ring [])
-  unfolding plan_at
-  plan-part =
-      let body = IsPart-then {A = List Planned} {B = Unit {0}} IsEnd Any (steps_at ring) (λ _. one_line end_line_at) (λ xs. map (step_fields (names_of ring)) xs) (λ _ x. end_fields ∷ []) (AreNext ring []) (λ _ x. Unit {0}) steps-part (λ a p. IsPart-line end_line_at (λ x. end_fields) Nothing end-line) (λ a b x xs p p2 d. refl) in
-      let all = IsPart-then {A = Unit {0}} {B = List Planned × Unit {0}} Any Any (one_line (header_at (codes "plan") (codes "1"))) _ (λ x. header_fields (codes "plan") (codes "1") ∷ []) _ Nothing _ (IsPart-line (header_at (codes "plan") (codes "1")) (λ x. header_fields (codes "plan") (codes "1")) Nothing (header-line (codes "plan") (codes "1"))) (λ x p. body) (λ a b x xs p p2 d. tt) in
-      let made = IsPart-map {A = Unit {0} × (List Planned × Unit {0})} {B = List Planned} Any _ _ _ (λ x. x.1.0) (λ v. (tt, (v, tt))) (λ a. refl) (λ b. refl) all in
-      IsPart-as Any _ _ _ _ _ (λ v. refl) (λ v p. p.1.0) (λ v p. (tt, (p, tt))) made
+pub read-only : (ring : RingValue) (text : List ℕ) (v : List Planned) → IsRing ring → IsPlan v → Suits ring v → text ≡ plan_text ring v
+    → plan_reading ring text ≡ Ok v
+unfolding plan_at steps_at
+read-only ring text v r is suits e = text-given (plan_form ring) r text v (suits-parts ring v is suits) e
+
+pub section-found : (ring : RingValue) (s : Left) → IsRing ring → (v : List Planned) (t : Left) → plan_at ring s ≡ Ok (v, t) → IsPlan v × Suits ring v
+unfolding plan_at steps_at
+section-found ring s r v t e = parts-suit ring v ((plan-part ring r).takes s t v
+    (some-first (λ x. x.1.0) (header_at (codes "plan") (codes "1")) _ s t v e) e).1

@@ -1,11 +1,13 @@
 -- A plan with one more step.
 use Rattle.std.proofs.Common.{get_or, suc, zero, ◌≡◌, ℕ, ◌+◌, ◌<◌, ◌≤◌, Bool, true, false, cond, List, [], ◌∷◌, ◌++◌, length, refl, sym, ap, ◌∙◌, arith, add-zero, length-append, Ok, Err}
 use Rattle.std.specs.Prelude.{Result, OnOk}
+use Rattle.std.specs.List.{flat_map}
 use Rattle.std.proofs.lemmas.List.{flat_map_more}
 use Rattle.std.proofs.lemmas.List.Sums.{sum_by_push}
 use Rattle.ring_names.specs.declared.ids.Slot.{Slot}
 use Rattle.plan_text.specs.declared.step.Planned.{Planned}
-use Rattle.plan_text.specs.Steps.{is_on, steps_from, steps_of, joins, retires, joined, retired, dependencies}
+use Rattle.plan_text.specs.declared.step.Step.{Step}
+use Rattle.plan_text.specs.Steps.{is_on, steps_from, steps_of, dependencies}
 use Rattle.plan_text.specs.Valid.{IsPlanned, EachPlanned, IsPlan}
 
 one_more : (b c : Bool) (k n : ℕ) (t u : List ℕ) → u ≡ cond c (t ++ n ∷ []) t → cond b (k ∷ u) u ≡ cond c (cond b (k ∷ t) t ++ n ∷ []) (cond b (k ∷ t) t)
@@ -38,11 +40,10 @@ steps_from-within k (x ∷ xs) s n e i l =
 pub steps_of-within : (plan : List Planned) (s : Slot) (i : ℕ) → i < length (steps_of plan s) → get_or (steps_of plan s) i 0 < length plan
 steps_of-within plan s i l = steps_from-within 0 plan s (length plan) (omega arith) i l
 
-pub joined-push : (xs : List Planned) (x : Planned) → joined (xs ++ x ∷ []) ≡ joined xs ++ joins x.step
-joined-push xs x = sym (flat_map_more (λ (y : Planned). joins y.step) [] xs x)
-
-pub retired-push : (xs : List Planned) (x : Planned) → retired (xs ++ x ∷ []) ≡ retired xs ++ retires x.step
-retired-push xs x = sym (flat_map_more (λ (y : Planned). retires y.step) [] xs x)
+-- the nodes that steps of a kind name, with one more step
+pub named-push : (named : Step → List ℕ) (xs : List Planned) (x : Planned)
+    → flat_map (λ y. named y.step) (xs ++ x ∷ []) ≡ flat_map (λ y. named y.step) xs ++ named x.step
+named-push named xs x = sym (flat_map_more (λ (y : Planned). named y.step) [] xs x)
 
 pub EachPlanned-push : (k : ℕ) (xs : List Planned) (x : Planned) → EachPlanned k xs → IsPlanned (k + length xs) x → EachPlanned k (xs ++ x ∷ [])
 EachPlanned-push k [] x each last = (rw add-zero at last, tt)

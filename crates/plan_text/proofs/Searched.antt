@@ -4,25 +4,21 @@ use Rattle.std.specs.Prelude.{Result, Option, Some, None, option_map, ◌==◌, 
 use Rattle.std.specs.Result.{is_ok}
 use Rattle.std.specs.Ordering.{nat_cmp}
 use Rattle.std.specs.List.Sorted.{IsBinarySearchResult}
-use Rattle.std.proofs.lemmas.Bool.Decides.{nat_tests}
 use Rattle.std.proofs.lemmas.List.Sorted.{searched}
 use Rattle.ring_names.specs.Lists.{has}
 use Rattle.plan_text.specs.declared.step.Planned.{Planned}
 use Rattle.plan_text.specs.Steps.{depends}
 use Rattle.texts.specs.Numbers.{ascending}
 use Rattle.plan_text.specs.Valid.{EachPlanned}
-use Rattle.std.proofs.lemmas.Bool.{and_parts, ne_eqb, eq-eqb}
+use Rattle.std.proofs.lemmas.Bool.{ltb-true, and_parts, ne_eqb, eq-eqb}
 use Rattle.ring_names.proofs.Logic.{or_true}
-
-below : (x y : ℕ) → nat_lt x y ≡ true → x < y
-below x y e = grind (arith, nat_tests)
 
 ascends-head : (x : ℕ) (xs : List ℕ) → ascending (x ∷ xs) ≡ true → (j : ℕ) → j < length xs → x < get_or xs j 0
 ascends-head x [] e j h = absurd (omega arith)
-ascends-head x (y ∷ ys) e zero h = below x y (and_parts (nat_lt x y) (ascending (y ∷ ys)) e).0
+ascends-head x (y ∷ ys) e zero h = ltb-true x y (and_parts (nat_lt x y) (ascending (y ∷ ys)) e).0
 ascends-head x (y ∷ ys) e (suc j) h =
     let b = and_parts (nat_lt x y) (ascending (y ∷ ys)) e in
-    let first = below x y b.0 in
+    let first = ltb-true x y b.0 in
     let rest = ascends-head y ys b.1 j (omega arith) in
     omega arith
 

@@ -1,17 +1,15 @@
 -- Items behind which no number may stand, since they take all numbers that do.
-use Rattle.std.proofs.Common.{◌≡◌, ℕ, Bool, true, false, cond, nat_lt, List, [], ◌∷◌, ◌++◌, map, Some, Result, Ok, refl, sym, ap, subst, ◌∙◌, arith, append_assoc}
+use Rattle.std.proofs.Common.{◌≡◌, ℕ, Bool, true, false, cond, nat_lt, List, [], ◌∷◌, ◌++◌, map, Some, Ok, refl, sym, ap, subst, ◌∙◌, arith, append_assoc}
 use Rattle.std.specs.Fmt.{decimal}
 use Rattle.std.proofs.lemmas.List.{append-nil}
 use Rattle.std.proofs.lemmas.Bool.{ltb-true, and_parts}
-use Rattle.ring_names.specs.declared.refusal.Refusal.{Refusal}
 use Rattle.ring_names.proofs.Logic.{cond_some, pair_is, pair_of}
 use Rattle.texts.specs.Number.{value_from, is_number, decimal_value}
 use Rattle.texts.specs.Numbers.{numbers_of, beyond, are_small}
-use Rattle.texts.specs.Judging.{both_of, Item, ◌⊗◌, end_at, map_ok, map_item, whole, unless}
-use Rattle.texts.specs.Left.{◌>>=◌}
+use Rattle.texts.specs.Judging.{both_of, Item, ◌⊗◌, end_at, map_ok, map_item, whole}
 use Rattle.texts.specs.Laws.{IsItem, IsLine}
 pub use Rattle.texts.specs.Laws.{IsFront, Last}
-use Rattle.texts.proofs.Items.{both_is, map_is, bind_ok, unless_is, unless_ok, Passes, end_is}
+use Rattle.texts.proofs.Items.{both_is, map_is, end_is}
 use Rattle.texts.proofs.Decimals.{decimal-value, value-decimal}
 
 -- no number stands in front
@@ -79,25 +77,6 @@ front-word C a word s P f fields rest v ia e r =
     let m = map_is f (a fields).0 v e in
     let i = ia.takes fields rest m.0 (pair_of (a fields) (Ok m.0) rest m.1 r) in
     (m.0, m.2, ap (λ x. word ∷ x) i.0, i.1)
-
--- a value that passes tests
-abbrev pub passing : {A : Type 0} → Item A → (A → List (Bool × Refusal)) → Item A
-passing a tests fields = (((a fields).0 >>= λ x. unless (tests x) x), (a fields).1)
-
-pub item-unless : {A : Type 0} (a : Item A) (s : A → List (List ℕ)) (P : A → Type 0) (tests : A → List (Bool × Refusal)) → IsItem a s P → IsItem (passing a tests) s (λ v. P v × Passes (tests v))
-item-unless {A} a s P tests ia = record { takes = take; gives = give }
-  where
-    take : (fields rest : List (List ℕ)) (v : A) → passing a tests fields ≡ (Ok v, rest) → (fields ≡ s v ++ rest) × (P v × Passes (tests v))
-    take fields rest v e =
-        let h = pair_is (passing a tests fields) (Ok v) rest e in
-        let b = bind_ok (a fields).0 (λ x. unless (tests x) x) v h.0 in
-        let u = unless_is (tests b.0) b.0 v b.2 in
-        let i = ia.takes fields rest b.0 (pair_of (a fields) (Ok b.0) rest b.1 h.1) in
-        let G : A → Type 0 = λ x. (fields ≡ s x ++ rest) × (P x × Passes (tests x)) in
-        subst G u.0 (i.0, (i.1, u.1))
-
-    give : (v : A) (rest : List (List ℕ)) → P v × Passes (tests v) → passing a tests (s v ++ rest) ≡ (Ok v, rest)
-    give v rest p = rw (ia.gives v rest p.0) (ap (λ (r : Result A Refusal). (r, rest)) (unless_ok (tests v) v p.1))
 
 -- ---- numbers
 

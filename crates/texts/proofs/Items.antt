@@ -219,27 +219,6 @@ IsItem-need k b = record { takes = take b; gives = λ v rest p. rw p refl }
     take true fields rest v e = ((pair_is (need_at k true fields) (Ok v) rest e).1, refl)
     take false fields rest v e = let bad : Err (TooLarge k) ≡ Ok v = ap (λ p. p.0) e in absurd cc
 
--- the value as another type has it
-pub IsItem-map : {A B : Type 0} (a : Item A) (s : A → List (List ℕ)) (P : A → Type 0) (f : A → B) (g : B → A) → ((x : A) → g (f x) ≡ x) → ((y : B) → f (g y) ≡ y) → IsItem a s P → IsItem (map_item f a) (λ b. s (g b)) (λ b. P (g b))
-IsItem-map {A} {B} a s P f g gf fg ia = record { takes = take; gives = give }
-  where
-    take : (fields rest : List (List ℕ)) (v : B) → map_item f a fields ≡ (Ok v, rest) → (fields ≡ s (g v) ++ rest) × P (g v)
-    take fields rest v e =
-        let h = pair_is (map_item f a fields) (Ok v) rest e in
-        let m = map_is f (a fields).0 v h.0 in
-        let i = ia.takes fields rest m.0 (pair_of (a fields) (Ok m.0) rest m.1 h.1) in
-        rw (← m.2, gf m.0) i
-
-    give : (v : B) (rest : List (List ℕ)) → P (g v) → map_item f a (s (g v) ++ rest) ≡ (Ok v, rest)
-    give v rest p = rw (ia.gives (g v) rest p, fg v) refl
-
--- another way to say what is allowed, and what it looks like
-pub IsItem-as : {A : Type 0} (a : Item A) (s t : A → List (List ℕ)) (P Q : A → Type 0) → ((v : A) → s v ≡ t v) → ((v : A) → P v → Q v) → ((v : A) → Q v → P v) → IsItem a s P → IsItem a t Q
-IsItem-as {A} a s t P Q same to from ia = record {
-  takes = λ fields rest v e. let h = ia.takes fields rest v e in (h.0 ∙ ap (λ x. x ++ rest) (same v), to v h.1);
-  gives = λ v rest q. rw (← same v) (ia.gives v rest (from v q));
-}
-
 -- ---- values that are made into others, before they are joined or after
 
 pub both-map_left : {A B C : Type 0} (f : A → B) (x : Result A Refusal) (y : Result C Refusal) → both_of (map_ok f x) y ≡ map_ok (λ v. (f v.0, v.1)) (both_of x y)

@@ -1,5 +1,5 @@
 -- Reading does not go back, and each of its faults is at a line that was reached.
-use Rattle.std.proofs.Common.{◌≡◌, ℕ, ◌+◌, ◌≤◌, Bool, true, false, cond, nat_lt, List, [], ◌∷◌, ◌++◌, Option, Some, None, Result, Ok, Err, refl, sym, ap, subst, ◌∙◌, arith}
+use Rattle.std.proofs.Common.{◌≡◌, ℕ, ◌+◌, ◌≤◌, Bool, true, false, cond, nat_lt, List, [], ◌∷◌, Option, Some, None, Result, Ok, Err, refl, sym, ap, subst, ◌∙◌, arith}
 use Rattle.std.specs.Prelude.{IfErr, IsErrAnd, ◌≢◌}
 use Rattle.std.specs.Str.{bytes_eq}
 use Rattle.std.proofs.lemmas.Bool.{ltb-true, ltb-false}
@@ -13,7 +13,7 @@ use Rattle.texts.specs.Left.{Left, ◌>>=◌, next_number, lines_on, begins_so, 
 use Rattle.texts.specs.Late.{IsAt, NoFaultBefore, ReadsTo, Late}
 pub use Rattle.texts.specs.Late.{At, Judges, Advances}
 use Rattle.texts.proofs.Items.{ok_is}
-use Rattle.texts.proofs.Many.{many-step}
+use Rattle.texts.proofs.Many.{Steps, pushed, loop-step}
 
 pub at-both : {A B : Type 0} (k : ℕ) (a : Result A Refusal) (b : Result B Refusal) → At k a → At k b → At k (both_of a b)
 unfolding both_of
@@ -168,36 +168,53 @@ past read on s t v e = (let here = on.on s in rw e at here)
 pub past-next : {A : Type 0} (read : Left → Result (A × Left) Refusal) → Advances read → (s t : Left) (v : A) → read s ≡ Ok (v, t) → (k : ℕ) → next_number t.line ≤ k → next_number s.line ≤ k
 past-next read on s t v e k le = (let more = next-monotone s.line t.line (past read on s t v e) in omega arith)
 
--- ---- lines that begin alike
+-- ---- lines that are read one after another
 
-module _ {A : Type 0} (test : List ℕ → Bool) (read : List A → ℕ → List (List ℕ) → Result A Refusal) (at : (seen : List A) (k : ℕ) (fields : List (List ℕ)) → At k (read seen k fields)) where
-  pub many-on : (seen : List A) (k : ℕ) (lines : List (List (List ℕ))) → ReadsTo k (many_from test read seen k lines)
-  many-on seen k [] = omega arith
-  many-on seen k (line ∷ []) = by (begins_so test (line ∷ []))
+module _ {S A : Type 0} (goes : List (List (List ℕ)) → Bool) (read : S → ℕ → List (List ℕ) → Result A Refusal) (push : S → A → S)
+    (loop : S → ℕ → List (List (List ℕ)) → Result (S × Left) Refusal) (steps : Steps goes read push loop)
+    (nothing : (seen : S) (k : ℕ) → ReadsTo k (loop seen k [])) (at : (seen : S) (k : ℕ) (fields : List (List ℕ)) → At k (read seen k fields)) where
+  pub loop-on : (seen : S) (k : ℕ) (lines : List (List (List ℕ))) → ReadsTo k (loop seen k lines)
+  loop-on seen k [] = nothing seen k
+  loop-on seen k (line ∷ []) = rw (steps seen k line []) (by (goes (line ∷ [])))
     where
-      by : (t : Bool) → ReadsTo k (cond {A = Result (List A × Left) Refusal} t (Err (BadLine k)) (Ok (seen, record { line = k; lines = line ∷ [] })))
+      by : (t : Bool) → ReadsTo k (cond {A = Result (S × Left) Refusal} t (Err (BadLine k)) (Ok (seen, record { line = k; lines = line ∷ [] })))
       by true = (k, omega arith, refl)
       by false = omega arith
-  many-on seen k (line ∷ next ∷ more) = by (begins_so test (line ∷ next ∷ more)) (λ ys. many-on ys (next_number k) (next ∷ more))
+  loop-on seen k (line ∷ next ∷ more) = rw (steps seen k line (next ∷ more)) (by (goes (line ∷ next ∷ more)) (λ ys. loop-on ys (next_number k) (next ∷ more)))
     where
-      judged : (r : Result A Refusal) → At k r → ((ys : List A) → ReadsTo (next_number k) (many_from test read ys (next_number k) (next ∷ more))) → ReadsTo k (◌>>=◌ {B = List A × Left} r (λ x. many_from test read (seen ++ x ∷ []) (next_number k) (next ∷ more)))
-      judged (Ok x) p later = reads-less k (next_number k) _ (next-after k) (later (seen ++ x ∷ []))
+      judged : (r : Result A Refusal) → At k r → ((ys : S) → ReadsTo (next_number k) (loop ys (next_number k) (next ∷ more)))
+          → ReadsTo k (◌>>=◌ {B = S × Left} r (λ x. loop (push seen x) (next_number k) (next ∷ more)))
+      judged (Ok x) p later = reads-less k (next_number k) _ (next-after k) (later (push seen x))
       judged (Err e) p later = (k, omega arith, p)
 
-      by : (t : Bool) → ((ys : List A) → ReadsTo (next_number k) (many_from test read ys (next_number k) (next ∷ more)))
-          → ReadsTo k (cond t (◌>>=◌ {B = List A × Left} (read seen k line) (λ x. many_from test read (seen ++ x ∷ []) (next_number k) (next ∷ more))) (Ok (seen, record { line = k; lines = line ∷ next ∷ more })))
+      by : (t : Bool) → ((ys : S) → ReadsTo (next_number k) (loop ys (next_number k) (next ∷ more)))
+          → ReadsTo k (cond t (◌>>=◌ {B = S × Left} (read seen k line) (λ x. loop (push seen x) (next_number k) (next ∷ more)))
+          (Ok (seen, record { line = k; lines = line ∷ next ∷ more })))
       by true later = judged (read seen k line) (at seen k line) later
       by false later = omega arith
 
-  -- memory that is asked for behind a line that was taken: what was read from the start on reads to where it is now
-  pub many-late : (seen : List A) (start s t : Left) (fields : List (List ℕ)) (x : A) (total : Result (List A × Left) Refusal) → begins_so test s.lines ≡ true → next_line s ≡ Ok (fields, t) → read seen s.line fields ≡ Ok x
-      → start.line ≤ s.line → many_from test read seen s.line s.lines ≡ total → (next_number start.line ≤ t.line) × ReadsTo t.line total
-  many-late seen start s t fields x total b e f le so_far =
-      let behind : many_from test read seen s.line s.lines ≡ many_from test read (seen ++ x ∷ []) t.line t.lines = rw (many-step test read seen s.line s.lines b, e, f) refl in
-      let on = many-on (seen ++ x ∷ []) t.line t.lines in
+  -- memory that is asked for after a line that was taken: what was read from the start on reads to where it is now
+  pub loop-late : ((seen : S) (k : ℕ) → goes [] ≡ true → loop seen k [] ≡ Err (BadLine k))
+      → (seen : S) (start s t : Left) (fields : List (List ℕ)) (x : A) (total : Result (S × Left) Refusal) → goes s.lines ≡ true → next_line s ≡ Ok (fields, t)
+      → read seen s.line fields ≡ Ok x → start.line ≤ s.line → loop seen s.line s.lines ≡ total → (next_number start.line ≤ t.line) × ReadsTo t.line total
+  loop-late none seen start s t fields x total b e f le so_far =
+      let after : loop seen s.line s.lines ≡ loop (push seen x) t.line t.lines =
+      rw (loop-step goes read push loop steps none seen s.line s.lines b, e, f) refl in
+      let on = loop-on (push seen x) t.line t.lines in
       let line = next-line s t fields e in
       let more = next-monotone start.line s.line le in
-      (omega (arith, line, more), rw (← so_far, behind) on)
+      (omega (arith, line, more), rw (← so_far, after) on)
+
+-- lines that begin alike
+module _ {A : Type 0} (test : List ℕ → Bool) (read : List A → ℕ → List (List ℕ) → Result A Refusal)
+    (at : (seen : List A) (k : ℕ) (fields : List (List ℕ)) → At k (read seen k fields)) where
+  pub many-on : (seen : List A) (k : ℕ) (lines : List (List (List ℕ))) → ReadsTo k (many_from test read seen k lines)
+  many-on = loop-on (begins_so test) read pushed (many_from test read) (λ seen k line more. refl) (λ seen k. omega arith) at
+
+  pub many-late : (seen : List A) (start s t : Left) (fields : List (List ℕ)) (x : A) (total : Result (List A × Left) Refusal) → begins_so test s.lines ≡ true
+      → next_line s ≡ Ok (fields, t) → read seen s.line fields ≡ Ok x
+      → start.line ≤ s.line → many_from test read seen s.line s.lines ≡ total → (next_number start.line ≤ t.line) × ReadsTo t.line total
+  many-late = loop-late (begins_so test) read pushed (many_from test read) (λ seen k line more. refl) (λ seen k. omega arith) at (λ seen k e. absurd cc)
 
 -- ---- a whole text
 

@@ -4,7 +4,7 @@ use Rattle.texts.proofs.Wholes.{gives-found}
 use Rattle.plan_text.specs.Reading.{plan_reading}
 use Rattle.plan_text.specs.Spelling.{plan_text}
 use Rattle.plan_text.specs.Valid.{IsPlan, Suits}
-use Rattle.plan_text.proofs.TextLaws.{read-found, read-only}
+use Rattle.plan_text.proofs.PlanLaws.{read-found, read-only}
 use Rattle.plan_text.proofs.reading.read_plan.Goals as goal
 
 pub returns-clause-found : goal.returns-clause-found

@@ -1,7 +1,7 @@
 use Rattle.texts.proofs.Wholes.{reads-found}
 use Rattle.plan_text.specs.Reading.{plan_at}
 use Rattle.plan_text.specs.Valid.{IsPlan, Suits}
-use Rattle.plan_text.proofs.TextLaws.{section-found}
+use Rattle.plan_text.proofs.PlanLaws.{section-found}
 use Rattle.plan_text.proofs.reading.read_plan_section.Goals as goal
 
 pub returns-clause-found : goal.returns-clause-found

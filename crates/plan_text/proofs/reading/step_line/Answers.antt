@@ -1,12 +1,12 @@
 use Rattle.std.proofs.Common.{◌≡◌, rules}
 use Rattle.plan_text.specs.Reading.{said_at}
-use Rattle.plan_text.proofs.NextLaws.{next-if}
+use Rattle.plan_text.proofs.PlanLaws.{next-if}
 use Rattle.plan_text.proofs.PlanLates.{said-at}
 use Rattle.plan_text.proofs.reading.step_line.Goals as goal
 
 pub returns-clause-next : goal.returns-clause-next
 unfolding said_at
-returns-clause-next c = next-if c.args.ring.now c.args.plan.now c.args.fields.number c.args.fields.fields _ c.n-slots.ensures.valid.slots c.len.ensures.valid.dependencies (search rules)
+returns-clause-next c = next-if c.args.ring.now c.n-slots.ensures.valid c.args.plan.now c.args.fields.number c.args.fields.fields _ c.len.ensures.valid.dependencies (search rules)
 
 pub returns-clause-at : goal.returns-clause-at
 unfolding said_at
