@@ -11,7 +11,6 @@ use Rattle.ring_table.specs.Value.{RingValue}
 use Rattle.ring_table.specs.Reading.{ring_at}
 use Rattle.plan_text.specs.declared.step.Planned.{Planned}
 use Rattle.plan_text.specs.Reading.{steps_at, plan_at}
-use Rattle.plan_text.proofs.PlanLates.{steps-on, steps-at}
 use Rattle.plan_cert.specs.declared.cert.Cert.{Cert}
 use Rattle.plan_cert.specs.Reading.{fact_at, chain_at, begins_chain, facts_at, chains_at, cert_at}
 use Rattle.plan_cert.specs.Spelling.{cert_format}

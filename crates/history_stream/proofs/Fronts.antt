@@ -8,8 +8,6 @@ use Rattle.ring_table.specs.Value.{RingValue}
 use Rattle.ring_table.specs.Valid.{IsRing}
 use Rattle.ring_table.specs.Reading.{ring_at}
 use Rattle.ring_table.specs.Spelling.{ring_lines, ring_text}
-use Rattle.ring_table.proofs.LineLaws.{space-le}
-use Rattle.ring_table.proofs.NodesLaws.{names-of}
 use Rattle.ring_table.proofs.RingLaws.{ring-part}
 use Rattle.plan_text.specs.declared.step.Planned.{Planned}
 use Rattle.plan_text.specs.Reading.{plan_at}
@@ -46,7 +44,7 @@ front-is bytes s t u w ring plan cert front start a b c valid same text line =
     let value : FrontValue = (ring, (plan, cert)) in
     let first = some_line bytes in
     let r = ring-part.takes s t ring (first.0, first.1, ap (λ (x : Left). x.lines) start ∙ first.2) a in
-    let p = (plan-part ring (space-le ring.q valid.space) valid.slots (names-of ring valid)).takes t u plan r.2 b in
+    let p = (plan-part ring valid).takes t u plan r.2 b in
     let q = (cert-part ring valid).takes u w cert p.2 c in
     let lines : lines_of bytes ≡ front_lines value ++ q.2.0 ∷ q.2.1 =
     sym (ap (λ (x : Left). x.lines) start) ∙ r.0 ∙ ap (λ (ls : List (List (List ℕ))). ring_lines ring ++ ls) (p.0 ∙ ap (λ (ls : List (List (List ℕ))). plan_lines ring plan ++ ls) (q.0 ∙ ap (λ (ls : List (List (List ℕ))). cert_lines ring cert ++ ls) q.2.2))

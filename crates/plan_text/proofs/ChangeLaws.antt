@@ -4,7 +4,9 @@ use Rattle.std.specs.List.{list_all, list_any, flat_map}
 use Rattle.std.specs.Prelude.{◌||◌, ◌==◌}
 use Rattle.std.proofs.lemmas.List.Concat.{flat_map-cons}
 use Rattle.std.proofs.lemmas.List.Folds.{list_all-append, list_all-map}
+use Rattle.std.proofs.Math.Bool.{and_comm}
 use Rattle.ring_names.specs.Lists.{has}
+use Rattle.ring_names.proofs.Logic.{and_false}
 use Rattle.ring_names.specs.declared.ids.NodeId.{NodeId}
 use Rattle.plan_text.specs.declared.step.Step.{Step}
 use Rattle.plan_text.specs.declared.step.Step.TheVariants.{Join, Mirror, Copy, Switch, Drop, Retire}
@@ -27,12 +29,8 @@ one_leaves false true b = refl
 one_leaves false false b = refl
 
 shuffled : (a b c d : Bool) → ((a && b) && (c && d)) ≡ ((c && a) && (d && b))
-shuffled true true true true = refl
-shuffled true true true false = refl
-shuffled true true false d = refl
-shuffled true false true true = refl
-shuffled true false true false = refl
-shuffled true false false d = refl
+shuffled true b true d = and_comm b d
+shuffled true b false d = and_false b
 shuffled false b true d = refl
 shuffled false b false d = refl
 
@@ -78,14 +76,10 @@ lacks_a_join plan js ls e =
     ap (λ (b : Bool). (b && all_in (retired plan) (numbers ls)) && list_all (λ (x : Planned). step_names js ls x.step) plan) (sym e ∙ numbered (joined plan) js)
     ∙ fulfils-parts plan js ls
 
-no_second : (a c : Bool) → false ≡ ((a && false) && c)
-no_second true c = refl
-no_second false c = refl
-
 -- a node that shall leave is not named
 pub lacks_a_leave : (plan : List Planned) (js ls : List NodeId) → list_all (λ (x : NodeId). has x.0 (retired plan)) ls ≡ false → false ≡ fulfils plan js ls
 lacks_a_leave plan js ls e =
-    no_second (all_in (joined plan) (numbers js)) (list_all (λ (x : Planned). step_names js ls x.step) plan)
+    sym (ap (λ (b : Bool). b && list_all (λ (x : Planned). step_names js ls x.step) plan) (and_false (all_in (joined plan) (numbers js))))
     ∙ ap (λ (b : Bool). (all_in (joined plan) (numbers js) && b) && list_all (λ (x : Planned). step_names js ls x.step) plan) (sym e ∙ numbered (retired plan) ls)
     ∙ fulfils-parts plan js ls
 

@@ -93,15 +93,17 @@ module _ (ring : RingValue) where
   abbrev SourceCase : Type 1
   SourceCase = Case (IsRing ring) Free SaidSource (λ v. source_fields (source_of v)) (λ v. SourceFits (source_of v))
 
+  -- the slot's owner
   abbrev pub owner_case : SourceCase
   owner_case = case_of (codes "owner") words-plain.8 (anywhere Free (room true)) (λ _. said_source.Owner) (λ x. refl) (λ x p. tt) (λ x p. refl)
 
+  -- listed slots
   abbrev pub slots_case : SourceCase
   slots_case = case_of (codes "slots") words-plain.9 (free_row index_tests (λ k m xs p. p)
       (λ r xs p. below_all 4294967296 ring.n xs (small r).1 (not-false _ p.1.1.0)) (λ k xs. (refl, (refl, (refl, tt)))))
       said_source.Slots (λ x. refl) (λ x p. p) (λ x p. p)
 
-  -- both of them
+  -- in the order in which a reader tries them
   abbrev pub source_cases : List SourceCase
   source_cases = owner_case ∷ slots_case ∷ []
 
@@ -114,16 +116,18 @@ module _ (ring : RingValue) where
   source-case said_source.Owner = record { case = owner_case; part = tt; is = refl; first = λ k fields. refl }
   source-case (said_source.Slots xs) = record { case = slots_case; part = xs; is = refl; first = λ k fields. refl }
 
+  -- where a copy reads
   abbrev pub source_form : Form (IsRing ring) Free SaidSource
   source_form = choice source_cases (source_at ring.n) source-same source-case
 
   module _ (seen : List Planned) where
     -- ---- what a step is
 
-    -- a node that may join, and one that may retire
+    -- a node that may join
     abbrev pub join_form : Form (IsRing ring) Always NodeId
     join_form = new_form (λ x. is_member ring.nodes x || has x.0 (joined seen))
 
+    -- a node that may retire
     abbrev pub retire_form : Form (IsRing ring) Always NodeId
     retire_form = new_form (λ x. has x.0 (retired seen))
 
@@ -140,7 +144,7 @@ module _ (ring : RingValue) where
     abbrev StepCase : Type 1
     StepCase = Case (IsRing ring) Free Said (λ v. kind_fields (names_of ring) (step_of v)) (λ v. StepFits (step_of v))
 
-    -- the six of them, in the order in which a reader tries them
+    -- the six of them
     abbrev pub step_kinds : StepCase × StepCase × StepCase × StepCase × StepCase × StepCase
     step_kinds = (
       case_of (codes "join") words-plain.2 (anywhere Free join_form) said.Join (λ x. refl) (λ x p. p) (λ x p. p),
@@ -151,6 +155,7 @@ module _ (ring : RingValue) where
       case_of (codes "retire") words-plain.7 (anywhere Free retire_form) said.Retire (λ x. refl) (λ x p. p) (λ x p. p),
     )
 
+    -- in the order in which a reader tries them
     abbrev pub step_cases : List StepCase
     step_cases = step_kinds.0 ∷ step_kinds.1 ∷ step_kinds.2 ∷ step_kinds.3 ∷ step_kinds.4 ∷ step_kinds.5 ∷ []
 
@@ -167,6 +172,7 @@ module _ (ring : RingValue) where
     step-case (said.Drop s x) = record { case = step_kinds.4; part = (s, x); is = refl; first = λ k fields. refl }
     step-case (said.Retire x) = record { case = step_kinds.5; part = x; is = refl; first = λ k fields. refl }
 
+    -- what a step is
     abbrev pub kind_form : Form (IsRing ring) Free Said
     kind_form = choice step_cases (kind_at ring seen) step-same step-case
 
@@ -175,9 +181,10 @@ module _ (ring : RingValue) where
     -- what the steps that it waits for must pass
     abbrev pub after_tests : ℕ → List ℕ → List (Bool × Refusal)
     after_tests k xs = (length xs == 0, BadLine k) ∷ (not (ascending xs), BadLine k) ∷ (not (nat_le (length xs) 4096), TooLarge k)
-        ∷ (not (nat_le (length xs) (524288 - dependencies seen)), TooLarge k) ∷ (not (are_small xs), TooLarge k) ∷
-        (not (list_all (λ x. nat_lt x (length seen)) xs), LaterDependency k) ∷ []
+        ∷ (not (nat_le (length xs) (524288 - dependencies seen)), TooLarge k) ∷ (not (are_small xs), TooLarge k)
+        ∷ (not (list_all (λ x. nat_lt x (length seen)) xs), LaterDependency k) ∷ []
 
+    -- the steps that it waits for
     abbrev pub numbers_form : Form (IsRing ring) Last (List ℕ)
     numbers_form = row after_tests (λ k m xs p. p) (λ r xs p. not-false (are_small xs) p.1.1.1.1.0) (λ k xs. (refl, (refl, (refl, (refl, (refl, (refl, tt)))))))
 
@@ -186,6 +193,7 @@ module _ (ring : RingValue) where
     after-same k [] = refl
     after-same k (w ∷ fields) = refl
 
+    -- none, or `after` and some
     abbrev pub after_form : Form (IsRing ring) Last (List ℕ)
     after_form = optional (codes "after") words-plain.10 numbers_form (λ p. eqb-false 0 0 p.0 refl) (after_at seen) after-same after_fields refl (λ x xs. refl)
 
@@ -195,11 +203,13 @@ module _ (ring : RingValue) where
     abbrev pub IsNextStep : Planned → Type 0
     IsNextStep x = ((nat_lt (length seen) 131072 ≡ true) × StepFits x.step) × after_form.allowed x.after
 
+    -- what a line says
     abbrev pub said_line : LineForm (IsRing ring) (Said × List ℕ)
     said_line = line Last refl (λ x. (x.0.1, x.1)) (λ y. ((tt {0}, y.0), y.1)) (λ x. refl) (λ y. refl)
         (pair Free Last (both Free (room (nat_lt (length seen) 131072)) kind_form) after_form after-free)
         (λ x. ap (λ (l : List (List ℕ)). has_field (l ++ after_fields x.1)) (step-word (names_of ring) (step_of x.0.1)).2)
 
+    -- the step that it says
     abbrev pub step_line : LineForm (IsRing ring) Planned
     step_line = line_as (step_fields (names_of ring)) IsNextStep planned_of said-planned said_line (λ x. refl) (λ x p. p) (λ x p. p)
 
@@ -209,11 +219,13 @@ module _ (ring : RingValue) where
   unfolding said_at
   steps-loop seen k fields more = turned (begins_so (is_word (codes "end")) (fields ∷ more)) _ _
 
+  -- steps, up to a line that begins with `end`
   abbrev pub steps_form : Section (IsRing ring) (Begins (is_word (codes "end"))) (List Planned)
   steps_form = until (is_word (codes "end")) (step_fields (names_of ring)) step_line (steps_from ring) steps-loop (λ seen k. no-line k) (λ seen x. refl)
-      (λ r seen x more p. let w = step-word (names_of ring) x.step in ap
-      (λ (l : List (List ℕ)). begins_so (is_word (codes "end")) ((l ++ after_fields x.after) ∷ more)) w.2 ∙ w.3)
+      (λ r seen x more p. let w = step-word (names_of ring) x.step in
+      ap (λ (l : List (List ℕ)). begins_so (is_word (codes "end")) ((l ++ after_fields x.after) ∷ more)) w.2 ∙ w.3)
 
+  -- all lines of a plan
   abbrev pub plan_form : Section (IsRing ring) Any (List Planned)
   plan_form = made Any (λ x. x.1.0) (λ v. (tt, (v, tt))) (λ x. refl) (λ y. refl)
       (then Any Any (header (codes "plan") (codes "1") words-plain.0 words-plain.1)

@@ -102,19 +102,12 @@ module _ (ring : RingValue) where
   after-fits : (seen : List Planned) (xs : List ℕ) → length seen ≤ 131072 → ascending xs ≡ true → list_all (λ x. nat_lt x (length seen)) xs ≡ true
       → length xs ≤ 4096 → dependencies seen + length xs ≤ 524288 → (after_form ring seen).allowed xs
   after-fits seen [] le up earlier few total = tt
-  after-fits seen (x ∷ xs) le up earlier few total = (
-    ne_eqb (suc (length xs)) 0 (omega arith),
-    (
-      ap not up,
-      (
-        ap not (le-leb (suc (length xs)) 4096 few),
-        (
-          ap not (le-leb (suc (length xs)) (524288 - dependencies seen) (omega arith)),
-          (ap not (below_all 4294967296 (length seen) (x ∷ xs) (omega arith) earlier), (ap not earlier, tt)),
-        ),
-      ),
-    ),
-  )
+  after-fits seen (x ∷ xs) le up earlier few total =
+      let some = ne_eqb (suc (length xs)) 0 (omega arith) in
+      let short = ap not (le-leb (suc (length xs)) 4096 few) in
+      let room = ap not (le-leb (suc (length xs)) (524288 - dependencies seen) (omega arith)) in
+      let small = ap not (below_all 4294967296 (length seen) (x ∷ xs) (omega arith) earlier) in
+      (some, (ap not up, (short, (room, (small, (ap not earlier, tt))))))
 
   -- ---- a step, and the plan with it
 
@@ -145,14 +138,11 @@ module _ (ring : RingValue) where
       let room : length seen + suc (length xs) ≤ 131072 = rw length-append at is.0.steps in
       let front = sum_by-append (λ (y : Planned). length y.after) seen (x ∷ xs) in
       let back = sum_by-append (λ (y : Planned). length y.after) (x ∷ []) xs in
-      let total : dependencies seen + length x.after ≤ 524288 = omega (arith, is.0.dependencies, front, back) in (
-        (
-          lt-ltb (length seen) 131072 (omega arith),
-          step-fits seen x.step (joined xs) (retired xs) e planned.sources
-              (sym (ap all_different (named-parts joins seen x xs)) ∙ is.1.joins) (sym (ap all_different (named-parts retires seen x xs)) ∙ is.1.retirements),
-        ),
-        after-fits seen x.after (omega arith) planned.ascending planned.earlier planned.few total,
-      )
+      let total : dependencies seen + length x.after ≤ 524288 = omega (arith, is.0.dependencies, front, back) in
+      let joined_once = sym (ap all_different (named-parts joins seen x xs)) ∙ is.1.joins in
+      let retired_once = sym (ap all_different (named-parts retires seen x xs)) ∙ is.1.retirements in
+      let fits = step-fits seen x.step (joined xs) (retired xs) e planned.sources joined_once retired_once in
+      ((lt-ltb (length seen) 131072 (omega arith), fits), after-fits seen x.after (omega arith) planned.ascending planned.earlier planned.few total)
 
   -- what the form allows is a plan that suits the ring
   parts-suit : (v : List Planned) → (plan_form ring).allowed v → IsPlan v × Suits ring v
@@ -189,5 +179,5 @@ read-only ring text v r is suits e = text-given (plan_form ring) r text v (suits
 
 pub section-found : (ring : RingValue) (s : Left) → IsRing ring → (v : List Planned) (t : Left) → plan_at ring s ≡ Ok (v, t) → IsPlan v × Suits ring v
 unfolding plan_at steps_at
-section-found ring s r v t e = parts-suit ring v ((plan-part ring r).takes s t v
-    (some-first (λ x. x.1.0) (header_at (codes "plan") (codes "1")) _ s t v e) e).1
+section-found ring s r v t e =
+    parts-suit ring v ((plan-part ring r).takes s t v (some-first (λ x. x.1.0) (header_at (codes "plan") (codes "1")) _ s t v e) e).1

@@ -63,12 +63,9 @@ search-has xs x (Err i) found e =
     let s = searched xs x (Err i) found (rises xs e) in
     sym (has-none x xs (λ k h is. out xs x i k s.1 s.2 h is))
 
-head-ascends : (x : Planned) (ds : List ℕ) → Some x.after ≡ Some ds → ascending x.after ≡ true → ascending ds ≡ true
-head-ascends x ds e h = let f : x.after ≡ ds = cc in rw f at h
-
 pub deps-ascend : (k : ℕ) (plan : List Planned) (b : ℕ) (ds : List ℕ) → EachPlanned k plan → option_map (λ (x : Planned). x.after) (slice_get plan b) ≡ Some ds → ascending ds ≡ true
 deps-ascend k [] b ds each e = absurd cc
-deps-ascend k (x ∷ xs) zero ds each e = head-ascends x ds e each.0.ascending
+deps-ascend k (x ∷ xs) zero ds each e = (let f : x.after ≡ ds = cc in rw f at each.0.ascending)
 deps-ascend k (x ∷ xs) (suc b) ds each e = deps-ascend (k + 1) xs b ds each.1 e
 
 has-deps : (a : ℕ) (o : Option Planned) (ds : List ℕ) → option_map (λ (x : Planned). x.after) o ≡ Some ds → has a ds ≡ (elim o [ Some x ↦ has a x.after | None ↦ false ])

@@ -124,6 +124,7 @@ narrow C D less a = record {
   plain = a.plain;
 }
 
+-- the same where some fields may follow
 abbrev pub anywhere : {W A : Type 0} (C : List (List ℕ) → Type 0) → Form W Always A → Form W C A
 anywhere C a = narrow Always C (λ rest c. tt) a
 
@@ -174,6 +175,7 @@ module _ {W : Type 0} (tests : ℕ → List ℕ → List (Bool × Refusal)) (sam
     plain = λ w v p. numbers-plain v (small w v p);
   }
 
+  -- where no field may follow
   abbrev pub row : ((k : ℕ) (xs : List ℕ) → AllAt k (tests k xs)) → Form W Last (List ℕ)
   row at = narrow Free Last (λ rest last. rw last (refl, refl)) (free_row at)
 
@@ -227,6 +229,7 @@ pub record Case (W : Type 0) (C : List (List ℕ) → Type 0) (S : Type 0) (spel
   pub from : (x : kind) → allowed (value x) → form.allowed x
 
 module _ {W S : Type 0} {C : List (List ℕ) → Type 0} {spell : S → List (List ℕ)} {allowed : S → Type 0} where
+  -- a case, part by part
   abbrev pub case_of : {A : Type 0} (word : List ℕ) → IsPlain word → (form : Form W C A) (value : A → S)
       → ((x : A) → spell (value x) ≡ word ∷ form.spell x) → ((x : A) → form.allowed x → allowed (value x)) → ((x : A) → allowed (value x) → form.allowed x)
       → Case W C S spell allowed
