@@ -1,6 +1,7 @@
 //! Words of an event's line, still in the text.
 
 ghost use Rattle.std.specs.Prelude.{◌≡◌, ◌++◌, ◌&&◌, ◌+◌, ◌*◌, ◌≤◌, is_some, IfSome, IfOk, IfErr, true, length};
+ghost use Rattle.std.specs.List.{list_all};
 ghost use Rattle.ring_names.specs.declared.refusal.Refusal.TheVariants.{OutOfMemory};
 ghost use Rattle.texts.specs.Numbers.{are_small};
 ghost use Rattle.plan_runs.specs.Words.{is_key, is_seen};
@@ -88,24 +89,23 @@ fn digit_value(digit: u8) -> u8
     }
 }
 
+// Whether each byte is a digit. All are looked at, so that the processor may take many at a time.
+fn are_digits(bytes: &[u8]) -> bool
+    ensures { result ≡ list_all is_digit bytes.now }
+{
+    let mut found = true;
+    for byte in bytes {
+        found = found & is_digit(*byte);
+    }
+    found
+}
+
 // Whether these are pairs of digits.
+#[tactic(auto, using(crate::proofs::DigitLaws::pairs_are))]
 fn are_pairs(digits: &[u8]) -> bool
     ensures { result ≡ are_pairs digits.now }
 {
-    let mut rest = digits;
-    'pairs: while let Some((first, behind)) = rest.split_first() {
-        let Some((second, later)) = behind.split_first() else {
-            return false;
-        };
-        if !is_digit(*first) {
-            return false;
-        }
-        if !is_digit(*second) {
-            return false;
-        }
-        rest = later;
-    }
-    true
+    digits.len() % 2 == 0 && are_digits(digits)
 }
 
 // The bytes that pairs of digits spell.
@@ -114,14 +114,11 @@ fn bytes_of(alloc: Global, digits: &[u8]) -> Result<Vec<u8>, Refusal>
     ensures ok { IfOk result (λ out. out.items ≡ bytes_of digits.now) }
     ensures memory { IfErr result (λ e. e ≡ OutOfMemory) }
 {
-    let mut out = Vec::new(alloc);
-    let mut rest = digits;
-    'pairs: while let Some((first, behind)) = rest.split_first() {
-        let Some((second, later)) = behind.split_first() else {
-            unreachable!()
-        };
-        out.push(16 * digit_value(*first) + digit_value(*second))?;
-        rest = later;
+    let count = digits.len() / 2;
+    let mut out = vec![in alloc; 0u8; count]?;
+    for place in 0..count {
+        let (first, second) = (digits[2 * place], digits[2 * place + 1]);
+        out[place] = 16 * digit_value(first) + digit_value(second);
     }
     Ok(out)
 }

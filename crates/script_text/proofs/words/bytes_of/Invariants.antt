@@ -1,12 +1,9 @@
-use Rattle.std.proofs.Common.{◌≡◌, true, ◌++◌, length}
-use Rattle.script_text.specs.Digits.{are_pairs, bytes_of}
+use Rattle.std.proofs.Common.{◌≡◌, ◌/◌, length, take}
+use Rattle.script_text.specs.Digits.{bytes_of}
 use Rattle.script_text.proofs.words.bytes_of.Given as goal
 
-abbrev pub invariant-pairs : goal.invariant-pairs
-invariant-pairs l = record {
-  pairs : are_pairs l.rest ≡ true;
-  bytes : l.out.items ++ bytes_of l.rest ≡ bytes_of l.fn.digits;
+abbrev pub invariant-loop-place : goal.invariant-loop-place
+invariant-loop-place l = record {
+  room : length l.out.items ≡ length l.digits / 2;
+  bytes : take l.place l.out.items ≡ take l.place (bytes_of l.digits);
 }
-
-abbrev pub decreases-pairs : goal.decreases-pairs
-decreases-pairs l = length l.rest
