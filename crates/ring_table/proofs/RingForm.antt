@@ -17,16 +17,16 @@ use Rattle.ring_names.proofs.Logic.{and_false, pair_of}
 use Rattle.texts.specs.Name.{is_name}
 use Rattle.texts.specs.Number.{decimal_value}
 use Rattle.texts.specs.Numbers.{first_value}
-use Rattle.texts.specs.Judging.{Item, ◌⊗◌, field_at, number_at, word_at, limited, map_item, whole, unless}
+use Rattle.texts.specs.Judging.{Item, number_at, word_at, limited, map_item, whole, unless}
 use Rattle.texts.specs.Laws.{IsFront, IsPlainLine, SomeLeft, EachNext}
 use Rattle.texts.specs.Left.{◌>>=◌, then_part}
-use Rattle.texts.proofs.Items.{IsItem-field, IsItem-word, IsLine-as, IsLine-judged, IsPart-nil, IsPart-cons, IsPart-then, Passes, bind_ok, map_is, ok_is, unless_is}
-use Rattle.texts.proofs.Fronts.{front-⊗, front-map, front-whole}
-use Rattle.texts.proofs.Lates.{AllAt, Judges, at-bind, at-if, at-limited, at-unless, at-whole, either-at, judges-field, judges-map, judges-number, judges-word, judges-⊗, advances-line, advances-map, advances-then}
+use Rattle.texts.proofs.Items.{IsItem-word, IsLine-as, IsLine-judged, IsPart-nil, IsPart-cons, IsPart-then, Passes, bind_ok, map_is, ok_is, unless_is}
+use Rattle.texts.proofs.Fronts.{front-whole}
+use Rattle.texts.proofs.Lates.{AllAt, Judges, at-bind, at-if, at-limited, at-unless, at-whole, either-at, judges-map, judges-number, judges-word, advances-line, advances-map, advances-then}
 use Rattle.texts.proofs.Decimals.{IsItem-number, decimal-value, value-decimal, limited_is}
 use Rattle.texts.proofs.Texts.{appended}
 use Rattle.texts.proofs.Wholes.{decimal-plain, name-plain}
-use Rattle.texts.proofs.Forms.{IsPart, IsPlain, Any, Always, BeginsOther, Left, ReadsTo, At, is_word, some_lines, Form, LineForm, Section, Advances, of_item, word, room, judge_words, AreWords, words-are, words-at, one_of, both, has_field, line, plain-line, one, many, then, made, ending}
+use Rattle.texts.proofs.Forms.{IsPart, IsPlain, Any, Always, BeginsOther, Left, ReadsTo, At, is_word, some_lines, Form, LineForm, Section, Advances, of_item, field_of, mapped, pair, word, room, judge_words, AreWords, words-are, words-at, one_of, both, has_field, line, plain-line, one, many, then, made, ending}
 use Rattle.ring_table.specs.declared.allowance.Allowance.{Allowance}
 use Rattle.ring_table.specs.declared.allowance.Allowance.TheVariants.{Joint, Split}
 use Rattle.ring_table.specs.declared.head.Head.{Head}
@@ -58,13 +58,6 @@ module _ {W A : Type 0} where
     judges = judges;
     plain = plain;
   }
-
-  -- a field, by its judge
-  abbrev pub field : (judge : ℕ → List ℕ → Result A Refusal) (spell : A → List ℕ) (P : A → Type 0)
-      → ((k : ℕ) (f : List ℕ) (v : A) → judge k f ≡ Ok v → (f ≡ spell v) × P v) → ((k : ℕ) (v : A) → P v → judge k (spell v) ≡ Ok v)
-      → ((k : ℕ) (f : List ℕ) → At k (judge k f)) → ((v : A) → P v → IsPlain (spell v)) → Form W Always A
-  field judge spell P taken given at plain = of_item (λ k. field_at k (judge k)) (λ v. spell v ∷ []) P
-      (λ _ k. IsItem-field k (judge k) spell P (taken k) (given k)) (λ k. judges-field k (judge k) (at k)) (λ _ v p. (plain v p, tt))
 
 -- a number up to a limit
 abbrev pub number : {W : Type 0} (limit : ℕ) → limit < 2 ^ 64 → Form W Always ℕ
@@ -119,19 +112,6 @@ module _ {W A : Type 0} (may : Bool) (test : Fields → Bool) (a : Form W Always
   maybe = form_of (λ rest. test rest ≡ false) maybe_item maybe_fields IsMaybe maybe-front
       (λ k. record { at = λ fs. either-at k (may && test fs) _ (Ok None, fs) ((judges-map k Some (a.item k) (a.judges k)).at fs) tt })
       (λ w v. elim v as (λ o. IsMaybe o → AllByRecursion IsPlain (maybe_fields o)) [ None ↦ λ p. tt | Some x ↦ λ p. a.plain w x p.1 ])
-
--- the value made into another
-abbrev pub formed : {W A B : Type 0} (C : Fields → Type 0) (f : A → B) (g : B → A) → ((x : A) → g (f x) ≡ x) → ((y : B) → f (g y) ≡ y) → Form W C A → Form W C B
-formed C f g gf fg a = form_of C (λ k. map_item f (a.item k)) (λ y. a.spell (g y)) (λ y. a.allowed (g y))
-    (λ w k. front-map C (a.item k) a.spell a.allowed f g gf fg (a.exact w k)) (λ k. judges-map k f (a.item k) (a.judges k)) (λ w y. a.plain w (g y))
-
--- one, and after it another, where what may follow the first is known
-abbrev pub ended : {W A B : Type 0} (C D : Fields → Type 0) (a : Form W C A) (b : Form W D B) → ((y : B) (rest : Fields) → D rest → C (b.spell y ++ rest))
-    → Form W D (A × B)
-ended C D a b meet = form_of D (λ k. a.item k ⊗ b.item k) (λ v. a.spell v.0 ++ b.spell v.1) (λ v. a.allowed v.0 × b.allowed v.1)
-    (λ w k. front-⊗ C D (a.item k) (b.item k) a.spell b.spell a.allowed b.allowed (a.exact w k) (b.exact w k) meet)
-    (λ k. judges-⊗ k (a.item k) (b.item k) (a.judges k) (b.judges k))
-    (λ w v p. appended IsPlain (a.spell v.0) (b.spell v.1) (a.plain w v.0 p.0) (b.plain w v.1 p.1))
 
 -- ---- lines of any format
 
@@ -239,8 +219,8 @@ format-ok k (suc (suc (suc (suc v)))) e = absurd (grind (arith, common_steps))
 -- `ring <format>`
 abbrev pub format_line : {W : Type 0} → LineForm W ℕ
 format_line = line Always tt (λ x. x.1) (λ v. (tt {0}, v)) (λ x. refl) (λ y. refl) (both Always (word (codes "ring") words-plain.0)
-    (field (judge_words formats) decimal (λ f. is_format f ≡ true) format-is format-ok (words-at decimal formats)
-    (λ v p. (words-are decimal formats formats-spelled 0 (decimal v) v (format-ok 0 v p)).1))) (λ v. refl)
+    (field_of (judge_words formats) decimal (λ f. is_format f ≡ true) (λ _. format-is) (λ _. format-ok) (words-at decimal formats)
+    (λ _ v p. (words-are decimal formats formats-spelled 0 (decimal v) v (format-ok 0 v p)).1))) (λ v. refl)
 
 -- `space <q>`
 abbrev pub space_line : {W : Type 0} → LineForm W ℕ
@@ -284,8 +264,8 @@ new-is k names f v e = by (is_name f) (place names f) refl refl e
 
 -- a name that is new
 abbrev pub name_form : {W : Type 0} → List (List ℕ) → Form W Always (List ℕ)
-name_form names = field (λ k. judge_new k names) (λ v. v) (IsUnused names) (λ k f v e. new-is k names f v e) (λ k v p. rw (p.0, p.1) refl)
-    (λ k f. at-if k (is_name f) _ (Err (BadLine k)) (at-if k (is_some (place names f)) (Err (Repeated k)) (Ok f) refl tt) refl) (λ v p. name-plain v p.0)
+name_form names = field_of (λ k. judge_new k names) (λ v. v) (IsUnused names) (λ _ k f v e. new-is k names f v e) (λ _ k v p. rw (p.0, p.1) refl)
+    (λ k f. at-if k (is_name f) _ (Err (BadLine k)) (at-if k (is_some (place names f)) (Err (Repeated k)) (Ok f) refl tt) refl) (λ _ v p. name-plain v p.0)
 
 pub most-is : (k : ℕ) (f : List ℕ) (v : ℕ) → judge_most k f ≡ Ok v → (f ≡ decimal v) × IsMost v
 most-is k f v e =
@@ -300,9 +280,9 @@ most-ok k (suc v) p = (let t : nat_lt 64 (suc v) ≡ false = le-ltb 64 (suc v) p
 
 -- a number of transfers
 abbrev pub most_form : {W : Type 0} → Form W Always ℕ
-most_form = field judge_most decimal IsMost most-is most-ok
+most_form = field_of judge_most decimal IsMost (λ _. most-is) (λ _. most-ok)
     (λ k f. at-bind k (limited k 64 (decimal_value f)) (above_zero k) (at-limited k 64 (decimal_value f)) (λ n. elim n as (λ m. At k (above_zero k m))
-    [ zero ↦ refl | suc m ↦ tt ])) (λ v p. decimal-plain v (omega (arith, p.1)))
+    [ zero ↦ refl | suc m ↦ tt ])) (λ _ v p. decimal-plain v (omega (arith, p.1)))
 
 -- no number follows
 abbrev pub NoNumber : Fields → Type 0
@@ -320,7 +300,7 @@ parts_of (Split take give) = (take, Some give)
 
 -- `<allowance>`, or `<take> <give>`
 abbrev pub allowance_form : {W : Type 0} → ℕ → Form W NoNumber Allowance
-allowance_form format = formed NoNumber (λ x. made_of x.0 x.1) parts_of
+allowance_form format = mapped NoNumber (λ x. made_of x.0 x.1) parts_of
     (λ x. elim x.1 as (λ o. parts_of (made_of x.0 o) ≡ (x.0, o)) [ None ↦ refl | Some n ↦ refl ])
     (λ y. elim y as (λ z. made_of (parts_of z).0 (parts_of z).1 ≡ z) [ Joint most ↦ refl | Split take give ↦ refl ]) (numbers_form format)
 
@@ -337,7 +317,7 @@ memberships = (codes "in", true) ∷ (codes "out", false) ∷ []
 abbrev pub node_line : {W : Type 0} → ℕ → List Node → LineForm W Node
 node_line format seen = line Always tt (λ x. record { name = x.0.0.1; allowance = x.0.1; is_member = x.1 })
     (λ y. ((((tt {0}, tt {0}), y.name), y.allowance), y.is_member)) (λ x. refl) (λ y. refl)
-    (ended NoNumber Always (both NoNumber (both Always (both Always (room (nat_lt (length seen) 1024)) (word (codes "node") words-plain.3))
+    (pair NoNumber Always (both NoNumber (both Always (both Always (room (nat_lt (length seen) 1024)) (word (codes "node") words-plain.3))
     (name_form (map (λ y. y.name) seen))) (allowance_form format))
     (one_of membership memberships ((refl, words-plain.4), ((refl, words-plain.5), tt)) (λ k v. elim v as (λ b. judge_words memberships k (membership b) ≡ Ok b)
     [ true ↦ refl | false ↦ refl ])) (λ v rest d. elim v as (λ b. NoNumber (membership b ∷ rest)) [ true ↦ refl | false ↦ refl ])) (λ v. refl)
