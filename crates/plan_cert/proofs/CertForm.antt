@@ -40,7 +40,8 @@ side-other Give = refl
 
 abbrev pub fact_line : {W : Type 0} (seen : List (List ℕ)) → LineForm W (List ℕ)
 fact_line seen = line Last refl (λ x. x.1) (λ xs. ((tt {0}, tt {0}), xs)) (λ x. refl) (λ y. refl) (both Last (both Always (room (nat_lt (length seen) 262144)) (word (codes "fact") words-plain.1))
-    (row (λ k xs. (not (nat_le 2 (length xs)), BadLine k) ∷ (not (nat_le (length xs) 1024), TooLarge k) ∷ (not (are_small xs), TooLarge k) ∷ []) (λ k m xs p. p) (λ w xs p. not-false (are_small xs) p.1.1.0) (λ k xs. (refl, (refl, (refl, tt)))))) (λ v. refl)
+    (row (λ k xs. (not (nat_le 2 (length xs)), BadLine k) ∷ (not (nat_le (length xs) 1024), TooLarge k) ∷ (not (are_small xs), TooLarge k) ∷ [])
+    (λ k m xs p. p) (λ w xs p. not-false (are_small xs) p.1.1.0) (λ k xs. (refl, (refl, (refl, tt)))))) (λ v. refl)
 
 abbrev pub facts_form : {W : Type 0} → Section W (BeginsOther (is_word (codes "fact"))) (List (List ℕ))
 facts_form = many (is_word (codes "fact")) fact_fields fact_line (λ seen v. refl) (λ w seen x more p. refl)
@@ -55,7 +56,8 @@ module _ (ring : RingValue) where
 
   abbrev pub chain_line : (seen : List Chain) → LineForm (IsRing ring) Chain
   chain_line seen = line Last refl (λ x. chain_of x.0.1 x.1) (λ c. ((tt {0}, side_of c), c.steps)) (λ x. refl) (λ y. refl) (both Last (both Always (room (nat_lt (length seen) 65536)) node_side_form)
-      (row (λ k xs. (not (nat_le 1 (length xs)), BadLine k) ∷ (not (are_small xs), TooLarge k) ∷ []) (λ k m xs p. p) (λ w xs p. not-false (are_small xs) p.1.0) (λ k xs. (refl, (refl, tt))))) (λ v. refl)
+      (row (λ k xs. (not (nat_le 1 (length xs)), BadLine k) ∷ (not (are_small xs), TooLarge k) ∷ [])
+      (λ k m xs p. p) (λ w xs p. not-false (are_small xs) p.1.0) (λ k xs. (refl, (refl, tt))))) (λ v. refl)
 
   abbrev pub chains_form : Section (IsRing ring) (BeginsOther (begins_chain ring)) (List Chain)
   chains_form = many (begins_chain ring) (chain_fields (names_of ring)) chain_line (λ seen v. refl) (λ r seen x more p. begins-by ring r x.node.0 x.side (not-false _ p.0.1.1.0))

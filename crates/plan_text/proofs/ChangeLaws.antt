@@ -4,15 +4,14 @@ use Rattle.std.specs.List.{list_all, list_any, flat_map}
 use Rattle.std.specs.Prelude.{◌||◌, ◌==◌}
 use Rattle.std.proofs.lemmas.List.Concat.{flat_map-cons}
 use Rattle.std.proofs.lemmas.List.Folds.{list_all-append, list_all-map}
-use Rattle.std.proofs.Math.Bool.{and_comm}
 use Rattle.ring_names.specs.Lists.{has}
-use Rattle.ring_names.proofs.Logic.{and_false}
+use Rattle.ring_names.proofs.Logic.{and_true, and_false}
 use Rattle.ring_names.specs.declared.ids.NodeId.{NodeId}
 use Rattle.plan_text.specs.declared.step.Step.{Step}
 use Rattle.plan_text.specs.declared.step.Step.TheVariants.{Join, Mirror, Copy, Switch, Drop, Retire}
 use Rattle.plan_text.specs.declared.step.Planned.{Planned}
 use Rattle.plan_text.specs.Steps.{joins, retires, joined, retired}
-use Rattle.plan_text.specs.Changes.{numbers, fulfils, step_names}
+use Rattle.plan_text.specs.Changes.{numbers, same_nodes, fulfils, step_names}
 
 -- a node is one of these where its number is one of theirs
 pub among : (n : ℕ) (nodes : List NodeId) → list_any (λ (x : NodeId). n == x.0) nodes ≡ has n (numbers nodes)
@@ -27,12 +26,6 @@ one_leaves : (h a b : Bool) → (h && (a && b)) ≡ (a && ((h && true) && b))
 one_leaves true a b = refl
 one_leaves false true b = refl
 one_leaves false false b = refl
-
-shuffled : (a b c d : Bool) → ((a && b) && (c && d)) ≡ ((c && a) && (d && b))
-shuffled true b true d = and_comm b d
-shuffled true b false d = and_false b
-shuffled false b true d = refl
-shuffled false b false d = refl
 
 -- all of them are among these
 abbrev all_in : List ℕ → List ℕ → Bool
@@ -53,15 +46,7 @@ named-more named ys x xs = ap (all_in ys) (flat_map-cons (λ (y : Planned). name
 names-parts : (js ls : List NodeId) (plan : List Planned) → list_all (λ (x : Planned). step_names js ls x.step) plan ≡ (all_in (numbers js) (joined plan) && all_in (numbers ls) (retired plan))
 names-parts js ls [] = refl
 names-parts js ls (x ∷ xs) =
-    ap (λ (b : Bool). step_names js ls x.step && b) (names-parts js ls xs)
-    ∙ step_names-parts js ls x.step (all_in (numbers js) (joined xs)) (all_in (numbers ls) (retired xs))
-    ∙ sym (ap (λ (b : Bool). b && all_in (numbers ls) (retired (x ∷ xs))) (named-more joins (numbers js) x xs)
-    ∙ ap (λ (b : Bool). (all_in (numbers js) (joins x.step) && all_in (numbers js) (joined xs)) && b) (named-more retires (numbers ls) x xs))
-
-fulfils-parts : (plan : List Planned) (js ls : List NodeId) → ((all_in (joined plan) (numbers js) && all_in (retired plan) (numbers ls)) && list_all (λ (x : Planned). step_names js ls x.step) plan) ≡ fulfils plan js ls
-fulfils-parts plan js ls =
-    ap (λ (b : Bool). (all_in (joined plan) (numbers js) && all_in (retired plan) (numbers ls)) && b) (names-parts js ls plan)
-    ∙ shuffled (all_in (joined plan) (numbers js)) (all_in (retired plan) (numbers ls)) (all_in (numbers js) (joined plan)) (all_in (numbers ls) (retired plan))
+    rw (names-parts js ls xs, named-more joins (numbers js) x xs, named-more retires (numbers ls) x xs) (step_names-parts js ls x.step _ _)
 
 -- each of them is among these
 abbrev each_in : List ℕ → List NodeId → Bool
@@ -72,21 +57,17 @@ numbered ys nodes = sym (list_all-map (λ (x : ℕ). has x ys) (λ (x : NodeId).
 
 -- a node that shall join is not named
 pub lacks_a_join : (plan : List Planned) (js ls : List NodeId) → list_all (λ (x : NodeId). has x.0 (joined plan)) js ≡ false → false ≡ fulfils plan js ls
-lacks_a_join plan js ls e =
-    ap (λ (b : Bool). (b && all_in (retired plan) (numbers ls)) && list_all (λ (x : Planned). step_names js ls x.step) plan) (sym e ∙ numbered (joined plan) js)
-    ∙ fulfils-parts plan js ls
+lacks_a_join plan js ls e = rw (sym (numbered (joined plan) js) ∙ e, and_false (all_in (numbers js) (joined plan))) refl
 
 -- a node that shall leave is not named
 pub lacks_a_leave : (plan : List Planned) (js ls : List NodeId) → list_all (λ (x : NodeId). has x.0 (retired plan)) ls ≡ false → false ≡ fulfils plan js ls
 lacks_a_leave plan js ls e =
-    sym (ap (λ (b : Bool). b && list_all (λ (x : Planned). step_names js ls x.step) plan) (and_false (all_in (joined plan) (numbers js))))
-    ∙ ap (λ (b : Bool). (all_in (joined plan) (numbers js) && b) && list_all (λ (x : Planned). step_names js ls x.step) plan) (sym e ∙ numbered (retired plan) ls)
-    ∙ fulfils-parts plan js ls
+    rw (sym (numbered (retired plan) ls) ∙ e, and_false (all_in (numbers ls) (retired plan)), and_false (same_nodes (joined plan) (numbers js))) refl
 
 -- all that the change names are named, so that it is fulfilled where no other is
-pub lacks_none : (plan : List Planned) (js ls : List NodeId) → list_all (λ (x : NodeId). has x.0 (joined plan)) js ≡ true → list_all (λ (x : NodeId). has x.0 (retired plan)) ls ≡ true
-    → list_all (λ (x : Planned). step_names js ls x.step) plan ≡ fulfils plan js ls
+pub lacks_none : (plan : List Planned) (js ls : List NodeId) → list_all (λ (x : NodeId). has x.0 (joined plan)) js ≡ true
+    → list_all (λ (x : NodeId). has x.0 (retired plan)) ls ≡ true → list_all (λ (x : Planned). step_names js ls x.step) plan ≡ fulfils plan js ls
 lacks_none plan js ls e f =
-    ap (λ (b : Bool). (b && true) && list_all (λ (x : Planned). step_names js ls x.step) plan) (sym e ∙ numbered (joined plan) js)
-    ∙ ap (λ (b : Bool). (all_in (joined plan) (numbers js) && b) && list_all (λ (x : Planned). step_names js ls x.step) plan) (sym f ∙ numbered (retired plan) ls)
-    ∙ fulfils-parts plan js ls
+    let first = sym (numbered (joined plan) js) ∙ e in
+    let second = sym (numbered (retired plan) ls) ∙ f in
+    rw (first, second, and_true (all_in (numbers js) (joined plan)), and_true (all_in (numbers ls) (retired plan))) (names-parts js ls plan)

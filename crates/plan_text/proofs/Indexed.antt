@@ -44,9 +44,7 @@ first_step-push test k (y ∷ ys) x =
     one_before (test y.step) k (first_step test (k + 1) ys) (first_step test (k + 1) (ys ++ x ∷ [])) (test x.step) ((k + 1) + length ys) (k + length (y ∷ ys)) (first_step-push test (k + 1) ys x) (omega arith)
 
 first-push : (test : Step → Bool) (plan : List Planned) (x : Planned) (b : Bool) → test x.step ≡ b → first_step test 0 (plan ++ x ∷ []) ≡ or_last (first_step test 0 plan) b (length plan)
-first-push test plan x b is =
-    let e : 0 + length plan ≡ length plan = omega arith in
-    first_step-push test 0 plan x ∙ ap (λ (n : ℕ). or_last (first_step test 0 plan) (test x.step) n) e ∙ ap (λ (c : Bool). or_last (first_step test 0 plan) c (length plan)) is
+first-push test plan x b is = (let e : 0 + length plan ≡ length plan = omega arith in rw (first_step-push test 0 plan x, e, is) refl)
 
 first-same : (test : Step → Bool) (plan : List Planned) (x : Planned) → test x.step ≡ false → first_step test 0 plan ≡ first_step test 0 (plan ++ x ∷ [])
 first-same test plan x is = sym (first-push test plan x false is ∙ or_none (first_step test 0 plan) (length plan))

@@ -1,5 +1,5 @@
 -- A plan is read only from its one text, and what is read of it is a plan that suits the ring.
-use Rattle.std.proofs.Common.{◌≡◌, ℕ, suc, ◌+◌, ◌-◌, ◌<◌, ◌≤◌, true, not, nat_lt, List, [], ◌∷◌, ◌++◌, length, codes, Result, Ok, Err, refl, sym, ap, ◌∙◌, arith, add-zero, length-append}
+use Rattle.std.proofs.Common.{◌≡◌, ℕ, suc, ◌+◌, ◌-◌, ◌<◌, ◌≤◌, true, not, nat_lt, List, [], ◌∷◌, ◌++◌, length, codes, Result, Ok, Err, refl, sym, ap, arith, add-zero, length-append}
 use Rattle.std.specs.Prelude.{IfOk}
 use Rattle.std.specs.List.{list_all, flat_map}
 use Rattle.std.proofs.lemmas.Bool.{lt-ltb, ltb-true, le-leb, leb-true, ne_eqb, eqb-false, and_parts, or_parts, or_from, not-true, not-false}
@@ -40,8 +40,7 @@ each-at k (x ∷ seen) y ys each = (let e : k + length (x ∷ seen) ≡ (k + 1) 
 
 named-parts : (named : Step → List ℕ) (seen : List Planned) (y : Planned) (ys : List Planned)
     → flat_map (λ x. named x.step) (seen ++ y ∷ ys) ≡ flat_map (λ x. named x.step) seen ++ (named y.step ++ flat_map (λ x. named x.step) ys)
-named-parts named seen y ys = flat_map-append (λ (x : Planned). named x.step) seen (y ∷ ys)
-    ∙ ap (λ (r : List ℕ). flat_map (λ (x : Planned). named x.step) seen ++ r) (flat_map-cons (λ (x : Planned). named x.step) y ys)
+named-parts named seen y ys = rw (flat_map-append (λ (x : Planned). named x.step) seen (y ∷ ys), flat_map-cons (λ (x : Planned). named x.step) y ys) refl
 
 no-more : (xs : List ℕ) → all_different xs ≡ true → all_different (xs ++ []) ≡ true
 no-more xs e = rw (append-nil xs) e
@@ -139,8 +138,8 @@ module _ (ring : RingValue) where
       let front = sum_by-append (λ (y : Planned). length y.after) seen (x ∷ xs) in
       let back = sum_by-append (λ (y : Planned). length y.after) (x ∷ []) xs in
       let total : dependencies seen + length x.after ≤ 524288 = omega (arith, is.0.dependencies, front, back) in
-      let joined_once = sym (ap all_different (named-parts joins seen x xs)) ∙ is.1.joins in
-      let retired_once = sym (ap all_different (named-parts retires seen x xs)) ∙ is.1.retirements in
+      let joined_once = rw (named-parts joins seen x xs) at is.1.joins in
+      let retired_once = rw (named-parts retires seen x xs) at is.1.retirements in
       let fits = step-fits seen x.step (joined xs) (retired xs) e planned.sources joined_once retired_once in
       ((lt-ltb (length seen) 131072 (omega arith), fits), after-fits seen x.after (omega arith) planned.ascending planned.earlier planned.few total)
 

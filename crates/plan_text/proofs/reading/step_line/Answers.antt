@@ -6,7 +6,8 @@ use Rattle.plan_text.proofs.reading.step_line.Goals as goal
 
 pub returns-clause-next : goal.returns-clause-next
 unfolding said_at
-returns-clause-next c = next-if c.args.ring.now c.n-slots.ensures.valid c.args.plan.now c.args.fields.number c.args.fields.fields _ c.len.ensures.valid.dependencies (search rules)
+returns-clause-next c =
+    next-if c.args.ring.now c.n-slots.ensures.valid c.args.plan.now c.args.fields.number c.args.fields.fields _ c.len.ensures.valid.dependencies (search rules)
 
 pub returns-clause-at : goal.returns-clause-at
 unfolding said_at
