@@ -2,7 +2,6 @@ mod Examples
 pub mod LineLaws
 pub mod HistoryLates
 pub mod ReplyLaws
-pub mod EventLaws
 pub mod EntryLaws
 pub mod HistoryLaws
 pub mod BundleRead

@@ -1,35 +1,36 @@
 -- What an entry's line says can be the next entry, and its faults are the line's.
-use Rattle.std.proofs.Common.{◌≡◌, ℕ, ◌<◌, Bool, true, false, cond, nat_lt, List, [], ◌∷◌, length, codes, Option, Some, None, Result, Ok, Err, IfOk, refl, sym, ap, subst, ◌∙◌}
+use Rattle.std.proofs.Common.{◌≡◌, ℕ, ◌<◌, nat_lt, List, [], ◌∷◌, length, codes, Option, Some, None, Result, Ok, Err, IfOk, refl, sym, ap, subst, ◌∙◌}
 use Rattle.std.specs.Prelude.{IfErr, option_map}
 use Rattle.std.specs.List.{list_all}
 use Rattle.std.specs.Str.{bytes_eq}
-use Rattle.std.proofs.lemmas.Bool.{ltb-true}
 use Rattle.ring_names.specs.declared.refusal.Refusal.{Refusal}
 use Rattle.ring_names.specs.declared.refusal.Refusal.TheVariants.{BadLine, TooLarge}
 use Rattle.texts.specs.Cuts.{front_of, behind_of}
 use Rattle.texts.specs.Numbers.{numbers_of}
-use Rattle.texts.specs.Judging.{Line, Does, ◌⊗◌, both_of, need_at, end_at, map_ok, map_item, whole}
+use Rattle.texts.specs.Judging.{Line, Does, both_of, end_at, map_ok, map_item}
 use Rattle.texts.specs.Late.{IsAt}
 use Rattle.texts.proofs.Items.{both-map_right}
-use Rattle.texts.proofs.Lates.{At, at-both, at-if, at-map, at-whole, Judges, judges-⊗, judges-map, judges-need, judges-number}
+use Rattle.texts.proofs.Lates.{At, at-both, at-if, at-map, at-whole, Judges, judges-map}
 use Rattle.ring_table.specs.Value.{RingValue}
 use Rattle.plan_runs.specs.declared.event.Entry.{Entry}
 use Rattle.plan_runs.specs.declared.event.Reply.{Reply}
 use Rattle.plan_runs.specs.declared.event.Reply.TheVariants.{Plain, Put, Ticket, Get, Found, Answer}
 use Rattle.script_text.specs.Said.{Fits}
 use Rattle.script_text.specs.declared.said.SaidEvent.{SaidEvent}
-use Rattle.script_text.specs.Reading.{count_at, kind_at}
-use Rattle.script_text.proofs.NextLaws.{if-map, if-both, if-first, kind-fits}
-use Rattle.script_text.proofs.ScriptLates.{judges-kind}
+use Rattle.script_text.specs.Reading.{count_at}
+use Rattle.script_text.proofs.ScriptForm.{count_form, said_line}
+use Rattle.script_text.proofs.ScriptLates.{names-fit}
 use Rattle.texts.proofs.Lates.{either-at}
 use Rattle.history_text.specs.declared.said.SaidReply.{SaidReply}
 use Rattle.history_text.specs.Said.{SaidEntry, reply_of, said_of}
+use Rattle.history_text.proofs.ReplyLaws.{ticket_form}
+use Rattle.history_text.proofs.EntryLaws.{entry-law}
 use Rattle.history_text.specs.Reading.{judge_numbers, numbers_at, ticket_at, reply_at, event_said, reply_said, reply_line, said_at}
 
 -- ---- what the code reads
 
 -- a value that was made into another before the line's end was asked for, or after
-pub map-finished : {A B : Type 0} (f : A → B) (r : Result A Refusal) (e : Result (Unit {0}) Refusal)
+map-finished : {A B : Type 0} (f : A → B) (r : Result A Refusal) (e : Result (Unit {0}) Refusal)
     → map_ok f (map_ok (λ x. x.0) (both_of r e)) ≡ map_ok (λ x. x.0) (both_of (map_ok f r) e)
 unfolding both_of
 map-finished f (Ok a) (Ok b) = refl
@@ -42,7 +43,7 @@ line-said k None = refl
 line-said k (Some fields) = refl
 
 -- the two parts of a line
-pub parts-said : (k : ℕ) (e : Result SaidEvent Refusal) (r : Result SaidReply Refusal) (b : Option Line) (o : Option (List (List ℕ)))
+parts-said : (k : ℕ) (e : Result SaidEvent Refusal) (r : Result SaidReply Refusal) (b : Option Line) (o : Option (List (List ℕ)))
     → b ≡ option_map (λ fs. record { number = k; fields = fs }) o → map_ok reply_of r ≡ reply_line k b → map_ok said_of (both_of e r) ≡ both_of e (reply_said k o)
 parts-said k e r b o is reply =
     sym (both-map_right reply_of e r) ∙ ap (λ (x : Result Reply Refusal). both_of e x) (reply ∙ ap (reply_line k) is ∙ line-said k o)
@@ -72,86 +73,33 @@ finished k line new r all does is =
 
 -- ---- the next entry
 
--- there is room, and the event's writer can be numbered
-abbrev pub CanBeNext : List Entry → List (List ℕ) → SaidEvent → Type 0
-CanBeNext history names x = (length history < 1000000) × Fits names x
-
-need-so : (k : ℕ) (history : List Entry) (t : Bool) → nat_lt (length history) 1000000 ≡ t
-    → IfOk (cond {A = Result (Unit {0}) Refusal} t (Ok tt) (Err (TooLarge k))) (λ u. length history < 1000000)
-need-so k history true e = ltb-true (length history) 1000000 e
-need-so k history false e = tt
-
-event-next : (ring : RingValue) (history : List Entry) (names : List (List ℕ)) (k : ℕ) (fields : List (List ℕ))
-    → IfOk (event_said ring history names k fields) (CanBeNext history names)
-event-next ring history names k fields =
-    let room = need_at k (nat_lt (length history) 1000000) in
-    let kind = kind_at ring names k in
-    let P : Unit {0} × SaidEvent → Type 0 = λ x. CanBeNext history names x.1 in
-    let b = if-both (room fields).0 (kind fields).0 (λ u. length history < 1000000) (Fits names) (need-so k history (nat_lt (length history) 1000000) refl)
-    (kind-fits ring names k fields) in
-    let d = if-first ((room ⊗ kind) fields).0 (end_at k ((room ⊗ kind) fields).1).0 P b in
-    if-map (λ x. x.1) (whole k (room ⊗ kind) fields) P (CanBeNext history names) (λ x p. p)
-    (if-map (λ x. x.0) (((room ⊗ kind) ⊗ end_at k) fields).0 (λ x. P x.0) P (λ x p. p) d)
-
-said-next : (ring : RingValue) (history : List Entry) (names : List (List ℕ)) (k : ℕ) (fields : List (List ℕ))
-    → IfOk (said_at ring history names k fields) (λ x. CanBeNext history names x.0)
-unfolding said_at
-said-next ring history names k fields =
-    if-first (event_said ring history names k (front_of (codes "=") fields)) (reply_said k (behind_of (codes "=") fields)) (CanBeNext history names)
-    (event-next ring history names k (front_of (codes "=") fields))
-
--- so it is of each answer that is the line's
+-- each answer that is the line's can be the next: there is room, and the event's writer can be numbered
 pub next-if : (ring : RingValue) (history : List Entry) (names : List (List ℕ)) (k : ℕ) (fields : List (List ℕ)) (r : Result (SaidEvent × SaidReply) Refusal)
-    → map_ok said_of r ≡ said_at ring history names k fields → IfOk r (λ x. CanBeNext history names x.0)
-next-if ring history names k fields (Ok x) e =
-    subst (λ (s : Result SaidEntry Refusal). IfOk s (λ y. CanBeNext history names y.0)) (sym e) (said-next ring history names k fields)
-next-if ring history names k fields (Err d) e = tt
-
--- and of its parts
-pub room-if : (history : List Entry) (names : List (List ℕ)) (r : Result (SaidEvent × SaidReply) Refusal) → IfOk r (λ x. CanBeNext history names x.0)
-    → IfOk r (λ x. length history < 1000000)
-room-if history names (Ok x) p = p.0
-room-if history names (Err d) p = tt
-
-pub fits-if : (history : List Entry) (names : List (List ℕ)) (r : Result (SaidEvent × SaidReply) Refusal) → IfOk r (λ x. CanBeNext history names x.0)
-    → IfOk r (λ x. Fits names x.0)
-fits-if history names (Ok x) p = p.1
-fits-if history names (Err d) p = tt
+    → map_ok said_of r ≡ said_at ring history names k fields → IfOk r (λ x. length history < 1000000) × IfOk r (λ x. Fits names x.0)
+next-if ring history names k fields (Ok x) e = (let p = ((entry-law ring history names k).takes fields (said_of x) (sym e)).1 in (p.0, names-fit names x.0 p.1.0.writer))
+next-if ring history names k fields (Err d) e = (tt, tt)
 
 -- ---- faults
-
-abbrev largest : ℕ
-largest = 4294967295
 
 numbers-at : (k : ℕ) (fields : List (List ℕ)) → At k (judge_numbers k (numbers_of fields))
 numbers-at k fields = at-if k (list_all (λ x. nat_lt x 4294967296) (numbers_of fields)) (Ok (numbers_of fields)) (Err (TooLarge k)) tt refl
 
-judges-ticket : (k : ℕ) → Judges k (ticket_at k)
-unfolding ticket_at
-judges-ticket k =
-    let count = judges-number k largest in
-    judges-⊗ k (count_at k ⊗ count_at k) (count_at k) (judges-⊗ k (count_at k) (count_at k) count count) count
-
 judges-reply : (k : ℕ) → Judges k (reply_at k)
-unfolding reply_at
+unfolding reply_at ticket_at
 judges-reply k = record { at = at }
   where
     at : (fields : List (List ℕ)) → At k (reply_at k fields).0
     at [] = refl
     at (word ∷ fields) =
-        let one : (f : ℕ → Reply) → At k (map_item f (count_at k) fields).0 = λ f. (judges-map k f (count_at k) (judges-number k largest)).at fields in
+        let one : (f : ℕ → Reply) → At k (map_item f (count_at k) fields).0 = λ f. (judges-map k f (count_at k) (count_form.judges k)).at fields in
         let row : (f : List ℕ → Reply) → At k (map_item f (numbers_at k) fields).0 = λ f. at-map k f (judge_numbers k (numbers_of fields)) (numbers-at k fields) in
         either-at k (bytes_eq word (codes "ok")) (Ok Plain, fields) _ tt
         (either-at k (bytes_eq word (codes "put")) _ _ (one Put)
         (either-at k (bytes_eq word (codes "ticket")) _ _
-        ((judges-map k (λ x. Ticket (record { partition = x.0.0; index = x.0.1 }) x.1) (ticket_at k) (judges-ticket k)).at fields)
+        ((judges-map k (λ x. Ticket (record { partition = x.0.0; index = x.0.1 }) x.1) (ticket_at k) (ticket_form.judges k)).at fields)
         (either-at k (bytes_eq word (codes "get")) _ _ (one Get)
         (either-at k (bytes_eq word (codes "found")) _ _ (row Found)
         (either-at k (bytes_eq word (codes "reply")) _ (Err (BadLine k), fields) (row Answer) refl)))))
-
-event-at : (ring : RingValue) (history : List Entry) (names : List (List ℕ)) (k : ℕ) (fields : List (List ℕ)) → At k (event_said ring history names k fields)
-event-at ring history names k fields =
-    at-map k _ _ (at-whole k _ (judges-⊗ k _ (kind_at ring names k) (judges-need k (nat_lt (length history) 1000000)) (judges-kind ring names k)) fields)
 
 reply-at : (k : ℕ) (o : Option (List (List ℕ))) → At k (reply_said k o)
 reply-at k None = refl
@@ -161,7 +109,7 @@ pub said-at : (ring : RingValue) (history : List Entry) (names : List (List ℕ)
 unfolding said_at
 said-at ring history names k fields =
     at-both k (event_said ring history names k (front_of (codes "=") fields)) (reply_said k (behind_of (codes "=") fields))
-    (event-at ring history names k (front_of (codes "=") fields)) (reply-at k (behind_of (codes "=") fields))
+    ((said_line ring (length history) names).at k (front_of (codes "=") fields)) (reply-at k (behind_of (codes "=") fields))
 
 -- the line's fault is of its number
 pub fault-if : (ring : RingValue) (history : List Entry) (names : List (List ℕ)) (k : ℕ) (fields : List (List ℕ)) (r : Result (SaidEvent × SaidReply) Refusal)

@@ -11,10 +11,11 @@ use Rattle.ring_names.specs.declared.refusal.Refusal.TheVariants.{BadLine, TooLa
 use Rattle.ring_names.proofs.Logic.{pair_is}
 use Rattle.texts.specs.Parts.{spaced}
 use Rattle.texts.specs.Numbers.{numbers_of, beyond, are_small}
-use Rattle.texts.specs.Judging.{Item, ◌⊗◌, map_ok, map_item, whole}
+use Rattle.texts.specs.Judging.{Item, map_ok, map_item, whole}
 use Rattle.texts.specs.Laws.{IsLine, IsPlain}
-use Rattle.texts.proofs.Items.{IsItem-⊗, ok_is}
-use Rattle.texts.proofs.Fronts.{Free, Last, IsFront, front-item, front-whole, front-word, numbers-taken, numbers-given}
+use Rattle.texts.proofs.Items.{ok_is}
+use Rattle.texts.proofs.Fronts.{Free, Last, IsFront, front-whole, front-word, numbers-taken, numbers-given}
+use Rattle.texts.proofs.Forms.{Form, Always, both}
 use Rattle.texts.proofs.Rows.{numbers-plain}
 use Rattle.texts.proofs.Wholes.{decimal-plain}
 use Rattle.plan_runs.specs.declared.event.Reply.{Reply}
@@ -22,7 +23,8 @@ use Rattle.plan_runs.specs.declared.event.Reply.TheVariants.{Plain, Put, Ticket,
 use Rattle.plan_runs.specs.Replies.{reply_text}
 use Rattle.script_text.specs.Reading.{count_at}
 use Rattle.script_text.specs.Valid.{IsCount}
-use Rattle.script_text.proofs.FieldLaws.{item-count}
+use Rattle.script_text.proofs.Growing.{ends}
+use Rattle.script_text.proofs.ScriptForm.{count_form}
 use Rattle.history_text.specs.Reading.{numbers_at, ticket_at, reply_at}
 use Rattle.history_text.specs.Valid.{IsReply}
 
@@ -125,13 +127,9 @@ alone word fields rest v e =
     (ap (λ (w : List ℕ). w ∷ fields) e.0 ∙ ap (λ (r : List (List ℕ)). codes "ok" ∷ r) h.1, tt) in
     subst (Spelled (word ∷ fields) rest) (ok_is Plain v h.0) start
 
--- the fields of a ticket
-abbrev ticket_fields : (ℕ × ℕ) × ℕ → List (List ℕ)
-ticket_fields x = ((decimal x.0.0 ∷ []) ++ (decimal x.0.1 ∷ [])) ++ (decimal x.1 ∷ [])
-
--- its numbers are of 32 bits
-abbrev IsTicket : (ℕ × ℕ) × ℕ → Type 0
-IsTicket x = (IsCount x.0.0 × IsCount x.0.1) × IsCount x.1
+-- a ticket: three numbers of 32 bits
+abbrev pub ticket_form : Form (Unit {0}) Last ((ℕ × ℕ) × ℕ)
+ticket_form = ends (both Always (both Always count_form count_form) count_form)
 
 -- the reply of a ticket
 abbrev ticket_of : (ℕ × ℕ) × ℕ → Reply
@@ -140,12 +138,12 @@ ticket_of x = Ticket (record { partition = x.0.0; index = x.0.1 }) x.1
 module _ (k : ℕ) where
   -- a number of 32 bits
   counts : IsFront Last (count_at k) (λ n. decimal n ∷ []) IsCount
-  counts = front-item Last _ _ _ (item-count k)
+  counts = (ends count_form).exact tt k
 
   -- three of them
-  tickets : IsFront Last (ticket_at k) ticket_fields IsTicket
+  tickets : IsFront Last (ticket_at k) ticket_form.spell ticket_form.allowed
   unfolding ticket_at
-  tickets = front-item Last _ _ _ (IsItem-⊗ (count_at k ⊗ count_at k) (count_at k) _ _ _ _ (IsItem-⊗ (count_at k) (count_at k) _ _ _ _ (item-count k) (item-count k)) (item-count k))
+  tickets = ticket_form.exact tt k
 
   -- a reply that has a word is read only if it is spelled so
   take-word : (word : List ℕ) (fields rest : List (List ℕ)) (v : Reply) → reply_at k (word ∷ fields) ≡ (Ok v, rest) → Spelled (word ∷ fields) rest v
@@ -161,7 +159,7 @@ module _ (k : ℕ) where
       on (codes "ok") (Ok Plain, fields) _ e (alone word fields rest v) (λ e1.
       on (codes "put") _ _ e1 (one (codes "put") Put (λ n. refl) (λ n p. p)) (λ e2.
       on (codes "ticket") _ _ e2
-      (found (ticket_at k) ticket_fields IsTicket ticket_of word (codes "ticket") fields rest v tickets (λ x. refl) (λ x p. (p.0.0, p.0.1, p.1))) (λ e3.
+      (found (ticket_at k) ticket_form.spell ticket_form.allowed ticket_of word (codes "ticket") fields rest v tickets (λ x. refl) (λ x p. (p.0.0, p.0.1, p.1))) (λ e3.
       on (codes "get") _ _ e3 (one (codes "get") Get (λ n. refl) (λ n p. p)) (λ e4.
       on (codes "found") _ _ e4 (row (codes "found") Found (λ ns. refl) (λ ns p. p)) (λ e5.
       on (codes "reply") _ (Err (BadLine k), fields) e5 (row (codes "reply") Answer (λ ns. refl) (λ ns p. p)) (λ e6.

@@ -1,12 +1,10 @@
 pub mod DigitLaws
-pub mod ScriptLates
-pub mod NextLaws
 pub mod WriteLaws
 pub mod ValueLaws
-pub mod FieldLaws
-pub mod KindLaws
+pub mod Growing
+pub mod ScriptForm
 pub mod WriterLaws
-pub mod SaidLines
 pub mod SightLaws
 pub mod ScriptLaws
+pub mod ScriptLates
 pub mod ClientLaws

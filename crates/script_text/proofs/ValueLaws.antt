@@ -1,13 +1,10 @@
 -- A value is read from just the text that is written of it.
-use Rattle.std.proofs.Common.{◌≡◌, ℕ, ◌+◌, ◌*◌, ◌/◌, ◌%◌, ◌<◌, ◌≤◌, Bool, true, false, cond, not, ◌&&◌, ◌||◌, eqb, nat_le, List, [], ◌∷◌, ◌++◌, length, Ok}
-use Rattle.std.proofs.Common.{Err, refl, ap, ◌∙◌, arith, inl, inr}
+use Rattle.std.proofs.Common.{◌≡◌, ℕ, ◌+◌, ◌*◌, ◌/◌, ◌%◌, ◌<◌, ◌≤◌, Bool, true, false, not, ◌&&◌, ◌||◌, eqb, nat_le, List, [], ◌∷◌, ◌++◌, length, Ok}
+use Rattle.std.proofs.Common.{refl, ap, ◌∙◌, arith, inl, inr}
 use Rattle.std.specs.List.{flat_map, AllByRecursion}
 use Rattle.std.proofs.lemmas.Bool.{agree_below_at, and_parts, or_cases, eqb-true, leb-true, le-leb}
 use Rattle.std.proofs.lemmas.List.Concat.{flat_map-cons}
-use Rattle.ring_names.specs.declared.refusal.Refusal.TheVariants.{BadLine}
-use Rattle.texts.specs.Judging.{field_at}
-use Rattle.texts.specs.Laws.{IsItem, IsPlain}
-use Rattle.texts.proofs.Items.{IsItem-field, ok_is}
+use Rattle.texts.specs.Laws.{IsPlain}
 use Rattle.script_text.specs.Digits.{is_digit, digit_value, are_pairs, bytes_of, is_value_text, value_of}
 use Rattle.script_text.specs.Spelling.{digit_text, byte_text, value_text}
 use Rattle.script_text.specs.Reading.{judge_value}
@@ -42,14 +39,11 @@ either-of false b e f = absurd cc
 
 -- what is written of what a digit counts is the digit
 text-value : (c : ℕ) → is_digit c ≡ true → digit_text (digit_value c) ≡ c
-text-value c e = eqb-true _ _ (either-of (is_digit c) (eqb (digit_text (digit_value c)) c) e
-    (agree_below_at (λ x. not (is_digit x) || eqb (digit_text (digit_value x)) x) (λ x. true) 103 c refl (few-digit c e)))
+text-value c e = eqb-true _ _ (either-of (is_digit c) _ e (agree_below_at (λ x. not (is_digit x) || eqb (digit_text (digit_value x)) x) (λ x. true) 103 c refl (few-digit c e)))
 
 -- a digit counts at most 15
 value-few : (c : ℕ) → is_digit c ≡ true → digit_value c ≤ 15
-value-few c e = leb-true (digit_value c) 15
-    (either-of (is_digit c) (nat_le (digit_value c) 15) e
-    (agree_below_at (λ x. not (is_digit x) || nat_le (digit_value x) 15) (λ x. true) 103 c refl (few-digit c e)))
+value-few c e = leb-true (digit_value c) 15 (either-of (is_digit c) _ e (agree_below_at (λ x. not (is_digit x) || nat_le (digit_value x) 15) (λ x. true) 103 c refl (few-digit c e)))
 
 -- ---- bytes
 
@@ -106,7 +100,7 @@ value-plain value p = (omega arith, bytes-plain value p.bytes)
 -- ---- a value
 
 -- a value's text is what is written of the value that it spells
-text-is : (field : List ℕ) → is_value_text field ≡ true → (field ≡ value_text (value_of field)) × IsBytes (value_of field)
+pub text-is : (field : List ℕ) → is_value_text field ≡ true → (field ≡ value_text (value_of field)) × IsBytes (value_of field)
 text-is [] e = absurd cc
 text-is (x ∷ digits) e =
     let p = and_parts (eqb x 120 && nat_le (length digits) 2048) (are_pairs digits) e in
@@ -116,21 +110,11 @@ text-is (x ∷ digits) e =
       record { few = few_bytes digits (leb-true (length digits) 2048 q.1); bytes = d.1 },
     )
 
--- a field that is judged to be a value is its text
-judged : (k : ℕ) (field value : List ℕ) (t : Bool) → is_value_text field ≡ t → cond t (Ok (value_of field)) (Err (BadLine k)) ≡ Ok value
-    → (field ≡ value_text value) × IsBytes value
-judged k field value true h e = let same : value_of field ≡ value = ok_is (value_of field) value e in rw (← same) (text-is field h)
-judged k field value false h e = absurd cc
-
 -- a value's text is judged to be the value
-given : (k : ℕ) (value : List ℕ) → IsBytes value → judge_value k (value_text value) ≡ Ok value
-given k value p =
+pub value-given : (k : ℕ) (value : List ℕ) → IsBytes value → judge_value k (value_text value) ≡ Ok value
+value-given k value p =
     let s = bytes-spelled value p.bytes in
     let few = leb-true (length value) 1024 p.few in
     let twice = s.twice in
     let short : nat_le (length (flat_map byte_text value)) 2048 ≡ true = le-leb (length (flat_map byte_text value)) 2048 (omega arith) in
     rw (short, s.pairs, s.bytes) refl
-
--- one field that is a value
-pub item-value : (k : ℕ) → IsItem (field_at k (judge_value k)) (λ v. value_text v ∷ []) IsBytes
-item-value k = IsItem-field k (judge_value k) value_text IsBytes (λ f v e. judged k f v (is_value_text f) refl e) (given k)

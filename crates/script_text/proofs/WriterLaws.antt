@@ -1,6 +1,5 @@
 -- Names of writers that grow, each at its own number.
-use Rattle.std.proofs.Common.{◌≡◌, ℕ, suc, ◌<◌, Bool, true, false, cond, List, [], ◌∷◌, ◌++◌, length, Option, Some, None, refl, sym, ap, ◌∙◌, arith}
-use Rattle.std.proofs.Common.{length-append, inl, inr}
+use Rattle.std.proofs.Common.{◌≡◌, ℕ, zero, suc, ◌<◌, Bool, true, false, cond, List, [], ◌∷◌, ◌++◌, length, Option, Some, None, refl, sym, ap, ◌∙◌, arith, length-append, inl, inr}
 use Rattle.std.specs.Prelude.{slice_get, option_map}
 use Rattle.std.specs.List.{list_all}
 use Rattle.std.specs.Str.{bytes_eq}
@@ -9,11 +8,10 @@ use Rattle.std.proofs.lemmas.List.Folds.{list_all-append}
 use Rattle.std.proofs.lemmas.Option.{slice_get_within}
 use Rattle.ring_names.specs.Names.{place}
 use Rattle.ring_names.specs.declared.ids.WriterId.{WriterId}
-use Rattle.ring_names.proofs.Places.{place-push, get-place}
+use Rattle.ring_names.proofs.Places.{place-push, place-get, get-place}
 use Rattle.ring_names.proofs.InLists.{get_front, get_last, get_there}
 use Rattle.texts.specs.Name.{is_name}
-use Rattle.texts.specs.Laws.{IsPlain}
-use Rattle.texts.proofs.Wholes.{name-plain}
+use Rattle.ring_table.proofs.RowLaws.{AreNames, each_at}
 use Rattle.script_text.specs.Said.{with_writer, names_after}
 use Rattle.script_text.specs.declared.said.SaidWriter.{SaidWriter}
 use Rattle.script_text.specs.declared.said.SaidWriter.TheVariants.{Known, New}
@@ -21,37 +19,44 @@ use Rattle.script_text.specs.declared.said.SaidEvent.{SaidEvent}
 use Rattle.script_text.specs.declared.said.SaidEvent.TheVariants.{Put}
 use Rattle.script_text.specs.Spelling.{writer_at}
 use Rattle.script_text.specs.Valid.{AreWriters}
-use Rattle.script_text.proofs.FieldLaws.{named-at, writer_at-is, IsWriter}
-use Rattle.script_text.proofs.KindLaws.{NamesWriter}
+use Rattle.script_text.proofs.ScriptForm.{writer_at-is, IsPlaced, IsWriter, NamesWriter}
+
+-- ---- names at their numbers
+
+-- each of some names is a name
+pub named-at : (names : List (List ℕ)) (i : ℕ) (name : List ℕ) → list_all is_name names ≡ true → slice_get names i ≡ Some name → is_name name ≡ true
+named-at [] i name all e = absurd cc
+named-at (x ∷ xs) zero name all e = let same : x ≡ name = cc in ap is_name (sym same) ∙ (and_parts (is_name x) (list_all is_name xs) all).0
+named-at (x ∷ xs) (suc i) name all e = named-at xs i name (and_parts (is_name x) (list_all is_name xs) all).1 e
+
+placed-at : (names : List (List ℕ)) (n : ℕ) (name : List ℕ) → slice_get names n ≡ Some name → is_name name ≡ true → place names name ≡ Some n → IsPlaced names n
+placed-at names n name e is at = rw (writer_at-is names (record { 0 = n }) name e) (is, at)
+
+-- each writer is at its number
+pub writer-placed : (names : List (List ℕ)) (n : ℕ) → AreWriters names → n < length names → IsPlaced names n
+writer-placed names n good lt = (let got = get_there names n lt in placed-at names n got.0 got.1 (named-at names n got.0 good.names got.1) (good.different n got.0 got.1))
+
+-- and each node
+pub node-placed : (names : List (List ℕ)) (n : ℕ) → AreNames names → n < length names → IsPlaced names n
+node-placed names n good lt = (let got = get_there names n lt in placed-at names n got.0 got.1 (each_at (λ x. is_name x ≡ true) names n got.0 good.each got.1) (place-get names n got.0 good.new got.1))
 
 -- ---- the places of names that grow
 
--- a place behind one more name in front, where later names change none
-place-step : (b : Bool) (o p : Option ℕ) (n : ℕ) → ((m : ℕ) → o ≡ Some m → p ≡ Some m) → cond b (Some 0) (option_map (λ m. suc m) o) ≡ Some n
-    → cond b (Some 0) (option_map (λ m. suc m) p) ≡ Some n
+-- a place after one more name, where other names after it change none
+place-step : (b : Bool) (o p : Option ℕ) (n : ℕ) → ((m : ℕ) → o ≡ Some m → suc m ≡ n → p ≡ Some m) → cond b (Some 0) (option_map (λ m. suc m) o) ≡ Some n → cond b (Some 0) (option_map (λ m. suc m) p) ≡ Some n
 place-step true o p n on e = e
 place-step false None p n on e = absurd cc
-place-step false (Some m) p n on e = rw (on m refl) e
+place-step false (Some m) p n on e = (let same : suc m ≡ n = cc in rw (on m refl same) e)
 
 -- a name that is known stays where it is
-pub place-more : (names more : List (List ℕ)) (name : List ℕ) (n : ℕ) → place names name ≡ Some n → place (names ++ more) name ≡ Some n
+place-more : (names more : List (List ℕ)) (name : List ℕ) (n : ℕ) → place names name ≡ Some n → place (names ++ more) name ≡ Some n
 place-more [] more name n e = absurd cc
-place-more (x ∷ xs) more name n e = place-step (bytes_eq name x) (place xs name) (place (xs ++ more) name) n (λ m f. place-more xs more name m f) e
-
--- the same, where the later names are left away
-less-step : (b : Bool) (o p : Option ℕ) (n l : ℕ) → ((m : ℕ) → o ≡ Some m → m < l → p ≡ Some m) → n < suc l
-    → cond b (Some 0) (option_map (λ m. suc m) o) ≡ Some n → cond b (Some 0) (option_map (λ m. suc m) p) ≡ Some n
-less-step true o p n l on lt e = e
-less-step false None p n l on lt e = absurd cc
-less-step false (Some m) p n l on lt e =
-    let same : suc m ≡ n = cc in
-    rw (on m refl (omega arith)) e
+place-more (x ∷ xs) more name n e = place-step (bytes_eq name x) (place xs name) (place (xs ++ more) name) n (λ m f same. place-more xs more name m f) e
 
 -- a place among the first names is one without the others
-pub place-less : (names more : List (List ℕ)) (name : List ℕ) (n : ℕ) → place (names ++ more) name ≡ Some n → n < length names → place names name ≡ Some n
+place-less : (names more : List (List ℕ)) (name : List ℕ) (n : ℕ) → place (names ++ more) name ≡ Some n → n < length names → place names name ≡ Some n
 place-less [] more name n e lt = absurd (omega arith)
-place-less (x ∷ xs) more name n e lt = less-step (bytes_eq name x) (place (xs ++ more) name) (place xs name) n (length xs)
-    (λ m f below. place-less xs more name m f below) lt e
+place-less (x ∷ xs) more name n e lt = place-step (bytes_eq name x) (place (xs ++ more) name) (place xs name) n (λ m f same. place-less xs more name m f (omega (arith, same, lt))) e
 
 -- a name that stands behind some is none of them
 pub not-before : (names more : List (List ℕ)) (name : List ℕ) → place (names ++ more) name ≡ Some (length names) → place names name ≡ None
@@ -90,14 +95,13 @@ with-new names name good p =
           ap (λ (y : List ℕ). place (names ++ name ∷ []) y) (sym is) ∙ place-push names name p.1 ∙ ap (λ (i : ℕ). Some i) (sym last))
     ]
 
--- names behind a put's writer are names of writers
-with-writers : (names : List (List ℕ)) (x : SaidWriter) → AreWriters names → IsWriter names x → AreWriters (with_writer names x)
-with-writers names (Known w) good p = good
-with-writers names (New name) good p = with-new names name good p
-
--- behind a line too they are writers
+-- after a line they are writers too
 pub after-writers : (names : List (List ℕ)) (x : SaidEvent) → AreWriters names → NamesWriter names x → AreWriters (names_after names x)
-after-writers names (Put p) good named = with-writers names p.writer good named
+after-writers names (Put p) good named = by p.writer named
+  where
+    by : (w : SaidWriter) → IsWriter names w → AreWriters (with_writer names w)
+    by (Known w) is = good
+    by (New name) is = with-new names name good is
 after-writers names x good named = good
 
 -- the first of some writers are writers
@@ -123,9 +127,3 @@ pub writer-more : (names more : List (List ℕ)) (w : WriterId) → w.0 < length
 writer-more names more w lt =
     let got = get_there names w.0 lt in
     writer_at-is (names ++ more) w got.0 (get_front names more w.0 lt ∙ got.1) ∙ sym (writer_at-is names w got.0 got.1)
-
--- it is plain
-pub writer-plain : (names : List (List ℕ)) (w : WriterId) → list_all is_name names ≡ true → w.0 < length names → IsPlain (writer_at names w)
-writer-plain names w all lt =
-    let got = get_there names w.0 lt in
-    rw (writer_at-is names w got.0 got.1) (name-plain got.0 (named-at names w.0 got.0 all got.1))

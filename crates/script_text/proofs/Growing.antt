@@ -1,0 +1,257 @@
+-- Lines up to one that begins with `end`, each read in the state that the lines before it made, as one section; and some forms of fields.
+use Rattle.std.proofs.Common.{◌≡◌, ℕ, ◌+◌, ◌<◌, ◌≤◌, Bool, true, false, cond, List, [], ◌∷◌, ◌++◌, length, map, codes, Result, Ok, Err, refl, sym, ap, subst, ◌∙◌, append_assoc, append-nil, length-append, arith}
+use Rattle.std.specs.List.{AllByRecursion, list_all}
+use Rattle.std.proofs.lemmas.Bool.{and_from}
+use Rattle.std.proofs.lemmas.List.Folds.{list_all-append}
+use Rattle.ring_names.specs.declared.refusal.Refusal.{Refusal}
+use Rattle.ring_names.specs.declared.refusal.Refusal.TheVariants.{BadLine}
+use Rattle.texts.specs.Judging.{map_item}
+use Rattle.texts.specs.Left.{◌>>=◌, begins_with, first_line, next_line, then_part}
+use Rattle.texts.specs.Laws.{IsLine, SomeLeft, IsPlainLine}
+use Rattle.texts.proofs.Items.{ok_is, bind_ok}
+use Rattle.texts.proofs.Fronts.{front-map}
+use Rattle.texts.proofs.Lates.{reads-less, next-after, next-line, next-monotone, judges-map}
+use Rattle.texts.proofs.Forms.{Form, Section, Always, Last, Left, IsPart, ReadsTo, At, next_number, some_lines}
+
+-- ---- fields
+
+-- a form at the end of a line
+abbrev pub ends : {W A : Type 0} → Form W Always A → Form W Last A
+ends a = record {
+  item = a.item;
+  spell = a.spell;
+  allowed = a.allowed;
+  exact = λ w k. record { takes = (a.exact w k).takes; gives = λ v rest p last. (a.exact w k).gives v rest p tt };
+  judges = a.judges;
+  plain = a.plain;
+}
+
+-- a form whose value is made into another
+abbrev pub turned : {W A B : Type 0} (C : List (List ℕ) → Type 0) (f : A → B) (g : B → A) → ((x : A) → g (f x) ≡ x) → ((y : B) → f (g y) ≡ y) → Form W C A → Form W C B
+turned C f g gf fg a = record {
+  item = λ k. map_item f (a.item k);
+  spell = λ y. a.spell (g y);
+  allowed = λ y. a.allowed (g y);
+  exact = λ w k. front-map C (a.item k) a.spell a.allowed f g gf fg (a.exact w k);
+  judges = λ k. judges-map k f (a.item k) (a.judges k);
+  plain = λ w y p. a.plain w (g y) p;
+}
+
+-- what passed a test
+pub passed : {A : Type 0} (t : Bool) (r : Result A Refusal) (e : Refusal) (v : A) → cond t r (Err e) ≡ Ok v → (t ≡ true) × (r ≡ Ok v)
+passed true r e v h = (refl, h)
+passed false r e v h = absurd cc
+
+-- ---- lines
+
+-- the line begins with `end`
+abbrev pub Ends : List (List ℕ) → Type 0
+Ends line = begins_with (codes "end") (line ∷ []) ≡ true
+
+ends-any : (line : List (List ℕ)) (more : List (List (List ℕ))) → Ends line → begins_with (codes "end") (line ∷ more) ≡ true
+ends-any [] more h = absurd cc
+ends-any (f ∷ fs) more h = h
+
+first-at : (k : ℕ) (lines : List (List (List ℕ))) → At k (first_line k lines)
+first-at k [] = refl
+first-at k (line ∷ []) = refl
+first-at k (line ∷ next ∷ more) = tt
+
+first-ok : (k : ℕ) (line : List (List ℕ)) (rest : List (List (List ℕ))) (z : List (List ℕ)) (zs : List (List (List ℕ))) → rest ≡ z ∷ zs → first_line k (line ∷ rest) ≡ Ok (line, record { line = next_number k; lines = rest })
+first-ok k line rest z zs e = rw e refl
+
+reads-on : {A B : Type 0} (k m : ℕ) (r : Result A Refusal) (f : A → Result (B × Left) Refusal) → k ≤ m → At k r → ((x : A) → ReadsTo m (f x)) → ReadsTo k (r >>= f)
+reads-on k m (Ok x) f le p q = reads-less k m (f x) le (q x)
+reads-on k m (Err e) f le p q = (k, omega arith, p)
+
+-- what is read of two parts is read of each
+pub parts-of : {A B : Type 0} (read : Left → Result (A × Left) Refusal) (again : A → Left → Result (B × Left) Refusal) (s : Left) (v : (A × B) × Left) → then_part read again s ≡ Ok v → (t : Left) × (read s ≡ Ok (v.0.0, t)) × (again v.0.0 t ≡ Ok (v.0.1, v.1))
+parts-of {A} {B} read again s v e =
+    let b = bind_ok (read s) (λ x. again x.0 x.1 >>= λ y. Ok ((x.0, y.0), y.1)) v e in
+    let c = bind_ok (again b.0.0 b.0.1) (λ y. Ok ((b.0.0, y.0), y.1)) v b.2 in
+    subst (λ (w : (A × B) × Left). (t : Left) × (read s ≡ Ok (w.0.0, t)) × (again w.0.0 t ≡ Ok (w.0.1, w.1))) (ok_is ((b.0.0, c.0.0), c.0.1) v c.2) (b.0.1, b.1, c.1)
+
+-- how lines are read: each in a state, as a value and the state after it, and all of them after the values seen
+pub record Growth (S X E : Type 0) : Type 0 where
+  pub read : List (List (List ℕ)) → List E → S → ℕ → List (List ℕ) → Result X Refusal
+  pub value : S → X → E
+  pub after : S → X → S
+  pub from : List E → S → ℕ → List (List (List ℕ)) → Result ((List E × S) × Left) Refusal
+  pub none : (seen : List E) (s : S) (k : ℕ) → from seen s k [] ≡ Err (BadLine k)
+  pub more : (seen : List E) (s : S) (k : ℕ) (line : List (List ℕ)) (lines : List (List (List ℕ))) → from seen s k (line ∷ lines) ≡ cond (begins_with (codes "end") (line ∷ lines)) (Ok ((seen, s), record { line = k; lines = line ∷ lines }))
+      (first_line k (line ∷ lines) >>= λ _. read (line ∷ lines) seen s k line >>= λ x. from (seen ++ value s x ∷ []) (after s x) (next_number k) lines)
+  pub at : (all : List (List (List ℕ))) (seen : List E) (s : S) (k : ℕ) (fields : List (List ℕ)) → At k (read all seen s k fields)
+
+module _ {S X E : Type 0} (g : Growth S X E) where
+  -- the values of lines, the state after them, and that each is allowed in its state
+  abbrev pub values_of : S → List X → List E
+  values_of s [] = []
+  values_of s (x ∷ xs) = g.value s x ∷ values_of (g.after s x) xs
+
+  abbrev pub state_after : S → List X → S
+  state_after s [] = s
+  state_after s (x ∷ xs) = state_after (g.after s x) xs
+
+  abbrev pub EachIn : (S → X → Type 0) → S → List X → Type 0
+  EachIn P s [] = Unit {0}
+  EachIn P s (x ∷ xs) = P s x × EachIn P (g.after s x) xs
+
+  -- what is read of a line that is not the last, and of those after it
+  abbrev further : List E → S → ℕ → List (List ℕ) → List (List (List ℕ)) → Result ((List E × S) × Left) Refusal
+  further seen s k line lines = first_line k (line ∷ lines) >>= λ _. g.read (line ∷ lines) seen s k line >>= λ x. g.from (seen ++ g.value s x ∷ []) (g.after s x) (next_number k) lines
+
+  -- ---- faults
+
+  pub grows-on : (seen : List E) (s : S) (k : ℕ) (lines : List (List (List ℕ))) → ReadsTo k (g.from seen s k lines)
+  grows-on seen s k [] = rw (g.none seen s k) (k, omega arith, refl)
+  grows-on seen s k (line ∷ lines) = rw (g.more seen s k line lines) (by (begins_with (codes "end") (line ∷ lines)) (λ x. grows-on (seen ++ g.value s x ∷ []) (g.after s x) (next_number k) lines))
+    where
+      by : (t : Bool) → ((x : X) → ReadsTo (next_number k) (g.from (seen ++ g.value s x ∷ []) (g.after s x) (next_number k) lines))
+          → ReadsTo k (cond t (Ok ((seen, s), record { line = k; lines = line ∷ lines })) (further seen s k line lines))
+      by true later = omega arith
+      by false later = reads-on k k (first_line k (line ∷ lines)) _ (omega arith) (first-at k (line ∷ lines)) (λ _. reads-on k (next_number k) (g.read (line ∷ lines) seen s k line) _ (next-after k) (g.at (line ∷ lines) seen s k line) later)
+
+  grows-step : (seen : List E) (s : S) (k : ℕ) (lines : List (List (List ℕ))) → begins_with (codes "end") lines ≡ false
+      → g.from seen s k lines ≡ (first_line k lines >>= λ l. g.read lines seen s k l.0 >>= λ x. g.from (seen ++ g.value s x ∷ []) (g.after s x) l.1.line l.1.lines)
+  grows-step seen s k [] e = g.none seen s k
+  grows-step seen s k (line ∷ []) e = g.more seen s k line [] ∙ rw e refl
+  grows-step seen s k (line ∷ next ∷ more) e = g.more seen s k line (next ∷ more) ∙ rw e refl
+
+  -- memory that is asked for after a line that was taken
+  pub grows-late : (seen : List E) (s : S) (start here there : Left) (fields : List (List ℕ)) (x : X) (total : Result ((List E × S) × Left) Refusal) → begins_with (codes "end") here.lines ≡ false → next_line here ≡ Ok (fields, there)
+      → g.read here.lines seen s here.line fields ≡ Ok x → start.line ≤ here.line → g.from seen s here.line here.lines ≡ total → (next_number start.line ≤ there.line) × ReadsTo there.line total
+  grows-late seen s start here there fields x total b e f le so_far =
+      let behind : g.from seen s here.line here.lines ≡ g.from (seen ++ g.value s x ∷ []) (g.after s x) there.line there.lines = rw (grows-step seen s here.line here.lines b, e, f) refl in
+      let on = grows-on (seen ++ g.value s x ∷ []) (g.after s x) there.line there.lines in
+      let line = next-line here there fields e in
+      let more = next-monotone start.line here.line le in
+      (omega (arith, line, more), rw (← so_far, behind) on)
+
+  -- ---- what is read
+
+  -- what holds at the end, and before a line where it holds after it, holds of what is read
+  grows-read : (G : List E → S → List (List (List ℕ)) → (List E × S) × Left → Type 0) → ((seen : List E) (s : S) (k : ℕ) (line : List (List ℕ)) (lines : List (List (List ℕ))) → G seen s (line ∷ lines) ((seen, s), record { line = k; lines = line ∷ lines }))
+      → ((seen : List E) (s : S) (k : ℕ) (line : List (List ℕ)) (lines : List (List (List ℕ))) (x : X) (w : (List E × S) × Left) → g.read (line ∷ lines) seen s k line ≡ Ok x → G (seen ++ g.value s x ∷ []) (g.after s x) lines w → G seen s (line ∷ lines) w)
+      → (seen : List E) (s : S) (k : ℕ) (lines : List (List (List ℕ))) (w : (List E × S) × Left) → g.from seen s k lines ≡ Ok w → G seen s lines w
+  grows-read G end on seen s k [] w e = (let f = sym (g.none seen s k) ∙ e in absurd cc)
+  grows-read G end on seen s k (line ∷ lines) w e = by (begins_with (codes "end") (line ∷ lines)) (sym (g.more seen s k line lines) ∙ e) (λ x. grows-read G end on (seen ++ g.value s x ∷ []) (g.after s x) (next_number k) lines w)
+    where
+      by : (t : Bool) → cond t (Ok ((seen, s), record { line = k; lines = line ∷ lines })) (further seen s k line lines) ≡ Ok w
+          → ((x : X) → g.from (seen ++ g.value s x ∷ []) (g.after s x) (next_number k) lines ≡ Ok w → G (seen ++ g.value s x ∷ []) (g.after s x) lines w) → G seen s (line ∷ lines) w
+      by true h later = subst (G seen s (line ∷ lines)) (ok_is _ w h) (end seen s k line lines)
+      by false h later =
+          let b = bind_ok (first_line k (line ∷ lines)) (λ _. g.read (line ∷ lines) seen s k line >>= λ x. g.from (seen ++ g.value s x ∷ []) (g.after s x) (next_number k) lines) w h in
+          let c = bind_ok (g.read (line ∷ lines) seen s k line) (λ x. g.from (seen ++ g.value s x ∷ []) (g.after s x) (next_number k) lines) w b.2 in
+          on seen s k line lines c.0 w c.1 (later c.0 c.2)
+
+  -- values that pass a test, where each line's does
+  pub grows-all : (test : E → Bool) → ((seen : List E) (s : S) (k : ℕ) (line : List (List ℕ)) (lines : List (List (List ℕ))) (x : X) → g.read (line ∷ lines) seen s k line ≡ Ok x → test (g.value s x) ≡ true)
+      → (s : S) (k : ℕ) (lines : List (List (List ℕ))) (w : (List E × S) × Left) → g.from [] s k lines ≡ Ok w → list_all test w.0.0 ≡ true
+  grows-all test one s k lines w e = grows-read (λ seen s lines w. list_all test seen ≡ true → list_all test w.0.0 ≡ true) (λ seen s k line lines all. all)
+      (λ seen s k line lines x w e later all. (let now = one seen s k line lines x e in later (list_all-append test seen (g.value s x ∷ []) ∙ and_from (list_all test seen) (list_all test (g.value s x ∷ [])) all (rw now refl)))) [] s k lines w e refl
+
+-- how such lines are spelled: the fields of a value in the last state, and what is allowed in the state of its line
+pub record Lines (S X E : Type 0) (g : Growth S X E) : Type 1 where
+  pub most : ℕ
+  pub fields : S → E → List (List ℕ)
+  pub allowed : S → X → Type 0
+  pub line : (all : List (List (List ℕ))) (seen : List E) (s : S) (k : ℕ) → IsLine (g.read all seen s k) (λ x. fields (g.after s x) (g.value s x)) (λ x. (length seen < most) × allowed s x)
+  pub plain : (s : S) (x : X) → allowed s x → IsPlainLine (fields (g.after s x) (g.value s x))
+  pub goes_on : (s : S) (e : E) (lines : List (List (List ℕ))) → begins_with (codes "end") (fields s e ∷ lines) ≡ false
+  pub same : (s : S) (x : X) (xs : List X) → allowed s x → EachIn g allowed (g.after s x) xs → fields (state_after g (g.after s x) xs) (g.value s x) ≡ fields (g.after s x) (g.value s x)
+
+module _ {S X E : Type 0} (g : Growth S X E) (l : Lines S X E g) where
+  -- the lines, each in the state after it
+  abbrev lines_of : S → List X → List (List (List ℕ))
+  lines_of s [] = []
+  lines_of s (x ∷ xs) = l.fields (g.after s x) (g.value s x) ∷ lines_of (g.after s x) xs
+
+  -- what some lines say after those seen
+  record Taken (seen : List E) (s : S) (lines : List (List (List ℕ))) (w : (List E × S) × Left) : Type 0 where
+    pub items : List X
+    pub values : w.0.0 ≡ seen ++ values_of g s items
+    pub state : w.0.1 ≡ state_after g s items
+    pub parts : lines ≡ lines_of s items ++ w.1.lines
+    pub each : EachIn g l.allowed s items
+    pub few : length w.0.0 ≤ l.most
+    pub some : SomeLeft w.1
+
+  -- these values and this state are what some lines say
+  pub record Says (old : S) (v : List E × S) : Type 0 where
+    pub items : List X
+    pub values : values_of g old items ≡ v.0
+    pub state : state_after g old items ≡ v.1
+    pub each : EachIn g l.allowed old items
+    pub few : length v.0 ≤ l.most
+
+  taken : (seen : List E) (s : S) (k : ℕ) (lines : List (List (List ℕ))) (w : (List E × S) × Left) → g.from seen s k lines ≡ Ok w → length seen ≤ l.most → Taken seen s lines w
+  taken = grows-read g (λ seen s lines w. length seen ≤ l.most → Taken seen s lines w)
+      (λ seen s k line lines few. record { items = []; values = sym (append-nil seen); state = refl; parts = refl; each = tt; few = few; some = (line, lines, refl) })
+      (λ seen s k line lines x w e later few.
+      let law = (l.line (line ∷ lines) seen s k).takes line x e in
+      let room = law.1.0 in
+      let rest = later (let sum = length-append seen (g.value s x ∷ []) in omega arith) in
+      record {
+        items = x ∷ rest.items;
+        values = rest.values ∙ append_assoc seen (g.value s x ∷ []) (values_of g (g.after s x) rest.items);
+        state = rest.state;
+        parts = ap (λ (f : List (List ℕ)). f ∷ lines) law.0 ∙ ap (λ (m : List (List (List ℕ))). l.fields (g.after s x) (g.value s x) ∷ m) rest.parts;
+        each = (law.1.1, rest.each);
+        few = rest.few;
+        some = rest.some;
+      })
+
+  given : (xs : List X) (seen : List E) (s : S) (k : ℕ) (x : List (List ℕ)) (more : List (List (List ℕ))) → EachIn g l.allowed s xs → length seen + length (values_of g s xs) ≤ l.most → Ends x
+      → (m : ℕ) × (g.from seen s k (lines_of s xs ++ x ∷ more) ≡ Ok ((seen ++ values_of g s xs, state_after g s xs), record { line = m; lines = x ∷ more }))
+  given [] seen s k x more each few end = (k, g.more seen s k x more ∙ rw (ends-any x more end, append-nil seen) refl)
+  given (y ∷ ys) seen s k x more each few end =
+      let now = g.value s y in
+      let next = g.after s y in
+      let sum = length-append seen (now ∷ []) in
+      let rest = given ys (seen ++ now ∷ []) next (next_number k) x more each.1 (omega arith) end in
+      let all = lines_of next ys ++ x ∷ more in
+      let line = (l.line (l.fields next now ∷ all) seen s k).gives y (omega arith, each.0) in
+      let sh = some_lines (lines_of next ys) x more in
+      let first = first-ok k (l.fields next now) all sh.0 sh.1 sh.2 in
+      (rest.0, g.more seen s k (l.fields next now) all ∙ rw (l.goes_on next now all, first, line) (rest.1 ∙ ap (λ (z : List E). Ok ((z, state_after g next ys), record { line = rest.0; lines = x ∷ more })) (append_assoc seen (now ∷ []) (values_of g next ys))))
+
+  -- they are spelled in the last state
+  spelled : (xs : List X) (s : S) → EachIn g l.allowed s xs → lines_of s xs ≡ map (l.fields (state_after g s xs)) (values_of g s xs)
+  spelled [] s each = refl
+  spelled (x ∷ xs) s each =
+      ap (λ (ls : List (List (List ℕ))). l.fields (g.after s x) (g.value s x) ∷ ls) (spelled xs (g.after s x) each.1)
+      ∙ ap (λ (f : List (List ℕ)). f ∷ map (l.fields (state_after g (g.after s x) xs)) (values_of g (g.after s x) xs)) (sym (l.same s x xs each.0 each.1))
+
+  pub lines-plain : (xs : List X) (s : S) → EachIn g l.allowed s xs → AllByRecursion IsPlainLine (lines_of s xs)
+  lines-plain [] s each = tt
+  lines-plain (x ∷ xs) s each = (l.plain s x each.0, lines-plain xs (g.after s x) each.1)
+
+  pub says-lines : (old : S) (v : List E × S) (p : Says old v) → lines_of old p.items ≡ map (l.fields v.1) v.0
+  says-lines old v p = spelled p.items old p.each ∙ rw (p.values, p.state) refl
+
+  pub growing-part : (old : S) → IsPart Ends (λ a. g.from [] old a.line a.lines) (λ v. map (l.fields v.1) v.0) (Says old)
+  growing-part old = record { takes = take; gives = give }
+    where
+      take : (a z : Left) (v : List E × S) → SomeLeft a → g.from [] old a.line a.lines ≡ Ok (v, z) → (a.lines ≡ map (l.fields v.1) v.0 ++ z.lines) × Says old v × SomeLeft z
+      take a z v some e =
+          let t = taken [] old a.line a.lines (v, z) e (omega arith) in
+          let p : Says old v = record { items = t.items; values = sym t.values; state = sym t.state; each = t.each; few = t.few } in
+          (t.parts ∙ ap (λ (ls : List (List (List ℕ))). ls ++ z.lines) (says-lines old v p), p, t.some)
+
+      give : (k : ℕ) (v : List E × S) (x : List (List ℕ)) (xs : List (List (List ℕ))) → Says old v → Ends x
+          → (m : ℕ) × (g.from [] old k (map (l.fields v.1) v.0 ++ x ∷ xs) ≡ Ok (v, record { line = m; lines = x ∷ xs }))
+      give k v x xs p end =
+          let few : length {A = E} [] + length (values_of g old p.items) ≤ l.most = rw p.values (let le = p.few in omega arith) in
+          let t = given p.items [] old k x xs p.each few end in
+          (t.0, ap (λ (ls : List (List (List ℕ))). g.from [] old k (ls ++ x ∷ xs)) (sym (says-lines old v p)) ∙ t.1 ∙ rw (p.values, p.state) refl)
+
+  -- all of them, as a section
+  abbrev pub growing : {W : Type 0} → S → Section W Ends (List E × S)
+  growing old = record {
+    read = λ a. g.from [] old a.line a.lines;
+    spell = λ v. map (l.fields v.1) v.0;
+    allowed = Says old;
+    exact = λ _. growing-part old;
+    advances = record { on = λ a. grows-on g [] old a.line a.lines };
+    plain = λ _ v p. subst (AllByRecursion IsPlainLine) (says-lines old v p) (lines-plain p.items old p.each);
+  }
