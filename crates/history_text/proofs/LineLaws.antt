@@ -1,16 +1,14 @@
 -- What an entry's line says can be the next entry, and its faults are the line's.
-use Rattle.std.proofs.Common.{◌≡◌, ℕ, ◌<◌, nat_lt, List, [], ◌∷◌, length, codes, Option, Some, None, Result, Ok, Err, IfOk, refl, sym, ap, subst, ◌∙◌}
+use Rattle.std.proofs.Common.{◌≡◌, ℕ, ◌<◌, List, [], ◌∷◌, length, codes, Option, Some, None, Result, Ok, Err, IfOk, refl, sym, ap, subst, ◌∙◌}
 use Rattle.std.specs.Prelude.{IfErr, option_map}
-use Rattle.std.specs.List.{list_all}
 use Rattle.std.specs.Str.{bytes_eq}
 use Rattle.ring_names.specs.declared.refusal.Refusal.{Refusal}
-use Rattle.ring_names.specs.declared.refusal.Refusal.TheVariants.{BadLine, TooLarge}
+use Rattle.ring_names.specs.declared.refusal.Refusal.TheVariants.{BadLine}
 use Rattle.texts.specs.Cuts.{front_of, behind_of}
-use Rattle.texts.specs.Numbers.{numbers_of}
 use Rattle.texts.specs.Judging.{Line, Does, both_of, end_at, map_ok, map_item}
 use Rattle.texts.specs.Late.{IsAt}
 use Rattle.texts.proofs.Items.{both-map_right}
-use Rattle.texts.proofs.Lates.{At, at-both, at-if, at-map, at-whole, Judges, judges-map}
+use Rattle.texts.proofs.Lates.{At, at-both, at-whole, Judges, judges-map}
 use Rattle.ring_table.specs.Value.{RingValue}
 use Rattle.plan_runs.specs.declared.event.Entry.{Entry}
 use Rattle.plan_runs.specs.declared.event.Reply.{Reply}
@@ -23,9 +21,9 @@ use Rattle.script_text.proofs.ScriptLates.{names-fit}
 use Rattle.texts.proofs.Lates.{either-at}
 use Rattle.history_text.specs.declared.said.SaidReply.{SaidReply}
 use Rattle.history_text.specs.Said.{SaidEntry, reply_of, said_of}
-use Rattle.history_text.proofs.ReplyLaws.{ticket_form}
+use Rattle.history_text.proofs.ReplyLaws.{numbers_form, ticket_form}
 use Rattle.history_text.proofs.EntryLaws.{entry-law}
-use Rattle.history_text.specs.Reading.{judge_numbers, numbers_at, ticket_at, reply_at, event_said, reply_said, reply_line, said_at}
+use Rattle.history_text.specs.Reading.{numbers_at, ticket_at, reply_at, event_said, reply_said, reply_line, said_at}
 
 -- ---- what the code reads
 
@@ -81,9 +79,6 @@ next-if ring history names k fields (Err d) e = (tt, tt)
 
 -- ---- faults
 
-numbers-at : (k : ℕ) (fields : List (List ℕ)) → At k (judge_numbers k (numbers_of fields))
-numbers-at k fields = at-if k (list_all (λ x. nat_lt x 4294967296) (numbers_of fields)) (Ok (numbers_of fields)) (Err (TooLarge k)) tt refl
-
 judges-reply : (k : ℕ) → Judges k (reply_at k)
 unfolding reply_at ticket_at
 judges-reply k = record { at = at }
@@ -92,7 +87,7 @@ judges-reply k = record { at = at }
     at [] = refl
     at (word ∷ fields) =
         let one : (f : ℕ → Reply) → At k (map_item f (count_at k) fields).0 = λ f. (judges-map k f (count_at k) (count_form.judges k)).at fields in
-        let row : (f : List ℕ → Reply) → At k (map_item f (numbers_at k) fields).0 = λ f. at-map k f (judge_numbers k (numbers_of fields)) (numbers-at k fields) in
+        let row : (f : List ℕ → Reply) → At k (map_item f (numbers_at k) fields).0 = λ f. (judges-map k f (numbers_at k) (numbers_form.judges k)).at fields in
         either-at k (bytes_eq word (codes "ok")) (Ok Plain, fields) _ tt
         (either-at k (bytes_eq word (codes "put")) _ _ (one Put)
         (either-at k (bytes_eq word (codes "ticket")) _ _

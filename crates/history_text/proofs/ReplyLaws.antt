@@ -11,21 +11,20 @@ use Rattle.ring_names.specs.declared.refusal.Refusal.TheVariants.{BadLine, TooLa
 use Rattle.ring_names.proofs.Logic.{pair_is}
 use Rattle.texts.specs.Parts.{spaced}
 use Rattle.texts.specs.Numbers.{numbers_of, beyond, are_small}
-use Rattle.texts.specs.Judging.{Item, map_ok, map_item, whole}
+use Rattle.texts.specs.Judging.{map_ok, map_item, whole}
 use Rattle.texts.specs.Laws.{IsLine, IsPlain}
 use Rattle.texts.proofs.Items.{ok_is}
 use Rattle.texts.proofs.Fronts.{Free, Last, IsFront, front-whole, front-word, numbers-taken, numbers-given}
-use Rattle.texts.proofs.Forms.{Form, Always, both}
+use Rattle.texts.proofs.Forms.{Form, Always, At, both, room}
 use Rattle.texts.proofs.Rows.{numbers-plain}
-use Rattle.texts.proofs.Wholes.{decimal-plain}
+use Rattle.texts.proofs.Lates.{at-if}
 use Rattle.plan_runs.specs.declared.event.Reply.{Reply}
 use Rattle.plan_runs.specs.declared.event.Reply.TheVariants.{Plain, Put, Ticket, Get, Found, Answer}
 use Rattle.plan_runs.specs.Replies.{reply_text}
-use Rattle.script_text.specs.Reading.{count_at}
 use Rattle.script_text.specs.Valid.{IsCount}
 use Rattle.script_text.proofs.Growing.{ends}
-use Rattle.script_text.proofs.ScriptForm.{count_form}
-use Rattle.history_text.specs.Reading.{numbers_at, ticket_at, reply_at}
+use Rattle.script_text.proofs.ScriptForm.{Behind, count_form}
+use Rattle.history_text.specs.Reading.{judge_numbers, numbers_at, ticket_at, reply_at}
 use Rattle.history_text.specs.Valid.{IsReply}
 
 -- the fields of a reply
@@ -71,7 +70,7 @@ small-is k xs v true h e = (h, ok_is xs v e)
 small-is k xs v false h e = absurd cc
 
 -- numbers at the end of a line
-front-numbers : (k : ℕ) → IsFront Last (numbers_at k) (λ vs. map decimal vs) (λ vs. AllByRecursion IsCount vs)
+pub front-numbers : (k : ℕ) → IsFront Last (numbers_at k) (λ vs. map decimal vs) (λ vs. AllByRecursion IsCount vs)
 front-numbers k = record { takes = take; gives = give }
   where
     take : (fields rest : List (List ℕ)) (v : List ℕ) → numbers_at k fields ≡ (Ok v, rest) → (fields ≡ map decimal v ++ rest) × AllByRecursion IsCount v
@@ -89,43 +88,21 @@ front-numbers k = record { takes = take; gives = give }
         let n = numbers-given v rest small free in
         rw (n.0, n.1) (ap (λ (t : Bool). (cond {A = Result (List ℕ) Refusal} t (Ok v) (Err (TooLarge k)), rest)) small)
 
+pub numbers-at : (k : ℕ) (fields : List (List ℕ)) → At k (judge_numbers k (numbers_of fields))
+numbers-at k fields = at-if k (are_small (numbers_of fields)) (Ok (numbers_of fields)) (Err (TooLarge k)) tt refl
+
+abbrev pub numbers_form : Form (Unit {0}) Last (List ℕ)
+numbers_form = record { item = numbers_at; spell = λ vs. map decimal vs; allowed = λ vs. AllByRecursion IsCount vs; exact = λ _. front-numbers; judges = λ k. record { at = numbers-at k }; plain = λ _ vs p. numbers-plain vs (small-of vs p) }
+
 -- ---- a reply
 
 -- a reply that was read, or is given back
 abbrev Pair : Type 0
 Pair = Result Reply Refusal × List (List ℕ)
 
--- the word in front is this one, or reading goes on
-choose : (G : Type 0) (word : List ℕ) (z : Pair) (w : List ℕ) (x y : Pair) → cond (bytes_eq word w) x y ≡ z → ((word ≡ w) × (x ≡ z) → G) → (y ≡ z → G) → G
-choose G word z w x y e f g = by (bytes_eq word w) refl e
-  where
-    by : (b : Bool) → bytes_eq word w ≡ b → cond b x y ≡ z → G
-    by true h i = f ((bytes_eq-Decides word w).0 h, i)
-    by false h i = g i
-
 -- the fields are those of what was read, and it is allowed
 abbrev Spelled : List (List ℕ) → List (List ℕ) → Reply → Type 0
 Spelled fields rest r = (fields ≡ reply_fields r ++ rest) × IsReply r
-
--- a word, and an item behind it
-found : {A : Type 0} (a : Item A) (s : A → List (List ℕ)) (P : A → Type 0) (f : A → Reply) (word w : List ℕ) (fields rest : List (List ℕ)) (v : Reply)
-    → IsFront Last a s P → ((x : A) → reply_fields (f x) ≡ w ∷ s x) → ((x : A) → P x → IsReply (f x))
-    → (word ≡ w) × (◌≡◌ {A = Pair} (map_item f a fields) (Ok v, rest)) → Spelled (word ∷ fields) rest v
-found a s P f word w fields rest v front spelled is e =
-    let h = pair_is (map_item f a fields) (Ok v) rest e.1 in
-    let g = front-word Last a word s P f fields rest v front h.0 h.1 in
-    let start : Spelled (word ∷ fields) rest (f g.0) =
-    (g.2 ∙ ap (λ (y : List ℕ). (y ∷ s g.0) ++ rest) e.0 ∙ ap (λ (r : List (List ℕ)). r ++ rest) (sym (spelled g.0)), is g.0 g.3) in
-    subst (Spelled (word ∷ fields) rest) g.1 start
-
--- a word alone
-alone : (word : List ℕ) (fields rest : List (List ℕ)) (v : Reply) → (word ≡ codes "ok") × (◌≡◌ {A = Pair} (Ok Plain, fields) (Ok v, rest))
-    → Spelled (word ∷ fields) rest v
-alone word fields rest v e =
-    let h = pair_is {A = Result Reply Refusal} (Ok Plain, fields) (Ok v) rest e.1 in
-    let start : Spelled (word ∷ fields) rest Plain =
-    (ap (λ (w : List ℕ). w ∷ fields) e.0 ∙ ap (λ (r : List (List ℕ)). codes "ok" ∷ r) h.1, tt) in
-    subst (Spelled (word ∷ fields) rest) (ok_is Plain v h.0) start
 
 -- a ticket: three numbers of 32 bits
 abbrev pub ticket_form : Form (Unit {0}) Last ((ℕ × ℕ) × ℕ)
@@ -136,33 +113,28 @@ abbrev ticket_of : (ℕ × ℕ) × ℕ → Reply
 ticket_of x = Ticket (record { partition = x.0.0; index = x.0.1 }) x.1
 
 module _ (k : ℕ) where
-  -- a number of 32 bits
-  counts : IsFront Last (count_at k) (λ n. decimal n ∷ []) IsCount
-  counts = (ends count_form).exact tt k
-
-  -- three of them
-  tickets : IsFront Last (ticket_at k) ticket_form.spell ticket_form.allowed
-  unfolding ticket_at
-  tickets = ticket_form.exact tt k
+  -- a word and what is after it, or something else
+  by-word : (b : Behind Reply) (w : List ℕ) → ((x : b.A) → (reply_fields (b.say x) ≡ w ∷ b.form.spell x) × (b.form.allowed x → IsReply (b.say x))) → (word : List ℕ) (fields rest : List (List ℕ)) (v : Reply) (y : Pair)
+      → cond (bytes_eq word w) (map_item b.say (b.form.item k) fields) y ≡ (Ok v, rest) → (y ≡ (Ok v, rest) → Spelled (word ∷ fields) rest v) → Spelled (word ∷ fields) rest v
+  by-word b w is word fields rest v y e on = by (bytes_eq word w) refl e
+    where
+      by : (t : Bool) → bytes_eq word w ≡ t → cond t (map_item b.say (b.form.item k) fields) y ≡ (Ok v, rest) → Spelled (word ∷ fields) rest v
+      by true h i =
+          let p = pair_is (map_item b.say (b.form.item k) fields) (Ok v) rest i in
+          let g = front-word Last (b.form.item k) word b.form.spell b.form.allowed b.say fields rest v (b.form.exact tt k) p.0 p.1 in
+          subst (Spelled (word ∷ fields) rest) g.1 (g.2 ∙ ap (λ (u : List ℕ). (u ∷ b.form.spell g.0) ++ rest) ((bytes_eq-Decides word w).0 h) ∙ ap (λ (r : List (List ℕ)). r ++ rest) (sym (is g.0).0), (is g.0).1 g.3)
+      by false h i = on i
 
   -- a reply that has a word is read only if it is spelled so
   take-word : (word : List ℕ) (fields rest : List (List ℕ)) (v : Reply) → reply_at k (word ∷ fields) ≡ (Ok v, rest) → Spelled (word ∷ fields) rest v
-  unfolding reply_at
+  unfolding reply_at ticket_at
   take-word word fields rest v e =
-      let on = choose (Spelled (word ∷ fields) rest v) word (Ok v, rest) in
-      let one : (w : List ℕ) (f : ℕ → Reply) → ((n : ℕ) → reply_fields (f n) ≡ w ∷ decimal n ∷ []) → ((n : ℕ) → IsCount n → IsReply (f n))
-      → (word ≡ w) × (◌≡◌ {A = Pair} (map_item f (count_at k) fields) (Ok v, rest)) → Spelled (word ∷ fields) rest v
-      = λ w f. found (count_at k) (λ n. decimal n ∷ []) IsCount f word w fields rest v counts in
-      let row : (w : List ℕ) (f : List ℕ → Reply) → ((ns : List ℕ) → reply_fields (f ns) ≡ w ∷ map decimal ns) → ((ns : List ℕ) → AllByRecursion IsCount ns → IsReply (f ns))
-      → (word ≡ w) × (◌≡◌ {A = Pair} (map_item f (numbers_at k) fields) (Ok v, rest)) → Spelled (word ∷ fields) rest v
-      = λ w f. found (numbers_at k) (λ ns. map decimal ns) (λ ns. AllByRecursion IsCount ns) f word w fields rest v (front-numbers k) in
-      on (codes "ok") (Ok Plain, fields) _ e (alone word fields rest v) (λ e1.
-      on (codes "put") _ _ e1 (one (codes "put") Put (λ n. refl) (λ n p. p)) (λ e2.
-      on (codes "ticket") _ _ e2
-      (found (ticket_at k) ticket_form.spell ticket_form.allowed ticket_of word (codes "ticket") fields rest v tickets (λ x. refl) (λ x p. (p.0.0, p.0.1, p.1))) (λ e3.
-      on (codes "get") _ _ e3 (one (codes "get") Get (λ n. refl) (λ n p. p)) (λ e4.
-      on (codes "found") _ _ e4 (row (codes "found") Found (λ ns. refl) (λ ns p. p)) (λ e5.
-      on (codes "reply") _ (Err (BadLine k), fields) e5 (row (codes "reply") Answer (λ ns. refl) (λ ns p. p)) (λ e6.
+      by-word (record { A = Unit {0}; form = ends (room true); say = λ _. Plain }) (codes "ok") (λ x. (refl, λ p. tt)) word fields rest v _ e (λ e1.
+      by-word (record { A = ℕ; form = ends count_form; say = Put }) (codes "put") (λ n. (refl, λ p. p)) word fields rest v _ e1 (λ e2.
+      by-word (record { A = (ℕ × ℕ) × ℕ; form = ticket_form; say = ticket_of }) (codes "ticket") (λ x. (refl, λ p. (p.0.0, p.0.1, p.1))) word fields rest v _ e2 (λ e3.
+      by-word (record { A = ℕ; form = ends count_form; say = Get }) (codes "get") (λ n. (refl, λ p. p)) word fields rest v _ e3 (λ e4.
+      by-word (record { A = List ℕ; form = numbers_form; say = Found }) (codes "found") (λ ns. (refl, λ p. p)) word fields rest v _ e4 (λ e5.
+      by-word (record { A = List ℕ; form = numbers_form; say = Answer }) (codes "reply") (λ ns. (refl, λ p. p)) word fields rest v (Err (BadLine k), fields) e5 (λ e6.
       (let h = pair_is {A = Result Reply Refusal} (Err (BadLine k), fields) (Ok v) rest e6 in absurd cc)))))))
 
   -- a value that was read, made into a reply
@@ -171,7 +143,7 @@ module _ (k : ℕ) where
   made {A = A} f x r rest e = ap (λ (p : Result A Refusal × List (List ℕ)). (map_ok f p.0, p.1)) e
 
   front-reply : IsFront Last (reply_at k) reply_fields IsReply
-  unfolding reply_at
+  unfolding reply_at ticket_at
   front-reply = record { takes = take; gives = give }
     where
       take : (fields rest : List (List ℕ)) (v : Reply) → reply_at k fields ≡ (Ok v, rest) → (fields ≡ reply_fields v ++ rest) × IsReply v
@@ -180,9 +152,9 @@ module _ (k : ℕ) where
 
       give : (v : Reply) (rest : List (List ℕ)) → IsReply v → Last rest → reply_at k (reply_fields v ++ rest) ≡ (Ok v, rest)
       give Plain rest p last = refl
-      give (Put n) rest p last = made Put n _ rest (counts.gives n rest p last)
-      give (Ticket s g) rest p last = made ticket_of ((s.partition, s.index), g) _ rest (tickets.gives ((s.partition, s.index), g) rest ((p.0, p.1), p.2) last)
-      give (Get n) rest p last = made Get n _ rest (counts.gives n rest p last)
+      give (Put n) rest p last = made Put n _ rest (((ends count_form).exact tt k).gives n rest p last)
+      give (Ticket s g) rest p last = made ticket_of ((s.partition, s.index), g) _ rest ((ticket_form.exact tt k).gives ((s.partition, s.index), g) rest ((p.0, p.1), p.2) last)
+      give (Get n) rest p last = made Get n _ rest (((ends count_form).exact tt k).gives n rest p last)
       give (Found vs) rest p last = made Found vs _ rest ((front-numbers k).gives vs rest p last)
       give (Answer vs) rest p last = made Answer vs _ rest ((front-numbers k).gives vs rest p last)
 
@@ -195,13 +167,10 @@ module _ (k : ℕ) where
 words-plain : IsPlain (codes "ok") × IsPlain (codes "put") × IsPlain (codes "ticket") × IsPlain (codes "get") × IsPlain (codes "found") × IsPlain (codes "reply")
 words-plain = (search rules)
 
-count-plain : (n : ℕ) → IsCount n → IsPlain (decimal n)
-count-plain n le = decimal-plain n (omega arith)
-
 pub reply-plain : (r : Reply) → IsReply r → AllByRecursion IsPlain (reply_fields r)
 reply-plain Plain p = (words-plain.0, tt)
-reply-plain (Put n) p = (words-plain.1, (count-plain n p, tt))
-reply-plain (Ticket s g) p = (words-plain.2, (count-plain s.partition p.0, (count-plain s.index p.1, (count-plain g p.2, tt))))
-reply-plain (Get n) p = (words-plain.3, (count-plain n p, tt))
-reply-plain (Found vs) p = (words-plain.4, numbers-plain vs (small-of vs p))
-reply-plain (Answer vs) p = (words-plain.5, numbers-plain vs (small-of vs p))
+reply-plain (Put n) p = (words-plain.1, count_form.plain tt n p)
+reply-plain (Ticket s g) p = (words-plain.2, ticket_form.plain tt ((s.partition, s.index), g) ((p.0, p.1), p.2))
+reply-plain (Get n) p = (words-plain.3, count_form.plain tt n p)
+reply-plain (Found vs) p = (words-plain.4, numbers_form.plain tt vs p)
+reply-plain (Answer vs) p = (words-plain.5, numbers_form.plain tt vs p)

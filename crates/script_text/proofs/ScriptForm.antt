@@ -244,10 +244,10 @@ abbrev pub said_fields : RingValue → List (List ℕ) → SaidEvent → List (L
 said_fields ring names x = event_fields (names_of ring) (names_after names x) (event_of names x)
 
 -- what is after a word: its form, and what it says
-pub record Behind : Type 1 where
+pub record Behind (B : Type 0) : Type 1 where
   pub A : Type 0
   pub form : Form (Unit {0}) Last A
-  pub say : A → SaidEvent
+  pub say : A → B
 
 abbrev Taken : Type 0
 Taken = Result SaidEvent Refusal × List (List ℕ)
@@ -265,7 +265,7 @@ found-at f P (t ∷ ts) word all = by (bytes_eq word t.0) refl (found-at f P ts 
     by false h later = later
 
 module _ (ring : RingValue) (names : List (List ℕ)) where
-  abbrev behind : Shape → Behind
+  abbrev behind : Shape → Behind SaidEvent
   behind (Number f) = record { A = ℕ; form = ends count_form; say = λ n. said.Plain (f n) }
   behind (Pair f) = record { A = ℕ × ℕ; form = ends pair_form; say = λ x. said.Plain (f x.0 x.1) }
   behind (Node f) = record { A = NodeId; form = ends (named_form ring); say = λ x. said.Plain (f x) }
