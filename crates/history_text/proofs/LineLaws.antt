@@ -1,12 +1,11 @@
 -- What an entry's line says can be the next entry, and its faults are the line's.
-use Rattle.std.proofs.Common.{◌≡◌, ℕ, ◌<◌, List, [], ◌∷◌, length, codes, Option, Some, None, Result, Ok, Err, IfOk, refl, sym, ap, subst, ◌∙◌}
-use Rattle.std.specs.Prelude.{IfErr, option_map}
+use Rattle.std.proofs.Common.{◌≡◌, ℕ, ◌<◌, List, [], ◌∷◌, length, codes, Option, Some, None, Result, Ok, Err, IfOk, refl, sym, ap, ◌∙◌}
+use Rattle.std.specs.Prelude.{option_map}
 use Rattle.std.specs.Str.{bytes_eq}
 use Rattle.ring_names.specs.declared.refusal.Refusal.{Refusal}
 use Rattle.ring_names.specs.declared.refusal.Refusal.TheVariants.{BadLine}
 use Rattle.texts.specs.Cuts.{front_of, behind_of}
 use Rattle.texts.specs.Judging.{Line, Does, both_of, end_at, map_ok, map_item}
-use Rattle.texts.specs.Late.{IsAt}
 use Rattle.texts.proofs.Items.{both-map_right}
 use Rattle.texts.proofs.Lates.{At, at-both, at-whole, Judges, judges-map}
 use Rattle.ring_table.specs.Value.{RingValue}
@@ -20,7 +19,7 @@ use Rattle.script_text.proofs.ScriptForm.{count_form, said_line}
 use Rattle.script_text.proofs.ScriptLates.{names-fit}
 use Rattle.texts.proofs.Lates.{either-at}
 use Rattle.history_text.specs.declared.said.SaidReply.{SaidReply}
-use Rattle.history_text.specs.Said.{SaidEntry, reply_of, said_of}
+use Rattle.history_text.specs.Said.{reply_of, said_of}
 use Rattle.history_text.proofs.ReplyLaws.{numbers_form, ticket_form}
 use Rattle.history_text.proofs.EntryLaws.{entry-law}
 use Rattle.history_text.specs.Reading.{numbers_at, ticket_at, reply_at, event_said, reply_said, reply_line, said_at}
@@ -105,9 +104,3 @@ unfolding said_at
 said-at ring history names k fields =
     at-both k (event_said ring history names k (front_of (codes "=") fields)) (reply_said k (behind_of (codes "=") fields))
     ((said_line ring (length history) names).at k (front_of (codes "=") fields)) (reply-at k (behind_of (codes "=") fields))
-
--- the line's fault is of its number
-pub fault-if : (ring : RingValue) (history : List Entry) (names : List (List ℕ)) (k : ℕ) (fields : List (List ℕ)) (r : Result (SaidEvent × SaidReply) Refusal)
-    → map_ok said_of r ≡ said_at ring history names k fields → IfErr r (λ e. IsAt k e)
-fault-if ring history names k fields (Ok x) e = tt
-fault-if ring history names k fields (Err d) e = subst (λ (s : Result SaidEntry Refusal). At k s) (sym e) (said-at ring history names k fields)
