@@ -158,7 +158,7 @@ writer_form names = of_item (λ k. field_at k (judge_writer names k)) (λ x. sai
 -- some of them
 abbrev gets_row : Form (Unit {0}) Last (List ℕ)
 gets_row = row (λ k xs. (eqb (length xs) 0, BadLine k) ∷ (not (ascending xs), BadLine k) ∷ (not (nat_le (length xs) 16), TooLarge k) ∷ (not (are_small xs), TooLarge k) ∷ []) (λ k m xs p. p)
-    (λ xs p. not-false (are_small xs) p.1.1.1.0) (λ k xs. (refl, (refl, (refl, (refl, tt)))))
+    (λ w xs p. not-false (are_small xs) p.1.1.1.0) (λ k xs. (refl, (refl, (refl, (refl, tt)))))
 
 filled : (xs : List ℕ) → eqb (length xs) 0 ≡ false → seen_fields xs ≡ codes "seen" ∷ map decimal xs
 filled [] e = absurd cc
