@@ -1,7 +1,17 @@
 -- What a yes says, and a status.
-use Rattle.std.proofs.Common.{◌≡◌, ◌≢◌, ◌≤◌, ℕ, arith, Bool, true, false, List, Result, Ok, Err, refl, sym, ◌∙◌, subst, if◌then◌else◌}
+use Rattle.std.proofs.Common.{◌≡◌, ◌≢◌, ◌≤◌, ℕ, arith, Bool, true, false, List, [], ◌∷◌, ◌++◌, codes, Some, None, Result, Ok, Err, refl, sym, ◌∙◌, subst, if◌then◌else◌}
 use Rattle.ring_names.specs.declared.refusal.Refusal.{Refusal}
+use Rattle.ring_names.specs.declared.refusal.Refusal.TheVariants.{OutOfMemory}
+use Rattle.texts.specs.Left.{whole_text}
+use Rattle.plan_check.specs.First.{first_refusal}
+use Rattle.plan_check.specs.Headline.{KeepsPromises}
+use Rattle.ring_script.specs.Bundles.{bundle_at}
+use Rattle.ring_script.specs.declared.bundle.Bundle.{Bundle}
+use Rattle.ring_script.specs.declared.bundle.Kind.TheVariants as kind
+use Rattle.ringplan_job.specs.declared.job.Job.TheVariants.{Check}
 use Rattle.ringplan_jobs.specs.Answers.{refused_status, status_of}
+use Rattle.ringplan_jobs.specs.Verdict.{MakesIf}
+use Rattle.ringplan_jobs.proofs.Verdicts.{verdict-good}
 use Rattle.ringplan_people.specs.Studies.{HasApproved, of_plan}
 use Rattle.ringplan_people.specs.Why.{AnswersCheck, HasKept}
 
@@ -9,6 +19,14 @@ not_zero : (a b : Bool) → ◌≡◌ {A = ℕ} (if a then 2 else (if b then 3 e
 not_zero true b e = omega arith
 not_zero false true e = omega arith
 not_zero false false e = omega arith
+
+-- what a check makes of texts that were read: yes where the checker accepts the plan, else its first refusal
+pub check_yes : (bytes : List ℕ) (b : Bundle) → whole_text (bundle_at kind.Check) bytes ≡ Ok b → first_refusal b.ring b.plan b.cert ≡ None → KeepsPromises b.ring b.plan
+    → MakesIf Check bytes (Ok (codes "yes" ++ 10 ∷ []))
+check_yes bytes b read none keeps = (rw (verdict-good bytes b read, none) refl, (b, read, keeps))
+
+pub check_no : (bytes : List ℕ) (b : Bundle) (e : Refusal) → whole_text (bundle_at kind.Check) bytes ≡ Ok b → (e ≢ OutOfMemory → first_refusal b.ring b.plan b.cert ≡ Some e) → MakesIf Check bytes (Err e)
+check_no bytes b e read is other = (rw (verdict-good bytes b read, is other) refl, tt)
 
 -- a status 0 of a check comes with promises that are kept
 pub yes_of_check : (bytes text : List ℕ) (status : ℕ) → AnswersCheck bytes text status → status ≡ 0 → HasKept bytes

@@ -1,5 +1,8 @@
 //! Why a history is no run of its plan.
 
+ghost use Rattle.std.specs.Prelude.{◌≢◌, OnOk};
+ghost use Rattle.ring_names.specs.declared.refusal.Refusal.TheVariants.{OutOfMemory};
+
 use crate::trail::Trail;
 use history_text::read_replay;
 use plan_bundles::front;
@@ -179,7 +182,9 @@ fn reply_of(world: &mut World, event: &Event) -> Result<Option<Reply>, Refusal> 
 }
 
 /// Nothing, but where memory is out.
-pub(crate) fn unless_memory(refusal: Refusal) -> Result<(), Refusal> {
+pub(crate) fn unless_memory(refusal: Refusal) -> Result<(), Refusal>
+    ensures { OnOk result (refusal ≢ OutOfMemory) }
+{
     if refusal == Refusal::OutOfMemory {
         return Err(refusal);
     }

@@ -1,13 +1,14 @@
 //! Why a bundle is refused.
 
-ghost use Rattle.std.specs.Prelude.{◌≡◌, ◌≢◌, ◌≤◌, Ok, IfOk, IfNone, IsTrue};
+ghost use Rattle.std.specs.Prelude.{◌≡◌, ◌≢◌, ◌≤◌, ◌++◌, ◌∷◌, [], Ok, Err, IfOk, IfNone, OnOk, codes};
+ghost use Rattle.ring_names.specs.declared.refusal.Refusal.TheVariants.{OutOfMemory};
 ghost use Rattle.texts.specs.Left.{whole_text};
-ghost use Rattle.ring_script.specs.Bundles.{bundle_at};
-ghost use Rattle.ring_script.specs.declared.bundle.Bundle.{Bundle as TheBundle};
+ghost use Rattle.ring_script.specs.Bundles.{IsOfRing, bundle_at};
 ghost use Rattle.ring_script.specs.declared.bundle.Kind.TheVariants as kind;
+ghost use Rattle.ringplan_jobs.specs.Answers.{texts_of};
 ghost use Rattle.ringplan_jobs.specs.Verdict.{TextsKeepPromises};
 ghost use Rattle.ringplan_people.specs.Studies.{HasApproved};
-ghost use Rattle.ringplan_people.specs.Why.{AnswersCheck, IsWhy};
+ghost use Rattle.ringplan_people.specs.Why.{AnswersCheck, BeginsWith, IsWhy};
 
 use crate::history_words::{tell_history, unless_memory};
 use crate::painting::painted;
@@ -15,11 +16,12 @@ use crate::study::{Study, studied};
 use change_text::{Wanted, read_wanted};
 use helpers::Words;
 use plan_bundles::{Kind, cert_bundle, front, kind_of};
+use plan_cert::Cert;
+use plan_check::{Turned, check};
 use ring_names::Refusal;
+use ring_script::Bundle;
 use ringplan_job::Color;
-use ringplan_jobs::{
-    Answer, Job, Kind as Sections, answer_of, check_bundle, make, plan_bundle, read_bundle,
-};
+use ringplan_jobs::{Answer, Kind as Sections, answer_of, check_bundle, plan_bundle, read_bundle};
 use show_refusal::{Read, Remedy, tell_plan};
 use show_why::{Page, Said, tell_text};
 use std::alloc::Global;
@@ -225,6 +227,17 @@ pub(crate) fn push_why(
     if !tell_text(alloc, said, bytes, refusal)? {
         tell_read(alloc, said, bytes, refusal)?;
     }
+    push_said(alloc, out, said, bytes, refusal)
+}
+
+// Adds what is said of a bundle that is refused so, and its mend. Returns what comes of the mend.
+fn push_said(
+    alloc: Global,
+    out: &mut Words,
+    said: &Said,
+    bytes: &[u8],
+    refusal: &Refusal,
+) -> Result<Outcome, Refusal> {
     said.push(out, Page { bytes });
     if said.has_mend() {
         return push_mend(alloc, out, bytes, said, refusal);
@@ -264,39 +277,79 @@ pub(crate) fn push_accepted(out: &mut Words, found: &Study) {
     }
 }
 
-// Adds what a yes says of the plan of a bundle.
-fn push_yes(alloc: Global, out: &mut Words, bytes: &[u8]) -> Result<(), Refusal> {
-    let found = studied(alloc, bytes)?;
-    push_accepted(out, &found);
-    Ok(())
-}
-
-// Whether the bytes are the texts of a ring, a plan and a certificate, and no more.
-fn is_plan(alloc: Global, bytes: &[u8]) -> Result<bool, Refusal>
-    ensures { IfOk result
-        (λ b. (x : TheBundle) → whole_text (bundle_at kind.Check) bytes.now ≡ Ok x → IsTrue b) }
+// The answer that tells what was found, with words after it.
+fn answer_with(
+    alloc: Global,
+    found: Result<Vec<u8>, Refusal>,
+    words: Words,
+    color: Color,
+) -> Result<Answer, Refusal>
+    ensures { IfOk result (λ a. BeginsWith (texts_of found) a.output.items a.status) }
 {
-    match read_bundle(alloc, Sections::Check, bytes) {
-        Ok(_) => Ok(true),
-        Err(Refusal::OutOfMemory) => Err(Refusal::OutOfMemory),
-        Err(_) => Ok(false),
-    }
-}
-
-// Why a ring, a plan and its certificate are accepted or refused.
-fn why_plan(alloc: Global, bytes: &[u8], color: Color) -> Result<Answer, Refusal>
-    ensures { IfOk result (λ a. AnswersCheck bytes.now a.output.items a.status) }
-{
-    let found = make(alloc, Job::Check, bytes);
-    let mut words = Words::new(alloc);
-    match &found {
-        Ok(_) => push_yes(alloc, &mut words, bytes)?,
-        Err(refusal) => push_words_of(alloc, &mut words, bytes, refusal)?,
-    }
     let words = painted(alloc, words.end()?, color)?;
     let mut answer = answer_of(alloc, found)?;
     answer.output.extend_from_slice(words.as_slice())?;
     Ok(answer)
+}
+
+// The answer to a plan that is accepted.
+fn answer_accepted(alloc: Global, found: &Study, color: Color) -> Result<Answer, Refusal>
+    ensures { IfOk result (λ a. BeginsWith (Ok (codes "yes" ++ 10 ∷ [])) a.output.items a.status) }
+{
+    let mut words = Words::new(alloc);
+    push_accepted(&mut words, found);
+    let yes = Vec::from_slice(alloc, b"yes\n")?;
+    answer_with(alloc, Ok(yes), words, color)
+}
+
+// The answer to a plan that the checker gave back, read of the bytes with this certificate.
+fn answer_turned(
+    alloc: Global,
+    bytes: &[u8],
+    turned: &Turned,
+    cert: &Cert,
+    color: Color,
+) -> Result<Answer, Refusal>
+    ensures { IfOk result (λ a. BeginsWith (Err turned.now.refusal) a.output.items a.status) }
+{
+    let refusal = &turned.refusal;
+    let mut said = Said::new(alloc);
+    let read = Read {
+        bytes,
+        ring: &turned.ring,
+        plan: &turned.plan,
+        cert,
+        remedy: remedy_of(alloc, bytes, refusal)?,
+    };
+    let _ = tell_plan(alloc, &mut said, read, refusal)?;
+    let mut words = Words::new(alloc);
+    let _ = push_said(alloc, &mut words, &said, bytes, refusal)?;
+    answer_with(alloc, Err(*refusal), words, color)
+}
+
+// Why a ring, a plan and its certificate, as they were read, are accepted or refused.
+fn why_read(alloc: Global, bytes: &[u8], bundle: Bundle, color: Color) -> Result<Answer, Refusal>
+    requires read { whole_text (bundle_at kind.Check) bytes.now ≡ Ok bundle }
+    requires parts { IsOfRing bundle }
+    ensures { IfOk result (λ a. AnswersCheck bytes.now a.output.items a.status) }
+{
+    let Bundle {
+        ring,
+        plan,
+        cert,
+        ..
+    } = bundle;
+    match check(alloc, ring, plan, &cert) {
+        Ok(approved) => {
+            let found = Study {
+                approved,
+                cert,
+                history: None,
+            };
+            answer_accepted(alloc, &found, color)
+        }
+        Err(turned) => answer_turned(alloc, bytes, &turned, &cert, color),
+    }
 }
 
 // Adds why a bundle with a change or a history is accepted or refused, and gives the refusal.
@@ -328,25 +381,41 @@ fn why_more(alloc: Global, bytes: &[u8], color: Color) -> Result<Answer, Refusal
         Some(refusal) => Err(refusal),
         None => Ok(Vec::from_slice(alloc, b"yes\n")?),
     };
-    let words = painted(alloc, words.end()?, color)?;
-    let mut answer = answer_of(alloc, found)?;
-    answer.output.extend_from_slice(words.as_slice())?;
-    Ok(answer)
+    answer_with(alloc, found, words, color)
+}
+
+// Why a bundle whose texts are not those of a ring, a plan and a certificate is accepted or refused.
+fn why_unread(
+    alloc: Global,
+    bytes: &[u8],
+    refusal: &Refusal,
+    color: Color,
+) -> Result<Answer, Refusal>
+    ensures yes { IfOk result (λ a. a.status ≡ 0 → HasApproved bytes.now) }
+    ensures few { IfOk result (λ a. a.status ≤ 3) }
+    ensures memory { OnOk result (refusal.now ≢ OutOfMemory) }
+{
+    unless_memory(*refusal)?;
+    match kind_of(bytes) {
+        Kind::Plan => {
+            let mut words = Words::new(alloc);
+            push_words_of(alloc, &mut words, bytes, refusal)?;
+            answer_with(alloc, Err(*refusal), words, color)
+        }
+        Kind::Change | Kind::History => why_more(alloc, bytes, color),
+    }
 }
 
 /// What the checker says of a bundle, and why: its line, and then words with the lines concerned and a mend, where there is one. Of a bundle with a change the
 /// planner's refusal or the yes to its plan, of one with a history also whether that is a run. The status is that of the line.
-/// The words may have colours; the line has none.
+/// The words may have colours; the line has none. The texts of a ring, a plan and a certificate are read and checked once.
 pub fn why_bundle(alloc: Global, bytes: &[u8], color: Color) -> Result<Answer, Refusal>
     // Status 0 comes only where the plan keeps its promises; of a ring, a plan and a certificate line and status are those of a check.
     ensures why { IfOk result (λ a. IsWhy bytes.now a.output.items a.status) }
     ensures few { IfOk result (λ a. a.status ≤ 3) }
 {
-    if is_plan(alloc, bytes)? {
-        return why_plan(alloc, bytes, color);
-    }
-    match kind_of(bytes) {
-        Kind::Plan => why_plan(alloc, bytes, color),
-        Kind::Change | Kind::History => why_more(alloc, bytes, color),
+    match read_bundle(alloc, Sections::Check, bytes) {
+        Ok(bundle) => why_read(alloc, bytes, bundle, color),
+        Err(refusal) => why_unread(alloc, bytes, &refusal, color),
     }
 }

@@ -1,30 +1,23 @@
-use Rattle.std.proofs.Common.{Bool, subst}
-use Rattle.std.specs.Prelude.{IsTrue}
+use Rattle.std.proofs.Common.{sym, ◌∙◌}
 use Rattle.std.proofs.lemmas.Result.{IfOk-weaker}
+use Rattle.ringplan_people.proofs.Kept.{both}
 use Rattle.ringplan_people.proofs.Whys.{few_of_check, yes_of_check, yes_of_study}
 use Rattle.ringplan_people.proofs.why.why_bundle.Goals as goal
 
-pub returns-then-branch : goal.returns-then-branch
-returns-then-branch c =
+pub returns-in-Ok : goal.returns-in-Ok
+returns-in-Ok c =
     record {
-      why = IfOk-weaker c.why_plan.result _ _ (λ a is. record { yes = yes_of_check _ _ _ is; check = λ b read. is }) c.why_plan.ensures;
-      few = IfOk-weaker c.why_plan.result _ _ (λ a is. few_of_check _ _ _ is) c.why_plan.ensures;
+      why = IfOk-weaker c.why_read.result _ _ (λ a is. record { yes = yes_of_check _ _ _ is; check = λ b read. is }) c.why_read.ensures;
+      few = IfOk-weaker c.why_read.result _ _ (λ a is. few_of_check _ _ _ is) c.why_read.ensures;
     }
 
-pub returns-in-Plan : goal.returns-in-Plan
-returns-in-Plan c =
+pub returns-in-Err : goal.returns-in-Err
+returns-in-Err c =
     record {
-      why = IfOk-weaker c.why_plan-in-Plan.result _ _ (λ a is. record { yes = yes_of_check _ _ _ is; check = λ b read. is }) c.why_plan-in-Plan.ensures;
-      few = IfOk-weaker c.why_plan-in-Plan.result _ _ (λ a is. few_of_check _ _ _ is) c.why_plan-in-Plan.ensures;
-    }
-
-pub returns-in-Change : goal.returns-in-Change
-returns-in-Change c =
-    record {
-      why = IfOk-weaker c.why_more.result _ _
+      why = IfOk-weaker c.why_unread.result _ _
           (λ a is. record {
-            yes = λ zero. yes_of_study _ (is zero);
-            check = λ b read. (let no = subst (λ (t : Bool). IsTrue t) c.if-branch.false (c.in_ok-is_plan.ensures b read) in absurd cc);
-          }) c.why_more.ensures.yes;
-      few = c.why_more.ensures.few;
+            yes = λ zero. yes_of_study _ (is.0 zero);
+            check = λ b read. (let no = sym read ∙ c.in-Err.ensures.read is.1 in absurd cc);
+          }) (both _ _ c.why_unread.result c.why_unread.ensures.yes c.why_unread.ensures.memory);
+      few = c.why_unread.ensures.few;
     }
