@@ -14,6 +14,9 @@ use ringplan_command::PartWish;
 use ringplan_jobs::status_of;
 use std::io::{Read, Write};
 
+// A ring has at most so many partitions, and a part at least one.
+const MOST_PARTS: u32 = 4096;
+
 // In how many times as many parts so many would be few enough: at least twice.
 fn times(many: u64, most: u64) -> u64 {
     (many.saturating_sub(1) / most.max(1))
@@ -28,8 +31,13 @@ fn say_large<RT: Eprint>(rt: &RT, choice: Choice, entries: u64, bytes: u64) {
     );
     let more = times(entries, MOST_ENTRIES).max(times(bytes, MAX_INPUT as u64));
     match choice {
+        Choice::Share { of, .. } if of >= MOST_PARTS => {
+            let _ = eprint!(rt; "no more parts are possible\n");
+        }
         Choice::Share { of, .. } => {
-            let of = u64::from(of).saturating_mul(more);
+            let of = u64::from(of)
+                .saturating_mul(more)
+                .min(u64::from(MOST_PARTS));
             let _ = eprint!(rt; "--of {of} may do\n");
         }
         Choice::Range { .. } => {
