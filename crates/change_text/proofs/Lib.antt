@@ -3,4 +3,3 @@ pub mod Different
 pub mod ChangeForm
 pub mod ChangeLaws
 pub mod ChangeLates
-pub mod Wanting

@@ -1,5 +1,4 @@
 pub mod ScriptsRead
-pub mod BundleRead
 mod Examples
 pub mod NoFloats
 pub mod Ascii

@@ -1,15 +1,13 @@
 -- Reading the scripts of a drive does not go back, where its faults lie, and what the scripts are.
 use Rattle.std.proofs.Common.{◌≡◌, ℕ, zero, suc, ◌+◌, ◌-◌, ◌<◌, ◌≤◌, Bool, true, false, cond, List, [], ◌∷◌, ◌++◌, length, Result, Ok, Err, refl, subst, arith}
 use Rattle.std.proofs.Common.{length-append}
-use Rattle.std.specs.Prelude.{◌≢◌, IsErrAnd}
+use Rattle.std.specs.Prelude.{◌≢◌}
 use Rattle.std.specs.List.{list_all, AllByRecursion}
 use Rattle.ring_names.specs.declared.refusal.Refusal.{Refusal}
-use Rattle.ring_names.specs.declared.refusal.Refusal.TheVariants.{OutOfMemory}
-use Rattle.texts.specs.Judging.{map_ok}
-use Rattle.texts.specs.Left.{Left, ◌>>=◌, Reads, lines_on, is_over}
+use Rattle.texts.specs.Left.{Left, ◌>>=◌, is_over}
 use Rattle.texts.specs.Late.{ReadsTo}
 use Rattle.texts.proofs.Items.{ok_is, bind_ok}
-use Rattle.texts.proofs.Lates.{Advances, advances-map, to-map, reads-less, next-after}
+use Rattle.texts.proofs.Lates.{Advances, advances-map, to-map, reads-less}
 use Rattle.ring_table.specs.Value.{RingValue}
 use Rattle.plan_runs.specs.declared.event.Event.{Event}
 use Rattle.script_text.specs.Client.{is_client_event}
@@ -155,8 +153,3 @@ module _ (ring : RingValue) where
   clients-of s t u x v e f =
       let whole : scripts_at ring s ≡ Ok (v, u) = rw e f in
       scripts-is s v u whole
-
--- a part's fault is the whole's
-pub handed-on : {A B : Type 0} (r : Result A Refusal) (e : Refusal) (f : A → B) (new : Left) (read : Result (B × Left) Refusal) → IsErrAnd r (λ x. x ≡ e) → (e ≢ OutOfMemory → read ≡ Err e) → Reads (map_ok f r) new read
-handed-on (Ok x) e f new read is h = absurd is
-handed-on (Err x) e f new read is h = rw is h

@@ -4,13 +4,10 @@ use Rattle.std.specs.List.{list_all, AllByRecursion}
 use Rattle.ring_names.specs.declared.refusal.Refusal.{Refusal}
 use Rattle.texts.specs.Left.{Left, ◌>>=◌, is_over, then_part, map_part}
 use Rattle.ring_table.specs.Value.{RingValue}
-use Rattle.ring_table.specs.Reading.{ring_at}
-use Rattle.plan_text.specs.declared.step.Planned.{Planned}
-use Rattle.plan_text.specs.Reading.{plan_at}
 use Rattle.plan_text.specs.Valid as plan
-use Rattle.plan_cert.specs.declared.cert.Cert.{Cert}
-use Rattle.plan_cert.specs.Reading.{cert_at}
 use Rattle.plan_cert.specs.Valid as cert
+use Rattle.bundle_text.specs.declared.front.Front.{Front}
+use Rattle.bundle_text.specs.Front.{front_at}
 use Rattle.plan_runs.specs.declared.event.Event.{Event}
 use Rattle.script_text.specs.Client.{is_client_event}
 use Rattle.script_text.specs.Reading.{client_at}
@@ -33,13 +30,13 @@ scripts_from (suc n) ring seen s = if is_over s then Ok (seen, s) else (next_at 
 unfoldable pub scripts_at : RingValue → Left → Result (Scripts × Left) Refusal
 scripts_at ring s = next_at ring ([], []) s >>= λ x. scripts_from 7 ring x.0 x.1
 
--- the parts as one
-abbrev pub bundle_of : RingValue × (List Planned × (Cert × Scripts)) → DriveBundle
-bundle_of x = record { ring = x.0; plan = x.1.0; cert = x.1.1.0; writers = x.1.1.1.1; scripts = x.1.1.1.0 }
+-- a front and scripts as one
+abbrev pub bundle_of : Front × Scripts → DriveBundle
+bundle_of x = record { ring = x.0.ring; plan = x.0.plan; cert = x.0.cert; writers = x.1.1; scripts = x.1.0 }
 
--- a ring, behind it a plan of that ring, behind that a certificate, and behind that the scripts
+-- a front, and after it the scripts
 unfoldable pub drive_at : Left → Result (DriveBundle × Left) Refusal
-drive_at = map_part bundle_of (then_part ring_at (λ ring. then_part (plan_at ring) (λ _. then_part (cert_at ring) (λ _. scripts_at ring))))
+drive_at = map_part bundle_of (then_part front_at (λ front. scripts_at front.ring))
 
 -- 1 to 8 scripts, each of events that a client can bring about
 abbrev pub AreOfClients : List (List Event) → Type 0

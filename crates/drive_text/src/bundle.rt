@@ -8,10 +8,11 @@ ghost use Rattle.texts.specs.Late.{Late, NoFaultBefore};
 ghost use Rattle.drive_text.specs.Drives.{drive_at, IsDrive};
 
 use crate::scripts::read_scripts;
-use plan_cert::{Cert, read_cert_section};
-use plan_text::{Plan, read_plan_section};
+use bundle_text::{Front, read_front_section};
+use plan_cert::Cert;
+use plan_text::Plan;
 use ring_names::{Listed, Names, Refusal};
-use ring_table::{Ring, read_ring_section};
+use ring_table::Ring;
 use script_text::Script;
 use std::alloc::Global;
 use texts::Lines;
@@ -26,18 +27,17 @@ pub struct DriveBundle {
     pub scripts: Listed<Script>,
 }
 
-// The parts of a bundle. A ring's fault comes before a plan's, that before a certificate's, and that before the scripts'.
+// Reads a bundle's front and its scripts. A fault of the front comes first.
 #[tactic(auto, unfolding(crate::specs::Drives::drive_at))]
 fn read_parts(alloc: Global, lines: &mut Lines) -> Result<DriveBundle, Refusal>
     ensures read { Reads result lines.new (drive_at lines.old) }
     ensures parts { IfOk result IsDrive }
     ensures late { Late 4 result lines.old lines.new (drive_at lines.old) }
 {
-    let ring = read_ring_section(alloc, lines)?;
-    let plan = read_plan_section(alloc, &ring, lines)?;
-    let cert = read_cert_section(alloc, &ring, lines)?;
+    let front = read_front_section(alloc, lines)?;
     let mut writers = Names::new(alloc);
-    let scripts = read_scripts(alloc, &ring, &mut writers, lines)?;
+    let scripts = read_scripts(alloc, &front.ring, &mut writers, lines)?;
+    let Front { ring, plan, cert } = front;
     Ok(DriveBundle {
         ring,
         plan,

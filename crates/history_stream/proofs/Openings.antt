@@ -11,7 +11,9 @@ use Rattle.history_stream.specs.declared.opening.Opened.{Opened}
 use Rattle.history_stream.specs.declared.opening.Tried.{Tried}
 use Rattle.history_stream.specs.declared.opening.Tried.TheVariants.{Found, More}
 use Rattle.history_stream.specs.Input.{IsHead, max_input}
-use Rattle.history_stream.specs.Front.{FrontValue, IsFront, front_at}
+use Rattle.bundle_text.specs.declared.front.Front.{Front}
+use Rattle.bundle_text.specs.Front.{front_at}
+use Rattle.history_stream.specs.Front.{IsFront}
 use Rattle.history_stream.specs.Cutting.{HasNone, IsNoFront, IsOpened, IsTried}
 
 consumes_none : (a : Option (List ℕ)) → Consumes a a []
@@ -44,6 +46,6 @@ none_last a b head (Ok o) h f = tt
 none_last a b head (Err e) h f = λ ne nr. (max_input, head, h, f ne, λ part. refl)
 
 pub opened_last : (a b : Option (List ℕ)) (most : ℕ) (head : Head) (r : Result Opened Refusal) → IsHead a b most head
-    → IfOk r (λ o. (o.head ≡ head) × (value : FrontValue) × (rest : List ℕ) × IsFront head.bytes.items o.front value rest) → IfOk r (λ o. IsOpened a b o)
+    → IfOk r (λ o. (o.head ≡ head) × (value : Front) × (rest : List ℕ) × IsFront head.bytes.items o.front value rest) → IfOk r (λ o. IsOpened a b o)
 opened_last a b most head (Ok o) h f = found_front a b most head (Found o) o refl f h
 opened_last a b most head (Err e) h f = tt

@@ -22,13 +22,15 @@ use Rattle.history_parts.proofs.Cutting.{chosen_same, part_same}
 use Rattle.history_stream.specs.declared.cutting.Part.{Part}
 use Rattle.history_stream.specs.declared.cutting.NoPart.{NoPart}
 use Rattle.history_stream.specs.declared.cutting.NoPart.TheVariants.{Refused, Large}
-use Rattle.history_stream.specs.declared.front.Front.{Front}
+use Rattle.history_stream.specs.declared.front.FrontText.{FrontText}
 use Rattle.history_stream.specs.declared.input.Head.{Head}
 use Rattle.history_stream.specs.declared.reader.Reader.{Reader}
 use Rattle.history_stream.specs.declared.reader.Stage.TheVariants.{First}
 use Rattle.history_stream.specs.declared.cutting.Unended.{Unended}
 use Rattle.history_stream.specs.Input.{Tells, IsHead, max_input}
-use Rattle.history_stream.specs.Front.{FrontValue, front_at, front_text, IsFront}
+use Rattle.bundle_text.specs.declared.front.Front.{Front}
+use Rattle.bundle_text.specs.Front.{front_at}
+use Rattle.history_stream.specs.Front.{front_text, IsFront}
 use Rattle.history_stream.specs.Reading.{entries_behind, long_reading, resume_at, writers_behind}
 use Rattle.history_stream.specs.Place.{Finds, IsPlaceOf}
 use Rattle.history_stream.specs.Room.{Holds}
@@ -67,7 +69,7 @@ starts ring marks front r valid ring_is writers cut held found = record {
 
 -- ---- after the front
 
-module _ (choice : Choice) (front : Front) (marks : List Bool) (same : (p : ℕ) → p < front.ring.q → is_marked marks p ≡ is_chosen choice p) (wanted : ℕ) (text : List ℕ) (old new : Reader)
+module _ (choice : Choice) (front : FrontText) (marks : List Bool) (same : (p : ℕ) → p < front.ring.q → is_marked marks p ≡ is_chosen choice p) (wanted : ℕ) (text : List ℕ) (old new : Reader)
     (start : IsReading front.ring marks (record { text = text; wanted = wanted }) [] old) (text_is : text ≡ front.text.items ++ codes "history 1\n") (stage : old.stage ≡ First) (line : old.line ≡ front.line) (bytes : List ℕ) where
   abbrev read : Result (List SaidEntry) Refusal
   read = resume_at front.ring First [] (record { line = front.line; lines = lines_of bytes })
@@ -119,19 +121,19 @@ more_long front bytes h = record {
   long = h.long;
 }
 
-module _ (head : List ℕ) (front : Front) (value : FrontValue) (rest more : List ℕ) (is : IsFront head front value rest) where
+module _ (head : List ℕ) (front : FrontText) (value : Front) (rest more : List ℕ) (is : IsFront head front value rest) where
   -- reading goes on after the front
   reads_on : long_reading head (head ++ more) ≡ (resume_at front.ring First [] (record { line = front.line; lines = lines_of (rest ++ more) }) >>= λ said. Ok (value, said))
   unfolding long_reading
   reads_on =
       let behind : drop (length (front_text value)) (head ++ more) ≡ rest ++ more =
       ap (λ (t : List ℕ). drop (length t) (head ++ more)) (sym is.text_is) ∙ ap (λ (t : List ℕ). drop (length front.text.items) t) (ap (λ (t : List ℕ). t ++ more) is.whole ∙ append_assoc front.text.items rest more) ∙ drop_front front.text.items (rest ++ more) in
-      ap (λ r. r >>= λ x. resume_at x.0.0 First [] (record { line = x.1.line; lines = lines_of (drop (length (front_text x.0)) (head ++ more)) }) >>= λ said. Ok (x.0, said)) is.read
+      ap (λ r. r >>= λ x. resume_at x.0.ring First [] (record { line = x.1.line; lines = lines_of (drop (length (front_text x.0)) (head ++ more)) }) >>= λ said. Ok (x.0, said)) is.read
       ∙ (λ i. resume_at (sym is.ring_is i) First [] (record { line = front.line; lines = lines_of (behind i) }) >>= λ said. Ok (value, said))
 
   pub all_ok : (choice : Choice) (wanted : ℕ) (part : Unended) → CutsRest choice wanted front (rest ++ more) (Ok part)
-      → (v : FrontValue) × (said : List SaidEntry) × (long_reading head (head ++ more) ≡ Ok (v, said)) × Holds part.text (begun_text choice v said) (length (chosen choice v said))
-      × IsPlaceOf v.0 (is_chosen choice) (entries_behind [] said) wanted part.place
+      → (v : Front) × (said : List SaidEntry) × (long_reading head (head ++ more) ≡ Ok (v, said)) × Holds part.text (begun_text choice v said) (length (chosen choice v said))
+      × IsPlaceOf v.ring (is_chosen choice) (entries_behind [] said) wanted part.place
   all_ok choice wanted part c =
       let ring_now : RingValue → Type 0 = λ r. Holds part.text (front.text.items ++ (codes "history 1\n" ++ flat_map (entry_line (names_of r) (writers_behind [] c.0)) (part_of r (is_chosen choice) (entries_behind [] c.0)))) (length (part_of r (is_chosen choice) (entries_behind [] c.0))) in
       let held = subst ring_now is.ring_is c.2 in
@@ -139,7 +141,7 @@ module _ (head : List ℕ) (front : Front) (value : FrontValue) (rest more : Lis
         value,
         c.0,
         reads_on ∙ ap (λ (r : Result (List SaidEntry) Refusal). r >>= λ said. Ok (value, said)) c.1,
-        subst (λ (t : List ℕ). Holds part.text (t ++ (codes "history 1\n" ++ flat_map (entry_line (names_of value.0) (writers_behind [] c.0)) (chosen choice value c.0))) (length (chosen choice value c.0))) is.text_is held,
+        subst (λ (t : List ℕ). Holds part.text (t ++ (codes "history 1\n" ++ flat_map (entry_line (names_of value.ring) (writers_behind [] c.0)) (chosen choice value c.0))) (length (chosen choice value c.0))) is.text_is held,
         place,
       )
 
@@ -151,12 +153,12 @@ module _ (head : List ℕ) (front : Front) (value : FrontValue) (rest more : Lis
   all_err choice wanted e c = by c
     where
       many : ((said : List SaidEntry) → rest_read ≡ Ok said → 4294967295 ≤ started front.ring (is_chosen choice) (entries_behind [] said))
-          → (v : FrontValue) (said : List SaidEntry) → long_reading head (head ++ more) ≡ Ok (v, said) → 4294967295 ≤ started v.0 (is_chosen choice) (entries_behind [] said)
+          → (v : Front) (said : List SaidEntry) → long_reading head (head ++ more) ≡ Ok (v, said) → 4294967295 ≤ started v.ring (is_chosen choice) (entries_behind [] said)
       many few v said h =
           let b = bind_ok rest_read (λ s. Ok (value, s)) (v, said) (sym reads_on ∙ h) in
           let both : (value, b.0) ≡ (v, said) = ok_is _ _ b.2 in
-          let ring : front.ring ≡ v.0 = is.ring_is ∙ ap (λ (p : FrontValue × List SaidEntry). p.0.0) both in
-          let same : b.0 ≡ said = ap (λ (p : FrontValue × List SaidEntry). p.1) both in
+          let ring : front.ring ≡ v.ring = is.ring_is ∙ ap (λ (p : Front × List SaidEntry). p.0.ring) both in
+          let same : b.0 ≡ said = ap (λ (p : Front × List SaidEntry). p.1) both in
           subst (λ (r : RingValue). 4294967295 ≤ started r (is_chosen choice) (entries_behind [] said)) ring
           (subst (λ (s : List SaidEntry). 4294967295 ≤ started front.ring (is_chosen choice) (entries_behind [] s)) same (few b.0 b.1))
 
@@ -168,9 +170,9 @@ module _ (head : List ℕ) (front : Front) (value : FrontValue) (rest more : Lis
 
 -- ---- the last line
 
-last_line : (choice : Choice) (v : FrontValue) (said : List SaidEntry) → begun_text choice v said ++ codes "end\n" ≡ part_text choice v said
+last_line : (choice : Choice) (v : Front) (said : List SaidEntry) → begun_text choice v said ++ codes "end\n" ≡ part_text choice v said
 last_line choice v said =
-    let body = flat_map (entry_line (names_of v.0) (writers_behind [] said)) (chosen choice v said) in
+    let body = flat_map (entry_line (names_of v.ring) (writers_behind [] said)) (chosen choice v said) in
     append_assoc (front_text v) (codes "history 1\n" ++ body) (codes "end\n") ∙ ap (λ (t : List ℕ). front_text v ++ t) (append_assoc (codes "history 1\n") body (codes "end\n"))
 
 pub cut_ok : (choice : Choice) (wanted : ℕ) (bytes : List ℕ) (part : Unended) (r : Result Part NoPart) → CutsAll choice wanted bytes (Ok part) → ((t : List ℕ) (n : ℕ) → Holds part.text t n → IsPartOf (t ++ codes "end\n") n r)
@@ -178,20 +180,17 @@ pub cut_ok : (choice : Choice) (wanted : ℕ) (bytes : List ℕ) (part : Unended
 cut_ok choice wanted bytes part r c made place = by r place (subst (λ (t : List ℕ). IsPartOf t (length (chosen choice c.2.0 c.2.1)) r) (last_line choice c.2.0 c.2.1) (made (begun_text choice c.2.0 c.2.1) (length (chosen choice c.2.0 c.2.1)) c.2.3))
   where
     by : (x : Result Part NoPart) → IfOk x (λ p. p.place ≡ part.place) → IsPartOf (part_text choice c.2.0 c.2.1) (length (chosen choice c.2.0 c.2.1)) x → IsCut choice wanted bytes x
-    by (Ok p) at h = (c.0, c.1, (c.2.0, c.2.1, c.2.2, h, subst (λ (o : Option ℕ). IsPlaceOf c.2.0.0 (is_chosen choice) (entries_behind [] c.2.1) wanted o) (sym at) c.2.4))
+    by (Ok p) at h = (c.0, c.1, (c.2.0, c.2.1, c.2.2, h, subst (λ (o : Option ℕ). IsPlaceOf c.2.0.ring (is_chosen choice) (entries_behind [] c.2.1) wanted o) (sym at) c.2.4))
     by (Err (Large n m)) at h = (c.0, c.1, (c.2.0, c.2.1, c.2.2, h))
     by (Err (Refused e)) at h = λ ne nr. absurd (ne h)
 
-pub cut_err : (choice : Choice) (wanted : ℕ) (bytes : List ℕ) (e : Refusal) → CutsAll choice wanted bytes (Err e) → IsCut choice wanted bytes (Err (Refused e))
-cut_err choice wanted bytes e c = c
-
 -- ---- as the code has them
 
-pub no_memory : (choice : Choice) (wanted : ℕ) (front : Front) (first : List ℕ) (a : Option (List ℕ)) (r : Result Unended Refusal) → IsErr r × IsErrAnd r (λ e. e ≡ OutOfMemory) → (more : List ℕ) × Tells a more × CutsRest choice wanted front (first ++ more) r
+pub no_memory : (choice : Choice) (wanted : ℕ) (front : FrontText) (first : List ℕ) (a : Option (List ℕ)) (r : Result Unended Refusal) → IsErr r × IsErrAnd r (λ e. e ≡ OutOfMemory) → (more : List ℕ) × Tells a more × CutsRest choice wanted front (first ++ more) r
 no_memory choice wanted front first a (Ok p) (bad, is) = absurd cc
 no_memory choice wanted front first a (Err e) (bad, is) = (let t = told_any a in (t.0, t.1, λ ne nr. absurd (ne is)))
 
-pub handed_rest : (choice : Choice) (wanted : ℕ) (front : Front) (bytes : List ℕ) (r : Result Unended Refusal) (e : Refusal) → IsErrAnd r (λ x. x ≡ e) → CutsRest choice wanted front bytes (Err e) → CutsRest choice wanted front bytes r
+pub handed_rest : (choice : Choice) (wanted : ℕ) (front : FrontText) (bytes : List ℕ) (r : Result Unended Refusal) (e : Refusal) → IsErrAnd r (λ x. x ≡ e) → CutsRest choice wanted front bytes (Err e) → CutsRest choice wanted front bytes r
 handed_rest choice wanted front bytes (Ok p) e is c = absurd is
 handed_rest choice wanted front bytes (Err x) e is c = subst (λ (z : Refusal). CutsRest choice wanted front bytes (Err z)) (sym is) c
 
@@ -210,7 +209,7 @@ tells_both (Some x) None front more p q = absurd p
 tells_both (Some x) (Some y) front more p q = p ∙ ap (λ (z : List ℕ). front ++ z) q
 
 -- the history after its front
-pub whole_input : (choice : Choice) (wanted : ℕ) (a b : Option (List ℕ)) (head : Head) (front : Front) (value : FrontValue) (rest first more : List ℕ) (r : Result Unended Refusal) (most : ℕ) → IsHead a b most head → IsFront head.bytes.items front value rest
+pub whole_input : (choice : Choice) (wanted : ℕ) (a b : Option (List ℕ)) (head : Head) (front : FrontText) (value : Front) (rest first more : List ℕ) (r : Result Unended Refusal) (most : ℕ) → IsHead a b most head → IsFront head.bytes.items front value rest
     → first ≡ rest → Tells b more → CutsRest choice wanted front (first ++ more) r → CutsInput choice wanted a r
 whole_input choice wanted a b head front value rest first more r most h is same t c =
     (head.bytes.items ++ more, tells_both a b head.bytes.items more h.bytes t, by r (subst (λ (z : List ℕ). CutsRest choice wanted front (z ++ more) r) same c))
@@ -253,5 +252,5 @@ module _ (choice : Choice) (wanted : ℕ) (a b : Option (List ℕ)) where
   no_front (Err x) e is f = subst (λ (z : Refusal). CutsInput choice wanted a (Err z)) (sym is) (by_kind e f)
 
 -- what is after the front of the first bytes
-pub behind_front : (head : List ℕ) (front : Front) (value : FrontValue) (rest : List ℕ) (n : ℕ) → IsFront head front value rest → n ≡ length front.text.items → drop n head ≡ rest
+pub behind_front : (head : List ℕ) (front : FrontText) (value : Front) (rest : List ℕ) (n : ℕ) → IsFront head front value rest → n ≡ length front.text.items → drop n head ≡ rest
 behind_front head front value rest n is n_is = (λ i. drop (n_is i) (is.whole i)) ∙ drop_front front.text.items rest

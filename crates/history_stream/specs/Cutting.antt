@@ -18,13 +18,15 @@ use Rattle.history_stream.specs.declared.cutting.NoPart.TheVariants.{Refused, La
 use Rattle.history_stream.specs.declared.input.Head.{Head}
 use Rattle.history_stream.specs.declared.reader.Reader.{Reader}
 use Rattle.history_stream.specs.Input.{IsHead, max_input}
-use Rattle.history_stream.specs.declared.front.Front.{Front}
+use Rattle.history_stream.specs.declared.front.FrontText.{FrontText}
 use Rattle.history_stream.specs.declared.reader.Stage.TheVariants.{First}
 use Rattle.history_stream.specs.declared.cutting.Unended.{Unended}
 use Rattle.history_stream.specs.declared.opening.Opened.{Opened}
 use Rattle.history_stream.specs.declared.opening.Tried.{Tried}
 use Rattle.history_stream.specs.declared.opening.Tried.TheVariants.{Found, More}
-use Rattle.history_stream.specs.Front.{FrontValue, IsFront, front_at, front_text}
+use Rattle.bundle_text.specs.declared.front.Front.{Front}
+use Rattle.bundle_text.specs.Front.{front_at}
+use Rattle.history_stream.specs.Front.{IsFront, front_text}
 use Rattle.history_stream.specs.Reading.{entries_behind, long_reading, resume_at, writers_behind}
 use Rattle.history_stream.specs.Place.{IsPlaceOf}
 use Rattle.history_stream.specs.Room.{Holds, most}
@@ -69,12 +71,12 @@ IsNoFront head e = ((head.is_whole ≡ true) × (front_at (record { line = 1; li
 
 -- a front was found in the first bytes, or these have none
 abbrev pub IsTried : Head → Tried → Type 0
-IsTried head (Found opened) = (opened.head ≡ head) × (value : FrontValue) × (rest : List ℕ) × IsFront head.bytes.items opened.front value rest
+IsTried head (Found opened) = (opened.head ≡ head) × (value : Front) × (rest : List ℕ) × IsFront head.bytes.items opened.front value rest
 IsTried head (More bytes) = bytes.items ≡ head.bytes.items
 
 -- the first bytes and their front
 abbrev pub IsOpened : Option (List ℕ) → Option (List ℕ) → Opened → Type 0
-IsOpened old new opened = (most : ℕ) × IsHead old new most opened.head × (value : FrontValue) × (rest : List ℕ) × IsFront opened.head.bytes.items opened.front value rest
+IsOpened old new opened = (most : ℕ) × IsHead old new most opened.head × (value : Front) × (rest : List ℕ) × IsFront opened.head.bytes.items opened.front value rest
 
 -- the first bytes have no front, and more of them may not be read
 abbrev pub HasNone : Option (List ℕ) → Option (List ℕ) → Refusal → Type 0
@@ -90,7 +92,7 @@ IsPartOf text n (Err (Refused e)) = e ≡ OutOfMemory
 pub record IsStart (head bytes : List ℕ) : Type 0 where
   pub rest : List ℕ
   pub whole : bytes ≡ head ++ rest
-  pub front : (rest ≡ []) ⊎ ((x : FrontValue × Left) × (front_at (record { line = 1; lines = lines_of head }) ≡ Ok x))
+  pub front : (rest ≡ []) ⊎ ((x : Front × Left) × (front_at (record { line = 1; lines = lines_of head }) ≡ Ok x))
 
 -- as many first bytes as may be hold no front
 pub record HasNoFront (bytes : List ℕ) : Type 0 where
@@ -102,29 +104,29 @@ pub record HasNoFront (bytes : List ℕ) : Type 0 where
   pub is : front_at (record { line = 1; lines = lines_of head }) ≡ Err fault
 
 -- the entries of the part
-abbrev pub chosen : Choice → FrontValue → List SaidEntry → List Entry
-chosen choice front said = part_of front.0 (is_chosen choice) (entries_behind [] said)
+abbrev pub chosen : Choice → Front → List SaidEntry → List Entry
+chosen choice front said = part_of front.ring (is_chosen choice) (entries_behind [] said)
 
 -- the bundle of the part, with the writers of the whole
-abbrev pub part_text : Choice → FrontValue → List SaidEntry → List ℕ
-part_text choice front said = front_text front ++ history_text front.0 (writers_behind [] said) (chosen choice front said)
+abbrev pub part_text : Choice → Front → List SaidEntry → List ℕ
+part_text choice front said = front_text front ++ history_text front.ring (writers_behind [] said) (chosen choice front said)
 
 -- more than can be read: a line, or puts and gets
 abbrev pub IsTooMuch : Choice → List ℕ → List ℕ → Type 0
 IsTooMuch choice head bytes = HasLong bytes
-    ⊎ ((front : FrontValue) (said : List SaidEntry) → long_reading head bytes ≡ Ok (front, said) → 4294967295 ≤ started front.0 (is_chosen choice) (entries_behind [] said))
+    ⊎ ((front : Front) (said : List SaidEntry) → long_reading head bytes ≡ Ok (front, said) → 4294967295 ≤ started front.ring (is_chosen choice) (entries_behind [] said))
 
 -- the part of a history after its front, up to its last line
-abbrev pub begun_text : Choice → FrontValue → List SaidEntry → List ℕ
+abbrev pub begun_text : Choice → Front → List SaidEntry → List ℕ
 begun_text choice front said = front_text front
-    ++ (codes "history 1\n" ++ flat_map (entry_line (names_of front.0) (writers_behind [] said)) (chosen choice front said))
+    ++ (codes "history 1\n" ++ flat_map (entry_line (names_of front.ring) (writers_behind [] said)) (chosen choice front said))
 
 -- the bytes are a bundle, and the bundle of its part is returned or is more than a replay takes; or they are none, and this is the first fault
 abbrev pub IsCutOf : Choice → ℕ → List ℕ → List ℕ → Result Part NoPart → Type 0
-IsCutOf choice wanted head bytes (Ok part) = (front : FrontValue) × (said : List SaidEntry) × (long_reading head bytes ≡ Ok (front, said))
+IsCutOf choice wanted head bytes (Ok part) = (front : Front) × (said : List SaidEntry) × (long_reading head bytes ≡ Ok (front, said))
     × IsPartOf (part_text choice front said) (length (chosen choice front said)) (Ok part)
-    × IsPlaceOf front.0 (is_chosen choice) (entries_behind [] said) wanted part.place
-IsCutOf choice wanted head bytes (Err (Large entries size)) = (front : FrontValue) × (said : List SaidEntry) × (long_reading head bytes ≡ Ok (front, said))
+    × IsPlaceOf front.ring (is_chosen choice) (entries_behind [] said) wanted part.place
+IsCutOf choice wanted head bytes (Err (Large entries size)) = (front : Front) × (said : List SaidEntry) × (long_reading head bytes ≡ Ok (front, said))
     × IsPartOf (part_text choice front said) (length (chosen choice front said)) (Err (Large entries size))
 IsCutOf choice wanted head bytes (Err (Refused e)) = (long_reading head bytes ≡ Err e) ⊎ ((k : ℕ) × (e ≡ TooLarge k) × IsTooMuch choice head bytes)
 
@@ -136,7 +138,7 @@ IsCut choice wanted bytes (Err (Refused e)) = e ≢ OutOfMemory → e ≢ ReadFa
     → ((head : List ℕ) × IsStart head bytes × IsCutOf choice wanted head bytes (Err (Refused e))) ⊎ ((e ≡ TooLarge 0) × HasNoFront bytes)
 
 -- the part so far of a history that was read after its front, or why there is none
-abbrev pub CutsRest : Choice → ℕ → Front → List ℕ → Result Unended Refusal → Type 0
+abbrev pub CutsRest : Choice → ℕ → FrontText → List ℕ → Result Unended Refusal → Type 0
 CutsRest choice wanted front bytes (Ok part) = (said : List SaidEntry) × (resume_at front.ring First [] (record { line = front.line; lines = lines_of bytes }) ≡ Ok said)
     × Holds part.text (front.text.items ++ (codes "history 1\n" ++ flat_map (entry_line (names_of front.ring) (writers_behind [] said)) (part_of front.ring (is_chosen choice) (entries_behind [] said))))
     (length (part_of front.ring (is_chosen choice) (entries_behind [] said)))
@@ -147,8 +149,8 @@ CutsRest choice wanted front bytes (Err e) = e ≢ OutOfMemory → e ≢ ReadFai
 
 -- the same of a bundle
 abbrev pub CutsAll : Choice → ℕ → List ℕ → Result Unended Refusal → Type 0
-CutsAll choice wanted bytes (Ok part) = (head : List ℕ) × IsStart head bytes × ((front : FrontValue) × (said : List SaidEntry) × (long_reading head bytes ≡ Ok (front, said))
+CutsAll choice wanted bytes (Ok part) = (head : List ℕ) × IsStart head bytes × ((front : Front) × (said : List SaidEntry) × (long_reading head bytes ≡ Ok (front, said))
     × Holds part.text (begun_text choice front said) (length (chosen choice front said))
-    × IsPlaceOf front.0 (is_chosen choice) (entries_behind [] said) wanted part.place)
+    × IsPlaceOf front.ring (is_chosen choice) (entries_behind [] said) wanted part.place)
 CutsAll choice wanted bytes (Err e) = e ≢ OutOfMemory → e ≢ ReadFailed
     → ((head : List ℕ) × IsStart head bytes × IsCutOf choice wanted head bytes (Err (Refused e))) ⊎ ((e ≡ TooLarge 0) × HasNoFront bytes)

@@ -1,17 +1,10 @@
 -- What reading an input does to the bytes that are told.
-use Rattle.std.specs.Prelude.{◌≡◌, ◌⊎◌, ℕ, ◌≤◌, true, false, List, length, take, Option, IfSome}
+use Rattle.std.specs.Prelude.{◌≡◌, ◌⊎◌, ℕ, ◌≤◌, true, false, List, length, take, Option}
 use Rattle.std.specs.Io.KnownBytes.{Consumes, IsAtEnd}
 use Rattle.ring_names.specs.declared.refusal.Refusal.{Refusal}
 use Rattle.ring_names.specs.declared.refusal.Refusal.TheVariants.{OutOfMemory, ReadFailed}
+pub use Rattle.bundle_text.specs.Input.{max_input, Tells}
 use Rattle.history_stream.specs.declared.input.Head.{Head}
-
--- the most bytes of the front of a bundle, of a line of its history and of a part
-abbrev pub max_input : ℕ
-max_input = 67108864
-
--- the bytes that are told, if any are, are bs
-abbrev pub Tells : Option (List ℕ) → List ℕ → Type 0
-Tells told bs = IfSome told (λ xs. xs ≡ bs)
 
 -- memory or reading failed
 abbrev pub IsOutside : Refusal → Type 0

@@ -11,7 +11,9 @@ use Rattle.history_text.specs.Said.{SaidEntry, entry_of}
 use Rattle.history_text.specs.Reading.{said_at}
 use Rattle.history_stream.specs.declared.reader.Stage.{Stage}
 use Rattle.history_stream.specs.declared.reader.Stage.TheVariants.{First, Entries, Over}
-use Rattle.history_stream.specs.Front.{FrontValue, front_at, front_text}
+use Rattle.bundle_text.specs.declared.front.Front.{Front}
+use Rattle.bundle_text.specs.Front.{front_at}
+use Rattle.history_stream.specs.Front.{front_text}
 
 -- the writers known after what lines say
 abbrev pub writers_behind : List (List ℕ) → List SaidEntry → List (List ℕ)
@@ -42,7 +44,7 @@ resume_at ring Entries seen s = rest_at ring seen s
 resume_at ring Over seen s = over_at s >>= λ _. Ok seen
 
 -- a front, read from the first bytes of a text, and a history to the end of the text
-unfoldable pub long_reading : List ℕ → List ℕ → Result (FrontValue × List SaidEntry) Refusal
+unfoldable pub long_reading : List ℕ → List ℕ → Result (Front × List SaidEntry) Refusal
 long_reading head bytes = front_at (record { line = 1; lines = lines_of head })
-    >>= λ x. resume_at x.0.0 First [] (record { line = x.1.line; lines = lines_of (drop (length (front_text x.0)) bytes) })
+    >>= λ x. resume_at x.0.ring First [] (record { line = x.1.line; lines = lines_of (drop (length (front_text x.0)) bytes) })
     >>= λ said. Ok (x.0, said)

@@ -10,12 +10,13 @@ ghost use Rattle.history_stream.specs.State.{Counted, IsRun};
 ghost use Rattle.history_stream.specs.Cutting.{refusal_of, TakesSome, StopsSome, ReadsAll, CutsRest, CutsAll};
 ghost use Rattle.history_stream.specs.Cutting.{IsPartOf, IsCut};
 
-use crate::front::Front;
-use crate::input::{CHUNK, MAX_INPUT, read_some};
+use crate::front::FrontText;
+use crate::input::{CHUNK, read_some};
 use crate::opening::{Opened, open};
 use crate::place::Place;
 use crate::reader::{Reader, Stage};
 use crate::room::PartText;
+use bundle_text::MAX_INPUT;
 use history_parts::{Choice, Cut};
 use memchr::memchr;
 use ring_names::{Names, Refusal};
@@ -126,7 +127,7 @@ fn cut_history<R: Read + Drop>(
     alloc: Global,
     choice: Choice,
     wanted: u32,
-    front: Front,
+    front: FrontText,
     first: Vec<u8>,
     input: &mut R,
 ) -> Result<Unended, Refusal>
@@ -134,7 +135,7 @@ fn cut_history<R: Read + Drop>(
     requires valid { IsRing front.ring }
     ensures { (more : List ℕ) × Tells (R.remaining input.old) more × CutsRest choice wanted front (first.items ++ more) result }
 {
-    let Front { ring, text, line } = front;
+    let FrontText { ring, text, line } = front;
     let marks = choice.marks(alloc, ring.q())?;
     let mut part = PartText::of(text);
     part.push_text(b"history 1\n")?;

@@ -9,9 +9,6 @@ use ring_names::Refusal;
 use std::alloc::Global;
 use std::io::{ErrorKind, Read};
 
-/// The most bytes that the front of a bundle, a line of its history and a part may have: 64 MiB.
-pub const MAX_INPUT: usize = 67_108_864;
-
 /// The most entries that a part may have, as many as are judged at once.
 pub const MOST_ENTRIES: u64 = 1_000_000;
 

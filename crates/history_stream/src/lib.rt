@@ -10,4 +10,4 @@ mod reader;
 mod room;
 
 pub use cutting::{NoPart, Part, cut_stream};
-pub use input::{MAX_INPUT, MOST_ENTRIES};
+pub use input::MOST_ENTRIES;

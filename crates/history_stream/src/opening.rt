@@ -3,11 +3,14 @@
 ghost use Rattle.std.specs.Prelude.{◌≡◌, ◌≢◌, true, ℕ, List, IfOk, IfErr, Err};
 ghost use Rattle.ring_names.specs.declared.refusal.Refusal.TheVariants.{OutOfMemory, ReadFailed};
 ghost use Rattle.texts.specs.Parts.{lines_of};
-ghost use Rattle.history_stream.specs.Front.{FrontValue, IsFront, front_at};
+ghost use Rattle.bundle_text.specs.declared.front.Front.{Front};
+ghost use Rattle.bundle_text.specs.Front.{front_at};
+ghost use Rattle.history_stream.specs.Front.{IsFront};
 ghost use Rattle.history_stream.specs.Cutting.{HasNone, IsNoFront, IsOpened, IsTried};
 
-use crate::front::{Front, read_front};
-use crate::input::{Head, MAX_INPUT, read_head};
+use crate::front::{FrontText, read_front};
+use crate::input::{Head, read_head};
+use bundle_text::MAX_INPUT;
 use ring_names::Refusal;
 use std::alloc::Global;
 use std::io::Read;
@@ -21,7 +24,7 @@ const MIDDLE: usize = 16_777_216;
 #[derive(Drop)]
 pub struct Opened {
     pub head: Head,
-    pub front: Front,
+    pub front: FrontText,
 }
 
 // What there is of a front in some first bytes.
@@ -52,7 +55,7 @@ fn try_front(alloc: Global, head: Head) -> Result<Tried, Refusal>
 
 // Looks for a front in as many first bytes as it may have.
 fn last_front(alloc: Global, head: Head) -> Result<Opened, Refusal>
-    ensures ok { IfOk result (λ opened. (opened.head ≡ head) × (value : FrontValue) × (rest : List ℕ) × IsFront head.bytes.items opened.front value rest) }
+    ensures ok { IfOk result (λ opened. (opened.head ≡ head) × (value : Front) × (rest : List ℕ) × IsFront head.bytes.items opened.front value rest) }
     ensures err { IfErr result (λ e. e ≢ OutOfMemory → IsNoFront head e) }
 {
     match read_front(alloc, head.bytes.as_slice()) {

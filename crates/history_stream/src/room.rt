@@ -6,7 +6,8 @@ ghost use Rattle.history_text.specs.Spelling.{entry_line};
 ghost use Rattle.history_stream.specs.Input.{max_input};
 ghost use Rattle.history_stream.specs.Room.{Holds, most};
 
-use crate::input::{MAX_INPUT, MOST_ENTRIES};
+use crate::input::MOST_ENTRIES;
+use bundle_text::MAX_INPUT;
 use history_text::push_entry;
 use plan_runs::Entry;
 use ring_names::Names;

@@ -4,4 +4,3 @@ pub mod HistoryLates
 pub mod ReplyLaws
 pub mod EntryLaws
 pub mod HistoryLaws
-pub mod BundleRead

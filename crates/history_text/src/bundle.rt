@@ -8,11 +8,12 @@ ghost use Rattle.texts.specs.Late.{Late, NoFaultBefore};
 ghost use Rattle.history_text.specs.Replays.{parts_of, replay_at, IsReplay};
 
 use crate::reading::read_history_section;
-use plan_cert::{Cert, read_cert_section};
+use bundle_text::{Front, read_front_section};
+use plan_cert::Cert;
 use plan_runs::Entry;
-use plan_text::{Plan, read_plan_section};
+use plan_text::Plan;
 use ring_names::{Names, Refusal};
-use ring_table::{Ring, read_ring_section};
+use ring_table::Ring;
 use std::alloc::Global;
 use texts::Lines;
 
@@ -26,18 +27,17 @@ pub struct ReplayBundle {
     pub history: Vec<Entry>,
 }
 
-// The parts of a bundle. A ring's fault comes before a plan's, that before a certificate's, and that before the history's.
+// Reads a bundle's front and its history. A fault of the front comes first.
 #[tactic(auto, unfolding(crate::specs::Replays::replay_at))]
 fn read_parts(alloc: Global, lines: &mut Lines) -> Result<ReplayBundle, Refusal>
     ensures read { Reads (map_ok parts_of result) lines.new (replay_at lines.old) }
     ensures parts { IfOk result IsReplay }
     ensures late { Late 4 result lines.old lines.new (replay_at lines.old) }
 {
-    let ring = read_ring_section(alloc, lines)?;
-    let plan = read_plan_section(alloc, &ring, lines)?;
-    let cert = read_cert_section(alloc, &ring, lines)?;
+    let front = read_front_section(alloc, lines)?;
     let mut writers = Names::new(alloc);
-    let history = read_history_section(alloc, &ring, &mut writers, lines)?;
+    let history = read_history_section(alloc, &front.ring, &mut writers, lines)?;
+    let Front { ring, plan, cert } = front;
     Ok(ReplayBundle {
         ring,
         plan,

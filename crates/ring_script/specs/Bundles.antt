@@ -3,13 +3,10 @@ use Rattle.std.specs.Prelude.{ℕ, List, [], Result, Ok}
 use Rattle.ring_names.specs.declared.refusal.Refusal.{Refusal}
 use Rattle.texts.specs.Left.{Left, then_part, map_part}
 use Rattle.ring_table.specs.Value.{RingValue}
-use Rattle.ring_table.specs.Reading.{ring_at}
-use Rattle.plan_text.specs.declared.step.Planned.{Planned}
-use Rattle.plan_text.specs.Reading.{plan_at}
 use Rattle.plan_text.specs.Valid as plan
-use Rattle.plan_cert.specs.declared.cert.Cert.{Cert}
-use Rattle.plan_cert.specs.Reading.{cert_at}
 use Rattle.plan_cert.specs.Valid as cert
+use Rattle.bundle_text.specs.declared.front.Front.{Front}
+use Rattle.bundle_text.specs.Front.{front_at}
 use Rattle.plan_runs.specs.declared.event.Event.{Event}
 use Rattle.script_text.specs.Reading.{script_at}
 use Rattle.ring_script.specs.declared.bundle.Bundle.{Bundle}
@@ -25,13 +22,13 @@ abbrev pub events_of : Kind → RingValue → Left → Result (Events × Left) R
 events_of Check ring s = Ok (([], []), s)
 events_of Play ring s = script_at ring [] s
 
--- the parts as one
-abbrev pub bundle_of : RingValue × (List Planned × (Cert × Events)) → Bundle
-bundle_of x = record { ring = x.0; plan = x.1.0; cert = x.1.1.0; writers = x.1.1.1.1; script = x.1.1.1.0 }
+-- a front and events as one
+abbrev pub bundle_of : Front × Events → Bundle
+bundle_of x = record { ring = x.0.ring; plan = x.0.plan; cert = x.0.cert; writers = x.1.1; script = x.1.0 }
 
--- a ring, behind it a plan of that ring, behind that a certificate, and behind that what the kind has
+-- a front, and after it what the kind has
 unfoldable pub bundle_at : Kind → Left → Result (Bundle × Left) Refusal
-bundle_at kind = map_part bundle_of (then_part ring_at (λ ring. then_part (plan_at ring) (λ _. then_part (cert_at ring) (λ _. events_of kind ring))))
+bundle_at kind = map_part bundle_of (then_part front_at (λ front. events_of kind front.ring))
 
 -- the plan and the certificate are of the ring
 abbrev pub IsOfRing : Bundle → Type 0

@@ -7,10 +7,11 @@ ghost use Rattle.texts.specs.Left.{Reads, whole_text};
 ghost use Rattle.texts.specs.Late.{Late, NoFaultBefore};
 ghost use Rattle.ring_script.specs.Bundles.{IsOfRing, bundle_at, events_of};
 
-use plan_cert::{Cert, read_cert_section};
-use plan_text::{Plan, read_plan_section};
+use bundle_text::{Front, read_front_section};
+use plan_cert::Cert;
+use plan_text::Plan;
 use ring_names::{Names, Refusal};
-use ring_table::{Ring, read_ring_section};
+use ring_table::Ring;
 use script_text::{Script, read_script_section};
 use std::alloc::Global;
 use texts::Lines;
@@ -53,18 +54,17 @@ fn read_events(
     }
 }
 
-// The parts of a bundle. A ring's fault comes before a plan's, that before a certificate's, and that before a script's.
+// Reads a bundle's front and its script. A fault of the front comes first.
 #[tactic(auto, unfolding(crate::specs::Bundles::bundle_at))]
 fn read_parts(alloc: Global, kind: Kind, lines: &mut Lines) -> Result<Bundle, Refusal>
     ensures read { Reads result lines.new (bundle_at kind lines.old) }
     ensures parts { IfOk result IsOfRing }
     ensures late { Late 4 result lines.old lines.new (bundle_at kind lines.old) }
 {
-    let ring = read_ring_section(alloc, lines)?;
-    let plan = read_plan_section(alloc, &ring, lines)?;
-    let cert = read_cert_section(alloc, &ring, lines)?;
+    let front = read_front_section(alloc, lines)?;
     let mut writers = Names::new(alloc);
-    let script = read_events(alloc, kind, &ring, &mut writers, lines)?;
+    let script = read_events(alloc, kind, &front.ring, &mut writers, lines)?;
+    let Front { ring, plan, cert } = front;
     Ok(Bundle {
         ring,
         plan,

@@ -2,8 +2,8 @@
 use Rattle.std.proofs.Common.{ℕ, List}
 use Rattle.texts.proofs.Forms.{At, Advances}
 use Rattle.ring_table.specs.declared.node.Node.{Node}
-use Rattle.ring_table.specs.Reading.{format_at, space_at, quorum_at, loss_at, second_at, allowance_at, node_at, nodes_at}
-use Rattle.ring_table.proofs.RingForm.{format_line, space_line, quorum_line, node_line, nodes_form}
+use Rattle.ring_table.specs.Reading.{format_at, space_at, quorum_at, loss_at, second_at, allowance_at, node_at, nodes_at, head_at, body_at, ring_at}
+use Rattle.ring_table.proofs.RingForm.{format_line, space_line, quorum_line, node_line, nodes_form, ring_form}
 pub use Rattle.ring_table.proofs.NodesLaws.{judges-declared}
 pub use Rattle.ring_table.proofs.RingForm.{rows-on}
 
@@ -30,3 +30,7 @@ node-at format seen = (node_line {W = Unit {0}} format seen).at
 pub nodes-on : (format : ℕ) → Advances (nodes_at format)
 unfolding nodes_at node_at allowance_at second_at
 nodes-on format = (nodes_form {W = Unit {0}} format).advances
+
+pub ring-on : Advances ring_at
+unfolding ring_at head_at body_at format_at space_at quorum_at loss_at nodes_at node_at allowance_at second_at
+ring-on = ring_form.advances

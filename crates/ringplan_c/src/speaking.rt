@@ -8,15 +8,11 @@ use crate::calls::{FAILED, NO_MEMORY};
 use crate::line::{names_sizes, write_line};
 use crate::room::fill;
 use ring_names::Refusal;
-use ringplan_command::{CommandLine, Files, Request, Word, parse};
+use ringplan_command::{CommandLine, Files, NO_WORDS, Request, Word, parse};
 use ringplan_job::Making;
 use ringplan_jobs::MAX_INPUT;
 use ringplan_people::{Report, report_bundle, report_unread};
 use std::alloc::{AllocError, Global};
-
-// What is said of options that are no text, as by the program.
-const NO_WORDS: &[u8; 123] =
-    b"error: invalid UTF-8 was detected in one or more arguments\n\nUsage: ringplan <COMMAND>\n\nFor more information, try '--help'.\n";
 
 // What is said of options that name a file.
 const NO_FILES: &[u8; 77] =

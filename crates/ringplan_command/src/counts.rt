@@ -8,7 +8,7 @@ ghost use Rattle.ringplan_command.specs.Numbers.{MeansCount};
 use clap::ArgMatches;
 
 /// The most parts of a history that there may be.
-pub(crate) const MOST_PARTS: u32 = 4_096;
+pub const MOST_PARTS: u32 = 4_096;
 
 /// The most workers that there may be.
 pub(crate) const MOST_WORKERS: u32 = 64;

@@ -179,6 +179,10 @@ pub(crate) const NO_EVEN: &[u8; 78] =
 pub(crate) const NO_RATE: &[u8; 80] =
     b"error: '--rate <N>' wants '--sizes <FILE>'\n\nFor more information, try '--help'.\n";
 
+/// What is said of words or options that are no text.
+pub const NO_WORDS: &[u8; 123] =
+    b"error: invalid UTF-8 was detected in one or more arguments\n\nUsage: ringplan <COMMAND>\n\nFor more information, try '--help'.\n";
+
 pub(crate) const NO_SHELL: &[u8; 95] =
     b"error: invalid value for '<SHELL>': not bash, zsh or fish\n\nFor more information, try '--help'.\n";
 

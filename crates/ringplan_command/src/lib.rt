@@ -16,8 +16,9 @@ mod tree;
 mod word;
 
 pub use command::{CommandLine, Request, parse};
-pub use counts::Shares;
+pub use counts::{MOST_PARTS, Shares};
 pub use files::Files;
 pub use form::Form;
+pub use help::NO_WORDS;
 pub use parts::PartWish;
 pub use word::{Guide, Word};

@@ -4,8 +4,8 @@ use clap::ArgMatches;
 use ringplan_job::Options;
 use std::alloc::{AllocError, Global};
 
-// The most parts that a node may have.
-const MOST_PARTS: u32 = 1_000;
+// The most weight that a node may have.
+const MOST_WEIGHT: u32 = 1_000;
 
 // What stands in front of the last `=`, and what behind it.
 fn split(text: &[u8]) -> Option<(&[u8], &[u8])> {
@@ -73,7 +73,7 @@ fn add_weight(options: &mut Options, alloc: Global, text: &[u8]) -> Result<bool,
     let Some((name, digits)) = split(text) else {
         return Ok(false);
     };
-    let Some(number) = number_to(digits, MOST_PARTS) else {
+    let Some(number) = number_to(digits, MOST_WEIGHT) else {
         return Ok(false);
     };
     options.weighed.push(Vec::from_slice(alloc, name)?)?;

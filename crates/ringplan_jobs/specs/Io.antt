@@ -1,17 +1,10 @@
 -- What reading a whole input and writing a whole output do to the bytes that are told.
-use Rattle.std.specs.Prelude.{◌≡◌, ◌⊎◌, ℕ, ◌≤◌, ◌<◌, List, ◌++◌, length, Option, IfSome, Result, Ok, Err, ⊤}
+use Rattle.std.specs.Prelude.{◌≡◌, ◌⊎◌, ℕ, ◌≤◌, ◌<◌, List, ◌++◌, length, Option, Result, Ok, Err, ⊤}
 use Rattle.std.specs.Global.{Vec}
 use Rattle.std.specs.Io.KnownBytes.{Appends}
 use Rattle.ring_names.specs.declared.refusal.Refusal.{Refusal}
 use Rattle.ring_names.specs.declared.refusal.Refusal.TheVariants.{TooLarge, OutOfMemory, ReadFailed}
-
--- the most bytes that an input may have
-abbrev pub max_input : ℕ
-max_input = 67108864
-
--- the bytes that are told, if any are, are bs
-abbrev pub Tells : Option (List ℕ) → List ℕ → Type 0
-Tells told bs = IfSome told (λ xs. xs ≡ bs)
+pub use Rattle.bundle_text.specs.Input.{max_input, Tells}
 
 -- what reading an input of bs gives: its bytes, or the refusal of too many, or a fault of reading or of memory
 abbrev pub Reads : List ℕ → Result (Vec ℕ) Refusal → Type 0

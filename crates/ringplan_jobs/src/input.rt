@@ -3,12 +3,10 @@
 ghost use Rattle.std.specs.Prelude.{ℕ, List};
 ghost use Rattle.ringplan_jobs.specs.Io.{Reads, Tells};
 
+use bundle_text::MAX_INPUT;
 use ring_names::Refusal;
 use std::alloc::Global;
 use std::io::{ErrorKind, Read};
-
-/// The most bytes that an input may have: 64 MiB.
-pub const MAX_INPUT: usize = 67_108_864;
 
 // How many bytes one read asks for.
 const CHUNK: usize = 65_536;

@@ -14,7 +14,8 @@ pub use bundle::{
     answer_bytes, answer_check, check_bundle, check_bundle_by, make, migrate_bundle, plan_bundle,
     play_bundle,
 };
-pub use input::{MAX_INPUT, read_all};
+pub use bundle_text::MAX_INPUT;
+pub use input::read_all;
 pub use judging::judge_bundle_by;
 pub use output::write_all;
 pub use replaying::replay_bundle;

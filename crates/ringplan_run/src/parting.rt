@@ -8,14 +8,11 @@ ghost use Rattle.ringplan_run.specs.Part.{ShowsCut, ShowsPart};
 use crate::files::say;
 use crate::program::{FAILED, NO_MEMORY, REFUSED, finish};
 use history_parts::Choice;
-use history_stream::{MAX_INPUT, MOST_ENTRIES, NoPart, Part, cut_stream};
+use history_stream::{MOST_ENTRIES, NoPart, Part, cut_stream};
 use ring_names::Refusal;
-use ringplan_command::PartWish;
-use ringplan_jobs::status_of;
+use ringplan_command::{MOST_PARTS, PartWish};
+use ringplan_jobs::{MAX_INPUT, status_of};
 use std::io::{Read, Write};
-
-// A ring has at most so many partitions, and a part at least one.
-const MOST_PARTS: u32 = 4096;
 
 // In how many times as many parts so many would be few enough: at least twice.
 fn times(many: u64, most: u64) -> u64 {

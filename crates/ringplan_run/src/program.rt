@@ -18,7 +18,7 @@ use crate::files::{Limit, open, save, say};
 use crate::parting::print_part;
 use crate::sizes::with_sizes;
 use ring_names::Refusal;
-use ringplan_command::{CommandLine, Files as Named, Form, Request, Shares, parse};
+use ringplan_command::{CommandLine, Files as Named, Form, NO_WORDS, Request, Shares, parse};
 use ringplan_job::{Making, Screen};
 use ringplan_jobs::{
     Job, answer_bytes, answer_check, answer_of, judge_bundle_by, read_all, stated_of, write_all,
@@ -33,10 +33,6 @@ use std::thread::Threads;
 
 // The line of a refusal for want of memory, which itself needs none.
 pub(crate) const NO_MEMORY: &[u8; 6] = b"no 60\n";
-
-// What is said of words that are no text.
-const NO_WORDS: &[u8; 123] =
-    b"error: invalid UTF-8 was detected in one or more arguments\n\nUsage: ringplan <COMMAND>\n\nFor more information, try '--help'.\n";
 
 // The exit status where memory, the input or the output failed.
 pub(crate) const FAILED: u8 = 3;

@@ -1,16 +1,22 @@
--- Where a fault lies in parts of a text, one behind the other.
-use Rattle.std.proofs.Common.{◌≡◌, ◌≢◌, ℕ, ◌≤◌, Bool, true, false, cond, Result, Ok, Err, IsErrAnd, IfErr, sym, ◌∙◌, arith}
+-- Where memory ran out, and which fault was read, in a text of parts.
+use Rattle.std.proofs.Common.{◌≡◌, ◌≢◌, ℕ, zero, suc, ◌≤◌, Bool, true, false, cond, Result, Ok, Err, IsErrAnd, IfErr, refl, sym, ◌∙◌, arith}
 use Rattle.ring_names.specs.declared.refusal.Refusal.{Refusal}
 use Rattle.ring_names.specs.declared.refusal.Refusal.TheVariants.{BadLine, OutOfMemory}
-use Rattle.texts.specs.Left.{Left, lines_on, is_over, over_at, then_part}
-use Rattle.texts.specs.Late.{NoFaultBefore, ReadsTo}
-use Rattle.texts.proofs.Lates.{Advances, advances-then, to-first, to-second, next-after}
+use Rattle.texts.specs.Judging.{map_ok}
+use Rattle.texts.specs.Left.{Left, Reads, lines_on, next_number, is_over, over_at, then_part, map_part}
+use Rattle.texts.specs.Late.{Late, NoFaultBefore, ReadsTo}
+use Rattle.texts.proofs.Lates.{Advances, to-first, to-map, to-after, late-part, next-after, next-monotone}
 
--- two lines on is not in front of where it was
-pub two-on : (k : ℕ) → k ≤ lines_on 2 k
-two-on k = let a = next-after k in let b = next-after (lines_on 1 k) in omega arith
+-- some lines on is not before
+pub on-after : (n k : ℕ) → k ≤ lines_on n k
+on-after zero k = omega arith
+on-after (suc n) k = (let a = next-after k in let b = on-after n (next_number k) in omega arith)
 
--- a text that goes on behind its last part is refused for that
+pub on-monotone : (n k m : ℕ) → k ≤ m → lines_on n k ≤ lines_on n m
+on-monotone zero k m le = le
+on-monotone (suc n) k m le = on-monotone n (next_number k) (next_number m) (next-monotone k m le)
+
+-- a text that goes on after its last part is refused for that
 pub over-late : {A B : Type 0} (n : ℕ) (r : Result A Refusal) (e : Refusal) (s : Left) (read : Result B Refusal) → IsErrAnd r (λ x. x ≡ e) → over_at s ≡ Err e → IfErr r (λ x. x ≡ OutOfMemory → NoFaultBefore n read)
 over-late n (Ok x) e s read is h = tt
 over-late n (Err x) e s read is h = λ memory. absurd (by (is_over s) h (sym is ∙ memory))
@@ -19,44 +25,32 @@ over-late n (Err x) e s read is h = λ memory. absurd (by (is_over s) h (sym is 
     by true h = λ same. absurd cc
     by false h = λ same. absurd cc
 
--- ---- four parts, of which the later ones depend on the first
+-- ---- two parts, of which the second may depend on the first
 
-module _ {A B C D : Type 0} (first : Left → Result (A × Left) Refusal) (second : A → Left → Result (B × Left) Refusal) (third : A → Left → Result (C × Left) Refusal) (last : A → Left → Result (D × Left) Refusal) where
-  abbrev behind_second : A → B → Left → Result ((C × D) × Left) Refusal
-  behind_second x y = then_part (third x) (λ _. last x)
+module _ {A B E : Type 0} (f : A × B → E) (read : Left → Result (A × Left) Refusal) (again : A → Left → Result (B × Left) Refusal) (n : ℕ) where
+  -- memory ran out in the first part
+  pub late-first : {R : Type 0} (r : Result R Refusal) (e : Refusal) (s t : Left) → IsErrAnd r (λ x. x ≡ e) → ((x : A) → Advances (again x)) → (e ≡ OutOfMemory → (lines_on n s.line ≤ t.line) × ReadsTo t.line (read s))
+      → Late n r s t (map_part f (then_part read again) s)
+  late-first r e s t is on late = late-part n r e s t (map_part f (then_part read again) s) is late (λ p. (p.0, to-map f (then_part read again) t.line s (to-first read again t.line s on p.1)))
 
-  abbrev behind_first : A → Left → Result ((B × (C × D)) × Left) Refusal
-  behind_first x = then_part (second x) (behind_second x)
+  -- it ran out in the second
+  pub late-second : {R : Type 0} (m : ℕ) (r : Result R Refusal) (e : Refusal) (s t u : Left) (x : A) → IsErrAnd r (λ y. y ≡ e) → read s ≡ Ok (x, t) → lines_on n s.line ≤ lines_on m t.line
+      → (e ≡ OutOfMemory → (lines_on m t.line ≤ u.line) × ReadsTo u.line (again x t)) → Late n r s u (map_part f (then_part read again) s)
+  late-second m r e s t u x is first far late = late-part n r e s u (map_part f (then_part read again) s) is late (λ p. (omega (arith, p.0), to-after f read again u.line s t x first p.1))
 
-  abbrev pub four_parts : Left → Result ((A × (B × (C × D))) × Left) Refusal
-  four_parts = then_part first behind_first
+-- what is read of both, by what is read of the second
+module _ {A B E : Type 0} (f : A × B → E) (read : Left → Result (A × Left) Refusal) (again : A → Left → Result (B × Left) Refusal) (s t : Left) (x : A) (first : read s ≡ Ok (x, t)) where
+  pub good-second : (u : Left) (y : B) → again x t ≡ Ok (y, u) → map_part f (then_part read again) s ≡ Ok (f (x, y), u)
+  good-second u y second = rw (first, second) refl
 
-module _ {A B C D : Type 0} (first : Left → Result (A × Left) Refusal) (second : A → Left → Result (B × Left) Refusal) (third : A → Left → Result (C × Left) Refusal) (last : A → Left → Result (D × Left) Refusal)
-    (second-on : (x : A) → Advances (second x)) (third-on : (x : A) → Advances (third x)) (last-on : (x : A) → Advances (last x)) where
-  behind-second-on : (x : A) (y : B) → Advances (behind_second first second third last x y)
-  behind-second-on x y = advances-then (third x) (λ _. last x) (third-on x) (λ _. last-on x)
+  pub bad-second : (e : Refusal) → again x t ≡ Err e → map_part f (then_part read again) s ≡ Err e
+  bad-second e second = rw (first, second) refl
 
-  behind-first-on : (x : A) → Advances (behind_first first second third last x)
-  behind-first-on x = advances-then (second x) (behind_second first second third last x) (second-on x) (behind-second-on x)
+-- the fault of a part was handed on
+pub handed : {A : Type 0} (r : Result A Refusal) (e : Refusal) (new : Left) (read : Result (A × Left) Refusal) → IsErrAnd r (λ x. x ≡ e) → (e ≢ OutOfMemory → read ≡ Err e) → Reads r new read
+handed (Ok x) e new read is bad = absurd is
+handed (Err d) e new read is bad = rw is bad
 
-  -- in the first
-  pub in-first : (k : ℕ) (s : Left) → ReadsTo k (first s) → ReadsTo k (four_parts first second third last s)
-  in-first k s p = to-first first (behind_first first second third last) k s behind-first-on p
-
-  -- behind it
-  past-first : (k : ℕ) (s t : Left) (x : A) → first s ≡ Ok (x, t) → ReadsTo k (behind_first first second third last x t) → ReadsTo k (four_parts first second third last s)
-  past-first k s t x e p = to-second first (behind_first first second third last) k s t x e p
-
-  -- in the second
-  pub in-second : (k : ℕ) (s t : Left) (x : A) → first s ≡ Ok (x, t) → ReadsTo k (second x t) → ReadsTo k (four_parts first second third last s)
-  in-second k s t x e p = past-first k s t x e (to-first (second x) (behind_second first second third last x) k t (behind-second-on x) p)
-
-  -- in the third
-  pub in-third : (k : ℕ) (s t u : Left) (x : A) (y : B) → first s ≡ Ok (x, t) → second x t ≡ Ok (y, u) → ReadsTo k (third x u) → ReadsTo k (four_parts first second third last s)
-  in-third k s t u x y e f p =
-      past-first k s t x e (to-second (second x) (behind_second first second third last x) k t u y f (to-first (third x) (λ _. last x) k u (λ _. last-on x) p))
-
-  -- in the last
-  pub in-last : (k : ℕ) (s t u v : Left) (x : A) (y : B) (z : C) → first s ≡ Ok (x, t) → second x t ≡ Ok (y, u) → third x u ≡ Ok (z, v) → ReadsTo k (last x v) → ReadsTo k (four_parts first second third last s)
-  in-last k s t u v x y z e f g p =
-      past-first k s t x e (to-second (second x) (behind_second first second third last x) k t u y f (to-second (third x) (λ _. last x) k u v z g p))
+pub handed-on : {A B : Type 0} (r : Result A Refusal) (e : Refusal) (f : A → B) (new : Left) (read : Result (B × Left) Refusal) → IsErrAnd r (λ x. x ≡ e) → (e ≢ OutOfMemory → read ≡ Err e) → Reads (map_ok f r) new read
+handed-on (Ok x) e f new read is bad = absurd is
+handed-on (Err d) e f new read is bad = rw is bad

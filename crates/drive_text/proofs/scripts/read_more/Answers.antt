@@ -1,7 +1,8 @@
 use Rattle.std.proofs.Common.{sym, ◌∙◌, arith}
 use Rattle.texts.proofs.Lates.{late-part}
 use Rattle.drive_text.specs.Drives.{Scripts, scripts_from}
-use Rattle.drive_text.proofs.ScriptsRead.{from-step, from-fault, from-next, next-past, handed-on}
+use Rattle.drive_text.proofs.ScriptsRead.{from-step, from-fault, from-next, next-past}
+use Rattle.texts.proofs.Parts.{handed-on}
 use Rattle.drive_text.proofs.scripts.read_more.Goals as goal
 
 pub returns-in_err-read_next-clause-read : goal.returns-in_err-read_next-clause-read

@@ -3,12 +3,12 @@ use Rattle.texts.proofs.Lates.{late-part, late-here}
 use Rattle.drive_text.specs.Drives.{Scripts, next_at}
 use Rattle.drive_text.proofs.ScriptsRead.{in-next, past-next}
 use Rattle.drive_text.proofs.scripts.read_next.Goals as goal
-use Rattle.texts.proofs.Parts.{two-on}
+use Rattle.texts.proofs.Parts.{on-after}
 
 pub returns-in_err-script-clause-late : goal.returns-in_err-script-clause-late
 returns-in_err-script-clause-late c =
     let seen : Scripts = (c.args.scripts.now.items, c.args.writers.now) in
-    let on = two-on c.args.lines.now.line in
+    let on = on-after 2 c.args.lines.now.line in
     late-part 0 c.from_residual.result c.in_err-script.field-0.0 c.args.lines.now c.read_client_section.new.lines (next_at c.args.ring.now seen c.args.lines.now) c.from_residual.ensures.1 c.in_err-script.ensures.late
     (λ p. (omega (arith, p.0), in-next c.args.ring.now c.read_client_section.new.lines.line seen c.args.lines.now p.1))
 

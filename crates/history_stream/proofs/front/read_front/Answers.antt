@@ -7,11 +7,8 @@ use Rattle.history_stream.proofs.front.read_front.Goals as goal
 
 pub returns-clause-ok : goal.returns-clause-ok
 returns-clause-ok c =
-    let ring = c.in_ok-ring.ring in
-    let plan = c.in_ok-plan.plan in
-    let cert = c.in_ok-cert.cert in
-    front-is c.args.bytes.now c.of-lines.result c.read_ring_section.new.lines c.read_plan_section.new.lines c.read_cert_section.new.lines ring plan cert _ c.of-lines.ensures
-    c.in_ok-ring.ensures.read c.in_ok-plan.ensures.read c.in_ok-cert.ensures.read c.in_ok-ring.ensures.found refl
-    (texts-on (ring_text ring) (plan_text ring plan) (cert_text ring cert) c.as_slice.result.now c.as_slice-2.result.now c.in_ok-text.text.items c.extend_from_slice.new.self.items c.extend_from_slice-2.new.self.items
+    let front = c.in_ok-front.front in
+    front-is c.args.bytes.now c.of-lines.result c.read_front_section.new.lines front _ c.of-lines.ensures c.in_ok-front.ensures.read refl
+    (texts-on (ring_text front.ring) (plan_text front.ring front.plan) (cert_text front.ring front.cert) c.as_slice.result.now c.as_slice-2.result.now c.in_ok-text.text.items c.extend_from_slice.new.self.items c.extend_from_slice-2.new.self.items
     c.in_ok-text.ensures.text (c.as_slice.ensures.value ∙ c.in_ok-steps.ensures.text) c.in_ok-extend_from_slice.ensures.items (c.as_slice-2.ensures.value ∙ c.in_ok-chains.ensures.text) c.in_ok-extend_from_slice-2.ensures.items)
     c.line.ensures

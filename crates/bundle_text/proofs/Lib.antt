@@ -1,0 +1,2 @@
+pub mod FrontRead
+pub mod FrontLaws

@@ -1,0 +1,8 @@
+//! The front of a bundle: the texts of a ring, of a plan of it, and of the plan's certificate.
+#![tactic(auto)]
+
+mod front;
+mod limits;
+
+pub use front::{Front, read_front_section};
+pub use limits::MAX_INPUT;
