@@ -1,19 +1,20 @@
 -- Numbers that ascend, and which they are.
-use Rattle.std.proofs.Common.{◌≡◌, ◌∙◌, ℕ, suc, zero, ◌+◌, ◌<◌, ◌≤◌, ◌⊎◌, Bool, true, false, cond, List, [], ◌∷◌, length, get_or, take, drop, Ok, Err, inl, inr, refl, sym, ap, subst, arith}
+use Rattle.std.proofs.Common.{◌≡◌, ◌∙◌, ℕ, suc, zero, ◌+◌, ◌<◌, ◌≤◌, ◌⊎◌, Bool, true, false, cond, List, [], ◌∷◌, length, get_or, take, drop, Ok, Err, refl, sym, ap, arith}
 use Rattle.std.specs.Prelude.{◌&&◌, ◌||◌, ◌==◌, nat_lt}
 use Rattle.std.specs.List.{filter, list_any, take_while, range_with_len}
-use Rattle.std.specs.List.Sorted.{IsBinarySearchResult, IsStrictlySortedBy}
+use Rattle.std.specs.List.Sorted.{IsBinarySearchResult}
 use Rattle.std.specs.Ordering.{nat_cmp}
 use Rattle.std.specs.Cmp.{unsigned_ties}
 use Rattle.std.specs.BTreeMap.{is_at}
-use Rattle.std.proofs.lemmas.Bool.{and_parts, lt-ltb, ltb-true, eq-eqb, eqb-true}
+use Rattle.std.proofs.lemmas.Bool.{and_parts, lt-ltb, ltb-true, eqb-true}
 use Rattle.std.proofs.lemmas.Bool.Decides.{nat_tests}
 use Rattle.std.proofs.lemmas.List.Sums.{take_while-cons}
 use Rattle.std.proofs.lemmas.List.Sorted.{searched}
 use Rattle.ring_names.specs.Lists.{has}
-use Rattle.ring_names.proofs.Logic.{or_true, eqb_turned}
+use Rattle.ring_names.proofs.Logic.{and_false, or_assoc, or_false, eqb_turned}
 use Rattle.texts.specs.Numbers.{ascending}
-use Rattle.plan_text.proofs.Searched.{ascends-tail, ascends-below}
+use Rattle.plan_text.proofs.Searched.{ascends-tail, ascends-below, rises}
+use Rattle.plan_stage.proofs.Looking.{same-numbers}
 
 -- ---- what a part of them keeps
 
@@ -68,15 +69,6 @@ rest-greater n (x ∷ xs) (suc i) low high =
     let here : nat_lt n x ≡ false = grind (arith, nat_tests) in
     rw here (rest-greater n xs i (λ k l m. low (suc k) (omega arith) (omega arith)) (λ k l m. high (suc k) (omega arith) (omega arith)))
 
-rises : (xs : List ℕ) → ascending xs ≡ true → (i j : ℕ) → i ≤ j → j < length xs → get_or xs i 0 ≤ get_or xs j 0
-rises xs h i j l m = elim (split i j l) [
-  | inl e ↦ rw e (omega arith)
-  | inr k ↦ (let b = ascends-below xs h i j k m in omega arith)
-]
-  where
-    split : (i j : ℕ) → i ≤ j → (i ≡ j) ⊎ (i < j)
-    split i j l = grind arith
-
 pub found-greater : (n : ℕ) (xs : List ℕ) (i : ℕ) → IsBinarySearchResult (λ y. nat_cmp y n) xs (Ok i) → ascending xs ≡ true → drop (i + 1) xs ≡ filter (λ s. nat_lt n s) xs
 found-greater n xs i found h =
     let s = searched xs n (Ok i) found (rises xs h) in
@@ -89,59 +81,11 @@ missed-greater n xs i found h =
 
 -- ---- which numbers they are
 
-pub either : (a b : Bool) → (a || b) ≡ true → (a ≡ true) ⊎ (b ≡ true)
-either true b h = inl refl
-either false b h = inr h
-
-greater-than-first : (x : ℕ) (xs : List ℕ) → ascending (x ∷ xs) ≡ true → (j : ℕ) → has j xs ≡ true → x < j
-greater-than-first x [] h j e = absurd cc
-greater-than-first x (y ∷ ys) h j e = elim (either (j == y) (has j ys) e) [
-  | inl s ↦ (let l = first-below x y ys h in let i = eqb-true j y s in omega arith)
-  | inr s ↦ (let l = first-below x y ys h in let r = greater-than-first y ys (ascends-tail x (y ∷ ys) h) j s in omega arith)
-]
-
-abbrev Has : List ℕ → ℕ → Type 0
-Has xs m = has m xs ≡ true
-
--- what is behind the first, where the first ones are equal
-behind : (x : ℕ) (xs ys : List ℕ) → ascending (x ∷ xs) ≡ true → ((m : ℕ) → Has (x ∷ xs) m → Has (x ∷ ys) m) → (m : ℕ) → Has xs m → Has ys m
-behind x xs ys h f m e = elim (either (m == x) (has m ys) (f m (rw e (or_true (m == x))))) [
-  | inl s ↦ absurd (let l = greater-than-first x xs h m e in let i = eqb-true m x s in omega arith)
-  | inr s ↦ s
-]
-
-same-if : (xs ys : List ℕ) → ascending xs ≡ true → ascending ys ≡ true → ((m : ℕ) → Has xs m → Has ys m) → ((m : ℕ) → Has ys m → Has xs m) → xs ≡ ys
-same-if [] [] a b f g = refl
-same-if [] (y ∷ ys) a b f g = absurd (let h = g y (rw (eq-eqb y y refl) refl) in cc)
-same-if (x ∷ xs) [] a b f g = absurd (let h = f x (rw (eq-eqb x x refl) refl) in cc)
-same-if (x ∷ xs) (y ∷ ys) a b f g =
-    let here : Has (x ∷ xs) x = rw (eq-eqb x x refl) refl in
-    let there : Has (y ∷ ys) y = rw (eq-eqb y y refl) refl in
-    let e : x ≡ y = first_same (either (x == y) (has x ys) (f x here)) (either (y == x) (has y xs) (g y there)) in
-    let c : ascending (x ∷ ys) ≡ true = subst (λ z. ascending (z ∷ ys) ≡ true) (sym e) b in
-    let h : (m : ℕ) → Has (x ∷ xs) m → Has (x ∷ ys) m = λ m p. subst (λ z. Has (z ∷ ys) m) (sym e) (f m p) in
-    let k : (m : ℕ) → Has (x ∷ ys) m → Has (x ∷ xs) m = λ m p. g m (subst (λ z. Has (z ∷ ys) m) e p) in
-    let r : xs ≡ ys = same-if xs ys (ascends-tail x xs a) (ascends-tail y ys b) (behind x xs ys a h) (behind x ys xs c k) in
-    rw (e, r) refl
-  where
-    first_same : ((x == y) ≡ true) ⊎ (has x ys ≡ true) → ((y == x) ≡ true) ⊎ (has y xs ≡ true) → x ≡ y
-    first_same (inl s) t = eqb-true x y s
-    first_same (inr s) (inl t) = sym (eqb-true y x t)
-    first_same (inr s) (inr t) = absurd (let l = greater-than-first y ys b x s in let m = greater-than-first x xs a y t in omega arith)
-
 -- two that ascend and have the same numbers are equal
-pub same-numbers : (xs ys : List ℕ) → ascending xs ≡ true → ascending ys ≡ true → ((m : ℕ) → has m xs ≡ has m ys) → xs ≡ ys
-same-numbers xs ys a b same = same-if xs ys a b (λ m h. sym (same m) ∙ h) (λ m h. same m ∙ h)
+pub equal-numbers : (xs ys : List ℕ) → ascending xs ≡ true → ascending ys ≡ true → ((m : ℕ) → has m xs ≡ has m ys) → xs ≡ ys
+equal-numbers xs ys a b same = same-numbers xs ys a b (λ m h. sym (same m) ∙ h) (λ m h. same m ∙ h)
 
 -- ---- those of a set, and those of a range that pass a test
-
-pub sorted-ascends : (xs : List ℕ) → IsStrictlySortedBy nat_cmp xs → ascending xs ≡ true
-unfolding IsStrictlySortedBy
-sorted-ascends [] h = refl
-sorted-ascends (x ∷ []) h = refl
-sorted-ascends (x ∷ y ∷ ys) h =
-    let l : x < y = grind (arith, nat_tests, h.0.0) in
-    in_front x y ys l (sorted-ascends (y ∷ ys) h.1)
 
 pub has-any : (n : ℕ) (ks : List ℕ) → list_any (is_at (nat_cmp n)) ks ≡ has n ks
 has-any n [] = refl
@@ -176,11 +120,7 @@ has-passing q (x ∷ xs) n = by (q x) (n == x) refl (λ e. ap q (eqb-true n x e)
     by : (b e : Bool) → (n == x) ≡ e → (e ≡ true → q n ≡ b) → has n (filter q xs) ≡ (has n xs && q n) → has n (cond b (x ∷ filter q xs) (filter q xs)) ≡ ((e || has n xs) && q n)
     by true true is f h = rw (is, f refl) refl
     by true false is f h = rw is h
-    by false true is f h = h ∙ rw (f refl) (none (has n xs))
-      where
-        none : (b : Bool) → (b && false) ≡ false
-        none true = refl
-        none false = refl
+    by false true is f h = h ∙ rw (f refl) (and_false (has n xs))
     by false false is f h = h
 
 pub has-range : (a n m : ℕ) → a ≤ m → has m (range_with_len a n) ≡ nat_lt m (a + n)
@@ -197,15 +137,7 @@ has-range a (suc n) m l = by (m == a) refl (λ k. has-range (a + 1) n m k)
 -- the numbers of one place more
 pub has-more : (n : ℕ) (xs : List ℕ) (i d : ℕ) → i < length xs → has n (take (i + 1) xs) ≡ (has n (take i xs) || (n == get_or xs i d))
 has-more n [] i d l = absurd (omega arith)
-has-more n (x ∷ xs) zero d l = one (n == x)
-  where
-    one : (b : Bool) → (b || false) ≡ b
-    one true = refl
-    one false = refl
+has-more n (x ∷ xs) zero d l = or_false (n == x)
 has-more n (x ∷ xs) (suc i) d l =
     let s : suc i + 1 ≡ suc (i + 1) = omega arith in
-    rw s (rw (has-more n xs i d (omega arith)) (around (n == x) (has n (take i xs)) (n == get_or xs i d)))
-  where
-    around : (a b c : Bool) → (a || (b || c)) ≡ ((a || b) || c)
-    around true b c = refl
-    around false b c = refl
+    rw s (rw (has-more n xs i d (omega arith)) (or_assoc (n == x) (has n (take i xs)) (n == get_or xs i d)))

@@ -1,8 +1,8 @@
 -- The steps of a move, and those for which they wait.
-use Rattle.std.proofs.Common.{◌≡◌, ◌∙◌, ℕ, suc, zero, ◌+◌, ◌<◌, ◌≤◌, Bool, true, false, cond, List, [], ◌∷◌, ◌++◌, length, get_or, take, drop, inl, inr, refl, sym, ap, arith}
+use Rattle.std.proofs.Common.{◌≡◌, ◌∙◌, ℕ, suc, zero, ◌+◌, ◌<◌, ◌≤◌, Bool, true, false, List, [], ◌∷◌, ◌++◌, length, get_or, take, drop, inl, inr, refl, sym, ap, arith}
 use Rattle.std.specs.Prelude.{Option, Some, None, option_map, slice_get, not, ◌&&◌, ◌||◌, ◌==◌, nat_lt}
 use Rattle.std.specs.List.{All, filter, list_all, list_any, take_while, range_with_len}
-use Rattle.std.proofs.lemmas.Bool.{and_parts, lt-ltb, ltb-true, eqb-true}
+use Rattle.std.proofs.lemmas.Bool.{and_parts, lt-ltb, ltb-true, eqb-true, or_cases as either}
 use Rattle.std.proofs.lemmas.List.{append_assoc, take_all, at_drop_more}
 use Rattle.std.proofs.lemmas.List.Elements.{All-nil, All-cons, All-append, All-take, All-filter, All-from_get_or}
 use Rattle.std.proofs.lemmas.List.Folds.{list_any_more}
@@ -13,37 +13,16 @@ use Rattle.ring_names.specs.Lists.{has}
 use Rattle.ring_table.specs.Value.{RingValue}
 use Rattle.texts.specs.Numbers.{ascending}
 use Rattle.plan_text.specs.declared.step.Planned.{Planned}
-use Rattle.plan_text.specs.Steps.{is_on, steps_from, steps_of, depends, mirror_of}
+use Rattle.plan_text.specs.Steps.{steps_of, depends, mirror_of}
 use Rattle.plan_text.specs.Valid.{IsPlan, EachPlanned}
+use Rattle.plan_stage.proofs.Rising.{steps-ascend}
 use Rattle.plan_text.proofs.Pushed.{steps_of-within}
 use Rattle.plan_text.proofs.Searched.{depends-deps}
 use Rattle.plan_moves.specs.declared.movement.Move.{Move}
 use Rattle.plan_moves.specs.Moves.{moved_by, served_before, moves_from, moves}
 use Rattle.plan_cover.specs.declared.present.Serving.{Serving}
 use Rattle.plan_lines.specs.MoveLines.{sets_mirror, move_steps, is_awaited, move_after}
-use Rattle.plan_lines.proofs.Ascending.{either, greater-ascend, front-ascend, same-numbers, passing-range, has-passing, has-range, has-more}
-
--- ---- the steps of a slot ascend
-
-ascends-from : (k : ℕ) (xs : List Planned) (slot : Slot) (j : ℕ) → j < k → ascending (j ∷ steps_from k xs slot) ≡ true
-ascends-from k [] slot j l = refl
-ascends-from k (x ∷ xs) slot j l = by (is_on slot x.step) (ascends-from (k + 1) xs slot k (omega arith)) (ascends-from (k + 1) xs slot j (omega arith))
-  where
-    by : (b : Bool) → ascending (k ∷ steps_from (k + 1) xs slot) ≡ true → ascending (j ∷ steps_from (k + 1) xs slot) ≡ true → ascending (j ∷ cond b (k ∷ steps_from (k + 1) xs slot) (steps_from (k + 1) xs slot)) ≡ true
-    by true here there = rw (lt-ltb j k l, here) refl
-    by false here there = there
-
-pub slot-ascends : (plan : List Planned) (slot : Slot) → ascending (steps_of plan slot) ≡ true
-slot-ascends [] slot = refl
-slot-ascends (x ∷ xs) slot = by (is_on slot x.step) (ascends-from (0 + 1) xs slot 0 (omega arith))
-  where
-    tail : (zs : List ℕ) → ascending (0 ∷ zs) ≡ true → ascending zs ≡ true
-    tail [] h = refl
-    tail (z ∷ zs) h = (and_parts (nat_lt 0 z) (ascending (z ∷ zs)) h).1
-
-    by : (b : Bool) → ascending (0 ∷ steps_from (0 + 1) xs slot) ≡ true → ascending (cond b (0 ∷ steps_from (0 + 1) xs slot) (steps_from (0 + 1) xs slot)) ≡ true
-    by true h = h
-    by false h = tail (steps_from (0 + 1) xs slot) h
+use Rattle.plan_lines.proofs.Ascending.{greater-ascend, front-ascend, equal-numbers, passing-range, has-passing, has-range, has-more}
 
 -- ---- a move's steps
 
@@ -54,7 +33,7 @@ pub later-within : (plan : List Planned) (slot : Slot) (n : ℕ) → All (λ s. 
 later-within plan slot n = All-filter (λ s. nat_lt n s) (λ s. s < length plan) (steps_of plan slot) (slot-within plan slot)
 
 pub move-ascends : (plan : List Planned) (m : Move) → ascending (move_steps plan m) ≡ true
-move-ascends plan m = front-ascend (λ s. not (sets_mirror plan s)) m.mirror (filter (λ s. nat_lt m.mirror s) (steps_of plan m.slot)) (greater-ascend m.mirror (steps_of plan m.slot) (slot-ascends plan m.slot))
+move-ascends plan m = front-ascend (λ s. not (sets_mirror plan s)) m.mirror (filter (λ s. nat_lt m.mirror s) (steps_of plan m.slot)) (greater-ascend m.mirror (steps_of plan m.slot) (steps-ascend plan m.slot))
 
 pub move-within : (plan : List Planned) (m : Move) → m.mirror < length plan → All (λ s. s < length plan) (move_steps plan m)
 move-within plan m l =
@@ -91,7 +70,7 @@ dependency-within plan s n ds valid at e = (let l = earlier 0 plan n s valid.eac
 
 -- numbers that ascend and are those for which the steps wait
 pub after-is : (plan : List Planned) (steps found : List ℕ) → ascending found ≡ true → ((n : ℕ) → has n found ≡ true → n < length plan) → ((n : ℕ) → has n found ≡ is_awaited plan steps n) → found ≡ move_after plan steps
-after-is plan steps found up within is = same-numbers found (move_after plan steps) up (passing-range (is_awaited plan steps) (length plan)) (λ n. is n ∙ sym (there n (is_awaited plan steps n) refl))
+after-is plan steps found up within is = equal-numbers found (move_after plan steps) up (passing-range (is_awaited plan steps) (length plan)) (λ n. is n ∙ sym (there n (is_awaited plan steps n) refl))
   where
     inside : (n : ℕ) → is_awaited plan steps n ≡ true → nat_lt n (0 + length plan) ≡ true
     inside n e = (let l = within n (is n ∙ e) in lt-ltb n (0 + length plan) (omega arith))

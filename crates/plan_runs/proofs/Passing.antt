@@ -1,5 +1,5 @@
 -- Ascending numbers, and those below a bound that pass a test.
-use Rattle.std.proofs.Common.{◌≡◌, ◌⊎◌, inl, inr, ℕ, zero, suc, ◌+◌, ◌<◌, ◌≤◌, Bool, true, false, cond, List, [], ◌∷◌, length, get_or, refl, sym, subst, arith, lt-ltb, eqb-true, eq-eqb}
+use Rattle.std.proofs.Common.{◌≡◌, ◌⊎◌, inl, inr, ℕ, zero, suc, ◌+◌, ◌<◌, ◌≤◌, Bool, true, false, cond, List, [], ◌∷◌, length, get_or, refl, subst, arith, lt-ltb, eqb-true, eq-eqb}
 use Rattle.std.specs.Prelude.{◌==◌, nat_lt}
 use Rattle.std.proofs.lemmas.Bool.Decides.{eqb_tells}
 use Rattle.ring_names.specs.Lists.{has, all_different}
@@ -92,8 +92,6 @@ at_place [] n l = absurd (omega arith)
 at_place (x ∷ xs) zero l = rw (eq-eqb x x refl) refl
 at_place (x ∷ xs) (suc n) l = or_right (get_or xs n 0 == x) (has (get_or xs n 0) xs) (at_place xs n (omega arith))
 
--- ---- two ascending lists with the same members are equal
-
 pub none_twice : (xs : List ℕ) → ascending xs ≡ true → all_different xs ≡ true
 none_twice [] h = refl
 none_twice (x ∷ xs) h = by (has x xs) refl (none_twice xs (ascends-tail x xs h))
@@ -101,32 +99,3 @@ none_twice (x ∷ xs) h = by (has x xs) refl (none_twice xs (ascends-tail x xs h
     by : (b : Bool) → has x xs ≡ b → all_different xs ≡ true → all_different (x ∷ xs) ≡ true
     by true e r = absurd (let l = ascends-below x xs h x e in omega arith)
     by false e r = rw (e, r) refl
-
-abbrev pub Has : List ℕ → ℕ → Type 0
-Has xs m = has m xs ≡ true
-
--- what is behind the first, where the first ones are equal
-behind : (x : ℕ) (xs ys : List ℕ) → ascending (x ∷ xs) ≡ true → ((m : ℕ) → Has (x ∷ xs) m → Has (x ∷ ys) m) → (m : ℕ) → Has xs m → Has ys m
-behind x xs ys h f m e = elim (either (m == x) (has m ys) (f m (or_right (m == x) (has m xs) e))) [
-  | inl s ↦ absurd (let l = ascends-below x xs h m e in let i = eqb-true m x s in omega arith)
-  | inr s ↦ s
-]
-
-pub same_numbers : (xs ys : List ℕ) → ascending xs ≡ true → ascending ys ≡ true → ((m : ℕ) → Has xs m → Has ys m) → ((m : ℕ) → Has ys m → Has xs m) → xs ≡ ys
-same_numbers [] [] a b f g = refl
-same_numbers [] (y ∷ ys) a b f g = absurd (let h = g y (rw (eq-eqb y y refl) refl) in cc)
-same_numbers (x ∷ xs) [] a b f g = absurd (let h = f x (rw (eq-eqb x x refl) refl) in cc)
-same_numbers (x ∷ xs) (y ∷ ys) a b f g =
-    let here : Has (x ∷ xs) x = rw (eq-eqb x x refl) refl in
-    let there : Has (y ∷ ys) y = rw (eq-eqb y y refl) refl in
-    let e : x ≡ y = first_same (either (x == y) (has x ys) (f x here)) (either (y == x) (has y xs) (g y there)) in
-    let c : ascending (x ∷ ys) ≡ true = subst (λ z. ascending (z ∷ ys) ≡ true) (sym e) b in
-    let h : (m : ℕ) → Has (x ∷ xs) m → Has (x ∷ ys) m = λ m p. subst (λ z. Has (z ∷ ys) m) (sym e) (f m p) in
-    let k : (m : ℕ) → Has (x ∷ ys) m → Has (x ∷ xs) m = λ m p. g m (subst (λ z. Has (z ∷ ys) m) e p) in
-    let r : xs ≡ ys = same_numbers xs ys (ascends-tail x xs a) (ascends-tail y ys b) (behind x xs ys a h) (behind x ys xs c k) in
-    rw (e, r) refl
-  where
-    first_same : ((x == y) ≡ true) ⊎ (has x ys ≡ true) → ((y == x) ≡ true) ⊎ (has y xs ≡ true) → x ≡ y
-    first_same (inl s) t = eqb-true x y s
-    first_same (inr s) (inl t) = sym (eqb-true y x t)
-    first_same (inr s) (inr t) = absurd (let l = ascends-below y ys b x s in let m = ascends-below x xs a y t in omega arith)

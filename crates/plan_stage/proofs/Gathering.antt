@@ -14,7 +14,7 @@ use Rattle.std.proofs.lemmas.Bool.{eqb-true, lt-ltb, or_right, and_from, or_case
 use Rattle.ring_names.specs.Lists.{has}
 use Rattle.ring_names.specs.declared.ids.NodeId.{NodeId}
 use Rattle.ring_names.specs.declared.ids.Slot.{Slot}
-use Rattle.ring_names.proofs.Logic.{plus_suc, first_less}
+use Rattle.ring_names.proofs.Logic.{first_less}
 use Rattle.ring_names.proofs.InLists.{has_any, has_dedup}
 use Rattle.ring_table.specs.Value.{RingValue}
 use Rattle.plan_text.specs.declared.step.Step.{Step}
@@ -144,7 +144,7 @@ owner-has plan o y x numbers e f h = (let same_node : x ≡ y = cc in rw same_no
 -- ---- in order
 
 -- each number is below those after it
-sorted-ascends : (xs : List ℕ) → IsStrictlySortedBy nat_cmp xs → ascending xs ≡ true
+pub sorted-ascends : (xs : List ℕ) → IsStrictlySortedBy nat_cmp xs → ascending xs ≡ true
 unfolding IsStrictlySortedBy
 sorted-ascends [] h = refl
 sorted-ascends (x ∷ []) h = refl

@@ -1,5 +1,5 @@
 -- The clauses of the steps that are looked at fail first where those of all steps do.
-use Rattle.std.proofs.Common.{◌≡◌, ◌⊎◌, inl, inr, ◌∙◌, ℕ, suc, ◌+◌, ◌<◌, ◌≤◌, ◌≢◌, Bool, true, false, not, List, [], ◌∷◌, ◌++◌, length, refl, sym, ap, arith, Option, Some, None}
+use Rattle.std.proofs.Common.{◌≡◌, ◌⊎◌, inl, inr, ◌∙◌, ℕ, suc, ◌+◌, ◌<◌, ◌≤◌, ◌≢◌, Bool, true, false, not, List, [], ◌∷◌, ◌++◌, length, refl, sym, ap, subst, eq-eqb, arith, Option, Some, None}
 use Rattle.std.specs.Prelude.{◌||◌, ◌&&◌, ◌==◌, nat_lt}
 use Rattle.std.specs.List.{list_all}
 use Rattle.std.proofs.lemmas.Bool.{eqb-true, ltb-true, and_parts, or_right, and_from, or_cases as either, or_left}
@@ -42,6 +42,36 @@ ascends-below n (m ∷ ms) h j is =
       | inl here ↦ (let e : j ≡ m = eqb-true j m here in rw e l)
       | inr there ↦ (let g : m < j = ascends-below m ms b.1 j there in omega arith)
     ]
+
+abbrev Has : List ℕ → ℕ → Type 0
+Has xs m = has m xs ≡ true
+
+-- what is after the first, where the first ones are equal
+after : (x : ℕ) (xs ys : List ℕ) → ascending (x ∷ xs) ≡ true → ((m : ℕ) → Has (x ∷ xs) m → Has (x ∷ ys) m) → (m : ℕ) → Has xs m → Has ys m
+after x xs ys h f m e = elim (either (m == x) (has m ys) (f m (or_right (m == x) (has m xs) e))) [
+  | inl s ↦ absurd (let l = ascends-below x xs h m e in let i = eqb-true m x s in omega arith)
+  | inr s ↦ s
+]
+
+-- two that ascend and have the same numbers are equal
+pub same-numbers : (xs ys : List ℕ) → ascending xs ≡ true → ascending ys ≡ true → ((m : ℕ) → Has xs m → Has ys m) → ((m : ℕ) → Has ys m → Has xs m) → xs ≡ ys
+same-numbers [] [] a b f g = refl
+same-numbers [] (y ∷ ys) a b f g = absurd (let h = g y (rw (eq-eqb y y refl) refl) in cc)
+same-numbers (x ∷ xs) [] a b f g = absurd (let h = f x (rw (eq-eqb x x refl) refl) in cc)
+same-numbers (x ∷ xs) (y ∷ ys) a b f g =
+    let here : Has (x ∷ xs) x = rw (eq-eqb x x refl) refl in
+    let there : Has (y ∷ ys) y = rw (eq-eqb y y refl) refl in
+    let e : x ≡ y = first_same (either (x == y) (has x ys) (f x here)) (either (y == x) (has y xs) (g y there)) in
+    let c : ascending (x ∷ ys) ≡ true = subst (λ z. ascending (z ∷ ys) ≡ true) (sym e) b in
+    let h : (m : ℕ) → Has (x ∷ xs) m → Has (x ∷ ys) m = λ m p. subst (λ z. Has (z ∷ ys) m) (sym e) (f m p) in
+    let k : (m : ℕ) → Has (x ∷ ys) m → Has (x ∷ xs) m = λ m p. g m (subst (λ z. Has (z ∷ ys) m) e p) in
+    let r : xs ≡ ys = same-numbers xs ys (ascends-tail x xs a) (ascends-tail y ys b) (after x xs ys a h) (after x ys xs c k) in
+    rw (e, r) refl
+  where
+    first_same : ((x == y) ≡ true) ⊎ (has x ys ≡ true) → ((y == x) ≡ true) ⊎ (has y xs ≡ true) → x ≡ y
+    first_same (inl s) t = eqb-true x y s
+    first_same (inr s) (inl t) = sym (eqb-true y x t)
+    first_same (inr s) (inr t) = absurd (let l = ascends-below y ys b x s in let m = ascends-below x xs a y t in omega arith)
 
 -- the numbers are of steps from number k on, and the clauses of the other steps hold
 pub record Covers (f : ℕ → Step → List Guard) (k : ℕ) (plan : List Planned) (numbers : List ℕ) : Type 0 where

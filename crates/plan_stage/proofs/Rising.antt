@@ -51,7 +51,7 @@ ascends-from k (x ∷ xs) slot j l = by (is_on slot x.step) (ascends-from (k + 1
     by true here there = rw (lt-ltb j k l, here) refl
     by false here there = there
 
-steps-ascend : (plan : List Planned) (slot : Slot) → ascending (steps_of plan slot) ≡ true
+pub steps-ascend : (plan : List Planned) (slot : Slot) → ascending (steps_of plan slot) ≡ true
 steps-ascend [] slot = refl
 steps-ascend (x ∷ xs) slot = by (is_on slot x.step)
   where

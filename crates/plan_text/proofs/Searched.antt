@@ -32,7 +32,7 @@ ascends-below (x ∷ xs) e i zero h k = absurd (omega arith)
 ascends-below (x ∷ xs) e zero (suc j) h k = ascends-head x xs e j (omega arith)
 ascends-below (x ∷ xs) e (suc i) (suc j) h k = ascends-below xs (ascends-tail x xs e) i j (omega arith) (omega arith)
 
-rises : (xs : List ℕ) → ascending xs ≡ true → (i j : ℕ) → i ≤ j → j < length xs → get_or xs i 0 ≤ get_or xs j 0
+pub rises : (xs : List ℕ) → ascending xs ≡ true → (i j : ℕ) → i ≤ j → j < length xs → get_or xs i 0 ≤ get_or xs j 0
 rises [] e i j h k = absurd (omega arith)
 rises (x ∷ xs) e zero zero h k = omega arith
 rises (x ∷ xs) e (suc i) zero h k = absurd (omega arith)

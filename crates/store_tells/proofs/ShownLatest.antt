@@ -12,7 +12,8 @@ use Rattle.ring_versions.proofs.Members.{apart_cross}
 use Rattle.plan_runs.specs.World.{World, passing_below}
 use Rattle.plan_runs.specs.Succession.{Succeeds, latest}
 use Rattle.plan_runs.proofs.Latest.{latest_is, is_latest, latest_ascend}
-use Rattle.plan_runs.proofs.Passing.{below_is, is_below, passing_ascend, same_numbers}
+use Rattle.plan_stage.proofs.Looking.{same-numbers}
+use Rattle.plan_runs.proofs.Passing.{below_is, is_below, passing_ascend}
 use Rattle.plan_runs.proofs.Succeeding.{not_less}
 use Rattle.store_tells.specs.Shows.{Shows, OfOneKey, ArePutsOf}
 use Rattle.store_tells.specs.Clocks.{AreClocksOf}
@@ -74,7 +75,7 @@ module _ (w : World) (clock : ℕ → List Entry) (value : ℕ → List ℕ) (he
       ]
 
   pub numbers : (ns : List ℕ) → ArePuts held ns → ns ≡ latest w ps
-  numbers ns p = same_numbers ns (latest w ps) p.rises (latest_ascend w ps ps (passing_ascend 0 (length w.puts) test))
+  numbers ns p = same-numbers ns (latest w ps) p.rises (latest_ascend w ps ps (passing_ascend 0 (length w.puts) test))
       (λ m e. (let o = p.only m e in subst (λ (z : ℕ). has z (latest w ps) ≡ true) o.2 (shown_latest o.0 o.1)))
       (λ m e. (let x = latest_shown m e in subst (λ (z : ℕ). has z ns ≡ true) x.2 (p.each x.0 x.1)))
 

@@ -5,11 +5,12 @@ use Rattle.std.proofs.lemmas.List.Elements.{All-same}
 use Rattle.texts.specs.Numbers.{ascending}
 use Rattle.plan_text.specs.Steps.{steps_of}
 use Rattle.plan_lines.specs.MoveLines.{sets_mirror, move_steps}
-use Rattle.plan_lines.proofs.Moved.{slot-ascends, later-within, front-more}
+use Rattle.plan_lines.proofs.Moved.{later-within, front-more}
+use Rattle.plan_stage.proofs.Rising.{steps-ascend}
 use Rattle.plan_lines.proofs.own_steps.move_steps.Goals as goal
 
 pub later-step-items-requires : goal.later-step-items-requires
-later-step-items-requires c = ap ascending c.slot_steps.ensures.value ∙ slot-ascends c.args.plan.now c.args.movement.now.slot
+later-step-items-requires c = ap ascending c.slot_steps.ensures.value ∙ steps-ascend c.args.plan.now c.args.movement.now.slot
 
 pub sets_mirror-requires : goal.sets_mirror-requires
 sets_mirror-requires c =

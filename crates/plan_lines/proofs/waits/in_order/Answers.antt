@@ -1,4 +1,4 @@
-use Rattle.plan_lines.proofs.Ascending.{sorted-ascends}
+use Rattle.plan_stage.proofs.Gathering.{sorted-ascends}
 use Rattle.plan_lines.proofs.waits.in_order.Goals as goal
 
 pub returns-clause-ascending : goal.returns-clause-ascending
