@@ -236,6 +236,8 @@ def parts(folder):
     size = len(front) + 14 + sum(map(len, downs)) + 10
     words = f"ringplan: the part has 1000001 entries and {size} bytes, and 1000000 and {MOST} are judged at once: "
     owes("a part of too many entries", run(*share, f"{folder}/long"), b"", f"{words}--of 8 may do\n".encode(), 2)
+    for of, advice in ((3_000, "--of 4096 may do"), (4_096, "no more parts are possible")):
+        owes(f"a part of {of}", run("part", "--of", str(of), "--part", "1", f"{folder}/long"), b"", f"{words}{advice}\n".encode(), 2)
     owes("a range of too many entries", run("part", "--partitions", "0-1", f"{folder}/long"), b"", f"{words}2 times fewer partitions may do\n".encode(), 2)
     others = [b"get k%d = get %d\n" % (number % 1000, number) for number in range(3_500_000)]
     with open(f"{folder}/long", "wb") as it:
