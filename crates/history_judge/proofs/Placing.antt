@@ -1,10 +1,8 @@
 -- A part that is cut entry by entry, with the place of each entry in the whole.
-use Rattle.std.proofs.Common.{◌≡◌, ◌≢◌, ◌⊎◌, ◌∙◌, inl, inr, ℕ, zero, suc, ◌+◌, ◌<◌, ◌≤◌, ◌%◌, Bool, false, List, [], ◌∷◌, ◌++◌, length, length-append, get_or, take, drop, Option, Some, None, option_to_list, refl, sym, ap, subst, arith, eq-eqb}
-use Rattle.std.proofs.Math.Path.{fun_ext}
-use Rattle.std.specs.Prelude.{◌||◌, nat_le}
-use Rattle.std.proofs.lemmas.Bool.{cases_lt, le-leb}
+use Rattle.std.proofs.Common.{◌≡◌, ◌≢◌, ◌⊎◌, ◌∙◌, inl, inr, ℕ, ◌+◌, ◌<◌, ◌≤◌, ◌%◌, Bool, List, [], ◌∷◌, ◌++◌, length, length-append, get_or, take, drop, Option, Some, None, option_to_list, refl, sym, ap, subst, arith, eq-eqb}
+use Rattle.std.specs.Prelude.{◌||◌}
+use Rattle.std.proofs.lemmas.Bool.{cases_lt}
 use Rattle.std.proofs.lemmas.List.{append-nil, length-take-le, take_more, take-append-drop, get_or_append_left, get_or_push}
-use Rattle.ring_names.proofs.Logic.{or_true}
 use borrow.Author.Count.{below_more}
 use Rattle.ring_names.specs.declared.refusal.Refusal.{Refusal}
 use Rattle.ring_names.specs.declared.refusal.Refusal.TheVariants.{Mismatch, OutOfMemory}
@@ -13,9 +11,7 @@ use Rattle.plan_text.specs.declared.step.Planned.{Planned}
 use Rattle.plan_runs.specs.declared.event.Entry.{Entry}
 use Rattle.plan_runs.specs.World.{World, opening_world}
 use Rattle.ring_core.specs.Faults.{IsFirstFault}
-use Rattle.ring_core.specs.Tables.{values_below}
 use Rattle.ring_core.proofs.FirstFault.{leads_without_fault}
-use Rattle.ring_core.proofs.SlotOwners.{length_values}
 use Rattle.history_parts.specs.declared.choice.Choice.TheVariants.{Share}
 use Rattle.history_parts.specs.Parts.{AreRun, Cover, IsPlace, all_gets, all_puts, entry_in, gets_after, is_marked, or_none, part_after, part_of, puts_after, with_entry}
 use Rattle.history_parts.specs.Cuts.{CutValue, after_event, entry_next}

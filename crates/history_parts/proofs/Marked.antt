@@ -68,9 +68,6 @@ all_numbers bs (v ∷ vs) h = (let p = and_parts (is_of_part bs v) (list_all (is
 pub all_mine : (bs : List Bool) (vs ns : List ℕ) → list_all (is_of_part bs) vs ≡ true → ns ≡ map (renumbered bs) vs → ns ≡ all_renumbered bs vs
 all_mine bs vs ns h e = e ∙ (all_numbers bs vs h ∙ (rw h refl))
 
-pub not_all : (bs : List Bool) (vs ns : List ℕ) (n : ℕ) → list_all (is_of_part bs) vs ≡ false → n ≡ part_size bs → ns ≡ n ∷ [] → ns ≡ all_renumbered bs vs
-not_all bs vs ns n h s e = e ∙ (ap (λ z. z ∷ []) s ∙ rw h refl)
-
 pub take_past : (k : ℕ) (xs : List ℕ) → length xs ≤ k → take k xs ≡ xs
 take_past zero [] l = refl
 take_past (suc k) [] l = refl

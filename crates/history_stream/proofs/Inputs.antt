@@ -3,21 +3,13 @@ use Rattle.std.proofs.Common.{◌≡◌, ℕ, zero, suc, ◌+◌, ◌≤◌, tru
 use Rattle.std.specs.Io.KnownBytes.{Consumes}
 use Rattle.std.proofs.KnownBytes.{Consumes-trans}
 use Rattle.history_stream.specs.declared.input.Head.{Head}
-use Rattle.history_stream.specs.Input.{Takes, IsNext, IsHead}
+use Rattle.history_stream.specs.Input.{IsNext, IsHead}
 
 take_length : (n : ℕ) (xs : List ℕ) → n ≤ length xs → length (take n xs) ≡ n
 take_length zero [] le = refl
 take_length zero (x ∷ xs) le = refl
 take_length (suc n) [] le = absurd (omega arith)
 take_length (suc n) (x ∷ xs) le = ap suc (take_length n xs (omega arith))
-
--- the chunk was cut to what was read
-pub cut_short : (old new : Option (List ℕ)) (chunk items : List ℕ) (n most : ℕ) → Takes old new chunk n → length chunk ≡ most → items ≡ take n chunk → IsNext old new most items
-cut_short old new chunk items n most t long is =
-    let len = take_length n chunk t.within in
-    let same : length items ≡ n = ap (λ (l : List ℕ). length l) is ∙ len in
-    let within = t.within in
-    record { bytes = subst (Consumes old new) (sym is) t.bytes; end = λ z. t.end (omega arith); few = omega arith }
 
 nothing_is : (xs : List ℕ) → length xs ≡ 0 → xs ≡ []
 nothing_is [] e = refl

@@ -126,9 +126,6 @@ line_first xs more i lt before is =
     ∙ ap (λ (z : List ℕ). take i (xs ++ more) ∷ slice_split (λ b. eqb b 10) z) (take_rest (xs ++ more) (i + 1) ∙ drop-append-le (i + 1) xs more (omega arith))
     ∙ ap (λ (z : List ℕ). z ∷ slice_split (λ b. eqb b 10) (drop (i + 1) xs ++ more)) (take-append-le i xs more (omega arith)))
 
-pub takes_none : (r : Reader) (bytes : List ℕ) → Takes r r (lines_and bytes) (lines_and bytes)
-takes_none r bytes = λ ring marks front said so. (said, so, λ more. refl)
-
 pub takes_more : (a b c : Reader) (whole : List ℕ → List (List (List ℕ))) (xs line rest : List ℕ) (i : ℕ) → i < length xs → ((k : ℕ) → k < i → eqb (get_or xs k 0) 10 ≡ false) → eqb (get_or xs i 0) 10 ≡ true
     → line ≡ take i xs → rest ≡ drop (i + 1) xs → Takes a b whole (lines_and xs) → Takes b c (line_and line) lines_of → Takes a c whole (lines_and rest)
 takes_more a b c whole xs line rest i lt before is line_is rest_is first second = λ ring marks front said so. (

@@ -57,8 +57,3 @@ apart-more ring plan dead Kind n t serve at same here below w kind k l s is = el
         let one : t ≡ s = (let e : Some t ≡ Some s = sym (step_at-is plan n t at) ∙ now in cc) in
         subst (λ (x : Step). is_apart ring plan dead w n x ≡ true) one
         (ap (λ (xs : List NodeId). w.done n || is_whole w n || are_spared dead xs) (sym (asked-alike serve (served_before ring plan n) t same)) ∙ here w kind)
-
--- all steps are, once those of the whole plan are
-pub apart-all : (ring : RingValue) (plan : List Planned) (dead : List NodeId) (Kind : World → Type 0) → ApartBelow ring plan dead Kind (length plan) → (w : World) → Kind w
-    → (n : ℕ) (s : Step) → step_at plan n ≡ Some s → is_apart ring plan dead w n s ≡ true
-apart-all ring plan dead Kind below w kind n s is = below w kind n (within plan n s is) s is

@@ -92,21 +92,3 @@ unfolding guards
 told-whole ring plan w n h = all-pass (has_copy plan n) (w.is_open n) (chunks_left w n == 0) (chunks_left w n) h
 
 -- ---- one of three
-
-pub first-two : (a b c : Bool) → (a || b) ≡ true → (a || b || c) ≡ true
-first-two true b c h = refl
-first-two false true c h = refl
-first-two false false c h = absurd cc
-
-pub last-one : (a b c : Bool) → c ≡ true → (a || b || c) ≡ true
-last-one true b c h = refl
-last-one false true c h = refl
-last-one false false c h = h
-
-pub left-one : (a b : Bool) → a ≡ true → (a || b) ≡ true
-left-one true b h = refl
-left-one false b h = absurd cc
-
-pub right-one : (a b : Bool) → b ≡ true → (a || b) ≡ true
-right-one true b h = refl
-right-one false b h = h

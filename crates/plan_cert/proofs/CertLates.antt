@@ -5,11 +5,10 @@ use Rattle.std.proofs.lemmas.Bool.{ltb-true, not-false}
 use Rattle.ring_names.specs.declared.refusal.Refusal.{Refusal}
 use Rattle.texts.specs.Numbers.{are_small}
 use Rattle.texts.specs.Judging.{map_ok}
-use Rattle.texts.proofs.Forms.{Left, next_number, header_at, one_line, ReadsTo, At, Advances, ending, to-first, to-second, to-after, past, past-next}
+use Rattle.texts.proofs.Forms.{Left, next_number, header_at, one_line, ReadsTo, At, Advances, ending, to-first, to-second, to-after, past-next}
 use Rattle.ring_table.specs.Value.{RingValue}
 use Rattle.ring_table.specs.Valid.{IsRing}
 use Rattle.plan_cert.specs.declared.cert.Chain.{Chain}
-use Rattle.plan_cert.specs.declared.cert.Cert.{Cert}
 use Rattle.plan_cert.specs.declared.lines.ChainLine.{ChainLine}
 use Rattle.plan_cert.specs.Said.{chain_said}
 use Rattle.plan_cert.specs.Spelling.{cert_format}
@@ -38,10 +37,6 @@ module _ (ring : RingValue) where
   pub cert-on : Advances (cert_at ring)
   unfolding cert_at fact_at chain_at path_at steps_at node_side_at
   cert-on = (cert_form ring).advances
-
-  -- it ends after it begins
-  pub past-cert : (s t : Left) (cert : Cert) → cert_at ring s ≡ Ok (cert, t) → s.line ≤ t.line
-  past-cert s t cert e = past (cert_at ring) cert-on s t cert e
 
   -- after the first line: a place among the facts, or among the chains
   module _ (s t : Left) (u : Unit {0}) (start : one_line (header_at (codes "cert") (cert_format ring)) s ≡ Ok (u, t)) where

@@ -1,9 +1,8 @@
 -- The first bad path, where each number below that of all paths is asked whether its path is bad.
-use Rattle.std.proofs.Common.{◌≡◌, ℕ, suc, zero, ◌+◌, ◌-◌, Bool, true, false, not, List, [], ◌∷◌, Option, Some, None, length, refl, sym, ap, ◌∙◌, subst, arith}
+use Rattle.std.proofs.Common.{◌≡◌, ℕ, suc, ◌+◌, ◌-◌, Bool, true, false, not, List, [], ◌∷◌, Option, Some, None, length, refl, sym, ap, ◌∙◌, arith}
 use Rattle.std.specs.Prelude.{slice_index_or, min, option_map}
 use Rattle.std.specs.List.{AllZip, range_with_len}
 use Rattle.rayon.specs.Lists.{first_true}
-use Rattle.rayon.specs.Numbers.{nat_range}
 use Rattle.ring_names.specs.declared.refusal.Refusal.{Refusal}
 use Rattle.ring_names.specs.declared.refusal.Refusal.TheVariants.{BadPath}
 use Rattle.plan_text.specs.declared.step.Planned.{Planned}

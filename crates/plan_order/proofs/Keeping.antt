@@ -9,7 +9,7 @@ use Rattle.std.specs.Cmp.{unsigned_ties, tied_then}
 use Rattle.std.specs.BTreeMap.{is_at}
 use Rattle.std.specs.BTreeSet.{insert_key}
 use Rattle.std.proofs.lemmas.Bool.Decides.{eqb_tells}
-use Rattle.std.proofs.lemmas.Bool.{and_parts, ne_eqb, eq-eqb as same}
+use Rattle.std.proofs.lemmas.Bool.{and_parts, eq-eqb as same}
 use Rattle.ring_names.proofs.Logic.{or_swapped, eqb_turned, or_again}
 use Rattle.plan_order.specs.declared.facts.Ends.{Ends}
 use Rattle.plan_order.specs.Facts.{ends_with, leads, has_ends}

@@ -1,6 +1,6 @@
 -- The numbers of steps in another plan.
 use Rattle.std.proofs.Common.{◌≡◌, ℕ, zero, suc, ◌<◌, ◌≤◌, ◌⊎◌, inl, inr, List, [], ◌∷◌, length, Option, Some, None, refl, sym, subst, ◌+◌, ◌∙◌, arith}
-use Rattle.std.specs.Prelude.{slice_get}
+use Rattle.std.proofs.lemmas.Bool.{cases_lt}
 use Rattle.plan_text.specs.declared.step.Planned.{Planned}
 use Rattle.plan_past.specs.Past.{number_in, Keeps}
 
@@ -13,13 +13,10 @@ beyond (x ∷ xs) (suc k) l = beyond xs k (omega arith)
 
 -- what holds of all steps of the list holds of all
 pub keep-beyond : (old new : List Planned) (numbers : List (Option ℕ)) (olds : List ℕ) → ((k : ℕ) → k < length numbers → Keeps old new numbers olds k) → (k : ℕ) → Keeps old new numbers olds k
-keep-beyond old new numbers olds all k n e = elim (split k (length numbers)) [
+keep-beyond old new numbers olds all k n e = elim (cases_lt k (length numbers)) [
   | inl l ↦ all k l n e
   | inr l ↦ absurd (let f : None ≡ Some n = sym (beyond numbers k l) ∙ e in cc)
 ]
-  where
-    split : (k n : ℕ) → (k < n) ⊎ (n ≤ k)
-    split k n = grind arith
 
 cut : (k m : ℕ) → k < m + 1 → (k < m) ⊎ (m ≡ k)
 cut k m l = grind arith

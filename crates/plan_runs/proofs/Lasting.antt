@@ -9,18 +9,15 @@ use Rattle.ring_table.specs.Value.{RingValue}
 use Rattle.plan_text.specs.declared.step.Planned.{Planned}
 use Rattle.plan_runs.specs.declared.event.Event.{Event}
 use Rattle.plan_runs.specs.declared.event.Event.TheVariants.{StartPut, Write, Hint, Ack, StartGet, Read, EndGet}
-use Rattle.plan_runs.specs.declared.event.Entry.{Entry}
 use Rattle.plan_runs.specs.World.{PutRecord, GetRecord, World, generation, key_of_put, writer_of, seen_of, is_acked}
 use Rattle.plan_runs.specs.Succession.{replied, some_replied, is_direct, Succeeds, itself, by}
 use Rattle.plan_runs.specs.Versions.{put_slot}
 use Rattle.plan_runs.specs.Guards.{has_ended, guards}
 use Rattle.plan_runs.specs.Effects.{with_value, changed, finds, answers, effect}
 use Rattle.plan_runs.specs.Reached.{Reached}
-use Rattle.plan_runs.specs.Runs.{Leads}
-use Rattle.plan_runs.proofs.Answered.{answered}
 use Rattle.plan_runs.proofs.Changed.{read_at, length_changed, get_other, part_changed, part_before}
 use Rattle.plan_runs.proofs.Frames.{same_puts, same_gets}
-use Rattle.plan_runs.proofs.Passed.{AllMet, all_met}
+use Rattle.plan_runs.proofs.Passed.{AllMet}
 use Rattle.plan_runs.proofs.Serial.{acked_exists}
 use Rattle.plan_runs.proofs.Succeeding.{direct_parts}
 use Rattle.std.proofs.lemmas.Bool.{or_right}

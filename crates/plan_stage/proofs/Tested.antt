@@ -1,11 +1,11 @@
 -- The clauses of one step, by its kind.
-use Rattle.std.proofs.Common.{◌≡◌, ℕ, true, false, List, Option, Some, None, refl, ap, ◌∙◌, eq-eqb}
+use Rattle.std.proofs.Common.{◌≡◌, ℕ, true, List, Option, Some, None, refl, ap, ◌∙◌, eq-eqb}
 use Rattle.std.specs.Prelude.{◌==◌, option_map, slice_get, []}
 use Rattle.ring_names.specs.declared.ids.NodeId.{NodeId}
 use Rattle.ring_names.specs.declared.ids.Slot.{Slot}
 use Rattle.ring_table.specs.Value.{RingValue}
 use Rattle.plan_text.specs.declared.step.Source.{Source}
-use Rattle.plan_text.specs.declared.step.Source.TheVariants.{Owner, Slots}
+use Rattle.plan_text.specs.declared.step.Source.TheVariants.{Slots}
 use Rattle.plan_text.specs.declared.step.Step.{Step}
 use Rattle.plan_text.specs.declared.step.Step.TheVariants.{Mirror, Copy}
 use Rattle.plan_text.specs.declared.step.Planned.{Planned}

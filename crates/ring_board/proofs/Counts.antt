@@ -6,7 +6,6 @@ use mathlib.Core.Option.{some, some-injective, some-ne-none}
 use native.Mathlib.Decide.{ℕ_discrete}
 use lib.ListN.{get_elem?}
 use Rattle.std.proofs.lemmas.List.Sums.{sum_by-cons, sum_by-append}
-use Rattle.std.proofs.lemmas.Bool.{or_right, or_cases, or_left}
 use Rattle.ring_names.specs.Lists.{has}
 use Rattle.ring_names.proofs.Logic.{or_assoc}
 use Rattle.ring_board.specs.declared.view.Mark.{Mark}

@@ -1,5 +1,6 @@
 -- Lists in order of a key, each of whose items has the counters of a class of writers: the entries of a clock, and its blocks.
 use Rattle.std.proofs.Common.{◌≡◌, ◌≢◌, ◌⊎◌, ◌∙◌, inl, inr, ℕ, zero, suc, ◌<◌, ◌≤◌, List, [], ◌∷◌, ◌++◌, ◌↔◌, length, drop, refl, sym, subst, arith}
+use Rattle.std.proofs.lemmas.Bool.{cases_lt}
 use Rattle.std.specs.Prelude.{max}
 use Rattle.std.specs.List.{AllByRecursion}
 use Rattle.std.proofs.lemmas.Bool.Decides.{eqb_tells}
@@ -23,10 +24,7 @@ by_equal m n P same apart = elim (eqb_tells m n) [ inl t ↦ same t.1 | inr t �
 -- by which of two is the lesser
 pub by_order : (m n : ℕ) (P : Type 0) → (m < n → P) → (m ≡ n → P) → (n < m → P) → P
 by_order m n P less same more =
-    by_equal m n P same (λ apart. elim (split m n) [ inl h ↦ less h | inr h ↦ more (grind (arith, apart)) ])
-  where
-    split : (m n : ℕ) → (m < n) ⊎ (n ≤ m)
-    split m n = grind arith
+    by_equal m n P same (λ apart. elim (cases_lt m n) [ inl h ↦ less h | inr h ↦ more (grind (arith, apart)) ])
 
 pub above_more : {A : Type 0} (key : A → ℕ) (j k : ℕ) (xs : List A) → j ≤ k → AllByRecursion (λ x. k < key x) xs → AllByRecursion (λ x. j < key x) xs
 above_more key j k [] le h = tt

@@ -1,10 +1,9 @@
 -- What a binary search by group finds among blocks.
-use Rattle.std.proofs.Common.{◌≡◌, ◌≢◌, ◌↔◌, ℕ, zero, suc, ◌<◌, ◌≤◌, List, [], ◌∷◌, ◌∙◌, length, get_or, nat_eq, not, true, false, Option, Some, None, Ok, Err, refl, sym, ap, subst, arith}
+use Rattle.std.proofs.Common.{◌≡◌, ◌≢◌, ◌↔◌, ℕ, zero, suc, ◌<◌, ◌≤◌, List, [], ◌∷◌, ◌∙◌, length, get_or, nat_eq, not, true, false, Option, Some, None, Err, refl, sym, ap, subst, arith}
 use Rattle.std.specs.List.Sorted.{IsBinarySearchResult}
 use Rattle.std.specs.Ordering.{nat_cmp}
 use Rattle.std.specs.Option.{option_eq}
 use Rattle.std.proofs.lemmas.Bool.{eqb-true, eqb-false, not-true, not-false}
-use Rattle.std.proofs.lemmas.Cmp.{ranked}
 use Rattle.std.proofs.lemmas.List.{get_or_default}
 use Rattle.ring_clock.specs.declared.entry.Entry.{Entry}
 use Rattle.ring_clock.specs.Clock.{counter, IsAtMost}
@@ -42,10 +41,6 @@ seen_group bs g k b h l is of = record {
   of = of;
   counters = λ w own. ap (λ (x : List Entry). counter x w) is ∙ at bs w h k b l (sym (ap group_in is) ∙ of ∙ sym own);
 }
-
--- so is the block that was found
-pub found_group : (bs : List (List Entry)) (g k : ℕ) (b : List Entry) → AreBlocks bs → k < length bs → b ≡ get_or bs k b → IsBinarySearchResult (λ b. nat_cmp (group_in b) g) bs (Ok k) → IsBlockFor g (entries_of bs) b
-found_group bs g k b h l is r = seen_group bs g k b h l is (ap group_in is ∙ ranked _ g _ (sym (r b)))
 
 -- where none was found no writer of the group has a counter
 pub no_group : (bs : List (List Entry)) (g k : ℕ) → AreBlocks bs → IsBinarySearchResult (λ b. nat_cmp (group_in b) g) bs (Err k) → ¬ (HasGroup g (entries_of bs))

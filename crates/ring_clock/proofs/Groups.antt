@@ -4,9 +4,8 @@ use Rattle.std.specs.Prelude.{max}
 use Rattle.std.specs.List.{AllByRecursion}
 use Rattle.std.proofs.lemmas.Bool.Decides.{eqb_tells}
 use Rattle.ring_clock.specs.declared.entry.Entry.{Entry}
-use Rattle.ring_clock.specs.Clock.{counter, IsAbove, IsClock, IsAtMost}
+use Rattle.ring_clock.specs.Clock.{counter, IsAbove, IsClock}
 use Rattle.ring_clock.specs.Groups.{group, group_in, IsOfGroup, IsBlock}
-use Rattle.ring_clock.proofs.Counting.{by_equal}
 use Rattle.ring_clock.proofs.Entries.{here, there, absent, by_writer}
 
 -- where the entries in front have no counter of a writer, those behind decide
@@ -49,14 +48,6 @@ lesser v w less = omega arith
 pub some_counter : (b : List Entry) → IsBlock b → (w : ℕ) × (group w ≡ group_in b) × (0 < counter b w)
 some_counter [] block = absurd (omega (arith, block.1))
 some_counter (e ∷ es) block = (e.writer.0, refl, (let at = here e es e.writer.0 refl in omega (arith, block.0.0)))
-
--- a block that is at most another is of its group
-pub of_one_group : (a b : List Entry) → IsBlock a → IsBlock b → IsAtMost a b → group_in a ≡ group_in b
-of_one_group a b first second le = by_equal (group_in a) (group_in b) (group_in a ≡ group_in b) (λ same. same) (λ apart.
-    let some = some_counter a first in
-    let none = second.2 some.0 (λ is. apart (sym some.1 ∙ is)) in
-    let at = le some.0 in
-    absurd (omega (arith, some.2)))
 
 -- each writer's greater counter of two blocks of one group is a block of it
 pub merged_block : (a b c : List Entry) → IsBlock a → IsBlock b → group_in a ≡ group_in b → IsClock c → ((w : ℕ) → counter c w ≡ max (counter a w) (counter b w)) → IsBlock c × (group_in c ≡ group_in a)

@@ -4,7 +4,7 @@ use Rattle.std.specs.Prelude.{max, set, replicate}
 use Rattle.std.specs.List.{All}
 use Rattle.std.proofs.lemmas.List.Elements.{All-head, All-tail}
 use Rattle.std.proofs.lemmas.List.{get_or_past, get_or-set_same, get_or-set_other, get_or-replicate}
-use Rattle.std.proofs.lemmas.Bool.{ne_eqb, eq-eqb}
+use Rattle.std.proofs.lemmas.Bool.{ne_eqb, eq-eqb, cases_lt}
 use Rattle.ring_clock.specs.declared.entry.Entry.{Entry}
 use Rattle.ring_clock.specs.Clock.{counter, IsAbove, IsClock, IsAtMost}
 use Rattle.ring_clock.specs.Groups.{group, group_in, IsOfGroup, IsBlock}
@@ -50,13 +50,10 @@ placed s (c ∷ cs) (suc k) =
 
 -- by whether writer w stands before the first one, or at some place
 by_place : (s w : ℕ) (P : ℕ → Type 0) → (w < s → P w) → ((k : ℕ) → P (s + k)) → P w
-by_place s w P less at = elim (split w s) [
+by_place s w P less at = elim (cases_lt w s) [
   | inl l ↦ less l
   | inr le ↦ subst P (omega arith) (at (w - s))
 ]
-  where
-    split : (w s : ℕ) → (w < s) ⊎ (s ≤ w)
-    split w s = grind arith
 
 -- ---- the counters of a group
 

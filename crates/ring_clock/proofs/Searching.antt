@@ -1,5 +1,6 @@
 -- What a binary search by writer finds among the entries of a clock.
 use Rattle.std.proofs.Common.{◌≡◌, ◌≢◌, ◌⊎◌, inl, inr, ℕ, zero, suc, ◌<◌, ◌≤◌, List, [], ◌∷◌, ◌∙◌, length, get_or, Ok, Err, refl, sym, ap, arith}
+use Rattle.std.proofs.lemmas.Bool.{cases_lt}
 use Rattle.std.specs.List.{AllByRecursion}
 use Rattle.std.specs.List.Sorted.{IsBinarySearchResult}
 use Rattle.std.specs.Ordering.{nat_cmp, ordering_index}
@@ -45,13 +46,10 @@ found es w k d h l r = at es w h k d l (ranked _ w _ (sym (r d)))
 pub not_at : {A : Type 0} (key : A → ℕ) (xs : List A) (w k : ℕ) → ((i j : ℕ) (d : A) → i ≤ j → j < length xs → key (get_or xs i d) ≤ key (get_or xs j d)) → IsBinarySearchResult (λ x. nat_cmp (key x) w) xs (Err k) → (n : ℕ) (d : A) → n < length xs → key (get_or xs n d) ≢ w
 not_at key xs w k rises r n d l is =
     let parts = r (λ i j d le l. ranks_rise _ _ w (rises i j d le l)) in
-    elim (split n k) [
+    elim (cases_lt n k) [
       | inl before ↦ omega (arith, ranked _ w _ (sym (parts.0 n d (omega arith) before)))
       | inr behind ↦ omega (arith, ranked _ w _ (sym (parts.1 n d behind l)))
     ]
-  where
-    split : (n k : ℕ) → (n < k) ⊎ (k ≤ n)
-    split n k = grind arith
 
 -- and the counter is 0
 pub not_found : (es : List Entry) (w k : ℕ) → IsClock es → IsBinarySearchResult (λ e. nat_cmp e.writer.0 w) es (Err k) → 0 ≡ counter es w

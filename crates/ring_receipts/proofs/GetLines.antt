@@ -1,15 +1,14 @@
 -- The block of a get's line is told from the front of the list.
-use Rattle.std.proofs.Common.{◌≡◌, ◌≤◌, ◌∙◌, ℕ, Bool, true, false, cond, List, [], ◌∷◌, ◌++◌, length, refl, sym, ap, subst, subst₂, append_assoc, arith, inl, inr}
+use Rattle.std.proofs.Common.{◌≡◌, ◌≤◌, ◌∙◌, ℕ, Bool, true, cond, List, [], ◌∷◌, ◌++◌, refl, sym, ap, subst₂, append_assoc}
 use Rattle.std.specs.Prelude.{unwrap_or}
 use Rattle.std.specs.List.{list_all}
-use Rattle.plan_runs.specs.declared.event.Event.{Event}
 use Rattle.plan_runs.specs.declared.event.Event.TheVariants.{StartGet}
 use Rattle.plan_runs.specs.declared.event.Reply.TheVariants.{Get}
 use Rattle.ring_receipts.specs.declared.receipt.Receipt.{Receipt}
 use Rattle.ring_receipts.specs.declared.asked.Asked.{Asked}
 use Rattle.ring_receipts.specs.Kinds.{reads, ends, get_in}
 use Rattle.ring_receipts.specs.Behind.{behind, behind_one, begins_with}
-use Rattle.ring_receipts.specs.Blocks.{IsGet, AreBlocks, Leaves, HasNoBlock}
+use Rattle.ring_receipts.specs.Blocks.{IsGet, AreBlocks, Leaves}
 use Rattle.ring_receipts.proofs.Fronts.{heads, tails, passed, passed_one, behind_all, behind_one_all, begins_all, begins_apart, at_most_one}
 use Rattle.ring_receipts.proofs.KindsApart.{client_reads, client_ends, ended_reads}
 use Rattle.ring_receipts.proofs.Opening.{Opens, blocks_open, opens_apart}

@@ -1,5 +1,5 @@
 -- The block of a put's line is told from the front of the list.
-use Rattle.std.proofs.Common.{◌≡◌, ◌≤◌, ◌∙◌, ℕ, Bool, true, false, cond, List, [], ◌∷◌, ◌++◌, length, refl, sym, ap, subst, subst₂, append_assoc, arith, inl, inr}
+use Rattle.std.proofs.Common.{◌≡◌, ◌≤◌, ◌∙◌, ℕ, true, false, List, [], ◌∷◌, ◌++◌, length, refl, sym, ap, subst₂, append_assoc, inl, inr}
 use Rattle.std.specs.Prelude.{unwrap_or}
 use Rattle.std.specs.List.{list_all}
 use Rattle.std.proofs.lemmas.Bool.{true≢false}
@@ -11,7 +11,7 @@ use Rattle.ring_receipts.specs.declared.receipt.Receipt.{Receipt}
 use Rattle.ring_receipts.specs.declared.asked.Asked.{Asked}
 use Rattle.ring_receipts.specs.Kinds.{sends, acknowledges, put_in}
 use Rattle.ring_receipts.specs.Behind.{behind, behind_one}
-use Rattle.ring_receipts.specs.Blocks.{numbers_of, are_ended, IsPut, AreBlocks, Leaves, HasNoBlock}
+use Rattle.ring_receipts.specs.Blocks.{numbers_of, are_ended, IsPut, AreBlocks, Leaves}
 use Rattle.ring_receipts.proofs.Fronts.{heads, tails, passed, passed_one, behind_all, behind_one_all, begins_apart, at_most_one}
 use Rattle.ring_receipts.proofs.KindsApart.{client_sends, client_acknowledges, acknowledged_sends}
 use Rattle.ring_receipts.proofs.Opening.{Opens, blocks_open, opens_apart}

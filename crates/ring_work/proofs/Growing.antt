@@ -9,10 +9,6 @@ use Rattle.ring_work.specs.Noted.{Adds, Grows, Completes}
 all_both : (test : Receipt → Bool) (a b : List Receipt) → list_all test a ≡ true → list_all test b ≡ true → list_all test (a ++ b) ≡ true
 all_both test a b p q = list_all-append test a b ∙ rw (p, q) refl
 
--- none more
-pub grows_not : (test : Receipt → Bool) (old new : List Receipt) → new ≡ old → Grows test old new
-grows_not test old new same = record { more = []; joined = same ∙ sym (append-nil old); pass = refl }
-
 -- some, and behind them some
 pub grows_on : (test : Receipt → Bool) (old mid new : List Receipt) → Grows test old mid → Grows test mid new → Grows test old new
 grows_on test old mid new a b = record {

@@ -27,7 +27,3 @@ any_taken P all xs y joined some =
           let is : y ≡ a.1 = sym (ap (λ k. get_or (xs ++ y ∷ []) k a.1) last ∙ get_or-append-add xs (y ∷ []) 0 a.1) ∙ a.3 in
           inr (subst P (sym is) a.4)
     ]
-
--- there is none left
-pub any_of_none : {X : Type 0} (P : X → Type 0) (xs : List X) → length xs ≡ 0 → Any P xs → ⊥
-any_of_none P xs none some = (let most = some.2 in omega (arith, none, most))

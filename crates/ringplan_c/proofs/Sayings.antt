@@ -5,8 +5,8 @@ use Rattle.std.specs.Prelude.{⊤}
 use Rattle.ring_names.specs.declared.refusal.Refusal.{Refusal}
 use Rattle.ringplan_c.proofs.Lines.{line_task}
 use Rattle.ringplan_c.specs.Line.{line_of, words_in}
-use Rattle.ringplan_c.specs.Speaking.{IsTurnedAway, Reports, Says, helped, refused, reported}
-use Rattle.ringplan_command.specs.Command.{Answers, Asked, IsRefused, WantsHelp, asked, asks_word, to_make, word_of_making}
+use Rattle.ringplan_c.specs.Speaking.{IsTurnedAway, Reports, Says, refused, reported}
+use Rattle.ringplan_command.specs.Command.{Answers, Asked, IsRefused, asked, asks_word, to_make, word_of_making}
 use Rattle.ringplan_command.specs.Files.{IsJob, Names, files_of, no_files}
 use Rattle.ringplan_command.specs.declared.command.Request.{Request}
 use Rattle.ringplan_command.specs.declared.command.Request.TheVariants.{Do, CheckBy, State, StateBy, Judge, StateJudge, Part, Drive, Make, Describe, Help, Refused, Mistaken, OutOfMemory}
@@ -92,10 +92,6 @@ module _ (word : Word) (options bytes : List ℕ) (words : List (List ℕ)) (e :
       → IfOk result (λ r. Says word options bytes r.output.items r.status)
   says_made request making fs result h is files reports =
       weaker result reports (λ r p. made_of making fs r.output.items r.status (subst (λ (x : Request). Answers (asked words) x) is h) (files_named request making fs is files) p)
-
-  -- help
-  pub says_help : (text : List ℕ) (status : ℕ) → WantsHelp (asked words).faults → status ≡ 0 → Says word options bytes text status
-  says_help text status h zero = helped (subst (λ (ws : List (List ℕ)). WantsHelp (asked ws).faults) e h) zero
 
   -- a refusal
   pub says_refused : (request : Request) (text : Vec ℕ) (result : Result Report Refusal) → Answers (asked words) request → (request ≡ Refused text) ⊎ (request ≡ Mistaken text)

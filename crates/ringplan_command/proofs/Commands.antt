@@ -2,7 +2,6 @@
 use Rattle.std.proofs.Common.{◌≡◌, ◌≢◌, ◌⊎◌, MatchOption, ℕ, [], ◌∷◌, List, Result, Ok, Err, Option, Some, None, IfOk, true, false, codes, option_map, refl, sym, ap, ◌∙◌, subst, drop, inl, inr}
 use Rattle.std.specs.Str.{bytes_eq}
 use Rattle.std.specs.Str.Parse.{ParsesUnsigned}
-use Rattle.std.specs.Global.{Vec}
 use Rattle.clap.specs.Words.{App, FailsBy, IsAmong, Kinds, Row, TriesOne, fault_of, is_simple, is_simple_and_free, built, first_of, first_value, one_of, one_text, rows_of, subcommand_of, subcommand_rows_of, HasMatchesOf}
 use Rattle.clap.specs.Simple.{names_of, entered}
 use Rattle.clap.specs.Walk.{stop_after}
@@ -27,7 +26,7 @@ use Rattle.ringplan_command.specs.declared.command.Request.{Request}
 use Rattle.ringplan_command.specs.declared.command.Request.TheVariants.{Do, CheckBy, State, StateBy, Judge, StateJudge, Part, Drive, Make, Describe, Help, Refused, Mistaken, OutOfMemory}
 use Rattle.ringplan_job.specs.declared.job.Job.{Job}
 use Rattle.ringplan_job.specs.declared.job.Job.TheVariants.{Check, Migrate, Plan, Play, Replay}
-use Rattle.ringplan_command.specs.Command.{Answers, Asked, HasNoFormat, IsMistaken, IsRefused, AsksGuide, AsksWord, IsInFormat, IsOfGuide, IsOfWord, IsTurnedAway, MeansFormat, TakesValues, WantsHelp}
+use Rattle.ringplan_command.specs.Command.{Answers, Asked, IsMistaken, IsRefused, AsksGuide, AsksWord, IsInFormat, IsOfGuide, IsOfWord, IsTurnedAway, MeansFormat, TakesValues, WantsHelp}
 use Rattle.ringplan_command.specs.Command.{Task, asked, asked_by, asks_word, but_text, by_drive, by_judge, by_workers, format_named, in_json, only, option_named, part_texts, json_named, task_named, to_describe, to_do, to_drive, to_judge, to_make, to_part, word_of_making, asks_just}
 use Rattle.ringplan_command.specs.Parts.{IsShare, MeansChoice, PartTexts, texts_in}
 use Rattle.history_parts.specs.declared.choice.Choice.{Choice}

@@ -1,5 +1,5 @@
 -- What a replay of a bundle prints, by its parts, and what a judge does.
-use Rattle.std.proofs.Common.{◌≡◌, ◌∙◌, ℕ, List, Option, Some, None, Result, Ok, Err, IfOk, IfErr, sym, ap, subst}
+use Rattle.std.proofs.Common.{◌≡◌, ◌∙◌, ℕ, List, Option, None, Result, Ok, Err, IfOk, IfErr, sym, ap, subst}
 use Rattle.std.proofs.Math.Logic.{∥∥₁_map}
 use Rattle.std.specs.Global.{Vec}
 use Rattle.ring_names.specs.declared.ids.NodeId.{NodeId}

@@ -9,7 +9,7 @@ use Rattle.ring_script.specs.Bundles.{bundle_at}
 use Rattle.ring_script.specs.declared.bundle.Bundle.{Bundle}
 use Rattle.ring_script.specs.declared.bundle.Kind.TheVariants as kind
 use Rattle.ringplan_job.specs.declared.job.Job.TheVariants.{Check}
-use Rattle.ringplan_jobs.specs.Answers.{refused_status, status_of}
+use Rattle.ringplan_jobs.specs.Answers.{status_of}
 use Rattle.ringplan_jobs.specs.Verdict.{MakesIf}
 use Rattle.ringplan_jobs.proofs.Verdicts.{verdict-good}
 use Rattle.ringplan_people.specs.Studies.{HasApproved, of_plan}
@@ -38,10 +38,6 @@ yes_of_check bytes text status (Err e, makes, begins) zero = absurd (not_zero _ 
 -- an approved plan keeps its promises
 pub yes_of_study : (bytes : List ℕ) → HasApproved bytes → HasKept bytes
 yes_of_study bytes (ring, plan, of, approved) = (ring, plan, of, approved.keeps)
-
--- a refusal has another status than 0
-pub refused_status_is : (n : ℕ) → refused_status n ≢ 0
-refused_status_is n e = not_zero _ _ e
 
 few : (a b : Bool) → (if a then 2 else (if b then 3 else 1)) ≤ 3
 few true b = omega arith

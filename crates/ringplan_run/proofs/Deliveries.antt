@@ -1,24 +1,20 @@
 -- What is printed, or written to a file.
-use Rattle.std.proofs.Common.{◌≡◌, ◌⊎◌, arith, inl, inr, ℕ, List, [], ◌∷◌, ◌++◌, Option, Some, None, Err, drop, refl, sym, ap, ◌∙◌, subst}
+use Rattle.std.proofs.Common.{◌≡◌, ◌⊎◌, arith, inl, inr, ℕ, List, [], ◌∷◌, ◌++◌, Option, Some, None, drop, refl, sym, ap, ◌∙◌, subst}
 use Rattle.std.proofs.lemmas.List.{append_assoc, append-nil}
 use Rattle.std.specs.Prelude.{IsSome, String, option_map, string_bytes}
 use Rattle.std.specs.Global.{Global}
 use Rattle.ringplan_command.specs.declared.files.Files.{Files}
-use Rattle.ring_names.specs.declared.refusal.Refusal.{Refusal}
-use Rattle.ring_names.specs.declared.refusal.Refusal.TheVariants.{TooLarge, OutOfMemory, ReadFailed}
-use Rattle.ring_names.specs.Refusals.{number_of}
 use Rattle.ringplan_job.specs.declared.job.Job.{Job}
 use Rattle.ringplan_job.specs.declared.making.Making.{Making}
 use Rattle.ringplan_job.specs.declared.making.Making.TheVariants.{After, Around, Bundle, Cert, Draw, Even, Goal, Moves, Show, State, Steps, Why, Windows}
 use Rattle.ringplan_job.specs.declared.making.Statement.TheVariants as statements
-use Rattle.ringplan_jobs.specs.Answers.{refused_status}
-use Rattle.ringplan_jobs.specs.Io.{Prints, AppendsPart, Reads, Tells}
+use Rattle.ringplan_jobs.specs.Io.{Prints, AppendsPart, Tells}
 use Rattle.ringplan_command.specs.Command.{Asked, asked, only}
 use Rattle.ringplan_command.specs.Files.{Names, files_in, files_of, no_files}
 use Rattle.ringplan_command.specs.Tree.{word_of}
 use Rattle.ringplan_command.proofs.Commands.{asked_alone, no_files_alone}
 use Rattle.ringplan_people.specs.Made.{refused as none, stated as of_statement}
-use Rattle.ringplan_run.specs.Run.{Delivers, IsWritten, NamesSizes, Reports, Runs, RunsTo, Shows, failed, filed, printed, read, told_by, too_large}
+use Rattle.ringplan_run.specs.Run.{Delivers, IsWritten, NamesSizes, Reports, Runs, RunsTo, Shows, failed, filed, printed, read, told_by}
 
 -- nothing is printed, with any status
 pub prints_nothing : (old : Option (List ℕ)) (status : ℕ) → Prints old old [] status status
@@ -111,12 +107,6 @@ ran_alone job words told old new result e h =
     subst (λ (a : Asked). RanBy a no_files told old new result) (asked_alone job words e) named
 
 -- ---- reports of what was not read
-
-pub reports_unread : (making : Making) (bytes text : List ℕ) (status : ℕ) (e : Refusal) → Reads bytes (Err e) → text ≡ [] → status ≡ refused_status (number_of e) → Reports making bytes text status
-reports_unread making bytes text status (TooLarge line) reads t s = too_large reads.1 t s
-reports_unread making bytes text status ReadFailed reads t s = failed t s
-reports_unread making bytes text status OutOfMemory reads t s = failed t s
-reports_unread making bytes text status e reads t s = absurd reads
 
 -- nothing is made, whatever the bytes
 pub reports_none : (making : Making) (bytes : List ℕ) (status : ℕ) → NamesSizes making → (status ≡ 2) ⊎ (status ≡ 3) → Reports making bytes [] status

@@ -40,10 +40,6 @@ module _ (up : ℕ → Bool) where
   more_up (Some y) f g are h = (or_left (f y.0) (g y.0) h.0, h.1, λ x l t. elim (or_cases (f x) (g x) t) [ inl e ↦ h.2 x l e | inr e ↦ are x e ])
 
   module _ (f : ℕ → Bool) (n : NodeId) (keeps : Bool) where
-    -- a node that is up, or keeps nothing
-    pub less_up : (o : Option NodeId) → up n.0 ≡ true → IsLeastDown up f o → IsLeastDown up (λ x. f x || ((x == n.0) && keeps)) o
-    less_up o is h = more_up o f (λ x. (x == n.0) && keeps) (λ x t. subst (λ (z : ℕ). up z ≡ true) (sym (eqb-true x n.0 (and_parts (x == n.0) keeps t).0)) is) h
-
     pub less_none : (o : Option NodeId) → keeps ≡ false → IsLeastDown up f o → IsLeastDown up (λ x. f x || ((x == n.0) && keeps)) o
     less_none o no_hints h = more_up o f (λ x. (x == n.0) && keeps) (λ x t. absurd (let e = (and_parts (x == n.0) keeps t).1 in cc)) h
 

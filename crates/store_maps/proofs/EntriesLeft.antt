@@ -104,11 +104,6 @@ pub record Filling {A B X : Type 0} (from : List (Vec ℕ A × X)) (copy : List 
   pub left : Left from rest
   pub done : (k : List ℕ) → value_in rest k ≡ None → value_in copy k ≡ value_in from k
 
-pub filling_none : {A B X : Type 0} (from : List (Vec ℕ A × X)) (copy : List (Vec ℕ B × X)) → copy ≡ [] → IsStrictlySortedBy by_items (keys_of from) → Filling from copy from
-unfolding IsStrictlySortedBy
-filling_none from [] e order = record { order = tt; left = left_all from order; done = λ k none. sym none }
-filling_none from (x ∷ xs) e order = absurd cc
-
 pub filling_more : {A B X : Type 0} (from : List (Vec ℕ A × X)) (copy more : List (Vec ℕ B × X)) (rest later : List (Vec ℕ A × X)) (key : Vec ℕ A) (x : X)
     → rest ≡ (key, x) ∷ later → IsStrictlySortedBy by_items (keys_of more) → PutsAt copy more key.items x → Filling from copy rest → Filling from more later
 filling_more from copy more rest later key x is order put s = record {

@@ -1,5 +1,5 @@
 -- Who has something of a key, once a node is put in or taken out.
-use Rattle.std.proofs.Common.{◌≡◌, ◌≢◌, ◌<◌, ◌≤◌, ◌+◌, ◌⊎◌, inl, inr, ◌∙◌, ℕ, zero, suc, Bool, true, false, List, ◌∷◌, refl, sym, ap, Option, Some, None, arith}
+use Rattle.std.proofs.Common.{◌≡◌, ◌≢◌, ◌<◌, ◌≤◌, ◌+◌, ◌⊎◌, inl, inr, ◌∙◌, ℕ, Bool, true, false, List, ◌∷◌, refl, sym, ap, Option, Some, None, arith}
 use Rattle.std.specs.Prelude.{not, ◌&&◌, ◌||◌, ◌==◌, is_some}
 use Rattle.std.specs.Cmp.{unsigned_ties, eq_by_cmp_equiv}
 use Rattle.std.specs.Cmp.Lexicographic.{slice_cmp, nat_list_cmp_total}
@@ -138,10 +138,7 @@ chunks_none node old map = record {
 }
 
 split : (i c : ℕ) → i < c + 1 → (i ≡ c) ⊎ (i < c)
-split zero zero l = inl refl
-split zero (suc c) l = inr (omega arith)
-split (suc i) zero l = absurd (omega arith)
-split (suc i) (suc c) l = elim (split i c (omega arith)) [ inl e ↦ inl (ap suc e) | inr h ↦ inr (omega arith) ]
+split i c l = grind arith
 
 pub chunks_more : (node : ℕ) (old now new : List ℕ → ℕ → Bool) (map : SlotMap) (c : ℕ) (one : KeyMap)
     → ((k : List ℕ) → chunk_of (space_of map) k ≡ c → has_place one k ≡ has_place_for map k) → ((k : List ℕ) (x : ℕ) → x ≢ node → new k x ≡ now k x)

@@ -1,7 +1,6 @@
 -- What is read of a list in which an item was written.
 use Rattle.std.proofs.Common.{◌≡◌, ◌≢◌, ℕ, zero, suc, ◌<◌, List, [], ◌∷◌, slice_set, refl, ap}
 use Rattle.std.specs.Prelude.{slice_get, option_map}
-use Rattle.ring_names.proofs.InLists.{get_lent}
 
 -- the item there is the one that was written
 pub get_same : {A : Type 0} (xs : List A) (n : ℕ) (y : A) → slice_get (slice_set xs n y) n ≡ option_map (λ x. y) (slice_get xs n)

@@ -4,7 +4,6 @@ use Rattle.std.specs.Prelude.{◌==◌, ◌&&◌, Some}
 use Rattle.std.specs.Ordering.{nat_cmp}
 use Rattle.std.specs.Cmp.{unsigned_ties, tied_then}
 use Rattle.std.specs.BTreeMap.{is_at, Updates}
-use Rattle.std.proofs.lemmas.Bool.{ne_eqb, eq-eqb}
 use Rattle.ring_names.proofs.Logic.{eqb_turned}
 use Rattle.store_tables.specs.declared.lasts.KeyWriter.{KeyWriter}
 use Rattle.store_tables.specs.declared.lasts.Lasts.{Lasts}

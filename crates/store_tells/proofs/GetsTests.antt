@@ -16,7 +16,7 @@ use Rattle.plan_text.specs.declared.step.Planned.{Planned}
 use Rattle.plan_runs.specs.declared.event.Event.{Event}
 use Rattle.plan_runs.specs.declared.event.Event.TheVariants.{StartGet, Read, EndGet}
 use Rattle.plan_runs.specs.declared.event.Reply.{Reply}
-use Rattle.plan_runs.specs.World.{GetRecord, World, opening_world, passing_below, is_get_of}
+use Rattle.plan_runs.specs.World.{GetRecord, World, opening_world, is_get_of}
 use Rattle.plan_runs.specs.World as world
 use Rattle.plan_runs.specs.Guards.{get_exists, has_ended, slots_read, guards}
 use Rattle.plan_runs.specs.Effects.{changed, with_value, finds, answers, effect}

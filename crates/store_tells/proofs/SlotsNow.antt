@@ -28,10 +28,10 @@ use Rattle.plan_check.proofs.Occupied.{occupied}
 use Rattle.plan_runs.proofs.Passed.{all_met, ready}
 use Rattle.plan_runs.proofs.Suited.{owner-within, within}
 use Rattle.store_tables.specs.declared.slots.SlotNow.{SlotNow}
-use Rattle.store_tables.specs.Slots.{slot_at_start, slot_now, switched, ChangesSlot}
+use Rattle.store_tables.specs.Slots.{slot_at_start, slot_now}
 use Rattle.store_tells.specs.Slots.{IsNow, SlotsMeet}
 use Rattle.store_tells.specs.SlotsStepped.{stepped, StepsSlots, step_leaves_slots, leaves_slots}
-use Rattle.store_tells.proofs.SlotsDone.{same_slots, slots_stepped, mirror_steps, switch_steps}
+use Rattle.store_tells.proofs.SlotsDone.{same_slots, slots_stepped}
 use Rattle.store_tells.proofs.StageCounts.{count_none}
 use Rattle.plan_check.proofs.Apart.{count_zero}
 

@@ -1,11 +1,9 @@
 -- What a store keeps that tells of a world tells of it still where versions read as before, and where a key was numbered.
-use Rattle.std.proofs.Common.{◌≡◌, inl, inr, ℕ, ◌<◌, List, [], ◌++◌, ◌∷◌, sym, subst}
+use Rattle.std.proofs.Common.{◌≡◌, inl, inr, ℕ, ◌<◌, List, [], ◌++◌, ◌∷◌, subst}
 use Rattle.std.specs.Prelude.{Option, Some, None, is_some, if◌then◌else◌}
 use Rattle.ring_names.specs.Names.{place, with_name}
-use Rattle.ring_names.specs.declared.ids.Slot.{Slot}
 use Rattle.ring_table.specs.Value.{RingValue}
 use Rattle.ring_space.specs.Place.{place_of}
-use Rattle.ring_versions.specs.declared.version.Version.{Version}
 use Rattle.plan_text.specs.declared.step.Planned.{Planned}
 use Rattle.plan_runs.specs.World.{World}
 use Rattle.store_tells.specs.Puts.{clock_at}
@@ -13,7 +11,6 @@ use Rattle.store_tells.proofs.PutsLists.{appended_at}
 use Rattle.store_tells.proofs.PutsKeys.{numbered_named, none_behind_named, puts_stay_named, gets_stay_named}
 use Rattle.store_tells.specs.HintsFit.{KeysFit}
 use Rattle.store_tells.specs.Kept.{Kept, Tells}
-use Rattle.ring_store.proofs.MergesAtNodes.{one_reading}
 
 -- a key that was numbered lies in the ring as well
 pub named_fit : (ring : RingValue) (keys : List (List ℕ)) (key : List ℕ) → (place_of ring.q key).partition < ring.q → KeysFit ring keys → KeysFit ring (with_name keys key)

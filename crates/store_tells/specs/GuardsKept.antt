@@ -3,19 +3,15 @@ use Rattle.std.specs.Prelude.{ℕ, ◌-◌, Bool, false, not, ◌&&◌, ◌||◌
 use Rattle.std.specs.List.{list_all}
 use Rattle.ring_names.specs.declared.ids.NodeId.{NodeId}
 use Rattle.ring_names.specs.declared.ids.Slot.{Slot}
-use Rattle.ring_names.specs.declared.refusal.Refusal.TheVariants.{NotMember, NotReady, AlreadyDone, KeeperTaken, KeeperInPartition}
-use Rattle.ring_names.specs.declared.refusal.Refusal.TheVariants.{UnknownNumber, HintsLeft, NotOpen, ChunksLeft, LossesSpent}
+use Rattle.ring_names.specs.declared.refusal.Refusal.TheVariants.{NotMember, AlreadyDone, KeeperTaken, KeeperInPartition}
+use Rattle.ring_names.specs.declared.refusal.Refusal.TheVariants.{UnknownNumber, NotOpen, ChunksLeft, LossesSpent}
 use Rattle.ring_table.specs.Value.{RingValue}
-use Rattle.plan_text.specs.declared.step.Source.{Source}
-use Rattle.plan_text.specs.declared.step.Step.{Step}
-use Rattle.plan_text.specs.declared.step.Step.TheVariants as step
 use Rattle.plan_text.specs.declared.step.Planned.{Planned}
 use Rattle.plan_text.specs.Valid.{is_ring_slot}
-use Rattle.plan_stage.specs.Each.{step_at}
 use Rattle.plan_stage.specs.Parties.{parties}
 use Rattle.plan_stage.specs.Clauses.{Guard}
-use Rattle.plan_runs.specs.World.{some_below, passing_below, copy_at, slot_at}
-use Rattle.plan_runs.specs.Guards.{up_guard, slot_up, nodes_up, has_copy, has_other}
+use Rattle.plan_runs.specs.World.{some_below, passing_below, slot_at}
+use Rattle.plan_runs.specs.Guards.{up_guard, slot_up, nodes_up, has_copy}
 use Rattle.store_tables.specs.declared.nodes.NodeNow.{NodeNow}
 use Rattle.store_tables.specs.declared.slots.SlotNow.{SlotNow}
 use Rattle.store_tables.specs.declared.steps.StepNow.{StepNow}
@@ -83,43 +79,15 @@ handoff_guards_kept ring nodes rows keeps x s = (is_ring_slot ring s, UnknownNum
 abbrev pub is_ready_kept : List Planned → List StepNow → ℕ → Bool
 is_ready_kept plan steps n = elim (slice_get plan n) [ Some x ↦ list_all (is_done_at steps) x.after | None ↦ false ]
 
--- what a step that is no copy needs by its kind
-abbrev pub step_guards_kept : List NodeNow → (ℕ → Slot → Bool) → (ℕ → Bool) → Step → List Guard
-step_guards_kept nodes keeps_other keeps_any (step.Join x) = []
-step_guards_kept nodes keeps_other keeps_any (step.Mirror s x) = up_guard (is_up_at nodes) x ∷ (not (keeps_other x.0 s), HintsLeft) ∷ []
-step_guards_kept nodes keeps_other keeps_any (step.Copy s from) = []
-step_guards_kept nodes keeps_other keeps_any (step.Switch s) = []
-step_guards_kept nodes keeps_other keeps_any (step.Drop s x) = up_guard (is_up_at nodes) x ∷ []
-step_guards_kept nodes keeps_other keeps_any (step.Retire x) = (not (keeps_any x.0), HintsLeft) ∷ []
-
--- a step that is no copy, new and ready, and what it needs by its kind
-abbrev pub do_guards_kept : List Planned → List NodeNow → List StepNow → (ℕ → Slot → Bool) → (ℕ → Bool) → ℕ → List Guard
-do_guards_kept plan nodes steps keeps_other keeps_any n = (has_other plan n, UnknownNumber) ∷ (not (is_done_at steps n), AlreadyDone)
-    ∷ (is_ready_kept plan steps n, NotReady) ∷ elim (step_at plan n) [ Some s ↦ step_guards_kept nodes keeps_other keeps_any s | None ↦ [] ]
-
 -- ---- copies
 
 -- the nodes of the copy are up
 abbrev pub parties_up_kept : RingValue → List Planned → List NodeNow → ℕ → List Guard
 parties_up_kept ring plan nodes n = map (up_guard (is_up_at nodes)) (parties ring plan n)
 
--- the nodes that keep hints which the copy reads are up
-abbrev pub keepers_up_kept : RingValue → List Planned → List NodeNow → (Slot → Source → ℕ → Bool) → ℕ → List Guard
-keepers_up_kept ring plan nodes keeps n = elim (copy_at plan n) [ Some k ↦ nodes_up (is_up_at nodes) (length ring.nodes) (keeps k.0 k.1) | None ↦ [] ]
-
 -- how many of the 16 chunks are not marked
 abbrev pub chunks_left_kept : List StepNow → ℕ → ℕ
 chunks_left_kept steps n = 16 - length (passing_below 16 (is_marked_at steps n))
-
--- a copy, neither finished nor open, and ready
-abbrev pub open_copy_guards_kept : RingValue → List Planned → List NodeNow → List StepNow → ℕ → List Guard
-open_copy_guards_kept ring plan nodes steps n = (has_copy plan n, UnknownNumber) ∷ (not (is_done_at steps n || is_open_at steps n), AlreadyDone)
-    ∷ (is_ready_kept plan steps n, NotReady) ∷ parties_up_kept ring plan nodes n
-
--- a chunk that is not marked, of an open copy
-abbrev pub chunk_copy_guards_kept : RingValue → List Planned → List NodeNow → List StepNow → (Slot → Source → ℕ → Bool) → ℕ → ℕ → List Guard
-chunk_copy_guards_kept ring plan nodes steps keeps n c = (has_copy plan n && nat_lt c 16, UnknownNumber) ∷ (is_open_at steps n, NotOpen)
-    ∷ (not (is_marked_at steps n c), AlreadyDone) ∷ (parties_up_kept ring plan nodes n ++ keepers_up_kept ring plan nodes keeps n)
 
 -- an open copy whose chunks are all marked
 abbrev pub close_copy_guards_kept : List Planned → List StepNow → ℕ → List Guard

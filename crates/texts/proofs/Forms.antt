@@ -1,6 +1,5 @@
 -- Forms of fields, lines and sections, put together: each law is proved once here.
 use Rattle.std.proofs.Common.{◌≡◌, ℕ, ◌+◌, ◌-◌, ◌<◌, ◌≤◌, Bool, true, false, cond, not, List, [], ◌∷◌, ◌++◌, length, map, codes, Result, Ok, Err, refl, sym, ap, subst, ◌∙◌, arith, rules, append_assoc, length-append}
-use Rattle.std.specs.Prelude.{IfOk}
 use Rattle.std.specs.List.{AllByRecursion, list_all}
 use Rattle.std.specs.Fmt.{decimal}
 use Rattle.std.specs.Str.{bytes_eq}
@@ -411,11 +410,6 @@ line_as {W} {A} {B} spell allowed f each l same to from = record {
       let line = l.plain w x.0 (from x.0 (subst allowed (sym x.1) p)) in
       subst IsPlainLine (same x.0 ∙ ap spell x.1) line;
 }
-
--- what was returned of a line is allowed
-pub line-allowed : {W A B : Type 0} (l : LineForm W A) → W → (f : B → A) (k : ℕ) (fields : List (List ℕ)) (r : Result B Refusal) → map_ok f r ≡ l.read k fields → IfOk r (λ v. l.allowed (f v))
-line-allowed l w f k fields (Ok v) e = ((l.exact w k).takes fields (f v) (sym e)).1
-line-allowed l w f k fields (Err d) e = tt
 
 -- ---- sections
 

@@ -208,9 +208,6 @@ module _ {S A : Type 0} (goes : List (List (List ℕ)) → Bool) (read : S → �
 -- lines that begin alike
 module _ {A : Type 0} (test : List ℕ → Bool) (read : List A → ℕ → List (List ℕ) → Result A Refusal)
     (at : (seen : List A) (k : ℕ) (fields : List (List ℕ)) → At k (read seen k fields)) where
-  pub many-on : (seen : List A) (k : ℕ) (lines : List (List (List ℕ))) → ReadsTo k (many_from test read seen k lines)
-  many-on = loop-on (begins_so test) read pushed (many_from test read) (λ seen k line more. refl) (λ seen k. omega arith) at
-
   pub many-late : (seen : List A) (start s t : Left) (fields : List (List ℕ)) (x : A) (total : Result (List A × Left) Refusal) → begins_so test s.lines ≡ true
       → next_line s ≡ Ok (fields, t) → read seen s.line fields ≡ Ok x
       → start.line ≤ s.line → many_from test read seen s.line s.lines ≡ total → (next_number start.line ≤ t.line) × ReadsTo t.line total

@@ -96,14 +96,6 @@ module _ {A : Type 0} (goes : List (List (List ℕ)) → Bool) (read : List A �
           let all : v ≡ f.items = f.all in
           (rw all f.parts, rw all f.next, f.some)
 
--- lines that begin alike
-pub many-part : {A : Type 0} (test : List ℕ → Bool) (read : List A → ℕ → List (List ℕ) → Result A Refusal) (spell : A → List (List ℕ)) (P : List A → A → Type 0)
-    (line-law : (seen : List A) (k : ℕ) → IsLine (read seen k) spell (P seen))
-    → ((seen : List A) (x : A) (more : List (List (List ℕ))) → P seen x → begins_so test (spell x ∷ more) ≡ true)
-    → IsPart (BeginsOther test) (λ s. many_from test read [] s.line s.lines) (λ xs. map spell xs) (EachNext P [])
-many-part test read spell P line-law begins = loop-part (begins_so test) read (many_from test read) (λ seen k line more. refl) spell P line-law begins
-    (BeginsOther test) (other-any test)
-
 -- a line that is taken, and those after it
 module _ {S A : Type 0} (goes : List (List (List ℕ)) → Bool) (read : S → ℕ → List (List ℕ) → Result A Refusal) (push : S → A → S)
     (loop : S → ℕ → List (List (List ℕ)) → Result (S × Left) Refusal) (steps : Steps goes read push loop)

@@ -12,11 +12,6 @@ next bs i h = let e : suc i ≡ i + 1 = omega arith in subst (λ (k : ℕ). drop
 one : (p : ℕ → Bool) (b : ℕ) (bs ws : List ℕ) → p b ≡ false → bytes_eq (until p (b ∷ bs)) (b ∷ ws) ≡ bytes_eq (until p bs) ws
 one p b bs ws e = rw (e, eq-eqb b b refl) refl
 
--- a byte that both have
-pub until-step : (p : ℕ → Bool) (bs ws : List ℕ) (i : ℕ) → i < length bs → i < length ws → get_or bs i 0 ≡ get_or ws i 0 → p (get_or ws i 0) ≡ false
-    → bytes_eq (until p (drop i bs)) (drop i ws) ≡ bytes_eq (until p (drop (i + 1) bs)) (drop (i + 1) ws)
-until-step p bs ws i h l e f = rw (next bs i h, next ws i l, e) (one p (get_or ws i 0) (drop (i + 1) bs) (drop (i + 1) ws) f)
-
 stops : (p : ℕ → Bool) (b w : ℕ) (bs ws : List ℕ) → (eqb b w ≡ true → p w ≡ true) → bytes_eq (until p (b ∷ bs)) (w ∷ ws) ≡ false
 stops p b w bs ws h = by (p b) (eqb b w) refl refl
   where

@@ -1,7 +1,6 @@
 use Rattle.std.proofs.Common.{◌≡◌, ◌≢◌, ℕ, List, length, ap, arith}
 use Rattle.ring_names.specs.declared.refusal.Refusal.{Refusal}
 use Rattle.ring_names.specs.declared.refusal.Refusal.TheVariants.{OutOfMemory, ReadFailed}
-use Rattle.history_stream.specs.Input.{IsHead}
 use Rattle.history_stream.specs.Cutting.{HasNone}
 use Rattle.history_stream.proofs.Takings.{if_err}
 use Rattle.history_stream.proofs.Openings.{first_head, found_front, more_bytes, next_head, none_last, none_tried, opened_last}

@@ -1,4 +1,4 @@
-use Rattle.std.proofs.Common.{rules, ◌≡◌, ◌<◌, ◌-◌, ℕ, List, Bool, ap, sym, subst, ◌∙◌, arith, Some, length}
+use Rattle.std.proofs.Common.{rules, ◌≡◌, ◌<◌, ◌-◌, ℕ, List, ap, sym, subst, ◌∙◌, arith, Some, length}
 use Rattle.std.specs.Prelude.{option_map, min}
 use Rattle.std.specs.List.{AllZip, range_with_len}
 use Rattle.rayon.specs.Numbers.{nat_range}

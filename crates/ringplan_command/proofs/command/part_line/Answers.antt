@@ -2,7 +2,6 @@ use Rattle.std.proofs.Common.{subst, inr, sym}
 use Rattle.clap.specs.Words.{found_of, subcommand_rows_of}
 use Rattle.ringplan_command.specs.Command.{part_texts, to_part}
 use Rattle.ringplan_command.specs.Parts.{MeansPart, PartTexts}
-use Rattle.ringplan_command.specs.declared.parts.PartWish.{PartWish}
 use Rattle.ringplan_command.proofs.Commands.{part_asked, texts_same}
 use Rattle.ringplan_command.proofs.command.part_line.Goals as goal
 

@@ -1,4 +1,4 @@
-use Rattle.std.proofs.Common.{◌∙◌, codes, ap, sym}
+use Rattle.std.proofs.Common.{◌∙◌, ap, sym}
 use Rattle.std.specs.Prelude.{option_map}
 use Rattle.clap.specs.Words.{found_of}
 use Rattle.ringplan_command.specs.Parts.{texts_in}
