@@ -6,34 +6,39 @@ use Rattle.std.specs.Str.{bytes_eq}
 use Rattle.std.proofs.lemmas.Bool.{and_parts}
 use Rattle.std.proofs.lemmas.List.{append-nil}
 use Rattle.std.proofs.lemmas.Slice.Eq.{bytes_eq-Decides}
-use Rattle.ring_names.specs.declared.refusal.Refusal.{Refusal}
-use Rattle.ring_names.specs.declared.refusal.Refusal.TheVariants.{BadLine}
 use Rattle.ring_names.proofs.Logic.{pair_is, pair_of}
-use Rattle.texts.specs.Numbers.{numbers_of, beyond, are_small}
-use Rattle.texts.specs.Judging.{Item, ◌⊗◌, field_at, word_at, need_at, map_ok, map_item, whole, unless}
-use Rattle.texts.specs.Parts.{text_of}
-use Rattle.texts.specs.Laws.{IsItem, SomeLeft, IsPlainLine, EachNext}
-use Rattle.texts.specs.Frames.{header_fields, end_fields, end_line_at}
-use Rattle.texts.specs.Left.{◌>>=◌, many_from, then_part, map_part, whole_text}
-use Rattle.texts.proofs.Many.{loop-part, other-any}
-use Rattle.texts.proofs.Items.{IsLine-map, IsLine-as, IsPart-line, IsPart-then, IsPart-map, IsItem-word, IsItem-field, IsItem-need, ok_is, bind_ok, map_is, unless_is, unless_ok}
-use Rattle.texts.proofs.Fronts.{IsFront, front-item, front-⊗, front-map, front-whole, numbers-taken, numbers-given}
-use Rattle.texts.proofs.Lates.{advances-line, advances-then, advances-map, loop-on, either-at, at-map, at-whole, at-if, at-bind, at-unless, AllAt, Judges, judges-⊗, judges-map, judges-word, judges-field, judges-need}
-use Rattle.texts.proofs.FrameLaws.{Nothing, header-line, header-at, end-line, end-at}
-use Rattle.texts.proofs.Rows.{numbers-plain}
-use Rattle.texts.proofs.Texts.{appended}
-use Rattle.texts.proofs.Wholes.{whole-takes, whole-gives}
+use Rattle.texts.specs.Judging.{◌⊗◌, word_at, need_at, unless}
+use Rattle.texts.specs.Left.{many_from, map_part, whole_text}
 use Rattle.texts.specs.Late.{IsAt}
+use Rattle.texts.proofs.Many.{loop-part, other-any}
+use Rattle.texts.proofs.Items.{IsLine-map, IsPart-line, IsPart-map, IsItem-need, unless_ok}
+use Rattle.texts.proofs.Fronts.{front-item, front-⊗, numbers-taken, numbers-given}
+use Rattle.texts.proofs.Lates.{loop-on, judges-need}
+use Rattle.texts.proofs.FrameLaws.{Nothing, header-line, end-line}
+use Rattle.texts.proofs.Rows.{numbers-plain}
+use Rattle.texts.proofs.Wholes.{whole-takes, whole-gives}
 -- and for those who write a format
-pub use Rattle.texts.specs.Form.{Form, LineForm, Section}
-pub use Rattle.texts.specs.Laws.{IsPart, IsPlain, Any, Always, Last, BeginsOther}
-pub use Rattle.texts.specs.Left.{Left, begins_so, begins_with, is_word, next_line, next_number, one_line}
-pub use Rattle.texts.specs.Frames.{header_at}
+pub use Rattle.ring_names.specs.declared.refusal.Refusal.{Refusal}
+pub use Rattle.ring_names.specs.declared.refusal.Refusal.TheVariants.{BadLine, TooLarge, Repeated, UnknownNode, NotMember}
+pub use Rattle.texts.specs.Name.{is_name}
+pub use Rattle.texts.specs.Number.{decimal_value}
+pub use Rattle.texts.specs.Numbers.{ascending, are_small, numbers_of, beyond}
+pub use Rattle.texts.specs.Parts.{line_text, spaced, text_of}
+pub use Rattle.texts.specs.Frames.{header_at, end_line_at, header_fields, end_fields}
+pub use Rattle.texts.specs.Judging.{Item, field_at, map_ok, map_item, whole}
+pub use Rattle.texts.specs.Left.{Left, ◌>>=◌, Reads, begins_so, begins_with, is_word, first_line, next_line, next_number, one_line, then_part}
+pub use Rattle.texts.specs.Laws.{IsItem, IsFront, IsLine, IsPart, IsPlain, IsPlainLine, SomeLeft, EachNext, Any, Always, Last, BeginsOther}
 pub use Rattle.texts.specs.Late.{ReadsTo}
-pub use Rattle.texts.proofs.Items.{Passes, some_lines}
-pub use Rattle.texts.proofs.Fronts.{Free}
+pub use Rattle.texts.specs.Form.{Form, LineForm, Section}
+pub use Rattle.texts.proofs.Decimals.{IsItem-number, decimal-value, value-decimal}
+pub use Rattle.texts.proofs.Items.{Passes, some_lines, ok_is, bind_ok, map_is, unless_is, IsItem-field, IsItem-word, IsLine-as, IsPart-then}
+pub use Rattle.texts.proofs.Fronts.{Free, front-map, front-whole}
 pub use Rattle.texts.proofs.Many.{Steps, pushed}
-pub use Rattle.texts.proofs.Lates.{At, Advances, loop-late, to-first, to-second, to-after, past, past-next}
+pub use Rattle.texts.proofs.Lates.{At, AllAt, Judges, Advances, at-if, either-at, at-bind, at-map, at-unless, at-whole, judges-field, judges-word, judges-number, judges-map, judges-⊗}
+pub use Rattle.texts.proofs.Lates.{advances-line, advances-then, advances-map, loop-late, to-first, to-second, to-after, to-map, past, past-next, reads-less, next-after}
+pub use Rattle.texts.proofs.FrameLaws.{header-at, end-at}
+pub use Rattle.texts.proofs.Texts.{appended}
+pub use Rattle.texts.proofs.Wholes.{decimal-plain, name-plain}
 
 -- ---- fields
 
@@ -253,7 +258,7 @@ module _ {W S : Type 0} {C : List (List ℕ) → Type 0} {spell : S → List (Li
     pub first : (k : ℕ) (fields : List (List ℕ)) → choose cases k case.word fields ≡ map_item case.value (case.form.item k) fields
 
   module _ (cases : List (Case W C S spell allowed)) (item : ℕ → Item S) (same : (k : ℕ) (fields : List (List ℕ)) → item k fields ≡ choice_at cases k fields)
-      (of : (v : S) → Chosen cases v) where
+      (of : (v : S) → allowed v → Chosen cases v) where
     pub choice-front : W → (k : ℕ) → IsFront C (item k) spell allowed
     choice-front w k = record { takes = λ fields rest v e. take fields rest v (sym (same k fields) ∙ e); gives = give }
       where
@@ -279,7 +284,7 @@ module _ {W S : Type 0} {C : List (List ℕ) → Type 0} {spell : S → List (Li
 
         give : (v : S) (rest : List (List ℕ)) → allowed v → C rest → item k (spell v ++ rest) ≡ (Ok v, rest)
         give v rest p after =
-            let o = of v in
+            let o = of v p in
             let c = o.case in
             let i = (c.form.exact w k).gives o.part rest (c.from o.part (subst allowed (sym o.is) p)) after in
             ap (λ (l : List (List ℕ)). item k (l ++ rest)) (ap spell (sym o.is) ∙ c.spelled o.part) ∙ same k (c.word ∷ (c.form.spell o.part ++ rest))
@@ -297,13 +302,17 @@ module _ {W S : Type 0} {C : List (List ℕ) → Type 0} {spell : S → List (Li
 
     pub choice-plain : W → (v : S) → allowed v → AllByRecursion IsPlain (spell v)
     choice-plain w v p =
-        let o = of v in
+        let o = of v p in
         let c = o.case in
         subst (AllByRecursion IsPlain) (sym (c.spelled o.part) ∙ ap spell o.is) (c.is_plain, c.form.plain w o.part (c.from o.part (subst allowed (sym o.is) p)))
 
-    -- one of the cases, by the first word
-    abbrev pub choice : Form W C S
-    choice = record { item = item; spell = spell; allowed = allowed; exact = choice-front; judges = λ k. record { at = choice-at k }; plain = choice-plain }
+    -- one of the cases, by the first word, where each allowed value has its case
+    abbrev pub choice_if : Form W C S
+    choice_if = record { item = item; spell = spell; allowed = allowed; exact = choice-front; judges = λ k. record { at = choice-at k }; plain = choice-plain }
+
+  -- the same where each value has its case
+  abbrev pub choice : (cases : List (Case W C S spell allowed)) (item : ℕ → Item S) → ((k : ℕ) (fields : List (List ℕ)) → item k fields ≡ choice_at cases k fields) → ((v : S) → Chosen cases v) → Form W C S
+  choice cases item same of = choice_if cases item same (λ v p. of v)
 
 -- ---- nothing, or a word and some values
 
