@@ -1,15 +1,8 @@
 -- A change of a ring as one form: what is read, how it is spelled and what is allowed.
 use Rattle.std.proofs.Common.{ℕ, Bool, not, ◌||◌, List, [], ◌∷◌, codes, refl, rules}
-use Rattle.ring_names.specs.Lists.{has}
-use Rattle.ring_names.specs.declared.ids.NodeId.{NodeId}
-use Rattle.ring_names.specs.declared.refusal.Refusal.{Refusal}
-use Rattle.ring_names.specs.declared.refusal.Refusal.TheVariants.{Repeated, NotMember}
-use Rattle.texts.proofs.Items.{Passes}
-use Rattle.texts.proofs.Lates.{AllAt}
-use Rattle.texts.proofs.Forms.{IsPlain, Any, Always, BeginsOther, is_word, some_lines, LineForm, Section, both, word, judged, line, many, then, made, header, ending}
-use Rattle.ring_table.specs.Value.{RingValue, names_of, is_member}
-use Rattle.ring_table.specs.Valid.{IsRing}
-use Rattle.ring_table.proofs.NodeForm.{node_form}
+use Rattle.ring_table.proofs.Terms.{has, NodeId, RingValue, names_of, is_member, IsRing}
+use Rattle.texts.proofs.Forms.{IsPlain, Any, Always, BeginsOther, is_word, some_lines, LineForm, Section, both, word, judged, line, many, then, made, header, ending, Refusal, Repeated, NotMember, Passes, AllAt}
+use Rattle.ring_table.proofs.NodesLaws.{node_form}
 use Rattle.change_text.specs.declared.change.Change.{Change}
 use Rattle.change_text.specs.Spelling.{node_fields}
 use Rattle.change_text.specs.Reading.{change_of}

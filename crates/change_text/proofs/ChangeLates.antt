@@ -1,9 +1,7 @@
 -- Reading a change does not go back, and each of its faults is at a line that was reached.
 use Rattle.std.proofs.Common.{◌≡◌, ℕ, ◌≤◌, List, codes, Ok}
-use Rattle.ring_names.specs.declared.ids.NodeId.{NodeId}
+use Rattle.ring_table.proofs.Terms.{NodeId, RingValue, IsRing}
 use Rattle.texts.proofs.Forms.{Left, next_number, header_at, one_line, ReadsTo, At, Advances, ending, to-first, to-second, to-after, past-next}
-use Rattle.ring_table.specs.Value.{RingValue}
-use Rattle.ring_table.specs.Valid.{IsRing}
 use Rattle.change_text.specs.Reading.{joining_at, leaving_at, join_at, leave_at, joins_at, leaves_at, change_of, change_at}
 use Rattle.change_text.proofs.ChangeForm.{join_line, leave_line, joins_form, tail_form, body_form, change_form}
 

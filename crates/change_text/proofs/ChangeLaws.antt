@@ -1,15 +1,10 @@
 -- A change is read only from its one text.
-use Rattle.std.proofs.Common.{◌≡◌, ℕ, ◌<◌, Bool, true, false, not, nat_lt, ◌==◌, List, [], ◌∷◌, length, codes, Ok, Err, Result, sym, ap, refl, ◌∙◌, arith}
-use Rattle.std.specs.Prelude.{IfOk, slice_get, Some, None}
+use Rattle.std.proofs.Common.{◌≡◌, ℕ, ◌<◌, Bool, true, false, not, nat_lt, ◌==◌, List, [], ◌∷◌, length, codes, Ok, Err, Result, sym, ap, refl, ◌∙◌, arith, IfOk, slice_get, Some, None}
 use Rattle.std.specs.List.{list_all}
 use Rattle.std.proofs.lemmas.Bool.{eqb-true, and_parts, lt-ltb, ltb-true, not-true, not-false, or_parts, or_from}
-use Rattle.ring_names.specs.Lists.{has, all_different}
-use Rattle.ring_names.specs.declared.ids.NodeId.{NodeId}
-use Rattle.ring_names.specs.declared.refusal.Refusal.{Refusal}
-use Rattle.texts.proofs.Forms.{IsPart, Any, Left, header_at, each-all, all-each, text-found, text-given, some-first}
+use Rattle.ring_table.proofs.Terms.{has, all_different, NodeId, RingValue, names_of, is_member, IsRing}
 use Rattle.ring_table.specs.declared.node.Node.{Node}
-use Rattle.ring_table.specs.Value.{RingValue, names_of, is_member}
-use Rattle.ring_table.specs.Valid.{IsRing}
+use Rattle.texts.proofs.Forms.{IsPart, Any, Left, header_at, each-all, all-each, text-found, text-given, some-first, Refusal}
 use Rattle.ring_table.proofs.NodesLaws.{nodes-length}
 use Rattle.change_text.specs.declared.change.Change.{Change}
 use Rattle.change_text.specs.Valid.{may_join, may_leave, IsChange}

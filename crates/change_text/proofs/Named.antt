@@ -1,9 +1,7 @@
 -- The nodes that are named and marked: none at first, and one more of them.
-use Rattle.std.proofs.Common.{◌≡◌, ℕ, zero, suc, Bool, true, false, ◌||◌, ◌==◌, List, [], ◌∷◌, ◌++◌, map, replicate, refl, ap, ◌∙◌}
-use Rattle.std.specs.Prelude.{slice_get, Some, None}
+use Rattle.std.proofs.Common.{◌≡◌, ℕ, zero, suc, Bool, true, false, ◌||◌, ◌==◌, List, [], ◌∷◌, ◌++◌, map, replicate, refl, ap, ◌∙◌, slice_get, Some, None}
 use Rattle.std.proofs.lemmas.List.{map_push}
-use Rattle.ring_names.specs.Lists.{has}
-use Rattle.ring_names.specs.declared.ids.NodeId.{NodeId}
+use Rattle.ring_table.proofs.Terms.{has, NodeId}
 use Rattle.ring_names.proofs.Logic.{or_swapped}
 use Rattle.ring_names.proofs.InLists.{has_push}
 use Rattle.change_text.specs.Draft.{names}

@@ -1,23 +1,12 @@
 -- A certificate over a ring as one form: what is read, how it is spelled and what is allowed.
-use Rattle.std.proofs.Common.{◌≡◌, true, false, not, nat_lt, nat_le, List, [], ◌∷◌, length, codes, Ok, ℕ, refl, rules}
-use Rattle.std.specs.Prelude.{is_some, ◌==◌}
+use Rattle.std.proofs.Common.{◌≡◌, true, false, not, nat_lt, nat_le, List, [], ◌∷◌, length, codes, Ok, ℕ, refl, rules, is_some, ◌==◌}
 use Rattle.std.proofs.Math.Bool.{and-false}
 use Rattle.std.proofs.lemmas.Bool.{ne_eqb, not-false}
-use Rattle.ring_names.specs.declared.refusal.Refusal.TheVariants.{BadLine, TooLarge}
-use Rattle.texts.specs.Numbers.{are_small}
-use Rattle.texts.proofs.Forms.{IsPlain, Any, Always, Last, BeginsOther, is_word, some_lines, Form, LineForm, Section, both, word, room, one_of, either-plain, row, judged, line, many, then, made, header, ending}
-use Rattle.ring_table.specs.declared.allowance.NodeSide.{NodeSide}
-use Rattle.ring_table.specs.declared.allowance.Side.{Side}
-use Rattle.ring_table.specs.declared.allowance.Side.TheVariants.{Both, Take, Give}
-use Rattle.ring_table.specs.Value.{RingValue, names_of, allowance_of}
-use Rattle.ring_table.specs.Valid.{IsRing}
-use Rattle.ring_table.proofs.NodesLaws.{joint-side}
-use Rattle.ring_table.proofs.NodeForm.{node_form}
-use Rattle.plan_cert.specs.declared.cert.Chain.{Chain}
-use Rattle.plan_cert.specs.declared.cert.Cert.{Cert}
-use Rattle.plan_cert.specs.Chains.{chain_of, side_of}
-use Rattle.plan_cert.specs.Spelling.{fact_fields, side_word, chain_fields, cert_format}
-use Rattle.plan_cert.specs.Reading.{begins_chain, judge_side, cert_of}
+use Rattle.texts.proofs.Forms.{IsPlain, Any, Always, Last, BeginsOther, is_word, some_lines, Form, LineForm, Section, both, word, room, one_of, either-plain, row, judged, line, many, then, made, header, ending, BadLine, TooLarge}
+use Rattle.texts.proofs.Forms.{are_small}
+use Rattle.plan_cert.proofs.Terms.{NodeSide, Side, Both, Take, Give, RingValue, names_of, allowance_of, IsRing, Chain, Cert, chain_of, side_of, fact_fields, side_word, chain_fields, cert_format, begins_chain, cert_of}
+use Rattle.ring_table.proofs.NodesLaws.{joint-side, node_form}
+use Rattle.plan_cert.specs.Reading.{judge_side}
 
 pub words-plain : IsPlain (codes "cert") × IsPlain (codes "fact") × IsPlain (codes "chain") × IsPlain (codes "take") × IsPlain (codes "give") × IsPlain (codes "1") × IsPlain (codes "2")
 words-plain = (search rules)

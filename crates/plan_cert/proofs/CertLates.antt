@@ -1,18 +1,11 @@
 -- Reading a certificate does not go back, and each of its faults is at a line that was reached.
-use Rattle.std.proofs.Common.{◌≡◌, ℕ, ◌<◌, ◌≤◌, true, List, length, codes, Result, Ok, Err, sym}
-use Rattle.std.specs.Prelude.{IfOk, OnOk}
+use Rattle.std.proofs.Common.{◌≡◌, ℕ, ◌<◌, ◌≤◌, true, List, length, codes, Result, Ok, Err, sym, IfOk, OnOk}
 use Rattle.std.proofs.lemmas.Bool.{ltb-true, not-false}
-use Rattle.ring_names.specs.declared.refusal.Refusal.{Refusal}
-use Rattle.texts.specs.Numbers.{are_small}
-use Rattle.texts.specs.Judging.{map_ok}
-use Rattle.texts.proofs.Forms.{Left, next_number, header_at, one_line, ReadsTo, At, Advances, ending, to-first, to-second, to-after, past-next}
-use Rattle.ring_table.specs.Value.{RingValue}
-use Rattle.ring_table.specs.Valid.{IsRing}
-use Rattle.plan_cert.specs.declared.cert.Chain.{Chain}
+use Rattle.texts.proofs.Forms.{Left, next_number, header_at, one_line, ReadsTo, At, Advances, ending, to-first, to-second, to-after, past-next, Refusal, are_small, map_ok}
+use Rattle.plan_cert.proofs.Terms.{RingValue, IsRing, Chain, cert_format, cert_of}
 use Rattle.plan_cert.specs.declared.lines.ChainLine.{ChainLine}
 use Rattle.plan_cert.specs.Said.{chain_said}
-use Rattle.plan_cert.specs.Spelling.{cert_format}
-use Rattle.plan_cert.specs.Reading.{path_at, steps_at, node_side_at, fact_at, chain_at, facts_at, chains_at, cert_of, cert_at}
+use Rattle.plan_cert.specs.Reading.{path_at, steps_at, node_side_at, fact_at, chain_at, facts_at, chains_at, cert_at}
 use Rattle.plan_cert.proofs.CertForm.{fact_line, facts_form, chain_line, tail_form, body_form, cert_form}
 
 pub fact-at : (seen : List (List ℕ)) (k : ℕ) (fields : List (List ℕ)) → At k (fact_at seen k fields)

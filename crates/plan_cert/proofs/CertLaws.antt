@@ -1,17 +1,12 @@
 -- A certificate is read only from its one text.
-use Rattle.std.proofs.Common.{◌≡◌, not, nat_le, List, [], length, codes, ℕ, Ok, arith, ap}
-use Rattle.std.specs.Prelude.{is_some}
+use Rattle.std.proofs.Common.{◌≡◌, not, nat_le, List, [], length, codes, ℕ, Ok, arith, ap, is_some}
 use Rattle.std.proofs.lemmas.Bool.{lt-ltb, ltb-true, not-false, and_parts}
-use Rattle.texts.specs.Numbers.{are_small}
-use Rattle.texts.proofs.Forms.{IsPart, Any, Left, header_at, each-all, each-few, few-each, text-found, text-given, some-first}
-use Rattle.ring_table.specs.Value.{RingValue, allowance_of}
-use Rattle.ring_table.specs.Valid.{IsRing}
+use Rattle.texts.proofs.Forms.{IsPart, Any, Left, header_at, each-all, each-few, few-each, text-found, text-given, some-first, are_small}
+use Rattle.plan_cert.proofs.Terms.{RingValue, allowance_of, IsRing, Chain, Cert, cert_format, cert_of}
 use Rattle.ring_table.proofs.NodesLaws.{side-below, nodes-length}
-use Rattle.plan_cert.specs.declared.cert.Chain.{Chain}
-use Rattle.plan_cert.specs.declared.cert.Cert.{Cert}
 use Rattle.plan_cert.specs.Valid.{is_fact, is_chain, IsCert, Suits}
-use Rattle.plan_cert.specs.Spelling.{cert_format, cert_lines, cert_text}
-use Rattle.plan_cert.specs.Reading.{path_at, steps_at, node_side_at, fact_at, chain_at, cert_of, cert_at, cert_reading}
+use Rattle.plan_cert.specs.Spelling.{cert_lines, cert_text}
+use Rattle.plan_cert.specs.Reading.{path_at, steps_at, node_side_at, fact_at, chain_at, cert_at, cert_reading}
 use Rattle.plan_cert.proofs.CertForm.{fact_line, chain_line, body_form, cert_form}
 
 module _ (ring : RingValue) (valid : IsRing ring) where

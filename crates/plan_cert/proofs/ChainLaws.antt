@@ -1,9 +1,6 @@
 -- The chains that are kept, and one more of them.
-use Rattle.std.proofs.Common.{◌≡◌, ℕ, zero, suc, List, [], ◌∷◌, ◌++◌, length, refl, ap, arith}
-use Rattle.std.specs.Prelude.{slice_get, Some, option_map}
-use Rattle.ring_table.specs.declared.allowance.NodeSide.{NodeSide}
-use Rattle.plan_cert.specs.declared.cert.Chain.{Chain}
-use Rattle.plan_cert.specs.Chains.{chain_of, side_of, chains_in}
+use Rattle.std.proofs.Common.{◌≡◌, ℕ, zero, suc, List, [], ◌∷◌, ◌++◌, length, refl, ap, arith, slice_get, Some, option_map}
+use Rattle.plan_cert.proofs.Terms.{NodeSide, Chain, chain_of, side_of, chains_in}
 
 pub chains-length : (xs : List NodeSide) (rows : List (List ℕ)) → length rows ≡ length xs → length (chains_in xs rows) ≡ length xs
 chains-length [] rows e = refl

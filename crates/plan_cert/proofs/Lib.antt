@@ -1,3 +1,4 @@
+pub mod Terms
 pub mod ChainLaws
 pub mod Written
 pub mod CertForm

@@ -1,12 +1,10 @@
 -- What was written is the text of the certificate.
-use Rattle.std.proofs.Common.{◌≡◌, ℕ, List, [], ◌∷◌, ◌++◌, map, sym, ap, ◌∙◌, append_assoc}
-use Rattle.std.specs.Fmt.{decimal}
+use Rattle.std.proofs.Common.{◌≡◌, ℕ, List, [], ◌∷◌, ◌++◌, map, sym, ap, ◌∙◌, append_assoc, decimal}
 use Rattle.std.proofs.lemmas.List.Concat.{flat_map-cons}
 use Rattle.texts.specs.Parts.{line_text, spaced}
 use Rattle.texts.proofs.Spaced.{line-written}
 use Rattle.ring_table.specs.Spelling.{name_at}
-use Rattle.plan_cert.specs.declared.cert.Chain.{Chain}
-use Rattle.plan_cert.specs.Spelling.{side_word, chain_fields}
+use Rattle.plan_cert.proofs.Terms.{Chain, side_word, chain_fields}
 
 pub chain-written : (names : List (List ℕ)) (x : Chain) (o a b c d : List ℕ) → a ≡ o ++ side_word x.side → b ≡ a ++ 32 ∷ name_at names x.node → c ≡ b ++ spaced (map decimal x.steps) → d ≡ c ++ 10 ∷ [] → d ≡ o ++ line_text (chain_fields names x)
 chain-written names x o a b c d ea eb ec ed =

@@ -1,16 +1,8 @@
 -- Numbers below a limit.
-use Rattle.std.proofs.Common.{◌≡◌, ℕ, ◌≤◌, Bool, true, false, cond, nat_lt, List, [], ◌∷◌, Option, Some, None, Result, Ok, Err, refl, ap, subst, ◌∙◌, arith}
-use Rattle.std.specs.Fmt.{decimal}
+use Rattle.std.proofs.Common.{◌≡◌, ℕ, ◌≤◌, Bool, true, false, cond, nat_lt, List, [], ◌∷◌, Option, Some, None, Result, Ok, Err, refl, ap, subst, ◌∙◌, arith, decimal}
 use Rattle.std.specs.List.{list_all}
 use Rattle.std.proofs.lemmas.Bool.{lt-ltb, ltb-true, and_parts}
-use Rattle.ring_names.specs.declared.refusal.Refusal.{Refusal}
-use Rattle.ring_names.specs.declared.refusal.Refusal.TheVariants.{BadLine, TooLarge}
-use Rattle.texts.specs.Number.{decimal_value}
-use Rattle.texts.proofs.Items.{ok_is}
-use Rattle.texts.proofs.Decimals.{decimal-value, value-decimal}
-use Rattle.texts.proofs.Lates.{at-if}
-use Rattle.texts.proofs.Wholes.{decimal-plain}
-use Rattle.texts.proofs.Forms.{IsPlain, Always, At, Form, field_of}
+use Rattle.texts.proofs.Forms.{IsPlain, Always, At, Form, field_of, Refusal, BadLine, TooLarge, decimal_value, ok_is, decimal-value, value-decimal, at-if, decimal-plain}
 use Rattle.plan_text.specs.Reading.{judge_below}
 
 abbrev within : ℕ → ℕ → Option ℕ → Result ℕ Refusal

@@ -1,16 +1,10 @@
 -- A plan makes a change where its steps name no other nodes, and each of the change's is named.
-use Rattle.std.proofs.Common.{◌≡◌, ℕ, Bool, true, false, ◌&&◌, List, [], ◌∷◌, refl, sym, ap, ◌∙◌}
+use Rattle.std.proofs.Common.{◌≡◌, ℕ, Bool, true, false, ◌&&◌, List, [], ◌∷◌, refl, sym, ap, ◌∙◌, ◌||◌, ◌==◌}
 use Rattle.std.specs.List.{list_all, list_any, flat_map}
-use Rattle.std.specs.Prelude.{◌||◌, ◌==◌}
 use Rattle.std.proofs.lemmas.List.Concat.{flat_map-cons}
 use Rattle.std.proofs.lemmas.List.Folds.{list_all-append, list_all-map}
-use Rattle.ring_names.specs.Lists.{has}
+use Rattle.plan_text.proofs.Terms.{has, NodeId, Step, Join, Mirror, Copy, Switch, Drop, Retire, Planned, joins, retires, joined, retired}
 use Rattle.ring_names.proofs.Logic.{and_true, and_false}
-use Rattle.ring_names.specs.declared.ids.NodeId.{NodeId}
-use Rattle.plan_text.specs.declared.step.Step.{Step}
-use Rattle.plan_text.specs.declared.step.Step.TheVariants.{Join, Mirror, Copy, Switch, Drop, Retire}
-use Rattle.plan_text.specs.declared.step.Planned.{Planned}
-use Rattle.plan_text.specs.Steps.{joins, retires, joined, retired}
 use Rattle.plan_text.specs.Changes.{numbers, same_nodes, fulfils, step_names}
 
 -- a node is one of these where its number is one of theirs

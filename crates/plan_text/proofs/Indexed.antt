@@ -1,21 +1,14 @@
 -- The index of a plan with one more step.
-use Rattle.std.proofs.Common.{◌≡◌, ℕ, ◌+◌, ◌<◌, Bool, true, false, cond, List, [], ◌∷◌, ◌++◌, length, Option, Some, None, refl, sym, ap, ◌∙◌, subst, arith, add-zero, ◌⊎◌, inl, inr}
-use Rattle.std.specs.Prelude.{not, ◌&&◌, ◌||◌, ◌==◌, is_some, IfSome}
-use Rattle.std.specs.List.{flat_map}
+use Rattle.std.proofs.Common.{◌≡◌, ℕ, ◌+◌, ◌<◌, Bool, true, false, cond, List, [], ◌∷◌, ◌++◌, length, Option, Some, None, refl, sym, ap, ◌∙◌, subst, arith, add-zero, ◌⊎◌, inl, inr, not, ◌&&◌, ◌||◌, ◌==◌, is_some, IfSome, flat_map}
+use Rattle.std.proofs.Common.{append-nil}
 use Rattle.std.specs.Option.{option_or}
-use Rattle.std.proofs.lemmas.List.{append-nil}
-use Rattle.ring_names.specs.declared.ids.Slot.{Slot}
-use Rattle.ring_names.specs.declared.ids.NodeId.{NodeId}
-use Rattle.plan_text.specs.declared.step.Step.{Step}
-use Rattle.plan_text.specs.declared.step.Step.TheVariants.{Join, Mirror, Copy, Switch, Drop, Retire}
-use Rattle.plan_text.specs.declared.step.Source.{Source}
-use Rattle.plan_text.specs.declared.step.Planned.{Planned}
+use Rattle.plan_text.proofs.Terms.{Slot, NodeId, Step, Join, Mirror, Copy, Switch, Drop, Retire, Source, Planned, is_on, steps_of, joins, retires}
 use Rattle.ring_names.specs.declared.lists.Lists.{Lists}
 use Rattle.ring_names.proofs.InLists.{has_push, different_push}
 use Rattle.plan_text.specs.declared.index.NodeIndex.{NodeIndex}
 use Rattle.plan_text.specs.declared.index.Index.{Index}
 use Rattle.plan_text.specs.Held.{numbers_at, first_of, holds, HoldsNodes, HoldsSteps}
-use Rattle.plan_text.specs.Steps.{is_slot, is_on, steps_of, joins, retires, is_join_of, is_retire_of, first_step}
+use Rattle.plan_text.specs.Steps.{is_slot, is_join_of, is_retire_of, first_step}
 use Rattle.plan_text.proofs.Pushed.{steps_of-push, named-push}
 
 -- ---- the first step that passes a test

@@ -1,6 +1,6 @@
+pub mod Terms
 pub mod Pushed
 pub mod Indexed
-pub mod KeptLaws
 pub mod Searched
 pub mod Below
 pub mod PlanForm

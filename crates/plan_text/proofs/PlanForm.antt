@@ -1,32 +1,18 @@
 -- A plan of a ring as one form: what is read, how it is spelled and what is allowed.
-use Rattle.std.proofs.Common.{◌≡◌, ℕ, ◌≤◌, Bool, true, false, not, nat_lt, nat_le, ◌||◌, List, [], ◌∷◌, ◌++◌, length, codes, refl, ap, ◌∙◌, ◌-◌, arith, rules}
-use Rattle.std.specs.Prelude.{◌==◌}
+use Rattle.std.proofs.Common.{◌≡◌, ℕ, ◌≤◌, Bool, true, false, not, nat_lt, nat_le, ◌||◌, List, [], ◌∷◌, ◌++◌, length, codes, refl, ap, ◌∙◌, ◌-◌, arith, rules, ◌==◌}
 use Rattle.std.specs.List.{list_all}
 use Rattle.std.proofs.lemmas.Bool.{eqb-false, not-false}
-use Rattle.ring_names.specs.Lists.{has}
-use Rattle.ring_names.specs.declared.ids.NodeId.{NodeId}
-use Rattle.ring_names.specs.declared.ids.Slot.{Slot}
-use Rattle.ring_names.specs.declared.refusal.Refusal.{Refusal}
-use Rattle.ring_names.specs.declared.refusal.Refusal.TheVariants.{BadLine, TooLarge, Repeated, LaterDependency}
-use Rattle.texts.specs.Numbers.{ascending, are_small}
-use Rattle.texts.proofs.Forms.{IsPlain, Any, Always, Last, Free, Passes, Steps, pushed, Begins, begins_so, is_word, has_field, Form, LineForm, Section, Case, Chosen, case_of, choice_at, choice, optional_at, optional, anywhere, pair, both, mapped, room, judged, free_row, row, line, line_as, until, no-line, goes_on, turned, then, made, header, ending}
-use Rattle.ring_table.specs.Value.{RingValue, names_of, is_member}
-use Rattle.ring_table.specs.Valid.{IsRing}
-use Rattle.ring_table.specs.Spelling.{name_at}
+use Rattle.plan_text.proofs.Terms.{has, NodeId, Slot, RingValue, names_of, is_member, IsRing, name_at, Said, Step, Join, Mirror, Copy, Switch, Drop, Retire, Source, Owner, Slots, Planned, source_of, step_of, planned_of, dependencies}
+use Rattle.plan_text.proofs.Terms.{joined, retired, kind_fields, after_fields, step_fields}
+use Rattle.texts.proofs.Forms.{IsPlain, Any, Always, Last, Free, Passes, Steps, pushed, Begins, begins_so, is_word, has_field, Form, LineForm, Section, Case, Chosen, case_of, choice_at, choice, optional_at, optional, anywhere, pair, both}
+use Rattle.texts.proofs.Forms.{mapped, room, judged, free_row, row, line, line_as, until, no-line, goes_on, turned, then, made, header, ending, Refusal, BadLine, TooLarge, Repeated, ascending, are_small}
+use Rattle.ring_names.specs.declared.refusal.Refusal.TheVariants.{LaterDependency}
 use Rattle.ring_table.proofs.LineLaws.{space-le}
-use Rattle.ring_table.proofs.NodeForm.{node_form}
-use Rattle.plan_text.specs.declared.said.Said.{Said}
+use Rattle.ring_table.proofs.NodesLaws.{node_form}
 use Rattle.plan_text.specs.declared.said.Said.TheVariants as said
 use Rattle.plan_text.specs.declared.said.SaidSource.{SaidSource}
 use Rattle.plan_text.specs.declared.said.SaidSource.TheVariants as said_source
-use Rattle.plan_text.specs.declared.step.Step.{Step}
-use Rattle.plan_text.specs.declared.step.Step.TheVariants.{Join, Mirror, Copy, Switch, Drop, Retire}
-use Rattle.plan_text.specs.declared.step.Source.{Source}
-use Rattle.plan_text.specs.declared.step.Source.TheVariants.{Owner, Slots}
-use Rattle.plan_text.specs.declared.step.Planned.{Planned}
-use Rattle.plan_text.specs.Said.{source_of, step_of, planned_of}
-use Rattle.plan_text.specs.Steps.{dependencies, joined, retired}
-use Rattle.plan_text.specs.Spelling.{slot_fields, source_fields, kind_fields, after_fields, step_fields}
+use Rattle.plan_text.specs.Spelling.{slot_fields, source_fields}
 use Rattle.plan_text.specs.Reading.{slot_at, slot_node_at, joining_at, retiring_at, source_at, copy_at, kind_at, after_at, said_at, steps_from}
 use Rattle.plan_text.proofs.Below.{below, below_all}
 

@@ -1,12 +1,7 @@
 -- Reading a plan does not go back, and each of its faults is at a line that was reached.
 use Rattle.std.proofs.Common.{◌≡◌, ℕ, ◌≤◌, false, not, List, [], codes, Result, Ok, refl, ap}
-use Rattle.ring_names.specs.declared.refusal.Refusal.{Refusal}
-use Rattle.texts.proofs.Forms.{Left, begins_with, next_line, pushed, loop-late, is_word, next_number, header_at, one_line, ReadsTo, At, Advances, ending, goes_on, no-line, to-first, to-after, past}
-use Rattle.ring_table.specs.Value.{RingValue}
-use Rattle.ring_table.specs.Valid.{IsRing}
-use Rattle.plan_text.specs.declared.said.Said.{Said}
-use Rattle.plan_text.specs.declared.step.Planned.{Planned}
-use Rattle.plan_text.specs.Said.{planned_of}
+use Rattle.texts.proofs.Forms.{Left, begins_with, next_line, pushed, loop-late, is_word, next_number, header_at, one_line, ReadsTo, At, Advances, ending, goes_on, no-line, to-first, to-after, past, Refusal}
+use Rattle.plan_text.proofs.Terms.{RingValue, IsRing, Said, Planned, planned_of}
 use Rattle.plan_text.specs.Reading.{said_at, steps_from, steps_at, plan_at}
 use Rattle.plan_text.proofs.PlanForm.{said_line, step_line, steps-loop, plan_form}
 

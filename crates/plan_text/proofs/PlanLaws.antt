@@ -1,30 +1,17 @@
 -- A plan is read only from its one text, and what is read of it is a plan that suits the ring.
-use Rattle.std.proofs.Common.{◌≡◌, ℕ, suc, ◌+◌, ◌-◌, ◌<◌, ◌≤◌, true, not, nat_lt, List, [], ◌∷◌, ◌++◌, length, codes, Result, Ok, Err, refl, sym, ap, arith, add-zero, length-append}
-use Rattle.std.specs.Prelude.{IfOk}
+use Rattle.std.proofs.Common.{◌≡◌, ℕ, suc, ◌+◌, ◌-◌, ◌<◌, ◌≤◌, true, not, nat_lt, List, [], ◌∷◌, ◌++◌, length, codes, Result, Ok, Err, refl, sym, ap, arith, add-zero, length-append, IfOk, append-nil}
 use Rattle.std.specs.List.{list_all, flat_map}
 use Rattle.std.proofs.lemmas.Bool.{lt-ltb, ltb-true, le-leb, leb-true, ne_eqb, eqb-false, and_parts, or_parts, or_from, not-true, not-false}
 use Rattle.std.proofs.lemmas.Grind.{flat_map-append}
-use Rattle.std.proofs.lemmas.List.{append-nil}
 use Rattle.std.proofs.lemmas.List.Concat.{flat_map-cons}
 use Rattle.std.proofs.lemmas.List.Folds.{list_all-append}
 use Rattle.std.proofs.lemmas.List.Sums.{sum_by-append}
-use Rattle.ring_names.specs.Lists.{has, all_different}
-use Rattle.ring_names.specs.declared.ids.NodeId.{NodeId}
-use Rattle.ring_names.specs.declared.refusal.Refusal.{Refusal}
+use Rattle.plan_text.proofs.Terms.{has, all_different, NodeId, RingValue, names_of, is_member, IsRing, Said, Step, Join, Mirror, Copy, Switch, Drop, Retire, Owner, Slots, Planned, planned_of, dependencies, joins, retires, joined, retired}
+use Rattle.plan_text.proofs.Terms.{IsPlanned, EachPlanned, IsPlan}
+use Rattle.texts.proofs.Forms.{IsPart, Any, Left, header_at, each-grows, all-each, text-found, text-given, some-first, Refusal, ascending, are_small}
 use Rattle.ring_names.proofs.InLists.{different_more, different_apart}
-use Rattle.texts.specs.Numbers.{ascending, are_small}
-use Rattle.texts.proofs.Forms.{IsPart, Any, Left, header_at, each-grows, all-each, text-found, text-given, some-first}
-use Rattle.ring_table.specs.Value.{RingValue, names_of, is_member}
-use Rattle.ring_table.specs.Valid.{IsRing}
 use Rattle.ring_table.proofs.NodesLaws.{nodes-length}
-use Rattle.plan_text.specs.declared.said.Said.{Said}
-use Rattle.plan_text.specs.declared.step.Step.{Step}
-use Rattle.plan_text.specs.declared.step.Step.TheVariants.{Join, Mirror, Copy, Switch, Drop, Retire}
-use Rattle.plan_text.specs.declared.step.Source.TheVariants.{Owner, Slots}
-use Rattle.plan_text.specs.declared.step.Planned.{Planned}
-use Rattle.plan_text.specs.Said.{planned_of}
-use Rattle.plan_text.specs.Steps.{dependencies, joins, retires, joined, retired}
-use Rattle.plan_text.specs.Valid.{HasSources, IsPlanned, EachPlanned, IsPlan, is_ring_slot, is_declared, step_suits, Suits}
+use Rattle.plan_text.specs.Valid.{HasSources, is_ring_slot, is_declared, step_suits, Suits}
 use Rattle.plan_text.specs.Fits.{IsNext}
 use Rattle.plan_text.specs.Spelling.{plan_lines, plan_text}
 use Rattle.plan_text.specs.Reading.{said_at, steps_at, plan_at, plan_reading}

@@ -1,14 +1,12 @@
 -- A plan with one more step.
-use Rattle.std.proofs.Common.{get_or, suc, zero, ◌≡◌, ℕ, ◌+◌, ◌<◌, ◌≤◌, Bool, true, false, cond, List, [], ◌∷◌, ◌++◌, length, refl, sym, ap, ◌∙◌, arith, add-zero, length-append, Ok, Err}
-use Rattle.std.specs.Prelude.{Result, OnOk}
-use Rattle.std.specs.List.{flat_map}
-use Rattle.std.proofs.lemmas.List.{flat_map_more}
+use Rattle.std.proofs.Common.{get_or, suc, zero, ◌≡◌, ℕ, ◌+◌, ◌<◌, ◌≤◌, Bool, true, false, cond, List, [], ◌∷◌, ◌++◌, length, refl, sym, ap, ◌∙◌, arith, add-zero, length-append, Ok, Err, map, Result, OnOk, flat_map}
+use Rattle.std.proofs.lemmas.List.{flat_map_more, length-append, map_push}
 use Rattle.std.proofs.lemmas.List.Sums.{sum_by_push}
-use Rattle.ring_names.specs.declared.ids.Slot.{Slot}
-use Rattle.plan_text.specs.declared.step.Planned.{Planned}
-use Rattle.plan_text.specs.declared.step.Step.{Step}
-use Rattle.plan_text.specs.Steps.{is_on, steps_from, steps_of, dependencies}
-use Rattle.plan_text.specs.Valid.{IsPlanned, EachPlanned, IsPlan}
+use Rattle.plan_text.proofs.Terms.{Slot, Planned, Step, is_on, steps_of, dependencies, IsPlanned, EachPlanned, IsPlan}
+use Rattle.plan_text.specs.Steps.{steps_from}
+use Rattle.ring_names.proofs.InLists.{get_front, get_last}
+use Rattle.plan_text.specs.declared.plan.Kept.{Kept}
+use Rattle.plan_text.specs.Kept.{planned_in, AreRows}
 
 one_more : (b c : Bool) (k n : ℕ) (t u : List ℕ) → u ≡ cond c (t ++ n ∷ []) t → cond b (k ∷ u) u ≡ cond c (cond b (k ∷ t) t ++ n ∷ []) (cond b (k ∷ t) t)
 one_more true true k n t u e = ap (λ l. k ∷ l) e
@@ -61,3 +59,20 @@ IsPlan-push plan x is last steps few = record {
 pub on_both : {T E P S Q : Type 0} (r : Result T E) → (P → S → Q) → OnOk r P → OnOk r S → OnOk r Q
 on_both (Ok x) f p s = f p s
 on_both (Err e) f p s = tt
+
+-- the steps stay where rows come behind theirs
+pub steps-stay : (rows more : List (List ℕ)) (ks : List Kept) → AreRows rows ks → map (planned_in (rows ++ more)) ks ≡ map (planned_in rows) ks
+steps-stay rows more [] h = refl
+steps-stay rows more (k ∷ ks) h = rw (get_front rows more k.row h.0, steps-stay rows more ks h.1) refl
+
+pub rows-stay : (rows more : List (List ℕ)) (ks : List Kept) → AreRows rows ks → AreRows (rows ++ more) ks
+rows-stay rows more [] h = tt
+rows-stay rows more (k ∷ ks) h = (omega (arith, h.0, length-append rows more), rows-stay rows more ks h.1)
+
+pub rows-more : (rows : List (List ℕ)) (ks : List Kept) (k : Kept) → AreRows rows ks → k.row < length rows → AreRows rows (ks ++ k ∷ [])
+rows-more rows [] k h less = (less, tt)
+rows-more rows (x ∷ xs) k h less = (h.0, rows-more rows xs k h.1 less)
+
+pub one-step-more : (rows : List (List ℕ)) (r : List ℕ) (ks : List Kept) (k : Kept) → AreRows rows ks → k.row ≡ length rows → map (planned_in (rows ++ r ∷ [])) (ks ++ k ∷ []) ≡ map (planned_in rows) ks ++ record { step = k.step; after = r } ∷ []
+one-step-more rows r ks k h last =
+    map_push (planned_in (rows ++ r ∷ [])) ks k ∙ rw (steps-stay rows (r ∷ []) ks h, last, get_last rows r) refl

@@ -1,15 +1,10 @@
 -- A search in numbers that ascend.
-use Rattle.std.proofs.Common.{◌≡◌, ℕ, suc, zero, ◌+◌, ◌<◌, ◌≤◌, ◌≢◌, true, false, List, [], ◌∷◌, length, get_or, Ok, Err, refl, sym, arith}
-use Rattle.std.specs.Prelude.{Result, Option, Some, None, option_map, ◌==◌, nat_lt, slice_get}
-use Rattle.std.specs.Result.{is_ok}
-use Rattle.std.specs.Ordering.{nat_cmp}
+use Rattle.std.proofs.Common.{◌≡◌, ℕ, suc, zero, ◌+◌, ◌<◌, ◌≤◌, ◌≢◌, true, false, List, [], ◌∷◌, length, get_or, Ok, Err, refl, sym, arith, Result, Option, Some, None, option_map, ◌==◌, nat_lt, slice_get, is_ok, nat_cmp}
 use Rattle.std.specs.List.Sorted.{IsBinarySearchResult}
 use Rattle.std.proofs.lemmas.List.Sorted.{searched}
-use Rattle.ring_names.specs.Lists.{has}
-use Rattle.plan_text.specs.declared.step.Planned.{Planned}
+use Rattle.plan_text.proofs.Terms.{has, Planned, EachPlanned}
 use Rattle.plan_text.specs.Steps.{depends}
 use Rattle.texts.specs.Numbers.{ascending}
-use Rattle.plan_text.specs.Valid.{EachPlanned}
 use Rattle.std.proofs.lemmas.Bool.{ltb-true, and_parts, ne_eqb, eq-eqb}
 use Rattle.ring_names.proofs.Logic.{or_true}
 

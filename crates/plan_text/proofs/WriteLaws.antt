@@ -1,12 +1,9 @@
 -- What was written is the text of the plan.
-use Rattle.std.proofs.Common.{◌≡◌, ℕ, List, [], ◌∷◌, ◌++◌, refl, sym, ap, ◌∙◌, append_assoc}
-use Rattle.std.specs.Prelude.{Option, option_map, Some, None}
+use Rattle.std.proofs.Common.{◌≡◌, ℕ, List, [], ◌∷◌, ◌++◌, refl, sym, ap, ◌∙◌, append_assoc, Option, option_map, Some, None}
 use Rattle.std.specs.List.{join_with_byte}
 use Rattle.texts.specs.Parts.{line_text, spaced}
 use Rattle.texts.proofs.Spaced.{join-more}
-use Rattle.plan_text.specs.declared.step.Step.{Step}
-use Rattle.plan_text.specs.declared.step.Planned.{Planned}
-use Rattle.plan_text.specs.Spelling.{kind_fields, after_fields, step_fields}
+use Rattle.plan_text.proofs.Terms.{Step, Planned, kind_fields, after_fields, step_fields}
 use Rattle.plan_text.proofs.PlanForm.{step-word}
 
 -- a line of a step, as its parts were written

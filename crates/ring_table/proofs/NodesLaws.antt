@@ -1,23 +1,12 @@
 -- The nodes of a ring, and their names.
-use Rattle.std.proofs.Common.{◌≡◌, ℕ, ◌<◌, true, List, [], ◌∷◌, length, map, Some, None, refl, arith}
-use Rattle.std.specs.Prelude.{is_some, slice_get}
+use Rattle.std.proofs.Common.{◌≡◌, ℕ, ◌<◌, true, List, [], ◌∷◌, length, map, Some, None, refl, arith, is_some, slice_get}
 use Rattle.std.specs.List.{AllByRecursion}
 use Rattle.std.proofs.lemmas.List.{length-map}
 use Rattle.std.proofs.lemmas.Option.{slice_get_within}
-use Rattle.ring_names.specs.Names.{place}
-use Rattle.texts.specs.Name.{is_name}
-use Rattle.texts.specs.Laws.{IsItem}
-use Rattle.texts.specs.Late.{Judges}
-use Rattle.ring_table.specs.declared.allowance.Allowance.{Allowance}
-use Rattle.ring_table.specs.declared.allowance.Allowance.TheVariants.{Joint, Split}
-use Rattle.ring_table.specs.declared.allowance.Side.{Side}
-use Rattle.ring_table.specs.declared.allowance.Side.TheVariants.{Both, Take, Give}
-use Rattle.ring_table.specs.declared.node.Node.{Node}
-use Rattle.ring_table.specs.Value.{RingValue, names_of, most_of, allowance_of}
-use Rattle.ring_table.specs.Valid.{IsAllowance, IsNode, IsRing}
-use Rattle.ring_table.specs.Spelling.{name_at}
+use Rattle.ring_table.proofs.Terms.{place, Allowance, Joint, Split, Side, Both, Take, Give, Node, RingValue, names_of, most_of, allowance_of, IsAllowance, IsNode, IsRing, name_at, NodeId}
+use Rattle.texts.proofs.Forms.{is_name, IsItem, Judges, Form, Always, of_item}
 use Rattle.ring_table.specs.Reading.{declared_at}
-use Rattle.ring_table.proofs.RowLaws.{AreNames, each_at, found_name, IsItem-declared, judges-name}
+use Rattle.ring_table.proofs.RowLaws.{AreNames, each_at, found_name, IsItem-declared, judges-name, name_at-plain}
 
 -- each node has a name
 pub each-name : (format : ℕ) (xs : List Node) → AllByRecursion (IsNode format) xs → AllByRecursion (λ n. is_name n ≡ true) (map (λ x. x.name) xs)
@@ -73,3 +62,9 @@ item-node ring k good = IsItem-declared k (names_of ring) good
 pub judges-declared : (ring : RingValue) (k : ℕ) → Judges k (declared_at ring k)
 unfolding declared_at
 judges-declared ring k = judges-name k (names_of ring)
+
+-- the node that a field names
+abbrev pub node_form : (ring : RingValue) → Form (IsRing ring) Always NodeId
+node_form ring = of_item (declared_at ring) (λ x. name_at (names_of ring) x ∷ []) (λ x. x.0 < length (names_of ring))
+    (λ r k. item-node ring k (names-of ring r)) (judges-declared ring)
+    (λ r v p. (name_at-plain (names_of ring) v (names-of ring r).each, tt))

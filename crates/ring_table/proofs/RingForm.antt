@@ -1,41 +1,29 @@
 -- A ring as one form: what is read, how it is spelled and what is allowed.
-use Rattle.std.proofs.Common.{◌≡◌, ℕ, zero, suc, ◌+◌, ◌<◌, ◌≤◌, ◌^◌, Bool, true, false, not, cond, nat_lt, nat_le, ◌==◌, ◌&&◌, List, [], ◌∷◌, ◌++◌, length, map, codes, Option, Some, None, Result, Ok, Err, refl, ap, subst, ◌∙◌, arith, rules, length-append}
-use Rattle.std.specs.Prelude.{is_some}
-use Rattle.std.specs.Fmt.{decimal}
+use Rattle.std.proofs.Common.{◌≡◌, ℕ, zero, suc, ◌+◌, ◌<◌, ◌≤◌, ◌^◌, Bool, true, false, not, cond, nat_lt, nat_le, ◌==◌, ◌&&◌, List, [], ◌∷◌, ◌++◌, length, map, codes, Option, Some, None, Result, Ok, Err, refl, ap, subst, ◌∙◌, arith}
+use Rattle.std.proofs.Common.{rules, length-append, is_some, decimal}
 use Rattle.std.specs.List.{AllByRecursion, list_all}
 use Rattle.std.proofs.lemmas.Bool.{lt-ltb, ltb-true, le-ltb, le-leb, leb-true, eqb-true, and_parts, not-false}
 use Rattle.std.proofs.lemmas.Fmt.{decimal_digit}
 use Rattle.std.proofs.lemmas.Grind.{common_steps}
 use Rattle.std.proofs.lemmas.List.{map_push}
-use Rattle.ring_names.specs.Lists.{all_different, AllNew}
-use Rattle.ring_names.specs.Names.{place}
+use Rattle.ring_table.proofs.Terms.{all_different, AllNew, place, NodeId, Allowance, Joint, Split, Node, RingValue, is_member, IsAllowance, IsNode, name_at, row_fields, rows_lines, owners_at}
 use Rattle.ring_names.specs.Space.{is_space}
-use Rattle.ring_names.specs.declared.ids.NodeId.{NodeId}
-use Rattle.ring_names.specs.declared.refusal.Refusal.{Refusal}
-use Rattle.ring_names.specs.declared.refusal.Refusal.TheVariants.{BadLine, Repeated, QuorumTooSmall, SharedNode, NotMember}
+use Rattle.texts.proofs.Forms.{IsPart, IsPlain, Any, Always, BeginsOther, Left, ReadsTo, At, is_word, some_lines, Form, LineForm, Section, Advances, of_item, field_of, mapped, pair, word, room, judge_words, AreWords, words-are, words-at}
+use Rattle.texts.proofs.Forms.{one_of, both, has_field, line, plain-line, one, many, then, made, ending, Refusal, BadLine, Repeated, NotMember, is_name, decimal_value, Item, map_item, whole, IsFront, IsPlainLine, SomeLeft, EachNext}
+use Rattle.texts.proofs.Forms.{◌>>=◌, then_part, IsItem-word, IsLine-as, IsPart-then, Passes, bind_ok, map_is, ok_is, unless_is, front-whole, AllAt, at-bind, at-if, at-unless, at-whole, either-at, judges-map, judges-number}
+use Rattle.texts.proofs.Forms.{judges-word, advances-line, advances-map, advances-then, IsItem-number, decimal-value, value-decimal, appended, decimal-plain, name-plain}
+use Rattle.ring_names.specs.declared.refusal.Refusal.TheVariants.{QuorumTooSmall, SharedNode}
 use Rattle.ring_names.proofs.Logic.{and_false, pair_of}
-use Rattle.texts.specs.Name.{is_name}
-use Rattle.texts.specs.Number.{decimal_value}
 use Rattle.texts.specs.Numbers.{first_value}
-use Rattle.texts.specs.Judging.{Item, number_at, word_at, limited, map_item, whole, unless}
-use Rattle.texts.specs.Laws.{IsFront, IsPlainLine, SomeLeft, EachNext}
-use Rattle.texts.specs.Left.{◌>>=◌, then_part}
-use Rattle.texts.proofs.Items.{IsItem-word, IsLine-as, IsLine-judged, IsPart-nil, IsPart-cons, IsPart-then, Passes, bind_ok, map_is, ok_is, unless_is}
-use Rattle.texts.proofs.Fronts.{front-whole}
-use Rattle.texts.proofs.Lates.{AllAt, Judges, at-bind, at-if, at-limited, at-unless, at-whole, either-at, judges-map, judges-number, judges-word, advances-line, advances-map, advances-then}
-use Rattle.texts.proofs.Decimals.{IsItem-number, decimal-value, value-decimal, limited_is}
-use Rattle.texts.proofs.Texts.{appended}
-use Rattle.texts.proofs.Wholes.{decimal-plain, name-plain}
-use Rattle.texts.proofs.Forms.{IsPart, IsPlain, Any, Always, BeginsOther, Left, ReadsTo, At, is_word, some_lines, Form, LineForm, Section, Advances, of_item, field_of, mapped, pair, word, room, judge_words, AreWords, words-are, words-at, one_of, both, has_field, line, plain-line, one, many, then, made, ending}
-use Rattle.ring_table.specs.declared.allowance.Allowance.{Allowance}
-use Rattle.ring_table.specs.declared.allowance.Allowance.TheVariants.{Joint, Split}
+use Rattle.texts.specs.Judging.{number_at, word_at, limited, unless}
+use Rattle.texts.proofs.Items.{IsLine-judged, IsPart-nil, IsPart-cons}
+use Rattle.texts.proofs.Lates.{at-limited}
+use Rattle.texts.proofs.Decimals.{limited_is}
 use Rattle.ring_table.specs.declared.head.Head.{Head}
 use Rattle.ring_table.specs.declared.head.Quorum.{Quorum}
-use Rattle.ring_table.specs.declared.node.Node.{Node}
-use Rattle.ring_table.specs.Value.{RingValue, is_member}
-use Rattle.ring_table.specs.Valid.{is_format, is_loss, is_quorum, IsMost, IsAllowance, IsNode, IsNew, IsRow}
-use Rattle.ring_table.specs.Spelling.{allowance_fields, membership, node_fields, name_at, row_fields, rows_lines}
-use Rattle.ring_table.specs.Reading.{judge_new, judge_most, above_zero, made as made_of, owners_at, row_at, rows_at, ring_of}
+use Rattle.ring_table.specs.Valid.{is_format, is_loss, is_quorum, IsMost, IsNew, IsRow}
+use Rattle.ring_table.specs.Spelling.{allowance_fields, membership, node_fields}
+use Rattle.ring_table.specs.Reading.{judge_new, judge_most, above_zero, made as made_of, row_at, rows_at, ring_of}
 use Rattle.ring_table.proofs.LineLaws.{space-le, quorum-parts}
 use Rattle.ring_table.proofs.RowLaws.{AreNames, IsItem-owners, judges-owners, names-plain, members-below}
 use Rattle.ring_table.proofs.NodesLaws.{each-name}
@@ -46,19 +34,6 @@ Fields = List (List ℕ)
 
 -- ---- fields of any format
 
-module _ {W A : Type 0} where
-  -- a form from its parts
-  abbrev pub form_of : (C : Fields → Type 0) (item : ℕ → Item A) (spell : A → Fields) (P : A → Type 0) → (W → (k : ℕ) → IsFront C (item k) spell P)
-      → ((k : ℕ) → Judges k (item k)) → (W → (v : A) → P v → AllByRecursion IsPlain (spell v)) → Form W C A
-  form_of C item spell P exact judges plain = record {
-    item = item;
-    spell = spell;
-    allowed = P;
-    exact = exact;
-    judges = judges;
-    plain = plain;
-  }
-
 -- a number up to a limit
 abbrev pub number : {W : Type 0} (limit : ℕ) → limit < 2 ^ 64 → Form W Always ℕ
 number limit wide = of_item (λ k. number_at k limit) (λ n. decimal n ∷ []) (λ n. n ≤ limit) (λ _ k. IsItem-number k limit wide) (λ k. judges-number k limit)
@@ -67,13 +42,17 @@ number limit wide = of_item (λ k. number_at k limit) (λ n. decimal n ∷ []) (
 -- a field that is left out where the test is true, its value then x
 abbrev pub unsaid : {W A : Type 0} (x : A) (a : Form W Always A) (P : Bool → A → Type 0) → P true x → ((v : A) → P true v → v ≡ x)
     → ((v : A) → a.allowed v → P false v) → ((v : A) → P false v → a.allowed v) → Bool → Form W Always A
-unsaid x a P known is to from b = form_of Always (λ k fields. cond b (Ok x, fields) (a.item k fields)) (λ v. cond b [] (a.spell v)) (P b)
-    (λ w k. elim b as (λ c. IsFront Always (λ fields. cond c (Ok x, fields) (a.item k fields)) (λ v. cond c [] (a.spell v)) (P c)) [
-      | true ↦ record { takes = λ fs rest v e. (ap (λ q. q.1) e, subst (P true) (ok_is x v (ap (λ q. q.0) e)) known); gives = λ v rest p c. rw (is v p) refl }
-      | false ↦ let i = a.exact w k in record { takes = λ fs r v e. (let t = i.takes fs r v e in (t.0, to v t.1)); gives = λ v r p. i.gives v r (from v p) }
-    ])
-    (λ k. record { at = λ fields. either-at k b (Ok x, fields) (a.item k fields) tt ((a.judges k).at fields) })
-    (λ w v. elim b as (λ c. P c v → AllByRecursion IsPlain (cond c [] (a.spell v))) [ true ↦ λ p. tt | false ↦ λ p. a.plain w v (from v p) ])
+unsaid x a P known is to from b = record {
+  item = λ k fields. cond b (Ok x, fields) (a.item k fields);
+  spell = λ v. cond b [] (a.spell v);
+  allowed = P b;
+  exact = λ w k. elim b as (λ c. IsFront Always (λ fields. cond c (Ok x, fields) (a.item k fields)) (λ v. cond c [] (a.spell v)) (P c)) [
+    | true ↦ record { takes = λ fs rest v e. (ap (λ q. q.1) e, subst (P true) (ok_is x v (ap (λ q. q.0) e)) known); gives = λ v rest p c. rw (is v p) refl }
+    | false ↦ let i = a.exact w k in record { takes = λ fs r v e. (let t = i.takes fs r v e in (t.0, to v t.1)); gives = λ v r p. i.gives v r (from v p) }
+  ];
+  judges = λ k. record { at = λ fields. either-at k b (Ok x, fields) (a.item k fields) tt ((a.judges k).at fields) };
+  plain = λ w v. elim b as (λ c. P c v → AllByRecursion IsPlain (cond c [] (a.spell v))) [ true ↦ λ p. tt | false ↦ λ p. a.plain w v (from v p) ];
+}
 
 -- an optional item: read where the format has it and the fields begin so
 module _ {W A : Type 0} (may : Bool) (test : Fields → Bool) (a : Form W Always A)
@@ -109,9 +88,14 @@ module _ {W A : Type 0} (may : Bool) (test : Fields → Bool) (a : Form W Always
 
   -- an optional item as a form
   abbrev pub maybe : Form W (λ rest. test rest ≡ false) (Option A)
-  maybe = form_of (λ rest. test rest ≡ false) maybe_item maybe_fields IsMaybe maybe-front
-      (λ k. record { at = λ fs. either-at k (may && test fs) _ (Ok None, fs) ((judges-map k Some (a.item k) (a.judges k)).at fs) tt })
-      (λ w v. elim v as (λ o. IsMaybe o → AllByRecursion IsPlain (maybe_fields o)) [ None ↦ λ p. tt | Some x ↦ λ p. a.plain w x p.1 ])
+  maybe = record {
+    item = maybe_item;
+    spell = maybe_fields;
+    allowed = IsMaybe;
+    exact = maybe-front;
+    judges = λ k. record { at = λ fs. either-at k (may && test fs) _ (Ok None, fs) ((judges-map k Some (a.item k) (a.judges k)).at fs) tt };
+    plain = λ w v. elim v as (λ o. IsMaybe o → AllByRecursion IsPlain (maybe_fields o)) [ None ↦ λ p. tt | Some x ↦ λ p. a.plain w x p.1 ];
+  }
 
 -- ---- lines of any format
 

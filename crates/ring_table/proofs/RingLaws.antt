@@ -1,10 +1,8 @@
 -- A ring is read only from its one text.
-use Rattle.std.proofs.Common.{[], length, refl, arith}
-use Rattle.std.proofs.lemmas.Bool.{lt-ltb, ltb-true}
+use Rattle.std.proofs.Common.{[], length, refl, arith, lt-ltb, ltb-true}
 use Rattle.texts.proofs.Items.{IsPart-as}
 use Rattle.texts.proofs.Forms.{IsPart, Any, each-few}
-use Rattle.ring_table.specs.Value.{RingValue}
-use Rattle.ring_table.specs.Valid.{IsRing}
+use Rattle.ring_table.proofs.Terms.{RingValue, IsRing}
 use Rattle.ring_table.specs.Spelling.{ring_lines}
 use Rattle.ring_table.specs.Reading.{format_at, space_at, loss_at, quorum_at, second_at, allowance_at, node_at, nodes_at, head_at, body_at, ring_at}
 use Rattle.ring_table.proofs.RingForm.{node_line, new-parts, parts-new, ring_form}

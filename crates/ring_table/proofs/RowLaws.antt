@@ -1,30 +1,14 @@
 -- Names, rows of owners, and how a loop reads and writes rows.
-use Rattle.std.proofs.Common.{◌≡◌, ℕ, zero, suc, ◌+◌, ◌<◌, Bool, true, false, cond, ◌==◌, ◌||◌, List, [], ◌∷◌, ◌++◌, length, map, take, get_or, Option, Some, None, Result, Ok, Err, refl, ap, subst, ◌∙◌, arith}
-use Rattle.std.specs.Prelude.{slice_get}
+use Rattle.std.proofs.Common.{◌≡◌, ℕ, zero, suc, ◌+◌, ◌<◌, Bool, true, false, cond, ◌==◌, ◌||◌, List, [], ◌∷◌, ◌++◌, length, map, take, get_or, Option, Some, None, Result, Ok, Err, refl, ap, subst, ◌∙◌, arith, slice_get}
 use Rattle.std.specs.List.{list_all, list_any, AllByRecursion}
 use Rattle.std.proofs.lemmas.Bool.{and_parts}
 use Rattle.std.proofs.lemmas.List.{length-map, take_more, length-take, flat_map_more}
 use Rattle.std.proofs.lemmas.Option.{slice_get_within}
-use Rattle.ring_names.specs.Lists.{has, AllNew}
-use Rattle.ring_names.specs.Names.{place}
-use Rattle.ring_names.specs.declared.ids.NodeId.{NodeId}
-use Rattle.ring_names.specs.declared.refusal.Refusal.{Refusal}
-use Rattle.ring_names.specs.declared.refusal.Refusal.TheVariants.{BadLine, UnknownNode}
+use Rattle.ring_table.proofs.Terms.{has, AllNew, place, NodeId, place-get, get-place, place-below, Node, is_member, name_at, row_fields, rows_lines, judge_declared, owners_at}
+use Rattle.texts.proofs.Forms.{Refusal, BadLine, UnknownNode, is_name, field_at, IsItem, IsPlain, Left, text_of, line_text, IsItem-field, ok_is, At, Judges, at-if, judges-field, judges-map, judges-⊗, name-plain}
 use Rattle.ring_names.proofs.InLists.{get_there}
-use Rattle.ring_names.proofs.Places.{place-get, get-place, place-below}
-use Rattle.texts.specs.Name.{is_name}
-use Rattle.texts.specs.Judging.{field_at}
-use Rattle.texts.specs.Laws.{IsItem, IsPlain}
-use Rattle.texts.specs.Left.{Left}
-use Rattle.texts.specs.Parts.{text_of, line_text}
-use Rattle.texts.proofs.Items.{IsItem-field, IsItem-nil, IsItem-cons, ok_is}
-use Rattle.texts.proofs.Lates.{At, Judges, at-if, judges-field, judges-map, judges-⊗}
-use Rattle.texts.proofs.Wholes.{name-plain}
-use Rattle.ring_table.specs.declared.node.Node.{Node}
-use Rattle.ring_table.specs.Value.{is_member}
+use Rattle.texts.proofs.Items.{IsItem-nil, IsItem-cons}
 use Rattle.ring_table.specs.Valid.{EachIsName}
-use Rattle.ring_table.specs.Spelling.{name_at, row_fields, rows_lines}
-use Rattle.ring_table.specs.Reading.{judge_declared, owners_at}
 
 -- names that can be told apart
 pub record AreNames (names : List (List ℕ)) : Type 0 where

@@ -7,8 +7,7 @@ use Rattle.plan_text.specs.Steps.{dependencies}
 use Rattle.plan_text.specs.Valid.{IsPlan}
 use Rattle.plan_text.specs.Held.{HoldsSteps}
 use Rattle.plan_text.specs.Kept.{planned_in, AreRows}
-use Rattle.plan_text.proofs.Pushed.{IsPlan-push}
-use Rattle.plan_text.proofs.KeptLaws.{steps-stay, rows-stay, rows-more, one-step-more}
+use Rattle.plan_text.proofs.Pushed.{IsPlan-push, steps-stay, rows-stay, rows-more, one-step-more}
 use Rattle.plan_text.proofs.plan.Plan.push.Goals as goal
 
 pub invariant_of-self-in_err-add : goal.invariant_of-self-in_err-add
