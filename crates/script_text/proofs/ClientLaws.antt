@@ -1,20 +1,12 @@
 -- A client's script has events of clients alone.
 use Rattle.std.proofs.Common.{◌≡◌, ℕ, true, List, ◌∷◌, codes, Ok, ap, subst}
 use Rattle.std.specs.List.{list_all}
-use Rattle.ring_names.specs.declared.refusal.Refusal.TheVariants.{BadLine}
-use Rattle.texts.specs.Left.{then_part}
-use Rattle.texts.specs.Frames.{end_line_at}
-use Rattle.texts.proofs.Items.{ok_is, bind_ok}
-use Rattle.texts.proofs.Forms.{Left, header_at, one_line}
-use Rattle.ring_table.specs.Value.{RingValue}
-use Rattle.plan_runs.specs.declared.event.Event.{Event}
+use Rattle.texts.proofs.Forms.{Left, header_at, one_line, BadLine, then_part, end_line_at, ok_is, bind_ok}
+use Rattle.script_text.proofs.Terms.{RingValue, Event, event_of, SaidEvent, Client, may_say, heard_at}
 use Rattle.plan_runs.specs.declared.event.Event.TheVariants as event
 use Rattle.script_text.specs.Client.{is_client_event}
-use Rattle.script_text.specs.Said.{event_of}
-use Rattle.script_text.specs.declared.said.SaidEvent.{SaidEvent}
 use Rattle.script_text.specs.declared.said.SaidEvent.TheVariants as said
-use Rattle.script_text.specs.declared.speaker.Speaker.TheVariants.{Client}
-use Rattle.script_text.specs.Reading.{said_at, may_say, heard_at, events_at, section_at, client_at}
+use Rattle.script_text.specs.Reading.{said_at, events_at, section_at, client_at}
 use Rattle.script_text.proofs.Growing.{passed, grows-all, parts-of}
 use Rattle.script_text.proofs.ScriptForm.{said_fields, said-law, script_growth}
 

@@ -1,7 +1,7 @@
 -- Which digits pairs of digits are, and which bytes they spell.
 use Rattle.std.proofs.Common.{◌≡◌, ℕ, zero, suc, ◌+◌, ◌*◌, ◌/◌, ◌%◌, ◌<◌, ◌≤◌, nat_le, eqb, Bool, true, false, ◌&&◌, List, [], ◌∷◌, length, get_or, refl, sym, ◌∙◌, arith}
 use Rattle.std.specs.List.{list_all}
-use Rattle.std.proofs.lemmas.Bool.{le-leb, and_parts}
+use Rattle.std.proofs.lemmas.Bool.{le-leb, and_parts, true_from_ne_false}
 use Rattle.std.proofs.lemmas.List.Folds.{list_all_at}
 use Rattle.script_text.specs.Digits.{is_digit, digit_value, are_pairs, bytes_of}
 
@@ -22,14 +22,9 @@ pairs_are (a ∷ b ∷ cs) =
 
 -- each of them is a digit
 pub digit-at : (ds : List ℕ) (k : ℕ) → are_pairs ds ≡ true → k < length ds → is_digit (get_or ds k 0) ≡ true
-digit-at ds k e lt = by (is_digit (get_or ds k 0)) refl
-  where
-    all : list_all is_digit ds ≡ true
-    all = (and_parts (eqb (length ds % 2) 0) (list_all is_digit ds) (sym (pairs_are ds) ∙ e)).1
-
-    by : (b : Bool) → is_digit (get_or ds k 0) ≡ b → b ≡ true
-    by true h = refl
-    by false h = (let no = sym all ∙ list_all_at is_digit ds k 0 lt h in absurd cc)
+digit-at ds k e lt =
+    let all : list_all is_digit ds ≡ true = (and_parts (eqb (length ds % 2) 0) (list_all is_digit ds) (sym (pairs_are ds) ∙ e)).1 in
+    true_from_ne_false (is_digit (get_or ds k 0)) (λ h. let no = sym all ∙ list_all_at is_digit ds k 0 lt h in absurd cc)
 
 -- two digits spell a byte
 pub bytes-half : (ds : List ℕ) → length (bytes_of ds) ≡ length ds / 2

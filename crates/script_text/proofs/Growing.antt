@@ -3,38 +3,25 @@ use Rattle.std.proofs.Common.{◌≡◌, ℕ, ◌+◌, ◌<◌, ◌≤◌, Bool,
 use Rattle.std.specs.List.{AllByRecursion, list_all}
 use Rattle.std.proofs.lemmas.Bool.{and_from}
 use Rattle.std.proofs.lemmas.List.Folds.{list_all-append}
-use Rattle.ring_names.specs.declared.refusal.Refusal.{Refusal}
-use Rattle.ring_names.specs.declared.refusal.Refusal.TheVariants.{BadLine}
-use Rattle.texts.specs.Judging.{map_item}
-use Rattle.texts.specs.Left.{◌>>=◌, begins_with, first_line, next_line, then_part}
-use Rattle.texts.specs.Laws.{IsLine, SomeLeft, IsPlainLine}
-use Rattle.texts.proofs.Items.{ok_is, bind_ok}
-use Rattle.texts.proofs.Fronts.{front-map}
-use Rattle.texts.proofs.Lates.{reads-less, next-after, next-line, next-monotone, judges-map}
-use Rattle.texts.proofs.Forms.{Form, Section, Always, Last, Left, IsPart, ReadsTo, At, next_number, some_lines}
+use Rattle.texts.proofs.Forms.{Item, Form, Section, Left, IsPart, ReadsTo, At, next_number, some_lines, Refusal, BadLine, ◌>>=◌, begins_with, first_line, next_line, then_part, IsLine, SomeLeft, IsPlainLine, ok_is}
+use Rattle.texts.proofs.Forms.{bind_ok, reads-less, next-after}
+use Rattle.texts.proofs.Lates.{next-line, next-monotone}
 
 -- ---- fields
 
--- a form at the end of a line
-abbrev pub ends : {W A : Type 0} → Form W Always A → Form W Last A
-ends a = record {
-  item = a.item;
+-- the same form, where another item reads it and what is allowed is said in other words
+abbrev pub form_as : {W A : Type 0} {C : List (List ℕ) → Type 0} (item : ℕ → Item A) (allowed : A → Type 0) (a : Form W C A) → ((k : ℕ) (fields : List (List ℕ)) → item k fields ≡ a.item k fields)
+    → ((v : A) → a.allowed v → allowed v) → ((v : A) → allowed v → a.allowed v) → Form W C A
+form_as item allowed a same to from = record {
+  item = item;
   spell = a.spell;
-  allowed = a.allowed;
-  exact = λ w k. record { takes = (a.exact w k).takes; gives = λ v rest p last. (a.exact w k).gives v rest p tt };
-  judges = a.judges;
-  plain = a.plain;
-}
-
--- a form whose value is made into another
-abbrev pub turned : {W A B : Type 0} (C : List (List ℕ) → Type 0) (f : A → B) (g : B → A) → ((x : A) → g (f x) ≡ x) → ((y : B) → f (g y) ≡ y) → Form W C A → Form W C B
-turned C f g gf fg a = record {
-  item = λ k. map_item f (a.item k);
-  spell = λ y. a.spell (g y);
-  allowed = λ y. a.allowed (g y);
-  exact = λ w k. front-map C (a.item k) a.spell a.allowed f g gf fg (a.exact w k);
-  judges = λ k. judges-map k f (a.item k) (a.judges k);
-  plain = λ w y p. a.plain w (g y) p;
+  allowed = allowed;
+  exact = λ w k. record {
+    takes = λ fields rest v e. let i = (a.exact w k).takes fields rest v (sym (same k fields) ∙ e) in (i.0, to v i.1);
+    gives = λ v rest p c. same k (a.spell v ++ rest) ∙ (a.exact w k).gives v rest (from v p) c;
+  };
+  judges = λ k. record { at = λ fields. rw (same k fields) ((a.judges k).at fields) };
+  plain = λ w v p. a.plain w v (from v p);
 }
 
 -- what passed a test
@@ -161,17 +148,12 @@ pub record Lines (S X E : Type 0) (g : Growth S X E) : Type 1 where
   pub same : (s : S) (x : X) (xs : List X) → allowed s x → EachIn g allowed (g.after s x) xs → fields (state_after g (g.after s x) xs) (g.value s x) ≡ fields (g.after s x) (g.value s x)
 
 module _ {S X E : Type 0} (g : Growth S X E) (l : Lines S X E g) where
-  -- the lines, each in the state after it
-  abbrev lines_of : S → List X → List (List (List ℕ))
-  lines_of s [] = []
-  lines_of s (x ∷ xs) = l.fields (g.after s x) (g.value s x) ∷ lines_of (g.after s x) xs
-
-  -- what some lines say after those seen
+  -- what some lines say after those seen, spelled in the last state
   record Taken (seen : List E) (s : S) (lines : List (List (List ℕ))) (w : (List E × S) × Left) : Type 0 where
     pub items : List X
     pub values : w.0.0 ≡ seen ++ values_of g s items
     pub state : w.0.1 ≡ state_after g s items
-    pub parts : lines ≡ lines_of s items ++ w.1.lines
+    pub parts : lines ≡ map (l.fields w.0.1) (values_of g s items) ++ w.1.lines
     pub each : EachIn g l.allowed s items
     pub few : length w.0.0 ≤ l.most
     pub some : SomeLeft w.1
@@ -195,39 +177,33 @@ module _ {S X E : Type 0} (g : Growth S X E) (l : Lines S X E g) where
         items = x ∷ rest.items;
         values = rest.values ∙ append_assoc seen (g.value s x ∷ []) (values_of g (g.after s x) rest.items);
         state = rest.state;
-        parts = ap (λ (f : List (List ℕ)). f ∷ lines) law.0 ∙ ap (λ (m : List (List (List ℕ))). l.fields (g.after s x) (g.value s x) ∷ m) rest.parts;
+        parts = ap (λ (f : List (List ℕ)). f ∷ lines) (law.0 ∙ sym (l.same s x rest.items law.1.1 rest.each) ∙ ap (λ (t : S). l.fields t (g.value s x)) (sym rest.state))
+            ∙ ap (λ (m : List (List (List ℕ))). l.fields w.0.1 (g.value s x) ∷ m) rest.parts;
         each = (law.1.1, rest.each);
         few = rest.few;
         some = rest.some;
       })
 
   given : (xs : List X) (seen : List E) (s : S) (k : ℕ) (x : List (List ℕ)) (more : List (List (List ℕ))) → EachIn g l.allowed s xs → length seen + length (values_of g s xs) ≤ l.most → Ends x
-      → (m : ℕ) × (g.from seen s k (lines_of s xs ++ x ∷ more) ≡ Ok ((seen ++ values_of g s xs, state_after g s xs), record { line = m; lines = x ∷ more }))
+      → (m : ℕ) × (g.from seen s k (map (l.fields (state_after g s xs)) (values_of g s xs) ++ x ∷ more) ≡ Ok ((seen ++ values_of g s xs, state_after g s xs), record { line = m; lines = x ∷ more }))
   given [] seen s k x more each few end = (k, g.more seen s k x more ∙ rw (ends-any x more end, append-nil seen) refl)
   given (y ∷ ys) seen s k x more each few end =
       let now = g.value s y in
       let next = g.after s y in
       let sum = length-append seen (now ∷ []) in
       let rest = given ys (seen ++ now ∷ []) next (next_number k) x more each.1 (omega arith) end in
-      let all = lines_of next ys ++ x ∷ more in
-      let line = (l.line (l.fields next now ∷ all) seen s k).gives y (omega arith, each.0) in
-      let sh = some_lines (lines_of next ys) x more in
-      let first = first-ok k (l.fields next now) all sh.0 sh.1 sh.2 in
-      (rest.0, g.more seen s k (l.fields next now) all ∙ rw (l.goes_on next now all, first, line) (rest.1 ∙ ap (λ (z : List E). Ok ((z, state_after g next ys), record { line = rest.0; lines = x ∷ more })) (append_assoc seen (now ∷ []) (values_of g next ys))))
+      let later = map (l.fields (state_after g next ys)) (values_of g next ys) in
+      let line = (l.line (l.fields next now ∷ (later ++ x ∷ more)) seen s k).gives y (omega arith, each.0) in
+      let sh = some_lines later x more in
+      let first = first-ok k (l.fields next now) (later ++ x ∷ more) sh.0 sh.1 sh.2 in (
+        rest.0,
+        ap (λ (f : List (List ℕ)). g.from seen s k (f ∷ (later ++ x ∷ more))) (l.same s y ys each.0 each.1) ∙ g.more seen s k (l.fields next now) (later ++ x ∷ more)
+            ∙ rw (l.goes_on next now (later ++ x ∷ more), first, line) (rest.1 ∙ ap (λ (z : List E). Ok ((z, state_after g next ys), record { line = rest.0; lines = x ∷ more })) (append_assoc seen (now ∷ []) (values_of g next ys))),
+      )
 
-  -- they are spelled in the last state
-  spelled : (xs : List X) (s : S) → EachIn g l.allowed s xs → lines_of s xs ≡ map (l.fields (state_after g s xs)) (values_of g s xs)
-  spelled [] s each = refl
-  spelled (x ∷ xs) s each =
-      ap (λ (ls : List (List (List ℕ))). l.fields (g.after s x) (g.value s x) ∷ ls) (spelled xs (g.after s x) each.1)
-      ∙ ap (λ (f : List (List ℕ)). f ∷ map (l.fields (state_after g (g.after s x) xs)) (values_of g (g.after s x) xs)) (sym (l.same s x xs each.0 each.1))
-
-  pub lines-plain : (xs : List X) (s : S) → EachIn g l.allowed s xs → AllByRecursion IsPlainLine (lines_of s xs)
+  pub lines-plain : (xs : List X) (s : S) → EachIn g l.allowed s xs → AllByRecursion IsPlainLine (map (l.fields (state_after g s xs)) (values_of g s xs))
   lines-plain [] s each = tt
-  lines-plain (x ∷ xs) s each = (l.plain s x each.0, lines-plain xs (g.after s x) each.1)
-
-  pub says-lines : (old : S) (v : List E × S) (p : Says old v) → lines_of old p.items ≡ map (l.fields v.1) v.0
-  says-lines old v p = spelled p.items old p.each ∙ rw (p.values, p.state) refl
+  lines-plain (x ∷ xs) s each = (subst IsPlainLine (sym (l.same s x xs each.0 each.1)) (l.plain s x each.0), lines-plain xs (g.after s x) each.1)
 
   pub growing-part : (old : S) → IsPart Ends (λ a. g.from [] old a.line a.lines) (λ v. map (l.fields v.1) v.0) (Says old)
   growing-part old = record { takes = take; gives = give }
@@ -235,15 +211,11 @@ module _ {S X E : Type 0} (g : Growth S X E) (l : Lines S X E g) where
       take : (a z : Left) (v : List E × S) → SomeLeft a → g.from [] old a.line a.lines ≡ Ok (v, z) → (a.lines ≡ map (l.fields v.1) v.0 ++ z.lines) × Says old v × SomeLeft z
       take a z v some e =
           let t = taken [] old a.line a.lines (v, z) e (omega arith) in
-          let p : Says old v = record { items = t.items; values = sym t.values; state = sym t.state; each = t.each; few = t.few } in
-          (t.parts ∙ ap (λ (ls : List (List (List ℕ))). ls ++ z.lines) (says-lines old v p), p, t.some)
+          (rw t.values t.parts, record { items = t.items; values = sym t.values; state = sym t.state; each = t.each; few = t.few }, t.some)
 
       give : (k : ℕ) (v : List E × S) (x : List (List ℕ)) (xs : List (List (List ℕ))) → Says old v → Ends x
           → (m : ℕ) × (g.from [] old k (map (l.fields v.1) v.0 ++ x ∷ xs) ≡ Ok (v, record { line = m; lines = x ∷ xs }))
-      give k v x xs p end =
-          let few : length {A = E} [] + length (values_of g old p.items) ≤ l.most = rw p.values (let le = p.few in omega arith) in
-          let t = given p.items [] old k x xs p.each few end in
-          (t.0, ap (λ (ls : List (List (List ℕ))). g.from [] old k (ls ++ x ∷ xs)) (sym (says-lines old v p)) ∙ t.1 ∙ rw (p.values, p.state) refl)
+      give k (es, s) x xs p end = rw (← p.values, ← p.state) (given p.items [] old k x xs p.each (rw p.values (let le = p.few in omega arith)) end)
 
   -- all of them, as a section
   abbrev pub growing : {W : Type 0} → S → Section W Ends (List E × S)
@@ -253,5 +225,5 @@ module _ {S X E : Type 0} (g : Growth S X E) (l : Lines S X E g) where
     allowed = Says old;
     exact = λ _. growing-part old;
     advances = record { on = λ a. grows-on g [] old a.line a.lines };
-    plain = λ _ v p. subst (AllByRecursion IsPlainLine) (says-lines old v p) (lines-plain p.items old p.each);
+    plain = λ _ v p. rw (← p.values, ← p.state) (lines-plain p.items old p.each);
   }

@@ -1,3 +1,4 @@
+pub mod Terms
 pub mod DigitLaws
 pub mod WriteLaws
 pub mod ValueLaws

@@ -1,56 +1,35 @@
 -- An event's line as one form: what is read, how it is spelled and what is allowed.
-use Rattle.std.proofs.Common.{◌≡◌, ℕ, suc, ◌<◌, Bool, true, false, cond, not, eqb, nat_lt, nat_le, ◌&&◌, List, [], ◌∷◌, ◌++◌, length, map, codes, Option, Some, None, Result, Ok, Err, refl, sym, ap, subst, ◌∙◌, length-append, arith, rules}
-use Rattle.std.specs.Prelude.{IfSome, option_map, slice_get}
-use Rattle.std.specs.Fmt.{decimal}
+use Rattle.std.proofs.Common.{◌≡◌, ℕ, suc, ◌<◌, Bool, true, false, cond, not, eqb, nat_lt, nat_le, ◌&&◌, List, [], ◌∷◌, ◌++◌, length, codes, Option, Some, None, Result, Ok, Err, refl, sym, ap, subst, ◌∙◌, length-append, arith, rules}
+use Rattle.std.proofs.Common.{option_map, slice_get, decimal, bytes_eq}
 use Rattle.std.specs.List.{AllByRecursion, list_all}
 use Rattle.std.specs.Map.{lookup}
-use Rattle.std.specs.Str.{bytes_eq}
-use Rattle.std.proofs.lemmas.Bool.{ne_eqb, not-false, and_parts, and_from, ltb-true, lt-ltb}
-use Rattle.std.proofs.lemmas.Slice.Eq.{bytes_eq-Decides}
-use Rattle.ring_names.specs.Names.{place}
-use Rattle.ring_names.specs.declared.ids.NodeId.{NodeId}
-use Rattle.ring_names.specs.declared.ids.WriterId.{WriterId}
-use Rattle.ring_names.specs.declared.refusal.Refusal.{Refusal}
-use Rattle.ring_names.specs.declared.refusal.Refusal.TheVariants.{BadLine, TooLarge, UnknownNode}
+use Rattle.std.proofs.lemmas.Bool.{eqb-false, ne_eqb, not-false, and_parts, and_from, ltb-true, lt-ltb}
+use Rattle.script_text.proofs.Terms.{place, NodeId, WriterId, get-place, place-below, RingValue, names_of, name_at, is_key, Event, is_value_text, value_of, writer_of, with_writer, event_of, names_after, SaidWriter, Known, New, SaidPut}
+use Rattle.script_text.proofs.Terms.{SaidEvent, Speaker, value_text, writer_at, seen_fields, event_fields, judge_value, may_say, heard_at, events_from, IsCount, IsBytes, AreGets, IsEvent, IsKnown}
+use Rattle.texts.proofs.Forms.{Form, LineForm, Always, Last, IsPlain, At, Case, case_of, Chosen, choose, choice_at, choice_if, NoneOr, of_item, field_of, both, mapped, anywhere, room, row, optional_at, optional, line, has_field, Refusal}
+use Rattle.texts.proofs.Forms.{BadLine, TooLarge, UnknownNode, is_name, ascending, are_small, map_item, begins_with, IsItem, IsLine, IsItem-number, IsItem-field, IsLine-as, ok_is, at-if}
+use Rattle.texts.proofs.Forms.{judges-number, decimal-plain, name-plain}
 use Rattle.ring_names.proofs.InLists.{get_last}
-use Rattle.ring_names.proofs.Logic.{pair_is}
-use Rattle.ring_names.proofs.Places.{get-place, place-below}
-use Rattle.texts.specs.Name.{is_name, is_name_byte}
-use Rattle.texts.specs.Numbers.{ascending, are_small}
-use Rattle.texts.specs.Judging.{field_at, map_ok, map_item}
-use Rattle.texts.specs.Left.{begins_with}
-use Rattle.texts.specs.Laws.{IsItem, IsFront, IsLine}
-use Rattle.texts.proofs.Decimals.{IsItem-number}
-use Rattle.texts.proofs.Fronts.{front-word}
-use Rattle.texts.proofs.Items.{IsItem-field, IsLine-as, ok_is}
-use Rattle.texts.proofs.Lates.{Judges, at-if, at-map, either-at, judges-field, judges-number}
-use Rattle.texts.proofs.Wholes.{decimal-plain, name-bytes-plain, name-plain}
-use Rattle.texts.proofs.Forms.{Form, LineForm, Always, Last, IsPlain, At, of_item, both, room, row, line, has_field}
-use Rattle.ring_table.specs.Value.{RingValue, names_of}
-use Rattle.ring_table.specs.Spelling.{name_at}
+use Rattle.texts.specs.Name.{is_name_byte}
+use Rattle.texts.proofs.Wholes.{name-bytes-plain}
 use Rattle.ring_table.specs.Reading.{judge_declared, declared_at}
 use Rattle.ring_table.proofs.RingLates.{judges-declared}
-use Rattle.plan_runs.specs.Words.{is_key}
-use Rattle.plan_runs.specs.declared.event.Event.{Event}
 use Rattle.plan_runs.specs.declared.event.Event.TheVariants as event
-use Rattle.script_text.specs.Digits.{is_value_text, value_of}
-use Rattle.script_text.specs.Said.{writer_of, with_writer, event_of, names_after}
-use Rattle.script_text.specs.declared.said.SaidWriter.{SaidWriter}
-use Rattle.script_text.specs.declared.said.SaidWriter.TheVariants.{Known, New}
-use Rattle.script_text.specs.declared.said.SaidPut.{SaidPut}
-use Rattle.script_text.specs.declared.said.SaidEvent.{SaidEvent}
 use Rattle.script_text.specs.declared.said.SaidEvent.TheVariants as said
-use Rattle.script_text.specs.declared.speaker.Speaker.{Speaker}
-use Rattle.script_text.specs.Spelling.{value_text, writer_at, seen_fields, event_fields}
-use Rattle.script_text.specs.Reading.{count_at, pair_at, new_writer, judge_writer, judge_key, judge_value, seen_at, put_at, hint_at, handoff_at, shape_at, kind_at, said_at, may_say, heard_at, events_from}
-use Rattle.script_text.specs.Shapes.{Shape, Number, Pair, Node, Put, Get, Hint, Handoff, words, shape_of}
-use Rattle.script_text.specs.Valid.{IsCount, IsBytes, AreGets, IsEvent, IsKnown}
-use Rattle.script_text.proofs.Growing.{ends, turned, passed, Growth}
+use Rattle.script_text.specs.Reading.{count_at, pair_at, new_writer, judge_writer, judge_key, seen_at, put_at, hint_at, handoff_at, shape_at, kind_at, said_at}
+use Rattle.script_text.specs.declared.kind.EventWord.{EventWord}
+use Rattle.script_text.specs.declared.kind.EventWord.TheVariants as word
+use Rattle.script_text.specs.Shapes.{words, shape_of}
+use Rattle.script_text.proofs.Growing.{form_as, passed, Growth}
 use Rattle.script_text.proofs.ValueLaws.{value-plain, text-is, value-given}
 
--- the words of frames, of gets, and of events that take memory
-pub words-plain : IsPlain (codes "script") × IsPlain (codes "1") × IsPlain (codes "seen") × IsPlain (codes "put") × IsPlain (codes "get")
+-- the words of frames and of gets, and those of events
+pub words-plain : IsPlain (codes "script") × IsPlain (codes "1") × IsPlain (codes "seen")
 words-plain = (search rules)
+
+pub kinds-plain : IsPlain (codes "do") × IsPlain (codes "open") × IsPlain (codes "chunk") × IsPlain (codes "close") × IsPlain (codes "abort") × IsPlain (codes "put") × IsPlain (codes "write") × IsPlain (codes "hint")
+    × IsPlain (codes "ack") × IsPlain (codes "get") × IsPlain (codes "read") × IsPlain (codes "endget") × IsPlain (codes "down") × IsPlain (codes "up") × IsPlain (codes "handoff") × IsPlain (codes "lose")
+kinds-plain = (search rules)
 
 -- ---- fields
 
@@ -63,16 +42,13 @@ pair_form = both Always count_form count_form
 
 -- a key
 abbrev key_form : Form (Unit {0}) Always (List ℕ)
-key_form = of_item (λ k. field_at k (judge_key k)) (λ key. key ∷ []) (λ key. is_key key ≡ true)
-    (λ _ k. IsItem-field k (judge_key k) (λ key. key) (λ key. is_key key ≡ true) (λ f v e. let h = passed (is_key f) (Ok f) (BadLine k) v e in let same = ok_is f v h.1 in (same, ap is_key (sym same) ∙ h.0)) (λ v p. rw p refl))
-    (λ k. judges-field k (judge_key k) (λ f. at-if k (is_key f) (Ok f) (Err (BadLine k)) tt refl))
-    (λ _ v p. (name-bytes-plain v (and_parts (nat_le 1 (length v) && nat_le (length v) 64) (list_all is_name_byte v) p).1, tt))
+key_form = field_of judge_key (λ key. key) (λ key. is_key key ≡ true) (λ _ k f v e. let h = passed (is_key f) (Ok f) (BadLine k) v e in let same = ok_is f v h.1 in (same, ap is_key (sym same) ∙ h.0)) (λ _ k v p. rw p refl)
+    (λ k f. at-if k (is_key f) (Ok f) (Err (BadLine k)) tt refl) (λ _ v p. name-bytes-plain v (and_parts (nat_le 1 (length v) && nat_le (length v) 64) (list_all is_name_byte v) p).1)
 
 -- a value
 abbrev value_form : Form (Unit {0}) Always (List ℕ)
-value_form = of_item (λ k. field_at k (judge_value k)) (λ v. value_text v ∷ []) IsBytes
-    (λ _ k. IsItem-field k (judge_value k) value_text IsBytes (λ f v e. let h = passed (is_value_text f) (Ok (value_of f)) (BadLine k) v e in rw (← ok_is (value_of f) v h.1) (text-is f h.0)) (value-given k))
-    (λ k. judges-field k (judge_value k) (λ f. at-if k (is_value_text f) (Ok (value_of f)) (Err (BadLine k)) tt refl)) (λ _ v p. (value-plain v p, tt))
+value_form = field_of judge_value value_text IsBytes (λ _ k f v e. let h = passed (is_value_text f) (Ok (value_of f)) (BadLine k) v e in rw (← ok_is (value_of f) v h.1) (text-is f h.0)) (λ _. value-given)
+    (λ k f. at-if k (is_value_text f) (Ok (value_of f)) (Err (BadLine k)) tt refl) (λ _. value-plain)
 
 -- the name that is at the number
 pub writer_at-is : (names : List (List ℕ)) (w : WriterId) (name : List ℕ) → slice_get names w.0 ≡ Some name → writer_at names w ≡ name
@@ -117,7 +93,7 @@ IsWriter names (Known w) = IsPlaced names w.0
 IsWriter names (New name) = (is_name name ≡ true) × (place names name ≡ None) × (length names < 1024)
 
 -- the writer of a put is known after it
-writer-known : (names : List (List ℕ)) (x : SaidWriter) → IsWriter names x → (writer_of names x).0 < length (with_writer names x)
+pub writer-known : (names : List (List ℕ)) (x : SaidWriter) → IsWriter names x → (writer_of names x).0 < length (with_writer names x)
 writer-known names (Known w) p = placed-below names w.0 p
 writer-known names (New name) p = (let more = length-append names (name ∷ []) in omega arith)
 
@@ -125,33 +101,31 @@ pub new-name : (names : List (List ℕ)) (name : List ℕ) → said_name names (
 new-name names name = writer_at-is (names ++ name ∷ []) (record { 0 = length names }) name (get_last names name)
 
 module _ (names : List (List ℕ)) (k : ℕ) where
-  writer-is : (f : List ℕ) (x : SaidWriter) (o : Option ℕ) → is_name f ≡ true → place names f ≡ o → ◌≡◌ {A = Result SaidWriter Refusal} (elim o [ Some n ↦ Ok (Known (record { 0 = n })) | None ↦ new_writer names k f ]) (Ok x)
+  pub writer-is : (f : List ℕ) (x : SaidWriter) (o : Option ℕ) → is_name f ≡ true → place names f ≡ o → ◌≡◌ {A = Result SaidWriter Refusal} (elim o [ Some n ↦ Ok (Known (record { 0 = n })) | None ↦ new_writer names k f ]) (Ok x)
       → (f ≡ said_name names x) × IsWriter names x
   writer-is f x None name at e =
       let h = passed (nat_lt (length names) 1024) (Ok (New f)) (TooLarge k) x e in
       subst (λ (y : SaidWriter). (f ≡ said_name names y) × IsWriter names y) (ok_is (New f) x h.1) (sym (new-name names f), (name, at, ltb-true (length names) 1024 h.0))
   writer-is f x (Some n) name at e = subst (λ (y : SaidWriter). (f ≡ said_name names y) × IsWriter names y) (ok_is (Known (record { 0 = n })) x e) (placed-is names f n name at)
 
-  writer-given : (x : SaidWriter) → IsWriter names x → judge_writer names k (said_name names x) ≡ Ok x
+  pub writer-given : (x : SaidWriter) → IsWriter names x → judge_writer names k (said_name names x) ≡ Ok x
   writer-given (Known w) p = rw (p.0, p.1) refl
   writer-given (New name) p = ap (judge_writer names k) (new-name names name) ∙ rw (p.0, p.1, lt-ltb (length names) 1024 p.2) refl
 
-  pub item-writer : IsItem (field_at k (judge_writer names k)) (λ x. said_name names x ∷ []) (IsWriter names)
-  item-writer = IsItem-field k (judge_writer names k) (said_name names) (IsWriter names) (λ f x e. let h = passed (is_name f) _ (BadLine k) x e in writer-is f x (place names f) h.0 refl h.1) writer-given
-
-  pub judges-writer : Judges k (field_at k (judge_writer names k))
-  judges-writer = judges-field k (judge_writer names k) (λ f. at-if k (is_name f) _ (Err (BadLine k)) (by f (place names f)) refl)
+  pub writer-at : (f : List ℕ) → At k (judge_writer names k f)
+  writer-at f = at-if k (is_name f) _ (Err (BadLine k)) (by (place names f)) refl
     where
-      by : (f : List ℕ) (o : Option ℕ) → At {A = SaidWriter} k (elim o [ Some n ↦ Ok (Known (record { 0 = n })) | None ↦ new_writer names k f ])
-      by f None = at-if k (nat_lt (length names) 1024) (Ok (New f)) (Err (TooLarge k)) tt refl
-      by f (Some n) = tt
+      by : (o : Option ℕ) → At {A = SaidWriter} k (elim o [ Some n ↦ Ok (Known (record { 0 = n })) | None ↦ new_writer names k f ])
+      by None = at-if k (nat_lt (length names) 1024) (Ok (New f)) (Err (TooLarge k)) tt refl
+      by (Some n) = tt
 
 pub writer-plain : (names : List (List ℕ)) (x : SaidWriter) → IsWriter names x → IsPlain (said_name names x)
 writer-plain names (Known w) p = name-plain (writer_at names w) p.0
 writer-plain names (New name) p = rw (new-name names name) (name-plain name p.0)
 
 abbrev writer_form : List (List ℕ) → Form (Unit {0}) Always SaidWriter
-writer_form names = of_item (λ k. field_at k (judge_writer names k)) (λ x. said_name names x ∷ []) (IsWriter names) (λ _. item-writer names) (judges-writer names) (λ _ x p. (writer-plain names x p, tt))
+writer_form names = field_of (judge_writer names) (said_name names) (IsWriter names) (λ _ k f x e. let h = passed (is_name f) _ (BadLine k) x e in writer-is names k f x (place names f) h.0 refl h.1)
+    (λ _. writer-given names) (writer-at names) (λ _. writer-plain names)
 
 -- ---- the gets that a put knows
 
@@ -160,55 +134,29 @@ abbrev gets_row : Form (Unit {0}) Last (List ℕ)
 gets_row = row (λ k xs. (eqb (length xs) 0, BadLine k) ∷ (not (ascending xs), BadLine k) ∷ (not (nat_le (length xs) 16), TooLarge k) ∷ (not (are_small xs), TooLarge k) ∷ []) (λ k m xs p. p)
     (λ w xs p. not-false (are_small xs) p.1.1.1.0) (λ k xs. (refl, (refl, (refl, (refl, tt)))))
 
-filled : (xs : List ℕ) → eqb (length xs) 0 ≡ false → seen_fields xs ≡ codes "seen" ∷ map decimal xs
-filled [] e = absurd cc
-filled (x ∷ xs) e = refl
+-- some, or none, are the gets of a put
+pub are-gets : (xs : List ℕ) → NoneOr gets_row.allowed xs → AreGets xs
+are-gets [] p = record { ascend = refl; counts = refl }
+are-gets (x ∷ xs) p = record { ascend = and_from (nat_le (length (x ∷ xs)) 16) (ascending (x ∷ xs)) (not-false _ p.1.1.0) (not-false _ p.1.0); counts = not-false _ p.1.1.1.0 }
 
-gets-row : (x : ℕ) (xs : List ℕ) → AreGets (x ∷ xs) → gets_row.allowed (x ∷ xs)
-gets-row x xs p = (let s = and_parts (nat_le (length (x ∷ xs)) 16) (ascending (x ∷ xs)) p.ascend in (ne_eqb (suc (length xs)) 0 (omega arith), (ap not s.1, (ap not s.0, (ap not p.counts, tt)))))
+pub gets-are : (xs : List ℕ) → AreGets xs → NoneOr gets_row.allowed xs
+gets-are [] p = tt
+gets-are (x ∷ xs) p = (let s = and_parts (nat_le (length (x ∷ xs)) 16) (ascending (x ∷ xs)) p.ascend in (ne_eqb (suc (length xs)) 0 (omega arith), (ap not s.1, (ap not s.0, (ap not p.counts, tt)))))
+
+pub seen-same : (k : ℕ) (fields : List (List ℕ)) → seen_at k fields ≡ optional_at (codes "seen") gets_row k fields
+unfolding seen_at
+seen-same k [] = refl
+seen-same k (word ∷ fields) = refl
 
 -- nothing, or they after a word, at the end of a line
-pub front-seen : (k : ℕ) → IsFront Last (seen_at k) seen_fields AreGets
-unfolding seen_at
-front-seen k = record { takes = take; gives = give }
-  where
-    take : (fields rest : List (List ℕ)) (v : List ℕ) → seen_at k fields ≡ (Ok v, rest) → (fields ≡ seen_fields v ++ rest) × AreGets v
-    take [] rest v e = (let h = pair_is (Ok [], []) (Ok v) rest e in subst (λ (xs : List ℕ). ([] ≡ seen_fields xs ++ rest) × AreGets xs) (ok_is [] v h.0) (h.1, record { ascend = refl; counts = refl }))
-    take (word ∷ fields) rest v e = by (bytes_eq word (codes "seen")) refl e
-      where
-        by : (b : Bool) → bytes_eq word (codes "seen") ≡ b → ◌≡◌ {A = Result (List ℕ) Refusal × List (List ℕ)} (cond b (gets_row.item k fields) (Err (BadLine k), fields)) (Ok v, rest) → (word ∷ fields ≡ seen_fields v ++ rest) × AreGets v
-        by true w g =
-            let i = (gets_row.exact tt k).takes fields rest v g in
-            let q = i.1 in (
-              ap (λ (x : List ℕ). x ∷ fields) ((bytes_eq-Decides word (codes "seen")).0 w) ∙ ap (λ (r : List (List ℕ)). codes "seen" ∷ r) i.0 ∙ ap (λ (r : List (List ℕ)). r ++ rest) (sym (filled v q.0)),
-              record { ascend = and_from (nat_le (length v) 16) (ascending v) (not-false (nat_le (length v) 16) q.1.1.0) (not-false (ascending v) q.1.0); counts = not-false (are_small v) q.1.1.1.0 },
-            )
-        by false w g = (let h = pair_is (Err (BadLine k), fields) (Ok v) rest g in absurd cc)
-
-    give : (v : List ℕ) (rest : List (List ℕ)) → AreGets v → Last rest → seen_at k (seen_fields v ++ rest) ≡ (Ok v, rest)
-    give [] rest p last = rw last refl
-    give (x ∷ xs) rest p last = (gets_row.exact tt k).gives (x ∷ xs) rest (gets-row x xs p) last
-
-pub judges-seen : (k : ℕ) → Judges k (seen_at k)
-unfolding seen_at
-judges-seen k = record { at = at }
-  where
-    at : (fields : List (List ℕ)) → At k (seen_at k fields).0
-    at [] = tt
-    at (word ∷ fields) = either-at k (bytes_eq word (codes "seen")) (gets_row.item k fields) (Err (BadLine k), fields) ((gets_row.judges k).at fields) refl
-
-pub seen-plain : (v : List ℕ) → AreGets v → AllByRecursion IsPlain (seen_fields v)
-seen-plain [] p = tt
-seen-plain (x ∷ xs) p = (words-plain.2, gets_row.plain tt (x ∷ xs) (gets-row x xs p))
-
 abbrev seen_form : Form (Unit {0}) Last (List ℕ)
-seen_form = record { item = seen_at; spell = seen_fields; allowed = AreGets; exact = λ _. front-seen; judges = judges-seen; plain = λ _. seen-plain }
+seen_form = form_as seen_at AreGets (optional (codes "seen") words-plain.2 gets_row (λ p. eqb-false 0 0 p.0 refl) seen_at seen-same seen_fields refl (λ x xs. refl)) (λ k fields. refl) are-gets gets-are
 
 -- ---- an event
 
 -- a put
 abbrev put_form : List (List ℕ) → Form (Unit {0}) Last SaidPut
-put_form names = turned Last (λ x. record { writer = x.0.0.0; key = x.0.0.1; value = x.0.1; seen = x.1 }) (λ p. (((p.writer, p.key), p.value), p.seen)) (λ x. refl) (λ y. refl)
+put_form names = mapped Last (λ x. record { writer = x.0.0.0; key = x.0.0.1; value = x.0.1; seen = x.1 }) (λ p. (((p.writer, p.key), p.value), p.seen)) (λ x. refl) (λ y. refl)
     (both Last (both Always (both Always (writer_form names) key_form) value_form) seen_form)
 
 -- the event takes no memory of its own
@@ -243,140 +191,95 @@ pub record IsSaid (ring : RingValue) (names : List (List ℕ)) (x : SaidEvent) :
 abbrev pub said_fields : RingValue → List (List ℕ) → SaidEvent → List (List ℕ)
 said_fields ring names x = event_fields (names_of ring) (names_after names x) (event_of names x)
 
--- what is after a word: its form, and what it says
-pub record Behind (B : Type 0) : Type 1 where
-  pub A : Type 0
-  pub form : Form (Unit {0}) Last A
-  pub say : A → B
-
-abbrev Taken : Type 0
-Taken = Result SaidEvent Refusal × List (List ℕ)
-
-also : {A B : Type 0} → A → B → A × B
-also a b = (a, b)
-
--- what holds of what each entry of a table makes holds of what the word that is found there makes
-found-at : {A B : Type 0} (f : A → B) (P : List ℕ → B → Type 0) (table : List (List ℕ × A)) (word : List ℕ) → AllByRecursion (λ e. P e.0 (f e.1)) table → IfSome (option_map f (lookup (bytes_eq word) table)) (P word)
-found-at f P [] word all = tt
-found-at f P (t ∷ ts) word all = by (bytes_eq word t.0) refl (found-at f P ts word all.1)
-  where
-    by : (b : Bool) → bytes_eq word t.0 ≡ b → IfSome (option_map f (lookup (bytes_eq word) ts)) (P word) → IfSome (option_map f (cond b (Some t.1) (lookup (bytes_eq word) ts))) (P word)
-    by true h later = subst (λ w. P w (f t.1)) (sym ((bytes_eq-Decides word t.0).0 h)) all.0
-    by false h later = later
-
+-- what each line says, after its word
 module _ (ring : RingValue) (names : List (List ℕ)) where
-  abbrev behind : Shape → Behind SaidEvent
-  behind (Number f) = record { A = ℕ; form = ends count_form; say = λ n. said.Plain (f n) }
-  behind (Pair f) = record { A = ℕ × ℕ; form = ends pair_form; say = λ x. said.Plain (f x.0 x.1) }
-  behind (Node f) = record { A = NodeId; form = ends (named_form ring); say = λ x. said.Plain (f x) }
-  behind Put = record { A = SaidPut; form = put_form names; say = said.Put }
-  behind Get = record { A = List ℕ; form = ends key_form; say = said.Get }
-  behind Hint = record { A = (ℕ × ℕ) × NodeId; form = ends (both Always pair_form (named_form ring)); say = λ x. said.Plain (event.Hint x.0.0 x.0.1 x.1) }
-  behind Handoff = record { A = NodeId × (ℕ × ℕ); form = ends (both Always (named_form ring) pair_form); say = λ x. said.Plain (event.Handoff x.0 (record { partition = x.1.0; index = x.1.1 })) }
+  abbrev SaidCase : Type 1
+  SaidCase = Case (Unit {0}) Last SaidEvent (said_fields ring names) (IsSaid ring names)
+
+  pub known : (x : NodeId) → IsNamed ring x → x.0 < length (names_of ring)
+  known x p = placed-below (names_of ring) x.0 p
+
+  abbrev said_case : EventWord → SaidCase
+  said_case word.Do = case_of (codes "do") kinds-plain.0 (anywhere Last count_form) (λ n. said.Plain (event.Do n)) (λ n. refl) (λ n p. record { event = p; known = tt; node = tt; writer = tt }) (λ n p. p.event)
+  said_case word.Open = case_of (codes "open") kinds-plain.1 (anywhere Last count_form) (λ n. said.Plain (event.OpenCopy n)) (λ n. refl) (λ n p. record { event = p; known = tt; node = tt; writer = tt }) (λ n p. p.event)
+  said_case word.Chunk = case_of (codes "chunk") kinds-plain.2 (anywhere Last pair_form) (λ x. said.Plain (event.ChunkCopy x.0 x.1)) (λ x. refl) (λ x p. record { event = p; known = tt; node = tt; writer = tt }) (λ x p. p.event)
+  said_case word.Close = case_of (codes "close") kinds-plain.3 (anywhere Last count_form) (λ n. said.Plain (event.CloseCopy n)) (λ n. refl) (λ n p. record { event = p; known = tt; node = tt; writer = tt }) (λ n p. p.event)
+  said_case word.Abort = case_of (codes "abort") kinds-plain.4 (anywhere Last count_form) (λ n. said.Plain (event.AbortCopy n)) (λ n. refl) (λ n p. record { event = p; known = tt; node = tt; writer = tt }) (λ n p. p.event)
+  said_case word.Put = case_of (codes "put") kinds-plain.5 (put_form names) said.Put (λ q. refl) (λ q p. record { event = (p.0.0.1, p.0.1, p.1); known = writer-known names q.writer p.0.0.0; node = tt; writer = p.0.0.0 })
+      (λ q p. (((p.writer, p.event.0), p.event.1), p.event.2))
+  said_case word.Write = case_of (codes "write") kinds-plain.6 (anywhere Last pair_form) (λ x. said.Plain (event.Write x.0 x.1)) (λ x. refl) (λ x p. record { event = p; known = tt; node = tt; writer = tt }) (λ x p. p.event)
+  said_case word.Hint = case_of (codes "hint") kinds-plain.7 (anywhere Last (both Always pair_form (named_form ring))) (λ x. said.Plain (event.Hint x.0.0 x.0.1 x.1)) (λ x. refl)
+      (λ x p. record { event = p.0; known = known x.1 p.1; node = p.1; writer = tt }) (λ x p. (p.event, p.node))
+  said_case word.Ack = case_of (codes "ack") kinds-plain.8 (anywhere Last count_form) (λ n. said.Plain (event.Ack n)) (λ n. refl) (λ n p. record { event = p; known = tt; node = tt; writer = tt }) (λ n p. p.event)
+  said_case word.Get = case_of (codes "get") kinds-plain.9 (anywhere Last key_form) said.Get (λ key. refl) (λ key p. record { event = p; known = tt; node = tt; writer = tt }) (λ key p. p.event)
+  said_case word.Read = case_of (codes "read") kinds-plain.10 (anywhere Last pair_form) (λ x. said.Plain (event.Read x.0 x.1)) (λ x. refl) (λ x p. record { event = p; known = tt; node = tt; writer = tt }) (λ x p. p.event)
+  said_case word.EndGet = case_of (codes "endget") kinds-plain.11 (anywhere Last count_form) (λ n. said.Plain (event.EndGet n)) (λ n. refl) (λ n p. record { event = p; known = tt; node = tt; writer = tt }) (λ n p. p.event)
+  said_case word.Down = case_of (codes "down") kinds-plain.12 (anywhere Last (named_form ring)) (λ x. said.Plain (event.Down x)) (λ x. refl) (λ x p. record { event = tt; known = known x p; node = p; writer = tt }) (λ x p. p.node)
+  said_case word.Up = case_of (codes "up") kinds-plain.13 (anywhere Last (named_form ring)) (λ x. said.Plain (event.Up x)) (λ x. refl) (λ x p. record { event = tt; known = known x p; node = p; writer = tt }) (λ x p. p.node)
+  said_case word.Handoff = case_of (codes "handoff") kinds-plain.14 (anywhere Last (both Always (named_form ring) pair_form)) (λ x. said.Plain (event.Handoff x.0 (record { partition = x.1.0; index = x.1.1 })))
+      (λ x. refl) (λ x p. record { event = p.1; known = known x.0 p.0; node = p.0; writer = tt }) (λ x p. (p.node, p.event))
+  said_case word.Lose = case_of (codes "lose") kinds-plain.15 (anywhere Last (named_form ring)) (λ x. said.Plain (event.Lose x)) (λ x. refl) (λ x p. record { event = tt; known = known x p; node = p; writer = tt }) (λ x p. p.node)
+
+  -- in the order in which a reader tries them
+  abbrev cases_of : List (List ℕ × EventWord) → List SaidCase
+  cases_of [] = []
+  cases_of (t ∷ ts) = said_case t.1 ∷ cases_of ts
 
   -- the definition is the form, by computing
-  shape-is : (s : Shape) (k : ℕ) (fields : List (List ℕ)) → shape_at ring names k (Some s) fields ≡ map_item (behind s).say ((behind s).form.item k) fields
+  shape-is : (w : EventWord) (k : ℕ) (fields : List (List ℕ)) → shape_at ring names k (Some (shape_of w)) fields ≡ map_item (said_case w).value ((said_case w).form.item k) fields
   unfolding pair_at put_at hint_at handoff_at
-  shape-is (Number f) k fields = refl
-  shape-is s k fields = refl
+  shape-is word.Do k fields = refl
+  shape-is w k fields = refl
 
-  -- a word begins the lines of its shape's values
-  abbrev IsShape : List ℕ → Shape → Type 0
-  IsShape word s = (x : (behind s).A) → (said_fields ring names ((behind s).say x) ≡ word ∷ (behind s).form.spell x) × ((behind s).form.allowed x → IsSaid ring names ((behind s).say x))
-
-  are-shapes : AllByRecursion (λ x. IsShape x.0 (shape_of x.1)) words
-  are-shapes =
-      also (λ n. (refl, λ p. record { event = p; known = tt; node = tt; writer = tt }))
-      (also (λ n. (refl, λ p. record { event = p; known = tt; node = tt; writer = tt }))
-      (also (λ n. (refl, λ p. record { event = p; known = tt; node = tt; writer = tt }))
-      (also (λ n. (refl, λ p. record { event = p; known = tt; node = tt; writer = tt }))
-      (also (λ n. (refl, λ p. record { event = p; known = tt; node = tt; writer = tt }))
-      (also (λ x. (refl, λ p. record { event = (p.0.0.1, p.0.1, p.1); known = writer-known names x.writer p.0.0.0; node = tt; writer = p.0.0.0 }))
-      (also (λ n. (refl, λ p. record { event = p; known = tt; node = tt; writer = tt }))
-      (also (λ x. (refl, λ p. record { event = p.0; known = placed-below (names_of ring) x.1.0 p.1; node = p.1; writer = tt }))
-      (also (λ n. (refl, λ p. record { event = p; known = tt; node = tt; writer = tt }))
-      (also (λ n. (refl, λ p. record { event = p; known = tt; node = tt; writer = tt }))
-      (also (λ n. (refl, λ p. record { event = p; known = tt; node = tt; writer = tt }))
-      (also (λ n. (refl, λ p. record { event = p; known = tt; node = tt; writer = tt }))
-      (also (λ x. (refl, λ p. record { event = tt; known = placed-below (names_of ring) x.0 p; node = p; writer = tt }))
-      (also (λ x. (refl, λ p. record { event = tt; known = placed-below (names_of ring) x.0 p; node = p; writer = tt }))
-      (also (λ x. (refl, λ p. record { event = p.1; known = placed-below (names_of ring) x.0.0 p.0; node = p.0; writer = tt }))
-      (also (λ x. (refl, λ p. record { event = tt; known = placed-below (names_of ring) x.0 p; node = p; writer = tt })) tt)))))))))))))))
-
-  -- the fields are the line of what was read, and it is allowed
-  abbrev Found : List (List ℕ) → List (List ℕ) → SaidEvent → Type 0
-  Found fields rest x = (fields ≡ said_fields ring names x ++ rest) × IsSaid ring names x
-
-  take-shape : (k : ℕ) (o : Option Shape) (word : List ℕ) (fields rest : List (List ℕ)) (v : SaidEvent) → IfSome o (IsShape word) → shape_at ring names k o fields ≡ (Ok v, rest) → Found (word ∷ fields) rest v
-  take-shape k None word fields rest v is e = (let h = pair_is {A = Result SaidEvent Refusal} (Err (BadLine k), fields) (Ok v) rest e in absurd cc)
-  take-shape k (Some s) word fields rest v is e =
-      let b = behind s in
-      let h = pair_is (map_item b.say (b.form.item k) fields) (Ok v) rest (sym (shape-is s k fields) ∙ e) in
-      let g = front-word Last (b.form.item k) word b.form.spell b.form.allowed b.say fields rest v (b.form.exact tt k) h.0 h.1 in
-      subst (Found (word ∷ fields) rest) g.1 (g.2 ∙ ap (λ (r : List (List ℕ)). r ++ rest) (sym (is g.0).0), (is g.0).1 g.3)
-
-  give-shape : (k : ℕ) (s : Shape) (x : (behind s).A) (rest : List (List ℕ)) → (behind s).form.allowed x → Last rest → shape_at ring names k (Some s) ((behind s).form.spell x ++ rest) ≡ (Ok ((behind s).say x), rest)
-  give-shape k s x rest p last = shape-is s k ((behind s).form.spell x ++ rest) ∙ ap (λ (r : Result (behind s).A Refusal × List (List ℕ)). (map_ok (behind s).say r.0, r.1)) (((behind s).form.exact tt k).gives x rest p last)
-
-  -- what a line says is read from just its spelling
-  pub front-kind : (k : ℕ) → IsFront Last (kind_at ring names k) (said_fields ring names) (IsSaid ring names)
-  unfolding kind_at
-  front-kind k = record { takes = take; gives = give }
+  table-is : (ts : List (List ℕ × EventWord)) → AllByRecursion (λ t. (said_case t.1).word ≡ t.0) ts → (k : ℕ) (w : List ℕ) (fields : List (List ℕ))
+      → shape_at ring names k (option_map shape_of (lookup (bytes_eq w) ts)) fields ≡ choose (cases_of ts) k w fields
+  table-is [] p k w fields = refl
+  table-is (t ∷ ts) p k w fields = rw p.0 (by (bytes_eq w t.0) (table-is ts p.1 k w fields))
     where
-      take : (fields rest : List (List ℕ)) (v : SaidEvent) → kind_at ring names k fields ≡ (Ok v, rest) → Found fields rest v
-      take [] rest v e = (let h = pair_is {A = Result SaidEvent Refusal} (Err (BadLine k), []) (Ok v) rest e in absurd cc)
-      take (word ∷ fields) rest v e = take-shape k (option_map shape_of (lookup (bytes_eq word) words)) word fields rest v (found-at shape_of IsShape words word are-shapes) e
+      by : (b : Bool) → shape_at ring names k (option_map shape_of (lookup (bytes_eq w) ts)) fields ≡ choose (cases_of ts) k w fields
+          → shape_at ring names k (option_map shape_of (cond b (Some t.1) (lookup (bytes_eq w) ts))) fields
+          ≡ cond b (map_item (said_case t.1).value ((said_case t.1).form.item k) fields) (choose (cases_of ts) k w fields)
+      by true later = shape-is t.1 k fields
+      by false later = later
 
-      give : (v : SaidEvent) (rest : List (List ℕ)) → IsSaid ring names v → Last rest → kind_at ring names k (said_fields ring names v ++ rest) ≡ (Ok v, rest)
-      give (said.Put q) rest p last = give-shape k Put q rest (((p.writer, p.event.0), p.event.1), p.event.2) last
-      give (said.Get key) rest p last = give-shape k Get key rest p.event last
-      give (said.Plain (event.StartPut w key value gets)) rest p last = absurd p.writer
-      give (said.Plain (event.StartGet key)) rest p last = absurd p.writer
-      give (said.Plain (event.Do n)) rest p last = give-shape k (Number event.Do) n rest p.event last
-      give (said.Plain (event.OpenCopy n)) rest p last = give-shape k (Number event.OpenCopy) n rest p.event last
-      give (said.Plain (event.ChunkCopy n m)) rest p last = give-shape k (Pair event.ChunkCopy) (n, m) rest p.event last
-      give (said.Plain (event.CloseCopy n)) rest p last = give-shape k (Number event.CloseCopy) n rest p.event last
-      give (said.Plain (event.AbortCopy n)) rest p last = give-shape k (Number event.AbortCopy) n rest p.event last
-      give (said.Plain (event.Write n m)) rest p last = give-shape k (Pair event.Write) (n, m) rest p.event last
-      give (said.Plain (event.Hint u i x)) rest p last = give-shape k Hint ((u, i), x) rest (p.event, p.node) last
-      give (said.Plain (event.Ack n)) rest p last = give-shape k (Number event.Ack) n rest p.event last
-      give (said.Plain (event.Read n m)) rest p last = give-shape k (Pair event.Read) (n, m) rest p.event last
-      give (said.Plain (event.EndGet n)) rest p last = give-shape k (Number event.EndGet) n rest p.event last
-      give (said.Plain (event.Down x)) rest p last = give-shape k (Node event.Down) x rest p.node last
-      give (said.Plain (event.Up x)) rest p last = give-shape k (Node event.Up) x rest p.node last
-      give (said.Plain (event.Handoff x s)) rest p last = give-shape k Handoff (x, (s.partition, s.index)) rest (p.node, p.event) last
-      give (said.Plain (event.Lose x)) rest p last = give-shape k (Node event.Lose) x rest p.node last
+  words-are : AllByRecursion (λ t. (said_case t.1).word ≡ t.0) words
+  words-are = (search rules)
 
-  pub judges-kind : (k : ℕ) → Judges k (kind_at ring names k)
+  pub kind-same : (k : ℕ) (fields : List (List ℕ)) → kind_at ring names k fields ≡ choice_at (cases_of words) k fields
   unfolding kind_at
-  judges-kind k = record { at = at }
-    where
-      shape : (o : Option Shape) (fields : List (List ℕ)) → At k (shape_at ring names k o fields).0
-      shape None fields = refl
-      shape (Some s) fields = subst (λ (r : Taken). At k r.0) (sym (shape-is s k fields)) (at-map k (behind s).say ((behind s).form.item k fields).0 (((behind s).form.judges k).at fields))
+  kind-same k [] = refl
+  kind-same k (w ∷ fields) = table-is words words-are k w fields
 
-      at : (fields : List (List ℕ)) → At k (kind_at ring names k fields).0
-      at [] = refl
-      at (word ∷ fields) = shape (option_map shape_of (lookup (bytes_eq word) words)) fields
+  first-is : (w : EventWord) (k : ℕ) (fields : List (List ℕ)) → choose (cases_of words) k (said_case w).word fields ≡ map_item (said_case w).value ((said_case w).form.item k) fields
+  first-is word.Do k fields = refl
+  first-is w k fields = refl
 
-  node-plain : (x : NodeId) → IsNamed ring x → IsPlain (name_at (names_of ring) x)
-  node-plain x p = name-plain (name_at (names_of ring) x) p.0
+  abbrev chosen : (w : EventWord) (x : (said_case w).kind) → Chosen (cases_of words) ((said_case w).value x)
+  chosen w x = record { case = said_case w; part = x; is = refl; first = first-is w }
 
-  count-plain : (n : ℕ) → IsCount n → IsPlain (decimal n)
-  count-plain n le = decimal-plain n (omega arith)
+  pub kind-case : (v : SaidEvent) → IsSaid ring names v → Chosen (cases_of words) v
+  kind-case (said.Put q) p = chosen word.Put q
+  kind-case (said.Get key) p = chosen word.Get key
+  kind-case (said.Plain (event.StartPut w key value gets)) p = absurd p.writer
+  kind-case (said.Plain (event.StartGet key)) p = absurd p.writer
+  kind-case (said.Plain (event.Do n)) p = chosen word.Do n
+  kind-case (said.Plain (event.OpenCopy n)) p = chosen word.Open n
+  kind-case (said.Plain (event.ChunkCopy n m)) p = chosen word.Chunk (n, m)
+  kind-case (said.Plain (event.CloseCopy n)) p = chosen word.Close n
+  kind-case (said.Plain (event.AbortCopy n)) p = chosen word.Abort n
+  kind-case (said.Plain (event.Write n m)) p = chosen word.Write (n, m)
+  kind-case (said.Plain (event.Hint u i x)) p = chosen word.Hint ((u, i), x)
+  kind-case (said.Plain (event.Ack n)) p = chosen word.Ack n
+  kind-case (said.Plain (event.Read n m)) p = chosen word.Read (n, m)
+  kind-case (said.Plain (event.EndGet n)) p = chosen word.EndGet n
+  kind-case (said.Plain (event.Down x)) p = chosen word.Down x
+  kind-case (said.Plain (event.Up x)) p = chosen word.Up x
+  kind-case (said.Plain (event.Handoff x s)) p = chosen word.Handoff (x, (s.partition, s.index))
+  kind-case (said.Plain (event.Lose x)) p = chosen word.Lose x
 
-  small-plain : (e : Event) → IsSmall e → IsEvent e → NamesNode ring e → AllByRecursion IsPlain (event_fields (names_of ring) names e)
-  small-plain (event.StartPut w key value gets) small is node = absurd small
-  small-plain (event.StartGet key) small is node = absurd small
-  small-plain e small is node = (search (rules, count-plain, node-plain))
-
-  pub kind-plain : (v : SaidEvent) → IsSaid ring names v → AllByRecursion IsPlain (said_fields ring names v)
-  kind-plain (said.Put q) p = (words-plain.3, (put_form names).plain tt q (((p.writer, p.event.0), p.event.1), p.event.2))
-  kind-plain (said.Get key) p = (words-plain.4, key_form.plain tt key p.event)
-  kind-plain (said.Plain e) p = small-plain e p.writer p.event p.node
-
+  -- what a line says
   abbrev pub kind_form : Form (Unit {0}) Last SaidEvent
-  kind_form = record { item = kind_at ring names; spell = said_fields ring names; allowed = IsSaid ring names; exact = λ _. front-kind; judges = judges-kind; plain = λ _. kind-plain }
+  kind_form = choice_if (cases_of words) (kind_at ring names) kind-same kind-case
 
 -- ---- a line
 

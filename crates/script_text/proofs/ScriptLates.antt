@@ -1,19 +1,10 @@
 -- Reading a script does not go back, and each of its faults is at a line that was reached; what a line says can be the next event.
 use Rattle.std.proofs.Common.{◌≡◌, ℕ, List, [], codes, Result, Ok, Err, IfOk, refl, sym}
-use Rattle.ring_names.specs.declared.refusal.Refusal.{Refusal}
-use Rattle.texts.specs.Left.{then_part}
-use Rattle.texts.proofs.Lates.{advances-then, advances-map}
-use Rattle.texts.proofs.Forms.{Left, header_at, one_line, ReadsTo, Advances, header, ending, to-first, to-after}
-use Rattle.texts.specs.Frames.{end_line_at}
-use Rattle.ring_table.specs.Value.{RingValue}
-use Rattle.plan_runs.specs.declared.event.Event.{Event}
-use Rattle.script_text.specs.Said.{FitsWriter, Fits, IsNext}
-use Rattle.script_text.specs.declared.said.SaidWriter.{SaidWriter}
-use Rattle.script_text.specs.declared.said.SaidWriter.TheVariants.{Known, New}
-use Rattle.script_text.specs.declared.said.SaidEvent.{SaidEvent}
+use Rattle.texts.proofs.Forms.{Left, header_at, one_line, ReadsTo, Advances, header, ending, to-first, to-after, Refusal, then_part, advances-then, advances-map, end_line_at}
+use Rattle.script_text.proofs.Terms.{RingValue, Event, FitsWriter, Fits, SaidWriter, Known, New, SaidEvent, Speaker, events_from}
+use Rattle.script_text.specs.Said.{IsNext}
 use Rattle.script_text.specs.declared.said.SaidEvent.TheVariants as said
-use Rattle.script_text.specs.declared.speaker.Speaker.{Speaker}
-use Rattle.script_text.specs.Reading.{said_at, events_from, events_at, section_at}
+use Rattle.script_text.specs.Reading.{said_at, events_at, section_at}
 use Rattle.script_text.proofs.Growing.{grows-on}
 use Rattle.script_text.proofs.ScriptForm.{IsWriter, NamesWriter, words-plain, said-law, script_growth}
 

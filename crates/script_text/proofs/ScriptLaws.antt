@@ -1,18 +1,11 @@
 -- A script is read only from its one text.
-use Rattle.std.proofs.Common.{◌≡◌, ℕ, List, codes, Result, Ok, Err, refl}
-use Rattle.std.specs.Prelude.{IfOk}
-use Rattle.ring_names.specs.declared.refusal.Refusal.{Refusal}
-use Rattle.texts.specs.Judging.{Gives, map_ok}
-use Rattle.texts.specs.Left.{Reads}
-use Rattle.texts.proofs.Forms.{Section, Any, Left, header_at, header, ending, then, made, text-found, text-given, some-first}
-use Rattle.ring_table.specs.Value.{RingValue}
-use Rattle.ring_table.specs.Valid.{IsRing}
+use Rattle.std.proofs.Common.{◌≡◌, ℕ, List, codes, Result, Ok, Err, refl, IfOk}
+use Rattle.texts.proofs.Forms.{Section, Any, Left, header_at, header, ending, then, made, text-found, text-given, some-first, Refusal, map_ok, Reads}
+use Rattle.texts.specs.Judging.{Gives}
+use Rattle.script_text.proofs.Terms.{RingValue, IsRing, Event, Anyone, AreWriters, IsScriptOf}
 use Rattle.ring_table.proofs.NodesLaws.{names-of}
-use Rattle.plan_runs.specs.declared.event.Event.{Event}
-use Rattle.script_text.specs.declared.speaker.Speaker.TheVariants.{Anyone}
 use Rattle.script_text.specs.Spelling.{script_text}
 use Rattle.script_text.specs.Reading.{events_at, section_at, script_at, script_reading}
-use Rattle.script_text.specs.Valid.{AreWriters, IsScriptOf}
 use Rattle.script_text.proofs.Growing.{Ends, growing}
 use Rattle.script_text.proofs.ScriptForm.{words-plain, script_growth}
 use Rattle.script_text.proofs.SightLaws.{script_said, says-script, script-says}

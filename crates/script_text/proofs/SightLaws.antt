@@ -1,26 +1,14 @@
 -- New writers are numbered in order of first sight: what lines say is a script, and a script is what some lines say.
-use Rattle.std.proofs.Common.{◌≡◌, ℕ, zero, suc, ◌<◌, ◌≤◌, List, [], ◌∷◌, ◌++◌, length, Some, refl, sym, ap, subst, ◌∙◌, arith, append_assoc, append-nil, length-append, inl, inr}
-use Rattle.std.specs.Prelude.{slice_get}
+use Rattle.std.proofs.Common.{◌≡◌, ℕ, zero, suc, ◌<◌, ◌≤◌, List, [], ◌∷◌, ◌++◌, length, Some, refl, sym, ap, subst, ◌∙◌, arith, append_assoc, append-nil, length-append, inl, inr, slice_get}
 use Rattle.std.proofs.lemmas.Bool.{cases_lt}
-use Rattle.ring_names.specs.Names.{place}
-use Rattle.ring_names.specs.declared.ids.WriterId.{WriterId}
+use Rattle.script_text.proofs.Terms.{place, WriterId, RingValue, names_of, AreNames, Event, event_of, names_after, SaidWriter, Known, New, SaidPut, SaidEvent, Anyone, event_fields, IsKnown, AreWriters, IsEvent, IsScriptOf}
 use Rattle.ring_names.proofs.InLists.{get_front, get_last}
 use Rattle.texts.proofs.Forms.{plain-line}
-use Rattle.ring_table.specs.Value.{RingValue, names_of}
-use Rattle.ring_table.proofs.RowLaws.{AreNames}
-use Rattle.plan_runs.specs.declared.event.Event.{Event}
 use Rattle.plan_runs.specs.declared.event.Event.TheVariants as event
-use Rattle.script_text.specs.Said.{event_of, names_after}
-use Rattle.script_text.specs.declared.said.SaidWriter.{SaidWriter}
-use Rattle.script_text.specs.declared.said.SaidWriter.TheVariants.{Known, New}
-use Rattle.script_text.specs.declared.said.SaidPut.{SaidPut}
-use Rattle.script_text.specs.declared.said.SaidEvent.{SaidEvent}
 use Rattle.script_text.specs.declared.said.SaidEvent.TheVariants as said
-use Rattle.script_text.specs.declared.speaker.Speaker.TheVariants.{Anyone}
-use Rattle.script_text.specs.Spelling.{event_fields}
-use Rattle.script_text.specs.Valid.{IsKnown, AreWriters, WritesAt, IsEvent, IsScriptOf}
+use Rattle.script_text.specs.Valid.{WritesAt}
 use Rattle.script_text.proofs.Growing.{Lines, EachIn, Says, values_of, state_after}
-use Rattle.script_text.proofs.ScriptForm.{placed-below, IsWriter, IsSmall, NamesWriter, NamesNode, IsSaid, said_fields, kind-plain, begins, goes-on, said-law, script_growth}
+use Rattle.script_text.proofs.ScriptForm.{placed-below, IsWriter, IsSmall, NamesWriter, NamesNode, IsSaid, said_fields, kind_form, begins, goes-on, said-law, script_growth}
 use Rattle.script_text.proofs.WriterLaws.{named-at, writer-placed, node-placed, not-before, writer-more, after-writers, front-writers}
 
 -- ---- one event
@@ -95,7 +83,7 @@ module _ (ring : RingValue) where
     fields = event_fields (names_of ring);
     allowed = IsSaid ring;
     line = λ all seen names k. said-law ring seen names k;
-    plain = λ names x p. plain-line (said_fields ring names x) (kind-plain ring names x p) (begins (names_of ring) (names_after names x) (event_of names x));
+    plain = λ names x p. plain-line (said_fields ring names x) ((kind_form ring names).plain tt x p) (begins (names_of ring) (names_after names x) (event_of names x));
     goes_on = λ names e lines. goes-on (names_of ring) names e lines;
     same = same-fields;
   }

@@ -5,10 +5,8 @@ use Rattle.std.specs.List.{flat_map, AllByRecursion}
 use Rattle.std.proofs.lemmas.Bool.{agree_below_at, and_parts, or_cases, eqb-true, leb-true, le-leb}
 use Rattle.std.proofs.lemmas.List.Concat.{flat_map-cons}
 use Rattle.texts.specs.Laws.{IsPlain}
-use Rattle.script_text.specs.Digits.{is_digit, digit_value, are_pairs, bytes_of, is_value_text, value_of}
-use Rattle.script_text.specs.Spelling.{digit_text, byte_text, value_text}
-use Rattle.script_text.specs.Reading.{judge_value}
-use Rattle.script_text.specs.Valid.{IsBytes}
+use Rattle.script_text.proofs.Terms.{is_digit, digit_value, are_pairs, bytes_of, is_value_text, value_of, value_text, judge_value, IsBytes}
+use Rattle.script_text.specs.Spelling.{digit_text, byte_text}
 use Rattle.script_text.proofs.DigitLaws.{few_bytes}
 
 -- ---- a digit

@@ -1,24 +1,14 @@
 -- Names of writers that grow, each at its own number.
-use Rattle.std.proofs.Common.{◌≡◌, ℕ, zero, suc, ◌<◌, Bool, true, false, cond, List, [], ◌∷◌, ◌++◌, length, Option, Some, None, refl, sym, ap, ◌∙◌, arith, length-append, inl, inr}
-use Rattle.std.specs.Prelude.{slice_get, option_map}
+use Rattle.std.proofs.Common.{◌≡◌, ℕ, zero, suc, ◌<◌, Bool, true, false, cond, List, [], ◌∷◌, ◌++◌, length, Option, Some, None, refl, sym, ap, ◌∙◌, arith, length-append, inl, inr, slice_get, option_map, bytes_eq}
 use Rattle.std.specs.List.{list_all}
-use Rattle.std.specs.Str.{bytes_eq}
 use Rattle.std.proofs.lemmas.Bool.{cases_lt, and_parts, and_from}
 use Rattle.std.proofs.lemmas.List.Folds.{list_all-append}
 use Rattle.std.proofs.lemmas.Option.{slice_get_within}
-use Rattle.ring_names.specs.Names.{place}
-use Rattle.ring_names.specs.declared.ids.WriterId.{WriterId}
-use Rattle.ring_names.proofs.Places.{place-push, place-get, get-place}
+use Rattle.script_text.proofs.Terms.{place, WriterId, place-get, get-place, AreNames, each_at, with_writer, names_after, SaidWriter, Known, New, SaidEvent, writer_at, AreWriters}
+use Rattle.ring_names.proofs.Places.{place-push}
 use Rattle.ring_names.proofs.InLists.{get_front, get_last, get_there}
 use Rattle.texts.specs.Name.{is_name}
-use Rattle.ring_table.proofs.RowLaws.{AreNames, each_at}
-use Rattle.script_text.specs.Said.{with_writer, names_after}
-use Rattle.script_text.specs.declared.said.SaidWriter.{SaidWriter}
-use Rattle.script_text.specs.declared.said.SaidWriter.TheVariants.{Known, New}
-use Rattle.script_text.specs.declared.said.SaidEvent.{SaidEvent}
 use Rattle.script_text.specs.declared.said.SaidEvent.TheVariants.{Put}
-use Rattle.script_text.specs.Spelling.{writer_at}
-use Rattle.script_text.specs.Valid.{AreWriters}
 use Rattle.script_text.proofs.ScriptForm.{writer_at-is, IsPlaced, IsWriter, NamesWriter}
 
 -- ---- names at their numbers
@@ -48,24 +38,22 @@ place-step true o p n on e = e
 place-step false None p n on e = absurd cc
 place-step false (Some m) p n on e = (let same : suc m ≡ n = cc in rw (on m refl same) e)
 
--- a name that is known stays where it is
-place-more : (names more : List (List ℕ)) (name : List ℕ) (n : ℕ) → place names name ≡ Some n → place (names ++ more) name ≡ Some n
-place-more [] more name n e = absurd cc
-place-more (x ∷ xs) more name n e = place-step (bytes_eq name x) (place xs name) (place (xs ++ more) name) n (λ m f same. place-more xs more name m f) e
+-- a name that is known stays where it is, and a place among the first names is one without the others
+place-both : (names more : List (List ℕ)) (name : List ℕ) (n : ℕ) → (place names name ≡ Some n → place (names ++ more) name ≡ Some n) × (n < length names → place (names ++ more) name ≡ Some n → place names name ≡ Some n)
+place-both [] more name n = (λ e. absurd cc, λ lt e. absurd (omega arith))
+place-both (x ∷ xs) more name n = (
+  λ e. place-step (bytes_eq name x) (place xs name) (place (xs ++ more) name) n (λ m f same. (place-both xs more name m).0 f) e,
+  λ lt e. place-step (bytes_eq name x) (place (xs ++ more) name) (place xs name) n (λ m f same. (place-both xs more name m).1 (omega (arith, same, lt)) f) e,
+)
 
--- a place among the first names is one without the others
-place-less : (names more : List (List ℕ)) (name : List ℕ) (n : ℕ) → place (names ++ more) name ≡ Some n → n < length names → place names name ≡ Some n
-place-less [] more name n e lt = absurd (omega arith)
-place-less (x ∷ xs) more name n e lt = place-step (bytes_eq name x) (place (xs ++ more) name) (place xs name) n (λ m f same. place-less xs more name m f (omega (arith, same, lt))) e
-
--- a name that stands behind some is none of them
+-- a name that comes after some is none of them
 pub not-before : (names more : List (List ℕ)) (name : List ℕ) → place (names ++ more) name ≡ Some (length names) → place names name ≡ None
 not-before names more name e = by (place names name) refl
   where
     by : (o : Option ℕ) → place names name ≡ o → o ≡ None
     by None f = refl
     by (Some m) f =
-        let same : Some m ≡ Some (length names) = sym (place-more names more name m f) ∙ e in
+        let same : Some m ≡ Some (length names) = sym ((place-both names more name m).0 f) ∙ e in
         let number : m ≡ length names = cc in
         let within = slice_get_within names m name (get-place names m name f) in
         absurd (omega arith)
@@ -85,7 +73,7 @@ with-new names name good p =
   where
     different : (n : ℕ) (x : List ℕ) → slice_get (names ++ name ∷ []) n ≡ Some x → place (names ++ name ∷ []) x ≡ Some n
     different n x e = elim (cases_lt n (length names)) [
-      | inl lt ↦ place-more names (name ∷ []) x n (good.different n x (sym (get_front names (name ∷ []) n lt) ∙ e))
+      | inl lt ↦ (place-both names (name ∷ []) x n).0 (good.different n x (sym (get_front names (name ∷ []) n lt) ∙ e))
       | inr le ↦
           (let more = length-append names (name ∷ []) in
           let within = slice_get_within (names ++ name ∷ []) n x e in
@@ -118,7 +106,7 @@ front-writers names more good =
     different : (n : ℕ) (x : List ℕ) → slice_get names n ≡ Some x → place names x ≡ Some n
     different n x e =
         let lt = slice_get_within names n x e in
-        place-less names more x n (good.different n x (get_front names more n lt ∙ e)) lt
+        (place-both names more x n).1 lt (good.different n x (get_front names more n lt ∙ e))
 
 -- ---- the spelling of a writer
 
