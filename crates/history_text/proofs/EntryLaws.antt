@@ -1,45 +1,36 @@
--- An entry's line is read only if it is spelled so.
-use Rattle.std.proofs.Common.{◌≡◌, ℕ, ◌<◌, Bool, true, false, cond, List, [], ◌∷◌, ◌++◌, length, map, codes, Option, Some, None, Result, Ok, refl, sym, ap, ◌∙◌, append_assoc, arith, rules}
-use Rattle.std.specs.Fmt.{decimal}
+-- An entry's line is read only if it is spelled so, what it says can be the next entry, and its faults are the line's.
+use Rattle.std.proofs.Common.{◌≡◌, ℕ, ◌<◌, Bool, true, false, cond, List, [], ◌∷◌, ◌++◌, length, map, codes, Option, Some, None, Result, Ok, refl, sym, ap, ◌∙◌, append_assoc, arith, rules, Err, IfOk, decimal, option_map}
 use Rattle.std.specs.List.{AllByRecursion, join_with_byte}
 use Rattle.std.specs.Str.{bytes_eq, all_ascii_digits}
 use Rattle.std.proofs.lemmas.Bool.{false_from_ne_true}
 use Rattle.std.proofs.lemmas.Fmt.{digits_decimal}
 use Rattle.std.proofs.lemmas.List.Concat.{flat_map-cons}
 use Rattle.std.proofs.lemmas.Slice.Eq.{bytes_eq-Decides}
-use Rattle.ring_names.specs.declared.ids.NodeId.{NodeId}
-use Rattle.ring_names.specs.declared.refusal.Refusal.{Refusal}
-use Rattle.texts.specs.Cuts.{front_of, behind_of}
-use Rattle.texts.specs.Name.{is_name}
-use Rattle.texts.specs.Parts.{line_text, spaced}
-use Rattle.texts.specs.Judging.{both_of, whole}
-use Rattle.texts.specs.Laws.{IsLine}
-use Rattle.texts.proofs.Decimals.{own}
-use Rattle.texts.proofs.Halves.{AreOther, front-here, behind-here}
-use Rattle.texts.proofs.Forms.{has_field}
-use Rattle.texts.proofs.Items.{both_is, IsLine-as}
-use Rattle.texts.proofs.Spaced.{join-more}
-use Rattle.ring_table.specs.Value.{RingValue, names_of}
-use Rattle.ring_table.specs.Spelling.{name_at}
-use Rattle.ring_table.proofs.RowLaws.{AreNames}
-use Rattle.plan_runs.specs.Words.{is_key}
-use Rattle.plan_runs.specs.declared.event.Entry.{Entry}
-use Rattle.plan_runs.specs.declared.event.Event.{Event}
-use Rattle.plan_runs.specs.declared.event.Event.TheVariants as event
-use Rattle.plan_runs.specs.declared.event.Reply.{Reply}
-use Rattle.plan_runs.specs.Replies.{reply_text}
-use Rattle.script_text.specs.Spelling.{seen_fields, writer_at, event_fields}
-use Rattle.script_text.specs.Valid.{AreWriters, IsCount, IsEvent}
+use Rattle.script_text.proofs.Terms.{NodeId, RingValue, names_of, name_at, AreNames, is_key, Event, seen_fields, writer_at, event_fields, AreWriters, IsCount, IsEvent, Fits}
 use Rattle.script_text.specs.declared.said.SaidWriter.{SaidWriter}
 use Rattle.script_text.specs.declared.said.SaidWriter.TheVariants.{Known, New}
 use Rattle.script_text.specs.declared.said.SaidEvent.{SaidEvent}
+use Rattle.texts.proofs.Forms.{has_field, Refusal, is_name, line_text, spaced, whole, IsLine, IsLine-as, map_ok, At, at-whole}
+use Rattle.texts.specs.Cuts.{front_of, behind_of}
+use Rattle.texts.specs.Judging.{both_of, Line, Does, end_at}
+use Rattle.texts.proofs.Decimals.{own}
+use Rattle.texts.proofs.Halves.{AreOther, front-here, behind-here}
+use Rattle.texts.proofs.Items.{both_is, both-map_right}
+use Rattle.texts.proofs.Spaced.{join-more}
+use Rattle.plan_runs.specs.declared.event.Entry.{Entry}
+use Rattle.plan_runs.specs.declared.event.Event.TheVariants as event
+use Rattle.plan_runs.specs.declared.event.Reply.{Reply}
+use Rattle.plan_runs.specs.Replies.{reply_text}
 use Rattle.script_text.specs.declared.said.SaidEvent.TheVariants as said
-use Rattle.script_text.proofs.ScriptForm.{IsNamed, IsWriter, IsSmall, NamesNode, IsSaid, said_name, new-name, said_fields, begins, said-line}
-use Rattle.history_text.specs.Said.{SaidEntry}
-use Rattle.history_text.specs.Reading.{reply_at, event_said, reply_said, said_at}
+use Rattle.script_text.proofs.ScriptForm.{IsNamed, IsWriter, IsSmall, NamesNode, IsSaid, said_name, new-name, said_fields, begins, said-line, said_line}
+use Rattle.history_text.specs.Said.{SaidEntry, reply_of, said_of}
+use Rattle.history_text.specs.Reading.{reply_at, event_said, reply_said, said_at, reply_line}
 use Rattle.history_text.specs.Spelling.{entry_line}
 use Rattle.history_text.specs.Valid.{IsReply}
-use Rattle.history_text.proofs.ReplyLaws.{reply_fields, counts-of, reply-spaced, reply-line}
+use Rattle.history_text.proofs.ReplyLaws.{reply_fields, counts-of, reply-spaced, reply-line, reply_form}
+use Rattle.texts.proofs.Lates.{at-both}
+use Rattle.script_text.proofs.ScriptLates.{names-fit}
+use Rattle.history_text.specs.declared.said.SaidReply.{SaidReply}
 
 -- the sign between an event and its reply
 abbrev pub sign : List ℕ
@@ -172,3 +163,56 @@ module _ (ring : RingValue) (history : List Entry) (names : List (List ℕ)) (k 
   -- the same of writers and nodes that are known
   pub entry-said : AreNames (names_of ring) → AreWriters names → IsLine (said_at ring history names k) (said_entry ring names) (IsSaidEntry ring history names)
   entry-said nodes writers = IsLine-as _ _ _ _ _ (λ v. refl) (λ v p. record { room = p.0; said = p.1.0; reply = p.1.1 }) (λ v p. (p.room, (p.said, p.reply))) entry-law
+
+-- ---- what the code reads
+
+-- a value that was made into another before the line's end was asked for, or after
+map-finished : {A B : Type 0} (f : A → B) (r : Result A Refusal) (e : Result (Unit {0}) Refusal)
+    → map_ok f (map_ok (λ x. x.0) (both_of r e)) ≡ map_ok (λ x. x.0) (both_of (map_ok f r) e)
+unfolding both_of
+map-finished f (Ok a) (Ok b) = refl
+map-finished f (Ok a) (Err d) = refl
+map-finished f (Err d) (Ok b) = refl
+map-finished f (Err d) (Err e) = refl
+
+line-said : (k : ℕ) (o : Option (List (List ℕ))) → reply_line k (option_map (λ fs. record { number = k; fields = fs }) o) ≡ reply_said k o
+line-said k None = refl
+line-said k (Some fields) = refl
+
+-- the line of two parts
+pub judged : (ring : RingValue) (history : List Entry) (names : List (List ℕ)) (k : ℕ) (line front : Line) (behind : Option Line) (e : Result SaidEvent Refusal)
+    (r : Result SaidReply Refusal) (all : Result (SaidEvent × SaidReply) Refusal) → k ≡ line.number
+    → front ≡ record { number = line.number; fields = front_of (codes "=") line.fields }
+    → behind ≡ option_map (λ fs. record { number = line.number; fields = fs }) (behind_of (codes "=") line.fields)
+    → e ≡ event_said ring history names front.number front.fields → map_ok reply_of r ≡ reply_line k behind → all ≡ both_of e r
+    → map_ok said_of all ≡ said_at ring history names line.number line.fields
+unfolding said_at
+judged ring history names k line front behind e r all same in_front rest event reply is =
+    let second = reply ∙ ap (λ (j : ℕ). reply_line j behind) same ∙ ap (reply_line line.number) rest ∙ line-said line.number (behind_of (codes "=") line.fields) in
+    ap (λ (x : Result (SaidEvent × SaidReply) Refusal). map_ok said_of x) is ∙ sym (both-map_right reply_of e r) ∙ ap (λ (x : Result Reply Refusal). both_of e x) second
+    ∙ ap (λ (x : Result SaidEvent Refusal). both_of x (reply_said line.number (behind_of (codes "=") line.fields))) (event ∙ ap (λ (l : Line). event_said ring history names l.number l.fields) in_front)
+
+-- the fields behind the sign, to the line's end
+pub finished : (k : ℕ) (line new : Line) (r all : Result SaidReply Refusal) → Does reply_at line (map_ok reply_of r) new
+    → all ≡ map_ok (λ x. x.0) (both_of r (end_at new.number new.fields).0) → map_ok reply_of all ≡ reply_line k (Some line)
+finished k line new r all does is = rw (is, map-finished reply_of r (end_at new.number new.fields).0, does.0, does.1) refl
+
+-- ---- the next entry
+
+-- each answer that is the line's can be the next: there is room, and the event's writer can be numbered
+pub next-if : (ring : RingValue) (history : List Entry) (names : List (List ℕ)) (k : ℕ) (fields : List (List ℕ)) (r : Result (SaidEvent × SaidReply) Refusal)
+    → map_ok said_of r ≡ said_at ring history names k fields → IfOk r (λ x. length history < 1000000) × IfOk r (λ x. Fits names x.0)
+next-if ring history names k fields (Ok x) e = (let p = ((entry-law ring history names k).takes fields (said_of x) (sym e)).1 in (p.0, names-fit names x.0 p.1.0.writer))
+next-if ring history names k fields (Err d) e = (tt, tt)
+
+-- ---- faults
+
+reply-at : (k : ℕ) (o : Option (List (List ℕ))) → At k (reply_said k o)
+reply-at k None = refl
+reply-at k (Some fields) = at-whole k (reply_at k) (reply_form.judges k) fields
+
+pub said-at : (ring : RingValue) (history : List Entry) (names : List (List ℕ)) (k : ℕ) (fields : List (List ℕ)) → At k (said_at ring history names k fields)
+unfolding said_at
+said-at ring history names k fields =
+    at-both k (event_said ring history names k (front_of (codes "=") fields)) (reply_said k (behind_of (codes "=") fields))
+    ((said_line ring (length history) names).at k (front_of (codes "=") fields)) (reply-at k (behind_of (codes "=") fields))

@@ -1,8 +1,6 @@
 -- Reading a history does not go back, and each of its faults is at a line that was reached.
 use Rattle.std.proofs.Common.{◌≡◌, ℕ, List, [], codes, Ok, refl}
-use Rattle.texts.specs.Left.{then_part}
-use Rattle.texts.specs.Frames.{end_line_at}
-use Rattle.texts.proofs.Forms.{Left, header_at, one_line, ReadsTo, Advances, ending, to-first, to-after}
+use Rattle.texts.proofs.Forms.{Left, header_at, one_line, ReadsTo, Advances, ending, to-first, to-after, then_part, end_line_at}
 use Rattle.ring_table.specs.Value.{RingValue}
 use Rattle.plan_runs.specs.declared.event.Entry.{Entry}
 use Rattle.history_text.specs.Reading.{entries_from, entries_at, history_at}

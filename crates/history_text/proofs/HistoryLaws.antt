@@ -4,32 +4,21 @@ use Rattle.std.specs.List.{AllByRecursion, flat_map}
 use Rattle.std.proofs.lemmas.Grind.{flat_map-append}
 use Rattle.std.proofs.lemmas.List.{length-map}
 use Rattle.std.proofs.lemmas.List.Concat.{flat_map-cons}
-use Rattle.texts.specs.Frames.{header_fields, end_fields}
-use Rattle.texts.specs.Left.{begins_with}
-use Rattle.texts.specs.Parts.{line_text, text_of}
-use Rattle.texts.proofs.Texts.{appended}
-use Rattle.texts.proofs.Forms.{Section, IsPlain, Any, Left, header_at, has_field, plain-line, header, ending, then, made, text-found, text-given, some-first}
-use Rattle.ring_table.specs.Value.{RingValue, names_of}
-use Rattle.ring_table.specs.Valid.{IsRing}
-use Rattle.ring_table.proofs.NodesLaws.{names-of}
-use Rattle.ring_table.proofs.RowLaws.{AreNames}
-use Rattle.plan_runs.specs.declared.event.Entry.{Entry}
-use Rattle.plan_runs.specs.declared.event.Event.{Event}
-use Rattle.script_text.specs.Said.{event_of, names_after}
+use Rattle.texts.proofs.Forms.{Section, IsPlain, Any, Left, header_at, has_field, plain-line, header, ending, then, made, text-found, text-given, some-first, end_fields, begins_with, line_text, text_of, appended}
+use Rattle.script_text.proofs.Terms.{RingValue, names_of, IsRing, AreNames, Event, event_of, names_after, event_fields, AreWriters}
 use Rattle.script_text.specs.declared.said.SaidEvent.{SaidEvent}
 use Rattle.script_text.specs.declared.speaker.Speaker.TheVariants.{Anyone}
-use Rattle.script_text.specs.Spelling.{event_fields}
-use Rattle.script_text.specs.Valid.{AreWriters}
+use Rattle.ring_table.proofs.NodesLaws.{names-of}
+use Rattle.plan_runs.specs.declared.event.Entry.{Entry}
 use Rattle.script_text.proofs.Growing.{Growth, Lines, Ends, EachIn, Says, values_of, state_after, growing}
-use Rattle.script_text.proofs.ScriptForm.{IsSaid, said_fields, kind-plain, begins, goes-on, script_growth}
+use Rattle.script_text.proofs.ScriptForm.{IsSaid, said_fields, kind_form, begins, goes-on, script_growth}
 use Rattle.script_text.proofs.SightLaws.{script_said, same-fields, says-script, script-says}
 use Rattle.history_text.specs.Said.{SaidEntry, entry_of}
 use Rattle.history_text.specs.Reading.{said_at, entries_from, entries_at, history_at, history_reading}
 use Rattle.history_text.specs.Spelling.{entry_line, history_text}
 use Rattle.history_text.specs.Valid.{IsReply, IsHistoryOf}
-use Rattle.history_text.proofs.EntryLaws.{sign, entry_fields, said_entry, entry-text, CanBeSaid, entry-law}
-use Rattle.history_text.proofs.LineLaws.{said-at}
-use Rattle.history_text.proofs.ReplyLaws.{reply_fields, reply-plain}
+use Rattle.history_text.proofs.EntryLaws.{sign, entry_fields, said_entry, entry-text, CanBeSaid, entry-law, said-at}
+use Rattle.history_text.proofs.ReplyLaws.{reply_fields, reply_form}
 
 -- ---- its lines
 
@@ -65,23 +54,22 @@ module _ (ring : RingValue) where
     at = λ all. said-at ring;
   }
 
-  -- their events are those of a script's lines
-  values-same : (xs : List SaidEntry) (names : List (List ℕ)) → events_in (values_of history_growth names xs) ≡ values_of (script_growth Anyone ring) names (heard xs)
-  values-same [] names = refl
-  values-same (x ∷ xs) names = ap (λ (es : List Event). event_of names x.0 ∷ es) (values-same xs (names_after names x.0))
+  -- their events are those of a script's lines, and so are the writers after them
+  heard-same : (xs : List SaidEntry) (names : List (List ℕ)) → (events_in (values_of history_growth names xs) ≡ values_of (script_growth Anyone ring) names (heard xs))
+      × (state_after history_growth names xs ≡ state_after (script_growth Anyone ring) names (heard xs))
+  heard-same [] names = (refl, refl)
+  heard-same (x ∷ xs) names = (let later = heard-same xs (names_after names x.0) in (ap (λ (es : List Event). event_of names x.0 ∷ es) later.0, later.1))
 
-  state-same : (xs : List SaidEntry) (names : List (List ℕ)) → state_after history_growth names xs ≡ state_after (script_growth Anyone ring) names (heard xs)
-  state-same [] names = refl
-  state-same (x ∷ xs) names = state-same xs (names_after names x.0)
-
-  each-heard : (xs : List SaidEntry) (names : List (List ℕ)) → EachIn history_growth (CanBeSaid ring) names xs → EachIn (script_growth Anyone ring) (IsSaid ring) names (heard xs)
-  each-heard [] names each = tt
-  each-heard (x ∷ xs) names each = (each.0.0, each-heard xs (names_after names x.0) each.1)
+  -- each event and each reply is allowed
+  each-heard : (xs : List SaidEntry) (names : List (List ℕ)) → EachIn history_growth (CanBeSaid ring) names xs
+      → EachIn (script_growth Anyone ring) (IsSaid ring) names (heard xs) × AllByRecursion (λ x. IsReply x.reply) (values_of history_growth names xs)
+  each-heard [] names each = (tt, tt)
+  each-heard (x ∷ xs) names each = (let later = each-heard xs (names_after names x.0) each.1 in ((each.0.0, later.0), (each.0.1, later.1)))
 
   pub same-entry : (names : List (List ℕ)) (x : SaidEntry) (xs : List SaidEntry) → CanBeSaid ring names x → EachIn history_growth (CanBeSaid ring) (names_after names x.0) xs
       → entry_fields (names_of ring) (state_after history_growth (names_after names x.0) xs) (entry_of names x) ≡ said_entry ring names x
   same-entry names x xs p each = ap (λ (l : List (List ℕ)). l ++ sign ∷ reply_fields x.1)
-      (ap (λ (ns : List (List ℕ)). event_fields (names_of ring) ns (event_of names x.0)) (state-same xs (names_after names x.0)) ∙ same-fields ring names x.0 (heard xs) p.0 (each-heard xs (names_after names x.0) each))
+      (ap (λ (ns : List (List ℕ)). event_fields (names_of ring) ns (event_of names x.0)) (heard-same xs (names_after names x.0)).1 ∙ same-fields ring names x.0 (heard xs) p.0 (each-heard xs (names_after names x.0) each).0)
 
   -- how its lines are spelled
   abbrev pub history_said : Lines (List (List ℕ)) SaidEntry Entry history_growth
@@ -90,7 +78,7 @@ module _ (ring : RingValue) where
     fields = entry_fields (names_of ring);
     allowed = CanBeSaid ring;
     line = λ all seen names k. entry-law ring seen names k;
-    plain = λ names x p. plain-line (said_entry ring names x) (appended IsPlain (said_fields ring names x.0) (sign ∷ reply_fields x.1) (kind-plain ring names x.0 p.0) (words-plain.2, reply-plain x.1 p.1))
+    plain = λ names x p. plain-line (said_entry ring names x) (appended IsPlain (said_fields ring names x.0) (sign ∷ reply_fields x.1) ((kind_form ring names).plain tt x.0 p.0) (words-plain.2, reply_form.plain tt x.1 p.1))
         (some-more (said_fields ring names x.0) (sign ∷ reply_fields x.1) (begins (names_of ring) (names_after names x.0) (event_of names x.0)));
     goes_on = λ names e lines. begun (event_fields (names_of ring) names e.event) (sign ∷ reply_fields e.reply) lines (begins (names_of ring) names e.event) (goes-on (names_of ring) names e.event lines);
     same = same-entry;
@@ -101,22 +89,20 @@ module _ (ring : RingValue) where
   abbrev History : Type 0
   History = List Entry × List (List ℕ)
 
-  replies-of : (xs : List SaidEntry) (names : List (List ℕ)) → EachIn history_growth (CanBeSaid ring) names xs → AllByRecursion (λ x. IsReply x.reply) (values_of history_growth names xs)
-  replies-of [] names each = tt
-  replies-of (x ∷ xs) names each = (each.0.1, replies-of xs (names_after names x.0) each.1)
-
   -- what lines say is a history
   pub says-history : (old : List (List ℕ)) (v : History) → AreWriters old → Says history_growth history_said old v → IsHistoryOf ring old v.1 v.0
   says-history old v good p =
       let few = p.few in
+      let same = heard-same p.items old in
+      let each = each-heard p.items old p.each in
       let script : Says (script_growth Anyone ring) (script_said ring) old (events_in v.0, v.1) = record {
         items = heard p.items;
-        values = sym (values-same p.items old) ∙ ap events_in p.values;
-        state = sym (state-same p.items old) ∙ p.state;
-        each = each-heard p.items old p.each;
+        values = sym same.0 ∙ ap events_in p.values;
+        state = sym same.1 ∙ p.state;
+        each = each.0;
         few = rw (length-map v.0 (λ (x : Entry). x.event)) few;
       } in
-      record { script = says-script ring old (events_in v.0, v.1) good script; replies = subst (AllByRecursion (λ (x : Entry). IsReply x.reply)) p.values (replies-of p.items old p.each) }
+      record { script = says-script ring old (events_in v.0, v.1) good script; replies = subst (AllByRecursion (λ (x : Entry). IsReply x.reply)) p.values each.1 }
 
   -- entries with these events are what lines say that say the events
   record Paired (names : List (List ℕ)) (events : List SaidEvent) (history : List Entry) : Type 0 where
@@ -149,7 +135,7 @@ module _ (ring : RingValue) where
       record {
         items = q.items;
         values = q.entries_are;
-        state = state-same q.items old ∙ ap (state_after (script_growth Anyone ring) old) q.events_are ∙ s.state;
+        state = (heard-same q.items old).1 ∙ ap (state_after (script_growth Anyone ring) old) q.events_are ∙ s.state;
         each = q.each;
         few = rw (← length-map history (λ (x : Entry). x.event)) p.script.few;
       }
@@ -165,24 +151,10 @@ module _ (ring : RingValue) where
 
   body-text : (names : List (List ℕ)) (history : List Entry) → text_of (map (entry_fields (names_of ring) names) history) ≡ flat_map (entry_line (names_of ring) names) history
   body-text names [] = refl
-  body-text names (x ∷ xs) =
-      let fields = entry_fields (names_of ring) names in
-      let line = entry_line (names_of ring) names in
-      flat_map-cons line_text (fields x) (map fields xs)
-      ∙ ap (λ (t : List ℕ). line_text (fields x) ++ t) (body-text names xs)
-      ∙ ap (λ (t : List ℕ). t ++ flat_map line xs) (sym (entry-text (names_of ring) names x))
-      ∙ sym (flat_map-cons line x xs)
+  body-text names (x ∷ xs) = rw (flat_map-cons line_text, flat_map-cons (entry_line (names_of ring) names), body-text names xs, entry-text (names_of ring) names x) refl
 
   lines-text : (old : List (List ℕ)) (v : History) → text_of ((history_form old).spell v) ≡ history_text ring v.1 v.0
-  lines-text old v =
-      let first = line_text (header_fields (codes "history") (codes "1")) in
-      let body = map (entry_fields (names_of ring) v.1) v.0 in
-      let last : text_of (end_fields ∷ []) ≡ line_text end_fields = flat_map-cons line_text end_fields [] ∙ append-nil (line_text end_fields) in
-      flat_map-cons line_text (header_fields (codes "history") (codes "1")) (body ++ end_fields ∷ [])
-      ∙ ap (λ (t : List ℕ). first ++ t) (flat_map-append line_text body (end_fields ∷ []))
-      ∙ ap (λ (t : List ℕ). first ++ (t ++ text_of (end_fields ∷ []))) (body-text v.1 v.0)
-      ∙ ap (λ (t : List ℕ). first ++ (flat_map (entry_line (names_of ring) v.1) v.0 ++ t)) last
-      ∙ sym (append_assoc first (flat_map (entry_line (names_of ring) v.1) v.0) (line_text end_fields))
+  lines-text old v = rw (flat_map-cons line_text, flat_map-append line_text, body-text v.1 v.0, flat_map-cons line_text end_fields []) (simp (append_assoc, append-nil))
 
 -- ---- a whole text, and a section
 

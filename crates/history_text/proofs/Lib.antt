@@ -1,5 +1,4 @@
 mod Examples
-pub mod LineLaws
 pub mod HistoryLates
 pub mod ReplyLaws
 pub mod EntryLaws

@@ -1,6 +1,6 @@
 use Rattle.texts.proofs.Lates.{at-mapped}
 use Rattle.history_text.specs.Said.{said_of}
-use Rattle.history_text.proofs.LineLaws.{next-if, said-at}
+use Rattle.history_text.proofs.EntryLaws.{next-if, said-at}
 use Rattle.history_text.proofs.lines.entry_line.Goals as goal
 
 pub returns-clause-room : goal.returns-clause-room

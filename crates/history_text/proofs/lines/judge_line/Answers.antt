@@ -1,4 +1,4 @@
-use Rattle.history_text.proofs.LineLaws.{judged}
+use Rattle.history_text.proofs.EntryLaws.{judged}
 use Rattle.history_text.proofs.lines.judge_line.Goals as goal
 
 pub returns : goal.returns

@@ -1,4 +1,4 @@
-use Rattle.history_text.proofs.LineLaws.{finished}
+use Rattle.history_text.proofs.EntryLaws.{finished}
 use Rattle.history_text.proofs.lines.reply_part.Goals as goal
 
 pub returns-in-Some : goal.returns-in-Some
