@@ -1,17 +1,11 @@
 -- Reading the scripts of a drive does not go back, where its faults lie, and what the scripts are.
-use Rattle.std.proofs.Common.{◌≡◌, ℕ, zero, suc, ◌+◌, ◌-◌, ◌<◌, ◌≤◌, Bool, true, false, cond, List, [], ◌∷◌, ◌++◌, length, Result, Ok, Err, refl, subst, arith}
-use Rattle.std.proofs.Common.{length-append}
-use Rattle.std.specs.Prelude.{◌≢◌}
+use Rattle.std.proofs.Common.{◌≡◌, ℕ, zero, suc, ◌+◌, ◌-◌, ◌<◌, ◌≤◌, Bool, true, false, cond, List, [], ◌∷◌, ◌++◌, length, Result, Ok, Err, refl, subst, arith, length-append}
 use Rattle.std.specs.List.{list_all, AllByRecursion}
-use Rattle.ring_names.specs.declared.refusal.Refusal.{Refusal}
-use Rattle.texts.specs.Left.{Left, ◌>>=◌, is_over}
-use Rattle.texts.specs.Late.{ReadsTo}
-use Rattle.texts.proofs.Items.{ok_is, bind_ok}
-use Rattle.texts.proofs.Lates.{Advances, advances-map, to-map, reads-less}
-use Rattle.ring_table.specs.Value.{RingValue}
-use Rattle.plan_runs.specs.declared.event.Event.{Event}
-use Rattle.script_text.specs.Client.{is_client_event}
+use Rattle.texts.proofs.Forms.{appended, Refusal, Left, ◌>>=◌, ReadsTo, ok_is, bind_ok, Advances, advances-map, to-map, reads-less}
+use Rattle.texts.specs.Left.{is_over}
+use Rattle.script_text.proofs.Terms.{RingValue, Event}
 use Rattle.script_text.specs.declared.speaker.Speaker.TheVariants.{Client}
+use Rattle.script_text.specs.Client.{is_client_event}
 use Rattle.script_text.specs.Reading.{client_at}
 use Rattle.script_text.proofs.ScriptLates.{section-on}
 use Rattle.script_text.proofs.ClientLaws.{section-client}
@@ -102,11 +96,6 @@ module _ (ring : RingValue) where
   abbrev Clients : List Event → Type 0
   Clients s = list_all is_client_event s ≡ true
 
-  -- one more behind such scripts
-  all-behind : (xs : List (List Event)) (x : List Event) → AllByRecursion Clients xs → Clients x → AllByRecursion Clients (xs ++ x ∷ [])
-  all-behind [] x p q = (q, tt)
-  all-behind (y ∷ ys) x p q = (p.0, all-behind ys x p.1 q)
-
   -- the scripts so far
   abbrev Between : ℕ → ℕ → List (List Event) → Type 0
   Between n m xs = (n ≤ length xs) × (length xs ≤ m) × AllByRecursion Clients xs
@@ -119,7 +108,7 @@ module _ (ring : RingValue) where
       let long = length-append seen.0 (b.0.0.0 ∷ []) in
       let low = p.0 in
       let high = p.1 in
-      let mine : Between (n + 1) (m + 1) (seen.0 ++ b.0.0.0 ∷ []) = (omega arith, omega arith, all-behind seen.0 b.0.0.0 p.2 client) in
+      let mine : Between (n + 1) (m + 1) (seen.0 ++ b.0.0.0 ∷ []) = (omega arith, omega arith, appended Clients seen.0 (b.0.0.0 ∷ []) p.2 (client, tt)) in
       subst (λ (v : Scripts × Left). Between (n + 1) (m + 1) v.0.0) (ok_is _ w b.2) mine
 
   -- within wider bounds
