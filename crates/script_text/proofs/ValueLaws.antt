@@ -11,19 +11,15 @@ use Rattle.script_text.proofs.DigitLaws.{few_bytes}
 
 -- ---- a digit
 
--- what is written of a number below 16 is a digit
-is-digit : (d : ℕ) → d < 16 → is_digit (digit_text d) ≡ true
-is-digit d lt = agree_below_at (λ x. is_digit (digit_text x)) (λ x. true) 16 d refl lt
+-- what is written of a number below 16 is a digit that counts it, and is no space
+digit-is : (d : ℕ) → d < 16 → (is_digit (digit_text d) ≡ true) × (digit_value (digit_text d) ≡ d) × (32 < digit_text d)
+digit-is d lt = (
+  agree_below_at (λ x. is_digit (digit_text x)) (λ x. true) 16 d refl lt,
+  eqb-true _ _ (agree_below_at (λ x. eqb (digit_value (digit_text x)) x) (λ x. true) 16 d refl lt),
+  leb-true 33 (digit_text d) (agree_below_at (λ x. nat_le 33 (digit_text x)) (λ x. true) 16 d refl lt),
+)
 
--- and it counts that number
-value-text : (d : ℕ) → d < 16 → digit_value (digit_text d) ≡ d
-value-text d lt = eqb-true _ _ (agree_below_at (λ x. eqb (digit_value (digit_text x)) x) (λ x. true) 16 d refl lt)
-
--- and it is no space
-text-plain : (d : ℕ) → d < 16 → 32 < digit_text d
-text-plain d lt = leb-true 33 (digit_text d) (agree_below_at (λ x. nat_le 33 (digit_text x)) (λ x. true) 16 d refl lt)
-
--- no digit stands behind `f`
+-- no digit comes after `f`
 few-digit : (c : ℕ) → is_digit c ≡ true → c < 103
 few-digit c e = elim (or_cases (nat_le 48 c && nat_le c 57) (nat_le 97 c && nat_le c 102) e) [
   | inl h ↦ omega (arith, leb-true c 57 (and_parts (nat_le 48 c) (nat_le c 57) h).1)
@@ -35,13 +31,12 @@ either-of : (a b : Bool) → a ≡ true → (not a || b) ≡ true → b ≡ true
 either-of true b e f = f
 either-of false b e f = absurd cc
 
--- what is written of what a digit counts is the digit
-text-value : (c : ℕ) → is_digit c ≡ true → digit_text (digit_value c) ≡ c
-text-value c e = eqb-true _ _ (either-of (is_digit c) _ e (agree_below_at (λ x. not (is_digit x) || eqb (digit_text (digit_value x)) x) (λ x. true) 103 c refl (few-digit c e)))
-
--- a digit counts at most 15
-value-few : (c : ℕ) → is_digit c ≡ true → digit_value c ≤ 15
-value-few c e = leb-true (digit_value c) 15 (either-of (is_digit c) _ e (agree_below_at (λ x. not (is_digit x) || nat_le (digit_value x) 15) (λ x. true) 103 c refl (few-digit c e)))
+-- what is written of what a digit counts is the digit, and a digit counts at most 15
+digit-counts : (c : ℕ) → is_digit c ≡ true → (digit_text (digit_value c) ≡ c) × (digit_value c ≤ 15)
+digit-counts c e = (
+  eqb-true _ _ (either-of (is_digit c) _ e (agree_below_at (λ x. not (is_digit x) || eqb (digit_text (digit_value x)) x) (λ x. true) 103 c refl (few-digit c e))),
+  leb-true (digit_value c) 15 (either-of (is_digit c) _ e (agree_below_at (λ x. not (is_digit x) || nat_le (digit_value x) 15) (λ x. true) 103 c refl (few-digit c e))),
+)
 
 -- ---- bytes
 
@@ -50,23 +45,25 @@ record AreSpelled (digits value : List ℕ) : Type 0 where
   pub pairs : are_pairs digits ≡ true
   pub bytes : bytes_of digits ≡ value
   pub twice : length digits ≡ length value + length value
+  pub plain : IsPlain digits
 
 -- one byte more in front
 two-digits : (b : ℕ) (digits bytes : List ℕ) → b < 256 → AreSpelled digits bytes → AreSpelled (byte_text b ++ digits) (b ∷ bytes)
 two-digits b digits bytes lt p =
-    let high : b / 16 < 16 = omega arith in
-    let low : b % 16 < 16 = omega arith in
+    let high = digit-is (b / 16) (omega arith) in
+    let low = digit-is (b % 16) (omega arith) in
     let one : 16 * (b / 16) + b % 16 ≡ b = omega arith in
     let more = p.twice in
     record {
-      pairs = rw (is-digit (b / 16) high, is-digit (b % 16) low) p.pairs;
-      bytes = rw (value-text (b / 16) high, value-text (b % 16) low, one, p.bytes) refl;
+      pairs = rw (high.0, low.0) p.pairs;
+      bytes = rw (high.1, low.1, one, p.bytes) refl;
       twice = omega arith;
+      plain = (high.2, (low.2, p.plain));
     }
 
 -- what is written of bytes is pairs of digits, which spell them
 bytes-spelled : (bytes : List ℕ) → AllByRecursion (λ b. b < 256) bytes → AreSpelled (flat_map byte_text bytes) bytes
-bytes-spelled [] p = record { pairs = refl; bytes = refl; twice = refl }
+bytes-spelled [] p = record { pairs = refl; bytes = refl; twice = refl; plain = tt }
 bytes-spelled (b ∷ bytes) p = rw (flat_map-cons byte_text b bytes) (two-digits b (flat_map byte_text bytes) bytes p.0 (bytes-spelled bytes p.1))
 
 -- pairs of digits are what is written of the bytes that they spell
@@ -76,24 +73,19 @@ digits-of (a ∷ []) e = absurd cc
 digits-of (a ∷ b ∷ cs) e =
     let p = and_parts (is_digit a && is_digit b) (are_pairs cs) e in
     let q = and_parts (is_digit a) (is_digit b) p.0 in
-    let high = value-few a q.0 in
-    let low = value-few b q.1 in
+    let high = digit-counts a q.0 in
+    let low = digit-counts b q.1 in
     let n = 16 * digit_value a + digit_value b in
     let rest = digits-of cs p.1 in
     let first : n / 16 ≡ digit_value a = omega arith in
     let second : n % 16 ≡ digit_value b = omega arith in (
-      rw (flat_map-cons byte_text n (bytes_of cs), first, second, text-value a q.0, text-value b q.1) (ap (λ (ds : List ℕ). a ∷ b ∷ ds) rest.0),
+      rw (flat_map-cons byte_text n (bytes_of cs), first, second, high.0, low.0) (ap (λ (ds : List ℕ). a ∷ b ∷ ds) rest.0),
       (omega arith, rest.1),
     )
 
--- what is written of bytes is plain
-bytes-plain : (bytes : List ℕ) → AllByRecursion (λ b. b < 256) bytes → IsPlain (flat_map byte_text bytes)
-bytes-plain [] p = tt
-bytes-plain (b ∷ bytes) p = (text-plain (b / 16) (let lt = p.0 in omega arith), (text-plain (b % 16) (omega arith), bytes-plain bytes p.1))
-
 -- what is written of a value is plain
 pub value-plain : (value : List ℕ) → IsBytes value → IsPlain (value_text value)
-value-plain value p = (omega arith, bytes-plain value p.bytes)
+value-plain value p = (omega arith, (bytes-spelled value p.bytes).plain)
 
 -- ---- a value
 
