@@ -1,28 +1,21 @@
 -- The text of a reply is ASCII, and so it is UTF-8.
-use Rattle.std.proofs.Common.{ℕ, zero, suc, ◌+◌, ◌/◌, ◌%◌, ◌<◌, ◌==◌, nat_lt, Bool, true, false, cond, List, [], ◌∷◌, ◌++◌, codes, IsAscii, IsUtf8, arith, rules}
+use Rattle.std.proofs.Common.{ℕ, zero, suc, ◌+◌, ◌/◌, ◌%◌, ◌<◌, ◌==◌, nat_lt, false, List, [], ◌∷◌, ◌++◌, codes, IsAscii, IsUtf8, arith, rules}
 use Rattle.std.specs.Fmt.{decimal, digit_glyph, digits, digits_onto}
+use Rattle.std.proofs.lemmas.Bool.{cond_both}
 use Rattle.std.proofs.lemmas.Str.{IsAscii-append, IsUtf8-from_ascii}
 use Rattle.std.proofs.lemmas.Str.Ascii.{IsAscii-nil, IsAscii-cons, IsAscii-from_all}
 use Rattle.plan_runs.specs.declared.event.Reply.{Reply}
 use Rattle.plan_runs.specs.declared.event.Reply.TheVariants.{Plain, Put, Ticket, Get, Found, Answer}
 use Rattle.plan_runs.specs.Replies.{numbers_text, reply_text}
 
-glyph-below : (t : Bool) (d : ℕ) → d < 10 → cond t (48 + d) (87 + d) < 128
-glyph-below true d h = omega arith
-glyph-below false d h = omega arith
-
-either-ascii : (t : Bool) (xs ys : List ℕ) → IsAscii xs → IsAscii ys → IsAscii (cond t xs ys)
-either-ascii true xs ys p q = p
-either-ascii false xs ys p q = q
-
--- digits in front of ASCII
+-- digits before ASCII
 onto-ascii : (k n : ℕ) (acc : List ℕ) → IsAscii acc → IsAscii (digits_onto k 10 false n acc)
 onto-ascii zero n acc h = h
 onto-ascii (suc k) n acc h =
-    let more : IsAscii (digit_glyph false (n % 10) ∷ acc) =
-    IsAscii-cons (digit_glyph false (n % 10)) acc (glyph-below (nat_lt (n % 10) 10) (n % 10) (omega arith)) h in
-    either-ascii (n / 10 == 0) (digit_glyph false (n % 10) ∷ acc) (digits_onto k 10 false (n / 10) (digit_glyph false (n % 10) ∷ acc)) more
-    (onto-ascii k (n / 10) (digit_glyph false (n % 10) ∷ acc) more)
+    let glyph = digit_glyph false (n % 10) in
+    let below : glyph < 128 = cond_both (nat_lt (n % 10) 10) (48 + n % 10) (87 + n % 10) (λ x. x < 128) (λ t. omega arith) (λ t. omega arith) in
+    let more = IsAscii-cons glyph acc below h in
+    cond_both (n / 10 == 0) (glyph ∷ acc) (digits_onto k 10 false (n / 10) (glyph ∷ acc)) IsAscii (λ t. more) (λ t. onto-ascii k (n / 10) (glyph ∷ acc) more)
 
 pub decimal-ascii : (n : ℕ) → IsAscii (decimal n)
 unfolding digits
