@@ -1,7 +1,7 @@
 -- Lines up to one that begins with `end`, each read in the state that the lines before it made, as one section; and some forms of fields.
 use Rattle.std.proofs.Common.{◌≡◌, ℕ, ◌+◌, ◌<◌, ◌≤◌, Bool, true, false, cond, List, [], ◌∷◌, ◌++◌, length, map, codes, Result, Ok, Err, refl, sym, ap, subst, ◌∙◌, append_assoc, append-nil, length-append, arith}
 use Rattle.std.specs.List.{AllByRecursion, list_all}
-use Rattle.std.proofs.lemmas.Bool.{and_from}
+use Rattle.std.proofs.lemmas.Bool.{and_from, cond_both}
 use Rattle.std.proofs.lemmas.List.Folds.{list_all-append}
 use Rattle.texts.proofs.Forms.{Item, Form, Section, Left, IsPart, ReadsTo, At, next_number, some_lines, Refusal, BadLine, ◌>>=◌, begins_with, first_line, next_line, then_part, IsLine, SomeLeft, IsPlainLine, ok_is}
 use Rattle.texts.proofs.Forms.{bind_ok, reads-less, next-after}
@@ -91,12 +91,9 @@ module _ {S X E : Type 0} (g : Growth S X E) where
 
   pub grows-on : (seen : List E) (s : S) (k : ℕ) (lines : List (List (List ℕ))) → ReadsTo k (g.from seen s k lines)
   grows-on seen s k [] = rw (g.none seen s k) (k, omega arith, refl)
-  grows-on seen s k (line ∷ lines) = rw (g.more seen s k line lines) (by (begins_with (codes "end") (line ∷ lines)) (λ x. grows-on (seen ++ g.value s x ∷ []) (g.after s x) (next_number k) lines))
-    where
-      by : (t : Bool) → ((x : X) → ReadsTo (next_number k) (g.from (seen ++ g.value s x ∷ []) (g.after s x) (next_number k) lines))
-          → ReadsTo k (cond t (Ok ((seen, s), record { line = k; lines = line ∷ lines })) (further seen s k line lines))
-      by true later = omega arith
-      by false later = reads-on k k (first_line k (line ∷ lines)) _ (omega arith) (first-at k (line ∷ lines)) (λ _. reads-on k (next_number k) (g.read (line ∷ lines) seen s k line) _ (next-after k) (g.at (line ∷ lines) seen s k line) later)
+  grows-on seen s k (line ∷ lines) = rw (g.more seen s k line lines) (cond_both (begins_with (codes "end") (line ∷ lines)) (Ok ((seen, s), record { line = k; lines = line ∷ lines })) (further seen s k line lines)
+      (λ (r : Result ((List E × S) × Left) Refusal). ReadsTo k r) (λ t. omega arith) (λ t. reads-on k k (first_line k (line ∷ lines)) _ (omega arith) (first-at k (line ∷ lines)) (λ _.
+      reads-on k (next_number k) (g.read (line ∷ lines) seen s k line) _ (next-after k) (g.at (line ∷ lines) seen s k line) (λ x. grows-on (seen ++ g.value s x ∷ []) (g.after s x) (next_number k) lines))))
 
   grows-step : (seen : List E) (s : S) (k : ℕ) (lines : List (List (List ℕ))) → begins_with (codes "end") lines ≡ false
       → g.from seen s k lines ≡ (first_line k lines >>= λ l. g.read lines seen s k l.0 >>= λ x. g.from (seen ++ g.value s x ∷ []) (g.after s x) l.1.line l.1.lines)
@@ -121,15 +118,11 @@ module _ {S X E : Type 0} (g : Growth S X E) where
       → ((seen : List E) (s : S) (k : ℕ) (line : List (List ℕ)) (lines : List (List (List ℕ))) (x : X) (w : (List E × S) × Left) → g.read (line ∷ lines) seen s k line ≡ Ok x → G (seen ++ g.value s x ∷ []) (g.after s x) lines w → G seen s (line ∷ lines) w)
       → (seen : List E) (s : S) (k : ℕ) (lines : List (List (List ℕ))) (w : (List E × S) × Left) → g.from seen s k lines ≡ Ok w → G seen s lines w
   grows-read G end on seen s k [] w e = (let f = sym (g.none seen s k) ∙ e in absurd cc)
-  grows-read G end on seen s k (line ∷ lines) w e = by (begins_with (codes "end") (line ∷ lines)) (sym (g.more seen s k line lines) ∙ e) (λ x. grows-read G end on (seen ++ g.value s x ∷ []) (g.after s x) (next_number k) lines w)
-    where
-      by : (t : Bool) → cond t (Ok ((seen, s), record { line = k; lines = line ∷ lines })) (further seen s k line lines) ≡ Ok w
-          → ((x : X) → g.from (seen ++ g.value s x ∷ []) (g.after s x) (next_number k) lines ≡ Ok w → G (seen ++ g.value s x ∷ []) (g.after s x) lines w) → G seen s (line ∷ lines) w
-      by true h later = subst (G seen s (line ∷ lines)) (ok_is _ w h) (end seen s k line lines)
-      by false h later =
-          let b = bind_ok (first_line k (line ∷ lines)) (λ _. g.read (line ∷ lines) seen s k line >>= λ x. g.from (seen ++ g.value s x ∷ []) (g.after s x) (next_number k) lines) w h in
-          let c = bind_ok (g.read (line ∷ lines) seen s k line) (λ x. g.from (seen ++ g.value s x ∷ []) (g.after s x) (next_number k) lines) w b.2 in
-          on seen s k line lines c.0 w c.1 (later c.0 c.2)
+  grows-read G end on seen s k (line ∷ lines) w e = cond_both (begins_with (codes "end") (line ∷ lines)) (Ok ((seen, s), record { line = k; lines = line ∷ lines })) (further seen s k line lines)
+      (λ (r : Result ((List E × S) × Left) Refusal). r ≡ Ok w → G seen s (line ∷ lines) w) (λ t h. subst (G seen s (line ∷ lines)) (ok_is _ w h) (end seen s k line lines)) (λ t h.
+      let b = bind_ok (first_line k (line ∷ lines)) (λ _. g.read (line ∷ lines) seen s k line >>= λ x. g.from (seen ++ g.value s x ∷ []) (g.after s x) (next_number k) lines) w h in
+      let c = bind_ok (g.read (line ∷ lines) seen s k line) (λ x. g.from (seen ++ g.value s x ∷ []) (g.after s x) (next_number k) lines) w b.2 in
+      on seen s k line lines c.0 w c.1 (grows-read G end on (seen ++ g.value s c.0 ∷ []) (g.after s c.0) (next_number k) lines w c.2)) (sym (g.more seen s k line lines) ∙ e)
 
   -- values that pass a test, where each line's does
   pub grows-all : (test : E → Bool) → ((seen : List E) (s : S) (k : ℕ) (line : List (List ℕ)) (lines : List (List (List ℕ))) (x : X) → g.read (line ∷ lines) seen s k line ≡ Ok x → test (g.value s x) ≡ true)
