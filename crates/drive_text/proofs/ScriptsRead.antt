@@ -1,6 +1,7 @@
 -- Reading the scripts of a drive does not go back, where its faults lie, and what the scripts are.
-use Rattle.std.proofs.Common.{◌≡◌, ℕ, zero, suc, ◌+◌, ◌-◌, ◌<◌, ◌≤◌, Bool, true, false, cond, List, [], ◌∷◌, ◌++◌, length, Result, Ok, Err, refl, subst, arith, length-append}
+use Rattle.std.proofs.Common.{◌≡◌, ℕ, zero, suc, ◌+◌, ◌-◌, ◌<◌, ◌≤◌, true, false, List, [], ◌∷◌, ◌++◌, length, Result, Ok, Err, refl, subst, arith, length-append}
 use Rattle.std.specs.List.{list_all, AllByRecursion}
+use Rattle.std.proofs.lemmas.Bool.{cond_both}
 use Rattle.texts.proofs.Forms.{appended, Refusal, Left, ◌>>=◌, ReadsTo, ok_is, bind_ok, Advances, advances-map, to-map, reads-less}
 use Rattle.texts.specs.Left.{is_over}
 use Rattle.script_text.proofs.Terms.{RingValue, Event}
@@ -33,14 +34,12 @@ module _ (ring : RingValue) where
   unfolding next_at
   next-on seen = advances-map _ _ (section-on Client ring seen.1)
 
-  from-by : (n : ℕ) (seen : Scripts) → ((x : Scripts) → Advances (scripts_from n ring x)) → (s : Left) (t : Bool)
-      → ReadsTo s.line (cond {A = Result (Scripts × Left) Refusal} t (Ok (seen, s)) (next_at ring seen s >>= λ x. scripts_from n ring x.0 x.1))
-  from-by n seen later s true = omega arith
-  from-by n seen later s false = step-first (next_at ring seen) (scripts_from n ring) s.line s later ((next-on seen).on s)
-
   from-on : (n : ℕ) (seen : Scripts) → Advances (scripts_from n ring seen)
   from-on zero seen = record { on = λ s. omega arith }
-  from-on (suc n) seen = record { on = λ s. from-by n seen (from-on n) s (is_over s) }
+  from-on (suc n) seen = record {
+    on = λ s. cond_both {A = Result (Scripts × Left) Refusal} (is_over s) (Ok (seen, s)) (next_at ring seen s >>= λ x. scripts_from n ring x.0 x.1) (λ r. ReadsTo s.line r) (λ t. omega arith)
+        (λ t. step-first (next_at ring seen) (scripts_from n ring) s.line s (from-on n) ((next-on seen).on s));
+  }
 
   pub scripts-on : Advances (scripts_at ring)
   unfolding scripts_at
@@ -115,17 +114,12 @@ module _ (ring : RingValue) where
   wider : (n m k l : ℕ) (xs : List (List Event)) → Between k l xs → n ≤ k → l ≤ m → Between n m xs
   wider n m k l xs p low high = let a = p.0 in let b = p.1 in (omega arith, omega arith, p.2)
 
-  more-is : (k n m : ℕ) (seen : Scripts) (s : Left) (w : Scripts × Left) → Between n m seen.0
-      → ((x : Scripts) (t : Left) → Between (n + 1) (m + 1) x.0 → scripts_from k ring x t ≡ Ok w → Between (n + 1) (m + 1 + k) w.0.0)
-      → (t : Bool) → ◌≡◌ {A = Result (Scripts × Left) Refusal} (cond t (Ok (seen, s)) (next_at ring seen s >>= λ x. scripts_from k ring x.0 x.1)) (Ok w) → Between n (m + suc k) w.0.0
-  more-is k n m seen s w p later true e = subst (λ (v : Scripts × Left). Between n (m + suc k) v.0.0) (ok_is _ w e) (wider n (m + suc k) n m seen.0 p (omega arith) (omega arith))
-  more-is k n m seen s w p later false e =
-      let b = bind_ok (next_at ring seen s) (λ x. scripts_from k ring x.0 x.1) w e in
-      wider n (m + suc k) (n + 1) (m + 1 + k) w.0.0 (later b.0.0 b.0.1 (next-is n m seen s b.0 p b.1) b.2) (omega arith) (omega arith)
-
   from-is : (k n m : ℕ) (seen : Scripts) (s : Left) (w : Scripts × Left) → Between n m seen.0 → scripts_from k ring seen s ≡ Ok w → Between n (m + k) w.0.0
   from-is zero n m seen s w p e = subst (λ (v : Scripts × Left). Between n (m + 0) v.0.0) (ok_is _ w e) (wider n (m + 0) n m seen.0 p (omega arith) (omega arith))
-  from-is (suc k) n m seen s w p e = more-is k n m seen s w p (λ x t q f. from-is k (n + 1) (m + 1) x t w q f) (is_over s) e
+  from-is (suc k) n m seen s w p e = cond_both {A = Result (Scripts × Left) Refusal} (is_over s) (Ok (seen, s)) (next_at ring seen s >>= λ x. scripts_from k ring x.0 x.1) (λ r. r ≡ Ok w → Between n (m + suc k) w.0.0)
+      (λ t f. subst (λ (v : Scripts × Left). Between n (m + suc k) v.0.0) (ok_is _ w f) (wider n (m + suc k) n m seen.0 p (omega arith) (omega arith)))
+      (λ t f. let b = bind_ok (next_at ring seen s) (λ x. scripts_from k ring x.0 x.1) w f in
+      wider n (m + suc k) (n + 1) (m + 1 + k) w.0.0 (from-is k (n + 1) (m + 1) b.0.0 b.0.1 w (next-is n m seen s b.0 p b.1) b.2) (omega arith) (omega arith)) e
 
   -- 1 to 8 scripts of clients
   pub scripts-is : (s : Left) (v : Scripts) (t : Left) → scripts_at ring s ≡ Ok (v, t) → AreOfClients v.0
