@@ -39,19 +39,25 @@ replays_all start new ring plan history of_ring of_plan m f =
     let here : Leads ring (plan_of start) (opening_world ring) history there.0 = subst (λ (r : RingValue). Leads r (plan_of start) (opening_world ring) history there.0) of_ring there.1 in
     ∣ (there.0, there.2, subst (λ (s : List Planned). Leads ring s (opening_world ring) history there.0) of_plan here) ∣₁
 
--- the entry behind them that fails is the history's first fault
+-- after entries that were followed, the entry that fails is the first fault
+pub fault_after : (start old : World) (front : List Entry) (x : Entry) (rest : List Entry) (k : ℕ) (e : Refusal) → Follows start front old → length front ≡ k
+    → ((w : TheWorld) → Meets old w → FailsAt (ring_of old) (plan_of old) w k x e) → (w : TheWorld) → Meets start w → IsFirstFault (ring_of start) (plan_of start) w 0 (front ++ x ∷ rest) e
+fault_after start old front x rest k e f place fails w m =
+    let there = f.world w m in
+    let here = subst (λ (r : RingValue). FailsAt r (plan_of old) there.0 k x e) f.ring (fails there.0 there.2) in
+    let same = subst (λ (s : List Planned). FailsAt (ring_of start) s there.0 k x e) f.plan here in
+    let counted = subst (λ (n : ℕ). FailsAt (ring_of start) (plan_of start) there.0 n x e) (let l = place in let n : k ≡ 0 + length front = omega arith in n) same in
+    fault_behind (ring_of start) (plan_of start) w there.0 0 front x rest e there.1 counted
+
+-- so is the entry of the history at that place
 pub fault_followed : (start old : World) (history : List Entry) (k : ℕ) (x : Entry) (e : Refusal) → Follows start (take k history) old → k < length history → get_or history k x ≡ x
     → ((w : TheWorld) → Meets old w → FailsAt (ring_of old) (plan_of old) w k x e) → (w : TheWorld) → Meets start w → IsFirstFault (ring_of start) (plan_of start) w 0 history e
 fault_followed start old history k x e f within is fails w m =
-    let there = f.world w m in
     let rest = drop (suc k) history in
     let all : history ≡ take k history ++ x ∷ rest =
     sym (take-append-drop k history) ∙ ap (λ (ys : List Entry). take k history ++ ys) (drop-cons history k x within ∙ ap (λ (y : Entry). y ∷ rest) is) in
-    let place : k ≡ 0 + length (take k history) = (let n = length-take k history in omega arith) in
-    let here = subst (λ (r : RingValue). FailsAt r (plan_of old) there.0 k x e) f.ring (fails there.0 there.2) in
-    let same = subst (λ (s : List Planned). FailsAt (ring_of start) s there.0 k x e) f.plan here in
-    let counted = subst (λ (n : ℕ). FailsAt (ring_of start) (plan_of start) there.0 n x e) place same in
-    subst (λ (xs : List Entry). IsFirstFault (ring_of start) (plan_of start) w 0 xs e) (sym all) (fault_behind (ring_of start) (plan_of start) w there.0 0 (take k history) x rest e there.1 counted)
+    let place : length (take k history) ≡ k = (let n = length-take k history in omega arith) in
+    subst (λ (xs : List Entry). IsFirstFault (ring_of start) (plan_of start) w 0 xs e) (sym all) (fault_after start old (take k history) x rest k e f place fails w m)
 
 -- so from the first event on
 pub fault_from_start : (start : World) (ring : RingValue) (plan : List Planned) (history : List Entry) (e : Refusal) → ring_of start ≡ ring → plan_of start ≡ plan → Meets start (opening_world ring)

@@ -4,11 +4,13 @@
 
 mod events;
 mod following;
+mod queue;
 mod reads;
 mod replaying;
 mod transfers;
 mod world;
 
 pub use following::follow;
-pub use replaying::replay;
+pub use queue::Queue;
+pub use replaying::{follow_queue, replay};
 pub use world::World;

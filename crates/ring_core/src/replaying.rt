@@ -4,11 +4,12 @@ ghost use Rattle.std.specs.Prelude.{◌≡◌, ◌≢◌, ◌≤◌, length, IfO
 ghost use Rattle.ring_names.specs.declared.refusal.Refusal.TheVariants.{OutOfMemory};
 ghost use Rattle.plan_runs.specs.Runs.{IsRun};
 ghost use Rattle.plan_runs.specs.World.{World as TheWorld, opening_world};
-ghost use Rattle.ring_core.specs.World.{ring_of, plan_of, Meets, put_count, get_count};
+ghost use Rattle.ring_core.specs.World.{ring_of, plan_of, Meets, Answers, IsOneMore, HasNumber, put_count, get_count};
 ghost use Rattle.ring_core.specs.Replays.{Replays, Follows};
-ghost use Rattle.ring_core.specs.Faults.{IsFirstFault};
+ghost use Rattle.ring_core.specs.Faults.{FailsAt, IsFirstFault};
 
 use crate::following::follow;
+use crate::queue::Queue;
 use crate::world::World;
 use plan_check::Approved;
 use plan_runs::Entry;
@@ -26,6 +27,40 @@ fn follow_all(world: &mut World, history: &[Entry]) -> Result<(), Refusal>
 {
     for (place, entry) in history.iter().enumerate() {
         follow(world, place as u32, entry)?;
+    }
+    Ok(())
+}
+
+// Follows an entry that is given up.
+fn follow_given(world: &mut World, place: u32, entry: Entry) -> Result<(), Refusal>
+    requires { HasNumber world.old entry.event }
+    ensures ok { OnOk result (Answers world.old entry.event entry.reply world.new) }
+    ensures err { IfErr result (λ e. e ≢ OutOfMemory → (w : TheWorld) → Meets world.old w
+        → FailsAt (ring_of world.old) (plan_of world.old) w place entry e) }
+    ensures counts { IsOneMore world.old world.new }
+    ensures ring { ring_of world.new ≡ ring_of world.old }
+    ensures plan { plan_of world.new ≡ plan_of world.old }
+{
+    match follow(world, place, &entry) {
+        Ok(_) => Ok(()),
+        Err(refusal) => Err(refusal),
+    }
+}
+
+/// Follows all entries in order, of which each is given up once it was followed. Refused as `replay` is; then the store has changed by the entries
+/// before that one.
+pub fn follow_queue(world: &mut World, entries: &mut Queue<Entry>) -> Result<(), Refusal>
+    requires few { length entries.old ≤ 1000000 }
+    requires puts { put_count world.old ≡ 0 }
+    requires gets { get_count world.old ≡ 0 }
+    ensures ok { OnOk result (Follows world.old entries.old world.new) }
+    ensures err { IfErr result (λ e. e ≢ OutOfMemory → (w : TheWorld) → Meets world.old w
+        → IsFirstFault (ring_of world.old) (plan_of world.old) w 0 entries.old e) }
+{
+    let mut place = 0;
+    'entries: while let Some(entry) = entries.next() {
+        follow_given(world, place, entry)?;
+        place += 1;
     }
     Ok(())
 }

@@ -1,6 +1,6 @@
 //! Playing a script.
 
-ghost use Rattle.std.specs.Prelude.{◌≡◌, ◌≤◌, ◌++◌, ◌∷◌, [], codes, length, map, reverse, IfOk, IfErr, OnOk};
+ghost use Rattle.std.specs.Prelude.{◌≡◌, ◌≤◌, ◌++◌, ◌∷◌, [], codes, length, map, IfOk, IfErr, OnOk};
 ghost use Rattle.ring_names.specs.declared.refusal.Refusal.TheVariants.{OutOfMemory};
 ghost use Rattle.texts.specs.Parts.{text_of};
 ghost use Rattle.ring_table.specs.Spelling.{rows_lines};
@@ -11,7 +11,7 @@ ghost use Rattle.ring_script.specs.Steps.{Happens, Plays};
 
 use plan_check::Approved;
 use plan_runs::Event;
-use ring_core::World;
+use ring_core::{Queue, World};
 use ring_names::{Listed, NodeId, Refusal, push_decimal};
 use ring_table::{Node, Ring, push_row};
 use script_text::Script;
@@ -59,15 +59,6 @@ fn play_events(world: &mut World, out: &mut Vec<u8>, events: &[Event]) -> Result
     Ok(())
 }
 
-// Gives memory back that events before that place had, now and then.
-fn give_back(events: &mut Vec<Event>, place: u32)
-    ensures { events.new.items ≡ events.old.items }
-{
-    if place % 65536 == 0 {
-        events.shrink_to_fit();
-    }
-}
-
 // Plays an event that is given up.
 fn play_given(world: &mut World, out: &mut Vec<u8>, place: u32, event: Event) -> Result<(), Refusal>
     requires { HasNumber world.old event }
@@ -77,23 +68,22 @@ fn play_given(world: &mut World, out: &mut Vec<u8>, place: u32, event: Event) ->
     play_event(world, out, place, &event)
 }
 
-// Plays events of which the last comes first. Each is let go once it happened.
-fn play_from_end(
+// All events in order, each of which is given up once it happened, and their lines.
+fn play_queue(
     world: &mut World,
     out: &mut Vec<u8>,
-    events: &mut Vec<Event>,
+    events: &mut Queue<Event>,
 ) -> Result<(), Refusal>
-    requires few { length events.old.items ≤ 1000000 }
+    requires few { length events.old ≤ 1000000 }
     requires puts { put_count world.old ≡ 0 }
     requires gets { get_count world.old ≡ 0 }
-    ensures ok { OnOk result (Plays world.old (reverse events.old.items) world.new out.old.items out.new.items) }
+    ensures ok { OnOk result (Plays world.old events.old world.new out.old.items out.new.items) }
     ensures memory { IfErr result (λ e. e ≡ OutOfMemory) }
 {
     let mut place = 0;
-    'events: while let Some(event) = events.pop() {
+    'events: while let Some(event) = events.next() {
         play_given(world, out, place, event)?;
         place += 1;
-        give_back(events, place);
     }
     Ok(())
 }
@@ -167,23 +157,23 @@ fn first_line(alloc: Global, events: usize) -> Result<Vec<u8>, Refusal>
     Ok(out)
 }
 
-// What is printed of the events and behind them, over a store that nothing has happened to, where the last event comes first.
-fn played_from_end(
+// What is printed of events that are given up and behind them, over a store that nothing has happened to.
+fn played_queue(
     alloc: Global,
     ring: &Ring,
     world: &mut World,
-    events: &mut Vec<Event>,
+    events: &mut Queue<Event>,
 ) -> Result<Vec<u8>, Refusal>
     requires ring { ring_of world.old ≡ ring.now }
     requires opening { Meets world.old (opening_world ring.now) }
-    requires few { length events.old.items ≤ 1000000 }
+    requires few { length events.old ≤ 1000000 }
     requires puts { put_count world.old ≡ 0 }
     requires gets { get_count world.old ≡ 0 }
-    ensures text { IfOk result (λ v. v.items ≡ play_text ring.now (plan_of world.old) (reverse events.old.items)) }
+    ensures text { IfOk result (λ v. v.items ≡ play_text ring.now (plan_of world.old) events.old) }
     ensures memory { IfErr result (λ e. e ≡ OutOfMemory) }
 {
     let mut out = first_line(alloc, events.len())?;
-    play_from_end(world, &mut out, events)?;
+    play_queue(world, &mut out, events)?;
     push_ending(world, ring, &mut out)?;
     Ok(out)
 }
@@ -210,10 +200,9 @@ pub fn play_whole(
     ensures text { IfOk result (λ v. v.items ≡ play_text approved.now.ring approved.now.plan script) }
     ensures memory { IfErr result (λ e. e ≡ OutOfMemory) }
 {
-    let mut events = script.into_vec();
-    events.reverse();
+    let mut events = Queue::of(script.into_vec());
     let mut world = World::start(alloc, approved)?;
-    let text = played_from_end(alloc, approved.ring(), &mut world, &mut events);
+    let text = played_queue(alloc, approved.ring(), &mut world, &mut events);
     if ends {
         forget(world);
     }

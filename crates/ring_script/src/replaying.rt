@@ -3,17 +3,18 @@
 ghost use Rattle.std.specs.Prelude.{◌≡◌, ◌≢◌, ◌≤◌, length, IfOk, IfErr};
 ghost use Rattle.ring_names.specs.declared.refusal.Refusal.TheVariants.{OutOfMemory};
 ghost use Rattle.plan_runs.specs.World.{World as TheWorld, opening_world};
-ghost use Rattle.ring_core.specs.World.{ring_of, plan_of, Meets};
+ghost use Rattle.ring_core.specs.World.{ring_of, plan_of, Meets, put_count, get_count};
 ghost use Rattle.ring_core.specs.Faults.{IsFirstFault};
 ghost use Rattle.ring_script.specs.Replay.{ending_text, rows_text, IsReplayed};
 
 use crate::playing::push_table;
 use plan_check::Approved;
 use plan_runs::Entry;
-use ring_core::{World, replay};
+use ring_core::{Queue, World, follow_queue};
 use ring_names::{Listed, NodeId, Refusal};
 use ring_table::Ring;
 use std::alloc::Global;
+use std::mem::forget;
 
 /// What is printed of a history that is a run: `yes`, the line of owners of each partition, and `end`.
 pub fn write_owners(alloc: Global, ring: &Ring, rows: &[Listed<NodeId>]) -> Result<Vec<u8>, Refusal>
@@ -37,19 +38,47 @@ fn ending(alloc: Global, ring: &Ring, world: &World) -> Result<Vec<u8>, Refusal>
     write_owners(alloc, ring, rows.as_slice())
 }
 
+// What is printed of a history that is given up, over a store of the plan that nothing has happened to.
+fn replayed(
+    alloc: Global,
+    approved: &Approved,
+    world: &mut World,
+    history: &mut Queue<Entry>,
+) -> Result<Vec<u8>, Refusal>
+    requires ring { ring_of world.old ≡ approved.now.ring }
+    requires plan { plan_of world.old ≡ approved.now.plan }
+    requires opening { Meets world.old (opening_world approved.now.ring) }
+    requires few { length history.old ≤ 1000000 }
+    requires puts { put_count world.old ≡ 0 }
+    requires gets { get_count world.old ≡ 0 }
+    ensures text { IfOk result (λ v. IsReplayed approved.now.ring approved.now.plan history.old v.items) }
+    ensures err { IfErr result (λ e. e ≢ OutOfMemory
+        → IsFirstFault approved.now.ring approved.now.plan (opening_world approved.now.ring) 0 history.old e) }
+{
+    follow_queue(world, history)?;
+    ending(alloc, approved.ring(), world)
+}
+
 /// What a replay of the history prints, where it is a run of the plan with those replies: `yes`, the line of owners of each partition behind the last
 /// entry, and `end`. Else `Mismatch`, with the place of the first entry, from 0, whose event is refused or has another reply, and with that
-/// refusal's number or 0. Memory may run out at whatever entry.
+/// refusal's number or 0. Memory may run out at whatever entry. Each entry's memory is free once it was followed; where the program `ends` after
+/// it, the store's memory is left to the system, as by `play_whole`.
 pub fn replay_history(
     alloc: Global,
     approved: &Approved,
-    history: &[Entry],
+    history: Vec<Entry>,
+    ends: bool,
 ) -> Result<Vec<u8>, Refusal>
-    requires few { length history.now ≤ 1000000 }
-    ensures text { IfOk result (λ v. IsReplayed approved.now.ring approved.now.plan history.now v.items) }
+    requires few { length history.items ≤ 1000000 }
+    ensures text { IfOk result (λ v. IsReplayed approved.now.ring approved.now.plan history.items v.items) }
     ensures err { IfErr result (λ e. e ≢ OutOfMemory
-        → IsFirstFault approved.now.ring approved.now.plan (opening_world approved.now.ring) 0 history.now e) }
+        → IsFirstFault approved.now.ring approved.now.plan (opening_world approved.now.ring) 0 history.items e) }
 {
-    let world = replay(alloc, approved, history)?;
-    ending(alloc, approved.ring(), &world)
+    let mut entries = Queue::of(history);
+    let mut world = World::start(alloc, approved)?;
+    let text = replayed(alloc, approved, &mut world, &mut entries);
+    if ends {
+        forget(world);
+    }
+    text
 }

@@ -224,7 +224,8 @@ pub fn make(alloc: Global, job: Job, bytes: &[u8]) -> Result<Vec<u8>, Refusal>
     }
 }
 
-/// The text that a job makes of a bundle whose bytes it may consume, or the refusal. It is for a program that ends after it: the store of a play is left to the system.
+/// The text that a job makes of a bundle whose bytes it may consume, or the refusal. It is for a program that ends after it: the store of a play
+/// or a replay is left to the system.
 pub fn answer_bytes(alloc: Global, job: Job, bytes: Vec<u8>) -> Result<Vec<u8>, Refusal>
     ensures { MakesIf job bytes.items (texts_of result) }
 {

@@ -17,28 +17,29 @@ use ring_names::Refusal;
 use ring_script::replay_history;
 use std::alloc::Global;
 
-// What a replay of the history prints, of a plan that is accepted.
+// What a replay of the history prints, of a plan that is accepted; then the program ends, or goes on.
 fn replay_approved(
     alloc: Global,
     approved: &Approved,
-    history: &[Entry],
+    history: Vec<Entry>,
+    ends: bool,
 ) -> Result<Vec<u8>, Refusal>
-    requires { length history.now ≤ 1000000 }
-    ensures { IsJudgedIf approved.now.ring approved.now.plan history.now (texts_of result) }
+    requires { length history.items ≤ 1000000 }
+    ensures { IsJudgedIf approved.now.ring approved.now.plan history.items (texts_of result) }
 {
-    match replay_history(alloc, approved, history) {
+    match replay_history(alloc, approved, history, ends) {
         Ok(text) => Ok(text),
         Err(refusal) => Err(refusal),
     }
 }
 
-// What a replay of the bundle's history prints, where the checker accepts its plan.
-fn replay_checked(alloc: Global, bundle: ReplayBundle) -> Result<Vec<u8>, Refusal>
+// What a replay of the bundle's history prints, where the checker accepts its plan; then the program ends, or goes on.
+fn replay_checked(alloc: Global, bundle: ReplayBundle, ends: bool) -> Result<Vec<u8>, Refusal>
     requires { IsReplay bundle }
     ensures { ReplaysOfIf (parts_of bundle) (texts_of result) }
 {
     match check(alloc, bundle.ring, bundle.plan, &bundle.cert) {
-        Ok(approved) => replay_approved(alloc, &approved, bundle.history.as_slice()),
+        Ok(approved) => replay_approved(alloc, &approved, bundle.history, ends),
         Err(Turned { refusal, .. }) => Err(refusal),
     }
 }
@@ -53,7 +54,7 @@ pub fn replay_bundle(alloc: Global, bytes: &[u8]) -> Result<Vec<u8>, Refusal>
     ensures late { IfErr result (λ e. e ≡ OutOfMemory → NoFaultBefore 5 (whole_text replay_at bytes.now)) }
 {
     match read_replay(alloc, bytes) {
-        Ok(bundle) => replay_checked(alloc, bundle),
+        Ok(bundle) => replay_checked(alloc, bundle, false),
         Err(e) => Err(e),
     }
 }
@@ -65,7 +66,7 @@ pub(crate) fn replay_whole(alloc: Global, bytes: Vec<u8>) -> Result<Vec<u8>, Ref
     let read = read_replay(alloc, bytes.as_slice());
     drop(bytes);
     match read {
-        Ok(bundle) => replay_checked(alloc, bundle),
+        Ok(bundle) => replay_checked(alloc, bundle, true),
         Err(e) => Err(e),
     }
 }

@@ -1,0 +1,52 @@
+//! Items that are given up one after the other.
+
+ghost use Rattle.std.specs.Prelude.{◌≡◌, ◌∷◌, [], length, MatchOption};
+
+use std::marker::Model;
+
+// After how many items memory that they had is given back.
+const MANY: usize = 65536;
+
+/// Items that are taken in order. The memory of their row is given back now and then, and that of an item once it is let go, so that what grows
+/// meanwhile takes it.
+#[derive(Drop)]
+pub struct Queue<T> {
+    last_first: Vec<T>,
+}
+
+impl<T> Model for Queue<T> {
+    ghost use Rattle.std.specs.Prelude.{List, reverse};
+
+    ghost Value = { List T };
+
+    ghost view = { λ a. reverse a.last_first.items };
+}
+
+impl<T> Queue<T> {
+    /// These items. Takes no memory.
+    pub fn of(items: Vec<T>) -> Queue<T>
+        ensures { result ≡ items.items }
+    {
+        let mut last_first = items;
+        last_first.reverse();
+        Queue { last_first }
+    }
+
+    /// How many items are left.
+    pub fn len(&self) -> usize
+        ensures { result ≡ length self.now }
+    {
+        self.last_first.len()
+    }
+
+    /// Takes the next item, if there is one.
+    pub fn next(&mut self) -> Option<T>
+        ensures { MatchOption result ((self.old ≡ []) × (self.new ≡ [])) (λ item. self.old ≡ item ∷ self.new) }
+    {
+        let item = self.last_first.pop();
+        if self.last_first.len() % MANY == 0 {
+            self.last_first.shrink_to_fit();
+        }
+        item
+    }
+}
