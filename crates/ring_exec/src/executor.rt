@@ -46,6 +46,7 @@ impl<'a, L: RunLedger> Executor<'a, L> {
     ghost use Rattle.plan_runs.specs.World.{World as TheWorld, opening_world};
     ghost use Rattle.ring_core.specs.Faults.{IsFirstFault};
     ghost use Rattle.ring_exec.specs.Replies.{fits_reply};
+    ghost use Rattle.ring_exec.specs.Rows.{AddsRow};
 
     /// A store before the first event, and the one share of its ledger, which counts none and has all of the ledger's parts.
     pub fn new(
@@ -120,6 +121,25 @@ impl<'a, L: RunLedger> Executor<'a, L> {
         ensures parts { share.new.token.parts ≡ share.old.token.parts }
     {
         self.inside.lock(rt).apply(event, share)
+    }
+
+    /// The events of a row in order under one hold of the lock, each as by `submit`, up to the first that is refused: those before it are answered.
+    /// Their receipts are put after the others, for which there is room before the lock is asked; where there is none, no event is answered.
+    pub fn submit_row<R: Wait>(
+        &self,
+        rt: &R,
+        events: &[Event],
+        share: &mut Share<L>,
+        receipts: &mut Vec<Receipt>,
+    ) -> Result<(), Refusal>
+        ensures row { AddsRow events.now receipts.old.items receipts.new.items }
+        ensures all { OnOk result (vec_len receipts.new ≡ vec_len receipts.old + length events.now) }
+        ensures some { OnErr result (vec_len receipts.new < vec_len receipts.old + length events.now) }
+        ensures count { share.new.count + vec_len receipts.old ≡ share.old.count + vec_len receipts.new }
+        ensures parts { share.new.token.parts ≡ share.old.token.parts }
+    {
+        receipts.reserve(events.len())?;
+        self.inside.lock(rt).apply_row(events, share, receipts)
     }
 
     /// The least step from that number on that could begin when it was looked at, if there was one: it was neither done nor open, and its direct

@@ -36,7 +36,7 @@ pub struct Ledgered<'a, L: RunLedger> {
 }
 
 impl<'a, L: RunLedger> Ledgered<'a, L> {
-    ghost use Rattle.std.specs.Prelude.{◌≡◌, ◌≢◌, ◌<◌, ◌≤◌, ◌+◌, ◌++◌, ◌∷◌, ◌↔◌, [], true, length, vec_len, IfOk};
+    ghost use Rattle.std.specs.Prelude.{◌≡◌, ◌≢◌, ◌<◌, ◌≤◌, ◌+◌, ◌++◌, ◌∷◌, ◌↔◌, [], true, length, vec_len, vec_capacity, IfOk};
     ghost use Rattle.std.specs.Prelude.{IfErr, OnOk, OnErr, IsTrue};
     ghost use Rattle.std.specs.List.{sum_by};
     ghost use Rattle.ring_names.specs.declared.refusal.Refusal.TheVariants.{OutOfMemory, HistoryFull};
@@ -47,6 +47,7 @@ impl<'a, L: RunLedger> Ledgered<'a, L> {
     ghost use Rattle.ring_receipts.specs.Entries.{entry};
     ghost use Rattle.ring_core.specs.Faults.{IsFirstFault};
     ghost use Rattle.ring_exec.specs.Replies.{fits_reply};
+    ghost use Rattle.ring_exec.specs.Rows.{AddsRow};
 
     /// The store before the first event, with an empty history, and the one share of its ledger, which has all of its parts.
     pub fn new(
@@ -188,6 +189,27 @@ impl<'a, L: RunLedger> Ledgered<'a, L> {
             event: given,
             reply,
         })
+    }
+
+    /// The events in order, each as by `apply`, up to the first that is refused. Their receipts are put after the others, which takes no memory.
+    pub(crate) fn apply_row(
+        &mut self,
+        events: &[Event],
+        share: &mut Share<L>,
+        receipts: &mut Vec<Receipt>,
+    ) -> Result<(), Refusal>
+        requires { vec_len receipts.old + length events.now ≤ vec_capacity receipts.old }
+        ensures row { AddsRow events.now receipts.old.items receipts.new.items }
+        ensures all { OnOk result (vec_len receipts.new ≡ vec_len receipts.old + length events.now) }
+        ensures some { OnErr result (vec_len receipts.new < vec_len receipts.old + length events.now) }
+        ensures count { share.new.count + vec_len receipts.old ≡ share.old.count + vec_len receipts.new }
+        ensures parts { share.new.token.parts ≡ share.old.token.parts }
+    {
+        for event in events {
+            let receipt = self.apply(event, share)?;
+            receipts.push_reserved(receipt);
+        }
+        Ok(())
     }
 
     /// Whether the shares count as many events as the history has.

@@ -46,4 +46,15 @@ impl<L: RunLedger> Done<L> {
     ) -> Result<(), Refusal> {
         note(store, &mut self.share, &mut self.receipts, event)
     }
+
+    /// Submits the events in order under one hold of the lock, up to the first that is refused, and keeps the receipts of those before it.
+    pub fn note_row<R: Wait>(
+        &mut self,
+        store: &LockedStore<L, R>,
+        events: &[Event],
+    ) -> Result<(), Refusal> {
+        store
+            .executor
+            .submit_row(store.rt, events, &mut self.share, &mut self.receipts)
+    }
 }

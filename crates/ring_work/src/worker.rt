@@ -205,15 +205,32 @@ fn do_step<L: RunLedger, R: Wait, G: Gate>(
     }
 }
 
-// The chunks of an open copy. Whether all are marked, and not a node is down, so that the copy is broken off.
-fn copy_chunks<L: RunLedger, R: Wait, G: Gate>(
+// The events that are left of a copy that is open: its chunks, and its close.
+fn rest_of(alloc: Global, step: u32) -> Result<Vec<Event>, Refusal> {
+    let mut rest = Vec::with_capacity(alloc, CHUNKS as usize + 1)?;
+    for chunk in 0..CHUNKS {
+        rest.push(Event::ChunkCopy(step, chunk))?;
+    }
+    rest.push(Event::CloseCopy(step))?;
+    Ok(rest)
+}
+
+// These events, under one hold of the lock unless a chunk is marked already, which is passed over. Whether the copy is closed, and not a node is
+// down, so that it is broken off.
+fn copy_rest<L: RunLedger, R: Wait, G: Gate>(
     site: &Site<L, R, G>,
     done: &mut Done<L>,
-    step: u32,
+    rest: &[Event],
 ) -> Result<bool, Refusal> {
-    for chunk in 0..CHUNKS {
-        match done.note(site.store, Event::ChunkCopy(step, chunk)) {
-            Ok(()) | Err(Refusal::AlreadyDone) => {}
+    let mut left = rest;
+    for _ in 0..rest.len() {
+        let before = done.receipts.len();
+        match done.note_row(site.store, left) {
+            Ok(()) => return Ok(true),
+            Err(Refusal::AlreadyDone) => {
+                let answered = done.receipts.len().saturating_sub(before);
+                left = left.get(answered.saturating_add(1)..).unwrap_or(&[]);
+            }
             Err(Refusal::NodeDown(_)) => return Ok(false),
             Err(refusal) => return Err(refusal),
         }
@@ -231,8 +248,8 @@ fn copy_on<L: RunLedger, R: Wait, G: Gate>(
     if !site.job.gate.pass(site.job.rt, worker, u64::from(step)) {
         return Err(Refusal::TurnsSpent);
     }
-    if copy_chunks(site, done, step)? {
-        done.note(site.store, Event::CloseCopy(step))?;
+    let rest = rest_of(site.job.alloc, step)?;
+    if copy_rest(site, done, rest.as_slice())? {
         return Ok(true);
     }
     done.note(site.store, Event::AbortCopy(step))?;

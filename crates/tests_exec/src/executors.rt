@@ -127,6 +127,41 @@ fn first_step<'a, L: RunLedger, RT: Wait + Abort>(
     Ok(())
 }
 
+// Submits the row. How many of its events were answered, and why the next was not, if it was not.
+fn row_of<'a, L: RunLedger, R: AllocGlobal + Wait>(
+    rt: &R,
+    executor: &Executor<'a, L>,
+    row: &[Event],
+    share: &mut Share<L>,
+) -> (usize, Option<Refusal>)
+    ensures { share.new.token.parts ≡ share.old.token.parts }
+{
+    let mut receipts = Vec::new(rt.alloc());
+    match executor.submit_row(rt, row, share, &mut receipts) {
+        Ok(()) => (receipts.len(), None),
+        Err(refusal) => (receipts.len(), Some(refusal)),
+    }
+}
+
+// A row ends at its first event that is refused, and another goes on from there.
+fn two_rows<'a, L: RunLedger, RT: AllocGlobal + Wait + Abort>(
+    rt: &RT,
+    executor: &Executor<'a, L>,
+    share: &mut Share<L>,
+) -> Result<(), Fail>
+    ensures { share.new.token.parts ≡ share.old.token.parts }
+{
+    let node = NodeId(2);
+    let ended = [Event::Down(node), Event::Down(node), Event::Up(node)];
+    let whole = [Event::Up(node), Event::Down(node), Event::Up(node)];
+    let first = row_of(rt, executor, &ended, share);
+    same!(rt; first, (1, Some(Refusal::AlreadyDone)));
+    let second = row_of(rt, executor, &whole, share);
+    same!(rt; second, (3, None));
+    same!(rt; share.count(), 5);
+    Ok(())
+}
+
 /// The two shares.
 pub fn two<L: RunLedger>(
     alloc: Global,
@@ -158,7 +193,7 @@ fn flapped<'a, L: RunLedger + Send + Sync, RT: AllocGlobal + Threads + Wait + Sy
     Ok(two(rt.alloc(), first, second)?)
 }
 
-// The shares of two threads, the first of which did the first step.
+// The shares of two threads, the first of which did the first step and two rows.
 fn run_two<'a, L: RunLedger + Send + Sync, RT: AllocGlobal + Threads + Wait + Sync + Abort>(
     rt: &RT,
     executor: &Executor<'a, L>,
@@ -167,6 +202,7 @@ fn run_two<'a, L: RunLedger + Send + Sync, RT: AllocGlobal + Threads + Wait + Sy
     requires { 2 ≤ first.token.parts }
 {
     first_step(rt, executor, &mut first)?;
+    two_rows(rt, executor, &mut first)?;
     let second = first.split();
     flapped(rt, executor, first, second)
 }
@@ -199,8 +235,8 @@ fn by_two<L: RunLedger + Send + Sync, RT: AllocGlobal + Threads + Wait + Sync + 
     let (executor, share) = Executor::<L>::new(rt.alloc(), blank, approved)?;
     let done = run_two(rt, &executor, share);
     let ledgered = finished(executor, done)?;
-    // the first step and 2,000 turns of each node
-    same!(rt; ledgered.entries().len(), 4001);
+    // the first step, the four turns of the rows, and 2,000 turns of each node
+    same!(rt; ledgered.entries().len(), 4005);
     same!(rt; ledgered.world().left(), 4);
     let _history = ledgered.into_entries();
     Ok(())
