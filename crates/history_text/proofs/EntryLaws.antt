@@ -192,7 +192,7 @@ judged ring history names k line front behind e r all same in_front rest event r
     ap (λ (x : Result (SaidEvent × SaidReply) Refusal). map_ok said_of x) is ∙ sym (both-map_right reply_of e r) ∙ ap (λ (x : Result Reply Refusal). both_of e x) second
     ∙ ap (λ (x : Result SaidEvent Refusal). both_of x (reply_said line.number (behind_of (codes "=") line.fields))) (event ∙ ap (λ (l : Line). event_said ring history names l.number l.fields) in_front)
 
--- the fields behind the sign, to the line's end
+-- the fields after the sign, to the line's end
 pub finished : (k : ℕ) (line new : Line) (r all : Result SaidReply Refusal) → Does reply_at line (map_ok reply_of r) new
     → all ≡ map_ok (λ x. x.0) (both_of r (end_at new.number new.fields).0) → map_ok reply_of all ≡ reply_line k (Some line)
 finished k line new r all does is = rw (is, map-finished reply_of r (end_at new.number new.fields).0, does.0, does.1) refl

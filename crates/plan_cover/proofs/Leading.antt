@@ -34,10 +34,6 @@ later_in chains side n k ks = by (is_side side (side_at chains k))
     by true e = or_right (has n (steps_at chains k)) (in_some n (chains_at chains side ks)) e
     by false e = e
 
--- a copy that is in a chain is not refused
-pub not_refused : (chains : List (List ℕ)) (x : NodeId) (n : ℕ) (ns : List ℕ) → in_some n chains ≡ true → first_failing (map (copy_guard chains x) (n ∷ ns)) ≡ first_failing (map (copy_guard chains x) ns)
-not_refused chains x n ns e = rw e refl
-
 -- what fails first is what is told
 pub gives_same : (r : Result (Unit {0}) Refusal) (gs hs : List Guard) → first_failing gs ≡ first_failing hs → Gives r gs → Gives r hs
 gives_same (Ok x) gs hs e g = sym e ∙ g

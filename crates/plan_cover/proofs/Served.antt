@@ -30,13 +30,6 @@ use Rattle.plan_stage.proofs.Slots.{none_below}
 
 -- ---- the steps of a slot among the first of a plan
 
-low : (s m k : ℕ) → m ≤ s → nat_lt s m ≡ false
-low s m k l = grind (arith, nat_tests)
-
-none_by : (b : Bool) (m k : ℕ) (ss : List ℕ) → m ≤ k → count_below m ss ≡ 0 → count_below m (cond b (k ∷ ss) ss) ≡ 0
-none_by true m k ss l e = rw (low k m k l, e) refl
-none_by false m k ss l e = e
-
 some_by : (b : Bool) (m k : ℕ) (ss ts : List ℕ) → k < m → take (count_below m ss) ss ≡ ts → take (count_below m (cond b (k ∷ ss) ss)) (cond b (k ∷ ss) ss) ≡ cond b (k ∷ ts) ts
 some_by true m k ss ts l e = (let s : count_below m ss + 1 ≡ suc (count_below m ss) = omega arith in rw (lt-ltb k m l, s) (ap (λ zs. k ∷ zs) e))
 some_by false m k ss ts l e = e

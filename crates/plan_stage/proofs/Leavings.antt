@@ -45,9 +45,6 @@ passes-is test plan b x e =
 pub after-is : (plan : List Planned) (a : Stage) (b : ℕ) (x : Planned) → slice_get plan b ≡ Some x → after plan a b ≡ next a x.step
 after-is plan a b x e = after-next plan a b x.step (ap (λ (o : Option Planned). option_map (λ (z : Planned). z.step) o) e)
 
-out : (b c : Bool) → b ≡ false → (b && c) ≡ false
-out b c e = rw e refl
-
 both : (b c : Bool) → b ≡ true → c ≡ false → (b && not c) ≡ true
 both b c e f = rw (e, f) refl
 

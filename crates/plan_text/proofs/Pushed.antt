@@ -60,7 +60,7 @@ pub on_both : {T E P S Q : Type 0} (r : Result T E) → (P → S → Q) → OnOk
 on_both (Ok x) f p s = f p s
 on_both (Err e) f p s = tt
 
--- the steps stay where rows come behind theirs
+-- the steps stay where rows come after theirs
 pub steps-stay : (rows more : List (List ℕ)) (ks : List Kept) → AreRows rows ks → map (planned_in (rows ++ more)) ks ≡ map (planned_in rows) ks
 steps-stay rows more [] h = refl
 steps-stay rows more (k ∷ ks) h = rw (get_front rows more k.row h.0, steps-stay rows more ks h.1) refl

@@ -1,7 +1,6 @@
 -- Keepers whose versions do not cover a clock, one after the other.
-use Rattle.std.proofs.Common.{◌≡◌, inl, inr, ℕ, true, false, List, ◌∷◌, subst}
+use Rattle.std.proofs.Common.{◌≡◌, ℕ, true, false, List, ◌∷◌}
 use Rattle.std.specs.Prelude.{◌==◌}
-use Rattle.std.proofs.lemmas.Bool.{cases_Bool}
 use Rattle.ring_names.specs.declared.ids.NodeId.{NodeId}
 use Rattle.ring_names.specs.declared.ids.Slot.{Slot}
 use Rattle.ring_clock.specs.declared.entry.Entry.{Entry}
@@ -9,8 +8,6 @@ use Rattle.ring_versions.specs.Versions.{Covers}
 use Rattle.ring_hints.specs.declared.hints.Hints.{Hints}
 use Rattle.ring_hints.specs.Hints.{hinted_at}
 use Rattle.ring_hints.specs.Views.{in_keepers}
-use Rattle.ring_hints.proofs.KeeperSets.{equal}
-use Rattle.ring_hints.proofs.KeepersMerged.{left_out}
 
 -- none of the keepers that are not left covers the clock
 abbrev pub NoneBefore : Hints → Slot → List ℕ → List Entry → List NodeId → List NodeId → Type 0

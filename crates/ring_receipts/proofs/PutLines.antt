@@ -4,7 +4,6 @@ use Rattle.std.specs.Prelude.{unwrap_or}
 use Rattle.std.specs.List.{list_all}
 use Rattle.std.proofs.lemmas.Bool.{true≢false}
 use Rattle.ring_names.specs.declared.ids.WriterId.{WriterId}
-use Rattle.plan_runs.specs.declared.event.Event.{Event}
 use Rattle.plan_runs.specs.declared.event.Event.TheVariants.{StartPut}
 use Rattle.plan_runs.specs.declared.event.Reply.TheVariants.{Put}
 use Rattle.ring_receipts.specs.declared.receipt.Receipt.{Receipt}
@@ -31,9 +30,6 @@ behind_it n sent acks rest all_sent all_acks few opens =
     ∙ behind_one_all a acks rest all_acks few (opens_apart a rest (λ r c. client_acknowledges n r.event c) opens)
 
 module _ (asked : List Asked) (w : WriterId) (k v s : List ℕ) where
-  line : Event
-  line = StartPut w k v s
-
   -- it names a get that has not ended
   pub no_put : (list : List Receipt) → are_ended asked k s ≡ false → Leaves asked (StartPut w k v s) list list asked
   no_put list not lines = (

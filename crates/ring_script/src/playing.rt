@@ -157,7 +157,7 @@ fn first_line(alloc: Global, events: usize) -> Result<Vec<u8>, Refusal>
     Ok(out)
 }
 
-// What is printed of events that are given up and behind them, over a store that nothing has happened to.
+// What is printed of events that are given up and after them, over a store that nothing has happened to.
 fn played_queue(
     alloc: Global,
     ring: &Ring,

@@ -27,15 +27,6 @@ module _ {V : Type 0} (cmp : V → V → Ordering) (same : (a : V) → is_at (cm
   any_inserted q v [] = refl
   any_inserted q v (x ∷ xs) = inserted q v x xs (insert_key cmp xs v) (cmp v x) refl (any_inserted q v xs)
 
-  restored : (v x : V) (xs ys : List V) (o : Ordering) → cmp v x ≡ o → (is_at (cmp v) x || is_in v xs) ≡ false → (is_in v xs ≡ false → remove_key (is_at (cmp v)) ys ≡ xs)
-      → remove_key (is_at (cmp v)) (match_ordering o (v ∷ x ∷ xs) (x ∷ xs) (x ∷ ys)) ≡ x ∷ xs
-  restored v x xs ys Less e h k = ap (λ (b : Bool). cond b (x ∷ xs) (v ∷ remove_key (is_at (cmp v)) (x ∷ xs))) (same v)
-  restored v x xs ys Equal e h k = absurd (let t : is_at (cmp v) x ≡ true = ap is_eq e in let f = ap (λ (b : Bool). b || is_in v xs) t in cc)
-  restored v x xs ys Greater e h k =
-      let t : is_at (cmp v) x ≡ false = ap is_eq e in
-      let f : is_in v xs ≡ false = sym (ap (λ (b : Bool). b || is_in v xs) t) ∙ h in
-      ap (λ (b : Bool). cond b ys (x ∷ remove_key (is_at (cmp v)) ys)) t ∙ ap (λ (zs : List V). x ∷ zs) (k f)
-
   other : (q v x : V) (xs : List V) (b : Bool) → is_at (cmp v) x ≡ b → is_at (cmp q) v ≡ false → is_in q (remove_key (is_at (cmp v)) xs) ≡ is_in q xs
       → is_in q (cond b xs (x ∷ remove_key (is_at (cmp v)) xs)) ≡ is_in q (x ∷ xs)
   other q v x xs true e h k = ap (λ (b : Bool). b || is_in q xs) (sym (ap (λ (y : V). is_at (cmp q) y) (sym (exact v x e)) ∙ h))

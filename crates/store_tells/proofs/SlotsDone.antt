@@ -3,22 +3,20 @@ use Rattle.std.proofs.Common.{◌≡◌, ◌∙◌, ℕ, ◌+◌, Bool, true, fa
 use Rattle.std.specs.Prelude.{◌&&◌, Option, Some, None, option_map, unwrap_or, is_some}
 use Rattle.ring_names.specs.declared.ids.NodeId.{NodeId}
 use Rattle.ring_names.specs.declared.ids.Slot.{Slot}
-use Rattle.ring_names.proofs.Logic.{bool_same}
 use Rattle.ring_table.specs.Value.{RingValue}
 use Rattle.plan_text.specs.declared.step.Step.{Step}
 use Rattle.plan_text.specs.declared.step.Step.TheVariants as step
 use Rattle.plan_text.specs.declared.step.Planned.{Planned}
-use Rattle.plan_text.specs.Steps.{steps_of, is_slot, is_on, mirror_of}
+use Rattle.plan_text.specs.Steps.{steps_of, is_on, mirror_of}
 use Rattle.plan_stage.specs.declared.stage.Stage.{Stage}
 use Rattle.plan_stage.specs.Stage.{stage, next}
 use Rattle.plan_stage.specs.Each.{step_at}
-use Rattle.plan_stage.proofs.Truth.{slot-is, slot-same}
 use Rattle.plan_runs.specs.World.{World, count, mirror_at, stage_now, mirrors_done}
 use Rattle.plan_runs.specs.Effects.{with_number}
 use Rattle.plan_runs.specs.Reached.{Closed}
 use Rattle.plan_check.proofs.Mirrored.{Known}
 use Rattle.store_tables.specs.declared.slots.SlotNow.{SlotNow}
-use Rattle.store_tables.specs.Slots.{slot_now, switched, ChangesSlot}
+use Rattle.store_tables.specs.Slots.{slot_now}
 use Rattle.store_tells.specs.Slots.{IsNow, SlotsMeet}
 use Rattle.store_tells.specs.SlotsStepped.{stepped, StepsSlots}
 use Rattle.store_tells.proofs.StageNow.{stage_on, stage_off, mirrors_on, mirrors_off}
@@ -115,27 +113,3 @@ slots_stepped ring plan k w n s old new c d off at t change = record {
         )
 
 -- ---- changes of one slot
-
--- two tests of one pair are one
-pub slot_turned : (s t : Slot) → is_slot s t ≡ is_slot t s
-slot_turned s t = bool_same (is_slot s t) (is_slot t s) (λ h. rw (slot-is s t h) (slot-same t)) (λ h. rw (slot-is t s h) (slot-same s))
-
--- a slot that changes twice
-pub changes_twice : (old mid new : List (List SlotNow)) (s : Slot) (f g : SlotNow → SlotNow) → ChangesSlot old mid s f → ChangesSlot mid new s g → ChangesSlot old new s (λ x. g (f x))
-changes_twice old mid new s f g a b t = b t ∙ ap (λ (o : Option SlotNow). cond (is_slot s t) (option_map g o) o) (a t) ∙ by (is_slot s t) (slot_now old t)
-  where
-    by : (c : Bool) (o : Option SlotNow) → cond c (option_map g (cond c (option_map f o) o)) (cond c (option_map f o) o) ≡ cond c (option_map (λ x. g (f x)) o) o
-    by true None = refl
-    by true (Some x) = refl
-    by false o = refl
-
--- a slot that is mirrored, and whose generation is one more, changes by a mirror step
-pub mirror_steps : (old mid new : List (List SlotNow)) (s : Slot) (x : NodeId) → ChangesSlot old mid s (λ a. record a { mirror = Some x }) → ChangesSlot mid new s (λ a. record a { generation = a.generation + 1 })
-    → StepsSlots old new (step.Mirror s x)
-mirror_steps old mid new s x a b t =
-    changes_twice old mid new s (λ z. record z { mirror = Some x }) (λ z. record z { generation = z.generation + 1 }) a b t
-    ∙ ap (λ (c : Bool). cond c (option_map (λ (z : SlotNow). stepped z (step.Mirror s x)) (slot_now old t)) (slot_now old t)) (slot_turned s t)
-
--- one that is switched by a switch
-pub switch_steps : (old new : List (List SlotNow)) (s : Slot) → ChangesSlot old new s switched → StepsSlots old new (step.Switch s)
-switch_steps old new s a t = a t ∙ ap (λ (c : Bool). cond c (option_map switched (slot_now old t)) (slot_now old t)) (slot_turned s t)

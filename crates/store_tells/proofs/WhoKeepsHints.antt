@@ -29,11 +29,6 @@ both_tell true false p q = p.1 (q.0 refl)
 both_tell false true p q = sym (q.1 (p.0 refl))
 both_tell false false p q = refl
 
--- a test that is not failed is passed
-passed : (b : Bool) → (b ≡ false → ⊥) → b ≡ true
-passed true h = refl
-passed false h = absurd (h refl)
-
 module _ (ring : RingValue) (plan : List Planned) (k : Kept) (w : World) (m : Tells ring plan k w) where
   r : Reached ring plan w
   r = reached_of ring plan k w m

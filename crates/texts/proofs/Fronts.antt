@@ -6,7 +6,7 @@ use Rattle.std.proofs.lemmas.Bool.{ltb-true, and_parts}
 use Rattle.ring_names.proofs.Logic.{cond_some, pair_is, pair_of}
 use Rattle.texts.specs.Number.{value_from, is_number, decimal_value}
 use Rattle.texts.specs.Numbers.{numbers_of, beyond, are_small}
-use Rattle.texts.specs.Judging.{both_of, Item, ◌⊗◌, end_at, map_ok, map_item, whole}
+use Rattle.texts.specs.Judging.{both_of, Item, ◌⊗◌, end_at, map_item, whole}
 use Rattle.texts.specs.Laws.{IsItem, IsLine}
 pub use Rattle.texts.specs.Laws.{IsFront, Last}
 use Rattle.texts.proofs.Items.{both_is, map_is, end_is}
@@ -69,14 +69,6 @@ front-whole {A} C k a s P nothing ia = record { takes = take; gives = give }
         let e = ia.gives v [] p nothing in
         let f : a (s v) ≡ (Ok v, []) = subst (λ l. a l ≡ (Ok v, [])) (append-nil (s v)) e in
         rw f refl
-
--- a word, and behind it an item, made into another value
-pub front-word : {A B : Type 0} (C : List (List ℕ) → Type 0) (a : Item A) (word : List ℕ) (s : A → List (List ℕ)) (P : A → Type 0) (f : A → B) (fields rest : List (List ℕ)) (v : B) → IsFront C a s P → (map_ok f (a fields).0 ≡ Ok v) → ((a fields).1 ≡ rest)
-    → (x : A) × (f x ≡ v) × (word ∷ fields ≡ (word ∷ s x) ++ rest) × P x
-front-word C a word s P f fields rest v ia e r =
-    let m = map_is f (a fields).0 v e in
-    let i = ia.takes fields rest m.0 (pair_of (a fields) (Ok m.0) rest m.1 r) in
-    (m.0, m.2, ap (λ x. word ∷ x) i.0, i.1)
 
 -- ---- numbers
 

@@ -1,5 +1,5 @@
 -- What stands in front of the first byte that ends it, beside a word.
-use Rattle.std.proofs.Common.{◌≡◌, ℕ, zero, suc, ◌+◌, ◌<◌, Bool, true, false, cond, eqb, eq-eqb, nat_lt, List, [], ◌∷◌, length, get_or, drop, take, refl, sym, ap, subst, arith}
+use Rattle.std.proofs.Common.{◌≡◌, ℕ, zero, suc, ◌+◌, ◌<◌, Bool, true, false, cond, eqb, nat_lt, List, [], ◌∷◌, length, get_or, drop, take, refl, sym, ap, subst, arith}
 use Rattle.std.proofs.lemmas.Bool.{eqb-true, ltb-true, ltb-false}
 use Rattle.std.proofs.Math.Seq.{drop-cons}
 use Rattle.std.proofs.lemmas.List.{drop_all}
@@ -8,9 +8,6 @@ use Rattle.texts.specs.Parts.{until}
 
 next : (bs : List ℕ) (i : ℕ) → i < length bs → drop i bs ≡ get_or bs i 0 ∷ drop (i + 1) bs
 next bs i h = let e : suc i ≡ i + 1 = omega arith in subst (λ (k : ℕ). drop i bs ≡ get_or bs i 0 ∷ drop k bs) e (drop-cons bs i 0 h)
-
-one : (p : ℕ → Bool) (b : ℕ) (bs ws : List ℕ) → p b ≡ false → bytes_eq (until p (b ∷ bs)) (b ∷ ws) ≡ bytes_eq (until p bs) ws
-one p b bs ws e = rw (e, eq-eqb b b refl) refl
 
 stops : (p : ℕ → Bool) (b w : ℕ) (bs ws : List ℕ) → (eqb b w ≡ true → p w ≡ true) → bytes_eq (until p (b ∷ bs)) (w ∷ ws) ≡ false
 stops p b w bs ws h = by (p b) (eqb b w) refl refl
