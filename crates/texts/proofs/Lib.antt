@@ -21,4 +21,5 @@ pub mod Faults
 pub mod Halves
 pub mod Parts
 pub mod Forms
+pub mod MoreForms
 pub mod Places

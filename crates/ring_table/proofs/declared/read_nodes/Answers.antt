@@ -1,6 +1,7 @@
 use Rattle.texts.proofs.Lates.{late-part}
 use Rattle.ring_table.specs.Reading.{second_at, allowance_at, node_at, nodes_at}
-use Rattle.ring_table.proofs.RingForm.{IsOther, lines_form, to-some}
+use Rattle.texts.proofs.MoreForms.{to-some}
+use Rattle.ring_table.proofs.RingForm.{IsOther, lines_form}
 use Rattle.ring_table.proofs.declared.read_nodes.Goals as goal
 
 pub returns-in_err-read_into-clause-late : goal.returns-in_err-read_into-clause-late
