@@ -93,7 +93,8 @@ fn is_linked(context: &Context, steps: &[u32], copies: &[u32]) -> bool
     true
 }
 
-fn is_copy(copies: &[u32], step: u32) -> bool
+// Whether the step is one of the copies, by a binary search.
+pub fn is_copy(copies: &[u32], step: u32) -> bool
     requires { ascending copies.now ≡ true }
     ensures { result ≡ has step copies.now }
 {
