@@ -1,16 +1,16 @@
 //! Whether the chains of a node cover its copies.
 
-ghost use Rattle.std.specs.Prelude.{◌≡◌, ◌∷◌, [], ℕ, map, true, IfErr, IfOk};
+ghost use Rattle.std.specs.Prelude.{◌≡◌, ◌∷◌, [], ℕ, map, IfErr, IfOk};
 ghost use Rattle.ring_names.specs.Lists.{has};
 ghost use Rattle.ring_names.specs.declared.refusal.Refusal.TheVariants.{OutOfMemory};
-ghost use Rattle.texts.specs.Numbers.{ascending};
 ghost use Rattle.plan_stage.specs.Clauses.{Gives};
 ghost use Rattle.plan_cover.specs.Clauses.{in_some};
 ghost use Rattle.plan_cover.specs.Looking.Guards.{chains_at, copy_guard};
 ghost use Rattle.ring_table.specs.Value.{is_side};
 
-use crate::linked::{is_copy, side_at};
+use crate::linked::{is_among, side_at};
 use plan_cert::Chains;
+use plan_stage::put_in_order;
 use ring_names::Refusal;
 use ring_table::{NodeSide, Side};
 use std::alloc::Global;
@@ -35,7 +35,7 @@ pub fn check_copies(
     put_in_order(&mut covered);
     let mut rest = copies;
     'copies: while let Some((first, later)) = rest.split_first() {
-        if !is_copy(&covered, *first) {
+        if !is_among(&covered, *first) {
             return Err(Refusal::CoverMissing(node.0, *first));
         }
         rest = later;
@@ -79,13 +79,4 @@ fn steps_of(
         rest = later;
     }
     Ok(steps)
-}
-
-// Sorts the numbers, and keeps each once.
-fn put_in_order(numbers: &mut Vec<u32>)
-    ensures ascending { ascending numbers.new.items ≡ true }
-    ensures same { (n : ℕ) → has n numbers.new.items ≡ has n numbers.old.items }
-{
-    numbers.sort_unstable();
-    numbers.dedup();
 }

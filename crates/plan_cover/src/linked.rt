@@ -85,7 +85,7 @@ fn is_linked(context: &Context, steps: &[u32], copies: &[u32]) -> bool
 {
     let mut rest = steps;
     'links: while let Some((first, later)) = rest.split_first() {
-        if !is_copy(copies, *first) || !leads_on(context, *first, later) {
+        if !is_among(copies, *first) || !leads_on(context, *first, later) {
             return false;
         }
         rest = later;
@@ -93,12 +93,12 @@ fn is_linked(context: &Context, steps: &[u32], copies: &[u32]) -> bool
     true
 }
 
-// Whether the step is one of the copies, by a binary search.
-pub fn is_copy(copies: &[u32], step: u32) -> bool
-    requires { ascending copies.now ≡ true }
-    ensures { result ≡ has step copies.now }
+// Whether the number is one of these, by a binary search.
+pub fn is_among(numbers: &[u32], number: u32) -> bool
+    requires { ascending numbers.now ≡ true }
+    ensures { result ≡ has number numbers.now }
 {
-    copies.binary_search(&step).is_ok()
+    numbers.binary_search(&number).is_ok()
 }
 
 // Whether the step comes before the first of those behind it.

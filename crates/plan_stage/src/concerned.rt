@@ -30,8 +30,8 @@ pub fn concerned(
     Ok(numbers)
 }
 
-// Puts the numbers in ascending order, each once.
-fn put_in_order(numbers: &mut Vec<u32>)
+/// Puts the numbers in ascending order, each once. Costs a sort of them.
+pub fn put_in_order(numbers: &mut Vec<u32>)
     ensures ascending { ascending numbers.new.items ≡ true }
     ensures same { (n : ℕ) → has n numbers.new.items ≡ has n numbers.old.items }
 {

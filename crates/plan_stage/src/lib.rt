@@ -18,6 +18,7 @@ mod stage;
 mod walk;
 
 pub use check::{check_partition, stage_at};
+pub use concerned::put_in_order;
 pub use joined::{has_joined, has_joined_by};
 pub use party::{parties, sources};
 pub use stage::Stage;
