@@ -34,7 +34,8 @@ impl<'a> Model for Cut<'a> {
 fn seen_in(alloc: Global, gets: &Marks, seen: &Seen) -> Result<Seen, AllocError>
     ensures { IfOk result (λ named. named ≡ all_renumbered gets.now seen.now) }
 {
-    match Seen::of(gets.all(alloc, seen.as_slice())?) {
+    let named = Seen::of(alloc, gets.all(alloc, seen.as_slice())?)?;
+    match named {
         Some(named) => Ok(named),
         None => unreachable!(),
     }
@@ -98,7 +99,7 @@ impl<'a> Cut<'a> {
     {
         Ok(match event {
             Event::StartPut(writer, key, value, seen) => {
-                let key = key.try_copy(alloc)?;
+                let key = key.try_copy()?;
                 let value = value.try_copy()?;
                 let seen = seen_in(alloc, &self.gets, seen)?;
                 Event::StartPut(*writer, key, value, seen)
@@ -108,7 +109,7 @@ impl<'a> Cut<'a> {
             Event::Ack(put) => Event::Ack(self.puts.renumbered(*put)),
             Event::Read(get, index) => Event::Read(self.gets.renumbered(*get), *index),
             Event::EndGet(get) => Event::EndGet(self.gets.renumbered(*get)),
-            _ => return event.try_copy(alloc),
+            _ => return event.try_copy(),
         })
     }
 

@@ -42,13 +42,13 @@ fn is_of_step(event: &Event) -> bool
 }
 
 // The event, by the number that its step has in the other plan, if it is one of a step; none where the step has none.
-fn renamed(alloc: Global, numbers: &[Option<u32>], event: &Event) -> Result<Option<Event>, Refusal>
+fn renamed(numbers: &[Option<u32>], event: &Event) -> Result<Option<Event>, Refusal>
     ensures { IfOk result (λ v. v ≡ renamed numbers.now event.now) }
 {
     if is_of_step(event) {
         return Ok(renamed_step(numbers, event));
     }
-    let same = event.try_copy(alloc)?;
+    let same = event.try_copy()?;
     Ok(Some(same))
 }
 
@@ -87,7 +87,7 @@ pub(crate) fn told(
     requires { IsSummed taken.now }
     ensures { IfOk result (λ v. option_to_list v ≡ told numbers.now taken.now.all.items entry.now) }
 {
-    let Some(event) = renamed(alloc, numbers, &entry.event)? else {
+    let Some(event) = renamed(numbers, &entry.event)? else {
         return Ok(None);
     };
     let reply = lowered_reply(alloc, taken, &entry.reply)?;

@@ -8,7 +8,7 @@ ghost use Rattle.plan_runs.specs.declared.event.Event.TheVariants.{StartPut};
 
 use crate::words::{Key, Seen};
 use ring_names::{Listed, NodeId, Slot, Value, WriterId};
-use std::alloc::{AllocError, Global};
+use std::alloc::AllocError;
 use texts::push_numbers;
 
 /// One event. Steps, puts and gets are named by their numbers, puts and gets in order of their start.
@@ -111,8 +111,8 @@ pub struct Entry {
 }
 
 impl Event {
-    /// A copy of the event. Only a put and the start of a get take memory.
-    pub fn try_copy(&self, alloc: Global) -> Result<Event, AllocError>
+    /// A copy of the event, which shares key, value and gets. Takes no memory. Refused only where 2^64 events would share them.
+    pub fn try_copy(&self) -> Result<Event, AllocError>
         ensures { IfOk result (λ event. event ≡ self.now) }
     {
         Ok(match self {
@@ -122,12 +122,12 @@ impl Event {
             Event::CloseCopy(step) => Event::CloseCopy(*step),
             Event::AbortCopy(step) => Event::AbortCopy(*step),
             Event::StartPut(writer, key, value, seen) => {
-                return copied_put(alloc, *writer, key, value, seen);
+                return copied_put(*writer, key, value, seen);
             }
             Event::Write(put, index) => Event::Write(*put, *index),
             Event::Hint(put, index, node) => Event::Hint(*put, *index, *node),
             Event::Ack(put) => Event::Ack(*put),
-            Event::StartGet(key) => Event::StartGet(key.try_copy(alloc)?),
+            Event::StartGet(key) => Event::StartGet(key.try_copy()?),
             Event::Read(get, index) => Event::Read(*get, *index),
             Event::EndGet(get) => Event::EndGet(*get),
             Event::Down(node) => Event::Down(*node),
@@ -139,18 +139,12 @@ impl Event {
 }
 
 // The start of a put, of the same words.
-fn copied_put(
-    alloc: Global,
-    writer: WriterId,
-    key: &Key,
-    value: &Value,
-    seen: &Seen,
-) -> Result<Event, AllocError>
+fn copied_put(writer: WriterId, key: &Key, value: &Value, seen: &Seen) -> Result<Event, AllocError>
     ensures { IfOk result (λ event. event ≡ StartPut writer key.now value.now seen.now) }
 {
-    let key = key.try_copy(alloc)?;
+    let key = key.try_copy()?;
     let value = value.try_copy()?;
-    let seen = seen.try_copy(alloc)?;
+    let seen = seen.try_copy()?;
     Ok(Event::StartPut(writer, key, value, seen))
 }
 

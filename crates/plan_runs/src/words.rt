@@ -7,36 +7,39 @@ ghost use Rattle.plan_runs.specs.Words.{is_key, is_seen};
 
 use std::alloc::{AllocError, Global};
 use std::marker::Model;
+use std::sync::Arc;
 use texts::are_name_bytes;
 
-/// A key: 1 to 64 bytes of `a-z0-9_.:-`.
+/// A key: 1 to 64 bytes of `a-z0-9_.:-`. Copies share the bytes.
 #[derive(Debug, Drop)]
 pub struct Key {
-    bytes: Vec<u8>,
+    bytes: Arc<Vec<u8>>,
 }
 
 impl Model for Key {
     ghost use Rattle.std.specs.Prelude.{◌≡◌, ℕ, List, true};
+    ghost use Rattle.std.specs.Arc.{arc_value};
     ghost use Rattle.plan_runs.specs.Words.{is_key};
 
     ghost Value = { List ℕ };
 
-    ghost view = { λ a. a.bytes.items };
+    ghost view = { λ a. (arc_value a.bytes).items };
 
-    ghost invariant = { λ a. is_key a.bytes.items ≡ true };
+    ghost invariant = { λ a. is_key (arc_value a.bytes).items ≡ true };
 }
 
 impl Key {
-    /// The key of these bytes, where they are one. Takes no memory.
-    pub fn of(bytes: Vec<u8>) -> Option<Key>
-        ensures some { is_some result ≡ is_key bytes.items }
-        ensures same { IfSome result (λ key. key ≡ bytes.items) }
+    /// The key of these bytes, where they are one. Takes memory for the block that counts who shares them.
+    pub fn of(alloc: Global, bytes: Vec<u8>) -> Result<Option<Key>, AllocError>
+        ensures some { IfOk result (λ key. is_some key ≡ is_key bytes.items) }
+        ensures same { IfOk result (λ key. IfSome key (λ k. k ≡ bytes.items)) }
     {
         let written = bytes.as_slice();
         if 1 <= written.len() && written.len() <= 64 && are_name_bytes(written) {
-            return Some(Key { bytes });
+            let bytes = Arc::new(alloc, bytes)?;
+            return Ok(Some(Key { bytes }));
         }
-        None
+        Ok(None)
     }
 
     pub fn as_slice(&self) -> &[u8]
@@ -45,31 +48,32 @@ impl Key {
         self.bytes.as_slice()
     }
 
-    /// A copy of the key.
-    pub fn try_copy(&self, alloc: Global) -> Result<Key, AllocError>
+    /// A copy of the key, which shares the bytes. Takes no memory. Refused only where 2^64 keys would share them.
+    pub fn try_copy(&self) -> Result<Key, AllocError>
         ensures { IfOk result (λ key. key ≡ self.now) }
     {
-        Ok(Key {
-            bytes: Vec::from_slice(alloc, self.bytes.as_slice())?,
-        })
+        let bytes = Arc::try_clone(&self.bytes)?;
+        Ok(Key { bytes })
     }
 }
 
-/// The gets whose replies a put knows: at most 16 numbers, strictly ascending.
+/// The gets whose replies a put knows: at most 16 numbers, strictly ascending. Copies share the numbers.
 #[derive(Debug, Drop)]
 pub struct Seen {
-    gets: Vec<u32>,
+    // None where there are none.
+    gets: Option<Arc<Vec<u32>>>,
 }
 
 impl Model for Seen {
     ghost use Rattle.std.specs.Prelude.{◌≡◌, ℕ, List, true};
+    ghost use Rattle.ring_names.specs.Values.{shared_items};
     ghost use Rattle.plan_runs.specs.Words.{is_seen};
 
     ghost Value = { List ℕ };
 
-    ghost view = { λ a. a.gets.items };
+    ghost view = { λ a. shared_items a.gets };
 
-    ghost invariant = { λ a. is_seen a.gets.items ≡ true };
+    ghost invariant = { λ a. is_seen (shared_items a.gets) ≡ true };
 }
 
 // Whether each is less than the next.
@@ -91,16 +95,20 @@ fn are_ascending(numbers: &[u32]) -> bool
 }
 
 impl Seen {
-    /// The gets of these numbers, where a put may name them. Takes no memory.
-    pub fn of(gets: Vec<u32>) -> Option<Seen>
-        ensures some { is_some result ≡ is_seen gets.items }
-        ensures same { IfSome result (λ seen. seen ≡ gets.items) }
+    /// The gets of these numbers, where a put may name them. Takes memory for the block that counts who shares them, if there are any.
+    pub fn of(alloc: Global, gets: Vec<u32>) -> Result<Option<Seen>, AllocError>
+        ensures some { IfOk result (λ seen. is_some seen ≡ is_seen gets.items) }
+        ensures same { IfOk result (λ seen. IfSome seen (λ s. s ≡ gets.items)) }
     {
         let written = gets.as_slice();
-        if written.len() <= 16 && are_ascending(written) {
-            return Some(Seen { gets });
+        if written.is_empty() {
+            return Ok(Some(Seen { gets: None }));
         }
-        None
+        if written.len() <= 16 && are_ascending(written) {
+            let gets = Some(Arc::new(alloc, gets)?);
+            return Ok(Some(Seen { gets }));
+        }
+        Ok(None)
     }
 
     /// The numbers of the gets, ascending, at most 16.
@@ -108,15 +116,20 @@ impl Seen {
         ensures value { result.now ≡ self.now }
         ensures valid { is_seen result.now ≡ true }
     {
-        self.gets.as_slice()
+        match &self.gets {
+            Some(shared) => shared.as_slice(),
+            None => &[],
+        }
     }
 
-    /// A copy of the list of gets.
-    pub fn try_copy(&self, alloc: Global) -> Result<Seen, AllocError>
+    /// A copy, which shares the numbers. Takes no memory. Refused only where 2^64 copies would share them.
+    pub fn try_copy(&self) -> Result<Seen, AllocError>
         ensures { IfOk result (λ seen. seen ≡ self.now) }
     {
-        Ok(Seen {
-            gets: Vec::from_slice(alloc, self.gets.as_slice())?,
-        })
+        let gets = match &self.gets {
+            Some(shared) => Some(Arc::try_clone(shared)?),
+            None => None,
+        };
+        Ok(Seen { gets })
     }
 }

@@ -22,7 +22,6 @@ pub const MAX_ENTRIES: usize = 1_000_000;
 /// which leads to a world that the store is in, and the book counts its entries.
 #[derive(Drop)]
 pub struct Ledgered<'a, L: RunLedger> {
-    alloc: Global,
     world: World<'a>,
     history: Vec<Entry>,
     book: Book<L>,
@@ -68,7 +67,6 @@ impl<'a, L: RunLedger> Ledgered<'a, L> {
         let world = World::start(alloc, approved)?;
         let (book, token) = blank.open::<L>();
         let ledgered = Ledgered {
-            alloc,
             world,
             history: Vec::new(alloc),
             book,
@@ -105,7 +103,6 @@ impl<'a, L: RunLedger> Ledgered<'a, L> {
         let (mut book, mut token) = blank.open::<L>();
         book.add(&mut token, count);
         let restored = Ledgered {
-            alloc,
             world,
             history,
             book,
@@ -141,7 +138,6 @@ impl<'a, L: RunLedger> Ledgered<'a, L> {
         ensures items { result.items ≡ self.entry.history.items }
     {
         let Ledgered {
-            alloc: _,
             world: _,
             history,
             book: _,
@@ -171,8 +167,8 @@ impl<'a, L: RunLedger> Ledgered<'a, L> {
             return Err(Refusal::HistoryFull);
         }
         self.world.allows(event)?;
-        let noted = event.try_copy(self.alloc)?;
-        let given = event.try_copy(self.alloc)?;
+        let noted = event.try_copy()?;
+        let given = event.try_copy()?;
         self.history.reserve(1)?;
         let (reply, copy) = self.world.apply_with_copy(event)?;
         let index = self.history.len() as u32;

@@ -14,7 +14,7 @@ use ring_names::Refusal;
 use std::alloc::Global;
 
 // The entry once more, with the store's own reply, where the store answers it so. Out of memory comes last.
-fn retell(alloc: Global, world: &mut World, place: u32, entry: &Entry) -> Result<Entry, Refusal>
+fn retell(world: &mut World, place: u32, entry: &Entry) -> Result<Entry, Refusal>
     requires { HasNumber world.old entry.now.event }
     ensures entry { IfOk result (λ x. x ≡ entry.now) }
     ensures ok { IfOk result (λ x. Answers world.old entry.now.event entry.now.reply world.new) }
@@ -25,17 +25,12 @@ fn retell(alloc: Global, world: &mut World, place: u32, entry: &Entry) -> Result
     ensures plan { plan_of world.new ≡ plan_of world.old }
 {
     let reply = follow(world, place, entry)?;
-    let event = entry.event.try_copy(alloc)?;
+    let event = entry.event.try_copy()?;
     Ok(Entry { event, reply })
 }
 
 // All entries in order, for which the vector is made ready once.
-fn retell_all(
-    alloc: Global,
-    world: &mut World,
-    history: &mut Vec<Entry>,
-    entries: &[Entry],
-) -> Result<(), Refusal>
+fn retell_all(world: &mut World, history: &mut Vec<Entry>, entries: &[Entry]) -> Result<(), Refusal>
     requires few { length entries.now ≤ 1000000 }
     requires puts { put_count world.old ≡ 0 }
     requires gets { get_count world.old ≡ 0 }
@@ -46,7 +41,7 @@ fn retell_all(
 {
     history.reserve(entries.len())?;
     for (place, entry) in entries.iter().enumerate() {
-        let told = retell(alloc, world, place as u32, entry)?;
+        let told = retell(world, place as u32, entry)?;
         history.push_reserved(told);
     }
     Ok(())
@@ -71,7 +66,7 @@ pub(crate) fn retold<'a>(
 {
     let mut world = World::start(alloc, approved)?;
     let mut history = Vec::new(alloc);
-    match retell_all(alloc, &mut world, &mut history, entries) {
+    match retell_all(&mut world, &mut history, entries) {
         Ok(()) => Ok((world, history)),
         Err(refusal) => Err(refusal),
     }

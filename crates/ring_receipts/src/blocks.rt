@@ -15,7 +15,6 @@ use crate::same::same_event;
 use crate::starts::{PutLine, all_ended, get_started, put_started};
 use plan_runs::{Event, Key};
 use ring_names::Refusal;
-use std::alloc::Global;
 
 // What is left behind the writes and hints of the put, and at most one acknowledgement of it.
 fn behind_put(put: u32, list: &[Receipt]) -> &[Receipt]
@@ -89,7 +88,6 @@ fn behind_put_line<'a>(
 
 // What is left of the list after the block of a get's line, if there is one. The get is noted.
 fn behind_get_line<'a>(
-    alloc: Global,
     asked: &mut Vec<Asked>,
     key: &Key,
     list: &'a [Receipt],
@@ -106,7 +104,7 @@ fn behind_get_line<'a>(
         return Ok(None);
     };
     let (ended, rest) = behind_end(number, behind_reads(number, later));
-    let key = key.try_copy(alloc)?;
+    let key = key.try_copy()?;
     asked.push(Asked { number, key, ended })?;
     Ok(Some(rest))
 }
@@ -128,7 +126,6 @@ fn behind_node_line<'a>(line: &Event, list: &'a [Receipt]) -> &'a [Receipt]
 
 /// What is left of the list behind the line's block, if there is one. The get of a get's line is noted behind those that were asked.
 pub(crate) fn behind_line<'a>(
-    alloc: Global,
     asked: &mut Vec<Asked>,
     line: &Event,
     list: &'a [Receipt],
@@ -148,7 +145,7 @@ pub(crate) fn behind_line<'a>(
             };
             Ok(behind_put_line(asked.as_slice(), &put, list))
         }
-        Event::StartGet(key) => behind_get_line(alloc, asked, key, list),
+        Event::StartGet(key) => behind_get_line(asked, key, list),
         Event::Down(_) | Event::Up(_) => Ok(Some(behind_node_line(line, list))),
         _ => Ok(None),
     }

@@ -19,7 +19,7 @@ pub(crate) fn is_client(alloc: Global, script: &[Event], list: &[Receipt]) -> Re
     let mut lines = script;
     let mut rest = list;
     'lines: while let Some((line, later)) = lines.split_first() {
-        match behind_line(alloc, &mut asked, line, rest)? {
+        match behind_line(&mut asked, line, rest)? {
             Some(left) => rest = left,
             None => return Ok(false),
         }

@@ -37,10 +37,10 @@ fn start_of(alloc: Global, asked: &[Asked], line: &Event) -> Result<Event, Refus
         return Err(Refusal::Disagree);
     };
     // A later get has a greater number, so they ascend as those of the script do.
-    let Some(seen) = Seen::of(numbers(alloc, asked, seen)?) else {
+    let Some(seen) = Seen::of(alloc, numbers(alloc, asked, seen)?)? else {
         return Err(Refusal::Disagree);
     };
-    let key = key.try_copy(alloc)?;
+    let key = key.try_copy()?;
     let value = value.try_copy()?;
     Ok(Event::StartPut(*writer, key, value, seen))
 }
@@ -96,9 +96,8 @@ fn get_line<L: RunLedger, R: Wait, G: Gate>(
     key: &Key,
 ) -> Result<(), Refusal> {
     asked.reserve(1)?;
-    let alloc = site.job.alloc;
-    let key = key.try_copy(alloc)?;
-    let wanted = key.try_copy(alloc)?;
+    let key = key.try_copy()?;
+    let wanted = key.try_copy()?;
     let number = start_get(site.store, &mut done.share, &mut done.receipts, wanted)?;
     let refusal = finish_get(site.store, &mut done.share, &mut done.receipts, number);
     let ended = refusal.is_none();

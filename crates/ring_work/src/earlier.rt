@@ -42,7 +42,7 @@ fn copy_of(alloc: Global, reply: &Reply) -> Result<Reply, AllocError>
 fn receipt_of(alloc: Global, index: u32, entry: &Entry) -> Result<Receipt, AllocError>
     ensures { IfOk result (λ r. r ≡ receipt_at index entry.now) }
 {
-    let event = entry.event.try_copy(alloc)?;
+    let event = entry.event.try_copy()?;
     let reply = copy_of(alloc, &entry.reply)?;
     Ok(Receipt {
         index,

@@ -62,7 +62,7 @@ impl<'a> KeyWord<'a> {
         ensures memory { IfErr result (λ e. e ≡ OutOfMemory) }
     {
         let bytes = Vec::from_slice(alloc, self.bytes)?;
-        match Key::of(bytes) {
+        match Key::of(alloc, bytes)? {
             Some(key) => Ok(key),
             None => unreachable!(),
         }
@@ -204,7 +204,7 @@ impl<'a> SeenRow<'a> {
         ensures memory { IfErr result (λ e. e ≡ OutOfMemory) }
     {
         let gets = self.row.to_vec(alloc)?;
-        match Seen::of(gets) {
+        match Seen::of(alloc, gets)? {
             Some(seen) => Ok(seen),
             None => unreachable!(),
         }

@@ -54,13 +54,13 @@ fn submit<'a, L: RunLedger, R: Wait>(
 
 /// The start of a put of the key `a` that knows no get.
 pub fn a_put(alloc: Global, writer: WriterId) -> Result<Event, Refusal> {
-    let Some(seen) = Seen::of(Vec::new(alloc)) else {
+    let Some(seen) = Seen::of(alloc, Vec::new(alloc))? else {
         return Err(Refusal::Disagree);
     };
     let Some(value) = Value::of(alloc, Vec::from_slice(alloc, b"1")?)? else {
         return Err(Refusal::Disagree);
     };
-    match Key::of(Vec::from_slice(alloc, b"a")?) {
+    match Key::of(alloc, Vec::from_slice(alloc, b"a")?)? {
         Some(key) => Ok(Event::StartPut(writer, key, value, seen)),
         None => Err(Refusal::Disagree),
     }
@@ -68,7 +68,7 @@ pub fn a_put(alloc: Global, writer: WriterId) -> Result<Event, Refusal> {
 
 /// The start of a get of the key `a`.
 pub fn a_get(alloc: Global) -> Result<Event, Refusal> {
-    match Key::of(Vec::from_slice(alloc, b"a")?) {
+    match Key::of(alloc, Vec::from_slice(alloc, b"a")?)? {
         Some(key) => Ok(Event::StartGet(key)),
         None => Err(Refusal::Disagree),
     }

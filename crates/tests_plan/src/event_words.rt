@@ -41,13 +41,13 @@ fn lists_written(rt: HostRuntime) -> Result<(), Fail> {
 
 fn is_key(alloc: Global, text: &str) -> Result<bool, AllocError> {
     let bytes = Vec::from_slice(alloc, text.as_bytes())?;
-    Ok(Key::of(bytes).is_some())
+    Ok(Key::of(alloc, bytes)?.is_some())
 }
 
 // Whether a put may have seen the gets of these numbers.
 fn is_seen(alloc: Global, gets: &[u32]) -> Result<bool, AllocError> {
     let gets = Vec::from_slice(alloc, gets)?;
-    Ok(Seen::of(gets).is_some())
+    Ok(Seen::of(alloc, gets)?.is_some())
 }
 
 #[test]

@@ -61,7 +61,7 @@ fn note<RT: AllocGlobal + Abort>(
     history: &mut Vec<Entry>,
 ) -> Result<(), Fail> {
     assert!(rt; world.puts() < 1000 && world.gets() < 1000);
-    let noted = event.try_copy(rt.alloc())?;
+    let noted = event.try_copy()?;
     if let Ok(reply) = world.apply(event) {
         let entry = Entry {
             event: noted,

@@ -30,7 +30,7 @@ fn came(alloc: Global, attempt: Attempt, last: &[u8]) -> Result<Came, Refusal> {
 }
 
 fn a_key(alloc: Global) -> Result<Key, Refusal> {
-    match Key::of(Vec::from_slice(alloc, b"a")?) {
+    match Key::of(alloc, Vec::from_slice(alloc, b"a")?)? {
         Some(key) => Ok(key),
         None => Err(Refusal::Disagree),
     }
@@ -46,7 +46,7 @@ fn put_and_get<'a, L: RunLedger, R: AllocGlobal + Wait>(
     let Some(value) = Value::of(alloc, Vec::from_slice(alloc, b"1")?)? else {
         return Err(Refusal::Disagree);
     };
-    let Some(seen) = Seen::of(Vec::new(alloc)) else {
+    let Some(seen) = Seen::of(alloc, Vec::new(alloc))? else {
         return Err(Refusal::Disagree);
     };
     let key = a_key(alloc)?;

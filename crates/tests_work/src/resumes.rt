@@ -27,7 +27,7 @@ fn done(alloc: Global, events: &[Event]) -> Result<Vec<Entry>, AllocError> {
     let mut entries = Vec::new(alloc);
     for event in events {
         entries.push(Entry {
-            event: event.try_copy(alloc)?,
+            event: event.try_copy()?,
             reply: Reply::Plain,
         })?;
     }
