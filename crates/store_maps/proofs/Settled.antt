@@ -3,6 +3,7 @@ use Rattle.std.proofs.Common.{◌≡◌, ◌∙◌, ℕ, List, [], get_or, slice
 use Rattle.std.specs.Prelude.{is_some, unwrap_or, OnOk, OnErr}
 use Rattle.std.specs.List.Sorted.{IsStrictlySortedBy}
 use Rattle.std.specs.Map.{keys_of}
+use Rattle.std.specs.declared.alloc.Global.{Global}
 use Rattle.std.specs.declared.vec.Vec.{Vec}
 use Rattle.ring_names.specs.AtBytes.{value_in}
 use Rattle.ring_versions.specs.Fresh.{IsFreshFor, FitsIn}
@@ -12,6 +13,7 @@ use Rattle.ring_versions.specs.declared.version.Version.{Version}
 use Rattle.store_maps.specs.Entries.{by_items, IsThere, GoesAt, PutsAt}
 use Rattle.store_maps.specs.Merges.{MergesAll, at_key}
 use Rattle.store_maps.specs.Places.{held_in, AreApart}
+use Rattle.store_maps.specs.Taken.{MergesIn}
 use Rattle.store_maps.proofs.EntryPlaces.{read_there, read_missing, written}
 use Rattle.store_maps.proofs.MergesInTurn.{merge_of}
 use Rattle.store_maps.proofs.OneAnswer.{on_ok, on_err, on_either}
@@ -35,18 +37,18 @@ was_held : {A : Type 0} (key : List ℕ) (m : List (Vec ℕ A × List Version)) 
 was_held key m v at = ap (λ (o : Option (List Version)). unwrap_or o []) at
 
 -- once others were merged in, or that was refused
-module _ {A B E : Type 0} (key : List ℕ) (m n : List (Vec ℕ A × List Version)) (v w more : List Version) (r : Result B E) (at : value_in m key ≡ Some v) (put : PutsAt m n key w) where
-  pub merged_apart : AreApart m → OnOk r (IsMerge v more w) → OnErr r (w ≡ v) → AreApart n
-  merged_apart apart ok err = apart_put m n key w put apart (on_either r (IsMerge v more w) (w ≡ v) (IsApart w) ok err (λ h. h.apart) (λ e. subst IsApart (was_held key m v at ∙ sym e) (apart key)))
+module _ {A E : Type 0} (key : List ℕ) (m n : List (Vec ℕ Global × List Version)) (more : List Version) (r : Result A E) (t : MergesIn r m n key more) where
+  pub merged_apart : AreApart m → AreApart n
+  merged_apart apart = apart_put m n key t.after t.put apart (on_either r _ _ (IsApart t.after) t.became.0 t.became.1 (λ h. h.apart) (λ e. subst IsApart (was_held key m t.before t.at ∙ sym e) (apart key)))
 
-  pub merged_all : AreApart m → OnOk r (IsMerge v more w) → OnOk r (MergesAll (held_in m) (at_key key more) (held_in n))
-  merged_all apart ok = on_ok r _ _ (λ h. merged_put m n key w put more apart (subst (λ (was : List Version). IsMerge was more w) (sym (was_held key m v at)) h)) ok
+  pub merged_all : AreApart m → OnOk r (MergesAll (held_in m) (at_key key more) (held_in n))
+  merged_all apart = on_ok r _ _ (λ h. merged_put m n key t.after t.put more apart (subst (λ (was : List Version). IsMerge was more t.after) (sym (was_held key m t.before t.at)) h)) t.became.0
 
-  pub merged_same : OnErr r (w ≡ v) → OnErr r ((k : List ℕ) → held_in n k ≡ held_in m k)
-  merged_same err = on_err r _ _ (λ e. same_put m n key w put (was_held key m v at ∙ sym e)) err
+  pub merged_same : OnErr r ((k : List ℕ) → held_in n k ≡ held_in m k)
+  merged_same = on_err r _ _ (λ e. same_put m n key t.after t.put (was_held key m t.before t.at ∙ sym e)) t.became.1
 
   pub merged_places : (k : List ℕ) → is_some (value_in n k) ≡ is_some (value_in m k)
-  merged_places = places_put m n key w put (ap is_some at)
+  merged_places = places_put m n key t.after t.put (ap is_some t.at)
 
 module _ {A : Type 0} (key : List ℕ) (m n : List (Vec ℕ A × List Version)) (v w : List Version) (f : Fresh) (at : value_in m key ≡ Some v) where
   module _ (put : PutsAt m n key w) (comes : (other : List Version) → IsFreshFor v other f → IsMerge v other w) (apart : AreApart m) where

@@ -180,23 +180,21 @@ impl Entries {
         }
     }
 
-    // Merges others into the versions at the key. Refused, it has changed nothing.
-    pub(crate) fn merge(&mut self, key: &[u8], more: &Versions) -> Result<(), Refusal>
-        requires order { IsInOrder self.old }
-        requires there { is_some (value_in (entries_of self.old) key.now) ≡ true }
+    // Merges others into the versions at the key, or returns `None` where it is not there. Refused, it has changed nothing.
+    pub(crate) fn merge(&mut self, key: &[u8], more: &Versions) -> Option<Result<(), Refusal>>
+        requires { IsInOrder self.old }
         ensures order { IsInOrder self.new }
-        ensures merged { MergesIn result (entries_of self.old) (entries_of self.new) key.now more.now }
-        ensures memory { IfErr result (λ e. e ≡ OutOfMemory) }
+        ensures some { IfSome result (λ r. MergesIn r (entries_of self.old) (entries_of self.new) key.now more.now) }
+        ensures none { IfNone result (value_in (entries_of self.old) key.now ≡ None) }
+        ensures same { IfNone result (self.new ≡ self.old) }
+        ensures memory { IfSome result (λ r. IfErr r (λ e. e ≡ OutOfMemory)) }
     {
         match self {
             Entries::Few(list) => match place_of(list.as_slice(), key) {
-                Ok(place) => list[place].1.merge(more),
-                Err(_) => unreachable!(),
+                Ok(place) => Some(list[place].1.merge(more)),
+                Err(_) => None,
             },
-            Entries::Many(tree) => match tree.get_mut(key) {
-                Some(versions) => versions.merge(more),
-                None => unreachable!(),
-            },
+            Entries::Many(tree) => Some(tree.get_mut(key)?.merge(more)),
         }
     }
 

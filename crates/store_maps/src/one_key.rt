@@ -50,8 +50,8 @@ impl KeyTree {
         ensures places { OnErr result ((k : List ℕ) → has_entry self.new k ≡ has_entry self.old k) }
         ensures memory { IfErr result (λ e. e ≡ OutOfMemory) }
     {
-        if self.entries.get(key).is_some() {
-            return self.entries.merge(key, more);
+        if let Some(merged) = self.entries.merge(key, more) {
+            return merged;
         }
         if more.is_empty() {
             return Ok(());

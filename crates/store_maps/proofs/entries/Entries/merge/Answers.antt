@@ -1,5 +1,5 @@
 use Rattle.std.proofs.Common.{◌≡◌, ◌∙◌, refl, sym, ap, subst, arith}
-use Rattle.std.specs.Prelude.{IsSome, is_some}
+use Rattle.std.specs.Prelude.{IsSome}
 use Rattle.ring_names.specs.AtBytes.{value_in}
 use Rattle.std.specs.List.Sorted.{IsStrictlySortedBy}
 use Rattle.std.specs.Map.{keys_of}
@@ -18,11 +18,11 @@ pub returns-in-Ok-clause-order : goal.returns-in-Ok-clause-order
 returns-in-Ok-clause-order c =
     let es = c.in-Few.list.items in
     let there = subst (λ fs. IsThere c.args.key.now fs c.in-Ok.place) c.as_slice.ensures.value (c.in-Ok.ensures).found in
-    let order = subst (λ fs. IsStrictlySortedBy by_items (keys_of fs)) (ap entries_of c.in-Few.is) c.requires.order in
+    let order = subst (λ fs. IsStrictlySortedBy by_items (keys_of fs)) (ap entries_of c.in-Few.is) c.requires in
     order_written c.args.key.now es c.in-Ok.place c.index_mut.result.now c.merge.new.self there c.index_mut.ensures.value order
 
-pub returns-in-Ok-clause-merged : goal.returns-in-Ok-clause-merged
-returns-in-Ok-clause-merged c =
+pub returns-in-Ok-clause-some : goal.returns-in-Ok-clause-some
+returns-in-Ok-clause-some c =
     let key = c.args.key.now in
     let m = entries_of c.args.self.now in
     let is : m ≡ c.in-Few.list.items = ap entries_of c.in-Few.is in
@@ -36,24 +36,21 @@ returns-in-Ok-clause-merged c =
       became = (c.merge.ensures.ok, c.merge.ensures.err);
     }
 
-pub returns-in-Some-clause-merged : goal.returns-in-Some-clause-merged
-returns-in-Some-clause-merged c =
+pub returns-in_ok-get_mut-in-Many-clause-some : goal.returns-in_ok-get_mut-in-Many-clause-some
+returns-in_ok-get_mut-in-Many-clause-some c =
     let is : entries_of c.args.self.now ≡ c.in-Many.tree.entries = ap entries_of c.in-Many.is in
-    let value = (c.in-Some.ensures).value in
-    let w = c.merge-in-Some.new.self in
+    let value = (c.in_ok-get_mut-in-Many.ensures).value in
+    let w = c.merge-in-Many.new.self in
     let n = c.get_mut.follows.lender w in
     record {
-      before = c.in-Some.versions.now;
+      before = c.in_ok-get_mut-in-Many.field-0.now;
       after = w;
       at = ap (λ es. value_in es c.args.key.now) is ∙ sym value;
       put = subst (λ es. PutsAt es n.entries c.args.key.now w) (sym is) (puts_at c.args.key.now c.in-Many.tree n w ((c.get_mut.follows.holds w).3 (subst IsSome value refl)));
-      became = (c.merge-in-Some.ensures.ok, c.merge-in-Some.ensures.err);
+      became = (c.merge-in-Many.ensures.ok, c.merge-in-Many.ensures.err);
     }
 
-pub unreachable-requires : goal.unreachable-requires
-unreachable-requires c =
-    let m = entries_of c.args.self.now in
-    let is : m ≡ c.in-Few.list.items = ap entries_of c.in-Few.is in
+pub returns-in-Err-clause-none : goal.returns-in-Err-clause-none
+returns-in-Err-clause-none c =
     let goes = subst (λ es. GoesAt c.args.key.now es c.in-Err.field-0) c.as_slice.ensures.value (c.in-Err.ensures).missing in
-    let none = few_none c.args.key.now m c.in-Few.list.items c.in-Err.field-0 is c.requires.order goes in
-    let there = sym c.requires.there ∙ ap is_some none in cc
+    few_none c.args.key.now (entries_of c.args.self.now) c.in-Few.list.items c.in-Err.field-0 (ap entries_of c.in-Few.is) c.requires goes
