@@ -54,9 +54,8 @@ impl Stores {
         ensures err { OnErr result ((x : ℕ) (s : Slot) (k : List ℕ) → held_at self.new x s k ≡ held_at self.old x s k) }
         ensures memory { IfErr result (λ e. e ≡ OutOfMemory) }
     {
-        let fresh = self.prepare(node, at, more)?;
-        self.settle(node, at, fresh);
-        Ok(())
+        let store = &mut self.list[node.0 as usize];
+        store.merge_key(at.slot, at.chunk, at.key, more)
     }
 
     // Merges them into what the owner and the mirror have in the slot.

@@ -132,18 +132,27 @@ impl NodeStore {
         self.put(slot, SlotMap::new(self.alloc, self.q)?)
     }
 
-    /// A merge at one key of a slot in one call. Refused, it has changed no reading.
-    pub fn merge_key(&mut self, slot: Slot, key: &[u8], more: &Versions) -> Result<(), Refusal>
+    /// A merge at one key of the chunk in a slot, in one call. Refused, it has changed no reading.
+    pub fn merge_key(
+        &mut self,
+        slot: Slot,
+        chunk: u32,
+        key: &[u8],
+        more: &Versions,
+    ) -> Result<(), Refusal>
+        requires { chunk_of (partitions self.old) key.now ≡ chunk }
         ensures ok { OnOk result
             (MergesInAll (versions_at self.old) (at_slot slot (at_key key.now more.now)) (versions_at self.new)) }
         ensures err { OnErr result ((s : Slot) (k : List ℕ) → versions_at self.new s k ≡ versions_at self.old s k) }
         ensures memory { IfErr result (λ e. e ≡ OutOfMemory) }
         ensures space { partitions self.new ≡ partitions self.old }
     {
-        let chunk = place(self.q, key).chunk;
-        self.room(slot)?;
-        let maps = self.slots.get_mut(&slot).unwrap();
-        maps.merge(chunk, key, more)
+        if let Some(maps) = self.slots.get_mut(&slot) {
+            return maps.merge(chunk, key, more);
+        }
+        let mut maps = SlotMap::new(self.alloc, self.q)?;
+        maps.merge(chunk, key, more)?;
+        self.put(slot, maps)
     }
 
     /// The first half of a merge at one key of the chunk in a slot: makes its place, where it has none, and what the other versions bring.

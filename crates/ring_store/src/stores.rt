@@ -18,7 +18,7 @@ use store_maps::{FreshMaps, KeyMap, SlotMap};
 pub struct Stores {
     alloc: Global,
     q: u32,
-    list: Vec<NodeStore>,
+    pub(crate) list: Vec<NodeStore>,
     ghost space: { is_space q ≡ true },
     ghost spaces: { AreOfSpace q list.items },
 }

@@ -156,8 +156,10 @@ fn numbers_of_pairs(rt: HostRuntime) -> Result<(), Fail> {
 }
 
 // A node's store of one key, and its copy.
+#[tactic(auto, using(store_maps::proofs::KeyPlaces::chunk_at))]
 fn stored<RT: Abort>(rt: &RT, store: &mut NodeStore, set: &Versions) -> Result<(), Fail> {
-    store.merge_key(SLOT, b"a", set)?;
+    let chunk = place(store.q(), b"a").chunk;
+    store.merge_key(SLOT, chunk, b"a", set)?;
     holds!(rt; store.key_versions(SLOT, b"a").is_some());
     same!(rt; store.chunk_keys(SLOT, 3)?.len(), 1);
     holds!(rt; store.try_copy()?.key_versions(SLOT, b"a").is_some());

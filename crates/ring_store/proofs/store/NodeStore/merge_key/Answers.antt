@@ -1,19 +1,25 @@
-use Rattle.std.proofs.Common.{◌∙◌, sym}
-use Rattle.store_maps.specs.Merges.{at_key}
-use Rattle.store_maps.proofs.OneAnswer.{on_ok, on_err}
-use Rattle.store_maps.proofs.KeyPlaces.{chunk_in}
-use Rattle.store_maps.proofs.KeyPlaces.{chunk_at}
-use Rattle.ring_store.proofs.LentMaps.{found, spaces_set, same_set, merged_set}
+use Rattle.std.proofs.Common.{◌∙◌, List, ℕ, Some, refl, ap, subst}
+use Rattle.std.proofs.Math.Path.{fun_ext}
+use Rattle.std.specs.HashMap.{HashMap}
+use Rattle.ring_names.specs.declared.ids.Slot.{Slot}
+use Rattle.ring_versions.specs.declared.version.Version.{Version}
+use Rattle.store_maps.specs.Merges.{MergesAll, at_key}
+use Rattle.store_maps.specs.Slots.{held_by, held_for}
+use Rattle.store_maps.specs.declared.slot_map.SlotMap.{SlotMap}
+use Rattle.store_maps.proofs.OneAnswer.{on_ok}
+use Rattle.ring_store.specs.Slots.{PutsSlot}
+use Rattle.ring_store.proofs.LentMaps.{merged_set}
+use Rattle.ring_store.proofs.SlotMapsChanged.{merged_by}
 use Rattle.ring_store.proofs.store.NodeStore.merge_key.Goals as goal
 
-pub merge-requires : goal.merge-requires
-merge-requires c = chunk_in c.unwrap-maps.result.now c.args.self.now.q c.args.key.now c.place-chunk.result.chunk (c.room.new.self.spaces c.args.slot c.unwrap-maps.result.now (sym (found c.unwrap-maps.ensures c.get_mut.ensures.value)) ∙ c.room.ensures.space) (chunk_at c.args.self.now.q c.args.key.now c.place-chunk.result c.place-chunk.ensures.place)
-
-pub invariant_of-self : goal.invariant_of-self
-invariant_of-self c = record { space = c.room.new.self.space; spaces = spaces_set c.room.new.self (c.get_mut.follows.lender c.merge.new.self) c.args.slot (found c.unwrap-maps.ensures c.get_mut.ensures.value) (c.get_mut.follows.holds c.merge.new.self).3 c.room.ensures.same c.merge.ensures.space }
+pub returns-in-Some-clause-ok : goal.returns-in-Some-clause-ok
+returns-in-Some-clause-ok c = on_ok c.merge.result _ _ (merged_set c.args.self.now (c.get_mut.follows.lender c.merge.new.self) c.args.slot (c.in-Some.ensures).value (c.get_mut.follows.holds c.merge.new.self).3 (λ s k. refl) (at_key c.args.key.now c.args.more.now)) c.merge.ensures.ok
 
 pub returns-clause-ok : goal.returns-clause-ok
-returns-clause-ok c = on_ok c.merge.result _ _ (merged_set c.room.new.self (c.get_mut.follows.lender c.merge.new.self) c.args.slot (found c.unwrap-maps.ensures c.get_mut.ensures.value) (c.get_mut.follows.holds c.merge.new.self).3 c.room.ensures.same (at_key c.args.key.now c.args.more.now)) c.merge.ensures.ok
-
-pub returns-clause-err : goal.returns-clause-err
-returns-clause-err c = on_err c.merge.result _ _ (same_set c.room.new.self (c.get_mut.follows.lender c.merge.new.self) c.args.slot (found c.unwrap-maps.ensures c.get_mut.ensures.value) (c.get_mut.follows.holds c.merge.new.self).3 c.room.ensures.same) c.merge.ensures.err
+returns-clause-ok c =
+    let more = at_key c.args.key.now c.args.more.now in
+    let w = c.merge-2.new.self in
+    let slots = c.args.self.now.slots in
+    let none = fun_ext (λ k. (c.in_ok-maps.ensures).versions k ∙ ap (λ o. held_by o k) (c.in_default.ensures).value) in
+    let merged = subst (λ (was : List ℕ → List Version). MergesAll was more (held_for w)) none (c.in_ok-merge.ensures).ok in
+    on_ok c.put.result _ _ (λ put. merged_by slots c.put.new.self.slots c.args.slot (Some w) (subst (λ (was : HashMap Slot SlotMap _). PutsSlot was c.put.new.self.slots c.args.slot (Some w)) c.get_mut.follows.holds-at-none put) more merged) c.put.ensures.ok
