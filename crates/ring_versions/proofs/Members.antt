@@ -53,9 +53,9 @@ filled xs n b len is isnt none = (let told : b ≡ true = is ∙ eq-eqb n 0 (len
 pub neither : (b : Bool) → b ≡ false → IsTrue b → ⊥
 neither b isnt is = cc
 
-each : (v : Version) (vs : List Version) → AllByRecursion (InConflict v) vs → (u : Version) → IsIn u vs → InConflict v u
-each v [] all u h = absurd h
-each v (x ∷ xs) all u h = elim h [ inl is ↦ subst (InConflict v) is all.0 | inr more ↦ each v xs all.1 u more ]
+pub each : (P : Version → Type 0) (vs : List Version) → AllByRecursion P vs → (u : Version) → IsIn u vs → P u
+each P [] all u h = absurd h
+each P (x ∷ xs) all u h = elim h [ inl is ↦ subst P is all.0 | inr more ↦ each P xs all.1 u more ]
 
 every : (v : Version) (vs : List Version) → ((u : Version) → IsIn u vs → InConflict v u) → AllByRecursion (InConflict v) vs
 every v [] h = tt
@@ -68,20 +68,20 @@ Cross xs ys = (u v : Version) → IsIn u xs → IsIn v ys → InConflict u v
 pub apart_join : (xs ys : List Version) → IsApart xs → IsApart ys → Cross xs ys → IsApart (xs ++ ys)
 apart_join [] ys a b c = b
 apart_join (x ∷ xs) ys a b c = (
-  every x (xs ++ ys) (λ u h. elim (in_either u xs ys h) [ inl front ↦ each x xs a.0 u front | inr back ↦ c x u (inl refl) back ]),
+  every x (xs ++ ys) (λ u h. elim (in_either u xs ys h) [ inl front ↦ each (InConflict x) xs a.0 u front | inr back ↦ c x u (inl refl) back ]),
   apart_join xs ys a.1 b (λ u v h. c u v (inr h)),
 )
 
 pub apart_cross : (xs ys : List Version) → IsApart (xs ++ ys) → Cross xs ys
 apart_cross [] ys a u v h k = absurd h
 apart_cross (x ∷ xs) ys a u v h k = elim h [
-  | inl is ↦ subst (λ (z : Version). InConflict z v) is (each x (xs ++ ys) a.0 v (in_second v xs ys k))
+  | inl is ↦ subst (λ (z : Version). InConflict z v) is (each (InConflict x) (xs ++ ys) a.0 v (in_second v xs ys k))
   | inr more ↦ apart_cross xs ys a.1 u v more k
 ]
 
 pub apart_first : (xs ys : List Version) → IsApart (xs ++ ys) → IsApart xs
 apart_first [] ys a = tt
-apart_first (x ∷ xs) ys a = (every x xs (λ u h. each x (xs ++ ys) a.0 u (in_first u xs ys h)), apart_first xs ys a.1)
+apart_first (x ∷ xs) ys a = (every x xs (λ u h. each (InConflict x) (xs ++ ys) a.0 u (in_first u xs ys h)), apart_first xs ys a.1)
 
 pub apart_second : (xs ys : List Version) → IsApart (xs ++ ys) → IsApart ys
 apart_second [] ys a = a

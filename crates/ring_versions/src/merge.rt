@@ -1,11 +1,11 @@
 //! Two sets of versions made one.
 
-ghost use Rattle.std.specs.Prelude.{◌≡◌, ◌∷◌, [], IfOk, IfErr};
+ghost use Rattle.std.specs.Prelude.{◌≡◌, ◌∷◌, [], true, false, IsTrue, IfOk, IfErr, OnErr};
 ghost use Rattle.ring_names.specs.declared.refusal.Refusal.TheVariants.{OutOfMemory};
 ghost use Rattle.ring_versions.specs.Fresh.{Brings};
 ghost use Rattle.ring_versions.specs.Parts.{IsFresh};
 ghost use Rattle.ring_versions.specs.Shared.{looked_at};
-ghost use Rattle.ring_versions.specs.Versions.{IsApart, IsMerge};
+ghost use Rattle.ring_versions.specs.Versions.{IsApart, IsBeside, IsMerge};
 
 use crate::fresh_of::fresh_of;
 use crate::held::Held;
@@ -13,6 +13,7 @@ use crate::left::{left_of, put_all};
 use crate::version::Version;
 use crate::versions::Versions;
 use crate::whole::Whole;
+use ring_clock::Clock;
 use ring_names::Refusal;
 use std::alloc::Global;
 
@@ -56,6 +57,31 @@ fn merged_with_many(
     }
     put_all(alloc, &mut left.made, fresh.held())?;
     Versions::of_left(alloc, held.join().join(&top)?, left)
+}
+
+// Whether the clock is in conflict with each version's.
+fn is_beside(versions: &[Version], clock: &Clock) -> bool
+    ensures { IsTrue result → IsBeside versions.now clock.now }
+{
+    versions.iter().all(|version| !clock.le(&version.clock) && !version.clock.le(clock))
+}
+
+/// Adds a copy of a version that is in conflict with each of the list, and tells whether it did. Costs at most two comparisons with each, and
+/// where it adds the copy the memory of one version more.
+pub fn add_beside(list: &mut Vec<Version>, version: &Version) -> Result<bool, Refusal>
+    requires { IsApart list.old.items }
+    ensures added { IfOk result (λ done. done ≡ true → IsMerge list.old.items (version.now ∷ []) list.new.items) }
+    ensures same { IfOk result (λ done. done ≡ false → list.new.items ≡ list.old.items) }
+    ensures err { OnErr result (list.new.items ≡ list.old.items) }
+    ensures memory { IfErr result (λ e. e ≡ OutOfMemory) }
+{
+    if !is_beside(list.as_slice(), &version.clock) {
+        return Ok(false);
+    }
+    let copy = version.try_copy()?;
+    list.reserve_exact(1)?;
+    list.push_reserved(copy);
+    Ok(true)
 }
 
 /// What another version makes of the one held: nothing where that covers it, the set of it where it covers that, and else both.

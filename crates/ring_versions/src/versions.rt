@@ -15,7 +15,7 @@ use crate::fresh::Fresh;
 use crate::held::Held;
 use crate::joining::join_of;
 use crate::left::{Left, chunks_of, put_all};
-use crate::merge::{merged, merged_one};
+use crate::merge::{add_beside, merged, merged_one};
 use crate::puts::puts_of;
 use crate::version::Version;
 use crate::walk::Walk;
@@ -169,9 +169,10 @@ impl Versions {
     /// Adds another set's versions: what is drawn from both covers the clocks that either covered, and ancestors go. Costs a look for each
     /// version of the other set, and for each of its own chunks one at its group, or where the new ones have counters there one at each of its
     /// versions' own entries, or where they may cover it a look. Takes no memory where this set covers the other's. One version that is in
-    /// conflict with each of many is put in place where no other set shares these: that takes the memory of the version, and what raises its chunk's
-    /// join and the set's (`Clock::raise`). Else takes copies of those that are new, made aside, and where some of its own stay, copies of these, of
-    /// eight or more only those in chunks that do not stay as they are, the chunks, and the join. A refused growth leaves the set as it was.
+    /// conflict with each of the set's is put in place where no other set shares these. It takes the memory of one version more. A set that stays
+    /// below eight versions compares it at most twice with each. A larger one raises the join of its chunk and of the set (`Clock::raise`).
+    /// In any other case it takes copies of those that are new, made aside, and where some of its own stay, copies of these, of eight or more only
+    /// those in chunks that do not stay as they are, the chunks, and the join. A refused growth leaves the set as it was.
     pub fn merge(&mut self, other: &Versions) -> Result<(), Refusal>
         ensures ok { OnOk result (IsMerge self.old other.now self.new) }
         ensures err { OnErr result (self.new ≡ self.old) }
@@ -187,19 +188,24 @@ impl Versions {
         Ok(())
     }
 
-    // Merges one version in place, and tells whether it did: only where it is in conflict with each of many, and nothing that changes is shared.
+    // Merges one version in place, and tells whether it did. It does so only where the version is in conflict with each one held, and no other
+    // set shares what changes. A list that would reach eight versions is left as it is.
     fn add(&mut self, version: &Version) -> Result<bool, Refusal>
         ensures added { IfOk result (λ done. done ≡ true → IsMerge self.old (version.now ∷ []) self.new) }
         ensures same { IfOk result (λ done. done ≡ false → self.new ≡ self.old) }
         ensures err { OnErr result (self.new ≡ self.old) }
         ensures memory { IfErr result (λ e. e ≡ OutOfMemory) }
     {
-        let Shared::Many(shared) = &mut self.shared else {
-            return Ok(false);
-        };
-        match Arc::get_mut(shared) {
-            Some(whole) => whole.add(version),
-            None => Ok(false),
+        match &mut self.shared {
+            Shared::Few(shared) => match Arc::get_mut(shared) {
+                Some(list) if list.len() + 1 < MANY => add_beside(list, version),
+                _ => Ok(false),
+            },
+            Shared::Many(shared) => match Arc::get_mut(shared) {
+                Some(whole) => whole.add(version),
+                None => Ok(false),
+            },
+            Shared::Nothing | Shared::One(_) => Ok(false),
         }
     }
 
