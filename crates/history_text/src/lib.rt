@@ -14,4 +14,4 @@ pub use known::are_known;
 pub use lines::{entry_line, keep_entry};
 pub use reading::{read_history, read_history_section};
 pub use said::{SaidReply, SmallRow};
-pub use writing::{push_entry, write_history};
+pub use writing::{push_entry, push_history};

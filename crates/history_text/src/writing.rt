@@ -1,18 +1,17 @@
 //! Writing a history.
 
-ghost use Rattle.std.specs.Prelude.{◌≡◌, ◌≤◌, ◌++◌, length, IfOk, IfErr, OnOk};
+ghost use Rattle.std.specs.Prelude.{◌≡◌, ◌≤◌, ◌++◌, length, OnOk};
 ghost use Rattle.std.specs.List.{flat_map};
-ghost use Rattle.ring_names.specs.declared.refusal.Refusal.TheVariants.{OutOfMemory};
 ghost use Rattle.ring_table.specs.Value.{names_of};
 ghost use Rattle.history_text.specs.Known.{AreKnownEntries};
 ghost use Rattle.history_text.specs.Spelling.{entry_line, history_text};
 
 use plan_check::Approved;
 use plan_runs::Entry;
-use ring_names::{Names, Refusal};
+use ring_names::Names;
 use ring_table::Ring;
 use script_text::push_event;
-use std::alloc::{AllocError, Global};
+use std::alloc::AllocError;
 
 /// Adds the line of an entry.
 pub fn push_entry(
@@ -46,21 +45,21 @@ fn push_entries(
     Ok(())
 }
 
-/// The one text of a history over the ring whose writers are numbered so: `history 1`, for each entry its event, ` = ` and its reply, and `end`.
-/// Its only refusal is `OutOfMemory`.
-pub fn write_history(
-    alloc: Global,
+/// Appends the one text of a history over the ring whose writers are numbered so: `history 1`, for each entry its event, ` = ` and its reply, and
+/// `end`.
+pub fn push_history(
+    out: &mut Vec<u8>,
     approved: &Approved,
     writers: &Names,
     history: &[Entry],
-) -> Result<Vec<u8>, Refusal>
+) -> Result<(), AllocError>
     requires few { length history.now ≤ 1000000 }
     requires known { AreKnownEntries approved.now.ring writers.now history.now }
-    ensures text { IfOk result (λ v. v.items ≡ history_text approved.now.ring writers.now history.now) }
-    ensures memory { IfErr result (λ e. e ≡ OutOfMemory) }
+    ensures text { OnOk result
+        (out.new.items ≡ out.old.items ++ history_text approved.now.ring writers.now history.now) }
 {
-    let mut out = Vec::from_slice(alloc, b"history 1\n")?;
-    push_entries(&mut out, approved.ring(), writers, history)?;
+    out.extend_from_slice(b"history 1\n")?;
+    push_entries(out, approved.ring(), writers, history)?;
     out.extend_from_slice(b"end\n")?;
-    Ok(out)
+    Ok(())
 }

@@ -14,7 +14,7 @@ ghost use Rattle.plan_around.specs.Around.{GoesOn, RunsApart};
 
 use crate::apart::are_apart;
 use find_rounds::write_texts;
-use history_text::{are_known, write_history};
+use history_text::{are_known, push_history};
 use plan_cert::Cert;
 use plan_check::{Approved, Turned, check};
 use plan_runs::Entry;
@@ -76,7 +76,9 @@ fn history_on(
     if !runs_apart(alloc, approved, history, dead)? {
         return Err(Refusal::NoPlan);
     }
-    write_history(alloc, approved, writers, history)
+    let mut out = Vec::new(alloc);
+    push_history(&mut out, approved, writers, history)?;
+    Ok(out)
 }
 
 // The texts of the ring, the plan and the certificate.

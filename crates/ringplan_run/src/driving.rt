@@ -10,7 +10,7 @@ ghost use Rattle.ringplan_jobs.specs.Answers.{texts_of};
 ghost use Rattle.ringplan_run.specs.Drives.{outcome_text, DrivesIf, DrivesOfIf, IsOutcome};
 
 use drive_text::{DriveBundle, read_drive, write_report};
-use history_text::{are_known, write_history};
+use history_text::{are_known, push_history};
 use plan_check::{Approved, OpenGate, check};
 use ring_names::{Names, Refusal};
 use ring_receipts::Outcome;
@@ -18,6 +18,7 @@ use ring_work::{MAX_ENTRIES, drive};
 use ringplan_command::Form;
 use script_text::Script;
 use std::alloc::Global;
+use std::mem::forget;
 use std::sync::Wait;
 use std::thread::Threads;
 
@@ -40,8 +41,7 @@ fn write_run(named: &Named, outcome: &Outcome) -> Result<Vec<u8>, Refusal>
         return Err(Refusal::Disagree);
     }
     let mut out = Vec::from_slice(alloc, b"yes\n")?;
-    let text = write_history(alloc, approved, writers, history)?;
-    out.extend_from_slice(text.as_slice())?;
+    push_history(&mut out, approved, writers, history)?;
     Ok(out)
 }
 
@@ -76,7 +76,11 @@ fn drive_approved<RT: Threads + Wait + Sync>(
     ensures { IsOutcome named.now.approved.now.ring named.now.approved.now.plan named.now.writers.now scripts.now workers form (texts_of result) }
 {
     match drive(rt, named.alloc, named.approved, scripts, workers, &OpenGate) {
-        Ok(outcome) => write_outcome(named, &outcome, workers, form),
+        Ok(outcome) => {
+            let text = write_outcome(named, &outcome, workers, form);
+            forget(outcome);
+            text
+        }
         Err(fault) => {
             let refusal = fault.refusal;
             Err(refusal)
@@ -115,7 +119,7 @@ fn drive_checked<RT: Threads + Wait + Sync>(
 /// What a drive of a bundle with 1 to 8 scripts prints, by that many workers, 1 to 64, where it is a ring with a plan that the checker accepts by its
 /// certificate: the text of an outcome, in that form. Else the first fault of the texts, and where there is none the checker's first refusal, or
 /// why the drive broke off. `OutOfMemory` comes only where memory ran out, or a thread could not be started, behind the first four lines of the
-/// ring. It waits for its threads.
+/// ring. It waits for its threads, and leaves the memory of the history and the receipts to the system, since the program ends then.
 pub fn drive_bundle<RT: Threads + Wait + Sync>(
     rt: &RT,
     alloc: Global,

@@ -1,7 +1,7 @@
 //! Histories: texts that are written as they were read, and lines that are refused.
 
 use crate::answering::{LOSS, RING, approved};
-use history_text::{are_known, read_history, read_replay, write_history};
+use history_text::{are_known, push_history, read_history, read_replay};
 use plan_check::Approved;
 use plan_runs::Entry;
 use ring_names::{Names, Refusal};
@@ -34,7 +34,9 @@ fn written<RT: AllocGlobal + Abort>(
 ) -> Result<Vec<u8>, Refusal> {
     assert!(rt; history.len() <= 1000000);
     assert!(rt; are_known(approved.ring(), names, history));
-    write_history(rt.alloc(), approved, names, history)
+    let mut text = Vec::new(rt.alloc());
+    push_history(&mut text, approved, names, history)?;
+    Ok(text)
 }
 
 // The history is written as it was read, and its writers are numbered in order of first sight.

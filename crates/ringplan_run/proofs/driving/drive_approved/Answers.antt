@@ -18,4 +18,4 @@ is_outcome ring plan names scripts workers form history lists finishers (Ok v) d
 is_outcome ring plan names scripts workers form history lists finishers (Err e) driven text fault = fault
 
 pub returns-in-Ok : goal.returns-in-Ok
-returns-in-Ok g c = is_outcome _ _ _ _ _ _ _ _ _ c.write_outcome.result c.in-Ok.ensures.ok c.write_outcome.ensures.text c.write_outcome.ensures.err
+returns-in-Ok g c = is_outcome _ _ _ _ _ _ _ _ _ c.write_outcome-text.result c.in-Ok.ensures.ok c.write_outcome-text.ensures.text c.write_outcome-text.ensures.err
