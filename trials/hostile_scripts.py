@@ -5,6 +5,7 @@
     hostile_scripts.py writes M N     > bundle    the same versions, written once more by N lines
     hostile_scripts.py seen M N       > bundle    the same versions, and N puts that know 16 gets which found them
     hostile_scripts.py chained M N    > bundle    N puts by M writers, each of which knows all before it, by a get of its own
+    hostile_scripts.py joins M G      > bundle    two versions in conflict, each with M/2 entries; G gets read both, and no put names these
     hostile_scripts.py values M G     > bundle    M versions in conflict of 1,024 bytes each, and G gets that read and end
     hostile_scripts.py hints N        > bundle    N hints, at 1,017 nodes and seven slots of a partition for each key
     hostile_scripts.py scattered N    > bundle    N hints, each at a node and for a slot that has no other
@@ -12,7 +13,7 @@
     hostile_scripts.py down K N       > bundle    the same where a keeper of the key is down, and N reads are refused
     hostile_scripts.py keys M K       > bundle    a slot with K keys moves M times
     hostile_scripts.py touched M K    > bundle    the same, with a put to a key of each chunk in front of each move's copies
-    hostile_scripts.py left M K       > bundle    the same from node to node, each of which keeps what it has
+    hostile_scripts.py left M K T     > bundle    the same from node to node, each of which keeps what it has, with T keys of each chunk put again
     hostile_scripts.py kept K M N     > bundle    K nodes keep the same M/2 versions for a slot, which N gets read
     hostile_scripts.py long_clocks M N > bundle   N hints of versions whose clocks have M/2 entries
     hostile_scripts.py long_keys N    > bundle    N keys of 64 bytes, each taken by two slots
@@ -74,6 +75,16 @@ def chained(m, n):
     for k in range(n):
         knows = " seen %d" % (k - 1) if k else ""
         out += ["put w%d k x%s" % (k % m, knows), "write %d 0" % k, "get k", "read %d 0" % k, "read %d 1" % k, "endget %d" % k]
+    return small(), [], [], out
+
+
+def joins(m, g):
+    out = []
+    for k in range(m):
+        slot, knows = k // (m // 2), " seen %d" % (k - 1) if k % (m // 2) else ""
+        out += ["put w%d k x%s" % (k, knows), "write %d %d" % (k, slot), "get k", "read %d %d" % (k, slot), "read %d 2" % k, "endget %d" % k]
+    for n in range(m, m + g):
+        out += ["get k", "read %d 0" % n, "read %d 1" % n]
     return small(), [], [], out
 
 
@@ -168,11 +179,12 @@ def moving(names, m, k, touch, drops):
     return plan, cert, out
 
 
-def one_of_each_chunk():
-    found = {}
-    for n in range(1000):
-        found.setdefault(hashlib.md5(b"key%d" % n).digest()[0] >> 4, "key%d" % n)
-    return [found[c] for c in range(16)]
+def of_each_chunk(t):
+    """The first T keys of each chunk."""
+    found = [[] for _ in range(16)]
+    for n in range(100 * t + 1000):
+        found[hashlib.md5(b"key%d" % n).digest()[0] >> 4].append("key%d" % n)
+    return [key for keys in found for key in keys[:t]]
 
 
 def keys(m, k):
@@ -180,13 +192,13 @@ def keys(m, k):
 
 
 def touched(m, k):
-    return small(), *moving(["a", "d"], m, k, one_of_each_chunk(), True)
+    return small(), *moving(["a", "d"], m, k, of_each_chunk(1), True)
 
 
-def left(m, k):
+def left(m, k, t):
     names = ["n%04d" % n for n in range(1024)]
     text = ring(names, 1, lambda p: [names[0], names[1022], names[1023]])
-    return text, *moving(names[:1000], m, k, one_of_each_chunk(), False)
+    return text, *moving(names[:1000], m, k, of_each_chunk(t), False)
 
 
 def kept(k, m, n):
@@ -239,7 +251,7 @@ def waits(n):
 
 FAMILIES = {
     family.__name__: family
-    for family in (reads, writes, seen, chained, values, hints, scattered, keepers, down, keys, touched, left, kept, long_clocks, long_keys, names, waits)
+    for family in (reads, writes, seen, chained, joins, values, hints, scattered, keepers, down, keys, touched, left, kept, long_clocks, long_keys, names, waits)
 }
 
 
