@@ -27,10 +27,10 @@ use std::thread::Threads;
 
 /// Checks a plan against the ring that it suits, by a certificate: its facts by number, then the partitions, then the nodes.
 ///
-/// A plan that is accepted is sound, and so it keeps its promises: at every moment of every run of it any R slots of a partition include one that holds
-/// each acknowledged put or a causal successor, no two slots of a partition share a node, and no node has more transfers open than its allowance; and
-/// gets see what was acknowledged before they started. Any other plan is refused by the first clause that does not hold, and comes back
-/// with its ring as it was. So does one for which there was no memory, once all facts are verified. The cost is about that of
+/// A plan that is accepted is sound, and so it keeps its promises at every moment of every run of it. For each acknowledged put, any R slots of its
+/// partition include one whose owner or hint keeper holds it or a causal successor. No two slots of a partition share a node, no node has more transfers
+/// open than its allowance, and gets see what was acknowledged before they started. Any other plan is refused by the first clause that does not hold, and
+/// comes back with its ring as it was. So does one for which there was no memory, once all facts are verified. The cost is about that of
 /// reading the texts: of each two steps that a clause compares one comes directly before the other or by a fact, or the check ends.
 pub fn check(alloc: Global, ring: Ring, plan: Plan, cert: &Cert) -> Result<Approved, Turned>
     requires { Suits ring plan }

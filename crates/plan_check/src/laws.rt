@@ -74,10 +74,10 @@ pub fn transfers_stay_few(ring: &Ring, plan: &Plan)
     let _ = (ring.n(), plan.len());
 }
 
-/// The headline: a sound plan keeps its promises. At every moment of every run of it, with any puts, gets, outages, hints and handoffs between and as
-/// many lost stores as the ring allows, any R slots of a partition include one whose owner or hint keeper holds each acknowledged put or a causal
-/// successor, no two slots of a partition share a node, and no node has more transfers open than its allowance; and the reply of each get has, for each
-/// put of its key that was acknowledged before the get started, that put or a causal successor.
+/// The headline: a sound plan keeps its promises at every moment of every run of it, with any puts, gets, outages, hints and handoffs between and as many
+/// lost stores as the ring allows. For each acknowledged put, any R slots of its partition include one whose owner or hint keeper holds it or a causal
+/// successor. No two slots of a partition share a node, and no node has more transfers open than its allowance. The reply of each get has, for each put of
+/// its key that was acknowledged before the get started, that put or a causal successor.
 pub fn sound_plans_keep_promises(ring: &Ring, plan: &Plan)
     ensures { Sound ring.now plan.now → KeepsPromises ring.now plan.now }
 {

@@ -11,8 +11,8 @@ ghost use Rattle.plan_sequence.specs.Sequence.{GetsSeePuts, HasOwners, InTurn, I
 ghost use Rattle.plan_moves.specs.Owners.{last_owners};
 
 /// A store that goes through sound plans one after the other keeps the promises of one plan, whichever of the plans was under way when a put was acknowledged.
-/// At every moment any R slots of a partition include one whose owner or hint keeper holds each acknowledged put or a causal successor, no two slots of a
-/// partition share a node, and no node has more transfers open than its allowance. The reply of each get has, for each put of its key that was acknowledged
+/// At every moment, for each acknowledged put, any R slots of its partition include one whose owner or hint keeper holds it or a causal successor, no two
+/// slots of a partition share a node, and no node has more transfers open than its allowance. The reply of each get has, for each put of its key that was acknowledged
 /// before the get started, that put or a causal successor, also if the get started under an earlier plan. What was acknowledged stays so.
 pub fn plans_in_turn_keep_promises()
     ensures safe { (ring : RingValue) (plan : List Planned) (w : World) → InTurn ring plan w → Safe ring plan w }
